@@ -1,0 +1,121 @@
+-- What a term declares (ACPI 6.5, 5.3 and 20.2.5), and which paths are declared once it was read.
+use Rattle.std.specs.Prelude.{false, List, [], ◌∷◌, Option, Some, None}
+use Rattle.std.specs.FinSet as set
+use Rattle.aml_names.specs.declared.segments.Seg.{Seg}
+use Rattle.aml_names.specs.declared.names.Name.{Name}
+use Rattle.aml_names.specs.declared.names.NameForm.TheVariants.{One}
+use Rattle.aml_names.specs.Paths.{PathSet}
+use Rattle.aml_names.specs.Names.{placed}
+use Rattle.aml_code.specs.declared.rows.Declares.{Declares}
+use Rattle.aml_code.specs.declared.rows.Declares.TheVariants as declares
+use Rattle.aml_code.specs.declared.rows.OpRow.{OpRow}
+use Rattle.aml_code.specs.Rows.{row_of}
+use Rattle.aml_code.specs.Tree.{Tree, nothing, named, op, Trees, no_trees, tree_more, OnePart, child, label, byte, word, dword, qword, text, Parts, no_parts, part_more, Rest, empty, terms, bytes, elements, fields, body, OneUnit, unit, reserved, access, connection, extended, Units, no_units, unit_more, Joint, target, buffer}
+
+-- the last part that is a name, or else this
+abbrev pub last_label : Option Name → Parts → Option Name
+last_label found no_parts = found
+last_label found (part_more (label n) ps) = last_label (Some n) ps
+last_label found (part_more (child t) ps) = last_label found ps
+last_label found (part_more (byte b) ps) = last_label found ps
+last_label found (part_more (word n) ps) = last_label found ps
+last_label found (part_more (dword n) ps) = last_label found ps
+last_label found (part_more (qword n) ps) = last_label found ps
+last_label found (part_more (text s) ps) = last_label found ps
+
+abbrev pub listed : Option Name → List Name
+listed None = []
+listed (Some n) = n ∷ []
+
+-- a name of one segment without prefix
+abbrev pub plain_name : Seg → Name
+plain_name s = record { root = false; ups = 0; form = One; segs = s ∷ [] }
+
+-- the named units of a field list, in order
+abbrev pub unit_names : Units → List Name
+unit_names no_units = []
+unit_names (unit_more (unit s w n) us) = plain_name s ∷ unit_names us
+unit_names (unit_more (reserved w n) us) = unit_names us
+unit_names (unit_more (access a b) us) = unit_names us
+unit_names (unit_more (connection l) us) = unit_names us
+unit_names (unit_more (extended a b c) us) = unit_names us
+
+abbrev pub field_names : Rest → List Name
+field_names empty = []
+field_names (terms ts) = []
+field_names (bytes bs) = []
+field_names (elements ts) = []
+field_names (fields us) = unit_names us
+field_names (body start len) = []
+
+-- the names that a term declares itself, by what its row says, in the order of the text
+abbrev pub names_declared : Declares → Parts → Rest → List Name
+names_declared declares.Nothing ps t = []
+names_declared declares.LastName ps t = listed (last_label None ps)
+names_declared declares.Units ps t = field_names t
+
+-- A path is added. A name that leads above the root adds nothing.
+abbrev pub with_path : PathSet → Option (List Seg) → PathSet
+with_path ls None = ls
+with_path ls (Some p) = set.insert ls p
+
+-- the names are placed from a scope, one after the other
+abbrev pub with_names : List Seg → PathSet → List Name → PathSet
+with_names scope ls [] = ls
+with_names scope ls (n ∷ ns) = with_names scope (with_path ls (placed scope n)) ns
+
+-- In a method's body the names are placed from the method's path. The terms of a table keep no such paths.
+abbrev pub with_declared : Option (List Seg) → PathSet → List Name → PathSet
+with_declared None ls ns = ls
+with_declared (Some scope) ls ns = with_names scope ls ns
+
+abbrev pub declared_by : Option (List Seg) → Option OpRow → PathSet → Parts → Rest → PathSet
+declared_by scope None ls ps t = ls
+declared_by scope (Some row) ls ps t = with_declared scope ls (names_declared row.declares ps t)
+
+-- the paths that are declared after a term: those of the terms inside it, and then its own
+abbrev mutual
+  pub after : Option (List Seg) → PathSet → Tree → PathSet
+  after scope ls nothing = ls
+  after scope ls (named n ts) = after_all scope ls ts
+  after scope ls (op o w ps t) = declared_by scope (row_of o) (after_rest scope (after_parts scope ls ps) t) ps t
+
+  pub after_all : Option (List Seg) → PathSet → Trees → PathSet
+  after_all scope ls no_trees = ls
+  after_all scope ls (tree_more t ts) = after_all scope (after scope ls t) ts
+
+  pub after_part : Option (List Seg) → PathSet → OnePart → PathSet
+  after_part scope ls (child t) = after scope ls t
+  after_part scope ls (label n) = ls
+  after_part scope ls (byte b) = ls
+  after_part scope ls (word n) = ls
+  after_part scope ls (dword n) = ls
+  after_part scope ls (qword n) = ls
+  after_part scope ls (text s) = ls
+
+  pub after_parts : Option (List Seg) → PathSet → Parts → PathSet
+  after_parts scope ls no_parts = ls
+  after_parts scope ls (part_more p ps) = after_parts scope (after_part scope ls p) ps
+
+  pub after_rest : Option (List Seg) → PathSet → Rest → PathSet
+  after_rest scope ls empty = ls
+  after_rest scope ls (terms ts) = after_all scope ls ts
+  after_rest scope ls (bytes bs) = ls
+  after_rest scope ls (elements ts) = after_all scope ls ts
+  after_rest scope ls (fields us) = after_units scope ls us
+  after_rest scope ls (body start len) = ls
+
+  pub after_units : Option (List Seg) → PathSet → Units → PathSet
+  after_units scope ls no_units = ls
+  after_units scope ls (unit_more u us) = after_units scope (after_unit scope ls u) us
+
+  pub after_unit : Option (List Seg) → PathSet → OneUnit → PathSet
+  after_unit scope ls (unit s w n) = ls
+  after_unit scope ls (reserved w n) = ls
+  after_unit scope ls (access a b) = ls
+  after_unit scope ls (connection l) = after_joint scope ls l
+  after_unit scope ls (extended a b c) = ls
+
+  pub after_joint : Option (List Seg) → PathSet → Joint → PathSet
+  after_joint scope ls (target n) = ls
+  after_joint scope ls (buffer t) = after scope ls t

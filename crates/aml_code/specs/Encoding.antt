@@ -1,0 +1,65 @@
+-- The bytes of a tree (ACPI 6.5, 20.2). A method's body that wasn't read is a span of the code around it.
+use Rattle.std.specs.Prelude.{ℕ, ◌+◌, ◌/◌, ◌%◌, ltb, cond, List, [], ◌∷◌, ◌++◌, length, take, drop, Option, Some, None}
+use Rattle.aml_names.specs.Names.{spelling}
+use Rattle.aml_code.specs.declared.packages.PkgWidth.{PkgWidth}
+use Rattle.aml_code.specs.Packages.{little, width_len, package_bytes}
+use Rattle.aml_code.specs.Tree.{Tree, nothing, named, op, Trees, no_trees, tree_more, OnePart, child, label, byte, word, dword, qword, text, Parts, no_parts, part_more, Rest, empty, terms, bytes, elements, fields, body, OneUnit, unit, reserved, access, connection, extended, Units, no_units, unit_more, Joint, target, buffer}
+
+-- an opcode is one byte, or 5B and one more
+abbrev pub opcode_bytes : ℕ → List ℕ
+opcode_bytes o = cond (ltb o 256) (o ∷ []) ((o / 256) ∷ (o % 256) ∷ [])
+
+-- what a package length covers: its own bytes and the content
+abbrev pub packed : Option PkgWidth → List ℕ → List ℕ
+packed None content = content
+packed (Some w) content = package_bytes w (width_len w + length content) ++ content
+
+-- so many bytes of the code from an offset on
+abbrev pub slice_of : List ℕ → ℕ → ℕ → List ℕ
+slice_of code start len = take len (drop start code)
+
+abbrev mutual
+  pub encoding : List ℕ → Tree → List ℕ
+  encoding code nothing = 0x00 ∷ []
+  encoding code (named n ts) = spelling n ++ encodings code ts
+  encoding code (op o w ps t) = opcode_bytes o ++ packed w (parts_encoding code ps ++ rest_encoding code t)
+
+  pub encodings : List ℕ → Trees → List ℕ
+  encodings code no_trees = []
+  encodings code (tree_more t ts) = encoding code t ++ encodings code ts
+
+  pub part_encoding : List ℕ → OnePart → List ℕ
+  part_encoding code (child t) = encoding code t
+  part_encoding code (label n) = spelling n
+  part_encoding code (byte b) = little 1 b
+  part_encoding code (word n) = little 2 n
+  part_encoding code (dword n) = little 4 n
+  part_encoding code (qword n) = little 8 n
+  part_encoding code (text s) = s ++ 0x00 ∷ []
+
+  pub parts_encoding : List ℕ → Parts → List ℕ
+  parts_encoding code no_parts = []
+  parts_encoding code (part_more p ps) = part_encoding code p ++ parts_encoding code ps
+
+  pub rest_encoding : List ℕ → Rest → List ℕ
+  rest_encoding code empty = []
+  rest_encoding code (terms ts) = encodings code ts
+  rest_encoding code (bytes bs) = bs
+  rest_encoding code (elements ts) = encodings code ts
+  rest_encoding code (fields us) = units_encoding code us
+  rest_encoding code (body start len) = slice_of code start len
+
+  pub units_encoding : List ℕ → Units → List ℕ
+  units_encoding code no_units = []
+  units_encoding code (unit_more u us) = unit_encoding code u ++ units_encoding code us
+
+  pub unit_encoding : List ℕ → OneUnit → List ℕ
+  unit_encoding code (unit s w n) = s.0 ++ package_bytes w n
+  unit_encoding code (reserved w n) = 0x00 ∷ package_bytes w n
+  unit_encoding code (access a b) = 0x01 ∷ a ∷ b ∷ []
+  unit_encoding code (connection l) = 0x02 ∷ joint_encoding code l
+  unit_encoding code (extended a b c) = 0x03 ∷ a ∷ b ∷ c ∷ []
+
+  pub joint_encoding : List ℕ → Joint → List ℕ
+  joint_encoding code (target n) = spelling n
+  joint_encoding code (buffer t) = encoding code t

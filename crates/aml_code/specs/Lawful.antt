@@ -1,0 +1,189 @@
+-- Which trees are AML (ACPI 6.5, 20.2): what each position takes, what each row is made of, how many arguments a name has.
+use Rattle.std.specs.Prelude.{◌≡◌, ℕ, zero, suc, ◌+◌, ◌^◌, ◌<◌, ◌≤◌, Bool, true, false, cond, List, [], ◌∷◌, ◌++◌, length, Option, Some, None}
+use Rattle.aml_names.specs.declared.segments.Seg.{Seg}
+use Rattle.aml_names.specs.declared.names.Name.{Name}
+use Rattle.aml_names.specs.Paths.{PathSet}
+use Rattle.aml_names.specs.Names.{IsNameSeg, IsName}
+use Rattle.aml_names.specs.NameReading.{has_segment, is_bare}
+use Rattle.aml_code.specs.declared.packages.PkgWidth.{PkgWidth}
+use Rattle.aml_code.specs.declared.rows.OpRow.{OpRow}
+use Rattle.aml_code.specs.declared.rows.PartKind.{PartKind}
+use Rattle.aml_code.specs.declared.rows.PartKind.TheVariants as kinds
+use Rattle.aml_code.specs.declared.rows.Place.{Place}
+use Rattle.aml_code.specs.declared.rows.Place.TheVariants as places
+use Rattle.aml_code.specs.declared.rows.Position.{Position}
+use Rattle.aml_code.specs.declared.rows.Position.TheVariants as positions
+use Rattle.aml_code.specs.declared.rows.TailKind.{TailKind}
+use Rattle.aml_code.specs.declared.rows.TailKind.TheVariants as tails
+use Rattle.aml_code.specs.Packages.{width_len, FitsWidth}
+use Rattle.aml_code.specs.Rows.{row_of, parts_of, has_length, takes}
+use Rattle.aml_code.specs.Tree.{Tree, nothing, named, op, Trees, no_trees, tree_more, OnePart, child, label, byte, word, dword, qword, text, Parts, no_parts, part_more, Rest, empty, terms, bytes, elements, fields, body, OneUnit, unit, reserved, access, connection, extended, Units, no_units, unit_more, Joint, target, buffer, tree_count}
+use Rattle.aml_code.specs.Encoding.{parts_encoding, rest_encoding}
+use Rattle.aml_code.specs.Declaring.{after, after_part, after_parts, after_unit}
+
+-- how many arguments a name may have
+pub data Count : Type 0 where
+  any_number : Count
+  exactly : ℕ → Count
+  unknown : Count
+
+abbrev pub HasCount : Count → ℕ → Type 0
+HasCount any_number n = Unit {0}
+HasCount (exactly m) n = n ≡ m
+HasCount unknown n = ⊥
+
+-- What the grammar leaves to where the terms stand: the code that spans point into, the number of a name's arguments by
+-- the paths declared so far, and the scope from which a body's declarations are placed (none in a table).
+pub record Setting : Type 0 where
+  pub code : List ℕ
+  pub counts : PathSet → Name → Count
+  pub scope : Option (List Seg)
+
+-- A name takes its own number of arguments as a TermArg or as a term of a body, none as a target or in data, and
+-- doesn't stand as a term of a table.
+abbrev pub count_in : Setting → Position → PathSet → Name → Count
+count_in s positions.ModuleTerm ls n = unknown
+count_in s positions.GuardTerm ls n = unknown
+count_in s positions.BodyTerm ls n = s.counts ls n
+count_in s positions.AfterIf ls n = s.counts ls n
+count_in s positions.Argument ls n = s.counts ls n
+count_in s positions.Target ls n = exactly 0
+count_in s positions.Data ls n = exactly 0
+
+-- a package length stands where the row has one, and has room for its own bytes and the content
+abbrev pub HasWidth : Bool → Option PkgWidth → ℕ → Type 0
+HasWidth false None len = Unit {0}
+HasWidth false (Some w) len = ⊥
+HasWidth true None len = ⊥
+HasWidth true (Some w) len = FitsWidth w (width_len w + len)
+
+-- the terms inside an If of a table are those of a guard
+abbrev pub is_guard : Position → Place → Bool
+is_guard positions.ModuleTerm places.If = true
+is_guard _ _ = false
+
+-- the predicate of a guard is the byte 00
+abbrev pub IsGuarded : Bool → Parts → Type 0
+IsGuarded true ps = ps ≡ part_more (child (op 0x00 None no_parts empty)) no_parts
+IsGuarded false ps = Unit {0}
+
+-- where the terms inside a term stand
+abbrev pub terms_in : Position → Place → Position
+terms_in positions.ModuleTerm places.If = positions.GuardTerm
+terms_in positions.ModuleTerm _ = positions.ModuleTerm
+terms_in _ _ = positions.BodyTerm
+
+abbrev pub is_if_place : Place → Bool
+is_if_place places.If = true
+is_if_place _ = false
+
+abbrev pub is_if_row : Option OpRow → Bool
+is_if_row None = false
+is_if_row (Some r) = is_if_place r.place
+
+abbrev pub is_if : Tree → Bool
+is_if nothing = false
+is_if (named n ts) = false
+is_if (op o w ps t) = is_if_row (row_of o)
+
+-- where the next term of a list stands
+abbrev pub next_position : Position → Tree → Position
+next_position positions.BodyTerm t = cond (is_if t) positions.AfterIf positions.BodyTerm
+next_position positions.AfterIf t = cond (is_if t) positions.AfterIf positions.BodyTerm
+next_position positions.ModuleTerm t = positions.ModuleTerm
+next_position positions.GuardTerm t = positions.GuardTerm
+next_position positions.Argument t = positions.Argument
+next_position positions.Target t = positions.Target
+next_position positions.Data t = positions.Data
+
+abbrev pub AreBytes : List ℕ → Type 0
+AreBytes [] = Unit {0}
+AreBytes (b ∷ bs) = (b < 256) × AreBytes bs
+
+-- the bytes 01 to FF
+abbrev pub AreTextBytes : List ℕ → Type 0
+AreTextBytes [] = Unit {0}
+AreTextBytes (b ∷ bs) = (0 < b) × (b < 256) × AreTextBytes bs
+
+-- a Buffer, as the lead byte of a connection tells it
+abbrev pub IsBuffer : Tree → Type 0
+IsBuffer nothing = ⊥
+IsBuffer (named n ts) = ⊥
+IsBuffer (op o w ps t) = o ≡ 0x11
+
+-- An operation: its opcode has a row that the position takes, with a package length, parts and a tail as the row says.
+pub record IsOperation (p : Position) (o : ℕ) (w : Option PkgWidth) (len : ℕ) (ps : Parts) (AreItsParts IsItsTail : OpRow → Type 0) : Type 0 where
+  pub row : OpRow
+  pub listed : row_of o ≡ Some row
+  pub taken : takes p row.place ≡ true
+  pub width : HasWidth (has_length row.tail) w len
+  pub guarded : IsGuarded (is_guard p row.place) ps
+  pub parts : AreItsParts row
+  pub tail : IsItsTail row
+
+-- IsLawful s levels p ls t: the tree t may stand in the position p, with at most so many levels of nesting, where the
+-- paths ls are declared.
+abbrev mutual
+  pub IsLawful : Setting → ℕ → Position → PathSet → Tree → Type 0
+  IsLawful s zero p ls nothing = ⊥
+  IsLawful s (suc levels) p ls nothing = p ≡ positions.Target
+  IsLawful s zero p ls (named n ts) = ⊥
+  IsLawful s (suc levels) p ls (named n ts) = IsName n × (is_bare n ≡ false) × HasCount (count_in s p ls n) (tree_count ts) × AreArguments s levels ls ts
+  IsLawful s zero p ls (op o w ps t) = ⊥
+  IsLawful s (suc levels) p ls (op o w ps t) =
+      IsOperation p o w (length (parts_encoding s.code ps ++ rest_encoding s.code t)) ps
+      (λ row. AreParts s levels (parts_of row.shape) ls ps)
+      (λ row. IsTail s levels (terms_in p row.place) row.tail (after_parts s.scope ls ps) t)
+
+  pub AreArguments : Setting → ℕ → PathSet → Trees → Type 0
+  AreArguments s levels ls no_trees = Unit {0}
+  AreArguments s levels ls (tree_more t ts) = IsLawful s levels positions.Argument ls t × AreArguments s levels (after s.scope ls t) ts
+
+  -- a list of terms, or of elements
+  pub AreTerms : Setting → ℕ → Position → PathSet → Trees → Type 0
+  AreTerms s levels p ls no_trees = Unit {0}
+  AreTerms s levels p ls (tree_more t ts) = IsLawful s levels p ls t × AreTerms s levels (next_position p t) (after s.scope ls t) ts
+
+  pub IsPart : Setting → ℕ → PartKind → PathSet → OnePart → Type 0
+  IsPart s levels kinds.Term ls (child t) = IsLawful s levels positions.Argument ls t
+  IsPart s levels kinds.Target ls (child t) = IsLawful s levels positions.Target ls t
+  IsPart s levels kinds.Data ls (child t) = IsLawful s levels positions.Data ls t
+  IsPart s levels kinds.Name ls (label n) = IsName n × (has_segment n ≡ true)
+  IsPart s levels kinds.ScopeName ls (label n) = IsName n
+  IsPart s levels kinds.Byte ls (byte b) = b < 256 ^ 1
+  IsPart s levels kinds.Count ls (byte b) = b < 8
+  IsPart s levels kinds.Word ls (word n) = n < 256 ^ 2
+  IsPart s levels kinds.Dword ls (dword n) = n < 256 ^ 4
+  IsPart s levels kinds.Qword ls (qword n) = n < 256 ^ 8
+  IsPart s levels kinds.Text ls (text bs) = AreTextBytes bs
+  IsPart s levels _ ls _ = ⊥
+
+  -- one part of each kind
+  pub AreParts : Setting → ℕ → List PartKind → PathSet → Parts → Type 0
+  AreParts s levels [] ls no_parts = Unit {0}
+  AreParts s levels (k ∷ ks) ls (part_more x xs) = IsPart s levels k ls x × AreParts s levels ks (after_part s.scope ls x) xs
+  AreParts s levels _ ls _ = ⊥
+
+  pub IsTail : Setting → ℕ → Position → TailKind → PathSet → Rest → Type 0
+  IsTail s levels p tails.Empty ls empty = Unit {0}
+  IsTail s levels p tails.Terms ls (terms ts) = AreTerms s levels p ls ts
+  IsTail s levels p tails.Bytes ls (bytes bs) = AreBytes bs
+  IsTail s levels p tails.Elements ls (elements ts) = AreTerms s levels positions.Data ls ts
+  IsTail s levels p tails.Fields ls (fields us) = AreUnits s levels ls us
+  IsTail s levels p tails.Body ls (body start len) = start + len ≤ length s.code
+  IsTail s levels p _ ls _ = ⊥
+
+  pub AreUnits : Setting → ℕ → PathSet → Units → Type 0
+  AreUnits s levels ls no_units = Unit {0}
+  AreUnits s levels ls (unit_more u us) = IsUnit s levels ls u × AreUnits s levels (after_unit s.scope ls u) us
+
+  pub IsUnit : Setting → ℕ → PathSet → OneUnit → Type 0
+  IsUnit s levels ls (unit g w n) = IsNameSeg g.0 × FitsWidth w n
+  IsUnit s levels ls (reserved w n) = FitsWidth w n
+  IsUnit s levels ls (access a b) = (a < 256) × (b < 256)
+  IsUnit s levels ls (connection l) = IsJoint s levels ls l
+  IsUnit s levels ls (extended a b c) = (a < 256) × (b < 256) × (c < 256)
+
+  pub IsJoint : Setting → ℕ → PathSet → Joint → Type 0
+  IsJoint s levels ls (target n) = IsName n × (has_segment n ≡ true)
+  IsJoint s levels ls (buffer t) = IsBuffer t × IsLawful s levels positions.Data ls t

@@ -1,0 +1,10 @@
+pub mod Packages
+pub mod Lengths
+pub mod Rows
+pub mod Tree
+pub mod View
+pub mod Encoding
+pub mod Faults
+pub mod Declaring
+pub mod Lawful
+pub mod Meaning

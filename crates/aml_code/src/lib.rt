@@ -1,0 +1,21 @@
+//! The language AML: package lengths, the table of opcodes, trees and their bytes.
+//!
+//! It follows chapter 20 of the ACPI Specification 6.5. Names and paths come from `aml_names`.
+#![tactic(auto)]
+
+mod bytes_of;
+mod encode;
+mod packages;
+mod rows;
+mod table;
+mod tree;
+
+pub use aml_names::{
+    Arity, CodeFault, Locals, Name, NameForm, NoMemory, Path, Seg, Segs, byte_of, offset_of, place,
+};
+pub use bytes_of::Bytes;
+pub use encode::encode_terms;
+pub use packages::{PkgWidth, length_of, little_of, read_pkg, span_of};
+pub use rows::{Declares, Group, OpRow, PartKind, Place, Position, Shape, TailKind, takes};
+pub use table::row;
+pub use tree::{Field, Link, Node, Part, Tail};

@@ -1,0 +1,4 @@
+mod Sets
+pub mod StepLaws
+mod NameLoops
+pub mod NameLaws

@@ -1,0 +1,5 @@
+pub mod Paths
+pub mod Names
+pub mod Steps
+pub mod NameReading
+pub mod Searching

@@ -1,0 +1,22 @@
+-- Which paths a name may mean in a scope (ACPI 6.5, 5.3).
+use Rattle.std.specs.Prelude.{ℕ, zero, suc, Bool, not, ◌&&◌, ◌==◌, cond, List, [], ◌∷◌, ◌++◌, length, take, Option, Some, None}
+use Rattle.aml_names.specs.declared.segments.Seg.{Seg}
+use Rattle.aml_names.specs.declared.names.Name.{Name}
+use Rattle.aml_names.specs.Names.{placed}
+
+-- one segment without prefix, in any spelling: such a name is searched upward
+abbrev pub is_single : Name → Bool
+is_single name = not name.root && ((name.ups == 0) && (length name.segs == 1))
+
+-- the segment in the first n segments of a scope, and in each parent of these up to the root
+abbrev pub upward : ℕ → List Seg → List Seg → List (List Seg)
+upward zero scope segment = segment ∷ []
+upward (suc n) scope segment = (take (suc n) scope ++ segment) ∷ upward n scope segment
+
+abbrev pub the_one : Option (List Seg) → List (List Seg)
+the_one None = []
+the_one (Some p) = p ∷ []
+
+-- the paths that a name may mean in a scope, the nearest first: any name but a single segment has one, or none above the root
+abbrev pub candidates : List Seg → Name → List (List Seg)
+candidates scope name = cond (is_single name) (upward (length scope) scope name.segs) (the_one (placed scope name))

@@ -1,0 +1,25 @@
+//! Names of the ACPI namespace: segments, names as they are written, paths, and where a name leads.
+//!
+//! The base of the AML crates. It follows the ACPI Specification 6.5, section 5.3 (the namespace) and
+//! section 20.2.2 (the spelling of a name).
+#![tactic(auto)]
+
+mod arities;
+mod faults;
+mod locals_of;
+mod names;
+mod paths;
+mod placing;
+mod reading;
+mod segments;
+mod stepping;
+
+pub use arities::Arity;
+pub use faults::{CodeFault, NoMemory};
+pub use locals_of::Locals;
+pub use names::{Name, NameForm};
+pub use paths::Path;
+pub use placing::place;
+pub use reading::{is_name_lead, name_of, read_name};
+pub use segments::{Seg, Segs};
+pub use stepping::{byte_of, offset_of};

@@ -1,0 +1,53 @@
+//! The paths that a method body has declared so far.
+ghost use Rattle.std.specs.Prelude.{◌≡◌, OnOk, OnErr};
+ghost use Rattle.std.specs.FinSet as set;
+
+use crate::faults::NoMemory;
+use crate::paths::Path;
+use std::alloc::Global;
+use std::collections::BTreeSet;
+use std::marker::Model;
+
+/// The paths that the terms of a method body have declared so far, as a set. A name among them takes no arguments.
+#[derive(Drop)]
+pub struct Locals {
+    paths: BTreeSet<Path>,
+}
+
+impl Model for Locals {
+    ghost use Rattle.std.specs.FinSet as set;
+    ghost use Rattle.aml_names.specs.Paths.{path_cmp, coded_path};
+
+    ghost Value = { set.FinSet path_cmp };
+
+    ghost coded = { set.code coded_path };
+
+    ghost view = { λ a. set.from_list a.paths.keys };
+}
+
+impl Locals {
+    /// No path.
+    pub fn new(alloc: Global) -> Locals
+        ensures { result ≡ set.empty }
+    {
+        Locals {
+            paths: BTreeSet::new(alloc),
+        }
+    }
+
+    /// Adds a path. Where memory is refused the set is as before.
+    pub fn push(&mut self, path: Path) -> Result<(), NoMemory>
+        ensures ok { OnOk result (self.new ≡ set.insert self.old path) }
+        ensures err { OnErr result (self.new ≡ self.old) }
+    {
+        self.paths.insert(path)?;
+        Ok(())
+    }
+
+    /// Whether the path is there, in time logarithmic in their number.
+    pub fn has(&self, path: &Path) -> bool
+        ensures { result ≡ set.contains self.now path.now }
+    {
+        self.paths.contains(path)
+    }
+}

@@ -1,0 +1,48 @@
+//! Names as they are written.
+
+ghost use Rattle.std.specs.Prelude.{◌≡◌};
+ghost use Rattle.aml_names.specs.NameReading.{has_segment as segmented};
+ghost use Rattle.aml_names.specs.Searching.{is_single as single};
+
+use crate::segments::Segs;
+
+/// How the segments of a name are spelled (ACPI 6.5, 20.2.2).
+#[derive(Clone, Copy, Debug, PartialEq, Eq)]
+pub enum NameForm {
+    /// No segment: the byte 00.
+    Null,
+    /// One segment, without a byte before it.
+    One,
+    /// Two segments after the byte 2E.
+    Dual,
+    /// 1 to 255 segments after the byte 2F and their number.
+    Multi,
+}
+
+/// A NameString as it is written (ACPI 6.5, 20.2.2): a root prefix or parent prefixes, and segments in a form.
+#[derive(Clone, Debug, Drop, PartialEq, Eq)]
+pub struct Name {
+    /// Whether the name begins with `\`, and so at the root.
+    pub root: bool,
+    /// How many prefixes `^` it has, each of which leads to the parent.
+    pub ups: u32,
+    pub form: NameForm,
+    pub segs: Segs,
+}
+
+impl Name {
+    /// Whether the name has at least one segment.
+    pub fn has_segment(&self) -> bool
+        ensures { result ≡ segmented self.now }
+    {
+        self.segs.len() > 0
+    }
+
+    /// Whether the name is one segment without a prefix, in any spelling. Such a name is searched upward from its
+    /// scope (ACPI 6.5, 5.3); any other leads to one place.
+    pub fn is_single(&self) -> bool
+        ensures { result ≡ single self.now }
+    {
+        !self.root && self.ups == 0 && self.segs.len() == 1
+    }
+}

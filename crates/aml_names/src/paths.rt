@@ -1,0 +1,141 @@
+//! Absolute paths in the namespace.
+ghost use Rattle.std.specs.Prelude.{◌≡◌, [], ◌++◌, ◌≤◌, ◌-◌, length, take, drop, Some, IfOk, refl};
+ghost use Rattle.std.specs.Ordering.{eq_by_cmp};
+ghost use Rattle.std.specs.Cmp.{partial_equiv_from_equiv, partial_order_from_total, eq_by_cmp_equiv};
+ghost use Rattle.aml_names.specs.Paths.{path_cmp, paths_total};
+
+use crate::segments::Seg;
+use std::alloc::{AllocError, Global};
+use std::cmp::Ordering;
+use std::fmt;
+use std::marker::Model;
+
+/// An absolute path: the segments from the root on, none for the root itself (ACPI 6.5, 5.3).
+///
+/// Paths are ordered by their segments as bytes, a shorter path before those that it begins.
+#[derive(Debug, Drop)]
+pub struct Path {
+    segs: Vec<Seg>,
+}
+
+impl Model for Path {
+    ghost use Rattle.std.specs.Prelude.{List};
+    ghost use Rattle.aml_names.specs.declared.segments.Seg.{Seg};
+    ghost use Rattle.aml_names.specs.Paths.{coded_path};
+
+    ghost Value = { List Seg };
+
+    ghost coded = { coded_path };
+
+    ghost view = { λ p. p.segs.items };
+}
+
+impl Path {
+    /// The root.
+    pub fn root(alloc: Global) -> Path
+        ensures { result ≡ [] }
+    {
+        Path {
+            segs: Vec::new(alloc),
+        }
+    }
+
+    /// The path of these segments.
+    pub fn from_segs(segs: Vec<Seg>) -> Path
+        ensures { result ≡ segs.items }
+    {
+        Path { segs }
+    }
+
+    /// The path of some segments and more below them.
+    pub fn below(alloc: Global, front: &[Seg], tail: &[Seg]) -> Result<Path, AllocError>
+        ensures { IfOk result (λ path. path ≡ front.now ++ tail.now) }
+    {
+        let mut segs = Vec::new(alloc);
+        segs.extend_from_slice(front)?;
+        segs.extend_from_slice(tail)?;
+        Ok(Path { segs })
+    }
+
+    /// Takes the segment before the last one out: the last one then stands in the parent of its scope.
+    pub fn raise(&mut self)
+        requires { 2 ≤ length self.old }
+        ensures { self.new ≡ take (length self.old - 2) self.old ++ drop (length self.old - 1) self.old }
+    {
+        let above = self.segs.len() - 2;
+        self.segs.remove(above);
+    }
+
+    /// The segments from the root on.
+    pub fn segs(&self) -> &[Seg]
+        ensures { result.now ≡ self.now }
+    {
+        self.segs.as_slice()
+    }
+}
+
+/// `\` and the segments, joined by `.`; each byte of a segment as the character of that number.
+impl fmt::Display for Path {
+    fn fmt<W: fmt::Write>(&self, f: &mut fmt::Formatter<W>) -> fmt::Result {
+        f.write_char('\\')?;
+        let mut first = true;
+        for seg in self.segs.as_slice() {
+            if !first {
+                f.write_char('.')?;
+            }
+            first = false;
+            for byte in seg.0 {
+                f.write_char(byte as char)?;
+            }
+        }
+        Ok(())
+    }
+}
+
+impl Clone for Path {
+    ghost is_clone = { λ path copy. copy ≡ path };
+
+    fn clone(&self) -> Result<Path, AllocError> {
+        Ok(Path {
+            segs: self.segs.clone()?,
+        })
+    }
+}
+
+impl PartialEq for Path {
+    ghost eq = { eq_by_cmp path_cmp };
+
+    ghost laws = { partial_equiv_from_equiv (eq_by_cmp_equiv paths_total) };
+
+    fn eq(&self, other: &Path) -> bool {
+        self.cmp(other) == Ordering::Equal
+    }
+}
+
+impl Eq for Path {
+    ghost laws = { eq_by_cmp_equiv paths_total };
+}
+
+impl PartialOrd for Path {
+    ghost partial_cmp = { λ a b. Some (path_cmp a b) };
+
+    ghost laws = { partial_order_from_total paths_total };
+
+    fn partial_cmp(&self, other: &Path) -> Option<Ordering> {
+        Some(self.cmp(other))
+    }
+}
+
+impl Ord for Path {
+    ghost cmp = { path_cmp };
+
+    ghost total = { paths_total };
+
+    ghost matches_partial_cmp = { λ a b. refl };
+
+    ghost matches_eq = { λ a b. refl };
+
+    fn cmp(&self, other: &Path) -> Ordering {
+        self.segs.as_slice().cmp(other.segs.as_slice())
+    }
+}

@@ -1,0 +1,76 @@
+//! Segments of names.
+ghost use Rattle.std.specs.Prelude.{◌≡◌, ◌∷◌, ◌++◌, [], length, OnOk, OnErr};
+ghost use Rattle.std.proofs.Common.{rules};
+ghost use Rattle.std.specs.Cmp.Rules.{comparing};
+ghost use Rattle.std.specs.Cmp.Lexicographic.{pointwise};
+
+use smallvec::SmallVec;
+use std::alloc::{AllocError, Global};
+use std::marker::Model;
+
+/// A NameSeg: four characters of a name, as its bytes (ACPI 6.5, 20.2.2).
+#[derive(Clone, Copy, Debug, Default, PartialEq, Eq, PartialOrd, Ord)]
+pub struct Seg(pub [u8; 4]);
+
+/// The segments of a name. Most names have a few, which need no allocation.
+#[derive(Clone, Debug, Drop)]
+pub struct Segs {
+    segs: SmallVec<Seg, 4>,
+}
+
+impl Model for Segs {
+    ghost use Rattle.std.specs.Prelude.{List};
+    ghost use Rattle.aml_names.specs.declared.segments.Seg.{Seg};
+
+    ghost Value = { List Seg };
+
+    ghost view = { λ s. s.segs.items };
+}
+
+impl Segs {
+    /// No segment.
+    pub fn new(alloc: Global) -> Segs
+        ensures { result ≡ [] }
+    {
+        Segs {
+            segs: SmallVec::new(alloc),
+        }
+    }
+
+    /// How many segments there are.
+    pub fn len(&self) -> usize
+        ensures { result ≡ length self.now }
+    {
+        self.segs.len()
+    }
+
+    /// The segments in order.
+    pub fn as_slice(&self) -> &[Seg]
+        ensures { result.now ≡ self.now }
+    {
+        self.segs.as_slice()
+    }
+
+    /// Adds a segment at the end. Where memory is refused the segments are as before.
+    pub fn push(&mut self, seg: Seg) -> Result<(), AllocError>
+        ensures ok { OnOk result (self.new ≡ self.old ++ seg ∷ []) }
+        ensures err { OnErr result (self.new ≡ self.old) }
+    {
+        self.segs.push(seg)?;
+        Ok(())
+    }
+}
+
+impl PartialEq for Segs {
+    ghost eq = { pointwise ⟦<Seg as PartialEq>⟧.eq };
+
+    ghost laws = { Prim.search (comparing, rules) };
+
+    fn eq(&self, other: &Segs) -> bool {
+        self.as_slice() == other.as_slice()
+    }
+}
+
+impl Eq for Segs {
+    ghost laws = { Prim.search (comparing, rules) };
+}
