@@ -78,6 +78,12 @@ width_few width.Two = omega arith
 width_few width.Three = omega arith
 width_few width.Four = omega arith
 
+pub width_some : (w : PkgWidth) → 0 < width_len w
+width_some width.One = omega arith
+width_some width.Two = omega arith
+width_some width.Three = omega arith
+width_some width.Four = omega arith
+
 pub length-little : (k n : ℕ) → length (little k n) ≡ k
 length-little zero n = refl
 length-little (suc k) n = ap suc (length-little k (n / 256))

@@ -1,3 +1,5 @@
 pub mod LengthLaws
 pub mod Views
+pub mod Within
+pub mod RowFacts
 mod Encodes

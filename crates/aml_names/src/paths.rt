@@ -79,7 +79,7 @@ impl fmt::Display for Path {
     fn fmt<W: fmt::Write>(&self, f: &mut fmt::Formatter<W>) -> fmt::Result {
         f.write_char('\\')?;
         let mut first = true;
-        for seg in self.segs.as_slice() {
+        for seg in self.segs() {
             if !first {
                 f.write_char('.')?;
             }
@@ -136,6 +136,6 @@ impl Ord for Path {
     ghost matches_eq = { λ a b. refl };
 
     fn cmp(&self, other: &Path) -> Ordering {
-        self.segs.as_slice().cmp(other.segs.as_slice())
+        self.segs().cmp(other.segs())
     }
 }

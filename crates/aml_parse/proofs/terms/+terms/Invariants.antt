@@ -1,0 +1,57 @@
+use Rattle.std.proofs.Common.{◌≡◌, ◌+◌, ◌-◌, ◌*◌, length, drop}
+use Rattle.aml_code.specs.View.{nodes_view, parts_view}
+use Rattle.aml_parse.specs.Contexts.{scope_of}
+use Rattle.aml_parse.specs.Reading.{read_at, parts_at, arguments_at, terms_at}
+use Rattle.aml_parse.proofs.Loops.{with_arguments, with_parts, with_terms}
+use Rattle.aml_parse.proofs.terms.+terms.Given as goal
+
+abbrev pub decreases-term : goal.decreases-term
+decreases-term g l = 8 * l.levels
+
+abbrev pub decreases-name_term : goal.decreases-name_term
+decreases-name_term g l = 8 * l.levels + 7
+
+abbrev pub decreases-call : goal.decreases-call
+decreases-call g l = 8 * l.levels + 6
+
+abbrev pub decreases-arguments : goal.decreases-arguments
+decreases-arguments g l = 8 * l.levels + 5
+
+abbrev pub decreases-operation : goal.decreases-operation
+decreases-operation g l = 8 * l.levels + 7
+
+abbrev pub decreases-plain : goal.decreases-plain
+decreases-plain g l = 8 * l.levels + 6
+
+abbrev pub decreases-packed : goal.decreases-packed
+decreases-packed g l = 8 * l.levels + 6
+
+abbrev pub decreases-parts : goal.decreases-parts
+decreases-parts g l = 8 * l.levels + 5
+
+abbrev pub decreases-part : goal.decreases-part
+decreases-part g l = 8 * l.levels + 4
+
+abbrev pub decreases-child : goal.decreases-child
+decreases-child g l = 8 * l.levels + 3
+
+abbrev pub decreases-tail : goal.decreases-tail
+decreases-tail g l = 8 * l.levels + 5
+
+abbrev pub decreases-terms : goal.decreases-terms
+decreases-terms g l = 8 * l.levels + 4
+
+abbrev pub invariant-arguments-loop-i : goal.invariant-arguments-loop-i
+invariant-arguments-loop-i g l =
+    let read = read_at (g.A.Arity.arity l.context.arity.now) (scope_of l.context.scope) l.levels in
+    with_arguments (nodes_view l.found.items) (arguments_at read (l.count - l._i) l.end l.locals l.rest) ≡ arguments_at read l.count l.end l.initial.locals l.initial.rest
+
+abbrev pub invariant-parts-loop-kind : goal.invariant-parts-loop-kind
+invariant-parts-loop-kind g l =
+    let read = read_at (g.A.Arity.arity l.context.arity.now) (scope_of l.context.scope) l.levels in
+    with_parts (parts_view l.found.items) (parts_at read (drop l.kind-index l.kinds) l.end l.locals l.rest) ≡ parts_at read l.kinds l.end l.initial.locals l.initial.rest
+
+abbrev pub invariant-terms-loop-turn : goal.invariant-terms-loop-turn
+invariant-terms-loop-turn g l =
+    let read = read_at (g.A.Arity.arity l.context.arity.now) (scope_of l.context.scope) l.levels in
+    with_terms (nodes_view l.found.items) (terms_at read (length l.bytes - l._turn) l.here l.end l.locals l.rest) ≡ terms_at read (length l.bytes) l.initial.here l.end l.initial.locals l.bytes

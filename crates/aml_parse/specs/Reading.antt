@@ -1,0 +1,274 @@
+-- Reading terms forward, with the first fault that is met. A stepping stone: what it means that code reads as terms is
+-- said without it, by the definitions of aml_code.
+use Rattle.std.specs.Prelude.{◌≡◌, ℕ, zero, suc, ◌+◌, ◌-◌, Bool, true, false, cond, ◌&&◌, ◌==◌, if◌then◌else◌, nat_lt, List, [], ◌∷◌, length, take, drop, position, Option, Some, None, Result, Ok, Err}
+use Rattle.std.specs.FinSet as set
+use Rattle.aml_names.specs.declared.faults.CodeFault.{CodeFault}
+use Rattle.aml_names.specs.declared.faults.CodeFault.TheVariants as faults
+use Rattle.aml_names.specs.declared.segments.Seg.{Seg}
+use Rattle.aml_names.specs.declared.names.Name.{Name}
+use Rattle.aml_names.specs.Paths.{PathSet}
+use Rattle.aml_names.specs.Names.{is_name_lead}
+use Rattle.aml_names.specs.NameReading.{name_at, has_segment}
+use Rattle.aml_names.specs.Steps.{◌>>=◌, Left, byte_at}
+use Rattle.aml_code.specs.declared.rows.OpRow.{OpRow}
+use Rattle.aml_code.specs.declared.rows.PartKind.{PartKind}
+use Rattle.aml_code.specs.declared.rows.PartKind.TheVariants as kinds
+use Rattle.aml_code.specs.declared.rows.Place.{Place}
+use Rattle.aml_code.specs.declared.rows.Place.TheVariants as places
+use Rattle.aml_code.specs.declared.rows.Position.{Position}
+use Rattle.aml_code.specs.declared.rows.Position.TheVariants as positions
+use Rattle.aml_code.specs.declared.rows.TailKind.{TailKind}
+use Rattle.aml_code.specs.declared.rows.TailKind.TheVariants as tails
+use Rattle.aml_code.specs.Lengths.{little_at, span_at}
+use Rattle.aml_code.specs.Rows.{row_of, parts_of, has_length, takes}
+use Rattle.aml_code.specs.Tree.{Tree, nothing, named, op, Trees, no_trees, tree_more, OnePart, child, label, byte, word, dword, qword, text, Parts, no_parts, part_more, Rest, empty, terms, elements, body}
+use Rattle.aml_code.specs.Tree as trees
+use Rattle.aml_code.specs.Declaring.{names_declared, with_declared}
+use Rattle.aml_code.specs.Faults.{Arities}
+use Rattle.aml_code.specs.Lawful.{is_guard, terms_in, next_position}
+
+-- A reader is handed where the innermost span ends, the paths declared so far and what is left of the span. It answers
+-- what it read, the paths declared then, and what is left.
+abbrev pub Reader : Type 0 → Type 0
+Reader A = ℕ → PathSet → List ℕ → Result (A × PathSet × List ℕ) CodeFault
+
+-- a step that declares nothing
+abbrev pub flat : {A : Type 0} → (ℕ → List ℕ → Left A) → Reader A
+flat step end ls bytes = do
+  x ← step end bytes
+  Ok (x.0, ls, x.1)
+
+-- ---- parts that hold no terms
+
+abbrev pub byte_part : ℕ → List ℕ → Left OnePart
+byte_part end bytes = do
+  n ← little_at 1 end bytes
+  Ok (byte n.0, n.1)
+
+unfoldable pub count_part : ℕ → List ℕ → Left OnePart
+count_part end bytes = do
+  n ← little_at 1 end bytes
+  if nat_lt 7 n.0 then Err (faults.BadCount (end - length bytes)) else Ok (byte n.0, n.1)
+
+abbrev pub word_part : ℕ → List ℕ → Left OnePart
+word_part end bytes = do
+  n ← little_at 2 end bytes
+  Ok (word n.0, n.1)
+
+abbrev pub dword_part : ℕ → List ℕ → Left OnePart
+dword_part end bytes = do
+  n ← little_at 4 end bytes
+  Ok (dword n.0, n.1)
+
+abbrev pub qword_part : ℕ → List ℕ → Left OnePart
+qword_part end bytes = do
+  n ← little_at 8 end bytes
+  Ok (qword n.0, n.1)
+
+-- a text up to its 00
+abbrev pub text_to : Option ℕ → ℕ → List ℕ → Left OnePart
+text_to None end bytes = Err (faults.Truncated end)
+text_to (Some n) end bytes = Ok (text (take n bytes), drop (suc n) bytes)
+
+abbrev pub text_part : ℕ → List ℕ → Left OnePart
+text_part end bytes = text_to (position (λ b. b == 0) bytes) end bytes
+
+-- a name that may have no segment
+abbrev pub any_name_part : ℕ → List ℕ → Left OnePart
+any_name_part end bytes = do
+  n ← name_at end bytes
+  Ok (label n.0, n.1)
+
+-- a name with a segment
+unfoldable pub name_part : ℕ → List ℕ → Left OnePart
+name_part end bytes = do
+  n ← name_at end bytes
+  if has_segment n.0 then Ok (label n.0, n.1) else Err (faults.EmptyName (end - length bytes))
+
+-- ---- parts
+
+abbrev pub child_at : Reader Tree → Reader OnePart
+child_at read end ls bytes = do
+  t ← read end ls bytes
+  Ok (child t.0, t.1, t.2)
+
+abbrev pub part_at : (Position → Reader Tree) → PartKind → Reader OnePart
+part_at read kinds.Term = child_at (read positions.Argument)
+part_at read kinds.Target = child_at (read positions.Target)
+part_at read kinds.Data = child_at (read positions.Data)
+part_at read kinds.Name = flat name_part
+part_at read kinds.ScopeName = flat any_name_part
+part_at read kinds.Byte = flat byte_part
+part_at read kinds.Count = flat count_part
+part_at read kinds.Word = flat word_part
+part_at read kinds.Dword = flat dword_part
+part_at read kinds.Qword = flat qword_part
+part_at read kinds.Text = flat text_part
+
+unfoldable pub parts_at : (Position → Reader Tree) → List PartKind → Reader Parts
+parts_at read [] end ls bytes = Ok (no_parts, ls, bytes)
+parts_at read (k ∷ ks) end ls bytes = do
+  first ← part_at read k end ls bytes
+  others ← parts_at read ks end first.1 first.2
+  Ok (part_more first.0 others.0, others.1, others.2)
+
+-- ---- lists of terms
+
+-- so many arguments
+unfoldable pub arguments_at : (Position → Reader Tree) → ℕ → Reader Trees
+arguments_at read zero end ls bytes = Ok (no_trees, ls, bytes)
+arguments_at read (suc n) end ls bytes = do
+  first ← read positions.Argument end ls bytes
+  others ← arguments_at read n end first.1 first.2
+  Ok (tree_more first.0 others.0, others.1, others.2)
+
+-- Terms to the end of the span. The number bounds the turns: that of the bytes is always enough.
+unfoldable pub terms_at : (Position → Reader Tree) → ℕ → Position → ℕ → PathSet → List ℕ → Result (Trees × PathSet) CodeFault
+terms_at read n p end ls [] = Ok (no_trees, ls)
+terms_at read zero p end ls (b ∷ bytes) = Err (faults.Truncated end)
+terms_at read (suc n) p end ls (b ∷ bytes) = do
+  first ← read p end ls (b ∷ bytes)
+  others ← terms_at read n (next_position p first.0) end first.1 first.2
+  Ok (tree_more first.0 others.0, others.1)
+
+-- ---- names
+
+-- how many arguments follow a name in a position
+abbrev pub wanted : Arities → Position → PathSet → Name → Option ℕ
+wanted arity positions.ModuleTerm ls n = None
+wanted arity positions.GuardTerm ls n = None
+wanted arity positions.BodyTerm ls n = arity ls n
+wanted arity positions.AfterIf ls n = arity ls n
+wanted arity positions.Argument ls n = arity ls n
+wanted arity positions.Target ls n = Some 0
+wanted arity positions.Data ls n = Some 0
+
+abbrev pub known : ℕ → Option ℕ → Result ℕ CodeFault
+known at None = Err (faults.UnknownName at)
+known at (Some n) = Ok n
+
+unfoldable pub call_at : Arities → (Position → Reader Tree) → Position → Reader Tree
+call_at arity read p end ls bytes = do
+  name ← name_at end bytes
+  n ← known (end - length bytes) (wanted arity p ls name.0)
+  args ← arguments_at read n end ls name.1
+  Ok (named name.0 args.0, args.1, args.2)
+
+-- a list of terms of a table takes no name
+abbrev pub takes_names : Position → Bool
+takes_names positions.ModuleTerm = false
+takes_names positions.GuardTerm = false
+takes_names _ = true
+
+unfoldable pub name_term_at : Arities → (Position → Reader Tree) → Position → Reader Tree
+name_term_at arity read p end ls bytes =
+    if takes_names p then call_at arity read p end ls bytes else Err (faults.ModuleCode (end - length bytes))
+
+-- ---- opcodes
+
+-- one byte, or 5B and a second
+unfoldable pub opcode_at : ℕ → List ℕ → Left ℕ
+opcode_at end bytes = do
+  lead ← byte_at end bytes
+  if lead.0 == 0x5B then (byte_at end lead.1 >>= λ second. Ok (0x5B00 + second.0, second.1)) else Ok lead
+
+-- why a body doesn't take an opcode of a place
+abbrev pub refused_in_body : Place → ℕ → CodeFault
+refused_in_body places.Method at = faults.NestedMethod at
+refused_in_body places.Scope at = faults.NestedScope at
+refused_in_body places.Else at = faults.StrayElse at
+refused_in_body _ at = faults.NotHere at
+
+-- why a position doesn't take an opcode of a place
+abbrev pub refusal : Position → Place → ℕ → CodeFault
+refusal positions.ModuleTerm place at = faults.ModuleCode at
+refusal positions.GuardTerm place at = faults.ModuleCode at
+refusal positions.BodyTerm place at = refused_in_body place at
+refusal positions.AfterIf place at = refused_in_body place at
+refusal positions.Argument place at = faults.NotHere at
+refusal positions.Target place at = faults.NotHere at
+refusal positions.Data place at = faults.NotHere at
+
+-- the content of a guard begins with 00
+abbrev pub guard_at : Bool → ℕ → ℕ → List ℕ → Result Bool CodeFault
+guard_at false at end inside = Ok false
+guard_at true at end inside = do
+  first ← byte_at end inside
+  if first.0 == 0x00 then Ok true else Err (faults.ModuleCode at)
+
+-- a method's body, from where it begins to the end of its span
+abbrev pub body_to : ℕ → ℕ → Rest
+body_to end start = body start (end - start)
+
+-- a tail to the end of its span
+abbrev pub tail_at : (Position → Reader Tree) → Position → TailKind → ℕ → PathSet → List ℕ → Result (Rest × PathSet) CodeFault
+tail_at read p tails.Empty end ls inside = Err (faults.Truncated end)
+tail_at read p tails.Terms end ls inside = do
+  ts ← terms_at read (length inside) p end ls inside
+  Ok (terms ts.0, ts.1)
+tail_at read p tails.Bytes end ls inside = Ok (trees.bytes inside, ls)
+tail_at read p tails.Elements end ls inside = do
+  ts ← terms_at read (length inside) positions.Data end ls inside
+  Ok (elements ts.0, ts.1)
+tail_at read p tails.Fields end ls inside = Err (faults.Truncated end)
+tail_at read p tails.Body end ls inside = Ok (body_to end (end - length inside), ls)
+
+-- an opcode without a package length
+unfoldable pub plain_at : Option (List Seg) → (Position → Reader Tree) → OpRow → Reader Tree
+plain_at scope read row end ls bytes = do
+  ps ← parts_at read (parts_of row.shape) end ls bytes
+  Ok (op row.opcode None ps.0 empty, with_declared scope ps.1 (names_declared row.declares ps.0 empty), ps.2)
+
+-- an opcode with a package length, which stands at an offset
+unfoldable pub packed_at : Option (List Seg) → (Position → Reader Tree) → Position → ℕ → OpRow → Reader Tree
+packed_at scope read p at row end ls bytes = do
+  span ← span_at end bytes
+  guarded ← guard_at (is_guard p row.place) at (end - length span.2) span.1
+  ps ← parts_at read (parts_of row.shape) (end - length span.2) ls span.1
+  t ← tail_at read (terms_in p row.place) row.tail (end - length span.2) ps.1 ps.2
+  Ok (op row.opcode (Some span.0) ps.0 t.0, with_declared scope t.1 (names_declared row.declares ps.0 t.0), span.2)
+
+abbrev pub row_at : Option (List Seg) → (Position → Reader Tree) → Position → ℕ → OpRow → Reader Tree
+row_at scope read p at row end ls bytes =
+    if has_length row.tail then packed_at scope read p at row end ls bytes else plain_at scope read row end ls bytes
+
+abbrev pub by_row : Option OpRow → Option (List Seg) → (Position → Reader Tree) → Position → ℕ → Reader Tree
+by_row None scope read p at end ls bytes = Err (faults.UnknownOp at)
+by_row (Some row) scope read p at end ls bytes =
+    if takes p row.place then row_at scope read p at row end ls bytes else Err (refusal p row.place at)
+
+unfoldable pub operation_at : Option (List Seg) → (Position → Reader Tree) → Position → Reader Tree
+operation_at scope read p end ls bytes = do
+  o ← opcode_at end bytes
+  by_row (row_of o.0) scope read p (end - length bytes) end ls o.1
+
+-- 00 where a target is wanted
+abbrev pub is_none : Position → ℕ → Bool
+is_none positions.Target lead = lead == 0x00
+is_none _ lead = false
+
+-- a term, with what is inside it read by another reader
+unfoldable pub term_at : Arities → Option (List Seg) → (Position → Reader Tree) → Position → Reader Tree
+term_at arity scope read p end ls bytes = do
+  lead ← byte_at end bytes
+  if is_name_lead lead.0 then name_term_at arity read p end ls bytes else
+      if is_none p lead.0 then Ok (nothing, ls, lead.1) else
+      operation_at scope read p end ls bytes
+
+-- no level is left
+abbrev pub too_deep : Reader Tree
+too_deep end ls bytes = do
+  lead ← byte_at end bytes
+  Err (faults.TooDeep (end - length bytes))
+
+-- a term with at most so many levels
+unfoldable pub read_at : Arities → Option (List Seg) → ℕ → Position → Reader Tree
+read_at arity scope zero p end ls bytes = too_deep end ls bytes
+read_at arity scope (suc levels) p end ls bytes = term_at arity scope (read_at arity scope levels) p end ls bytes
+
+-- ---- all of the code
+
+unfoldable pub all_at : Arities → Option (List Seg) → Position → List ℕ → Result Trees CodeFault
+all_at arity scope p code = do
+  ts ← terms_at (read_at arity scope 512) (length code) p (length code) set.empty code
+  Ok ts.0

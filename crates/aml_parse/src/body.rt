@@ -1,0 +1,66 @@
+//! The bytes of a method's body.
+ghost use Rattle.std.specs.Prelude.{◌≡◌, ◌⊎◌, ◌≤◌, ◌<◌, ◌^◌, Some, length, IfOk, IfErr};
+ghost use Rattle.aml_names.specs.Steps.{Gives};
+ghost use Rattle.aml_code.specs.Faults.{StandsAt};
+ghost use Rattle.aml_code.specs.Meaning.{ReadsBody};
+ghost use Rattle.aml_code.specs.Tree.{Trees};
+ghost use Rattle.aml_code.specs.View.{nodes_view};
+ghost use Rattle.aml_parse.specs.Reading.{all_at};
+
+use crate::context::Context;
+use crate::terms::terms;
+use aml_code::{Arity, CodeFault, Locals, Node, Path, Position};
+use std::alloc::Global;
+
+/// The terms, and the fault that is met first.
+#[tactic(auto, unfolding(crate::specs::Reading::all_at))]
+fn body_terms<A: Arity>(
+    alloc: Global,
+    code: &[u8],
+    arity: &A,
+    scope: &Path,
+) -> Result<Vec<Node>, CodeFault>
+    requires { length code.now < 2 ^ 32 }
+    ensures { Gives (λ x. nodes_view x.items) result (all_at (A.arity arity.now) (Some scope.now) Position.BodyTerm code.now) }
+{
+    let context = Context {
+        alloc,
+        arity,
+        scope: Some(scope),
+    };
+    let mut locals = Locals::new(alloc);
+    terms(
+        &context,
+        512,
+        Position::BodyTerm,
+        code.len() as u32,
+        &mut locals,
+        code,
+    )
+}
+
+/// The terms of a method's body, which `code` holds whole. How many arguments a name takes is asked of `arity`, by the
+/// paths that the body has declared so far; `scope` is the method's path, from which these are placed (ACPI 6.5, 5.3).
+///
+/// A fault's offset is one in `code`, and what the fault says is true there. Which of several faults is answered is the
+/// first that is met in reading forward.
+pub fn parse_body<A: Arity>(
+    alloc: Global,
+    code: &[u8],
+    arity: &A,
+    scope: &Path,
+) -> Result<Vec<Node>, CodeFault>
+    // The limit of a table.
+    requires { length code.now ≤ 16777216 }
+
+    // What is answered is lawful, and its bytes are the code.
+    ensures sound { IfOk result (λ nodes. ReadsBody (A.arity arity.now) scope.now code.now (nodes_view nodes.items)) }
+    // No other terms are.
+    ensures one { IfOk result (λ nodes. (ts : Trees) → ReadsBody (A.arity arity.now) scope.now code.now ts → ts ≡ nodes_view nodes.items) }
+    // A refusal for another cause than memory comes only where no terms are.
+    ensures complete { IfErr result (λ fault. (fault ≡ CodeFault.NoMemory) ⊎ ((ts : Trees) → ReadsBody (A.arity arity.now) scope.now code.now ts → ⊥)) }
+    // A fault is true of its offset.
+    ensures placed { IfErr result (StandsAt (A.arity arity.now) code.now) }
+{
+    body_terms(alloc, code, arity, scope)
+}

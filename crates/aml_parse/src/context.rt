@@ -1,0 +1,187 @@
+//! What stays the same while a list of terms is read.
+ghost use Rattle.std.specs.Prelude.{◌≡◌, None, OnOk};
+ghost use Rattle.aml_names.specs.Steps.{Gives};
+ghost use Rattle.std.specs.Option.{option_copied};
+ghost use Rattle.aml_names.specs.Names.{placed};
+ghost use Rattle.aml_code.specs.Tree.{no_units, unit_more};
+ghost use Rattle.aml_code.specs.Declaring.{field_names, last_label, listed, names_declared, unit_names, with_declared, with_names, with_path};
+ghost use Rattle.aml_code.specs.View.{field_view, fields_view, parts_view, tail_view};
+ghost use Rattle.aml_parse.specs.Reading.{wanted, known};
+ghost use Rattle.aml_parse.specs.Contexts.{scope_of};
+
+use aml_code::{
+    Arity, CodeFault, Declares, Field, Locals, Name, NameForm, NoMemory, Part, Path, Position,
+    Segs, Tail, place,
+};
+use std::alloc::Global;
+
+/// How many arguments names take, and from where declarations are placed: from a method's path in its body, and from
+/// nowhere in a table.
+#[derive(Drop)]
+pub struct Context<'a, A> {
+    pub alloc: Global,
+    pub arity: &'a A,
+    pub scope: Option<&'a Path>,
+}
+
+impl<'a, A: Arity> Context<'a, A> {
+    /// How many arguments a name takes in a position. `UnknownName` at the offset where nobody knows.
+    pub fn count(
+        &self,
+        position: Position,
+        at: u32,
+        locals: &Locals,
+        name: &Name,
+    ) -> Result<u8, CodeFault>
+        ensures { Gives (λ n. n) result (known at (wanted (A.arity self.now.arity.now) position locals.now name.now)) }
+    {
+        match position {
+            Position::Target | Position::Data => Ok(0),
+            Position::ModuleTerm | Position::GuardTerm => Err(CodeFault::UnknownName { at }),
+            Position::BodyTerm | Position::AfterIf | Position::Argument => {
+                match self.arity.count(self.alloc, locals, name)? {
+                    None => Err(CodeFault::UnknownName { at }),
+                    Some(count) => Ok(count),
+                }
+            }
+        }
+    }
+
+    /// Adds the paths that a term declares itself.
+    pub fn declare(
+        &self,
+        declares: Declares,
+        parts: &[Part],
+        tail: &Tail,
+        locals: &mut Locals,
+    ) -> Result<(), NoMemory>
+        ensures { OnOk result (locals.new ≡ with_declared (scope_of self.now.scope) locals.old (names_declared declares (parts_view parts.now) (tail_view tail.now))) }
+    {
+        match self.scope {
+            None => Ok(()),
+            Some(scope) => declare_in(self.alloc, scope, declares, parts, tail, locals),
+        }
+    }
+}
+
+/// Adds the paths that a term declares, placed from a scope.
+fn declare_in(
+    alloc: Global,
+    scope: &Path,
+    declares: Declares,
+    parts: &[Part],
+    tail: &Tail,
+    locals: &mut Locals,
+) -> Result<(), NoMemory>
+    ensures { OnOk result (locals.new ≡ with_names scope.now locals.old (names_declared declares (parts_view parts.now) (tail_view tail.now))) }
+{
+    match declares {
+        Declares::Nothing => Ok(()),
+        Declares::LastName => declare_last(alloc, scope, parts, locals),
+        Declares::Units => declare_units(alloc, scope, tail, locals),
+    }
+}
+
+/// Adds the path of the last part that is a name.
+fn declare_last(
+    alloc: Global,
+    scope: &Path,
+    parts: &[Part],
+    locals: &mut Locals,
+) -> Result<(), NoMemory>
+    ensures { OnOk result (locals.new ≡ with_names scope.now locals.old (listed (last_label None (parts_view parts.now)))) }
+{
+    match last_name(parts) {
+        None => Ok(()),
+        Some(name) => declare_name(alloc, scope, name, locals),
+    }
+}
+
+/// The last part that is a name.
+fn last_name(parts: &[Part]) -> Option<&Name>
+    ensures { option_copied result ≡ last_label None (parts_view parts.now) }
+{
+    let mut found = None;
+    for part in parts {
+        if let Part::Label(name) = part {
+            found = Some(name);
+        }
+    }
+    found
+}
+
+/// Adds the path of a name, if there is one.
+fn declare_name(
+    alloc: Global,
+    scope: &Path,
+    name: &Name,
+    locals: &mut Locals,
+) -> Result<(), NoMemory>
+    ensures { OnOk result (locals.new ≡ with_path locals.old (placed scope.now name.now)) }
+{
+    if let Some(path) = place(alloc, scope, name)? {
+        locals.push(path)?;
+    }
+    Ok(())
+}
+
+/// Adds the paths of the named units of a field list.
+fn declare_units(
+    alloc: Global,
+    scope: &Path,
+    tail: &Tail,
+    locals: &mut Locals,
+) -> Result<(), NoMemory>
+    ensures { OnOk result (locals.new ≡ with_names scope.now locals.old (field_names (tail_view tail.now))) }
+{
+    match tail {
+        Tail::Fields(fields) => declare_fields(alloc, scope, fields.as_slice(), locals),
+        Tail::Empty => Ok(()),
+        Tail::Terms(_) => Ok(()),
+        Tail::Bytes(_) => Ok(()),
+        Tail::Elements(_) => Ok(()),
+        Tail::Body { .. } => Ok(()),
+    }
+}
+
+fn declare_fields(
+    alloc: Global,
+    scope: &Path,
+    fields: &[Field],
+    locals: &mut Locals,
+) -> Result<(), NoMemory>
+    ensures { OnOk result (locals.new ≡ with_names scope.now locals.old (unit_names (fields_view fields.now))) }
+{
+    for field in fields {
+        declare_field(alloc, scope, field, locals)?;
+    }
+    Ok(())
+}
+
+/// Adds the path of a named unit.
+fn declare_field(
+    alloc: Global,
+    scope: &Path,
+    field: &Field,
+    locals: &mut Locals,
+) -> Result<(), NoMemory>
+    ensures { OnOk result (locals.new ≡ with_names scope.now locals.old (unit_names (unit_more (field_view field.now) no_units))) }
+{
+    match field {
+        Field::NamedUnit { seg, .. } => {
+            let mut segs = Segs::new(alloc);
+            segs.push(*seg)?;
+            let name = Name {
+                root: false,
+                ups: 0,
+                form: NameForm::One,
+                segs,
+            };
+            declare_name(alloc, scope, &name, locals)
+        }
+        Field::Reserved { .. } => Ok(()),
+        Field::Access(_, _) => Ok(()),
+        Field::Connection(_) => Ok(()),
+        Field::Extended(_, _, _) => Ok(()),
+    }
+}

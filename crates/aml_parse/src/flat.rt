@@ -1,0 +1,94 @@
+//! Parts that hold no terms.
+ghost use Rattle.std.specs.Prelude.{◌≡◌, ◌<◌, ◌==◌, position, take, drop, suc, IfSome, length};
+ghost use Rattle.aml_names.specs.Steps.{Gives};
+ghost use Rattle.aml_code.specs.View.{part_view};
+ghost use Rattle.aml_parse.specs.Reading.{byte_part, count_part, word_part, dword_part, qword_part, text_part, text_to, any_name_part, name_part};
+
+use aml_code::{Bytes, CodeFault, Part, little_of, offset_of};
+use aml_names::name_of;
+use std::alloc::Global;
+
+pub fn byte_part_of(end: u32, bytes: &[u8]) -> Result<(Part, &[u8]), CodeFault>
+    ensures { Gives (λ x. (part_view x.0, x.1.now)) result (byte_part end bytes.now) }
+{
+    let (value, rest) = little_of(1, end, bytes)?;
+    Ok((Part::Byte(value as u8), rest))
+}
+
+/// A number of arguments. `BadCount` at the byte where it is above 7.
+#[tactic(auto, unfolding(crate::specs::Reading::count_part))]
+pub fn count_part_of(end: u32, bytes: &[u8]) -> Result<(Part, &[u8]), CodeFault>
+    ensures { Gives (λ x. (part_view x.0, x.1.now)) result (count_part end bytes.now) }
+{
+    let (value, rest) = little_of(1, end, bytes)?;
+    if value > 7 {
+        return Err(CodeFault::BadCount {
+            at: offset_of(end, bytes),
+        });
+    }
+    Ok((Part::Byte(value as u8), rest))
+}
+
+pub fn word_part_of(end: u32, bytes: &[u8]) -> Result<(Part, &[u8]), CodeFault>
+    ensures { Gives (λ x. (part_view x.0, x.1.now)) result (word_part end bytes.now) }
+{
+    let (value, rest) = little_of(2, end, bytes)?;
+    Ok((Part::Word(value as u16), rest))
+}
+
+pub fn dword_part_of(end: u32, bytes: &[u8]) -> Result<(Part, &[u8]), CodeFault>
+    ensures { Gives (λ x. (part_view x.0, x.1.now)) result (dword_part end bytes.now) }
+{
+    let (value, rest) = little_of(4, end, bytes)?;
+    Ok((Part::Dword(value as u32), rest))
+}
+
+pub fn qword_part_of(end: u32, bytes: &[u8]) -> Result<(Part, &[u8]), CodeFault>
+    ensures { Gives (λ x. (part_view x.0, x.1.now)) result (qword_part end bytes.now) }
+{
+    let (value, rest) = little_of(8, end, bytes)?;
+    Ok((Part::Qword(value), rest))
+}
+
+/// Where the first 00 stands.
+fn first_zero(bytes: &[u8]) -> Option<usize>
+    ensures zero { result ≡ position (λ b. b == 0) bytes.now }
+    ensures inside { IfSome result (λ n. n < length bytes.now) }
+{
+    bytes.iter().position(|byte| *byte == 0)
+}
+
+/// A text up to its 00. `Truncated` at the span's end where there is none.
+pub fn text_part_of(alloc: Global, end: u32, bytes: &[u8]) -> Result<(Part, &[u8]), CodeFault>
+    ensures { Gives (λ x. (part_view x.0, x.1.now)) result (text_part end bytes.now) }
+{
+    match first_zero(bytes) {
+        None => Err(CodeFault::Truncated { at: end }),
+        Some(len) => {
+            let text = Vec::from_slice(alloc, &bytes[..len])?;
+            Ok((Part::Text(Bytes::from_vec(text)), &bytes[len + 1..]))
+        }
+    }
+}
+
+/// A name that may have no segment.
+pub fn any_name_part_of(alloc: Global, end: u32, bytes: &[u8]) -> Result<(Part, &[u8]), CodeFault>
+    ensures { Gives (λ x. (part_view x.0, x.1.now)) result (any_name_part end bytes.now) }
+{
+    let (name, rest) = name_of(alloc, end, bytes)?;
+    Ok((Part::Label(name), rest))
+}
+
+/// A name with a segment. `EmptyName` at its first byte where it has none.
+#[tactic(auto, unfolding(crate::specs::Reading::name_part))]
+pub fn name_part_of(alloc: Global, end: u32, bytes: &[u8]) -> Result<(Part, &[u8]), CodeFault>
+    ensures { Gives (λ x. (part_view x.0, x.1.now)) result (name_part end bytes.now) }
+{
+    let (name, rest) = name_of(alloc, end, bytes)?;
+    if !name.has_segment() {
+        return Err(CodeFault::EmptyName {
+            at: offset_of(end, bytes),
+        });
+    }
+    Ok((Part::Label(name), rest))
+}

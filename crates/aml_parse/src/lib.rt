@@ -1,0 +1,16 @@
+//! Reading AML: the bytes of a table and of a method's body as trees.
+//!
+//! What it means that bytes read as a tree is said by `ReadsModule` and `ReadsBody` in the specs of `aml_code`.
+#![tactic(auto)]
+
+mod body;
+mod context;
+mod flat;
+mod module;
+mod terms;
+
+pub use body::parse_body;
+pub use module::parse_module;
+
+#[cfg(test)]
+mod tests;

@@ -1,0 +1,448 @@
+//! Terms, and what is inside them.
+ghost use Rattle.std.specs.Prelude.{◌≡◌, length};
+ghost use Rattle.aml_names.specs.Steps.{Gives};
+ghost use Rattle.aml_code.specs.Lawful.{is_guard, is_if, next_position, terms_in};
+ghost use Rattle.aml_code.specs.View.{node_view, nodes_view, part_view, parts_view, tail_view};
+ghost use Rattle.aml_parse.specs.Contexts.{scope_of};
+ghost use Rattle.aml_parse.specs.Reading.{child_at, opcode_at, refused_in_body, refusal, is_none, takes_names, guard_at, part_at, parts_at, arguments_at, terms_at, call_at, name_term_at, tail_at, plain_at, packed_at, by_row, row_at, operation_at, read_at};
+
+use crate::context::Context;
+use crate::flat::{
+    any_name_part_of, byte_part_of, count_part_of, dword_part_of, name_part_of, qword_part_of,
+    text_part_of, word_part_of,
+};
+use aml_code::{
+    Arity, Bytes, CodeFault, Locals, Node, OpRow, Part, PartKind, Place, Position, Tail, TailKind,
+    byte_of, offset_of, row, span_of, takes,
+};
+use aml_names::{is_name_lead, name_of};
+
+/// An opcode: one byte, or 5B and a second.
+#[tactic(auto, unfolding(crate::specs::Reading::opcode_at))]
+fn opcode_of(end: u32, bytes: &[u8]) -> Result<(u16, &[u8]), CodeFault>
+    ensures { Gives (λ x. (x.0, x.1.now)) result (opcode_at end bytes.now) }
+{
+    let (lead, rest) = byte_of(end, bytes)?;
+    if lead != 0x5B {
+        return Ok((lead as u16, rest));
+    }
+    let (second, rest) = byte_of(end, rest)?;
+    Ok((0x5B00 + second as u16, rest))
+}
+
+/// Why a method's body doesn't take an opcode of a place.
+fn refused_in_body(place: Place, at: u32) -> CodeFault
+    ensures { result ≡ refused_in_body place at }
+{
+    match place {
+        Place::Method => CodeFault::NestedMethod { at },
+        Place::Scope => CodeFault::NestedScope { at },
+        Place::Else => CodeFault::StrayElse { at },
+        _ => CodeFault::NotHere { at },
+    }
+}
+
+/// Why a position doesn't take an opcode of a place.
+fn refusal(position: Position, place: Place, at: u32) -> CodeFault
+    ensures { result ≡ refusal position place at }
+{
+    match position {
+        Position::ModuleTerm | Position::GuardTerm => CodeFault::ModuleCode { at },
+        Position::BodyTerm | Position::AfterIf => refused_in_body(place, at),
+        Position::Argument | Position::Target | Position::Data => CodeFault::NotHere { at },
+    }
+}
+
+fn is_none(position: Position, lead: u8) -> bool
+    ensures { result ≡ is_none position lead }
+{
+    position == Position::Target && lead == 0x00
+}
+
+fn takes_names(position: Position) -> bool
+    ensures { result ≡ takes_names position }
+{
+    !matches!(position, Position::ModuleTerm | Position::GuardTerm)
+}
+
+/// Whether the terms inside a term of a table are those of a guard.
+fn is_guard(position: Position, place: Place) -> bool
+    ensures { result ≡ is_guard position place }
+{
+    position == Position::ModuleTerm && place == Place::If
+}
+
+/// Where the terms inside a term stand.
+fn terms_in(position: Position, place: Place) -> Position
+    ensures { result ≡ terms_in position place }
+{
+    match position {
+        Position::ModuleTerm => match place {
+            Place::If => Position::GuardTerm,
+            _ => Position::ModuleTerm,
+        },
+        _ => Position::BodyTerm,
+    }
+}
+
+fn is_if(node: &Node) -> bool
+    ensures { result ≡ is_if (node_view node.now) }
+{
+    match node {
+        Node::Nothing => false,
+        Node::Named { .. } => false,
+        Node::Op { opcode, .. } => match row(*opcode) {
+            None => false,
+            Some(row) => row.place == Place::If,
+        },
+    }
+}
+
+/// Where the term after a term of a list stands.
+fn next_position(position: Position, node: &Node) -> Position
+    ensures { result ≡ next_position position (node_view node.now) }
+{
+    match position {
+        Position::BodyTerm | Position::AfterIf => {
+            if is_if(node) {
+                Position::AfterIf
+            } else {
+                Position::BodyTerm
+            }
+        }
+        _ => position,
+    }
+}
+
+/// Whether a guard begins with its predicate 00. `ModuleCode` at the guard where it begins with another byte.
+fn guard_of(guarded: bool, at: u32, end: u32, inside: &[u8]) -> Result<bool, CodeFault>
+    ensures { Gives (λ b. b) result (guard_at guarded at end inside.now) }
+{
+    if !guarded {
+        return Ok(false);
+    }
+    let (first, _) = byte_of(end, inside)?;
+    if first != 0x00 {
+        return Err(CodeFault::ModuleCode { at });
+    }
+    Ok(true)
+}
+
+#[cycle(terms)]
+#[tactic(auto, unfolding(crate::specs::Reading::read_at, crate::specs::Reading::term_at, crate::specs::Reading::too_deep))]
+fn term<'b, A: Arity>(
+    context: &Context<'_, A>,
+    levels: u16,
+    position: Position,
+    end: u32,
+    locals: &mut Locals,
+    bytes: &'b [u8],
+) -> Result<(Node, &'b [u8]), CodeFault>
+    ensures { Gives (λ x. (node_view x.0, locals.new, x.1.now)) result (read_at (A.arity context.now.arity.now) (scope_of context.now.scope) levels position end locals.old bytes.now) }
+{
+    let (lead, rest) = byte_of(end, bytes)?;
+    if levels == 0 {
+        return Err(CodeFault::TooDeep {
+            at: offset_of(end, bytes),
+        });
+    }
+    if is_name_lead(lead) {
+        return name_term(context, levels - 1, position, end, locals, bytes);
+    }
+    if is_none(position, lead) {
+        return Ok((Node::Nothing, rest));
+    }
+    operation(context, levels - 1, position, end, locals, bytes)
+}
+
+#[cycle(terms)]
+#[tactic(auto, unfolding(crate::specs::Reading::name_term_at))]
+fn name_term<'b, A: Arity>(
+    context: &Context<'_, A>,
+    levels: u16,
+    position: Position,
+    end: u32,
+    locals: &mut Locals,
+    bytes: &'b [u8],
+) -> Result<(Node, &'b [u8]), CodeFault>
+    ensures { Gives (λ x. (node_view x.0, locals.new, x.1.now)) result (name_term_at (A.arity context.now.arity.now) (read_at (A.arity context.now.arity.now) (scope_of context.now.scope) levels) position end locals.old bytes.now) }
+{
+    if !takes_names(position) {
+        return Err(CodeFault::ModuleCode {
+            at: offset_of(end, bytes),
+        });
+    }
+    call(context, levels, position, end, locals, bytes)
+}
+
+#[cycle(terms)]
+#[tactic(auto, unfolding(crate::specs::Reading::call_at))]
+fn call<'b, A: Arity>(
+    context: &Context<'_, A>,
+    levels: u16,
+    position: Position,
+    end: u32,
+    locals: &mut Locals,
+    bytes: &'b [u8],
+) -> Result<(Node, &'b [u8]), CodeFault>
+    ensures { Gives (λ x. (node_view x.0, locals.new, x.1.now)) result (call_at (A.arity context.now.arity.now) (read_at (A.arity context.now.arity.now) (scope_of context.now.scope) levels) position end locals.old bytes.now) }
+{
+    let (name, rest) = name_of(context.alloc, end, bytes)?;
+    let count = context.count(position, offset_of(end, bytes), locals, &name)?;
+    let (args, rest) = arguments(context, levels, count, end, locals, rest)?;
+    Ok((Node::Named { name, args }, rest))
+}
+
+#[cycle(terms)]
+fn arguments<'b, A: Arity>(
+    context: &Context<'_, A>,
+    levels: u16,
+    count: u8,
+    end: u32,
+    locals: &mut Locals,
+    bytes: &'b [u8],
+) -> Result<(Vec<Node>, &'b [u8]), CodeFault>
+    ensures { Gives (λ x. (nodes_view x.0.items, locals.new, x.1.now)) result (arguments_at (read_at (A.arity context.now.arity.now) (scope_of context.now.scope) levels) count end locals.old bytes.now) }
+{
+    let mut found = Vec::with_capacity(context.alloc, count as usize)?;
+    let mut rest = bytes;
+    for _i in 0..count {
+        match term(context, levels, Position::Argument, end, locals, rest) {
+            Err(fault) => return Err(fault),
+            Ok((node, behind)) => {
+                found.push(node)?;
+                rest = behind;
+            }
+        }
+    }
+    Ok((found, rest))
+}
+
+#[cycle(terms)]
+#[tactic(auto, unfolding(crate::specs::Reading::operation_at))]
+fn operation<'b, A: Arity>(
+    context: &Context<'_, A>,
+    levels: u16,
+    position: Position,
+    end: u32,
+    locals: &mut Locals,
+    bytes: &'b [u8],
+) -> Result<(Node, &'b [u8]), CodeFault>
+    ensures { Gives (λ x. (node_view x.0, locals.new, x.1.now)) result (operation_at (scope_of context.now.scope) (read_at (A.arity context.now.arity.now) (scope_of context.now.scope) levels) position end locals.old bytes.now) }
+{
+    let (opcode, rest) = opcode_of(end, bytes)?;
+    let at = offset_of(end, bytes);
+    match row(opcode) {
+        None => Err(CodeFault::UnknownOp { at }),
+        Some(row) => {
+            if !takes(position, row.place) {
+                return Err(refusal(position, row.place, at));
+            }
+            if row.has_length() {
+                packed(context, levels, position, at, &row, end, locals, rest)
+            } else {
+                plain(context, levels, &row, end, locals, rest)
+            }
+        }
+    }
+}
+
+/// An opcode without a package length.
+#[cycle(terms)]
+#[tactic(auto, unfolding(crate::specs::Reading::plain_at))]
+fn plain<'b, A: Arity>(
+    context: &Context<'_, A>,
+    levels: u16,
+    row: &OpRow,
+    end: u32,
+    locals: &mut Locals,
+    bytes: &'b [u8],
+) -> Result<(Node, &'b [u8]), CodeFault>
+    ensures { Gives (λ x. (node_view x.0, locals.new, x.1.now)) result (plain_at (scope_of context.now.scope) (read_at (A.arity context.now.arity.now) (scope_of context.now.scope) levels) row.now end locals.old bytes.now) }
+{
+    let (parts, rest) = parts(context, levels, row.shape.parts(), end, locals, bytes)?;
+    let tail = Tail::Empty;
+    context.declare(row.declares, parts.as_slice(), &tail, locals)?;
+    let node = Node::Op {
+        opcode: row.opcode,
+        width: None,
+        parts,
+        tail,
+    };
+    Ok((node, rest))
+}
+
+/// An opcode with a package length, which stands at an offset.
+#[cycle(terms)]
+#[tactic(auto, unfolding(crate::specs::Reading::packed_at))]
+fn packed<'b, A: Arity>(
+    context: &Context<'_, A>,
+    levels: u16,
+    position: Position,
+    at: u32,
+    row: &OpRow,
+    end: u32,
+    locals: &mut Locals,
+    bytes: &'b [u8],
+) -> Result<(Node, &'b [u8]), CodeFault>
+    ensures { Gives (λ x. (node_view x.0, locals.new, x.1.now)) result (packed_at (scope_of context.now.scope) (read_at (A.arity context.now.arity.now) (scope_of context.now.scope) levels) position at row.now end locals.old bytes.now) }
+{
+    let (width, inside, behind) = span_of(end, bytes)?;
+    let inner = offset_of(end, behind);
+    guard_of(is_guard(position, row.place), at, inner, inside)?;
+    let (parts, rest) = parts(context, levels, row.shape.parts(), inner, locals, inside)?;
+    let inner_position = terms_in(position, row.place);
+    let tail = tail(
+        context,
+        levels,
+        inner_position,
+        row.tail,
+        inner,
+        locals,
+        rest,
+    )?;
+    context.declare(row.declares, parts.as_slice(), &tail, locals)?;
+    let node = Node::Op {
+        opcode: row.opcode,
+        width: Some(width),
+        parts,
+        tail,
+    };
+    Ok((node, behind))
+}
+
+#[cycle(terms)]
+#[tactic(auto, unfolding(crate::specs::Reading::parts_at))]
+fn parts<'b, A: Arity>(
+    context: &Context<'_, A>,
+    levels: u16,
+    kinds: &[PartKind],
+    end: u32,
+    locals: &mut Locals,
+    bytes: &'b [u8],
+) -> Result<(Vec<Part>, &'b [u8]), CodeFault>
+    ensures { Gives (λ x. (parts_view x.0.items, locals.new, x.1.now)) result (parts_at (read_at (A.arity context.now.arity.now) (scope_of context.now.scope) levels) kinds.now end locals.old bytes.now) }
+{
+    let mut found = Vec::with_capacity(context.alloc, kinds.len())?;
+    let mut rest = bytes;
+    for kind in kinds {
+        let (part, behind) = part(context, levels, *kind, end, locals, rest)?;
+        found.push(part)?;
+        rest = behind;
+    }
+    Ok((found, rest))
+}
+
+#[cycle(terms)]
+fn part<'b, A: Arity>(
+    context: &Context<'_, A>,
+    levels: u16,
+    kind: PartKind,
+    end: u32,
+    locals: &mut Locals,
+    bytes: &'b [u8],
+) -> Result<(Part, &'b [u8]), CodeFault>
+    ensures { Gives (λ x. (part_view x.0, locals.new, x.1.now)) result (part_at (read_at (A.arity context.now.arity.now) (scope_of context.now.scope) levels) kind end locals.old bytes.now) }
+{
+    match kind {
+        PartKind::Term => child(context, levels, Position::Argument, end, locals, bytes),
+        PartKind::Target => child(context, levels, Position::Target, end, locals, bytes),
+        PartKind::Data => child(context, levels, Position::Data, end, locals, bytes),
+        PartKind::Name => Ok(name_part_of(context.alloc, end, bytes)?),
+        PartKind::ScopeName => Ok(any_name_part_of(context.alloc, end, bytes)?),
+        PartKind::Byte => Ok(byte_part_of(end, bytes)?),
+        PartKind::Count => Ok(count_part_of(end, bytes)?),
+        PartKind::Word => Ok(word_part_of(end, bytes)?),
+        PartKind::Dword => Ok(dword_part_of(end, bytes)?),
+        PartKind::Qword => Ok(qword_part_of(end, bytes)?),
+        PartKind::Text => Ok(text_part_of(context.alloc, end, bytes)?),
+    }
+}
+
+#[cycle(terms)]
+fn child<'b, A: Arity>(
+    context: &Context<'_, A>,
+    levels: u16,
+    position: Position,
+    end: u32,
+    locals: &mut Locals,
+    bytes: &'b [u8],
+) -> Result<(Part, &'b [u8]), CodeFault>
+    ensures { Gives (λ x. (part_view x.0, locals.new, x.1.now)) result (child_at (read_at (A.arity context.now.arity.now) (scope_of context.now.scope) levels position) end locals.old bytes.now) }
+{
+    let (node, rest) = term(context, levels, position, end, locals, bytes)?;
+    Ok((Part::Child(node), rest))
+}
+
+/// What follows the parts, to the end of the span.
+#[cycle(terms)]
+fn tail<A: Arity>(
+    context: &Context<'_, A>,
+    levels: u16,
+    position: Position,
+    kind: TailKind,
+    end: u32,
+    locals: &mut Locals,
+    inside: &[u8],
+) -> Result<Tail, CodeFault>
+    ensures { Gives (λ x. (tail_view x, locals.new)) result (tail_at (read_at (A.arity context.now.arity.now) (scope_of context.now.scope) levels) position kind end locals.old inside.now) }
+{
+    match kind {
+        TailKind::Empty => Err(CodeFault::Truncated { at: end }),
+        TailKind::Terms => {
+            let nodes = terms(context, levels, position, end, locals, inside)?;
+            Ok(Tail::Terms(nodes))
+        }
+        TailKind::Bytes => {
+            let bytes = Vec::from_slice(context.alloc, inside)?;
+            Ok(Tail::Bytes(Bytes::from_vec(bytes)))
+        }
+        TailKind::Elements => {
+            let nodes = terms(context, levels, Position::Data, end, locals, inside)?;
+            Ok(Tail::Elements(nodes))
+        }
+        TailKind::Fields => Err(CodeFault::Truncated { at: end }),
+        TailKind::Body => {
+            let start = offset_of(end, inside);
+            Ok(Tail::Body {
+                start,
+                len: end - start,
+            })
+        }
+    }
+}
+
+/// Terms to the end of the span. Each takes a byte at least, so as many turns as there are bytes are enough.
+#[cycle(terms)]
+pub fn terms<A: Arity>(
+    context: &Context<'_, A>,
+    levels: u16,
+    position: Position,
+    end: u32,
+    locals: &mut Locals,
+    bytes: &[u8],
+) -> Result<Vec<Node>, CodeFault>
+    ensures { Gives (λ x. (nodes_view x.items, locals.new)) result (terms_at (read_at (A.arity context.now.arity.now) (scope_of context.now.scope) levels) (length bytes.now) position end locals.old bytes.now) }
+{
+    let mut found = Vec::new(context.alloc);
+    let mut here = position;
+    let mut rest = bytes;
+    for _turn in 0..bytes.len() {
+        if rest.is_empty() {
+            return Ok(found);
+        }
+        match term(context, levels, here, end, locals, rest) {
+            Err(fault) => return Err(fault),
+            Ok((node, behind)) => {
+                here = next_position(here, &node);
+                found.push(node)?;
+                rest = behind;
+            }
+        }
+    }
+    if rest.is_empty() {
+        Ok(found)
+    } else {
+        Err(CodeFault::Truncated { at: end })
+    }
+}
