@@ -1,0 +1,24 @@
+-- How often a number stands in a list, and lists that hold each number below some n once.
+use Rattle.std.specs.Prelude.{◌≡◌, ℕ, ◌+◌, List, [], ◌∷◌, ◌==◌, nat_lt, if◌then◌else◌}
+
+-- 1 for the same number, else 0
+abbrev pub same : ℕ → ℕ → ℕ
+same x y = if x == y then 1 else 0
+
+-- how often x stands in the list
+abbrev pub times : ℕ → List ℕ → ℕ
+times x [] = 0
+times x (y ∷ ys) = same x y + times x ys
+
+-- 1 for a number below n, else 0
+abbrev pub once_below : ℕ → ℕ → ℕ
+once_below x n = if nat_lt x n then 1 else 0
+
+-- Each number below n stands once in the list, and nothing else stands there. Of several lists, joined to one: each number stands in exactly one of them
+abbrev pub IsOnce : List ℕ → ℕ → Type 0
+IsOnce numbers n = (x : ℕ) → times x numbers ≡ once_below x n
+
+-- the sum of f over the list
+abbrev pub total : {A : Type 0} → (A → ℕ) → List A → ℕ
+total f [] = 0
+total f (x ∷ xs) = f x + total f xs

@@ -1,0 +1,9 @@
+pub mod Counting
+pub mod Machine
+pub mod Rule
+pub mod Seats
+pub mod Shares
+pub mod Places
+pub mod Shelves
+pub mod Harvests
+pub mod Faults

@@ -1,0 +1,6 @@
+mod boards;
+mod crews;
+mod faults;
+mod fixtures;
+mod harvests;
+mod shelves;
