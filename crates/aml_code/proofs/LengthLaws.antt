@@ -131,7 +131,7 @@ value_takes at lead end bytes x small fits e =
     let m = more_bytes (lead / 64) lead bytes high.0 high.1 refl (eqb-false _ _ h) small (omega arith) t.0 t.1 in
     let same : following_bytes (width_of (lead / 64)) ≡ lead / 64 = following_of (lead / 64) (omega arith) in
     let there : IsLength (lead ∷ bytes) (width_of (lead / 64)) (lead % 16 + 16 * high.0) high.1 =
-        subst (λ (k : ℕ). Takes (lead ∷ bytes) (spelled k (lead % 16 + 16 * high.0)) high.1 × FitsFollowing k (lead % 16 + 16 * high.0)) (sym same) m in
+    subst (λ (k : ℕ). Takes (lead ∷ bytes) (spelled k (lead % 16 + 16 * high.0)) high.1 × FitsFollowing k (lead % 16 + 16 * high.0)) (sym same) m in
     subst (λ (y : (PkgWidth × ℕ) × List ℕ). IsLength (lead ∷ bytes) y.0.0 y.0.1 y.1) (ok_is (got high) x h2) there))
 
 pub length_takes : (end : ℕ) (bytes : List ℕ) (x : (PkgWidth × ℕ) × List ℕ) → IsBytes bytes → length_at end bytes ≡ Ok x → IsLength bytes x.0.0 x.0.1 x.1
@@ -235,7 +235,7 @@ unfolding span_at
 span_takes end bytes x fits e =
     let at = end - length bytes in
     let cut : (PkgWidth × ℕ) × List ℕ → Result (PkgWidth × List ℕ × List ℕ) CodeFault = λ l.
-        cond (ltb l.0.1 (width_len l.0.0)) (Err (faults.PkgPast at)) (cond (ltb (length l.1) (l.0.1 - width_len l.0.0)) (Err (faults.PkgPast at)) (Ok (l.0.0, take (l.0.1 - width_len l.0.0) l.1, drop (l.0.1 - width_len l.0.0) l.1))) in
+    cond (ltb l.0.1 (width_len l.0.0)) (Err (faults.PkgPast at)) (cond (ltb (length l.1) (l.0.1 - width_len l.0.0)) (Err (faults.PkgPast at)) (Ok (l.0.0, take (l.0.1 - width_len l.0.0) l.1, drop (l.0.1 - width_len l.0.0) l.1))) in
     bind_then (IsSpan bytes x) (length_at end bytes) cut x e (λ l h1 e1. span_parts bytes at l.0.0 l.0.1 l.1 x (length_takes end bytes l fits h1) e1)
 
 pub span_again : (end : ℕ) (w : PkgWidth) (inside behind : List ℕ) → FitsWidth w (width_len w + length inside)

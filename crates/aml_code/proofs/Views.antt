@@ -2,16 +2,20 @@
 use Rattle.std.proofs.Common.{◌≡◌, ℕ, List, rules, Vec, Option}
 use Rattle.std.specs.declared.alloc.Global.{Global}
 use Rattle.aml_names.specs.declared.names.Name.{Name}
+use Rattle.aml_names.specs.declared.segments.Seg.{Seg}
 use Rattle.aml_code.specs.declared.packages.PkgWidth.{PkgWidth}
 use Rattle.aml_code.specs.declared.tree.Field.{Field}
 use Rattle.aml_code.specs.declared.tree.Node.{Node, Nothing, Named, Op, the_lemmas}
 use Rattle.aml_code.specs.declared.tree.Part.{Part}
 use Rattle.aml_code.specs.declared.tree.Tail.{Tail}
+use Rattle.aml_code.specs.declared.tree.Field as fields
+use Rattle.aml_code.specs.declared.tree.Link as links
+use Rattle.aml_code.specs.declared.tree.Link.{Link}
 use Rattle.aml_code.specs.declared.tree.Part as parts
 use Rattle.aml_code.specs.declared.tree.Tail as tails
 use Rattle.aml_code.specs.Tree.{nothing, named, op}
 use Rattle.aml_code.specs.Tree as trees
-use Rattle.aml_code.specs.View.{node_view, nodes_view, part_view, parts_view, tail_view, fields_view}
+use Rattle.aml_code.specs.View.{node_view, nodes_view, part_view, parts_view, tail_view, field_view, fields_view, link_view}
 
 pub view-Nothing : node_view Nothing ≡ nothing
 view-Nothing = search (rules, the_lemmas)
@@ -60,3 +64,24 @@ view-tail-Fields us = search (rules, the_lemmas)
 
 pub view-tail-Body : (a n : ℕ) → tail_view (tails.Body a n) ≡ trees.body a n
 view-tail-Body a n = search (rules, the_lemmas)
+
+pub view-field-NamedUnit : (s : Seg) (w : PkgWidth) (n : ℕ) → field_view (fields.NamedUnit s w n) ≡ trees.unit s w n
+view-field-NamedUnit s w n = search (rules, the_lemmas)
+
+pub view-field-Reserved : (w : PkgWidth) (n : ℕ) → field_view (fields.Reserved w n) ≡ trees.reserved w n
+view-field-Reserved w n = search (rules, the_lemmas)
+
+pub view-field-Access : (a b : ℕ) → field_view (fields.Access a b) ≡ trees.access a b
+view-field-Access a b = search (rules, the_lemmas)
+
+pub view-field-Connection : (l : Link) → field_view (fields.Connection l) ≡ trees.connection (link_view l)
+view-field-Connection l = search (rules, the_lemmas)
+
+pub view-field-Extended : (a b c : ℕ) → field_view (fields.Extended a b c) ≡ trees.extended a b c
+view-field-Extended a b c = search (rules, the_lemmas)
+
+pub view-link-Target : (n : Name) → link_view (links.Target n) ≡ trees.target n
+view-link-Target n = search (rules, the_lemmas)
+
+pub view-link-Buffer : (t : Node) → link_view (links.Buffer t) ≡ trees.buffer (node_view t)
+view-link-Buffer t = search (rules, the_lemmas)

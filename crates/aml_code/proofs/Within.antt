@@ -129,10 +129,10 @@ past_placed arity code at end bytes d w f =
     let long : length bytes ≡ width_len f.width + length f.rest = ap length t.0.parts ∙ length-append (package_bytes f.width f.value) f.rest ∙ ap (λ n. n + length f.rest) (length-package_bytes f.width f.value) in
     let place = offset_is code at end bytes w in
     let past : (f.value < width_len f.width) ⊎ ((e : ℕ) × IsEndBefore code at e × (e < at + f.value)) =
-        elim f.past [
-          | inl less ↦ inl less
-          | inr short ↦ inr (end, w.is_end, omega (arith, short, long, w.place))
-        ] in
+    elim f.past [
+      | inl less ↦ inl less
+      | inr short ↦ inr (end, w.is_end, omega (arith, short, long, w.place))
+    ] in
     subst (StandsAt arity code) (sym (f.fault ∙ ap (λ n. faults.PkgPast n) place)) (f.width, f.value, there, past)
 
 pub name_placed : (arity : Arities) (code : List ℕ) (at end : ℕ) (bytes : List ℕ) (d : CodeFault) → Within code at end bytes → NameFault end bytes d → StandsAt arity code d

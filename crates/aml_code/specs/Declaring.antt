@@ -1,5 +1,5 @@
 -- What a term declares (ACPI 6.5, 5.3 and 20.2.5), and which paths are declared once it was read.
-use Rattle.std.specs.Prelude.{false, List, [], ◌∷◌, Option, Some, None}
+use Rattle.std.specs.Prelude.{ℕ, false, List, [], ◌∷◌, Option, Some, None}
 use Rattle.std.specs.FinSet as set
 use Rattle.aml_names.specs.declared.segments.Seg.{Seg}
 use Rattle.aml_names.specs.declared.names.Name.{Name}
@@ -22,6 +22,17 @@ last_label found (part_more (word n) ps) = last_label found ps
 last_label found (part_more (dword n) ps) = last_label found ps
 last_label found (part_more (qword n) ps) = last_label found ps
 last_label found (part_more (text s) ps) = last_label found ps
+
+-- the last part that is a byte, or else this
+abbrev pub last_byte : Option ℕ → Parts → Option ℕ
+last_byte found no_parts = found
+last_byte found (part_more (byte b) ps) = last_byte (Some b) ps
+last_byte found (part_more (child t) ps) = last_byte found ps
+last_byte found (part_more (label n) ps) = last_byte found ps
+last_byte found (part_more (word n) ps) = last_byte found ps
+last_byte found (part_more (dword n) ps) = last_byte found ps
+last_byte found (part_more (qword n) ps) = last_byte found ps
+last_byte found (part_more (text s) ps) = last_byte found ps
 
 abbrev pub listed : Option Name → List Name
 listed None = []

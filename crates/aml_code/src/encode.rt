@@ -33,9 +33,7 @@ fn push_length(width: PkgWidth, n: usize, out: &mut Vec<u8>) -> Result<(), NoMem
 {
     match width {
         PkgWidth::One => out.extend_from_slice(&[(n % 64) as u8]),
-        PkgWidth::Two => {
-            out.extend_from_slice(&[64 + (n % 16) as u8, (n / 16 % 256) as u8])
-        }
+        PkgWidth::Two => { out.extend_from_slice(&[64 + (n % 16) as u8, (n / 16 % 256) as u8]) }
         PkgWidth::Three => out.extend_from_slice(&[
             128 + (n % 16) as u8,
             (n / 16 % 256) as u8,

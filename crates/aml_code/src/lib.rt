@@ -3,6 +3,7 @@
 //! It follows chapter 20 of the ACPI Specification 6.5. Names and paths come from `aml_names`.
 #![tactic(auto)]
 
+mod accessors;
 mod bytes_of;
 mod encode;
 mod packages;
@@ -10,6 +11,7 @@ mod rows;
 mod table;
 mod tree;
 
+pub use accessors::{last_byte, last_name};
 pub use aml_names::{
     Arity, CodeFault, Locals, Name, NameForm, NoMemory, Path, Seg, Segs, byte_of, offset_of, place,
 };
@@ -19,3 +21,6 @@ pub use packages::{PkgWidth, length_of, little_of, read_pkg, span_of};
 pub use rows::{Declares, Group, OpRow, PartKind, Place, Position, Shape, TailKind, takes};
 pub use table::row;
 pub use tree::{Field, Link, Node, Part, Tail};
+
+#[cfg(test)]
+mod tests;

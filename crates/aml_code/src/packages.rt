@@ -60,7 +60,12 @@ pub fn little_of(width: u8, end: u32, bytes: &[u8]) -> Result<(u64, &[u8]), Code
 
 /// The length that a lead byte at offset `at` begins.
 #[tactic(auto, unfolding(crate::specs::Lengths::value_at))]
-fn value_of(at: u32, lead: u8, end: u32, bytes: &[u8]) -> Result<((PkgWidth, u32), &[u8]), CodeFault>
+fn value_of(
+    at: u32,
+    lead: u8,
+    end: u32,
+    bytes: &[u8],
+) -> Result<((PkgWidth, u32), &[u8]), CodeFault>
     ensures exact { Gives (λ x. (x.0, x.1.now)) result (value_at at lead end bytes.now) }
     ensures takes_none { IfErr result (λ e. e ≢ CodeFault.NoMemory) }
 {

@@ -14,7 +14,10 @@ pub enum Node {
     /// The byte 00 where a target is wanted: no target (ACPI 6.5, 20.2.5: NullName as Target).
     Nothing,
     /// A name, with its arguments where it is a call.
-    Named { name: Name, args: Vec<Node> },
+    Named {
+        name: Name,
+        args: Vec<Node>,
+    },
     /// An opcode with what follows it. A two-byte opcode `5B xx` is the number 0x5Bxx. `width` tells how many bytes
     /// spell the package length, where the row has one.
     Op {
@@ -64,7 +67,10 @@ pub enum Field {
         bits: u32,
     },
     /// ReservedField: a number of bits.
-    Reserved { width: PkgWidth, bits: u32 },
+    Reserved {
+        width: PkgWidth,
+        bits: u32,
+    },
     /// AccessField: access type and access attribute.
     Access(u8, u8),
     /// ConnectField.

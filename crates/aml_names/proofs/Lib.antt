@@ -1,4 +1,5 @@
 mod Sets
 pub mod StepLaws
 mod NameLoops
+mod NameFaults
 pub mod NameLaws

@@ -3,3 +3,4 @@ pub mod Names
 pub mod Steps
 pub mod NameReading
 pub mod Searching
+pub mod PathTexts

@@ -2,7 +2,9 @@
 ghost use Rattle.std.specs.Prelude.{◌≡◌, [], ◌++◌, ◌≤◌, ◌-◌, length, take, drop, Some, IfOk, refl};
 ghost use Rattle.std.specs.Ordering.{eq_by_cmp};
 ghost use Rattle.std.specs.Cmp.{partial_equiv_from_equiv, partial_order_from_total, eq_by_cmp_equiv};
+ghost use Rattle.std.specs.Fmt.{WritesOnOk};
 ghost use Rattle.aml_names.specs.Paths.{path_cmp, paths_total};
+ghost use Rattle.aml_names.specs.PathTexts.{joined_text};
 
 use crate::segments::Seg;
 use std::alloc::{AllocError, Global};
@@ -74,22 +76,30 @@ impl Path {
     }
 }
 
-/// `\` and the segments, joined by `.`; each byte of a segment as the character of that number.
+/// `\` and the segments, joined by `.`.
 impl fmt::Display for Path {
+    ghost use Rattle.aml_names.specs.PathTexts.{path_text};
+
+    ghost output = { λ path. Some (path_text path) };
+
     fn fmt<W: fmt::Write>(&self, f: &mut fmt::Formatter<W>) -> fmt::Result {
         f.write_char('\\')?;
-        let mut first = true;
-        for seg in self.segs() {
-            if !first {
-                f.write_char('.')?;
-            }
-            first = false;
-            for byte in seg.0 {
-                f.write_char(byte as char)?;
-            }
+        match self.segs() {
+            [] => Ok(()),
+            [first, others @ ..] => write_segs(f, first, others),
         }
-        Ok(())
     }
+}
+
+/// The segments, joined by `.`.
+fn write_segs<W: fmt::Write>(f: &mut fmt::Formatter<W>, first: &Seg, others: &[Seg]) -> fmt::Result
+    ensures { WritesOnOk W.write_str_gives f.old result (joined_text first.now others.now) f.new }
+{
+    write!(f, "{first}")?;
+    for seg in others {
+        write!(f, ".{seg}")?;
+    }
+    Ok(())
 }
 
 impl Clone for Path {

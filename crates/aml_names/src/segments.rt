@@ -1,16 +1,31 @@
 //! Segments of names.
-ghost use Rattle.std.specs.Prelude.{◌≡◌, ◌∷◌, ◌++◌, [], length, OnOk, OnErr};
+ghost use Rattle.std.specs.Prelude.{◌≡◌, ◌∷◌, ◌++◌, [], length, Some, OnOk, OnErr};
 ghost use Rattle.std.proofs.Common.{rules};
 ghost use Rattle.std.specs.Cmp.Rules.{comparing};
 ghost use Rattle.std.specs.Cmp.Lexicographic.{pointwise};
 
 use smallvec::SmallVec;
 use std::alloc::{AllocError, Global};
+use std::fmt;
 use std::marker::Model;
 
 /// A NameSeg: four characters of a name, as its bytes (ACPI 6.5, 20.2.2).
 #[derive(Clone, Copy, Debug, Default, PartialEq, Eq, PartialOrd, Ord)]
 pub struct Seg(pub [u8; 4]);
+
+/// Each byte as the character of that number.
+impl fmt::Display for Seg {
+    ghost use Rattle.aml_names.specs.PathTexts.{segment_text};
+
+    ghost output = { λ s. Some (segment_text s) };
+
+    fn fmt<W: fmt::Write>(&self, f: &mut fmt::Formatter<W>) -> fmt::Result {
+        for byte in &self.0 {
+            f.write_char(*byte as char)?;
+        }
+        Ok(())
+    }
+}
 
 /// The segments of a name. Most names have a few, which need no allocation.
 #[derive(Clone, Debug, Drop)]

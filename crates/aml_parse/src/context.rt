@@ -1,7 +1,6 @@
 //! What stays the same while a list of terms is read.
 ghost use Rattle.std.specs.Prelude.{◌≡◌, None, OnOk};
 ghost use Rattle.aml_names.specs.Steps.{Gives};
-ghost use Rattle.std.specs.Option.{option_copied};
 ghost use Rattle.aml_names.specs.Names.{placed};
 ghost use Rattle.aml_code.specs.Tree.{no_units, unit_more};
 ghost use Rattle.aml_code.specs.Declaring.{field_names, last_label, listed, names_declared, unit_names, with_declared, with_names, with_path};
@@ -11,7 +10,7 @@ ghost use Rattle.aml_parse.specs.Contexts.{scope_of};
 
 use aml_code::{
     Arity, CodeFault, Declares, Field, Locals, Name, NameForm, NoMemory, Part, Path, Position,
-    Segs, Tail, place,
+    Segs, Tail, last_name, place,
 };
 use std::alloc::Global;
 
@@ -95,19 +94,6 @@ fn declare_last(
         None => Ok(()),
         Some(name) => declare_name(alloc, scope, name, locals),
     }
-}
-
-/// The last part that is a name.
-fn last_name(parts: &[Part]) -> Option<&Name>
-    ensures { option_copied result ≡ last_label None (parts_view parts.now) }
-{
-    let mut found = None;
-    for part in parts {
-        if let Part::Label(name) = part {
-            found = Some(name);
-        }
-    }
-    found
 }
 
 /// Adds the path of a name, if there is one.

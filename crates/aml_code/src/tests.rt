@@ -1,0 +1,405 @@
+//! Package lengths, the table of opcodes, and the bytes of trees, worked by hand from ACPI 6.5, chapter 20.
+use super::*;
+use std::alloc::{AllocError, Global};
+use std::test::Fail;
+
+/// `_SB_` and `GPIO` below the root, `2E` in front of them.
+const SB_GPIO: [Seg; 2] = [Seg(*b"_SB_"), Seg(*b"GPIO")];
+
+fn name(
+    alloc: Global,
+    root: bool,
+    ups: u32,
+    form: NameForm,
+    listed: &[Seg],
+) -> Result<Name, AllocError> {
+    let mut segs = Segs::new(alloc);
+    for seg in listed {
+        segs.push(*seg)?;
+    }
+    Ok(Name {
+        root,
+        ups,
+        form,
+        segs,
+    })
+}
+
+fn label(alloc: Global, seg: [u8; 4]) -> Result<Part, AllocError> {
+    Ok(Part::Label(name(alloc, false, 0, NameForm::One, &[Seg(seg)])?))
+}
+
+/// An opcode alone.
+fn bare(alloc: Global, opcode: u16) -> Node {
+    Node::Op {
+        opcode,
+        width: None,
+        parts: Vec::new(alloc),
+        tail: Tail::Empty,
+    }
+}
+
+fn plain(opcode: u16, parts: Vec<Part>) -> Node {
+    Node::Op {
+        opcode,
+        width: None,
+        parts,
+        tail: Tail::Empty,
+    }
+}
+
+fn packed(opcode: u16, width: PkgWidth, parts: Vec<Part>, tail: Tail) -> Node {
+    Node::Op {
+        opcode,
+        width: Some(width),
+        parts,
+        tail,
+    }
+}
+
+/// An opcode of one part, as a child.
+fn constant(alloc: Global, opcode: u16, part: Part) -> Result<Part, AllocError> {
+    Ok(Part::Child(plain(opcode, vec![in alloc; part]?)))
+}
+
+fn bytes(alloc: Global, listed: &[u8]) -> Result<Bytes, AllocError> {
+    Ok(Bytes::from_vec(listed.to_vec(alloc)?))
+}
+
+#[test]
+fn reads_package_lengths(rt: HostRuntime) {
+    let rows: [(&[u8], Result<(PkgWidth, u32), CodeFault>); 12] = [
+        (b"\x3f", Ok((PkgWidth::One, 63))),
+        (b"\x00\xff", Ok((PkgWidth::One, 0))),
+        (b"\x40\x04", Ok((PkgWidth::Two, 64))),
+        (b"\x43\x00", Ok((PkgWidth::Two, 3))),
+        (b"\x8f\xff\xff", Ok((PkgWidth::Three, 1_048_575))),
+        (b"\xcf\xff\xff\xff", Ok((PkgWidth::Four, 268_435_455))),
+        (b"\x50\x04", Err(CodeFault::PkgBits { at: 0 })),
+        (b"\x50", Err(CodeFault::PkgBits { at: 0 })),
+        (b"\xe0", Err(CodeFault::PkgBits { at: 0 })),
+        (b"\x80", Err(CodeFault::Truncated { at: 1 })),
+        (b"\xc0\x00\x00", Err(CodeFault::Truncated { at: 3 })),
+        (b"", Err(CodeFault::Truncated { at: 0 })),
+    ];
+    for (bytes, want) in rows {
+        assert!(rt; bytes.len() < 100);
+        assert_eq!(rt; read_pkg(bytes), want, "{bytes:?}");
+    }
+}
+
+#[test]
+fn reads_lengths_of_a_span(rt: HostRuntime) {
+    // what is left of a span that ends at 20
+    assert!(rt;
+        matches!(
+            length_of(20, b"\x43\x00\xaa"),
+            Ok(((PkgWidth::Two, 3), [0xAA]))
+        )
+    );
+    assert!(rt;
+        matches!(
+            length_of(20, b"\x50\x00\xaa"),
+            Err(CodeFault::PkgBits { at: 17 })
+        )
+    );
+    assert!(rt;
+        matches!(
+            span_of(20, b"\x02\xaa\xbb"),
+            Ok((PkgWidth::One, [0xAA], [0xBB]))
+        )
+    );
+    assert!(rt;
+        matches!(
+            span_of(20, b"\x42\x00\xbb"),
+            Ok((PkgWidth::Two, [], [0xBB]))
+        )
+    );
+    assert!(rt; matches!(span_of(20, b"\x00"), Err(CodeFault::PkgPast { at: 19 })));
+    assert!(rt; matches!(span_of(20, b"\x41\x00"), Err(CodeFault::PkgPast { at: 18 })));
+    assert!(rt; matches!(span_of(20, b"\x03\xaa"), Err(CodeFault::PkgPast { at: 18 })));
+    assert!(rt; matches!(little_of(2, 20, b"\x34\x12\x56"), Ok((0x1234, [0x56]))));
+    assert!(rt; matches!(little_of(0, 20, b""), Ok((0, []))));
+    assert!(rt;
+        matches!(
+            little_of(4, 20, b"\x01\x02\x03"),
+            Err(CodeFault::Truncated { at: 20 })
+        )
+    );
+    assert_eq!(rt; PkgWidth::One.bytes() + PkgWidth::Two.bytes(), 3);
+    assert_eq!(rt; PkgWidth::Three.bytes() + PkgWidth::Four.bytes(), 7);
+}
+
+#[test]
+fn finds_each_row(rt: HostRuntime) -> Result<(), Fail> {
+    for wanted in table::ROWS {
+        assert_eq!(rt; row(wanted.opcode), Some(wanted));
+    }
+    assert_eq!(rt; row(0x02), None);
+    assert_eq!(rt; row(0x5B), None);
+    assert_eq!(rt; row(0x5BFF), None);
+    let add = row(0x72).ok_or("Add has a row")?;
+    assert_eq!(rt; add.word(), b"Add".as_slice());
+    let local0 = row(0x60).ok_or("Local0 has a row")?;
+    assert_eq!(rt; local0.word(), b"Local0".as_slice());
+    Ok(())
+}
+
+/// Whether the parts, the tail and what is declared are some that a row of the group may have.
+fn is_of_its_group(row: &OpRow) -> bool {
+    let parts = row.shape.parts();
+    match row.group {
+        Group::Value => {
+            row.declares == Declares::Nothing
+                && matches!(row.place, Place::Data | Place::Target | Place::Argument)
+                && matches!(
+                    row.tail,
+                    TailKind::Empty | TailKind::Bytes | TailKind::Elements
+                )
+                && !parts.contains(&PartKind::Target)
+                && !parts.contains(&PartKind::Name)
+        }
+        Group::Expression => {
+            row.declares == Declares::Nothing
+                && matches!(row.place, Place::Target | Place::Argument)
+                && row.tail == TailKind::Empty
+                && !parts.is_empty()
+        }
+        Group::Statement => {
+            row.declares == Declares::Nothing
+                && matches!(row.place, Place::Statement | Place::If | Place::Else)
+                && matches!(row.tail, TailKind::Empty | TailKind::Terms)
+                && !parts.contains(&PartKind::Name)
+        }
+        Group::Declaration => matches!(
+            row.place,
+            Place::Declaration | Place::External | Place::Scope | Place::Method
+        ),
+    }
+}
+
+#[test]
+fn rows_agree_with_their_group(rt: HostRuntime) {
+    let mut before = None;
+    for row in table::ROWS {
+        // ascending, so that none stands twice
+        assert!(rt; before.is_none_or(|opcode| opcode < row.opcode));
+        before = Some(row.opcode);
+        // one byte, or 5B and another
+        let lead = if row.opcode < 256 {
+            row.opcode
+        } else {
+            row.opcode / 256
+        };
+        assert!(rt; lead < 256 && (lead == 0x5B) == (row.opcode >= 256));
+        assert!(rt; !aml_names::is_name_lead(lead as u8));
+        assert!(rt; is_of_its_group(&row), "{:?}", row.word());
+        assert!(rt; row.has_length() == (row.tail != TailKind::Empty));
+        assert!(rt; (row.tail == TailKind::Body) == (row.place == Place::Method));
+        assert!(rt; row.declares != Declares::Units || row.tail == TailKind::Fields);
+        let named = row.shape.parts().contains(&PartKind::Name);
+        assert!(rt; row.declares != Declares::LastName || named);
+        assert!(rt;
+            row.mnemonic[row.word().len()..]
+                .iter()
+                .all(|byte| *byte == b' ')
+        );
+    }
+}
+
+#[test]
+fn positions_take_places(rt: HostRuntime) {
+    use Place::*;
+    let all = [
+        Data,
+        Target,
+        Argument,
+        Statement,
+        If,
+        Else,
+        Declaration,
+        External,
+        Scope,
+        Method,
+    ];
+    let rows: [(Position, &[Place]); 7] = [
+        (
+            Position::ModuleTerm,
+            &[If, Declaration, External, Scope, Method],
+        ),
+        (Position::GuardTerm, &[External]),
+        (Position::BodyTerm, &[Data, Target, Argument, Statement]),
+        (
+            Position::AfterIf,
+            &[Data, Target, Argument, Statement, Else],
+        ),
+        (Position::Argument, &[Data, Target, Argument]),
+        (Position::Target, &[Target]),
+        (Position::Data, &[Data]),
+    ];
+    for (position, places) in rows {
+        for place in all {
+            assert_eq!(rt; takes(position, place), places.contains(&place));
+        }
+    }
+}
+
+#[test]
+fn bytes_are_a_list(rt: HostRuntime) -> Result<(), Fail> {
+    let some = bytes(rt.alloc(), b"Hi")?;
+    assert_eq!(rt; some.as_slice(), b"Hi".as_slice());
+    assert!(rt; some == some.clone()? && some != bytes(rt.alloc(), b"Ho")?);
+    assert_eq!(rt; some.into_vec().as_slice(), b"Hi".as_slice());
+    Ok(())
+}
+
+/// Store (Add (Arg0, 0x1234, ), Local1), constants of each size, Name (BAR_, "Hi").
+fn plain_terms(alloc: Global) -> Result<Vec<Node>, AllocError> {
+    let word = constant(alloc, 0x0B, Part::Word(0x1234))?;
+    let arg0 = Part::Child(bare(alloc, 0x68));
+    let add = plain(
+        0x72,
+        vec![in alloc; arg0, word, Part::Child(Node::Nothing)]?,
+    );
+    let local1 = Part::Child(bare(alloc, 0x61));
+    let text = constant(alloc, 0x0D, Part::Text(bytes(alloc, b"Hi")?))?;
+    Ok(vec![in alloc;
+        plain(0x70, vec![in alloc; Part::Child(add), local1]?),
+        plain(0x0A, vec![in alloc; Part::Byte(0x05)]?),
+        plain(0x0C, vec![in alloc; Part::Dword(0x1234_5678)]?),
+        plain(0x0E, vec![in alloc; Part::Qword(0x0102_0304_0506_0708)]?),
+        plain(0x08, vec![in alloc; label(alloc, *b"BAR_")?, text]?),
+        bare(alloc, 0x5B31),
+    ]?)
+}
+
+#[test]
+fn plain_terms_have_their_bytes(rt: HostRuntime) -> Result<(), Fail> {
+    let terms = plain_terms(rt.alloc())?;
+    let want = [
+        0x70, 0x72, 0x68, 0x0B, 0x34, 0x12, 0x00, 0x61, // Store
+        0x0A, 0x05, 0x0C, 0x78, 0x56, 0x34, 0x12, // 5, 0x12345678
+        0x0E, 0x08, 0x07, 0x06, 0x05, 0x04, 0x03, 0x02, 0x01, // 0x0102030405060708
+        0x08, 0x42, 0x41, 0x52, 0x5F, 0x0D, 0x48, 0x69, 0x00, // Name
+        0x5B, 0x31, // Debug
+    ];
+    assert_eq!(rt;
+        encode_terms(rt.alloc(), &[], &terms)?.as_slice(),
+        want.as_slice()
+    );
+    Ok(())
+}
+
+#[test]
+fn names_have_their_bytes(rt: HostRuntime) -> Result<(), Fail> {
+    let alloc = rt.alloc();
+    let call = Node::Named {
+        name: name(alloc, false, 2, NameForm::One, &[Seg(*b"BBBB")])?,
+        args: vec![in alloc; bare(alloc, 0x01), bare(alloc, 0xFF)]?,
+    };
+    let multi = Node::Named {
+        name: name(alloc, true, 0, NameForm::Multi, &SB_GPIO)?,
+        args: Vec::new(alloc),
+    };
+    let root = Part::Label(name(alloc, true, 0, NameForm::Null, &[])?);
+    let scope = packed(
+        0x10,
+        PkgWidth::One,
+        vec![in alloc; root]?,
+        Tail::Terms(vec![in alloc]?),
+    );
+    let terms = vec![in alloc; call, multi, scope]?;
+    let want = [
+        0x5E, 0x5E, 0x42, 0x42, 0x42, 0x42, 0x01, 0xFF, // ^^BBBB (One, Ones)
+        0x5C, 0x2F, 0x02, 0x5F, 0x53, 0x42, 0x5F, 0x47, 0x50, 0x49, 0x4F, // \_SB_.GPIO
+        0x10, 0x03, 0x5C, 0x00, // Scope (\) {}
+    ];
+    assert_eq!(rt;
+        encode_terms(alloc, &[], &terms)?.as_slice(),
+        want.as_slice()
+    );
+    Ok(())
+}
+
+/// Buffer (0x03) {..}, Package {..} with a length of four bytes, If (Local0) {Return (Zero)}, Method (FOO_, 1) {..}.
+fn packed_terms(alloc: Global) -> Result<Vec<Node>, AllocError> {
+    let size = constant(alloc, 0x0A, Part::Byte(0x03))?;
+    let content = Tail::Bytes(bytes(alloc, &[0x01, 0x02, 0x03])?);
+    let text = plain(0x0D, vec![in alloc; Part::Text(bytes(alloc, b"A")?)]?);
+    let elements = Tail::Elements(vec![in alloc; bare(alloc, 0x01), text]?);
+    let local0 = Part::Child(bare(alloc, 0x60));
+    let zero = Part::Child(bare(alloc, 0x00));
+    let inner = Tail::Terms(vec![in alloc; plain(0xA4, vec![in alloc; zero]?)]?);
+    let method = vec![in alloc; label(alloc, *b"FOO_")?, Part::Byte(0x01)]?;
+    Ok(vec![in alloc;
+        packed(0x11, PkgWidth::One, vec![in alloc; size]?, content),
+        packed(
+            0x12,
+            PkgWidth::Four,
+            vec![in alloc; Part::Byte(0x02)]?,
+            elements
+        ),
+        packed(0xA0, PkgWidth::Three, vec![in alloc; local0]?, inner),
+        packed(0x14, PkgWidth::Two, method, Tail::Body { start: 2, len: 2 }),
+    ]?)
+}
+
+#[test]
+fn packed_terms_have_their_bytes(rt: HostRuntime) -> Result<(), Fail> {
+    let terms = packed_terms(rt.alloc())?;
+    let code = [0x00, 0x00, 0xA4, 0x68, 0x00];
+    let want = [
+        0x11, 0x06, 0x0A, 0x03, 0x01, 0x02, 0x03, // Buffer, 1 + 2 + 3
+        0x12, 0xC9, 0x00, 0x00, 0x00, 0x02, 0x01, 0x0D, 0x41, 0x00, // Package, 4 + 1 + 4
+        0xA0, 0x86, 0x00, 0x00, 0x60, 0xA4, 0x00, // If, 3 + 1 + 2
+        0x14, 0x49, 0x00, 0x46, 0x4F, 0x4F, 0x5F, 0x01, 0xA4, 0x68, // Method, 2 + 5 + 2
+    ];
+    assert_eq!(rt;
+        encode_terms(rt.alloc(), &code, &terms)?.as_slice(),
+        want.as_slice()
+    );
+    Ok(())
+}
+
+/// Field (GNVS, 0x01) with an element of each kind.
+fn field_term(alloc: Global) -> Result<Node, AllocError> {
+    let size = constant(alloc, 0x0A, Part::Byte(0x02))?;
+    let content = Tail::Bytes(bytes(alloc, &[0x00, 0x79])?);
+    let buffer = packed(0x11, PkgWidth::One, vec![in alloc; size]?, content);
+    let fields = vec![in alloc;
+        Field::NamedUnit {
+            seg: Seg(*b"ABCD"),
+            width: PkgWidth::Two,
+            bits: 8,
+        },
+        Field::Reserved {
+            width: PkgWidth::Three,
+            bits: 4096,
+        },
+        Field::Access(0x03, 0x00),
+        Field::Connection(Link::Target(name(alloc, true, 0, NameForm::Dual, &SB_GPIO)?)),
+        Field::Extended(0x01, 0x0B, 0x04),
+        Field::Connection(Link::Buffer(buffer)),
+    ]?;
+    let parts = vec![in alloc; label(alloc, *b"GNVS")?, Part::Byte(0x01)]?;
+    Ok(packed(0x5B81, PkgWidth::Two, parts, Tail::Fields(fields)))
+}
+
+#[test]
+fn field_lists_have_their_bytes(rt: HostRuntime) -> Result<(), Fail> {
+    let terms = vec![in rt.alloc(); field_term(rt.alloc())?]?;
+    let want = [
+        0x5B, 0x81, 0x4A, 0x02, 0x47, 0x4E, 0x56, 0x53, 0x01, // Field, 2 + 5 + 6 + 4 + 3 + 11 + 4 + 7
+        0x41, 0x42, 0x43, 0x44, 0x48, 0x00, // ABCD, 8
+        0x00, 0x80, 0x00, 0x01, // Reserved, 4096
+        0x01, 0x03, 0x00, // Access
+        0x02, 0x5C, 0x2E, 0x5F, 0x53, 0x42, 0x5F, 0x47, 0x50, 0x49, 0x4F, // Connection
+        0x03, 0x01, 0x0B, 0x04, // ExtendedAccess
+        0x02, 0x11, 0x05, 0x0A, 0x02, 0x00, 0x79, // Connection of a Buffer
+    ];
+    assert_eq!(rt;
+        encode_terms(rt.alloc(), &[], &terms)?.as_slice(),
+        want.as_slice()
+    );
+    Ok(())
+}

@@ -1,0 +1,5 @@
+pub mod PrintLaws
+pub mod TextLaws
+pub mod NodeLaws
+pub mod LineLaws
+pub mod BlockLaws

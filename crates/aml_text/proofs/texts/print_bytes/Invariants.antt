@@ -1,0 +1,8 @@
+use Rattle.std.proofs.Common.{take, flat_map}
+use Rattle.aml_text.specs.Prints.{Prints}
+use Rattle.aml_text.specs.Words.{word}
+use Rattle.aml_text.specs.Texts.{after_separator, hex2}
+use Rattle.aml_text.proofs.texts.print_bytes.Given as goal
+
+abbrev pub invariant-loop-byte : goal.invariant-loop-byte
+invariant-loop-byte g l = Prints g.W.Write.contents l.initial.out l.out (flat_map (after_separator (word ", ") hex2) (take l.byte-index l.rest))

@@ -1,0 +1,8 @@
+use Rattle.std.proofs.Common.{take, flat_map}
+use Rattle.aml_text.specs.Prints.{Prints}
+use Rattle.aml_text.specs.Words.{word}
+use Rattle.aml_text.specs.Texts.{after_separator, segment_text}
+use Rattle.aml_text.proofs.words.print_segments.Given as goal
+
+abbrev pub invariant-loop-seg : goal.invariant-loop-seg
+invariant-loop-seg g l = Prints g.W.Write.contents l.initial.out l.out (flat_map (after_separator (word ".") segment_text) (take l.seg-index l.rest))

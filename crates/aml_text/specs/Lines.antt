@@ -1,0 +1,164 @@
+-- The lines of terms, of field lists, of methods and of definition blocks.
+use Rattle.std.specs.Prelude.{ℕ, zero, suc, min, decimal, Bool, true, false, cond, ◌+◌, ◌/◌, ◌%◌, ◌==◌, List, [], ◌∷◌, ◌++◌, drop, Option, Some, None}
+use Rattle.aml_names.specs.declared.names.Name.{Name}
+use Rattle.aml_code.specs.Rows.{row_of}
+use Rattle.aml_code.specs.Tree.{Tree, nothing, named, op, Trees, no_trees, tree_more, OnePart, child, label, byte, word as word_part, dword, qword, text as text_part, Parts, no_parts, part_more, Rest, empty, terms, bytes, elements, fields, body, OneUnit, unit, reserved, access, connection, extended, Units, no_units, unit_more, Joint, target, buffer}
+use Rattle.aml_code.specs.Declaring.{last_label, last_byte}
+use Rattle.aml_code.specs.Encoding.{slice_of}
+use Rattle.aml_text.specs.Words.{word}
+use Rattle.aml_text.specs.Texts.{hex2, quoted, separated_by, name_text, head_text, inline, part_text, part_texts, tail_text}
+
+-- the level below (a machine number)
+abbrev pub deeper : ℕ → ℕ
+deeper level = min (level + 1) 4294967295
+
+-- two spaces for each level
+unfoldable pub indent : ℕ → List ℕ
+indent zero = []
+indent (suc n) = indent n ++ word "  "
+
+-- a line
+unfoldable pub line : ℕ → List ℕ → List ℕ
+line level text = indent level ++ text ++ word "\n"
+
+-- the first line of a block, and its last
+unfoldable pub opening : ℕ → List ℕ → List ℕ
+opening level head = indent level ++ head ++ word " {\n"
+
+unfoldable pub closing : ℕ → List ℕ
+closing level = indent level ++ word "}\n"
+
+-- lines between braces
+abbrev pub block : ℕ → List ℕ → List ℕ → List ℕ
+block level head inside = opening level head ++ inside ++ closing level
+
+-- ---- field lists
+
+abbrev pub joint_text : Joint → List ℕ
+joint_text (target n) = name_text n
+joint_text (buffer t) = inline t
+
+-- two bytes as constants
+unfoldable pub byte_pair : ℕ → ℕ → List ℕ
+byte_pair a b = (word "0x" ++ hex2 a) ++ word ", " ++ (word "0x" ++ hex2 b)
+
+unfoldable pub byte_end : ℕ → List ℕ
+byte_end c = word ", " ++ (word "0x" ++ hex2 c) ++ word ")"
+
+-- the text of an element of a field list
+abbrev pub unit_text : OneUnit → List ℕ
+unit_text (unit s w n) = s.0 ++ word ", " ++ decimal n
+unit_text (reserved w n) = word "Reserved, " ++ decimal n
+unit_text (access a b) = word "Access (" ++ byte_pair a b ++ word ")"
+unit_text (connection l) = word "Connection (" ++ joint_text l ++ word ")"
+unit_text (extended a b c) = word "ExtendedAccess (" ++ byte_pair a b ++ byte_end c
+
+abbrev pub unit_lines : ℕ → Units → List ℕ
+unit_lines level no_units = []
+unit_lines level (unit_more u us) = line level (unit_text u) ++ unit_lines level us
+
+-- ---- terms
+
+-- The lines of a term: a block where it has terms or a field list in it, else one line.
+abbrev mutual
+  pub lines : ℕ → Tree → List ℕ
+  lines level nothing = line level []
+  lines level (named n ts) = line level (inline (named n ts))
+  lines level (op o w ps t) = op_lines level (head_text (row_of o) (part_texts ps)) t
+
+  pub op_lines : ℕ → List ℕ → Rest → List ℕ
+  op_lines level head empty = line level (head ++ tail_text empty)
+  op_lines level head (terms ts) = block level head (all_lines (deeper level) ts)
+  op_lines level head (bytes bs) = line level (head ++ tail_text (bytes bs))
+  op_lines level head (elements ts) = line level (head ++ tail_text (elements ts))
+  op_lines level head (fields us) = block level head (unit_lines (deeper level) us)
+  op_lines level head (body start len) = line level (head ++ tail_text (body start len))
+
+  pub all_lines : ℕ → Trees → List ℕ
+  all_lines level no_trees = []
+  all_lines level (tree_more t ts) = lines level t ++ all_lines level ts
+
+-- ---- methods
+
+-- what became of a method's body: its terms, or its bytes as they are
+pub data OneBody : Type 0 where
+  read : Trees → OneBody
+  raw : OneBody
+
+-- bit 3 of a method's flags
+unfoldable pub serialized_text : ℕ → List ℕ
+serialized_text flags = cond (flags / 8 % 2 == 1) (word ", Serialized") (word ", NotSerialized")
+
+unfoldable pub comma_decimal : ℕ → List ℕ
+comma_decimal n = word ", " ++ decimal n
+
+-- the number of arguments, whether the method is serialized, and its sync level
+unfoldable pub flags_text : ℕ → List ℕ
+flags_text flags = comma_decimal (flags % 8) ++ serialized_text flags ++ comma_decimal (flags / 16)
+
+-- a method's name and flags
+unfoldable pub method_text : Name → ℕ → List ℕ
+method_text n flags = word "Method (" ++ name_text n ++ flags_text flags ++ word ")"
+
+-- the head of a method, by its name and flags, if its parts have them
+abbrev pub method_head : Option Name → Option ℕ → List ℕ → List ℕ
+method_head (Some n) (Some flags) other = method_text n flags
+method_head (Some n) None other = other
+method_head None flags other = other
+
+-- the bytes of a body that can't be read
+unfoldable pub raw_text : List ℕ → List ℕ
+raw_text bs = word "Raw {" ++ separated_by (word ", ") hex2 bs ++ word "}"
+
+-- the lines of a body with these bytes
+abbrev pub body_lines : ℕ → List ℕ → List OneBody → List ℕ
+body_lines level bs [] = []
+body_lines level bs (read ts ∷ others) = all_lines level ts
+body_lines level bs (raw ∷ others) = line level (raw_text bs)
+
+-- ---- definition blocks
+
+-- the bodies that are left after those of a term, each method taking one in the order of the text
+abbrev mutual
+  pub left : Tree → List OneBody → List OneBody
+  left nothing bs = bs
+  left (named n ts) bs = bs
+  left (op o w ps t) bs = left_rest t bs
+
+  pub left_rest : Rest → List OneBody → List OneBody
+  left_rest empty bs = bs
+  left_rest (terms ts) bs = left_all ts bs
+  left_rest (bytes xs) bs = bs
+  left_rest (elements ts) bs = bs
+  left_rest (fields us) bs = bs
+  left_rest (body start len) bs = drop 1 bs
+
+  pub left_all : Trees → List OneBody → List OneBody
+  left_all no_trees bs = bs
+  left_all (tree_more t ts) bs = left_all ts (left t bs)
+
+-- the lines of a term of a table: those of a term, but for a method's body
+abbrev mutual
+  pub table_lines : List ℕ → ℕ → Tree → List OneBody → List ℕ
+  table_lines code level nothing bs = line level []
+  table_lines code level (named n ts) bs = line level (inline (named n ts))
+  table_lines code level (op o w ps t) bs = table_op_lines code level o ps t bs
+
+  pub table_op_lines : List ℕ → ℕ → ℕ → Parts → Rest → List OneBody → List ℕ
+  table_op_lines code level o ps empty bs = op_lines level (head_text (row_of o) (part_texts ps)) empty
+  table_op_lines code level o ps (terms ts) bs = block level (head_text (row_of o) (part_texts ps)) (all_table_lines code (deeper level) ts bs)
+  table_op_lines code level o ps (bytes xs) bs = op_lines level (head_text (row_of o) (part_texts ps)) (bytes xs)
+  table_op_lines code level o ps (elements ts) bs = op_lines level (head_text (row_of o) (part_texts ps)) (elements ts)
+  table_op_lines code level o ps (fields us) bs = op_lines level (head_text (row_of o) (part_texts ps)) (fields us)
+  table_op_lines code level o ps (body start len) bs = block level (method_head (last_label None ps) (last_byte None ps) (head_text (row_of o) (part_texts ps))) (body_lines (deeper level) (slice_of code start len) bs)
+
+  pub all_table_lines : List ℕ → ℕ → Trees → List OneBody → List ℕ
+  all_table_lines code level no_trees bs = []
+  all_table_lines code level (tree_more t ts) bs = table_lines code level t bs ++ all_table_lines code level ts (left t bs)
+
+unfoldable pub block_opening : List ℕ → List ℕ
+block_opening name = word "DefinitionBlock (" ++ quoted name ++ word ") {\n"
+
+-- a definition block, by its table's file name
+unfoldable pub block_text : List ℕ → List ℕ → Trees → List OneBody → List ℕ
+block_text name code ts bs = block_opening name ++ all_table_lines code 1 ts bs ++ word "}\n"

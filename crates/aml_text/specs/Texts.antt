@@ -1,0 +1,128 @@
+-- The text of numbers, names and terms on one line.
+use Rattle.std.specs.Prelude.{◌≡◌, ℕ, zero, suc, decimal, Bool, true, false, cond, ◌+◌, ◌/◌, ◌%◌, List, [], ◌∷◌, ◌++◌, map, flat_map, replicate, codes, slice_index, nat_eq, nat_le, ◌&&◌, not, if◌then◌else◌, Option, Some, None}
+use Rattle.aml_names.specs.declared.segments.Seg.{Seg}
+use Rattle.aml_names.specs.declared.names.Name.{Name}
+use Rattle.aml_code.specs.declared.rows.Group.{Group}
+use Rattle.aml_code.specs.declared.rows.Group.TheVariants as groups
+use Rattle.aml_code.specs.declared.rows.OpRow.{OpRow}
+use Rattle.aml_code.specs.declared.rows.Shape.{Shape}
+use Rattle.aml_code.specs.declared.rows.Shape.TheVariants as shapes
+use Rattle.aml_code.specs.Rows.{row_of, has_length, mnemonic_of}
+use Rattle.aml_code.specs.Tree.{Tree, nothing, named, op, Trees, no_trees, tree_more, OnePart, child, label, byte, word as word_part, dword, qword, text as text_part, Parts, no_parts, part_more, Rest, empty, terms, bytes, elements, fields, body}
+use Rattle.aml_text.specs.Words.{word}
+
+-- a hexadecimal digit
+unfoldable pub hex_digit : ℕ → ℕ
+hex_digit n = slice_index (codes "0123456789ABCDEF") n
+
+-- a byte in two digits
+unfoldable pub hex2 : ℕ → List ℕ
+hex2 n = hex_digit (n / 16) ∷ hex_digit (n % 16) ∷ []
+
+-- numbers in four, eight and sixteen digits
+unfoldable pub hex4 : ℕ → List ℕ
+hex4 n = hex2 (n / 256) ++ hex2 (n % 256)
+
+unfoldable pub hex8 : ℕ → List ℕ
+hex8 n = hex4 (n / 65536) ++ hex4 (n % 65536)
+
+unfoldable pub hex16 : ℕ → List ℕ
+hex16 n = hex8 (n / 4294967296) ++ hex8 (n % 4294967296)
+
+-- printable ASCII but the quote and the backslash
+unfoldable pub is_plain : ℕ → Bool
+is_plain b = nat_le 32 b && nat_le b 126 && not (nat_eq b 34) && not (nat_eq b 92)
+
+-- such a byte stands as it is, and any other is escaped
+unfoldable pub quoted_byte : ℕ → List ℕ
+quoted_byte b = if is_plain b then b ∷ [] else word "\\x" ++ hex2 b
+
+-- the bytes between quotes
+unfoldable pub quoted : List ℕ → List ℕ
+quoted bs = word "\"" ++ flat_map quoted_byte bs ++ word "\""
+
+-- an item's text behind a separator
+unfoldable pub after_separator : {X : Type 0} → List ℕ → (X → List ℕ) → X → List ℕ
+after_separator separator text x = separator ++ text x
+
+-- the items' texts, with a separator between two
+unfoldable pub separated_by : {X : Type 0} → List ℕ → (X → List ℕ) → List X → List ℕ
+separated_by separator text [] = []
+separated_by separator text (first ∷ rest) = text first ++ flat_map (after_separator separator text) rest
+
+-- texts with a comma and a space between two
+abbrev pub joined : List (List ℕ) → List ℕ
+joined texts = separated_by (word ", ") (λ t. t) texts
+
+-- ---- names
+
+-- the prefix: \ for the root, ^ for each parent
+unfoldable pub prefix_text : Name → List ℕ
+prefix_text n = cond n.root (word "\\") [] ++ replicate n.ups 94
+
+unfoldable pub segment_text : Seg → List ℕ
+segment_text s = s.0
+
+-- the prefix and the segments, with a dot between two
+unfoldable pub name_text : Name → List ℕ
+name_text n = prefix_text n ++ separated_by (word ".") segment_text n.segs
+
+-- ---- terms
+
+-- arguments in parentheses, if there are any
+unfoldable pub arguments_text : List (List ℕ) → List ℕ
+arguments_text [] = []
+arguments_text (x ∷ xs) = word " (" ++ joined (x ∷ xs) ++ word ")"
+
+-- what is inside a Buffer or a package
+unfoldable pub braced : List (List ℕ) → List ℕ
+braced texts = word " {" ++ joined texts ++ word "}"
+
+abbrev pub is_value : Group → Bool
+is_value groups.Value = true
+is_value _ = false
+
+abbrev pub is_bare : Shape → Bool
+is_bare shapes.Bare = true
+is_bare _ = false
+
+-- a constant: its value stands alone, without a mnemonic
+abbrev pub is_constant : OpRow → Bool
+is_constant r = is_value r.group && (not (has_length r.tail) && not (is_bare r.shape))
+
+-- an opcode and its parts
+unfoldable pub head_text : Option OpRow → List (List ℕ) → List ℕ
+head_text None texts = joined texts
+head_text (Some r) texts = cond (is_constant r) (joined texts) (mnemonic_of r ++ arguments_text texts)
+
+-- the text of a term, of parts, and of the tails that stand on the same line
+abbrev mutual
+  pub inline : Tree → List ℕ
+  inline nothing = []
+  inline (named n ts) = name_text n ++ arguments_text (inlines ts)
+  inline (op o w ps t) = head_text (row_of o) (part_texts ps) ++ tail_text t
+
+  pub inlines : Trees → List (List ℕ)
+  inlines no_trees = []
+  inlines (tree_more t ts) = inline t ∷ inlines ts
+
+  pub part_text : OnePart → List ℕ
+  part_text (child t) = inline t
+  part_text (label n) = name_text n
+  part_text (byte b) = word "0x" ++ hex2 b
+  part_text (word_part n) = word "0x" ++ hex4 n
+  part_text (dword n) = word "0x" ++ hex8 n
+  part_text (qword n) = word "0x" ++ hex16 n
+  part_text (text_part s) = quoted s
+
+  pub part_texts : Parts → List (List ℕ)
+  part_texts no_parts = []
+  part_texts (part_more p ps) = part_text p ∷ part_texts ps
+
+  pub tail_text : Rest → List ℕ
+  tail_text empty = []
+  tail_text (terms ts) = []
+  tail_text (bytes bs) = braced (map hex2 bs)
+  tail_text (elements ts) = braced (inlines ts)
+  tail_text (fields us) = []
+  tail_text (body start len) = []

@@ -1,0 +1,34 @@
+-- The texts of nodes in memory.
+use Rattle.std.specs.Prelude.{ℕ, List, map}
+use Rattle.aml_code.specs.declared.tree.Field.{Field}
+use Rattle.aml_code.specs.declared.tree.Link.{Link}
+use Rattle.aml_code.specs.declared.tree.Node.{Node}
+use Rattle.aml_code.specs.declared.tree.Part.{Part}
+use Rattle.aml_code.specs.View.{node_view, nodes_view, part_view, field_view, link_view}
+use Rattle.aml_text.specs.declared.blocks.Body.{Body}
+use Rattle.aml_text.specs.declared.blocks.Body.TheVariants as bodies
+use Rattle.aml_text.specs.Texts.{inline, part_text}
+use Rattle.aml_text.specs.Lines.{line, lines, unit_text, joint_text, OneBody, read, raw}
+
+unfoldable pub node_inline : Node → List ℕ
+node_inline node = inline (node_view node)
+
+unfoldable pub part_inline : Part → List ℕ
+part_inline part = part_text (part_view part)
+
+unfoldable pub node_lines : ℕ → Node → List ℕ
+node_lines level node = lines level (node_view node)
+
+unfoldable pub field_inline : Field → List ℕ
+field_inline field = unit_text (field_view field)
+
+unfoldable pub field_line : ℕ → Field → List ℕ
+field_line level field = line level (field_inline field)
+
+unfoldable pub link_inline : Link → List ℕ
+link_inline link = joint_text (link_view link)
+
+-- what a body stands for: the fault of a raw one isn't printed
+abbrev pub body_view : Body → OneBody
+body_view (bodies.Tree nodes) = read (nodes_view nodes.items)
+body_view (bodies.Raw fault) = raw

@@ -1,0 +1,309 @@
+//! Definition blocks: the terms of a table, with the bodies of its methods in their places.
+ghost use Rattle.std.specs.Prelude.{◌≡◌, [], ◌∷◌, ◌++◌, drop, map, None};
+ghost use Rattle.aml_code.specs.Declaring.{last_label, last_byte};
+ghost use Rattle.aml_code.specs.Encoding.{slice_of};
+ghost use Rattle.aml_code.specs.Rows.{row_of};
+ghost use Rattle.aml_code.specs.View.{node_view, nodes_view, parts_view, tail_view};
+ghost use Rattle.aml_text.specs.Views.{body_view};
+ghost use Rattle.aml_text.specs.Prints.{Prints};
+ghost use Rattle.aml_text.specs.Words.{word};
+ghost use Rattle.aml_text.specs.Texts.{head_text, part_texts};
+ghost use Rattle.aml_text.specs.Lines.{deeper, line, opening, closing, serialized_text, comma_decimal, flags_text, method_text, method_head, raw_text, body_lines, left, left_rest, left_all, table_lines, table_op_lines, all_table_lines, block_opening, block_text};
+
+use crate::lines::{
+    print_closing, print_indent, print_lines, print_op_lines, print_opening, print_terms,
+};
+use crate::output::Out;
+use crate::texts::{print_bytes, print_head};
+use crate::words::{print_decimal, print_name, print_quoted};
+use aml_code::{CodeFault, Name, Node, Part, Tail, last_byte, last_name};
+use std::io::Write;
+
+/// What became of a method's body.
+#[derive(Debug, Drop)]
+pub enum Body {
+    /// Its terms.
+    Tree(Vec<Node>),
+    /// It can't be read: why. It is printed as its bytes.
+    Raw(CodeFault),
+}
+
+/// Whether a method is serialized: bit 3 of its flags.
+#[tactic(auto, using(crate::proofs::PrintLaws::straight), unfolding(crate::specs::Lines::serialized_text))]
+fn print_serialized<W: Write>(out: &mut Out<'_, W>, flags: u8)
+    ensures { Prints W.contents out.old out.new (serialized_text flags) }
+{
+    if flags / 8 % 2 == 1 {
+        out.put(b", Serialized");
+    } else {
+        out.put(b", NotSerialized");
+    }
+}
+
+#[tactic(auto, using(crate::proofs::PrintLaws::straight), unfolding(crate::specs::Lines::comma_decimal))]
+fn print_comma_decimal<W: Write>(out: &mut Out<'_, W>, n: u8)
+    ensures { Prints W.contents out.old out.new (comma_decimal n) }
+{
+    out.put(b", ");
+    print_decimal(out, n as u32);
+}
+
+#[tactic(auto, using(crate::proofs::PrintLaws::straight), unfolding(crate::specs::Lines::flags_text))]
+fn print_flags<W: Write>(out: &mut Out<'_, W>, flags: u8)
+    ensures { Prints W.contents out.old out.new (flags_text flags) }
+{
+    print_comma_decimal(out, flags % 8);
+    print_serialized(out, flags);
+    print_comma_decimal(out, flags / 16);
+}
+
+#[tactic(auto, using(crate::proofs::PrintLaws::straight), unfolding(crate::specs::Lines::method_text))]
+fn print_method<W: Write>(out: &mut Out<'_, W>, name: &Name, flags: u8)
+    ensures { Prints W.contents out.old out.new (method_text name.now flags) }
+{
+    out.put(b"Method (");
+    print_name(out, name);
+    print_flags(out, flags);
+    out.put(b")");
+}
+
+/// The head of a method, from its name and flags.
+#[tactic(auto, using(crate::proofs::PrintLaws::straight, crate::proofs::BlockLaws::heads))]
+fn print_method_head<W: Write>(out: &mut Out<'_, W>, opcode: u16, parts: &[Part])
+    ensures { Prints W.contents out.old out.new (method_head (last_label None (parts_view parts.now)) (last_byte None (parts_view parts.now)) (head_text (row_of opcode) (part_texts (parts_view parts.now)))) }
+{
+    match last_name(parts) {
+        None => print_head(out, opcode, parts),
+        Some(name) => match last_byte(parts) {
+            None => print_head(out, opcode, parts),
+            Some(flags) => print_method(out, name, flags),
+        },
+    }
+}
+
+#[tactic(auto, using(crate::proofs::PrintLaws::straight), unfolding(crate::specs::Lines::opening))]
+fn print_method_opening<W: Write>(out: &mut Out<'_, W>, level: u32, opcode: u16, parts: &[Part])
+    ensures { Prints W.contents out.old out.new (opening level (method_head (last_label None (parts_view parts.now)) (last_byte None (parts_view parts.now)) (head_text (row_of opcode) (part_texts (parts_view parts.now))))) }
+{
+    print_indent(out, level);
+    print_method_head(out, opcode, parts);
+    out.put(b" {\n");
+}
+
+#[tactic(auto, using(crate::proofs::PrintLaws::straight), unfolding(crate::specs::Lines::raw_text))]
+fn print_raw<W: Write>(out: &mut Out<'_, W>, bytes: &[u8])
+    ensures { Prints W.contents out.old out.new (raw_text bytes.now) }
+{
+    out.put(b"Raw {");
+    print_bytes(out, bytes);
+    out.put(b"}");
+}
+
+#[tactic(auto, using(crate::proofs::PrintLaws::straight), unfolding(crate::specs::Lines::line))]
+fn print_raw_line<W: Write>(out: &mut Out<'_, W>, level: u32, bytes: &[u8])
+    ensures { Prints W.contents out.old out.new (line level (raw_text bytes.now)) }
+{
+    print_indent(out, level);
+    print_raw(out, bytes);
+    out.put(b"\n");
+}
+
+/// The first of the bodies, or nothing where there is none.
+#[tactic(auto, using(crate::proofs::PrintLaws::straight, crate::proofs::BlockLaws::bodies_of))]
+fn print_body<W: Write>(out: &mut Out<'_, W>, level: u32, bytes: &[u8], bodies: &[Body])
+    ensures { Prints W.contents out.old out.new (body_lines level bytes.now (map body_view bodies.now)) }
+{
+    if let Some((body, _)) = bodies.split_first() {
+        print_one_body(out, level, bytes, body);
+    }
+}
+
+#[tactic(auto, using(crate::proofs::PrintLaws::straight, crate::proofs::BlockLaws::one_body))]
+fn print_one_body<W: Write>(out: &mut Out<'_, W>, level: u32, bytes: &[u8], body: &Body)
+    ensures { Prints W.contents out.old out.new (body_lines level bytes.now (body_view body.now ∷ [])) }
+{
+    match body {
+        Body::Tree(nodes) => print_terms(out, level, nodes.as_slice()),
+        Body::Raw(_) => print_raw_line(out, level, bytes),
+    }
+}
+
+/// A method, with the first of the bodies.
+#[tactic(auto, using(crate::proofs::PrintLaws::straight))]
+fn print_method_block<W: Write>(
+    out: &mut Out<'_, W>,
+    level: u32,
+    opcode: u16,
+    parts: &[Part],
+    bytes: &[u8],
+    bodies: &[Body],
+)
+    ensures { Prints W.contents out.old out.new (opening level (method_head (last_label None (parts_view parts.now)) (last_byte None (parts_view parts.now)) (head_text (row_of opcode) (part_texts (parts_view parts.now)))) ++ body_lines (deeper level) bytes.now (map body_view bodies.now) ++ closing level) }
+{
+    print_method_opening(out, level, opcode, parts);
+    print_body(out, level.saturating_add(1), bytes, bodies);
+    print_closing(out, level);
+}
+
+/// So many bytes of the code from an offset on, as far as the code has them.
+fn slice(code: &[u8], start: u32, len: u32) -> &[u8]
+    ensures { result.now ≡ slice_of code.now start len }
+{
+    let start = (start as usize).min(code.len());
+    let behind = &code[start..];
+    let len = (len as usize).min(behind.len());
+    &behind[..len]
+}
+
+/// The bodies but for the first.
+fn others(bodies: &[Body]) -> &[Body]
+    ensures { map body_view result.now ≡ drop 1 (map body_view bodies.now) }
+{
+    match bodies {
+        [] => bodies,
+        [_, rest @ ..] => rest,
+    }
+}
+
+/// The lines of a term of a table. Each method takes the first of the bodies; the others are answered.
+#[cycle(blocks)]
+#[tactic(auto, using(crate::proofs::PrintLaws::straight, crate::proofs::BlockLaws::table_nodes))]
+fn print_table_term<'b, W: Write>(
+    out: &mut Out<'_, W>,
+    code: &[u8],
+    level: u32,
+    node: &Node,
+    bodies: &'b [Body],
+) -> &'b [Body]
+    ensures prints { Prints W.contents out.old out.new (table_lines code.now level (node_view node.now) (map body_view bodies.now)) }
+    ensures others { map body_view result.now ≡ left (node_view node.now) (map body_view bodies.now) }
+{
+    match node {
+        Node::Nothing => {
+            print_lines(out, level, node);
+            bodies
+        }
+        Node::Named { .. } => {
+            print_lines(out, level, node);
+            bodies
+        }
+        Node::Op {
+            opcode,
+            parts,
+            tail,
+            ..
+        } => print_table_op(out, code, level, tail, *opcode, parts.as_slice(), bodies),
+    }
+}
+
+#[cycle(blocks)]
+#[tactic(auto, using(crate::proofs::PrintLaws::straight, crate::proofs::BlockLaws::table_tails))]
+fn print_table_op<'b, W: Write>(
+    out: &mut Out<'_, W>,
+    code: &[u8],
+    level: u32,
+    tail: &Tail,
+    opcode: u16,
+    parts: &[Part],
+    bodies: &'b [Body],
+) -> &'b [Body]
+    ensures prints { Prints W.contents out.old out.new (table_op_lines code.now level opcode (parts_view parts.now) (tail_view tail.now) (map body_view bodies.now)) }
+    ensures others { map body_view result.now ≡ left_rest (tail_view tail.now) (map body_view bodies.now) }
+{
+    match tail {
+        Tail::Terms(nodes) => print_table_block(
+            out,
+            code,
+            level,
+            nodes.as_slice(),
+            opcode,
+            parts,
+            bodies,
+        ),
+        Tail::Body { start, len } => {
+            print_method_block(out, level, opcode, parts, slice(code, *start, *len), bodies);
+            others(bodies)
+        }
+        Tail::Empty => {
+            print_op_lines(out, level, tail, opcode, parts);
+            bodies
+        }
+        Tail::Bytes(_) => {
+            print_op_lines(out, level, tail, opcode, parts);
+            bodies
+        }
+        Tail::Elements(_) => {
+            print_op_lines(out, level, tail, opcode, parts);
+            bodies
+        }
+        Tail::Fields(_) => {
+            print_op_lines(out, level, tail, opcode, parts);
+            bodies
+        }
+    }
+}
+
+#[cycle(blocks)]
+#[tactic(auto, using(crate::proofs::PrintLaws::straight))]
+fn print_table_block<'b, W: Write>(
+    out: &mut Out<'_, W>,
+    code: &[u8],
+    level: u32,
+    nodes: &[Node],
+    opcode: u16,
+    parts: &[Part],
+    bodies: &'b [Body],
+) -> &'b [Body]
+    ensures prints { Prints W.contents out.old out.new (opening level (head_text (row_of opcode) (part_texts (parts_view parts.now))) ++ all_table_lines code.now (deeper level) (nodes_view nodes.now) (map body_view bodies.now) ++ closing level) }
+    ensures others { map body_view result.now ≡ left_all (nodes_view nodes.now) (map body_view bodies.now) }
+{
+    print_opening(out, level, opcode, parts);
+    let others = print_table_terms(out, code, level.saturating_add(1), nodes, bodies);
+    print_closing(out, level);
+    others
+}
+
+/// The lines of terms of a table, one after the other.
+#[cycle(blocks)]
+#[tactic(auto, using(crate::proofs::PrintLaws::straight))]
+fn print_table_terms<'b, W: Write>(
+    out: &mut Out<'_, W>,
+    code: &[u8],
+    level: u32,
+    nodes: &[Node],
+    bodies: &'b [Body],
+) -> &'b [Body]
+    ensures prints { Prints W.contents out.old out.new (all_table_lines code.now level (nodes_view nodes.now) (map body_view bodies.now)) }
+    ensures others { map body_view result.now ≡ left_all (nodes_view nodes.now) (map body_view bodies.now) }
+{
+    let mut rest = bodies;
+    for node in nodes {
+        rest = print_table_term(out, code, level, node, rest);
+    }
+    rest
+}
+
+/// A definition block: the terms of a table's AML, each method with its body, in the order of the text.
+#[tactic(auto, using(crate::proofs::PrintLaws::straight), unfolding(crate::specs::Lines::block_text))]
+pub fn print_block<W: Write>(
+    out: &mut Out<'_, W>,
+    name: &[u8],
+    code: &[u8],
+    nodes: &[Node],
+    bodies: &[Body],
+)
+    ensures { Prints W.contents out.old out.new (block_text name.now code.now (nodes_view nodes.now) (map body_view bodies.now)) }
+{
+    print_block_opening(out, name);
+    print_table_terms(out, code, 1, nodes, bodies);
+    out.put(b"}\n");
+}
+
+#[tactic(auto, using(crate::proofs::PrintLaws::straight), unfolding(crate::specs::Lines::block_opening))]
+fn print_block_opening<W: Write>(out: &mut Out<'_, W>, name: &[u8])
+    ensures { Prints W.contents out.old out.new (block_opening name.now) }
+{
+    out.put(b"DefinitionBlock (");
+    print_quoted(out, name);
+    out.put(b") {\n");
+}

@@ -1,0 +1,15 @@
+//! The printed text of AML: ASL-like lines, exactly as the definitions of `specs/` say.
+//!
+//! Nothing here takes memory. Each printing function's contract gives the text that it prints.
+#![tactic(auto)]
+
+mod blocks;
+mod lines;
+mod output;
+mod pending;
+mod texts;
+mod words;
+
+pub use blocks::{Body, print_block};
+pub use output::{Out, WriteFault};
+pub use words::print_quoted;
