@@ -1,0 +1,12 @@
+pub mod Numbers
+pub mod FadtFields
+pub mod Entries
+pub mod Meanings
+pub mod Cuts
+pub mod Places
+pub mod Once
+pub mod Digits
+pub mod Signatures
+pub mod Ranks
+pub mod Unique
+pub mod Refuted

@@ -1,0 +1,129 @@
+-- Where a refusal stands there is no order.
+use Rattle.std.proofs.Common.{◌≡◌, ℕ, ◌<◌, ◌≤◌, inl, inr, Bool, true, false, List, length, codes, Option, Some, None, Result, Ok, Err, IfOk, OnOk, MatchBool, slice_get, find, sym, ap, subst, ◌∙◌, arith}
+use Rattle.std.proofs.lemmas.Option.{same_Some}
+use Rattle.acpi_tables.specs.declared.dump.Dump.{Dump}
+use Rattle.acpi_tables.specs.declared.dump.Kind.{Kind}
+use Rattle.acpi_tables.specs.declared.dump.Kind.TheVariants.{Root, Facs, Standard}
+use Rattle.acpi_tables.specs.declared.fault.Bad.{Bad}
+use Rattle.acpi_tables.specs.declared.fault.Bad.TheVariants.{Short, BadSum, BadRoot, OldRoot, RootMissing, FadtMissing, FadtShort, MadtRecord, NoDsdt, TwoDsdts}
+use Rattle.acpi_tables.specs.declared.fault.TableFault.{TableFault}
+use Rattle.acpi_tables.specs.Bytes.{number_at}
+use Rattle.acpi_tables.specs.Header.{table_of}
+use Rattle.acpi_tables.specs.Rsdp.{revision_of}
+use Rattle.acpi_tables.specs.Dumps.{kind_of, HoldsShape, HasSums, HoldsContent, HoldsDump, RefusesRoot, RefusesFacs, RefusesContent, RefusesTable, RefusesBy, RefusesDump}
+use Rattle.acpi_tables.specs.Order.{bytes_of, has_signature, signed_at, listed_by, dsdt_address, is_addressed, IsNamed, IsChained, IsOrder, RefusesAll, RefusesPlace, RefusesOrder, RefusesBytes, Refuses}
+use Rattle.acpi_tables.proofs.Cuts.{whole_not_refused}
+use Rattle.acpi_tables.specs.declared.order.Order.{Order}
+use Rattle.acpi_tables.proofs.Unique.{xsdt_unique, fadt_unique, order_unique}
+
+root_taken : (any_sum : Bool) (bytes : List ℕ) (bad : Bad) → HoldsShape Root bytes → (any_sum ≡ false → HasSums Root bytes) → ¬ RefusesRoot any_sum bytes bad
+root_taken any_sum bytes BadRoot shape sums refused = refused shape
+root_taken any_sum bytes BadSum shape sums refused = refused.2 (sums refused.1)
+root_taken any_sum bytes _ shape sums refused = refused
+
+facs_taken : (bytes : List ℕ) (bad : Bad) → HoldsShape Facs bytes → ¬ RefusesFacs bytes bad
+facs_taken bytes Short shape refused = refused shape
+facs_taken bytes _ shape refused = refused
+
+content_taken : (bytes : List ℕ) (bad : Bad) → HoldsContent Standard bytes → ¬ RefusesContent bytes bad
+content_taken bytes BadRoot content refused = refused.1 (content.xsdt refused.0)
+content_taken bytes FadtShort content refused = refused.1 (content.fadt refused.0)
+content_taken bytes Short content refused = whole_not_refused _ (content.madt refused.0) Short refused.1
+content_taken bytes (MadtRecord at) content refused = whole_not_refused _ (content.madt refused.0) (MadtRecord at) refused.1
+content_taken bytes _ content refused = refused
+
+table_taken : (any_sum : Bool) (bytes : List ℕ) (bad : Bad) → HoldsShape Standard bytes → (any_sum ≡ false → HasSums Standard bytes) → HoldsContent Standard bytes
+    → ¬ RefusesTable any_sum bytes bad
+table_taken any_sum bytes bad shape sums content (inl refused) = refused.1 shape
+table_taken any_sum bytes bad shape sums content (inr (inl refused)) = refused.3 (sums refused.2)
+table_taken any_sum bytes bad shape sums content (inr (inr refused)) = content_taken bytes bad content refused.2
+
+taken_by : (kind : Kind) (any_sum : Bool) (bytes : List ℕ) (bad : Bad) → HoldsShape kind bytes → (any_sum ≡ false → HasSums kind bytes) → HoldsContent kind bytes
+    → ¬ RefusesBy kind any_sum bytes bad
+taken_by Root any_sum bytes bad shape sums content refused = root_taken any_sum bytes bad shape sums refused
+taken_by Facs any_sum bytes bad shape sums content refused = facs_taken bytes bad shape refused
+taken_by Standard any_sum bytes bad shape sums content refused = table_taken any_sum bytes bad shape sums content refused
+
+-- a dump that is taken is refused for nothing
+dump_taken : (any_sum : Bool) (bytes : List ℕ) (bad : Bad) → HoldsDump any_sum bytes → ¬ RefusesDump any_sum bytes bad
+dump_taken any_sum bytes bad holds (inl refused) = absurd (omega (arith, holds.small, refused.1))
+dump_taken any_sum bytes bad holds (inr refused) = taken_by (kind_of bytes) any_sum bytes bad holds.shape holds.sums holds.content refused.1
+
+module _ (dumps : List Dump) (any_sum : Bool) (dsdt : ℕ) (ssdts : List ℕ) (order : IsOrder dumps any_sum dsdt ssdts) where
+  bytes_taken : (fault : TableFault) → ¬ RefusesBytes dumps any_sum fault
+  bytes_taken fault refused = dump_taken any_sum (bytes_of dumps refused.index) fault.bad (order.each refused.index refused.inside) refused.refused
+
+  chained : is_addressed dumps ≡ true → IsChained dumps dsdt ssdts
+  chained e = subst (λ b. MatchBool b (IsChained dumps dsdt ssdts) (IsNamed dumps dsdt ssdts)) e order.blocks
+
+  named : is_addressed dumps ≡ false → IsNamed dumps dsdt ssdts
+  named e = subst (λ b. MatchBool b (IsChained dumps dsdt ssdts) (IsNamed dumps dsdt ssdts)) e order.blocks
+
+  no_dsdt : RefusesAll dumps NoDsdt → ⊥
+  no_dsdt (inl none) = cc ((named none.0).only, none.1)
+  no_dsdt (inr none) =
+      let chain = chained none.0 in
+      let lacks = none.1 in
+      let same = fadt_unique dumps _ _ _ _ _ _ lacks.to_fadt chain.to_fadt in
+      cc (lacks.none, ap (λ n. signed_at dumps (codes "DSDT") (dsdt_address (table_of (bytes_of dumps n)))) same.1, chain.there)
+
+  all_taken : (bad : Bad) → ¬ RefusesAll dumps bad
+  all_taken RootMissing refused = cc ((chained refused.0).to_fadt.to_xsdt.first, refused.1)
+  all_taken NoDsdt refused = no_dsdt refused
+  all_taken _ refused = refused
+
+  place_taken : (index : ℕ) (bad : Bad) → ¬ RefusesPlace dumps index bad
+  place_taken index OldRoot refused =
+      let to_xsdt = (chained refused.0).to_fadt.to_xsdt in
+      let root = same_Some index _ (sym refused.1 ∙ to_xsdt.first) in
+      absurd (omega (arith, ap (λ n. revision_of (bytes_of dumps n)) root, refused.2, to_xsdt.revised))
+  place_taken index RootMissing refused =
+      let to_xsdt = (chained refused.0).to_fadt.to_xsdt in
+      let root = same_Some index _ (sym refused.1 ∙ to_xsdt.first) in
+      cc (refused.3, ap (λ n. signed_at dumps (codes "XSDT") (number_at (bytes_of dumps n) 24 8)) root, to_xsdt.there)
+  place_taken index FadtMissing refused =
+      let to_fadt = (chained refused.0).to_fadt in
+      let lacks = refused.1 in
+      let xsdt = (xsdt_unique dumps _ _ _ _ lacks.to_xsdt to_fadt.to_xsdt).1 in
+      cc (lacks.none, ap (λ n. find (has_signature dumps (codes "FACP")) (listed_by dumps n)) xsdt, to_fadt.first)
+  place_taken index TwoDsdts refused = cc (ap (λ l. slice_get l 1) (named refused.0).only, refused.1)
+  place_taken index _ refused = refused
+
+  order_taken : (dump : Option ℕ) (bad : Bad) → ¬ RefusesOrder dumps dump bad
+  order_taken None bad refused = all_taken bad refused
+  order_taken (Some index) bad refused = place_taken index bad refused
+
+  pub nothing_refused : (fault : TableFault) → ¬ Refuses dumps any_sum fault
+  nothing_refused fault (inl many) = absurd (omega (arith, order.few, many.2))
+  nothing_refused fault (inr (few, inl refused)) = bytes_taken fault refused
+  nothing_refused fault (inr (few, inr refused)) = order_taken fault.dump fault.bad refused.1
+
+-- What both ways to an order give.
+order_of : (dumps : List Dump) (any_sum b : Bool) (dsdt : ℕ) (ssdts : List ℕ) → length dumps ≤ 512
+    → ((index : ℕ) → index < length dumps → HoldsDump any_sum (bytes_of dumps index)) → is_addressed dumps ≡ b
+    → MatchBool b (IsChained dumps dsdt ssdts) (IsNamed dumps dsdt ssdts) → IsOrder dumps any_sum dsdt ssdts
+order_of dumps any_sum b dsdt ssdts few each e blocks =
+    record { few = few; each = each; blocks = subst (λ b. MatchBool b (IsChained dumps dsdt ssdts) (IsNamed dumps dsdt ssdts)) (sym e) blocks }
+
+module _ (dumps : List Dump) (any_sum b : Bool) (few : length dumps ≤ 512)
+    (each : (index : ℕ) → index < length dumps → HoldsDump any_sum (bytes_of dumps index)) (addressed : is_addressed dumps ≡ b) where
+  abbrev Blocks : Order → Type 0
+  Blocks order = MatchBool b (IsChained dumps order.dsdt order.ssdts.items) (IsNamed dumps order.dsdt order.ssdts.items)
+
+  pub found_order : (r : Result Order TableFault) → IfOk r Blocks → IfOk r (λ order. IsOrder dumps any_sum order.dsdt order.ssdts.items)
+  found_order (Ok order) blocks = order_of dumps any_sum b _ _ few each addressed blocks
+  found_order (Err fault) blocks = tt
+
+  pub found_only : (r : Result Order TableFault) → IfOk r Blocks
+      → IfOk r (λ order. (dsdt : ℕ) (ssdts : List ℕ) → IsOrder dumps any_sum dsdt ssdts → (dsdt ≡ order.dsdt) × (ssdts ≡ order.ssdts.items))
+  found_only (Ok order) blocks = λ dsdt ssdts other.
+      order_unique dumps any_sum dsdt order.dsdt ssdts order.ssdts.items other (order_of dumps any_sum b _ _ few each addressed blocks)
+  found_only (Err fault) blocks = tt
+
+  pub found_sound : (r : Result Order TableFault) → IfOk r Blocks → OnOk r ((fault : TableFault) → ¬ Refuses dumps any_sum fault)
+  found_sound (Ok order) blocks = nothing_refused dumps any_sum order.dsdt order.ssdts.items (order_of dumps any_sum b _ _ few each addressed blocks)
+  found_sound (Err fault) blocks = tt
+
+-- a refusal leaves no order
+pub none_where_refused : (dumps : List Dump) (any_sum : Bool) (fault : TableFault) → Refuses dumps any_sum fault → (dsdt : ℕ) (ssdts : List ℕ) → ¬ IsOrder dumps any_sum dsdt ssdts
+none_where_refused dumps any_sum fault refused dsdt ssdts order = nothing_refused dumps any_sum dsdt ssdts order fault refused

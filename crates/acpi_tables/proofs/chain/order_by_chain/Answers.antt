@@ -1,0 +1,29 @@
+use Rattle.std.proofs.Common.{codes, sym, ap, subst, ◌∙◌}
+use Rattle.acpi_tables.specs.Header.{HoldsTable, table_of}
+use Rattle.acpi_tables.specs.Rsdp.{HoldsRoot}
+use Rattle.acpi_tables.specs.Fadt.{HoldsFadt}
+use Rattle.acpi_tables.specs.Order.{has_signature}
+use Rattle.acpi_tables.proofs.Signatures.{root_holds, xsdt_holds, entries_hold, fadt_holds, fields_hold, root_of-signed, signed_at-signed, find-passes}
+use Rattle.acpi_tables.proofs.chain.order_by_chain.Goals as goal
+
+pub xsdt_address-requires : goal.xsdt_address-requires
+xsdt_address-requires c =
+    subst HoldsRoot (sym c.bytes_of.ensures) (root_holds c.args.dumps.now c.requires.each c.in-Some.root (root_of-signed _ _ (sym c.in-Some.ensures)))
+
+pub listed_by-requires-clause-table : goal.listed_by-requires-clause-table
+listed_by-requires-clause-table c =
+    xsdt_holds c.args.dumps.now c.requires.each c.in-Some-signed_at.xsdt (signed_at-signed c.args.dumps.now (codes "XSDT") _ _ (sym c.in-Some-signed_at.ensures))
+
+pub listed_by-requires-clause-entries : goal.listed_by-requires-clause-entries
+listed_by-requires-clause-entries c =
+    entries_hold c.args.dumps.now c.requires.each c.in-Some-signed_at.xsdt (signed_at-signed c.args.dumps.now (codes "XSDT") _ _ (sym c.in-Some-signed_at.ensures))
+
+pub table_of-requires : goal.table_of-requires
+table_of-requires c =
+    subst HoldsTable (sym c.bytes_of-2.ensures)
+    (fadt_holds c.args.dumps.now c.requires.each c.in-Some-first_with.fadt (find-passes (has_signature c.args.dumps.now (codes "FACP")) _ _ (sym c.in-Some-first_with.ensures)))
+
+pub dsdt_address-requires : goal.dsdt_address-requires
+dsdt_address-requires c =
+    subst HoldsFadt (sym (c.table_of.ensures ∙ ap table_of c.bytes_of-2.ensures))
+    (fields_hold c.args.dumps.now c.requires.each c.in-Some-first_with.fadt (find-passes (has_signature c.args.dumps.now (codes "FACP")) _ _ (sym c.in-Some-first_with.ensures)))

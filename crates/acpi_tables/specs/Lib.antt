@@ -1,0 +1,8 @@
+pub mod Bytes
+pub mod Header
+pub mod Rsdp
+pub mod Xsdt
+pub mod Fadt
+pub mod Madt
+pub mod Dumps
+pub mod Order

@@ -1,0 +1,181 @@
+-- The order in which the definition blocks of a set of dumps are loaded, and what each refusal of a set says of it.
+use Rattle.std.specs.Prelude.{◌≡◌, ℕ, ◌+◌, ◌-◌, ◌*◌, ◌<◌, ◌≤◌, ◌⊎◌, ◌&&◌, not, Bool, true, false, List, [], ◌∷◌, codes, length, take, map, reverse, filter, filter_map, find, position, take_while, slice_get, slice_index_or, IsPermutation, IsSorted, is_some, nat_eq, nat_le, string_bytes, Option, Some, None, option_and_then, MatchBool, if◌then◌else◌}
+use Rattle.std.specs.List.{before_last, list_any}
+use Rattle.std.specs.declared.cmp.Ordering.{Ordering}
+use Rattle.std.specs.Ordering.{then_cmp, on, nat_cmp}
+use Rattle.std.specs.Cmp.Lexicographic.{slice_cmp}
+use Rattle.acpi_tables.specs.Bytes.{begins_with, number_at}
+use Rattle.acpi_tables.specs.Header.{table_of}
+use Rattle.acpi_tables.specs.Rsdp.{revision_of}
+use Rattle.acpi_tables.specs.Xsdt.{entries_of}
+use Rattle.acpi_tables.specs.Dumps.{HoldsDump, RefusesDump}
+use Rattle.acpi_tables.specs.declared.dump.Dump.{Dump}
+use Rattle.acpi_tables.specs.declared.fault.Bad.{Bad}
+use Rattle.acpi_tables.specs.declared.fault.Bad.TheVariants.{TooManyTables, OldRoot, RootMissing, FadtMissing, NoDsdt, TwoDsdts}
+use Rattle.acpi_tables.specs.declared.fault.TableFault.{TableFault}
+
+-- the bytes of the dump at an index, and its name
+unfoldable pub bytes_of : List Dump → ℕ → List ℕ
+bytes_of dumps index = slice_index_or (map (λ dump. dump.bytes.items) dumps) index []
+
+unfoldable pub name_of : List Dump → ℕ → List ℕ
+name_of dumps index = slice_index_or (map (λ dump. string_bytes dump.name) dumps) index []
+
+-- whether the dump at an index has a signature
+abbrev pub has_signature : List Dump → List ℕ → ℕ → Bool
+has_signature dumps signature index = begins_with (bytes_of dumps index) signature
+
+-- the places, from a first one on, of the elements that pass a test
+unfoldable pub places : {X : Type 0} → (X → Bool) → ℕ → List X → List ℕ
+places test first [] = []
+places test first (x ∷ xs) = if test x then first ∷ places test (first + 1) xs else places test (first + 1) xs
+
+-- the indexes of the dumps that have a signature
+unfoldable pub indexes_with : List Dump → List ℕ → List ℕ
+indexes_with dumps signature = places (λ dump. begins_with dump.bytes.items signature) 0 dumps
+
+-- Where no dump has an address, the names decide.
+
+-- The stem of a file's name: what stands before its last dot, or the whole name if there is none or it stands first.
+abbrev pub is_dot : ℕ → Bool
+is_dot c = nat_eq c 46
+
+abbrev pub stem_of : List ℕ → List ℕ
+stem_of name = if nat_eq (length (before_last is_dot name)) 0 then name else before_last is_dot name
+
+-- the number that decimal digits spell, the lowest digit first
+abbrev pub decimal_of : List ℕ → ℕ
+decimal_of [] = 0
+decimal_of (digit ∷ digits) = (digit - 48) + 10 * decimal_of digits
+
+abbrev pub is_digit : ℕ → Bool
+is_digit c = nat_le 48 c && nat_le c 57
+
+-- the number that ends the stem, of whose digits the last nine count
+unfoldable pub ending_number : List ℕ → ℕ
+ending_number name = decimal_of (take 9 (take_while is_digit (reverse (stem_of name))))
+
+-- dumps by that number, then by their names as bytes, then by their indexes
+abbrev pub rank_cmp : List Dump → ℕ → ℕ → Ordering
+rank_cmp dumps = then_cmp (on (λ index. ending_number (name_of dumps index)) nat_cmp) (then_cmp (on (name_of dumps) (slice_cmp nat_cmp)) nat_cmp)
+
+-- The DSDT is the only one, and the SSDTs are all of them, each once, sorted.
+pub record IsNamed (dumps : List Dump) (dsdt : ℕ) (ssdts : List ℕ) : Type 0 where
+  pub only : indexes_with dumps (codes "DSDT") ≡ dsdt ∷ []
+  pub all : IsPermutation (indexes_with dumps (codes "SSDT")) ssdts
+  pub sorted : IsSorted (rank_cmp dumps) ssdts
+
+-- Where a dump has an address, the chain from the RSDP decides (sections 5.2.5, 5.2.8 and 5.2.9).
+
+abbrev pub is_addressed : List Dump → Bool
+is_addressed dumps = list_any (λ dump. is_some dump.address) dumps
+
+-- the first dump at an address
+abbrev pub is_address : ℕ → Option ℕ → Bool
+is_address address None = false
+is_address address (Some there) = nat_eq there address
+
+abbrev pub stands_at : ℕ → Dump → Bool
+stands_at address dump = is_address address dump.address
+
+unfoldable pub dump_at : List Dump → ℕ → Option ℕ
+dump_at dumps address = position (stands_at address) dumps
+
+-- the same, if it has a signature
+abbrev pub signed_at : List Dump → List ℕ → ℕ → Option ℕ
+signed_at dumps signature address = option_and_then (λ index. if has_signature dumps signature index then Some index else None) (dump_at dumps address)
+
+-- the first RSDP
+unfoldable pub root_of : List Dump → Option ℕ
+root_of dumps = position (λ dump. begins_with dump.bytes.items (codes "RSD PTR ")) dumps
+
+-- The first RSDP, of revision 2 or later, gives the address of the XSDT.
+pub record LeadsToXsdt (dumps : List Dump) (root xsdt : ℕ) : Type 0 where
+  pub first : root_of dumps ≡ Some root
+  pub revised : 2 ≤ revision_of (bytes_of dumps root)
+  pub there : signed_at dumps (codes "XSDT") (number_at (bytes_of dumps root) 24 8) ≡ Some xsdt
+
+-- the dumps that an XSDT lists, in its order; an entry with no dump is skipped
+abbrev pub listed_by : List Dump → ℕ → List ℕ
+listed_by dumps xsdt = filter_map (dump_at dumps) (entries_of (table_of (bytes_of dumps xsdt)))
+
+-- The first of these that is a FADT.
+pub record LeadsToFadt (dumps : List Dump) (root xsdt fadt : ℕ) : Type 0 where
+  pub to_xsdt : LeadsToXsdt dumps root xsdt
+  pub first : find (has_signature dumps (codes "FACP")) (listed_by dumps xsdt) ≡ Some fadt
+
+-- the DSDT's address in a FADT: X_DSDT where the table reaches to its end and it isn't 0, else DSDT
+abbrev pub dsdt_address : List ℕ → ℕ
+dsdt_address table = if nat_le 148 (length table) && not (nat_eq (number_at table 140 8) 0) then number_at table 140 8 else number_at table 40 4
+
+-- each number where it stands first
+abbrev pub each_once : List ℕ → List ℕ
+each_once [] = []
+each_once (x ∷ xs) = x ∷ filter (λ y. not (nat_eq y x)) (each_once xs)
+
+-- The FADT gives the address of the DSDT, and the SSDTs are those that the XSDT lists, each once.
+pub record IsChained (dumps : List Dump) (dsdt : ℕ) (ssdts : List ℕ) : Type 0 where
+  pub root : ℕ
+  pub xsdt : ℕ
+  pub fadt : ℕ
+  pub to_fadt : LeadsToFadt dumps root xsdt fadt
+  pub there : signed_at dumps (codes "DSDT") (dsdt_address (table_of (bytes_of dumps fadt))) ≡ Some dsdt
+  pub listed : ssdts ≡ each_once (filter (has_signature dumps (codes "SSDT")) (listed_by dumps xsdt))
+
+-- Each dump is taken by itself.
+abbrev pub AreTaken : List Dump → Bool → Type 0
+AreTaken dumps any_sum = (index : ℕ) → index < length dumps → HoldsDump any_sum (bytes_of dumps index)
+
+-- The order of the definition blocks. There is at most one, and none where a refusal stands.
+pub record IsOrder (dumps : List Dump) (any_sum : Bool) (dsdt : ℕ) (ssdts : List ℕ) : Type 0 where
+  pub few : length dumps ≤ 512
+  pub each : AreTaken dumps any_sum
+  pub blocks : MatchBool (is_addressed dumps) (IsChained dumps dsdt ssdts) (IsNamed dumps dsdt ssdts)
+
+-- The chain ends at an XSDT that lists no FADT, or at a FADT whose address leads to no DSDT.
+pub record LacksFadt (dumps : List Dump) (xsdt : ℕ) : Type 0 where
+  pub root : ℕ
+  pub to_xsdt : LeadsToXsdt dumps root xsdt
+  pub none : find (has_signature dumps (codes "FACP")) (listed_by dumps xsdt) ≡ None
+
+pub record LacksDsdt (dumps : List Dump) : Type 0 where
+  pub root : ℕ
+  pub xsdt : ℕ
+  pub fadt : ℕ
+  pub to_fadt : LeadsToFadt dumps root xsdt fadt
+  pub none : signed_at dumps (codes "DSDT") (dsdt_address (table_of (bytes_of dumps fadt))) ≡ None
+
+-- Why there is no order of dumps that are all taken: what a refusal says where it names no dump, and of the place of the dump that it names.
+abbrev pub RefusesAll : List Dump → Bad → Type 0
+RefusesAll dumps RootMissing = (is_addressed dumps ≡ true) × (root_of dumps ≡ None)
+RefusesAll dumps NoDsdt =
+    ((is_addressed dumps ≡ false) × (indexes_with dumps (codes "DSDT") ≡ []))
+    ⊎ ((is_addressed dumps ≡ true) × LacksDsdt dumps)
+RefusesAll dumps _ = ⊥
+
+abbrev pub RefusesPlace : List Dump → ℕ → Bad → Type 0
+RefusesPlace dumps index OldRoot = (is_addressed dumps ≡ true) × (root_of dumps ≡ Some index) × (revision_of (bytes_of dumps index) < 2)
+RefusesPlace dumps index RootMissing =
+    (is_addressed dumps ≡ true) × (root_of dumps ≡ Some index) × (2 ≤ revision_of (bytes_of dumps index))
+    × (signed_at dumps (codes "XSDT") (number_at (bytes_of dumps index) 24 8) ≡ None)
+RefusesPlace dumps index FadtMissing = (is_addressed dumps ≡ true) × LacksFadt dumps index
+RefusesPlace dumps index TwoDsdts = (is_addressed dumps ≡ false) × (slice_get (indexes_with dumps (codes "DSDT")) 1 ≡ Some index)
+RefusesPlace dumps index _ = ⊥
+
+abbrev pub RefusesOrder : List Dump → Option ℕ → Bad → Type 0
+RefusesOrder dumps None bad = RefusesAll dumps bad
+RefusesOrder dumps (Some index) bad = RefusesPlace dumps index bad
+
+-- It names the first dump that isn't taken, and says why.
+pub record RefusesBytes (dumps : List Dump) (any_sum : Bool) (fault : TableFault) : Type 0 where
+  pub index : ℕ
+  pub named : fault.dump ≡ Some index
+  pub inside : index < length dumps
+  pub refused : RefusesDump any_sum (bytes_of dumps index) fault.bad
+  pub earlier : (before : ℕ) → before < index → HoldsDump any_sum (bytes_of dumps before)
+
+-- What a refusal says, the first that is met: there are too many dumps, or one isn't taken, or they have no order.
+abbrev pub Refuses : List Dump → Bool → TableFault → Type 0
+Refuses dumps any_sum fault =
+    ((fault.dump ≡ None) × (fault.bad ≡ TooManyTables) × (512 < length dumps))
+    ⊎ ((length dumps ≤ 512) × (RefusesBytes dumps any_sum fault ⊎ (AreTaken dumps any_sum × RefusesOrder dumps fault.dump fault.bad)))

@@ -1,0 +1,60 @@
+//! Numbers at an offset of a table, and the sum of its bytes.
+ghost use Rattle.std.specs.Prelude.{◌≡◌, ◌+◌, ◌<◌, ◌≤◌, length};
+ghost use Rattle.acpi_tables.specs.Bytes.{bytes_at, number_at, begins_with, checksum};
+
+/// The sum of the bytes modulo 256. It is 0 for a table whose checksum is right (ACPI 6.5, section 5.2.6).
+pub fn sum(bytes: &[u8]) -> u8
+    ensures { result ≡ checksum bytes.now }
+{
+    let mut total: u8 = 0;
+    for byte in bytes {
+        total = total.wrapping_add(*byte);
+    }
+    total
+}
+
+/// The bytes at this offset.
+pub(crate) fn array_at<const N: usize>(bytes: &[u8], at: usize) -> [u8; N]
+    requires { at + N ≤ length bytes.now }
+    ensures { result ≡ bytes_at bytes.now at N }
+{
+    match bytes[at..at + N].try_into() {
+        Ok(array) => array,
+        Err(_) => unreachable!(),
+    }
+}
+
+pub(crate) fn u16_at(bytes: &[u8], at: usize) -> u16
+    requires { at + 2 ≤ length bytes.now }
+    ensures { result ≡ number_at bytes.now at 2 }
+{
+    u16::from_le_bytes(array_at(bytes, at))
+}
+
+pub(crate) fn u32_at(bytes: &[u8], at: usize) -> u32
+    requires { at + 4 ≤ length bytes.now }
+    ensures { result ≡ number_at bytes.now at 4 }
+{
+    u32::from_le_bytes(array_at(bytes, at))
+}
+
+pub(crate) fn u64_at(bytes: &[u8], at: usize) -> u64
+    requires { at + 8 ≤ length bytes.now }
+    ensures { result ≡ number_at bytes.now at 8 }
+{
+    u64::from_le_bytes(array_at(bytes, at))
+}
+
+pub(crate) fn u8_at(bytes: &[u8], at: usize) -> u8
+    requires { at < length bytes.now }
+    ensures { result ≡ number_at bytes.now at 1 }
+{
+    bytes[at]
+}
+
+/// Whether the bytes begin with this word, as a signature.
+pub(crate) fn begins_with(bytes: &[u8], word: &[u8]) -> bool
+    ensures { result ≡ begins_with bytes.now word.now }
+{
+    bytes.starts_with(word)
+}

@@ -1,0 +1,161 @@
+//! The order of the definition blocks where addresses lead from the RSDP over the XSDT and the FADT to the DSDT.
+ghost use Rattle.std.specs.Prelude.{◌≡◌, ◌⊎◌, ◌<◌, ◌≤◌, ℕ, List, None, true, length, filter, find, codes, MatchOption, IfOk, IfErr};
+ghost use Rattle.acpi_tables.specs.Bytes.{number_at};
+ghost use Rattle.acpi_tables.specs.Header.{HoldsTable, table_of};
+ghost use Rattle.acpi_tables.specs.Rsdp.{HoldsRoot, revision_of};
+ghost use Rattle.acpi_tables.specs.Xsdt.{HoldsEntries};
+ghost use Rattle.acpi_tables.specs.Fadt.{HoldsFadt};
+ghost use Rattle.acpi_tables.specs.Order.{AreTaken, IsChained, RefusesOrder, bytes_of, dump_at, signed_at, root_of, listed_by, dsdt_address, each_once, has_signature, is_addressed};
+ghost use Rattle.acpi_tables.specs.declared.fault.Bad.TheVariants.{NoMemory};
+
+use crate::bytes::{begins_with, u8_at, u32_at, u64_at};
+use crate::dump::{Dump, table_of};
+use crate::fadt::Fadt;
+use crate::fault::{Bad, TableFault};
+use crate::order::Order;
+use crate::rsdp::RSDP_SIGNATURE;
+use crate::xsdt::Xsdt;
+use std::alloc::{AllocError, Global};
+
+/// The order that the chain gives.
+pub(crate) fn order_by_chain(alloc: Global, dumps: &[Dump]) -> Result<Order, TableFault>
+    requires each { AreTaken dumps.now true }
+    requires addressed { is_addressed dumps.now ≡ true }
+    ensures order { IfOk result (λ order. IsChained dumps.now order.dsdt order.ssdts.items) }
+    ensures refused { IfErr result (λ fault. (fault ≡ record { dump = None; bad = NoMemory }) ⊎ RefusesOrder dumps.now fault.dump fault.bad) }
+{
+    let Some(root) = root_of(dumps) else {
+        return Err(TableFault::of_set(Bad::RootMissing));
+    };
+    let Some(address) = xsdt_address(bytes_of(dumps, root)) else {
+        return Err(TableFault::of_dump(root, Bad::OldRoot));
+    };
+    let Some(xsdt) = signed_at(dumps, b"XSDT", address) else {
+        return Err(TableFault::of_dump(root, Bad::RootMissing));
+    };
+    let listed = listed_by(alloc, dumps, xsdt)?;
+    let Some(fadt) = first_with(dumps, &listed, b"FACP") else {
+        return Err(TableFault::of_dump(xsdt, Bad::FadtMissing));
+    };
+    let Some(dsdt) = signed_at(
+        dumps,
+        b"DSDT",
+        dsdt_address(table_of(bytes_of(dumps, fadt))),
+    ) else {
+        return Err(TableFault::of_set(Bad::NoDsdt));
+    };
+    Ok(Order {
+        dsdt,
+        ssdts: each_with(alloc, dumps, &listed, b"SSDT")?,
+    })
+}
+
+/// The bytes of the dump at this index, and none past the last.
+fn bytes_of(dumps: &[Dump], index: usize) -> &[u8]
+    ensures { result.now ≡ bytes_of dumps.now index }
+{
+    match dumps.get(index) {
+        Some(dump) => &dump.bytes,
+        None => &[],
+    }
+}
+
+/// The first RSDP.
+#[tactic(auto, unfolding(crate::specs::Order::root_of))]
+fn root_of(dumps: &[Dump]) -> Option<usize>
+    ensures { result ≡ root_of dumps.now }
+{
+    dumps
+        .iter()
+        .position(|dump| dump.has_signature(&RSDP_SIGNATURE))
+}
+
+/// The XSDT's address in an RSDP, which it has from revision 2 on.
+fn xsdt_address(root: &[u8]) -> Option<u64>
+    requires { HoldsRoot root.now }
+    ensures { MatchOption result (revision_of root.now < 2) (λ address. (2 ≤ revision_of root.now) × (address ≡ number_at root.now 24 8)) }
+{
+    if u8_at(root, 15) < 2 {
+        None
+    } else {
+        Some(u64_at(root, 24))
+    }
+}
+
+/// The first dump at this address.
+#[tactic(auto, unfolding(crate::specs::Order::dump_at))]
+fn dump_at(dumps: &[Dump], address: u64) -> Option<usize>
+    ensures { result ≡ dump_at dumps.now address }
+{
+    dumps.iter().position(|dump| dump.stands_at(address))
+}
+
+/// The first dump at this address, if it has this signature.
+fn signed_at(dumps: &[Dump], signature: &[u8], address: u64) -> Option<usize>
+    ensures { result ≡ signed_at dumps.now signature.now address }
+{
+    let index = dump_at(dumps, address)?;
+    if begins_with(bytes_of(dumps, index), signature) {
+        Some(index)
+    } else {
+        None
+    }
+}
+
+/// The dumps that an XSDT lists, in its order.
+fn listed_by(alloc: Global, dumps: &[Dump], xsdt: usize) -> Result<Vec<usize>, AllocError>
+    requires table { HoldsTable (bytes_of dumps.now xsdt) }
+    requires entries { HoldsEntries (table_of (bytes_of dumps.now xsdt)) }
+    ensures { IfOk result (λ listed. listed.items ≡ listed_by dumps.now xsdt) }
+{
+    let table = table_of(bytes_of(dumps, xsdt));
+    let mut listed = Vec::new(alloc);
+    for index in 0..Xsdt::entry_count(table) {
+        if let Some(dump) = dump_at(dumps, u64_at(table, 36 + 8 * index)) {
+            listed.push(dump)?;
+        }
+    }
+    Ok(listed)
+}
+
+/// The first of these dumps that has this signature.
+fn first_with(dumps: &[Dump], listed: &[usize], signature: &[u8]) -> Option<usize>
+    ensures { result ≡ find (has_signature dumps.now signature.now) listed.now }
+{
+    listed
+        .iter()
+        .copied()
+        .find(|index| begins_with(bytes_of(dumps, *index), signature))
+}
+
+/// The DSDT's address in a FADT.
+fn dsdt_address(table: &[u8]) -> u64
+    requires { HoldsFadt table.now }
+    ensures { result ≡ dsdt_address table.now }
+{
+    if table.len() >= 148 {
+        let address = u64_at(table, 140);
+        if address != 0 {
+            return address;
+        }
+    }
+    u64::from(u32_at(table, 40))
+}
+
+/// Those of these dumps that have this signature, each where it stands first.
+fn each_with(
+    alloc: Global,
+    dumps: &[Dump],
+    listed: &[usize],
+    signature: &[u8],
+) -> Result<Vec<usize>, AllocError>
+    ensures { IfOk result (λ found. found.items ≡ each_once (filter (has_signature dumps.now signature.now) listed.now)) }
+{
+    let mut found = Vec::new(alloc);
+    for index in listed {
+        if begins_with(bytes_of(dumps, *index), signature) && !found.contains(index) {
+            found.push(*index)?;
+        }
+    }
+    Ok(found)
+}

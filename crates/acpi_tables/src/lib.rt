@@ -1,0 +1,27 @@
+//! The system description tables of ACPI, and the order in which their definition blocks are loaded.
+#![tactic(auto)]
+
+mod bytes;
+mod chain;
+mod dump;
+mod fadt;
+mod fault;
+mod header;
+mod madt;
+mod names;
+mod order;
+mod rsdp;
+mod xsdt;
+
+pub use bytes::sum;
+pub use dump::{Dump, Kind, MAX_DUMP_BYTES};
+pub use fadt::Fadt;
+pub use fault::{Bad, TableFault};
+pub use header::Header;
+pub use madt::{Madt, MadtRecord, MadtView};
+pub use order::{MAX_DUMPS, Order, load_order};
+pub use rsdp::{RSDP_SIGNATURE, Rsdp, Wide};
+pub use xsdt::Xsdt;
+
+#[cfg(test)]
+mod tests;

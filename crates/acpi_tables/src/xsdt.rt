@@ -1,0 +1,58 @@
+//! The addresses of the other tables (ACPI 6.5, section 5.2.8).
+ghost use Rattle.std.specs.Prelude.{◌≡◌, ◌⊎◌, ◌↔◌, IsTrue, IfOk, IfErr, OnOk};
+ghost use Rattle.acpi_tables.specs.Xsdt.{HoldsEntries, entries_of, entry_in, entry_count};
+ghost use Rattle.acpi_tables.specs.declared.fault.Bad.TheVariants.{BadRoot, NoMemory};
+
+use crate::bytes::u64_at;
+use crate::fault::Bad;
+use std::alloc::Global;
+
+/// The readers of an Extended System Description Table.
+pub struct Xsdt;
+
+impl Xsdt {
+    /// The addresses that an XSDT lists. `table` is the first Length bytes of a dump.
+    ///
+    /// # Errors
+    /// `Bad::BadRoot` where the table has fewer than 36 bytes, or those after 36 aren't a multiple of 8.
+    pub fn entries(alloc: Global, table: &[u8]) -> Result<Vec<u64>, Bad>
+        ensures holds { OnOk result (HoldsEntries table.now) }
+        ensures entries { IfOk result (λ entries. entries.items ≡ entries_of table.now) }
+        ensures bad_root { IfErr result (λ bad. (bad ≡ NoMemory) ⊎ ((bad ≡ BadRoot) × ¬ HoldsEntries table.now)) }
+    {
+        if !Xsdt::holds_entries(table) {
+            return Err(Bad::BadRoot);
+        }
+        let count = Xsdt::entry_count(table);
+        let mut entries = Vec::with_capacity(alloc, count)?;
+        for index in 0..count {
+            entries.push(u64_at(table, 36 + 8 * index))?;
+        }
+        Ok(entries)
+    }
+
+    /// The member of `entries` at this index. It takes no memory, and is `None` where `entries` refuses the table.
+    pub fn entry(table: &[u8], index: usize) -> Option<u64>
+        ensures { result ≡ entry_in table.now index }
+    {
+        if !Xsdt::holds_entries(table) || index >= Xsdt::entry_count(table) {
+            return None;
+        }
+        Some(u64_at(table, 36 + 8 * index))
+    }
+
+    /// Whether `entries` takes this table.
+    pub(crate) fn holds_entries(table: &[u8]) -> bool
+        ensures { IsTrue result ↔ HoldsEntries table.now }
+    {
+        table.len() >= 36 && (table.len() - 36) % 8 == 0
+    }
+
+    /// How many addresses a table lists.
+    pub(crate) fn entry_count(table: &[u8]) -> usize
+        requires { HoldsEntries table.now }
+        ensures { result ≡ entry_count table.now }
+    {
+        (table.len() - 36) / 8
+    }
+}
