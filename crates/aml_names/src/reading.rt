@@ -88,6 +88,7 @@ fn count_of(end: u32, bytes: &[u8]) -> Result<(u8, &[u8]), CodeFault>
     }
 }
 
+/// A NameSeg, by its four characters.
 #[tactic(auto, unfolding(crate::specs::NameReading::segment_at))]
 fn segment_of(end: u32, bytes: &[u8]) -> Result<(Seg, &[u8]), CodeFault>
     ensures { Gives (λ x. (x.0, x.1.now)) result (segment_at end bytes.now) }
@@ -99,6 +100,7 @@ fn segment_of(end: u32, bytes: &[u8]) -> Result<(Seg, &[u8]), CodeFault>
     Ok((Seg([a, b, c, d]), rest))
 }
 
+/// So many NameSegs.
 #[tactic(auto, using(crate::proofs::NameLoops::segments_fail))]
 fn segments_of(alloc: Global, count: u8, end: u32, bytes: &[u8]) -> Result<(Segs, &[u8]), CodeFault>
     ensures { Gives (λ x. (x.0, x.1.now)) result (segments_at count end bytes.now) }
@@ -113,7 +115,7 @@ fn segments_of(alloc: Global, count: u8, end: u32, bytes: &[u8]) -> Result<(Segs
     Ok((segs, rest))
 }
 
-/// How the segments are spelled, and how many there are.
+/// How the segments of a NamePath are spelled, and how many there are. What is left begins with the first of them.
 #[tactic(auto, unfolding(crate::specs::NameReading::form_at))]
 fn form_of(end: u32, bytes: &[u8]) -> Result<(NameForm, u8, &[u8]), CodeFault>
     ensures { Gives (λ x. ((x.0, x.1), x.2.now)) result (form_at end bytes.now) }
@@ -130,6 +132,7 @@ fn form_of(end: u32, bytes: &[u8]) -> Result<(NameForm, u8, &[u8]), CodeFault>
     }
 }
 
+/// The NamePath behind these prefixes, and so the whole name.
 #[tactic(auto, unfolding(crate::specs::NameReading::path_at))]
 fn path_of(
     alloc: Global,

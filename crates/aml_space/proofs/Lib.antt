@@ -1,0 +1,5 @@
+pub mod Stands
+mod Upward
+mod Rank
+mod Ranked
+mod Ordered

@@ -1,0 +1,20 @@
+//! The ACPI namespace: what the tables declare, where a name leads, and how many arguments it takes.
+//!
+//! It follows the ACPI Specification 6.5, section 5.3 (the namespace) and section 5.3.1 (the predefined names).
+#![tactic(auto)]
+
+mod bodies;
+mod entries;
+mod faults;
+mod kinds;
+mod predefined;
+mod searching;
+mod spaces;
+
+pub use bodies::BodyScope;
+pub use faults::SpaceFault;
+pub use kinds::Kind;
+pub use spaces::{Space, SpaceRow};
+
+#[cfg(test)]
+mod tests;

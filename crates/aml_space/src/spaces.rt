@@ -1,0 +1,158 @@
+//! The namespace that tables make.
+ghost use Rattle.std.specs.Prelude.{◌≡◌, slice_get, [], ◌∷◌, ◌++◌, List, Option, ◌⊎◌, OnOk, OnErr, IfOk, IfErr, IsTrue};
+ghost use Rattle.std.specs.Option.{option_map, option_copied};
+ghost use Rattle.std.specs.FinMap as map;
+ghost use Rattle.aml_space.specs.Entries.{Entry, Body, declares, external as outside};
+ghost use Rattle.aml_space.specs.Namespace.{kind_at, count_at, namespace_of};
+ghost use Rattle.aml_space.specs.Known.{StandsFor, nothing_known, with_declared, with_external, is_declared as declared_yet, namespace_in};
+ghost use Rattle.aml_space.specs.Listed.{row_pair, row_pairs};
+ghost use Rattle.aml_space.specs.Rows.{AreRows};
+
+use crate::entries::{Kept, declared_in, outs_in, row_in};
+use crate::faults::SpaceFault;
+use crate::kinds::Kind;
+use crate::predefined::Predefined;
+use aml_names::{NoMemory, Path};
+use std::alloc::Global;
+use std::marker::Model;
+
+/// The namespace of the tables so far: what they declare, and what Externals name, over the predefined names.
+#[derive(Debug, Drop)]
+pub struct Space {
+    entries: Vec<Kept>,
+    predefined: Predefined,
+}
+
+impl Model for Space {
+    ghost use Rattle.aml_space.specs.Known.{Known, coded_known};
+
+    ghost Value = { Known };
+
+    ghost coded = { coded_known };
+
+    ghost use Rattle.aml_space.specs.Listed.{known_by, entries_of, IsDistinct};
+
+    ghost view = { λ s. known_by s.entries.items };
+
+    ghost invariant = { λ s. IsDistinct (entries_of s.entries.items) };
+}
+
+/// A declared path and its kind.
+#[derive(Debug, Drop, PartialEq, Eq)]
+pub struct SpaceRow {
+    pub path: Path,
+    pub kind: Kind,
+}
+
+impl Space {
+    /// The predefined names alone (ACPI 6.5, 5.3.1 and 5.7).
+    pub fn new(alloc: Global) -> Result<Space, NoMemory>
+        ensures known { IfOk result (λ space. space ≡ nothing_known) }
+        ensures stands { IfOk result (λ space. StandsFor space []) }
+    {
+        Ok(Space {
+            entries: Vec::new(alloc),
+            predefined: Predefined::new(),
+        })
+    }
+
+    /// Declares a path. It may be that of a predefined name, once. `Duplicate` where the path is declared already.
+    /// A refused declaration changes nothing.
+    pub fn declare(&mut self, path: Path, kind: Kind) -> Result<(), SpaceFault>
+        ensures ok { OnOk result (self.new ≡ with_declared self.old path kind) }
+        ensures stands { (es : List Entry) (body : Option Body) → StandsFor self.old es → OnOk result (StandsFor self.new (es ++ declares path kind body ∷ [])) }
+        ensures err { OnErr result (self.new ≡ self.old) }
+        ensures only_then { IfErr result (λ e. (e ≡ SpaceFault.NoMemory) ⊎ ((e ≡ SpaceFault.Duplicate path) × IsTrue (declared_yet self.old path))) }
+        ensures duplicate { IsTrue (declared_yet self.old path) → result ≡ Err (SpaceFault.Duplicate path) }
+    {
+        if self.is_declared(&path) {
+            return Err(SpaceFault::Duplicate(path));
+        }
+        self.entries.push(Kept::Declares { path, kind })?;
+        Ok(())
+    }
+
+    /// Adds an External: it names a path and says how many arguments this takes, 0 to 7 (ACPI 6.5, 20.2.5.2). Many of one
+    /// path may stand. A refused External changes nothing.
+    pub fn external(&mut self, path: Path, count: u8) -> Result<(), NoMemory>
+        ensures ok { OnOk result (self.new ≡ with_external self.old path count) }
+        ensures stands { (es : List Entry) → StandsFor self.old es → OnOk result (StandsFor self.new (es ++ outside path count ∷ [])) }
+        ensures err { OnErr result (self.new ≡ self.old) }
+    {
+        self.entries.push(Kept::External { path, count })?;
+        Ok(())
+    }
+
+    fn is_declared(&self, path: &Path) -> bool
+        ensures { result ≡ declared_yet self.now path.now }
+    {
+        self.declared(path).is_some()
+    }
+
+    /// The kind with which a path is declared.
+    fn declared(&self, path: &Path) -> Option<&Kind>
+        ensures { option_copied result ≡ map.get self.now.kinds path.now }
+    {
+        declared_in(self.entries.as_slice(), path)
+    }
+
+    /// The greatest count of a path's Externals.
+    pub(crate) fn outs(&self, path: &Path) -> Option<u8>
+        ensures { result ≡ map.get self.now.outs path.now }
+    {
+        outs_in(self.entries.as_slice(), path)
+    }
+
+    /// The kind of a path: the declared one, else the predefined one.
+    #[tactic(auto, using(crate::proofs::Stands::kind_listed))]
+    pub fn kind(&self, path: &Path) -> Option<&Kind>
+        ensures known { option_copied result ≡ kind_at (namespace_in self.now) path.now }
+        ensures listed { (es : List Entry) → StandsFor self.now es → option_copied result ≡ kind_at (namespace_of es) path.now }
+    {
+        match self.declared(path) {
+            Some(kind) => Some(kind),
+            None => self.predefined.kind(path.segs()),
+        }
+    }
+
+    /// How many arguments a path takes: those of a method, also through an Alias; none for another kind. Where the path has
+    /// no kind, the greatest count of its Externals. Nothing where no table names it.
+    #[tactic(auto, using(crate::proofs::Stands::count_listed))]
+    pub fn count(&self, path: &Path) -> Option<u8>
+        ensures known { result ≡ count_at (namespace_in self.now) path.now }
+        ensures listed { (es : List Entry) → StandsFor self.now es → result ≡ count_at (namespace_of es) path.now }
+    {
+        match self.kind(path) {
+            None => self.outs(path),
+            Some(Kind::Method { args }) => Some(*args),
+            Some(Kind::Alias { target }) => match self.kind(target) {
+                None => Some(self.outs(target).unwrap_or(0)),
+                Some(Kind::Method { args }) => Some(*args),
+                Some(_) => Some(0),
+            },
+            Some(_) => Some(0),
+        }
+    }
+
+    /// The declared path at a place in the order of the paths, with its kind. Paths are ordered by their segments as bytes,
+    /// a shorter path before those that it begins. The predefined names that nothing replaced aren't among them.
+    pub fn row_at(&self, index: usize) -> Option<(&Path, &Kind)>
+        ensures { option_map row_pair result ≡ slice_get (map.entries self.now.kinds) index }
+    {
+        row_in(self.entries.as_slice(), index)
+    }
+
+    /// The declared paths in order, each once, with its kind.
+    pub fn rows(&self, alloc: Global) -> Result<Vec<SpaceRow>, NoMemory>
+        ensures known { IfOk result (λ rows. row_pairs rows.items ≡ map.entries self.now.kinds) }
+        ensures listed { (es : List Entry) → StandsFor self.now es → IfOk result (λ rows. AreRows es (row_pairs rows.items)) }
+    {
+        let mut rows = Vec::new(alloc);
+        'rows: while let Some((path, kind)) = self.row_at(rows.len()) {
+            let path = path.clone()?;
+            let kind = kind.clone()?;
+            rows.push(SpaceRow { path, kind })?;
+        }
+        Ok(rows)
+    }
+}

@@ -1,0 +1,4 @@
+mod compared;
+mod fixtures;
+mod plain;
+mod worked;
