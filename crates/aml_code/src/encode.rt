@@ -128,13 +128,14 @@ fn encode_opcode(opcode: u16, out: &mut Vec<u8>) -> Result<(), NoMemory>
     Ok(())
 }
 
-fn encode_span(code: &[u8], start: u32, len: u32, out: &mut Vec<u8>) -> Result<(), NoMemory>
-    ensures { OnOk result (out.new.items ≡ out.old.items ++ slice_of code.now start len) }
+/// So many bytes of the code from an offset on, as far as the code has them.
+pub fn slice(code: &[u8], start: u32, len: u32) -> &[u8]
+    ensures { result.now ≡ slice_of code.now start len }
 {
     let start = (start as usize).min(code.len());
     let behind = &code[start..];
     let len = (len as usize).min(behind.len());
-    out.extend_from_slice(&behind[..len])
+    &behind[..len]
 }
 
 #[cycle(encode)]
@@ -226,7 +227,7 @@ fn encode_tail(code: &[u8], tail: &Tail, out: &mut Vec<u8>) -> Result<(), NoMemo
         Tail::Bytes(bytes) => out.extend_from_slice(bytes.as_slice()),
         Tail::Elements(nodes) => encode_nodes(code, nodes.as_slice(), out),
         Tail::Fields(fields) => encode_fields(code, fields.as_slice(), out),
-        Tail::Body { start, len } => encode_span(code, *start, *len, out),
+        Tail::Body { start, len } => out.extend_from_slice(slice(code, *start, *len)),
     }
 }
 

@@ -16,10 +16,10 @@ pub use aml_names::{
     Arity, CodeFault, Locals, Name, NameForm, NoMemory, Path, Seg, Segs, byte_of, offset_of, place,
 };
 pub use bytes_of::Bytes;
-pub use encode::encode_terms;
+pub use encode::{encode_terms, slice};
 pub use packages::{PkgWidth, length_of, little_of, read_pkg, span_of};
 pub use rows::{Declares, Group, OpRow, PartKind, Place, Position, Shape, TailKind, takes};
-pub use table::row;
+pub use table::{listed_row, row};
 pub use tree::{Field, Link, Node, Part, Tail};
 
 #[cfg(test)]

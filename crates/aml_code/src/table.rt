@@ -1,5 +1,6 @@
 //! The table of opcodes.
 ghost use Rattle.std.specs.Prelude.{◌≡◌, ◌==◌, find};
+ghost use Rattle.std.specs.Option.{option_copied};
 ghost use Rattle.aml_code.specs.Rows.{row_of};
 
 use crate::rows::{Declares, Group, OpRow, Place, Shape, TailKind};
@@ -51,10 +52,17 @@ pub static ROWS: [OpRow; 28] = rows! {
     0xFF b"Ones                  " Value       Data        Bare Empty Nothing;
 };
 
-/// The row of an opcode, if it has one.
+/// The row of an opcode where it stands in the table, if it has one.
 #[tactic(auto, unfolding(crate::specs::Rows::row_of))]
+pub fn listed_row(opcode: u16) -> Option<&'static OpRow>
+    ensures { option_copied result ≡ row_of opcode }
+{
+    ROWS.iter().find(|row| row.opcode == opcode)
+}
+
+/// The row of an opcode, if it has one.
 pub fn row(opcode: u16) -> Option<OpRow>
     ensures { result ≡ row_of opcode }
 {
-    ROWS.iter().copied().find(|row| row.opcode == opcode)
+    listed_row(opcode).copied()
 }

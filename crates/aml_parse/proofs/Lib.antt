@@ -6,3 +6,4 @@ pub mod Again
 pub mod Placed
 pub mod Readings
 pub mod Loops
+pub mod Bare

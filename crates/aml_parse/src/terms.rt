@@ -1,7 +1,8 @@
 //! Terms, and what is inside them.
-ghost use Rattle.std.specs.Prelude.{◌≡◌, length};
+ghost use Rattle.std.specs.Prelude.{◌≡◌, None, length};
 ghost use Rattle.aml_names.specs.Steps.{Gives};
 ghost use Rattle.aml_code.specs.Lawful.{is_guard, is_if, next_position, terms_in};
+ghost use Rattle.aml_code.specs.Tree.{op, no_parts, empty};
 ghost use Rattle.aml_code.specs.View.{node_view, nodes_view, part_view, parts_view, tail_view};
 ghost use Rattle.aml_parse.specs.Contexts.{scope_of};
 ghost use Rattle.aml_parse.specs.Reading.{child_at, opcode_at, refused_in_body, refusal, is_none, takes_names, guard_at, part_at, parts_at, arguments_at, terms_at, call_at, name_term_at, tail_at, plain_at, packed_at, by_row, row_at, operation_at, read_at};
@@ -12,10 +13,11 @@ use crate::flat::{
     text_part_of, word_part_of,
 };
 use aml_code::{
-    Arity, Bytes, CodeFault, Locals, Node, OpRow, Part, PartKind, Place, Position, Tail, TailKind,
-    byte_of, offset_of, row, span_of, takes,
+    Arity, Bytes, CodeFault, Declares, Locals, Node, OpRow, Part, PartKind, Place, Position, Shape,
+    Tail, TailKind, byte_of, listed_row, offset_of, span_of, takes,
 };
 use aml_names::{is_name_lead, name_of};
+use std::alloc::Global;
 
 /// An opcode: one byte, or 5B and a second.
 #[tactic(auto, unfolding(crate::specs::Reading::opcode_at))]
@@ -91,7 +93,7 @@ fn is_if(node: &Node) -> bool
     match node {
         Node::Nothing => false,
         Node::Named { .. } => false,
-        Node::Op { opcode, .. } => match row(*opcode) {
+        Node::Op { opcode, .. } => match listed_row(*opcode) {
             None => false,
             Some(row) => row.place == Place::If,
         },
@@ -232,24 +234,36 @@ fn operation<'b, A: Arity>(
 {
     let (opcode, rest) = opcode_of(end, bytes)?;
     let at = offset_of(end, bytes);
-    match row(opcode) {
+    match listed_row(opcode) {
         None => Err(CodeFault::UnknownOp { at }),
         Some(row) => {
             if !takes(position, row.place) {
                 return Err(refusal(position, row.place, at));
             }
             if row.has_length() {
-                packed(context, levels, position, at, &row, end, locals, rest)
+                packed(context, levels, position, at, row, end, locals, rest)
             } else {
-                plain(context, levels, &row, end, locals, rest)
+                plain(context, levels, row, end, locals, rest)
             }
         }
     }
 }
 
-/// An opcode without a package length.
+/// An opcode with nothing behind it.
+fn bare(alloc: Global, opcode: u16) -> Node
+    ensures { node_view result ≡ op opcode None no_parts empty }
+{
+    Node::Op {
+        opcode,
+        width: None,
+        parts: Vec::new(alloc),
+        tail: Tail::Empty,
+    }
+}
+
+/// An opcode without a package length. Most have no parts and declare nothing, and so need no list of parts.
 #[cycle(terms)]
-#[tactic(auto, unfolding(crate::specs::Reading::plain_at))]
+#[tactic(auto, unfolding(crate::specs::Reading::plain_at), using(crate::proofs::Bare::plain_bare))]
 fn plain<'b, A: Arity>(
     context: &Context<'_, A>,
     levels: u16,
@@ -260,6 +274,9 @@ fn plain<'b, A: Arity>(
 ) -> Result<(Node, &'b [u8]), CodeFault>
     ensures { Gives (λ x. (node_view x.0, locals.new, x.1.now)) result (plain_at (scope_of context.now.scope) (read_at (A.arity context.now.arity.now) (scope_of context.now.scope) levels) row.now end locals.old bytes.now) }
 {
+    if row.shape == Shape::Bare && row.declares == Declares::Nothing {
+        return Ok((bare(context.alloc, row.opcode), bytes));
+    }
     let (parts, rest) = parts(context, levels, row.shape.parts(), end, locals, bytes)?;
     let tail = Tail::Empty;
     context.declare(row.declares, parts.as_slice(), &tail, locals)?;

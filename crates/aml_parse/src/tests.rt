@@ -1,5 +1,5 @@
 //! Bodies and tables by hand.
-ghost use Rattle.std.specs.Prelude.{Some};
+ghost use Rattle.std.specs.Prelude.{Some, None};
 
 use super::*;
 use aml_code::{
@@ -24,6 +24,23 @@ impl Arity for Each {
         _name: &Name,
     ) -> Result<Option<u8>, NoMemory> {
         Ok(Some(self.count))
+    }
+}
+
+/// No name leads anywhere.
+#[derive(Clone, Copy)]
+struct Nowhere;
+
+impl Arity for Nowhere {
+    ghost arity = { λ _ _ _. None };
+
+    fn count(
+        &self,
+        _alloc: Global,
+        _locals: &Locals,
+        _name: &Name,
+    ) -> Result<Option<u8>, NoMemory> {
+        Ok(None)
     }
 }
 
@@ -232,9 +249,152 @@ fn levels(rt: HostRuntime) -> Result<(), Fail> {
         body_fault(rt.alloc(), &code, 0),
         Some(CodeFault::TooDeep { at: 512 })
     );
+    code.truncate(512);
     assert_eq!(rt;
-        body_fault(rt.alloc(), &code[..512], 0),
+        body_fault(rt.alloc(), &code, 0),
         Some(CodeFault::Truncated { at: 512 })
     );
+    Ok(())
+}
+
+/// Whether the terms of a table have the bytes that they were read from.
+fn table_goes_back(alloc: Global, code: &[u8]) -> Result<bool, Fail> {
+    if code.len() > 16_777_216 {
+        return Ok(false);
+    }
+    let nodes = parse_module(alloc, code).ok().ok_or("the table is lawful")?;
+    let bytes = encode_terms(alloc, code, &nodes)?;
+    Ok(bytes.as_slice() == code)
+}
+
+#[test]
+fn a_call_has_its_arguments(rt: HostRuntime) -> Result<(), Fail> {
+    // BBBB (One, 0x05), and then Zero
+    let code = [0x42, 0x42, 0x42, 0x42, 0x01, 0x0A, 0x05, 0x00];
+    assert_eq!(rt; code.len(), 8);
+    let nodes = parse_body(
+        rt.alloc(),
+        &code,
+        &Each { count: 2 },
+        &Path::root(rt.alloc()),
+    )
+    .ok()
+    .ok_or("the body is lawful")?;
+    assert_eq!(rt; nodes.len(), 2);
+    match &nodes[0] {
+        Node::Named { name, args } => {
+            assert_eq!(rt; name.segs.len(), 1);
+            assert_eq!(rt; args.len(), 2);
+        }
+        _ => assert!(rt; false),
+    }
+    assert!(rt;
+        matches!(
+            &nodes[1],
+            Node::Op {
+                opcode: 0x00,
+                width: None,
+                ..
+            }
+        )
+    );
+    Ok(())
+}
+
+#[test]
+fn a_target_has_no_arguments(rt: HostRuntime) -> Result<(), Fail> {
+    // Store (One, BAR_), where names take two arguments each
+    assert!(rt; goes_back(rt.alloc(), &[0x70, 0x01, 0x42, 0x41, 0x52, 0x5F], 2)?);
+    let code = [0x72, 0x60, 0x61, 0x00];
+    assert_eq!(rt; code.len(), 4);
+    let nodes = parse_body(
+        rt.alloc(),
+        &code,
+        &Each { count: 2 },
+        &Path::root(rt.alloc()),
+    )
+    .ok()
+    .ok_or("the body is lawful")?;
+    assert_eq!(rt; nodes.len(), 1);
+    match &nodes[0] {
+        Node::Op { parts, .. } => {
+            assert_eq!(rt; parts.len(), 3);
+            assert!(rt; matches!(&parts[2], Part::Child(Node::Nothing)));
+        }
+        _ => assert!(rt; false),
+    }
+    Ok(())
+}
+
+#[test]
+fn tables_go_back(rt: HostRuntime) -> Result<(), Fail> {
+    assert!(rt; table_goes_back(rt.alloc(), &[])?);
+    // Name (FOO_, 0x05)
+    assert!(rt; table_goes_back(rt.alloc(), &[0x08, 0x46, 0x4F, 0x4F, 0x5F, 0x0A, 0x05])?);
+    // Name (FOO_, \BAR_)
+    assert!(rt;
+        table_goes_back(
+            rt.alloc(),
+            &[0x08, 0x46, 0x4F, 0x4F, 0x5F, 0x5C, 0x42, 0x41, 0x52, 0x5F]
+        )?
+    );
+    // two methods, the first with a length of four bytes, the second without a term
+    assert!(rt;
+        table_goes_back(
+            rt.alloc(),
+            &[
+                0x14, 0xCB, 0x00, 0x00, 0x00, 0x46, 0x4F, 0x4F, 0x5F, 0x01, 0xA4, 0x68, 0x14, 0x06,
+                0x42, 0x41, 0x52, 0x5F, 0x00
+            ]
+        )?
+    );
+    Ok(())
+}
+
+#[test]
+fn the_innermost_end_counts(rt: HostRuntime) {
+    let alloc = rt.alloc();
+    // a Method's span that ends before its flags
+    assert_eq!(rt;
+        module_fault(alloc, &[0x14, 0x05, 0x46, 0x4F, 0x4F, 0x5F, 0x01, 0xA4]),
+        Some(CodeFault::Truncated { at: 6 })
+    );
+    // a length that is less than its own bytes
+    assert_eq!(rt;
+        module_fault(alloc, &[0x14, 0x00]),
+        Some(CodeFault::PkgPast { at: 1 })
+    );
+    assert_eq!(rt;
+        module_fault(alloc, &[0x14, 0x41, 0x00]),
+        Some(CodeFault::PkgPast { at: 1 })
+    );
+    assert_eq!(rt;
+        module_fault(alloc, &[0x14, 0x80, 0x00]),
+        Some(CodeFault::Truncated { at: 3 })
+    );
+}
+
+#[test]
+fn names_that_nobody_knows(rt: HostRuntime) {
+    // Return (BBBB)
+    let code = [0xA4, 0x42, 0x42, 0x42, 0x42];
+    assert_eq!(rt; code.len(), 5);
+    let fault = parse_body(rt.alloc(), &code, &Nowhere, &Path::root(rt.alloc())).err();
+    assert_eq!(rt; fault, Some(CodeFault::UnknownName { at: 1 }));
+    // Store (One, BBBB): a target is asked nothing
+    let code = [0x70, 0x01, 0x42, 0x42, 0x42, 0x42];
+    assert_eq!(rt; code.len(), 6);
+    let fault = parse_body(rt.alloc(), &code, &Nowhere, &Path::root(rt.alloc())).err();
+    assert_eq!(rt; fault, None);
+}
+
+#[test]
+fn a_long_body(rt: HostRuntime) -> Result<(), Fail> {
+    // Return (Add (Local0, Local1, )) a hundred thousand times
+    let mut code = Vec::new(rt.alloc());
+    for _ in 0..100_000 {
+        code.extend_from_slice(&[0xA4, 0x72, 0x60, 0x61, 0x00])?;
+    }
+    assert!(rt; goes_back(rt.alloc(), &code, 0)?);
     Ok(())
 }
