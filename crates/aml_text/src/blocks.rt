@@ -16,7 +16,7 @@ use crate::lines::{
 use crate::output::Out;
 use crate::texts::{print_bytes, print_head};
 use crate::words::{print_decimal, print_name, print_quoted};
-use aml_code::{CodeFault, Name, Node, Part, Tail, last_byte, last_name};
+use aml_code::{CodeFault, Name, Node, Part, Tail, last_byte, last_name, slice};
 use std::io::Write;
 
 /// What became of a method's body.
@@ -143,16 +143,6 @@ fn print_method_block<W: Write>(
     print_method_opening(out, level, opcode, parts);
     print_body(out, level.saturating_add(1), bytes, bodies);
     print_closing(out, level);
-}
-
-/// So many bytes of the code from an offset on, as far as the code has them.
-fn slice(code: &[u8], start: u32, len: u32) -> &[u8]
-    ensures { result.now ≡ slice_of code.now start len }
-{
-    let start = (start as usize).min(code.len());
-    let behind = &code[start..];
-    let len = (len as usize).min(behind.len());
-    &behind[..len]
 }
 
 /// The bodies but for the first.

@@ -9,7 +9,9 @@ mod output;
 mod pending;
 mod texts;
 mod words;
+mod writing;
 
 pub use blocks::{Body, print_block};
 pub use output::{Out, WriteFault};
 pub use words::print_quoted;
+pub use writing::write_block;

@@ -6,9 +6,11 @@ ghost use Rattle.aml_text.specs.Prints.{Prints};
 
 use crate::pending::Pending;
 use std::io::Write;
+use thiserror::Error;
 
 /// The writer failed, or took nothing, after it took `wrote` bytes of the text.
-#[derive(Clone, Copy, Debug, Drop, PartialEq, Eq)]
+#[derive(Clone, Copy, Debug, Drop, PartialEq, Eq, Error)]
+#[error("write failed after {wrote} bytes")]
 pub struct WriteFault {
     pub wrote: u64,
 }

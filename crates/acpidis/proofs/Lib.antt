@@ -1,0 +1,5 @@
+pub mod Lines
+pub mod Digits
+pub mod Entries
+pub mod Turns
+pub mod Sets

@@ -1,0 +1,3 @@
+pub mod Loading
+pub mod Bodies
+pub mod Views
