@@ -21,7 +21,10 @@ name_there (one ∷ dumps) (suc index) dump h e = name_there dumps index dump (o
 pub listed_there : (dumps : List Dump) (any_sum unknown_zero : Bool) (dsdt : ℕ) (ssdts : List ℕ) (dump : Dump) (before after : Option (List ℕ))
     → IsOrder dumps any_sum dsdt ssdts → dsdt < length dumps → dump ≡ get_or dumps dsdt dump
     → GainsTable unknown_zero (string_bytes dump.name) (aml_of dump.bytes.items) before after → Gains dumps any_sum unknown_zero before after
-listed_there dumps any_sum unknown_zero dsdt ssdts dump before after order inside there listed =
-    (dsdt, ssdts, order,
-      subst (λ name. GainsTable unknown_zero name (aml_of (bytes_of dumps dsdt)) before after) (sym (name_there dumps dsdt dump inside there))
-        (subst (λ bytes. GainsTable unknown_zero (string_bytes dump.name) (aml_of bytes) before after) (sym (bytes_there dumps dsdt dump inside there)) listed))
+listed_there dumps any_sum unknown_zero dsdt ssdts dump before after order inside there listed = (
+  dsdt,
+  ssdts,
+  order,
+  subst (λ name. GainsTable unknown_zero name (aml_of (bytes_of dumps dsdt)) before after) (sym (name_there dumps dsdt dump inside there))
+      (subst (λ bytes. GainsTable unknown_zero (string_bytes dump.name) (aml_of bytes) before after) (sym (bytes_there dumps dsdt dump inside there)) listed),
+)

@@ -6,7 +6,7 @@ ghost use Rattle.aml_text.specs.Views.{body_view};
 ghost use Rattle.acpidis.specs.Listing.{aml_of, GainsTable};
 
 use acpi_tables::{Bad, Dump, Header};
-use aml_code::{CodeFault, Node, NoMemory};
+use aml_code::{CodeFault, NoMemory, Node};
 use aml_load::{Loaded, load, read_bodies};
 use aml_parse::parse_module;
 use aml_space::SpaceFault;

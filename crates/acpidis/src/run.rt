@@ -88,7 +88,11 @@ fn print_fault<E: Write>(dumps: &[Dump], fault: RunFault, err: &mut E) -> u8
             REFUSED
         }
         RunFault::Block(index, fault) => {
-            let name = if is_memory(&fault) { None } else { name_of(dumps, Some(index)) };
+            let name = if is_memory(&fault) {
+                None
+            } else {
+                name_of(dumps, Some(index))
+            };
             print_refusal(name, &fault, err);
             REFUSED
         }

@@ -1,4 +1,6 @@
 //! Rows of maps, and of names as they are printed.
+mod runs;
+
 use crate::map::{MapFault, parse_map};
 use crate::quoted::Quoted;
 use std::alloc::{AllocError, Global};

@@ -31,7 +31,7 @@ pub body_read : {X : Type 0} (view : X → Trees) (r : Result X CodeFault) (z : 
     → bytes ≡ slice_of code m.start m.len → IfOk r (λ x. ReadsBody (arity_of (namespace_in k) z m.path) m.path bytes (view x)) → IfOk r (λ x. IsBody z es code m (view x))
 body_read view r z k es code bytes m s e h =
     subst (λ b. IfOk r (λ x. ReadsBody (arity_of (namespace_of es) z m.path) m.path b (view x))) e
-      (subst (λ n. IfOk r (λ x. ReadsBody (arity_of n z m.path) m.path bytes (view x))) (namespace_same k es s) h)
+    (subst (λ n. IfOk r (λ x. ReadsBody (arity_of n z m.path) m.path bytes (view x))) (namespace_same k es s) h)
 
 pub methods_append : (es fs : List Entry) → methods_of (es ++ fs) ≡ methods_of es ++ methods_of fs
 methods_append [] fs = refl

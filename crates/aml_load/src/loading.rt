@@ -8,7 +8,7 @@ ghost use Rattle.aml_load.specs.Loading.{flags_of};
 ghost use Rattle.aml_load.specs.Views.{Holds, AddsName, AddsMethod, Adds, Grows, GrowsName, HoldsAll};
 
 use crate::methods::Method;
-use aml_code::{Name, Node, NoMemory, Part, Path, Tail, last_byte, last_name, place};
+use aml_code::{Name, NoMemory, Node, Part, Path, Tail, last_byte, last_name, place};
 use aml_space::{Kind, Space, SpaceFault};
 use std::alloc::Global;
 
@@ -22,11 +22,19 @@ pub struct Loaded {
 }
 
 /// Declares a method at a path.
-fn declare_method(loaded: &mut Loaded, path: Path, flags: u8, start: u32, len: u32) -> Result<(), SpaceFault>
+fn declare_method(
+    loaded: &mut Loaded,
+    path: Path,
+    flags: u8,
+    start: u32,
+    len: u32,
+) -> Result<(), SpaceFault>
     ensures { (es : List Entry) → Holds loaded.old es → OnOk result (AddsMethod loaded.new es path flags start len) }
 {
     let copy = path.clone()?;
-    loaded.space.declare(copy, Kind::Method { args: flags % 8 })?;
+    loaded
+        .space
+        .declare(copy, Kind::Method { args: flags % 8 })?;
     loaded.methods.push(Method { path, start, len })?;
     Ok(())
 }
@@ -46,7 +54,12 @@ fn flags_of(parts: &[Part]) -> u8
 }
 
 /// Declares a path by a term with these parts and this tail.
-fn declare_path(loaded: &mut Loaded, path: Path, parts: &[Part], tail: &Tail) -> Result<(), SpaceFault>
+fn declare_path(
+    loaded: &mut Loaded,
+    path: Path,
+    parts: &[Part],
+    tail: &Tail,
+) -> Result<(), SpaceFault>
     ensures { (es : List Entry) → Holds loaded.old es → OnOk result (Adds loaded.new es path (parts_view parts.now) (tail_view tail.now)) }
 {
     match tail {
@@ -68,7 +81,12 @@ fn place_at_root(alloc: Global, name: &Name) -> Result<Option<Path>, NoMemory>
 
 /// Declares what an opcode with these parts and this tail declares. `AboveRoot` where its name leads above the root,
 /// `Duplicate` where it leads to a path that is declared already.
-fn declare_op(alloc: Global, loaded: &mut Loaded, parts: &[Part], tail: &Tail) -> Result<(), SpaceFault>
+fn declare_op(
+    alloc: Global,
+    loaded: &mut Loaded,
+    parts: &[Part],
+    tail: &Tail,
+) -> Result<(), SpaceFault>
     ensures { (es : List Entry) → Holds loaded.old es → OnOk result (GrowsName loaded.new es (last_label None (parts_view parts.now)) (parts_view parts.now) (tail_view tail.now)) }
 {
     match last_name(parts) {
