@@ -218,6 +218,54 @@ fn a_wrong_sum(rt: HostRuntime) -> Result<(), Fail> {
 }
 
 #[test]
+fn a_wrong_sum_that_is_taken(rt: HostRuntime) -> Result<(), Fail> {
+    let mut dump = dsdt(rt.alloc(), b"")?;
+    if let Some(checksum) = dump.bytes.get_mut(9) {
+        *checksum = 0;
+    }
+    let options = Options {
+        any_sum: true,
+        unknown_zero: false,
+    };
+    assert_run(
+        &rt,
+        dump,
+        options,
+        0,
+        "DefinitionBlock (\"dsdt.dat\") {\n}\n",
+        "",
+    )
+}
+
+#[test]
+fn a_byte_behind_the_table(rt: HostRuntime) -> Result<(), Fail> {
+    let mut dump = dsdt(rt.alloc(), b"\x14\x08FOO_\x01\xA4\x68")?;
+    dump.bytes.push(0xFF)?;
+    assert_run(
+        &rt,
+        dump,
+        OPTIONS,
+        0,
+        "DefinitionBlock (\"dsdt.dat\") {\n  Method (FOO_, 1, NotSerialized, 0) {\n    Return (Arg0)\n  }\n}\n",
+        "",
+    )
+}
+
+#[test]
+fn a_table_without_its_last_byte(rt: HostRuntime) -> Result<(), Fail> {
+    let mut dump = dsdt(rt.alloc(), b"\x14\x08FOO_\x01\xA4\x68")?;
+    dump.bytes.truncate(44);
+    assert_run(
+        &rt,
+        dump,
+        OPTIONS,
+        1,
+        "",
+        "acpidis: table \"dsdt.dat\": Short\n",
+    )
+}
+
+#[test]
 fn too_few_bytes(rt: HostRuntime) -> Result<(), Fail> {
     let mut dump = dsdt(rt.alloc(), b"")?;
     dump.bytes.truncate(35);
