@@ -83,11 +83,23 @@ def many_methods(count: int) -> bytes:
 
 
 def tables():
+    """The name of each table, and what makes it."""
     for name, size in SIZES.items():
-        yield f"dense-{name}", long_body(DENSE, size)
+        yield f"dense-{name}", lambda size=size: long_body(DENSE, size)
     for name, size in SIZES.items():
-        yield f"mixed-{name}", long_body(MIXED, size)
-    yield "methods-20000", many_methods(20_000)
+        yield f"mixed-{name}", lambda size=size: long_body(MIXED, size)
+    yield "methods-20000", lambda: many_methods(20_000)
+
+
+def write(path, make):
+    """Writes a table from a process of its own: a program that is begun later counts this one's peak memory as its own."""
+    child = os.fork()
+    if child == 0:
+        path.write_bytes(make())
+        os._exit(0)
+    os.waitpid(child, 0)
+    assert path.stat().st_size <= MOST_BYTES
+    return path.stat().st_size
 
 
 def run(command, folder, limit):
@@ -135,20 +147,19 @@ def main():
     if compiler is None:
         print("iasl isn't installed: only acpidis is timed", file=sys.stderr)
     work = pathlib.Path(asked.keep or tempfile.mkdtemp())
-    for name, content in tables():
+    for name, make in tables():
         if asked.only not in name:
             continue
-        assert len(content) <= MOST_BYTES
         folder = work / name
         folder.mkdir(parents=True, exist_ok=True)
-        (folder / "dsdt.dat").write_bytes(content)
-        print(f"{name:14} {len(content)} bytes", flush=True)
+        size = write(folder / "dsdt.dat", make)
+        print(f"{name:14} {size} bytes", flush=True)
         if program:
             answer = run([program, str(folder)], folder, asked.seconds)
-            print(line("acpidis", name, len(content), answer, asked.seconds), flush=True)
+            print(line("acpidis", name, size, answer, asked.seconds), flush=True)
         if compiler:
             answer = run([compiler, "-d", "-p", str(work / "listing"), "dsdt.dat"], folder, asked.seconds)
-            print(line("iasl -d", name, len(content), answer, asked.seconds), flush=True)
+            print(line("iasl -d", name, size, answer, asked.seconds), flush=True)
             (work / "listing.dsl").unlink(missing_ok=True)
     if not asked.keep:
         shutil.rmtree(work)
