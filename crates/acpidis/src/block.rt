@@ -1,5 +1,5 @@
 //! The definition block of a table, from its bytes to its text.
-ghost use Rattle.std.specs.Prelude.{◌≡◌, ◌≤◌, length, map, string_bytes, IfOk, OnOk};
+ghost use Rattle.std.specs.Prelude.{◌≡◌, ◌≤◌, ◌<◌, ◌⊎◌, length, map, string_bytes, IfOk, IfErr, OnOk};
 ghost use Rattle.aml_code.specs.View.{nodes_view};
 ghost use Rattle.aml_text.specs.Lines.{read};
 ghost use Rattle.aml_text.specs.Views.{body_view};
@@ -45,6 +45,7 @@ pub enum BlockFault {
 fn aml_in(bytes: &[u8]) -> Result<&[u8], Bad>
     ensures aml { IfOk result (λ aml. aml.now ≡ aml_of bytes.now) }
     ensures bounded { IfOk result (λ aml. length aml.now ≤ 16777216) }
+    ensures refused { IfErr result (λ bad. (bad ≡ Bad.Short) ⊎ (16777216 < length (aml_of bytes.now))) }
 {
     let header = Header::read(bytes)?;
     let table = &bytes[..header.length as usize];
