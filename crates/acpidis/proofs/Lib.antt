@@ -2,4 +2,5 @@ pub mod Lines
 pub mod Digits
 pub mod Entries
 pub mod Turns
-pub mod Sets
+pub mod Dumps
+pub mod SetLaws

@@ -1,2 +1,3 @@
 pub mod Map
 pub mod Listing
+pub mod Sets

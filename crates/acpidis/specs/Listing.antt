@@ -1,12 +1,9 @@
--- What a run prints: the definition block of the DSDT.
-use Rattle.std.specs.Prelude.{◌≡◌, ℕ, Bool, List, [], drop, map, Option}
-use Rattle.std.specs.Io.KnownBytes.{Appends}
-use Rattle.aml_code.specs.Meaning.{ReadsModule}
+-- What a run prints: the definition blocks of a set of dumps.
+use Rattle.std.specs.Prelude.{◌≡◌, ℕ, Bool, List, [], ◌∷◌, drop, map}
 use Rattle.aml_code.specs.Tree.{Trees}
-use Rattle.aml_space.specs.Entries.{Entry}
 use Rattle.aml_load.specs.Bodies.{AreBodies}
-use Rattle.aml_load.specs.Loading.{DeclaresAll, methods_of}
-use Rattle.aml_text.specs.Lines.{read, block_text}
+use Rattle.aml_load.specs.Loading.{Listed, IsLoad, methods_of}
+use Rattle.aml_text.specs.Lines.{read, OneBlock, blocks_text}
 use Rattle.acpi_tables.specs.declared.dump.Dump.{Dump}
 use Rattle.acpi_tables.specs.Header.{table_of}
 use Rattle.acpi_tables.specs.Order.{IsOrder, bytes_of, name_of}
@@ -15,22 +12,33 @@ use Rattle.acpi_tables.specs.Order.{IsOrder, bytes_of, name_of}
 abbrev pub aml_of : List ℕ → List ℕ
 aml_of bytes = drop 36 (table_of bytes)
 
--- The text of one table by its file's name and its AML: the AML reads as terms, these declare the entries, each method's body
+-- the AML of the dumps at these indexes, and the names of their files
+abbrev pub codes_in : List Dump → List ℕ → List (List ℕ)
+codes_in dumps order = map (λ index. aml_of (bytes_of dumps index)) order
+
+abbrev pub names_in : List Dump → List ℕ → List (List ℕ)
+names_in dumps order = map (name_of dumps) order
+
+-- the blocks of tables, by the names of their files, their AML and their terms
+abbrev pub blocks_of : List (List ℕ) → List (List ℕ) → List Trees → List OneBlock
+blocks_of [] codes terms = []
+blocks_of (n ∷ names) [] terms = []
+blocks_of (n ∷ names) (c ∷ codes) [] = []
+blocks_of (n ∷ names) (c ∷ codes) (t ∷ terms) = record { name = n; code = c; terms = t } ∷ blocks_of names codes terms
+
+-- the text of tables, with a body for each method
+abbrev pub tables_text : List (List ℕ) → List (List ℕ) → List Trees → List Trees → List ℕ
+tables_text names codes terms bodies = blocks_text (blocks_of names codes terms) (map read bodies)
+
+-- The text of a set of dumps: its definition blocks have an order, their AML loads to terms and entries, each method's body
 -- reads in the namespace of all entries, and the text shows the terms with the bodies in their places.
-pub record Lists (unknown_zero : Bool) (name aml text : List ℕ) : Type 0 where
-  pub terms : Trees
-  pub entries : List Entry
+pub record Lists (dumps : List Dump) (any_sum unknown_zero : Bool) (text : List ℕ) : Type 0 where
+  pub dsdt : ℕ
+  pub ssdts : List ℕ
+  pub terms : List Trees
+  pub listed : Listed
   pub bodies : List Trees
-  pub reads : ReadsModule aml terms
-  pub declares : DeclaresAll [] terms entries
-  pub are_bodies : AreBodies unknown_zero entries aml (methods_of entries) bodies
-  pub shows : text ≡ block_text name aml terms (map read bodies)
-
--- A writer gained the text of one table.
-abbrev pub GainsTable : Bool → List ℕ → List ℕ → Option (List ℕ) → Option (List ℕ) → Type 0
-GainsTable unknown_zero name aml before after = (text : List ℕ) × Lists unknown_zero name aml text × Appends before after text
-
--- A writer gained the listing of a set of dumps: the text of its DSDT.
-abbrev pub Gains : List Dump → Bool → Bool → Option (List ℕ) → Option (List ℕ) → Type 0
-Gains dumps any_sum unknown_zero before after = (dsdt : ℕ) × (ssdts : List ℕ) × IsOrder dumps any_sum dsdt ssdts
-    × GainsTable unknown_zero (name_of dumps dsdt) (aml_of (bytes_of dumps dsdt)) before after
+  pub order : IsOrder dumps any_sum dsdt ssdts
+  pub loads : IsLoad (codes_in dumps (dsdt ∷ ssdts)) terms listed
+  pub are_bodies : AreBodies unknown_zero listed.entries (codes_in dumps (dsdt ∷ ssdts)) (methods_of listed.entries) bodies
+  pub shows : text ≡ tables_text (names_in dumps (dsdt ∷ ssdts)) (codes_in dumps (dsdt ∷ ssdts)) terms bodies

@@ -1,11 +1,13 @@
 //! Disassembles the ACPI tables of a folder.
 #![tactic(auto)]
 
-mod block;
+mod aml;
+mod faults;
 mod folder;
 mod map;
 mod options;
 mod quoted;
+mod reading;
 mod run;
 
 use options::Options;

@@ -1,13 +1,16 @@
 //! A whole run over the dumps of a folder.
-ghost use Rattle.std.specs.Prelude.{◌≡◌, ◌<◌, OnOk};
-ghost use Rattle.acpidis.specs.Listing.{Gains};
+ghost use Rattle.std.specs.Prelude.{◌≡◌, ◌⊎◌, ℕ, List};
+ghost use Rattle.std.specs.Io.KnownBytes.{Appends};
+ghost use Rattle.aml_text.specs.Prints.{Cut};
+ghost use Rattle.acpidis.specs.Listing.{Lists};
+ghost use Rattle.acpidis.specs.Sets.{status_of, Ends};
 
-use crate::block::{BlockFault, list_block};
+use crate::faults::{ReadFault, RunFault};
 use crate::options::Options;
 use crate::quoted::Quoted;
-use acpi_tables::{Bad, Dump, TableFault, load_order};
-use aml_code::CodeFault;
-use aml_space::SpaceFault;
+use crate::reading::{blocks_in, read_set};
+use acpi_tables::Dump;
+use aml_text::write_blocks;
 use std::alloc::Global;
 use std::fmt::Display;
 use std::io::Write;
@@ -21,16 +24,8 @@ const REFUSED: u8 = 1;
 /// The status where the writer takes no more.
 const UNWRITTEN: u8 = 4;
 
-/// Why a run is refused.
-#[derive(Debug, Drop)]
-enum RunFault {
-    /// The set has no order, or a dump of it isn't taken.
-    Set(TableFault),
-    /// The definition block of the dump at an index isn't listed.
-    Block(usize, BlockFault),
-}
-
-/// Disassembles the tables of these dumps: writes the definition block of the DSDT to `out`, or why there is none to `err`.
+/// Disassembles the tables of these dumps: writes the definition blocks of the set to `out`, in load order, or why there
+/// are none to `err`.
 ///
 /// Returns the exit status: 0 where all is written, 1 where the set is refused, and nothing is written, and 4 where the
 /// writer took no more.
@@ -41,7 +36,15 @@ pub fn run<O: Write, E: Write>(
     out: &mut O,
     err: &mut E,
 ) -> u8
-    ensures { result ≡ 0 → Gains dumps.now options.any_sum options.unknown_zero (O.contents out.old) (O.contents out.new) }
+    ensures statuses { (result ≡ 0) ⊎ (result ≡ 1) ⊎ (result ≡ 4) }
+    // What the writer took is a text of the set.
+    ensures done { result ≡ 0 → (text : List ℕ) × Lists dumps.now options.any_sum options.unknown_zero text × Appends (O.contents out.old) (O.contents out.new) text }
+    // The set has no other.
+    ensures one { result ≡ 0 → (text : List ℕ) → Lists dumps.now options.any_sum options.unknown_zero text → Appends (O.contents out.old) (O.contents out.new) text }
+    // Nothing was written.
+    ensures refused { result ≡ 1 → O.contents out.new ≡ O.contents out.old }
+    // The first bytes of a text of the set were written, and not all.
+    ensures cut { result ≡ 4 → (text : List ℕ) × (wrote : ℕ) × Lists dumps.now options.any_sum options.unknown_zero text × Cut (O.contents out.old) (O.contents out.new) text wrote }
 {
     match list(alloc, dumps, options, out) {
         Ok(()) => DONE,
@@ -56,56 +59,46 @@ fn list<O: Write>(
     options: Options,
     out: &mut O,
 ) -> Result<(), RunFault>
-    ensures { OnOk result (Gains dumps.now options.any_sum options.unknown_zero (O.contents out.old) (O.contents out.new)) }
+    ensures { Ends (Lists dumps.now options.any_sum options.unknown_zero) (O.contents out.old) (O.contents out.new) result }
 {
-    let order = match load_order(alloc, dumps, options.any_sum) {
-        Ok(order) => order,
-        Err(fault) => return Err(RunFault::Set(fault)),
+    let set = match read_set(alloc, dumps, options) {
+        Ok(set) => set,
+        Err(fault) => return Err(RunFault::Read(fault)),
     };
-    match dumps.get(order.dsdt) {
-        None => Err(RunFault::Set(TableFault {
-            dump: None,
-            bad: Bad::NoDsdt,
-        })),
-        Some(dump) => match list_block(alloc, dump, options.unknown_zero, out) {
-            Ok(()) => Ok(()),
-            Err(fault) => Err(RunFault::Block(order.dsdt, fault)),
-        },
+    let blocks = match blocks_in(alloc, &set) {
+        Ok(blocks) => blocks,
+        Err(_) => return Err(RunFault::Read(ReadFault::NoMemory)),
+    };
+    match write_blocks(out, blocks.as_slice(), set.bodies.as_slice()) {
+        Ok(()) => Ok(()),
+        Err(fault) => Err(RunFault::Write(fault)),
     }
 }
 
 /// Prints why a run is refused, and returns its status. A fault of the writer is passed over.
 fn print_fault<E: Write>(dumps: &[Dump], fault: RunFault, err: &mut E) -> u8
-    ensures { 0 < result }
+    ensures { result ≡ status_of fault }
 {
     match fault {
-        RunFault::Block(_, BlockFault::Write(fault)) => {
+        RunFault::Write(fault) => {
             let _ = writeln!(err, "acpidis: {fault}");
             UNWRITTEN
         }
-        RunFault::Set(fault) => {
-            print_refusal(name_of(dumps, fault.dump), &fault, err);
-            REFUSED
-        }
-        RunFault::Block(index, fault) => {
-            let name = if is_memory(&fault) {
-                None
-            } else {
-                name_of(dumps, Some(index))
-            };
-            print_refusal(name, &fault, err);
+        RunFault::Read(fault) => {
+            print_read_fault(dumps, fault, err);
             REFUSED
         }
     }
 }
 
-/// Whether a growth was refused: then it is about no table.
-fn is_memory(fault: &BlockFault) -> bool {
+/// Prints why a set can't be read.
+fn print_read_fault<E: Write>(dumps: &[Dump], fault: ReadFault, err: &mut E) {
     match fault {
-        BlockFault::Code(CodeFault::NoMemory) => true,
-        BlockFault::Space(SpaceFault::NoMemory) => true,
-        BlockFault::NoMemory(_) => true,
-        _ => false,
+        ReadFault::Set(fault) => print_refusal(name_of(dumps, fault.dump), &fault, err),
+        ReadFault::Load(dump, fault) => print_refusal(name_of(dumps, dump), &fault, err),
+        ReadFault::NoMemory => {
+            let _ = writeln!(err, "acpidis: NoMemory");
+        }
     }
 }
 

@@ -1,5 +1,6 @@
 //! Rows of maps, and of names as they are printed.
 mod runs;
+mod sets;
 
 use crate::map::{MapFault, parse_map};
 use crate::quoted::Quoted;

@@ -3,3 +3,4 @@ pub mod Views
 pub mod Within
 pub mod RowFacts
 mod Encodes
+mod RowIndex

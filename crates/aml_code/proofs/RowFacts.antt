@@ -1,28 +1,30 @@
 -- What holds of each row of the table of opcodes, by tests that compute over the whole table; and opcodes as they are read.
-use Rattle.std.proofs.Common.{◌≡◌, ℕ, suc, ◌+◌, ◌-◌, ◌*◌, ◌/◌, ◌%◌, ◌<◌, ◌≤◌, Bool, true, false, cond, eqb, ltb, not, ◌&&◌, ◌||◌, ◌==◌, List, [], ◌∷◌, ◌++◌, length, find, Option, Some, None, refl, sym, ap, subst, ◌∙◌, ◌⊎◌, arith, inl, inr}
+use Rattle.std.proofs.Common.{◌≡◌, ℕ, ◌/◌, ◌%◌, ◌<◌, Bool, true, false, cond, ltb, not, ◌&&◌, ◌==◌, List, [], ◌∷◌, ◌++◌, length, find, Option, Some, refl, sym, ap, subst, ◌∙◌, arith, inl, inr}
 use Rattle.std.specs.Prelude.{nat_le}
 use Rattle.std.specs.List.{list_all}
-use Rattle.std.proofs.lemmas.Bool.{eqb-true, eqb-false, ne_eqb, ltb-true, ltb-false, lt-ltb, le-ltb, cases_lt}
+use Rattle.std.proofs.lemmas.Bool.{eqb-true, eqb-false, eq-eqb, ltb-true, lt-ltb, le-ltb}
 use Rattle.std.proofs.lemmas.Bool.Decides.{nat_tests}
 use Rattle.aml_names.specs.Names.{is_name_lead}
 use Rattle.aml_code.specs.declared.rows.OpRow.{OpRow}
+use Rattle.aml_code.specs.declared.rows.PartKind.{PartKind}
+use Rattle.aml_code.specs.declared.rows.PartKind.TheVariants as kinds
 use Rattle.aml_code.specs.declared.rows.Place.{Place}
 use Rattle.aml_code.specs.declared.rows.Place.TheVariants as places
 use Rattle.aml_code.specs.declared.rows.TailKind.{TailKind}
 use Rattle.aml_code.specs.declared.rows.TailKind.TheVariants as tails
 use Rattle.aml_code.specs.declared.table.TheConstants.{ROWS}
-use Rattle.aml_code.specs.Rows.{row_of, taken_as_target}
+use Rattle.aml_code.specs.Rows.{row_of, parts_of, has_length, taken_as_target}
 use Rattle.aml_code.specs.Encoding.{opcode_bytes}
 use Rattle.aml_code.specs.declared.rows.Position.{Position}
 use Rattle.aml_code.specs.declared.rows.Position.TheVariants as positions
 use Rattle.aml_code.specs.Lawful.{is_guard, is_if_place}
 use Rattle.aml_code.specs.Faults.{IsOpcode}
 
-and_left : (a b : Bool) → (a && b) ≡ true → a ≡ true
+pub and_left : (a b : Bool) → (a && b) ≡ true → a ≡ true
 and_left true b h = refl
 and_left false b h = h
 
-and_right : (a b : Bool) → (a && b) ≡ true → b ≡ true
+pub and_right : (a b : Bool) → (a && b) ≡ true → b ≡ true
 and_right true b h = h
 and_right false b h = cc
 
@@ -107,7 +109,7 @@ pub target_opcode : (o : ℕ) (r : OpRow) → row_of o ≡ Some r → taken_as_t
 unfolding target_row
 target_opcode o r e h = subst (λ (n : ℕ). (lead_of n == 0x00) ≡ false) (row_opcode o r e) (by_target (taken_as_target r.place) (lead_of r.opcode == 0x00) h (row_passes target_row all_targets o r e))
 
--- ---- only a Method has a body, and no row has a field list
+-- ---- only a Method has a body
 
 is_body : TailKind → Bool
 is_body tails.Body = true
@@ -145,53 +147,100 @@ pub body_place : (o : ℕ) (r : OpRow) → row_of o ≡ Some r → r.tail ≡ ta
 unfolding body_row
 body_place o r e h = method_is r.place (body_by r.tail (is_method r.place) h (row_passes body_row all_bodies o r e))
 
-is_fields : TailKind → Bool
-is_fields tails.Fields = true
-is_fields _ = false
+-- ---- an If has one part, a term, and a package length; the row of 00 has neither
 
-fieldless_row : OpRow → Bool
-fieldless_row r = not (is_fields r.tail)
+one_term : List PartKind → Bool
+one_term [] = false
+one_term (kinds.Term ∷ []) = true
+one_term (kinds.Term ∷ k ∷ ks) = false
+one_term (kinds.Target ∷ ks) = false
+one_term (kinds.Name ∷ ks) = false
+one_term (kinds.ScopeName ∷ ks) = false
+one_term (kinds.Data ∷ ks) = false
+one_term (kinds.Byte ∷ ks) = false
+one_term (kinds.Count ∷ ks) = false
+one_term (kinds.Word ∷ ks) = false
+one_term (kinds.Dword ∷ ks) = false
+one_term (kinds.Qword ∷ ks) = false
+one_term (kinds.Text ∷ ks) = false
 
-all_fieldless : list_all fieldless_row ROWS ≡ true
-unfolding fieldless_row is_fields
-all_fieldless = refl
+one_term_is : (ks : List PartKind) → one_term ks ≡ true → ks ≡ kinds.Term ∷ []
+unfolding one_term
+one_term_is [] h = absurd cc
+one_term_is (kinds.Term ∷ []) h = refl
+one_term_is (kinds.Term ∷ k ∷ ks) h = absurd cc
+one_term_is (kinds.Target ∷ ks) h = absurd cc
+one_term_is (kinds.Name ∷ ks) h = absurd cc
+one_term_is (kinds.ScopeName ∷ ks) h = absurd cc
+one_term_is (kinds.Data ∷ ks) h = absurd cc
+one_term_is (kinds.Byte ∷ ks) h = absurd cc
+one_term_is (kinds.Count ∷ ks) h = absurd cc
+one_term_is (kinds.Word ∷ ks) h = absurd cc
+one_term_is (kinds.Dword ∷ ks) h = absurd cc
+one_term_is (kinds.Qword ∷ ks) h = absurd cc
+one_term_is (kinds.Text ∷ ks) h = absurd cc
 
-pub row_fieldless : (o : ℕ) (r : OpRow) → row_of o ≡ Some r → r.tail ≡ tails.Fields → ⊥
-unfolding fieldless_row is_fields
-row_fieldless o r e h =
-    let f : is_fields r.tail ≡ false = not_true _ (row_passes fieldless_row all_fieldless o r e) in
-    absurd (let g : is_fields tails.Fields ≡ false = subst (λ (k : TailKind). is_fields k ≡ false) h f in cc)
+if_row : OpRow → Bool
+if_row r = cond (is_if_place r.place) (one_term (parts_of r.shape) && has_length r.tail) true
 
--- ---- no row is an If yet
+all_ifs : list_all if_row ROWS ≡ true
+unfolding if_row one_term
+all_ifs = refl
 
-unguarded_row : OpRow → Bool
-unguarded_row r = not (is_if_place r.place)
+where_true : (b c : Bool) → b ≡ true → cond b c true ≡ true → c ≡ true
+where_true true c h e = e
+where_true false c h e = absurd cc
 
-all_unguarded : list_all unguarded_row ROWS ≡ true
-unfolding unguarded_row
-all_unguarded = refl
+if_passes : (o : ℕ) (r : OpRow) → row_of o ≡ Some r → is_if_place r.place ≡ true → (one_term (parts_of r.shape) && has_length r.tail) ≡ true
+unfolding if_row
+if_passes o r e h = where_true (is_if_place r.place) (one_term (parts_of r.shape) && has_length r.tail) h (row_passes if_row all_ifs o r e)
 
-guard_by : (p : Position) (place : Place) → is_if_place place ≡ false → is_guard p place ≡ false
-guard_by positions.ModuleTerm places.If h = absurd cc
-guard_by positions.ModuleTerm places.Data h = refl
-guard_by positions.ModuleTerm places.Target h = refl
-guard_by positions.ModuleTerm places.Argument h = refl
-guard_by positions.ModuleTerm places.Statement h = refl
-guard_by positions.ModuleTerm places.Else h = refl
-guard_by positions.ModuleTerm places.Declaration h = refl
-guard_by positions.ModuleTerm places.External h = refl
-guard_by positions.ModuleTerm places.Scope h = refl
-guard_by positions.ModuleTerm places.Method h = refl
-guard_by positions.GuardTerm place h = refl
-guard_by positions.BodyTerm place h = refl
-guard_by positions.AfterIf place h = refl
-guard_by positions.Argument place h = refl
-guard_by positions.Target place h = refl
-guard_by positions.Data place h = refl
+pub if_parts : (o : ℕ) (r : OpRow) → row_of o ≡ Some r → is_if_place r.place ≡ true → parts_of r.shape ≡ kinds.Term ∷ []
+if_parts o r e h = one_term_is (parts_of r.shape) (and_left (one_term (parts_of r.shape)) (has_length r.tail) (if_passes o r e h))
 
-pub row_unguarded : (o : ℕ) (r : OpRow) (p : Position) → row_of o ≡ Some r → is_guard p r.place ≡ false
-unfolding unguarded_row
-row_unguarded o r p e = guard_by p r.place (not_true _ (row_passes unguarded_row all_unguarded o r e))
+pub if_has_length : (o : ℕ) (r : OpRow) → row_of o ≡ Some r → is_if_place r.place ≡ true → has_length r.tail ≡ true
+if_has_length o r e h = and_right (one_term (parts_of r.shape)) (has_length r.tail) (if_passes o r e h)
+
+pub guard_place : (p : Position) (place : Place) → is_guard p place ≡ true → is_if_place place ≡ true
+guard_place positions.ModuleTerm places.If h = refl
+guard_place positions.ModuleTerm places.Data h = absurd cc
+guard_place positions.ModuleTerm places.Target h = absurd cc
+guard_place positions.ModuleTerm places.Argument h = absurd cc
+guard_place positions.ModuleTerm places.Statement h = absurd cc
+guard_place positions.ModuleTerm places.Else h = absurd cc
+guard_place positions.ModuleTerm places.Declaration h = absurd cc
+guard_place positions.ModuleTerm places.External h = absurd cc
+guard_place positions.ModuleTerm places.Scope h = absurd cc
+guard_place positions.ModuleTerm places.Method h = absurd cc
+guard_place positions.GuardTerm place h = absurd cc
+guard_place positions.BodyTerm place h = absurd cc
+guard_place positions.AfterIf place h = absurd cc
+guard_place positions.Argument place h = absurd cc
+guard_place positions.Target place h = absurd cc
+guard_place positions.Data place h = absurd cc
+
+no_parts_kind : List PartKind → Bool
+no_parts_kind [] = true
+no_parts_kind (k ∷ ks) = false
+
+no_parts_is : (ks : List PartKind) → no_parts_kind ks ≡ true → ks ≡ []
+unfolding no_parts_kind
+no_parts_is [] h = refl
+no_parts_is (k ∷ ks) h = absurd cc
+
+zero_row : OpRow → Bool
+zero_row r = cond (r.opcode == 0x00) (no_parts_kind (parts_of r.shape) && not (has_length r.tail)) true
+
+all_zeros : list_all zero_row ROWS ≡ true
+unfolding zero_row no_parts_kind
+all_zeros = refl
+
+pub zero_bare : (r : OpRow) → row_of 0x00 ≡ Some r → (parts_of r.shape ≡ []) × (has_length r.tail ≡ false)
+unfolding zero_row
+zero_bare r e =
+    let is : (r.opcode == 0x00) ≡ true = eq-eqb _ _ (row_opcode 0x00 r e) in
+    let both = where_true (r.opcode == 0x00) (no_parts_kind (parts_of r.shape) && not (has_length r.tail)) is (row_passes zero_row all_zeros 0x00 r e) in
+    (no_parts_is (parts_of r.shape) (and_left (no_parts_kind (parts_of r.shape)) (not (has_length r.tail)) both), not_true (has_length r.tail) (and_right (no_parts_kind (parts_of r.shape)) (not (has_length r.tail)) both))
 
 -- ---- the bytes of an opcode
 
@@ -208,3 +257,15 @@ opcode_some o = by_size (ltb o 256)
     by_size : (b : Bool) → 0 < length (cond b (o ∷ []) ((o / 256) ∷ (o % 256) ∷ []))
     by_size true = omega arith
     by_size false = omega arith
+
+-- an opcode whose lead byte is below 5B is that byte
+opcode_lead_is : (o b : ℕ) → IsOpcode o → lead_of o ≡ b → b < 0x5B → o ≡ b
+opcode_lead_is o b (inl h) e less = let small : ltb o 256 ≡ true = lt-ltb _ _ h.0 in sym (ap (λ (c : Bool). cond c o (o / 256)) small) ∙ e
+opcode_lead_is o b (inr h) e less =
+    let big : ltb o 256 ≡ false = le-ltb _ _ (omega (arith, h.0)) in
+    let high : o / 256 ≡ 0x5B = omega (arith, h.0, h.1) in
+    let is : b ≡ 0x5B = sym e ∙ ap (λ (c : Bool). cond c o (o / 256)) big ∙ high in
+    absurd (omega (arith, is, less))
+
+pub row_lead_is : (o b : ℕ) (r : OpRow) → row_of o ≡ Some r → lead_of o ≡ b → b < 0x5B → o ≡ b
+row_lead_is o b r listed e less = opcode_lead_is o b (row_is_opcode o r listed) e less

@@ -1,16 +1,16 @@
 -- Bytes that stand in the code, at an offset and up to the end of a span; and what a fault there says of the code.
 use Rattle.std.specs.Prelude.{slice_get}
-use Rattle.std.proofs.Common.{◌≡◌, ℕ, zero, suc, ◌+◌, ◌-◌, ◌<◌, ◌≤◌, Bool, true, false, List, [], ◌∷◌, ◌++◌, length, take, drop, Option, Some, None, refl, sym, ap, subst, ◌∙◌, append_assoc, ◌⊎◌, arith, inl, inr}
+use Rattle.std.proofs.Common.{◌≡◌, ℕ, suc, ◌+◌, ◌-◌, ◌<◌, ◌≤◌, List, [], ◌∷◌, ◌++◌, length, take, Some, refl, sym, ap, subst, ◌∙◌, append_assoc, ◌⊎◌, arith, inl, inr}
 use Rattle.std.proofs.lemmas.List.{length-append, append-nil, take_at, drop_at}
 use Rattle.aml_names.specs.declared.faults.CodeFault.{CodeFault}
 use Rattle.aml_names.specs.declared.faults.CodeFault.TheVariants as faults
 use Rattle.aml_names.specs.NameReading.{NameFault}
 use Rattle.aml_names.proofs.StepLaws.{IsBytes, Takes}
 use Rattle.aml_code.specs.declared.packages.PkgWidth.{PkgWidth}
-use Rattle.aml_code.specs.Packages.{width_len, package_bytes, FitsWidth}
+use Rattle.aml_code.specs.Packages.{width_len, package_bytes}
 use Rattle.aml_code.specs.Encoding.{slice_of}
-use Rattle.aml_code.specs.Faults.{StandsThere, LengthThere, IsEnd, IsEndBefore, ByteThere, HasPkgBits, Arities, StandsAt}
-use Rattle.aml_code.proofs.LengthLaws.{IsLength, IsSpan, LengthFault, PastFault, length-package_bytes, width_some}
+use Rattle.aml_code.specs.Faults.{StandsThere, LengthThere, IsEnd, IsEndBefore, Arities, StandsAt}
+use Rattle.aml_code.proofs.LengthLaws.{IsSpan, LengthFault, PastFault, length-package_bytes, width_some}
 
 -- The bytes are a part of the code: they begin at an offset, and go on to the end of a span that begins before them.
 pub record Within (code : List ℕ) (at end : ℕ) (bytes : List ℕ) : Type 0 where

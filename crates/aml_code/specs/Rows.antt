@@ -30,10 +30,33 @@ parts_of shapes.B4 = kinds.Dword ∷ []
 parts_of shapes.B8 = kinds.Qword ∷ []
 parts_of shapes.Z = kinds.Text ∷ []
 parts_of shapes.T = kinds.Term ∷ []
+parts_of shapes.S = kinds.Target ∷ []
+parts_of shapes.N = kinds.Name ∷ []
+parts_of shapes.Scope = kinds.ScopeName ∷ []
+parts_of shapes.TT = kinds.Term ∷ kinds.Term ∷ []
 parts_of shapes.TS = kinds.Term ∷ kinds.Target ∷ []
-parts_of shapes.TTS = kinds.Term ∷ kinds.Term ∷ kinds.Target ∷ []
+parts_of shapes.ST = kinds.Target ∷ kinds.Term ∷ []
+parts_of shapes.SS = kinds.Target ∷ kinds.Target ∷ []
+parts_of shapes.S2 = kinds.Target ∷ kinds.Word ∷ []
+parts_of shapes.NS = kinds.Name ∷ kinds.Target ∷ []
+parts_of shapes.NN = kinds.Name ∷ kinds.Name ∷ []
 parts_of shapes.ND = kinds.Name ∷ kinds.Data ∷ []
 parts_of shapes.N1 = kinds.Name ∷ kinds.Byte ∷ []
+parts_of shapes.N12 = kinds.Name ∷ kinds.Byte ∷ kinds.Word ∷ []
+parts_of shapes.N1C = kinds.Name ∷ kinds.Byte ∷ kinds.Count ∷ []
+parts_of shapes.NN1 = kinds.Name ∷ kinds.Name ∷ kinds.Byte ∷ []
+parts_of shapes.TTS = kinds.Term ∷ kinds.Term ∷ kinds.Target ∷ []
+parts_of shapes.TTN = kinds.Term ∷ kinds.Term ∷ kinds.Name ∷ []
+parts_of shapes.TTSS = kinds.Term ∷ kinds.Term ∷ kinds.Target ∷ kinds.Target ∷ []
+parts_of shapes.TTTS = kinds.Term ∷ kinds.Term ∷ kinds.Term ∷ kinds.Target ∷ []
+parts_of shapes.TTTN = kinds.Term ∷ kinds.Term ∷ kinds.Term ∷ kinds.Name ∷ []
+parts_of shapes.N1TT = kinds.Name ∷ kinds.Byte ∷ kinds.Term ∷ kinds.Term ∷ []
+parts_of shapes.N141 = kinds.Name ∷ kinds.Byte ∷ kinds.Dword ∷ kinds.Byte ∷ []
+parts_of shapes.NNT1 = kinds.Name ∷ kinds.Name ∷ kinds.Term ∷ kinds.Byte ∷ []
+parts_of shapes.NTTT = kinds.Name ∷ kinds.Term ∷ kinds.Term ∷ kinds.Term ∷ []
+parts_of shapes.B14T = kinds.Byte ∷ kinds.Dword ∷ kinds.Term ∷ []
+parts_of shapes.T1T1TT = kinds.Term ∷ kinds.Byte ∷ kinds.Term ∷ kinds.Byte ∷ kinds.Term ∷ kinds.Term ∷ []
+parts_of shapes.TTTTTT = kinds.Term ∷ kinds.Term ∷ kinds.Term ∷ kinds.Term ∷ kinds.Term ∷ kinds.Term ∷ []
 
 -- a row with a tail has a package length before its parts
 abbrev pub has_length : TailKind → Bool
@@ -59,11 +82,10 @@ taken_in_guard _ = false
 
 -- what may stand in a list of terms of a method's body
 abbrev pub taken_in_body : Place → Bool
-taken_in_body places.Data = true
-taken_in_body places.Target = true
-taken_in_body places.Argument = true
-taken_in_body places.Statement = true
-taken_in_body _ = false
+taken_in_body places.Else = false
+taken_in_body places.Scope = false
+taken_in_body places.Method = false
+taken_in_body _ = true
 
 -- the same right after an If
 abbrev pub taken_after_if : Place → Bool

@@ -28,9 +28,9 @@ pub enum Place {
     If,
     /// As a term of a body, right after an If.
     Else,
-    /// As a term of a table.
+    /// As a term of a table or of a body.
     Declaration,
-    /// As a term of a table, also inside a guard.
+    /// As a term of a table or of a body, also inside a guard.
     External,
     /// As a term of a table: what opens a scope.
     Scope,
@@ -75,7 +75,7 @@ pub enum TailKind {
 }
 
 /// The kinds of the parts in order, a letter each: `T` Term, `S` Target, `N` Name, `D` Data, `1` Byte, `2` Word,
-/// `4` Dword, `8` Qword, `Z` Text.
+/// `4` Dword, `8` Qword, `C` Count, `Z` Text. A `B` stands before a letter that is a digit; `Scope` is a ScopeName.
 #[derive(Clone, Copy, Debug, PartialEq, Eq)]
 pub enum Shape {
     Bare,
@@ -85,10 +85,33 @@ pub enum Shape {
     B8,
     Z,
     T,
+    S,
+    N,
+    Scope,
+    TT,
     TS,
-    TTS,
+    ST,
+    SS,
+    S2,
+    NS,
+    NN,
     ND,
     N1,
+    N12,
+    N1C,
+    NN1,
+    TTS,
+    TTN,
+    TTSS,
+    TTTS,
+    TTTN,
+    N1TT,
+    N141,
+    NNT1,
+    NTTT,
+    B14T,
+    T1T1TT,
+    TTTTTT,
 }
 
 /// Which names a term declares.
@@ -144,18 +167,42 @@ impl Shape {
     pub fn parts(self) -> &'static [PartKind]
         ensures { result.now ≡ parts_of self }
     {
+        use PartKind::*;
         match self {
             Shape::Bare => &[],
-            Shape::B1 => &[PartKind::Byte],
-            Shape::B2 => &[PartKind::Word],
-            Shape::B4 => &[PartKind::Dword],
-            Shape::B8 => &[PartKind::Qword],
-            Shape::Z => &[PartKind::Text],
-            Shape::T => &[PartKind::Term],
-            Shape::TS => &[PartKind::Term, PartKind::Target],
-            Shape::TTS => &[PartKind::Term, PartKind::Term, PartKind::Target],
-            Shape::ND => &[PartKind::Name, PartKind::Data],
-            Shape::N1 => &[PartKind::Name, PartKind::Byte],
+            Shape::B1 => &[Byte],
+            Shape::B2 => &[Word],
+            Shape::B4 => &[Dword],
+            Shape::B8 => &[Qword],
+            Shape::Z => &[Text],
+            Shape::T => &[Term],
+            Shape::S => &[Target],
+            Shape::N => &[Name],
+            Shape::Scope => &[ScopeName],
+            Shape::TT => &[Term, Term],
+            Shape::TS => &[Term, Target],
+            Shape::ST => &[Target, Term],
+            Shape::SS => &[Target, Target],
+            Shape::S2 => &[Target, Word],
+            Shape::NS => &[Name, Target],
+            Shape::NN => &[Name, Name],
+            Shape::ND => &[Name, Data],
+            Shape::N1 => &[Name, Byte],
+            Shape::N12 => &[Name, Byte, Word],
+            Shape::N1C => &[Name, Byte, Count],
+            Shape::NN1 => &[Name, Name, Byte],
+            Shape::TTS => &[Term, Term, Target],
+            Shape::TTN => &[Term, Term, Name],
+            Shape::TTSS => &[Term, Term, Target, Target],
+            Shape::TTTS => &[Term, Term, Term, Target],
+            Shape::TTTN => &[Term, Term, Term, Name],
+            Shape::N1TT => &[Name, Byte, Term, Term],
+            Shape::N141 => &[Name, Byte, Dword, Byte],
+            Shape::NNT1 => &[Name, Name, Term, Byte],
+            Shape::NTTT => &[Name, Term, Term, Term],
+            Shape::B14T => &[Byte, Dword, Term],
+            Shape::T1T1TT => &[Term, Byte, Term, Byte, Term, Term],
+            Shape::TTTTTT => &[Term; 6],
         }
     }
 }
@@ -189,14 +236,8 @@ pub fn takes(position: Position, place: Place) -> bool
             Place::If | Place::Declaration | Place::External | Place::Scope | Place::Method
         ),
         Position::GuardTerm => matches!(place, Place::External),
-        Position::BodyTerm => matches!(
-            place,
-            Place::Data | Place::Target | Place::Argument | Place::Statement
-        ),
-        Position::AfterIf => matches!(
-            place,
-            Place::Data | Place::Target | Place::Argument | Place::Statement | Place::Else
-        ),
+        Position::BodyTerm => !matches!(place, Place::Else | Place::Scope | Place::Method),
+        Position::AfterIf => !matches!(place, Place::Scope | Place::Method),
         Position::Argument => matches!(place, Place::Data | Place::Target | Place::Argument),
         Position::Target => matches!(place, Place::Target),
         Position::Data => matches!(place, Place::Data),

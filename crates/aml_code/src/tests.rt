@@ -68,7 +68,7 @@ fn bytes(alloc: Global, listed: &[u8]) -> Result<Bytes, AllocError> {
 
 #[test]
 fn reads_package_lengths(rt: HostRuntime) {
-    let rows: [(&[u8], Result<(PkgWidth, u32), CodeFault>); 12] = [
+    let listed: [(&[u8], Result<(PkgWidth, u32), CodeFault>); 12] = [
         (b"\x3f", Ok((PkgWidth::One, 63))),
         (b"\x00\xff", Ok((PkgWidth::One, 0))),
         (b"\x40\x04", Ok((PkgWidth::Two, 64))),
@@ -82,7 +82,7 @@ fn reads_package_lengths(rt: HostRuntime) {
         (b"\xc0\x00\x00", Err(CodeFault::Truncated { at: 3 })),
         (b"", Err(CodeFault::Truncated { at: 0 })),
     ];
-    for (bytes, want) in rows {
+    for (bytes, want) in listed {
         assert!(rt; bytes.len() < 100);
         assert_eq!(rt; read_pkg(bytes), want, "{bytes:?}");
     }
@@ -130,10 +130,15 @@ fn reads_lengths_of_a_span(rt: HostRuntime) {
     assert_eq!(rt; PkgWidth::Three.bytes() + PkgWidth::Four.bytes(), 7);
 }
 
+/// The rows of the table.
+fn rows() -> &'static [OpRow] {
+    &table::ROWS
+}
+
 #[test]
 fn finds_each_row(rt: HostRuntime) -> Result<(), Fail> {
-    for wanted in table::ROWS {
-        assert_eq!(rt; row(wanted.opcode), Some(wanted));
+    for wanted in rows() {
+        assert_eq!(rt; row(wanted.opcode), Some(*wanted));
     }
     assert_eq!(rt; row(0x02), None);
     assert_eq!(rt; row(0x5B), None);
@@ -181,7 +186,7 @@ fn is_of_its_group(row: &OpRow) -> bool {
 #[test]
 fn rows_agree_with_their_group(rt: HostRuntime) {
     let mut before = None;
-    for row in table::ROWS {
+    for row in rows() {
         // ascending, so that none stands twice
         assert!(rt; before.is_none_or(|opcode| opcode < row.opcode));
         before = Some(row.opcode);
@@ -193,7 +198,7 @@ fn rows_agree_with_their_group(rt: HostRuntime) {
         };
         assert!(rt; lead < 256 && (lead == 0x5B) == (row.opcode >= 256));
         assert!(rt; !aml_names::is_name_lead(lead as u8));
-        assert!(rt; is_of_its_group(&row), "{:?}", row.word());
+        assert!(rt; is_of_its_group(row), "{:?}", row.word());
         assert!(rt; row.has_length() == (row.tail != TailKind::Empty));
         assert!(rt; (row.tail == TailKind::Body) == (row.place == Place::Method));
         assert!(rt; row.declares != Declares::Units || row.tail == TailKind::Fields);
@@ -205,6 +210,46 @@ fn rows_agree_with_their_group(rt: HostRuntime) {
                 .all(|byte| *byte == b' ')
         );
     }
+}
+
+/// How many rows are of a group.
+fn count_of(group: Group) -> usize {
+    rows().iter().filter(|row| row.group == group).count()
+}
+
+#[test]
+fn groups_have_their_rows(rt: HostRuntime) {
+    assert_eq!(rt; count_of(Group::Value), 29);
+    assert_eq!(rt; count_of(Group::Expression), 46);
+    assert_eq!(rt; count_of(Group::Statement), 16);
+    assert_eq!(rt; count_of(Group::Declaration), 22);
+}
+
+#[test]
+fn rows_have_their_parts(rt: HostRuntime) -> Result<(), Fail> {
+    use PartKind::*;
+    let wanted: [(u16, &[PartKind], TailKind); 14] = [
+        (0x06, &[Name, Name], TailKind::Empty),
+        (0x10, &[ScopeName], TailKind::Terms),
+        (0x11, &[Term], TailKind::Bytes),
+        (0x12, &[Byte], TailKind::Elements),
+        (0x15, &[Name, Byte, Count], TailKind::Empty),
+        (0x78, &[Term, Term, Target, Target], TailKind::Empty),
+        (0x89, &[Term, Byte, Term, Byte, Term, Term], TailKind::Empty),
+        (0x8A, &[Term, Term, Name], TailKind::Empty),
+        (0xA1, &[], TailKind::Terms),
+        (0x5B23, &[Target, Word], TailKind::Empty),
+        (0x5B32, &[Byte, Dword, Term], TailKind::Empty),
+        (0x5B83, &[Name, Byte, Dword, Byte], TailKind::Terms),
+        (0x5B86, &[Name, Name, Byte], TailKind::Fields),
+        (0x5B87, &[Name, Name, Term, Byte], TailKind::Fields),
+    ];
+    for (opcode, parts, tail) in wanted {
+        let row = row(opcode).ok_or("the opcode has a row")?;
+        assert_eq!(rt; row.shape.parts(), parts, "{opcode:X}");
+        assert_eq!(rt; row.tail, tail, "{opcode:X}");
+    }
+    Ok(())
 }
 
 #[test]
@@ -222,22 +267,34 @@ fn positions_take_places(rt: HostRuntime) {
         Scope,
         Method,
     ];
-    let rows: [(Position, &[Place]); 7] = [
+    let listed: [(Position, &[Place]); 7] = [
         (
             Position::ModuleTerm,
             &[If, Declaration, External, Scope, Method],
         ),
         (Position::GuardTerm, &[External]),
-        (Position::BodyTerm, &[Data, Target, Argument, Statement]),
+        (
+            Position::BodyTerm,
+            &[Data, Target, Argument, Statement, If, Declaration, External],
+        ),
         (
             Position::AfterIf,
-            &[Data, Target, Argument, Statement, Else],
+            &[
+                Data,
+                Target,
+                Argument,
+                Statement,
+                If,
+                Else,
+                Declaration,
+                External,
+            ],
         ),
         (Position::Argument, &[Data, Target, Argument]),
         (Position::Target, &[Target]),
         (Position::Data, &[Data]),
     ];
-    for (position, places) in rows {
+    for (position, places) in listed {
         for place in all {
             assert_eq!(rt; takes(position, place), places.contains(&place));
         }

@@ -1,1 +1,5 @@
-pub mod LoadLaws
+pub mod Steps
+pub mod Walks
+pub mod Holding
+pub mod Outcome
+pub mod BodyLaws

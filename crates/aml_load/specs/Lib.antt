@@ -1,3 +1,7 @@
+pub mod Roles
+pub mod Uses
 pub mod Loading
-pub mod Bodies
+pub mod Walking
+pub mod Stops
 pub mod Views
+pub mod Bodies

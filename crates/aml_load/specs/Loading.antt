@@ -1,54 +1,173 @@
--- What the terms of a table declare (ACPI 6.5, 5.3 and 20.2.5.1): one list of entries, in the order of the text.
-use Rattle.std.specs.Prelude.{◌≡◌, ℕ, ◌%◌, List, [], ◌∷◌, ◌++◌, Option, Some, None}
+-- What tables declare (ACPI 6.5, 5.2.11, 5.3 and 20.2.5): one list of entries, in load order and in the order of the text.
+use Rattle.std.specs.Prelude.{◌≡◌, ℕ, suc, ◌+◌, ◌%◌, ◌<◌, ◌≤◌, false, List, [], ◌∷◌, ◌++◌, map, length, Option, Some, None}
 use Rattle.std.specs.Option.{unwrap_or}
+use Rattle.std.specs.FinSet as set
 use Rattle.aml_names.specs.declared.segments.Seg.{Seg}
 use Rattle.aml_names.specs.declared.names.Name.{Name}
 use Rattle.aml_names.specs.Names.{placed}
-use Rattle.aml_code.specs.Tree.{Tree, nothing, named, op, Trees, no_trees, tree_more, Parts, Rest, empty, terms, bytes, elements, fields, body}
-use Rattle.aml_code.specs.Declaring.{last_label, last_byte}
+use Rattle.aml_code.specs.Tree.{Tree, nothing, named, op, Trees, no_trees, tree_more, OnePart, child, label, byte, word, dword, qword, text, Parts, no_parts, part_more, Rest, empty, terms, bytes, elements, fields, body}
+use Rattle.aml_code.specs.Declaring.{last_label, last_byte, field_names}
+use Rattle.aml_code.specs.Meaning.{ReadsModule}
+use Rattle.aml_code.specs.Rows.{row_of}
+use Rattle.aml_space.specs.declared.kinds.Kind.{Kind}
 use Rattle.aml_space.specs.declared.kinds.Kind.TheVariants as kinds
 use Rattle.aml_space.specs.Entries.{Entry, Body, declares, external, declared_at}
+use Rattle.aml_space.specs.Namespace.{Namespace, namespace_of, kind_at, found, arity_of}
+use Rattle.aml_load.specs.declared.methods.Method.{Method}
+use Rattle.aml_load.specs.declared.methods.Use.{Use}
+use Rattle.aml_load.specs.declared.roles.Role.{Role}
+use Rattle.aml_load.specs.declared.roles.Role.TheVariants as roles
+use Rattle.aml_load.specs.Roles.{role_of, kind_of}
+use Rattle.aml_load.specs.Uses.{kinds_in, parts_uses, rest_uses}
 
--- the flags of a method
-abbrev pub flags_of : Parts → ℕ
-flags_of ps = unwrap_or (last_byte None ps) 0
+-- The entries, and the names that may not take arguments once all entries are there.
+pub record Listed : Type 0 where
+  pub entries : List Entry
+  pub uses : List Use
 
--- The entry of a term at a path: a method where the term has a body, whose count is in bits 0 to 2 of its flags; else a name.
-abbrev pub entry_for : List Seg → Parts → Rest → Entry
-entry_for p ps (body start len) = declares p (kinds.Method (flags_of ps % 8)) (Some (record { table = 0; start = start; len = len; flags = flags_of ps }))
-entry_for p ps empty = declares p kinds.Name None
-entry_for p ps (terms ts) = declares p kinds.Name None
-entry_for p ps (bytes bs) = declares p kinds.Name None
-entry_for p ps (elements ts) = declares p kinds.Name None
-entry_for p ps (fields us) = declares p kinds.Name None
+abbrev pub nothing_listed : Listed
+nothing_listed = record { entries = []; uses = [] }
 
--- A name declares the path where it leads from the root, once.
-abbrev pub DeclaresName : List Entry → Option Name → Parts → Rest → List Entry → Type 0
-DeclaresName es None ps r es' = es' ≡ es
-DeclaresName es (Some n) ps r es' = (p : List Seg) × (placed [] n ≡ Some p) × (declared_at es p ≡ None) × (es' ≡ es ++ entry_for p ps r ∷ [])
+-- one entry more
+abbrev pub plus : Listed → Entry → Listed
+plus l e = record { entries = l.entries ++ e ∷ []; uses = l.uses }
 
--- from the entries before a term to those after it
-abbrev pub Declares : List Entry → Tree → List Entry → Type 0
-Declares es nothing es' = es' ≡ es
-Declares es (named n ts) es' = es' ≡ es
-Declares es (op o w ps r) es' = DeclaresName es (last_label None ps) ps r es'
+-- the names that stand as TermArgs in a term of table t, in this scope
+abbrev pub with_uses : ℕ → Listed → List Seg → ℕ → Parts → Rest → Listed
+with_uses t l scope o ps r = record { entries = l.entries; uses = l.uses ++ (parts_uses t scope (kinds_in (row_of o)) ps ++ rest_uses t scope r) }
 
-abbrev pub DeclaresAll : List Entry → Trees → List Entry → Type 0
-DeclaresAll es no_trees es' = es' ≡ es
-DeclaresAll es (tree_more t ts) es' = (mid : List Entry) × Declares es t mid × DeclaresAll mid ts es'
+-- the first part, if it is a name: of an Alias, its source
+abbrev pub first_label : Parts → Option Name
+first_label no_parts = None
+first_label (part_more (label n) ps) = Some n
+first_label (part_more (child t) ps) = None
+first_label (part_more (byte b) ps) = None
+first_label (part_more (word n) ps) = None
+first_label (part_more (dword n) ps) = None
+first_label (part_more (qword n) ps) = None
+first_label (part_more (text s) ps) = None
 
--- a method: its path, and the span of its body
-pub record OneMethod : Type 0 where
-  pub path : List Seg
-  pub start : ℕ
-  pub len : ℕ
+-- the last byte: a method's flags, an External's number of arguments
+abbrev pub byte_of : Parts → ℕ
+byte_of ps = unwrap_or (last_byte None ps) 0
 
-abbrev pub method_of : List Seg → Option Body → List OneMethod
-method_of p None = []
-method_of p (Some b) = record { path = p; start = b.start; len = b.len } ∷ []
+-- where a name leads from a scope, without a search; a term without a name has no such path
+abbrev pub place_of : List Seg → Option Name → Option (List Seg)
+place_of scope None = None
+place_of scope (Some n) = placed scope n
+
+-- what a name leads to in a scope, among the entries so far
+abbrev pub lead_of : List Entry → List Seg → Option Name → Option (List Seg)
+lead_of es scope None = None
+lead_of es scope (Some n) = found (namespace_of es) set.empty scope n
+
+-- a name has this path in a scope, and nothing has declared it
+abbrev pub IsNew : Listed → List Seg → Option Name → List Seg → Type 0
+IsNew l scope n p = (place_of scope n ≡ Some p) × (declared_at l.entries p ≡ None)
+
+-- a name leads to this path, as the entries stand there
+abbrev pub Leads : Listed → List Seg → Option Name → List Seg → Type 0
+Leads l scope n p = lead_of l.entries scope n ≡ Some p
+
+-- what an Alias of a path stands for: the path, or that path's own target if it is an Alias
+abbrev pub target_by : Option Kind → List Seg → List Seg
+target_by None p = p
+target_by (Some (kinds.Alias target)) p = target
+target_by (Some _) p = p
+
+abbrev pub target_of : List Entry → List Seg → List Seg
+target_of es p = target_by (kind_at (namespace_of es) p) p
+
+-- the span of a method's body
+abbrev pub body_start : Rest → ℕ
+body_start (body start len) = start
+body_start _ = 0
+
+abbrev pub body_len : Rest → ℕ
+body_len (body start len) = len
+body_len _ = 0
+
+-- the entry of a method of table t: bits 0 to 2 of its flags are its number of arguments
+abbrev pub method_entry : ℕ → List Seg → ℕ → ℕ → ℕ → Entry
+method_entry t p flags start len = declares p (kinds.Method (flags % 8)) (Some (record { table = t; start = start; len = len; flags = flags }))
+
+-- the named units of a field list, each under its segment in the scope
+abbrev pub DeclareUnits : Listed → List Seg → List Name → Listed → Type 0
+DeclareUnits l scope [] m = m ≡ l
+DeclareUnits l scope (n ∷ ns) m = (p : List Seg) × IsNew l scope (Some n) p × DeclareUnits (plus l (declares p kinds.Field None)) scope ns m
+
+-- What a term of table t does by its role, in a scope, from l to m. `Inside` are the terms inside it, from one list to the
+-- next, under a path.
+abbrev pub DoesAs : Role → ℕ → Listed → List Seg → Parts → Rest → (Listed → List Seg → Listed → Type 0) → Listed → Type 0
+DoesAs (roles.Declares o) t l scope ps r Inside m = (p : List Seg) × IsNew l scope (last_label None ps) p × Inside (plus l (declares p (kind_of o) None)) p m
+DoesAs roles.Method t l scope ps r Inside m = (p : List Seg) × IsNew l scope (last_label None ps) p × (m ≡ plus l (method_entry t p (byte_of ps) (body_start r) (body_len r)))
+DoesAs roles.Scope t l scope ps r Inside m = (p : List Seg) × Leads l scope (last_label None ps) p × Inside l p m
+DoesAs roles.Alias t l scope ps r Inside m =
+    (q : List Seg) × Leads l scope (first_label ps) q × ((p : List Seg) × IsNew l scope (last_label None ps) p × (m ≡ plus l (declares p (kinds.Alias (target_of l.entries q)) None)))
+DoesAs roles.External t l scope ps r Inside m = (p : List Seg) × (place_of scope (last_label None ps) ≡ Some p) × (m ≡ plus l (external p (byte_of ps)))
+DoesAs roles.Fields t l scope ps r Inside m = DeclareUnits l scope (field_names r) m
+DoesAs roles.Guard t l scope ps r Inside m = Inside l scope m
+DoesAs roles.Other t l scope ps r Inside m = m ≡ l
+
+-- Declares t l scope x m: after l, the term x of table t, in this scope, leads to m. Terms go in the order of the text.
+abbrev mutual
+  pub Declares : ℕ → Listed → List Seg → Tree → Listed → Type 0
+  Declares t l scope nothing m = m ≡ l
+  Declares t l scope (named n ts) m = m ≡ l
+  Declares t l scope (op o w ps r) m =
+      DoesAs (role_of o) t (with_uses t l scope o ps r) scope ps r (λ l p m. DeclareInside t l p r m) m
+
+  -- the terms inside a term
+  pub DeclareInside : ℕ → Listed → List Seg → Rest → Listed → Type 0
+  DeclareInside t l scope empty m = m ≡ l
+  DeclareInside t l scope (terms ts) m = DeclareAll t l scope ts m
+  DeclareInside t l scope (bytes bs) m = m ≡ l
+  DeclareInside t l scope (elements ts) m = m ≡ l
+  DeclareInside t l scope (fields us) m = m ≡ l
+  DeclareInside t l scope (body start len) m = m ≡ l
+
+  pub DeclareAll : ℕ → Listed → List Seg → Trees → Listed → Type 0
+  DeclareAll t l scope no_trees m = m ≡ l
+  DeclareAll t l scope (tree_more x xs) m = (k : Listed) × Declares t l scope x k × DeclareAll t k scope xs m
+
+-- the tables from number t on, each from the root
+abbrev pub DeclareTables : ℕ → Listed → List Trees → Listed → Type 0
+DeclareTables t l [] m = m ≡ l
+DeclareTables t l (ts ∷ rest) m = (k : Listed) × DeclareAll t l [] ts k × DeclareTables (suc t) k rest m
 
 -- the methods, in order
-abbrev pub methods_of : List Entry → List OneMethod
+abbrev pub methods_at : List Seg → Option Body → List Method
+methods_at p None = []
+methods_at p (Some b) = record { path = p; table = b.table; start = b.start; len = b.len; flags = b.flags } ∷ []
+
+abbrev pub methods_of : List Entry → List Method
 methods_of [] = []
-methods_of (declares p k b ∷ es) = method_of p b ++ methods_of es
+methods_of (declares p k b ∷ es) = methods_at p b ++ methods_of es
 methods_of (external p n ∷ es) = methods_of es
+
+-- how many arguments a name takes that stands as a TermArg of a table
+abbrev pub use_count : List Entry → Use → Option ℕ
+use_count es u = arity_of (namespace_of es) false u.scope set.empty u.name
+
+-- such a name takes none: it has no count, or its count is 0
+abbrev pub Uncalled : List Entry → List Use → Type 0
+Uncalled es [] = Unit {0}
+Uncalled es (u ∷ us) = (unwrap_or (use_count es u) 0 ≡ 0) × Uncalled es us
+
+-- The trees of all tables load to these entries, with at most 1,048,576 methods.
+pub record Loads (trees : List Trees) (m : Listed) : Type 0 where
+  pub declared : DeclareTables 0 nothing_listed trees m
+  pub few : length (methods_of m.entries) ≤ 1048576
+  pub uncalled : Uncalled m.entries m.uses
+
+-- each table's AML reads as its tree
+abbrev pub ReadTables : List (List ℕ) → List Trees → Type 0
+ReadTables [] [] = Unit {0}
+ReadTables [] (t ∷ ts) = ⊥
+ReadTables (c ∷ cs) [] = ⊥
+ReadTables (c ∷ cs) (t ∷ ts) = ReadsModule c t × ReadTables cs ts
+
+-- The tables have these trees, and these load to these entries.
+pub record IsLoad (tables : List (List ℕ)) (trees : List Trees) (m : Listed) : Type 0 where
+  pub read : ReadTables tables trees
+  pub loads : Loads trees m

@@ -1,47 +1,100 @@
--- Methods in memory, and what a loaded table holds.
-use Rattle.std.specs.Prelude.{◌≡◌, ℕ, ◌%◌, List, [], ◌∷◌, ◌++◌, map, Option, Some, None}
-use Rattle.aml_names.specs.declared.segments.Seg.{Seg}
-use Rattle.aml_names.specs.declared.names.Name.{Name}
-use Rattle.aml_code.specs.Tree.{Tree, Trees, Parts, Rest}
-use Rattle.aml_space.specs.declared.kinds.Kind.TheVariants as kinds
-use Rattle.aml_space.specs.Entries.{Entry, declares, declared_at}
+-- What a loaded set of tables holds, apart from where it lies in memory.
+use Rattle.std.specs.Prelude.{◌≡◌, ℕ, List, [], ◌∷◌, map, Option, Some, None, Result, Ok, Err, slice_get, get_or, ◌⊎◌, ◌<◌, ◌≤◌, length}
+use Rattle.std.specs.Global.{Vec}
+use denote.Ref.{Bor}
+use Rattle.aml_code.specs.declared.tree.Node.{Node}
+use Rattle.aml_code.specs.Tree.{Trees, no_trees}
+use Rattle.aml_code.specs.Encoding.{slice_of, encodings}
+use Rattle.aml_code.specs.View.{nodes_view}
 use Rattle.aml_space.specs.Known.{StandsFor}
+use Rattle.aml_load.specs.declared.faults.LoadFault.{LoadFault}
+use Rattle.aml_load.specs.declared.faults.LoadFault.TheVariants as loads
 use Rattle.aml_load.specs.declared.loading.Loaded.{Loaded}
 use Rattle.aml_load.specs.declared.methods.Method.{Method}
-use Rattle.aml_load.specs.Loading.{entry_for, Declares, DeclaresName, DeclaresAll, OneMethod, methods_of}
+use Rattle.aml_load.specs.declared.walking.Progress.{Progress}
+use Rattle.aml_load.specs.Loading.{Listed, methods_of}
+use Rattle.aml_load.specs.Walking.{load_at}
 
-abbrev pub method_view : Method → OneMethod
-method_view m = record { path = m.path; start = m.start; len = m.len }
+abbrev pub codes_view : List (Bor (List ℕ)) → List (List ℕ)
+codes_view codes = map (λ c. c.now) codes
 
-abbrev pub methods_view : List Method → List OneMethod
-methods_view ms = map method_view ms
+abbrev pub trees_view : List (Vec Node) → List Trees
+trees_view ts = map (λ t. nodes_view t.items) ts
 
--- the namespace and the methods are those of these entries
-pub record Holds (loaded : Loaded) (es : List Entry) : Type 0 where
-  pub space : StandsFor loaded.space es
-  pub methods : methods_view loaded.methods.items ≡ methods_of es
+-- no table is longer than 16,777,216 bytes
+abbrev pub AreShort : List (List ℕ) → Type 0
+AreShort [] = Unit {0}
+AreShort (c ∷ cs) = (length c ≤ 16777216) × AreShort cs
 
--- one entry more, of a path that wasn't declared
-pub record AddsEntry (loaded : Loaded) (es : List Entry) (p : List Seg) (e : Entry) : Type 0 where
-  pub fresh : declared_at es p ≡ None
-  pub holds : Holds loaded (es ++ e ∷ [])
+-- numbers that are bytes
+abbrev pub IsCode : List ℕ → Type 0
+IsCode code = (i : ℕ) → get_or code i 0 < 256
 
-abbrev pub AddsName : Loaded → List Entry → List Seg → Type 0
-AddsName loaded es p = AddsEntry loaded es p (declares p kinds.Name None)
+abbrev pub AreCodes : List (List ℕ) → Type 0
+AreCodes [] = Unit {0}
+AreCodes (c ∷ cs) = IsCode c × AreCodes cs
 
-abbrev pub AddsMethod : Loaded → List Entry → List Seg → ℕ → ℕ → ℕ → Type 0
-AddsMethod loaded es p flags start len = AddsEntry loaded es p (declares p (kinds.Method (flags % 8)) (Some (record { table = 0; start = start; len = len; flags = flags })))
+-- the namespace, the methods and the uses so far are those of what is listed
+pub record Holds (p : Progress) (l : Listed) : Type 0 where
+  pub space : StandsFor p.space l.entries
+  pub methods : p.methods.items ≡ methods_of l.entries
+  pub uses : p.uses.items ≡ l.uses
 
-abbrev pub Adds : Loaded → List Entry → List Seg → Parts → Rest → Type 0
-Adds loaded es p ps r = AddsEntry loaded es p (entry_for p ps r)
+-- a function that refused by this fault: memory was refused, or the walk gives the fault
+abbrev pub Fails : {Y : Type 0} → LoadFault → Result Y LoadFault → Type 0
+Fails e walk = (e ≡ loads.NoMemory) ⊎ (walk ≡ Err e)
 
--- the entries that a term adds
-abbrev pub GrowsName : Loaded → List Entry → Option Name → Parts → Rest → Type 0
-GrowsName loaded es n ps r = (es' : List Entry) × DeclaresName es n ps r es' × Holds loaded es'
+abbrev pub Gives : {X Y : Type 0} → (X → Y) → Result X LoadFault → Result Y LoadFault → Type 0
+Gives view (Ok x) walk = walk ≡ Ok (view x)
+Gives view (Err e) walk = Fails e walk
 
-abbrev pub Grows : Loaded → List Entry → Tree → Type 0
-Grows loaded es t = (es' : List Entry) × Declares es t es' × Holds loaded es'
+-- what a function made of the progress is what the walk gives, unless memory was refused
+abbrev pub Walked : {X : Type 0} → Progress → Result X LoadFault → Result Listed LoadFault → Type 0
+Walked new (Ok x) walk = (m : Listed) × Holds new m × (walk ≡ Ok m)
+Walked new (Err e) walk = Fails e walk
 
--- The namespace and the methods are those of what all terms of a table declare.
-abbrev pub HoldsAll : Loaded → Trees → Type 0
-HoldsAll loaded ts = (es : List Entry) × DeclaresAll [] ts es × Holds loaded es
+-- the same, with another answer besides
+abbrev pub WalkedTo : {X Y : Type 0} → (X → Y) → Progress → Result X LoadFault → Result (Listed × Y) LoadFault → Type 0
+WalkedTo view new (Ok x) walk = (m : Listed) × Holds new m × (walk ≡ Ok (m, view x))
+WalkedTo view new (Err e) walk = Fails e walk
+
+-- the same, with the trees before what is listed
+abbrev pub TableWalked : {X Y : Type 0} → (X → Y) → Progress → Result X LoadFault → Result (Y × Listed) LoadFault → Type 0
+TableWalked view new (Ok x) walk = (m : Listed) × Holds new m × (walk ≡ Ok (view x, m))
+TableWalked view new (Err e) walk = Fails e walk
+
+-- The namespace and the methods of a loaded set are those of these entries.
+pub record HoldsLoad (x : Loaded) (codes : List (List ℕ)) (ts : List Trees) (m : Listed) : Type 0 where
+  pub tables : codes_view x.tables.items ≡ codes
+  pub trees : trees_view x.trees.items ≡ ts
+  pub space : StandsFor x.space m.entries
+  pub methods : x.methods.items ≡ methods_of m.entries
+
+-- what a load answered is what loading forward gives, unless memory was refused
+abbrev pub GivesLoad : Result Loaded LoadFault → List (List ℕ) → Type 0
+GivesLoad (Ok x) codes = (trees : List Trees) × (m : Listed) × HoldsLoad x codes trees m × (load_at codes ≡ Ok (trees, m))
+GivesLoad (Err e) codes = Fails e (load_at codes)
+
+abbrev pub span_in : Option (List ℕ) → Method → List ℕ
+span_in None m = []
+span_in (Some code) m = slice_of code m.start m.len
+
+-- the bytes of a method's body
+abbrev pub span_of : List (List ℕ) → Method → List ℕ
+span_of tables m = span_in (slice_get tables m.table) m
+
+abbrev pub body_in : List (List ℕ) → Option Method → List ℕ
+body_in tables None = []
+body_in tables (Some m) = span_of tables m
+
+-- the bytes of the body of the method with this number
+abbrev pub body_of : Loaded → ℕ → List ℕ
+body_of x number = body_in (codes_view x.tables.items) (slice_get x.methods.items number)
+
+abbrev pub encoded_in : Option (List ℕ) → Option Trees → List ℕ
+encoded_in (Some code) (Some ts) = encodings code ts
+encoded_in _ _ = []
+
+-- the bytes of the tree of a table
+abbrev pub table_encoding : Loaded → ℕ → List ℕ
+table_encoding x t = encoded_in (slice_get (codes_view x.tables.items) t) (slice_get (trees_view x.trees.items) t)

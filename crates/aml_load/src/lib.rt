@@ -1,13 +1,17 @@
-//! The load pass: what the terms of a table declare, and the bodies of its methods.
+//! The load pass: the namespace of all tables, and the bodies of their methods.
 //!
-//! It follows the ACPI Specification 6.5, section 5.3 (the namespace) and 20.2.5 (the terms). It takes the Name and Method
-//! terms of one table.
+//! It follows the ACPI Specification 6.5, sections 5.2.11 (definition blocks), 5.3 (the namespace) and 20.2.5 (the terms).
 #![tactic(auto)]
 
 mod bodies;
+mod faults;
 mod loading;
 mod methods;
+mod roles;
+mod uses;
+mod walking;
 
 pub use bodies::read_bodies;
-pub use loading::{Loaded, load};
+pub use faults::LoadFault;
+pub use loading::{Loaded, load, rebuild};
 pub use methods::Method;

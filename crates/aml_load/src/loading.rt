@@ -1,126 +1,182 @@
-//! What the terms of a table declare.
-ghost use Rattle.std.specs.Prelude.{◌≡◌, [], List, None, IfOk, OnOk};
-ghost use Rattle.aml_names.specs.Names.{placed};
-ghost use Rattle.aml_code.specs.Declaring.{last_label};
-ghost use Rattle.aml_code.specs.View.{node_view, nodes_view, parts_view, tail_view};
+//! The load of tables in their order.
+ghost use Rattle.std.specs.Prelude.{◌≡◌, ◌⊎◌, ◌==◌, [], ◌∷◌, ◌++◌, List, IfOk, IfErr, length, ◌≤◌};
+ghost use Rattle.std.specs.Option.{unwrap_or};
+ghost use Rattle.aml_code.specs.Tree.{Trees};
+ghost use Rattle.aml_code.specs.View.{nodes_view};
 ghost use Rattle.aml_space.specs.Entries.{Entry};
-ghost use Rattle.aml_load.specs.Loading.{flags_of};
-ghost use Rattle.aml_load.specs.Views.{Holds, AddsName, AddsMethod, Adds, Grows, GrowsName, HoldsAll};
+ghost use Rattle.aml_space.specs.Known.{StandsFor};
+ghost use Rattle.aml_load.specs.Loading.{Listed, IsLoad, use_count, nothing_listed};
+ghost use Rattle.aml_load.specs.Walking.{table_at, tables_at, uses_at, load_at};
+ghost use Rattle.aml_load.specs.Stops.{StopsLoad};
+ghost use Rattle.aml_load.specs.Views.{codes_view, trees_view, AreShort, IsCode, AreCodes, Holds, HoldsLoad, Gives, GivesLoad, TableWalked, body_of, table_encoding};
 
-use crate::methods::Method;
-use aml_code::{Name, NoMemory, Node, Part, Path, Tail, last_byte, last_name, place};
-use aml_space::{Kind, Space, SpaceFault};
+use crate::faults::LoadFault;
+use crate::methods::{Method, Use};
+use crate::walking::{Progress, walk_all};
+use aml_code::{Locals, NoMemory, Node, Path, encode_terms, slice};
+use aml_names::Arity;
+use aml_parse::parse_module;
+use aml_space::{BodyScope, Space};
 use std::alloc::Global;
 
-/// What a table declares.
-#[derive(Debug, Drop)]
-pub struct Loaded {
-    /// The namespace.
+/// Tables that were loaded as one: their namespace and their methods.
+#[derive(Drop)]
+pub struct Loaded<'a> {
+    /// The AML of each table, in load order.
+    pub tables: Vec<&'a [u8]>,
+    /// The terms of each table.
+    pub trees: Vec<Vec<Node>>,
+    /// The namespace of all tables.
     pub space: Space,
-    /// The methods, in the order of the text.
+    /// The methods of all tables, in load order and in the order of the text. Their numbers begin at 0.
     pub methods: Vec<Method>,
 }
 
-/// Declares a method at a path.
-fn declare_method(
-    loaded: &mut Loaded,
-    path: Path,
-    flags: u8,
-    start: u32,
-    len: u32,
-) -> Result<(), SpaceFault>
-    ensures { (es : List Entry) → Holds loaded.old es → OnOk result (AddsMethod loaded.new es path flags start len) }
+/// Reads a table, and declares what it declares.
+#[tactic(auto, unfolding(crate::specs::Walking::table_at))]
+fn load_table(
+    alloc: Global,
+    progress: &mut Progress,
+    table: usize,
+    code: &[u8],
+) -> Result<Vec<Node>, LoadFault>
+    requires { length code.now ≤ 16777216 }
+    ensures { (l : Listed) → Holds progress.old l → TableWalked (λ x. nodes_view x.items) progress.new result (table_at table l code.now) }
 {
-    let copy = path.clone()?;
-    loaded
-        .space
-        .declare(copy, Kind::Method { args: flags % 8 })?;
-    loaded.methods.push(Method { path, start, len })?;
+    let terms = match parse_module(alloc, code) {
+        Ok(terms) => terms,
+        Err(fault) => return Err(LoadFault::in_code(table, fault)),
+    };
+    walk_all(alloc, progress, table, &Path::root(alloc), terms.as_slice())?;
+    Ok(terms)
+}
+
+#[tactic(auto, unfolding(crate::specs::Walking::tables_at))]
+fn load_tables(
+    alloc: Global,
+    progress: &mut Progress,
+    tables: &[&[u8]],
+) -> Result<Vec<Vec<Node>>, LoadFault>
+    requires { AreShort (codes_view tables.now) }
+    ensures { (l : Listed) → Holds progress.old l → TableWalked (λ x. trees_view x.items) progress.new result (tables_at 0 [] l (codes_view tables.now)) }
+{
+    let mut trees = Vec::new(alloc);
+    for table in 0..tables.len() {
+        let terms = load_table(alloc, progress, table, tables[table])?;
+        trees.push(terms)?;
+    }
+    Ok(trees)
+}
+
+/// How many arguments a name takes that stands as a TermArg outside the methods.
+fn count_of(alloc: Global, space: &Space, used: &Use) -> Result<u8, NoMemory>
+    ensures { (l : Listed) → StandsFor space.now l.entries → IfOk result (λ n. n ≡ unwrap_or (use_count l.entries used.now) 0) }
+{
+    let scope = BodyScope {
+        space,
+        method: &used.scope,
+        unknown_zero: false,
+    };
+    let count = scope.count(alloc, &Locals::new(alloc), &used.name)?;
+    Ok(count.unwrap_or(0))
+}
+
+/// Looks at each name that stands as a TermArg. `ModuleCall` at the first that takes arguments.
+#[tactic(auto, unfolding(crate::specs::Walking::uses_at))]
+fn check_uses(alloc: Global, space: &Space, uses: &[Use]) -> Result<(), LoadFault>
+    ensures { (l : Listed) → StandsFor space.now l.entries → Gives (λ x. x) result (uses_at l.entries uses.now) }
+{
+    for used in uses {
+        if count_of(alloc, space, used)? > 0 {
+            return Err(LoadFault::ModuleCall(used.table));
+        }
+    }
     Ok(())
 }
 
-/// Declares a name at a path.
-fn declare_name(loaded: &mut Loaded, path: Path) -> Result<(), SpaceFault>
-    ensures { (es : List Entry) → Holds loaded.old es → OnOk result (AddsName loaded.new es path) }
+#[tactic(auto, unfolding(crate::specs::Walking::load_at))]
+fn load_whole<'a>(alloc: Global, tables: &[&'a [u8]]) -> Result<Loaded<'a>, LoadFault>
+    requires { AreShort (codes_view tables.now) }
+    ensures { GivesLoad result (codes_view tables.now) }
 {
-    loaded.space.declare(path, Kind::Name)
-}
-
-/// The flags of a method, from its parts.
-fn flags_of(parts: &[Part]) -> u8
-    ensures { result ≡ flags_of (parts_view parts.now) }
-{
-    last_byte(parts).unwrap_or(0)
-}
-
-/// Declares a path by a term with these parts and this tail.
-fn declare_path(
-    loaded: &mut Loaded,
-    path: Path,
-    parts: &[Part],
-    tail: &Tail,
-) -> Result<(), SpaceFault>
-    ensures { (es : List Entry) → Holds loaded.old es → OnOk result (Adds loaded.new es path (parts_view parts.now) (tail_view tail.now)) }
-{
-    match tail {
-        Tail::Body { start, len } => declare_method(loaded, path, flags_of(parts), *start, *len),
-        Tail::Empty => declare_name(loaded, path),
-        Tail::Terms(_) => declare_name(loaded, path),
-        Tail::Bytes(_) => declare_name(loaded, path),
-        Tail::Elements(_) => declare_name(loaded, path),
-        Tail::Fields(_) => declare_name(loaded, path),
-    }
-}
-
-/// Where a name leads from the root.
-fn place_at_root(alloc: Global, name: &Name) -> Result<Option<Path>, NoMemory>
-    ensures { IfOk result (λ path. path ≡ placed [] name.now) }
-{
-    place(alloc, &Path::root(alloc), name)
-}
-
-/// Declares what an opcode with these parts and this tail declares. `AboveRoot` where its name leads above the root,
-/// `Duplicate` where it leads to a path that is declared already.
-fn declare_op(
-    alloc: Global,
-    loaded: &mut Loaded,
-    parts: &[Part],
-    tail: &Tail,
-) -> Result<(), SpaceFault>
-    ensures { (es : List Entry) → Holds loaded.old es → OnOk result (GrowsName loaded.new es (last_label None (parts_view parts.now)) (parts_view parts.now) (tail_view tail.now)) }
-{
-    match last_name(parts) {
-        None => Ok(()),
-        Some(name) => match place_at_root(alloc, name)? {
-            None => Err(SpaceFault::AboveRoot),
-            Some(path) => declare_path(loaded, path, parts, tail),
-        },
-    }
-}
-
-/// Declares what a term declares.
-fn declare_term(alloc: Global, loaded: &mut Loaded, node: &Node) -> Result<(), SpaceFault>
-    ensures { (es : List Entry) → Holds loaded.old es → OnOk result (Grows loaded.new es (node_view node.now)) }
-{
-    match node {
-        Node::Nothing => Ok(()),
-        Node::Named { .. } => Ok(()),
-        Node::Op { parts, tail, .. } => declare_op(alloc, loaded, parts.as_slice(), tail),
-    }
-}
-
-/// What the terms of a table declare, in the order of the text.
-///
-/// `AboveRoot` where a name leads above the root, `Duplicate` where it leads to a path that is declared already.
-pub fn load(alloc: Global, nodes: &[Node]) -> Result<Loaded, SpaceFault>
-    ensures { IfOk result (λ loaded. HoldsAll loaded (nodes_view nodes.now)) }
-{
-    let mut loaded = Loaded {
+    let mut kept = Vec::new(alloc);
+    kept.extend_from_slice(tables)?;
+    let mut progress = Progress {
         space: Space::new(alloc)?,
         methods: Vec::new(alloc),
+        uses: Vec::new(alloc),
     };
-    for node in nodes {
-        declare_term(alloc, &mut loaded, node)?;
+    let trees = load_tables(alloc, &mut progress, tables)?;
+    check_uses(alloc, &progress.space, progress.uses.as_slice())?;
+    Ok(Loaded {
+        tables: kept,
+        trees,
+        space: progress.space,
+        methods: progress.methods,
+    })
+}
+
+/// What the type of a table's AML says: that it is bytes.
+fn is_code(_code: &[u8])
+    ensures { IsCode _code.now }
+{}
+
+/// That each table's AML is bytes. Nothing happens here; the clauses of `load` rest on it, and the type of the tables
+/// doesn't say it of all at once.
+fn are_codes(tables: &[&[u8]])
+    ensures { AreCodes (codes_view tables.now) }
+{
+    for code in tables {
+        is_code(code);
     }
-    Ok(loaded)
+}
+
+/// Loads tables as one, each by its AML, in load order.
+///
+/// Each table is read whole, and then its terms declare in the order of the text. A path is declared once; a Scope or an
+/// Alias needs a name that is predefined or came earlier; there are at most 1,048,576 methods; and no name that takes
+/// arguments stands as a TermArg outside the methods. The fault is the first that is met.
+pub fn load<'a>(alloc: Global, tables: &[&'a [u8]]) -> Result<Loaded<'a>, LoadFault>
+    // The limit of a table.
+    requires { AreShort (codes_view tables.now) }
+
+    // The tables' AML reads as the trees, and these load to entries whose namespace and methods are the answer's.
+    ensures sound { IfOk result (λ x. (trees : List Trees) × (m : Listed) × IsLoad (codes_view tables.now) trees m × HoldsLoad x (codes_view tables.now) trees m) }
+    // To nothing else.
+    ensures one { IfOk result (λ x. (trees : List Trees) (m : Listed) → IsLoad (codes_view tables.now) trees m → HoldsLoad x (codes_view tables.now) trees m) }
+    // A refusal for another cause than memory comes only where there are no trees and entries that load.
+    ensures complete { IfErr result (λ e. (e ≡ LoadFault.NoMemory) ⊎ ((trees : List Trees) (m : Listed) → IsLoad (codes_view tables.now) trees m → ⊥)) }
+    // A fault is true of its table and of the entries where it stands.
+    ensures true_fault { IfErr result (λ e. (e ≡ LoadFault.NoMemory) ⊎ StopsLoad (codes_view tables.now) e) }
+{
+    are_codes(tables);
+    load_whole(alloc, tables)
+}
+
+impl<'a> Loaded<'a> {
+    /// The bytes of the body of a method, by the method's number. Of a number without a method there are none.
+    pub fn body(&self, number: u32) -> &'a [u8]
+        ensures { result.now ≡ body_of self.now number }
+    {
+        match self.methods.get(number as usize) {
+            None => &[],
+            Some(method) => match self.tables.get(method.table) {
+                None => &[],
+                Some(code) => slice(code, method.start, method.len),
+            },
+        }
+    }
+}
+
+/// The AML of a table, made anew from its terms. Of a number without a table there is none.
+pub fn rebuild(alloc: Global, loaded: &Loaded<'_>, table: usize) -> Result<Vec<u8>, NoMemory>
+    ensures { IfOk result (λ bytes. bytes.items ≡ table_encoding loaded.now table) }
+{
+    match loaded.tables.get(table) {
+        None => Ok(Vec::new(alloc)),
+        Some(code) => match loaded.trees.get(table) {
+            None => Ok(Vec::new(alloc)),
+            Some(terms) => encode_terms(alloc, code, terms.as_slice()),
+        },
+    }
 }

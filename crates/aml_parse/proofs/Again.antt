@@ -1,39 +1,38 @@
 -- A lawful term is read again from its bytes, whatever follows them.
-use Rattle.std.proofs.Common.{◌≡◌, ℕ, zero, suc, ◌+◌, ◌-◌, ◌<◌, ◌≤◌, Bool, true, false, cond, ◌==◌, List, [], ◌∷◌, ◌++◌, length, drop, Option, Some, None, Result, Ok, Err, refl, sym, ap, subst, ◌∙◌, append_assoc, ◌⊎◌, arith, inl, inr}
+use Rattle.std.proofs.Common.{◌≡◌, ℕ, zero, suc, ◌+◌, ◌-◌, ◌<◌, ◌≤◌, Bool, true, false, cond, ◌==◌, List, [], ◌∷◌, ◌++◌, length, drop, Option, Some, None, Ok, Err, refl, sym, ap, subst, ◌∙◌, append_assoc, arith, inl, inr}
+use Rattle.std.proofs.lemmas.Bool.{ne_eqb}
 use Rattle.std.proofs.lemmas.List.{length-append, append-nil, length-take, length-drop}
-use Rattle.aml_names.specs.declared.faults.CodeFault.{CodeFault}
-use Rattle.aml_names.specs.declared.faults.CodeFault.TheVariants as faults
 use Rattle.aml_names.specs.declared.segments.Seg.{Seg}
 use Rattle.aml_names.specs.declared.names.Name.{Name}
-use Rattle.aml_names.specs.Names.{IsName, spelling, is_name_lead}
-use Rattle.aml_names.specs.NameReading.{name_at, is_bare}
+use Rattle.aml_names.specs.Names.{is_lead_char, IsNameSeg, IsName, spelling, is_name_lead}
+use Rattle.aml_names.specs.NameReading.{is_bare}
 use Rattle.aml_names.specs.Paths.{PathSet}
-use Rattle.aml_names.specs.Steps.{◌>>=◌, Left, byte_at}
-use Rattle.aml_names.proofs.NameLaws.{name_again, NameLead, name_lead}
+use Rattle.aml_names.specs.Steps.{◌>>=◌, Left}
+use Rattle.aml_names.proofs.NameLaws.{name_again, name_lead}
 use Rattle.aml_code.specs.declared.packages.PkgWidth.{PkgWidth}
 use Rattle.aml_code.specs.declared.rows.OpRow.{OpRow}
 use Rattle.aml_code.specs.declared.rows.PartKind.{PartKind}
 use Rattle.aml_code.specs.declared.rows.PartKind.TheVariants as kinds
-use Rattle.aml_code.specs.declared.rows.Place.{Place}
 use Rattle.aml_code.specs.declared.rows.Position.{Position}
 use Rattle.aml_code.specs.declared.rows.Position.TheVariants as positions
 use Rattle.aml_code.specs.declared.rows.TailKind.{TailKind}
 use Rattle.aml_code.specs.declared.rows.TailKind.TheVariants as tails
 use Rattle.aml_code.specs.Packages.{width_len, package_bytes, FitsWidth}
-use Rattle.aml_code.specs.Lengths.{span_at}
 use Rattle.aml_code.specs.Rows.{row_of, parts_of, has_length, takes}
-use Rattle.aml_code.specs.Tree.{Tree, nothing, named, op, Trees, no_trees, tree_more, OnePart, child, label, byte, word, dword, qword, text, Parts, no_parts, part_more, Rest, empty, terms, elements, fields, body, tree_count}
+use Rattle.aml_code.specs.Tree.{Tree, nothing, named, op, Trees, no_trees, tree_more, OnePart, child, label, byte, word, dword, qword, text, Parts, no_parts, part_more, Rest, empty, terms, elements, fields, body, OneUnit, unit, reserved, access, connection, extended, Units, no_units, unit_more, Joint, target, buffer, tree_count}
 use Rattle.aml_code.specs.Tree as trees
-use Rattle.aml_code.specs.Encoding.{opcode_bytes, packed, slice_of, encoding, encodings, part_encoding, parts_encoding, rest_encoding}
-use Rattle.aml_code.specs.Declaring.{names_declared, with_declared, declared_by, after, after_all, after_part, after_parts, after_rest}
+use Rattle.aml_code.specs.Encoding.{opcode_bytes, packed, slice_of, encoding, encodings, part_encoding, parts_encoding, rest_encoding, unit_encoding, units_encoding, joint_encoding}
+use Rattle.aml_code.specs.Declaring.{names_declared, with_declared, declared_by, after, after_all, after_part, after_parts, after_rest, after_unit, after_units, after_joint}
 use Rattle.aml_code.specs.Faults.{Arities}
-use Rattle.aml_code.specs.Lawful.{HasCount, count_in, HasWidth, is_guard, terms_in, next_position, Setting, IsOperation, IsLawful, AreArguments, AreTerms, IsPart, AreParts, IsTail}
-use Rattle.aml_code.specs.Meaning.{setting_of, length_bytes, BodyStands, BodiesStand, RestStands}
+use Rattle.aml_code.specs.Lawful.{HasWidth, IsGuarded, is_guard, terms_in, next_position, IsLawful, AreArguments, AreTerms, IsPart, AreParts, IsTail, IsJoint, IsUnit, AreUnits}
+use Rattle.aml_code.specs.Meaning.{setting_of, BodyStands, BodiesStand, RestStands}
 use Rattle.aml_code.proofs.LengthLaws.{span_again, length-package_bytes}
-use Rattle.aml_code.proofs.RowFacts.{row_opcode, row_is_opcode, lead_of, row_apart, target_opcode, row_unguarded, row_fieldless, opcode_lead}
-use Rattle.aml_parse.specs.Reading.{Reader, flat, byte_part, count_part, word_part, dword_part, qword_part, text_part, any_name_part, name_part, child_at, part_at, parts_at, arguments_at, terms_at, wanted, known, call_at, takes_names, name_term_at, opcode_at, refusal, guard_at, body_to, tail_at, plain_at, packed_at, row_at, by_row, operation_at, is_none, term_at}
-use Rattle.aml_parse.proofs.FlatLaws.{byte_again, count_again, word_again, dword_again, qword_again, text_again, labelled_again, any_name_again, opcode_again}
-use Rattle.aml_parse.proofs.Took.{IsReader, nonempty, wanted_of_count, names_taken, empty_tail, long_tail}
+use Rattle.aml_code.proofs.RowFacts.{row_opcode, row_is_opcode, lead_of, row_apart, target_opcode, opcode_lead}
+use Rattle.aml_parse.specs.Reading.{Reader, flat, byte_part, count_part, word_part, dword_part, qword_part, text_part, any_name_part, name_part, child_at, part_at, parts_at, arguments_at, terms_at, named_unit, reserved_unit, access_unit, extended_unit, named_joint, buffer_at, joint_at, connection_at, unit_at, units_at, wanted, known, call_at, takes_names, name_term_at, refusal, guard_at, body_to, tail_at, plain_at, packed_at, row_at, by_row, operation_at, is_none, term_at}
+use Rattle.aml_parse.proofs.FlatLaws.{byte_again, count_again, word_again, dword_again, qword_again, text_again, segmented_again, labelled_again, any_name_again, opcode_again}
+use Rattle.aml_parse.proofs.UnitLaws.{apart, named_unit_again, reserved_again, access_again, extended_again}
+use Rattle.aml_parse.proofs.Leads.{empty_rest, guard_again}
+use Rattle.aml_parse.proofs.Took.{IsReader, nonempty, unit_some, wanted_of_count, names_taken, long_tail}
 use Rattle.aml_parse.proofs.Bodiless.{bodiless, terms_bodiless}
 
 -- ---- parts
@@ -117,6 +116,121 @@ terms_again arity scope code levels read law (suc n) p at end ls (tree_more t ts
     ∙ ap (λ r. r >>= λ first. terms_at read n (next_position p first.0) end first.1 first.2 >>= λ others. Ok (tree_more first.0 others.0, others.1)) (law.again p at end ls t back h.0 stands.0 place)
     ∙ ap (λ r. r >>= λ others. Ok (tree_more t others.0, others.1)) (terms_again arity scope code levels read law n (next_position p t) (at + length front) end (after scope ls t) ts (omega (arith, some, long)) h.1 stands.1 next_place)
 
+-- ---- field lists
+
+-- bytes that begin with the lead byte of a Buffer
+joint_led : (read : Position → Reader Tree) (end : ℕ) (ls : PathSet) (behind : List ℕ) → joint_at read end ls (0x11 ∷ behind) ≡ buffer_at (read positions.Data) end ls (0x11 ∷ behind)
+unfolding joint_at
+joint_led read end ls behind = refl
+
+-- other bytes
+joint_named : (read : Position → Reader Tree) (end : ℕ) (ls : PathSet) (lead : ℕ) (behind : List ℕ) → (lead == 0x11) ≡ false → joint_at read end ls (lead ∷ behind) ≡ flat named_joint end ls (lead ∷ behind)
+unfolding joint_at
+joint_named read end ls lead behind h = rw h refl
+
+-- the first byte of a name isn't that of a Buffer
+name_apart : (n : Name) → IsName n → (lead : ℕ) × (behind : List ℕ) × (spelling n ≡ lead ∷ behind) × ((lead == 0x11) ≡ false)
+name_apart n is =
+    let l = name_lead n is in
+    elim l.kind [
+      | inl k ↦ (l.lead, l.behind, l.text, ne_eqb l.lead 0x11 (λ e. let x : is_name_lead 0x11 ≡ true = subst (λ (c : ℕ). is_name_lead c ≡ true) e k.0 in absurd cc))
+      | inr k ↦ (l.lead, l.behind, l.text, ne_eqb l.lead 0x11 (λ e. absurd (omega (arith, e, k.1))))
+    ]
+
+joint_again : (arity : Arities) (scope : Option (List Seg)) (code : List ℕ) (levels : ℕ) (read : Position → Reader Tree) → IsReader arity scope code levels read → (at end : ℕ) (ls : PathSet) (l : Joint) (rest : List ℕ)
+    → IsJoint (setting_of arity scope code) levels ls l → at + length (joint_encoding code l ++ rest) ≡ end → joint_at read end ls (joint_encoding code l ++ rest) ≡ Ok (l, after_joint scope ls l, rest)
+joint_again arity scope code levels read law at end ls (target n) rest h place =
+    let f = name_apart n h.0 in
+    let bs : List ℕ = spelling n ++ rest in
+    let text : bs ≡ f.0 ∷ (f.1 ++ rest) = ap (λ (b : List ℕ). b ++ rest) f.2 in
+    let here : joint_at read end ls bs ≡ flat named_joint end ls bs =
+    subst (λ (b : List ℕ). joint_at read end ls b ≡ flat named_joint end ls b) (sym text) (joint_named read end ls f.0 (f.1 ++ rest) f.3) in
+    let read_name : named_joint end bs ≡ Ok (target n, rest) = ap (λ r. r >>= λ m. Ok (target m.0, m.1)) (segmented_again end n rest h.0 h.1) in
+    here ∙ ap (λ r. r >>= λ y. Ok (y.0, ls, y.1)) read_name
+joint_again arity scope code levels read law at end ls (buffer nothing) rest h place = absurd h.0
+joint_again arity scope code levels read law at end ls (buffer (named n ts)) rest h place = absurd h.0
+joint_again arity scope code levels read law at end ls (buffer (op o w ps t)) rest h place =
+    let s = setting_of arity scope code in
+    let content = packed w (parts_encoding code ps ++ rest_encoding code t) in
+    let bs : List ℕ = encoding code (op o w ps t) ++ rest in
+    let text : bs ≡ 0x11 ∷ (content ++ rest) = ap (λ (n : ℕ). (opcode_bytes n ++ content) ++ rest) h.0 in
+    let here : joint_at read end ls bs ≡ buffer_at (read positions.Data) end ls bs =
+    subst (λ (b : List ℕ). joint_at read end ls b ≡ buffer_at (read positions.Data) end ls b) (sym text) (joint_led read end ls (content ++ rest)) in
+    here ∙ ap (λ r. r >>= λ x. Ok (buffer x.0, x.1, x.2)) (law.again positions.Data at end ls (op o w ps t) rest h.1 (bodiless s code levels positions.Data ls at (op o w ps t) refl h.1) place)
+
+seg_first : (front rest : List ℕ) → IsNameSeg front → (lead : ℕ) × (behind : List ℕ) × (front ++ rest ≡ lead ∷ behind) × (is_lead_char lead ≡ true)
+seg_first [] rest h = absurd h
+seg_first (a ∷ []) rest h = absurd h
+seg_first (a ∷ b ∷ []) rest h = absurd h
+seg_first (a ∷ b ∷ c ∷ []) rest h = absurd h
+seg_first (a ∷ b ∷ c ∷ d ∷ []) rest h = (a, b ∷ c ∷ d ∷ rest, refl, h.0)
+seg_first (a ∷ b ∷ c ∷ d ∷ f ∷ front) rest h = absurd h
+
+-- bytes that begin with a segment
+unit_named : (read : Position → Reader Tree) (end : ℕ) (ls : PathSet) (lead : ℕ) (behind : List ℕ) → is_lead_char lead ≡ true → unit_at read end ls (lead ∷ behind) ≡ flat named_unit end ls (lead ∷ behind)
+unfolding unit_at
+unit_named read end ls lead behind h = rw (apart lead 0x00 h refl, apart lead 0x01 h refl, apart lead 0x02 h refl, apart lead 0x03 h refl) refl
+
+unit_reserved : (read : Position → Reader Tree) (end : ℕ) (ls : PathSet) (behind : List ℕ) → unit_at read end ls (0x00 ∷ behind) ≡ flat reserved_unit end ls behind
+unfolding unit_at
+unit_reserved read end ls behind = refl
+
+unit_access : (read : Position → Reader Tree) (end : ℕ) (ls : PathSet) (behind : List ℕ) → unit_at read end ls (0x01 ∷ behind) ≡ flat access_unit end ls behind
+unfolding unit_at
+unit_access read end ls behind = refl
+
+unit_connection : (read : Position → Reader Tree) (end : ℕ) (ls : PathSet) (behind : List ℕ) → unit_at read end ls (0x02 ∷ behind) ≡ connection_at read end ls behind
+unfolding unit_at
+unit_connection read end ls behind = refl
+
+unit_extended : (read : Position → Reader Tree) (end : ℕ) (ls : PathSet) (behind : List ℕ) → unit_at read end ls (0x03 ∷ behind) ≡ flat extended_unit end ls behind
+unfolding unit_at
+unit_extended read end ls behind = refl
+
+flat_unit : (step : ℕ → List ℕ → Left OneUnit) (end : ℕ) (ls : PathSet) (bs rest : List ℕ) (x : OneUnit) → step end bs ≡ Ok (x, rest) → flat step end ls bs ≡ Ok (x, ls, rest)
+flat_unit step end ls bs rest x e = ap (λ r. r >>= λ y. Ok (y.0, ls, y.1)) e
+
+unit_again : (arity : Arities) (scope : Option (List Seg)) (code : List ℕ) (levels : ℕ) (read : Position → Reader Tree) → IsReader arity scope code levels read → (at end : ℕ) (ls : PathSet) (u : OneUnit) (rest : List ℕ)
+    → IsUnit (setting_of arity scope code) levels ls u → at + length (unit_encoding code u ++ rest) ≡ end → unit_at read end ls (unit_encoding code u ++ rest) ≡ Ok (u, after_unit scope ls u, rest)
+unit_again arity scope code levels read law at end ls (unit g w n) rest h place =
+    let bs : List ℕ = (g.0 ++ package_bytes w n) ++ rest in
+    let f = seg_first g.0 (package_bytes w n ++ rest) h.0 in
+    let text : bs ≡ f.0 ∷ f.1 = append_assoc g.0 (package_bytes w n) rest ∙ f.2 in
+    let here : unit_at read end ls bs ≡ flat named_unit end ls bs =
+    subst (λ (b : List ℕ). unit_at read end ls b ≡ flat named_unit end ls b) (sym text) (unit_named read end ls f.0 f.1 f.3) in
+    here ∙ flat_unit named_unit end ls bs rest (unit g w n) (named_unit_again end g w n rest h.0 h.1)
+unit_again arity scope code levels read law at end ls (reserved w n) rest h place =
+    unit_reserved read end ls (package_bytes w n ++ rest) ∙ flat_unit reserved_unit end ls (package_bytes w n ++ rest) rest (reserved w n) (reserved_again end w n rest h)
+unit_again arity scope code levels read law at end ls (access a b) rest h place =
+    unit_access read end ls (a ∷ b ∷ rest) ∙ flat_unit access_unit end ls (a ∷ b ∷ rest) rest (access a b) (access_again end a b rest)
+unit_again arity scope code levels read law at end ls (connection l) rest h place =
+    unit_connection read end ls (joint_encoding code l ++ rest)
+    ∙ ap (λ r. r >>= λ m. Ok (connection m.0, m.1, m.2)) (joint_again arity scope code levels read law (at + 1) end ls l rest h (omega (arith, place)))
+unit_again arity scope code levels read law at end ls (extended a b c) rest h place =
+    unit_extended read end ls (a ∷ b ∷ c ∷ rest) ∙ flat_unit extended_unit end ls (a ∷ b ∷ c ∷ rest) rest (extended a b c) (extended_again end a b c rest)
+
+units_step : (read : Position → Reader Tree) (n end : ℕ) (ls : PathSet) (bs : List ℕ) → 0 < length bs
+    → units_at read (suc n) end ls bs ≡ (unit_at read end ls bs >>= λ first. units_at read n end first.1 first.2 >>= λ others. Ok (unit_more first.0 others.0, others.1))
+unfolding units_at
+units_step read n end ls [] h = absurd (omega arith)
+units_step read n end ls (b ∷ bs) h = refl
+
+units_again : (arity : Arities) (scope : Option (List Seg)) (code : List ℕ) (levels : ℕ) (read : Position → Reader Tree) → IsReader arity scope code levels read → (n at end : ℕ) (ls : PathSet) (us : Units)
+    → length (units_encoding code us) ≤ n → AreUnits (setting_of arity scope code) levels ls us → at + length (units_encoding code us) ≡ end → units_at read n end ls (units_encoding code us) ≡ Ok (us, after_units scope ls us)
+unfolding units_at
+units_again arity scope code levels read law n at end ls no_units le h place = refl
+units_again arity scope code levels read law zero at end ls (unit_more u us) le h place =
+    absurd (omega (arith, unit_some (setting_of arity scope code) code levels ls u h.0, length-append (unit_encoding code u) (units_encoding code us)))
+units_again arity scope code levels read law (suc n) at end ls (unit_more u us) le h place =
+    let front = unit_encoding code u in
+    let back = units_encoding code us in
+    let some = unit_some (setting_of arity scope code) code levels ls u h.0 in
+    let long = length-append front back in
+    let next_place : (at + length front) + length back ≡ end = omega (arith, place, long) in
+    units_step read n end ls (front ++ back) (omega (arith, some, long))
+    ∙ ap (λ r. r >>= λ first. units_at read n end first.1 first.2 >>= λ others. Ok (unit_more first.0 others.0, others.1)) (unit_again arity scope code levels read law at end ls u back h.0 place)
+    ∙ ap (λ r. r >>= λ others. Ok (unit_more u others.0, others.1)) (units_again arity scope code levels read law n (at + length front) end (after_unit scope ls u) us (omega (arith, some, long)) h.1 next_place)
+
 -- ---- names
 
 call_again : (arity : Arities) (scope : Option (List Seg)) (code : List ℕ) (levels : ℕ) (read : Position → Reader Tree) → IsReader arity scope code levels read → (p : Position) (at end : ℕ) (ls : PathSet) (n : Name) (ts : Trees) (rest : List ℕ)
@@ -168,17 +282,18 @@ named_again arity scope code levels read law p at end ls n ts rest h place =
 -- ---- tails
 
 tail_again : (arity : Arities) (scope : Option (List Seg)) (code : List ℕ) (levels : ℕ) (read : Position → Reader Tree) → IsReader arity scope code levels read → (p : Position) (k : TailKind) (at end : ℕ) (ls : PathSet) (t : Rest)
-    → IsTail (setting_of arity scope code) levels p k ls t → (k ≡ tails.Empty → ⊥) → (k ≡ tails.Fields → ⊥) → RestStands code at t → at + length (rest_encoding code t) ≡ end
+    → IsTail (setting_of arity scope code) levels p k ls t → (k ≡ tails.Empty → ⊥) → RestStands code at t → at + length (rest_encoding code t) ≡ end
     → tail_at read p k end ls (rest_encoding code t) ≡ Ok (t, after_rest scope ls t)
-tail_again arity scope code levels read law p tails.Empty at end ls t h some other stands place = absurd (some refl)
-tail_again arity scope code levels read law p tails.Fields at end ls t h some other stands place = absurd (other refl)
-tail_again arity scope code levels read law p tails.Terms at end ls (terms ts) h some other stands place =
+tail_again arity scope code levels read law p tails.Empty at end ls t h some stands place = absurd (some refl)
+tail_again arity scope code levels read law p tails.Fields at end ls (fields us) h some stands place =
+    ap (λ r. r >>= λ x. Ok (fields x.0, x.1)) (units_again arity scope code levels read law (length (units_encoding code us)) at end ls us (omega arith) h place)
+tail_again arity scope code levels read law p tails.Terms at end ls (terms ts) h some stands place =
     ap (λ r. r >>= λ x. Ok (terms x.0, x.1)) (terms_again arity scope code levels read law (length (encodings code ts)) p at end ls ts (omega arith) h stands place)
-tail_again arity scope code levels read law p tails.Bytes at end ls (trees.bytes bs) h some other stands place = refl
-tail_again arity scope code levels read law p tails.Elements at end ls (elements ts) h some other stands place =
+tail_again arity scope code levels read law p tails.Bytes at end ls (trees.bytes bs) h some stands place = refl
+tail_again arity scope code levels read law p tails.Elements at end ls (elements ts) h some stands place =
     let s = setting_of arity scope code in
     ap (λ r. r >>= λ x. Ok (elements x.0, x.1)) (terms_again arity scope code levels read law (length (encodings code ts)) positions.Data at end ls ts (omega arith) h (terms_bodiless s code levels positions.Data ls at ts refl h) place)
-tail_again arity scope code levels read law p tails.Body at end ls (body start len) h some other stands place =
+tail_again arity scope code levels read law p tails.Body at end ls (body start len) h some stands place =
     let size : length (slice_of code start len) ≡ len = length_slice code start len h in
     let start_is : end - length (slice_of code start len) ≡ start = omega (arith, place, stands) in
     let len_is : end - start ≡ len = omega (arith, place, stands, size) in
@@ -186,7 +301,7 @@ tail_again arity scope code levels read law p tails.Body at end ls (body start l
   where
     length_slice : (code : List ℕ) (start len : ℕ) → start + len ≤ length code → length (slice_of code start len) ≡ len
     length_slice code start len le = omega (arith, length-take len (drop start code), length-drop start code)
-tail_again arity scope code levels read law p _ at end ls _ h some other stands place = absurd h
+tail_again arity scope code levels read law p _ at end ls _ h some stands place = absurd h
 
 -- ---- opcodes
 
@@ -223,13 +338,13 @@ plain_again arity scope code levels read law o row at end ls ps rest listed h pl
     ∙ ap (λ (f : Option OpRow). Ok (op o None ps empty, declared_by scope f (after_parts scope ls ps) ps empty, rest)) (sym listed)
 
 packed_again : (arity : Arities) (scope : Option (List Seg)) (code : List ℕ) (levels : ℕ) (read : Position → Reader Tree) → IsReader arity scope code levels read → (p : Position) (o : ℕ) (w : PkgWidth) (row : OpRow) (there at end : ℕ) (ls : PathSet)
-    (ps : Parts) (t : Rest) (rest : List ℕ) → row_of o ≡ Some row → FitsWidth w (width_len w + length (parts_encoding code ps ++ rest_encoding code t))
+    (ps : Parts) (t : Rest) (rest : List ℕ) → row_of o ≡ Some row → IsGuarded (is_guard p row.place) ps → FitsWidth w (width_len w + length (parts_encoding code ps ++ rest_encoding code t))
     → AreParts (setting_of arity scope code) levels (parts_of row.shape) ls ps → IsTail (setting_of arity scope code) levels (terms_in p row.place) row.tail (after_parts scope ls ps) t → (row.tail ≡ tails.Empty → ⊥)
     → RestStands code (at + (width_len w + length (parts_encoding code ps))) t → at + length (packed (Some w) (parts_encoding code ps ++ rest_encoding code t) ++ rest) ≡ end
     → packed_at scope read p there row end ls (packed (Some w) (parts_encoding code ps ++ rest_encoding code t) ++ rest)
     ≡ Ok (op o (Some w) ps t, declared_by scope (row_of o) (after_rest scope (after_parts scope ls ps) t) ps t, rest)
 unfolding packed_at
-packed_again arity scope code levels read law p o w row there at end ls ps t rest listed fits h tail some stands place =
+packed_again arity scope code levels read law p o w row there at end ls ps t rest listed guarded fits h tail some stands place =
     let front = parts_encoding code ps in
     let back = rest_encoding code t in
     let inside = front ++ back in
@@ -243,9 +358,9 @@ packed_again arity scope code levels read law p o w row there at end ls ps t res
     let made : PkgWidth → Parts → Rest → PathSet → List ℕ → Tree × PathSet × List ℕ = λ v xs y m r. (op row.opcode (Some v) xs y, with_declared scope m (names_declared row.declares xs y), r) in
     ap (packed_at scope read p there row end ls) split
     ∙ ap (λ r. r >>= λ span. guard_at (is_guard p row.place) there (end - length span.2) span.1 >>= λ guarded. parts_at read (parts_of row.shape) (end - length span.2) ls span.1 >>= λ xs. tail_at read (terms_in p row.place) row.tail (end - length span.2) xs.1 xs.2 >>= λ y. Ok (made span.0 xs.0 y.0 y.1 span.2)) (span_again end w inside rest fits)
-    ∙ ap (λ (b : Bool). guard_at b there inner inside >>= λ guarded. parts_at read (parts_of row.shape) inner ls inside >>= λ xs. tail_at read (terms_in p row.place) row.tail inner xs.1 xs.2 >>= λ y. Ok (made w xs.0 y.0 y.1 rest)) (row_unguarded o row p listed)
+    ∙ ap (λ r. r >>= λ guarded. parts_at read (parts_of row.shape) inner ls inside >>= λ xs. tail_at read (terms_in p row.place) row.tail inner xs.1 xs.2 >>= λ y. Ok (made w xs.0 y.0 y.1 rest)) (guard_again (is_guard p row.place) there inner code ps back guarded)
     ∙ ap (λ r. r >>= λ xs. tail_at read (terms_in p row.place) row.tail inner xs.1 xs.2 >>= λ y. Ok (made w xs.0 y.0 y.1 rest)) (parts_again arity scope code levels read law (parts_of row.shape) (at + width_len w) inner ls ps back h parts_place)
-    ∙ ap (λ r. r >>= λ y. Ok (made w ps y.0 y.1 rest)) (tail_again arity scope code levels read law (terms_in p row.place) row.tail (at + (width_len w + length front)) inner (after_parts scope ls ps) t tail some (row_fieldless o row listed) stands tail_place)
+    ∙ ap (λ r. r >>= λ y. Ok (made w ps y.0 y.1 rest)) (tail_again arity scope code levels read law (terms_in p row.place) row.tail (at + (width_len w + length front)) inner (after_parts scope ls ps) t tail some stands tail_place)
     ∙ ap (λ (n : ℕ). Ok (op n (Some w) ps t, with_declared scope (after_rest scope (after_parts scope ls ps) t) (names_declared row.declares ps t), rest)) (row_opcode o row listed)
     ∙ ap (λ (f : Option OpRow). Ok (op o (Some w) ps t, declared_by scope f (after_rest scope (after_parts scope ls ps) t) ps t, rest)) (sym listed)
 
@@ -256,7 +371,7 @@ op_again : (arity : Arities) (scope : Option (List Seg)) (code : List ℕ) (leve
 op_again arity scope code levels read law p o None at end ls ps t rest h false short stands place =
     let row = h.row in
     let front = parts_encoding code ps in
-    let is_empty : t ≡ empty = tail_empty (h.row).tail short t h.tail in
+    let is_empty : t ≡ empty = empty_rest (setting_of arity scope code) levels (terms_in p row.place) row.tail (after_parts scope ls ps) t short h.tail in
     let text : opcode_bytes o ++ (front ++ rest_encoding code t) ++ rest ≡ opcode_bytes o ++ (front ++ rest) =
     ap (λ (y : Rest). opcode_bytes o ++ (front ++ rest_encoding code y) ++ rest) is_empty ∙ ap (λ (b : List ℕ). (opcode_bytes o ++ b) ++ rest) (append-nil front) ∙ append_assoc (opcode_bytes o) front rest in
     let there = end - length (opcode_bytes o ++ (front ++ rest)) in
@@ -266,19 +381,6 @@ op_again arity scope code levels read law p o None at end ls ps t rest h false s
     ∙ ap (λ (c : Bool). cond c (packed_at scope read p there row end ls (front ++ rest)) (plain_at scope read row end ls (front ++ rest))) short
     ∙ plain_again arity scope code levels read law o row (at + length (opcode_bytes o)) end ls ps rest h.listed h.parts inner_place
     ∙ ap (λ (y : Rest). Ok (op o None ps y, declared_by scope (row_of o) (after_rest scope (after_parts scope ls ps) y) ps y, rest)) (sym is_empty)
-  where
-    tail_empty : (k : TailKind) → has_length k ≡ false → (t : Rest) → IsTail (setting_of arity scope code) levels (terms_in p (h.row).place) k (after_parts scope ls ps) t → t ≡ empty
-    tail_empty tails.Empty e empty l = refl
-    tail_empty tails.Empty e (terms ts) l = absurd l
-    tail_empty tails.Empty e (trees.bytes bs) l = absurd l
-    tail_empty tails.Empty e (elements ts) l = absurd l
-    tail_empty tails.Empty e (fields us) l = absurd l
-    tail_empty tails.Empty e (body start len) l = absurd l
-    tail_empty tails.Terms e t l = absurd cc
-    tail_empty tails.Bytes e t l = absurd cc
-    tail_empty tails.Elements e t l = absurd cc
-    tail_empty tails.Fields e t l = absurd cc
-    tail_empty tails.Body e t l = absurd cc
 op_again arity scope code levels read law p o None at end ls ps t rest h true long stands place =
     let width : HasWidth true None (length (parts_encoding code ps ++ rest_encoding code t)) = subst (λ (b : Bool). HasWidth b None (length (parts_encoding code ps ++ rest_encoding code t))) long h.width in
     absurd width
@@ -298,7 +400,7 @@ op_again arity scope code levels read law p o (Some w) at end ls ps t rest h tru
     ap (term_at arity scope read p end ls) text
     ∙ reach_row arity scope read p o row end ls (content ++ rest) h.listed h.taken
     ∙ ap (λ (c : Bool). cond c (packed_at scope read p there row end ls (content ++ rest)) (plain_at scope read row end ls (content ++ rest))) long
-    ∙ packed_again arity scope code levels read law p o w row there (at + length (opcode_bytes o)) end ls ps t rest h.listed width h.parts h.tail (long_tail row.tail long) tail_stands inner_place
+    ∙ packed_again arity scope code levels read law p o w row there (at + length (opcode_bytes o)) end ls ps t rest h.listed h.guarded width h.parts h.tail (long_tail row.tail long) tail_stands inner_place
 
 -- ---- terms
 

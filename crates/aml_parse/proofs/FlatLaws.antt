@@ -1,5 +1,5 @@
 -- A part without terms that is read is the part that is spelled, and one that is spelled is read again.
-use Rattle.std.proofs.Common.{◌≡◌, ℕ, zero, suc, ◌+◌, ◌-◌, ◌/◌, ◌%◌, ◌^◌, ◌<◌, ◌≤◌, Bool, true, false, cond, eqb, ltb, ◌==◌, List, [], ◌∷◌, ◌++◌, length, get_or, take, drop, Option, Some, None, Result, Ok, Err, refl, sym, ap, subst, ◌∙◌, append_assoc, ◌⊎◌, arith, inl, inr}
+use Rattle.std.proofs.Common.{◌≡◌, ℕ, zero, suc, ◌+◌, ◌-◌, ◌/◌, ◌%◌, ◌^◌, ◌<◌, ◌≤◌, true, false, cond, eqb, ltb, ◌==◌, List, [], ◌∷◌, ◌++◌, length, get_or, take, drop, Option, Some, None, Result, Ok, Err, refl, sym, ap, subst, ◌∙◌, append_assoc, ◌⊎◌, arith, inl, inr}
 use Rattle.std.specs.Prelude.{position}
 use Rattle.std.specs.List.{position_or_len}
 use Rattle.std.proofs.Math.Seq.{drop-cons}
@@ -10,10 +10,10 @@ use Rattle.std.proofs.lemmas.List.Sums.{position_or_len_is}
 use Rattle.aml_names.specs.declared.faults.CodeFault.{CodeFault}
 use Rattle.aml_names.specs.declared.faults.CodeFault.TheVariants as faults
 use Rattle.aml_names.specs.declared.names.Name.{Name}
-use Rattle.aml_names.specs.Names.{IsName, spelling, is_name_lead}
+use Rattle.aml_names.specs.Names.{IsName, spelling}
 use Rattle.aml_names.specs.NameReading.{name_at, has_segment, NameFault}
 use Rattle.aml_names.specs.Paths.{PathSet}
-use Rattle.aml_names.specs.Steps.{◌>>=◌, Left, byte_at}
+use Rattle.aml_names.specs.Steps.{◌>>=◌, byte_at}
 use Rattle.aml_names.proofs.NameLaws.{name_takes, name_again, name_fault}
 use Rattle.aml_names.proofs.StepLaws.{ok_is, err_is, bind_then, err_then, cond_then, guard_ok, chosen_ok, IsBytes, IsBytes-drop, Takes, Takes-then, byte_takes, byte_fault}
 use Rattle.aml_code.specs.declared.rows.PartKind.{PartKind}
@@ -26,7 +26,7 @@ use Rattle.aml_code.specs.Declaring.{after_part}
 use Rattle.aml_code.specs.Faults.{IsOpcode}
 use Rattle.aml_code.specs.Lawful.{Setting, IsPart, AreTextBytes}
 use Rattle.aml_code.proofs.LengthLaws.{little_takes, little_again, little_fault}
-use Rattle.aml_parse.specs.Reading.{byte_part, count_part, word_part, dword_part, qword_part, text_to, text_part, any_name_part, name_part, opcode_at}
+use Rattle.aml_parse.specs.Reading.{byte_part, count_part, word_part, dword_part, qword_part, text_to, text_part, any_name_part, segmented_at, name_part, opcode_at}
 
 -- a part that was read from the front of the bytes, and declares nothing
 pub record TookFlat (s : Setting) (levels : ℕ) (k : PartKind) (ls : PathSet) (bs : List ℕ) (x : OnePart × List ℕ) : Type 0 where
@@ -169,38 +169,47 @@ any_name_took s levels ls end bs x fits e =
     let t = name_takes end bs n.0 n.1 fits h1 in
     subst (TookFlat s levels kinds.ScopeName ls bs) (ok_is (label n.0, n.1) x e1) (record { takes = t.0; is_part = t.1; after_is = refl }))
 
-pub name_took : (s : Setting) (levels : ℕ) (ls : PathSet) (end : ℕ) (bs : List ℕ) (x : OnePart × List ℕ) → IsBytes bs → name_part end bs ≡ Ok x → TookFlat s levels kinds.Name ls bs x
-unfolding name_part
-name_took s levels ls end bs x fits e =
-    bind_then (TookFlat s levels kinds.Name ls bs x) (name_at end bs) (λ n. cond (has_segment n.0) (Ok (label n.0, n.1)) (Err (faults.EmptyName (end - length bs)))) x e (λ n h1 e1.
+pub segmented_takes : (end : ℕ) (bs : List ℕ) (x : Name × List ℕ) → IsBytes bs → segmented_at end bs ≡ Ok x → Takes bs (spelling x.0) x.1 × IsName x.0 × (has_segment x.0 ≡ true)
+unfolding segmented_at
+segmented_takes end bs x fits e =
+    bind_then (Takes bs (spelling x.0) x.1 × IsName x.0 × (has_segment x.0 ≡ true)) (name_at end bs) (λ n. cond (has_segment n.0) (Ok n) (Err (faults.EmptyName (end - length bs)))) x e (λ n h1 e1.
     let t = name_takes end bs n.0 n.1 fits h1 in
-    let g = chosen_ok (has_segment n.0) (faults.EmptyName (end - length bs)) (Ok (label n.0, n.1)) x e1 in
-    subst (TookFlat s levels kinds.Name ls bs) (ok_is (label n.0, n.1) x g.1) (record { takes = t.0; is_part = (t.1, g.0); after_is = refl }))
+    let g = chosen_ok (has_segment n.0) (faults.EmptyName (end - length bs)) (Ok n) x e1 in
+    subst (λ (y : Name × List ℕ). Takes bs (spelling y.0) y.1 × IsName y.0 × (has_segment y.0 ≡ true)) (ok_is n x g.1) (t.0, t.1, g.0))
+
+pub name_took : (s : Setting) (levels : ℕ) (ls : PathSet) (end : ℕ) (bs : List ℕ) (x : OnePart × List ℕ) → IsBytes bs → name_part end bs ≡ Ok x → TookFlat s levels kinds.Name ls bs x
+name_took s levels ls end bs x fits e =
+    bind_then (TookFlat s levels kinds.Name ls bs x) (segmented_at end bs) (λ n. Ok (label n.0, n.1)) x e (λ n h1 e1.
+    let t = segmented_takes end bs n fits h1 in
+    subst (TookFlat s levels kinds.Name ls bs) (ok_is (label n.0, n.1) x e1) (record { takes = t.0; is_part = (t.1, t.2); after_is = refl }))
 
 pub any_name_again : (end : ℕ) (n : Name) (rest : List ℕ) → IsName n → any_name_part end (spelling n ++ rest) ≡ Ok (label n, rest)
 any_name_again end n rest h = ap (λ r. r >>= λ m. Ok (label m.0, m.1)) (name_again end n rest h)
 
-pub labelled_again : (end : ℕ) (n : Name) (rest : List ℕ) → IsName n → has_segment n ≡ true → name_part end (spelling n ++ rest) ≡ Ok (label n, rest)
-unfolding name_part
-labelled_again end n rest h some =
+pub segmented_again : (end : ℕ) (n : Name) (rest : List ℕ) → IsName n → has_segment n ≡ true → segmented_at end (spelling n ++ rest) ≡ Ok (n, rest)
+unfolding segmented_at
+segmented_again end n rest h some =
     let bs : List ℕ = spelling n ++ rest in
-    ap (λ r. r >>= λ m. cond (has_segment m.0) (Ok (label m.0, m.1)) (Err (faults.EmptyName (end - length bs)))) (name_again end n rest h)
-    ∙ ap (λ b. cond b (Ok (label n, rest)) (Err (faults.EmptyName (end - length bs)))) some
+    ap (λ r. r >>= λ m. cond (has_segment m.0) (Ok m) (Err (faults.EmptyName (end - length bs)))) (name_again end n rest h)
+    ∙ ap (λ b. cond b (Ok (n, rest)) (Err (faults.EmptyName (end - length bs)))) some
+
+pub labelled_again : (end : ℕ) (n : Name) (rest : List ℕ) → IsName n → has_segment n ≡ true → name_part end (spelling n ++ rest) ≡ Ok (label n, rest)
+labelled_again end n rest h some = ap (λ r. r >>= λ m. Ok (label m.0, m.1)) (segmented_again end n rest h some)
 
 pub any_name_fault : (end : ℕ) (bs : List ℕ) (d : CodeFault) → any_name_part end bs ≡ Err d → NameFault end bs d
 any_name_fault end bs d e = err_then (NameFault end bs d) (name_at end bs) (λ n. Ok (label n.0, n.1)) d e (name_fault end bs d) (λ n h1 e1. absurd cc)
 
 -- a name that has to have a segment: it isn't spelled well, or it has none
-pub empty_fault : (end : ℕ) (bs : List ℕ) (d : CodeFault) → IsBytes bs → name_part end bs ≡ Err d
+pub segmented_fault : (end : ℕ) (bs : List ℕ) (d : CodeFault) → IsBytes bs → segmented_at end bs ≡ Err d
     → NameFault end bs d ⊎ ((n : Name) × (rest : List ℕ) × IsName n × (bs ≡ spelling n ++ rest) × (has_segment n ≡ false) × (d ≡ faults.EmptyName (end - length bs)))
-unfolding name_part
-empty_fault end bs d fits e =
+unfolding segmented_at
+segmented_fault end bs d fits e =
     let P : Type 0 = NameFault end bs d ⊎ ((n : Name) × (rest : List ℕ) × IsName n × (bs ≡ spelling n ++ rest) × (has_segment n ≡ false) × (d ≡ faults.EmptyName (end - length bs))) in
-    let bad : Result (OnePart × List ℕ) CodeFault = Err (faults.EmptyName (end - length bs)) in
-    err_then P (name_at end bs) (λ n. cond (has_segment n.0) (Ok (label n.0, n.1)) bad) d e (λ h. inl (name_fault end bs d h)) (λ n h1 e1.
+    let bad : Result (Name × List ℕ) CodeFault = Err (faults.EmptyName (end - length bs)) in
+    err_then P (name_at end bs) (λ n. cond (has_segment n.0) (Ok n) bad) d e (λ h. inl (name_fault end bs d h)) (λ n h1 e1.
     let t = name_takes end bs n.0 n.1 fits h1 in
-    cond_then P (has_segment n.0) (Ok (label n.0, n.1)) bad (Err d) e1 (λ g q. absurd cc)
-    (λ g q. inr (n.0, n.1, t.1, t.0.parts, g, sym (err_is {A = OnePart × List ℕ} (faults.EmptyName (end - length bs)) d q))))
+    cond_then P (has_segment n.0) (Ok n) bad (Err d) e1 (λ g q. absurd cc)
+    (λ g q. inr (n.0, n.1, t.1, t.0.parts, g, sym (err_is {A = Name × List ℕ} (faults.EmptyName (end - length bs)) d q))))
 
 -- ---- opcodes
 

@@ -1,5 +1,7 @@
 pub mod FlatLaws
+pub mod UnitLaws
 pub mod Took
+pub mod Leads
 pub mod Bodiless
 pub mod Takes
 pub mod Again

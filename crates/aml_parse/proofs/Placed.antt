@@ -1,17 +1,16 @@
 -- Each fault is true of the code at its offset.
-use Rattle.std.proofs.Common.{◌≡◌, ◌≢◌, ℕ, zero, suc, ◌+◌, ◌-◌, ◌<◌, ◌≤◌, Bool, true, false, cond, ltb, List, [], ◌∷◌, ◌++◌, length, Option, Some, None, Result, Ok, Err, refl, sym, ap, subst, ◌∙◌, ◌⊎◌, arith, inl, inr}
+use Rattle.std.proofs.Common.{◌≡◌, ◌≢◌, ℕ, zero, suc, ◌+◌, ◌-◌, ◌≤◌, true, false, cond, eqb, ltb, List, [], ◌∷◌, length, Option, Some, None, Result, Ok, Err, refl, sym, ap, subst, ◌∙◌, arith, inl, inr}
 use Rattle.std.proofs.lemmas.Bool.{ltb-false}
-use Rattle.std.proofs.lemmas.List.{length-append}
 use Rattle.aml_names.specs.declared.faults.CodeFault.{CodeFault}
 use Rattle.aml_names.specs.declared.faults.CodeFault.TheVariants as faults
 use Rattle.aml_names.specs.declared.segments.Seg.{Seg}
 use Rattle.aml_names.specs.declared.names.Name.{Name}
-use Rattle.aml_names.specs.Names.{IsName, spelling, is_name_lead}
-use Rattle.aml_names.specs.NameReading.{name_at, has_segment, NameFault}
+use Rattle.aml_names.specs.Names.{spelling, is_name_lead}
+use Rattle.aml_names.specs.NameReading.{segment_at, name_at}
 use Rattle.aml_names.specs.Paths.{PathSet}
 use Rattle.aml_names.specs.Steps.{◌>>=◌, Left, byte_at}
-use Rattle.aml_names.proofs.NameLaws.{name_takes, name_fault}
-use Rattle.aml_names.proofs.StepLaws.{ok_is, err_is, err_then, cond_then, Takes, byte_takes, byte_fault}
+use Rattle.aml_names.proofs.NameLaws.{segment_takes, name_takes, name_fault}
+use Rattle.aml_names.proofs.StepLaws.{err_is, err_then, cond_then, Takes, byte_fault}
 use Rattle.aml_code.specs.declared.packages.PkgWidth.{PkgWidth}
 use Rattle.aml_code.specs.declared.rows.OpRow.{OpRow}
 use Rattle.aml_code.specs.declared.rows.PartKind.{PartKind}
@@ -23,21 +22,22 @@ use Rattle.aml_code.specs.declared.rows.Position.TheVariants as positions
 use Rattle.aml_code.specs.declared.rows.TailKind.{TailKind}
 use Rattle.aml_code.specs.declared.rows.TailKind.TheVariants as tails
 use Rattle.aml_code.specs.Packages.{width_len}
-use Rattle.aml_code.specs.Lengths.{span_at}
+use Rattle.aml_code.specs.Lengths.{length_at, span_at}
 use Rattle.aml_code.specs.Rows.{row_of, parts_of, has_length, takes}
-use Rattle.aml_code.specs.Tree.{Tree, nothing, named, op, Trees, tree_more, OnePart, child, byte, word, dword, qword, text, label, Parts, part_more, Rest, empty, terms, elements}
-use Rattle.aml_code.specs.Tree as trees
-use Rattle.aml_code.specs.Encoding.{opcode_bytes, encoding, part_encoding, parts_encoding}
+use Rattle.aml_code.specs.Tree.{Tree, nothing, named, op, Trees, tree_more, OnePart, child, byte, word, dword, qword, label, Parts, part_more, Rest, empty, terms, elements, fields, OneUnit, unit, connection, Units, unit_more, target, buffer}
+use Rattle.aml_code.specs.Encoding.{opcode_bytes, encoding, part_encoding, parts_encoding, unit_encoding}
 use Rattle.aml_code.specs.Declaring.{names_declared, with_declared}
-use Rattle.aml_code.specs.Faults.{Arities, StandsThere, IsOpcode, HasRow, StandsAt}
-use Rattle.aml_code.specs.Lawful.{is_guard, terms_in, next_position}
-use Rattle.aml_code.proofs.LengthLaws.{span_takes, span_fault}
-use Rattle.aml_code.proofs.RowFacts.{row_unguarded, opcode_some}
-use Rattle.aml_code.proofs.Within.{Within, onward, inward, text_there, byte_there, span_inside, truncated_placed, offset_is, length_placed, past_placed, name_placed}
-use Rattle.aml_parse.specs.Reading.{Reader, flat, byte_part, count_part, word_part, dword_part, qword_part, text_part, any_name_part, name_part, child_at, part_at, parts_at, arguments_at, terms_at, wanted, known, call_at, takes_names, name_term_at, opcode_at, refused_in_body, refusal, guard_at, body_to, tail_at, plain_at, packed_at, row_at, by_row, operation_at, is_none, term_at}
-use Rattle.aml_parse.proofs.FlatLaws.{number_fault, count_fault, text_fault, any_name_fault, empty_fault, opcode_takes, opcode_fault}
+use Rattle.aml_code.specs.Faults.{Arities, StandsThere, IsOpcode, StandsAt}
+use Rattle.aml_code.specs.Lawful.{is_if_place, is_guard, terms_in, next_position}
+use Rattle.aml_code.proofs.LengthLaws.{length_fault, span_takes, span_fault}
+use Rattle.aml_code.proofs.RowFacts.{guard_place, opcode_some}
+use Rattle.aml_code.proofs.Within.{Within, onward, inward, text_there, byte_there, truncated_placed, offset_is, length_placed, past_placed, name_placed}
+use Rattle.aml_parse.specs.Reading.{Reader, flat, byte_part, count_part, word_part, dword_part, qword_part, text_part, any_name_part, segmented_at, name_part, child_at, part_at, parts_at, arguments_at, terms_at, named_unit, reserved_unit, access_unit, extended_unit, named_joint, buffer_at, joint_at, connection_at, unit_at, units_at, wanted, known, call_at, takes_names, name_term_at, opcode_at, refused_in_body, refusal, guard_at, tail_at, plain_at, packed_at, row_at, by_row, operation_at, is_none, term_at}
+use Rattle.aml_parse.proofs.FlatLaws.{number_fault, count_fault, text_fault, any_name_fault, segmented_fault, opcode_takes, opcode_fault}
+use Rattle.aml_parse.proofs.UnitLaws.{segment_fault, reserved_fault, access_fault, extended_fault}
+use Rattle.aml_parse.proofs.Leads.{guard_fault}
 use Rattle.aml_parse.proofs.Took.{IsReader, name_some}
-use Rattle.aml_parse.proofs.Takes.{part_take, parts_take}
+use Rattle.aml_parse.proofs.Takes.{part_take, parts_take, unit_take}
 
 -- the faults of a reader of terms are true
 unfoldable pub IsPlacer : Arities → List ℕ → ℕ → (Position → Reader Tree) → Type 0
@@ -61,12 +61,15 @@ none_of : {A : Type 0} (xs : List A) → ltb 0 (length xs) ≡ false → xs ≡ 
 none_of [] h = refl
 none_of (x ∷ xs) h = absurd (omega (arith, ltb-false _ _ h))
 
-name_part_placed : (arity : Arities) (code : List ℕ) (at end : ℕ) (bs : List ℕ) (d : CodeFault) → Within code at end bs → name_part end bs ≡ Err d → StandsAt arity code d
-name_part_placed arity code at end bs d w e =
-    elim (empty_fault end bs d w.fits e) [
+segmented_placed : (arity : Arities) (code : List ℕ) (at end : ℕ) (bs : List ℕ) (d : CodeFault) → Within code at end bs → segmented_at end bs ≡ Err d → StandsAt arity code d
+segmented_placed arity code at end bs d w e =
+    elim (segmented_fault end bs d w.fits e) [
       | inl f ↦ name_placed arity code at end bs d w f
       | inr f ↦ at_offset arity code at end bs d (λ n. faults.EmptyName n) w (f.0, f.2, text_there code at end bs (spelling f.0) f.1 w f.3, none_of (f.0).segs f.4) f.5
     ]
+
+name_part_placed : (arity : Arities) (code : List ℕ) (at end : ℕ) (bs : List ℕ) (d : CodeFault) → Within code at end bs → name_part end bs ≡ Err d → StandsAt arity code d
+name_part_placed arity code at end bs d w e = err_then (StandsAt arity code d) (segmented_at end bs) (λ n. Ok (label n.0, n.1)) d e (segmented_placed arity code at end bs d w) (λ n h1 e1. absurd cc)
 
 count_part_placed : (arity : Arities) (code : List ℕ) (at end : ℕ) (bs : List ℕ) (d : CodeFault) → Within code at end bs → count_part end bs ≡ Err d → StandsAt arity code d
 count_part_placed arity code at end bs d w e =
@@ -129,6 +132,70 @@ terms_placed arity scope code levels read law placer (suc n) p at end ls (b ∷ 
     err_then P (terms_at read n (next_position p first.0) end first.1 first.2) (λ others. Ok (tree_more first.0 others.0, others.1)) d e1
     (terms_placed arity scope code levels read law placer n (next_position p first.0) (at + length (encoding code first.0)) end first.1 first.2 d w1 (omega (arith, deep))) (λ others h2 e2. absurd cc))
 
+-- ---- field lists
+
+named_joint_placed : (arity : Arities) (code : List ℕ) (at end : ℕ) (bs : List ℕ) (d : CodeFault) → Within code at end bs → named_joint end bs ≡ Err d → StandsAt arity code d
+named_joint_placed arity code at end bs d w e = err_then (StandsAt arity code d) (segmented_at end bs) (λ n. Ok (target n.0, n.1)) d e (segmented_placed arity code at end bs d w) (λ n h1 e1. absurd cc)
+
+joint_placed : (arity : Arities) (code : List ℕ) (levels : ℕ) (read : Position → Reader Tree) → IsPlacer arity code levels read → (at end : ℕ) (ls : PathSet) (bs : List ℕ) (d : CodeFault) → Within code at end bs → 512 ≤ levels + at
+    → joint_at read end ls bs ≡ Err d → StandsAt arity code d
+unfolding joint_at IsPlacer
+joint_placed arity code levels read placer at end ls bs d w deep e =
+    let P : Type 0 = StandsAt arity code d in
+    err_then P (byte_at end bs) (λ lead. cond (eqb lead.0 0x11) (buffer_at (read positions.Data) end ls bs) (flat named_joint end ls bs)) d e (λ h. truncated_placed arity code at end bs d w (byte_fault end bs d h)) (λ lead h1 e1.
+    cond_then P (eqb lead.0 0x11) (buffer_at (read positions.Data) end ls bs) (flat named_joint end ls bs) (Err d) e1
+    (λ g q. err_then P (read positions.Data end ls bs) (λ t. Ok (buffer t.0, t.1, t.2)) d q (placer positions.Data at end ls bs d w deep) (λ t h2 e2. absurd cc))
+    (λ g q. err_then P (named_joint end bs) (λ y. Ok (y.0, ls, y.1)) d q (named_joint_placed arity code at end bs d w) (λ y h2 e2. absurd cc)))
+
+flat_unit_placed : (P : Type 0) (step : ℕ → List ℕ → Left OneUnit) (end : ℕ) (ls : PathSet) (bs : List ℕ) (d : CodeFault) → (step end bs ≡ Err d → P) → flat step end ls bs ≡ Err d → P
+flat_unit_placed P step end ls bs d k e = err_then P (step end bs) (λ y. Ok (y.0, ls, y.1)) d e k (λ y h1 e1. absurd cc)
+
+named_unit_placed : (arity : Arities) (code : List ℕ) (at end : ℕ) (bs : List ℕ) (d : CodeFault) → Within code at end bs → named_unit end bs ≡ Err d → StandsAt arity code d
+unfolding named_unit
+named_unit_placed arity code at end bs d w e =
+    let P : Type 0 = StandsAt arity code d in
+    err_then P (segment_at end bs) (λ g. length_at end g.1 >>= λ n. Ok (unit g.0 n.0.0 n.0.1, n.1)) d e (λ h. name_placed arity code at end bs d w (segment_fault end bs d h)) (λ g h1 e1.
+    let t = segment_takes end bs g.0 g.1 w.fits h1 in
+    let w1 = onward code at end bs (g.0).0 g.1 w t.0 in
+    err_then P (length_at end g.1) (λ n. Ok (unit g.0 n.0.0 n.0.1, n.1)) d e1 (λ h. length_placed arity code (at + length (g.0).0) end g.1 d w1 (length_fault end g.1 d h)) (λ n h2 e2. absurd cc))
+
+unit_placed : (arity : Arities) (code : List ℕ) (levels : ℕ) (read : Position → Reader Tree) → IsPlacer arity code levels read → (at end : ℕ) (ls : PathSet) (bs : List ℕ) (d : CodeFault) → Within code at end bs → 512 ≤ levels + at
+    → unit_at read end ls bs ≡ Err d → StandsAt arity code d
+unfolding unit_at
+unit_placed arity code levels read placer at end ls [] d w deep e = truncated_placed arity code at end [] d w (sym (err_is {A = OneUnit × PathSet × List ℕ} (faults.Truncated end) d e))
+unit_placed arity code levels read placer at end ls (lead ∷ bs) d w deep e =
+    let whole : List ℕ = lead ∷ bs in
+    let P : Type 0 = StandsAt arity code d in
+    let first : Takes whole (lead ∷ []) bs = record { parts = refl; rest_fits = λ i. w.fits (suc i) } in
+    let w1 : Within code (at + 1) end bs = onward code at end whole (lead ∷ []) bs w first in
+    let r4 : Result (OneUnit × PathSet × List ℕ) CodeFault = flat named_unit end ls whole in
+    let r3 : Result (OneUnit × PathSet × List ℕ) CodeFault = cond (eqb lead 0x03) (flat extended_unit end ls bs) r4 in
+    let r2 : Result (OneUnit × PathSet × List ℕ) CodeFault = cond (eqb lead 0x02) (connection_at read end ls bs) r3 in
+    let r1 : Result (OneUnit × PathSet × List ℕ) CodeFault = cond (eqb lead 0x01) (flat access_unit end ls bs) r2 in
+    cond_then P (eqb lead 0x00) (flat reserved_unit end ls bs) r1 (Err d) e
+    (λ g q. flat_unit_placed P reserved_unit end ls bs d (λ h. length_placed arity code (at + 1) end bs d w1 (reserved_fault end bs d h)) q) (λ g0 q0.
+    cond_then P (eqb lead 0x01) (flat access_unit end ls bs) r2 (Err d) q0
+    (λ g q. flat_unit_placed P access_unit end ls bs d (λ h. truncated_placed arity code (at + 1) end bs d w1 (access_fault end bs d h)) q) (λ g1 q1.
+    cond_then P (eqb lead 0x02) (connection_at read end ls bs) r3 (Err d) q1
+    (λ g q. err_then P (joint_at read end ls bs) (λ l. Ok (connection l.0, l.1, l.2)) d q (joint_placed arity code levels read placer (at + 1) end ls bs d w1 (omega (arith, deep))) (λ l h1 e1. absurd cc)) (λ g2 q2.
+    cond_then P (eqb lead 0x03) (flat extended_unit end ls bs) r4 (Err d) q2
+    (λ g q. flat_unit_placed P extended_unit end ls bs d (λ h. truncated_placed arity code (at + 1) end bs d w1 (extended_fault end bs d h)) q) (λ g3 q3.
+    flat_unit_placed P named_unit end ls whole d (named_unit_placed arity code at end whole d w) q3))))
+
+units_placed : (arity : Arities) (scope : Option (List Seg)) (code : List ℕ) (levels : ℕ) (read : Position → Reader Tree) → IsReader arity scope code levels read → IsPlacer arity code levels read → (n at end : ℕ) (ls : PathSet)
+    (bs : List ℕ) (d : CodeFault) → Within code at end bs → 512 ≤ levels + at → units_at read n end ls bs ≡ Err d → StandsAt arity code d
+unfolding units_at
+units_placed arity scope code levels read law placer n at end ls [] d w deep e = absurd cc
+units_placed arity scope code levels read law placer zero at end ls (b ∷ bs) d w deep e =
+    truncated_placed arity code at end (b ∷ bs) d w (sym (err_is {A = Units × PathSet} (faults.Truncated end) d e))
+units_placed arity scope code levels read law placer (suc n) at end ls (b ∷ bs) d w deep e =
+    let P : Type 0 = StandsAt arity code d in
+    err_then P (unit_at read end ls (b ∷ bs)) (λ first. units_at read n end first.1 first.2 >>= λ others. Ok (unit_more first.0 others.0, others.1)) d e (unit_placed arity code levels read placer at end ls (b ∷ bs) d w deep) (λ first h1 e1.
+    let a = unit_take arity scope code levels read law at end ls (b ∷ bs) first w h1 in
+    let w1 = onward code at end (b ∷ bs) (unit_encoding code first.0) first.2 w a.takes in
+    err_then P (units_at read n end first.1 first.2) (λ others. Ok (unit_more first.0 others.0, others.1)) d e1
+    (units_placed arity scope code levels read law placer n (at + length (unit_encoding code first.0)) end first.1 first.2 d w1 (omega (arith, deep))) (λ others h2 e2. absurd cc))
+
 -- ---- names
 
 asked_none : (arity : Arities) (p : Position) (ls : PathSet) (n : Name) → takes_names p ≡ true → wanted arity p ls n ≡ None → arity ls n ≡ None
@@ -165,7 +232,8 @@ call_placed arity scope code levels read law placer p at end ls bs d w deep inne
 tail_placed : (arity : Arities) (scope : Option (List Seg)) (code : List ℕ) (levels : ℕ) (read : Position → Reader Tree) → IsReader arity scope code levels read → IsPlacer arity code levels read → (p : Position) (k : TailKind) (at end : ℕ) (ls : PathSet)
     (bs : List ℕ) (d : CodeFault) → Within code at end bs → 512 ≤ levels + at → tail_at read p k end ls bs ≡ Err d → StandsAt arity code d
 tail_placed arity scope code levels read law placer p tails.Empty at end ls bs d w deep e = truncated_placed arity code at end bs d w (sym (err_is {A = Rest × PathSet} (faults.Truncated end) d e))
-tail_placed arity scope code levels read law placer p tails.Fields at end ls bs d w deep e = truncated_placed arity code at end bs d w (sym (err_is {A = Rest × PathSet} (faults.Truncated end) d e))
+tail_placed arity scope code levels read law placer p tails.Fields at end ls bs d w deep e =
+    err_then (StandsAt arity code d) (units_at read (length bs) end ls bs) (λ us. Ok (fields us.0, us.1)) d e (units_placed arity scope code levels read law placer (length bs) at end ls bs d w deep) (λ us h1 e1. absurd cc)
 tail_placed arity scope code levels read law placer p tails.Bytes at end ls bs d w deep e = absurd cc
 tail_placed arity scope code levels read law placer p tails.Body at end ls bs d w deep e = absurd cc
 tail_placed arity scope code levels read law placer p tails.Terms at end ls bs d w deep e =
@@ -212,10 +280,21 @@ plain_placed arity scope code levels read law placer row at end ls bs d w deep e
     err_then (StandsAt arity code d) (parts_at read (parts_of row.shape) end ls bs) (λ ps. Ok (op row.opcode None ps.0 empty, with_declared scope ps.1 (names_declared row.declares ps.0 empty), ps.2)) d e
     (parts_placed arity scope code levels read law placer (parts_of row.shape) at end ls bs d w deep) (λ ps h1 e1. absurd cc)
 
-packed_placed : (arity : Arities) (scope : Option (List Seg)) (code : List ℕ) (levels : ℕ) (read : Position → Reader Tree) → IsReader arity scope code levels read → IsPlacer arity code levels read → (p : Position) (there o : ℕ) (row : OpRow) → row_of o ≡ Some row
+-- an If that is no guard is code of a table
+guard_placed : (arity : Arities) (code : List ℕ) (p : Position) (there o : ℕ) (row : OpRow) → HasFound code there o row → (at end : ℕ) (inside : List ℕ) (d : CodeFault) → Within code at end inside
+    → guard_at (is_guard p row.place) there end inside ≡ Err d → StandsAt arity code d
+guard_placed arity code p there o row found at end inside d w e =
+    let f = guard_fault (is_guard p row.place) there end inside d e in
+    let is_if = guard_place p row.place f.0 in
+    elim f.1 [
+      | inl t ↦ truncated_placed arity code at end inside d w t
+      | inr t ↦ subst (StandsAt arity code) (sym t) (inr (o, found.is, found.there, (row, found.listed, λ z. let x : is_if_place places.External ≡ true = subst (λ (q : Place). is_if_place q ≡ true) z is_if in absurd cc)))
+    ]
+
+packed_placed : (arity : Arities) (scope : Option (List Seg)) (code : List ℕ) (levels : ℕ) (read : Position → Reader Tree) → IsReader arity scope code levels read → IsPlacer arity code levels read → (p : Position) (there o : ℕ) (row : OpRow) → HasFound code there o row
     → (at end : ℕ) (ls : PathSet) (bs : List ℕ) (d : CodeFault) → Within code at end bs → 512 ≤ levels + at → packed_at scope read p there row end ls bs ≡ Err d → StandsAt arity code d
 unfolding packed_at
-packed_placed arity scope code levels read law placer p there o row listed at end ls bs d w deep e =
+packed_placed arity scope code levels read law placer p there o row found at end ls bs d w deep e =
     let P : Type 0 = StandsAt arity code d in
     let made : PkgWidth × List ℕ × List ℕ → Parts × PathSet × List ℕ → Rest × PathSet → Tree × PathSet × List ℕ = λ span ps t. (op row.opcode (Some span.0) ps.0 t.0, with_declared scope t.1 (names_declared row.declares ps.0 t.0), span.2) in
     let tailed : PkgWidth × List ℕ × List ℕ → Parts × PathSet × List ℕ → Result (Tree × PathSet × List ℕ) CodeFault = λ span ps.
@@ -231,13 +310,13 @@ packed_placed arity scope code levels read law placer p there o row listed at en
     let inner = end - length span.2 in
     let at2 = at + width_len span.0 in
     let w2 = inward code at end bs span w sp in
-    let free : parted span ≡ Err d = sym (ap (λ (b : Bool). guard_at b there inner span.1 >>= λ guarded. parted span) (row_unguarded o row p listed)) ∙ e1 in
-    err_then P (parts_at read (parts_of row.shape) inner ls span.1) (λ ps. tailed span ps) d free
+    err_then P (guard_at (is_guard p row.place) there inner span.1) (λ guarded. parted span) d e1 (guard_placed arity code p there o row found at2 inner span.1 d w2) (λ guarded h2 e2.
+    err_then P (parts_at read (parts_of row.shape) inner ls span.1) (λ ps. tailed span ps) d e2
     (parts_placed arity scope code levels read law placer (parts_of row.shape) at2 inner ls span.1 d w2 (omega (arith, deep))) (λ ps h3 e3.
     let b = parts_take arity scope code levels read law (parts_of row.shape) at2 inner ls span.1 ps w2 h3 in
     let w3 = onward code at2 inner span.1 (parts_encoding code ps.0) ps.2 w2 b.takes in
     err_then P (tail_at read (terms_in p row.place) row.tail inner ps.1 ps.2) (λ t. Ok (made span ps t)) d e3
-    (tail_placed arity scope code levels read law placer (terms_in p row.place) row.tail (at2 + length (parts_encoding code ps.0)) inner ps.1 ps.2 d w3 (omega (arith, deep))) (λ t h4 e4. absurd cc)))
+    (tail_placed arity scope code levels read law placer (terms_in p row.place) row.tail (at2 + length (parts_encoding code ps.0)) inner ps.1 ps.2 d w3 (omega (arith, deep))) (λ t h4 e4. absurd cc))))
 
 row_placed : (arity : Arities) (scope : Option (List Seg)) (code : List ℕ) (levels : ℕ) (read : Position → Reader Tree) → IsReader arity scope code levels read → IsPlacer arity code levels read → (p : Position) (there o : ℕ) (found : Option OpRow)
     → row_of o ≡ found → IsOpcode o → StandsThere code there (opcode_bytes o) → (at end : ℕ) (ls : PathSet) (bs : List ℕ) (d : CodeFault) → Within code at end bs → 512 ≤ levels + at → by_row found scope read p there end ls bs ≡ Err d → StandsAt arity code d
@@ -248,7 +327,7 @@ row_placed arity scope code levels read law placer p there o (Some row) listed i
     let refused : Result (Tree × PathSet × List ℕ) CodeFault = Err (refusal p row.place there) in
     cond_then P (takes p row.place) (row_at scope read p there row end ls bs) refused (Err d) e
     (λ taken q. cond_then P (has_length row.tail) (packed_at scope read p there row end ls bs) (plain_at scope read row end ls bs) (Err d) q
-    (λ long r. packed_placed arity scope code levels read law placer p there o row listed at end ls bs d w deep r)
+    (λ long r. packed_placed arity scope code levels read law placer p there o row (record { is = is; there = stands; listed = listed }) at end ls bs d w deep r)
     (λ short r. plain_placed arity scope code levels read law placer row at end ls bs d w deep r))
     (λ not_taken q. subst (StandsAt arity code) (err_is {A = Tree × PathSet × List ℕ} (refusal p row.place there) d q) (refusal_placed arity code p there o row (record { is = is; there = stands; listed = listed }) not_taken))
 

@@ -1,25 +1,25 @@
 -- The laws of the whole reader.
 use Rattle.std.specs.Prelude.{IfOk, IfErr}
-use Rattle.std.proofs.Common.{◌≡◌, ℕ, zero, suc, ◌+◌, ◌-◌, ◌<◌, ◌≤◌, List, [], ◌∷◌, ◌++◌, length, Option, Some, None, Result, Ok, Err, refl, sym, ap, subst, ◌∙◌, ◌⊎◌, arith, inl, inr}
+use Rattle.std.proofs.Common.{◌≡◌, ℕ, zero, suc, ◌-◌, ◌<◌, ◌≤◌, List, [], ◌∷◌, length, Option, Some, None, Result, Ok, Err, refl, sym, ap, subst, ◌∙◌, ◌⊎◌, arith, inl, inr}
 use Rattle.std.specs.FinSet as set
 use Rattle.std.proofs.lemmas.List.{length-append}
 use Rattle.aml_names.specs.declared.faults.CodeFault.{CodeFault}
 use Rattle.aml_names.specs.declared.faults.CodeFault.TheVariants as faults
 use Rattle.aml_names.specs.declared.segments.Seg.{Seg}
 use Rattle.aml_names.specs.Paths.{PathSet}
-use Rattle.aml_names.specs.Steps.{◌>>=◌, Gives, byte_at}
+use Rattle.aml_names.specs.Steps.{◌>>=◌, Gives}
 use Rattle.aml_names.proofs.StepLaws.{ok_is, err_is, bind_then, err_then, IsBytes}
 use Rattle.aml_code.specs.declared.rows.Position.{Position}
 use Rattle.aml_code.specs.declared.rows.Position.TheVariants as positions
 use Rattle.aml_code.specs.Tree.{Tree, nothing, named, op, Trees}
 use Rattle.aml_code.specs.Encoding.{encoding, encodings}
-use Rattle.aml_code.specs.Declaring.{after, after_all}
+use Rattle.aml_code.specs.Declaring.{after_all}
 use Rattle.aml_code.specs.Faults.{Arities, StandsAt}
 use Rattle.aml_code.specs.Lawful.{IsLawful, AreTerms}
-use Rattle.aml_code.specs.Meaning.{setting_of, BodyStands, BodiesStand, ReadsBody, ReadsModule, no_arguments}
+use Rattle.aml_code.specs.Meaning.{setting_of, BodiesStand, ReadsBody, ReadsModule, no_arguments}
 use Rattle.aml_code.proofs.Within.{Within, whole, truncated_placed, offset_is, span_inside}
 use Rattle.aml_parse.specs.Reading.{terms_at, too_deep, read_at, all_at}
-use Rattle.aml_parse.proofs.Took.{Took, TookTerms, IsReader, nonempty}
+use Rattle.aml_parse.proofs.Took.{IsReader, nonempty}
 use Rattle.aml_parse.proofs.Bodiless.{terms_bodiless}
 use Rattle.aml_parse.proofs.Takes.{terms_take, term_take}
 use Rattle.aml_parse.proofs.Again.{terms_again, term_again}
@@ -83,7 +83,7 @@ all_again arity scope p code ts lawful spelled stands =
     terms_again arity scope code 512 (read_at arity scope 512) (read_law arity scope code 512) (length code) p 0 (length code) set.empty ts (omega (arith, size)) lawful stands (omega (arith, size)) in
     ap (λ (b : List ℕ). terms_at (read_at arity scope 512) (length code) p (length code) set.empty b >>= λ x. Ok x.0) (sym spelled) ∙ ap (λ r. r >>= λ x. Ok x.0) read
 
-all_placed : (arity : Arities) (scope : Option (List Seg)) (p : Position) (code : List ℕ) (d : CodeFault) → IsBytes code → all_at arity scope p code ≡ Err d → StandsAt arity code d
+pub all_placed : (arity : Arities) (scope : Option (List Seg)) (p : Position) (code : List ℕ) (d : CodeFault) → IsBytes code → all_at arity scope p code ≡ Err d → StandsAt arity code d
 unfolding all_at
 all_placed arity scope p code d fits e =
     err_then (StandsAt arity code d) (terms_at (read_at arity scope 512) (length code) p (length code) set.empty code) (λ x. Ok x.0) d e
@@ -124,12 +124,12 @@ given_body_complete view (Err d) arity method code (inr e) = inr (λ us h. never
 
 -- ---- a table
 
-module_sound : (code : List ℕ) (ts : Trees) → IsBytes code → all_at no_arguments None positions.ModuleTerm code ≡ Ok ts → ReadsModule code ts
+pub module_sound : (code : List ℕ) (ts : Trees) → IsBytes code → all_at no_arguments None positions.ModuleTerm code ≡ Ok ts → ReadsModule code ts
 module_sound code ts fits e =
     let a = all_taken no_arguments None positions.ModuleTerm code ts fits e in
     record { lawful = a.0; spelled = a.1; bodies = a.2 }
 
-module_again : (code : List ℕ) (ts : Trees) → ReadsModule code ts → all_at no_arguments None positions.ModuleTerm code ≡ Ok ts
+pub module_again : (code : List ℕ) (ts : Trees) → ReadsModule code ts → all_at no_arguments None positions.ModuleTerm code ≡ Ok ts
 module_again code ts h = all_again no_arguments None positions.ModuleTerm code ts h.lawful h.spelled h.bodies
 
 pub given_module_sound : {X : Type 0} (view : X → Trees) (result : Result X CodeFault) (code : List ℕ) → IsBytes code → Gives view result (all_at no_arguments None positions.ModuleTerm code) → IfOk result (λ x. ReadsModule code (view x))

@@ -1,24 +1,24 @@
 -- What was read from the front of the bytes, and what a reader of terms keeps.
-use Rattle.std.proofs.Common.{◌≡◌, ℕ, zero, suc, ◌+◌, ◌-◌, ◌<◌, ◌≤◌, Bool, true, false, cond, ltb, List, [], ◌∷◌, ◌++◌, length, Option, Some, None, Result, Ok, Err, refl, sym, ap, subst, ◌∙◌, ◌⊎◌, arith, inl, inr}
+use Rattle.std.proofs.Common.{◌≡◌, ℕ, zero, suc, ◌+◌, ◌<◌, ◌≤◌, true, false, List, [], ◌∷◌, ◌++◌, length, Option, Some, None, Ok, refl, sym, ap, subst, ◌∙◌, arith}
 use Rattle.std.proofs.lemmas.List.{length-append}
 use Rattle.aml_names.specs.declared.segments.Seg.{Seg}
 use Rattle.aml_names.specs.declared.names.Name.{Name}
-use Rattle.aml_names.specs.Names.{IsName, spelling}
-use Rattle.aml_names.specs.NameReading.{is_bare}
+use Rattle.aml_names.specs.Names.{IsNameSeg, IsName, spelling}
 use Rattle.aml_names.specs.Paths.{PathSet}
-use Rattle.aml_names.proofs.NameLaws.{NameLead, name_lead}
-use Rattle.aml_names.proofs.StepLaws.{IsBytes, Takes}
+use Rattle.aml_names.proofs.NameLaws.{name_lead}
+use Rattle.aml_names.proofs.StepLaws.{Takes}
 use Rattle.aml_code.specs.declared.rows.PartKind.{PartKind}
 use Rattle.aml_code.specs.declared.rows.Position.{Position}
 use Rattle.aml_code.specs.declared.rows.Position.TheVariants as positions
 use Rattle.aml_code.specs.declared.rows.TailKind.{TailKind}
 use Rattle.aml_code.specs.declared.rows.TailKind.TheVariants as tails
+use Rattle.aml_code.specs.Packages.{package_bytes}
 use Rattle.aml_code.specs.Rows.{has_length}
-use Rattle.aml_code.specs.Tree.{Tree, nothing, named, op, Trees, no_trees, tree_more, OnePart, Parts, Rest, tree_count}
-use Rattle.aml_code.specs.Encoding.{opcode_bytes, packed, encoding, encodings, part_encoding, parts_encoding, rest_encoding}
-use Rattle.aml_code.specs.Declaring.{after, after_all, after_part, after_parts, after_rest}
+use Rattle.aml_code.specs.Tree.{Tree, nothing, named, op, Trees, OnePart, Parts, Rest, OneUnit, unit, reserved, access, connection, extended, Units, Joint, tree_count}
+use Rattle.aml_code.specs.Encoding.{opcode_bytes, packed, encoding, encodings, part_encoding, parts_encoding, rest_encoding, unit_encoding, units_encoding, joint_encoding}
+use Rattle.aml_code.specs.Declaring.{after, after_all, after_part, after_parts, after_rest, after_joint, after_unit, after_units}
 use Rattle.aml_code.specs.Faults.{Arities}
-use Rattle.aml_code.specs.Lawful.{Count, any_number, exactly, unknown, HasCount, count_in, Setting, IsLawful, AreArguments, AreTerms, IsPart, AreParts, IsTail}
+use Rattle.aml_code.specs.Lawful.{HasCount, count_in, Setting, IsLawful, AreArguments, AreTerms, IsPart, AreParts, IsTail, IsJoint, IsUnit, AreUnits}
 use Rattle.aml_code.specs.Meaning.{count_from, setting_of, BodyStands, BodiesStand, RestStands}
 use Rattle.aml_code.proofs.RowFacts.{opcode_some}
 use Rattle.aml_code.proofs.Within.{Within}
@@ -58,6 +58,21 @@ pub record TookTail (arity : Arities) (scope : Option (List Seg)) (code : List �
   pub after_is : x.1 ≡ after_rest scope ls x.0
   pub stands : RestStands code at x.0
 
+pub record TookJoint (arity : Arities) (scope : Option (List Seg)) (code : List ℕ) (levels : ℕ) (ls : PathSet) (bs : List ℕ) (x : Joint × PathSet × List ℕ) : Type 0 where
+  pub takes : Takes bs (joint_encoding code x.0) x.2
+  pub is_joint : IsJoint (setting_of arity scope code) levels ls x.0
+  pub after_is : x.1 ≡ after_joint scope ls x.0
+
+pub record TookOneUnit (arity : Arities) (scope : Option (List Seg)) (code : List ℕ) (levels : ℕ) (ls : PathSet) (bs : List ℕ) (x : OneUnit × PathSet × List ℕ) : Type 0 where
+  pub takes : Takes bs (unit_encoding code x.0) x.2
+  pub is_unit : IsUnit (setting_of arity scope code) levels ls x.0
+  pub after_is : x.1 ≡ after_unit scope ls x.0
+
+pub record TookUnits (arity : Arities) (scope : Option (List Seg)) (code : List ℕ) (levels : ℕ) (ls : PathSet) (bs : List ℕ) (x : Units × PathSet) : Type 0 where
+  pub text : bs ≡ units_encoding code x.0
+  pub are_units : AreUnits (setting_of arity scope code) levels ls x.0
+  pub after_is : x.1 ≡ after_units scope ls x.0
+
 -- what is read is lawful and spelled so, and a lawful term is read again, whatever follows it
 pub record IsReader (arity : Arities) (scope : Option (List Seg)) (code : List ℕ) (levels : ℕ) (read : Position → Reader Tree) : Type 0 where
   pub take : (p : Position) (at end : ℕ) (ls : PathSet) (bs : List ℕ) (x : Tree × PathSet × List ℕ) → Within code at end bs → read p end ls bs ≡ Ok x → Took arity scope code levels p ls at bs x
@@ -79,6 +94,17 @@ nonempty s code (suc levels) p ls (op o w ps t) h = omega (arith, opcode_some o,
   where
     length_op : length (opcode_bytes o) ≤ length (encoding code (op o w ps t))
     length_op = omega (arith, length-append (opcode_bytes o) (packed w (parts_encoding code ps ++ rest_encoding code t)))
+
+seg_some : (text : List ℕ) → IsNameSeg text → 0 < length text
+seg_some [] h = absurd h
+seg_some (a ∷ text) h = omega arith
+
+pub unit_some : (s : Setting) (code : List ℕ) (levels : ℕ) (ls : PathSet) (u : OneUnit) → IsUnit s levels ls u → 0 < length (unit_encoding code u)
+unit_some s code levels ls (unit g w n) h = omega (arith, seg_some g.0 h.0, length-append g.0 (package_bytes w n))
+unit_some s code levels ls (reserved w n) h = omega arith
+unit_some s code levels ls (access a b) h = omega arith
+unit_some s code levels ls (connection l) h = omega arith
+unit_some s code levels ls (extended a b c) h = omega arith
 
 -- ---- how many arguments
 

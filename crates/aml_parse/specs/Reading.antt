@@ -1,6 +1,6 @@
 -- Reading terms forward, with the first fault that is met. A stepping stone: what it means that code reads as terms is
 -- said without it, by the definitions of aml_code.
-use Rattle.std.specs.Prelude.{◌≡◌, ℕ, zero, suc, ◌+◌, ◌-◌, Bool, true, false, cond, ◌&&◌, ◌==◌, if◌then◌else◌, nat_lt, List, [], ◌∷◌, length, take, drop, position, Option, Some, None, Result, Ok, Err}
+use Rattle.std.specs.Prelude.{ℕ, zero, suc, ◌+◌, ◌-◌, Bool, true, false, ◌==◌, if◌then◌else◌, nat_lt, List, [], ◌∷◌, length, take, drop, position, Option, Some, None, Result, Ok, Err}
 use Rattle.std.specs.FinSet as set
 use Rattle.aml_names.specs.declared.faults.CodeFault.{CodeFault}
 use Rattle.aml_names.specs.declared.faults.CodeFault.TheVariants as faults
@@ -8,7 +8,7 @@ use Rattle.aml_names.specs.declared.segments.Seg.{Seg}
 use Rattle.aml_names.specs.declared.names.Name.{Name}
 use Rattle.aml_names.specs.Paths.{PathSet}
 use Rattle.aml_names.specs.Names.{is_name_lead}
-use Rattle.aml_names.specs.NameReading.{name_at, has_segment}
+use Rattle.aml_names.specs.NameReading.{name_at, segment_at, has_segment}
 use Rattle.aml_names.specs.Steps.{◌>>=◌, Left, byte_at}
 use Rattle.aml_code.specs.declared.rows.OpRow.{OpRow}
 use Rattle.aml_code.specs.declared.rows.PartKind.{PartKind}
@@ -19,9 +19,9 @@ use Rattle.aml_code.specs.declared.rows.Position.{Position}
 use Rattle.aml_code.specs.declared.rows.Position.TheVariants as positions
 use Rattle.aml_code.specs.declared.rows.TailKind.{TailKind}
 use Rattle.aml_code.specs.declared.rows.TailKind.TheVariants as tails
-use Rattle.aml_code.specs.Lengths.{little_at, span_at}
+use Rattle.aml_code.specs.Lengths.{little_at, length_at, span_at}
 use Rattle.aml_code.specs.Rows.{row_of, parts_of, has_length, takes}
-use Rattle.aml_code.specs.Tree.{Tree, nothing, named, op, Trees, no_trees, tree_more, OnePart, child, label, byte, word, dword, qword, text, Parts, no_parts, part_more, Rest, empty, terms, elements, body}
+use Rattle.aml_code.specs.Tree.{Tree, nothing, named, op, Trees, no_trees, tree_more, OnePart, child, label, byte, word, dword, qword, text, Parts, no_parts, part_more, Rest, empty, terms, elements, fields, body, OneUnit, unit, reserved, access, connection, extended, Units, no_units, unit_more, Joint, target, buffer}
 use Rattle.aml_code.specs.Tree as trees
 use Rattle.aml_code.specs.Declaring.{names_declared, with_declared}
 use Rattle.aml_code.specs.Faults.{Arities}
@@ -80,10 +80,15 @@ any_name_part end bytes = do
   Ok (label n.0, n.1)
 
 -- a name with a segment
-unfoldable pub name_part : ℕ → List ℕ → Left OnePart
-name_part end bytes = do
+unfoldable pub segmented_at : ℕ → List ℕ → Left Name
+segmented_at end bytes = do
   n ← name_at end bytes
-  if has_segment n.0 then Ok (label n.0, n.1) else Err (faults.EmptyName (end - length bytes))
+  if has_segment n.0 then Ok n else Err (faults.EmptyName (end - length bytes))
+
+abbrev pub name_part : ℕ → List ℕ → Left OnePart
+name_part end bytes = do
+  n ← segmented_at end bytes
+  Ok (label n.0, n.1)
 
 -- ---- parts
 
@@ -130,6 +135,78 @@ terms_at read (suc n) p end ls (b ∷ bytes) = do
   first ← read p end ls (b ∷ bytes)
   others ← terms_at read n (next_position p first.0) end first.1 first.2
   Ok (tree_more first.0 others.0, others.1)
+
+-- ---- field lists (20.2.5.2)
+
+-- a NameSeg and a number of bits
+unfoldable pub named_unit : ℕ → List ℕ → Left OneUnit
+named_unit end bytes = do
+  s ← segment_at end bytes
+  n ← length_at end s.1
+  Ok (unit s.0 n.0.0 n.0.1, n.1)
+
+-- behind 00: a number of bits
+unfoldable pub reserved_unit : ℕ → List ℕ → Left OneUnit
+reserved_unit end bytes = do
+  n ← length_at end bytes
+  Ok (reserved n.0.0 n.0.1, n.1)
+
+-- behind 01: type and attribute
+unfoldable pub access_unit : ℕ → List ℕ → Left OneUnit
+access_unit end bytes = do
+  kind ← byte_at end bytes
+  attribute ← byte_at end kind.1
+  Ok (access kind.0 attribute.0, attribute.1)
+
+-- behind 03: type, attribute and length
+unfoldable pub extended_unit : ℕ → List ℕ → Left OneUnit
+extended_unit end bytes = do
+  kind ← byte_at end bytes
+  attribute ← byte_at end kind.1
+  len ← byte_at end attribute.1
+  Ok (extended kind.0 attribute.0 len.0, len.1)
+
+-- a connection's name
+abbrev pub named_joint : ℕ → List ℕ → Left Joint
+named_joint end bytes = do
+  n ← segmented_at end bytes
+  Ok (target n.0, n.1)
+
+abbrev pub buffer_at : Reader Tree → Reader Joint
+buffer_at read end ls bytes = do
+  t ← read end ls bytes
+  Ok (buffer t.0, t.1, t.2)
+
+-- what a connection leads to: a Buffer, by its lead byte, or a name
+unfoldable pub joint_at : (Position → Reader Tree) → Reader Joint
+joint_at read end ls bytes = do
+  lead ← byte_at end bytes
+  if lead.0 == 0x11 then buffer_at (read positions.Data) end ls bytes else flat named_joint end ls bytes
+
+-- behind 02
+abbrev pub connection_at : (Position → Reader Tree) → Reader OneUnit
+connection_at read end ls bytes = do
+  l ← joint_at read end ls bytes
+  Ok (connection l.0, l.1, l.2)
+
+-- an element, by its lead byte
+unfoldable pub unit_at : (Position → Reader Tree) → Reader OneUnit
+unit_at read end ls bytes = do
+  lead ← byte_at end bytes
+  if lead.0 == 0x00 then flat reserved_unit end ls lead.1 else
+      if lead.0 == 0x01 then flat access_unit end ls lead.1 else
+      if lead.0 == 0x02 then connection_at read end ls lead.1 else
+      if lead.0 == 0x03 then flat extended_unit end ls lead.1 else
+      flat named_unit end ls bytes
+
+-- Elements to the end of the span. The number bounds the turns: that of the bytes is always enough.
+unfoldable pub units_at : (Position → Reader Tree) → ℕ → ℕ → PathSet → List ℕ → Result (Units × PathSet) CodeFault
+units_at read n end ls [] = Ok (no_units, ls)
+units_at read zero end ls (b ∷ bytes) = Err (faults.Truncated end)
+units_at read (suc n) end ls (b ∷ bytes) = do
+  first ← unit_at read end ls (b ∷ bytes)
+  others ← units_at read n end first.1 first.2
+  Ok (unit_more first.0 others.0, others.1)
 
 -- ---- names
 
@@ -210,7 +287,9 @@ tail_at read p tails.Bytes end ls inside = Ok (trees.bytes inside, ls)
 tail_at read p tails.Elements end ls inside = do
   ts ← terms_at read (length inside) positions.Data end ls inside
   Ok (elements ts.0, ts.1)
-tail_at read p tails.Fields end ls inside = Err (faults.Truncated end)
+tail_at read p tails.Fields end ls inside = do
+  us ← units_at read (length inside) end ls inside
+  Ok (fields us.0, us.1)
 tail_at read p tails.Body end ls inside = Ok (body_to end (end - length inside), ls)
 
 -- an opcode without a package length

@@ -2,9 +2,9 @@
 ghost use Rattle.std.specs.Prelude.{◌≡◌, ◌<◌, ◌==◌, position, take, drop, suc, IfSome, length};
 ghost use Rattle.aml_names.specs.Steps.{Gives};
 ghost use Rattle.aml_code.specs.View.{part_view};
-ghost use Rattle.aml_parse.specs.Reading.{byte_part, count_part, word_part, dword_part, qword_part, text_part, text_to, any_name_part, name_part};
+ghost use Rattle.aml_parse.specs.Reading.{byte_part, count_part, word_part, dword_part, qword_part, text_part, text_to, any_name_part, segmented_at, name_part};
 
-use aml_code::{Bytes, CodeFault, Part, little_of, offset_of};
+use aml_code::{Bytes, CodeFault, Name, Part, little_of, offset_of};
 use aml_names::name_of;
 use std::alloc::Global;
 
@@ -80,9 +80,9 @@ pub fn any_name_part_of(alloc: Global, end: u32, bytes: &[u8]) -> Result<(Part, 
 }
 
 /// A name with a segment. `EmptyName` at its first byte where it has none.
-#[tactic(auto, unfolding(crate::specs::Reading::name_part))]
-pub fn name_part_of(alloc: Global, end: u32, bytes: &[u8]) -> Result<(Part, &[u8]), CodeFault>
-    ensures { Gives (λ x. (part_view x.0, x.1.now)) result (name_part end bytes.now) }
+#[tactic(auto, unfolding(crate::specs::Reading::segmented_at))]
+pub fn segmented_of(alloc: Global, end: u32, bytes: &[u8]) -> Result<(Name, &[u8]), CodeFault>
+    ensures { Gives (λ x. (x.0, x.1.now)) result (segmented_at end bytes.now) }
 {
     let (name, rest) = name_of(alloc, end, bytes)?;
     if !name.has_segment() {
@@ -90,5 +90,13 @@ pub fn name_part_of(alloc: Global, end: u32, bytes: &[u8]) -> Result<(Part, &[u8
             at: offset_of(end, bytes),
         });
     }
+    Ok((name, rest))
+}
+
+/// A name with a segment, as a part.
+pub fn name_part_of(alloc: Global, end: u32, bytes: &[u8]) -> Result<(Part, &[u8]), CodeFault>
+    ensures { Gives (λ x. (part_view x.0, x.1.now)) result (name_part end bytes.now) }
+{
+    let (name, rest) = segmented_of(alloc, end, bytes)?;
     Ok((Part::Label(name), rest))
 }

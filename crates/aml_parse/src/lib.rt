@@ -8,6 +8,7 @@ mod context;
 mod flat;
 mod module;
 mod terms;
+mod units;
 
 pub use body::parse_body;
 pub use module::parse_module;

@@ -68,6 +68,8 @@ pub fn parse_module(alloc: Global, code: &[u8]) -> Result<Vec<Node>, CodeFault>
     ensures complete { IfErr result (λ fault. (fault ≡ CodeFault.NoMemory) ⊎ ((ts : Trees) → ReadsModule code.now ts → ⊥)) }
     // A fault is true of its offset.
     ensures placed { IfErr result (StandsAt no_arguments code.now) }
+    // Which fault it is.
+    ensures forward { Gives (λ nodes. nodes_view nodes.items) result (all_at no_arguments None Position.ModuleTerm code.now) }
 {
     module_terms(alloc, code)
 }

@@ -3,21 +3,27 @@ ghost use Rattle.std.specs.Prelude.{◌≡◌, None, length};
 ghost use Rattle.aml_names.specs.Steps.{Gives};
 ghost use Rattle.aml_code.specs.Lawful.{is_guard, is_if, next_position, terms_in};
 ghost use Rattle.aml_code.specs.Tree.{op, no_parts, empty};
-ghost use Rattle.aml_code.specs.View.{node_view, nodes_view, part_view, parts_view, tail_view};
+ghost use Rattle.aml_code.specs.View.{node_view, nodes_view, part_view, parts_view, tail_view, field_view, fields_view, link_view};
 ghost use Rattle.aml_parse.specs.Contexts.{scope_of};
-ghost use Rattle.aml_parse.specs.Reading.{child_at, opcode_at, refused_in_body, refusal, is_none, takes_names, guard_at, part_at, parts_at, arguments_at, terms_at, call_at, name_term_at, tail_at, plain_at, packed_at, by_row, row_at, operation_at, read_at};
+ghost use Rattle.aml_parse.specs.Reading.{child_at, opcode_at, refused_in_body, refusal, is_none, takes_names, guard_at, part_at, parts_at, arguments_at, terms_at, units_at, unit_at, joint_at, call_at, name_term_at, tail_at, plain_at, packed_at, by_row, row_at, operation_at, read_at};
 
 use crate::context::Context;
 use crate::flat::{
     any_name_part_of, byte_part_of, count_part_of, dword_part_of, name_part_of, qword_part_of,
     text_part_of, word_part_of,
 };
+use crate::units::{
+    access_unit_of, extended_unit_of, named_joint_of, named_unit_of, reserved_unit_of,
+};
 use aml_code::{
-    Arity, Bytes, CodeFault, Declares, Locals, Node, OpRow, Part, PartKind, Place, Position, Shape,
-    Tail, TailKind, byte_of, listed_row, offset_of, span_of, takes,
+    Arity, Bytes, CodeFault, Declares, Field, Link, Locals, Node, OpRow, Part, PartKind, Place,
+    Position, Shape, Tail, TailKind, byte_of, listed_row, offset_of, span_of, takes,
 };
 use aml_names::{is_name_lead, name_of};
 use std::alloc::Global;
+
+/// The opcode of a Buffer.
+const BUFFER: u8 = 0x11;
 
 /// An opcode: one byte, or 5B and a second.
 #[tactic(auto, unfolding(crate::specs::Reading::opcode_at))]
@@ -418,7 +424,10 @@ fn tail<A: Arity>(
             let nodes = terms(context, levels, Position::Data, end, locals, inside)?;
             Ok(Tail::Elements(nodes))
         }
-        TailKind::Fields => Err(CodeFault::Truncated { at: end }),
+        TailKind::Fields => {
+            let fields = fields(context, levels, end, locals, inside)?;
+            Ok(Tail::Fields(fields))
+        }
         TailKind::Body => {
             let start = offset_of(end, inside);
             Ok(Tail::Body {
@@ -427,6 +436,84 @@ fn tail<A: Arity>(
             })
         }
     }
+}
+
+/// The elements of a field list, to the end of the span. Each takes a byte at least, so as many turns as there are bytes
+/// are enough.
+#[cycle(terms)]
+fn fields<A: Arity>(
+    context: &Context<'_, A>,
+    levels: u16,
+    end: u32,
+    locals: &mut Locals,
+    bytes: &[u8],
+) -> Result<Vec<Field>, CodeFault>
+    ensures { Gives (λ x. (fields_view x.items, locals.new)) result (units_at (read_at (A.arity context.now.arity.now) (scope_of context.now.scope) levels) (length bytes.now) end locals.old bytes.now) }
+{
+    let mut found = Vec::new(context.alloc);
+    let mut rest = bytes;
+    for _turn in 0..bytes.len() {
+        if rest.is_empty() {
+            return Ok(found);
+        }
+        match field(context, levels, end, locals, rest) {
+            Err(fault) => return Err(fault),
+            Ok((field, behind)) => {
+                found.push(field)?;
+                rest = behind;
+            }
+        }
+    }
+    if rest.is_empty() {
+        Ok(found)
+    } else {
+        Err(CodeFault::Truncated { at: end })
+    }
+}
+
+/// An element of a field list, by its lead byte.
+#[cycle(terms)]
+#[tactic(auto, unfolding(crate::specs::Reading::unit_at))]
+fn field<'b, A: Arity>(
+    context: &Context<'_, A>,
+    levels: u16,
+    end: u32,
+    locals: &mut Locals,
+    bytes: &'b [u8],
+) -> Result<(Field, &'b [u8]), CodeFault>
+    ensures { Gives (λ x. (field_view x.0, locals.new, x.1.now)) result (unit_at (read_at (A.arity context.now.arity.now) (scope_of context.now.scope) levels) end locals.old bytes.now) }
+{
+    let (lead, rest) = byte_of(end, bytes)?;
+    match lead {
+        0x00 => Ok(reserved_unit_of(end, rest)?),
+        0x01 => Ok(access_unit_of(end, rest)?),
+        0x02 => {
+            let (link, rest) = link(context, levels, end, locals, rest)?;
+            Ok((Field::Connection(link), rest))
+        }
+        0x03 => Ok(extended_unit_of(end, rest)?),
+        _ => Ok(named_unit_of(end, bytes)?),
+    }
+}
+
+/// What a connection leads to: a Buffer, which its lead byte tells, or a name.
+#[cycle(terms)]
+#[tactic(auto, unfolding(crate::specs::Reading::joint_at))]
+fn link<'b, A: Arity>(
+    context: &Context<'_, A>,
+    levels: u16,
+    end: u32,
+    locals: &mut Locals,
+    bytes: &'b [u8],
+) -> Result<(Link, &'b [u8]), CodeFault>
+    ensures { Gives (λ x. (link_view x.0, locals.new, x.1.now)) result (joint_at (read_at (A.arity context.now.arity.now) (scope_of context.now.scope) levels) end locals.old bytes.now) }
+{
+    let (lead, _) = byte_of(end, bytes)?;
+    if lead != BUFFER {
+        return Ok(named_joint_of(context.alloc, end, bytes)?);
+    }
+    let (node, rest) = term(context, levels, Position::Data, end, locals, bytes)?;
+    Ok((Link::Buffer(node), rest))
 }
 
 /// Terms to the end of the span. Each takes a byte at least, so as many turns as there are bytes are enough.

@@ -8,6 +8,10 @@ use aml_code::{
 use std::alloc::Global;
 use std::test::Fail;
 
+mod faults;
+mod rows;
+mod trees;
+
 /// Each name takes so many arguments.
 #[derive(Clone, Copy)]
 struct Each {
@@ -142,14 +146,10 @@ fn bodies_go_back(rt: HostRuntime) -> Result<(), Fail> {
 #[test]
 fn faults_of_bodies(rt: HostRuntime) {
     let alloc = rt.alloc();
-    // a Method, and a Name
+    // a Method
     assert_eq!(rt;
         body_fault(alloc, &[0x14, 0x06, 0x43, 0x43, 0x43, 0x43, 0x00], 0),
         Some(CodeFault::NestedMethod { at: 0 })
-    );
-    assert_eq!(rt;
-        body_fault(alloc, &[0x08, 0x43, 0x43, 0x43, 0x43, 0x00], 0),
-        Some(CodeFault::NotHere { at: 0 })
     );
     // a statement as an argument, a value as a target
     assert_eq!(rt;

@@ -1,5 +1,5 @@
 -- The text of each variant of a node, as the printing functions print it.
-use Rattle.std.proofs.Common.{◌≡◌, ℕ, rules, Bool, true, false, cond, List, [], ◌∷◌, ◌++◌, map, length, Vec, Option, Some, None, refl, sym, ap, ◌∙◌}
+use Rattle.std.proofs.Common.{◌≡◌, ℕ, Bool, true, false, cond, List, [], ◌∷◌, ◌++◌, map, length, Vec, Option, Some, None, refl, ap, ◌∙◌}
 use Rattle.std.specs.declared.alloc.Global.{Global}
 use Rattle.aml_names.specs.declared.names.Name.{Name}
 use Rattle.aml_code.specs.declared.packages.PkgWidth.{PkgWidth}
@@ -11,11 +11,10 @@ use Rattle.aml_code.specs.declared.tree.Part as parts
 use Rattle.aml_code.specs.declared.tree.Tail.{Tail}
 use Rattle.aml_code.specs.declared.tree.Tail as tails
 use Rattle.aml_code.specs.Rows.{row_of, mnemonic_of}
-use Rattle.aml_code.specs.Tree.{Trees}
 use Rattle.aml_code.specs.View.{node_view, nodes_view, part_view, parts_view, tail_view}
 use Rattle.aml_code.proofs.Views.{view-Nothing, view-Named, view-Op, view-part-Child, view-part-Label, view-part-Byte, view-part-Word, view-part-Dword, view-part-Qword, view-part-Text, view-tail-Empty, view-tail-Terms, view-tail-Bytes, view-tail-Elements, view-tail-Fields, view-tail-Body}
 use Rattle.aml_text.specs.Words.{word}
-use Rattle.aml_text.specs.Texts.{hex2, hex4, hex8, hex16, quoted, name_text, after_separator, separated_by, joined, arguments_text, braced, is_constant, head_text, inline, inlines, part_text, part_texts, tail_text}
+use Rattle.aml_text.specs.Texts.{hex2, hex4, hex8, hex16, quoted, name_text, separated_by, joined, arguments_text, braced, is_constant, head_text, inline, inlines, part_text, part_texts, tail_text}
 use Rattle.aml_text.specs.Views.{node_inline, part_inline}
 use Rattle.aml_text.proofs.TextLaws.{joined-map, braced-map}
 

@@ -1,12 +1,12 @@
 -- The lines of terms, of field lists, of methods and of definition blocks.
-use Rattle.std.specs.Prelude.{ℕ, zero, suc, min, decimal, Bool, true, false, cond, ◌+◌, ◌/◌, ◌%◌, ◌==◌, List, [], ◌∷◌, ◌++◌, drop, Option, Some, None}
+use Rattle.std.specs.Prelude.{ℕ, zero, suc, min, decimal, cond, ◌+◌, ◌/◌, ◌%◌, ◌==◌, List, [], ◌∷◌, ◌++◌, drop, Option, Some, None}
 use Rattle.aml_names.specs.declared.names.Name.{Name}
 use Rattle.aml_code.specs.Rows.{row_of}
-use Rattle.aml_code.specs.Tree.{Tree, nothing, named, op, Trees, no_trees, tree_more, OnePart, child, label, byte, word as word_part, dword, qword, text as text_part, Parts, no_parts, part_more, Rest, empty, terms, bytes, elements, fields, body, OneUnit, unit, reserved, access, connection, extended, Units, no_units, unit_more, Joint, target, buffer}
+use Rattle.aml_code.specs.Tree.{Tree, nothing, named, op, Trees, no_trees, tree_more, Parts, Rest, empty, terms, bytes, elements, fields, body, OneUnit, unit, reserved, access, connection, extended, Units, no_units, unit_more, Joint, target, buffer}
 use Rattle.aml_code.specs.Declaring.{last_label, last_byte}
 use Rattle.aml_code.specs.Encoding.{slice_of}
 use Rattle.aml_text.specs.Words.{word}
-use Rattle.aml_text.specs.Texts.{hex2, quoted, separated_by, name_text, head_text, inline, part_text, part_texts, tail_text}
+use Rattle.aml_text.specs.Texts.{hex2, quoted, separated_by, name_text, head_text, inline, part_texts, tail_text}
 
 -- the level below (a machine number)
 abbrev pub deeper : ℕ → ℕ
@@ -162,3 +162,14 @@ block_opening name = word "DefinitionBlock (" ++ quoted name ++ word ") {\n"
 -- a definition block, by its table's file name
 unfoldable pub block_text : List ℕ → List ℕ → Trees → List OneBody → List ℕ
 block_text name code ts bs = block_opening name ++ all_table_lines code 1 ts bs ++ word "}\n"
+
+-- a table that is printed as a definition block
+pub record OneBlock : Type 0 where
+  pub name : List ℕ
+  pub code : List ℕ
+  pub terms : Trees
+
+-- definition blocks, one after the other: each takes the bodies of its own methods, and the next one those that are left
+abbrev pub blocks_text : List OneBlock → List OneBody → List ℕ
+blocks_text [] bs = []
+blocks_text (b ∷ others) bs = block_text b.name b.code b.terms bs ++ blocks_text others (left_all b.terms bs)

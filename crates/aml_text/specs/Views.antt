@@ -1,14 +1,15 @@
 -- The texts of nodes in memory.
-use Rattle.std.specs.Prelude.{ℕ, List, map}
+use Rattle.std.specs.Prelude.{ℕ, List}
 use Rattle.aml_code.specs.declared.tree.Field.{Field}
 use Rattle.aml_code.specs.declared.tree.Link.{Link}
 use Rattle.aml_code.specs.declared.tree.Node.{Node}
 use Rattle.aml_code.specs.declared.tree.Part.{Part}
 use Rattle.aml_code.specs.View.{node_view, nodes_view, part_view, field_view, link_view}
+use Rattle.aml_text.specs.declared.blocks.Block.{Block}
 use Rattle.aml_text.specs.declared.blocks.Body.{Body}
 use Rattle.aml_text.specs.declared.blocks.Body.TheVariants as bodies
 use Rattle.aml_text.specs.Texts.{inline, part_text}
-use Rattle.aml_text.specs.Lines.{line, lines, unit_text, joint_text, OneBody, read, raw}
+use Rattle.aml_text.specs.Lines.{line, lines, unit_text, joint_text, OneBody, read, raw, OneBlock}
 
 unfoldable pub node_inline : Node → List ℕ
 node_inline node = inline (node_view node)
@@ -32,3 +33,7 @@ link_inline link = joint_text (link_view link)
 abbrev pub body_view : Body → OneBody
 body_view (bodies.Tree nodes) = read (nodes_view nodes.items)
 body_view (bodies.Raw fault) = raw
+
+-- a block as its bytes and terms, wherever they lie
+abbrev pub block_view : Block → OneBlock
+block_view b = record { name = b.name.now; code = b.code.now; terms = nodes_view b.nodes.now }

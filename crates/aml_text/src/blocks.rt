@@ -4,11 +4,11 @@ ghost use Rattle.aml_code.specs.Declaring.{last_label, last_byte};
 ghost use Rattle.aml_code.specs.Encoding.{slice_of};
 ghost use Rattle.aml_code.specs.Rows.{row_of};
 ghost use Rattle.aml_code.specs.View.{node_view, nodes_view, parts_view, tail_view};
-ghost use Rattle.aml_text.specs.Views.{body_view};
+ghost use Rattle.aml_text.specs.Views.{body_view, block_view};
 ghost use Rattle.aml_text.specs.Prints.{Prints};
 ghost use Rattle.aml_text.specs.Words.{word};
 ghost use Rattle.aml_text.specs.Texts.{head_text, part_texts};
-ghost use Rattle.aml_text.specs.Lines.{deeper, line, opening, closing, serialized_text, comma_decimal, flags_text, method_text, method_head, raw_text, body_lines, left, left_rest, left_all, table_lines, table_op_lines, all_table_lines, block_opening, block_text};
+ghost use Rattle.aml_text.specs.Lines.{deeper, line, opening, closing, serialized_text, comma_decimal, flags_text, method_text, method_head, raw_text, body_lines, left, left_rest, left_all, table_lines, table_op_lines, all_table_lines, block_opening, block_text, blocks_text};
 
 use crate::lines::{
     print_closing, print_indent, print_lines, print_op_lines, print_opening, print_terms,
@@ -26,6 +26,17 @@ pub enum Body {
     Tree(Vec<Node>),
     /// It can't be read: why. It is printed as its bytes.
     Raw(CodeFault),
+}
+
+/// A table that is printed as a definition block.
+#[derive(Drop)]
+pub struct Block<'a> {
+    /// The file's name.
+    pub name: &'a [u8],
+    /// The table's AML.
+    pub code: &'a [u8],
+    /// Its terms.
+    pub nodes: &'a [Node],
 }
 
 /// Whether a method is serialized: bit 3 of its flags.
@@ -274,19 +285,33 @@ fn print_table_terms<'b, W: Write>(
 }
 
 /// A definition block: the terms of a table's AML, each method with its body, in the order of the text.
+/// Answers the bodies that are left: those of the next tables.
 #[tactic(auto, using(crate::proofs::PrintLaws::straight), unfolding(crate::specs::Lines::block_text))]
-pub fn print_block<W: Write>(
+pub fn print_block<'b, W: Write>(
     out: &mut Out<'_, W>,
     name: &[u8],
     code: &[u8],
     nodes: &[Node],
-    bodies: &[Body],
-)
-    ensures { Prints W.contents out.old out.new (block_text name.now code.now (nodes_view nodes.now) (map body_view bodies.now)) }
+    bodies: &'b [Body],
+) -> &'b [Body]
+    ensures prints { Prints W.contents out.old out.new (block_text name.now code.now (nodes_view nodes.now) (map body_view bodies.now)) }
+    ensures others { map body_view result.now ≡ left_all (nodes_view nodes.now) (map body_view bodies.now) }
 {
     print_block_opening(out, name);
-    print_table_terms(out, code, 1, nodes, bodies);
+    let others = print_table_terms(out, code, 1, nodes, bodies);
     out.put(b"}\n");
+    others
+}
+
+/// Definition blocks, one after the other. Each takes the bodies of its own methods, from the first on.
+#[tactic(auto, using(crate::proofs::PrintLaws::straight))]
+pub fn print_blocks<W: Write>(out: &mut Out<'_, W>, blocks: &[Block<'_>], bodies: &[Body])
+    ensures { Prints W.contents out.old out.new (blocks_text (map block_view blocks.now) (map body_view bodies.now)) }
+{
+    let mut rest = bodies;
+    for block in blocks {
+        rest = print_block(out, block.name, block.code, block.nodes, rest);
+    }
 }
 
 #[tactic(auto, using(crate::proofs::PrintLaws::straight), unfolding(crate::specs::Lines::block_opening))]

@@ -11,7 +11,7 @@ mod texts;
 mod words;
 mod writing;
 
-pub use blocks::{Body, print_block};
+pub use blocks::{Block, Body, print_block, print_blocks};
 pub use output::{Out, WriteFault};
 pub use words::print_quoted;
-pub use writing::write_block;
+pub use writing::write_blocks;

@@ -1,28 +1,25 @@
 //! Definition blocks, written whole.
 ghost use Rattle.std.specs.Prelude.{map};
-ghost use Rattle.aml_code.specs.View.{nodes_view};
-ghost use Rattle.aml_text.specs.Views.{body_view};
-ghost use Rattle.aml_text.specs.Lines.{block_text};
+ghost use Rattle.aml_text.specs.Views.{body_view, block_view};
+ghost use Rattle.aml_text.specs.Lines.{blocks_text};
 ghost use Rattle.aml_text.specs.Prints.{Writes};
 
-use crate::blocks::{Body, print_block};
+use crate::blocks::{Block, Body, print_blocks};
 use crate::output::{Out, WriteFault};
-use aml_code::Node;
 use std::io::Write;
 
-/// Writes the definition block of a table: its file's name, its terms, and the bodies of its methods in their places.
+/// Writes the definition blocks of tables, one after the other, with the bodies of their methods in their places.
+/// The bodies of all tables stand in one list, in the order of the text.
 ///
 /// Where the writer takes no more, it has the first bytes of that text, and the fault says how many.
-pub fn write_block<W: Write>(
+pub fn write_blocks<W: Write>(
     out: &mut W,
-    name: &[u8],
-    code: &[u8],
-    nodes: &[Node],
+    blocks: &[Block<'_>],
     bodies: &[Body],
 ) -> Result<(), WriteFault>
-    ensures { Writes (W.contents out.old) (W.contents out.new) (block_text name.now code.now (nodes_view nodes.now) (map body_view bodies.now)) result }
+    ensures { Writes (W.contents out.old) (W.contents out.new) (blocks_text (map block_view blocks.now) (map body_view bodies.now)) result }
 {
     let mut sink = Out::new(out);
-    print_block(&mut sink, name, code, nodes, bodies);
+    print_blocks(&mut sink, blocks, bodies);
     sink.finish()
 }

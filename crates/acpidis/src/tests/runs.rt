@@ -1,6 +1,4 @@
 //! Whole runs over sets of tables: the status, and what goes to the two outputs.
-ghost use Rattle.std.specs.Prelude.{◌<◌, length};
-
 use crate::options::Options;
 use crate::run::run;
 use acpi_tables::{Dump, sum};
@@ -14,13 +12,11 @@ const OPTIONS: Options = Options {
     unknown_zero: false,
 };
 
-/// The DSDT of this AML, with a right checksum.
-fn dsdt(alloc: Global, aml: &[u8]) -> Result<Dump, AllocError>
-    requires { length aml.now < 65536 }
-{
+/// The table with this signature and this AML, with a right checksum.
+pub fn table(alloc: Global, name: &str, signature: &[u8], aml: &[u8]) -> Result<Dump, AllocError> {
     let mut bytes = Vec::new(alloc);
-    bytes.extend_from_slice(b"DSDT")?;
-    bytes.extend_from_slice(&(36 + aml.len() as u32).to_le_bytes())?;
+    bytes.extend_from_slice(signature)?;
+    bytes.extend_from_slice(&((aml.len() % 65536) as u32 + 36).to_le_bytes())?;
     bytes.extend_from_slice(b"\x02\x00TEST  EXAMPLE \x01\x00\x00\x00TEST\x01\x00\x00\x00")?;
     bytes.extend_from_slice(aml)?;
     let total = sum(&bytes);
@@ -28,10 +24,15 @@ fn dsdt(alloc: Global, aml: &[u8]) -> Result<Dump, AllocError>
         *checksum = checksum.wrapping_sub(total);
     }
     Ok(Dump {
-        name: String::from_str(alloc, "dsdt.dat")?,
+        name: String::from_str(alloc, name)?,
         address: None,
         bytes,
     })
+}
+
+/// The DSDT of this AML.
+fn dsdt(alloc: Global, aml: &[u8]) -> Result<Dump, AllocError> {
+    table(alloc, "dsdt.dat", b"DSDT", aml)
 }
 
 fn assert_run<R: Abort + AllocGlobal>(

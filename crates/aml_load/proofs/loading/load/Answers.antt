@@ -1,8 +1,15 @@
-use Rattle.aml_load.proofs.LoadLaws.{going_on, gone}
+use Rattle.aml_load.specs.Views.{codes_view}
+use Rattle.aml_load.proofs.Outcome.{given_sound, given_one, given_complete, given_true}
 use Rattle.aml_load.proofs.loading.load.Goals as goal
 
-pub loop-node-preserved : goal.loop-node-preserved
-loop-node-preserved c = going_on c.loop-node.loaded c.declare_term.new.loaded c.args.nodes.now c.loop-node.node-index c.node-item.result c.loop-node-test.true c.node-item.is c.loop-node.invariant c.in_ok-declare_term.ensures
+pub returns-clause-sound : goal.returns-clause-sound
+returns-clause-sound c = given_sound c.load_whole.result (codes_view c.args.tables.now) c.are_codes.ensures c.load_whole.ensures
 
-pub returns : goal.returns
-returns c = gone c.loop-node.loaded c.args.nodes.now c.loop-node.node-index c.loop-node-test.false c.loop-node.invariant
+pub returns-clause-one : goal.returns-clause-one
+returns-clause-one c = given_one c.load_whole.result (codes_view c.args.tables.now) c.load_whole.ensures
+
+pub returns-clause-complete : goal.returns-clause-complete
+returns-clause-complete c = given_complete c.load_whole.result (codes_view c.args.tables.now) c.load_whole.ensures
+
+pub returns-clause-true_fault : goal.returns-clause-true_fault
+returns-clause-true_fault c = given_true c.load_whole.result (codes_view c.args.tables.now) c.are_codes.ensures c.load_whole.ensures

@@ -1,8 +1,8 @@
 use Rattle.std.proofs.Common.{◌≡◌, ◌+◌, ◌-◌, ◌*◌, length, drop}
-use Rattle.aml_code.specs.View.{nodes_view, parts_view}
+use Rattle.aml_code.specs.View.{nodes_view, parts_view, fields_view}
 use Rattle.aml_parse.specs.Contexts.{scope_of}
-use Rattle.aml_parse.specs.Reading.{read_at, parts_at, arguments_at, terms_at}
-use Rattle.aml_parse.proofs.Loops.{with_arguments, with_parts, with_terms}
+use Rattle.aml_parse.specs.Reading.{read_at, parts_at, arguments_at, terms_at, units_at}
+use Rattle.aml_parse.proofs.Loops.{with_arguments, with_parts, with_terms, with_units}
 use Rattle.aml_parse.proofs.terms.+terms.Given as goal
 
 abbrev pub decreases-term : goal.decreases-term
@@ -41,6 +41,15 @@ decreases-tail g l = 8 * l.levels + 5
 abbrev pub decreases-terms : goal.decreases-terms
 decreases-terms g l = 8 * l.levels + 4
 
+abbrev pub decreases-fields : goal.decreases-fields
+decreases-fields g l = 8 * l.levels + 4
+
+abbrev pub decreases-field : goal.decreases-field
+decreases-field g l = 8 * l.levels + 3
+
+abbrev pub decreases-link : goal.decreases-link
+decreases-link g l = 8 * l.levels + 2
+
 abbrev pub invariant-arguments-loop-i : goal.invariant-arguments-loop-i
 invariant-arguments-loop-i g l =
     let read = read_at (g.A.Arity.arity l.context.arity.now) (scope_of l.context.scope) l.levels in
@@ -55,3 +64,8 @@ abbrev pub invariant-terms-loop-turn : goal.invariant-terms-loop-turn
 invariant-terms-loop-turn g l =
     let read = read_at (g.A.Arity.arity l.context.arity.now) (scope_of l.context.scope) l.levels in
     with_terms (nodes_view l.found.items) (terms_at read (length l.bytes - l._turn) l.here l.end l.locals l.rest) ≡ terms_at read (length l.bytes) l.initial.here l.end l.initial.locals l.bytes
+
+abbrev pub invariant-fields-loop-turn : goal.invariant-fields-loop-turn
+invariant-fields-loop-turn g l =
+    let read = read_at (g.A.Arity.arity l.context.arity.now) (scope_of l.context.scope) l.levels in
+    with_units (fields_view l.found.items) (units_at read (length l.bytes - l._turn) l.end l.locals l.rest) ≡ units_at read (length l.bytes) l.end l.initial.locals l.bytes

@@ -1,4 +1,4 @@
-use Rattle.std.proofs.Common.{rules, ◌+◌, ◌*◌, ◌<◌, arith}
+use Rattle.std.proofs.Common.{rules}
 use Rattle.aml_code.specs.declared.tree.Node.{the_lemmas}
 use Rattle.aml_text.proofs.texts.+inline.Goals as goal
 

@@ -1,5 +1,4 @@
-use Rattle.std.proofs.Common.{◌++◌, [], refl, ap, ◌∙◌}
-use Rattle.aml_text.specs.Waiting.{waiting}
+use Rattle.std.proofs.Common.{◌++◌, [], refl, ap}
 use Rattle.aml_text.proofs.PrintLaws.{prints_then, prints_fault, prints_added, prints_sent}
 use Rattle.aml_text.proofs.output.Out.spill.Goals as goal
 

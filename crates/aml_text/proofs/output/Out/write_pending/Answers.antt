@@ -1,4 +1,4 @@
-use Rattle.std.proofs.Common.{◌++◌, [], append-nil, refl, sym, ◌∙◌}
+use Rattle.std.proofs.Common.{[], append-nil, refl, sym, ◌∙◌}
 use Rattle.aml_text.specs.Waiting.{waiting}
 use Rattle.aml_text.proofs.PrintLaws.{prints_sent}
 use Rattle.aml_text.proofs.output.Out.write_pending.Goals as goal

@@ -1,0 +1,90 @@
+-- What the progress holds after one entry more.
+use Rattle.std.proofs.Common.{◌≡◌, ℕ, ◌-◌, nat_le, Bool, true, false, cond, List, [], ◌∷◌, ◌++◌, length, take, Option, Some, None, is_some, IsTrue, Result, Ok, Err, OnOk, refl, sym, ap, subst, ◌∙◌, ◌⊎◌, inl, inr, arith}
+use Rattle.std.proofs.lemmas.Bool.Decides.{nat_tests}
+use Rattle.std.proofs.lemmas.List.{append-nil, take_all}
+use Rattle.aml_names.specs.Names.{placed}
+use Rattle.aml_code.specs.Declaring.{plain_name}
+use Rattle.std.specs.FinMap as map
+use Rattle.aml_names.specs.declared.segments.Seg.{Seg}
+use Rattle.aml_space.specs.declared.kinds.Kind.{Kind}
+use Rattle.aml_space.specs.declared.kinds.Kind.TheVariants as kinds
+use Rattle.aml_space.specs.declared.faults.SpaceFault.{SpaceFault}
+use Rattle.aml_space.specs.declared.faults.SpaceFault.TheVariants as faults
+use Rattle.aml_space.specs.Entries.{Entry, Body, declares, external, declared_at}
+use Rattle.aml_space.specs.Known.{Known, StandsFor, is_declared}
+use Rattle.aml_load.specs.declared.faults.LoadFault.{LoadFault}
+use Rattle.aml_load.specs.declared.faults.LoadFault.TheVariants as loads
+use Rattle.aml_load.specs.declared.methods.Method.{Method}
+use Rattle.aml_load.specs.declared.walking.Progress.{Progress}
+use Rattle.aml_load.specs.Loading.{Listed, plus, methods_of, methods_at}
+use Rattle.aml_load.specs.Walking.{◌>>=◌, given, space_fault, entry_at, name_at, units_at}
+use Rattle.aml_load.specs.Views.{Holds, Fails}
+use Rattle.aml_load.proofs.Steps.{place_again, entry_again}
+use Rattle.aml_load.proofs.Walks.{methods_more}
+
+-- an entry without a body
+pub external_held : (old new : Progress) (l : Listed) (p : List Seg) (n : ℕ) → Holds old l → StandsFor new.space (l.entries ++ external p n ∷ []) → new.methods.items ≡ old.methods.items → new.uses.items ≡ old.uses.items
+    → Holds new (plus l (external p n))
+external_held old new l p n h s ms us = record {
+  space = s;
+  methods = ms ∙ h.methods ∙ sym (append-nil (methods_of l.entries)) ∙ sym (methods_more l.entries (external p n));
+  uses = us ∙ h.uses;
+}
+
+pub declared_held : (old new : Progress) (l : Listed) (p : List Seg) (k : Kind) → Holds old l → StandsFor new.space (l.entries ++ declares p k None ∷ []) → new.methods.items ≡ old.methods.items → new.uses.items ≡ old.uses.items
+    → Holds new (plus l (declares p k None))
+declared_held old new l p k h s ms us = record {
+  space = s;
+  methods = ms ∙ h.methods ∙ sym (append-nil (methods_of l.entries)) ∙ sym (methods_more l.entries (declares p k None));
+  uses = us ∙ h.uses;
+}
+
+pub method_held : (old new : Progress) (l : Listed) (p : List Seg) (k : Kind) (b : Body) (m : Method) → Holds old l → StandsFor new.space (l.entries ++ declares p k (Some b) ∷ []) → new.methods.items ≡ old.methods.items ++ m ∷ []
+    → m ≡ record { path = p; table = b.table; start = b.start; len = b.len; flags = b.flags } → new.uses.items ≡ old.uses.items → Holds new (plus l (declares p k (Some b)))
+method_held old new l p k b m h s ms is us = record {
+  space = s;
+  methods = ms ∙ ap (λ xs. xs ++ m ∷ []) h.methods ∙ ap (λ (x : Method). methods_of l.entries ++ x ∷ []) is ∙ sym (methods_more l.entries (declares p k (Some b)));
+  uses = us ∙ h.uses;
+}
+
+fresh_by : (o : Option Kind) (u : Unit {0}) (e : SpaceFault) → (IsTrue (is_some o) → Ok u ≡ Err e) → o ≡ None
+fresh_by None u e h = refl
+fresh_by (Some k) u e h = absurd (differ (h refl))
+  where
+    differ : Ok u ≡ Err e → ⊥
+    differ d = cc
+
+-- a path that the space took wasn't declared
+pub fresh : (k : Known) (es : List Entry) (p : List Seg) (u : Unit {0}) → StandsFor k es → (IsTrue (is_declared k p) → Ok u ≡ Err (faults.Duplicate p)) → declared_at es p ≡ None
+fresh k es p u s h = sym (s.same_kinds p) ∙ fresh_by (map.get k.kinds p) u (faults.Duplicate p) h
+
+ended : (r : Result Listed LoadFault) → (r >>= λ k. given k) ≡ r
+ended (Ok l) = refl
+ended (Err e) = refl
+
+-- a unit stands right below the scope
+unit_placed : (scope : List Seg) (s : Seg) → placed scope (plain_name s) ≡ Some (scope ++ s ∷ [])
+unit_placed scope s =
+    let le : nat_le 0 (length scope) ≡ true = grind (arith, nat_tests) in
+    let all : length scope - 0 ≡ length scope = omega arith in
+    rw (le, all) (ap (λ front. Some (front ++ s ∷ [])) (take_all (length scope) scope (omega arith)))
+
+pub unit_is : (t : ℕ) (l : Listed) (scope p : List Seg) (s : Seg) → p ≡ scope ++ s ∷ [] → entry_at t l p (declares p kinds.Field None) ≡ units_at t l scope (plain_name s ∷ [])
+unfolding units_at name_at
+unit_is t l scope p s e =
+    ap (λ q. entry_at t l q (declares q kinds.Field None)) e
+    ∙ sym (ap (λ r. r >>= λ q. entry_at t l q (declares q kinds.Field None)) (place_again t scope (Some (plain_name s)) (scope ++ s ∷ []) (unit_placed scope s)))
+    ∙ sym (ended (name_at t l scope (Some (plain_name s)) kinds.Field))
+
+twice : (o : Option Kind) (p : List Seg) (t : ℕ) (l : Listed) → IsTrue (is_some o) → cond (is_some o) (Err (loads.Space t (faults.Duplicate p))) (given l) ≡ Err (loads.Space t (faults.Duplicate p))
+twice None p t l d = absurd cc
+twice (Some k) p t l d = refl
+
+-- what the space refused, loading forward refuses
+pub entry_refused : (t : ℕ) (l : Listed) (k : Known) (p : List Seg) (x : Entry) (f : SpaceFault) (e : LoadFault) → StandsFor k l.entries → (f ≡ faults.NoMemory) ⊎ ((f ≡ faults.Duplicate p) × IsTrue (is_declared k p))
+    → e ≡ space_fault t f → Fails e (entry_at t l p x)
+unfolding entry_at
+entry_refused t l k p x f e s (inl g) is = inl (is ∙ ap (space_fault t) g)
+entry_refused t l k p x f e s (inr g) is =
+    let d : IsTrue (is_some (declared_at l.entries p)) = subst (λ o. IsTrue (is_some o)) (s.same_kinds p) g.1 in
+    inr (twice (declared_at l.entries p) p t (plus l x) d ∙ ap (λ (h : LoadFault). Err h) (sym (is ∙ ap (space_fault t) g.0)))

@@ -1,0 +1,7 @@
+use Rattle.std.proofs.Common.{arith}
+use Rattle.aml_load.specs.Views.{codes_view}
+use Rattle.aml_load.proofs.Outcome.{short_code}
+use Rattle.aml_load.proofs.loading.load_tables.Goals as goal
+
+pub load_table-requires : goal.load_table-requires
+load_table-requires c = short_code c.args.tables.now c.loop-table.table _ c.requires (omega arith)

@@ -1,0 +1,170 @@
+-- Loading tables forward, with the first fault that is met. A stepping stone: what it means that tables load is said
+-- without it.
+use Rattle.std.specs.Prelude.{◌≡◌, ℕ, suc, ◌+◌, ◌%◌, ◌==◌, Bool, true, false, cond, List, [], ◌∷◌, ◌++◌, length, nat_le, nat_lt, is_some, Option, Some, None, Result, Ok, Err, ◌⊎◌, if◌then◌else◌}
+use Rattle.std.specs.Option.{unwrap_or}
+use Rattle.aml_names.specs.declared.segments.Seg.{Seg}
+use Rattle.aml_names.specs.declared.names.Name.{Name}
+use Rattle.aml_names.specs.declared.faults.CodeFault.{CodeFault}
+use Rattle.aml_names.specs.declared.faults.CodeFault.TheVariants as codes
+use Rattle.aml_code.specs.declared.rows.Position.TheVariants as positions
+use Rattle.aml_code.specs.Meaning.{no_arguments}
+use Rattle.aml_code.specs.Tree.{Tree, nothing, named, op, Trees, no_trees, tree_more, Parts, Rest, empty, terms, bytes, elements, fields, body}
+use Rattle.aml_code.specs.Declaring.{last_label, field_names}
+use Rattle.aml_parse.specs.Reading.{all_at}
+use Rattle.aml_space.specs.declared.faults.SpaceFault.{SpaceFault}
+use Rattle.aml_space.specs.declared.faults.SpaceFault.TheVariants as faults
+use Rattle.aml_space.specs.declared.kinds.Kind.{Kind}
+use Rattle.aml_space.specs.declared.kinds.Kind.TheVariants as kinds
+use Rattle.aml_space.specs.Entries.{Entry, declares, external, declared_at}
+use Rattle.aml_load.specs.declared.faults.LoadFault.{LoadFault}
+use Rattle.aml_load.specs.declared.faults.LoadFault.TheVariants as loads
+use Rattle.aml_load.specs.declared.methods.Use.{Use}
+use Rattle.aml_load.specs.declared.roles.Role.{Role}
+use Rattle.aml_load.specs.declared.roles.Role.TheVariants as roles
+use Rattle.aml_load.specs.Roles.{role_of, kind_of}
+use Rattle.aml_load.specs.Loading.{Listed, nothing_listed, plus, with_uses, first_label, byte_of, place_of, lead_of, target_of, body_start, body_len, method_entry, methods_of, use_count}
+
+infixl 10 ◌>>=◌
+abbrev pub ◌>>=◌ : {A B : Type 0} → Result A LoadFault → (A → Result B LoadFault) → Result B LoadFault
+(Ok x) >>= f = f x
+(Err e) >>= f = Err e
+
+abbrev pub given : Listed → Result Listed LoadFault
+given l = Ok l
+
+-- a fault of the AML of table t
+abbrev pub code_fault : ℕ → CodeFault → LoadFault
+code_fault t codes.NoMemory = loads.NoMemory
+code_fault t f = loads.Code t f
+
+-- a fault of the namespace in table t
+abbrev pub space_fault : ℕ → SpaceFault → LoadFault
+space_fault t faults.NoMemory = loads.NoMemory
+space_fault t f = loads.Space t f
+
+abbrev pub or_fault : {A : Type 0} → LoadFault → Option A → Result A LoadFault
+or_fault e None = Err e
+or_fault e (Some x) = Ok x
+
+-- the path that a name has, or the fault that it has none
+unfoldable pub place_at : ℕ → List Seg → Option Name → Result (List Seg) LoadFault
+place_at t scope n = or_fault (loads.Space t faults.AboveRoot) (place_of scope n)
+
+-- the path that a Scope opens, or the fault that its name leads nowhere
+unfoldable pub scope_at : ℕ → List Entry → List Seg → Option Name → Result (List Seg) LoadFault
+scope_at t es scope n = do
+  p ← place_at t scope n
+  or_fault (loads.Space t (faults.ScopeMissing p)) (lead_of es scope n)
+
+-- the path that an Alias' source leads to, or the fault that it leads nowhere
+unfoldable pub source_at : ℕ → List Entry → List Seg → Option Name → Result (List Seg) LoadFault
+source_at t es scope n = do
+  p ← place_at t scope n
+  or_fault (loads.Space t (faults.AliasMissing p)) (lead_of es scope n)
+
+-- an entry that declares a path, once
+unfoldable pub entry_at : ℕ → Listed → List Seg → Entry → Result Listed LoadFault
+entry_at t l p e = if is_some (declared_at l.entries p) then Err (loads.Space t (faults.Duplicate p)) else Ok (plus l e)
+
+-- a name that is declared with a kind
+unfoldable pub new_at : ℕ → Listed → List Seg → Option Name → Kind → Result (Listed × List Seg) LoadFault
+new_at t l scope n k = do
+  p ← place_at t scope n
+  m ← entry_at t l p (declares p k None)
+  Ok (m, p)
+
+-- the same, without the path
+unfoldable pub name_at : ℕ → Listed → List Seg → Option Name → Kind → Result Listed LoadFault
+name_at t l scope n k = do
+  p ← place_at t scope n
+  entry_at t l p (declares p k None)
+
+unfoldable pub number_at : ℕ → Listed → List Seg → ℕ → ℕ → ℕ → Result Listed LoadFault
+number_at t l p flags start len =
+    if nat_le 1048576 (length (methods_of l.entries)) then Err loads.TooManyMethods else entry_at t l p (method_entry t p flags start len)
+
+unfoldable pub method_at : ℕ → Listed → List Seg → Option Name → ℕ → ℕ → ℕ → Result Listed LoadFault
+method_at t l scope n flags start len = do
+  p ← place_at t scope n
+  number_at t l p flags start len
+
+unfoldable pub alias_at : ℕ → Listed → List Seg → Option Name → Option Name → Result Listed LoadFault
+alias_at t l scope source n = do
+  q ← source_at t l.entries scope source
+  name_at t l scope n (kinds.Alias (target_of l.entries q))
+
+unfoldable pub external_at : ℕ → Listed → List Seg → Option Name → ℕ → Result Listed LoadFault
+external_at t l scope n count = do
+  p ← place_at t scope n
+  given (plus l (external p count))
+
+unfoldable pub units_at : ℕ → Listed → List Seg → List Name → Result Listed LoadFault
+units_at t l scope [] = Ok l
+units_at t l scope (n ∷ ns) = do
+  k ← name_at t l scope (Some n) kinds.Field
+  units_at t k scope ns
+
+-- what a term does by its role, with the terms inside it done by another walk
+unfoldable pub do_as : Role → ℕ → Listed → List Seg → Parts → Rest → (Listed → List Seg → Result Listed LoadFault) → Result Listed LoadFault
+do_as (roles.Declares o) t l scope ps r inside = do
+  made ← new_at t l scope (last_label None ps) (kind_of o)
+  inside made.0 made.1
+do_as roles.Method t l scope ps r inside = method_at t l scope (last_label None ps) (byte_of ps) (body_start r) (body_len r)
+do_as roles.Scope t l scope ps r inside = do
+  p ← scope_at t l.entries scope (last_label None ps)
+  inside l p
+do_as roles.Alias t l scope ps r inside = alias_at t l scope (first_label ps) (last_label None ps)
+do_as roles.External t l scope ps r inside = external_at t l scope (last_label None ps) (byte_of ps)
+do_as roles.Fields t l scope ps r inside = units_at t l scope (field_names r)
+do_as roles.Guard t l scope ps r inside = inside l scope
+do_as roles.Other t l scope ps r inside = Ok l
+
+unfoldable mutual
+  pub walk : ℕ → Listed → List Seg → Tree → Result Listed LoadFault
+  walk t l scope nothing = Ok l
+  walk t l scope (named n ts) = Ok l
+  walk t l scope (op o w ps r) =
+      do_as (role_of o) t (with_uses t l scope o ps r) scope ps r (λ l p. walk_inside t l p r)
+
+  pub walk_inside : ℕ → Listed → List Seg → Rest → Result Listed LoadFault
+  walk_inside t l scope empty = Ok l
+  walk_inside t l scope (terms ts) = walk_all t l scope ts
+  walk_inside t l scope (bytes bs) = Ok l
+  walk_inside t l scope (elements ts) = Ok l
+  walk_inside t l scope (fields us) = Ok l
+  walk_inside t l scope (body start len) = Ok l
+
+  pub walk_all : ℕ → Listed → List Seg → Trees → Result Listed LoadFault
+  walk_all t l scope no_trees = Ok l
+  walk_all t l scope (tree_more x xs) = do
+    k ← walk t l scope x
+    walk_all t k scope xs
+
+abbrev pub in_code : ℕ → Result Trees CodeFault → Result Trees LoadFault
+in_code t (Ok x) = Ok x
+in_code t (Err e) = Err (code_fault t e)
+
+-- a table after what is listed: its tree, and what is listed with what it adds
+unfoldable pub table_at : ℕ → Listed → List ℕ → Result (Trees × Listed) LoadFault
+table_at t l code = do
+  ts ← in_code t (all_at no_arguments None positions.ModuleTerm code)
+  m ← walk_all t l [] ts
+  Ok (ts, m)
+
+-- the trees so far and those of the tables from number t on, and what is listed after them
+unfoldable pub tables_at : ℕ → List Trees → Listed → List (List ℕ) → Result (List Trees × Listed) LoadFault
+tables_at t front l [] = Ok (front, l)
+tables_at t front l (c ∷ cs) = do
+  one ← table_at t l c
+  tables_at (suc t) (front ++ one.0 ∷ []) one.1 cs
+
+-- no name that takes arguments stands as a TermArg
+unfoldable pub uses_at : List Entry → List Use → Result (Unit {0}) LoadFault
+uses_at es [] = Ok tt
+uses_at es (u ∷ us) = if nat_lt 0 (unwrap_or (use_count es u) 0) then Err (loads.ModuleCall u.table) else uses_at es us
+
+unfoldable pub load_at : List (List ℕ) → Result (List Trees × Listed) LoadFault
+load_at codes = do
+  x ← tables_at 0 [] nothing_listed codes
+  _ ← uses_at x.1.entries x.1.uses
+  Ok x

@@ -1,0 +1,190 @@
+//! The names that stand as TermArgs outside the methods.
+ghost use Rattle.std.specs.Prelude.{◌≡◌, ◌++◌, ◌∷◌, [], OnOk, true, false};
+ghost use Rattle.aml_code.specs.View.{node_view, nodes_view, part_view, parts_view, tail_view, field_view, fields_view, link_view};
+ghost use Rattle.aml_code.specs.Rows.{row_of};
+ghost use Rattle.aml_load.specs.Uses.{is_argument, kinds_in, use_of, uses_in, part_uses, parts_uses, rest_uses, elements_uses, units_uses, unit_uses, joint_uses};
+
+use crate::methods::Use;
+use aml_code::{Field, Link, NoMemory, Node, Part, PartKind, Tail, listed_row};
+use aml_names::{Name, Path};
+
+/// Where uses are found.
+#[derive(Drop)]
+pub struct Around<'a> {
+    pub table: usize,
+    pub scope: &'a Path,
+}
+
+fn is_argument(kind: PartKind) -> bool
+    ensures { result ≡ is_argument kind }
+{
+    kind == PartKind::Term
+}
+
+/// The kinds of the parts of an opcode.
+fn kinds_of(opcode: u16) -> &'static [PartKind]
+    ensures { result.now ≡ kinds_in (row_of opcode) }
+{
+    match listed_row(opcode) {
+        None => &[],
+        Some(row) => row.shape.parts(),
+    }
+}
+
+fn add_use(around: &Around<'_>, name: &Name, uses: &mut Vec<Use>) -> Result<(), NoMemory>
+    ensures { OnOk result (uses.new.items ≡ uses.old.items ++ use_of around.now.table around.now.scope.now name.now ∷ []) }
+{
+    let scope = around.scope.clone()?;
+    let name = name.clone()?;
+    uses.push(Use {
+        table: around.table,
+        scope,
+        name,
+    })?;
+    Ok(())
+}
+
+/// Adds the names of a node, which itself is a TermArg or isn't.
+#[cycle(uses)]
+fn add_node(
+    around: &Around<'_>,
+    argument: bool,
+    node: &Node,
+    uses: &mut Vec<Use>,
+) -> Result<(), NoMemory>
+    ensures { OnOk result (uses.new.items ≡ uses.old.items ++ (uses_in around.now.table around.now.scope.now argument (node_view node.now))) }
+{
+    match node {
+        Node::Nothing => Ok(()),
+        Node::Named { name, .. } => {
+            if argument {
+                add_use(around, name, uses)
+            } else {
+                Ok(())
+            }
+        }
+        Node::Op {
+            opcode,
+            parts,
+            tail,
+            ..
+        } => {
+            add_parts(around, kinds_of(*opcode), parts.as_slice(), uses)?;
+            add_tail(around, tail, uses)
+        }
+    }
+}
+
+#[cycle(uses)]
+fn add_part(
+    around: &Around<'_>,
+    argument: bool,
+    part: &Part,
+    uses: &mut Vec<Use>,
+) -> Result<(), NoMemory>
+    ensures { OnOk result (uses.new.items ≡ uses.old.items ++ (part_uses around.now.table around.now.scope.now argument (part_view part.now))) }
+{
+    match part {
+        Part::Child(node) => add_node(around, argument, node, uses),
+        Part::Label(_) => Ok(()),
+        Part::Byte(_) => Ok(()),
+        Part::Word(_) => Ok(()),
+        Part::Dword(_) => Ok(()),
+        Part::Qword(_) => Ok(()),
+        Part::Text(_) => Ok(()),
+    }
+}
+
+/// Adds the names of the parts of an opcode, outside the terms behind them.
+#[cycle(uses)]
+pub fn add_parts(
+    around: &Around<'_>,
+    kinds: &[PartKind],
+    parts: &[Part],
+    uses: &mut Vec<Use>,
+) -> Result<(), NoMemory>
+    ensures { OnOk result (uses.new.items ≡ uses.old.items ++ (parts_uses around.now.table around.now.scope.now kinds.now (parts_view parts.now))) }
+{
+    let mut left = kinds;
+    for part in parts {
+        match left {
+            [] => return Ok(()),
+            [kind, behind @ ..] => {
+                add_part(around, is_argument(*kind), part, uses)?;
+                left = behind;
+            }
+        }
+    }
+    Ok(())
+}
+
+#[cycle(uses)]
+pub fn add_tail(around: &Around<'_>, tail: &Tail, uses: &mut Vec<Use>) -> Result<(), NoMemory>
+    ensures { OnOk result (uses.new.items ≡ uses.old.items ++ (rest_uses around.now.table around.now.scope.now (tail_view tail.now))) }
+{
+    match tail {
+        Tail::Empty => Ok(()),
+        Tail::Terms(_) => Ok(()),
+        Tail::Bytes(_) => Ok(()),
+        Tail::Elements(nodes) => add_elements(around, nodes.as_slice(), uses),
+        Tail::Fields(fields) => add_fields(around, fields.as_slice(), uses),
+        Tail::Body { .. } => Ok(()),
+    }
+}
+
+#[cycle(uses)]
+fn add_elements(around: &Around<'_>, nodes: &[Node], uses: &mut Vec<Use>) -> Result<(), NoMemory>
+    ensures { OnOk result (uses.new.items ≡ uses.old.items ++ (elements_uses around.now.table around.now.scope.now (nodes_view nodes.now))) }
+{
+    for node in nodes {
+        add_node(around, false, node, uses)?;
+    }
+    Ok(())
+}
+
+#[cycle(uses)]
+fn add_fields(around: &Around<'_>, fields: &[Field], uses: &mut Vec<Use>) -> Result<(), NoMemory>
+    ensures { OnOk result (uses.new.items ≡ uses.old.items ++ (units_uses around.now.table around.now.scope.now (fields_view fields.now))) }
+{
+    for field in fields {
+        add_field(around, field, uses)?;
+    }
+    Ok(())
+}
+
+#[cycle(uses)]
+fn add_field(around: &Around<'_>, field: &Field, uses: &mut Vec<Use>) -> Result<(), NoMemory>
+    ensures { OnOk result (uses.new.items ≡ uses.old.items ++ (unit_uses around.now.table around.now.scope.now (field_view field.now))) }
+{
+    match field {
+        Field::NamedUnit { .. } => Ok(()),
+        Field::Reserved { .. } => Ok(()),
+        Field::Access(_, _) => Ok(()),
+        Field::Connection(link) => add_link(around, link, uses),
+        Field::Extended(_, _, _) => Ok(()),
+    }
+}
+
+#[cycle(uses)]
+fn add_link(around: &Around<'_>, link: &Link, uses: &mut Vec<Use>) -> Result<(), NoMemory>
+    ensures { OnOk result (uses.new.items ≡ uses.old.items ++ (joint_uses around.now.table around.now.scope.now (link_view link.now))) }
+{
+    match link {
+        Link::Target(_) => Ok(()),
+        Link::Buffer(node) => add_node(around, false, node, uses),
+    }
+}
+
+/// Adds the names that stand as TermArgs in a term, outside the terms inside it.
+pub fn add_names(
+    around: &Around<'_>,
+    opcode: u16,
+    parts: &[Part],
+    tail: &Tail,
+    uses: &mut Vec<Use>,
+) -> Result<(), NoMemory>
+    ensures { OnOk result (uses.new.items ≡ uses.old.items ++ (parts_uses around.now.table around.now.scope.now (kinds_in (row_of opcode)) (parts_view parts.now) ++ rest_uses around.now.table around.now.scope.now (tail_view tail.now))) }
+{
+    add_parts(around, kinds_of(opcode), parts, uses)?;
+    add_tail(around, tail, uses)
+}

@@ -1,0 +1,150 @@
+-- The first byte of a term, and the guard of a table.
+use Rattle.std.proofs.Common.{◌≡◌, ℕ, zero, suc, Bool, true, false, eqb, List, [], ◌∷◌, ◌++◌, length, Option, Some, None, Ok, Err, refl, sym, ap, subst, ◌∙◌, append_assoc, ◌⊎◌, arith, inl, inr}
+use Rattle.std.proofs.lemmas.Bool.{eqb-true}
+use Rattle.std.proofs.lemmas.List.{append-nil}
+use Rattle.aml_names.specs.declared.faults.CodeFault.{CodeFault}
+use Rattle.aml_names.specs.declared.faults.CodeFault.TheVariants as faults
+use Rattle.aml_names.specs.declared.names.Name.{Name}
+use Rattle.aml_names.specs.Names.{IsName, spelling, is_name_lead}
+use Rattle.aml_names.specs.NameReading.{is_bare}
+use Rattle.aml_names.specs.Paths.{PathSet}
+use Rattle.aml_names.proofs.NameLaws.{name_lead}
+use Rattle.aml_names.proofs.StepLaws.{err_is, cond_then, chosen_ok}
+use Rattle.aml_code.specs.declared.packages.PkgWidth.{PkgWidth}
+use Rattle.aml_code.specs.declared.rows.PartKind.{PartKind}
+use Rattle.aml_code.specs.declared.rows.PartKind.TheVariants as kinds
+use Rattle.aml_code.specs.declared.rows.Position.{Position}
+use Rattle.aml_code.specs.declared.rows.Position.TheVariants as positions
+use Rattle.aml_code.specs.declared.rows.TailKind.{TailKind}
+use Rattle.aml_code.specs.declared.rows.TailKind.TheVariants as tails
+use Rattle.aml_code.specs.Rows.{row_of, has_length}
+use Rattle.aml_code.specs.Tree.{Tree, nothing, named, op, child, label, byte, word, dword, qword, text, Parts, no_parts, part_more, Rest, empty, terms, bytes, elements, fields, body}
+use Rattle.aml_code.specs.Encoding.{opcode_bytes, packed, encoding, encodings, parts_encoding, rest_encoding}
+use Rattle.aml_code.specs.Declaring.{after_parts}
+use Rattle.aml_code.specs.Lawful.{HasWidth, IsGuarded, terms_in, IsBuffer, Setting, IsLawful, AreParts, IsTail}
+use Rattle.aml_code.proofs.RowFacts.{zero_bare, lead_of, opcode_lead, row_lead_is}
+use Rattle.aml_parse.specs.Reading.{guard_at}
+
+-- an operation whose opcode begins with this byte
+abbrev pub IsLedBy : ℕ → Tree → Type 0
+IsLedBy b nothing = ⊥
+IsLedBy b (named n ts) = ⊥
+IsLedBy b (op o w ps t) = lead_of o ≡ b
+
+first_same : (a b : ℕ) (x y : List ℕ) → a ∷ x ≡ b ∷ y → a ≡ b
+first_same a b x y e = cc
+
+name_leads : (n : Name) (behind rest : List ℕ) (b : ℕ) → IsName n → is_bare n ≡ false → spelling n ++ rest ≡ b ∷ behind → is_name_lead b ≡ true
+name_leads n behind rest b is other e =
+    let l = name_lead n is in
+    let same : l.lead ≡ b = first_same l.lead b (l.behind ++ rest) behind (ap (λ (t : List ℕ). t ++ rest) (sym l.text) ∙ e) in
+    elim l.kind [
+      | inl k ↦ subst (λ (c : ℕ). is_name_lead c ≡ true) same k.0
+      | inr k ↦ absurd (let x : is_bare n ≡ true = k.0 in cc)
+    ]
+
+-- a term whose first byte begins no name is an operation, but for a target
+pub led_by : (s : Setting) (code : List ℕ) (levels : ℕ) (p : Position) (ls : PathSet) (t : Tree) (rest : List ℕ) (b : ℕ) (behind : List ℕ) → IsLawful s levels p ls t → (p ≡ positions.Target → ⊥)
+    → encoding code t ++ rest ≡ b ∷ behind → is_name_lead b ≡ false → IsLedBy b t
+led_by s code zero p ls nothing rest b behind h other e g = absurd h
+led_by s code (suc levels) p ls nothing rest b behind h other e g = absurd (other h)
+led_by s code zero p ls (named n ts) rest b behind h other e g = absurd h
+led_by s code (suc levels) p ls (named n ts) rest b behind h other e g =
+    let leads = name_leads n behind (encodings code ts ++ rest) b h.0 h.1 (sym (append_assoc (spelling n) (encodings code ts) rest) ∙ e) in
+    absurd (cc (leads, g))
+led_by s code levels p ls (op o w ps t) rest b behind h other e g =
+    let content = packed w (parts_encoding code ps ++ rest_encoding code t) in
+    let l = opcode_lead o (content ++ rest) in
+    first_same (lead_of o) b l.0 behind (sym l.1 ∙ sym (append_assoc (opcode_bytes o) content rest) ∙ e)
+
+pub is_buffer : (s : Setting) (levels : ℕ) (p : Position) (ls : PathSet) (t : Tree) → IsLawful s levels p ls t → IsLedBy 0x11 t → IsBuffer t
+is_buffer s levels p ls nothing h e = absurd e
+is_buffer s levels p ls (named n ts) h e = absurd e
+is_buffer s zero p ls (op o w ps t) h e = absurd h
+is_buffer s (suc levels) p ls (op o w ps t) h e = row_lead_is o 0x11 h.row h.listed e (omega arith)
+
+-- ---- the opcode 00 stands alone
+
+pub empty_rest : (s : Setting) (levels : ℕ) (p : Position) (k : TailKind) (ls : PathSet) (t : Rest) → has_length k ≡ false → IsTail s levels p k ls t → t ≡ empty
+empty_rest s levels p tails.Empty ls empty e l = refl
+empty_rest s levels p tails.Empty ls (terms ts) e l = absurd l
+empty_rest s levels p tails.Empty ls (bytes bs) e l = absurd l
+empty_rest s levels p tails.Empty ls (elements ts) e l = absurd l
+empty_rest s levels p tails.Empty ls (fields us) e l = absurd l
+empty_rest s levels p tails.Empty ls (body start len) e l = absurd l
+empty_rest s levels p tails.Terms ls t e l = absurd cc
+empty_rest s levels p tails.Bytes ls t e l = absurd cc
+empty_rest s levels p tails.Elements ls t e l = absurd cc
+empty_rest s levels p tails.Fields ls t e l = absurd cc
+empty_rest s levels p tails.Body ls t e l = absurd cc
+
+no_width : (w : Option PkgWidth) (len : ℕ) → HasWidth false w len → w ≡ None
+no_width None len h = refl
+no_width (Some w) len h = absurd h
+
+none_of_none : (s : Setting) (levels : ℕ) (ls : PathSet) (ps : Parts) → AreParts s levels [] ls ps → ps ≡ no_parts
+none_of_none s levels ls no_parts h = refl
+none_of_none s levels ls (part_more x xs) h = absurd h
+
+abbrev the_zero : Tree
+the_zero = op 0x00 None no_parts empty
+
+zero_alone : (s : Setting) (levels : ℕ) (p : Position) (ls : PathSet) (t : Tree) → IsLawful s levels p ls t → IsLedBy 0x00 t → t ≡ the_zero
+zero_alone s levels p ls nothing h e = absurd e
+zero_alone s levels p ls (named n ts) h e = absurd e
+zero_alone s zero p ls (op o w ps t) h e = absurd h
+zero_alone s (suc levels) p ls (op o w ps t) h e =
+    let row = h.row in
+    let o_is : o ≡ 0x00 = row_lead_is o 0x00 row h.listed e (omega arith) in
+    let z = zero_bare row (subst (λ (n : ℕ). row_of n ≡ Some row) o_is h.listed) in
+    let len = length (parts_encoding s.code ps ++ rest_encoding s.code t) in
+    let w_is : w ≡ None = no_width w len (subst (λ (b : Bool). HasWidth b w len) z.1 h.width) in
+    let ps_is : ps ≡ no_parts = none_of_none s levels ls ps (subst (λ (ks : List PartKind). AreParts s levels ks ls ps) z.0 h.parts) in
+    let t_is : t ≡ empty = empty_rest s levels (terms_in p row.place) row.tail (after_parts s.scope ls ps) t z.1 h.tail in
+    ap (λ (n : ℕ). op n w ps t) o_is ∙ ap (λ (v : Option PkgWidth). op 0x00 v ps t) w_is ∙ ap (λ (xs : Parts). op 0x00 None xs t) ps_is ∙ ap (λ (y : Rest). op 0x00 None no_parts y) t_is
+
+-- ---- guards
+
+one_part : (s : Setting) (levels : ℕ) (ls : PathSet) (ps : Parts) → AreParts s levels (kinds.Term ∷ []) ls ps → (t : Tree) × (ps ≡ part_more (child t) no_parts) × IsLawful s levels positions.Argument ls t
+one_part s levels ls no_parts h = absurd h
+one_part s levels ls (part_more (child t) no_parts) h = (t, refl, h.0)
+one_part s levels ls (part_more (child t) (part_more x xs)) h = absurd h.1
+one_part s levels ls (part_more (label n) xs) h = absurd h.0
+one_part s levels ls (part_more (byte n) xs) h = absurd h.0
+one_part s levels ls (part_more (word n) xs) h = absurd h.0
+one_part s levels ls (part_more (dword n) xs) h = absurd h.0
+one_part s levels ls (part_more (qword n) xs) h = absurd h.0
+one_part s levels ls (part_more (text n) xs) h = absurd h.0
+
+guard_first : (at end : ℕ) (inside : List ℕ) (x : Bool) → guard_at true at end inside ≡ Ok x → (behind : List ℕ) × (inside ≡ 0x00 ∷ behind)
+guard_first at end [] x e = absurd cc
+guard_first at end (b ∷ behind) x e =
+    let g = chosen_ok (eqb b 0x00) (faults.ModuleCode at) (Ok true) x e in
+    (behind, ap (λ (c : ℕ). c ∷ behind) (eqb-true b 0x00 g.0))
+
+-- the one part of a guard that was read is the opcode 00
+pub guard_holds : (s : Setting) (code : List ℕ) (levels : ℕ) (guarded : Bool) (at end : ℕ) (inside : List ℕ) (x : Bool) (ks : List PartKind) (ls : PathSet) (ps : Parts) (rest : List ℕ)
+    → (guarded ≡ true → ks ≡ kinds.Term ∷ []) → guard_at guarded at end inside ≡ Ok x → AreParts s levels ks ls ps → inside ≡ parts_encoding code ps ++ rest → IsGuarded guarded ps
+guard_holds s code levels false at end inside x ks ls ps rest one e h whole = tt
+guard_holds s code levels true at end inside x ks ls ps rest one e h whole =
+    let f = guard_first at end inside x e in
+    let t = one_part s levels ls ps (subst (λ (l : List PartKind). AreParts s levels l ls ps) (one refl) h) in
+    let spelled : parts_encoding code ps ≡ encoding code t.0 = ap (parts_encoding code) t.1 ∙ append-nil (encoding code t.0) in
+    let first : encoding code t.0 ++ rest ≡ 0x00 ∷ f.0 = ap (λ (b : List ℕ). b ++ rest) (sym spelled) ∙ sym whole ∙ f.1 in
+    let is = zero_alone s levels positions.Argument ls t.0 t.2 (led_by s code levels positions.Argument ls t.0 rest 0x00 f.0 t.2 (λ z. absurd cc) first refl) in
+    t.1 ∙ ap (λ (y : Tree). part_more (child y) no_parts) is
+
+-- a guard is read again
+pub guard_again : (guarded : Bool) (at end : ℕ) (code : List ℕ) (ps : Parts) (rest : List ℕ) → IsGuarded guarded ps → guard_at guarded at end (parts_encoding code ps ++ rest) ≡ Ok guarded
+guard_again false at end code ps rest h = refl
+guard_again true at end code ps rest h = ap (λ (xs : Parts). guard_at true at end (parts_encoding code xs ++ rest)) h
+
+pub guard_fault : (guarded : Bool) (at end : ℕ) (inside : List ℕ) (d : CodeFault) → guard_at guarded at end inside ≡ Err d → (guarded ≡ true) × ((d ≡ faults.Truncated end) ⊎ (d ≡ faults.ModuleCode at))
+guard_fault false at end inside d e = absurd cc
+guard_fault true at end [] d e = (refl, inl (sym (err_is {A = Bool} (faults.Truncated end) d e)))
+guard_fault true at end (b ∷ behind) d e =
+    (refl, inr (cond_then (d ≡ faults.ModuleCode at) (eqb b 0x00) (Ok true) (Err (faults.ModuleCode at)) (Err d) e (λ h q. absurd cc) (λ h q. sym (err_is {A = Bool} (faults.ModuleCode at) d q))))
+
+pub not_guarded : (guarded : Bool) (ps : Parts) → (guarded ≡ true → ⊥) → IsGuarded guarded ps
+not_guarded true ps h = absurd (h refl)
+not_guarded false ps h = tt
