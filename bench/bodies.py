@@ -1,19 +1,24 @@
 #!/usr/bin/env python3
-"""Times the disassembly of tables with long method bodies, and of one with many methods.
+"""Times the disassembly of large tables and of sets of many tables.
 
 usage: bench/bodies.py [ACPIDIS] [--only WORD] [--keep FOLDER] [--seconds N]
 
-ACPIDIS is the built program, crates/acpidis/out/acpidis if left out. Each table is written as dsdt.dat to a folder of its
-own. For each, the script prints seconds and peak memory of the program and, where it is installed (Debian: apt-get install
-acpica-tools), of `iasl -d` on the same file, also for each megabyte of the table. Both write to a file that is thrown away.
+ACPIDIS is the built program, crates/acpidis/out/acpidis if left out. Each set is written to a folder of its own, its
+DSDT as dsdt.dat. For each, the script prints seconds and peak memory of the program and, where it is installed (Debian: apt-get install
+acpica-tools), of `iasl -d` on the same files, also for each megabyte. Both write to a file that is thrown away.
 --only takes the tables whose name contains WORD, --keep leaves the tables in FOLDER. A run is stopped after N seconds, 60 if
 left out: iasl takes more than five minutes for the dense table of 1 MB. The script is no part of the gate.
 
 The tables:
   dense    one method whose body is Return (Add (Local0, Local1, )) again and again: a term for each byte
   mixed    one method with constants of each size, texts, names and stores
+at 1, 4 and 16 MB (a table has at most 16,777,216 bytes), and
   methods  20,000 small methods with ascending names
-at 1, 4 and 16 MB; a set of dumps has at most 16,777,216 bytes.
+  package  a Package of a million elements
+  units    a Field of a million reserved units
+  nested   a method of If terms, one inside the other, 511 deep
+  calls    a DSDT and 100 SSDTs of 20 methods, each of which calls those of the next table through Externals
+  compiled 1, 4 and 16 tables of about 1 MB that iasl compiled from ASL, where it is installed
 """
 import argparse
 import os
@@ -82,24 +87,114 @@ def many_methods(count: int) -> bytes:
     return table(b"".join(method(segment(number), 2, bytes.fromhex("7068607261696aa460")) for number in range(count)))
 
 
+def wide_package(count: int) -> bytes:
+    content = b"\x00" + bytes(count)
+    return table(b"\x08PKG_\x12" + package_length(len(content), 4) + content)
+
+
+def wide_field(count: int) -> bytes:
+    content = b"REG0\x01" + b"\x00\x01" * count
+    return table(b"\x5b\x80REG0\x01\x00\x01" + b"\x5b\x81" + package_length(len(content), 4) + content)
+
+
+def nested(levels: int) -> bytes:
+    body = b"\xa3"
+    for _ in range(levels):
+        content = b"\x60" + body
+        body = b"\xa0" + package_length(len(content), 3) + content
+    return table(method(b"MAIN", 0, body))
+
+
+def calling(number: int, others: int, methods: int) -> bytes:
+    """A table of methods with two arguments, each of which calls one of the next table, which an External names."""
+    code = b""
+    for index in range(methods):
+        code += b"\x15" + segment((number + 1) % others * methods + index) + b"\x08\x02"
+    for index in range(methods):
+        call = b"\xa4" + segment((number + 1) % others * methods + index) + b"\x68\x69"
+        code += method(segment(number * methods + index), 2, call)
+    return table(code)
+
+
+# A stretch of a method as firmware has it, and about how many bytes of AML it is.
+STRETCH = """
+      Local0 = ToInteger (Arg0)
+      If ((Local0 == 0x10)) { Local1 = Package () { 0x01, "text", Buffer (0x04) { 0x01, 0x02, 0x03, 0x04 }, \\_SB } }
+      ElseIf ((Local0 > Arg1)) { Local1 = CALL (Local0, (Arg1 + 0x1234)) }
+      Else { While ((Local0 < 0x20)) { Local0++ } }
+      Local2 = ((Local0 << 0x03) | (Local0 & 0xFF))
+      VALU = Local2
+      Notify (DEV0, 0x80)
+      Return (VALU)
+"""
+STRETCH_BYTES = 94
+COMPILED_METHODS = 1_000_000 // (200 * STRETCH_BYTES)
+
+
+def compiled(number: int) -> bytes:
+    """A table of about 1 MB that iasl compiles from methods of 200 such stretches. Larger ones take it many minutes."""
+    kind = "SSDT" if number else "DSDT"
+    text = f'DefinitionBlock ("", "{kind}", 2, "BENCH", "COMPILED", 1) {{ Device (DV{number:02}) {{\n'
+    text += "  Name (VALU, 0)\n  Device (DEV0) { Name (_HID, \"BNCH0000\") }\n  Method (CALL, 2) { Return (Arg0) }\n"
+    for method_number in range(COMPILED_METHODS):
+        text += f"  Method ({segment(method_number).decode()}, 2) {{{STRETCH * 200}  }}\n"
+    with tempfile.TemporaryDirectory() as folder:
+        source = pathlib.Path(folder) / "bench.asl"
+        source.write_text(text + "} }\n")
+        subprocess.run(["iasl", "-p", "bench", source.name], cwd=folder, check=True, capture_output=True)
+        return (pathlib.Path(folder) / "bench.aml").read_bytes()
+
+
+def compiled_set(tables: int):
+    """A DSDT and SSDTs that iasl compiles, about 1 MB each."""
+    files = {"dsdt.dat": compiled(0)}
+    for number in range(1, tables):
+        files[f"ssdt{number}.dat"] = compiled(number)
+    return files
+
+
+def one(make):
+    return lambda: {"dsdt.dat": make()}
+
+
+def calls(tables: int, methods: int):
+    files = {"dsdt.dat": calling(0, tables, methods)}
+    for number in range(1, tables):
+        code = calling(number, tables, methods)
+        bytes_ = bytearray(b"SSDT" + code[4:])
+        bytes_[9] = 0
+        bytes_[9] = -sum(bytes_) & 0xFF
+        files[f"ssdt{number}.dat"] = bytes(bytes_)
+    return files
+
+
 def tables():
-    """The name of each table, and what makes it."""
+    """The name of each set, and what makes its files."""
     for name, size in SIZES.items():
-        yield f"dense-{name}", lambda size=size: long_body(DENSE, size)
+        yield f"dense-{name}", one(lambda size=size: long_body(DENSE, size))
     for name, size in SIZES.items():
-        yield f"mixed-{name}", lambda size=size: long_body(MIXED, size)
-    yield "methods-20000", lambda: many_methods(20_000)
+        yield f"mixed-{name}", one(lambda size=size: long_body(MIXED, size))
+    yield "methods-20000", one(lambda: many_methods(20_000))
+    yield "package-1M", one(lambda: wide_package(1_000_000))
+    yield "units-1M", one(lambda: wide_field(1_000_000))
+    yield "nested-511", one(lambda: nested(511))
+    yield "calls-101", lambda: calls(101, 20)
+    if shutil.which("iasl"):
+        for count in (1, 4, 16):
+            yield f"compiled-{count:02}", lambda count=count: compiled_set(count)
 
 
-def write(path, make):
-    """Writes a table from a process of its own: a program that is begun later counts this one's peak memory as its own."""
+def write(folder, make):
+    """Writes a set from a process of its own: a program that is begun later counts this one's peak memory as its own."""
     child = os.fork()
     if child == 0:
-        path.write_bytes(make())
+        for name, whole in make().items():
+            (folder / name).write_bytes(whole)
         os._exit(0)
     os.waitpid(child, 0)
-    assert path.stat().st_size <= MOST_BYTES
-    return path.stat().st_size
+    sizes = [path.stat().st_size for path in folder.glob("*.dat")]
+    assert max(sizes) <= MOST_BYTES
+    return sum(sizes)
 
 
 def run(command, folder, limit):
@@ -152,15 +247,17 @@ def main():
             continue
         folder = work / name
         folder.mkdir(parents=True, exist_ok=True)
-        size = write(folder / "dsdt.dat", make)
+        size = write(folder, make)
         print(f"{name:14} {size} bytes", flush=True)
         if program:
             answer = run([program, str(folder)], folder, asked.seconds)
             print(line("acpidis", name, size, answer, asked.seconds), flush=True)
         if compiler:
-            answer = run([compiler, "-d", "-p", str(work / "listing"), "dsdt.dat"], folder, asked.seconds)
+            files = sorted(path.name for path in folder.glob("*.dat"))
+            answer = run([compiler, "-d", *files], folder, asked.seconds)
             print(line("iasl -d", name, size, answer, asked.seconds), flush=True)
-            (work / "listing.dsl").unlink(missing_ok=True)
+            for listing in folder.glob("*.dsl"):
+                listing.unlink()
     if not asked.keep:
         shutil.rmtree(work)
 
