@@ -9,4 +9,5 @@ pub mod Digits
 pub mod Signatures
 pub mod Ranks
 pub mod Unique
+pub mod Blocks
 pub mod Refuted

@@ -1,5 +1,5 @@
 -- Where a refusal stands there is no order.
-use Rattle.std.proofs.Common.{◌≡◌, ℕ, ◌<◌, ◌≤◌, inl, inr, Bool, true, false, List, length, codes, Option, Some, None, Result, Ok, Err, IfOk, OnOk, MatchBool, slice_get, find, sym, ap, subst, ◌∙◌, arith}
+use Rattle.std.proofs.Common.{◌≡◌, ℕ, ◌<◌, ◌≤◌, inl, inr, Bool, true, false, List, ◌∷◌, length, codes, Option, Some, None, Result, Ok, Err, IfOk, OnOk, MatchBool, slice_get, find, sym, ap, subst, ◌∙◌, arith}
 use Rattle.std.proofs.lemmas.Option.{same_Some}
 use Rattle.acpi_tables.specs.declared.dump.Dump.{Dump}
 use Rattle.acpi_tables.specs.declared.dump.Kind.{Kind}
@@ -11,9 +11,10 @@ use Rattle.acpi_tables.specs.Bytes.{number_at}
 use Rattle.acpi_tables.specs.Header.{table_of}
 use Rattle.acpi_tables.specs.Rsdp.{revision_of}
 use Rattle.acpi_tables.specs.Dumps.{kind_of, HoldsShape, HasSums, HoldsContent, HoldsDump, RefusesRoot, RefusesFacs, RefusesContent, RefusesTable, RefusesBy, RefusesDump}
-use Rattle.acpi_tables.specs.Order.{bytes_of, has_signature, signed_at, listed_by, dsdt_address, is_addressed, IsNamed, IsChained, IsOrder, RefusesAll, RefusesPlace, RefusesOrder, RefusesBytes, Refuses}
+use Rattle.acpi_tables.specs.Order.{AreTables, bytes_of, has_signature, signed_at, listed_by, dsdt_address, is_addressed, IsNamed, IsChained, IsOrder, RefusesAll, RefusesPlace, RefusesOrder, RefusesBytes, Refuses}
 use Rattle.acpi_tables.proofs.Cuts.{whole_not_refused}
 use Rattle.acpi_tables.specs.declared.order.Order.{Order}
+use Rattle.acpi_tables.proofs.Blocks.{are_tables}
 use Rattle.acpi_tables.proofs.Unique.{xsdt_unique, fadt_unique, order_unique}
 
 root_taken : (any_sum : Bool) (bytes : List ℕ) (bad : Bad) → HoldsShape Root bytes → (any_sum ≡ false → HasSums Root bytes) → ¬ RefusesRoot any_sum bytes bad
@@ -123,6 +124,10 @@ module _ (dumps : List Dump) (any_sum b : Bool) (few : length dumps ≤ 512)
   pub found_sound : (r : Result Order TableFault) → IfOk r Blocks → OnOk r ((fault : TableFault) → ¬ Refuses dumps any_sum fault)
   found_sound (Ok order) blocks = nothing_refused dumps any_sum order.dsdt order.ssdts.items (order_of dumps any_sum b _ _ few each addressed blocks)
   found_sound (Err fault) blocks = tt
+
+  pub found_tables : (r : Result Order TableFault) → IfOk r Blocks → IfOk r (λ order. AreTables dumps (order.dsdt ∷ order.ssdts.items))
+  found_tables (Ok order) blocks = are_tables dumps any_sum order.dsdt order.ssdts.items (order_of dumps any_sum b _ _ few each addressed blocks)
+  found_tables (Err fault) blocks = tt
 
 -- a refusal leaves no order
 pub none_where_refused : (dumps : List Dump) (any_sum : Bool) (fault : TableFault) → Refuses dumps any_sum fault → (dsdt : ℕ) (ssdts : List ℕ) → ¬ IsOrder dumps any_sum dsdt ssdts

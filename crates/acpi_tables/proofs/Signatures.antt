@@ -44,6 +44,12 @@ xsdt_is_standard bytes is = standard bytes (codes "XSDT") 0 (omega arith) (omega
 pub fadt_is_standard : (bytes : List ℕ) → begins_with bytes (codes "FACP") ≡ true → kind_of bytes ≡ Standard
 fadt_is_standard bytes is = standard bytes (codes "FACP") 3 (omega arith) (omega arith) (omega arith) (omega arith) (omega arith) is
 
+pub dsdt_is_standard : (bytes : List ℕ) → begins_with bytes (codes "DSDT") ≡ true → kind_of bytes ≡ Standard
+dsdt_is_standard bytes is = standard bytes (codes "DSDT") 0 (omega arith) (omega arith) (omega arith) (omega arith) (omega arith) is
+
+pub ssdt_is_standard : (bytes : List ℕ) → begins_with bytes (codes "SSDT") ≡ true → kind_of bytes ≡ Standard
+ssdt_is_standard bytes is = standard bytes (codes "SSDT") 0 (omega arith) (omega arith) (omega arith) (omega arith) (omega arith) is
+
 root_is_root : (bytes : List ℕ) → begins_with bytes (codes "RSD PTR ") ≡ true → kind_of bytes ≡ Root
 root_is_root bytes is = ap (λ b. cond b Root (cond (begins_with bytes (codes "FACS")) Facs Standard)) is
 

@@ -1,11 +1,11 @@
 -- The order in which the definition blocks of a set of dumps are loaded, and what each refusal of a set says of it.
-use Rattle.std.specs.Prelude.{◌≡◌, ℕ, ◌+◌, ◌-◌, ◌*◌, ◌<◌, ◌≤◌, ◌⊎◌, ◌&&◌, not, Bool, true, false, List, [], ◌∷◌, codes, length, take, map, reverse, filter, filter_map, find, position, take_while, slice_get, slice_index_or, IsPermutation, IsSorted, is_some, nat_eq, nat_le, string_bytes, Option, Some, None, option_and_then, MatchBool, if◌then◌else◌}
+use Rattle.std.specs.Prelude.{◌≡◌, ℕ, ◌+◌, ◌-◌, ◌*◌, ◌<◌, ◌≤◌, ◌⊎◌, ◌&&◌, ⊤, not, Bool, true, false, List, [], ◌∷◌, codes, length, take, map, reverse, filter, filter_map, find, position, take_while, slice_get, slice_index_or, IsPermutation, IsSorted, is_some, nat_eq, nat_le, string_bytes, Option, Some, None, option_and_then, MatchBool, if◌then◌else◌}
 use Rattle.std.specs.List.{before_last, list_any}
 use Rattle.std.specs.declared.cmp.Ordering.{Ordering}
 use Rattle.std.specs.Ordering.{then_cmp, on, nat_cmp}
 use Rattle.std.specs.Cmp.Lexicographic.{slice_cmp}
 use Rattle.acpi_tables.specs.Bytes.{begins_with, number_at}
-use Rattle.acpi_tables.specs.Header.{table_of}
+use Rattle.acpi_tables.specs.Header.{HoldsTable, table_of}
 use Rattle.acpi_tables.specs.Rsdp.{revision_of}
 use Rattle.acpi_tables.specs.Xsdt.{entries_of}
 use Rattle.acpi_tables.specs.Dumps.{HoldsDump, RefusesDump}
@@ -131,6 +131,11 @@ pub record IsOrder (dumps : List Dump) (any_sum : Bool) (dsdt : ℕ) (ssdts : Li
   pub few : length dumps ≤ 512
   pub each : AreTaken dumps any_sum
   pub blocks : MatchBool (is_addressed dumps) (IsChained dumps dsdt ssdts) (IsNamed dumps dsdt ssdts)
+
+-- Each of the dumps at these indexes is a table with its header, of no more bytes than a dump may have.
+abbrev pub AreTables : List Dump → List ℕ → Type 0
+AreTables dumps [] = ⊤
+AreTables dumps (index ∷ indexes) = HoldsTable (bytes_of dumps index) × (length (bytes_of dumps index) ≤ 16777216) × AreTables dumps indexes
 
 -- The chain ends at an XSDT that lists no FADT, or at a FADT whose address leads to no DSDT.
 pub record LacksFadt (dumps : List Dump) (xsdt : ℕ) : Type 0 where

@@ -1,5 +1,5 @@
 //! The order in which the definition blocks of a set of tables are loaded.
-ghost use Rattle.std.specs.Prelude.{◌≡◌, ◌⊎◌, ◌<◌, ◌≤◌, ℕ, List, None, IfOk, IfErr, OnOk, length};
+ghost use Rattle.std.specs.Prelude.{◌≡◌, ◌⊎◌, ◌<◌, ◌≤◌, ◌∷◌, ℕ, List, None, IfOk, IfErr, OnOk, length};
 ghost use Rattle.acpi_tables.specs.declared.fault.Bad.TheVariants.{NoMemory};
 ghost use Rattle.acpi_tables.specs.declared.fault.TableFault.{TableFault};
 
@@ -19,7 +19,7 @@ pub struct Order {
     pub ssdts: Vec<usize>,
 }
 
-ghost use Rattle.acpi_tables.specs.Order.{AreTaken, IsOrder, Refuses, RefusesBytes, is_addressed};
+ghost use Rattle.acpi_tables.specs.Order.{AreTables, AreTaken, IsOrder, Refuses, RefusesBytes, is_addressed};
 
 /// The order of the definition blocks of these dumps.
 ///
@@ -27,7 +27,8 @@ ghost use Rattle.acpi_tables.specs.Order.{AreTaken, IsOrder, Refuses, RefusesByt
 ///
 /// Where no dump has an address, the DSDT is the only dump with its signature, and the SSDTs go by the decimal number
 /// that ends the stem of their name, then by name as bytes, then by index. Where a dump has an address, the chain from
-/// the RSDP over the XSDT and the FADT decides (ACPI 6.5, sections 5.2.5, 5.2.8 and 5.2.9).
+/// the RSDP over the XSDT and the FADT decides (ACPI 6.5, sections 5.2.5, 5.2.8 and 5.2.9). Each dump of the order is a
+/// table with its header.
 ///
 /// # Errors
 /// The first fault that is met, in this order: `Bad::TooManyTables` for more than 512 dumps; what the first dump that
@@ -38,6 +39,7 @@ pub fn load_order(alloc: Global, dumps: &[Dump], any_sum: bool) -> Result<Order,
     ensures only { IfOk result (λ order. (dsdt : ℕ) (ssdts : List ℕ) → IsOrder dumps.now any_sum dsdt ssdts
         → (dsdt ≡ order.dsdt) × (ssdts ≡ order.ssdts.items)) }
     ensures sound { OnOk result ((fault : TableFault) → ¬ Refuses dumps.now any_sum fault) }
+    ensures tables { IfOk result (λ order. AreTables dumps.now (order.dsdt ∷ order.ssdts.items)) }
 
     ensures refused { IfErr result (λ fault. (fault ≡ record { dump = None; bad = NoMemory }) ⊎ Refuses dumps.now any_sum fault) }
     ensures none { IfErr result (λ fault. (fault ≡ record { dump = None; bad = NoMemory })

@@ -2,5 +2,4 @@ pub mod Lines
 pub mod Digits
 pub mod Entries
 pub mod Turns
-pub mod Dumps
 pub mod SetLaws

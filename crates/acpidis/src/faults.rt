@@ -10,7 +10,7 @@ use std::alloc::{AllocError, AllocFailed};
 /// Why a set can't be read.
 #[derive(Debug, Drop)]
 pub enum ReadFault {
-    /// The set has no order, or a dump of it isn't taken.
+    /// A dump isn't taken, or the dumps have no order.
     Set(TableFault),
     /// The tables can't be loaded, or a body of the dump at this index can't be read.
     Load(Option<usize>, LoadFault),

@@ -1,9 +1,9 @@
 //! The file `tables.map` of a folder: the physical address at which each table stood.
-ghost use Rattle.std.specs.Prelude.{◌≡◌, ◌⊎◌, ◌+◌, ◌<◌, ◌≤◌, ◌^◌, ◌∷◌, [], true, false, None, Some, MatchOption, OnOk, IfOk, IfErr, map, find, option_map, length, position, string_bytes};
+ghost use Rattle.std.specs.Prelude.{◌≡◌, ◌⊎◌, ◌+◌, ◌<◌, ◌∷◌, [], true, false, None, Some, MatchOption, OnOk, IfOk, IfErr, map, find, option_map, length, position, string_bytes};
 ghost use Rattle.std.specs.List.{list_any, list_all};
 ghost use Rattle.std.specs.Str.{bytes_eq};
 ghost use Rattle.acpidis.specs.declared.map.MapFault.TheVariants.{NoMemory};
-ghost use Rattle.acpidis.specs.Map.{lines_of, is_line_end, is_hex_digit, hex_value, hex_number, IsLine, entry_of, shown_by, is_listed, repeats, address_in, addresses_of, HoldsMap, HoldsTo, HasFault, RefusesMap, numbered_by};
+ghost use Rattle.acpidis.specs.Map.{lines_of, is_line_end, is_hex_digit, hex_value, hex_number, IsLine, entry_of, shown_by, is_listed, repeats, address_in, addresses_of, HoldsMap, HasFault, RefusesMap, numbered_by};
 
 use std::alloc::{AllocError, AllocFailed, Global};
 use thiserror::Error;

@@ -1,19 +1,17 @@
 //! From the dumps of a set to the terms of its tables and methods.
-ghost use Rattle.std.specs.Prelude.{◌≡◌, ◌≤◌, ℕ, List, ◌∷◌, length, map, IfOk};
-ghost use Rattle.aml_code.specs.View.{nodes_view};
-ghost use Rattle.aml_load.specs.Loading.{Listed, IsLoad};
-ghost use Rattle.aml_load.specs.Bodies.{AreBodies};
-ghost use Rattle.aml_load.specs.Views.{codes_view, trees_view, AreShort, HoldsLoad};
+ghost use Rattle.std.specs.Prelude.{◌≡◌, ◌⊎◌, ℕ, List, ◌∷◌, map, IfOk, IfErr};
+ghost use Rattle.aml_load.specs.Views.{codes_view, trees_view, AreShort};
 ghost use Rattle.aml_text.specs.Lines.{read};
 ghost use Rattle.aml_text.specs.Views.{body_view, block_view};
-ghost use Rattle.acpi_tables.specs.Order.{IsOrder, bytes_of, name_of};
+ghost use Rattle.acpi_tables.specs.Header.{HoldsTable};
+ghost use Rattle.acpi_tables.specs.Order.{AreTables, IsOrder, bytes_of, name_of};
 ghost use Rattle.acpidis.specs.Listing.{aml_of, codes_in, names_in, blocks_of, Lists};
-ghost use Rattle.acpidis.specs.Sets.{set_text, ReadsSo, ReadsOnly};
+ghost use Rattle.acpidis.specs.Sets.{set_text, ReadsSo, ReadsOnly, ReadsNone, IsMemory};
 
 use crate::aml::aml_in;
 use crate::faults::ReadFault;
 use crate::options::Options;
-use acpi_tables::{Bad, Dump, TableFault, load_order};
+use acpi_tables::{Dump, load_order};
 use aml_code::{NoMemory, Node};
 use aml_load::{LoadFault, Loaded, load, read_bodies};
 use aml_text::{Block, Body};
@@ -33,6 +31,8 @@ pub struct ReadSet<'a> {
 fn order_of(alloc: Global, dumps: &[Dump], any_sum: bool) -> Result<Vec<usize>, ReadFault>
     ensures order { IfOk result (λ order. (dsdt : ℕ) × (ssdts : List ℕ) × IsOrder dumps.now any_sum dsdt ssdts × (order.items ≡ dsdt ∷ ssdts)) }
     ensures only { IfOk result (λ order. (dsdt : ℕ) (ssdts : List ℕ) → IsOrder dumps.now any_sum dsdt ssdts → dsdt ∷ ssdts ≡ order.items) }
+    ensures tables { IfOk result (λ order. AreTables dumps.now order.items) }
+    ensures none { IfErr result (λ fault. IsMemory fault ⊎ ((dsdt : ℕ) (ssdts : List ℕ) → ¬ IsOrder dumps.now any_sum dsdt ssdts)) }
 {
     match load_order(alloc, dumps, any_sum) {
         Err(fault) => Err(ReadFault::Set(fault)),
@@ -46,22 +46,13 @@ fn order_of(alloc: Global, dumps: &[Dump], any_sum: bool) -> Result<Vec<usize>, 
 }
 
 /// The AML of the dump at an index.
-fn code_at(dumps: &[Dump], index: usize) -> Result<&[u8], ReadFault>
-    ensures code { IfOk result (λ code. code.now ≡ aml_of (bytes_of dumps.now index)) }
-    ensures short { IfOk result (λ code. length code.now ≤ 16777216) }
+fn code_at(dumps: &[Dump], index: usize) -> &[u8]
+    requires table { HoldsTable (bytes_of dumps.now index) }
+    ensures { result.now ≡ aml_of (bytes_of dumps.now index) }
 {
     match dumps.get(index) {
-        None => Err(ReadFault::Set(TableFault {
-            dump: None,
-            bad: Bad::NoDsdt,
-        })),
-        Some(dump) => match aml_in(dump.bytes.as_slice()) {
-            Ok(code) => Ok(code),
-            Err(bad) => Err(ReadFault::Set(TableFault {
-                dump: Some(index),
-                bad,
-            })),
-        },
+        None => unreachable!(),
+        Some(dump) => aml_in(dump.bytes.as_slice()),
     }
 }
 
@@ -70,16 +61,14 @@ fn codes_of<'a>(
     alloc: Global,
     dumps: &'a [Dump],
     order: &[usize],
-) -> Result<Vec<&'a [u8]>, ReadFault>
+) -> Result<Vec<&'a [u8]>, NoMemory>
+    requires tables { AreTables dumps.now order.now }
     ensures codes { IfOk result (λ codes. codes_view codes.items ≡ codes_in dumps.now order.now) }
     ensures short { IfOk result (λ codes. AreShort (codes_view codes.items)) }
 {
     let mut codes = Vec::new(alloc);
     for index in order {
-        match code_at(dumps, *index) {
-            Err(fault) => return Err(fault),
-            Ok(code) => codes.push(code)?,
-        }
+        codes.push(code_at(dumps, *index))?;
     }
     Ok(codes)
 }
@@ -138,13 +127,12 @@ fn read_order<'a>(
     order: &[usize],
     unknown_zero: bool,
 ) -> Result<ReadSet<'a>, ReadFault>
+    requires tables { AreTables dumps.now order.now }
     ensures sound { IfOk result (ReadsSo unknown_zero (names_in dumps.now order.now) (codes_in dumps.now order.now)) }
     ensures one { IfOk result (ReadsOnly unknown_zero (names_in dumps.now order.now) (codes_in dumps.now order.now)) }
+    ensures complete { IfErr result (λ fault. IsMemory fault ⊎ ReadsNone unknown_zero (codes_in dumps.now order.now)) }
 {
-    let codes = match codes_of(alloc, dumps, order) {
-        Ok(codes) => codes,
-        Err(fault) => return Err(fault),
-    };
+    let codes = codes_of(alloc, dumps, order)?;
     let names = names_of(alloc, dumps, order)?;
     let loaded = match load(alloc, codes.as_slice()) {
         Ok(loaded) => loaded,
@@ -172,6 +160,8 @@ pub fn read_set<'a>(
     ensures sound { IfOk result (λ set. Lists dumps.now options.any_sum options.unknown_zero (set_text set)) }
     // The set has no other.
     ensures one { IfOk result (λ set. (text : List ℕ) → Lists dumps.now options.any_sum options.unknown_zero text → text ≡ set_text set) }
+    // A refusal for another cause than memory comes only where the set has no text.
+    ensures complete { IfErr result (λ fault. IsMemory fault ⊎ ((text : List ℕ) → ¬ Lists dumps.now options.any_sum options.unknown_zero text)) }
 {
     match order_of(alloc, dumps, options.any_sum) {
         Err(fault) => Err(fault),

@@ -57,9 +57,14 @@ fn packed(opcode: u16, width: PkgWidth, parts: Vec<Part>, tail: Tail) -> Node {
     }
 }
 
-/// An opcode of one part, as a child.
+/// A term with one part.
+fn with_part(alloc: Global, opcode: u16, part: Part) -> Result<Node, AllocError> {
+    Ok(plain(opcode, vec![in alloc; part]?))
+}
+
+/// A term with one part, as a child.
 fn constant(alloc: Global, opcode: u16, part: Part) -> Result<Part, AllocError> {
-    Ok(Part::Child(plain(opcode, vec![in alloc; part]?)))
+    Ok(Part::Child(with_part(alloc, opcode, part)?))
 }
 
 fn bytes(alloc: Global, listed: &[u8]) -> Result<Bytes, AllocError> {
@@ -310,24 +315,48 @@ fn bytes_are_a_list(rt: HostRuntime) -> Result<(), Fail> {
     Ok(())
 }
 
-/// Store (Add (Arg0, 0x1234, ), Local1), constants of each size, Name (BAR_, "Hi").
-fn plain_terms(alloc: Global) -> Result<Vec<Node>, AllocError> {
+/// Add (Arg0, 0x1234, )
+fn add_term(alloc: Global) -> Result<Node, AllocError> {
     let word = constant(alloc, 0x0B, Part::Word(0x1234))?;
     let arg0 = Part::Child(bare(alloc, 0x68));
-    let add = plain(
-        0x72,
-        vec![in alloc; arg0, word, Part::Child(Node::Nothing)]?,
-    );
+    let parts = vec![in alloc; arg0, word, Part::Child(Node::Nothing)]?;
+    Ok(plain(0x72, parts))
+}
+
+/// Store (Add (Arg0, 0x1234, ), Local1)
+fn store_term(alloc: Global) -> Result<Node, AllocError> {
+    let add = Part::Child(add_term(alloc)?);
     let local1 = Part::Child(bare(alloc, 0x61));
-    let text = constant(alloc, 0x0D, Part::Text(bytes(alloc, b"Hi")?))?;
-    Ok(vec![in alloc;
-        plain(0x70, vec![in alloc; Part::Child(add), local1]?),
-        plain(0x0A, vec![in alloc; Part::Byte(0x05)]?),
-        plain(0x0C, vec![in alloc; Part::Dword(0x1234_5678)]?),
-        plain(0x0E, vec![in alloc; Part::Qword(0x0102_0304_0506_0708)]?),
-        plain(0x08, vec![in alloc; label(alloc, *b"BAR_")?, text]?),
-        bare(alloc, 0x5B31),
-    ]?)
+    Ok(plain(0x70, vec![in alloc; add, local1]?))
+}
+
+/// A text as a term.
+fn text_term(alloc: Global, text: &[u8]) -> Result<Node, AllocError> {
+    with_part(alloc, 0x0D, Part::Text(bytes(alloc, text)?))
+}
+
+/// Name (BAR_, "Hi")
+fn name_term(alloc: Global) -> Result<Node, AllocError> {
+    let bar = label(alloc, *b"BAR_")?;
+    let text = Part::Child(text_term(alloc, b"Hi")?);
+    Ok(plain(0x08, vec![in alloc; bar, text]?))
+}
+
+/// Constants of three sizes.
+fn push_constants(alloc: Global, terms: &mut Vec<Node>) -> Result<(), AllocError> {
+    terms.push(with_part(alloc, 0x0A, Part::Byte(0x05))?)?;
+    terms.push(with_part(alloc, 0x0C, Part::Dword(0x1234_5678))?)?;
+    terms.push(with_part(alloc, 0x0E, Part::Qword(0x0102_0304_0506_0708))?)?;
+    Ok(())
+}
+
+fn plain_terms(alloc: Global) -> Result<Vec<Node>, AllocError> {
+    let mut terms = Vec::new(alloc);
+    terms.push(store_term(alloc)?)?;
+    push_constants(alloc, &mut terms)?;
+    terms.push(name_term(alloc)?)?;
+    terms.push(bare(alloc, 0x5B31))?;
+    Ok(terms)
 }
 
 #[test]
@@ -347,58 +376,91 @@ fn plain_terms_have_their_bytes(rt: HostRuntime) -> Result<(), Fail> {
     Ok(())
 }
 
-#[test]
-fn names_have_their_bytes(rt: HostRuntime) -> Result<(), Fail> {
-    let alloc = rt.alloc();
-    let call = Node::Named {
+/// ^^BBBB (One, Ones)
+fn call_term(alloc: Global) -> Result<Node, AllocError> {
+    Ok(Node::Named {
         name: name(alloc, false, 2, NameForm::One, &[Seg(*b"BBBB")])?,
         args: vec![in alloc; bare(alloc, 0x01), bare(alloc, 0xFF)]?,
-    };
-    let multi = Node::Named {
+    })
+}
+
+/// \_SB_.GPIO, spelled with a number of segments
+fn multi_term(alloc: Global) -> Result<Node, AllocError> {
+    Ok(Node::Named {
         name: name(alloc, true, 0, NameForm::Multi, &SB_GPIO)?,
         args: Vec::new(alloc),
-    };
+    })
+}
+
+/// Scope (\) {}
+fn scope_term(alloc: Global) -> Result<Node, AllocError> {
     let root = Part::Label(name(alloc, true, 0, NameForm::Null, &[])?);
-    let scope = packed(
-        0x10,
-        PkgWidth::One,
-        vec![in alloc; root]?,
-        Tail::Terms(vec![in alloc]?),
-    );
-    let terms = vec![in alloc; call, multi, scope]?;
+    let parts = vec![in alloc; root]?;
+    let inner = Tail::Terms(Vec::new(alloc));
+    Ok(packed(0x10, PkgWidth::One, parts, inner))
+}
+
+fn named_terms(alloc: Global) -> Result<Vec<Node>, AllocError> {
+    let mut terms = Vec::new(alloc);
+    terms.push(call_term(alloc)?)?;
+    terms.push(multi_term(alloc)?)?;
+    terms.push(scope_term(alloc)?)?;
+    Ok(terms)
+}
+
+#[test]
+fn names_have_their_bytes(rt: HostRuntime) -> Result<(), Fail> {
+    let terms = named_terms(rt.alloc())?;
     let want = [
         0x5E, 0x5E, 0x42, 0x42, 0x42, 0x42, 0x01, 0xFF, // ^^BBBB (One, Ones)
         0x5C, 0x2F, 0x02, 0x5F, 0x53, 0x42, 0x5F, 0x47, 0x50, 0x49, 0x4F, // \_SB_.GPIO
         0x10, 0x03, 0x5C, 0x00, // Scope (\) {}
     ];
     assert_eq!(rt;
-        encode_terms(alloc, &[], &terms)?.as_slice(),
+        encode_terms(rt.alloc(), &[], &terms)?.as_slice(),
         want.as_slice()
     );
     Ok(())
 }
 
-/// Buffer (0x03) {..}, Package {..} with a length of four bytes, If (Local0) {Return (Zero)}, Method (FOO_, 1) {..}.
-fn packed_terms(alloc: Global) -> Result<Vec<Node>, AllocError> {
-    let size = constant(alloc, 0x0A, Part::Byte(0x03))?;
-    let content = Tail::Bytes(bytes(alloc, &[0x01, 0x02, 0x03])?);
-    let text = plain(0x0D, vec![in alloc; Part::Text(bytes(alloc, b"A")?)]?);
+/// A buffer with a size of one byte, and these bytes.
+fn buffer_term(alloc: Global, size: u8, content: &[u8]) -> Result<Node, AllocError> {
+    let size = constant(alloc, 0x0A, Part::Byte(size))?;
+    let content = Tail::Bytes(bytes(alloc, content)?);
+    Ok(packed(0x11, PkgWidth::One, vec![in alloc; size]?, content))
+}
+
+/// Package (0x02) {One, "A"} with a length of four bytes
+fn package_term(alloc: Global) -> Result<Node, AllocError> {
+    let text = text_term(alloc, b"A")?;
     let elements = Tail::Elements(vec![in alloc; bare(alloc, 0x01), text]?);
-    let local0 = Part::Child(bare(alloc, 0x60));
+    let count = vec![in alloc; Part::Byte(0x02)]?;
+    Ok(packed(0x12, PkgWidth::Four, count, elements))
+}
+
+/// If (Local0) {Return (Zero)} with a length of three bytes
+fn if_term(alloc: Global) -> Result<Node, AllocError> {
     let zero = Part::Child(bare(alloc, 0x00));
-    let inner = Tail::Terms(vec![in alloc; plain(0xA4, vec![in alloc; zero]?)]?);
-    let method = vec![in alloc; label(alloc, *b"FOO_")?, Part::Byte(0x01)]?;
-    Ok(vec![in alloc;
-        packed(0x11, PkgWidth::One, vec![in alloc; size]?, content),
-        packed(
-            0x12,
-            PkgWidth::Four,
-            vec![in alloc; Part::Byte(0x02)]?,
-            elements
-        ),
-        packed(0xA0, PkgWidth::Three, vec![in alloc; local0]?, inner),
-        packed(0x14, PkgWidth::Two, method, Tail::Body { start: 2, len: 2 }),
-    ]?)
+    let inner = plain(0xA4, vec![in alloc; zero]?);
+    let inner = Tail::Terms(vec![in alloc; inner]?);
+    let local0 = Part::Child(bare(alloc, 0x60));
+    Ok(packed(0xA0, PkgWidth::Three, vec![in alloc; local0]?, inner))
+}
+
+/// Method (FOO_, 1) {..} with a length of two bytes
+fn method_term(alloc: Global) -> Result<Node, AllocError> {
+    let foo = label(alloc, *b"FOO_")?;
+    let parts = vec![in alloc; foo, Part::Byte(0x01)]?;
+    Ok(packed(0x14, PkgWidth::Two, parts, Tail::Body { start: 2, len: 2 }))
+}
+
+fn packed_terms(alloc: Global) -> Result<Vec<Node>, AllocError> {
+    let mut terms = Vec::new(alloc);
+    terms.push(buffer_term(alloc, 0x03, &[0x01, 0x02, 0x03])?)?;
+    terms.push(package_term(alloc)?)?;
+    terms.push(if_term(alloc)?)?;
+    terms.push(method_term(alloc)?)?;
+    Ok(terms)
 }
 
 #[test]
@@ -418,28 +480,38 @@ fn packed_terms_have_their_bytes(rt: HostRuntime) -> Result<(), Fail> {
     Ok(())
 }
 
-/// Field (GNVS, 0x01) with an element of each kind.
+/// A named unit, and reserved bits.
+fn push_units(fields: &mut Vec<Field>) -> Result<(), AllocError> {
+    fields.push(Field::NamedUnit {
+        seg: Seg(*b"ABCD"),
+        width: PkgWidth::Two,
+        bits: 8,
+    })?;
+    fields.push(Field::Reserved {
+        width: PkgWidth::Three,
+        bits: 4096,
+    })?;
+    Ok(())
+}
+
+/// An element of each kind.
+fn fields(alloc: Global) -> Result<Vec<Field>, AllocError> {
+    let mut fields = Vec::new(alloc);
+    push_units(&mut fields)?;
+    fields.push(Field::Access(0x03, 0x00))?;
+    let target = name(alloc, true, 0, NameForm::Dual, &SB_GPIO)?;
+    fields.push(Field::Connection(Link::Target(target)))?;
+    fields.push(Field::Extended(0x01, 0x0B, 0x04))?;
+    let buffer = buffer_term(alloc, 0x02, &[0x00, 0x79])?;
+    fields.push(Field::Connection(Link::Buffer(buffer)))?;
+    Ok(fields)
+}
+
+/// Field (GNVS, 0x01) with these elements
 fn field_term(alloc: Global) -> Result<Node, AllocError> {
-    let size = constant(alloc, 0x0A, Part::Byte(0x02))?;
-    let content = Tail::Bytes(bytes(alloc, &[0x00, 0x79])?);
-    let buffer = packed(0x11, PkgWidth::One, vec![in alloc; size]?, content);
-    let fields = vec![in alloc;
-        Field::NamedUnit {
-            seg: Seg(*b"ABCD"),
-            width: PkgWidth::Two,
-            bits: 8,
-        },
-        Field::Reserved {
-            width: PkgWidth::Three,
-            bits: 4096,
-        },
-        Field::Access(0x03, 0x00),
-        Field::Connection(Link::Target(name(alloc, true, 0, NameForm::Dual, &SB_GPIO)?)),
-        Field::Extended(0x01, 0x0B, 0x04),
-        Field::Connection(Link::Buffer(buffer)),
-    ]?;
-    let parts = vec![in alloc; label(alloc, *b"GNVS")?, Part::Byte(0x01)]?;
-    Ok(packed(0x5B81, PkgWidth::Two, parts, Tail::Fields(fields)))
+    let gnvs = label(alloc, *b"GNVS")?;
+    let parts = vec![in alloc; gnvs, Part::Byte(0x01)]?;
+    Ok(packed(0x5B81, PkgWidth::Two, parts, Tail::Fields(fields(alloc)?)))
 }
 
 #[test]

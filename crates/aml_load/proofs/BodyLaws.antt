@@ -1,11 +1,10 @@
 -- The bodies of methods, one after the other.
-use Rattle.std.proofs.Common.{◌≡◌, ℕ, zero, suc, ◌+◌, ◌-◌, ◌<◌, ◌≤◌, Bool, List, [], ◌∷◌, ◌++◌, map, length, drop, take, get_or, Option, Some, None, Result, Ok, Err, refl, sym, ap, subst, ◌∙◌, ◌⊎◌, inl, inr, arith, append_assoc, append-nil, slice_get}
+use Rattle.std.proofs.Common.{◌≡◌, ℕ, zero, suc, ◌+◌, ◌-◌, ◌<◌, ◌≤◌, Bool, List, [], ◌∷◌, ◌++◌, map, length, drop, get_or, Option, Some, None, Result, Ok, Err, refl, sym, ap, subst, ◌∙◌, ◌⊎◌, inl, inr, arith, append_assoc, append-nil, slice_get}
 use Rattle.std.specs.Prelude.{IfOk, IfErr}
 use Rattle.std.proofs.lemmas.List.{map-append, length-take, length-drop}
 use Rattle.aml_names.specs.declared.faults.CodeFault.{CodeFault}
 use Rattle.aml_names.specs.declared.faults.CodeFault.TheVariants as codes
 use Rattle.aml_code.specs.Tree.{Trees}
-use Rattle.aml_code.specs.Encoding.{slice_of}
 use Rattle.aml_code.specs.Faults.{StandsAt}
 use Rattle.aml_code.specs.Meaning.{ReadsBody}
 use Rattle.aml_space.specs.Entries.{Entry}
@@ -15,7 +14,7 @@ use Rattle.aml_load.specs.declared.faults.LoadFault.{LoadFault}
 use Rattle.aml_load.specs.declared.faults.LoadFault.TheVariants as loads
 use Rattle.aml_load.specs.declared.methods.Method.{Method}
 use Rattle.aml_load.specs.Walking.{code_fault}
-use Rattle.aml_load.specs.Bodies.{IsBody, AreBodies, NoBody, LacksBody, BodyGiven, BodiesGiven}
+use Rattle.aml_load.specs.Bodies.{IsBody, AreBodies, NoBody, LacksBody, BodiesGiven}
 use Rattle.aml_load.specs.Views.{AreShort, span_in, span_of}
 
 -- a span is no longer than its table

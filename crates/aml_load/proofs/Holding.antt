@@ -1,5 +1,5 @@
 -- What the progress holds after one entry more.
-use Rattle.std.proofs.Common.{◌≡◌, ℕ, ◌-◌, nat_le, Bool, true, false, cond, List, [], ◌∷◌, ◌++◌, length, take, Option, Some, None, is_some, IsTrue, Result, Ok, Err, OnOk, refl, sym, ap, subst, ◌∙◌, ◌⊎◌, inl, inr, arith}
+use Rattle.std.proofs.Common.{◌≡◌, ℕ, ◌-◌, nat_le, true, cond, List, [], ◌∷◌, ◌++◌, length, Option, Some, None, is_some, IsTrue, Result, Ok, Err, refl, sym, ap, subst, ◌∙◌, ◌⊎◌, inl, inr, arith}
 use Rattle.std.proofs.lemmas.Bool.Decides.{nat_tests}
 use Rattle.std.proofs.lemmas.List.{append-nil, take_all}
 use Rattle.aml_names.specs.Names.{placed}
@@ -16,10 +16,10 @@ use Rattle.aml_load.specs.declared.faults.LoadFault.{LoadFault}
 use Rattle.aml_load.specs.declared.faults.LoadFault.TheVariants as loads
 use Rattle.aml_load.specs.declared.methods.Method.{Method}
 use Rattle.aml_load.specs.declared.walking.Progress.{Progress}
-use Rattle.aml_load.specs.Loading.{Listed, plus, methods_of, methods_at}
+use Rattle.aml_load.specs.Loading.{Listed, plus, methods_of}
 use Rattle.aml_load.specs.Walking.{◌>>=◌, given, space_fault, entry_at, name_at, units_at}
 use Rattle.aml_load.specs.Views.{Holds, Fails}
-use Rattle.aml_load.proofs.Steps.{place_again, entry_again}
+use Rattle.aml_load.proofs.Steps.{place_again}
 use Rattle.aml_load.proofs.Walks.{methods_more}
 
 -- an entry without a body

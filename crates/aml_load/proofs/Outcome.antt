@@ -2,13 +2,12 @@
 use Rattle.std.specs.Prelude.{IfOk, IfErr}
 use denote.Ref.{Bor}
 use Rattle.std.specs.Option.{unwrap_or}
-use Rattle.std.proofs.Common.{◌≡◌, ℕ, zero, suc, slice_index_or, ◌≤◌, ◌<◌, Bool, true, false, cond, List, [], ◌∷◌, ◌++◌, length, Option, Some, None, Result, Ok, Err, refl, sym, ap, subst, ◌∙◌, append_assoc, arith, nat_lt, ◌⊎◌, inl, inr}
+use Rattle.std.proofs.Common.{◌≡◌, ℕ, zero, suc, slice_index_or, ◌≤◌, true, List, [], ◌∷◌, ◌++◌, length, None, Result, Ok, Err, refl, sym, ap, subst, ◌∙◌, append_assoc, arith, nat_lt, ◌⊎◌, inl, inr}
 use Rattle.std.proofs.lemmas.List.{append-nil}
 use Rattle.std.proofs.lemmas.Bool.Decides.{nat_tests}
 use Rattle.aml_names.specs.declared.faults.CodeFault.{CodeFault}
 use Rattle.aml_names.proofs.StepLaws.{IsBytes}
 use Rattle.aml_code.specs.declared.rows.Position.TheVariants as positions
-use Rattle.aml_code.specs.Faults.{StandsAt}
 use Rattle.aml_code.specs.Meaning.{ReadsModule, no_arguments}
 use Rattle.aml_code.specs.Tree.{Trees}
 use Rattle.aml_parse.specs.Reading.{all_at}
@@ -18,10 +17,10 @@ use Rattle.aml_load.specs.declared.faults.LoadFault.{LoadFault}
 use Rattle.aml_load.specs.declared.faults.LoadFault.TheVariants as loads
 use Rattle.aml_load.specs.declared.loading.Loaded.{Loaded}
 use Rattle.aml_load.specs.declared.methods.Use.{Use}
-use Rattle.aml_load.specs.Loading.{Listed, nothing_listed, DeclareAll, DeclareTables, Uncalled, use_count, Loads, ReadTables, IsLoad, methods_of}
+use Rattle.aml_load.specs.Loading.{Listed, nothing_listed, DeclareAll, DeclareTables, Uncalled, use_count, Loads, ReadTables, IsLoad}
 use Rattle.aml_load.specs.Walking.{◌>>=◌, code_fault, in_code, walk_all, table_at, tables_at, uses_at, load_at}
-use Rattle.aml_load.specs.Stops.{StopAll, Unread, StopTable, StopTables, Called, StopsLoad}
-use Rattle.aml_load.specs.Views.{AreCodes, AreShort, codes_view, GivesLoad, Holds, HoldsLoad}
+use Rattle.aml_load.specs.Stops.{StopTable, StopTables, Called, StopsLoad}
+use Rattle.aml_load.specs.Views.{AreCodes, AreShort, codes_view, GivesLoad, HoldsLoad}
 use Rattle.aml_load.proofs.Steps.{ok_is, bind_then, err_then, guard_ok, guard_err}
 use Rattle.aml_load.proofs.Walks.{count, all_takes, all_grow, all_again, all_few_count, all_err}
 

@@ -1,20 +1,20 @@
 -- Steps of loading forward, and what each means.
-use Rattle.std.proofs.Common.{◌≡◌, ◌≢◌, ℕ, ◌≤◌, ◌<◌, ◌+◌, Bool, true, false, cond, not, ◌&&◌, ◌==◌, List, [], ◌∷◌, ◌++◌, length, take, Option, Some, None, is_some, Result, Ok, Err, refl, sym, ap, subst, ◌∙◌, ◌⊎◌, inl, inr, arith, nat_le}
+use Rattle.std.proofs.Common.{◌≡◌, ◌≢◌, ℕ, Bool, true, false, cond, not, ◌&&◌, ◌==◌, List, [], ◌∷◌, length, Option, Some, None, is_some, Result, Ok, Err, refl, sym, ap, subst, ◌∙◌, inl, inr, arith, nat_le}
 use Rattle.std.proofs.lemmas.Bool.{eqb-true}
 use Rattle.std.proofs.lemmas.Bool.Decides.{nat_tests}
 use Rattle.std.specs.FinSet as set
 use Rattle.aml_names.specs.declared.segments.Seg.{Seg}
 use Rattle.aml_names.specs.declared.names.Name.{Name}
 use Rattle.aml_names.specs.Names.{placed}
-use Rattle.aml_names.specs.Searching.{is_single, upward, the_one, candidates}
+use Rattle.aml_names.specs.Searching.{is_single, upward, the_one}
 use Rattle.aml_space.specs.declared.kinds.Kind.{Kind}
 use Rattle.aml_space.specs.declared.kinds.Kind.TheVariants as kinds
 use Rattle.aml_space.specs.declared.faults.SpaceFault.TheVariants as faults
-use Rattle.aml_space.specs.Entries.{Entry, declares, external, declared_at}
+use Rattle.aml_space.specs.Entries.{Entry, declares, declared_at}
 use Rattle.aml_space.specs.Namespace.{Namespace, namespace_of, found, first_of}
 use Rattle.aml_load.specs.declared.faults.LoadFault.{LoadFault}
 use Rattle.aml_load.specs.declared.faults.LoadFault.TheVariants as loads
-use Rattle.aml_load.specs.Loading.{Listed, plus, place_of, lead_of, IsNew, Leads, DeclareUnits}
+use Rattle.aml_load.specs.Loading.{Listed, plus, place_of, lead_of, IsNew, DeclareUnits}
 use Rattle.aml_load.specs.Walking.{◌>>=◌, or_fault, place_at, scope_at, source_at, entry_at, new_at, name_at, units_at}
 use Rattle.aml_load.specs.Stops.{Unplaced, Twice, NotNew, Nowhere, StopUnits}
 

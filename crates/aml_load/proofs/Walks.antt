@@ -1,25 +1,24 @@
 -- Walking forward gives what terms declare, unless there are too many methods, and refuses for a true reason.
-use Rattle.std.proofs.Common.{◌≡◌, ℕ, false, ◌≤◌, ◌<◌, ◌+◌, ◌%◌, List, [], ◌∷◌, ◌++◌, length, Option, Some, None, Result, Ok, Err, refl, sym, ap, subst, ◌∙◌, ◌⊎◌, inl, inr, arith, nat_le, append_assoc}
+use Rattle.std.proofs.Common.{◌≡◌, ℕ, false, ◌≤◌, ◌<◌, ◌+◌, List, [], ◌∷◌, ◌++◌, length, Option, Some, None, Result, Ok, Err, refl, sym, ap, subst, ◌∙◌, ◌⊎◌, inl, inr, arith, nat_le, append_assoc}
 use Rattle.std.proofs.lemmas.List.{length-append, append-nil}
 use Rattle.std.proofs.lemmas.Bool.Decides.{nat_tests}
 use Rattle.aml_names.specs.declared.segments.Seg.{Seg}
 use Rattle.aml_names.specs.declared.names.Name.{Name}
 use Rattle.aml_code.specs.Tree.{Tree, nothing, named, op, Trees, no_trees, tree_more, Parts, Rest, empty, terms, bytes, elements, fields, body}
 use Rattle.aml_code.specs.Declaring.{last_label, field_names}
-use Rattle.aml_space.specs.declared.kinds.Kind.{Kind}
 use Rattle.aml_space.specs.declared.kinds.Kind.TheVariants as kinds
 use Rattle.aml_space.specs.declared.faults.SpaceFault.TheVariants as faults
-use Rattle.aml_space.specs.Entries.{Entry, Body, declares, external, declared_at}
+use Rattle.aml_space.specs.Entries.{Entry, declares, external}
 use Rattle.aml_load.specs.declared.faults.LoadFault.{LoadFault}
 use Rattle.aml_load.specs.declared.faults.LoadFault.TheVariants as loads
 use Rattle.aml_load.specs.declared.methods.Method.{Method}
 use Rattle.aml_load.specs.declared.roles.Role.{Role}
 use Rattle.aml_load.specs.declared.roles.Role.TheVariants as roles
 use Rattle.aml_load.specs.Roles.{role_of, kind_of}
-use Rattle.aml_load.specs.Loading.{Listed, plus, with_uses, first_label, byte_of, place_of, lead_of, IsNew, Leads, target_of, body_start, body_len, method_entry, DeclareUnits, DoesAs, Declares, DeclareInside, DeclareAll, methods_at, methods_of}
-use Rattle.aml_load.specs.Walking.{◌>>=◌, place_at, scope_at, source_at, entry_at, new_at, name_at, number_at, method_at, alias_at, external_at, units_at, do_as, walk, walk_inside, walk_all}
-use Rattle.aml_load.specs.Stops.{Unplaced, Twice, NotNew, Nowhere, TooMany, StopsAs, Stops, StopInside, StopAll}
-use Rattle.aml_load.proofs.Steps.{the_ok, ok_is, bind_then, err_then, guard_ok, guard_err, place_ok, place_again, place_err, scope_ok, scope_again, scope_err, source_ok, source_again, source_err, entry_ok, entry_again, entry_err, new_ok, new_again, new_err, NamedSome, name_ok, name_again, name_err, units_ok, units_again, units_err}
+use Rattle.aml_load.specs.Loading.{Listed, plus, with_uses, first_label, byte_of, place_of, IsNew, Leads, target_of, body_start, body_len, method_entry, DeclareUnits, DoesAs, Declares, DeclareInside, DeclareAll, methods_at, methods_of}
+use Rattle.aml_load.specs.Walking.{◌>>=◌, place_at, scope_at, source_at, entry_at, new_at, name_at, number_at, method_at, alias_at, external_at, do_as, walk, walk_inside, walk_all}
+use Rattle.aml_load.specs.Stops.{Unplaced, NotNew, Nowhere, TooMany, StopsAs, Stops, StopInside, StopAll}
+use Rattle.aml_load.proofs.Steps.{the_ok, ok_is, bind_then, err_then, guard_ok, guard_err, place_ok, place_again, place_err, scope_ok, scope_again, scope_err, source_ok, source_again, source_err, entry_ok, entry_again, entry_err, new_ok, new_again, new_err, name_ok, name_again, name_err, units_ok, units_again, units_err}
 
 -- ---- what walking gives is declared
 

@@ -1,18 +1,18 @@
 -- What tables declare (ACPI 6.5, 5.2.11, 5.3 and 20.2.5): one list of entries, in load order and in the order of the text.
-use Rattle.std.specs.Prelude.{◌≡◌, ℕ, suc, ◌+◌, ◌%◌, ◌<◌, ◌≤◌, false, List, [], ◌∷◌, ◌++◌, map, length, Option, Some, None}
+use Rattle.std.specs.Prelude.{◌≡◌, ℕ, suc, ◌+◌, ◌%◌, ◌≤◌, false, List, [], ◌∷◌, ◌++◌, length, Option, Some, None}
 use Rattle.std.specs.Option.{unwrap_or}
 use Rattle.std.specs.FinSet as set
 use Rattle.aml_names.specs.declared.segments.Seg.{Seg}
 use Rattle.aml_names.specs.declared.names.Name.{Name}
 use Rattle.aml_names.specs.Names.{placed}
-use Rattle.aml_code.specs.Tree.{Tree, nothing, named, op, Trees, no_trees, tree_more, OnePart, child, label, byte, word, dword, qword, text, Parts, no_parts, part_more, Rest, empty, terms, bytes, elements, fields, body}
+use Rattle.aml_code.specs.Tree.{Tree, nothing, named, op, Trees, no_trees, tree_more, child, label, byte, word, dword, qword, text, Parts, no_parts, part_more, Rest, empty, terms, bytes, elements, fields, body}
 use Rattle.aml_code.specs.Declaring.{last_label, last_byte, field_names}
 use Rattle.aml_code.specs.Meaning.{ReadsModule}
 use Rattle.aml_code.specs.Rows.{row_of}
 use Rattle.aml_space.specs.declared.kinds.Kind.{Kind}
 use Rattle.aml_space.specs.declared.kinds.Kind.TheVariants as kinds
 use Rattle.aml_space.specs.Entries.{Entry, Body, declares, external, declared_at}
-use Rattle.aml_space.specs.Namespace.{Namespace, namespace_of, kind_at, found, arity_of}
+use Rattle.aml_space.specs.Namespace.{namespace_of, kind_at, found, arity_of}
 use Rattle.aml_load.specs.declared.methods.Method.{Method}
 use Rattle.aml_load.specs.declared.methods.Use.{Use}
 use Rattle.aml_load.specs.declared.roles.Role.{Role}

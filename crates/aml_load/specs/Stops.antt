@@ -1,5 +1,5 @@
 -- Where the load of tables stops, and why (ACPI 6.5, 5.3): what each fault says of the entries as they stand there.
-use Rattle.std.specs.Prelude.{◌≡◌, ◌≢◌, ℕ, suc, ◌≤◌, ◌<◌, ◌⊎◌, List, [], ◌∷◌, ◌++◌, length, Option, Some, None}
+use Rattle.std.specs.Prelude.{◌≡◌, ◌≢◌, ℕ, suc, ◌≤◌, ◌<◌, ◌⊎◌, List, [], ◌∷◌, length, Option, Some, None}
 use Rattle.std.specs.Option.{unwrap_or}
 use Rattle.aml_names.specs.declared.segments.Seg.{Seg}
 use Rattle.aml_names.specs.declared.names.Name.{Name}
@@ -9,7 +9,6 @@ use Rattle.aml_code.specs.Meaning.{ReadsModule, no_arguments}
 use Rattle.aml_code.specs.Tree.{Tree, nothing, named, op, Trees, no_trees, tree_more, Parts, Rest, empty, terms, bytes, elements, fields, body}
 use Rattle.aml_code.specs.Declaring.{last_label, field_names}
 use Rattle.aml_space.specs.declared.faults.SpaceFault.TheVariants as faults
-use Rattle.aml_space.specs.declared.kinds.Kind.{Kind}
 use Rattle.aml_space.specs.declared.kinds.Kind.TheVariants as kinds
 use Rattle.aml_space.specs.Entries.{Entry, declares, declared_at}
 use Rattle.aml_load.specs.declared.faults.LoadFault.{LoadFault}

@@ -3,7 +3,7 @@ use Rattle.std.specs.Prelude.{◌≡◌, ℕ, List, [], ◌∷◌, map, Option, 
 use Rattle.std.specs.Global.{Vec}
 use denote.Ref.{Bor}
 use Rattle.aml_code.specs.declared.tree.Node.{Node}
-use Rattle.aml_code.specs.Tree.{Trees, no_trees}
+use Rattle.aml_code.specs.Tree.{Trees}
 use Rattle.aml_code.specs.Encoding.{slice_of, encodings}
 use Rattle.aml_code.specs.View.{nodes_view}
 use Rattle.aml_space.specs.Known.{StandsFor}

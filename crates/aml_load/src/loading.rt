@@ -1,11 +1,10 @@
 //! The load of tables in their order.
-ghost use Rattle.std.specs.Prelude.{◌≡◌, ◌⊎◌, ◌==◌, [], ◌∷◌, ◌++◌, List, IfOk, IfErr, length, ◌≤◌};
+ghost use Rattle.std.specs.Prelude.{◌≡◌, ◌⊎◌, [], List, IfOk, IfErr, length, ◌≤◌};
 ghost use Rattle.std.specs.Option.{unwrap_or};
 ghost use Rattle.aml_code.specs.Tree.{Trees};
 ghost use Rattle.aml_code.specs.View.{nodes_view};
-ghost use Rattle.aml_space.specs.Entries.{Entry};
 ghost use Rattle.aml_space.specs.Known.{StandsFor};
-ghost use Rattle.aml_load.specs.Loading.{Listed, IsLoad, use_count, nothing_listed};
+ghost use Rattle.aml_load.specs.Loading.{Listed, IsLoad, use_count};
 ghost use Rattle.aml_load.specs.Walking.{table_at, tables_at, uses_at, load_at};
 ghost use Rattle.aml_load.specs.Stops.{StopsLoad};
 ghost use Rattle.aml_load.specs.Views.{codes_view, trees_view, AreShort, IsCode, AreCodes, Holds, HoldsLoad, Gives, GivesLoad, TableWalked, body_of, table_encoding};

@@ -1,7 +1,7 @@
 //! What the terms of a table do to the namespace.
 ghost use Rattle.std.specs.Prelude.{◌≡◌, ◌==◌, None, find};
 ghost use Rattle.std.specs.Option.{option_copied};
-ghost use Rattle.aml_load.specs.Roles.{role_in, role_of, kind_of};
+ghost use Rattle.aml_load.specs.Roles.{role_of, kind_of};
 
 use aml_space::Kind;
 

@@ -1,5 +1,5 @@
 mod Sets
 pub mod StepLaws
 mod NameLoops
-mod NameFaults
+pub mod NameFaults
 pub mod NameLaws

@@ -65,7 +65,7 @@ count_refuses : Refuses is_count
 unfolding Refuses
 count_refuses b h = let zeros : b ≡ 0 = omega (arith, ltb-false 0 b h) in rw zeros refl
 
-segment_fault : (end : ℕ) (bytes : List ℕ) (d : CodeFault) → segment_at end bytes ≡ Err d → NameFault end bytes d
+pub segment_fault : (end : ℕ) (bytes : List ℕ) (d : CodeFault) → segment_at end bytes ≡ Err d → NameFault end bytes d
 unfolding segment_at
 segment_fault end bytes d e =
     let P : Type 0 = NameFault end bytes d in

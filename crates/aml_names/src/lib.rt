@@ -20,7 +20,7 @@ pub use locals_of::Locals;
 pub use names::{Name, NameForm};
 pub use paths::Path;
 pub use placing::place;
-pub use reading::{is_name_lead, name_of, read_name};
+pub use reading::{is_name_lead, name_of, read_name, segment_of};
 pub use segments::{Seg, Segs};
 pub use stepping::{byte_of, offset_of};
 

@@ -88,9 +88,12 @@ fn count_of(end: u32, bytes: &[u8]) -> Result<(u8, &[u8]), CodeFault>
     }
 }
 
-/// A NameSeg, by its four characters.
+/// Reads a NameSeg, four characters that `end` bounds, and answers it with what is left (ACPI 6.5, 20.2.2).
+///
+/// `end` is the offset in the code at which the bytes end. `BadName` at the first character that can't stand in its
+/// place, `Truncated` at the end where the bytes are fewer.
 #[tactic(auto, unfolding(crate::specs::NameReading::segment_at))]
-fn segment_of(end: u32, bytes: &[u8]) -> Result<(Seg, &[u8]), CodeFault>
+pub fn segment_of(end: u32, bytes: &[u8]) -> Result<(Seg, &[u8]), CodeFault>
     ensures { Gives (λ x. (x.0, x.1.now)) result (segment_at end bytes.now) }
 {
     let (a, rest) = lead_char_of(end, bytes)?;

@@ -1,4 +1,6 @@
-use crate::{CodeFault, Locals, Name, NameForm, Path, Seg, Segs, is_name_lead, place, read_name};
+use crate::{
+    CodeFault, Locals, Name, NameForm, Path, Seg, Segs, is_name_lead, place, read_name, segment_of,
+};
 use std::alloc::{AllocError, Global};
 use std::test::Fail;
 
@@ -128,6 +130,24 @@ fn refuses_a_name_at_its_first_wrong_byte(rt: HostRuntime) {
         let fault = read_name(rt.alloc(), bytes).err();
         assert_eq!(rt; fault, Some(want), "{bytes:?}");
     }
+}
+
+#[test]
+fn reads_a_segment_alone(rt: HostRuntime) -> Result<(), Fail> {
+    let (seg, rest) = segment_of(7, b"_ADR^\\\x00")?;
+    assert_eq!(rt; seg, Seg(*b"_ADR"));
+    assert_eq!(rt; rest.len(), 3);
+    let rows: [(&[u8], CodeFault); 5] = [
+        (b"", CodeFault::Truncated { at: 9 }),
+        (b"_AD", CodeFault::Truncated { at: 9 }),
+        (b"0ADR", CodeFault::BadName { at: 5 }),
+        (b"_adr", CodeFault::BadName { at: 6 }),
+        (b"\\ADR", CodeFault::BadName { at: 5 }),
+    ];
+    for (bytes, want) in rows {
+        assert_eq!(rt; segment_of(9, bytes).err(), Some(want), "{bytes:?}");
+    }
+    Ok(())
 }
 
 #[test]

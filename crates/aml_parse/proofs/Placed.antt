@@ -9,6 +9,7 @@ use Rattle.aml_names.specs.Names.{spelling, is_name_lead}
 use Rattle.aml_names.specs.NameReading.{segment_at, name_at}
 use Rattle.aml_names.specs.Paths.{PathSet}
 use Rattle.aml_names.specs.Steps.{◌>>=◌, Left, byte_at}
+use Rattle.aml_names.proofs.NameFaults.{segment_fault}
 use Rattle.aml_names.proofs.NameLaws.{segment_takes, name_takes, name_fault}
 use Rattle.aml_names.proofs.StepLaws.{err_is, err_then, cond_then, Takes, byte_fault}
 use Rattle.aml_code.specs.declared.packages.PkgWidth.{PkgWidth}
@@ -34,7 +35,7 @@ use Rattle.aml_code.proofs.RowFacts.{guard_place, opcode_some}
 use Rattle.aml_code.proofs.Within.{Within, onward, inward, text_there, byte_there, truncated_placed, offset_is, length_placed, past_placed, name_placed}
 use Rattle.aml_parse.specs.Reading.{Reader, flat, byte_part, count_part, word_part, dword_part, qword_part, text_part, any_name_part, segmented_at, name_part, child_at, part_at, parts_at, arguments_at, terms_at, named_unit, reserved_unit, access_unit, extended_unit, named_joint, buffer_at, joint_at, connection_at, unit_at, units_at, wanted, known, call_at, takes_names, name_term_at, opcode_at, refused_in_body, refusal, guard_at, tail_at, plain_at, packed_at, row_at, by_row, operation_at, is_none, term_at}
 use Rattle.aml_parse.proofs.FlatLaws.{number_fault, count_fault, text_fault, any_name_fault, segmented_fault, opcode_takes, opcode_fault}
-use Rattle.aml_parse.proofs.UnitLaws.{segment_fault, reserved_fault, access_fault, extended_fault}
+use Rattle.aml_parse.proofs.UnitLaws.{reserved_fault, access_fault, extended_fault}
 use Rattle.aml_parse.proofs.Leads.{guard_fault}
 use Rattle.aml_parse.proofs.Took.{IsReader, name_some}
 use Rattle.aml_parse.proofs.Takes.{part_take, parts_take, unit_take}

@@ -22,7 +22,7 @@ use Rattle.aml_code.specs.declared.rows.TailKind.TheVariants as tails
 use Rattle.aml_code.specs.Packages.{width_len, package_bytes, FitsWidth}
 use Rattle.aml_code.specs.Lengths.{span_at}
 use Rattle.aml_code.specs.Rows.{row_of, parts_of, has_length, takes}
-use Rattle.aml_code.specs.Tree.{Tree, nothing, named, op, Trees, no_trees, tree_more, OnePart, child, Parts, no_parts, part_more, Rest, empty, terms, elements, fields, body, OneUnit, connection, Units, no_units, unit_more, Joint, target, buffer, tree_count}
+use Rattle.aml_code.specs.Tree.{Tree, nothing, named, op, Trees, no_trees, tree_more, OnePart, child, Parts, no_parts, part_more, Rest, empty, terms, elements, fields, OneUnit, connection, Units, no_units, unit_more, Joint, target, buffer, tree_count}
 use Rattle.aml_code.specs.Tree as trees
 use Rattle.aml_code.specs.Encoding.{opcode_bytes, slice_of, encoding, encodings, part_encoding, parts_encoding, rest_encoding, unit_encoding, joint_encoding}
 use Rattle.aml_code.specs.Declaring.{names_declared, with_declared, declared_by, after_all, after_parts, after_rest, after_units}

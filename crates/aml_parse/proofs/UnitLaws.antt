@@ -1,15 +1,15 @@
 -- An element of a field list without terms that is read is the one that is spelled, and one that is spelled is read again.
-use Rattle.std.proofs.Common.{◌≡◌, ℕ, ◌-◌, Bool, true, false, ◌==◌, List, [], ◌∷◌, ◌++◌, length, Ok, Err, refl, sym, ap, subst, ◌∙◌, append_assoc, inl, inr}
+use Rattle.std.proofs.Common.{◌≡◌, ℕ, ◌-◌, true, false, ◌==◌, List, [], ◌∷◌, ◌++◌, Ok, Err, refl, ap, subst, ◌∙◌, append_assoc}
 use Rattle.std.proofs.lemmas.Bool.{ne_eqb}
 use Rattle.aml_names.specs.declared.faults.CodeFault.{CodeFault}
 use Rattle.aml_names.specs.declared.faults.CodeFault.TheVariants as faults
 use Rattle.aml_names.specs.declared.segments.Seg.{Seg}
 use Rattle.aml_names.specs.Names.{is_lead_char, IsNameSeg}
-use Rattle.aml_names.specs.NameReading.{name_at, path_at, form_at, parents, segments_at, segment_at, NameFault}
+use Rattle.aml_names.specs.NameReading.{segment_at}
 use Rattle.aml_names.specs.Paths.{PathSet}
 use Rattle.aml_names.specs.Steps.{◌>>=◌, byte_at}
-use Rattle.aml_names.proofs.NameLaws.{segment_takes, segment_again, name_fault}
-use Rattle.aml_names.proofs.StepLaws.{ok_is, err_is, bind_then, err_then, IsBytes, Takes, Takes-then, byte_takes, byte_fault}
+use Rattle.aml_names.proofs.NameLaws.{segment_takes, segment_again}
+use Rattle.aml_names.proofs.StepLaws.{ok_is, bind_then, err_then, IsBytes, Takes, Takes-then, byte_takes, byte_fault}
 use Rattle.aml_code.specs.declared.packages.PkgWidth.{PkgWidth}
 use Rattle.aml_code.specs.Packages.{package_bytes, FitsWidth}
 use Rattle.aml_code.specs.Lengths.{length_at}
@@ -100,33 +100,6 @@ extended_again end a b c rest = refl
 -- what begins no segment
 pub apart : (a b : ℕ) → is_lead_char a ≡ true → is_lead_char b ≡ false → (a == b) ≡ false
 apart a b h g = ne_eqb a b (λ e. let x : is_lead_char b ≡ true = subst (λ (c : ℕ). is_lead_char c ≡ true) e h in absurd (cc (x, g)))
-
--- a segment is a name whose first byte begins one
-segment_name_fault : (end lead : ℕ) (behind : List ℕ) (d : CodeFault) → is_lead_char lead ≡ true → segment_at end (lead ∷ behind) ≡ Err d → name_at end (lead ∷ behind) ≡ Err d
-unfolding name_at path_at form_at parents segments_at
-segment_name_fault end lead behind d h e =
-    let root = apart lead 0x5C h refl in
-    let up = apart lead 0x5E h refl in
-    let null = apart lead 0x00 h refl in
-    let dual = apart lead 0x2E h refl in
-    let multi = apart lead 0x2F h refl in
-    rw (root, up, null, dual, multi, e) refl
-
-no_byte : (end : ℕ) (d : CodeFault) → segment_at end [] ≡ Err d → d ≡ faults.Truncated end
-unfolding segment_at
-no_byte end d e = sym (err_is {A = Seg × List ℕ} (faults.Truncated end) d e)
-
-not_first : (end lead : ℕ) (behind : List ℕ) → is_lead_char lead ≡ false → segment_at end (lead ∷ behind) ≡ Err (faults.BadName (end - length (lead ∷ behind)))
-unfolding segment_at
-not_first end lead behind h = rw h refl
-
-pub segment_fault : (end : ℕ) (bs : List ℕ) (d : CodeFault) → segment_at end bs ≡ Err d → NameFault end bs d
-segment_fault end [] d e = inl (no_byte end d e)
-segment_fault end (lead ∷ behind) d e = by_lead (is_lead_char lead) refl
-  where
-    by_lead : (b : Bool) → is_lead_char lead ≡ b → NameFault end (lead ∷ behind) d
-    by_lead true h = name_fault end (lead ∷ behind) d (segment_name_fault end lead behind d h e)
-    by_lead false h = inr ([], lead, behind, refl, h, sym (err_is {A = Seg × List ℕ} (faults.BadName (end - length (lead ∷ behind))) d (sym (not_first end lead behind h) ∙ e)))
 
 pub reserved_fault : (end : ℕ) (bs : List ℕ) (d : CodeFault) → reserved_unit end bs ≡ Err d → LengthFault end bs d
 unfolding reserved_unit

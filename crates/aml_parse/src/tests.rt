@@ -104,131 +104,21 @@ fn a_method_has_its_span(rt: HostRuntime) -> Result<(), Fail> {
 
 #[test]
 fn bodies_go_back(rt: HostRuntime) -> Result<(), Fail> {
-    // Return (Arg0)
-    assert!(rt; goes_back(rt.alloc(), &[0xA4, 0x68], 0)?);
-    // Return (Add (Arg0, Arg1, ))
-    assert!(rt; goes_back(rt.alloc(), &[0xA4, 0x72, 0x68, 0x69, 0x00], 0)?);
-    // Store (BAR_, Local0)
-    assert!(rt; goes_back(rt.alloc(), &[0x70, 0x42, 0x41, 0x52, 0x5F, 0x60], 0)?);
-    // Return (BBBB (One, 0x05))
-    assert!(rt;
-        goes_back(
-            rt.alloc(),
-            &[0xA4, 0x42, 0x42, 0x42, 0x42, 0x01, 0x0A, 0x05],
-            2
-        )?
-    );
-    // Zero
-    assert!(rt; goes_back(rt.alloc(), &[0x00], 0)?);
-    // Store ("A", \_SB_.PCI0)
-    assert!(rt;
-        goes_back(
-            rt.alloc(),
-            &[
-                0x70, 0x0D, 0x41, 0x00, 0x5C, 0x2E, 0x5F, 0x53, 0x42, 0x5F, 0x50, 0x43, 0x49, 0x30
-            ],
-            0
-        )?
-    );
-    // the constants of each size
-    assert!(rt;
-        goes_back(
-            rt.alloc(),
-            &[
-                0x0A, 1, 0x0B, 1, 2, 0x0C, 1, 2, 3, 4, 0x0E, 1, 2, 3, 4, 5, 6, 7, 8, 0x01, 0xFF
-            ],
-            0
-        )?
-    );
+    let rows: [(&[u8], u8); 9] = [
+        (b"\xA4\x68", 0), // Return (Arg0)
+        (b"\xA4\x72\x68\x69\x00", 0), // Return (Add (Arg0, Arg1, ))
+        (b"\x70BAR_\x60", 0), // Store (BAR_, Local0)
+        (b"\x70\x01BAR_", 2), // Store (One, BAR_)
+        (b"\xA4BBBB\x01\x0A\x05", 2), // Return (BBBB (One, 0x05))
+        (b"\x00", 0), // Zero
+        (b"\x70\x0DA\x00\x5C\x2E_SB_PCI0", 0), // Store ("A", \_SB_.PCI0)
+        (b"\x0A\x01\x0B\x01\x02\x0C\x01\x02\x03\x04", 0), // constants of one, two and four bytes
+        (b"\x0E\x01\x02\x03\x04\x05\x06\x07\x08\x01\xFF", 0), // of eight; One, Ones
+    ];
+    for (code, count) in rows {
+        assert!(rt; goes_back(rt.alloc(), code, count)?, "{code:?}");
+    }
     Ok(())
-}
-
-#[test]
-fn faults_of_bodies(rt: HostRuntime) {
-    let alloc = rt.alloc();
-    // a Method
-    assert_eq!(rt;
-        body_fault(alloc, &[0x14, 0x06, 0x43, 0x43, 0x43, 0x43, 0x00], 0),
-        Some(CodeFault::NestedMethod { at: 0 })
-    );
-    // a statement as an argument, a value as a target
-    assert_eq!(rt;
-        body_fault(alloc, &[0xA4, 0xA4], 0),
-        Some(CodeFault::NotHere { at: 1 })
-    );
-    assert_eq!(rt;
-        body_fault(alloc, &[0x70, 0x60, 0x01], 0),
-        Some(CodeFault::NotHere { at: 2 })
-    );
-    // no row
-    assert_eq!(rt;
-        body_fault(alloc, &[0x02], 0),
-        Some(CodeFault::UnknownOp { at: 0 })
-    );
-    assert_eq!(rt;
-        body_fault(alloc, &[0x5B], 0),
-        Some(CodeFault::Truncated { at: 1 })
-    );
-    assert_eq!(rt;
-        body_fault(alloc, &[0x5B, 0xFF], 0),
-        Some(CodeFault::UnknownOp { at: 0 })
-    );
-    // the end comes too early
-    assert_eq!(rt;
-        body_fault(alloc, &[0x72, 0x00], 0),
-        Some(CodeFault::Truncated { at: 2 })
-    );
-    assert_eq!(rt;
-        body_fault(alloc, &[0x0B, 0x00], 0),
-        Some(CodeFault::Truncated { at: 2 })
-    );
-    assert_eq!(rt;
-        body_fault(alloc, &[0x0D, 0x41], 0),
-        Some(CodeFault::Truncated { at: 2 })
-    );
-    assert_eq!(rt;
-        body_fault(alloc, &[0x42, 0x42, 0x42, 0x42], 1),
-        Some(CodeFault::Truncated { at: 4 })
-    );
-    // a byte that can't stand in a name
-    assert_eq!(rt;
-        body_fault(alloc, &[0x42, 0x42, 0x62, 0x42], 0),
-        Some(CodeFault::BadName { at: 2 })
-    );
-}
-
-#[test]
-fn faults_of_tables(rt: HostRuntime) {
-    let alloc = rt.alloc();
-    assert_eq!(rt;
-        module_fault(alloc, &[0x14]),
-        Some(CodeFault::Truncated { at: 1 })
-    );
-    assert_eq!(rt;
-        module_fault(alloc, &[0x14, 0x08, 0x46, 0x4F, 0x4F, 0x5F, 0x01, 0xA4]),
-        Some(CodeFault::PkgPast { at: 1 })
-    );
-    assert_eq!(rt;
-        module_fault(alloc, &[0x14, 0x50]),
-        Some(CodeFault::PkgBits { at: 1 })
-    );
-    assert_eq!(rt;
-        module_fault(alloc, &[0x08, 0x00, 0x01]),
-        Some(CodeFault::EmptyName { at: 1 })
-    );
-    assert_eq!(rt;
-        module_fault(alloc, &[0x70, 0x00, 0x00]),
-        Some(CodeFault::ModuleCode { at: 0 })
-    );
-    assert_eq!(rt;
-        module_fault(alloc, &[0x46, 0x4F, 0x4F, 0x5F]),
-        Some(CodeFault::ModuleCode { at: 0 })
-    );
-    assert_eq!(rt;
-        module_fault(alloc, &[0x08, 0x46, 0x4F, 0x4F, 0x5F, 0x60]),
-        Some(CodeFault::NotHere { at: 5 })
-    );
-    assert_eq!(rt; module_fault(alloc, &[]), None);
 }
 
 #[test]
@@ -303,8 +193,7 @@ fn a_call_has_its_arguments(rt: HostRuntime) -> Result<(), Fail> {
 
 #[test]
 fn a_target_has_no_arguments(rt: HostRuntime) -> Result<(), Fail> {
-    // Store (One, BAR_), where names take two arguments each
-    assert!(rt; goes_back(rt.alloc(), &[0x70, 0x01, 0x42, 0x41, 0x52, 0x5F], 2)?);
+    // Add (Local0, Local1, )
     let code = [0x72, 0x60, 0x61, 0x00];
     assert_eq!(rt; code.len(), 4);
     let nodes = parse_body(
@@ -328,50 +217,18 @@ fn a_target_has_no_arguments(rt: HostRuntime) -> Result<(), Fail> {
 
 #[test]
 fn tables_go_back(rt: HostRuntime) -> Result<(), Fail> {
-    assert!(rt; table_goes_back(rt.alloc(), &[])?);
-    // Name (FOO_, 0x05)
-    assert!(rt; table_goes_back(rt.alloc(), &[0x08, 0x46, 0x4F, 0x4F, 0x5F, 0x0A, 0x05])?);
-    // Name (FOO_, \BAR_)
-    assert!(rt;
-        table_goes_back(
-            rt.alloc(),
-            &[0x08, 0x46, 0x4F, 0x4F, 0x5F, 0x5C, 0x42, 0x41, 0x52, 0x5F]
-        )?
-    );
-    // two methods, the first with a length of four bytes, the second without a term
-    assert!(rt;
-        table_goes_back(
-            rt.alloc(),
-            &[
-                0x14, 0xCB, 0x00, 0x00, 0x00, 0x46, 0x4F, 0x4F, 0x5F, 0x01, 0xA4, 0x68, 0x14, 0x06,
-                0x42, 0x41, 0x52, 0x5F, 0x00
-            ]
-        )?
-    );
+    // nothing, Name (FOO_, 0x05), Name (FOO_, \BAR_), and two methods, the first with a length of four bytes, the second
+    // without a term
+    let rows: [&[u8]; 4] = [
+        b"",
+        b"\x08FOO_\x0A\x05",
+        b"\x08FOO_\x5CBAR_",
+        b"\x14\xCB\x00\x00\x00FOO_\x01\xA4\x68\x14\x06BAR_\x00",
+    ];
+    for code in rows {
+        assert!(rt; table_goes_back(rt.alloc(), code)?, "{code:?}");
+    }
     Ok(())
-}
-
-#[test]
-fn the_innermost_end_counts(rt: HostRuntime) {
-    let alloc = rt.alloc();
-    // a Method's span that ends before its flags
-    assert_eq!(rt;
-        module_fault(alloc, &[0x14, 0x05, 0x46, 0x4F, 0x4F, 0x5F, 0x01, 0xA4]),
-        Some(CodeFault::Truncated { at: 6 })
-    );
-    // a length that is less than its own bytes
-    assert_eq!(rt;
-        module_fault(alloc, &[0x14, 0x00]),
-        Some(CodeFault::PkgPast { at: 1 })
-    );
-    assert_eq!(rt;
-        module_fault(alloc, &[0x14, 0x41, 0x00]),
-        Some(CodeFault::PkgPast { at: 1 })
-    );
-    assert_eq!(rt;
-        module_fault(alloc, &[0x14, 0x80, 0x00]),
-        Some(CodeFault::Truncated { at: 3 })
-    );
 }
 
 #[test]

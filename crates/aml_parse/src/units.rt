@@ -1,65 +1,12 @@
 //! Elements of field lists that hold no terms (ACPI 6.5, 20.2.5.2).
-ghost use Rattle.std.specs.Prelude.{◌≡◌};
-ghost use Rattle.aml_names.specs.Names.{is_lead_char as leads, is_name_char as follows};
-ghost use Rattle.aml_names.specs.NameReading.{passing_at, segment_at};
 ghost use Rattle.aml_names.specs.Steps.{Gives};
 ghost use Rattle.aml_code.specs.View.{field_view, link_view};
 ghost use Rattle.aml_parse.specs.Reading.{named_unit, reserved_unit, access_unit, extended_unit, named_joint};
 
 use crate::flat::segmented_of;
-use aml_code::{CodeFault, Field, Link, Seg, byte_of, length_of, offset_of};
+use aml_code::{CodeFault, Field, Link, byte_of, length_of};
+use aml_names::segment_of;
 use std::alloc::Global;
-
-/// `A` to `Z` or `_`.
-fn is_lead_char(byte: u8) -> bool
-    ensures { result ≡ leads byte }
-{
-    (65 <= byte && byte <= 90) || byte == 95
-}
-
-/// `A` to `Z`, `_`, or a digit.
-fn is_name_char(byte: u8) -> bool
-    ensures { result ≡ follows byte }
-{
-    is_lead_char(byte) || (48 <= byte && byte <= 57)
-}
-
-/// The first character of a segment.
-fn lead_char_of(end: u32, bytes: &[u8]) -> Result<(u8, &[u8]), CodeFault>
-    ensures { Gives (λ x. (x.0, x.1.now)) result (passing_at leads end bytes.now) }
-{
-    match bytes {
-        [] => Err(CodeFault::Truncated { at: end }),
-        [byte, rest @ ..] if is_lead_char(*byte) => Ok((*byte, rest)),
-        _ => Err(CodeFault::BadName {
-            at: offset_of(end, bytes),
-        }),
-    }
-}
-
-/// A further character of a segment.
-fn name_char_of(end: u32, bytes: &[u8]) -> Result<(u8, &[u8]), CodeFault>
-    ensures { Gives (λ x. (x.0, x.1.now)) result (passing_at follows end bytes.now) }
-{
-    match bytes {
-        [] => Err(CodeFault::Truncated { at: end }),
-        [byte, rest @ ..] if is_name_char(*byte) => Ok((*byte, rest)),
-        _ => Err(CodeFault::BadName {
-            at: offset_of(end, bytes),
-        }),
-    }
-}
-
-/// A NameSeg. `BadName` at the first character that can't stand in its place.
-fn segment_of(end: u32, bytes: &[u8]) -> Result<(Seg, &[u8]), CodeFault>
-    ensures { Gives (λ x. (x.0, x.1.now)) result (segment_at end bytes.now) }
-{
-    let (a, rest) = lead_char_of(end, bytes)?;
-    let (b, rest) = name_char_of(end, rest)?;
-    let (c, rest) = name_char_of(end, rest)?;
-    let (d, rest) = name_char_of(end, rest)?;
-    Ok((Seg([a, b, c, d]), rest))
-}
 
 /// A named unit: a segment and a number of bits.
 #[tactic(auto, unfolding(crate::specs::Reading::named_unit))]

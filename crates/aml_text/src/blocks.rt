@@ -1,12 +1,10 @@
 //! Definition blocks: the terms of a table, with the bodies of its methods in their places.
 ghost use Rattle.std.specs.Prelude.{◌≡◌, [], ◌∷◌, ◌++◌, drop, map, None};
 ghost use Rattle.aml_code.specs.Declaring.{last_label, last_byte};
-ghost use Rattle.aml_code.specs.Encoding.{slice_of};
 ghost use Rattle.aml_code.specs.Rows.{row_of};
 ghost use Rattle.aml_code.specs.View.{node_view, nodes_view, parts_view, tail_view};
 ghost use Rattle.aml_text.specs.Views.{body_view, block_view};
 ghost use Rattle.aml_text.specs.Prints.{Prints};
-ghost use Rattle.aml_text.specs.Words.{word};
 ghost use Rattle.aml_text.specs.Texts.{head_text, part_texts};
 ghost use Rattle.aml_text.specs.Lines.{deeper, line, opening, closing, serialized_text, comma_decimal, flags_text, method_text, method_head, raw_text, body_lines, left, left_rest, left_all, table_lines, table_op_lines, all_table_lines, block_opening, block_text, blocks_text};
 

@@ -1,5 +1,5 @@
 //! The lines of terms and of field lists.
-ghost use Rattle.std.specs.Prelude.{◌≡◌, ◌++◌, decimal, flat_map};
+ghost use Rattle.std.specs.Prelude.{◌++◌, decimal, flat_map};
 ghost use Rattle.aml_code.specs.Rows.{row_of};
 ghost use Rattle.aml_code.specs.View.{parts_view, tail_view};
 ghost use Rattle.aml_text.specs.Prints.{Prints};

@@ -1,5 +1,5 @@
 //! The text of numbers, quoted bytes and names.
-ghost use Rattle.std.specs.Prelude.{◌≡◌, ◌++◌, [], cond, decimal, replicate};
+ghost use Rattle.std.specs.Prelude.{◌≡◌, [], cond, decimal, replicate};
 ghost use Rattle.aml_text.specs.Prints.{Prints};
 ghost use Rattle.aml_text.specs.Words.{word};
 ghost use Rattle.aml_text.specs.Texts.{hex2, hex4, hex8, hex16, is_plain, quoted_byte, quoted, after_separator, separated_by, prefix_text, segment_text, name_text};

@@ -2,118 +2,20 @@
 use super::*;
 
 #[test]
-fn bodies_that_are_refused(rt: HostRuntime) {
-    let rows: [(&[u8], CodeFault); 39] = [
-        // what a table alone may hold
+fn methods_and_scopes_in_bodies(rt: HostRuntime) {
+    let rows: [(&[u8], CodeFault); 6] = [
+        (b"\x14\x06CCCC\x00", CodeFault::NestedMethod { at: 0 }),
+        (b"\x10\x03\x5C\x00", CodeFault::NestedScope { at: 0 }),
+        (b"\x5B\x82\x05DEV0", CodeFault::NestedScope { at: 0 }),
         (
-            &[0x14, 0x06, 0x43, 0x43, 0x43, 0x43, 0x00],
-            CodeFault::NestedMethod { at: 0 },
-        ),
-        (&[0x10, 0x03, 0x5C, 0x00], CodeFault::NestedScope { at: 0 }),
-        (
-            &[0x5B, 0x82, 0x05, 0x44, 0x45, 0x56, 0x30],
+            b"\x5B\x83\x0BCPU0\x00\x00\x00\x00\x00\x00",
             CodeFault::NestedScope { at: 0 },
         ),
         (
-            &[
-                0x5B, 0x83, 0x0B, 0x43, 0x50, 0x55, 0x30, 0x00, 0x00, 0x00, 0x00, 0x00, 0x00,
-            ],
+            b"\x5B\x84\x08PWR0\x00\x00\x00",
             CodeFault::NestedScope { at: 0 },
         ),
-        (
-            &[0x5B, 0x84, 0x08, 0x50, 0x57, 0x52, 0x30, 0x00, 0x00, 0x00],
-            CodeFault::NestedScope { at: 0 },
-        ),
-        (
-            &[0xA3, 0x5B, 0x85, 0x05, 0x54, 0x5A, 0x30, 0x30],
-            CodeFault::NestedScope { at: 1 },
-        ),
-        // an Else without its If, behind another term, behind an Else
-        (&[0xA1, 0x01], CodeFault::StrayElse { at: 0 }),
-        (
-            &[0xA0, 0x02, 0x60, 0x00, 0xA1, 0x01],
-            CodeFault::StrayElse { at: 4 },
-        ),
-        (
-            &[0xA0, 0x02, 0x60, 0xA1, 0x01, 0xA1, 0x01],
-            CodeFault::StrayElse { at: 5 },
-        ),
-        (
-            &[0xA0, 0x05, 0x60, 0xA1, 0x01],
-            CodeFault::PkgPast { at: 1 },
-        ),
-        (
-            &[0xA0, 0x04, 0x60, 0xA1, 0x01, 0x00],
-            CodeFault::StrayElse { at: 3 },
-        ),
-        // lengths
-        (&[0x12, 0x09, 0x03, 0x01], CodeFault::PkgPast { at: 1 }),
-        (
-            &[0xA0, 0x02, 0x93, 0x60, 0x61],
-            CodeFault::Truncated { at: 3 },
-        ),
-        (&[0xA0, 0x01, 0x60], CodeFault::Truncated { at: 2 }),
-        (&[0xA0, 0x60], CodeFault::PkgBits { at: 1 }),
-        (&[0xA2, 0x40], CodeFault::Truncated { at: 2 }),
-        (&[0xA0, 0x00], CodeFault::PkgPast { at: 1 }),
-        // arguments, targets and data
-        (&[0xA4, 0xA3], CodeFault::NotHere { at: 1 }),
-        (&[0xA4, 0xA0, 0x02, 0x60], CodeFault::NotHere { at: 1 }),
-        (
-            &[0xA4, 0x5B, 0x02, 0x45, 0x56, 0x54, 0x30],
-            CodeFault::NotHere { at: 1 },
-        ),
-        (&[0xA4, 0xA1, 0x01], CodeFault::NotHere { at: 1 }),
-        (
-            &[0x70, 0x01, 0x11, 0x03, 0x0A, 0x00],
-            CodeFault::NotHere { at: 2 },
-        ),
-        (&[0x70, 0x01, 0x5B, 0x33], CodeFault::NotHere { at: 2 }),
-        (
-            &[0x75, 0x72, 0x60, 0x61, 0x00],
-            CodeFault::NotHere { at: 1 },
-        ),
-        (
-            &[0x08, 0x46, 0x4F, 0x4F, 0x5F, 0x60],
-            CodeFault::NotHere { at: 5 },
-        ),
-        (
-            &[0x08, 0x46, 0x4F, 0x4F, 0x5F, 0x5B, 0x33],
-            CodeFault::NotHere { at: 5 },
-        ),
-        (&[0x12, 0x03, 0x01, 0x60], CodeFault::NotHere { at: 3 }),
-        (
-            &[0x12, 0x03, 0x01, 0x71, 0x60],
-            CodeFault::NotHere { at: 3 },
-        ),
-        // names
-        (
-            &[0x06, 0x41, 0x41, 0x41, 0x41, 0x00],
-            CodeFault::EmptyName { at: 5 },
-        ),
-        (&[0x5B, 0x02, 0x5C, 0x00], CodeFault::EmptyName { at: 2 }),
-        (
-            &[0x5B, 0x02, 0x5E, 0x5E, 0x00],
-            CodeFault::EmptyName { at: 2 },
-        ),
-        (
-            &[0x5B, 0x02, 0x31, 0x41, 0x41, 0x41],
-            CodeFault::BadName { at: 2 },
-        ),
-        (&[0x5B, 0x20, 0x2F, 0x00], CodeFault::BadName { at: 3 }),
-        (
-            &[0x15, 0x42, 0x42, 0x42, 0x42, 0x08, 0x08],
-            CodeFault::BadCount { at: 6 },
-        ),
-        (
-            &[0x15, 0x42, 0x42, 0x42, 0x42, 0x08],
-            CodeFault::Truncated { at: 6 },
-        ),
-        // opcodes without a row
-        (&[0x03], CodeFault::UnknownOp { at: 0 }),
-        (&[0x5B, 0x03], CodeFault::UnknownOp { at: 0 }),
-        (&[0x92, 0x5B, 0x00], CodeFault::UnknownOp { at: 1 }),
-        (&[0x5B, 0x5B], CodeFault::UnknownOp { at: 0 }),
+        (b"\xA3\x5B\x85\x05TZ00", CodeFault::NestedScope { at: 1 }),
     ];
     for (code, fault) in rows {
         assert_eq!(rt; body_fault(rt.alloc(), code, 0), Some(fault), "{code:?}");
@@ -121,131 +23,212 @@ fn bodies_that_are_refused(rt: HostRuntime) {
 }
 
 #[test]
-fn field_lists_that_are_refused(rt: HostRuntime) {
+fn codes_that_end_too_early(rt: HostRuntime) {
+    let rows: [(&[u8], CodeFault); 5] = [
+        (b"\x5B", CodeFault::Truncated { at: 1 }),
+        (b"\x72\x00", CodeFault::Truncated { at: 2 }),
+        (b"\x0B\x00", CodeFault::Truncated { at: 2 }),
+        (b"\x0DA", CodeFault::Truncated { at: 2 }),
+        (b"\x42\x42\x62\x42", CodeFault::BadName { at: 2 }),
+    ];
+    for (code, fault) in rows {
+        assert_eq!(rt; body_fault(rt.alloc(), code, 0), Some(fault), "{code:?}");
+    }
+    assert_eq!(rt;
+        body_fault(rt.alloc(), b"BBBB", 1),
+        Some(CodeFault::Truncated { at: 4 })
+    );
+}
+
+#[test]
+fn else_without_its_if(rt: HostRuntime) {
+    // at the front, behind another term, behind an Else, in an If that is too long, in an If
+    let rows: [(&[u8], CodeFault); 5] = [
+        (b"\xA1\x01", CodeFault::StrayElse { at: 0 }),
+        (b"\xA0\x02\x60\x00\xA1\x01", CodeFault::StrayElse { at: 4 }),
+        (
+            b"\xA0\x02\x60\xA1\x01\xA1\x01",
+            CodeFault::StrayElse { at: 5 },
+        ),
+        (b"\xA0\x05\x60\xA1\x01", CodeFault::PkgPast { at: 1 }),
+        (b"\xA0\x04\x60\xA1\x01\x00", CodeFault::StrayElse { at: 3 }),
+    ];
+    for (code, fault) in rows {
+        assert_eq!(rt; body_fault(rt.alloc(), code, 0), Some(fault), "{code:?}");
+    }
+}
+
+#[test]
+fn lengths_in_bodies(rt: HostRuntime) {
+    let rows: [(&[u8], CodeFault); 6] = [
+        (b"\x12\x09\x03\x01", CodeFault::PkgPast { at: 1 }),
+        (b"\xA0\x02\x93\x60\x61", CodeFault::Truncated { at: 3 }),
+        (b"\xA0\x01\x60", CodeFault::Truncated { at: 2 }),
+        (b"\xA0\x60", CodeFault::PkgBits { at: 1 }),
+        (b"\xA2\x40", CodeFault::Truncated { at: 2 }),
+        (b"\xA0\x00", CodeFault::PkgPast { at: 1 }),
+    ];
+    for (code, fault) in rows {
+        assert_eq!(rt; body_fault(rt.alloc(), code, 0), Some(fault), "{code:?}");
+    }
+}
+
+#[test]
+fn terms_out_of_their_positions(rt: HostRuntime) {
+    // arguments, targets, and data
+    let rows: [(&[u8], CodeFault); 13] = [
+        (b"\xA4\xA4", CodeFault::NotHere { at: 1 }),
+        (b"\x70\x60\x01", CodeFault::NotHere { at: 2 }),
+        (b"\xA4\xA3", CodeFault::NotHere { at: 1 }),
+        (b"\xA4\xA0\x02\x60", CodeFault::NotHere { at: 1 }),
+        (b"\xA4\x5B\x02EVT0", CodeFault::NotHere { at: 1 }),
+        (b"\xA4\xA1\x01", CodeFault::NotHere { at: 1 }),
+        (b"\x70\x01\x11\x03\x0A\x00", CodeFault::NotHere { at: 2 }),
+        (b"\x70\x01\x5B\x33", CodeFault::NotHere { at: 2 }),
+        (b"\x75\x72\x60\x61\x00", CodeFault::NotHere { at: 1 }),
+        (b"\x08FOO_\x60", CodeFault::NotHere { at: 5 }),
+        (b"\x08FOO_\x5B\x33", CodeFault::NotHere { at: 5 }),
+        (b"\x12\x03\x01\x60", CodeFault::NotHere { at: 3 }),
+        (b"\x12\x03\x01\x71\x60", CodeFault::NotHere { at: 3 }),
+    ];
+    for (code, fault) in rows {
+        assert_eq!(rt; body_fault(rt.alloc(), code, 0), Some(fault), "{code:?}");
+    }
+}
+
+#[test]
+fn names_and_counts_in_bodies(rt: HostRuntime) {
+    let rows: [(&[u8], CodeFault); 7] = [
+        (b"\x06AAAA\x00", CodeFault::EmptyName { at: 5 }),
+        (b"\x5B\x02\x5C\x00", CodeFault::EmptyName { at: 2 }),
+        (b"\x5B\x02\x5E\x5E\x00", CodeFault::EmptyName { at: 2 }),
+        (b"\x5B\x021AAA", CodeFault::BadName { at: 2 }),
+        (b"\x5B\x20\x2F\x00", CodeFault::BadName { at: 3 }),
+        (b"\x15BBBB\x08\x08", CodeFault::BadCount { at: 6 }),
+        (b"\x15BBBB\x08", CodeFault::Truncated { at: 6 }),
+    ];
+    for (code, fault) in rows {
+        assert_eq!(rt; body_fault(rt.alloc(), code, 0), Some(fault), "{code:?}");
+    }
+}
+
+#[test]
+fn opcodes_without_a_row(rt: HostRuntime) {
+    let rows: [(&[u8], CodeFault); 6] = [
+        (b"\x02", CodeFault::UnknownOp { at: 0 }),
+        (b"\x5B\xFF", CodeFault::UnknownOp { at: 0 }),
+        (b"\x03", CodeFault::UnknownOp { at: 0 }),
+        (b"\x5B\x03", CodeFault::UnknownOp { at: 0 }),
+        (b"\x92\x5B\x00", CodeFault::UnknownOp { at: 1 }),
+        (b"\x5B\x5B", CodeFault::UnknownOp { at: 0 }),
+    ];
+    for (code, fault) in rows {
+        assert_eq!(rt; body_fault(rt.alloc(), code, 0), Some(fault), "{code:?}");
+    }
+}
+
+#[test]
+fn named_units(rt: HostRuntime) {
     // Field (REG0, 0x01) with elements from offset 8 on
-    let rows: [(&[u8], CodeFault); 24] = [
+    let rows: [(&[u8], CodeFault); 8] = [
         (
-            &[
-                0x5B, 0x81, 0x0B, 0x52, 0x45, 0x47, 0x30, 0x01, 0x61, 0x42, 0x43, 0x44, 0x08,
-            ],
+            b"\x5B\x81\x0BREG0\x01\x61BCD\x08",
+            CodeFault::BadName { at: 8 },
+        ),
+        (b"\x5B\x81\x07REG0\x01\x04", CodeFault::BadName { at: 8 }),
+        (b"\x5B\x81\x07REG0\x01\xFF", CodeFault::BadName { at: 8 }),
+        (
+            b"\x5B\x81\x0CREG0\x01\x5CABCD\x08",
             CodeFault::BadName { at: 8 },
         ),
         (
-            &[0x5B, 0x81, 0x07, 0x52, 0x45, 0x47, 0x30, 0x01, 0x04],
-            CodeFault::BadName { at: 8 },
-        ),
-        (
-            &[0x5B, 0x81, 0x07, 0x52, 0x45, 0x47, 0x30, 0x01, 0xFF],
-            CodeFault::BadName { at: 8 },
-        ),
-        (
-            &[
-                0x5B, 0x81, 0x0C, 0x52, 0x45, 0x47, 0x30, 0x01, 0x5C, 0x41, 0x42, 0x43, 0x44, 0x08,
-            ],
-            CodeFault::BadName { at: 8 },
-        ),
-        (
-            &[
-                0x5B, 0x81, 0x0B, 0x52, 0x45, 0x47, 0x30, 0x01, 0x41, 0x42, 0x62, 0x44, 0x08,
-            ],
+            b"\x5B\x81\x0BREG0\x01\x41\x42\x62\x44\x08",
             CodeFault::BadName { at: 10 },
         ),
         (
-            &[0x5B, 0x81, 0x08, 0x52, 0x45, 0x47, 0x30, 0x01, 0x41, 0x42],
+            b"\x5B\x81\x08REG0\x01\x41\x42",
             CodeFault::Truncated { at: 10 },
         ),
+        (b"\x5B\x81\x0AREG0\x01ABCD", CodeFault::Truncated { at: 12 }),
         (
-            &[
-                0x5B, 0x81, 0x0A, 0x52, 0x45, 0x47, 0x30, 0x01, 0x41, 0x42, 0x43, 0x44,
-            ],
-            CodeFault::Truncated { at: 12 },
-        ),
-        (
-            &[
-                0x5B, 0x81, 0x0C, 0x52, 0x45, 0x47, 0x30, 0x01, 0x41, 0x42, 0x43, 0x44, 0x50, 0x00,
-            ],
+            b"\x5B\x81\x0CREG0\x01ABCDP\x00",
             CodeFault::PkgBits { at: 12 },
         ),
+    ];
+    for (code, fault) in rows {
+        assert_eq!(rt; body_fault(rt.alloc(), code, 0), Some(fault), "{code:?}");
+        assert_eq!(rt; module_fault(rt.alloc(), code), Some(fault), "{code:?}");
+    }
+}
+
+#[test]
+fn reserved_bits_and_accesses(rt: HostRuntime) {
+    // Field (REG0, 0x01) with elements from offset 8 on
+    let rows: [(&[u8], CodeFault); 7] = [
+        (b"\x5B\x81\x07REG0\x01\x00", CodeFault::Truncated { at: 9 }),
         (
-            &[0x5B, 0x81, 0x07, 0x52, 0x45, 0x47, 0x30, 0x01, 0x00],
-            CodeFault::Truncated { at: 9 },
-        ),
-        (
-            &[
-                0x5B, 0x81, 0x09, 0x52, 0x45, 0x47, 0x30, 0x01, 0x00, 0x80, 0x01,
-            ],
+            b"\x5B\x81\x09REG0\x01\x00\x80\x01",
             CodeFault::Truncated { at: 11 },
         ),
         (
-            &[0x5B, 0x81, 0x08, 0x52, 0x45, 0x47, 0x30, 0x01, 0x00, 0x70],
+            b"\x5B\x81\x08REG0\x01\x00\x70",
             CodeFault::PkgBits { at: 9 },
         ),
+        (b"\x5B\x81\x07REG0\x01\x01", CodeFault::Truncated { at: 9 }),
         (
-            &[0x5B, 0x81, 0x07, 0x52, 0x45, 0x47, 0x30, 0x01, 0x01],
-            CodeFault::Truncated { at: 9 },
-        ),
-        (
-            &[0x5B, 0x81, 0x08, 0x52, 0x45, 0x47, 0x30, 0x01, 0x01, 0x00],
+            b"\x5B\x81\x08REG0\x01\x01\x00",
             CodeFault::Truncated { at: 10 },
         ),
         (
-            &[
-                0x5B, 0x81, 0x09, 0x52, 0x45, 0x47, 0x30, 0x01, 0x03, 0x01, 0x02,
-            ],
+            b"\x5B\x81\x09REG0\x01\x03\x01\x02",
             CodeFault::Truncated { at: 11 },
         ),
         (
-            &[
-                0x5B, 0x81, 0x0A, 0x52, 0x45, 0x47, 0x30, 0x01, 0x00, 0x3F, 0x03, 0x01,
-            ],
+            b"\x5B\x81\x0AREG0\x01\x00\x3F\x03\x01",
             CodeFault::Truncated { at: 12 },
         ),
+    ];
+    for (code, fault) in rows {
+        assert_eq!(rt; body_fault(rt.alloc(), code, 0), Some(fault), "{code:?}");
+        assert_eq!(rt; module_fault(rt.alloc(), code), Some(fault), "{code:?}");
+    }
+}
+
+#[test]
+fn connections(rt: HostRuntime) {
+    // Field (REG0, 0x01) with elements from offset 8 on
+    let rows: [(&[u8], CodeFault); 9] = [
+        (b"\x5B\x81\x07REG0\x01\x02", CodeFault::Truncated { at: 9 }),
         (
-            &[0x5B, 0x81, 0x07, 0x52, 0x45, 0x47, 0x30, 0x01, 0x02],
-            CodeFault::Truncated { at: 9 },
-        ),
-        (
-            &[0x5B, 0x81, 0x08, 0x52, 0x45, 0x47, 0x30, 0x01, 0x02, 0x00],
+            b"\x5B\x81\x08REG0\x01\x02\x00",
             CodeFault::EmptyName { at: 9 },
         ),
         (
-            &[
-                0x5B, 0x81, 0x09, 0x52, 0x45, 0x47, 0x30, 0x01, 0x02, 0x5C, 0x00,
-            ],
+            b"\x5B\x81\x09REG0\x01\x02\x5C\x00",
             CodeFault::EmptyName { at: 9 },
         ),
         (
-            &[0x5B, 0x81, 0x08, 0x52, 0x45, 0x47, 0x30, 0x01, 0x02, 0x60],
+            b"\x5B\x81\x08REG0\x01\x02\x60",
             CodeFault::BadName { at: 9 },
         ),
         (
-            &[
-                0x5B, 0x81, 0x0A, 0x52, 0x45, 0x47, 0x30, 0x01, 0x02, 0x12, 0x02, 0x00,
-            ],
+            b"\x5B\x81\x0AREG0\x01\x02\x12\x02\x00",
             CodeFault::BadName { at: 9 },
         ),
         (
-            &[
-                0x5B, 0x81, 0x0A, 0x52, 0x45, 0x47, 0x30, 0x01, 0x02, 0x11, 0x05, 0x0A,
-            ],
+            b"\x5B\x81\x0AREG0\x01\x02\x11\x05\x0A",
             CodeFault::PkgPast { at: 10 },
         ),
         (
-            &[
-                0x5B, 0x81, 0x09, 0x52, 0x45, 0x47, 0x30, 0x01, 0x02, 0x11, 0x01,
-            ],
+            b"\x5B\x81\x09REG0\x01\x02\x11\x01",
             CodeFault::Truncated { at: 11 },
         ),
         (
-            &[
-                0x5B, 0x81, 0x0A, 0x52, 0x45, 0x47, 0x30, 0x01, 0x02, 0x11, 0x02, 0xA3,
-            ],
+            b"\x5B\x81\x0AREG0\x01\x02\x11\x02\xA3",
             CodeFault::NotHere { at: 11 },
         ),
         (
-            &[
-                0x5B, 0x81, 0x09, 0x52, 0x45, 0x47, 0x30, 0x01, 0x02, 0x41, 0x41,
-            ],
+            b"\x5B\x81\x09REG0\x01\x02\x41\x41",
             CodeFault::Truncated { at: 11 },
         ),
     ];
@@ -256,68 +239,75 @@ fn field_lists_that_are_refused(rt: HostRuntime) {
 }
 
 #[test]
-fn tables_that_are_refused(rt: HostRuntime) {
-    let rows: [(&[u8], CodeFault); 25] = [
-        // an If that is no guard
-        (&[0xA0, 0x02, 0x01], CodeFault::ModuleCode { at: 0 }),
-        (
-            &[0x08, 0x46, 0x4F, 0x4F, 0x5F, 0x00, 0xA0, 0x02, 0x01],
-            CodeFault::ModuleCode { at: 6 },
-        ),
-        (&[0xA0, 0x01], CodeFault::Truncated { at: 2 }),
-        (&[0xA0, 0x00], CodeFault::PkgPast { at: 1 }),
-        (&[0xA0, 0x05, 0x00], CodeFault::PkgPast { at: 1 }),
-        (&[0xA0, 0x03, 0x00, 0xA3], CodeFault::ModuleCode { at: 3 }),
-        (&[0xA0, 0x03, 0x00, 0x00], CodeFault::ModuleCode { at: 3 }),
-        (
-            &[0xA0, 0x06, 0x00, 0x41, 0x41, 0x41, 0x41],
-            CodeFault::ModuleCode { at: 3 },
-        ),
-        (
-            &[0xA0, 0x08, 0x00, 0x08, 0x46, 0x4F, 0x4F, 0x5F],
-            CodeFault::PkgPast { at: 1 },
-        ),
-        (
-            &[0xA0, 0x08, 0x00, 0x08, 0x46, 0x4F, 0x4F, 0x5F, 0x00],
-            CodeFault::ModuleCode { at: 3 },
-        ),
-        (
-            &[0xA0, 0x04, 0x00, 0xA0, 0x02, 0x00],
-            CodeFault::ModuleCode { at: 3 },
-        ),
-        (
-            &[0xA0, 0x05, 0x00, 0xA0, 0x02, 0x00],
-            CodeFault::ModuleCode { at: 3 },
-        ),
-        // code, and names as terms
-        (&[0xA1, 0x01], CodeFault::ModuleCode { at: 0 }),
-        (&[0xA2, 0x02, 0x00], CodeFault::ModuleCode { at: 0 }),
-        (&[0xA4, 0x00], CodeFault::ModuleCode { at: 0 }),
-        (&[0x00], CodeFault::ModuleCode { at: 0 }),
-        (&[0x5B, 0x33], CodeFault::ModuleCode { at: 0 }),
-        (&[0x5C, 0x00], CodeFault::ModuleCode { at: 0 }),
-        (
-            &[0x5B, 0x82, 0x06, 0x44, 0x45, 0x56, 0x30, 0xA3],
-            CodeFault::ModuleCode { at: 7 },
-        ),
-        (
-            &[
-                0x5B, 0x82, 0x09, 0x44, 0x45, 0x56, 0x30, 0x46, 0x4F, 0x4F, 0x5F,
-            ],
-            CodeFault::ModuleCode { at: 7 },
-        ),
-        // names, counts and levels
-        (&[0x08, 0x00, 0x01], CodeFault::EmptyName { at: 1 }),
-        (&[0x10, 0x02, 0x5C], CodeFault::Truncated { at: 3 }),
-        (
-            &[0x15, 0x42, 0x42, 0x42, 0x42, 0x08, 0x09],
-            CodeFault::BadCount { at: 6 },
-        ),
-        (
-            &[0x5B, 0x80, 0x52, 0x45, 0x47, 0x30, 0x01, 0xA3],
-            CodeFault::NotHere { at: 7 },
-        ),
-        (&[0x8A, 0x60, 0x61, 0x00], CodeFault::EmptyName { at: 3 }),
+fn guards_that_are_none(rt: HostRuntime) {
+    let rows: [(&[u8], CodeFault); 12] = [
+        (b"\xA0\x02\x01", CodeFault::ModuleCode { at: 0 }),
+        (b"\x08FOO_\x00\xA0\x02\x01", CodeFault::ModuleCode { at: 6 }),
+        (b"\xA0\x01", CodeFault::Truncated { at: 2 }),
+        (b"\xA0\x00", CodeFault::PkgPast { at: 1 }),
+        (b"\xA0\x05\x00", CodeFault::PkgPast { at: 1 }),
+        (b"\xA0\x03\x00\xA3", CodeFault::ModuleCode { at: 3 }),
+        (b"\xA0\x03\x00\x00", CodeFault::ModuleCode { at: 3 }),
+        (b"\xA0\x06\x00AAAA", CodeFault::ModuleCode { at: 3 }),
+        (b"\xA0\x08\x00\x08FOO_", CodeFault::PkgPast { at: 1 }),
+        (b"\xA0\x08\x00\x08FOO_\x00", CodeFault::ModuleCode { at: 3 }),
+        (b"\xA0\x04\x00\xA0\x02\x00", CodeFault::ModuleCode { at: 3 }),
+        (b"\xA0\x05\x00\xA0\x02\x00", CodeFault::ModuleCode { at: 3 }),
+    ];
+    for (code, fault) in rows {
+        assert_eq!(rt; module_fault(rt.alloc(), code), Some(fault), "{code:?}");
+    }
+}
+
+#[test]
+fn code_in_a_table(rt: HostRuntime) {
+    // operations, and names as terms
+    let rows: [(&[u8], CodeFault); 10] = [
+        (b"\x70\x00\x00", CodeFault::ModuleCode { at: 0 }),
+        (b"FOO_", CodeFault::ModuleCode { at: 0 }),
+        (b"\xA1\x01", CodeFault::ModuleCode { at: 0 }),
+        (b"\xA2\x02\x00", CodeFault::ModuleCode { at: 0 }),
+        (b"\xA4\x00", CodeFault::ModuleCode { at: 0 }),
+        (b"\x00", CodeFault::ModuleCode { at: 0 }),
+        (b"\x5B\x33", CodeFault::ModuleCode { at: 0 }),
+        (b"\x5C\x00", CodeFault::ModuleCode { at: 0 }),
+        (b"\x5B\x82\x06DEV0\xA3", CodeFault::ModuleCode { at: 7 }),
+        (b"\x5B\x82\x09DEV0FOO_", CodeFault::ModuleCode { at: 7 }),
+    ];
+    for (code, fault) in rows {
+        assert_eq!(rt; module_fault(rt.alloc(), code), Some(fault), "{code:?}");
+    }
+}
+
+#[test]
+fn lengths_in_a_table(rt: HostRuntime) {
+    let rows: [(&[u8], CodeFault); 8] = [
+        (b"\x14", CodeFault::Truncated { at: 1 }),
+        (b"\x14\x08FOO_\x01\xA4", CodeFault::PkgPast { at: 1 }),
+        (b"\x14\x50", CodeFault::PkgBits { at: 1 }),
+        // a Method's span that ends before its flags
+        (b"\x14\x05FOO_\x01\xA4", CodeFault::Truncated { at: 6 }),
+        // a length that is less than its own bytes
+        (b"\x14\x00", CodeFault::PkgPast { at: 1 }),
+        (b"\x14\x41\x00", CodeFault::PkgPast { at: 1 }),
+        (b"\x14\x80\x00", CodeFault::Truncated { at: 3 }),
+        (b"\x08FOO_", CodeFault::Truncated { at: 5 }),
+    ];
+    for (code, fault) in rows {
+        assert_eq!(rt; module_fault(rt.alloc(), code), Some(fault), "{code:?}");
+    }
+    assert_eq!(rt; module_fault(rt.alloc(), &[]), None);
+}
+
+#[test]
+fn names_counts_and_data_in_tables(rt: HostRuntime) {
+    let rows: [(&[u8], CodeFault); 6] = [
+        (b"\x08FOO_\x60", CodeFault::NotHere { at: 5 }),
+        (b"\x08\x00\x01", CodeFault::EmptyName { at: 1 }),
+        (b"\x10\x02\x5C", CodeFault::Truncated { at: 3 }),
+        (b"\x15BBBB\x08\x09", CodeFault::BadCount { at: 6 }),
+        (b"\x5B\x80REG0\x01\xA3", CodeFault::NotHere { at: 7 }),
+        (b"\x8A\x60\x61\x00", CodeFault::EmptyName { at: 3 }),
     ];
     for (code, fault) in rows {
         assert_eq!(rt; module_fault(rt.alloc(), code), Some(fault), "{code:?}");

@@ -1,6 +1,6 @@
 use Rattle.std.proofs.Common.{sym, inl, inr}
 use Rattle.std.proofs.lemmas.Result.{err_from_is_err_and}
-use Rattle.acpi_tables.proofs.Refuted.{found_only, found_sound, none_where_refused}
+use Rattle.acpi_tables.proofs.Refuted.{found_only, found_sound, found_tables, none_where_refused}
 use Rattle.acpi_tables.proofs.order.load_order.Goals as goal
 
 pub returns-in_err-check_dumps-clause-none : goal.returns-in_err-check_dumps-clause-none
@@ -19,3 +19,11 @@ returns-else-is_addressed-clause-only c =
 pub returns-else-is_addressed-clause-sound : goal.returns-else-is_addressed-clause-sound
 returns-else-is_addressed-clause-sound c =
     found_sound _ _ _ c.if-dumps-gt-MAX_DUMPS.false c.in_ok-check_dumps.ensures.taken (sym c.if-is_addressed.ensures) c.order_by_name.result c.order_by_name.ensures.order
+
+pub returns-then-is_addressed-clause-tables : goal.returns-then-is_addressed-clause-tables
+returns-then-is_addressed-clause-tables c =
+    found_tables _ _ _ c.if-dumps-gt-MAX_DUMPS.false c.in_ok-check_dumps.ensures.taken (sym c.if-is_addressed.ensures) c.order_by_chain.result c.order_by_chain.ensures.order
+
+pub returns-else-is_addressed-clause-tables : goal.returns-else-is_addressed-clause-tables
+returns-else-is_addressed-clause-tables c =
+    found_tables _ _ _ c.if-dumps-gt-MAX_DUMPS.false c.in_ok-check_dumps.ensures.taken (sym c.if-is_addressed.ensures) c.order_by_name.result c.order_by_name.ensures.order

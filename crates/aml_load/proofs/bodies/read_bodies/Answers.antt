@@ -1,4 +1,3 @@
-use Rattle.std.proofs.Common.{sym}
 use Rattle.aml_load.specs.Views.{codes_view, trees_view}
 use Rattle.aml_load.proofs.BodyLaws.{given_complete}
 use Rattle.aml_load.proofs.bodies.read_bodies.Goals as goal

@@ -1,4 +1,4 @@
-use Rattle.std.proofs.Common.{sym, subst, ◌+◌, inl, inr, ◌⊎◌}
+use Rattle.std.proofs.Common.{sym, subst, ◌+◌}
 use Rattle.aml_code.specs.View.{nodes_view}
 use Rattle.aml_load.specs.Views.{codes_view}
 use Rattle.aml_load.proofs.BodyLaws.{Gathered, one_gathered, all_gathered, lacks_or}

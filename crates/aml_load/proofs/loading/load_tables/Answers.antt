@@ -1,5 +1,4 @@
 use Rattle.std.proofs.Common.{arith}
-use Rattle.aml_load.specs.Views.{codes_view}
 use Rattle.aml_load.proofs.Outcome.{short_code}
 use Rattle.aml_load.proofs.loading.load_tables.Goals as goal
 

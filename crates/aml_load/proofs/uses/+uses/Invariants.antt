@@ -1,4 +1,4 @@
-use Rattle.std.proofs.Common.{◌≡◌, ◌++◌, drop, false}
+use Rattle.std.proofs.Common.{◌≡◌, ◌++◌, drop}
 use Rattle.aml_code.specs.View.{nodes_view, parts_view, fields_view}
 use Rattle.aml_load.specs.Uses.{parts_uses, elements_uses, units_uses}
 use Rattle.aml_load.proofs.uses.+uses.Given as goal

@@ -1,4 +1,4 @@
-use Rattle.std.proofs.Common.{Some, ap, refl, sym, ◌%◌}
+use Rattle.std.proofs.Common.{Some, ap, refl, ◌%◌}
 use Rattle.aml_space.specs.Entries.{Body}
 use Rattle.aml_space.specs.declared.kinds.Kind.TheVariants as kinds
 use Rattle.aml_load.specs.declared.methods.Method.{Method}
