@@ -3,8 +3,8 @@
 #
 # usage: tests/wrong_bodies.sh [CRATE..]
 #
-# The gate tries those of crates/CRATE/must-fail: one for each public function, and each mistake that this project is about.
-# The others are variants of these, and take as long again. They are tried in a throw-away copy of the repository.
+# The gate tries those of crates/CRATE/must-fail: each mistake that this project is about. The others are one for each public
+# function and variants, and take two hours of one core and more. They are tried in a throw-away copy of the repository.
 set -eu
 top=$(cd "$(dirname "$0")/.." && pwd)
 copy=$(mktemp -d)

@@ -1,0 +1,356 @@
+"""AML read after docs/grammar.md, by a plain recursive reader that shares nothing with the program.
+
+It is slow and simple on purpose: what it prints is compared with what the program prints.
+"""
+
+from dataclasses import dataclass, field
+
+MOST_LEVELS = 512
+
+
+class Refused(Exception):
+    """A fault: its name, and the offset or the path that goes with it."""
+
+    def __init__(self, name, at=None, path=None):
+        super().__init__(name)
+        self.name, self.at, self.path = name, at, path
+
+    def __str__(self):
+        return self.name + (f" at {self.at}" if self.at is not None else "") + (f" {self.path}" if self.path else "")
+
+
+@dataclass
+class Row:
+    """An opcode: its mnemonic, whether it has a package length, the kinds of its parts, the kind of its tail, its group."""
+
+    mnemonic: str
+    packed: bool
+    parts: str
+    tail: str
+    group: str
+
+
+def rows_of(group, text):
+    """Rows as `opcode mnemonic [P] parts.. [tail]`, separated by semicolons."""
+    rows = {}
+    for line in text.split(";"):
+        opcode, mnemonic, *kinds = line.split()
+        packed = "P" in kinds
+        kinds = [kind for kind in kinds if kind != "P"]
+        tail = kinds.pop() if kinds and kinds[-1] in "tyefb" else ""
+        rows[int(opcode, 16)] = Row(mnemonic, packed, "".join(kinds), tail, group)
+    return rows
+
+
+VALUES = "00 Zero;01 One;FF Ones;5B30 Revision;5B31 Debug;5B33 Timer;0A Byte 1;0B Word 2;0C Dword 4;0E Qword 8;0D Text Z;" \
+    "11 Buffer P T y;12 Package P 1 e;13 VarPackage P T e;" \
+    + ";".join(f"{0x60 + n:02X} Local{n}" for n in range(8)) + ";" + ";".join(f"{0x68 + n:02X} Arg{n}" for n in range(7))
+
+EXPRESSIONS = (
+    "72 Add T T S;73 Concatenate T T S;74 Subtract T T S;77 Multiply T T S;79 ShiftLeft T T S;7A ShiftRight T T S;7B And T T S;"
+    "7C NAnd T T S;7D Or T T S;7E NOr T T S;7F XOr T T S;84 ConcatenateResTemplate T T S;85 Mod T T S;88 Index T T S;"
+    "9C ToString T T S;78 Divide T T S S;9E Mid T T T S;70 Store T S;80 Not T S;81 FindSetLeftBit T S;82 FindSetRightBit T S;"
+    "96 ToBuffer T S;97 ToDecimalString T S;98 ToHexString T S;99 ToInteger T S;9D CopyObject T S;5B28 FromBCD T S;5B29 ToBCD T S;"
+    "90 LAnd T T;91 LOr T T;93 LEqual T T;94 LGreater T T;95 LLess T T;83 DerefOf T;92 LNot T;71 RefOf S;75 Increment S;"
+    "76 Decrement S;87 SizeOf S;8E ObjectType S;5B12 CondRefOf S S;5B25 Wait S T;5B23 Acquire S 2;5B20 Load N S;"
+    "89 Match T 1 T 1 T T;5B1F LoadTable T T T T T T"
+)
+
+STATEMENTS = (
+    "86 Notify S T;9F Continue;A3 Noop;A5 Break;CC BreakPoint;A0 If P T t;A1 Else P t;A2 While P T t;A4 Return T;5B21 Stall T;"
+    "5B22 Sleep T;5B24 Signal S;5B26 Reset S;5B27 Release S;5B2A Unload S;5B32 Fatal 1 4 T"
+)
+
+DECLARATIONS = (
+    "06 Alias N N;08 Name N D;10 Scope P N t;14 Method P N 1 b;15 External N 1 1;5B01 Mutex N 1;5B02 Event N;"
+    "5B13 CreateField T T T N;5B80 OperationRegion N 1 T T;5B81 Field P N 1 f;5B82 Device P N t;5B83 Processor P N 1 4 1 t;"
+    "5B84 PowerResource P N 1 2 t;5B85 ThermalZone P N t;5B86 IndexField P N N 1 f;5B87 BankField P N N T 1 f;"
+    "5B88 DataRegion N T T T;8A CreateDWordField T T N;8B CreateWordField T T N;8C CreateByteField T T N;8D CreateBitField T T N;"
+    "8F CreateQWordField T T N"
+)
+
+ROWS = {
+    **rows_of("value", VALUES),
+    **rows_of("expression", EXPRESSIONS),
+    **rows_of("statement", STATEMENTS),
+    **rows_of("declaration", DECLARATIONS),
+}
+
+ALIAS, SCOPE, METHOD, EXTERNAL, IF, ELSE, BUFFER = 0x06, 0x10, 0x14, 0x15, 0xA0, 0xA1, 0x11
+SCOPES = {SCOPE, 0x5B82, 0x5B83, 0x5B84, 0x5B85}
+FIELD_LISTS = {0x5B81, 0x5B86, 0x5B87}
+TARGETS = set(range(0x60, 0x6F)) | {0x5B31, 0x71, 0x83, 0x88}
+DATA = {0x00, 0x01, 0xFF, 0x5B30, 0x0A, 0x0B, 0x0C, 0x0D, 0x0E, 0x11, 0x12, 0x13}
+KINDS = {
+    0x08: "Name", 0x5B01: "Mutex", 0x5B02: "Event", 0x5B80: "Region", 0x5B88: "DataRegion", 0x5B82: "Device", 0x5B83: "Processor",
+    0x5B84: "PowerResource", 0x5B85: "ThermalZone", 0x5B13: "BufferField", 0x8A: "BufferField", 0x8B: "BufferField",
+    0x8C: "BufferField", 0x8D: "BufferField", 0x8F: "BufferField",
+}
+
+
+@dataclass
+class Name:
+    root: bool
+    ups: int
+    segs: list
+
+    def __str__(self):
+        return ("\\" if self.root else "") + "^" * self.ups + ".".join(self.segs)
+
+    def placed(self, scope):
+        """Where the name leads from a scope without a search, or None above the root."""
+        if self.root:
+            return tuple(self.segs)
+        return None if self.ups > len(scope) else scope[:len(scope) - self.ups] + tuple(self.segs)
+
+    def candidates(self, scope):
+        if not self.root and not self.ups and len(self.segs) == 1:
+            return [scope[:length] + tuple(self.segs) for length in range(len(scope), -1, -1)]
+        path = self.placed(scope)
+        return [] if path is None else [path]
+
+
+@dataclass
+class Nothing:
+    pass
+
+
+@dataclass
+class Named:
+    name: Name
+    args: list
+
+
+@dataclass
+class Op:
+    """Parts are terms, names, bytes of a text, or pairs of a width and a number."""
+
+    opcode: int
+    parts: list
+    tail: object = None
+
+    @property
+    def row(self):
+        return ROWS[self.opcode]
+
+    def names(self):
+        return [part for part in self.parts if isinstance(part, Name)]
+
+    def declared(self):
+        """The names that the term declares itself."""
+        if self.opcode in KINDS or self.opcode in (METHOD, ALIAS):
+            return self.names()[-1:]
+        if self.opcode in FIELD_LISTS:
+            return [Name(False, 0, [unit[1]]) for unit in self.tail if unit[0] == "unit"]
+        return []
+
+
+def is_lead_char(byte):
+    return 0x41 <= byte <= 0x5A or byte == 0x5F
+
+
+def is_name_lead(byte):
+    return is_lead_char(byte) or byte in (0x5C, 0x5E, 0x2E, 0x2F)
+
+
+@dataclass
+class Reader:
+    """Reads one piece of code. A table's has no `arity`; a body's says how many arguments a name takes, by the paths that
+    the body declared so far."""
+
+    code: bytes
+    arity: object = None
+    path: tuple = ()
+    declared: set = field(default_factory=set)
+
+    @property
+    def is_table(self):
+        return self.arity is None
+
+    def read(self):
+        return self.terms(0, len(self.code), "module" if self.is_table else "body", 1)
+
+    def byte(self, at, end):
+        if at >= end:
+            raise Refused("Truncated", end)
+        return self.code[at]
+
+    def length(self, at, end):
+        """A package length's value and its bytes."""
+        lead = self.byte(at, end)
+        more = lead >> 6
+        if not more:
+            return lead & 0x3F, 1
+        if lead & 0x30:
+            raise Refused("PkgBits", at)
+        return sum((self.byte(at + 1 + n, end) << (4 + 8 * n) for n in range(more)), lead & 0x0F), 1 + more
+
+    def segment(self, at, end):
+        for n in range(4):
+            byte = self.byte(at + n, end)
+            if not (is_lead_char(byte) or n and 0x30 <= byte <= 0x39):
+                raise Refused("BadName", at + n)
+        return self.code[at:at + 4].decode(), at + 4
+
+    def name(self, at, end):
+        root = self.byte(at, end) == 0x5C
+        ups = 0
+        at += root
+        while not root and self.byte(at, end) == 0x5E:
+            ups, at = ups + 1, at + 1
+        lead, count = self.byte(at, end), 1
+        if lead == 0x00:
+            return Name(root, ups, []), at + 1
+        if lead == 0x2E:
+            count, at = 2, at + 1
+        elif lead == 0x2F:
+            count, at = self.byte(at + 1, end), at + 2
+            if not count:
+                raise Refused("BadName", at - 1)
+        segs = []
+        for _ in range(count):
+            seg, at = self.segment(at, end)
+            segs.append(seg)
+        return Name(root, ups, segs), at
+
+    def segmented(self, at, end):
+        name, rest = self.name(at, end)
+        if not name.segs:
+            raise Refused("EmptyName", at)
+        return name, rest
+
+    def terms(self, at, end, position, level):
+        terms = []
+        while at < end:
+            behind_if = bool(terms) and isinstance(terms[-1], Op) and terms[-1].opcode == IF
+            term, at = self.term(at, end, position, level, behind_if)
+            terms.append(term)
+        return terms
+
+    def term(self, at, end, position, level, behind_if=False):
+        lead = self.byte(at, end)
+        if level > MOST_LEVELS:
+            raise Refused("TooDeep", at)
+        if is_name_lead(lead):
+            if position in ("module", "guard"):
+                raise Refused("ModuleCode", at)
+            return self.named(at, end, position, level)
+        if position == "S" and lead == 0x00:
+            return Nothing(), at + 1
+        opcode, rest = lead, at + 1
+        if lead == 0x5B:
+            opcode, rest = 0x5B00 | self.byte(at + 1, end), at + 2
+        if opcode not in ROWS:
+            raise Refused("UnknownOp", at)
+        fault = misplaced(opcode, position, behind_if)
+        if fault:
+            raise Refused(fault, at)
+        return self.operation(at, opcode, rest, end, position, level)
+
+    def named(self, at, end, position, level):
+        name, rest = self.name(at, end)
+        args = []
+        if position in ("T", "body") and not self.is_table:
+            count = self.arity(self.declared, name)
+            if count is None:
+                raise Refused("UnknownName", at)
+            for _ in range(count):
+                arg, rest = self.term(rest, end, "T", level + 1)
+                args.append(arg)
+        return Named(name, args), rest
+
+    def operation(self, start, opcode, at, end, position, level):
+        row = ROWS[opcode]
+        if row.packed:
+            value, width = self.length(at, end)
+            if value < width or at + value > end:
+                raise Refused("PkgPast", at)
+            at, end_of_span = at + width, at + value
+        else:
+            end_of_span = end
+        if position == "module" and opcode == IF and self.byte(at, end_of_span) != 0x00:
+            raise Refused("ModuleCode", start)
+        parts = []
+        for kind in row.parts:
+            part, at = self.part(at, end_of_span, kind, opcode, len(parts), level)
+            parts.append(part)
+        term = Op(opcode, parts)
+        if row.tail == "t":
+            inside = "body" if not self.is_table else "guard" if opcode == IF else "module"
+            term.tail = self.terms(at, end_of_span, inside, level + 1)
+        elif row.tail == "e":
+            term.tail = self.terms(at, end_of_span, "D", level + 1)
+        elif row.tail == "y":
+            term.tail = self.code[at:end_of_span]
+        elif row.tail == "f":
+            term.tail = self.units(at, end_of_span, level)
+        elif row.tail == "b":
+            term.tail = at, end_of_span
+        if not self.is_table:
+            self.declared |= {name.placed(self.path) for name in term.declared()} - {None}
+        return term, end_of_span if row.tail else at
+
+    def part(self, at, end, kind, opcode, number, level):
+        if kind in "TSD":
+            return self.term(at, end, kind, level + 1)
+        if kind == "N":
+            return self.name(at, end) if opcode == SCOPE else self.segmented(at, end)
+        if kind == "Z":
+            text = at
+            while self.byte(at, end):
+                at += 1
+            return self.code[text:at], at + 1
+        width = int(kind)
+        value = sum(self.byte(at + n, end) << 8 * n for n in range(width))
+        if opcode == EXTERNAL and number == 2 and value > 7:
+            raise Refused("BadCount", at)
+        return (width, value), at + width
+
+    def units(self, at, end, level):
+        units = []
+        while at < end:
+            lead = self.code[at]
+            if lead == 0x00:
+                bits, width = self.length(at + 1, end)
+                unit, at = ("reserved", bits), at + 1 + width
+            elif lead == 0x01:
+                unit, at = ("access", self.byte(at + 1, end), self.byte(at + 2, end)), at + 3
+            elif lead == 0x02:
+                link, at = self.link(at + 1, end, level + 1)
+                unit = "connection", link
+            elif lead == 0x03:
+                unit, at = ("extended", *(self.byte(at + n, end) for n in (1, 2, 3))), at + 4
+            else:
+                seg, at = self.segment(at, end)
+                bits, width = self.length(at, end)
+                unit, at = ("unit", seg, bits), at + width
+            units.append(unit)
+        return units
+
+    def link(self, at, end, level):
+        lead = self.byte(at, end)
+        if lead == BUFFER:
+            if level > MOST_LEVELS:
+                raise Refused("TooDeep", at)
+            return self.operation(at, BUFFER, at + 1, end, "T", level)
+        if lead != 0x00 and not is_name_lead(lead):
+            raise Refused("BadName", at)
+        name, at = self.segmented(at, end)
+        return Named(name, []), at
+
+
+def misplaced(opcode, position, behind_if):
+    """Why an opcode can't stand in a position, if it can't."""
+    group = ROWS[opcode].group
+    if position == "module":
+        return None if group == "declaration" or opcode == IF else "ModuleCode"
+    if position == "guard":
+        return None if opcode == EXTERNAL else "ModuleCode"
+    if position == "body":
+        if opcode == METHOD:
+            return "NestedMethod"
+        if opcode in SCOPES:
+            return "NestedScope"
+        return "StrayElse" if opcode == ELSE and not behind_if else None
+    taken = group in ("value", "expression") if position == "T" else opcode in (TARGETS if position == "S" else DATA)
+    return None if taken else "NotHere"
