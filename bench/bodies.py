@@ -3,7 +3,7 @@
 
 usage: bench/bodies.py [ACPIDIS] [--only WORD] [--keep FOLDER] [--seconds N]
 
-ACPIDIS is the built program, crates/acpidis/out/acpidis if left out. Each set is written to a folder of its own, its
+ACPIDIS is the built program, out/acpidis if left out. Each set is written to a folder of its own, its
 DSDT as dsdt.dat. For each, the script prints seconds and peak memory of the program and, where it is installed (Debian: apt-get install
 acpica-tools), of `iasl -d` on the same files, also for each megabyte. Both write to a file that is thrown away.
 --only takes the tables whose name contains WORD, --keep leaves the tables in FOLDER. A run is stopped after N seconds, 60 if
@@ -230,7 +230,7 @@ def line(tool, name, size, answer, limit):
 def main():
     top = pathlib.Path(__file__).resolve().parent.parent
     words = argparse.ArgumentParser(description=__doc__, formatter_class=argparse.RawDescriptionHelpFormatter)
-    words.add_argument("acpidis", nargs="?", default=str(top / "crates/acpidis/out/acpidis"))
+    words.add_argument("acpidis", nargs="?", default=str(top / "out/acpidis"))
     words.add_argument("--only", default="")
     words.add_argument("--keep")
     words.add_argument("--seconds", type=float, default=SECONDS)

@@ -7,8 +7,8 @@ here=$(CDPATH='' cd -- "$(dirname -- "$0")" && pwd) || exit 1
 work=$(mktemp -d) || exit 1
 trap 'chmod -R u+rwx "$work"; rm -rf "$work"' EXIT
 chmod 755 "$work"
-cp "$here/../crates/acpidis/out/acpidis" "$work/program" || exit 1
-demo=$here/../crates/acpidis/data/demo
+cp "$here/../out/acpidis" "$work/program" || exit 1
+demo=$here/../crates/acpidis_program/data/demo
 cd "$work" || exit 1
 failed=0
 passed=0

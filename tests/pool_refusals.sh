@@ -1,35 +1,47 @@
 #!/bin/sh
-# What a harvest answers where a growth or a thread's start is refused. No answer may be 'wrong'.
-# The gate doesn't run this: it takes a few minutes.
-crate=$("$(dirname "$0")/../bench/pool/build.sh" 2>/dev/null) || exit 1
-cd "$crate" || exit 1
+# What a harvest answers where a thread's start or a growth is refused. No answer may be 'wrong'.
+#
+# usage: tests/pool_refusals.sh [starts]
+#
+# With the word starts only the first part runs, as in ./test: a limit of the address space refuses starts of the built
+# program crates/pool_bench, which takes a second. The second part refuses each growth of three harvests in turn, and takes
+# half an hour, since each is a run of its own that is compiled anew.
+top=$(CDPATH='' cd -- "$(dirname -- "$0")/.." && pwd) || exit 1
+cd "$top/crates/pool_bench" || exit 1
+[ -x out/pool_bench ] || rt run -- answer 2 7 >/dev/null 2>&1 || exit 1
+passed=0
+
+# is_answer WHAT ANSWER: the answer is the whole one, or a refusal
+is_answer() {
+    case $2 in
+    whole | 'no memory' | 'no thread' | Error*) passed=$((passed + 1)) ;;
+    *)
+        echo "$1: another answer: $2"
+        echo "$passed passed, 1 failed"
+        exit 1
+        ;;
+    esac
+}
+
+# The first start is refused from 3,000 KB on, the second, which 2 workers don't need, from 12,000 KB on.
+for limit in 3000 6000 10000 12000 14000 18000 24000 32000; do
+    for words in '1 7' '2 7' '3 0' '3 7'; do
+        # shellcheck disable=SC2086
+        is_answer "$words, $limit KB" "$( (ulimit -v "$limit"; ./out/pool_bench answer $words) 2>&1 | head -n 1)"
+    done
+done
 
 # Each growth is refused in turn, until three runs in a row meet no refusal. The first few are of the command line.
-for words in '1 7' '2 7' '3 0'; do
+[ "${1-}" = starts ] || for words in '1 7' '2 7' '3 0'; do
     n=1
     whole=0
     while [ "$whole" -lt 3 ]; do
         # shellcheck disable=SC2086
         answer=$(rt try --fail-alloc "$n" -- answer $words 2>&1 | sed -n '/^whole$\|^wrong$\|^no \|^Error/p' | head -n 1)
         echo "$words, growth $n refused: $answer"
-        case $answer in
-        whole) whole=$((whole + 1)) ;;
-        'no memory' | 'no thread' | Error*) whole=0 ;;
-        *) echo "another answer: $answer"; exit 1 ;;
-        esac
+        is_answer "$words, growth $n refused" "$answer"
+        if [ "$answer" = whole ]; then whole=$((whole + 1)); else whole=0; fi
         n=$((n + 1))
     done
 done
-
-# A limit on the address space refuses starts: the first from 3,000 KB on, the second, which 2 workers don't need, from 12,000 KB on.
-for limit in 3000 6000 10000 12000 14000 18000 24000 32000; do
-    for words in '1 7' '2 7' '3 0' '3 7'; do
-        # shellcheck disable=SC2086
-        answer=$( (ulimit -v "$limit"; ./out/pool_bench answer $words) 2>&1 | head -n 1)
-        echo "$words, $limit KB: $answer"
-        case $answer in
-        whole | 'no thread' | 'no memory') ;;
-        *) echo "another answer: $answer"; exit 1 ;;
-        esac
-    done
-done
+echo "$passed passed, 0 failed"

@@ -1,10 +1,10 @@
 #!/usr/bin/env python3
 """Compares what acpidis prints with an independent reading, over tables that are made up near the grammar and then damaged.
 
-    python3 tests/oracle/compare.py [--seconds N] [--seed N] [FOLDER ..]
+    python3 tests/oracle/compare.py [--seconds N | --sets N] [--seed N] [FOLDER ..]
 
 A FOLDER of dumps is compared as it stands (a dsdt.dat, and ssdt1.dat and so on, without addresses), and then damaged copies
-of it. The first sets that differ are kept, and the status is 1. It isn't part of the gate.
+of it. The first sets that differ are kept, and the status is 1. ./test compares 500 sets of seed 0.
 """
 
 import argparse
@@ -23,7 +23,7 @@ sys.path.insert(0, str(pathlib.Path(__file__).resolve().parent))
 from loading import disassembled  # noqa: E402
 from reading import ALIAS, BUFFER, ELSE, EXTERNAL, FIELD_LISTS, IF, METHOD, ROWS, SCOPE, SCOPES  # noqa: E402
 
-PROGRAM = pathlib.Path(__file__).resolve().parents[2] / "crates/acpidis/out/acpidis"
+PROGRAM = pathlib.Path(__file__).resolve().parents[2] / "out/acpidis"
 HEADER = b"%s\0\0\0\0\x02\0TEST  EXAMPLE \x01\0\0\0TEST\x01\0\0\0"
 SEGMENTS = [b"AAAA", b"BBBB", b"CCCC", b"_SB_", b"DEV0", b"_OSI", b"MMMM"]
 PLAIN_VALUES = [0x00, 0x01, 0xFF, 0x60, 0x61, 0x68, 0x0A, 0x0B, 0x0C, 0x0E, 0x0D, 0x5B30, 0x5B31, 0x5B33]
@@ -229,6 +229,7 @@ def main():
     words = argparse.ArgumentParser(description=__doc__, formatter_class=argparse.RawDescriptionHelpFormatter)
     words.add_argument("folders", nargs="*", type=pathlib.Path)
     words.add_argument("--seconds", type=float, default=60)
+    words.add_argument("--sets", type=int, help="compare so many made-up sets, however long it takes")
     words.add_argument("--seed", type=int, default=0)
     asked = words.parse_args()
     sys.setrecursionlimit(100_000)
@@ -237,7 +238,8 @@ def main():
     room, ends, differences = pathlib.Path(tempfile.mkdtemp()), collections.Counter(), 0
     until = time.monotonic() + asked.seconds
     for number, codes in enumerate(sets(Maker(random.Random(asked.seed)), [read_set(folder) for folder in asked.folders])):
-        if time.monotonic() > until and number >= len(asked.folders) or differences == 5:
+        is_enough = number - len(asked.folders) >= asked.sets if asked.sets is not None else time.monotonic() > until
+        if is_enough and number >= len(asked.folders) or differences == 5:
             break
         got, wanted = answers(codes, room)
         ends[wanted[1].rsplit(":", 1)[-1].split()[0] if wanted[1] else "printed"] += 1
@@ -247,6 +249,7 @@ def main():
             differences += 1
     shutil.rmtree(room)
     print(f"seed {asked.seed}: {ends.total()} sets, {differences} differ; " + ", ".join(f"{end} {count}" for end, count in ends.most_common()))
+    print(f"{ends.total() - differences} passed, {differences} failed")
     sys.exit(differences > 0)
 
 

@@ -17,7 +17,7 @@ use crate::xsdt::Xsdt;
 pub const MAX_DUMP_BYTES: usize = 16_777_216;
 
 /// The bytes of one table, as a file has them. Bytes past the table's length may follow it.
-#[derive(Debug, Drop)]
+#[derive(Drop)]
 pub struct Dump {
     /// The file's name.
     pub name: String,
@@ -46,7 +46,7 @@ impl Dump {
 }
 
 /// How a dump is read.
-#[derive(Clone, Copy, Debug, PartialEq, Eq)]
+#[derive(Clone, Copy)]
 pub enum Kind {
     /// A Root System Description Pointer.
     Root,

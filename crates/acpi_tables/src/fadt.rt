@@ -6,7 +6,7 @@ use crate::bytes::{u8_at, u16_at, u32_at, u64_at};
 use crate::fault::Bad;
 
 /// Fields of a Fixed ACPI Description Table, each named as in the standard, shortened.
-#[derive(Clone, Copy, Debug, PartialEq, Eq)]
+#[derive(Clone, Copy)]
 pub struct Fadt {
     /// The physical address of the FACS, at offset 36.
     pub firmware_ctrl: u32,

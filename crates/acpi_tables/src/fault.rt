@@ -6,7 +6,7 @@ use std::alloc::{AllocError, AllocFailed};
 use thiserror::Error;
 
 /// What is wrong with a table, or with a set of tables. It displays as the variant's name.
-#[derive(Clone, Copy, Debug, PartialEq, Eq, Error)]
+#[derive(Clone, Copy, Debug, Error)]
 pub enum Bad {
     /// More than [`MAX_DUMPS`](crate::MAX_DUMPS) dumps.
     #[error("TooManyTables")]
@@ -50,7 +50,7 @@ pub enum Bad {
 }
 
 /// A refusal, and the index of the dump that it is about, if it is about one. It displays as what is wrong.
-#[derive(Clone, Copy, Debug, PartialEq, Eq, Error)]
+#[derive(Clone, Copy, Debug, Error)]
 #[error("{bad}")]
 pub struct TableFault {
     pub dump: Option<usize>,

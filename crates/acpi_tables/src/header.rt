@@ -6,7 +6,7 @@ use crate::bytes::{array_at, u8_at, u32_at};
 use crate::fault::Bad;
 
 /// The fields of a System Description Table Header, which has 36 bytes.
-#[derive(Clone, Copy, Debug, PartialEq, Eq)]
+#[derive(Clone, Copy)]
 pub struct Header {
     /// At offset 0.
     pub signature: [u8; 4],

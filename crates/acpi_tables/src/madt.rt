@@ -10,7 +10,7 @@ use crate::fault::Bad;
 use std::alloc::{AllocError, Global};
 
 /// The fields and the records of a Multiple APIC Description Table.
-#[derive(Debug, Drop)]
+#[derive(Drop)]
 pub struct Madt {
     /// The physical address of the local interrupt controllers, at offset 36.
     pub controller: u32,
@@ -21,7 +21,7 @@ pub struct Madt {
 }
 
 /// A record of a MADT: the fields of the known kinds, or the bytes behind the length of any other.
-#[derive(Debug, Drop)]
+#[derive(Drop)]
 pub enum MadtRecord<Content = Vec<u8>> {
     /// Type 0, of 8 bytes.
     LocalApic {

@@ -13,7 +13,7 @@ use std::alloc::Global;
 pub const MAX_DUMPS: usize = 512;
 
 /// The indexes of the dumps whose definition blocks are loaded: the DSDT first, and then the SSDTs in this order.
-#[derive(Debug, Drop, PartialEq, Eq)]
+#[derive(Drop)]
 pub struct Order {
     pub dsdt: usize,
     pub ssdts: Vec<usize>,

@@ -9,7 +9,7 @@ use crate::fault::Bad;
 pub const RSDP_SIGNATURE: [u8; 8] = *b"RSD PTR ";
 
 /// The fields of a Root System Description Pointer, but for its signature and its checksums.
-#[derive(Clone, Copy, Debug, PartialEq, Eq)]
+#[derive(Clone, Copy)]
 pub struct Rsdp {
     /// OEMID, at offset 9.
     pub oem: [u8; 6],
@@ -22,7 +22,7 @@ pub struct Rsdp {
 }
 
 /// The fields that an RSDP has from revision 2 on.
-#[derive(Clone, Copy, Debug, PartialEq, Eq)]
+#[derive(Clone, Copy)]
 pub struct Wide {
     /// The length of the RSDP in bytes, at offset 20.
     pub length: u32,

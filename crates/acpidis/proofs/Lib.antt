@@ -1,5 +1,1 @@
-pub mod Lines
-pub mod Digits
-pub mod Entries
-pub mod Turns
 pub mod SetLaws

@@ -1,3 +1,2 @@
-pub mod Map
 pub mod Listing
 pub mod Sets

@@ -8,7 +8,7 @@ use aml_text::WriteFault;
 use std::alloc::{AllocError, AllocFailed};
 
 /// Why a set can't be read.
-#[derive(Debug, Drop)]
+#[derive(Drop)]
 pub enum ReadFault {
     /// A dump isn't taken, or the dumps have no order.
     Set(TableFault),
@@ -19,7 +19,7 @@ pub enum ReadFault {
 }
 
 /// Why a run ends before its end.
-#[derive(Debug, Drop)]
+#[derive(Drop)]
 pub enum RunFault {
     /// The set can't be read. Nothing was written.
     Read(ReadFault),

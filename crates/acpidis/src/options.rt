@@ -1,7 +1,7 @@
 //! How a set of tables is read.
 
 /// What is taken that is refused else.
-#[derive(Clone, Copy, Debug, PartialEq, Eq)]
+#[derive(Clone, Copy)]
 pub struct Options {
     /// Whether a table with any checksum is taken.
     pub any_sum: bool,

@@ -6,7 +6,7 @@ ghost use Rattle.std.specs.Cmp.Lexicographic.{nat_list_eq_equiv};
 use std::marker::Model;
 
 /// Some bytes, which contracts see as a list. It is made from a `Vec` and gives it back.
-#[derive(Clone, Debug, Drop)]
+#[derive(Drop)]
 pub struct Bytes {
     bytes: Vec<u8>,
 }

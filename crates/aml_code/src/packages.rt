@@ -8,7 +8,7 @@ ghost use Rattle.aml_code.specs.Faults.{IsLengthFault};
 use aml_names::{CodeFault, byte_of, offset_of};
 
 /// How many bytes spell a package length. More than needed are allowed, and are kept.
-#[derive(Clone, Copy, Debug, PartialEq, Eq)]
+#[derive(Clone, Copy)]
 pub enum PkgWidth {
     One,
     Two,

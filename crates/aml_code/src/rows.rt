@@ -3,7 +3,7 @@ ghost use Rattle.std.specs.Prelude.{◌≡◌, ◌==◌, ◌≤◌, position, If
 ghost use Rattle.aml_code.specs.Rows.{parts_of, has_length, mnemonic_of, takes as row_taken};
 
 /// The four groups of opcodes.
-#[derive(Clone, Copy, Debug, PartialEq, Eq)]
+#[derive(Clone, Copy)]
 pub enum Group {
     /// Constants, data objects, Locals and Args.
     Value,
@@ -14,7 +14,7 @@ pub enum Group {
 }
 
 /// Where an opcode may stand.
-#[derive(Clone, Copy, Debug, PartialEq, Eq)]
+#[derive(Clone, Copy)]
 pub enum Place {
     /// As a data object, as an argument and as a term of a body.
     Data,
@@ -39,7 +39,7 @@ pub enum Place {
 }
 
 /// What stands in a fixed place after an opcode.
-#[derive(Clone, Copy, Debug, PartialEq, Eq)]
+#[derive(Clone, Copy)]
 pub enum PartKind {
     /// A TermArg.
     Term,
@@ -62,7 +62,7 @@ pub enum PartKind {
 }
 
 /// What follows the parts up to the end of the package.
-#[derive(Clone, Copy, Debug, PartialEq, Eq)]
+#[derive(Clone, Copy)]
 pub enum TailKind {
     /// Nothing, and there is no package length.
     Empty,
@@ -76,7 +76,7 @@ pub enum TailKind {
 
 /// The kinds of the parts in order, a letter each: `T` Term, `S` Target, `N` Name, `D` Data, `1` Byte, `2` Word,
 /// `4` Dword, `8` Qword, `C` Count, `Z` Text. A `B` stands before a letter that is a digit; `Scope` is a ScopeName.
-#[derive(Clone, Copy, Debug, PartialEq, Eq)]
+#[derive(Clone, Copy)]
 pub enum Shape {
     Bare,
     B1,
@@ -115,7 +115,7 @@ pub enum Shape {
 }
 
 /// Which names a term declares.
-#[derive(Clone, Copy, Debug, PartialEq, Eq)]
+#[derive(Clone, Copy)]
 pub enum Declares {
     Nothing,
     /// The last of its parts that is a name.
@@ -125,7 +125,7 @@ pub enum Declares {
 }
 
 /// A row of the table of opcodes.
-#[derive(Clone, Copy, Debug, PartialEq, Eq)]
+#[derive(Clone, Copy)]
 pub struct OpRow {
     /// The opcode; a two-byte opcode `5B xx` is 0x5Bxx.
     pub opcode: u16,
@@ -208,7 +208,7 @@ impl Shape {
 }
 
 /// Where a node stands.
-#[derive(Clone, Copy, Debug, PartialEq, Eq)]
+#[derive(Clone, Copy)]
 pub enum Position {
     /// In a list of terms of a table.
     ModuleTerm,

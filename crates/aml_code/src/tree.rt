@@ -9,7 +9,7 @@ use aml_names::{Name, Seg};
 
 /// A term, an argument, a target, an element of a package.
 #[cycle(tree)]
-#[derive(Clone, Debug, Drop, PartialEq, Eq)]
+#[derive(Drop)]
 pub enum Node {
     /// The byte 00 where a target is wanted: no target (ACPI 6.5, 20.2.5: NullName as Target).
     Nothing,
@@ -30,7 +30,7 @@ pub enum Node {
 
 /// A fixed part of an opcode's row.
 #[cycle(tree)]
-#[derive(Clone, Debug, Drop, PartialEq, Eq)]
+#[derive(Drop)]
 pub enum Part {
     Child(Node),
     Label(Name),
@@ -44,7 +44,7 @@ pub enum Part {
 
 /// What follows the parts up to the end of the package.
 #[cycle(tree)]
-#[derive(Clone, Debug, Drop, PartialEq, Eq)]
+#[derive(Drop)]
 pub enum Tail {
     /// The row has no tail.
     Empty,
@@ -58,7 +58,7 @@ pub enum Tail {
 
 /// An element of a field list (ACPI 6.5, 20.2.5.2).
 #[cycle(tree)]
-#[derive(Clone, Debug, Drop, PartialEq, Eq)]
+#[derive(Drop)]
 pub enum Field {
     /// NamedField: a segment and its number of bits, spelled as a package length.
     NamedUnit {
@@ -81,7 +81,7 @@ pub enum Field {
 
 /// What a connection leads to.
 #[cycle(tree)]
-#[derive(Clone, Debug, Drop, PartialEq, Eq)]
+#[derive(Drop)]
 pub enum Link {
     Target(Name),
     Buffer(Node),

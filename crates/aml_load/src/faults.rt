@@ -9,7 +9,7 @@ use std::alloc::{AllocError, AllocFailed};
 use thiserror::Error;
 
 /// Why tables can't be loaded. The number is that of the table, in load order from 0 on.
-#[derive(Debug, Drop, PartialEq, Eq, Error)]
+#[derive(Debug, Drop, Error)]
 pub enum LoadFault {
     /// AML that can't be read: that of the table, or that of a method's body, by an offset in it.
     #[error("{1}")]

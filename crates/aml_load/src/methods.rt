@@ -2,7 +2,7 @@
 use aml_names::{Name, Path};
 
 /// A method that a table declares.
-#[derive(Debug, Drop, PartialEq, Eq)]
+#[derive(Drop)]
 pub struct Method {
     pub path: Path,
     /// The table, by its place in load order from 0 on.
@@ -16,7 +16,7 @@ pub struct Method {
 }
 
 /// A name that stands as a TermArg outside the methods, and so may not take arguments.
-#[derive(Debug, Drop, PartialEq, Eq)]
+#[derive(Drop)]
 pub struct Use {
     /// The table, by its place in load order from 0 on.
     pub table: usize,

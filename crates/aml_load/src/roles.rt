@@ -6,7 +6,7 @@ ghost use Rattle.aml_load.specs.Roles.{role_of, kind_of};
 use aml_space::Kind;
 
 /// What a term declares with its name and nothing else.
-#[derive(Clone, Copy, Debug, PartialEq, Eq)]
+#[derive(Clone, Copy)]
 pub enum Object {
     Name,
     Mutex,
@@ -21,7 +21,7 @@ pub enum Object {
 }
 
 /// What a term does to the namespace (ACPI 6.5, 20.2.5.1 and 20.2.5.2).
-#[derive(Clone, Copy, Debug, PartialEq, Eq)]
+#[derive(Clone, Copy)]
 pub enum Role {
     /// It declares its name. The terms inside it stand under that path.
     Declares(Object),
@@ -42,7 +42,7 @@ pub enum Role {
 }
 
 /// An opcode and its role.
-#[derive(Clone, Copy, Debug, PartialEq, Eq)]
+#[derive(Clone, Copy)]
 pub struct RoleRow {
     pub opcode: u16,
     pub role: Role,

@@ -22,7 +22,7 @@ use std::alloc::Global;
 const MAX_METHODS: usize = 1_048_576;
 
 /// What the tables so far have made.
-#[derive(Debug, Drop)]
+#[derive(Drop)]
 pub struct Progress {
     pub space: Space,
     pub methods: Vec<Method>,

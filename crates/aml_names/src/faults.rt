@@ -9,7 +9,7 @@ use thiserror::Error;
 pub type NoMemory = AllocError;
 
 /// Why AML could not be read. `at` is an offset in the bytes that were handed in.
-#[derive(Clone, Copy, Debug, PartialEq, Eq, Error)]
+#[derive(Clone, Copy, Debug, Error)]
 pub enum CodeFault {
     /// The bytes, or those of a span, end here, and one more is wanted.
     #[error("Truncated at {at}")]

@@ -7,7 +7,7 @@ ghost use Rattle.aml_names.specs.Searching.{is_single as single};
 use crate::segments::Segs;
 
 /// How the segments of a name are spelled (ACPI 6.5, 20.2.2).
-#[derive(Clone, Copy, Debug, PartialEq, Eq)]
+#[derive(Clone, Copy)]
 pub enum NameForm {
     /// No segment: the byte 00.
     Null,
@@ -20,7 +20,7 @@ pub enum NameForm {
 }
 
 /// A NameString as it is written (ACPI 6.5, 20.2.2): a root prefix or parent prefixes, and segments in a form.
-#[derive(Clone, Debug, Drop, PartialEq, Eq)]
+#[derive(Clone, Drop)]
 pub struct Name {
     /// Whether the name begins with `\`, and so at the root.
     pub root: bool,

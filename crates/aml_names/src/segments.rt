@@ -1,8 +1,5 @@
 //! Segments of names.
 ghost use Rattle.std.specs.Prelude.{◌≡◌, ◌∷◌, ◌++◌, [], length, Some, OnOk, OnErr};
-ghost use Rattle.std.proofs.Common.{rules};
-ghost use Rattle.std.specs.Cmp.Rules.{comparing};
-ghost use Rattle.std.specs.Cmp.Lexicographic.{pointwise};
 
 use smallvec::SmallVec;
 use std::alloc::{AllocError, Global};
@@ -28,7 +25,7 @@ impl fmt::Display for Seg {
 }
 
 /// The segments of a name. Most names have a few, which need no allocation.
-#[derive(Clone, Debug, Drop)]
+#[derive(Clone, Drop)]
 pub struct Segs {
     segs: SmallVec<Seg, 4>,
 }
@@ -74,18 +71,4 @@ impl Segs {
         self.segs.push(seg)?;
         Ok(())
     }
-}
-
-impl PartialEq for Segs {
-    ghost eq = { pointwise ⟦<Seg as PartialEq>⟧.eq };
-
-    ghost laws = { Prim.search (comparing, rules) };
-
-    fn eq(&self, other: &Segs) -> bool {
-        self.as_slice() == other.as_slice()
-    }
-}
-
-impl Eq for Segs {
-    ghost laws = { Prim.search (comparing, rules) };
 }

@@ -92,7 +92,7 @@ pub struct Seat {
 }
 
 /// What a closed board gave out: the numbers below `numbers`.
-#[derive(Clone, Copy, Debug, PartialEq, Eq)]
+#[derive(Clone, Copy)]
 pub struct Drawn {
     pub numbers: u32,
 }

@@ -8,7 +8,7 @@ use std::error::Error;
 use std::fmt;
 
 /// A growth was refused.
-#[derive(Clone, Copy, Debug, Drop, PartialEq, Eq)]
+#[derive(Clone, Copy, Debug, Drop)]
 pub struct NoMemory;
 
 impl fmt::Display for NoMemory {
@@ -34,7 +34,7 @@ impl<T: Drop> From<AllocFailed<T>> for NoMemory {
 }
 
 /// Why there is no answer. It says nothing of the work: with more threads or memory there would be one.
-#[derive(Clone, Copy, Debug, PartialEq, Eq)]
+#[derive(Clone, Copy, Debug)]
 pub enum PoolFault {
     /// A thread's start was refused, for want of memory too. The threads already started were joined.
     NoThread,

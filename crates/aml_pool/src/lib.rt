@@ -21,5 +21,3 @@ pub use shelf::{Shelf, ShelfFault};
 pub use work::Work;
 pub use workers::{Share, crew};
 
-#[cfg(test)]
-mod tests;

@@ -6,7 +6,7 @@ use crate::fault::NoMemory;
 use std::alloc::Global;
 
 /// Why a value was not filed. It comes back.
-#[derive(Debug, Drop)]
+#[derive(Drop)]
 pub enum ShelfFault<D> {
     /// A value stands at its number already.
     Double(D),

@@ -1,5 +1,5 @@
 //! A crew of workers, in threads that halve it.
-ghost use Rattle.std.specs.Prelude.{◌≡◌, ◌+◌, ◌≤◌, IfOk, IfErr};
+ghost use Rattle.std.specs.Prelude.{◌≡◌, ◌+◌, ◌≤◌, Err, IfOk, IfErr};
 ghost use Rattle.std.specs.Thread.{IsSync, IsSend};
 ghost use Rattle.aml_pool.specs.Seats.{count_of, IsSeatOf, IsFresh, IsCut};
 ghost use Rattle.aml_pool.specs.Shares.{EachBelow, CanBegin, IsShare};
@@ -161,8 +161,12 @@ where
     requires cut { IsCut halves.now.whole.value halves.now.left.value halves.now.right.value }
     requires here { IfOk here (λ s. IsShare (W.gives work.now) halves.now.left.value halves.now.mine s) }
     requires there { IfOk there (λ s. IsShare (W.gives work.now) halves.now.right.value halves.now.others s) }
-    ensures { IfOk result (λ s. IsShare (W.gives work.now) halves.now.whole.value
+    ensures share { IfOk result (λ s. IsShare (W.gives work.now) halves.now.whole.value
         (halves.now.mine + halves.now.others) s) }
+    ensures own_start_refused { here ≡ Err PoolFault.NoThread → result ≡ Err PoolFault.NoThread }
+    ensures other_start_refused { there ≡ Err PoolFault.NoThread → result ≡ Err PoolFault.NoThread }
+    ensures no_start_refused { IfErr here (λ fault. fault ≡ PoolFault.NoMemory) → IfErr there (λ fault. fault ≡ PoolFault.NoMemory)
+        → IfErr result (λ fault. fault ≡ PoolFault.NoMemory) }
 {
     match (here, there) {
         (Ok(here), Ok(there)) => united(board, work, halves, here, there),
@@ -186,8 +190,9 @@ where
     requires cut { IsCut halves.now.whole.value halves.now.left.value halves.now.right.value }
     requires left { IsShare (W.gives work.now) halves.now.left.value halves.now.mine left }
     requires right { IsShare (W.gives work.now) halves.now.right.value halves.now.others right }
-    ensures { IfOk result (λ s. IsShare (W.gives work.now) halves.now.whole.value
+    ensures share { IfOk result (λ s. IsShare (W.gives work.now) halves.now.whole.value
         (halves.now.mine + halves.now.others) s) }
+    ensures no_thread { IfErr result (λ fault. fault ≡ PoolFault.NoMemory) }
 {
     let _ = work;
     let _ = halves;

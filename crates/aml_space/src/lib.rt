@@ -4,17 +4,19 @@
 #![tactic(auto)]
 
 mod bodies;
-mod entries;
+mod children;
 mod faults;
+mod growing;
 mod kinds;
+mod listing;
+mod nodes;
 mod predefined;
 mod searching;
 mod spaces;
+mod trees;
+mod walking;
 
 pub use bodies::BodyScope;
 pub use faults::SpaceFault;
 pub use kinds::Kind;
 pub use spaces::{Space, SpaceRow};
-
-#[cfg(test)]
-mod tests;

@@ -1,5 +1,5 @@
 //! The namespace that tables make.
-ghost use Rattle.std.specs.Prelude.{◌≡◌, slice_get, [], ◌∷◌, ◌++◌, List, Option, ◌⊎◌, OnOk, OnErr, IfOk, IfErr, IsTrue};
+ghost use Rattle.std.specs.Prelude.{◌≡◌, ◌≤◌, ◌*◌, length, slice_get, [], ◌∷◌, ◌++◌, List, Option, ◌⊎◌, OnOk, OnErr, IfOk, IfErr, IsTrue};
 ghost use Rattle.std.specs.Option.{option_map, option_copied};
 ghost use Rattle.std.specs.FinMap as map;
 ghost use Rattle.aml_space.specs.Entries.{Entry, Body, declares, external as outside};
@@ -8,19 +8,25 @@ ghost use Rattle.aml_space.specs.Known.{StandsFor, nothing_known, with_declared,
 ghost use Rattle.aml_space.specs.Listed.{row_pair, row_pairs};
 ghost use Rattle.aml_space.specs.Rows.{AreRows};
 
-use crate::entries::{Kept, declared_in, outs_in, row_in};
+use crate::children::Children;
 use crate::faults::SpaceFault;
+use crate::growing::{count_path, make_node, set_out, set_row};
 use crate::kinds::Kind;
+use crate::listing::list_rows;
+use crate::nodes::{Node, Row};
 use crate::predefined::Predefined;
+use crate::walking::{kind_at, out_at, row_under, rows_at, walk_counted};
 use aml_names::{NoMemory, Path};
 use std::alloc::Global;
 use std::marker::Model;
 
 /// The namespace of the tables so far: what they declare, and what Externals name, over the predefined names.
-#[derive(Debug, Drop)]
+#[derive(Drop)]
 pub struct Space {
-    entries: Vec<Kept>,
-    predefined: Predefined,
+    alloc: Global,
+    /// The root first. A child has a greater number than its parent.
+    pub(crate) nodes: Vec<Node>,
+    pub(crate) predefined: Predefined,
 }
 
 impl Model for Space {
@@ -30,15 +36,15 @@ impl Model for Space {
 
     ghost coded = { coded_known };
 
-    ghost use Rattle.aml_space.specs.Listed.{known_by, entries_of, IsDistinct};
+    ghost use Rattle.aml_space.specs.Nodes.{known_by, IsIndex};
 
-    ghost view = { λ s. known_by s.entries.items };
+    ghost view = { λ s. known_by s.nodes.items };
 
-    ghost invariant = { λ s. IsDistinct (entries_of s.entries.items) };
+    ghost invariant = { λ s. IsIndex s.nodes.items };
 }
 
 /// A declared path and its kind.
-#[derive(Debug, Drop, PartialEq, Eq)]
+#[derive(Drop)]
 pub struct SpaceRow {
     pub path: Path,
     pub kind: Kind,
@@ -50,8 +56,16 @@ impl Space {
         ensures known { IfOk result (λ space. space ≡ nothing_known) }
         ensures stands { IfOk result (λ space. StandsFor space []) }
     {
+        let mut nodes = Vec::new(alloc);
+        nodes.push(Node {
+            row: None,
+            outs: None,
+            children: Children::new(),
+            rows: 0,
+        })?;
         Ok(Space {
-            entries: Vec::new(alloc),
+            alloc,
+            nodes,
             predefined: Predefined::new(),
         })
     }
@@ -68,7 +82,12 @@ impl Space {
         if self.is_declared(&path) {
             return Err(SpaceFault::Duplicate(path));
         }
-        self.entries.push(Kept::Declares { path, kind })?;
+        let at = make_node(self.alloc, &mut self.nodes, path.segs())?;
+        if rows_at(self.nodes.as_slice(), 0) == usize::MAX {
+            return Err(SpaceFault::NoMemory);
+        }
+        count_path(&mut self.nodes, path.segs());
+        set_row(&mut self.nodes, at, Row { path, kind });
         Ok(())
     }
 
@@ -79,7 +98,8 @@ impl Space {
         ensures stands { (es : List Entry) → StandsFor self.old es → OnOk result (StandsFor self.new (es ++ outside path count ∷ [])) }
         ensures err { OnErr result (self.new ≡ self.old) }
     {
-        self.entries.push(Kept::External { path, count })?;
+        let at = make_node(self.alloc, &mut self.nodes, path.segs())?;
+        set_out(&mut self.nodes, at, count);
         Ok(())
     }
 
@@ -89,18 +109,30 @@ impl Space {
         self.declared(path).is_some()
     }
 
+    /// The kind with which a path is declared, and the comparisons of segments that were made.
+    fn declared_counted(&self, path: &Path) -> (Option<&Kind>, u128)
+        ensures kind { option_copied result.0 ≡ map.get self.now.kinds path.now }
+        ensures few { result.1 ≤ 64 * length path.now }
+    {
+        let nodes = self.nodes.as_slice();
+        let (at, compared) = walk_counted(nodes, path.segs());
+        (kind_at(nodes, at), compared)
+    }
+
     /// The kind with which a path is declared.
     fn declared(&self, path: &Path) -> Option<&Kind>
         ensures { option_copied result ≡ map.get self.now.kinds path.now }
     {
-        declared_in(self.entries.as_slice(), path)
+        self.declared_counted(path).0
     }
 
     /// The greatest count of a path's Externals.
     pub(crate) fn outs(&self, path: &Path) -> Option<u8>
         ensures { result ≡ map.get self.now.outs path.now }
     {
-        outs_in(self.entries.as_slice(), path)
+        let nodes = self.nodes.as_slice();
+        let (at, _) = walk_counted(nodes, path.segs());
+        out_at(nodes, at)
     }
 
     /// The kind of a path: the declared one, else the predefined one.
@@ -112,6 +144,20 @@ impl Space {
         match self.declared(path) {
             Some(kind) => Some(kind),
             None => self.predefined.kind(path.segs()),
+        }
+    }
+
+    /// What `kind` answers, and how many comparisons of segments the look-up made.
+    #[tactic(auto, using(crate::proofs::Stands::kind_listed))]
+    pub fn kind_counted(&self, path: &Path) -> (Option<&Kind>, u128)
+        ensures known { option_copied result.0 ≡ kind_at (namespace_in self.now) path.now }
+        ensures listed { (es : List Entry) → StandsFor self.now es → option_copied result.0 ≡ kind_at (namespace_of es) path.now }
+        ensures few { result.1 ≤ 64 * length path.now }
+    {
+        let (declared, compared) = self.declared_counted(path);
+        match declared {
+            Some(kind) => (Some(kind), compared),
+            None => (self.predefined.kind(path.segs()), compared),
         }
     }
 
@@ -139,7 +185,7 @@ impl Space {
     pub fn row_at(&self, index: usize) -> Option<(&Path, &Kind)>
         ensures { option_map row_pair result ≡ slice_get (map.entries self.now.kinds) index }
     {
-        row_in(self.entries.as_slice(), index)
+        row_under(self.nodes.as_slice(), index)
     }
 
     /// The declared paths in order, each once, with its kind.
@@ -147,12 +193,7 @@ impl Space {
         ensures known { IfOk result (λ rows. row_pairs rows.items ≡ map.entries self.now.kinds) }
         ensures listed { (es : List Entry) → StandsFor self.now es → IfOk result (λ rows. AreRows es (row_pairs rows.items)) }
     {
-        let mut rows = Vec::new(alloc);
-        'rows: while let Some((path, kind)) = self.row_at(rows.len()) {
-            let path = path.clone()?;
-            let kind = kind.clone()?;
-            rows.push(SpaceRow { path, kind })?;
-        }
+        let rows = list_rows(alloc, self.nodes.as_slice())?;
         Ok(rows)
     }
 }

@@ -18,7 +18,7 @@ use aml_code::{CodeFault, Name, Node, Part, Tail, last_byte, last_name, slice};
 use std::io::Write;
 
 /// What became of a method's body.
-#[derive(Debug, Drop)]
+#[derive(Drop)]
 pub enum Body {
     /// Its terms.
     Tree(Vec<Node>),

@@ -9,7 +9,7 @@ use std::io::Write;
 use thiserror::Error;
 
 /// The writer failed, or took nothing, after it took `wrote` bytes of the text.
-#[derive(Clone, Copy, Debug, Drop, PartialEq, Eq, Error)]
+#[derive(Clone, Copy, Debug, Drop, Error)]
 #[error("write failed after {wrote} bytes")]
 pub struct WriteFault {
     pub wrote: u64,

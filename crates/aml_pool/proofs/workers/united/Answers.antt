@@ -5,8 +5,8 @@ use Rattle.aml_pool.specs.Shares.{AreParts, all_of}
 use Rattle.aml_pool.proofs.Lots.{parts_append, all_of-append}
 use Rattle.aml_pool.proofs.workers.united.Goals as goal
 
-pub returns : goal.returns
-returns g c =
+pub returns-clause-share : goal.returns-clause-share
+returns-clause-share g c =
     let left = c.requires.left in let right = c.requires.right in let join = c.join-seat.ensures in
     let done : c.append.new.self.items ≡ c.args.left.done.items ++ c.args.right.done.items = search rules in
     let drawn : c.append-2.new.self.items ≡ c.args.left.drawn.items ++ c.args.right.drawn.items = search rules in

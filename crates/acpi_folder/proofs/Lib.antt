@@ -1,0 +1,4 @@
+pub mod Lines
+pub mod Digits
+pub mod Entries
+pub mod Turns

@@ -1,0 +1,64 @@
+-- The first line of a text.
+use Rattle.std.proofs.Common.{◌≤◌, subst, Some, None, ltb, ◌≡◌, ℕ, suc, ◌+◌, ◌<◌, Bool, true, false, not, List, [], ◌∷◌, length, take, drop, refl, ap, ◌∙◌, arith, cond, eqb}
+use Rattle.std.specs.List.{before_first, after_first, position, position_or_len}
+use Rattle.std.proofs.lemmas.List.{take_all, drop_all}
+use Rattle.std.proofs.lemmas.Bool.{ltb-false}
+use Rattle.acpi_folder.specs.Map.{lines_of, before_lines, is_line_end}
+
+-- a byte in front of a text whose first line has this many bytes
+longer : (byte : ℕ) (text : List ℕ) (n : ℕ) → lines_of text ≡ take n text ∷ lines_of (drop (n + 1) text)
+    → before_lines byte (lines_of text) ≡ take (1 + n) (byte ∷ text) ∷ lines_of (drop (1 + n + 1) (byte ∷ text))
+longer byte text n cut =
+    let one : 1 + n ≡ suc n = omega arith in
+    let two : 1 + n + 1 ≡ suc (n + 1) = omega arith in
+    let front : take (1 + n) (byte ∷ text) ≡ byte ∷ take n text = ap (λ k. take k (byte ∷ text)) one in
+    let back : drop (1 + n + 1) (byte ∷ text) ≡ drop (n + 1) text = ap (λ k. drop k (byte ∷ text)) two in
+    rw (cut, front, back) refl
+
+pub lines_of-first : (byte : ℕ) (bytes : List ℕ)
+    → lines_of (byte ∷ bytes) ≡ before_first is_line_end (byte ∷ bytes) ∷ lines_of (after_first is_line_end (byte ∷ bytes))
+unfolding lines_of
+lines_of-first byte [] =
+    elim (eqb byte 10) as (λ ends. cond ends ([] ∷ []) ((byte ∷ []) ∷ [])
+    ≡ take (cond (not ends) 1 0) (byte ∷ []) ∷ lines_of (drop (cond (not ends) 1 0 + 1) (byte ∷ []))) [
+      | true ↦ refl
+      | false ↦ refl
+    ]
+lines_of-first byte (next ∷ bytes) =
+    elim (eqb byte 10) as (λ ends. cond ends ([] ∷ lines_of (next ∷ bytes)) (before_lines byte (lines_of (next ∷ bytes)))
+    ≡ take (cond (not ends) (1 + position_or_len is_line_end (next ∷ bytes)) 0) (byte ∷ next ∷ bytes)
+    ∷ lines_of (drop (cond (not ends) (1 + position_or_len is_line_end (next ∷ bytes)) 0 + 1) (byte ∷ next ∷ bytes))) [
+      | true ↦ refl
+      | false ↦ longer byte (next ∷ bytes) (position_or_len is_line_end (next ∷ bytes)) (lines_of-first next bytes)
+    ]
+
+-- the same, by the index that a search for the end gives
+found : (test : Bool) (index end : ℕ) → cond test (Some index) None ≡ Some end → index ≡ end
+found true index end is = cc
+found false index end is = cc
+
+missing : (test : Bool) (index : ℕ) → cond test (Some index) None ≡ None → test ≡ false
+missing true index is = cc
+missing false index is = refl
+
+pub lines_of-ended : (text : List ℕ) (end : ℕ) → position is_line_end text ≡ Some end
+    → lines_of text ≡ take end text ∷ lines_of (drop (end + 1) text)
+lines_of-ended [] end is = cc
+lines_of-ended (byte ∷ bytes) end is =
+    let at : position_or_len is_line_end (byte ∷ bytes) ≡ end = found (ltb (position_or_len is_line_end (byte ∷ bytes)) (length (byte ∷ bytes))) (position_or_len is_line_end (byte ∷ bytes)) end is in
+    let P : ℕ → Type 0 = λ n. lines_of (byte ∷ bytes) ≡ take n (byte ∷ bytes) ∷ lines_of (drop (n + 1) (byte ∷ bytes)) in
+    subst P at (lines_of-first byte bytes)
+
+pub lines_of-unended : (text : List ℕ) → 0 < length text → position is_line_end text ≡ None → lines_of text ≡ text ∷ lines_of []
+lines_of-unended [] some is = absurd (omega arith)
+lines_of-unended (byte ∷ bytes) some is =
+    let test : ltb (position_or_len is_line_end (byte ∷ bytes)) (length (byte ∷ bytes)) ≡ false =
+    missing (ltb (position_or_len is_line_end (byte ∷ bytes)) (length (byte ∷ bytes))) (position_or_len is_line_end (byte ∷ bytes)) is in
+    let past : length (byte ∷ bytes) ≤ position_or_len is_line_end (byte ∷ bytes) = ltb-false _ _ test in
+    let front : take (position_or_len is_line_end (byte ∷ bytes)) (byte ∷ bytes) ≡ byte ∷ bytes = take_all (position_or_len is_line_end (byte ∷ bytes)) (byte ∷ bytes) past in
+    let back : drop (position_or_len is_line_end (byte ∷ bytes) + 1) (byte ∷ bytes) ≡ [] = drop_all (position_or_len is_line_end (byte ∷ bytes) + 1) (byte ∷ bytes) (omega arith) in
+    lines_of-first byte bytes
+    ∙ ap (λ first. first ∷ lines_of (drop (position_or_len is_line_end (byte ∷ bytes) + 1) (byte ∷ bytes))) front
+    ∙ ap (λ rest. (byte ∷ bytes) ∷ lines_of rest) back
+
+pub ruleset ends = (lines_of-ended, lines_of-unended)

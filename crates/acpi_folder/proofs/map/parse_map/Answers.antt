@@ -1,0 +1,10 @@
+use Rattle.std.proofs.Common.{◌∙◌, ap, map}
+use Rattle.std.specs.Prelude.{string_bytes}
+use Rattle.acpi_folder.specs.Map.{entry_of, lines_of, shown_by}
+use Rattle.acpi_folder.proofs.Turns.{addresses_shown}
+use Rattle.acpi_folder.proofs.map.parse_map.Goals as goal
+
+pub returns-clause-addresses : goal.returns-clause-addresses
+returns-clause-addresses c =
+    c.in_ok-addresses.ensures
+    ∙ addresses_shown string_bytes c.args.names.now c.deref.result.now (map entry_of (lines_of c.args.text.now)) (ap (map shown_by) c.deref.ensures.value ∙ c.in_ok-lines.ensures.lines)

@@ -1,6 +1,0 @@
-mod boards;
-mod crews;
-mod faults;
-mod fixtures;
-mod harvests;
-mod shelves;

@@ -1,4 +1,0 @@
-mod compared;
-mod fixtures;
-mod plain;
-mod worked;

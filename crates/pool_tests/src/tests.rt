@@ -1,0 +1,5 @@
+mod boards;
+mod crews;
+mod fixtures;
+mod harvests;
+mod shelves;

@@ -1,0 +1,214 @@
+//! Works and gates that the tests hand in.
+ghost use Rattle.std.specs.Prelude.{◌≡◌, ◌*◌, ⊤};
+
+use aml_pool::{Gate, NoMemory, Work};
+use std::alloc::{AllocError, Global};
+use std::sync::atomic::Ordering::SeqCst;
+use std::sync::atomic::{AtomicBool, AtomicU64};
+
+/// How often a held call looks again before it marks itself stuck and goes on: some 20 seconds.
+const TURNS: u32 = 500_000_000;
+
+/// The square of the number.
+pub struct Square;
+
+impl Work for Square {
+    type Done = u64;
+
+    ghost can_work = { λ _ _. ⊤ };
+
+    ghost gives = { λ _ n d. d ≡ n * n };
+
+    fn work(&self, number: u32) -> Result<u64, NoMemory> {
+        Ok(u64::from(number) * u64::from(number))
+    }
+}
+
+/// Number 3 is refused for want of memory.
+pub struct ThirdFails;
+
+impl Work for ThirdFails {
+    type Done = u64;
+
+    ghost can_work = { λ _ _. ⊤ };
+
+    ghost gives = { λ _ _ _. ⊤ };
+
+    fn work(&self, number: u32) -> Result<u64, NoMemory> {
+        if number == 3 { Err(NoMemory) } else { Ok(0) }
+    }
+}
+
+/// The call that enters first waits until so many others have entered.
+#[derive(Drop)]
+pub struct Hold {
+    others: u64,
+    entered: AtomicU64,
+    stuck: AtomicBool,
+}
+
+impl Hold {
+    pub fn of_others(others: u64) -> Hold {
+        Hold {
+            others,
+            entered: AtomicU64::new(0),
+            stuck: AtomicBool::new(false),
+        }
+    }
+
+    pub fn is_stuck(&self) -> bool {
+        self.stuck.load(SeqCst)
+    }
+
+    fn pass(&self) {
+        if self.entered.fetch_add(1, SeqCst) != 0 {
+            return;
+        }
+        for _ in 0..TURNS {
+            if self.entered.load(SeqCst) > self.others {
+                return;
+            }
+        }
+        self.stuck.store(true, SeqCst);
+    }
+}
+
+impl Gate for Hold {
+    fn enter(&self, _worker: u32, _number: u32) {
+        self.pass();
+    }
+}
+
+impl Work for Hold {
+    type Done = u32;
+
+    ghost can_work = { λ _ _. ⊤ };
+
+    ghost gives = { λ _ n d. d ≡ n };
+
+    fn work(&self, number: u32) -> Result<u32, NoMemory> {
+        self.pass();
+        Ok(number)
+    }
+}
+
+/// The call that enters first waits until a call of another worker has entered.
+#[derive(Drop)]
+pub struct Meeting {
+    first: AtomicU64,
+    met: AtomicBool,
+    stuck: AtomicBool,
+}
+
+impl Meeting {
+    pub fn new() -> Meeting {
+        Meeting {
+            first: AtomicU64::new(0),
+            met: AtomicBool::new(false),
+            stuck: AtomicBool::new(false),
+        }
+    }
+
+    pub fn is_stuck(&self) -> bool {
+        self.stuck.load(SeqCst)
+    }
+
+    fn wait(&self) {
+        for _ in 0..TURNS {
+            if self.met.load(SeqCst) {
+                return;
+            }
+        }
+        self.stuck.store(true, SeqCst);
+    }
+}
+
+impl Gate for Meeting {
+    fn enter(&self, worker: u32, _number: u32) {
+        let me = u64::from(worker) + 1;
+        match self.first.compare_exchange(0, me, SeqCst, SeqCst) {
+            Ok(_) => self.wait(),
+            Err(first) => {
+                if first != me {
+                    self.met.store(true, SeqCst);
+                }
+            }
+        }
+    }
+}
+
+/// Keeps its calls, in the order in which they came.
+#[derive(Drop)]
+pub struct Log {
+    calls: Vec<AtomicU64>,
+    entered: AtomicU64,
+}
+
+impl Log {
+    /// With room for so many calls.
+    pub fn with_room(alloc: Global, room: u32) -> Result<Log, AllocError> {
+        let mut calls = Vec::new(alloc);
+        for _ in 0..room {
+            calls.push(AtomicU64::new(0))?;
+        }
+        Ok(Log {
+            calls,
+            entered: AtomicU64::new(0),
+        })
+    }
+
+    /// How many calls came, those that had no room too.
+    pub fn len(&self) -> u64 {
+        self.entered.load(SeqCst)
+    }
+
+    /// The numbers with which this worker entered, in the order of its calls.
+    pub fn numbers_of(&self, alloc: Global, worker: u32) -> Result<Vec<u32>, AllocError> {
+        let mut numbers = Vec::new(alloc);
+        for call in &self.calls {
+            let call = call.load(SeqCst);
+            if call >> 32 == u64::from(worker) + 1 {
+                numbers.push((call & 0xFFFF_FFFF) as u32)?;
+            }
+        }
+        Ok(numbers)
+    }
+}
+
+impl Gate for Log {
+    fn enter(&self, worker: u32, number: u32) {
+        let place = self.entered.fetch_add(1, SeqCst);
+        if let Some(call) = self.calls.get(place as usize) {
+            call.store(((u64::from(worker) + 1) << 32) | u64::from(number), SeqCst);
+        }
+    }
+}
+
+/// Keeps its calls, and sees to it that two workers at least have some.
+#[derive(Drop)]
+pub struct Watch {
+    pub log: Log,
+    pub meeting: Meeting,
+}
+
+impl Gate for Watch {
+    fn enter(&self, worker: u32, number: u32) {
+        self.log.enter(worker, number);
+        self.meeting.enter(worker, number);
+    }
+}
+
+/// Whether each number below `count` stands once in the lists, and nothing else stands there.
+pub fn each_once(drawn: &[Vec<u32>], count: u32) -> bool {
+    let none_else = drawn.iter().all(|list| list.iter().all(|&n| n < count));
+    none_else && (0..count).all(|n| stands_once(drawn, n))
+}
+
+fn stands_once(drawn: &[Vec<u32>], number: u32) -> bool {
+    drawn.iter().all(|list| times(list, number) <= 1)
+        && drawn.iter().filter(|list| times(list, number) == 1).count() == 1
+}
+
+fn times(list: &Vec<u32>, number: u32) -> usize {
+    list.iter().filter(|&&n| n == number).count()
+}
