@@ -6,11 +6,11 @@ use Rattle.std.proofs.lemmas.Option.{slice_get-get_or, slice_get_past}
 use Rattle.std.proofs.lemmas.List.FromFn.{get_or-map-range_with_len, length-map-range_with_len}
 use Rattle.acpi_tables.specs.Xsdt.{HoldsEntries, entries_of, entry_at, entry_in, entry_count}
 
-length-entries_of : (table : List ℕ) → length (entries_of table) ≡ entry_count table
+pub length-entries_of : (table : List ℕ) → length (entries_of table) ≡ entry_count table
 unfolding entries_of
 length-entries_of table = length-map-range_with_len (entry_at table) 0 (entry_count table)
 
-slice_get-entries_of : (table : List ℕ) (index : ℕ) → index < entry_count table → slice_get (entries_of table) index ≡ Some (entry_at table index)
+pub slice_get-entries_of : (table : List ℕ) (index : ℕ) → index < entry_count table → slice_get (entries_of table) index ≡ Some (entry_at table index)
 unfolding entries_of
 slice_get-entries_of table index h =
     slice_get-get_or _ index 0 (omega (arith, length-map-range_with_len (entry_at table) 0 (entry_count table)))

@@ -1,17 +1,18 @@
 -- The Fixed ACPI Description Table (ACPI 6.5, section 5.2.9, table 5.9), as far as it is read here.
 use Prim.Native.String.{String}
-use Rattle.std.specs.Prelude.{ℕ, ◌+◌, ◌≤◌, List, [], ◌∷◌, length, nat_le, Option, Some, None, if◌then◌else◌}
-use Rattle.acpi_tables.specs.Bytes.{number_at}
+use Rattle.std.specs.Prelude.{ℕ, ◌+◌, ◌≤◌, List, [], ◌∷◌, length, nat_le, Option, Some, None, codes, if◌then◌else◌}
+use Rattle.acpi_tables.specs.Bytes.{bytes_at, number_at}
 use Rattle.acpi_tables.specs.declared.fadt.Fadt.{Fadt}
+use Rattle.acpi_tables.specs.declared.fields.TableField.{TableField}
 
 -- a field: where it stands, how many bytes it has, and how it is called
 pub record Field : Type 0 where
   pub offset : ℕ
   pub width : ℕ
-  pub label : String
+  pub label : List ℕ
 
 abbrev pub field : ℕ → ℕ → String → Field
-field offset width label = record { offset = offset; width = width; label = label }
+field offset width label = record { offset = offset; width = width; label = codes label }
 
 -- the fields
 abbrev pub fadt_fields : List Field
@@ -34,9 +35,17 @@ fadt_fields =
     ∷ field 140 8 "XDsdt"
     ∷ []
 
--- the value of a field, in a table that reaches to its end
+-- the bytes of a field, in a table that reaches to its end
+unfoldable pub field_bytes : List ℕ → Field → Option (List ℕ)
+field_bytes table f = if nat_le (f.offset + f.width) (length table) then Some (bytes_at table f.offset f.width) else None
+
+-- its value
 unfoldable pub value_in : List ℕ → Field → Option ℕ
 value_in table f = if nat_le (f.offset + f.width) (length table) then Some (number_at table f.offset f.width) else None
+
+-- a field as the code keeps it
+abbrev pub field_view : TableField → Field
+field_view f = record { offset = f.offset; width = f.width; label = f.label.now }
 
 -- what was read of each field, in their order
 abbrev pub fadt_values : Fadt → List (Option ℕ)

@@ -31,7 +31,8 @@ pub(crate) fn u16_at(bytes: &[u8], at: usize) -> u16
     u16::from_le_bytes(array_at(bytes, at))
 }
 
-pub(crate) fn u32_at(bytes: &[u8], at: usize) -> u32
+/// The u32 at this offset, the lowest byte first.
+pub fn u32_at(bytes: &[u8], at: usize) -> u32
     requires { at + 4 ≤ length bytes.now }
     ensures { result ≡ number_at bytes.now at 4 }
 {
@@ -53,7 +54,7 @@ pub(crate) fn u8_at(bytes: &[u8], at: usize) -> u8
 }
 
 /// Whether the bytes begin with this word, as a signature.
-pub(crate) fn begins_with(bytes: &[u8], word: &[u8]) -> bool
+pub fn begins_with(bytes: &[u8], word: &[u8]) -> bool
     ensures { result ≡ begins_with bytes.now word.now }
 {
     bytes.starts_with(word)

@@ -82,9 +82,9 @@ fn xsdt_address(root: &[u8]) -> Option<u64>
     }
 }
 
-/// The first dump at this address.
+/// The index of the first dump that stood at this address.
 #[tactic(auto, unfolding(crate::specs::Order::dump_at))]
-fn dump_at(dumps: &[Dump], address: u64) -> Option<usize>
+pub fn dump_at(dumps: &[Dump], address: u64) -> Option<usize>
     ensures { result ≡ dump_at dumps.now address }
 {
     dumps.iter().position(|dump| dump.stands_at(address))

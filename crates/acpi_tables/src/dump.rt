@@ -72,7 +72,7 @@ impl Kind {
 }
 
 /// The table that these bytes begin with: the first Length of them.
-pub(crate) fn table_of(bytes: &[u8]) -> &[u8]
+pub fn table_of(bytes: &[u8]) -> &[u8]
     requires { HoldsTable bytes.now }
     ensures { result.now ≡ table_of bytes.now }
 {

@@ -6,6 +6,7 @@ mod chain;
 mod dump;
 mod fadt;
 mod fault;
+mod fields;
 mod header;
 mod madt;
 mod names;
@@ -13,15 +14,14 @@ mod order;
 mod rsdp;
 mod xsdt;
 
-pub use bytes::sum;
-pub use dump::{Dump, Kind, MAX_DUMP_BYTES};
+pub use bytes::{begins_with, sum, u32_at};
+pub use chain::dump_at;
+pub use dump::{Dump, Kind, MAX_DUMP_BYTES, table_of};
 pub use fadt::Fadt;
 pub use fault::{Bad, TableFault};
+pub use fields::TableField;
 pub use header::Header;
 pub use madt::{Madt, MadtRecord, MadtView};
 pub use order::{MAX_DUMPS, Order, load_order};
 pub use rsdp::{RSDP_SIGNATURE, Rsdp, Wide};
 pub use xsdt::Xsdt;
-
-#[cfg(test)]
-mod tests;

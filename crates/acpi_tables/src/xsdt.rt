@@ -1,5 +1,5 @@
 //! The addresses of the other tables (ACPI 6.5, section 5.2.8).
-ghost use Rattle.std.specs.Prelude.{◌≡◌, ◌⊎◌, ◌↔◌, IsTrue, IfOk, IfErr, OnOk};
+ghost use Rattle.std.specs.Prelude.{◌≡◌, ◌<◌, ◌⊎◌, ◌↔◌, IsTrue, Some, IfOk, IfErr, OnOk, slice_get};
 ghost use Rattle.acpi_tables.specs.Xsdt.{HoldsEntries, entries_of, entry_in, entry_count};
 ghost use Rattle.acpi_tables.specs.declared.fault.Bad.TheVariants.{BadRoot, NoMemory};
 
@@ -41,15 +41,24 @@ impl Xsdt {
         Some(u64_at(table, 36 + 8 * index))
     }
 
+    /// The address at this index of a table that `entries` takes.
+    pub fn entry_at(table: &[u8], index: usize) -> u64
+        requires entries { HoldsEntries table.now }
+        requires inside { index < entry_count table.now }
+        ensures { slice_get (entries_of table.now) index ≡ Some result }
+    {
+        u64_at(table, 36 + 8 * index)
+    }
+
     /// Whether `entries` takes this table.
-    pub(crate) fn holds_entries(table: &[u8]) -> bool
+    pub fn holds_entries(table: &[u8]) -> bool
         ensures { IsTrue result ↔ HoldsEntries table.now }
     {
         table.len() >= 36 && (table.len() - 36) % 8 == 0
     }
 
     /// How many addresses a table lists.
-    pub(crate) fn entry_count(table: &[u8]) -> usize
+    pub fn entry_count(table: &[u8]) -> usize
         requires { HoldsEntries table.now }
         ensures { result ≡ entry_count table.now }
     {

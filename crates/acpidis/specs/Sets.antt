@@ -6,7 +6,7 @@ use Rattle.aml_load.specs.Bodies.{AreBodies}
 use Rattle.aml_load.specs.Loading.{Listed, IsLoad, methods_of}
 use Rattle.aml_load.specs.Views.{codes_view, trees_view}
 use Rattle.aml_text.specs.Lines.{blocks_text}
-use Rattle.aml_text.specs.Prints.{Cut}
+use Rattle.text_writer.specs.Prints.{Cut}
 use Rattle.aml_text.specs.Views.{body_view}
 use Rattle.acpi_tables.specs.declared.fault.Bad.TheVariants as bads
 use Rattle.aml_load.specs.declared.faults.LoadFault.TheVariants as loads

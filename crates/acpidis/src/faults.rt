@@ -4,8 +4,8 @@ ghost use Rattle.acpidis.specs.declared.faults.ReadFault.TheVariants.{NoMemory a
 
 use acpi_tables::TableFault;
 use aml_load::LoadFault;
-use aml_text::WriteFault;
 use std::alloc::{AllocError, AllocFailed};
+use text_writer::WriteFault;
 
 /// Why a set can't be read.
 #[derive(Drop)]

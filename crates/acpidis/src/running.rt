@@ -1,7 +1,7 @@
 //! A whole run over the dumps of a folder.
 ghost use Rattle.std.specs.Prelude.{◌≡◌, ◌⊎◌, ℕ, List};
 ghost use Rattle.std.specs.Io.KnownBytes.{Appends};
-ghost use Rattle.aml_text.specs.Prints.{Cut};
+ghost use Rattle.text_writer.specs.Prints.{Cut};
 ghost use Rattle.acpidis.specs.Listing.{Lists};
 ghost use Rattle.acpidis.specs.Sets.{status_of, Ends};
 

@@ -1,4 +1,3 @@
-pub mod PrintLaws
 pub mod TextLaws
 pub mod NodeLaws
 pub mod LineLaws

@@ -17,7 +17,7 @@ use Rattle.aml_code.specs.Rows.{row_of}
 use Rattle.aml_code.specs.Tree as trees
 use Rattle.aml_code.specs.View.{node_view, nodes_view, parts_view, tail_view, field_view, fields_view, link_view}
 use Rattle.aml_code.proofs.Views.{view-Nothing, view-Named, view-Op, view-tail-Empty, view-tail-Terms, view-tail-Bytes, view-tail-Elements, view-tail-Fields, view-tail-Body, view-field-NamedUnit, view-field-Reserved, view-field-Access, view-field-Connection, view-field-Extended, view-link-Target, view-link-Buffer}
-use Rattle.aml_text.specs.Words.{word}
+use Rattle.text_writer.specs.Words.{word}
 use Rattle.aml_text.specs.Texts.{name_text, head_text, part_texts, tail_text, inline}
 use Rattle.aml_text.specs.Lines.{byte_pair, byte_end, deeper, line, opening, closing, unit_text, unit_lines, joint_text, lines, op_lines, all_lines}
 use Rattle.aml_text.specs.Views.{node_inline, node_lines, field_inline, field_line, link_inline}

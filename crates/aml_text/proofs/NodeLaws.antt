@@ -13,8 +13,9 @@ use Rattle.aml_code.specs.declared.tree.Tail as tails
 use Rattle.aml_code.specs.Rows.{row_of, mnemonic_of}
 use Rattle.aml_code.specs.View.{node_view, nodes_view, part_view, parts_view, tail_view}
 use Rattle.aml_code.proofs.Views.{view-Nothing, view-Named, view-Op, view-part-Child, view-part-Label, view-part-Byte, view-part-Word, view-part-Dword, view-part-Qword, view-part-Text, view-tail-Empty, view-tail-Terms, view-tail-Bytes, view-tail-Elements, view-tail-Fields, view-tail-Body}
-use Rattle.aml_text.specs.Words.{word}
-use Rattle.aml_text.specs.Texts.{hex2, hex4, hex8, hex16, quoted, name_text, separated_by, joined, arguments_text, braced, is_constant, head_text, inline, inlines, part_text, part_texts, tail_text}
+use Rattle.text_writer.specs.Words.{word}
+use Rattle.aml_text.specs.Texts.{name_text, separated_by, joined, arguments_text, braced, is_constant, head_text, inline, inlines, part_text, part_texts, tail_text}
+use Rattle.text_writer.specs.Numbers.{hex2, hex4, hex8, hex16, quoted}
 use Rattle.aml_text.specs.Views.{node_inline, part_inline}
 use Rattle.aml_text.proofs.TextLaws.{joined-map, braced-map}
 

@@ -1,6 +1,6 @@
 -- Texts of lists, as loops print them.
 use Rattle.std.proofs.Common.{◌≡◌, ℕ, zero, suc, ◌+◌, add-one, List, [], ◌∷◌, ◌++◌, map, flat_map, length, replicate, refl, ap}
-use Rattle.aml_text.specs.Words.{word}
+use Rattle.text_writer.specs.Words.{word}
 use Rattle.aml_text.specs.Lines.{indent}
 use Rattle.aml_text.specs.Texts.{after_separator, separated_by, joined, braced}
 

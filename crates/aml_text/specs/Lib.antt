@@ -1,7 +1,4 @@
--- What printing means, and the text of each thing.
-pub mod Waiting
-pub mod Prints
-pub mod Words
+-- The text of each thing.
 pub mod Texts
 pub mod Lines
 pub mod Views

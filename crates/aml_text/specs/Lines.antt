@@ -5,8 +5,9 @@ use Rattle.aml_code.specs.Rows.{row_of}
 use Rattle.aml_code.specs.Tree.{Tree, nothing, named, op, Trees, no_trees, tree_more, Parts, Rest, empty, terms, bytes, elements, fields, body, OneUnit, unit, reserved, access, connection, extended, Units, no_units, unit_more, Joint, target, buffer}
 use Rattle.aml_code.specs.Declaring.{last_label, last_byte}
 use Rattle.aml_code.specs.Encoding.{slice_of}
-use Rattle.aml_text.specs.Words.{word}
-use Rattle.aml_text.specs.Texts.{hex2, quoted, separated_by, name_text, head_text, inline, part_texts, tail_text}
+use Rattle.text_writer.specs.Words.{word}
+use Rattle.aml_text.specs.Texts.{separated_by, name_text, head_text, inline, part_texts, tail_text}
+use Rattle.text_writer.specs.Numbers.{hex2, quoted}
 
 -- the level below (a machine number)
 abbrev pub deeper : ℕ → ℕ

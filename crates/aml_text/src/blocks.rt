@@ -4,18 +4,18 @@ ghost use Rattle.aml_code.specs.Declaring.{last_label, last_byte};
 ghost use Rattle.aml_code.specs.Rows.{row_of};
 ghost use Rattle.aml_code.specs.View.{node_view, nodes_view, parts_view, tail_view};
 ghost use Rattle.aml_text.specs.Views.{body_view, block_view};
-ghost use Rattle.aml_text.specs.Prints.{Prints};
+ghost use Rattle.text_writer.specs.Prints.{Prints};
 ghost use Rattle.aml_text.specs.Texts.{head_text, part_texts};
 ghost use Rattle.aml_text.specs.Lines.{deeper, line, opening, closing, serialized_text, comma_decimal, flags_text, method_text, method_head, raw_text, body_lines, left, left_rest, left_all, table_lines, table_op_lines, all_table_lines, block_opening, block_text, blocks_text};
 
 use crate::lines::{
     print_closing, print_indent, print_lines, print_op_lines, print_opening, print_terms,
 };
-use crate::output::Out;
 use crate::texts::{print_bytes, print_head};
-use crate::words::{print_decimal, print_name, print_quoted};
+use crate::words::print_name;
 use aml_code::{CodeFault, Name, Node, Part, Tail, last_byte, last_name, slice};
 use std::io::Write;
+use text_writer::{Out, print_decimal, print_quoted};
 
 /// What became of a method's body.
 #[derive(Drop)]
@@ -38,7 +38,7 @@ pub struct Block<'a> {
 }
 
 /// Whether a method is serialized: bit 3 of its flags.
-#[tactic(auto, using(crate::proofs::PrintLaws::straight), unfolding(crate::specs::Lines::serialized_text))]
+#[tactic(auto, using(text_writer::proofs::PrintLaws::straight), unfolding(crate::specs::Lines::serialized_text))]
 fn print_serialized<W: Write>(out: &mut Out<'_, W>, flags: u8)
     ensures { Prints W.contents out.old out.new (serialized_text flags) }
 {
@@ -49,15 +49,15 @@ fn print_serialized<W: Write>(out: &mut Out<'_, W>, flags: u8)
     }
 }
 
-#[tactic(auto, using(crate::proofs::PrintLaws::straight), unfolding(crate::specs::Lines::comma_decimal))]
+#[tactic(auto, using(text_writer::proofs::PrintLaws::straight), unfolding(crate::specs::Lines::comma_decimal))]
 fn print_comma_decimal<W: Write>(out: &mut Out<'_, W>, n: u8)
     ensures { Prints W.contents out.old out.new (comma_decimal n) }
 {
     out.put(b", ");
-    print_decimal(out, n as u32);
+    print_decimal(out, n as u64);
 }
 
-#[tactic(auto, using(crate::proofs::PrintLaws::straight), unfolding(crate::specs::Lines::flags_text))]
+#[tactic(auto, using(text_writer::proofs::PrintLaws::straight), unfolding(crate::specs::Lines::flags_text))]
 fn print_flags<W: Write>(out: &mut Out<'_, W>, flags: u8)
     ensures { Prints W.contents out.old out.new (flags_text flags) }
 {
@@ -66,7 +66,7 @@ fn print_flags<W: Write>(out: &mut Out<'_, W>, flags: u8)
     print_comma_decimal(out, flags / 16);
 }
 
-#[tactic(auto, using(crate::proofs::PrintLaws::straight), unfolding(crate::specs::Lines::method_text))]
+#[tactic(auto, using(text_writer::proofs::PrintLaws::straight), unfolding(crate::specs::Lines::method_text))]
 fn print_method<W: Write>(out: &mut Out<'_, W>, name: &Name, flags: u8)
     ensures { Prints W.contents out.old out.new (method_text name.now flags) }
 {
@@ -77,7 +77,7 @@ fn print_method<W: Write>(out: &mut Out<'_, W>, name: &Name, flags: u8)
 }
 
 /// The head of a method, from its name and flags.
-#[tactic(auto, using(crate::proofs::PrintLaws::straight, crate::proofs::BlockLaws::heads))]
+#[tactic(auto, using(text_writer::proofs::PrintLaws::straight, crate::proofs::BlockLaws::heads))]
 fn print_method_head<W: Write>(out: &mut Out<'_, W>, opcode: u16, parts: &[Part])
     ensures { Prints W.contents out.old out.new (method_head (last_label None (parts_view parts.now)) (last_byte None (parts_view parts.now)) (head_text (row_of opcode) (part_texts (parts_view parts.now)))) }
 {
@@ -90,7 +90,7 @@ fn print_method_head<W: Write>(out: &mut Out<'_, W>, opcode: u16, parts: &[Part]
     }
 }
 
-#[tactic(auto, using(crate::proofs::PrintLaws::straight), unfolding(crate::specs::Lines::opening))]
+#[tactic(auto, using(text_writer::proofs::PrintLaws::straight), unfolding(crate::specs::Lines::opening))]
 fn print_method_opening<W: Write>(out: &mut Out<'_, W>, level: u32, opcode: u16, parts: &[Part])
     ensures { Prints W.contents out.old out.new (opening level (method_head (last_label None (parts_view parts.now)) (last_byte None (parts_view parts.now)) (head_text (row_of opcode) (part_texts (parts_view parts.now))))) }
 {
@@ -99,7 +99,7 @@ fn print_method_opening<W: Write>(out: &mut Out<'_, W>, level: u32, opcode: u16,
     out.put(b" {\n");
 }
 
-#[tactic(auto, using(crate::proofs::PrintLaws::straight), unfolding(crate::specs::Lines::raw_text))]
+#[tactic(auto, using(text_writer::proofs::PrintLaws::straight), unfolding(crate::specs::Lines::raw_text))]
 fn print_raw<W: Write>(out: &mut Out<'_, W>, bytes: &[u8])
     ensures { Prints W.contents out.old out.new (raw_text bytes.now) }
 {
@@ -108,7 +108,7 @@ fn print_raw<W: Write>(out: &mut Out<'_, W>, bytes: &[u8])
     out.put(b"}");
 }
 
-#[tactic(auto, using(crate::proofs::PrintLaws::straight), unfolding(crate::specs::Lines::line))]
+#[tactic(auto, using(text_writer::proofs::PrintLaws::straight), unfolding(crate::specs::Lines::line))]
 fn print_raw_line<W: Write>(out: &mut Out<'_, W>, level: u32, bytes: &[u8])
     ensures { Prints W.contents out.old out.new (line level (raw_text bytes.now)) }
 {
@@ -118,7 +118,7 @@ fn print_raw_line<W: Write>(out: &mut Out<'_, W>, level: u32, bytes: &[u8])
 }
 
 /// The first of the bodies, or nothing where there is none.
-#[tactic(auto, using(crate::proofs::PrintLaws::straight, crate::proofs::BlockLaws::bodies_of))]
+#[tactic(auto, using(text_writer::proofs::PrintLaws::straight, crate::proofs::BlockLaws::bodies_of))]
 fn print_body<W: Write>(out: &mut Out<'_, W>, level: u32, bytes: &[u8], bodies: &[Body])
     ensures { Prints W.contents out.old out.new (body_lines level bytes.now (map body_view bodies.now)) }
 {
@@ -127,7 +127,7 @@ fn print_body<W: Write>(out: &mut Out<'_, W>, level: u32, bytes: &[u8], bodies: 
     }
 }
 
-#[tactic(auto, using(crate::proofs::PrintLaws::straight, crate::proofs::BlockLaws::one_body))]
+#[tactic(auto, using(text_writer::proofs::PrintLaws::straight, crate::proofs::BlockLaws::one_body))]
 fn print_one_body<W: Write>(out: &mut Out<'_, W>, level: u32, bytes: &[u8], body: &Body)
     ensures { Prints W.contents out.old out.new (body_lines level bytes.now (body_view body.now ∷ [])) }
 {
@@ -138,7 +138,7 @@ fn print_one_body<W: Write>(out: &mut Out<'_, W>, level: u32, bytes: &[u8], body
 }
 
 /// A method, with the first of the bodies.
-#[tactic(auto, using(crate::proofs::PrintLaws::straight))]
+#[tactic(auto, using(text_writer::proofs::PrintLaws::straight))]
 fn print_method_block<W: Write>(
     out: &mut Out<'_, W>,
     level: u32,
@@ -166,7 +166,7 @@ fn others(bodies: &[Body]) -> &[Body]
 
 /// The lines of a term of a table. Each method takes the first of the bodies; the others are answered.
 #[cycle(blocks)]
-#[tactic(auto, using(crate::proofs::PrintLaws::straight, crate::proofs::BlockLaws::table_nodes))]
+#[tactic(auto, using(text_writer::proofs::PrintLaws::straight, crate::proofs::BlockLaws::table_nodes))]
 fn print_table_term<'b, W: Write>(
     out: &mut Out<'_, W>,
     code: &[u8],
@@ -196,7 +196,7 @@ fn print_table_term<'b, W: Write>(
 }
 
 #[cycle(blocks)]
-#[tactic(auto, using(crate::proofs::PrintLaws::straight, crate::proofs::BlockLaws::table_tails))]
+#[tactic(auto, using(text_writer::proofs::PrintLaws::straight, crate::proofs::BlockLaws::table_tails))]
 fn print_table_op<'b, W: Write>(
     out: &mut Out<'_, W>,
     code: &[u8],
@@ -243,7 +243,7 @@ fn print_table_op<'b, W: Write>(
 }
 
 #[cycle(blocks)]
-#[tactic(auto, using(crate::proofs::PrintLaws::straight))]
+#[tactic(auto, using(text_writer::proofs::PrintLaws::straight))]
 fn print_table_block<'b, W: Write>(
     out: &mut Out<'_, W>,
     code: &[u8],
@@ -264,7 +264,7 @@ fn print_table_block<'b, W: Write>(
 
 /// The lines of terms of a table, one after the other.
 #[cycle(blocks)]
-#[tactic(auto, using(crate::proofs::PrintLaws::straight))]
+#[tactic(auto, using(text_writer::proofs::PrintLaws::straight))]
 fn print_table_terms<'b, W: Write>(
     out: &mut Out<'_, W>,
     code: &[u8],
@@ -284,7 +284,7 @@ fn print_table_terms<'b, W: Write>(
 
 /// A definition block: the terms of a table's AML, each method with its body, in the order of the text.
 /// Answers the bodies that are left: those of the next tables.
-#[tactic(auto, using(crate::proofs::PrintLaws::straight), unfolding(crate::specs::Lines::block_text))]
+#[tactic(auto, using(text_writer::proofs::PrintLaws::straight), unfolding(crate::specs::Lines::block_text))]
 pub fn print_block<'b, W: Write>(
     out: &mut Out<'_, W>,
     name: &[u8],
@@ -302,7 +302,7 @@ pub fn print_block<'b, W: Write>(
 }
 
 /// Definition blocks, one after the other. Each takes the bodies of its own methods, from the first on.
-#[tactic(auto, using(crate::proofs::PrintLaws::straight))]
+#[tactic(auto, using(text_writer::proofs::PrintLaws::straight))]
 pub fn print_blocks<W: Write>(out: &mut Out<'_, W>, blocks: &[Block<'_>], bodies: &[Body])
     ensures { Prints W.contents out.old out.new (blocks_text (map block_view blocks.now) (map body_view bodies.now)) }
 {
@@ -312,7 +312,7 @@ pub fn print_blocks<W: Write>(out: &mut Out<'_, W>, blocks: &[Block<'_>], bodies
     }
 }
 
-#[tactic(auto, using(crate::proofs::PrintLaws::straight), unfolding(crate::specs::Lines::block_opening))]
+#[tactic(auto, using(text_writer::proofs::PrintLaws::straight), unfolding(crate::specs::Lines::block_opening))]
 fn print_block_opening<W: Write>(out: &mut Out<'_, W>, name: &[u8])
     ensures { Prints W.contents out.old out.new (block_opening name.now) }
 {

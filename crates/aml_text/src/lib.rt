@@ -5,13 +5,9 @@
 
 mod blocks;
 mod lines;
-mod output;
-mod pending;
 mod texts;
 mod words;
 mod writing;
 
 pub use blocks::{Block, Body, print_block, print_blocks};
-pub use output::{Out, WriteFault};
-pub use words::print_quoted;
 pub use writing::write_blocks;

@@ -2,20 +2,20 @@
 ghost use Rattle.std.specs.Prelude.{◌++◌, decimal, flat_map};
 ghost use Rattle.aml_code.specs.Rows.{row_of};
 ghost use Rattle.aml_code.specs.View.{parts_view, tail_view};
-ghost use Rattle.aml_text.specs.Prints.{Prints};
-ghost use Rattle.aml_text.specs.Words.{word};
+ghost use Rattle.text_writer.specs.Prints.{Prints};
+ghost use Rattle.text_writer.specs.Words.{word};
 ghost use Rattle.aml_text.specs.Texts.{head_text, part_texts, tail_text};
 ghost use Rattle.aml_text.specs.Lines.{byte_pair, byte_end, deeper, indent, line, opening, closing, op_lines};
 ghost use Rattle.aml_text.specs.Views.{node_inline, node_lines, field_inline, field_line, link_inline};
 
-use crate::output::Out;
 use crate::texts::{print_byte, print_head, print_inline, print_tail};
-use crate::words::{print_decimal, print_name};
+use crate::words::print_name;
 use aml_code::{Field, Link, Node, Part, Seg, Tail};
 use std::io::Write;
+use text_writer::{Out, print_decimal};
 
 /// Two spaces for each level.
-#[tactic(auto, using(crate::proofs::PrintLaws::straight, crate::proofs::TextLaws::indents))]
+#[tactic(auto, using(text_writer::proofs::PrintLaws::straight, crate::proofs::TextLaws::indents))]
 pub fn print_indent<W: Write>(out: &mut Out<'_, W>, level: u32)
     ensures { Prints W.contents out.old out.new (indent level) }
 {
@@ -25,7 +25,7 @@ pub fn print_indent<W: Write>(out: &mut Out<'_, W>, level: u32)
 }
 
 /// The last line of a block.
-#[tactic(auto, using(crate::proofs::PrintLaws::straight), unfolding(crate::specs::Lines::closing))]
+#[tactic(auto, using(text_writer::proofs::PrintLaws::straight), unfolding(crate::specs::Lines::closing))]
 pub fn print_closing<W: Write>(out: &mut Out<'_, W>, level: u32)
     ensures { Prints W.contents out.old out.new (closing level) }
 {
@@ -34,7 +34,7 @@ pub fn print_closing<W: Write>(out: &mut Out<'_, W>, level: u32)
 }
 
 /// The first line of a block.
-#[tactic(auto, using(crate::proofs::PrintLaws::straight), unfolding(crate::specs::Lines::opening))]
+#[tactic(auto, using(text_writer::proofs::PrintLaws::straight), unfolding(crate::specs::Lines::opening))]
 pub fn print_opening<W: Write>(out: &mut Out<'_, W>, level: u32, opcode: u16, parts: &[Part])
     ensures { Prints W.contents out.old out.new (opening level (head_text (row_of opcode) (part_texts (parts_view parts.now)))) }
 {
@@ -43,7 +43,7 @@ pub fn print_opening<W: Write>(out: &mut Out<'_, W>, level: u32, opcode: u16, pa
     out.put(b" {\n");
 }
 
-#[tactic(auto, using(crate::proofs::PrintLaws::straight), unfolding(crate::specs::Lines::line))]
+#[tactic(auto, using(text_writer::proofs::PrintLaws::straight), unfolding(crate::specs::Lines::line))]
 fn print_node_line<W: Write>(out: &mut Out<'_, W>, level: u32, node: &Node)
     ensures { Prints W.contents out.old out.new (line level (node_inline node.now)) }
 {
@@ -52,7 +52,7 @@ fn print_node_line<W: Write>(out: &mut Out<'_, W>, level: u32, node: &Node)
     out.put(b"\n");
 }
 
-#[tactic(auto, using(crate::proofs::PrintLaws::straight))]
+#[tactic(auto, using(text_writer::proofs::PrintLaws::straight))]
 fn print_op<W: Write>(out: &mut Out<'_, W>, opcode: u16, parts: &[Part], tail: &Tail)
     ensures { Prints W.contents out.old out.new (head_text (row_of opcode) (part_texts (parts_view parts.now)) ++ tail_text (tail_view tail.now)) }
 {
@@ -60,7 +60,7 @@ fn print_op<W: Write>(out: &mut Out<'_, W>, opcode: u16, parts: &[Part], tail: &
     print_tail(out, tail);
 }
 
-#[tactic(auto, using(crate::proofs::PrintLaws::straight), unfolding(crate::specs::Lines::line))]
+#[tactic(auto, using(text_writer::proofs::PrintLaws::straight), unfolding(crate::specs::Lines::line))]
 fn print_op_line<W: Write>(
     out: &mut Out<'_, W>,
     level: u32,
@@ -75,7 +75,7 @@ fn print_op_line<W: Write>(
     out.put(b"\n");
 }
 
-#[tactic(auto, using(crate::proofs::PrintLaws::straight, crate::proofs::LineLaws::links))]
+#[tactic(auto, using(text_writer::proofs::PrintLaws::straight, crate::proofs::LineLaws::links))]
 fn print_link<W: Write>(out: &mut Out<'_, W>, link: &Link)
     ensures { Prints W.contents out.old out.new (link_inline link.now) }
 {
@@ -85,25 +85,25 @@ fn print_link<W: Write>(out: &mut Out<'_, W>, link: &Link)
     }
 }
 
-#[tactic(auto, using(crate::proofs::PrintLaws::straight))]
+#[tactic(auto, using(text_writer::proofs::PrintLaws::straight))]
 fn print_unit<W: Write>(out: &mut Out<'_, W>, seg: &Seg, bits: u32)
     ensures { Prints W.contents out.old out.new (seg.now.0 ++ word ", " ++ decimal bits) }
 {
     out.put(&seg.0);
     out.put(b", ");
-    print_decimal(out, bits);
+    print_decimal(out, bits as u64);
 }
 
-#[tactic(auto, using(crate::proofs::PrintLaws::straight))]
+#[tactic(auto, using(text_writer::proofs::PrintLaws::straight))]
 fn print_reserved<W: Write>(out: &mut Out<'_, W>, bits: u32)
     ensures { Prints W.contents out.old out.new (word "Reserved, " ++ decimal bits) }
 {
     out.put(b"Reserved, ");
-    print_decimal(out, bits);
+    print_decimal(out, bits as u64);
 }
 
 /// Two bytes as constants.
-#[tactic(auto, using(crate::proofs::PrintLaws::straight), unfolding(crate::specs::Lines::byte_pair))]
+#[tactic(auto, using(text_writer::proofs::PrintLaws::straight), unfolding(crate::specs::Lines::byte_pair))]
 fn print_byte_pair<W: Write>(out: &mut Out<'_, W>, first: u8, second: u8)
     ensures { Prints W.contents out.old out.new (byte_pair first second) }
 {
@@ -112,7 +112,7 @@ fn print_byte_pair<W: Write>(out: &mut Out<'_, W>, first: u8, second: u8)
     print_byte(out, second);
 }
 
-#[tactic(auto, using(crate::proofs::PrintLaws::straight))]
+#[tactic(auto, using(text_writer::proofs::PrintLaws::straight))]
 fn print_access<W: Write>(out: &mut Out<'_, W>, access: u8, attribute: u8)
     ensures { Prints W.contents out.old out.new (word "Access (" ++ byte_pair access attribute ++ word ")") }
 {
@@ -121,7 +121,7 @@ fn print_access<W: Write>(out: &mut Out<'_, W>, access: u8, attribute: u8)
     out.put(b")");
 }
 
-#[tactic(auto, using(crate::proofs::PrintLaws::straight))]
+#[tactic(auto, using(text_writer::proofs::PrintLaws::straight))]
 fn print_extended<W: Write>(out: &mut Out<'_, W>, access: u8, attribute: u8, length: u8)
     ensures { Prints W.contents out.old out.new (word "ExtendedAccess (" ++ byte_pair access attribute ++ byte_end length) }
 {
@@ -130,7 +130,7 @@ fn print_extended<W: Write>(out: &mut Out<'_, W>, access: u8, attribute: u8, len
     print_byte_end(out, length);
 }
 
-#[tactic(auto, using(crate::proofs::PrintLaws::straight), unfolding(crate::specs::Lines::byte_end))]
+#[tactic(auto, using(text_writer::proofs::PrintLaws::straight), unfolding(crate::specs::Lines::byte_end))]
 fn print_byte_end<W: Write>(out: &mut Out<'_, W>, last: u8)
     ensures { Prints W.contents out.old out.new (byte_end last) }
 {
@@ -139,7 +139,7 @@ fn print_byte_end<W: Write>(out: &mut Out<'_, W>, last: u8)
     out.put(b")");
 }
 
-#[tactic(auto, using(crate::proofs::PrintLaws::straight))]
+#[tactic(auto, using(text_writer::proofs::PrintLaws::straight))]
 fn print_connection<W: Write>(out: &mut Out<'_, W>, link: &Link)
     ensures { Prints W.contents out.old out.new (word "Connection (" ++ link_inline link.now ++ word ")") }
 {
@@ -149,7 +149,7 @@ fn print_connection<W: Write>(out: &mut Out<'_, W>, link: &Link)
 }
 
 /// An element of a field list.
-#[tactic(auto, using(crate::proofs::PrintLaws::straight, crate::proofs::LineLaws::units_of))]
+#[tactic(auto, using(text_writer::proofs::PrintLaws::straight, crate::proofs::LineLaws::units_of))]
 fn print_field<W: Write>(out: &mut Out<'_, W>, field: &Field)
     ensures { Prints W.contents out.old out.new (field_inline field.now) }
 {
@@ -164,7 +164,7 @@ fn print_field<W: Write>(out: &mut Out<'_, W>, field: &Field)
     }
 }
 
-#[tactic(auto, using(crate::proofs::PrintLaws::straight), unfolding(crate::specs::Lines::line, crate::specs::Views::field_line))]
+#[tactic(auto, using(text_writer::proofs::PrintLaws::straight), unfolding(crate::specs::Lines::line, crate::specs::Views::field_line))]
 fn print_field_line<W: Write>(out: &mut Out<'_, W>, level: u32, field: &Field)
     ensures { Prints W.contents out.old out.new (field_line level field.now) }
 {
@@ -174,7 +174,7 @@ fn print_field_line<W: Write>(out: &mut Out<'_, W>, level: u32, field: &Field)
 }
 
 /// The elements of a field list, a line each.
-#[tactic(auto, using(crate::proofs::PrintLaws::straight))]
+#[tactic(auto, using(text_writer::proofs::PrintLaws::straight))]
 fn print_fields<W: Write>(out: &mut Out<'_, W>, level: u32, fields: &[Field])
     ensures { Prints W.contents out.old out.new (flat_map (field_line level) fields.now) }
 {
@@ -183,7 +183,7 @@ fn print_fields<W: Write>(out: &mut Out<'_, W>, level: u32, fields: &[Field])
     }
 }
 
-#[tactic(auto, using(crate::proofs::PrintLaws::straight))]
+#[tactic(auto, using(text_writer::proofs::PrintLaws::straight))]
 fn print_fields_block<W: Write>(
     out: &mut Out<'_, W>,
     level: u32,
@@ -200,7 +200,7 @@ fn print_fields_block<W: Write>(
 
 /// The lines of a term.
 #[cycle(lines)]
-#[tactic(auto, using(crate::proofs::PrintLaws::straight, crate::proofs::LineLaws::node_variants))]
+#[tactic(auto, using(text_writer::proofs::PrintLaws::straight, crate::proofs::LineLaws::node_variants))]
 pub fn print_lines<W: Write>(out: &mut Out<'_, W>, level: u32, node: &Node)
     ensures { Prints W.contents out.old out.new (node_lines level node.now) }
 {
@@ -217,7 +217,7 @@ pub fn print_lines<W: Write>(out: &mut Out<'_, W>, level: u32, node: &Node)
 }
 
 #[cycle(lines)]
-#[tactic(auto, using(crate::proofs::PrintLaws::straight, crate::proofs::LineLaws::tail_variants))]
+#[tactic(auto, using(text_writer::proofs::PrintLaws::straight, crate::proofs::LineLaws::tail_variants))]
 pub fn print_op_lines<W: Write>(
     out: &mut Out<'_, W>,
     level: u32,
@@ -238,7 +238,7 @@ pub fn print_op_lines<W: Write>(
 }
 
 #[cycle(lines)]
-#[tactic(auto, using(crate::proofs::PrintLaws::straight))]
+#[tactic(auto, using(text_writer::proofs::PrintLaws::straight))]
 fn print_terms_block<W: Write>(
     out: &mut Out<'_, W>,
     level: u32,
@@ -255,7 +255,7 @@ fn print_terms_block<W: Write>(
 
 /// The lines of terms, one after the other.
 #[cycle(lines)]
-#[tactic(auto, using(crate::proofs::PrintLaws::straight))]
+#[tactic(auto, using(text_writer::proofs::PrintLaws::straight))]
 pub fn print_terms<W: Write>(out: &mut Out<'_, W>, level: u32, nodes: &[Node])
     ensures { Prints W.contents out.old out.new (flat_map (node_lines level) nodes.now) }
 {

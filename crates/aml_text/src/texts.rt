@@ -2,17 +2,18 @@
 ghost use Rattle.std.specs.Prelude.{◌≡◌, ◌++◌, Some, map};
 ghost use Rattle.aml_code.specs.Rows.{row_of};
 ghost use Rattle.aml_code.specs.View.{nodes_view, parts_view, tail_view};
-ghost use Rattle.aml_text.specs.Prints.{Prints};
-ghost use Rattle.aml_text.specs.Words.{word};
-ghost use Rattle.aml_text.specs.Texts.{hex2, hex4, hex8, hex16, name_text, after_separator, separated_by, arguments_text, braced, is_constant, head_text, part_texts, inlines, tail_text};
+ghost use Rattle.text_writer.specs.Prints.{Prints};
+ghost use Rattle.text_writer.specs.Words.{word};
+ghost use Rattle.aml_text.specs.Texts.{name_text, after_separator, separated_by, arguments_text, braced, is_constant, head_text, part_texts, inlines, tail_text};
+ghost use Rattle.text_writer.specs.Numbers.{hex2, hex4, hex8, hex16};
 ghost use Rattle.aml_text.specs.Views.{node_inline, part_inline};
 
-use crate::output::Out;
-use crate::words::{print_hex2, print_hex4, print_hex8, print_hex16, print_name, print_quoted};
+use crate::words::print_name;
 use aml_code::{Bytes, Group, Name, Node, OpRow, Part, Shape, Tail, row};
 use std::io::Write;
+use text_writer::{Out, print_hex2, print_hex4, print_hex8, print_hex16, print_quoted};
 
-#[tactic(auto, using(crate::proofs::PrintLaws::straight), unfolding(crate::specs::Texts::after_separator))]
+#[tactic(auto, using(text_writer::proofs::PrintLaws::straight), unfolding(crate::specs::Texts::after_separator))]
 fn print_next_byte<W: Write>(out: &mut Out<'_, W>, byte: u8)
     ensures { Prints W.contents out.old out.new (after_separator (word ", ") hex2 byte) }
 {
@@ -21,7 +22,7 @@ fn print_next_byte<W: Write>(out: &mut Out<'_, W>, byte: u8)
 }
 
 /// Bytes with a comma between two.
-#[tactic(auto, using(crate::proofs::PrintLaws::straight, crate::proofs::TextLaws::separations))]
+#[tactic(auto, using(text_writer::proofs::PrintLaws::straight, crate::proofs::TextLaws::separations))]
 pub fn print_bytes<W: Write>(out: &mut Out<'_, W>, bytes: &[u8])
     ensures { Prints W.contents out.old out.new (separated_by (word ", ") hex2 bytes.now) }
 {
@@ -33,7 +34,7 @@ pub fn print_bytes<W: Write>(out: &mut Out<'_, W>, bytes: &[u8])
     }
 }
 
-#[tactic(auto, using(crate::proofs::PrintLaws::straight, crate::proofs::TextLaws::braces), unfolding(crate::specs::Texts::braced))]
+#[tactic(auto, using(text_writer::proofs::PrintLaws::straight, crate::proofs::TextLaws::braces), unfolding(crate::specs::Texts::braced))]
 fn print_braced_bytes<W: Write>(out: &mut Out<'_, W>, bytes: &[u8])
     ensures { Prints W.contents out.old out.new (braced (map hex2 bytes.now)) }
 {
@@ -42,7 +43,7 @@ fn print_braced_bytes<W: Write>(out: &mut Out<'_, W>, bytes: &[u8])
     out.put(b"}");
 }
 
-#[tactic(auto, using(crate::proofs::PrintLaws::straight))]
+#[tactic(auto, using(text_writer::proofs::PrintLaws::straight))]
 pub fn print_byte<W: Write>(out: &mut Out<'_, W>, n: u8)
     ensures { Prints W.contents out.old out.new (word "0x" ++ hex2 n) }
 {
@@ -50,7 +51,7 @@ pub fn print_byte<W: Write>(out: &mut Out<'_, W>, n: u8)
     print_hex2(out, n);
 }
 
-#[tactic(auto, using(crate::proofs::PrintLaws::straight))]
+#[tactic(auto, using(text_writer::proofs::PrintLaws::straight))]
 fn print_word<W: Write>(out: &mut Out<'_, W>, n: u16)
     ensures { Prints W.contents out.old out.new (word "0x" ++ hex4 n) }
 {
@@ -58,7 +59,7 @@ fn print_word<W: Write>(out: &mut Out<'_, W>, n: u16)
     print_hex4(out, n);
 }
 
-#[tactic(auto, using(crate::proofs::PrintLaws::straight))]
+#[tactic(auto, using(text_writer::proofs::PrintLaws::straight))]
 fn print_dword<W: Write>(out: &mut Out<'_, W>, n: u32)
     ensures { Prints W.contents out.old out.new (word "0x" ++ hex8 n) }
 {
@@ -66,7 +67,7 @@ fn print_dword<W: Write>(out: &mut Out<'_, W>, n: u32)
     print_hex8(out, n);
 }
 
-#[tactic(auto, using(crate::proofs::PrintLaws::straight))]
+#[tactic(auto, using(text_writer::proofs::PrintLaws::straight))]
 fn print_qword<W: Write>(out: &mut Out<'_, W>, n: u64)
     ensures { Prints W.contents out.old out.new (word "0x" ++ hex16 n) }
 {
@@ -82,7 +83,7 @@ fn is_constant(row: &OpRow) -> bool
 }
 
 #[cycle(inline)]
-#[tactic(auto, using(crate::proofs::PrintLaws::straight, crate::proofs::NodeLaws::inline_nodes))]
+#[tactic(auto, using(text_writer::proofs::PrintLaws::straight, crate::proofs::NodeLaws::inline_nodes))]
 pub fn print_inline<W: Write>(out: &mut Out<'_, W>, node: &Node)
     ensures { Prints W.contents out.old out.new (node_inline node.now) }
 {
@@ -102,7 +103,7 @@ pub fn print_inline<W: Write>(out: &mut Out<'_, W>, node: &Node)
 }
 
 #[cycle(inline)]
-#[tactic(auto, using(crate::proofs::PrintLaws::straight))]
+#[tactic(auto, using(text_writer::proofs::PrintLaws::straight))]
 fn print_call<W: Write>(out: &mut Out<'_, W>, name: &Name, args: &[Node])
     ensures { Prints W.contents out.old out.new (name_text name.now ++ arguments_text (inlines (nodes_view args.now))) }
 {
@@ -112,7 +113,7 @@ fn print_call<W: Write>(out: &mut Out<'_, W>, name: &Name, args: &[Node])
 
 /// Arguments in parentheses, if there are any.
 #[cycle(inline)]
-#[tactic(auto, using(crate::proofs::PrintLaws::straight, crate::proofs::NodeLaws::arguments))]
+#[tactic(auto, using(text_writer::proofs::PrintLaws::straight, crate::proofs::NodeLaws::arguments))]
 fn print_arguments<W: Write>(out: &mut Out<'_, W>, args: &[Node])
     ensures { Prints W.contents out.old out.new (arguments_text (inlines (nodes_view args.now))) }
 {
@@ -124,7 +125,7 @@ fn print_arguments<W: Write>(out: &mut Out<'_, W>, args: &[Node])
 }
 
 #[cycle(inline)]
-#[tactic(auto, using(crate::proofs::PrintLaws::straight), unfolding(crate::specs::Texts::after_separator))]
+#[tactic(auto, using(text_writer::proofs::PrintLaws::straight), unfolding(crate::specs::Texts::after_separator))]
 fn print_next_node<W: Write>(out: &mut Out<'_, W>, node: &Node)
     ensures { Prints W.contents out.old out.new (after_separator (word ", ") node_inline node.now) }
 {
@@ -134,7 +135,7 @@ fn print_next_node<W: Write>(out: &mut Out<'_, W>, node: &Node)
 
 /// Nodes with a comma between two.
 #[cycle(inline)]
-#[tactic(auto, using(crate::proofs::PrintLaws::straight, crate::proofs::TextLaws::separations))]
+#[tactic(auto, using(text_writer::proofs::PrintLaws::straight, crate::proofs::TextLaws::separations))]
 fn print_nodes<W: Write>(out: &mut Out<'_, W>, nodes: &[Node])
     ensures { Prints W.contents out.old out.new (separated_by (word ", ") node_inline nodes.now) }
 {
@@ -148,7 +149,7 @@ fn print_nodes<W: Write>(out: &mut Out<'_, W>, nodes: &[Node])
 
 /// An opcode's mnemonic and its parts.
 #[cycle(inline)]
-#[tactic(auto, using(crate::proofs::PrintLaws::straight, crate::proofs::NodeLaws::heads))]
+#[tactic(auto, using(text_writer::proofs::PrintLaws::straight, crate::proofs::NodeLaws::heads))]
 pub fn print_head<W: Write>(out: &mut Out<'_, W>, opcode: u16, parts: &[Part])
     ensures { Prints W.contents out.old out.new (head_text (row_of opcode) (part_texts (parts_view parts.now))) }
 {
@@ -159,7 +160,7 @@ pub fn print_head<W: Write>(out: &mut Out<'_, W>, opcode: u16, parts: &[Part])
 }
 
 #[cycle(inline)]
-#[tactic(auto, using(crate::proofs::PrintLaws::straight, crate::proofs::NodeLaws::heads))]
+#[tactic(auto, using(text_writer::proofs::PrintLaws::straight, crate::proofs::NodeLaws::heads))]
 fn print_row_head<W: Write>(out: &mut Out<'_, W>, row: &OpRow, parts: &[Part])
     ensures { Prints W.contents out.old out.new (head_text (Some row.now) (part_texts (parts_view parts.now))) }
 {
@@ -173,7 +174,7 @@ fn print_row_head<W: Write>(out: &mut Out<'_, W>, row: &OpRow, parts: &[Part])
 
 /// Parts in parentheses, if there are any.
 #[cycle(inline)]
-#[tactic(auto, using(crate::proofs::PrintLaws::straight, crate::proofs::NodeLaws::part_arguments))]
+#[tactic(auto, using(text_writer::proofs::PrintLaws::straight, crate::proofs::NodeLaws::part_arguments))]
 fn print_part_arguments<W: Write>(out: &mut Out<'_, W>, parts: &[Part])
     ensures { Prints W.contents out.old out.new (arguments_text (part_texts (parts_view parts.now))) }
 {
@@ -185,7 +186,7 @@ fn print_part_arguments<W: Write>(out: &mut Out<'_, W>, parts: &[Part])
 }
 
 #[cycle(inline)]
-#[tactic(auto, using(crate::proofs::PrintLaws::straight), unfolding(crate::specs::Texts::after_separator))]
+#[tactic(auto, using(text_writer::proofs::PrintLaws::straight), unfolding(crate::specs::Texts::after_separator))]
 fn print_next_part<W: Write>(out: &mut Out<'_, W>, part: &Part)
     ensures { Prints W.contents out.old out.new (after_separator (word ", ") part_inline part.now) }
 {
@@ -195,7 +196,7 @@ fn print_next_part<W: Write>(out: &mut Out<'_, W>, part: &Part)
 
 /// Parts with a comma between two. A target that is absent has an empty text.
 #[cycle(inline)]
-#[tactic(auto, using(crate::proofs::PrintLaws::straight, crate::proofs::TextLaws::separations))]
+#[tactic(auto, using(text_writer::proofs::PrintLaws::straight, crate::proofs::TextLaws::separations))]
 fn print_parts<W: Write>(out: &mut Out<'_, W>, parts: &[Part])
     ensures { Prints W.contents out.old out.new (separated_by (word ", ") part_inline parts.now) }
 {
@@ -208,7 +209,7 @@ fn print_parts<W: Write>(out: &mut Out<'_, W>, parts: &[Part])
 }
 
 #[cycle(inline)]
-#[tactic(auto, using(crate::proofs::PrintLaws::straight, crate::proofs::NodeLaws::inline_parts))]
+#[tactic(auto, using(text_writer::proofs::PrintLaws::straight, crate::proofs::NodeLaws::inline_parts))]
 fn print_part<W: Write>(out: &mut Out<'_, W>, part: &Part)
     ensures { Prints W.contents out.old out.new (part_inline part.now) }
 {
@@ -225,7 +226,7 @@ fn print_part<W: Write>(out: &mut Out<'_, W>, part: &Part)
 
 /// The bytes of a Buffer, or the elements of a package.
 #[cycle(inline)]
-#[tactic(auto, using(crate::proofs::PrintLaws::straight, crate::proofs::NodeLaws::inline_tails))]
+#[tactic(auto, using(text_writer::proofs::PrintLaws::straight, crate::proofs::NodeLaws::inline_tails))]
 pub fn print_tail<W: Write>(out: &mut Out<'_, W>, tail: &Tail)
     ensures { Prints W.contents out.old out.new (tail_text (tail_view tail.now)) }
 {
@@ -240,7 +241,7 @@ pub fn print_tail<W: Write>(out: &mut Out<'_, W>, tail: &Tail)
 }
 
 #[cycle(inline)]
-#[tactic(auto, using(crate::proofs::PrintLaws::straight, crate::proofs::NodeLaws::braced_nodes))]
+#[tactic(auto, using(text_writer::proofs::PrintLaws::straight, crate::proofs::NodeLaws::braced_nodes))]
 fn print_braced_nodes<W: Write>(out: &mut Out<'_, W>, nodes: &[Node])
     ensures { Prints W.contents out.old out.new (braced (inlines (nodes_view nodes.now))) }
 {

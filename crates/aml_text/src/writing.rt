@@ -2,11 +2,11 @@
 ghost use Rattle.std.specs.Prelude.{map};
 ghost use Rattle.aml_text.specs.Views.{body_view, block_view};
 ghost use Rattle.aml_text.specs.Lines.{blocks_text};
-ghost use Rattle.aml_text.specs.Prints.{Writes};
+ghost use Rattle.text_writer.specs.Prints.{Writes};
 
 use crate::blocks::{Block, Body, print_blocks};
-use crate::output::{Out, WriteFault};
 use std::io::Write;
+use text_writer::{Out, WriteFault};
 
 /// Writes the definition blocks of tables, one after the other, with the bodies of their methods in their places.
 /// The bodies of all tables stand in one list, in the order of the text.

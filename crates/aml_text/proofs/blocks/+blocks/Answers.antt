@@ -4,7 +4,7 @@ use Rattle.aml_code.specs.declared.tree.Node.{Node}
 use Rattle.aml_code.specs.View.{node_view, nodes_view}
 use Rattle.aml_text.specs.Lines.{OneBody, left_all, table_lines, all_table_lines}
 use Rattle.aml_text.specs.Views.{body_view}
-use Rattle.aml_text.proofs.PrintLaws.{prints_then}
+use Rattle.text_writer.proofs.PrintLaws.{prints_then}
 use Rattle.aml_text.proofs.BlockLaws.{table_turn}
 use Rattle.aml_text.proofs.blocks.+blocks.Goals as goal
 

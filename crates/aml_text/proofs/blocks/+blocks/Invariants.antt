@@ -1,6 +1,6 @@
 use Rattle.std.proofs.Common.{◌≡◌, ℕ, List, ◌++◌, drop, map}
 use Rattle.aml_code.specs.View.{nodes_view}
-use Rattle.aml_text.specs.Prints.{Prints}
+use Rattle.text_writer.specs.Prints.{Prints}
 use Rattle.aml_text.specs.Lines.{left_all, all_table_lines}
 use Rattle.aml_text.specs.Views.{body_view}
 use Rattle.aml_text.proofs.blocks.+blocks.Given as goal

@@ -1,4 +1,4 @@
-use Rattle.aml_text.proofs.PrintLaws.{prints_then, prints_word}
+use Rattle.text_writer.proofs.PrintLaws.{prints_then, prints_word}
 use Rattle.aml_text.specs.Lines.{block_opening}
 use Rattle.aml_text.proofs.blocks.print_block_opening.Goals as goal
 

@@ -4,7 +4,7 @@ use Rattle.aml_code.specs.View.{nodes_view}
 use Rattle.aml_text.specs.declared.blocks.Block.{Block}
 use Rattle.aml_text.specs.Lines.{block_text, blocks_text}
 use Rattle.aml_text.specs.Views.{body_view, block_view}
-use Rattle.aml_text.proofs.PrintLaws.{prints_then}
+use Rattle.text_writer.proofs.PrintLaws.{prints_then}
 use Rattle.aml_text.proofs.BlockLaws.{blocks_turn}
 use Rattle.aml_text.proofs.blocks.print_blocks.Goals as goal
 

@@ -1,5 +1,5 @@
 use Rattle.std.proofs.Common.{◌≡◌, ℕ, List, ◌++◌, drop, map}
-use Rattle.aml_text.specs.Prints.{Prints}
+use Rattle.text_writer.specs.Prints.{Prints}
 use Rattle.aml_text.specs.Lines.{blocks_text}
 use Rattle.aml_text.specs.Views.{body_view, block_view}
 use Rattle.aml_text.proofs.blocks.print_blocks.Given as goal

@@ -1,5 +1,5 @@
 use Rattle.std.proofs.Common.{take, flat_map}
-use Rattle.aml_text.specs.Prints.{Prints}
+use Rattle.text_writer.specs.Prints.{Prints}
 use Rattle.aml_text.specs.Views.{node_lines}
 use Rattle.aml_text.proofs.lines.+lines.Given as goal
 

@@ -1,4 +1,4 @@
-use Rattle.aml_text.specs.Prints.{Prints}
+use Rattle.text_writer.specs.Prints.{Prints}
 use Rattle.aml_text.specs.Lines.{indent}
 use Rattle.aml_text.proofs.lines.print_indent.Given as goal
 

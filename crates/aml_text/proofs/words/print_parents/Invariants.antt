@@ -1,5 +1,5 @@
 use Rattle.std.proofs.Common.{replicate}
-use Rattle.aml_text.specs.Prints.{Prints}
+use Rattle.text_writer.specs.Prints.{Prints}
 use Rattle.aml_text.proofs.words.print_parents.Given as goal
 
 abbrev pub invariant-loop-i : goal.invariant-loop-i

@@ -1,7 +1,7 @@
 use Rattle.std.proofs.Common.{sym, ◌∙◌, map}
 use Rattle.aml_text.specs.Views.{body_view, block_view}
 use Rattle.aml_text.specs.Lines.{blocks_text}
-use Rattle.aml_text.proofs.PrintLaws.{writes_listing, prints_same}
+use Rattle.text_writer.proofs.PrintLaws.{writes_listing, prints_same}
 use Rattle.aml_text.proofs.writing.write_blocks.Goals as goal
 
 pub returns : goal.returns

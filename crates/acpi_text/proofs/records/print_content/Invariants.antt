@@ -1,0 +1,7 @@
+use Rattle.std.proofs.Common.{take, flat_map}
+use Rattle.text_writer.specs.Prints.{Prints}
+use Rattle.acpi_text.specs.Dumps.{spaced_byte}
+use Rattle.acpi_text.proofs.records.print_content.Given as goal
+
+abbrev pub invariant-loop-byte : goal.invariant-loop-byte
+invariant-loop-byte g l = Prints g.W.Write.contents l.initial.out l.out (flat_map spaced_byte (take l.byte-index l.content))

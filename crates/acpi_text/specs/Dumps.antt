@@ -1,0 +1,182 @@
+-- The first part of a listing: what it says of each dump. The fields are those of ACPI 6.5, sections 5.2.5 to 5.2.12.
+use Rattle.std.specs.Prelude.{ℕ, Bool, true, false, ◌&&◌, ◌||◌, not, nat_eq, nat_le, if◌then◌else◌, decimal, codes, List, [], ◌++◌, flat_map, map, take, reverse, length, ◌+◌, Option, Some, None, option_map, string_bytes}
+use Rattle.acpi_tables.specs.Bytes.{number_at, checksum, begins_with}
+use Rattle.acpi_tables.specs.Header.{table_of, header_of}
+use Rattle.acpi_tables.specs.Rsdp.{revision_of, rsdp_of}
+use Rattle.acpi_tables.specs.Fadt.{Field, fadt_fields, field_bytes}
+use Rattle.acpi_tables.specs.Madt.{records_of, meaning_of}
+use Rattle.acpi_tables.specs.Xsdt.{entries_of}
+use Rattle.acpi_tables.specs.Dumps.{kind_of}
+use Rattle.acpi_tables.specs.Order.{dump_at, name_of}
+use Rattle.acpi_tables.specs.declared.dump.Dump.{Dump}
+use Rattle.acpi_tables.specs.declared.dump.Kind.{Kind}
+use Rattle.acpi_tables.specs.declared.dump.Kind.TheVariants.{Root, Facs, Standard}
+use Rattle.acpi_tables.specs.declared.header.Header.{Header}
+use Rattle.acpi_tables.specs.declared.madt.MadtRecord.{MadtRecord}
+use Rattle.acpi_tables.specs.declared.madt.MadtRecord.TheVariants.{LocalApic, IoApic, Override, NmiSource, LocalNmi, AddressOverride, X2Apic, X2Nmi, Other}
+use Rattle.acpi_tables.specs.declared.rsdp.Rsdp.{Rsdp}
+use Rattle.acpi_tables.specs.declared.rsdp.Wide.{Wide}
+use Rattle.text_writer.specs.Words.{word}
+use Rattle.text_writer.specs.Numbers.{hex2, hex4, hex8, hex16, quoted}
+
+-- a line one level below that of its dump
+unfoldable pub below : List ℕ → List ℕ
+below text = word "  " ++ text ++ word "\n"
+
+-- ---- the line of a dump, up to its address
+
+-- what revision 2 added to the RSDP
+abbrev pub wide_text : Option Wide → List ℕ
+wide_text None = []
+wide_text (Some w) = (word " Length " ++ decimal w.length) ++ (word " Xsdt " ++ hex16 w.xsdt)
+
+unfoldable pub addresses_text : Rsdp → List ℕ
+addresses_text r = (word " Rsdt " ++ hex8 r.rsdt) ++ wide_text r.wide
+
+unfoldable pub root_text : Rsdp → List ℕ
+root_text r = (word " Oem " ++ quoted r.oem) ++ (word " Revision " ++ decimal r.revision) ++ addresses_text r
+
+-- who made a table, and with what
+unfoldable pub maker_text : Header → List ℕ
+maker_text h = (word " Oem " ++ quoted h.oem_id) ++ (word " " ++ quoted h.oem_table_id) ++ (word " " ++ hex8 h.oem_revision)
+
+unfoldable pub creator_text : Header → List ℕ
+creator_text h = (word " Creator " ++ quoted h.creator_id) ++ (word " " ++ hex8 h.creator_revision)
+
+unfoldable pub origin_text : Header → List ℕ
+origin_text h = maker_text h ++ creator_text h
+
+unfoldable pub size_text : Header → List ℕ
+size_text h = (word " Length " ++ decimal h.length) ++ (word " Revision " ++ decimal h.revision)
+
+unfoldable pub header_text : Header → List ℕ
+header_text h = (word " " ++ quoted h.signature) ++ size_text h ++ origin_text h
+
+-- a dump by its kind: the RSDP, the FACS, and any other table
+abbrev pub head_by : Kind → List ℕ → List ℕ → List ℕ
+head_by Root name bytes = (word "Root " ++ quoted name) ++ root_text (rsdp_of bytes)
+head_by Facs name bytes = (word "Table " ++ quoted name) ++ (word " " ++ quoted (codes "FACS")) ++ (word " Length " ++ decimal (number_at bytes 4 4))
+head_by Standard name bytes = (word "Table " ++ quoted name) ++ header_text (header_of bytes)
+
+-- ---- the rest of that line
+
+abbrev pub address_text : Option ℕ → List ℕ
+address_text None = []
+address_text (Some address) = word " At " ++ hex16 address
+
+-- whether the checksums of a dump are right (the FACS has none)
+abbrev pub sums_hold : Kind → List ℕ → Bool
+sums_hold Root bytes = nat_eq (checksum (take 20 bytes)) 0 && (not (nat_le 2 (revision_of bytes)) || nat_eq (checksum (take (number_at bytes 20 4) bytes)) 0)
+sums_hold Facs bytes = true
+sums_hold Standard bytes = nat_eq (checksum (table_of bytes)) 0
+
+unfoldable pub sum_text : Bool → List ℕ
+sum_text holds = if holds then [] else word " BadSum"
+
+-- the end of a line
+unfoldable pub end_text : Option ℕ → Bool → List ℕ
+end_text address holds = address_text address ++ sum_text holds ++ word "\n"
+
+unfoldable pub line_by : Kind → Dump → List ℕ
+line_by kind d = head_by kind (string_bytes d.name) d.bytes.items ++ end_text d.address (sums_hold kind d.bytes.items)
+
+abbrev pub dump_line : Dump → List ℕ
+dump_line d = line_by (kind_of d.bytes.items) d
+
+-- ---- the lines below it
+
+-- the name of the dump at an address, if there is one
+abbrev pub owner_text : Option (List ℕ) → List ℕ
+owner_text None = []
+owner_text (Some name) = word " " ++ quoted name
+
+abbrev pub owner_of : List Dump → ℕ → Option (List ℕ)
+owner_of dumps address = option_map (name_of dumps) (dump_at dumps address)
+
+-- an address that the XSDT lists
+unfoldable pub entry_text : List Dump → ℕ → List ℕ
+entry_text dumps address = (word "Entry " ++ hex16 address) ++ owner_text (owner_of dumps address)
+
+unfoldable pub entry_line : List Dump → ℕ → List ℕ
+entry_line dumps address = below (entry_text dumps address)
+
+unfoldable pub entry_lines : List Dump → List ℕ → List ℕ
+entry_lines dumps table = flat_map (entry_line dumps) (entries_of table)
+
+-- a field of the FADT, the highest byte of its value first
+unfoldable pub value_text : List ℕ → List ℕ
+value_text bytes = flat_map hex2 (reverse bytes)
+
+unfoldable pub labelled : List ℕ → List ℕ → List ℕ
+labelled label bytes = label ++ word " " ++ value_text bytes
+
+abbrev pub field_line_by : List ℕ → Option (List ℕ) → List ℕ
+field_line_by label None = []
+field_line_by label (Some bytes) = below (labelled label bytes)
+
+unfoldable pub field_line : List ℕ → Field → List ℕ
+field_line table f = field_line_by f.label (field_bytes table f)
+
+unfoldable pub fadt_lines : List ℕ → List ℕ
+fadt_lines table = flat_map (field_line table) fadt_fields
+
+-- a record of the MADT
+unfoldable pub spaced_byte : ℕ → List ℕ
+spaced_byte byte = word " " ++ hex2 byte
+
+-- a record of another type, or of another length than its type has, with its whole length
+unfoldable pub other_text : ℕ → List ℕ → List ℕ
+other_text kind content = (word "Record " ++ decimal kind) ++ (word " Length " ++ decimal (length content + 2)) ++ flat_map spaced_byte content
+
+unfoldable pub override_text : ℕ → ℕ → List ℕ
+override_text bus source = (word "Override Bus " ++ decimal bus) ++ (word " Source " ++ decimal source)
+
+abbrev pub record_text : MadtRecord (List ℕ) → List ℕ
+record_text (LocalApic uid apic flags) = (word "LocalApic Uid " ++ decimal uid) ++ (word " Apic " ++ decimal apic) ++ (word " Flags " ++ hex8 flags)
+record_text (IoApic id address gsi) = (word "IoApic Id " ++ decimal id) ++ (word " Address " ++ hex8 address) ++ (word " Gsi " ++ decimal gsi)
+record_text (Override bus source gsi flags) = override_text bus source ++ (word " Gsi " ++ decimal gsi) ++ (word " Flags " ++ hex4 flags)
+record_text (NmiSource flags gsi) = (word "NmiSource Flags " ++ hex4 flags) ++ (word " Gsi " ++ decimal gsi)
+record_text (LocalNmi uid flags lint) = (word "LocalNmi Uid " ++ decimal uid) ++ (word " Flags " ++ hex4 flags) ++ (word " Lint " ++ decimal lint)
+record_text (AddressOverride address) = (word "AddressOverride " ++ hex16 address)
+record_text (X2Apic id flags uid) = (word "X2Apic Id " ++ decimal id) ++ (word " Flags " ++ hex8 flags) ++ (word " Uid " ++ decimal uid)
+record_text (X2Nmi flags uid lint) = (word "X2Nmi Flags " ++ hex4 flags) ++ (word " Uid " ++ decimal uid) ++ (word " Lint " ++ decimal lint)
+record_text (Other kind content) = other_text kind content
+
+unfoldable pub record_line : MadtRecord (List ℕ) → List ℕ
+record_line r = below (record_text r)
+
+unfoldable pub controller_text : List ℕ → List ℕ
+controller_text table = (word "Controller " ++ hex8 (number_at table 36 4)) ++ (word " Flags " ++ hex8 (number_at table 40 4))
+
+unfoldable pub controller_line : List ℕ → List ℕ
+controller_line table = below (controller_text table)
+
+unfoldable pub record_lines : List ℕ → List ℕ
+record_lines table = flat_map record_line (map meaning_of (records_of table))
+
+unfoldable pub madt_lines : List ℕ → List ℕ
+madt_lines table = controller_line table ++ record_lines table
+
+-- the lines below a table, by its signature
+abbrev pub lines_if : Bool → List ℕ → List ℕ
+lines_if true lines = lines
+lines_if false lines = []
+
+unfoldable pub table_lines : List Dump → List ℕ → List ℕ
+table_lines dumps bytes =
+    lines_if (begins_with bytes (codes "XSDT")) (entry_lines dumps (table_of bytes))
+    ++ lines_if (begins_with bytes (codes "FACP")) (fadt_lines (table_of bytes))
+    ++ lines_if (begins_with bytes (codes "APIC")) (madt_lines (table_of bytes))
+
+abbrev pub lines_by : Kind → List Dump → List ℕ → List ℕ
+lines_by Root dumps bytes = []
+lines_by Facs dumps bytes = []
+lines_by Standard dumps bytes = table_lines dumps bytes
+
+-- ---- a dump, and all of them
+
+unfoldable pub dump_lines : List Dump → Dump → List ℕ
+dump_lines dumps d = dump_line d ++ lines_by (kind_of d.bytes.items) dumps d.bytes.items
+
+abbrev pub dumps_text : List Dump → List ℕ
+dumps_text dumps = flat_map (dump_lines dumps) dumps

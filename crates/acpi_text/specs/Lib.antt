@@ -1,0 +1,2 @@
+-- The text of dumps.
+pub mod Dumps

@@ -1,0 +1,117 @@
+//! The lines below a table: the addresses of an XSDT, and the fields of a FADT.
+ghost use Rattle.std.specs.Prelude.{◌≡◌, option_map};
+ghost use Rattle.text_writer.specs.Prints.{Prints};
+ghost use Rattle.acpi_tables.specs.Order.{name_of};
+ghost use Rattle.acpi_tables.specs.Fadt.{field_view};
+ghost use Rattle.acpi_tables.specs.Xsdt.{HoldsEntries};
+ghost use Rattle.acpi_text.specs.Dumps.{owner_text, owner_of, entry_text, entry_line, entry_lines, value_text, below, labelled, field_line, fadt_lines};
+
+use crate::labels::{put_hex16, put_quoted};
+use acpi_tables::{Dump, TableField, Xsdt, dump_at};
+use std::io::Write;
+use text_writer::{Out, print_hex2};
+
+/// The name of the dump at an index.
+fn name_at(dumps: &[Dump], index: usize) -> &[u8]
+    ensures { result.now ≡ name_of dumps.now index }
+{
+    match dumps.get(index) {
+        None => &[],
+        Some(dump) => dump.name.as_bytes(),
+    }
+}
+
+/// The name of the dump at an address.
+fn owner_of(dumps: &[Dump], address: u64) -> Option<&[u8]>
+    ensures { option_map (λ name. name.now) result ≡ owner_of dumps.now address }
+{
+    match dump_at(dumps, address) {
+        None => None,
+        Some(index) => Some(name_at(dumps, index)),
+    }
+}
+
+#[tactic(auto, using(text_writer::proofs::PrintLaws::straight))]
+fn print_owner<W: Write>(out: &mut Out<'_, W>, dumps: &[Dump], address: u64)
+    ensures { Prints W.contents out.old out.new (owner_text (owner_of dumps.now address)) }
+{
+    if let Some(name) = owner_of(dumps, address) {
+        put_quoted(out, b" ", name);
+    }
+}
+
+#[tactic(auto, using(text_writer::proofs::PrintLaws::straight), unfolding(crate::specs::Dumps::entry_text))]
+fn print_entry_text<W: Write>(out: &mut Out<'_, W>, dumps: &[Dump], address: u64)
+    ensures { Prints W.contents out.old out.new (entry_text dumps.now address) }
+{
+    put_hex16(out, b"Entry ", address);
+    print_owner(out, dumps, address);
+}
+
+#[tactic(auto, using(text_writer::proofs::PrintLaws::straight), unfolding(crate::specs::Dumps::entry_line, crate::specs::Dumps::below))]
+fn print_entry<W: Write>(out: &mut Out<'_, W>, dumps: &[Dump], address: u64)
+    ensures { Prints W.contents out.old out.new (entry_line dumps.now address) }
+{
+    out.put(b"  ");
+    print_entry_text(out, dumps, address);
+    out.put(b"\n");
+}
+
+/// The addresses that an XSDT lists, each with the name of the dump there.
+pub fn print_entries<W: Write>(out: &mut Out<'_, W>, dumps: &[Dump], table: &[u8])
+    requires entries { HoldsEntries table.now }
+    ensures { Prints W.contents out.old out.new (entry_lines dumps.now table.now) }
+{
+    for index in 0..Xsdt::entry_count(table) {
+        print_entry(out, dumps, Xsdt::entry_at(table, index));
+    }
+}
+
+/// The bytes of a value, the highest first.
+#[tactic(auto, using(text_writer::proofs::PrintLaws::straight), unfolding(crate::specs::Dumps::value_text))]
+fn print_value<W: Write>(out: &mut Out<'_, W>, bytes: &[u8])
+    ensures { Prints W.contents out.old out.new (value_text bytes.now) }
+{
+    for done in 0..bytes.len() {
+        print_hex2(out, bytes[bytes.len() - 1 - done]);
+    }
+}
+
+#[tactic(auto, using(text_writer::proofs::PrintLaws::straight), unfolding(crate::specs::Dumps::labelled))]
+fn print_labelled<W: Write>(out: &mut Out<'_, W>, label: &[u8], bytes: &[u8])
+    ensures { Prints W.contents out.old out.new (labelled label.now bytes.now) }
+{
+    out.put(label);
+    out.put(b" ");
+    print_value(out, bytes);
+}
+
+#[tactic(auto, using(text_writer::proofs::PrintLaws::straight), unfolding(crate::specs::Dumps::below))]
+fn print_field_line<W: Write>(out: &mut Out<'_, W>, label: &[u8], bytes: &[u8])
+    ensures { Prints W.contents out.old out.new (below (labelled label.now bytes.now)) }
+{
+    out.put(b"  ");
+    print_labelled(out, label, bytes);
+    out.put(b"\n");
+}
+
+/// A field of a FADT, where the table reaches to its end.
+#[tactic(auto, using(text_writer::proofs::PrintLaws::straight), unfolding(crate::specs::Dumps::field_line))]
+fn print_field<W: Write>(out: &mut Out<'_, W>, table: &[u8], field: &TableField)
+    ensures { Prints W.contents out.old out.new (field_line table.now (field_view field.now)) }
+{
+    if let Some(bytes) = field.bytes_in(table) {
+        print_field_line(out, field.label.as_bytes(), bytes);
+    }
+}
+
+/// The fields of a FADT that it reaches to.
+#[tactic(auto, using(text_writer::proofs::PrintLaws::straight))]
+pub fn print_fadt<W: Write>(out: &mut Out<'_, W>, table: &[u8])
+    ensures { Prints W.contents out.old out.new (fadt_lines table.now) }
+{
+    let fields = TableField::of_fadt();
+    for field in fields {
+        print_field(out, table, field);
+    }
+}

@@ -1,9 +1,0 @@
-use Rattle.std.proofs.Common.{[], append-nil, refl, sym, ◌∙◌}
-use Rattle.aml_text.specs.Waiting.{waiting}
-use Rattle.aml_text.proofs.PrintLaws.{prints_sent}
-use Rattle.aml_text.proofs.output.Out.write_pending.Goals as goal
-
-pub returns-clause-prints : goal.returns-clause-prints
-returns-clause-prints g c =
-    let all = c.as_slice-waiting.result.now in
-    prints_sent g.W.Write.contents _ _ [] all c.send-taken.result c.requires (append-nil (waiting c.args.self.now.pending) ∙ sym c.as_slice-waiting.ensures) refl c.send-taken.ensures.sent c.send-taken.ensures.bound c.saturating_add-self.ensures refl c.clear.ensures

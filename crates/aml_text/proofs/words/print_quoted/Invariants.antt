@@ -1,7 +1,0 @@
-use Rattle.std.proofs.Common.{take, flat_map}
-use Rattle.aml_text.specs.Prints.{Prints}
-use Rattle.aml_text.specs.Texts.{quoted_byte}
-use Rattle.aml_text.proofs.words.print_quoted.Given as goal
-
-abbrev pub invariant-loop-byte : goal.invariant-loop-byte
-invariant-loop-byte g l = Prints g.W.Write.contents l.initial.out l.out (flat_map quoted_byte (take l.byte-index l.bytes))

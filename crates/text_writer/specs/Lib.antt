@@ -1,0 +1,5 @@
+-- What printing means, and the text of numbers.
+pub mod Waiting
+pub mod Prints
+pub mod Words
+pub mod Numbers

@@ -1,0 +1,11 @@
+//! Text written piece by piece: a buffered writer that remembers its first fault, and the text of numbers and quoted bytes.
+//!
+//! Nothing here takes memory. Each printing function's contract gives the text that it prints.
+#![tactic(auto)]
+
+mod numbers;
+mod output;
+mod pending;
+
+pub use numbers::{print_decimal, print_hex2, print_hex4, print_hex8, print_hex16, print_quoted};
+pub use output::{Out, WriteFault};

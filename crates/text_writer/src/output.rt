@@ -1,0 +1,121 @@
+//! A writer that collects what it is given, counts what went out, and stops at the first fault.
+ghost use Rattle.std.specs.Prelude.{◌≡◌, ◌≤◌, length, take, [], true, false, OnOk, IfErr};
+ghost use Rattle.std.specs.Io.KnownBytes.{Appends};
+ghost use Rattle.text_writer.specs.Waiting.{waiting};
+ghost use Rattle.text_writer.specs.Prints.{Prints};
+
+use crate::pending::Pending;
+use std::io::Write;
+use thiserror::Error;
+
+/// The writer failed, or took nothing, after it took `wrote` bytes of the text.
+#[derive(Clone, Copy, Debug, Drop, Error)]
+#[error("write failed after {wrote} bytes")]
+pub struct WriteFault {
+    pub wrote: u64,
+}
+
+/// A writer, the bytes that wait for it, and how many bytes it took. After a fault nothing more is written.
+#[derive(Drop)]
+pub struct Out<'w, W> {
+    inner: &'w mut W,
+    pending: Pending,
+    wrote: u64,
+    failed: bool,
+}
+
+/// Writes these bytes, up to the first fault, and returns how many the writer took.
+fn send<W: Write>(to: &mut W, bytes: &[u8]) -> usize
+    ensures bound { result ≤ length bytes.now }
+    ensures sent { Appends (W.contents to.old) (W.contents to.new) (take result bytes.now) }
+{
+    let mut done = 0;
+    while done < bytes.len() {
+        match to.write(&bytes[done..]) {
+            Ok(0) | Err(_) => return done,
+            Ok(taken) => done += taken,
+        }
+    }
+    done
+}
+
+impl<'w, W: Write> Out<'w, W> {
+    pub fn new(inner: &'w mut W) -> Out<'w, W>
+        ensures same { result.inner.ghost_name ≡ inner.entry.ghost_name }
+        ensures now { result.inner.now ≡ inner.old }
+        ensures empty { waiting result.pending ≡ [] }
+        ensures none { result.wrote ≡ 0 }
+        ensures well { result.failed ≡ false }
+    {
+        Out {
+            inner,
+            pending: Pending::new(),
+            wrote: 0,
+            failed: false,
+        }
+    }
+
+    /// Prints these bytes.
+    pub fn put(&mut self, bytes: &[u8])
+        ensures { Prints W.contents self.old self.new bytes.now }
+    {
+        if self.failed {
+            return;
+        }
+        if bytes.len() <= self.pending.room() {
+            self.pending.add(bytes);
+        } else {
+            self.spill(bytes);
+        }
+    }
+
+    /// Writes what waits, and then keeps these bytes, or writes them too where they are many.
+    #[cold]
+    #[inline(never)]
+    fn spill(&mut self, bytes: &[u8])
+        requires { self.old.failed ≡ false }
+        ensures { Prints W.contents self.old self.new bytes.now }
+    {
+        self.write_pending();
+        if self.failed {
+            return;
+        }
+        if bytes.len() <= self.pending.room() {
+            self.pending.add(bytes);
+            return;
+        }
+        let taken = send(self.inner, bytes);
+        self.wrote = self.wrote.saturating_add(taken as u64);
+        self.failed = taken < bytes.len();
+    }
+
+    /// Writes what waits.
+    fn write_pending(&mut self)
+        requires { self.old.failed ≡ false }
+        ensures prints { Prints W.contents self.old self.new [] }
+        ensures empty { self.new.failed ≡ false → waiting self.new.pending ≡ [] }
+    {
+        let waiting = self.pending.as_slice();
+        let len = waiting.len();
+        let taken = send(self.inner, waiting);
+        self.wrote = self.wrote.saturating_add(taken as u64);
+        self.failed = taken < len;
+        self.pending.clear();
+    }
+
+    /// Writes what waits, and says how it went.
+    pub fn finish(&mut self) -> Result<(), WriteFault>
+        ensures prints { Prints W.contents self.old self.new [] }
+        ensures ok { OnOk result ((self.new.failed ≡ false) × (waiting self.new.pending ≡ [])) }
+        ensures err { IfErr result (λ e. (self.new.failed ≡ true) × (e.wrote ≡ self.new.wrote)) }
+    {
+        if self.failed {
+            return Err(WriteFault { wrote: self.wrote });
+        }
+        self.write_pending();
+        if self.failed {
+            return Err(WriteFault { wrote: self.wrote });
+        }
+        Ok(())
+    }
+}

@@ -1,0 +1,54 @@
+//! Bytes that wait to be written, on the stack.
+ghost use Rattle.std.specs.Prelude.{◌≤◌};
+
+/// How many bytes can wait.
+pub const ROOM: usize = 4096;
+
+#[derive(Drop)]
+pub struct Pending {
+    bytes: [u8; 4096],
+    len: usize,
+    ghost within: { len ≤ 4096 },
+}
+
+impl Pending {
+    ghost use Rattle.std.specs.Prelude.{◌≡◌, ◌+◌, ◌++◌, [], length};
+    ghost use Rattle.text_writer.specs.Waiting.{waiting};
+
+    pub fn new() -> Pending
+        ensures { waiting result ≡ [] }
+    {
+        Pending {
+            bytes: [0; 4096],
+            len: 0,
+        }
+    }
+
+    /// How many more bytes fit.
+    pub fn room(&self) -> usize
+        ensures { result + length (waiting self.now) ≡ 4096 }
+    {
+        ROOM - self.len
+    }
+
+    pub fn as_slice(&self) -> &[u8]
+        ensures { result.now ≡ waiting self.now }
+    {
+        &self.bytes[..self.len]
+    }
+
+    pub fn clear(&mut self)
+        ensures { waiting self.new ≡ [] }
+    {
+        self.len = 0;
+    }
+
+    pub fn add(&mut self, more: &[u8])
+        requires { length (waiting self.old) + length more.now ≤ 4096 }
+        ensures { waiting self.new ≡ waiting self.old ++ more.now }
+    {
+        let end = self.len + more.len();
+        self.bytes[self.len..end].copy_from_slice(more);
+        self.len = end;
+    }
+}
