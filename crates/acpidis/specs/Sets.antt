@@ -1,5 +1,5 @@
 -- What was read of a set, and how a run ends.
-use Rattle.std.specs.Prelude.{◌≡◌, ℕ, Bool, List, map, Option, Result, Ok, Err, ◌⊎◌, ⊤}
+use Rattle.std.specs.Prelude.{◌≡◌, ℕ, Bool, List, map, Option, None, Result, Ok, Err, slice_get, ◌⊎◌, ⊤}
 use Rattle.std.specs.Io.KnownBytes.{Appends}
 use Rattle.aml_code.specs.Tree.{Trees}
 use Rattle.aml_load.specs.Bodies.{AreBodies}
@@ -9,6 +9,7 @@ use Rattle.aml_text.specs.Lines.{blocks_text}
 use Rattle.text_writer.specs.Prints.{Cut}
 use Rattle.aml_text.specs.Views.{body_view}
 use Rattle.acpi_tables.specs.declared.fault.Bad.TheVariants as bads
+use Rattle.aml_load.specs.declared.faults.LoadFault.{LoadFault}
 use Rattle.aml_load.specs.declared.faults.LoadFault.TheVariants as loads
 use Rattle.acpidis.specs.declared.faults.ReadFault.{ReadFault}
 use Rattle.acpidis.specs.declared.faults.ReadFault.TheVariants as reads
@@ -42,6 +43,18 @@ abbrev pub IsMemory : ReadFault → Type 0
 IsMemory (reads.Set fault) = fault.bad ≡ bads.NoMemory
 IsMemory (reads.Load dump fault) = fault ≡ loads.NoMemory
 IsMemory reads.NoMemory = ⊤
+
+-- the index of the dump that a load fault is about, where the tables of these indexes are loaded in this order
+abbrev pub dump_at_fault : List ℕ → LoadFault → Option ℕ
+dump_at_fault order (loads.Code table fault) = slice_get order table
+dump_at_fault order (loads.Space table fault) = slice_get order table
+dump_at_fault order (loads.ModuleCall table) = slice_get order table
+dump_at_fault order _ = None
+
+-- a load fault comes with the dump that it is about
+abbrev pub NamesDump : List ℕ → ReadFault → Type 0
+NamesDump order (reads.Load dump fault) = dump ≡ dump_at_fault order fault
+NamesDump order _ = ⊤
 
 -- the exit status of a refusal
 abbrev pub status_of : RunFault → ℕ

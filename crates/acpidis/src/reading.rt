@@ -6,7 +6,7 @@ ghost use Rattle.aml_text.specs.Views.{body_view, block_view};
 ghost use Rattle.acpi_tables.specs.Header.{HoldsTable};
 ghost use Rattle.acpi_tables.specs.Order.{AreTables, IsOrder, bytes_of, name_of};
 ghost use Rattle.acpidis.specs.Listing.{aml_of, codes_in, names_in, blocks_of, Lists};
-ghost use Rattle.acpidis.specs.Sets.{set_text, ReadsSo, ReadsOnly, ReadsNone, IsMemory};
+ghost use Rattle.acpidis.specs.Sets.{set_text, ReadsSo, ReadsOnly, ReadsNone, IsMemory, NamesDump, dump_at_fault};
 
 use crate::aml::aml_in;
 use crate::faults::ReadFault;
@@ -33,6 +33,7 @@ fn order_of(alloc: Global, dumps: &[Dump], any_sum: bool) -> Result<Vec<usize>, 
     ensures only { IfOk result (λ order. (dsdt : ℕ) (ssdts : List ℕ) → IsOrder dumps.now any_sum dsdt ssdts → dsdt ∷ ssdts ≡ order.items) }
     ensures tables { IfOk result (λ order. AreTables dumps.now order.items) }
     ensures none { IfErr result (λ fault. IsMemory fault ⊎ ((dsdt : ℕ) (ssdts : List ℕ) → ¬ IsOrder dumps.now any_sum dsdt ssdts)) }
+    ensures no_load { IfErr result (λ fault. (order : List ℕ) → NamesDump order fault) }
 {
     match load_order(alloc, dumps, any_sum) {
         Err(fault) => Err(ReadFault::Set(fault)),
@@ -99,13 +100,14 @@ fn names_of<'a>(
 }
 
 /// The dump that a fault is about, if it is about one.
-fn dump_of(order: &[usize], fault: &LoadFault) -> Option<usize> {
+fn dump_of(order: &[usize], fault: &LoadFault) -> Option<usize>
+    ensures { result ≡ dump_at_fault order.now fault.now }
+{
     match fault {
         LoadFault::Code(table, _) => order.get(*table).copied(),
         LoadFault::Space(table, _) => order.get(*table).copied(),
         LoadFault::ModuleCall(table) => order.get(*table).copied(),
-        LoadFault::TooManyMethods => None,
-        LoadFault::NoMemory => None,
+        LoadFault::TooManyMethods | LoadFault::NoMemory => None,
     }
 }
 
@@ -131,6 +133,7 @@ fn read_order<'a>(
     ensures sound { IfOk result (ReadsSo unknown_zero (names_in dumps.now order.now) (codes_in dumps.now order.now)) }
     ensures one { IfOk result (ReadsOnly unknown_zero (names_in dumps.now order.now) (codes_in dumps.now order.now)) }
     ensures complete { IfErr result (λ fault. IsMemory fault ⊎ ReadsNone unknown_zero (codes_in dumps.now order.now)) }
+    ensures dump { IfErr result (NamesDump order.now) }
 {
     let codes = codes_of(alloc, dumps, order)?;
     let names = names_of(alloc, dumps, order)?;
@@ -162,6 +165,8 @@ pub fn read_set<'a>(
     ensures one { IfOk result (λ set. (text : List ℕ) → Lists dumps.now options.any_sum options.unknown_zero text → text ≡ set_text set) }
     // A refusal for another cause than memory comes only where the set has no text.
     ensures complete { IfErr result (λ fault. IsMemory fault ⊎ ((text : List ℕ) → ¬ Lists dumps.now options.any_sum options.unknown_zero text)) }
+    // A fault in a table or in a body names the dump with that table.
+    ensures dump { IfErr result (λ fault. (dsdt : ℕ) (ssdts : List ℕ) → IsOrder dumps.now options.any_sum dsdt ssdts → NamesDump (dsdt ∷ ssdts) fault) }
 {
     match order_of(alloc, dumps, options.any_sum) {
         Err(fault) => Err(fault),

@@ -5,15 +5,14 @@ use Rattle.std.specs.List.{list_all}
 use Rattle.std.proofs.lemmas.Bool.{eqb-true, eqb-false, eq-eqb, ltb-true, lt-ltb, le-ltb}
 use Rattle.std.proofs.lemmas.Bool.Decides.{nat_tests}
 use Rattle.aml_names.specs.Names.{is_name_lead}
-use Rattle.aml_code.specs.declared.rows.OpRow.{OpRow}
+use Rattle.aml_code.specs.Opcodes.{Row, rows}
 use Rattle.aml_code.specs.declared.rows.PartKind.{PartKind}
 use Rattle.aml_code.specs.declared.rows.PartKind.TheVariants as kinds
 use Rattle.aml_code.specs.declared.rows.Place.{Place}
 use Rattle.aml_code.specs.declared.rows.Place.TheVariants as places
 use Rattle.aml_code.specs.declared.rows.TailKind.{TailKind}
 use Rattle.aml_code.specs.declared.rows.TailKind.TheVariants as tails
-use Rattle.aml_code.specs.declared.table.TheConstants.{ROWS}
-use Rattle.aml_code.specs.Rows.{row_of, parts_of, has_length, taken_as_target}
+use Rattle.aml_code.specs.Rows.{row_of, has_length, taken_as_target}
 use Rattle.aml_code.specs.Encoding.{opcode_bytes}
 use Rattle.aml_code.specs.declared.rows.Position.{Position}
 use Rattle.aml_code.specs.declared.rows.Position.TheVariants as positions
@@ -45,24 +44,24 @@ found_tested : {X : Type 0} (p : X → Bool) (xs : List X) (x : X) → find p xs
 found_tested p [] x e = cc
 found_tested p (y ∷ ys) x e = tested_step p x y (p y) (find p ys) refl (found_tested p ys x) e
 
-pub row_opcode : (o : ℕ) (r : OpRow) → row_of o ≡ Some r → r.opcode ≡ o
+pub row_opcode : (o : ℕ) (r : Row) → row_of o ≡ Some r → r.opcode ≡ o
 unfolding row_of
-row_opcode o r e = eqb-true _ _ (found_tested (λ r. r.opcode == o) ROWS r e)
+row_opcode o r e = eqb-true _ _ (found_tested (λ r. r.opcode == o) rows r e)
 
-row_passes : (t : OpRow → Bool) → list_all t ROWS ≡ true → (o : ℕ) (r : OpRow) → row_of o ≡ Some r → t r ≡ true
+row_passes : (t : Row → Bool) → list_all t rows ≡ true → (o : ℕ) (r : Row) → row_of o ≡ Some r → t r ≡ true
 unfolding row_of
-row_passes t all o r e = found_passes (λ r. r.opcode == o) t ROWS r all e
+row_passes t all o r e = found_passes (λ r. r.opcode == o) t rows r all e
 
 -- ---- opcodes are opcodes, and begin no name
 
 is_opcode : ℕ → Bool
 is_opcode o = cond (ltb o 256) (not (o == 0x5B)) (nat_le 0x5B00 o && ltb o 0x5C00)
 
-opcode_row : OpRow → Bool
+opcode_row : Row → Bool
 opcode_row r = is_opcode r.opcode
 
-all_opcodes : list_all opcode_row ROWS ≡ true
-unfolding opcode_row is_opcode
+all_opcodes : list_all opcode_row rows ≡ true
+unfolding rows opcode_row is_opcode
 all_opcodes = refl
 
 not_true : (b : Bool) → not b ≡ true → b ≡ false
@@ -73,7 +72,7 @@ opcode_by : (o : ℕ) (b : Bool) → ltb o 256 ≡ b → cond b (not (o == 0x5B)
 opcode_by o true small e = inl (ltb-true _ _ small, eqb-false _ _ (not_true _ e))
 opcode_by o false small e = inr (let low : nat_le 0x5B00 o ≡ true = and_left (nat_le 0x5B00 o) (ltb o 0x5C00) e in grind (arith, nat_tests, low), ltb-true _ _ (and_right (nat_le 0x5B00 o) (ltb o 0x5C00) e))
 
-pub row_is_opcode : (o : ℕ) (r : OpRow) → row_of o ≡ Some r → IsOpcode o
+pub row_is_opcode : (o : ℕ) (r : Row) → row_of o ≡ Some r → IsOpcode o
 unfolding opcode_row is_opcode
 row_is_opcode o r e = subst IsOpcode (row_opcode o r e) (opcode_by r.opcode (ltb r.opcode 256) refl (row_passes opcode_row all_opcodes o r e))
 
@@ -81,31 +80,31 @@ row_is_opcode o r e = subst IsOpcode (row_opcode o r e) (opcode_by r.opcode (ltb
 abbrev pub lead_of : ℕ → ℕ
 lead_of o = cond (ltb o 256) o (o / 256)
 
-apart_row : OpRow → Bool
+apart_row : Row → Bool
 apart_row r = not (is_name_lead (lead_of r.opcode))
 
-all_apart : list_all apart_row ROWS ≡ true
-unfolding apart_row
+all_apart : list_all apart_row rows ≡ true
+unfolding rows apart_row
 all_apart = refl
 
-pub row_apart : (o : ℕ) (r : OpRow) → row_of o ≡ Some r → is_name_lead (lead_of o) ≡ false
+pub row_apart : (o : ℕ) (r : Row) → row_of o ≡ Some r → is_name_lead (lead_of o) ≡ false
 unfolding apart_row
 row_apart o r e = subst (λ (n : ℕ). is_name_lead (lead_of n) ≡ false) (row_opcode o r e) (not_true _ (row_passes apart_row all_apart o r e))
 
 -- ---- no target's opcode is 00
 
-target_row : OpRow → Bool
+target_row : Row → Bool
 target_row r = cond (taken_as_target r.place) (not (lead_of r.opcode == 0x00)) true
 
-all_targets : list_all target_row ROWS ≡ true
-unfolding target_row
+all_targets : list_all target_row rows ≡ true
+unfolding rows target_row
 all_targets = refl
 
 by_target : (b c : Bool) → b ≡ true → cond b (not c) true ≡ true → c ≡ false
 by_target true c h e = not_true c e
 by_target false c h e = absurd cc
 
-pub target_opcode : (o : ℕ) (r : OpRow) → row_of o ≡ Some r → taken_as_target r.place ≡ true → (lead_of o == 0x00) ≡ false
+pub target_opcode : (o : ℕ) (r : Row) → row_of o ≡ Some r → taken_as_target r.place ≡ true → (lead_of o == 0x00) ≡ false
 unfolding target_row
 target_opcode o r e h = subst (λ (n : ℕ). (lead_of n == 0x00) ≡ false) (row_opcode o r e) (by_target (taken_as_target r.place) (lead_of r.opcode == 0x00) h (row_passes target_row all_targets o r e))
 
@@ -119,11 +118,11 @@ is_method : Place → Bool
 is_method places.Method = true
 is_method _ = false
 
-body_row : OpRow → Bool
+body_row : Row → Bool
 body_row r = cond (is_body r.tail) (is_method r.place) true
 
-all_bodies : list_all body_row ROWS ≡ true
-unfolding body_row is_body is_method
+all_bodies : list_all body_row rows ≡ true
+unfolding rows body_row is_body is_method
 all_bodies = refl
 
 method_is : (p : Place) → is_method p ≡ true → p ≡ places.Method
@@ -143,7 +142,7 @@ body_by : (t : TailKind) (b : Bool) → t ≡ tails.Body → cond (is_body t) b 
 unfolding is_body
 body_by t b h e = subst (λ (k : TailKind). cond (is_body k) b true ≡ true) h e
 
-pub body_place : (o : ℕ) (r : OpRow) → row_of o ≡ Some r → r.tail ≡ tails.Body → r.place ≡ places.Method
+pub body_place : (o : ℕ) (r : Row) → row_of o ≡ Some r → r.tail ≡ tails.Body → r.place ≡ places.Method
 unfolding body_row
 body_place o r e h = method_is r.place (body_by r.tail (is_method r.place) h (row_passes body_row all_bodies o r e))
 
@@ -180,26 +179,26 @@ one_term_is (kinds.Dword ∷ ks) h = absurd cc
 one_term_is (kinds.Qword ∷ ks) h = absurd cc
 one_term_is (kinds.Text ∷ ks) h = absurd cc
 
-if_row : OpRow → Bool
-if_row r = cond (is_if_place r.place) (one_term (parts_of r.shape) && has_length r.tail) true
+if_row : Row → Bool
+if_row r = cond (is_if_place r.place) (one_term (r.parts) && has_length r.tail) true
 
-all_ifs : list_all if_row ROWS ≡ true
-unfolding if_row one_term
+all_ifs : list_all if_row rows ≡ true
+unfolding rows if_row one_term
 all_ifs = refl
 
 where_true : (b c : Bool) → b ≡ true → cond b c true ≡ true → c ≡ true
 where_true true c h e = e
 where_true false c h e = absurd cc
 
-if_passes : (o : ℕ) (r : OpRow) → row_of o ≡ Some r → is_if_place r.place ≡ true → (one_term (parts_of r.shape) && has_length r.tail) ≡ true
+if_passes : (o : ℕ) (r : Row) → row_of o ≡ Some r → is_if_place r.place ≡ true → (one_term (r.parts) && has_length r.tail) ≡ true
 unfolding if_row
-if_passes o r e h = where_true (is_if_place r.place) (one_term (parts_of r.shape) && has_length r.tail) h (row_passes if_row all_ifs o r e)
+if_passes o r e h = where_true (is_if_place r.place) (one_term (r.parts) && has_length r.tail) h (row_passes if_row all_ifs o r e)
 
-pub if_parts : (o : ℕ) (r : OpRow) → row_of o ≡ Some r → is_if_place r.place ≡ true → parts_of r.shape ≡ kinds.Term ∷ []
-if_parts o r e h = one_term_is (parts_of r.shape) (and_left (one_term (parts_of r.shape)) (has_length r.tail) (if_passes o r e h))
+pub if_parts : (o : ℕ) (r : Row) → row_of o ≡ Some r → is_if_place r.place ≡ true → r.parts ≡ kinds.Term ∷ []
+if_parts o r e h = one_term_is (r.parts) (and_left (one_term (r.parts)) (has_length r.tail) (if_passes o r e h))
 
-pub if_has_length : (o : ℕ) (r : OpRow) → row_of o ≡ Some r → is_if_place r.place ≡ true → has_length r.tail ≡ true
-if_has_length o r e h = and_right (one_term (parts_of r.shape)) (has_length r.tail) (if_passes o r e h)
+pub if_has_length : (o : ℕ) (r : Row) → row_of o ≡ Some r → is_if_place r.place ≡ true → has_length r.tail ≡ true
+if_has_length o r e h = and_right (one_term (r.parts)) (has_length r.tail) (if_passes o r e h)
 
 pub guard_place : (p : Position) (place : Place) → is_guard p place ≡ true → is_if_place place ≡ true
 guard_place positions.ModuleTerm places.If h = refl
@@ -228,19 +227,19 @@ unfolding no_parts_kind
 no_parts_is [] h = refl
 no_parts_is (k ∷ ks) h = absurd cc
 
-zero_row : OpRow → Bool
-zero_row r = cond (r.opcode == 0x00) (no_parts_kind (parts_of r.shape) && not (has_length r.tail)) true
+zero_row : Row → Bool
+zero_row r = cond (r.opcode == 0x00) (no_parts_kind (r.parts) && not (has_length r.tail)) true
 
-all_zeros : list_all zero_row ROWS ≡ true
-unfolding zero_row no_parts_kind
+all_zeros : list_all zero_row rows ≡ true
+unfolding rows zero_row no_parts_kind
 all_zeros = refl
 
-pub zero_bare : (r : OpRow) → row_of 0x00 ≡ Some r → (parts_of r.shape ≡ []) × (has_length r.tail ≡ false)
+pub zero_bare : (r : Row) → row_of 0x00 ≡ Some r → (r.parts ≡ []) × (has_length r.tail ≡ false)
 unfolding zero_row
 zero_bare r e =
     let is : (r.opcode == 0x00) ≡ true = eq-eqb _ _ (row_opcode 0x00 r e) in
-    let both = where_true (r.opcode == 0x00) (no_parts_kind (parts_of r.shape) && not (has_length r.tail)) is (row_passes zero_row all_zeros 0x00 r e) in
-    (no_parts_is (parts_of r.shape) (and_left (no_parts_kind (parts_of r.shape)) (not (has_length r.tail)) both), not_true (has_length r.tail) (and_right (no_parts_kind (parts_of r.shape)) (not (has_length r.tail)) both))
+    let both = where_true (r.opcode == 0x00) (no_parts_kind (r.parts) && not (has_length r.tail)) is (row_passes zero_row all_zeros 0x00 r e) in
+    (no_parts_is (r.parts) (and_left (no_parts_kind (r.parts)) (not (has_length r.tail)) both), not_true (has_length r.tail) (and_right (no_parts_kind (r.parts)) (not (has_length r.tail)) both))
 
 -- ---- the bytes of an opcode
 
@@ -267,5 +266,5 @@ opcode_lead_is o b (inr h) e less =
     let is : b ≡ 0x5B = sym e ∙ ap (λ (c : Bool). cond c o (o / 256)) big ∙ high in
     absurd (omega (arith, is, less))
 
-pub row_lead_is : (o b : ℕ) (r : OpRow) → row_of o ≡ Some r → lead_of o ≡ b → b < 0x5B → o ≡ b
+pub row_lead_is : (o b : ℕ) (r : Row) → row_of o ≡ Some r → lead_of o ≡ b → b < 0x5B → o ≡ b
 row_lead_is o b r listed e less = opcode_lead_is o b (row_is_opcode o r listed) e less

@@ -128,10 +128,10 @@ past_placed arity code at end bytes d w f =
     let there : LengthThere code at f.width f.value = record { fits = t.1; there = text_there code at end bytes (package_bytes f.width f.value) f.rest w t.0.parts } in
     let long : length bytes ≡ width_len f.width + length f.rest = ap length t.0.parts ∙ length-append (package_bytes f.width f.value) f.rest ∙ ap (λ n. n + length f.rest) (length-package_bytes f.width f.value) in
     let place = offset_is code at end bytes w in
-    let past : (f.value < width_len f.width) ⊎ ((e : ℕ) × IsEndBefore code at e × (e < at + f.value)) =
+    let past : (f.value < width_len f.width) ⊎ ((e : ℕ) × IsEndBefore code at e × (at < e) × (e < at + f.value)) =
     elim f.past [
       | inl less ↦ inl less
-      | inr short ↦ inr (end, w.is_end, omega (arith, short, long, w.place))
+      | inr short ↦ inr (end, w.is_end, omega (arith, long, w.place, width_some f.width), omega (arith, short, long, w.place))
     ] in
     subst (StandsAt arity code) (sym (f.fault ∙ ap (λ n. faults.PkgPast n) place)) (f.width, f.value, there, past)
 

@@ -6,9 +6,9 @@ use Rattle.aml_names.specs.declared.names.Name.{Name}
 use Rattle.aml_names.specs.declared.names.NameForm.TheVariants.{One}
 use Rattle.aml_names.specs.Paths.{PathSet}
 use Rattle.aml_names.specs.Names.{placed}
-use Rattle.aml_code.specs.declared.rows.Declares.{Declares}
-use Rattle.aml_code.specs.declared.rows.Declares.TheVariants as declares
-use Rattle.aml_code.specs.declared.rows.OpRow.{OpRow}
+use Rattle.aml_code.specs.declared.rows.Role.{Role}
+use Rattle.aml_code.specs.declared.rows.Role.TheVariants as roles
+use Rattle.aml_code.specs.Opcodes.{Row}
 use Rattle.aml_code.specs.Rows.{row_of}
 use Rattle.aml_code.specs.Tree.{Tree, nothing, named, op, Trees, no_trees, tree_more, OnePart, child, label, byte, word, dword, qword, text, Parts, no_parts, part_more, Rest, empty, terms, bytes, elements, fields, body, OneUnit, unit, reserved, access, connection, extended, Units, no_units, unit_more, Joint, target, buffer}
 
@@ -59,11 +59,14 @@ field_names (elements ts) = []
 field_names (fields us) = unit_names us
 field_names (body start len) = []
 
--- the names that a term declares itself, by what its row says, in the order of the text
-abbrev pub names_declared : Declares → Parts → Rest → List Name
-names_declared declares.Nothing ps t = []
-names_declared declares.LastName ps t = listed (last_label None ps)
-names_declared declares.Units ps t = field_names t
+-- The names that a term declares itself, by the role of its row, in the order of the text. An External declares none: what
+-- it names is declared elsewhere.
+abbrev pub names_declared : Role → Parts → Rest → List Name
+names_declared (roles.Declares o) ps t = listed (last_label None ps)
+names_declared roles.Method ps t = listed (last_label None ps)
+names_declared roles.Alias ps t = listed (last_label None ps)
+names_declared roles.Fields ps t = field_names t
+names_declared _ ps t = []
 
 -- A path is added. A name that leads above the root adds nothing.
 abbrev pub with_path : PathSet → Option (List Seg) → PathSet
@@ -80,9 +83,9 @@ abbrev pub with_declared : Option (List Seg) → PathSet → List Name → PathS
 with_declared None ls ns = ls
 with_declared (Some scope) ls ns = with_names scope ls ns
 
-abbrev pub declared_by : Option (List Seg) → Option OpRow → PathSet → Parts → Rest → PathSet
+abbrev pub declared_by : Option (List Seg) → Option Row → PathSet → Parts → Rest → PathSet
 declared_by scope None ls ps t = ls
-declared_by scope (Some row) ls ps t = with_declared scope ls (names_declared row.declares ps t)
+declared_by scope (Some row) ls ps t = with_declared scope ls (names_declared row.role ps t)
 
 -- the paths that are declared after a term: those of the terms inside it, and then its own
 abbrev mutual

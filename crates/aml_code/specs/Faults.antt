@@ -6,7 +6,7 @@ use Rattle.aml_names.specs.declared.names.Name.{Name}
 use Rattle.aml_names.specs.Paths.{PathSet}
 use Rattle.aml_names.specs.Names.{is_lead_char, is_name_lead, IsName, spelling}
 use Rattle.aml_code.specs.declared.packages.PkgWidth.{PkgWidth}
-use Rattle.aml_code.specs.declared.rows.OpRow.{OpRow}
+use Rattle.aml_code.specs.Opcodes.{Row}
 use Rattle.aml_code.specs.declared.rows.Place.{Place}
 use Rattle.aml_code.specs.declared.rows.Place.TheVariants as places
 use Rattle.aml_code.specs.Packages.{width_len, package_bytes, FitsWidth}
@@ -47,7 +47,7 @@ NameThere code at Test = (n : Name) × IsName n × StandsThere code at (spelling
 
 -- the opcode has a row, of this place
 abbrev pub HasRow : (Place → Type 0) → ℕ → Type 0
-HasRow Test o = (r : OpRow) × (row_of o ≡ Some r) × Test r.place
+HasRow Test o = (r : Row) × (row_of o ≡ Some r) × Test r.place
 
 -- a lead byte with bytes after it, of which bit 5 or 4 is set
 abbrev pub HasPkgBits : ℕ → Type 0
@@ -57,10 +57,11 @@ HasPkgBits b = (64 ≤ b) × (0 < b / 16 % 4)
 abbrev pub IsEndBefore : List ℕ → ℕ → ℕ → Type 0
 IsEndBefore code at end = (end ≡ length code) ⊎ ((p : ℕ) × (w : PkgWidth) × (v : ℕ) × LengthThere code p w v × (end ≡ p + v) × (p < at))
 
--- a length that is smaller than its own bytes, or leads past the end of the code or of a package that begins before it
+-- a length that is smaller than its own bytes, or leads past the end of the code or of a package that begins before it and
+-- ends behind it
 abbrev pub IsPast : List ℕ → ℕ → Type 0
 IsPast code at = (w : PkgWidth) × (v : ℕ) × LengthThere code at w v
-    × ((v < width_len w) ⊎ ((end : ℕ) × IsEndBefore code at end × (end < at + v)))
+    × ((v < width_len w) ⊎ ((end : ℕ) × IsEndBefore code at end × (at < end) × (end < at + v)))
 
 -- how many arguments a name takes, by the paths declared so far
 abbrev pub Arities : Type 0

@@ -6,7 +6,7 @@ use Rattle.aml_names.specs.Paths.{PathSet}
 use Rattle.aml_names.specs.Names.{IsNameSeg, IsName}
 use Rattle.aml_names.specs.NameReading.{has_segment, is_bare}
 use Rattle.aml_code.specs.declared.packages.PkgWidth.{PkgWidth}
-use Rattle.aml_code.specs.declared.rows.OpRow.{OpRow}
+use Rattle.aml_code.specs.Opcodes.{Row}
 use Rattle.aml_code.specs.declared.rows.PartKind.{PartKind}
 use Rattle.aml_code.specs.declared.rows.PartKind.TheVariants as kinds
 use Rattle.aml_code.specs.declared.rows.Place.{Place}
@@ -16,7 +16,7 @@ use Rattle.aml_code.specs.declared.rows.Position.TheVariants as positions
 use Rattle.aml_code.specs.declared.rows.TailKind.{TailKind}
 use Rattle.aml_code.specs.declared.rows.TailKind.TheVariants as tails
 use Rattle.aml_code.specs.Packages.{width_len, FitsWidth}
-use Rattle.aml_code.specs.Rows.{row_of, parts_of, has_length, takes}
+use Rattle.aml_code.specs.Rows.{row_of, has_length, takes}
 use Rattle.aml_code.specs.Tree.{Tree, nothing, named, op, Trees, no_trees, tree_more, OnePart, child, label, byte, word, dword, qword, text, Parts, no_parts, part_more, Rest, empty, terms, bytes, elements, fields, body, OneUnit, unit, reserved, access, connection, extended, Units, no_units, unit_more, Joint, target, buffer, tree_count}
 use Rattle.aml_code.specs.Encoding.{parts_encoding, rest_encoding}
 use Rattle.aml_code.specs.Declaring.{after, after_part, after_parts, after_unit}
@@ -77,7 +77,7 @@ abbrev pub is_if_place : Place → Bool
 is_if_place places.If = true
 is_if_place _ = false
 
-abbrev pub is_if_row : Option OpRow → Bool
+abbrev pub is_if_row : Option Row → Bool
 is_if_row None = false
 is_if_row (Some r) = is_if_place r.place
 
@@ -112,8 +112,8 @@ IsBuffer (named n ts) = ⊥
 IsBuffer (op o w ps t) = o ≡ 0x11
 
 -- An operation: its opcode has a row that the position takes, with a package length, parts and a tail as the row says.
-pub record IsOperation (p : Position) (o : ℕ) (w : Option PkgWidth) (len : ℕ) (ps : Parts) (AreItsParts IsItsTail : OpRow → Type 0) : Type 0 where
-  pub row : OpRow
+pub record IsOperation (p : Position) (o : ℕ) (w : Option PkgWidth) (len : ℕ) (ps : Parts) (AreItsParts IsItsTail : Row → Type 0) : Type 0 where
+  pub row : Row
   pub listed : row_of o ≡ Some row
   pub taken : takes p row.place ≡ true
   pub width : HasWidth (has_length row.tail) w len
@@ -132,7 +132,7 @@ abbrev mutual
   IsLawful s zero p ls (op o w ps t) = ⊥
   IsLawful s (suc levels) p ls (op o w ps t) =
       IsOperation p o w (length (parts_encoding s.code ps ++ rest_encoding s.code t)) ps
-      (λ row. AreParts s levels (parts_of row.shape) ls ps)
+      (λ row. AreParts s levels (row.parts) ls ps)
       (λ row. IsTail s levels (terms_in p row.place) row.tail (after_parts s.scope ls ps) t)
 
   pub AreArguments : Setting → ℕ → PathSet → Trees → Type 0

@@ -1,5 +1,6 @@
 pub mod Packages
 pub mod Lengths
+pub mod Opcodes
 pub mod Rows
 pub mod Tree
 pub mod View

@@ -1,62 +1,21 @@
 -- What the table of opcodes says, and which opcodes a position takes (ACPI 6.5, 20.2.5 and 20.3).
-use Rattle.std.specs.Prelude.{ℕ, ◌==◌, Bool, true, false, List, [], ◌∷◌, Option, find, take, position, unwrap_or}
+use Rattle.std.specs.Prelude.{ℕ, ◌==◌, Bool, true, false, Option, find}
 use Rattle.aml_code.specs.declared.rows.OpRow.{OpRow}
-use Rattle.aml_code.specs.declared.rows.PartKind.{PartKind}
-use Rattle.aml_code.specs.declared.rows.PartKind.TheVariants as kinds
 use Rattle.aml_code.specs.declared.rows.Place.{Place}
 use Rattle.aml_code.specs.declared.rows.Place.TheVariants as places
 use Rattle.aml_code.specs.declared.rows.Position.{Position}
 use Rattle.aml_code.specs.declared.rows.Position.TheVariants as positions
-use Rattle.aml_code.specs.declared.rows.Shape.{Shape}
-use Rattle.aml_code.specs.declared.rows.Shape.TheVariants as shapes
+use Rattle.aml_code.specs.Opcodes.{Row, rows}
 use Rattle.aml_code.specs.declared.rows.TailKind.{TailKind}
 use Rattle.aml_code.specs.declared.rows.TailKind.TheVariants as tails
-use Rattle.aml_code.specs.declared.table.TheConstants.{ROWS}
 
 -- the row of an opcode
-unfoldable pub row_of : ℕ → Option OpRow
-row_of opcode = find (λ r. r.opcode == opcode) ROWS
+unfoldable pub row_of : ℕ → Option Row
+row_of opcode = find (λ r. r.opcode == opcode) rows
 
--- the mnemonic, without the spaces that fill it up
-abbrev pub mnemonic_of : OpRow → List ℕ
-mnemonic_of r = take (unwrap_or (position (λ b. b == 32) r.mnemonic) 22) r.mnemonic
-
--- what stands after the opcode, in order
-abbrev pub parts_of : Shape → List PartKind
-parts_of shapes.Bare = []
-parts_of shapes.B1 = kinds.Byte ∷ []
-parts_of shapes.B2 = kinds.Word ∷ []
-parts_of shapes.B4 = kinds.Dword ∷ []
-parts_of shapes.B8 = kinds.Qword ∷ []
-parts_of shapes.Z = kinds.Text ∷ []
-parts_of shapes.T = kinds.Term ∷ []
-parts_of shapes.S = kinds.Target ∷ []
-parts_of shapes.N = kinds.Name ∷ []
-parts_of shapes.Scope = kinds.ScopeName ∷ []
-parts_of shapes.TT = kinds.Term ∷ kinds.Term ∷ []
-parts_of shapes.TS = kinds.Term ∷ kinds.Target ∷ []
-parts_of shapes.ST = kinds.Target ∷ kinds.Term ∷ []
-parts_of shapes.SS = kinds.Target ∷ kinds.Target ∷ []
-parts_of shapes.S2 = kinds.Target ∷ kinds.Word ∷ []
-parts_of shapes.NS = kinds.Name ∷ kinds.Target ∷ []
-parts_of shapes.NN = kinds.Name ∷ kinds.Name ∷ []
-parts_of shapes.ND = kinds.Name ∷ kinds.Data ∷ []
-parts_of shapes.N1 = kinds.Name ∷ kinds.Byte ∷ []
-parts_of shapes.N12 = kinds.Name ∷ kinds.Byte ∷ kinds.Word ∷ []
-parts_of shapes.N1C = kinds.Name ∷ kinds.Byte ∷ kinds.Count ∷ []
-parts_of shapes.NN1 = kinds.Name ∷ kinds.Name ∷ kinds.Byte ∷ []
-parts_of shapes.TTS = kinds.Term ∷ kinds.Term ∷ kinds.Target ∷ []
-parts_of shapes.TTN = kinds.Term ∷ kinds.Term ∷ kinds.Name ∷ []
-parts_of shapes.TTSS = kinds.Term ∷ kinds.Term ∷ kinds.Target ∷ kinds.Target ∷ []
-parts_of shapes.TTTS = kinds.Term ∷ kinds.Term ∷ kinds.Term ∷ kinds.Target ∷ []
-parts_of shapes.TTTN = kinds.Term ∷ kinds.Term ∷ kinds.Term ∷ kinds.Name ∷ []
-parts_of shapes.N1TT = kinds.Name ∷ kinds.Byte ∷ kinds.Term ∷ kinds.Term ∷ []
-parts_of shapes.N141 = kinds.Name ∷ kinds.Byte ∷ kinds.Dword ∷ kinds.Byte ∷ []
-parts_of shapes.NNT1 = kinds.Name ∷ kinds.Name ∷ kinds.Term ∷ kinds.Byte ∷ []
-parts_of shapes.NTTT = kinds.Name ∷ kinds.Term ∷ kinds.Term ∷ kinds.Term ∷ []
-parts_of shapes.B14T = kinds.Byte ∷ kinds.Dword ∷ kinds.Term ∷ []
-parts_of shapes.T1T1TT = kinds.Term ∷ kinds.Byte ∷ kinds.Term ∷ kinds.Byte ∷ kinds.Term ∷ kinds.Term ∷ []
-parts_of shapes.TTTTTT = kinds.Term ∷ kinds.Term ∷ kinds.Term ∷ kinds.Term ∷ kinds.Term ∷ kinds.Term ∷ []
+-- what a row of the code's table says
+abbrev pub row_view : OpRow → Row
+row_view r = record { opcode = r.opcode; mnemonic = r.mnemonic.now; group = r.group; place = r.place; parts = r.parts.now; tail = r.tail; role = r.role }
 
 -- a row with a tail has a package length before its parts
 abbrev pub has_length : TailKind → Bool

@@ -138,6 +138,8 @@ pub fn read_pkg(bytes: &[u8]) -> Result<(PkgWidth, u32), CodeFault>
     ensures complete { IfErr result (λ e. (w : PkgWidth) (v : ℕ) (rest : List ℕ) → FitsWidth w v → bytes.now ≡ package_bytes w v ++ rest → ⊥) }
     // A fault is true of its offset.
     ensures placed { IfErr result (IsLengthFault bytes.now) }
+    // Which fault it is.
+    ensures exact { Gives (λ x. x) result (front_at bytes.now) }
 {
     front_of(bytes)
 }

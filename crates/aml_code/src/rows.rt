@@ -1,6 +1,6 @@
 //! What the table of opcodes says of an opcode, and which opcodes a position takes (ACPI 6.5, 20.2.5 and 20.3).
-ghost use Rattle.std.specs.Prelude.{◌≡◌, ◌==◌, ◌≤◌, position, IfSome};
-ghost use Rattle.aml_code.specs.Rows.{parts_of, has_length, mnemonic_of, takes as row_taken};
+ghost use Rattle.std.specs.Prelude.{◌≡◌};
+ghost use Rattle.aml_code.specs.Rows.{has_length, takes as row_taken};
 
 /// The four groups of opcodes.
 #[derive(Clone, Copy)]
@@ -74,54 +74,40 @@ pub enum TailKind {
     Body,
 }
 
-/// The kinds of the parts in order, a letter each: `T` Term, `S` Target, `N` Name, `D` Data, `1` Byte, `2` Word,
-/// `4` Dword, `8` Qword, `C` Count, `Z` Text. A `B` stands before a letter that is a digit; `Scope` is a ScopeName.
+/// What a term declares with its name and nothing else.
 #[derive(Clone, Copy)]
-pub enum Shape {
-    Bare,
-    B1,
-    B2,
-    B4,
-    B8,
-    Z,
-    T,
-    S,
-    N,
-    Scope,
-    TT,
-    TS,
-    ST,
-    SS,
-    S2,
-    NS,
-    NN,
-    ND,
-    N1,
-    N12,
-    N1C,
-    NN1,
-    TTS,
-    TTN,
-    TTSS,
-    TTTS,
-    TTTN,
-    N1TT,
-    N141,
-    NNT1,
-    NTTT,
-    B14T,
-    T1T1TT,
-    TTTTTT,
+pub enum Object {
+    Name,
+    Mutex,
+    Event,
+    Region,
+    DataRegion,
+    BufferField,
+    Device,
+    Processor,
+    PowerResource,
+    ThermalZone,
 }
 
-/// Which names a term declares.
+/// What a term does to the namespace (ACPI 6.5, 20.2.5.1 and 20.2.5.2).
 #[derive(Clone, Copy)]
-pub enum Declares {
-    Nothing,
-    /// The last of its parts that is a name.
-    LastName,
-    /// The named units of its field list.
-    Units,
+pub enum Role {
+    /// It declares its name. The terms inside it stand under that path.
+    Declares(Object),
+    /// It declares its name as a method.
+    Method,
+    /// It declares nothing. The terms inside it stand under the path that its name leads to.
+    Scope,
+    /// It declares its second name as another name for what its first leads to.
+    Alias,
+    /// It says how many arguments a name takes that is declared elsewhere.
+    External,
+    /// It declares the named units of its field list.
+    Fields,
+    /// The terms inside it count as if they stood alone.
+    Guard,
+    /// Nothing.
+    Other,
 }
 
 /// A row of the table of opcodes.
@@ -129,81 +115,21 @@ pub enum Declares {
 pub struct OpRow {
     /// The opcode; a two-byte opcode `5B xx` is 0x5Bxx.
     pub opcode: u16,
-    /// The mnemonic, filled up with spaces.
-    pub mnemonic: [u8; 22],
+    pub mnemonic: &'static str,
     pub group: Group,
     pub place: Place,
-    pub shape: Shape,
+    /// The kinds of the parts in order.
+    pub parts: &'static [PartKind],
     pub tail: TailKind,
-    pub declares: Declares,
-}
-
-/// Where the first space stands.
-fn first_space(mnemonic: &[u8; 22]) -> Option<usize>
-    ensures space { result ≡ position (λ b. b == 32) mnemonic.now }
-    ensures inside { IfSome result (λ n. n ≤ 22) }
-{
-    mnemonic.iter().position(|byte| *byte == b' ')
+    pub role: Role,
 }
 
 impl OpRow {
-    /// The mnemonic's letters.
-    pub fn word(&self) -> &[u8]
-        ensures { result.now ≡ mnemonic_of self.now }
-    {
-        &self.mnemonic[..first_space(&self.mnemonic).unwrap_or(22)]
-    }
-
     /// Whether a package length stands before the parts.
     pub fn has_length(&self) -> bool
         ensures { result ≡ has_length self.now.tail }
     {
         self.tail != TailKind::Empty
-    }
-}
-
-impl Shape {
-    /// The kinds of the parts in order.
-    pub fn parts(self) -> &'static [PartKind]
-        ensures { result.now ≡ parts_of self }
-    {
-        use PartKind::*;
-        match self {
-            Shape::Bare => &[],
-            Shape::B1 => &[Byte],
-            Shape::B2 => &[Word],
-            Shape::B4 => &[Dword],
-            Shape::B8 => &[Qword],
-            Shape::Z => &[Text],
-            Shape::T => &[Term],
-            Shape::S => &[Target],
-            Shape::N => &[Name],
-            Shape::Scope => &[ScopeName],
-            Shape::TT => &[Term, Term],
-            Shape::TS => &[Term, Target],
-            Shape::ST => &[Target, Term],
-            Shape::SS => &[Target, Target],
-            Shape::S2 => &[Target, Word],
-            Shape::NS => &[Name, Target],
-            Shape::NN => &[Name, Name],
-            Shape::ND => &[Name, Data],
-            Shape::N1 => &[Name, Byte],
-            Shape::N12 => &[Name, Byte, Word],
-            Shape::N1C => &[Name, Byte, Count],
-            Shape::NN1 => &[Name, Name, Byte],
-            Shape::TTS => &[Term, Term, Target],
-            Shape::TTN => &[Term, Term, Name],
-            Shape::TTSS => &[Term, Term, Target, Target],
-            Shape::TTTS => &[Term, Term, Term, Target],
-            Shape::TTTN => &[Term, Term, Term, Name],
-            Shape::N1TT => &[Name, Byte, Term, Term],
-            Shape::N141 => &[Name, Byte, Dword, Byte],
-            Shape::NNT1 => &[Name, Name, Term, Byte],
-            Shape::NTTT => &[Name, Term, Term, Term],
-            Shape::B14T => &[Byte, Dword, Term],
-            Shape::T1T1TT => &[Term, Byte, Term, Byte, Term, Term],
-            Shape::TTTTTT => &[Term; 6],
-        }
     }
 }
 

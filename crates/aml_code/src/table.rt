@@ -1,172 +1,179 @@
 //! The table of opcodes.
-ghost use Rattle.std.specs.Prelude.{◌≡◌, ◌+◌, ◌%◌, ◌<◌, cond, get_or, nat_lt, slice_get};
-ghost use Rattle.std.specs.Option.{option_copied};
-ghost use Rattle.aml_code.specs.Rows.{row_of};
+ghost use Rattle.std.specs.Prelude.{◌≡◌, ◌+◌, ◌%◌, ◌<◌, cond, get_or, map, nat_lt, slice_get};
+ghost use Rattle.std.specs.Option.{option_copied, option_map};
+ghost use Rattle.aml_code.specs.Opcodes.{rows};
+ghost use Rattle.aml_code.specs.Rows.{row_of, row_view};
 ghost use Rattle.aml_code.specs.declared.table.TheConstants.{INDEX};
 
-use crate::rows::{Declares, Group, OpRow, Place, Shape, TailKind};
+use crate::rows::{Group, Object, OpRow, PartKind, Place, Role, TailKind};
 
 macro_rules! rows {
-    ($($opcode:literal $mnemonic:literal $group:ident $place:ident $shape:ident $tail:ident $declares:ident;)*) => {
+    ($($opcode:literal $mnemonic:literal $group:ident $place:ident [$($part:ident)*] $tail:ident $role:ident $(($object:ident))?;)*) => {
         [$(OpRow {
             opcode: $opcode,
-            mnemonic: *$mnemonic,
+            mnemonic: $mnemonic,
             group: Group::$group,
             place: Place::$place,
-            shape: Shape::$shape,
+            parts: &[$(PartKind::$part),*],
             tail: TailKind::$tail,
-            declares: Declares::$declares,
+            role: Role::$role $((Object::$object))?,
         }),*]
     };
 }
 
-/// The opcodes, ascending, each with its mnemonic, its group, where it may stand, its parts, its tail, and what it
-/// declares (ACPI 6.5, 20.3).
-pub static ROWS: [OpRow; 113] = rows! {
-    0x00   b"Zero                  " Value       Data        Bare   Empty    Nothing;
-    0x01   b"One                   " Value       Data        Bare   Empty    Nothing;
-    0x06   b"Alias                 " Declaration Declaration NN     Empty    LastName;
-    0x08   b"Name                  " Declaration Declaration ND     Empty    LastName;
-    0x0A   b"Byte                  " Value       Data        B1     Empty    Nothing;
-    0x0B   b"Word                  " Value       Data        B2     Empty    Nothing;
-    0x0C   b"Dword                 " Value       Data        B4     Empty    Nothing;
-    0x0D   b"Text                  " Value       Data        Z      Empty    Nothing;
-    0x0E   b"Qword                 " Value       Data        B8     Empty    Nothing;
-    0x10   b"Scope                 " Declaration Scope       Scope  Terms    Nothing;
-    0x11   b"Buffer                " Value       Data        T      Bytes    Nothing;
-    0x12   b"Package               " Value       Data        B1     Elements Nothing;
-    0x13   b"VarPackage            " Value       Data        T      Elements Nothing;
-    0x14   b"Method                " Declaration Method      N1     Body     LastName;
-    0x15   b"External              " Declaration External    N1C    Empty    Nothing;
-    0x60   b"Local0                " Value       Target      Bare   Empty    Nothing;
-    0x61   b"Local1                " Value       Target      Bare   Empty    Nothing;
-    0x62   b"Local2                " Value       Target      Bare   Empty    Nothing;
-    0x63   b"Local3                " Value       Target      Bare   Empty    Nothing;
-    0x64   b"Local4                " Value       Target      Bare   Empty    Nothing;
-    0x65   b"Local5                " Value       Target      Bare   Empty    Nothing;
-    0x66   b"Local6                " Value       Target      Bare   Empty    Nothing;
-    0x67   b"Local7                " Value       Target      Bare   Empty    Nothing;
-    0x68   b"Arg0                  " Value       Target      Bare   Empty    Nothing;
-    0x69   b"Arg1                  " Value       Target      Bare   Empty    Nothing;
-    0x6A   b"Arg2                  " Value       Target      Bare   Empty    Nothing;
-    0x6B   b"Arg3                  " Value       Target      Bare   Empty    Nothing;
-    0x6C   b"Arg4                  " Value       Target      Bare   Empty    Nothing;
-    0x6D   b"Arg5                  " Value       Target      Bare   Empty    Nothing;
-    0x6E   b"Arg6                  " Value       Target      Bare   Empty    Nothing;
-    0x70   b"Store                 " Expression  Argument    TS     Empty    Nothing;
-    0x71   b"RefOf                 " Expression  Target      S      Empty    Nothing;
-    0x72   b"Add                   " Expression  Argument    TTS    Empty    Nothing;
-    0x73   b"Concatenate           " Expression  Argument    TTS    Empty    Nothing;
-    0x74   b"Subtract              " Expression  Argument    TTS    Empty    Nothing;
-    0x75   b"Increment             " Expression  Argument    S      Empty    Nothing;
-    0x76   b"Decrement             " Expression  Argument    S      Empty    Nothing;
-    0x77   b"Multiply              " Expression  Argument    TTS    Empty    Nothing;
-    0x78   b"Divide                " Expression  Argument    TTSS   Empty    Nothing;
-    0x79   b"ShiftLeft             " Expression  Argument    TTS    Empty    Nothing;
-    0x7A   b"ShiftRight            " Expression  Argument    TTS    Empty    Nothing;
-    0x7B   b"And                   " Expression  Argument    TTS    Empty    Nothing;
-    0x7C   b"NAnd                  " Expression  Argument    TTS    Empty    Nothing;
-    0x7D   b"Or                    " Expression  Argument    TTS    Empty    Nothing;
-    0x7E   b"NOr                   " Expression  Argument    TTS    Empty    Nothing;
-    0x7F   b"XOr                   " Expression  Argument    TTS    Empty    Nothing;
-    0x80   b"Not                   " Expression  Argument    TS     Empty    Nothing;
-    0x81   b"FindSetLeftBit        " Expression  Argument    TS     Empty    Nothing;
-    0x82   b"FindSetRightBit       " Expression  Argument    TS     Empty    Nothing;
-    0x83   b"DerefOf               " Expression  Target      T      Empty    Nothing;
-    0x84   b"ConcatenateResTemplate" Expression  Argument    TTS    Empty    Nothing;
-    0x85   b"Mod                   " Expression  Argument    TTS    Empty    Nothing;
-    0x86   b"Notify                " Statement   Statement   ST     Empty    Nothing;
-    0x87   b"SizeOf                " Expression  Argument    S      Empty    Nothing;
-    0x88   b"Index                 " Expression  Target      TTS    Empty    Nothing;
-    0x89   b"Match                 " Expression  Argument    T1T1TT Empty    Nothing;
-    0x8A   b"CreateDWordField      " Declaration Declaration TTN    Empty    LastName;
-    0x8B   b"CreateWordField       " Declaration Declaration TTN    Empty    LastName;
-    0x8C   b"CreateByteField       " Declaration Declaration TTN    Empty    LastName;
-    0x8D   b"CreateBitField        " Declaration Declaration TTN    Empty    LastName;
-    0x8E   b"ObjectType            " Expression  Argument    S      Empty    Nothing;
-    0x8F   b"CreateQWordField      " Declaration Declaration TTN    Empty    LastName;
-    0x90   b"LAnd                  " Expression  Argument    TT     Empty    Nothing;
-    0x91   b"LOr                   " Expression  Argument    TT     Empty    Nothing;
-    0x92   b"LNot                  " Expression  Argument    T      Empty    Nothing;
-    0x93   b"LEqual                " Expression  Argument    TT     Empty    Nothing;
-    0x94   b"LGreater              " Expression  Argument    TT     Empty    Nothing;
-    0x95   b"LLess                 " Expression  Argument    TT     Empty    Nothing;
-    0x96   b"ToBuffer              " Expression  Argument    TS     Empty    Nothing;
-    0x97   b"ToDecimalString       " Expression  Argument    TS     Empty    Nothing;
-    0x98   b"ToHexString           " Expression  Argument    TS     Empty    Nothing;
-    0x99   b"ToInteger             " Expression  Argument    TS     Empty    Nothing;
-    0x9C   b"ToString              " Expression  Argument    TTS    Empty    Nothing;
-    0x9D   b"CopyObject            " Expression  Argument    TS     Empty    Nothing;
-    0x9E   b"Mid                   " Expression  Argument    TTTS   Empty    Nothing;
-    0x9F   b"Continue              " Statement   Statement   Bare   Empty    Nothing;
-    0xA0   b"If                    " Statement   If          T      Terms    Nothing;
-    0xA1   b"Else                  " Statement   Else        Bare   Terms    Nothing;
-    0xA2   b"While                 " Statement   Statement   T      Terms    Nothing;
-    0xA3   b"Noop                  " Statement   Statement   Bare   Empty    Nothing;
-    0xA4   b"Return                " Statement   Statement   T      Empty    Nothing;
-    0xA5   b"Break                 " Statement   Statement   Bare   Empty    Nothing;
-    0xCC   b"BreakPoint            " Statement   Statement   Bare   Empty    Nothing;
-    0xFF   b"Ones                  " Value       Data        Bare   Empty    Nothing;
-    0x5B01 b"Mutex                 " Declaration Declaration N1     Empty    LastName;
-    0x5B02 b"Event                 " Declaration Declaration N      Empty    LastName;
-    0x5B12 b"CondRefOf             " Expression  Argument    SS     Empty    Nothing;
-    0x5B13 b"CreateField           " Declaration Declaration TTTN   Empty    LastName;
-    0x5B1F b"LoadTable             " Expression  Argument    TTTTTT Empty    Nothing;
-    0x5B20 b"Load                  " Expression  Argument    NS     Empty    Nothing;
-    0x5B21 b"Stall                 " Statement   Statement   T      Empty    Nothing;
-    0x5B22 b"Sleep                 " Statement   Statement   T      Empty    Nothing;
-    0x5B23 b"Acquire               " Expression  Argument    S2     Empty    Nothing;
-    0x5B24 b"Signal                " Statement   Statement   S      Empty    Nothing;
-    0x5B25 b"Wait                  " Expression  Argument    ST     Empty    Nothing;
-    0x5B26 b"Reset                 " Statement   Statement   S      Empty    Nothing;
-    0x5B27 b"Release               " Statement   Statement   S      Empty    Nothing;
-    0x5B28 b"FromBCD               " Expression  Argument    TS     Empty    Nothing;
-    0x5B29 b"ToBCD                 " Expression  Argument    TS     Empty    Nothing;
-    0x5B2A b"Unload                " Statement   Statement   S      Empty    Nothing;
-    0x5B30 b"Revision              " Value       Data        Bare   Empty    Nothing;
-    0x5B31 b"Debug                 " Value       Target      Bare   Empty    Nothing;
-    0x5B32 b"Fatal                 " Statement   Statement   B14T   Empty    Nothing;
-    0x5B33 b"Timer                 " Value       Argument    Bare   Empty    Nothing;
-    0x5B80 b"OperationRegion       " Declaration Declaration N1TT   Empty    LastName;
-    0x5B81 b"Field                 " Declaration Declaration N1     Fields   Units;
-    0x5B82 b"Device                " Declaration Scope       N      Terms    LastName;
-    0x5B83 b"Processor             " Declaration Scope       N141   Terms    LastName;
-    0x5B84 b"PowerResource         " Declaration Scope       N12    Terms    LastName;
-    0x5B85 b"ThermalZone           " Declaration Scope       N      Terms    LastName;
-    0x5B86 b"IndexField            " Declaration Declaration NN1    Fields   Units;
-    0x5B87 b"BankField             " Declaration Declaration NNT1   Fields   Units;
-    0x5B88 b"DataRegion            " Declaration Declaration NTTT   Empty    LastName;
+/// The opcodes in the order of the standard's sections (ACPI 6.5, 20.2.3 to 20.2.6), each with its mnemonic, its group,
+/// where it may stand, its parts, its tail, and what it does to the namespace.
+static ROWS: [OpRow; 113] = rows! {
+    // Data objects (20.2.3).
+    0x0A   "Byte"                   Value       Data        [Byte]                           Empty    Other;
+    0x0B   "Word"                   Value       Data        [Word]                           Empty    Other;
+    0x0C   "Dword"                  Value       Data        [Dword]                          Empty    Other;
+    0x0E   "Qword"                  Value       Data        [Qword]                          Empty    Other;
+    0x0D   "Text"                   Value       Data        [Text]                           Empty    Other;
+    0x00   "Zero"                   Value       Data        []                               Empty    Other;
+    0x01   "One"                    Value       Data        []                               Empty    Other;
+    0xFF   "Ones"                   Value       Data        []                               Empty    Other;
+    0x5B30 "Revision"               Value       Data        []                               Empty    Other;
+    0x11   "Buffer"                 Value       Data        [Term]                           Bytes    Other;
+    0x12   "Package"                Value       Data        [Byte]                           Elements Other;
+    0x13   "VarPackage"             Value       Data        [Term]                           Elements Other;
+    // Namespace modifier objects (20.2.5.1).
+    0x06   "Alias"                  Declaration Declaration [Name Name]                      Empty    Alias;
+    0x08   "Name"                   Declaration Declaration [Name Data]                      Empty    Declares(Name);
+    0x10   "Scope"                  Declaration Scope       [ScopeName]                      Terms    Scope;
+    // Named objects (20.2.5.2).
+    0x5B87 "BankField"              Declaration Declaration [Name Name Term Byte]            Fields   Fields;
+    0x8D   "CreateBitField"         Declaration Declaration [Term Term Name]                 Empty    Declares(BufferField);
+    0x8C   "CreateByteField"        Declaration Declaration [Term Term Name]                 Empty    Declares(BufferField);
+    0x8A   "CreateDWordField"       Declaration Declaration [Term Term Name]                 Empty    Declares(BufferField);
+    0x5B13 "CreateField"            Declaration Declaration [Term Term Term Name]            Empty    Declares(BufferField);
+    0x8F   "CreateQWordField"       Declaration Declaration [Term Term Name]                 Empty    Declares(BufferField);
+    0x8B   "CreateWordField"        Declaration Declaration [Term Term Name]                 Empty    Declares(BufferField);
+    0x5B88 "DataRegion"             Declaration Declaration [Name Term Term Term]            Empty    Declares(DataRegion);
+    0x5B82 "Device"                 Declaration Scope       [Name]                           Terms    Declares(Device);
+    0x5B02 "Event"                  Declaration Declaration [Name]                           Empty    Declares(Event);
+    0x15   "External"               Declaration External    [Name Byte Count]                Empty    External;
+    0x5B81 "Field"                  Declaration Declaration [Name Byte]                      Fields   Fields;
+    0x5B86 "IndexField"             Declaration Declaration [Name Name Byte]                 Fields   Fields;
+    0x14   "Method"                 Declaration Method      [Name Byte]                      Body     Method;
+    0x5B01 "Mutex"                  Declaration Declaration [Name Byte]                      Empty    Declares(Mutex);
+    0x5B80 "OperationRegion"        Declaration Declaration [Name Byte Term Term]            Empty    Declares(Region);
+    0x5B84 "PowerResource"          Declaration Scope       [Name Byte Word]                 Terms    Declares(PowerResource);
+    0x5B83 "Processor"              Declaration Scope       [Name Byte Dword Byte]           Terms    Declares(Processor);
+    0x5B85 "ThermalZone"            Declaration Scope       [Name]                           Terms    Declares(ThermalZone);
+    // Statement opcodes (20.2.5.3).
+    0xA5   "Break"                  Statement   Statement   []                               Empty    Other;
+    0xCC   "BreakPoint"             Statement   Statement   []                               Empty    Other;
+    0x9F   "Continue"               Statement   Statement   []                               Empty    Other;
+    0x5B32 "Fatal"                  Statement   Statement   [Byte Dword Term]                Empty    Other;
+    0xA0   "If"                     Statement   If          [Term]                           Terms    Guard;
+    0xA1   "Else"                   Statement   Else        []                               Terms    Other;
+    0xA3   "Noop"                   Statement   Statement   []                               Empty    Other;
+    0x86   "Notify"                 Statement   Statement   [Target Term]                    Empty    Other;
+    0x5B27 "Release"                Statement   Statement   [Target]                         Empty    Other;
+    0x5B26 "Reset"                  Statement   Statement   [Target]                         Empty    Other;
+    0xA4   "Return"                 Statement   Statement   [Term]                           Empty    Other;
+    0x5B24 "Signal"                 Statement   Statement   [Target]                         Empty    Other;
+    0x5B22 "Sleep"                  Statement   Statement   [Term]                           Empty    Other;
+    0x5B21 "Stall"                  Statement   Statement   [Term]                           Empty    Other;
+    0x5B2A "Unload"                 Statement   Statement   [Target]                         Empty    Other;
+    0xA2   "While"                  Statement   Statement   [Term]                           Terms    Other;
+    // Expression opcodes (20.2.5.4).
+    0x5B23 "Acquire"                Expression  Argument    [Target Word]                    Empty    Other;
+    0x72   "Add"                    Expression  Argument    [Term Term Target]               Empty    Other;
+    0x7B   "And"                    Expression  Argument    [Term Term Target]               Empty    Other;
+    0x73   "Concatenate"            Expression  Argument    [Term Term Target]               Empty    Other;
+    0x84   "ConcatenateResTemplate" Expression  Argument    [Term Term Target]               Empty    Other;
+    0x5B12 "CondRefOf"              Expression  Argument    [Target Target]                  Empty    Other;
+    0x9D   "CopyObject"             Expression  Argument    [Term Target]                    Empty    Other;
+    0x76   "Decrement"              Expression  Argument    [Target]                         Empty    Other;
+    0x83   "DerefOf"                Expression  Target      [Term]                           Empty    Other;
+    0x78   "Divide"                 Expression  Argument    [Term Term Target Target]        Empty    Other;
+    0x81   "FindSetLeftBit"         Expression  Argument    [Term Target]                    Empty    Other;
+    0x82   "FindSetRightBit"        Expression  Argument    [Term Target]                    Empty    Other;
+    0x5B28 "FromBCD"                Expression  Argument    [Term Target]                    Empty    Other;
+    0x75   "Increment"              Expression  Argument    [Target]                         Empty    Other;
+    0x88   "Index"                  Expression  Target      [Term Term Target]               Empty    Other;
+    0x90   "LAnd"                   Expression  Argument    [Term Term]                      Empty    Other;
+    0x93   "LEqual"                 Expression  Argument    [Term Term]                      Empty    Other;
+    0x94   "LGreater"               Expression  Argument    [Term Term]                      Empty    Other;
+    0x95   "LLess"                  Expression  Argument    [Term Term]                      Empty    Other;
+    0x9E   "Mid"                    Expression  Argument    [Term Term Term Target]          Empty    Other;
+    0x92   "LNot"                   Expression  Argument    [Term]                           Empty    Other;
+    0x5B20 "Load"                   Expression  Argument    [Name Target]                    Empty    Other;
+    0x5B1F "LoadTable"              Expression  Argument    [Term Term Term Term Term Term]  Empty    Other;
+    0x91   "LOr"                    Expression  Argument    [Term Term]                      Empty    Other;
+    0x89   "Match"                  Expression  Argument    [Term Byte Term Byte Term Term]  Empty    Other;
+    0x85   "Mod"                    Expression  Argument    [Term Term Target]               Empty    Other;
+    0x77   "Multiply"               Expression  Argument    [Term Term Target]               Empty    Other;
+    0x7C   "NAnd"                   Expression  Argument    [Term Term Target]               Empty    Other;
+    0x7E   "NOr"                    Expression  Argument    [Term Term Target]               Empty    Other;
+    0x80   "Not"                    Expression  Argument    [Term Target]                    Empty    Other;
+    0x8E   "ObjectType"             Expression  Argument    [Target]                         Empty    Other;
+    0x7D   "Or"                     Expression  Argument    [Term Term Target]               Empty    Other;
+    0x71   "RefOf"                  Expression  Target      [Target]                         Empty    Other;
+    0x79   "ShiftLeft"              Expression  Argument    [Term Term Target]               Empty    Other;
+    0x7A   "ShiftRight"             Expression  Argument    [Term Term Target]               Empty    Other;
+    0x87   "SizeOf"                 Expression  Argument    [Target]                         Empty    Other;
+    0x70   "Store"                  Expression  Argument    [Term Target]                    Empty    Other;
+    0x74   "Subtract"               Expression  Argument    [Term Term Target]               Empty    Other;
+    0x5B33 "Timer"                  Value       Argument    []                               Empty    Other;
+    0x5B29 "ToBCD"                  Expression  Argument    [Term Target]                    Empty    Other;
+    0x96   "ToBuffer"               Expression  Argument    [Term Target]                    Empty    Other;
+    0x97   "ToDecimalString"        Expression  Argument    [Term Target]                    Empty    Other;
+    0x98   "ToHexString"            Expression  Argument    [Term Target]                    Empty    Other;
+    0x99   "ToInteger"              Expression  Argument    [Term Target]                    Empty    Other;
+    0x9C   "ToString"               Expression  Argument    [Term Term Target]               Empty    Other;
+    0x5B25 "Wait"                   Expression  Argument    [Target Term]                    Empty    Other;
+    0x7F   "XOr"                    Expression  Argument    [Term Term Target]               Empty    Other;
+    // Args, Locals and Debug (20.2.6).
+    0x68   "Arg0"                   Value       Target      []                               Empty    Other;
+    0x69   "Arg1"                   Value       Target      []                               Empty    Other;
+    0x6A   "Arg2"                   Value       Target      []                               Empty    Other;
+    0x6B   "Arg3"                   Value       Target      []                               Empty    Other;
+    0x6C   "Arg4"                   Value       Target      []                               Empty    Other;
+    0x6D   "Arg5"                   Value       Target      []                               Empty    Other;
+    0x6E   "Arg6"                   Value       Target      []                               Empty    Other;
+    0x60   "Local0"                 Value       Target      []                               Empty    Other;
+    0x61   "Local1"                 Value       Target      []                               Empty    Other;
+    0x62   "Local2"                 Value       Target      []                               Empty    Other;
+    0x63   "Local3"                 Value       Target      []                               Empty    Other;
+    0x64   "Local4"                 Value       Target      []                               Empty    Other;
+    0x65   "Local5"                 Value       Target      []                               Empty    Other;
+    0x66   "Local6"                 Value       Target      []                               Empty    Other;
+    0x67   "Local7"                 Value       Target      []                               Empty    Other;
+    0x5B31 "Debug"                  Value       Target      []                               Empty    Other;
 };
 
 /// Where in `ROWS` the row of an opcode stands: first of those of one byte, then of those of 5B and a second byte. No row
 /// stands at 255.
 static INDEX: [u8; 512] = [
-    0, 1, 255, 255, 255, 255, 2, 255, 3, 255, 4, 5, 6, 7, 8, 255, 9, 10, 11, 12, 13, 14, 255, 255,
+    5, 6, 255, 255, 255, 255, 12, 255, 13, 255, 0, 1, 2, 4, 3, 255, 14, 9, 10, 11, 28, 25, 255,
     255, 255, 255, 255, 255, 255, 255, 255, 255, 255, 255, 255, 255, 255, 255, 255, 255, 255, 255,
     255, 255, 255, 255, 255, 255, 255, 255, 255, 255, 255, 255, 255, 255, 255, 255, 255, 255, 255,
     255, 255, 255, 255, 255, 255, 255, 255, 255, 255, 255, 255, 255, 255, 255, 255, 255, 255, 255,
-    255, 255, 255, 255, 255, 255, 255, 255, 255, 255, 255, 255, 255, 255, 255, 15, 16, 17, 18, 19,
-    20, 21, 22, 23, 24, 25, 26, 27, 28, 29, 255, 30, 31, 32, 33, 34, 35, 36, 37, 38, 39, 40, 41,
-    42, 43, 44, 45, 46, 47, 48, 49, 50, 51, 52, 53, 54, 55, 56, 57, 58, 59, 60, 61, 62, 63, 64, 65,
-    66, 67, 68, 69, 70, 71, 255, 255, 72, 73, 74, 75, 76, 77, 78, 79, 80, 81, 255, 255, 255, 255,
+    255, 255, 255, 255, 255, 255, 255, 255, 255, 255, 255, 255, 255, 255, 255, 255, 104, 105, 106,
+    107, 108, 109, 110, 111, 97, 98, 99, 100, 101, 102, 103, 255, 86, 82, 51, 53, 87, 63, 57, 76,
+    59, 83, 84, 52, 77, 81, 78, 96, 79, 60, 61, 58, 54, 75, 41, 85, 64, 74, 18, 21, 17, 16, 80, 20,
+    65, 73, 70, 66, 67, 68, 90, 91, 92, 93, 255, 255, 94, 56, 69, 36, 38, 39, 49, 40, 44, 34, 255,
     255, 255, 255, 255, 255, 255, 255, 255, 255, 255, 255, 255, 255, 255, 255, 255, 255, 255, 255,
-    255, 255, 255, 255, 255, 255, 255, 255, 255, 255, 255, 255, 255, 255, 255, 82, 255, 255, 255,
-    255, 255, 255, 255, 255, 255, 255, 255, 255, 255, 255, 255, 255, 255, 255, 255, 255, 255, 255,
-    255, 255, 255, 255, 255, 255, 255, 255, 255, 255, 255, 255, 255, 255, 255, 255, 255, 255, 255,
-    255, 255, 255, 255, 255, 255, 255, 255, 255, 83, 255, 84, 85, 255, 255, 255, 255, 255, 255,
-    255, 255, 255, 255, 255, 255, 255, 255, 255, 86, 87, 255, 255, 255, 255, 255, 255, 255, 255,
-    255, 255, 255, 88, 89, 90, 91, 92, 93, 94, 95, 96, 97, 98, 99, 255, 255, 255, 255, 255, 100,
-    101, 102, 103, 255, 255, 255, 255, 255, 255, 255, 255, 255, 255, 255, 255, 255, 255, 255, 255,
+    255, 255, 255, 255, 255, 255, 255, 255, 255, 255, 255, 255, 255, 255, 255, 255, 255, 255, 35,
     255, 255, 255, 255, 255, 255, 255, 255, 255, 255, 255, 255, 255, 255, 255, 255, 255, 255, 255,
     255, 255, 255, 255, 255, 255, 255, 255, 255, 255, 255, 255, 255, 255, 255, 255, 255, 255, 255,
-    255, 255, 255, 255, 255, 255, 255, 255, 255, 255, 255, 255, 255, 255, 255, 255, 255, 255, 255,
-    255, 255, 255, 104, 105, 106, 107, 108, 109, 110, 111, 112, 255, 255, 255, 255, 255, 255, 255,
+    255, 255, 255, 255, 255, 255, 255, 255, 255, 255, 255, 255, 7, 255, 29, 24, 255, 255, 255, 255,
+    255, 255, 255, 255, 255, 255, 255, 255, 255, 255, 255, 55, 19, 255, 255, 255, 255, 255, 255,
+    255, 255, 255, 255, 255, 72, 71, 47, 46, 50, 45, 95, 43, 42, 62, 89, 48, 255, 255, 255, 255,
+    255, 8, 112, 37, 88, 255, 255, 255, 255, 255, 255, 255, 255, 255, 255, 255, 255, 255, 255, 255,
     255, 255, 255, 255, 255, 255, 255, 255, 255, 255, 255, 255, 255, 255, 255, 255, 255, 255, 255,
     255, 255, 255, 255, 255, 255, 255, 255, 255, 255, 255, 255, 255, 255, 255, 255, 255, 255, 255,
     255, 255, 255, 255, 255, 255, 255, 255, 255, 255, 255, 255, 255, 255, 255, 255, 255, 255, 255,
+    255, 255, 255, 255, 30, 26, 23, 32, 31, 33, 27, 15, 22, 255, 255, 255, 255, 255, 255, 255, 255,
     255, 255, 255, 255, 255, 255, 255, 255, 255, 255, 255, 255, 255, 255, 255, 255, 255, 255, 255,
     255, 255, 255, 255, 255, 255, 255, 255, 255, 255, 255, 255, 255, 255, 255, 255, 255, 255, 255,
-    255, 255, 255, 255, 255, 255, 255, 255, 255, 255, 255, 255, 255, 255, 255, 255, 255,
+    255, 255, 255, 255, 255, 255, 255, 255, 255, 255, 255, 255, 255, 255, 255, 255, 255, 255, 255,
+    255, 255, 255, 255, 255, 255, 255, 255, 255, 255, 255, 255, 255, 255, 255, 255, 255, 255, 255,
+    255, 255, 255, 255, 255, 255, 255, 255, 255, 255, 255, 255, 255, 255, 255, 255, 255, 255, 255,
+    255, 255, 255, 255, 255, 255, 255, 255, 255, 255, 255, 255, 255, 255, 255, 255,
 ];
 
 /// Where in `INDEX` an opcode is looked up. Others may be looked up at the same place.
@@ -188,17 +195,24 @@ fn place_at(slot: u16) -> u8
     INDEX[slot as usize]
 }
 
+/// The table: row by row what the definition says.
+fn table() -> &'static [OpRow]
+    ensures { map row_view result.now ≡ rows }
+{
+    &ROWS
+}
+
 fn row_at(rows: &[OpRow], place: u8) -> Option<&OpRow>
     ensures { option_copied result ≡ slice_get rows.now place }
 {
     rows.get(place as usize)
 }
 
-/// The row of an opcode where it stands in the table, if it has one.
+/// The row of an opcode, if it has one.
 pub fn listed_row(opcode: u16) -> Option<&'static OpRow>
-    ensures { option_copied result ≡ row_of opcode }
+    ensures { option_map row_view (option_copied result) ≡ row_of opcode }
 {
-    match row_at(&ROWS, place_at(slot(opcode))) {
+    match row_at(table(), place_at(slot(opcode))) {
         None => None,
         Some(row) => {
             if row.opcode == opcode {
@@ -208,11 +222,4 @@ pub fn listed_row(opcode: u16) -> Option<&'static OpRow>
             }
         }
     }
-}
-
-/// The row of an opcode, if it has one.
-pub fn row(opcode: u16) -> Option<OpRow>
-    ensures { result ≡ row_of opcode }
-{
-    listed_row(opcode).copied()
 }

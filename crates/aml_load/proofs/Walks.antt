@@ -12,8 +12,8 @@ use Rattle.aml_space.specs.Entries.{Entry, declares, external}
 use Rattle.aml_load.specs.declared.faults.LoadFault.{LoadFault}
 use Rattle.aml_load.specs.declared.faults.LoadFault.TheVariants as loads
 use Rattle.aml_load.specs.declared.methods.Method.{Method}
-use Rattle.aml_load.specs.declared.roles.Role.{Role}
-use Rattle.aml_load.specs.declared.roles.Role.TheVariants as roles
+use Rattle.aml_code.specs.declared.rows.Role.{Role}
+use Rattle.aml_code.specs.declared.rows.Role.TheVariants as roles
 use Rattle.aml_load.specs.Roles.{role_of, kind_of}
 use Rattle.aml_load.specs.Loading.{Listed, plus, with_uses, first_label, byte_of, place_of, IsNew, Leads, target_of, body_start, body_len, method_entry, DeclareUnits, DoesAs, Declares, DeclareInside, DeclareAll, methods_at, methods_of}
 use Rattle.aml_load.specs.Walking.{◌>>=◌, place_at, scope_at, source_at, entry_at, new_at, name_at, number_at, method_at, alias_at, external_at, do_as, walk, walk_inside, walk_all}

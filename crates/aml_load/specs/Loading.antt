@@ -15,8 +15,8 @@ use Rattle.aml_space.specs.Entries.{Entry, Body, declares, external, declared_at
 use Rattle.aml_space.specs.Namespace.{namespace_of, kind_at, found, arity_of}
 use Rattle.aml_load.specs.declared.methods.Method.{Method}
 use Rattle.aml_load.specs.declared.methods.Use.{Use}
-use Rattle.aml_load.specs.declared.roles.Role.{Role}
-use Rattle.aml_load.specs.declared.roles.Role.TheVariants as roles
+use Rattle.aml_code.specs.declared.rows.Role.{Role}
+use Rattle.aml_code.specs.declared.rows.Role.TheVariants as roles
 use Rattle.aml_load.specs.Roles.{role_of, kind_of}
 use Rattle.aml_load.specs.Uses.{kinds_in, parts_uses, rest_uses}
 

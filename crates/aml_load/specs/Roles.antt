@@ -1,21 +1,21 @@
 -- What the terms of a table do to the namespace, by their opcodes (ACPI 6.5, 20.2.5.1 and 20.2.5.2).
-use Rattle.std.specs.Prelude.{ℕ, ◌==◌, find, Option, Some, None}
+use Rattle.std.specs.Prelude.{ℕ, Option, Some, None}
 use Rattle.aml_space.specs.declared.kinds.Kind.{Kind}
 use Rattle.aml_space.specs.declared.kinds.Kind.TheVariants as kinds
-use Rattle.aml_load.specs.declared.roles.Object.{Object}
-use Rattle.aml_load.specs.declared.roles.Object.TheVariants as objects
-use Rattle.aml_load.specs.declared.roles.Role.{Role}
-use Rattle.aml_load.specs.declared.roles.Role.TheVariants as roles
-use Rattle.aml_load.specs.declared.roles.RoleRow.{RoleRow}
-use Rattle.aml_load.specs.declared.roles.TheConstants.{ROLES}
+use Rattle.aml_code.specs.declared.rows.Object.{Object}
+use Rattle.aml_code.specs.declared.rows.Object.TheVariants as objects
+use Rattle.aml_code.specs.declared.rows.Role.{Role}
+use Rattle.aml_code.specs.declared.rows.Role.TheVariants as roles
+use Rattle.aml_code.specs.Opcodes.{Row}
+use Rattle.aml_code.specs.Rows.{row_of}
 
-abbrev pub role_in : Option RoleRow → Role
+abbrev pub role_in : Option Row → Role
 role_in None = roles.Other
 role_in (Some r) = r.role
 
--- the role of an opcode; an opcode that isn't listed does nothing
+-- the role of an opcode; an opcode that has no row does nothing
 unfoldable pub role_of : ℕ → Role
-role_of opcode = role_in (find (λ r. r.opcode == opcode) ROLES)
+role_of opcode = role_in (row_of opcode)
 
 abbrev pub kind_of : Object → Kind
 kind_of objects.Name = kinds.Name

@@ -14,8 +14,8 @@ use Rattle.aml_space.specs.Entries.{Entry, declares, declared_at}
 use Rattle.aml_load.specs.declared.faults.LoadFault.{LoadFault}
 use Rattle.aml_load.specs.declared.faults.LoadFault.TheVariants as loads
 use Rattle.aml_load.specs.declared.methods.Use.{Use}
-use Rattle.aml_load.specs.declared.roles.Role.{Role}
-use Rattle.aml_load.specs.declared.roles.Role.TheVariants as roles
+use Rattle.aml_code.specs.declared.rows.Role.{Role}
+use Rattle.aml_code.specs.declared.rows.Role.TheVariants as roles
 use Rattle.aml_load.specs.Roles.{role_of, kind_of}
 use Rattle.aml_load.specs.Loading.{Listed, nothing_listed, plus, with_uses, first_label, place_of, lead_of, IsNew, Leads, Declares, DeclareAll, DeclareTables, ReadTables, methods_of, use_count}
 use Rattle.aml_load.specs.Walking.{code_fault}

@@ -3,10 +3,10 @@ use Rattle.std.specs.Prelude.{ℕ, Bool, true, false, List, [], ◌∷◌, ◌++
 use Rattle.aml_names.specs.declared.segments.Seg.{Seg}
 use Rattle.aml_names.specs.declared.names.Name.{Name}
 use Rattle.aml_load.specs.declared.methods.Use.{Use}
-use Rattle.aml_code.specs.declared.rows.OpRow.{OpRow}
+use Rattle.aml_code.specs.Opcodes.{Row}
 use Rattle.aml_code.specs.declared.rows.PartKind.{PartKind}
 use Rattle.aml_code.specs.declared.rows.PartKind.TheVariants as kinds
-use Rattle.aml_code.specs.Rows.{row_of, parts_of}
+use Rattle.aml_code.specs.Rows.{row_of}
 use Rattle.aml_code.specs.Tree.{Tree, nothing, named, op, Trees, no_trees, tree_more, OnePart, child, label, byte, word, dword, qword, text, Parts, no_parts, part_more, Rest, empty, terms, bytes, elements, fields, body, OneUnit, unit, reserved, access, connection, extended, Units, no_units, unit_more, Joint, target, buffer}
 
 -- whether a part of this kind is a TermArg
@@ -14,9 +14,9 @@ abbrev pub is_argument : PartKind → Bool
 is_argument kinds.Term = true
 is_argument _ = false
 
-abbrev pub kinds_in : Option OpRow → List PartKind
+abbrev pub kinds_in : Option Row → List PartKind
 kinds_in None = []
-kinds_in (Some r) = parts_of r.shape
+kinds_in (Some r) = r.parts
 
 abbrev pub use_of : ℕ → List Seg → Name → Use
 use_of tb scope n = record { table = tb; scope = scope; name = n }

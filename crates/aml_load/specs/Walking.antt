@@ -19,8 +19,8 @@ use Rattle.aml_space.specs.Entries.{Entry, declares, external, declared_at}
 use Rattle.aml_load.specs.declared.faults.LoadFault.{LoadFault}
 use Rattle.aml_load.specs.declared.faults.LoadFault.TheVariants as loads
 use Rattle.aml_load.specs.declared.methods.Use.{Use}
-use Rattle.aml_load.specs.declared.roles.Role.{Role}
-use Rattle.aml_load.specs.declared.roles.Role.TheVariants as roles
+use Rattle.aml_code.specs.declared.rows.Role.{Role}
+use Rattle.aml_code.specs.declared.rows.Role.TheVariants as roles
 use Rattle.aml_load.specs.Roles.{role_of, kind_of}
 use Rattle.aml_load.specs.Loading.{Listed, nothing_listed, plus, with_uses, first_label, byte_of, place_of, lead_of, target_of, body_start, body_len, method_entry, methods_of, use_count}
 

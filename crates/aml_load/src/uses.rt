@@ -27,7 +27,7 @@ fn kinds_of(opcode: u16) -> &'static [PartKind]
 {
     match listed_row(opcode) {
         None => &[],
-        Some(row) => row.shape.parts(),
+        Some(row) => row.parts,
     }
 }
 

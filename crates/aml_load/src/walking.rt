@@ -12,9 +12,11 @@ ghost use Rattle.aml_load.specs.Views.{Gives, Holds, Walked, WalkedTo};
 
 use crate::faults::LoadFault;
 use crate::methods::{Method, Use};
-use crate::roles::{Role, kind_of, role_of};
+use crate::roles::{kind_of, role_of};
 use crate::uses::{Around, add_names};
-use aml_code::{Field, Name, NoMemory, Node, Part, Path, Seg, Tail, last_byte, last_name, place};
+use aml_code::{
+    Field, Name, NoMemory, Node, Part, Path, Role, Seg, Tail, last_byte, last_name, place,
+};
 use aml_space::{Kind, Space, SpaceFault};
 use std::alloc::Global;
 

@@ -10,7 +10,7 @@ use Rattle.aml_names.specs.Paths.{PathSet}
 use Rattle.aml_names.specs.Steps.{◌>>=◌, Left}
 use Rattle.aml_names.proofs.NameLaws.{name_again, name_lead}
 use Rattle.aml_code.specs.declared.packages.PkgWidth.{PkgWidth}
-use Rattle.aml_code.specs.declared.rows.OpRow.{OpRow}
+use Rattle.aml_code.specs.Opcodes.{Row}
 use Rattle.aml_code.specs.declared.rows.PartKind.{PartKind}
 use Rattle.aml_code.specs.declared.rows.PartKind.TheVariants as kinds
 use Rattle.aml_code.specs.declared.rows.Position.{Position}
@@ -18,7 +18,7 @@ use Rattle.aml_code.specs.declared.rows.Position.TheVariants as positions
 use Rattle.aml_code.specs.declared.rows.TailKind.{TailKind}
 use Rattle.aml_code.specs.declared.rows.TailKind.TheVariants as tails
 use Rattle.aml_code.specs.Packages.{width_len, package_bytes, FitsWidth}
-use Rattle.aml_code.specs.Rows.{row_of, parts_of, has_length, takes}
+use Rattle.aml_code.specs.Rows.{row_of, has_length, takes}
 use Rattle.aml_code.specs.Tree.{Tree, nothing, named, op, Trees, no_trees, tree_more, OnePart, child, label, byte, word, dword, qword, text, Parts, no_parts, part_more, Rest, empty, terms, elements, fields, body, OneUnit, unit, reserved, access, connection, extended, Units, no_units, unit_more, Joint, target, buffer, tree_count}
 use Rattle.aml_code.specs.Tree as trees
 use Rattle.aml_code.specs.Encoding.{opcode_bytes, packed, slice_of, encoding, encodings, part_encoding, parts_encoding, rest_encoding, unit_encoding, units_encoding, joint_encoding}
@@ -305,7 +305,7 @@ tail_again arity scope code levels read law p _ at end ls _ h some stands place 
 
 -- ---- opcodes
 
-taken_target : (p : Position) (o : ℕ) (row : OpRow) → row_of o ≡ Some row → takes p row.place ≡ true → is_none p (lead_of o) ≡ false
+taken_target : (p : Position) (o : ℕ) (row : Row) → row_of o ≡ Some row → takes p row.place ≡ true → is_none p (lead_of o) ≡ false
 taken_target positions.ModuleTerm o row listed taken = refl
 taken_target positions.GuardTerm o row listed taken = refl
 taken_target positions.BodyTerm o row listed taken = refl
@@ -315,7 +315,7 @@ taken_target positions.Target o row listed taken = target_opcode o row listed ta
 taken_target positions.Data o row listed taken = refl
 
 -- an opcode that the position takes, with what follows it
-reach_row : (arity : Arities) (scope : Option (List Seg)) (read : Position → Reader Tree) (p : Position) (o : ℕ) (row : OpRow) (end : ℕ) (ls : PathSet) (rest : List ℕ) → row_of o ≡ Some row → takes p row.place ≡ true
+reach_row : (arity : Arities) (scope : Option (List Seg)) (read : Position → Reader Tree) (p : Position) (o : ℕ) (row : Row) (end : ℕ) (ls : PathSet) (rest : List ℕ) → row_of o ≡ Some row → takes p row.place ≡ true
     → term_at arity scope read p end ls (opcode_bytes o ++ rest) ≡ row_at scope read p (end - length (opcode_bytes o ++ rest)) row end ls rest
 unfolding operation_at
 reach_row arity scope read p o row end ls rest listed taken =
@@ -325,21 +325,21 @@ reach_row arity scope read p o row end ls rest listed taken =
     subst (λ (b : List ℕ). term_at arity scope read p end ls b ≡ operation_at scope read p end ls b) (sym l.1) (term_opcode arity scope read p end ls (lead_of o) l.0 (row_apart o row listed) (taken_target p o row listed taken)) in
     here
     ∙ ap (λ r. r >>= λ x. by_row (row_of x.0) scope read p (end - length bs) end ls x.1) (opcode_again end o rest (row_is_opcode o row listed))
-    ∙ ap (λ (f : Option OpRow). by_row f scope read p (end - length bs) end ls rest) listed
+    ∙ ap (λ (f : Option Row). by_row f scope read p (end - length bs) end ls rest) listed
     ∙ ap (λ (b : Bool). cond b (row_at scope read p (end - length bs) row end ls rest) (Err (refusal p row.place (end - length bs)))) taken
 
-plain_again : (arity : Arities) (scope : Option (List Seg)) (code : List ℕ) (levels : ℕ) (read : Position → Reader Tree) → IsReader arity scope code levels read → (o : ℕ) (row : OpRow) (at end : ℕ) (ls : PathSet) (ps : Parts) (rest : List ℕ)
-    → row_of o ≡ Some row → AreParts (setting_of arity scope code) levels (parts_of row.shape) ls ps → at + length (parts_encoding code ps ++ rest) ≡ end
+plain_again : (arity : Arities) (scope : Option (List Seg)) (code : List ℕ) (levels : ℕ) (read : Position → Reader Tree) → IsReader arity scope code levels read → (o : ℕ) (row : Row) (at end : ℕ) (ls : PathSet) (ps : Parts) (rest : List ℕ)
+    → row_of o ≡ Some row → AreParts (setting_of arity scope code) levels row.parts ls ps → at + length (parts_encoding code ps ++ rest) ≡ end
     → plain_at scope read row end ls (parts_encoding code ps ++ rest) ≡ Ok (op o None ps empty, declared_by scope (row_of o) (after_parts scope ls ps) ps empty, rest)
 unfolding plain_at
 plain_again arity scope code levels read law o row at end ls ps rest listed h place =
-    ap (λ r. r >>= λ x. Ok (op row.opcode None x.0 empty, with_declared scope x.1 (names_declared row.declares x.0 empty), x.2)) (parts_again arity scope code levels read law (parts_of row.shape) at end ls ps rest h place)
-    ∙ ap (λ (n : ℕ). Ok (op n None ps empty, with_declared scope (after_parts scope ls ps) (names_declared row.declares ps empty), rest)) (row_opcode o row listed)
-    ∙ ap (λ (f : Option OpRow). Ok (op o None ps empty, declared_by scope f (after_parts scope ls ps) ps empty, rest)) (sym listed)
+    ap (λ r. r >>= λ x. Ok (op row.opcode None x.0 empty, with_declared scope x.1 (names_declared row.role x.0 empty), x.2)) (parts_again arity scope code levels read law row.parts at end ls ps rest h place)
+    ∙ ap (λ (n : ℕ). Ok (op n None ps empty, with_declared scope (after_parts scope ls ps) (names_declared row.role ps empty), rest)) (row_opcode o row listed)
+    ∙ ap (λ (f : Option Row). Ok (op o None ps empty, declared_by scope f (after_parts scope ls ps) ps empty, rest)) (sym listed)
 
-packed_again : (arity : Arities) (scope : Option (List Seg)) (code : List ℕ) (levels : ℕ) (read : Position → Reader Tree) → IsReader arity scope code levels read → (p : Position) (o : ℕ) (w : PkgWidth) (row : OpRow) (there at end : ℕ) (ls : PathSet)
+packed_again : (arity : Arities) (scope : Option (List Seg)) (code : List ℕ) (levels : ℕ) (read : Position → Reader Tree) → IsReader arity scope code levels read → (p : Position) (o : ℕ) (w : PkgWidth) (row : Row) (there at end : ℕ) (ls : PathSet)
     (ps : Parts) (t : Rest) (rest : List ℕ) → row_of o ≡ Some row → IsGuarded (is_guard p row.place) ps → FitsWidth w (width_len w + length (parts_encoding code ps ++ rest_encoding code t))
-    → AreParts (setting_of arity scope code) levels (parts_of row.shape) ls ps → IsTail (setting_of arity scope code) levels (terms_in p row.place) row.tail (after_parts scope ls ps) t → (row.tail ≡ tails.Empty → ⊥)
+    → AreParts (setting_of arity scope code) levels row.parts ls ps → IsTail (setting_of arity scope code) levels (terms_in p row.place) row.tail (after_parts scope ls ps) t → (row.tail ≡ tails.Empty → ⊥)
     → RestStands code (at + (width_len w + length (parts_encoding code ps))) t → at + length (packed (Some w) (parts_encoding code ps ++ rest_encoding code t) ++ rest) ≡ end
     → packed_at scope read p there row end ls (packed (Some w) (parts_encoding code ps ++ rest_encoding code t) ++ rest)
     ≡ Ok (op o (Some w) ps t, declared_by scope (row_of o) (after_rest scope (after_parts scope ls ps) t) ps t, rest)
@@ -355,14 +355,14 @@ packed_again arity scope code levels read law p o w row there at end ls ps t res
     let long : length ((spelled ++ inside) ++ rest) ≡ (length spelled + length inside) + length rest = length-append (spelled ++ inside) rest ∙ ap (λ n. n + length rest) (length-append spelled inside) in
     let parts_place : (at + width_len w) + length (front ++ back) ≡ inner = omega (arith, place, long, size) in
     let tail_place : (at + (width_len w + length front)) + length back ≡ inner = omega (arith, parts_place, length-append front back) in
-    let made : PkgWidth → Parts → Rest → PathSet → List ℕ → Tree × PathSet × List ℕ = λ v xs y m r. (op row.opcode (Some v) xs y, with_declared scope m (names_declared row.declares xs y), r) in
+    let made : PkgWidth → Parts → Rest → PathSet → List ℕ → Tree × PathSet × List ℕ = λ v xs y m r. (op row.opcode (Some v) xs y, with_declared scope m (names_declared row.role xs y), r) in
     ap (packed_at scope read p there row end ls) split
-    ∙ ap (λ r. r >>= λ span. guard_at (is_guard p row.place) there (end - length span.2) span.1 >>= λ guarded. parts_at read (parts_of row.shape) (end - length span.2) ls span.1 >>= λ xs. tail_at read (terms_in p row.place) row.tail (end - length span.2) xs.1 xs.2 >>= λ y. Ok (made span.0 xs.0 y.0 y.1 span.2)) (span_again end w inside rest fits)
-    ∙ ap (λ r. r >>= λ guarded. parts_at read (parts_of row.shape) inner ls inside >>= λ xs. tail_at read (terms_in p row.place) row.tail inner xs.1 xs.2 >>= λ y. Ok (made w xs.0 y.0 y.1 rest)) (guard_again (is_guard p row.place) there inner code ps back guarded)
-    ∙ ap (λ r. r >>= λ xs. tail_at read (terms_in p row.place) row.tail inner xs.1 xs.2 >>= λ y. Ok (made w xs.0 y.0 y.1 rest)) (parts_again arity scope code levels read law (parts_of row.shape) (at + width_len w) inner ls ps back h parts_place)
+    ∙ ap (λ r. r >>= λ span. guard_at (is_guard p row.place) there (end - length span.2) span.1 >>= λ guarded. parts_at read row.parts (end - length span.2) ls span.1 >>= λ xs. tail_at read (terms_in p row.place) row.tail (end - length span.2) xs.1 xs.2 >>= λ y. Ok (made span.0 xs.0 y.0 y.1 span.2)) (span_again end w inside rest fits)
+    ∙ ap (λ r. r >>= λ guarded. parts_at read row.parts inner ls inside >>= λ xs. tail_at read (terms_in p row.place) row.tail inner xs.1 xs.2 >>= λ y. Ok (made w xs.0 y.0 y.1 rest)) (guard_again (is_guard p row.place) there inner code ps back guarded)
+    ∙ ap (λ r. r >>= λ xs. tail_at read (terms_in p row.place) row.tail inner xs.1 xs.2 >>= λ y. Ok (made w xs.0 y.0 y.1 rest)) (parts_again arity scope code levels read law row.parts (at + width_len w) inner ls ps back h parts_place)
     ∙ ap (λ r. r >>= λ y. Ok (made w ps y.0 y.1 rest)) (tail_again arity scope code levels read law (terms_in p row.place) row.tail (at + (width_len w + length front)) inner (after_parts scope ls ps) t tail some stands tail_place)
-    ∙ ap (λ (n : ℕ). Ok (op n (Some w) ps t, with_declared scope (after_rest scope (after_parts scope ls ps) t) (names_declared row.declares ps t), rest)) (row_opcode o row listed)
-    ∙ ap (λ (f : Option OpRow). Ok (op o (Some w) ps t, declared_by scope f (after_rest scope (after_parts scope ls ps) t) ps t, rest)) (sym listed)
+    ∙ ap (λ (n : ℕ). Ok (op n (Some w) ps t, with_declared scope (after_rest scope (after_parts scope ls ps) t) (names_declared row.role ps t), rest)) (row_opcode o row listed)
+    ∙ ap (λ (f : Option Row). Ok (op o (Some w) ps t, declared_by scope f (after_rest scope (after_parts scope ls ps) t) ps t, rest)) (sym listed)
 
 -- by whether the row has a package length
 op_again : (arity : Arities) (scope : Option (List Seg)) (code : List ℕ) (levels : ℕ) (read : Position → Reader Tree) → IsReader arity scope code levels read → (p : Position) (o : ℕ) (w : Option PkgWidth) (at end : ℕ) (ls : PathSet)

@@ -13,7 +13,7 @@ use Rattle.aml_names.proofs.NameFaults.{segment_fault}
 use Rattle.aml_names.proofs.NameLaws.{segment_takes, name_takes, name_fault}
 use Rattle.aml_names.proofs.StepLaws.{err_is, err_then, cond_then, Takes, byte_fault}
 use Rattle.aml_code.specs.declared.packages.PkgWidth.{PkgWidth}
-use Rattle.aml_code.specs.declared.rows.OpRow.{OpRow}
+use Rattle.aml_code.specs.Opcodes.{Row}
 use Rattle.aml_code.specs.declared.rows.PartKind.{PartKind}
 use Rattle.aml_code.specs.declared.rows.PartKind.TheVariants as kinds
 use Rattle.aml_code.specs.declared.rows.Place.{Place}
@@ -24,7 +24,7 @@ use Rattle.aml_code.specs.declared.rows.TailKind.{TailKind}
 use Rattle.aml_code.specs.declared.rows.TailKind.TheVariants as tails
 use Rattle.aml_code.specs.Packages.{width_len}
 use Rattle.aml_code.specs.Lengths.{length_at, span_at}
-use Rattle.aml_code.specs.Rows.{row_of, parts_of, has_length, takes}
+use Rattle.aml_code.specs.Rows.{row_of, has_length, takes}
 use Rattle.aml_code.specs.Tree.{Tree, nothing, named, op, Trees, tree_more, OnePart, child, byte, word, dword, qword, label, Parts, part_more, Rest, empty, terms, elements, fields, OneUnit, unit, connection, Units, unit_more, target, buffer}
 use Rattle.aml_code.specs.Encoding.{opcode_bytes, encoding, part_encoding, parts_encoding, unit_encoding}
 use Rattle.aml_code.specs.Declaring.{names_declared, with_declared}
@@ -245,7 +245,7 @@ tail_placed arity scope code levels read law placer p tails.Elements at end ls b
 -- ---- opcodes
 
 -- an opcode that stands at an offset, and has a row
-record HasFound (code : List ℕ) (at o : ℕ) (row : OpRow) : Type 0 where
+record HasFound (code : List ℕ) (at o : ℕ) (row : Row) : Type 0 where
   pub is : IsOpcode o
   pub there : StandsThere code at (opcode_bytes o)
   pub listed : row_of o ≡ Some row
@@ -253,7 +253,7 @@ record HasFound (code : List ℕ) (at o : ℕ) (row : OpRow) : Type 0 where
 not_external : (p : Position) (place : Place) → takes p place ≡ false → takes p places.External ≡ true → place ≢ places.External
 not_external p place not_taken taken = λ e. let x : takes p places.External ≡ false = subst (λ (q : Place). takes p q ≡ false) e not_taken in absurd (cc (x, taken))
 
-in_body_placed : (arity : Arities) (code : List ℕ) (at o : ℕ) (row : OpRow) (place : Place) → HasFound code at o row → row.place ≡ place → StandsAt arity code (refused_in_body place at)
+in_body_placed : (arity : Arities) (code : List ℕ) (at o : ℕ) (row : Row) (place : Place) → HasFound code at o row → row.place ≡ place → StandsAt arity code (refused_in_body place at)
 in_body_placed arity code at o row places.Method f e = (o, f.is, f.there, (row, f.listed, e))
 in_body_placed arity code at o row places.Scope f e = (o, f.is, f.there, (row, f.listed, e))
 in_body_placed arity code at o row places.Else f e = (o, f.is, f.there, (row, f.listed, e))
@@ -265,7 +265,7 @@ in_body_placed arity code at o row places.If f e = (o, f.is, f.there, (row, f.li
 in_body_placed arity code at o row places.Declaration f e = (o, f.is, f.there, (row, f.listed, tt))
 in_body_placed arity code at o row places.External f e = (o, f.is, f.there, (row, f.listed, tt))
 
-refusal_placed : (arity : Arities) (code : List ℕ) (p : Position) (at o : ℕ) (row : OpRow) → HasFound code at o row → takes p row.place ≡ false → StandsAt arity code (refusal p row.place at)
+refusal_placed : (arity : Arities) (code : List ℕ) (p : Position) (at o : ℕ) (row : Row) → HasFound code at o row → takes p row.place ≡ false → StandsAt arity code (refusal p row.place at)
 refusal_placed arity code positions.ModuleTerm at o row f not_taken = inr (o, f.is, f.there, (row, f.listed, not_external positions.ModuleTerm row.place not_taken refl))
 refusal_placed arity code positions.GuardTerm at o row f not_taken = inr (o, f.is, f.there, (row, f.listed, not_external positions.GuardTerm row.place not_taken refl))
 refusal_placed arity code positions.BodyTerm at o row f not_taken = in_body_placed arity code at o row row.place f refl
@@ -274,15 +274,15 @@ refusal_placed arity code positions.Argument at o row f not_taken = (o, f.is, f.
 refusal_placed arity code positions.Target at o row f not_taken = (o, f.is, f.there, (row, f.listed, tt))
 refusal_placed arity code positions.Data at o row f not_taken = (o, f.is, f.there, (row, f.listed, tt))
 
-plain_placed : (arity : Arities) (scope : Option (List Seg)) (code : List ℕ) (levels : ℕ) (read : Position → Reader Tree) → IsReader arity scope code levels read → IsPlacer arity code levels read → (row : OpRow) (at end : ℕ) (ls : PathSet)
+plain_placed : (arity : Arities) (scope : Option (List Seg)) (code : List ℕ) (levels : ℕ) (read : Position → Reader Tree) → IsReader arity scope code levels read → IsPlacer arity code levels read → (row : Row) (at end : ℕ) (ls : PathSet)
     (bs : List ℕ) (d : CodeFault) → Within code at end bs → 512 ≤ levels + at → plain_at scope read row end ls bs ≡ Err d → StandsAt arity code d
 unfolding plain_at
 plain_placed arity scope code levels read law placer row at end ls bs d w deep e =
-    err_then (StandsAt arity code d) (parts_at read (parts_of row.shape) end ls bs) (λ ps. Ok (op row.opcode None ps.0 empty, with_declared scope ps.1 (names_declared row.declares ps.0 empty), ps.2)) d e
-    (parts_placed arity scope code levels read law placer (parts_of row.shape) at end ls bs d w deep) (λ ps h1 e1. absurd cc)
+    err_then (StandsAt arity code d) (parts_at read row.parts end ls bs) (λ ps. Ok (op row.opcode None ps.0 empty, with_declared scope ps.1 (names_declared row.role ps.0 empty), ps.2)) d e
+    (parts_placed arity scope code levels read law placer row.parts at end ls bs d w deep) (λ ps h1 e1. absurd cc)
 
 -- an If that is no guard is code of a table
-guard_placed : (arity : Arities) (code : List ℕ) (p : Position) (there o : ℕ) (row : OpRow) → HasFound code there o row → (at end : ℕ) (inside : List ℕ) (d : CodeFault) → Within code at end inside
+guard_placed : (arity : Arities) (code : List ℕ) (p : Position) (there o : ℕ) (row : Row) → HasFound code there o row → (at end : ℕ) (inside : List ℕ) (d : CodeFault) → Within code at end inside
     → guard_at (is_guard p row.place) there end inside ≡ Err d → StandsAt arity code d
 guard_placed arity code p there o row found at end inside d w e =
     let f = guard_fault (is_guard p row.place) there end inside d e in
@@ -292,16 +292,16 @@ guard_placed arity code p there o row found at end inside d w e =
       | inr t ↦ subst (StandsAt arity code) (sym t) (inr (o, found.is, found.there, (row, found.listed, λ z. let x : is_if_place places.External ≡ true = subst (λ (q : Place). is_if_place q ≡ true) z is_if in absurd cc)))
     ]
 
-packed_placed : (arity : Arities) (scope : Option (List Seg)) (code : List ℕ) (levels : ℕ) (read : Position → Reader Tree) → IsReader arity scope code levels read → IsPlacer arity code levels read → (p : Position) (there o : ℕ) (row : OpRow) → HasFound code there o row
+packed_placed : (arity : Arities) (scope : Option (List Seg)) (code : List ℕ) (levels : ℕ) (read : Position → Reader Tree) → IsReader arity scope code levels read → IsPlacer arity code levels read → (p : Position) (there o : ℕ) (row : Row) → HasFound code there o row
     → (at end : ℕ) (ls : PathSet) (bs : List ℕ) (d : CodeFault) → Within code at end bs → 512 ≤ levels + at → packed_at scope read p there row end ls bs ≡ Err d → StandsAt arity code d
 unfolding packed_at
 packed_placed arity scope code levels read law placer p there o row found at end ls bs d w deep e =
     let P : Type 0 = StandsAt arity code d in
-    let made : PkgWidth × List ℕ × List ℕ → Parts × PathSet × List ℕ → Rest × PathSet → Tree × PathSet × List ℕ = λ span ps t. (op row.opcode (Some span.0) ps.0 t.0, with_declared scope t.1 (names_declared row.declares ps.0 t.0), span.2) in
+    let made : PkgWidth × List ℕ × List ℕ → Parts × PathSet × List ℕ → Rest × PathSet → Tree × PathSet × List ℕ = λ span ps t. (op row.opcode (Some span.0) ps.0 t.0, with_declared scope t.1 (names_declared row.role ps.0 t.0), span.2) in
     let tailed : PkgWidth × List ℕ × List ℕ → Parts × PathSet × List ℕ → Result (Tree × PathSet × List ℕ) CodeFault = λ span ps.
     tail_at read (terms_in p row.place) row.tail (end - length span.2) ps.1 ps.2 >>= λ t. Ok (made span ps t) in
     let parted : PkgWidth × List ℕ × List ℕ → Result (Tree × PathSet × List ℕ) CodeFault = λ span.
-    parts_at read (parts_of row.shape) (end - length span.2) ls span.1 >>= λ ps. tailed span ps in
+    parts_at read row.parts (end - length span.2) ls span.1 >>= λ ps. tailed span ps in
     err_then P (span_at end bs) (λ span. guard_at (is_guard p row.place) there (end - length span.2) span.1 >>= λ guarded. parted span) d e
     (λ h. elim (span_fault end bs d w.fits h) [
       | inl f ↦ length_placed arity code at end bs d w f
@@ -312,14 +312,14 @@ packed_placed arity scope code levels read law placer p there o row found at end
     let at2 = at + width_len span.0 in
     let w2 = inward code at end bs span w sp in
     err_then P (guard_at (is_guard p row.place) there inner span.1) (λ guarded. parted span) d e1 (guard_placed arity code p there o row found at2 inner span.1 d w2) (λ guarded h2 e2.
-    err_then P (parts_at read (parts_of row.shape) inner ls span.1) (λ ps. tailed span ps) d e2
-    (parts_placed arity scope code levels read law placer (parts_of row.shape) at2 inner ls span.1 d w2 (omega (arith, deep))) (λ ps h3 e3.
-    let b = parts_take arity scope code levels read law (parts_of row.shape) at2 inner ls span.1 ps w2 h3 in
+    err_then P (parts_at read row.parts inner ls span.1) (λ ps. tailed span ps) d e2
+    (parts_placed arity scope code levels read law placer row.parts at2 inner ls span.1 d w2 (omega (arith, deep))) (λ ps h3 e3.
+    let b = parts_take arity scope code levels read law row.parts at2 inner ls span.1 ps w2 h3 in
     let w3 = onward code at2 inner span.1 (parts_encoding code ps.0) ps.2 w2 b.takes in
     err_then P (tail_at read (terms_in p row.place) row.tail inner ps.1 ps.2) (λ t. Ok (made span ps t)) d e3
     (tail_placed arity scope code levels read law placer (terms_in p row.place) row.tail (at2 + length (parts_encoding code ps.0)) inner ps.1 ps.2 d w3 (omega (arith, deep))) (λ t h4 e4. absurd cc))))
 
-row_placed : (arity : Arities) (scope : Option (List Seg)) (code : List ℕ) (levels : ℕ) (read : Position → Reader Tree) → IsReader arity scope code levels read → IsPlacer arity code levels read → (p : Position) (there o : ℕ) (found : Option OpRow)
+row_placed : (arity : Arities) (scope : Option (List Seg)) (code : List ℕ) (levels : ℕ) (read : Position → Reader Tree) → IsReader arity scope code levels read → IsPlacer arity code levels read → (p : Position) (there o : ℕ) (found : Option Row)
     → row_of o ≡ found → IsOpcode o → StandsThere code there (opcode_bytes o) → (at end : ℕ) (ls : PathSet) (bs : List ℕ) (d : CodeFault) → Within code at end bs → 512 ≤ levels + at → by_row found scope read p there end ls bs ≡ Err d → StandsAt arity code d
 row_placed arity scope code levels read law placer p there o None listed is stands at end ls bs d w deep e =
     subst (StandsAt arity code) (err_is {A = Tree × PathSet × List ℕ} (faults.UnknownOp there) d e) (o, is, stands, listed)

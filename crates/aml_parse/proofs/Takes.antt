@@ -12,7 +12,7 @@ use Rattle.aml_names.specs.Steps.{◌>>=◌, Left, byte_at}
 use Rattle.aml_names.proofs.NameLaws.{name_takes, lead_reads}
 use Rattle.aml_names.proofs.StepLaws.{ok_is, bind_then, cond_then, chosen_ok, IsBytes, Takes, Takes-none, Takes-then, byte_takes}
 use Rattle.aml_code.specs.declared.packages.PkgWidth.{PkgWidth}
-use Rattle.aml_code.specs.declared.rows.OpRow.{OpRow}
+use Rattle.aml_code.specs.Opcodes.{Row}
 use Rattle.aml_code.specs.declared.rows.PartKind.{PartKind}
 use Rattle.aml_code.specs.declared.rows.PartKind.TheVariants as kinds
 use Rattle.aml_code.specs.declared.rows.Position.{Position}
@@ -21,7 +21,7 @@ use Rattle.aml_code.specs.declared.rows.TailKind.{TailKind}
 use Rattle.aml_code.specs.declared.rows.TailKind.TheVariants as tails
 use Rattle.aml_code.specs.Packages.{width_len, package_bytes, FitsWidth}
 use Rattle.aml_code.specs.Lengths.{span_at}
-use Rattle.aml_code.specs.Rows.{row_of, parts_of, has_length, takes}
+use Rattle.aml_code.specs.Rows.{row_of, has_length, takes}
 use Rattle.aml_code.specs.Tree.{Tree, nothing, named, op, Trees, no_trees, tree_more, OnePart, child, Parts, no_parts, part_more, Rest, empty, terms, elements, fields, OneUnit, connection, Units, no_units, unit_more, Joint, target, buffer, tree_count}
 use Rattle.aml_code.specs.Tree as trees
 use Rattle.aml_code.specs.Encoding.{opcode_bytes, slice_of, encoding, encodings, part_encoding, parts_encoding, rest_encoding, unit_encoding, joint_encoding}
@@ -269,37 +269,37 @@ tail_take arity scope code levels read law p tails.Body at end ls bs x w e =
 
 -- ---- opcodes
 
-declared_is : (scope : Option (List Seg)) (o : ℕ) (row : OpRow) (ls : PathSet) (ps : Parts) (t : Rest) → row_of o ≡ Some row → with_declared scope ls (names_declared row.declares ps t) ≡ declared_by scope (row_of o) ls ps t
-declared_is scope o row ls ps t e = ap (λ (r : Option OpRow). declared_by scope r ls ps t) (sym e)
+declared_is : (scope : Option (List Seg)) (o : ℕ) (row : Row) (ls : PathSet) (ps : Parts) (t : Rest) → row_of o ≡ Some row → with_declared scope ls (names_declared row.role ps t) ≡ declared_by scope (row_of o) ls ps t
+declared_is scope o row ls ps t e = ap (λ (r : Option Row). declared_by scope r ls ps t) (sym e)
 
 -- what has no package length is no guard
-unguarded : (o : ℕ) (row : OpRow) (p : Position) (ps : Parts) → row_of o ≡ Some row → has_length row.tail ≡ false → IsGuarded (is_guard p row.place) ps
+unguarded : (o : ℕ) (row : Row) (p : Position) (ps : Parts) → row_of o ≡ Some row → has_length row.tail ≡ false → IsGuarded (is_guard p row.place) ps
 unguarded o row p ps listed short = not_guarded (is_guard p row.place) ps (λ g. let long = if_has_length o row listed (guard_place p row.place g) in absurd (cc (long, short)))
 
-plain_take : (arity : Arities) (scope : Option (List Seg)) (code : List ℕ) (levels : ℕ) (read : Position → Reader Tree) → IsReader arity scope code levels read → (p : Position) (o : ℕ) (row : OpRow) (at end : ℕ) (ls : PathSet) (bs inside : List ℕ)
+plain_take : (arity : Arities) (scope : Option (List Seg)) (code : List ℕ) (levels : ℕ) (read : Position → Reader Tree) → IsReader arity scope code levels read → (p : Position) (o : ℕ) (row : Row) (at end : ℕ) (ls : PathSet) (bs inside : List ℕ)
     (x : Tree × PathSet × List ℕ) → Within code at end bs → Takes bs (opcode_bytes o) inside → row_of o ≡ Some row → takes p row.place ≡ true → has_length row.tail ≡ false → plain_at scope read row end ls inside ≡ Ok x
     → Took arity scope code (suc levels) p ls at bs x
 unfolding plain_at
 plain_take arity scope code levels read law p o row at end ls bs inside x w t0 listed taken short e =
     let s : Setting = setting_of arity scope code in
     let w1 = onward code at end bs (opcode_bytes o) inside w t0 in
-    bind_then (Took arity scope code (suc levels) p ls at bs x) (parts_at read (parts_of row.shape) end ls inside) (λ ps. Ok (op row.opcode None ps.0 empty, with_declared scope ps.1 (names_declared row.declares ps.0 empty), ps.2)) x e (λ ps h1 e1.
-    let b = parts_take arity scope code levels read law (parts_of row.shape) (at + length (opcode_bytes o)) end ls inside ps w1 h1 in
+    bind_then (Took arity scope code (suc levels) p ls at bs x) (parts_at read row.parts end ls inside) (λ ps. Ok (op row.opcode None ps.0 empty, with_declared scope ps.1 (names_declared row.role ps.0 empty), ps.2)) x e (λ ps h1 e1.
+    let b = parts_take arity scope code levels read law row.parts (at + length (opcode_bytes o)) end ls inside ps w1 h1 in
     let same : op o None ps.0 empty ≡ op row.opcode None ps.0 empty = ap (λ (n : ℕ). op n None ps.0 empty) (sym (row_opcode o row listed)) in
     let text : parts_encoding code ps.0 ++ [] ≡ parts_encoding code ps.0 = append-nil (parts_encoding code ps.0) in
     let tail : IsTail s levels (terms_in p row.place) row.tail (after_parts scope ls ps.0) empty = subst (λ (k : TailKind). IsTail s levels (terms_in p row.place) k (after_parts scope ls ps.0) empty) (sym (empty_tail row.tail short)) tt in
     let no_width : HasWidth (has_length row.tail) None (length (parts_encoding code ps.0 ++ [])) = subst (λ (b : Bool). HasWidth b None (length (parts_encoding code ps.0 ++ []))) (sym short) tt in
     let both = Takes-then bs (opcode_bytes o) inside (parts_encoding code ps.0) ps.2 t0 b.takes in
-    let found : Took arity scope code (suc levels) p ls at bs (op o None ps.0 empty, with_declared scope ps.1 (names_declared row.declares ps.0 empty), ps.2) = record {
+    let found : Took arity scope code (suc levels) p ls at bs (op o None ps.0 empty, with_declared scope ps.1 (names_declared row.role ps.0 empty), ps.2) = record {
       takes = subst (λ (r : List ℕ). Takes bs (opcode_bytes o ++ r) ps.2) (sym text) both;
       lawful = record { row = row; listed = listed; taken = taken; width = no_width; guarded = unguarded o row p ps.0 listed short; parts = b.are_parts; tail = tail };
       after_is = declared_is scope o row ps.1 ps.0 empty listed ∙ ap (λ (m : PathSet). declared_by scope (row_of o) m ps.0 empty) b.after_is;
       stands = tt;
     } in
-    let moved = subst (λ (t : Tree). Took arity scope code (suc levels) p ls at bs (t, with_declared scope ps.1 (names_declared row.declares ps.0 empty), ps.2)) same found in
-    subst (Took arity scope code (suc levels) p ls at bs) (ok_is (op row.opcode None ps.0 empty, with_declared scope ps.1 (names_declared row.declares ps.0 empty), ps.2) x e1) moved)
+    let moved = subst (λ (t : Tree). Took arity scope code (suc levels) p ls at bs (t, with_declared scope ps.1 (names_declared row.role ps.0 empty), ps.2)) same found in
+    subst (Took arity scope code (suc levels) p ls at bs) (ok_is (op row.opcode None ps.0 empty, with_declared scope ps.1 (names_declared row.role ps.0 empty), ps.2) x e1) moved)
 
-packed_take : (arity : Arities) (scope : Option (List Seg)) (code : List ℕ) (levels : ℕ) (read : Position → Reader Tree) → IsReader arity scope code levels read → (p : Position) (o : ℕ) (row : OpRow) (at end : ℕ) (ls : PathSet) (bs inside : List ℕ)
+packed_take : (arity : Arities) (scope : Option (List Seg)) (code : List ℕ) (levels : ℕ) (read : Position → Reader Tree) → IsReader arity scope code levels read → (p : Position) (o : ℕ) (row : Row) (at end : ℕ) (ls : PathSet) (bs inside : List ℕ)
     (x : Tree × PathSet × List ℕ) → Within code at end bs → Takes bs (opcode_bytes o) inside → row_of o ≡ Some row → takes p row.place ≡ true → has_length row.tail ≡ true → packed_at scope read p at row end ls inside ≡ Ok x
     → Took arity scope code (suc levels) p ls at bs x
 unfolding packed_at
@@ -308,24 +308,24 @@ packed_take arity scope code levels read law p o row at end ls bs inside x w t0 
     let P : Type 0 = Took arity scope code (suc levels) p ls at bs x in
     let at1 = at + length (opcode_bytes o) in
     let w1 = onward code at end bs (opcode_bytes o) inside w t0 in
-    let made : PkgWidth × List ℕ × List ℕ → Parts × PathSet × List ℕ → Rest × PathSet → Tree × PathSet × List ℕ = λ span ps t. (op row.opcode (Some span.0) ps.0 t.0, with_declared scope t.1 (names_declared row.declares ps.0 t.0), span.2) in
+    let made : PkgWidth × List ℕ × List ℕ → Parts × PathSet × List ℕ → Rest × PathSet → Tree × PathSet × List ℕ = λ span ps t. (op row.opcode (Some span.0) ps.0 t.0, with_declared scope t.1 (names_declared row.role ps.0 t.0), span.2) in
     let tailed : PkgWidth × List ℕ × List ℕ → Parts × PathSet × List ℕ → Result (Tree × PathSet × List ℕ) CodeFault = λ span ps.
     tail_at read (terms_in p row.place) row.tail (end - length span.2) ps.1 ps.2 >>= λ t. Ok (made span ps t) in
     let parted : PkgWidth × List ℕ × List ℕ → Result (Tree × PathSet × List ℕ) CodeFault = λ span.
-    parts_at read (parts_of row.shape) (end - length span.2) ls span.1 >>= λ ps. tailed span ps in
+    parts_at read row.parts (end - length span.2) ls span.1 >>= λ ps. tailed span ps in
     bind_then P (span_at end inside) (λ span. guard_at (is_guard p row.place) at (end - length span.2) span.1 >>= λ guarded. parted span) x e (λ span h1 e1.
     let sp = span_takes end inside span w1.fits h1 in
     let inner = end - length span.2 in
     let at2 = at1 + width_len span.0 in
     let w2 = inward code at1 end inside span w1 sp in
     bind_then P (guard_at (is_guard p row.place) at inner span.1) (λ guarded. parted span) x e1 (λ guarded h2 e2.
-    bind_then P (parts_at read (parts_of row.shape) inner ls span.1) (λ ps. tailed span ps) x e2 (λ ps h3 e3.
-    let b = parts_take arity scope code levels read law (parts_of row.shape) at2 inner ls span.1 ps w2 h3 in
+    bind_then P (parts_at read row.parts inner ls span.1) (λ ps. tailed span ps) x e2 (λ ps h3 e3.
+    let b = parts_take arity scope code levels read law row.parts at2 inner ls span.1 ps w2 h3 in
     let at3 = at2 + length (parts_encoding code ps.0) in
     let w3 = onward code at2 inner span.1 (parts_encoding code ps.0) ps.2 w2 b.takes in
     bind_then P (tail_at read (terms_in p row.place) row.tail inner ps.1 ps.2) (λ t. Ok (made span ps t)) x e3 (λ t h4 e4.
     let c = tail_take arity scope code levels read law (terms_in p row.place) row.tail at3 inner ps.1 ps.2 t w3 h4 in
-    let is_guarded = guard_holds s code levels (is_guard p row.place) at inner span.1 guarded (parts_of row.shape) ls ps.0 ps.2 (λ g. if_parts o row listed (guard_place p row.place g)) h2 b.are_parts b.takes.parts in
+    let is_guarded = guard_holds s code levels (is_guard p row.place) at inner span.1 guarded row.parts ls ps.0 ps.2 (λ g. if_parts o row listed (guard_place p row.place g)) h2 b.are_parts b.takes.parts in
     let content = parts_encoding code ps.0 ++ rest_encoding code t.0 in
     let whole : span.1 ≡ content = b.takes.parts ∙ ap (λ (r : List ℕ). parts_encoding code ps.0 ++ r) c.text in
     let spelled : Takes inside (package_bytes span.0 (width_len span.0 + length content) ++ content) span.2 × FitsWidth span.0 (width_len span.0 + length content) =
@@ -334,17 +334,17 @@ packed_take arity scope code levels read law p o row at end ls bs inside x w t0 
     let width : HasWidth (has_length row.tail) (Some span.0) (length content) = subst (λ (v : Bool). HasWidth v (Some span.0) (length content)) (sym long) spelled.1 in
     let tail : IsTail s levels (terms_in p row.place) row.tail (after_parts scope ls ps.0) t.0 = subst (λ (m : PathSet). IsTail s levels (terms_in p row.place) row.tail m t.0) b.after_is c.is_tail in
     let offset : at3 ≡ at + (length (opcode_bytes o) + (width_len span.0 + length (parts_encoding code ps.0))) = omega arith in
-    let found : Took arity scope code (suc levels) p ls at bs (op o (Some span.0) ps.0 t.0, with_declared scope t.1 (names_declared row.declares ps.0 t.0), span.2) = record {
+    let found : Took arity scope code (suc levels) p ls at bs (op o (Some span.0) ps.0 t.0, with_declared scope t.1 (names_declared row.role ps.0 t.0), span.2) = record {
       takes = both;
       lawful = record { row = row; listed = listed; taken = taken; width = width; guarded = is_guarded; parts = b.are_parts; tail = tail };
       after_is = declared_is scope o row t.1 ps.0 t.0 listed ∙ ap (λ (m : PathSet). declared_by scope (row_of o) m ps.0 t.0) (c.after_is ∙ ap (λ (m : PathSet). after_rest scope m t.0) b.after_is);
       stands = subst (λ (n : ℕ). RestStands code n t.0) offset c.stands;
     } in
     let same : op o (Some span.0) ps.0 t.0 ≡ op row.opcode (Some span.0) ps.0 t.0 = ap (λ (n : ℕ). op n (Some span.0) ps.0 t.0) (sym (row_opcode o row listed)) in
-    let moved = subst (λ (y : Tree). Took arity scope code (suc levels) p ls at bs (y, with_declared scope t.1 (names_declared row.declares ps.0 t.0), span.2)) same found in
+    let moved = subst (λ (y : Tree). Took arity scope code (suc levels) p ls at bs (y, with_declared scope t.1 (names_declared row.role ps.0 t.0), span.2)) same found in
     subst (Took arity scope code (suc levels) p ls at bs) (ok_is (made span ps t) x e4) moved))))
 
-row_take : (arity : Arities) (scope : Option (List Seg)) (code : List ℕ) (levels : ℕ) (read : Position → Reader Tree) → IsReader arity scope code levels read → (p : Position) (o : ℕ) (found : Option OpRow) (at end : ℕ) (ls : PathSet) (bs inside : List ℕ)
+row_take : (arity : Arities) (scope : Option (List Seg)) (code : List ℕ) (levels : ℕ) (read : Position → Reader Tree) → IsReader arity scope code levels read → (p : Position) (o : ℕ) (found : Option Row) (at end : ℕ) (ls : PathSet) (bs inside : List ℕ)
     (x : Tree × PathSet × List ℕ) → Within code at end bs → Takes bs (opcode_bytes o) inside → row_of o ≡ found → by_row found scope read p at end ls inside ≡ Ok x
     → Took arity scope code (suc levels) p ls at bs x
 row_take arity scope code levels read law p o None at end ls bs inside x w t0 listed e = absurd cc

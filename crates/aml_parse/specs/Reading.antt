@@ -10,7 +10,7 @@ use Rattle.aml_names.specs.Paths.{PathSet}
 use Rattle.aml_names.specs.Names.{is_name_lead}
 use Rattle.aml_names.specs.NameReading.{name_at, segment_at, has_segment}
 use Rattle.aml_names.specs.Steps.{◌>>=◌, Left, byte_at}
-use Rattle.aml_code.specs.declared.rows.OpRow.{OpRow}
+use Rattle.aml_code.specs.Opcodes.{Row}
 use Rattle.aml_code.specs.declared.rows.PartKind.{PartKind}
 use Rattle.aml_code.specs.declared.rows.PartKind.TheVariants as kinds
 use Rattle.aml_code.specs.declared.rows.Place.{Place}
@@ -20,7 +20,7 @@ use Rattle.aml_code.specs.declared.rows.Position.TheVariants as positions
 use Rattle.aml_code.specs.declared.rows.TailKind.{TailKind}
 use Rattle.aml_code.specs.declared.rows.TailKind.TheVariants as tails
 use Rattle.aml_code.specs.Lengths.{little_at, length_at, span_at}
-use Rattle.aml_code.specs.Rows.{row_of, parts_of, has_length, takes}
+use Rattle.aml_code.specs.Rows.{row_of, has_length, takes}
 use Rattle.aml_code.specs.Tree.{Tree, nothing, named, op, Trees, no_trees, tree_more, OnePart, child, label, byte, word, dword, qword, text, Parts, no_parts, part_more, Rest, empty, terms, elements, fields, body, OneUnit, unit, reserved, access, connection, extended, Units, no_units, unit_more, Joint, target, buffer}
 use Rattle.aml_code.specs.Tree as trees
 use Rattle.aml_code.specs.Declaring.{names_declared, with_declared}
@@ -293,25 +293,25 @@ tail_at read p tails.Fields end ls inside = do
 tail_at read p tails.Body end ls inside = Ok (body_to end (end - length inside), ls)
 
 -- an opcode without a package length
-unfoldable pub plain_at : Option (List Seg) → (Position → Reader Tree) → OpRow → Reader Tree
+unfoldable pub plain_at : Option (List Seg) → (Position → Reader Tree) → Row → Reader Tree
 plain_at scope read row end ls bytes = do
-  ps ← parts_at read (parts_of row.shape) end ls bytes
-  Ok (op row.opcode None ps.0 empty, with_declared scope ps.1 (names_declared row.declares ps.0 empty), ps.2)
+  ps ← parts_at read row.parts end ls bytes
+  Ok (op row.opcode None ps.0 empty, with_declared scope ps.1 (names_declared row.role ps.0 empty), ps.2)
 
 -- an opcode with a package length, which stands at an offset
-unfoldable pub packed_at : Option (List Seg) → (Position → Reader Tree) → Position → ℕ → OpRow → Reader Tree
+unfoldable pub packed_at : Option (List Seg) → (Position → Reader Tree) → Position → ℕ → Row → Reader Tree
 packed_at scope read p at row end ls bytes = do
   span ← span_at end bytes
   guarded ← guard_at (is_guard p row.place) at (end - length span.2) span.1
-  ps ← parts_at read (parts_of row.shape) (end - length span.2) ls span.1
+  ps ← parts_at read row.parts (end - length span.2) ls span.1
   t ← tail_at read (terms_in p row.place) row.tail (end - length span.2) ps.1 ps.2
-  Ok (op row.opcode (Some span.0) ps.0 t.0, with_declared scope t.1 (names_declared row.declares ps.0 t.0), span.2)
+  Ok (op row.opcode (Some span.0) ps.0 t.0, with_declared scope t.1 (names_declared row.role ps.0 t.0), span.2)
 
-abbrev pub row_at : Option (List Seg) → (Position → Reader Tree) → Position → ℕ → OpRow → Reader Tree
+abbrev pub row_at : Option (List Seg) → (Position → Reader Tree) → Position → ℕ → Row → Reader Tree
 row_at scope read p at row end ls bytes =
     if has_length row.tail then packed_at scope read p at row end ls bytes else plain_at scope read row end ls bytes
 
-abbrev pub by_row : Option OpRow → Option (List Seg) → (Position → Reader Tree) → Position → ℕ → Reader Tree
+abbrev pub by_row : Option Row → Option (List Seg) → (Position → Reader Tree) → Position → ℕ → Reader Tree
 by_row None scope read p at end ls bytes = Err (faults.UnknownOp at)
 by_row (Some row) scope read p at end ls bytes =
     if takes p row.place then row_at scope read p at row end ls bytes else Err (refusal p row.place at)

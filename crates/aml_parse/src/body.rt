@@ -61,6 +61,8 @@ pub fn parse_body<A: Arity>(
     ensures complete { IfErr result (λ fault. (fault ≡ CodeFault.NoMemory) ⊎ ((ts : Trees) → ReadsBody (A.arity arity.now) scope.now code.now ts → ⊥)) }
     // A fault is true of its offset.
     ensures placed { IfErr result (StandsAt (A.arity arity.now) code.now) }
+    // Which fault it is.
+    ensures forward { Gives (λ nodes. nodes_view nodes.items) result (all_at (A.arity arity.now) (Some scope.now) Position.BodyTerm code.now) }
 {
     body_terms(alloc, code, arity, scope)
 }

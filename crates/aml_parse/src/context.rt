@@ -9,8 +9,8 @@ ghost use Rattle.aml_parse.specs.Reading.{wanted, known};
 ghost use Rattle.aml_parse.specs.Contexts.{scope_of};
 
 use aml_code::{
-    Arity, CodeFault, Declares, Field, Locals, Name, NameForm, NoMemory, Part, Path, Position,
-    Segs, Tail, last_name, place,
+    Arity, CodeFault, Field, Locals, Name, NameForm, NoMemory, Part, Path, Position, Role, Segs,
+    Tail, last_name, place,
 };
 use std::alloc::Global;
 
@@ -49,16 +49,16 @@ impl<'a, A: Arity> Context<'a, A> {
     /// Adds the paths that a term declares itself.
     pub fn declare(
         &self,
-        declares: Declares,
+        role: Role,
         parts: &[Part],
         tail: &Tail,
         locals: &mut Locals,
     ) -> Result<(), NoMemory>
-        ensures { OnOk result (locals.new ≡ with_declared (scope_of self.now.scope) locals.old (names_declared declares (parts_view parts.now) (tail_view tail.now))) }
+        ensures { OnOk result (locals.new ≡ with_declared (scope_of self.now.scope) locals.old (names_declared role (parts_view parts.now) (tail_view tail.now))) }
     {
         match self.scope {
             None => Ok(()),
-            Some(scope) => declare_in(self.alloc, scope, declares, parts, tail, locals),
+            Some(scope) => declare_in(self.alloc, scope, role, parts, tail, locals),
         }
     }
 }
@@ -67,17 +67,19 @@ impl<'a, A: Arity> Context<'a, A> {
 fn declare_in(
     alloc: Global,
     scope: &Path,
-    declares: Declares,
+    role: Role,
     parts: &[Part],
     tail: &Tail,
     locals: &mut Locals,
 ) -> Result<(), NoMemory>
-    ensures { OnOk result (locals.new ≡ with_names scope.now locals.old (names_declared declares (parts_view parts.now) (tail_view tail.now))) }
+    ensures { OnOk result (locals.new ≡ with_names scope.now locals.old (names_declared role (parts_view parts.now) (tail_view tail.now))) }
 {
-    match declares {
-        Declares::Nothing => Ok(()),
-        Declares::LastName => declare_last(alloc, scope, parts, locals),
-        Declares::Units => declare_units(alloc, scope, tail, locals),
+    match role {
+        Role::Declares(_) | Role::Method | Role::Alias => {
+            declare_last(alloc, scope, parts, locals)
+        }
+        Role::Fields => declare_units(alloc, scope, tail, locals),
+        Role::Scope | Role::External | Role::Guard | Role::Other => Ok(()),
     }
 }
 

@@ -5,6 +5,7 @@ ghost use Rattle.aml_code.specs.Lawful.{is_guard, is_if, next_position, terms_in
 ghost use Rattle.aml_code.specs.Tree.{op, no_parts, empty};
 ghost use Rattle.aml_code.specs.View.{node_view, nodes_view, part_view, parts_view, tail_view, field_view, fields_view, link_view};
 ghost use Rattle.aml_parse.specs.Contexts.{scope_of};
+ghost use Rattle.aml_code.specs.Rows.{row_view};
 ghost use Rattle.aml_parse.specs.Reading.{child_at, opcode_at, refused_in_body, refusal, is_none, takes_names, guard_at, part_at, parts_at, arguments_at, terms_at, units_at, unit_at, joint_at, call_at, name_term_at, tail_at, plain_at, packed_at, by_row, row_at, operation_at, read_at};
 
 use crate::context::Context;
@@ -16,8 +17,8 @@ use crate::units::{
     access_unit_of, extended_unit_of, named_joint_of, named_unit_of, reserved_unit_of,
 };
 use aml_code::{
-    Arity, Bytes, CodeFault, Declares, Field, Link, Locals, Node, OpRow, Part, PartKind, Place,
-    Position, Shape, Tail, TailKind, byte_of, listed_row, offset_of, span_of, takes,
+    Arity, Bytes, CodeFault, Field, Link, Locals, Node, OpRow, Part, PartKind, Place, Position,
+    Tail, TailKind, byte_of, listed_row, offset_of, span_of, takes,
 };
 use aml_names::{is_name_lead, name_of};
 use std::alloc::Global;
@@ -267,9 +268,9 @@ fn bare(alloc: Global, opcode: u16) -> Node
     }
 }
 
-/// An opcode without a package length. Most have no parts and declare nothing, and so need no list of parts.
+/// An opcode without a package length. Most have no parts, and so need no list of parts.
 #[cycle(terms)]
-#[tactic(auto, unfolding(crate::specs::Reading::plain_at), using(crate::proofs::Bare::plain_bare))]
+#[tactic(auto, unfolding(crate::specs::Reading::plain_at))]
 fn plain<'b, A: Arity>(
     context: &Context<'_, A>,
     levels: u16,
@@ -278,14 +279,14 @@ fn plain<'b, A: Arity>(
     locals: &mut Locals,
     bytes: &'b [u8],
 ) -> Result<(Node, &'b [u8]), CodeFault>
-    ensures { Gives (λ x. (node_view x.0, locals.new, x.1.now)) result (plain_at (scope_of context.now.scope) (read_at (A.arity context.now.arity.now) (scope_of context.now.scope) levels) row.now end locals.old bytes.now) }
+    ensures { Gives (λ x. (node_view x.0, locals.new, x.1.now)) result (plain_at (scope_of context.now.scope) (read_at (A.arity context.now.arity.now) (scope_of context.now.scope) levels) (row_view row.now) end locals.old bytes.now) }
 {
-    if row.shape == Shape::Bare && row.declares == Declares::Nothing {
+    if row.parts.is_empty() {
         return Ok((bare(context.alloc, row.opcode), bytes));
     }
-    let (parts, rest) = parts(context, levels, row.shape.parts(), end, locals, bytes)?;
+    let (parts, rest) = parts(context, levels, row.parts, end, locals, bytes)?;
     let tail = Tail::Empty;
-    context.declare(row.declares, parts.as_slice(), &tail, locals)?;
+    context.declare(row.role, parts.as_slice(), &tail, locals)?;
     let node = Node::Op {
         opcode: row.opcode,
         width: None,
@@ -308,12 +309,12 @@ fn packed<'b, A: Arity>(
     locals: &mut Locals,
     bytes: &'b [u8],
 ) -> Result<(Node, &'b [u8]), CodeFault>
-    ensures { Gives (λ x. (node_view x.0, locals.new, x.1.now)) result (packed_at (scope_of context.now.scope) (read_at (A.arity context.now.arity.now) (scope_of context.now.scope) levels) position at row.now end locals.old bytes.now) }
+    ensures { Gives (λ x. (node_view x.0, locals.new, x.1.now)) result (packed_at (scope_of context.now.scope) (read_at (A.arity context.now.arity.now) (scope_of context.now.scope) levels) position at (row_view row.now) end locals.old bytes.now) }
 {
     let (width, inside, behind) = span_of(end, bytes)?;
     let inner = offset_of(end, behind);
     guard_of(is_guard(position, row.place), at, inner, inside)?;
-    let (parts, rest) = parts(context, levels, row.shape.parts(), inner, locals, inside)?;
+    let (parts, rest) = parts(context, levels, row.parts, inner, locals, inside)?;
     let inner_position = terms_in(position, row.place);
     let tail = tail(
         context,
@@ -324,7 +325,7 @@ fn packed<'b, A: Arity>(
         locals,
         rest,
     )?;
-    context.declare(row.declares, parts.as_slice(), &tail, locals)?;
+    context.declare(row.role, parts.as_slice(), &tail, locals)?;
     let node = Node::Op {
         opcode: row.opcode,
         width: Some(width),

@@ -3,14 +3,14 @@ use Rattle.std.proofs.Common.{◌≡◌, ℕ, Bool, true, false, cond, List, [],
 use Rattle.std.specs.declared.alloc.Global.{Global}
 use Rattle.aml_names.specs.declared.names.Name.{Name}
 use Rattle.aml_code.specs.declared.packages.PkgWidth.{PkgWidth}
-use Rattle.aml_code.specs.declared.rows.OpRow.{OpRow}
+use Rattle.aml_code.specs.Opcodes.{Row}
 use Rattle.aml_code.specs.declared.tree.Field.{Field}
 use Rattle.aml_code.specs.declared.tree.Node.{Node, Nothing, Named, Op}
 use Rattle.aml_code.specs.declared.tree.Part.{Part}
 use Rattle.aml_code.specs.declared.tree.Part as parts
 use Rattle.aml_code.specs.declared.tree.Tail.{Tail}
 use Rattle.aml_code.specs.declared.tree.Tail as tails
-use Rattle.aml_code.specs.Rows.{row_of, mnemonic_of}
+use Rattle.aml_code.specs.Rows.{row_of}
 use Rattle.aml_code.specs.View.{node_view, nodes_view, part_view, parts_view, tail_view}
 use Rattle.aml_code.proofs.Views.{view-Nothing, view-Named, view-Op, view-part-Child, view-part-Label, view-part-Byte, view-part-Word, view-part-Dword, view-part-Qword, view-part-Text, view-tail-Empty, view-tail-Terms, view-tail-Bytes, view-tail-Elements, view-tail-Fields, view-tail-Body}
 use Rattle.text_writer.specs.Words.{word}
@@ -64,21 +64,21 @@ pub ruleset braced_nodes = (node_braces)
 
 -- ---- heads
 
-pub head_none : (o : Option OpRow) (ps : List Part) → o ≡ None → head_text o (part_texts (parts_view ps)) ≡ separated_by (word ", ") part_inline ps
+pub head_none : (o : Option Row) (ps : List Part) → o ≡ None → head_text o (part_texts (parts_view ps)) ≡ separated_by (word ", ") part_inline ps
 unfolding head_text
-head_none o ps e = ap (λ (r : Option OpRow). head_text r (part_texts (parts_view ps))) e ∙ ap joined (part_texts-map ps) ∙ joined-map part_inline ps
+head_none o ps e = ap (λ (r : Option Row). head_text r (part_texts (parts_view ps))) e ∙ ap joined (part_texts-map ps) ∙ joined-map part_inline ps
 
-pub head_some : (o : Option OpRow) (r : OpRow) (ps : List Part) → o ≡ Some r → head_text o (part_texts (parts_view ps)) ≡ head_text (Some r) (part_texts (parts_view ps))
-head_some o r ps e = ap (λ (q : Option OpRow). head_text q (part_texts (parts_view ps))) e
+pub head_some : (o : Option Row) (r : Row) (ps : List Part) → o ≡ Some r → head_text o (part_texts (parts_view ps)) ≡ head_text (Some r) (part_texts (parts_view ps))
+head_some o r ps e = ap (λ (q : Option Row). head_text q (part_texts (parts_view ps))) e
 
-pub head_constant : (r : OpRow) (ps : List Part) → is_constant r ≡ true → head_text (Some r) (part_texts (parts_view ps)) ≡ separated_by (word ", ") part_inline ps
+pub head_constant : (r : Row) (ps : List Part) → is_constant r ≡ true → head_text (Some r) (part_texts (parts_view ps)) ≡ separated_by (word ", ") part_inline ps
 unfolding head_text
 head_constant r ps e =
-    ap (λ (b : Bool). cond b (joined (part_texts (parts_view ps))) (mnemonic_of r ++ arguments_text (part_texts (parts_view ps)))) e ∙ ap joined (part_texts-map ps) ∙ joined-map part_inline ps
+    ap (λ (b : Bool). cond b (joined (part_texts (parts_view ps))) (r.mnemonic ++ arguments_text (part_texts (parts_view ps)))) e ∙ ap joined (part_texts-map ps) ∙ joined-map part_inline ps
 
-pub head_other : (r : OpRow) (ps : List Part) → is_constant r ≡ false → head_text (Some r) (part_texts (parts_view ps)) ≡ mnemonic_of r ++ arguments_text (part_texts (parts_view ps))
+pub head_other : (r : Row) (ps : List Part) → is_constant r ≡ false → head_text (Some r) (part_texts (parts_view ps)) ≡ r.mnemonic ++ arguments_text (part_texts (parts_view ps))
 unfolding head_text
-head_other r ps e = ap (λ (b : Bool). cond b (joined (part_texts (parts_view ps))) (mnemonic_of r ++ arguments_text (part_texts (parts_view ps)))) e
+head_other r ps e = ap (λ (b : Bool). cond b (joined (part_texts (parts_view ps))) (r.mnemonic ++ arguments_text (part_texts (parts_view ps)))) e
 
 pub ruleset heads = (head_none, head_some, head_constant, head_other)
 

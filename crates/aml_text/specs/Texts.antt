@@ -4,10 +4,9 @@ use Rattle.aml_names.specs.declared.segments.Seg.{Seg}
 use Rattle.aml_names.specs.declared.names.Name.{Name}
 use Rattle.aml_code.specs.declared.rows.Group.{Group}
 use Rattle.aml_code.specs.declared.rows.Group.TheVariants as groups
-use Rattle.aml_code.specs.declared.rows.OpRow.{OpRow}
-use Rattle.aml_code.specs.declared.rows.Shape.{Shape}
-use Rattle.aml_code.specs.declared.rows.Shape.TheVariants as shapes
-use Rattle.aml_code.specs.Rows.{row_of, has_length, mnemonic_of}
+use Rattle.aml_code.specs.Opcodes.{Row}
+use Rattle.aml_code.specs.declared.rows.PartKind.{PartKind}
+use Rattle.aml_code.specs.Rows.{row_of, has_length}
 use Rattle.aml_code.specs.Tree.{Tree, nothing, named, op, Trees, no_trees, tree_more, OnePart, child, label, byte, word as word_part, dword, qword, text as text_part, Parts, no_parts, part_more, Rest, empty, terms, bytes, elements, fields, body}
 use Rattle.text_writer.specs.Words.{word}
 use Rattle.text_writer.specs.Numbers.{hex2, hex4, hex8, hex16, quoted}
@@ -53,18 +52,18 @@ abbrev pub is_value : Group → Bool
 is_value groups.Value = true
 is_value _ = false
 
-abbrev pub is_bare : Shape → Bool
-is_bare shapes.Bare = true
-is_bare _ = false
+abbrev pub is_bare : List PartKind → Bool
+is_bare [] = true
+is_bare (k ∷ ks) = false
 
 -- a constant: its value stands alone, without a mnemonic
-abbrev pub is_constant : OpRow → Bool
-is_constant r = is_value r.group && (not (has_length r.tail) && not (is_bare r.shape))
+abbrev pub is_constant : Row → Bool
+is_constant r = is_value r.group && (not (has_length r.tail) && not (is_bare r.parts))
 
 -- an opcode and its parts
-unfoldable pub head_text : Option OpRow → List (List ℕ) → List ℕ
+unfoldable pub head_text : Option Row → List (List ℕ) → List ℕ
 head_text None texts = joined texts
-head_text (Some r) texts = cond (is_constant r) (joined texts) (mnemonic_of r ++ arguments_text texts)
+head_text (Some r) texts = cond (is_constant r) (joined texts) (r.mnemonic ++ arguments_text texts)
 
 -- the text of a term, of parts, and of the tails that stand on the same line
 abbrev mutual

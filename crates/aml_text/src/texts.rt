@@ -1,6 +1,6 @@
 //! The text of a term on one line.
 ghost use Rattle.std.specs.Prelude.{◌≡◌, ◌++◌, Some, map};
-ghost use Rattle.aml_code.specs.Rows.{row_of};
+ghost use Rattle.aml_code.specs.Rows.{row_of, row_view};
 ghost use Rattle.aml_code.specs.View.{nodes_view, parts_view, tail_view};
 ghost use Rattle.text_writer.specs.Prints.{Prints};
 ghost use Rattle.text_writer.specs.Words.{word};
@@ -9,7 +9,7 @@ ghost use Rattle.text_writer.specs.Numbers.{hex2, hex4, hex8, hex16};
 ghost use Rattle.aml_text.specs.Views.{node_inline, part_inline};
 
 use crate::words::print_name;
-use aml_code::{Bytes, Group, Name, Node, OpRow, Part, Shape, Tail, row};
+use aml_code::{Bytes, Group, Name, Node, OpRow, Part, Tail, listed_row};
 use std::io::Write;
 use text_writer::{Out, print_hex2, print_hex4, print_hex8, print_hex16, print_quoted};
 
@@ -77,9 +77,9 @@ fn print_qword<W: Write>(out: &mut Out<'_, W>, n: u64)
 
 /// Whether a row is that of a constant, whose value stands without a mnemonic.
 fn is_constant(row: &OpRow) -> bool
-    ensures { result ≡ is_constant row.now }
+    ensures { result ≡ is_constant (row_view row.now) }
 {
-    row.group == Group::Value && !row.has_length() && row.shape != Shape::Bare
+    row.group == Group::Value && !row.has_length() && !row.parts.is_empty()
 }
 
 #[cycle(inline)]
@@ -153,21 +153,21 @@ fn print_nodes<W: Write>(out: &mut Out<'_, W>, nodes: &[Node])
 pub fn print_head<W: Write>(out: &mut Out<'_, W>, opcode: u16, parts: &[Part])
     ensures { Prints W.contents out.old out.new (head_text (row_of opcode) (part_texts (parts_view parts.now))) }
 {
-    match row(opcode) {
+    match listed_row(opcode) {
         None => print_parts(out, parts),
-        Some(row) => print_row_head(out, &row, parts),
+        Some(row) => print_row_head(out, row, parts),
     }
 }
 
 #[cycle(inline)]
 #[tactic(auto, using(text_writer::proofs::PrintLaws::straight, crate::proofs::NodeLaws::heads))]
 fn print_row_head<W: Write>(out: &mut Out<'_, W>, row: &OpRow, parts: &[Part])
-    ensures { Prints W.contents out.old out.new (head_text (Some row.now) (part_texts (parts_view parts.now))) }
+    ensures { Prints W.contents out.old out.new (head_text (Some (row_view row.now)) (part_texts (parts_view parts.now))) }
 {
     if is_constant(row) {
         print_parts(out, parts);
     } else {
-        out.put(row.word());
+        out.put(row.mnemonic.as_bytes());
         print_part_arguments(out, parts);
     }
 }

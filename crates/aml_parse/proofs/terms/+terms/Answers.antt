@@ -1,10 +1,12 @@
-use Rattle.std.proofs.Common.{◌≡◌, ◌+◌, ◌-◌, length, drop, get_or, [], ◌∷◌, inr, arith, add-one}
+use Rattle.std.proofs.Common.{◌≡◌, ◌+◌, ◌-◌, length, drop, get_or, [], ◌∷◌, inr, Ok, ap, sym, ◌∙◌, arith, add-one}
 use Rattle.std.proofs.Math.Seq.{drop-cons}
 use Rattle.std.proofs.lemmas.List.{drop_all}
 use Rattle.aml_code.specs.declared.rows.PartKind.TheVariants as kinds
+use Rattle.aml_code.specs.Rows.{row_view}
 use Rattle.aml_code.specs.View.{nodes_view, parts_view, fields_view}
 use Rattle.aml_parse.specs.Contexts.{scope_of}
 use Rattle.aml_parse.specs.Reading.{read_at, arguments_at, terms_at, units_at}
+use Rattle.aml_parse.proofs.Bare.{plain_bare}
 use Rattle.aml_parse.proofs.Loops.{parts_go_on, parts_end, arguments_go_on, arguments_fails, arguments_end, terms_go_on, terms_fails, terms_end, terms_run_out, units_go_on, units_fails, units_end, units_run_out}
 use Rattle.aml_parse.proofs.terms.+terms.Goals as goal
 
@@ -25,6 +27,11 @@ pub arguments-returns : goal.arguments-returns
 arguments-returns g t c =
     let read = read_at (g.A.Arity.arity c.args.context.now.arity.now) (scope_of c.args.context.now.scope) c.args.levels in
     arguments_end read (nodes_view c.loop-i.found.items) (c.args.count - c.loop-i._i) c.args.end c.loop-i.locals c.loop-i.rest.now _ (omega (arith, c.loop-i-test.false)) c.loop-i.invariant
+
+pub plain-returns-then-is_empty : goal.plain-returns-then-is_empty
+plain-returns-then-is_empty g t c =
+    let read = read_at (g.A.Arity.arity c.args.context.now.arity.now) (scope_of c.args.context.now.scope) c.args.levels in
+    plain_bare (scope_of c.args.context.now.scope) read (row_view c.args.row.now) c.args.end c.args.locals.now c.args.bytes.now (grind arith) ∙ ap (λ y. Ok (y, c.args.locals.now, c.args.bytes.now)) (sym c.bare.ensures)
 
 pub parts-loop-kind-preserved : goal.parts-loop-kind-preserved
 parts-loop-kind-preserved g t c =
