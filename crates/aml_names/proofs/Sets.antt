@@ -1,5 +1,6 @@
 -- The set that a tree set's keys make.
-use Rattle.std.proofs.Common.{◌≡◌, Bool, true, false, cond, ◌||◌, List, refl, sym, ap, ◌∙◌}
+use Rattle.std.proofs.Common.{◌≡◌, ℕ, length, Bool, true, false, cond, ◌||◌, List, [], ◌∷◌, refl, sym, ap, ◌∙◌}
+use Rattle.std.proofs.lemmas.Bool.{false≢true}
 use Rattle.std.specs.Ordering.{eq_by_cmp}
 use Rattle.std.specs.Cmp.{eq_by_cmp_equiv}
 use Rattle.std.specs.List.{list_any}
@@ -19,3 +20,16 @@ pub one_added : (ks ms : List (List Seg)) (p : List Seg) → ((q : List Seg) →
 one_added ks ms p h = set.same_set paths_total exact_paths _ _ (λ q.
     any_path ms q ∙ h q ∙ or_by_cond (eq_by_cmp path_cmp p q) (list_any (is_at (path_cmp q)) ks) ∙ ap (λ b. b || list_any (is_at (path_cmp q)) ks) ((eq_by_cmp_equiv paths_total).symm p q)
     ∙ sym (set.contains-insert paths_total (set.from_list ks) p q ∙ ap (λ b. eq_by_cmp path_cmp q p || b) (any_path ks q)))
+
+-- keys that make the empty set are none
+pub no_keys : (ks : List (List Seg)) → set.from_list {R = path_cmp} ks ≡ set.empty → length ks ≡ 0
+no_keys [] e = refl
+no_keys (k ∷ ks) e =
+    let here : set.contains (set.from_list {R = path_cmp} (k ∷ ks)) k ≡ true =
+    any_path (k ∷ ks) k ∙ ap (λ b. b || list_any (is_at (path_cmp k)) ks) ((eq_by_cmp_equiv paths_total).refl k) in
+    absurd (false≢true (sym (ap (λ s. set.contains s k) e ∙ set.contains-empty path_cmp k) ∙ here))
+
+-- no keys make the empty set
+pub empty_of : (ks : List (List Seg)) → length ks ≡ 0 → set.from_list {R = path_cmp} ks ≡ set.empty
+empty_of [] e = refl
+empty_of (k ∷ ks) e = cc

@@ -23,6 +23,3 @@ pub use placing::place;
 pub use reading::{is_name_lead, name_of, read_name, segment_of};
 pub use segments::{Seg, Segs};
 pub use stepping::{byte_of, offset_of};
-
-#[cfg(test)]
-mod tests;

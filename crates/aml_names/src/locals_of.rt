@@ -1,5 +1,5 @@
 //! The paths that a method body has declared so far.
-ghost use Rattle.std.specs.Prelude.{◌≡◌, OnOk, OnErr};
+ghost use Rattle.std.specs.Prelude.{◌≡◌, ◌↔◌, IsTrue, OnOk, OnErr};
 ghost use Rattle.std.specs.FinSet as set;
 
 use crate::faults::NoMemory;
@@ -42,6 +42,13 @@ impl Locals {
     {
         self.paths.insert(path)?;
         Ok(())
+    }
+
+    /// Whether no path is there.
+    pub fn is_empty(&self) -> bool
+        ensures { IsTrue result ↔ self.now ≡ set.empty }
+    {
+        self.paths.is_empty()
     }
 
     /// Whether the path is there, in time logarithmic in their number.

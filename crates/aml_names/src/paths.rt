@@ -118,7 +118,7 @@ impl PartialEq for Path {
     ghost laws = { partial_equiv_from_equiv (eq_by_cmp_equiv paths_total) };
 
     fn eq(&self, other: &Path) -> bool {
-        self.cmp(other) == Ordering::Equal
+        self.segs().len() == other.segs().len() && self.cmp(other) == Ordering::Equal
     }
 }
 
