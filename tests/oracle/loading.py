@@ -135,9 +135,8 @@ def inline(part):
         return f"0x{part[1]:0{2 * part[0]}X}"
     if isinstance(part, Named):
         return str(part.name) + (f" ({', '.join(map(inline, part.args))})" if part.args else "")
-    parts = ", ".join(map(inline, part.parts))
     if part.opcode in (0x0A, 0x0B, 0x0C, 0x0D, 0x0E):
-        return parts
+        return inline(part.parts[0])
     text = head(part)
     if part.row.tail == "y":
         text += f" {{{', '.join(f'{byte:02X}' for byte in part.tail)}}}"

@@ -21,6 +21,3 @@ pub use packages::{PkgWidth, length_of, little_of, read_pkg, span_of};
 pub use rows::{Group, Object, OpRow, PartKind, Place, Position, Role, TailKind, takes};
 pub use table::listed_row;
 pub use tree::{Field, Link, Node, Part, Tail};
-
-#[cfg(test)]
-mod tests;

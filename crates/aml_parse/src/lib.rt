@@ -12,6 +12,3 @@ mod units;
 
 pub use body::parse_body;
 pub use module::parse_module;
-
-#[cfg(test)]
-mod tests;

@@ -4,19 +4,19 @@
 #![tactic(auto)]
 
 mod bodies;
-mod children;
+mod counting;
 mod faults;
 mod growing;
 mod kinds;
 mod listing;
 mod nodes;
 mod predefined;
+mod scopes;
 mod searching;
 mod spaces;
-mod trees;
 mod walking;
 
-pub use bodies::BodyScope;
+pub use bodies::{BodyNames, BodyScope};
 pub use faults::SpaceFault;
 pub use kinds::Kind;
 pub use spaces::{Space, SpaceRow};

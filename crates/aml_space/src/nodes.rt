@@ -1,14 +1,10 @@
 //! The nodes of the index by path.
-use crate::children::Children;
-use crate::kinds::Kind;
-use aml_names::{Path, Seg};
+ghost use Rattle.std.specs.Prelude.{◌≡◌};
+ghost use Rattle.aml_space.specs.Nodes.{empty};
 
-/// A child of a node: its segment, and the number of its node.
-#[derive(Clone, Copy)]
-pub struct Child {
-    pub seg: Seg,
-    pub node: usize,
-}
+use crate::kinds::Kind;
+use aml_children::Children;
+use aml_names::Path;
 
 /// What is declared at a node.
 #[derive(Drop)]
@@ -24,8 +20,19 @@ pub struct Node {
     pub row: Option<Row>,
     /// The greatest count of its Externals.
     pub outs: Option<u8>,
-    /// Ordered by segment.
+    /// The nodes below, each with the number of paths that are declared at it and below.
     pub children: Children,
-    /// How many paths are declared at and below the node.
-    pub rows: usize,
+}
+
+impl Node {
+    /// A node without content.
+    pub fn empty() -> Node
+        ensures { result ≡ empty }
+    {
+        Node {
+            row: None,
+            outs: None,
+            children: Children::new(),
+        }
+    }
 }

@@ -8,14 +8,14 @@ ghost use Rattle.aml_space.specs.Known.{StandsFor, nothing_known, with_declared,
 ghost use Rattle.aml_space.specs.Listed.{row_pair, row_pairs};
 ghost use Rattle.aml_space.specs.Rows.{AreRows};
 
-use crate::children::Children;
+use crate::counting::count_of;
 use crate::faults::SpaceFault;
 use crate::growing::{count_path, make_node, set_out, set_row};
 use crate::kinds::Kind;
 use crate::listing::list_rows;
 use crate::nodes::{Node, Row};
 use crate::predefined::Predefined;
-use crate::walking::{kind_at, out_at, row_under, rows_at, walk_counted};
+use crate::walking::{children_at, kind_at, out_at, row_under, walk_counted};
 use aml_names::{NoMemory, Path};
 use std::alloc::Global;
 use std::marker::Model;
@@ -57,12 +57,7 @@ impl Space {
         ensures stands { IfOk result (λ space. StandsFor space []) }
     {
         let mut nodes = Vec::new(alloc);
-        nodes.push(Node {
-            row: None,
-            outs: None,
-            children: Children::new(),
-            rows: 0,
-        })?;
+        nodes.push(Node::empty())?;
         Ok(Space {
             alloc,
             nodes,
@@ -82,10 +77,10 @@ impl Space {
         if self.is_declared(&path) {
             return Err(SpaceFault::Duplicate(path));
         }
-        let at = make_node(self.alloc, &mut self.nodes, path.segs())?;
-        if rows_at(self.nodes.as_slice(), 0) == usize::MAX {
+        if children_at(self.nodes.as_slice(), 0).rows() == usize::MAX {
             return Err(SpaceFault::NoMemory);
         }
+        let at = make_node(self.alloc, &mut self.nodes, path.segs())?;
         count_path(&mut self.nodes, path.segs());
         set_row(&mut self.nodes, at, Row { path, kind });
         Ok(())
@@ -168,16 +163,7 @@ impl Space {
         ensures known { result ≡ count_at (namespace_in self.now) path.now }
         ensures listed { (es : List Entry) → StandsFor self.now es → result ≡ count_at (namespace_of es) path.now }
     {
-        match self.kind(path) {
-            None => self.outs(path),
-            Some(Kind::Method { args }) => Some(*args),
-            Some(Kind::Alias { target }) => match self.kind(target) {
-                None => Some(self.outs(target).unwrap_or(0)),
-                Some(Kind::Method { args }) => Some(*args),
-                Some(_) => Some(0),
-            },
-            Some(_) => Some(0),
-        }
+        count_of(self.nodes.as_slice(), &self.predefined, path)
     }
 
     /// The declared path at a place in the order of the paths, with its kind. Paths are ordered by their segments as bytes,

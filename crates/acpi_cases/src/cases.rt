@@ -1,0 +1,142 @@
+//! The answers to rows. A set and a namespace grow row by row until the next one begins.
+ghost use Rattle.std.specs.Prelude.{◌≤◌, length};
+
+use crate::lines::{Line, bytes_of, number_of, split_line};
+use crate::spaces::Names;
+use crate::{code, files, sets};
+use acpi_tables::Dump;
+use std::alloc::{AllocError, Global};
+
+/// The greatest number of bytes of a row.
+const LIMIT: usize = 16_777_216;
+
+/// What the rows so far have made.
+#[derive(Drop)]
+pub struct Cases {
+    dumps: Vec<Dump>,
+    names: Names,
+}
+
+impl Cases {
+    pub fn new(alloc: Global) -> Result<Cases, AllocError> {
+        Ok(Cases {
+            dumps: Vec::new(alloc),
+            names: Names::new(alloc)?,
+        })
+    }
+
+    /// What a row is read as. A row of no kind, as a heading, has no answer.
+    pub fn answer(&mut self, alloc: Global, row: &str) -> Result<String, AllocError> {
+        let (line, text) = split_line(row);
+        let bytes = bytes_of(alloc, text)?;
+        let mut out = String::new(alloc);
+        if bytes.len() <= LIMIT {
+            self.push_code(alloc, &mut out, line, &bytes)?;
+        }
+        Ok(out)
+    }
+
+    /// What code is read as.
+    fn push_code(
+        &mut self,
+        alloc: Global,
+        out: &mut String,
+        line: Line<'_>,
+        bytes: &[u8],
+    ) -> Result<(), AllocError>
+        requires { length bytes.now ≤ 16777216 }
+    {
+        match line.kind {
+            "body" => code::push_body(alloc, out, line.words, bytes),
+            "method" => self.names.push_body(alloc, out, line.words, bytes),
+            "table" => code::push_table(alloc, out, bytes),
+            "cuts" => code::push_cuts(alloc, out, bytes),
+            "name" => code::push_name(alloc, out, bytes),
+            "segment" => code::push_segment(out, bytes),
+            "length" => code::push_length(out, bytes),
+            _ => self.change_set(alloc, out, line, bytes),
+        }
+    }
+
+    /// Changes the set.
+    fn change_set(
+        &mut self,
+        alloc: Global,
+        out: &mut String,
+        line: Line<'_>,
+        bytes: &[u8],
+    ) -> Result<(), AllocError> {
+        match line.kind {
+            "set" => self.begin_set(),
+            "dump" => sets::push_table(alloc, &mut self.dumps, line.words, bytes),
+            "raw" => sets::push_dump(alloc, &mut self.dumps, line.words, bytes),
+            "cut" => sets::cut(&mut self.dumps, number_of(line.words)),
+            "put" => sets::put_byte(&mut self.dumps, number_of(line.words), bytes),
+            "add" => sets::add_bytes(&mut self.dumps, bytes),
+            _ => self.push_set(alloc, out, line, bytes),
+        }
+    }
+
+    /// What the set is read as.
+    fn push_set(
+        &mut self,
+        alloc: Global,
+        out: &mut String,
+        line: Line<'_>,
+        bytes: &[u8],
+    ) -> Result<(), AllocError> {
+        match line.kind {
+            "lines" => sets::push_lines(alloc, out, &self.dumps),
+            "order" => sets::push_order(alloc, out, line.words, &self.dumps),
+            "orders" => sets::push_orders(alloc, out, &mut self.dumps, number_of(line.words)),
+            "run" => sets::push_run(alloc, out, line.words, &self.dumps),
+            "load" => sets::push_loaded(alloc, out, line.words, &self.dumps),
+            _ => self.change_names(alloc, out, line, bytes),
+        }
+    }
+
+    /// Changes the namespace, or says what it answers.
+    fn change_names(
+        &mut self,
+        alloc: Global,
+        out: &mut String,
+        line: Line<'_>,
+        bytes: &[u8],
+    ) -> Result<(), AllocError> {
+        match line.kind {
+            "space" => self.begin_names(alloc),
+            "declare" | "external" | "local" => self.names.change(alloc, out, line),
+            "count" | "kind" | "rows" | "row" => self.names.push_known(alloc, out, line),
+            "place" | "find" | "search" | "arity" | "arity_unknown_zero" => {
+                self.names.push_lead(alloc, out, line)
+            }
+            _ => push_table(alloc, out, line, bytes),
+        }
+    }
+
+    /// No dump.
+    fn begin_set(&mut self) -> Result<(), AllocError> {
+        self.dumps.clear();
+        Ok(())
+    }
+
+    /// The predefined names alone.
+    fn begin_names(&mut self, alloc: Global) -> Result<(), AllocError> {
+        self.names = Names::new(alloc)?;
+        Ok(())
+    }
+}
+
+/// What a table's reader gives.
+fn push_table(
+    alloc: Global,
+    out: &mut String,
+    line: Line<'_>,
+    bytes: &[u8],
+) -> Result<(), AllocError> {
+    match line.kind {
+        "map" => files::push_map(alloc, out, line.words, bytes),
+        "quoted" => files::push_name(out, bytes),
+        _ => Ok(()),
+    }
+}

@@ -1,0 +1,202 @@
+//! Rows of AML: bodies, tables, names and package lengths.
+ghost use Rattle.std.specs.Prelude.{◌≤◌, Some, length};
+
+use aml_code::{
+    Arity, CodeFault, Locals, Name, NameForm, NoMemory, Node, Path, PkgWidth, encode_terms,
+    read_pkg,
+};
+use aml_names::{read_name, segment_of};
+use aml_parse::{parse_body, parse_module};
+use aml_text::{Block, Body, write_blocks};
+use std::alloc::{AllocError, Global};
+use std::fmt::Write;
+
+/// The text around the terms of a definition block without a name.
+const OPENING: &str = "DefinitionBlock (\"\") {\n";
+
+const CLOSING: &str = "}\n";
+
+/// Each name takes so many arguments.
+#[derive(Clone, Copy)]
+struct Each {
+    count: u8,
+}
+
+impl Arity for Each {
+    ghost arity = { λ each _ _. Some each.count };
+
+    fn count(
+        &self,
+        _alloc: Global,
+        _locals: &Locals,
+        _name: &Name,
+    ) -> Result<Option<u8>, NoMemory> {
+        Ok(Some(self.count))
+    }
+}
+
+/// The terms of a body in which each name takes so many arguments.
+pub fn push_body(
+    alloc: Global,
+    out: &mut String,
+    count: &str,
+    code: &[u8],
+) -> Result<(), AllocError>
+    requires { length code.now ≤ 16777216 }
+{
+    let count = count.parse::<u8>().unwrap_or(0);
+    push_body_of(alloc, out, &Each { count }, &Path::root(alloc), code)
+}
+
+/// The terms of a method's body.
+pub fn push_body_of<A: Arity>(
+    alloc: Global,
+    out: &mut String,
+    arity: &A,
+    method: &Path,
+    code: &[u8],
+) -> Result<(), AllocError>
+    requires { length code.now ≤ 16777216 }
+{
+    match parse_body(alloc, code, arity, method) {
+        Err(fault) => push_fault(out, fault),
+        Ok(nodes) => push_terms(alloc, out, code, &nodes),
+    }
+}
+
+/// The terms of a table, with the bytes of the bodies of its methods.
+pub fn push_table(alloc: Global, out: &mut String, code: &[u8]) -> Result<(), AllocError>
+    requires { length code.now ≤ 16777216 }
+{
+    match parse_module(alloc, code) {
+        Err(fault) => push_fault(out, fault),
+        Ok(nodes) => push_terms(alloc, out, code, &nodes),
+    }
+}
+
+fn push_fault(out: &mut String, fault: CodeFault) -> Result<(), AllocError> {
+    writeln!(out, "  {fault}")
+}
+
+/// The text of terms, if they have the bytes that they were read from.
+fn push_terms(
+    alloc: Global,
+    out: &mut String,
+    code: &[u8],
+    nodes: &[Node],
+) -> Result<(), AllocError> {
+    let bytes = encode_terms(alloc, code, nodes)?;
+    if bytes.as_slice() != code {
+        return writeln!(out, "  other bytes");
+    }
+    let block = Block {
+        name: b"",
+        code,
+        nodes,
+    };
+    let bodies = raw_bodies(alloc, code)?;
+    let mut text = Vec::new(alloc);
+    match write_blocks(&mut text, &[block], &bodies) {
+        Err(_) => Err(AllocError),
+        Ok(()) => out.push_str(inner_text(&text)),
+    }
+}
+
+/// A body that isn't read for each byte of a table, and so one at least for each of its methods.
+fn raw_bodies(alloc: Global, code: &[u8]) -> Result<Vec<Body>, AllocError> {
+    let mut bodies = Vec::new(alloc);
+    for _ in code {
+        bodies.push(Body::Raw(CodeFault::NoMemory))?;
+    }
+    Ok(bodies)
+}
+
+/// The lines between the first and the last of a definition block.
+fn inner_text(text: &[u8]) -> &str {
+    let text = str::from_utf8(text).unwrap_or("");
+    let text = text.strip_prefix(OPENING).unwrap_or("");
+    text.strip_suffix(CLOSING).unwrap_or("")
+}
+
+/// A name as it is spelled, and how many bytes spell it.
+pub fn push_name(alloc: Global, out: &mut String, bytes: &[u8]) -> Result<(), AllocError>
+    requires { length bytes.now ≤ 16777216 }
+{
+    match read_name(alloc, bytes) {
+        Err(fault) => push_fault(out, fault),
+        Ok((name, len)) => {
+            let form = form_word(name.form);
+            write!(out, "  {form}, {len} bytes:")?;
+            push_spelled(out, &name)
+        }
+    }
+}
+
+/// The prefixes and the segments of a name.
+fn push_spelled(out: &mut String, name: &Name) -> Result<(), AllocError> {
+    if name.root {
+        out.push_str(" \\")?;
+    }
+    for _ in 0..name.ups {
+        out.push_str(" ^")?;
+    }
+    for seg in name.segs.as_slice() {
+        write!(out, " {seg}")?;
+    }
+    writeln!(out)
+}
+
+fn form_word(form: NameForm) -> &'static str {
+    match form {
+        NameForm::Null => "Null",
+        NameForm::One => "One",
+        NameForm::Dual => "Dual",
+        NameForm::Multi => "Multi",
+    }
+}
+
+/// A segment, and how many bytes are left.
+pub fn push_segment(out: &mut String, bytes: &[u8]) -> Result<(), AllocError>
+    requires { length bytes.now ≤ 16777216 }
+{
+    match segment_of(bytes.len() as u32, bytes) {
+        Err(fault) => push_fault(out, fault),
+        Ok((seg, rest)) => {
+            let left = rest.len();
+            writeln!(out, "  {seg}, {left} bytes left")
+        }
+    }
+}
+
+/// A package length.
+pub fn push_length(out: &mut String, bytes: &[u8]) -> Result<(), AllocError>
+    requires { length bytes.now ≤ 16777216 }
+{
+    match read_pkg(bytes) {
+        Err(fault) => push_fault(out, fault),
+        Ok((width, value)) => {
+            let width = width_word(width);
+            writeln!(out, "  {value} in width {width}")
+        }
+    }
+}
+
+fn width_word(width: PkgWidth) -> &'static str {
+    match width {
+        PkgWidth::One => "One",
+        PkgWidth::Two => "Two",
+        PkgWidth::Three => "Three",
+        PkgWidth::Four => "Four",
+    }
+}
+
+/// What the first bytes of a table are read as, without the last one, and so on down to none.
+pub fn push_cuts(alloc: Global, out: &mut String, code: &[u8]) -> Result<(), AllocError>
+    requires { length code.now ≤ 16777216 }
+{
+    for len in 0..code.len() {
+        writeln!(out, "  {len} bytes:")?;
+        push_table(alloc, out, &code[..len])?;
+    }
+    Ok(())
+}

@@ -1,0 +1,63 @@
+//! Rows of `tables.map` and of file names.
+
+use acpi_folder::{MapFault, Quoted, parse_map};
+use std::alloc::{AllocError, Global};
+use std::fmt::Write;
+
+fn push_address(out: &mut String, label: &str, address: Option<u64>) -> Result<(), AllocError> {
+    match address {
+        None => writeln!(out, "  {label} none"),
+        Some(address) => writeln!(out, "  {label} {address:X}"),
+    }
+}
+
+/// A field of text, in quotes.
+fn push_text(out: &mut String, label: &str, bytes: &[u8]) -> Result<(), AllocError> {
+    let text = Quoted(str::from_utf8(bytes).unwrap_or("no text"));
+    writeln!(out, "  {label} {text}")
+}
+
+/// A file's name as the program prints it.
+pub fn push_name(out: &mut String, bytes: &[u8]) -> Result<(), AllocError> {
+    push_text(out, "Name", bytes)
+}
+
+/// The address that a map gives each of some files.
+pub fn push_map(
+    alloc: Global,
+    out: &mut String,
+    words: &str,
+    text: &[u8],
+) -> Result<(), AllocError> {
+    let names = names_of(alloc, words)?;
+    match parse_map(alloc, text, &names) {
+        Err(fault) => push_map_fault(out, fault),
+        Ok(addresses) => push_names(out, &names, &addresses),
+    }
+}
+
+fn names_of(alloc: Global, words: &str) -> Result<Vec<String>, AllocError> {
+    let mut names = Vec::new(alloc);
+    for word in words.split(' ') {
+        names.push(String::from_str(alloc, word)?)?;
+    }
+    Ok(names)
+}
+
+fn push_names(
+    out: &mut String,
+    names: &[String],
+    addresses: &[Option<u64>],
+) -> Result<(), AllocError> {
+    for (name, address) in names.iter().zip(addresses) {
+        push_address(out, name.as_str(), *address)?;
+    }
+    Ok(())
+}
+
+fn push_map_fault(out: &mut String, fault: MapFault) -> Result<(), AllocError> {
+    match fault.line() {
+        None => writeln!(out, "  {fault}"),
+        Some(line) => writeln!(out, "  {fault} in line {line}"),
+    }
+}

@@ -1,0 +1,227 @@
+//! Rows of namespaces: what is declared, where names lead, and how many arguments they take.
+ghost use Rattle.std.specs.Prelude.{◌≤◌, length};
+
+use crate::code::push_body_of;
+use crate::lines::{Line, first_word, number_of};
+use aml_names::{Arity, Locals, Name, NameForm, Path, Seg, Segs, place};
+use aml_space::{BodyScope, Kind, Space};
+use std::alloc::{AllocError, Global};
+use std::fmt::Write;
+
+/// A namespace, and the paths that a body has declared.
+#[derive(Drop)]
+pub struct Names {
+    space: Space,
+    locals: Locals,
+}
+
+impl Names {
+    /// The predefined names alone.
+    pub fn new(alloc: Global) -> Result<Names, AllocError> {
+        Ok(Names {
+            space: Space::new(alloc)?,
+            locals: Locals::new(alloc),
+        })
+    }
+
+    /// Declares a path, or adds an External or a path that a body has declared.
+    pub fn change(
+        &mut self,
+        alloc: Global,
+        out: &mut String,
+        line: Line<'_>,
+    ) -> Result<(), AllocError> {
+        let (path, more) = first_word(line.words);
+        let path = path_of(alloc, path)?;
+        match line.kind {
+            "declare" => self.declare(alloc, out, path, more),
+            "external" => self.space.external(path, more.parse::<u8>().unwrap_or(0)),
+            _ => self.locals.push(path),
+        }
+    }
+
+    /// Declares a path with the kind of these words.
+    fn declare(
+        &mut self,
+        alloc: Global,
+        out: &mut String,
+        path: Path,
+        words: &str,
+    ) -> Result<(), AllocError> {
+        match self.space.declare(path, kind_of(alloc, words)?) {
+            Ok(()) => Ok(()),
+            Err(fault) => writeln!(out, "  {fault}"),
+        }
+    }
+
+    /// Where a name leads from a scope, or how many arguments it takes in a method's body.
+    pub fn push_lead(
+        &self,
+        alloc: Global,
+        out: &mut String,
+        line: Line<'_>,
+    ) -> Result<(), AllocError> {
+        let (scope, name) = first_word(line.words);
+        let scope = path_of(alloc, scope)?;
+        let name = name_of(alloc, name)?;
+        match line.kind {
+            "place" => push_path(out, place(alloc, &scope, &name)?),
+            "find" => push_path(out, self.space.find(alloc, &scope, &name)?),
+            "search" => push_path(out, self.space.search(alloc, &self.locals, &scope, &name)?),
+            "arity" => push_count(out, self.count(alloc, &scope, &name, false)?),
+            _ => push_count(out, self.count(alloc, &scope, &name, true)?),
+        }
+    }
+
+    /// How many arguments a name takes in the body of a method.
+    fn count(
+        &self,
+        alloc: Global,
+        method: &Path,
+        name: &Name,
+        unknown_zero: bool,
+    ) -> Result<Option<u8>, AllocError> {
+        let scope = BodyScope {
+            space: &self.space,
+            method,
+            unknown_zero,
+        };
+        scope.count(alloc, &self.locals, name)
+    }
+
+    /// The terms of the body of a method.
+    pub fn push_body(
+        &self,
+        alloc: Global,
+        out: &mut String,
+        method: &str,
+        code: &[u8],
+    ) -> Result<(), AllocError>
+        requires { length code.now ≤ 16777216 }
+    {
+        let method = path_of(alloc, method)?;
+        let scope = BodyScope {
+            space: &self.space,
+            method: &method,
+            unknown_zero: false,
+        };
+        push_body_of(alloc, out, &scope, &method, code)
+    }
+
+    /// What is known of a path, or which paths are declared.
+    pub fn push_known(
+        &self,
+        alloc: Global,
+        out: &mut String,
+        line: Line<'_>,
+    ) -> Result<(), AllocError> {
+        match line.kind {
+            "count" => push_count(out, self.space.count(&path_of(alloc, line.words)?)),
+            "kind" => self.push_kind(out, &path_of(alloc, line.words)?),
+            "row" => self.push_row_at(out, number_of(line.words)),
+            _ => push_rows(alloc, out, &self.space),
+        }
+    }
+
+    fn push_kind(&self, out: &mut String, path: &Path) -> Result<(), AllocError> {
+        match self.space.kind(path) {
+            None => out.push_str("  none\n"),
+            Some(kind) => push_row(out, path, kind),
+        }
+    }
+
+    fn push_row_at(&self, out: &mut String, index: usize) -> Result<(), AllocError> {
+        match self.space.row_at(index) {
+            None => out.push_str("  none\n"),
+            Some((path, kind)) => push_row(out, path, kind),
+        }
+    }
+}
+
+/// A name from its text: prefixes, and segments with dots between them.
+fn name_of(alloc: Global, text: &str) -> Result<Name, AllocError> {
+    let ups = text.bytes().filter(|byte| *byte == b'^').count();
+    let mut segs = Segs::new(alloc);
+    for part in text.split(['\\', '^', '.']) {
+        if let [a, b, c, d] = part.as_bytes() {
+            segs.push(Seg([*a, *b, *c, *d]))?;
+        }
+    }
+    Ok(Name {
+        root: text.starts_with('\\'),
+        ups: u32::try_from(ups).unwrap_or(0),
+        form: NameForm::Multi,
+        segs,
+    })
+}
+
+/// A path from its text, which begins at the root.
+fn path_of(alloc: Global, text: &str) -> Result<Path, AllocError> {
+    let name = name_of(alloc, text)?;
+    Path::below(alloc, &[], name.segs.as_slice())
+}
+
+fn push_path(out: &mut String, path: Option<Path>) -> Result<(), AllocError> {
+    match path {
+        None => out.push_str("  none\n"),
+        Some(path) => writeln!(out, "  {path}"),
+    }
+}
+
+fn push_count(out: &mut String, count: Option<u8>) -> Result<(), AllocError> {
+    match count {
+        None => out.push_str("  none\n"),
+        Some(count) => writeln!(out, "  {count}"),
+    }
+}
+
+/// The declared paths of a namespace in their order, each with its kind.
+pub fn push_rows(alloc: Global, out: &mut String, space: &Space) -> Result<(), AllocError> {
+    for row in space.rows(alloc)? {
+        push_row(out, &row.path, &row.kind)?;
+    }
+    Ok(())
+}
+
+fn push_row(out: &mut String, path: &Path, kind: &Kind) -> Result<(), AllocError> {
+    let word = kind_word(kind);
+    match kind {
+        Kind::Method { args } => writeln!(out, "  {path} {word} {args}"),
+        Kind::Alias { target } => writeln!(out, "  {path} {word} {target}"),
+        _ => writeln!(out, "  {path} {word}"),
+    }
+}
+
+fn kind_word(kind: &Kind) -> &'static str {
+    match kind {
+        Kind::Scope => "Scope",
+        Kind::Name => "Name",
+        Kind::Method { .. } => "Method",
+        Kind::Alias { .. } => "Alias",
+        Kind::Device => "Device",
+        Kind::Processor => "Processor",
+        Kind::PowerResource => "PowerResource",
+        Kind::ThermalZone => "ThermalZone",
+        Kind::Mutex => "Mutex",
+        Kind::Event => "Event",
+        Kind::Region => "Region",
+        Kind::DataRegion => "DataRegion",
+        Kind::Field => "Field",
+        Kind::BufferField => "BufferField",
+    }
+}
+
+/// The kind of these words; a Name where they are no other.
+fn kind_of(alloc: Global, words: &str) -> Result<Kind, AllocError> {
+    let (word, more) = first_word(words);
+    Ok(match word {
+        "Method" => Kind::Method {
+            args: more.parse::<u8>().unwrap_or(0),
+        },
+        "Alias" => Kind::Alias {
+            target: path_of(alloc, more)?,
+        },
+        "Device" => Kind::Device,
+        _ => Kind::Name,
+    })
+}

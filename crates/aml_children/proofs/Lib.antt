@@ -1,0 +1,2 @@
+pub mod Sides
+mod Forks

@@ -1,0 +1,4 @@
+pub mod Children
+pub mod Codes
+pub mod Trees
+pub mod Sizes

@@ -1,0 +1,1 @@
+-- The sides of a fork are smaller.

@@ -1,0 +1,102 @@
+//! The children of a node, ordered by segment.
+ghost use Rattle.std.specs.Prelude.{◌≡◌, ℕ, ◌+◌, ◌≤◌, ◌<◌, ◌^◌, [], ◌++◌, Some, None, IsTrue, is_some, OnOk, OnErr};
+ghost use Rattle.aml_children.specs.Children.{bare, child_in, Rise, total, put, raised, holding, backwards};
+
+use crate::trees::Tree;
+use aml_names::Seg;
+use std::alloc::{AllocError, Global};
+use std::marker::Model;
+
+/// The height of a tree at most. A tree of this height would have more than 10^13 children.
+const HIGHEST: u64 = 64;
+
+/// A child of a node: its segment, and the number of its node.
+#[derive(Clone, Copy)]
+pub struct Child {
+    pub seg: Seg,
+    pub node: usize,
+}
+
+/// The children of a node, ordered by segment, each with the number of rows that are declared at its node and below.
+#[derive(Drop)]
+pub struct Children {
+    tree: Tree,
+}
+
+impl Model for Children {
+    ghost use Rattle.std.specs.Prelude.{List, ◌≤◌};
+    ghost use Rattle.aml_children.specs.Children.{Counted};
+    ghost use Rattle.aml_children.specs.Codes.{coded_children};
+
+    ghost Value = { List Counted };
+
+    ghost coded = { coded_children };
+
+    ghost view = { λ s. s.tree.0 };
+
+    ghost invariant = { λ s. s.tree.1 ≤ 64 };
+}
+
+impl Children {
+    /// No children.
+    pub fn new() -> Children
+        ensures { result ≡ [] }
+    {
+        Children { tree: Tree::new() }
+    }
+
+    /// The node of a segment, and the comparisons made.
+    pub fn find(&self, seg: Seg) -> (Option<usize>, u128)
+        requires { Rise (bare self.now) }
+        ensures node { result.0 ≡ child_in (bare self.now) seg }
+        ensures few { result.1 ≤ 64 }
+    {
+        self.tree.find(seg)
+    }
+
+    /// Puts a child without rows into its place. A refused one changes nothing.
+    pub fn insert(&mut self, alloc: Global, child: Child) -> Result<(), AllocError>
+        requires rise { Rise (bare self.old) }
+        requires absent { child_in (bare self.old) child.seg ≡ None }
+        ensures ok { OnOk result (self.new ≡ put self.old child) }
+        ensures err { OnErr result (self.new ≡ self.old) }
+    {
+        if self.tree.height() >= HIGHEST {
+            return Err(AllocError);
+        }
+        self.tree.insert(alloc, child)?;
+        Ok(())
+    }
+
+    /// How many rows the children have together.
+    pub fn rows(&self) -> usize
+        ensures { result ≡ total self.now }
+    {
+        self.tree.rows()
+    }
+
+    /// One row more for the child of a segment.
+    pub fn add_row(&mut self, seg: Seg)
+        requires rise { Rise (bare self.old) }
+        requires there { IsTrue (is_some (child_in (bare self.old) seg)) }
+        requires room { total self.old + 1 < 2 ^ 64 }
+        ensures { self.new ≡ raised self.old seg }
+    {
+        self.tree.add_row(seg);
+    }
+
+    /// The child among whose rows a row stands, and the row's place there.
+    pub fn holding(&self, index: usize) -> Option<(usize, usize)>
+        ensures { result ≡ holding self.now index }
+    {
+        self.tree.holding(index)
+    }
+
+    /// The nodes of the children, the last one first.
+    pub fn push_backwards(&self, todo: &mut Vec<usize>) -> Result<(), AllocError>
+        ensures { OnOk result (todo.new.items ≡ todo.old.items ++ backwards (bare self.now)) }
+    {
+        self.tree.push_backwards(todo)?;
+        Ok(())
+    }
+}

@@ -1,0 +1,98 @@
+-- What is known of a path, by its node.
+use Rattle.std.proofs.Common.{◌≡◌, ℕ, zero, suc, ◌-◌, ◌<◌, ◌≤◌, Bool, true, false, cond, List, [], ◌∷◌, ◌++◌, length, take, Option, Some, None, IfSome, is_some, refl, sym, ap, subst, ◌∙◌, arith}
+use Rattle.std.specs.Prelude.{◌||◌}
+use Rattle.std.specs.Option.{option_or, option_and_then, option_map}
+use Rattle.std.specs.List.{find}
+use Rattle.std.specs.FinMap as map
+use Rattle.std.specs.FinSet as set
+use Rattle.aml_names.specs.declared.segments.Seg.{Seg}
+use Rattle.aml_names.specs.Paths.{PathSet}
+use Rattle.aml_names.specs.Searching.{upward}
+use Rattle.aml_space.specs.declared.kinds.Kind.{Kind}
+use Rattle.aml_space.specs.declared.nodes.Node.{Node}
+use Rattle.aml_space.specs.declared.scopes.Candidate.{Candidate}
+use Rattle.aml_space.specs.Predefined.{predefined}
+use Rattle.aml_space.specs.Namespace.{Namespace, kind_at, count_at, count_by, arity_at, first_of, decides, is_outside}
+use Rattle.aml_space.specs.Known.{namespace_in}
+use Rattle.aml_space.specs.Graph.{walk}
+use Rattle.aml_space.specs.Nodes.{kids_of, kinds_of, outs_of, known_by, IsShape}
+use Rattle.aml_space.specs.Candidates.{path_at, raised_path, IsCandidate, IsScratch}
+use Rattle.aml_space.proofs.Change.{walk_range}
+use Rattle.aml_space.proofs.Index.{known_kind, known_out}
+use Rattle.aml_space.proofs.Upward.{rest_of, raised}
+
+module _ (ns : List Node) (shape : IsShape ns) (p : List Seg) (node : Option ℕ) (met : node ≡ walk (kids_of ns) 0 p) where
+  pub kind_of_met : (standing : Option Kind) → standing ≡ predefined p → option_or (option_and_then (kinds_of ns) node) standing ≡ kind_at (namespace_in (known_by ns)) p
+  kind_of_met standing is = ap (λ o. option_or (option_and_then (kinds_of ns) o) standing) met ∙ (λ i. option_or (known_kind ns shape p i) (is i))
+
+  pub out_of_met : option_and_then (outs_of ns) node ≡ map.get (known_by ns).outs p
+  out_of_met = ap (option_and_then (outs_of ns)) met ∙ known_out ns shape p
+
+  pub count_of_met : (standing : Option Kind) → standing ≡ predefined p →
+      count_by (namespace_in (known_by ns)) (option_or (option_and_then (kinds_of ns) node) standing) (option_and_then (outs_of ns) node) ≡ count_at (namespace_in (known_by ns)) p
+  count_of_met standing is = λ i. count_by (namespace_in (known_by ns)) (kind_of_met standing is i) (out_of_met i)
+
+  pub within_met : IfSome node (λ i. i < length ns)
+  within_met = by node met
+    where
+      by : (o : Option ℕ) → o ≡ walk (kids_of ns) 0 p → IfSome o (λ i. i < length ns)
+      by None e = tt
+      by (Some j) e = walk_range (kids_of ns) (length ns) shape.families 0 p j shape.rooted (sym e)
+
+-- no path of two segments or more is predefined
+pub predefined_deep : (d : ℕ) (scope segment : List Seg) → (d ≡ 0 → ⊥) → d ≤ length scope → length segment ≡ 1 → predefined (take d scope ++ segment) ≡ None
+predefined_deep zero scope segment deep within one = absurd (deep refl)
+predefined_deep (suc d) [] segment deep within one = absurd (omega (arith, within))
+predefined_deep (suc d) (s ∷ scope) [] deep within one = absurd (omega (arith, one))
+predefined_deep (suc d) (s ∷ scope) (t ∷ rest) deep within one = by (take d scope)
+  where
+    by : (front : List Seg) → predefined (s ∷ (front ++ t ∷ rest)) ≡ None
+    by [] = refl
+    by (u ∷ front) = refl
+
+-- a name that leads to one path
+pub placed : (n : Namespace) (unknown_zero : Bool) (locals : PathSet) (p : List Seg) →
+    arity_at n unknown_zero locals (first_of n locals (p ∷ [])) ≡ cond (set.contains locals p) (Some 0) (option_or (count_at n p) (cond unknown_zero (Some 0) None))
+placed n u locals p = by (set.contains locals p) refl (kind_at n p) refl (n.outs p) refl
+  where
+    by : (a : Bool) → set.contains locals p ≡ a → (k : Option Kind) → kind_at n p ≡ k → (o : Option ℕ) → n.outs p ≡ o →
+        arity_at n u locals (option_or (cond (a || is_some k) (Some p) None) (cond (is_some o) (Some p) None)) ≡ cond a (Some 0) (option_or (count_by n k o) (cond u (Some 0) None))
+    by true a k e o f = ap (λ b. cond b (Some 0) (count_at n p)) a
+    by false a (Some k) e o f = ap (λ b. cond b (Some 0) (count_at n p)) a ∙ (λ i. count_by n (e i) (n.outs p))
+    by false a None e (Some x) f = ap (λ b. cond b (Some 0) (count_at n p)) a ∙ (λ i. count_by n (e i) (f i))
+    by false a None e None f = refl
+
+-- the tests of a candidate are those of its path
+module _ (ns : List Node) (locals : PathSet) (scope segment : List Seg) (shape : IsShape ns) (c : Candidate) (is : IsCandidate ns locals scope segment c) where
+  pub meant_path : (c.local || is_some (option_or (option_and_then (kinds_of ns) c.node) (predefined (take c.depth scope ++ segment)))) ≡ decides (namespace_in (known_by ns)) locals (take c.depth scope ++ segment)
+  meant_path = λ i. (is.local i || is_some (kind_of_met ns shape (take c.depth scope ++ segment) c.node is.node (predefined (take c.depth scope ++ segment)) refl i))
+
+  pub outside_path : is_some (option_and_then (outs_of ns) c.node) ≡ is_outside (namespace_in (known_by ns)) (take c.depth scope ++ segment)
+  outside_path = ap is_some (out_of_met ns shape (take c.depth scope ++ segment) c.node is.node)
+
+-- the depth of the first that an External names
+pub outside_depth : (outside : Option Candidate) (out : Bool) (c : Candidate) → option_map (λ (c : Candidate). c.depth) (option_or outside (cond out (Some c) None)) ≡ option_or (option_map (λ (c : Candidate). c.depth) outside) (cond out (Some c.depth) None)
+outside_depth None true c = refl
+outside_depth None false c = refl
+outside_depth (Some d) out c = refl
+
+pub outside_still : (P : Candidate → Type 0) (outside : Option Candidate) (out : Bool) (c : Candidate) → IfSome outside P → P c → IfSome (option_or outside (cond out (Some c) None)) P
+outside_still P None true c all is = is
+outside_still P None false c all is = tt
+outside_still P (Some d) out c all is = all
+
+-- the search ends at the root
+pub ended : (k : Namespace) (locals : PathSet) (scope segment : List Seg) (outside : Option Candidate) → decides k locals segment ≡ false → (c : Candidate) → c.depth ≡ 0 →
+    rest_of k locals scope segment (option_map (λ (c : Candidate). c.depth) outside) (upward 0 scope segment) ≡ option_map (path_at scope segment) (option_or outside (cond (is_outside k segment) (Some c) None))
+ended k locals scope segment None fails c root =
+    ap (λ b. option_or (cond b (Some segment) None) (cond (is_outside k segment) (Some segment) None)) fails ∙ by (is_outside k segment)
+  where
+    by : (b : Bool) → cond b (Some segment) None ≡ option_map (path_at scope segment) (cond b (Some c) None)
+    by true = ap (λ d. Some (take d scope ++ segment)) (sym root)
+    by false = refl
+ended k locals scope segment (Some d) fails c root = ap (λ b. option_or (cond b (Some segment) None) (Some (take d.depth scope ++ segment))) fails
+
+-- the candidate in the parent scope, to ask the locals with
+pub scratch_raised : (locals : PathSet) (d : ℕ) (scope segment : List Seg) (o : Option (List Seg)) → IsScratch locals (take d scope ++ segment) o → d ≤ length scope → length segment ≡ 1 → 0 < d → IsScratch locals (take (d - 1) scope ++ segment) (option_map raised_path o)
+scratch_raised locals d scope segment None is within one positive = is
+scratch_raised locals d scope segment (Some q) is within one positive = raised d scope segment q is within one positive

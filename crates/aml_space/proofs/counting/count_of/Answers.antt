@@ -1,0 +1,10 @@
+use Rattle.std.proofs.Common.{sym, ap, ◌∙◌}
+use Rattle.aml_space.specs.Graph.{walk}
+use Rattle.aml_space.specs.Nodes.{kids_of}
+use Rattle.aml_space.proofs.Meaning.{count_of_met}
+use Rattle.aml_space.proofs.counting.count_of.Goals as goal
+
+pub returns : goal.returns
+returns c =
+    let ns = c.args.nodes.now in
+    c.count_met.ensures ∙ count_of_met ns c.requires c.args.path.now c.walk_counted-node.result.0 (c.walk_counted-node.ensures.node ∙ ap (walk (kids_of ns) 0) c.segs.ensures) _ (c.kind.ensures ∙ ap Rattle.aml_space.specs.Predefined.predefined c.segs-2.ensures)

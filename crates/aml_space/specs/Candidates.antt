@@ -1,0 +1,35 @@
+-- The paths that a name of one segment may mean in a scope, by their nodes.
+use Rattle.std.specs.Prelude.{◌≡◌, ◌≤◌, ◌+◌, ◌-◌, List, ◌++◌, length, take, drop, Option, Some, None}
+use Rattle.std.specs.FinSet as set
+use Rattle.aml_names.specs.declared.segments.Seg.{Seg}
+use Rattle.aml_names.specs.Paths.{PathSet}
+use Rattle.aml_space.specs.declared.nodes.Node.{Node}
+use Rattle.aml_space.specs.declared.scopes.Scope.{Scope}
+use Rattle.aml_space.specs.declared.scopes.Candidate.{Candidate}
+use Rattle.aml_space.specs.Graph.{walk}
+use Rattle.aml_space.specs.Nodes.{kids_of, IsShape, IsAlong}
+
+-- a scope has the nodes of its path
+pub record IsScope (s : Scope) : Type 0 where
+  pub shape : IsShape s.nodes.now
+  pub along : IsAlong s.nodes.now s.path.now s.chain.items
+  pub long : length s.chain.items ≤ length s.path.now + 1
+
+-- the path of a candidate
+abbrev pub path_at : List Seg → List Seg → Candidate → List Seg
+path_at scope segment c = take c.depth scope ++ segment
+
+-- a candidate of a segment in a scope, with its node
+pub record IsCandidate (ns : List Node) (locals : PathSet) (scope segment : List Seg) (c : Candidate) : Type 0 where
+  pub within : c.depth ≤ length scope
+  pub node : c.node ≡ walk (kids_of ns) 0 (take c.depth scope ++ segment)
+  pub local : c.local ≡ set.contains locals (take c.depth scope ++ segment)
+
+-- a path to ask some locals with, which may be missing where there are none
+abbrev pub IsScratch : PathSet → List Seg → Option (List Seg) → Type 0
+IsScratch locals p None = locals ≡ set.empty
+IsScratch locals p (Some q) = q ≡ p
+
+-- a path with the segment before its last one taken out
+abbrev pub raised_path : List Seg → List Seg
+raised_path p = take (length p - 2) p ++ drop (length p - 1) p

@@ -1,0 +1,239 @@
+//! Scopes in the index, and what a name of one segment means in them.
+ghost use Rattle.std.specs.Prelude.{◌≡◌, ◌||◌, ℕ, ◌+◌, ◌<◌, ◌≤◌, ◌++◌, List, cond, length, take, slice_get, Some, None, is_some, IsTrue, IfOk, IfSome};
+ghost use Rattle.std.specs.Option.{option_or, option_and_then, option_copied, option_map};
+ghost use Rattle.std.specs.FinSet as set;
+ghost use Rattle.aml_names.specs.declared.segments.Seg.{Seg};
+ghost use Rattle.aml_names.specs.Searching.{upward};
+ghost use Rattle.aml_children.specs.Children.{child_in};
+ghost use Rattle.aml_space.specs.Predefined.{predefined};
+ghost use Rattle.aml_space.specs.Namespace.{first_of, count_at};
+ghost use Rattle.aml_space.specs.Known.{namespace_in};
+ghost use Rattle.aml_space.specs.Graph.{walk};
+ghost use Rattle.aml_space.specs.Nodes.{kids_of, kinds_of, outs_of, known_by, IsShape, IsAlong};
+ghost use Rattle.aml_space.specs.Candidates.{path_at, raised_path, IsScope, IsCandidate, IsScratch};
+
+use crate::counting::{count_met, kind_met};
+use crate::kinds::Kind;
+use crate::nodes::Node;
+use crate::predefined::Predefined;
+use crate::walking::{child, out_at};
+use aml_names::{Locals, NoMemory, Path, Seg};
+use std::alloc::Global;
+
+/// A scope, with the nodes of its path and of its parents.
+#[derive(Drop)]
+pub struct Scope<'a> {
+    pub nodes: &'a [Node],
+    pub predefined: &'a Predefined,
+    pub path: &'a Path,
+    /// The node of the first `n` segments of the path at `n`, as far as they stand in the index.
+    pub chain: Vec<usize>,
+}
+
+/// A path that a name of one segment may mean in a scope.
+#[derive(Clone, Copy)]
+pub struct Candidate {
+    /// How many segments of the scope stand before the name's.
+    pub depth: usize,
+    /// The path's node, if it has one.
+    pub node: Option<usize>,
+    /// Whether the path is one of the locals.
+    pub local: bool,
+}
+
+impl<'a> Scope<'a> {
+    /// Walks the scope once.
+    pub fn new(
+        alloc: Global,
+        nodes: &'a [Node],
+        predefined: &'a Predefined,
+        path: &'a Path,
+    ) -> Result<Scope<'a>, NoMemory>
+        requires { IsShape nodes.now }
+        ensures scope { IfOk result IsScope }
+        ensures nodes { IfOk result (λ scope. scope.nodes.now ≡ nodes.now) }
+        ensures path { IfOk result (λ scope. scope.path.now ≡ path.now) }
+    {
+        let chain = nodes_along(alloc, nodes, path.segs())?;
+        Ok(Scope {
+            nodes,
+            predefined,
+            path,
+            chain,
+        })
+    }
+
+    /// Each candidate is a child of one of the scope's nodes. The first one that decides is meant, else the first one that
+    /// an External names.
+    pub fn search(
+        &self,
+        alloc: Global,
+        locals: &Locals,
+        segment: &[Seg],
+    ) -> Result<Option<Candidate>, NoMemory>
+        requires scope { IsScope self.now }
+        requires one { length segment.now ≡ 1 }
+        ensures found { IfOk result (λ met. option_map (path_at self.now.path.now segment.now) met ≡ first_of (namespace_in (known_by self.now.nodes.now)) locals.now (upward (length self.now.path.now) self.now.path.now segment.now)) }
+        ensures met { IfOk result (λ met. IfSome met (IsCandidate self.now.nodes.now locals.now self.now.path.now segment.now)) }
+    {
+        let mut scratch = scratch_of(alloc, locals, self.path.segs(), segment)?;
+        let mut outside: Option<Candidate> = None;
+        let mut depth = self.path.segs().len();
+        'depths: loop {
+            let node = child_along(self.nodes, self.chain.as_slice(), depth, segment[0]);
+            let local = is_local(locals, &scratch);
+            let here = Candidate { depth, node, local };
+            if self.is_meant(segment, here) {
+                return Ok(Some(here));
+            }
+            outside = self.first_outside(outside, here);
+            if depth == 0 {
+                return Ok(outside);
+            }
+            depth -= 1;
+            raise(&mut scratch);
+        }
+    }
+
+    /// The predefined kind of a candidate.
+    fn standing(&self, segment: &[Seg], depth: usize) -> Option<&Kind>
+        requires one { length segment.now ≡ 1 }
+        requires within { depth ≤ length self.now.path.now }
+        ensures { option_copied result ≡ predefined (take depth self.now.path.now ++ segment.now) }
+    {
+        if depth == 0 {
+            self.predefined.kind(segment)
+        } else {
+            None
+        }
+    }
+
+    /// Whether a candidate is one of the locals or has a kind.
+    fn is_meant(&self, segment: &[Seg], here: Candidate) -> bool
+        requires one { length segment.now ≡ 1 }
+        requires within { here.depth ≤ length self.now.path.now }
+        requires node { IfSome here.node (λ i. i < length self.now.nodes.now) }
+        ensures { result ≡ (here.local || is_some (option_or (option_and_then (kinds_of self.now.nodes.now) here.node) (predefined (take here.depth self.now.path.now ++ segment.now)))) }
+    {
+        here.local || kind_met(self.nodes, here.node, self.standing(segment, here.depth)).is_some()
+    }
+
+    /// The first candidate that an External names, from what was met so far and one more.
+    fn first_outside(&self, outside: Option<Candidate>, here: Candidate) -> Option<Candidate>
+        requires { IfSome here.node (λ i. i < length self.now.nodes.now) }
+        ensures { result ≡ option_or outside (cond (is_some (option_and_then (outs_of self.now.nodes.now) here.node)) (Some here) None) }
+    {
+        match outside {
+            Some(found) => Some(found),
+            None => {
+                if out_at(self.nodes, here.node).is_some() {
+                    Some(here)
+                } else {
+                    None
+                }
+            }
+        }
+    }
+
+    /// How many arguments a candidate takes: none where it is one of the locals.
+    pub fn count(&self, segment: &[Seg], here: Candidate) -> Option<u8>
+        requires scope { IsScope self.now }
+        requires one { length segment.now ≡ 1 }
+        requires within { here.depth ≤ length self.now.path.now }
+        requires node { here.node ≡ walk (kids_of self.now.nodes.now) 0 (take here.depth self.now.path.now ++ segment.now) }
+        ensures { result ≡ cond here.local (Some 0) (count_at (namespace_in (known_by self.now.nodes.now)) (take here.depth self.now.path.now ++ segment.now)) }
+    {
+        if here.local {
+            return Some(0);
+        }
+        count_met(self.nodes, self.predefined, here.node, self.standing(segment, here.depth))
+    }
+
+    /// The path of a candidate.
+    pub fn path_of(
+        &self,
+        alloc: Global,
+        segment: &[Seg],
+        met: Option<Candidate>,
+    ) -> Result<Option<Path>, NoMemory>
+        requires { IfSome met (λ c. c.depth ≤ length self.now.path.now) }
+        ensures { IfOk result (λ path. path ≡ option_map (path_at self.now.path.now segment.now) met) }
+    {
+        match met {
+            None => Ok(None),
+            Some(here) => {
+                let path = Path::below(alloc, &self.path.segs()[..here.depth], segment)?;
+                Ok(Some(path))
+            }
+        }
+    }
+}
+
+/// The nodes of a scope and of its parents.
+fn nodes_along(alloc: Global, nodes: &[Node], scope: &[Seg]) -> Result<Vec<usize>, NoMemory>
+    requires { IsShape nodes.now }
+    ensures along { IfOk result (λ chain. IsAlong nodes.now scope.now chain.items) }
+    ensures long { IfOk result (λ chain. length chain.items ≤ length scope.now + 1) }
+{
+    let mut chain = Vec::new(alloc);
+    let mut at: usize = 0;
+    chain.push(at)?;
+    for seg in scope {
+        match child(nodes, at, *seg).0 {
+            None => return Ok(chain),
+            Some(next) => {
+                at = next;
+                chain.push(at)?;
+            }
+        }
+    }
+    Ok(chain)
+}
+
+/// The node of a segment below one of the nodes of a scope.
+fn child_along(nodes: &[Node], chain: &[usize], depth: usize, seg: Seg) -> Option<usize>
+    requires shape { IsShape nodes.now }
+    requires within { (d j : ℕ) → slice_get chain.now d ≡ Some j → j < length nodes.now }
+    ensures node { result ≡ option_and_then (λ j. child_in (kids_of nodes.now j) seg) (slice_get chain.now depth) }
+    ensures within { IfSome result (λ at. at < length nodes.now) }
+{
+    match chain.get(depth) {
+        None => None,
+        Some(at) => child(nodes, *at, seg).0,
+    }
+}
+
+/// The nearest candidate as a path to ask the locals with, one for all candidates; none where there are no locals.
+fn scratch_of(
+    alloc: Global,
+    locals: &Locals,
+    scope: &[Seg],
+    segment: &[Seg],
+) -> Result<Option<Path>, NoMemory>
+    ensures { IfOk result (λ scratch. IsScratch locals.now (take (length scope.now) scope.now ++ segment.now) scratch) }
+{
+    if locals.is_empty() {
+        return Ok(None);
+    }
+    let path = Path::below(alloc, scope, segment)?;
+    Ok(Some(path))
+}
+
+fn is_local(locals: &Locals, scratch: &Option<Path>) -> bool
+    ensures { (p : List Seg) → IsScratch locals.now p scratch.now → result ≡ set.contains locals.now p }
+{
+    match scratch {
+        None => false,
+        Some(path) => locals.has(path),
+    }
+}
+
+/// The candidate in the parent scope.
+fn raise(scratch: &mut Option<Path>)
+    requires { IfSome scratch.old (λ p. 2 ≤ length p) }
+    ensures { scratch.new ≡ option_map raised_path scratch.old }
+{
+    if let Some(path) = scratch {
+        path.raise();
+    }
+}

@@ -1,0 +1,5 @@
+//! What no worked row can show of the libraries: writers that fail, limits, refused memory.
+#![tactic(auto)]
+
+#[cfg(test)]
+mod tests;

@@ -1,0 +1,3 @@
+mod limits;
+mod memory;
+mod writers;

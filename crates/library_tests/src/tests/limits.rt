@@ -1,0 +1,105 @@
+//! Rows that are too long to be written down.
+ghost use Rattle.std.specs.Prelude.{Some};
+
+use acpi_tables::{Bad, Dump, MAX_DUMP_BYTES, MAX_DUMPS, load_order};
+use aml_code::{Arity, Locals, NoMemory, encode_terms};
+use aml_names::{Name, Path, place, read_name};
+use aml_parse::parse_body;
+use std::alloc::{AllocError, Global};
+use std::test::Fail;
+
+/// No name takes an argument.
+#[derive(Clone, Copy)]
+struct Bare;
+
+impl Arity for Bare {
+    ghost arity = { λ _ _ _. Some 0 };
+
+    fn count(
+        &self,
+        _alloc: Global,
+        _locals: &Locals,
+        _name: &Name,
+    ) -> Result<Option<u8>, NoMemory> {
+        Ok(Some(0))
+    }
+}
+
+#[test]
+fn sixteen_million_parent_prefixes(rt: HostRuntime) -> Result<(), Fail> {
+    let alloc = rt.alloc();
+    let mut bytes = vec![in alloc; b'^'; 16_777_212]?;
+    bytes.extend_from_slice(b"BBBB")?;
+    if bytes.len() > 16_777_216 {
+        return Ok(());
+    }
+    let (name, len) = read_name(alloc, &bytes)?;
+    assert_eq!(rt; name.ups, 16_777_212);
+    assert_eq!(rt; len, 16_777_216);
+    assert!(rt; place(alloc, &Path::root(alloc), &name)?.is_none());
+    Ok(())
+}
+
+#[test]
+fn a_long_body(rt: HostRuntime) -> Result<(), Fail> {
+    let alloc = rt.alloc();
+    // Return (Add (Local0, Local1, )) a hundred thousand times
+    let mut code = Vec::new(alloc);
+    for _ in 0..100_000 {
+        code.extend_from_slice(&[0xA4, 0x72, 0x60, 0x61, 0x00])?;
+    }
+    if code.len() > 16_777_216 {
+        return Ok(());
+    }
+    let terms = parse_body(alloc, &code, &Bare, &Path::root(alloc))?;
+    assert_eq!(rt; terms.len(), 100_000);
+    let bytes = encode_terms(alloc, &code, &terms)?;
+    assert_eq!(rt; bytes.as_slice(), code.as_slice());
+    Ok(())
+}
+
+/// So many dumps without a byte.
+fn empty_dumps(alloc: Global, count: usize) -> Result<Vec<Dump>, AllocError> {
+    let mut dumps = Vec::new(alloc);
+    for _ in 0..count {
+        dumps.push(Dump {
+            name: String::new(alloc),
+            address: None,
+            bytes: Vec::new(alloc),
+        })?;
+    }
+    Ok(dumps)
+}
+
+/// What refuses a set.
+fn refusal(alloc: Global, dumps: &[Dump]) -> Option<(Option<usize>, Bad)> {
+    match load_order(alloc, dumps, false) {
+        Ok(_) => None,
+        Err(fault) => Some((fault.dump, fault.bad)),
+    }
+}
+
+#[test]
+fn the_greatest_number_of_dumps(rt: HostRuntime) -> Result<(), Fail> {
+    let alloc = rt.alloc();
+    let most = empty_dumps(alloc, MAX_DUMPS)?;
+    assert!(rt; matches!(refusal(alloc, &most), Some((Some(0), Bad::Short))));
+    let more = empty_dumps(alloc, MAX_DUMPS + 1)?;
+    assert!(rt; matches!(refusal(alloc, &more), Some((None, Bad::TooManyTables))));
+    Ok(())
+}
+
+#[test]
+fn the_greatest_number_of_bytes(rt: HostRuntime) -> Result<(), Fail> {
+    let alloc = rt.alloc();
+    let mut dumps = empty_dumps(alloc, 1)?;
+    for dump in dumps.iter_mut() {
+        dump.bytes = vec![in alloc; 0u8; MAX_DUMP_BYTES]?;
+    }
+    assert!(rt; matches!(refusal(alloc, &dumps), Some((Some(0), Bad::Short))));
+    for dump in dumps.iter_mut() {
+        dump.bytes.push(0)?;
+    }
+    assert!(rt; matches!(refusal(alloc, &dumps), Some((Some(0), Bad::TooLarge))));
+    Ok(())
+}

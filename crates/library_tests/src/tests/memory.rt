@@ -1,0 +1,90 @@
+//! Answers where a growth is refused, as by `rt try --test --fail-alloc N`: the whole answer, or the want of memory.
+use acpi_tables::{Bad, Dump, load_order};
+use std::alloc::{AllocError, Global};
+use std::test::Fail;
+
+/// Adds a dump.
+fn push_dump(
+    alloc: Global,
+    dumps: &mut Vec<Dump>,
+    address: Option<u64>,
+    bytes: Vec<u8>,
+) -> Result<(), AllocError> {
+    dumps.push(Dump {
+        name: String::new(alloc),
+        address,
+        bytes,
+    })?;
+    Ok(())
+}
+
+/// Adds a table with this signature and this content, whose checksum is any.
+fn push_table(
+    alloc: Global,
+    dumps: &mut Vec<Dump>,
+    address: Option<u64>,
+    signature: &[u8; 4],
+    content: &[u8],
+) -> Result<(), AllocError> {
+    let len = u32::try_from(content.len()).unwrap_or(0).saturating_add(36);
+    let mut bytes = Vec::new(alloc);
+    bytes.extend_from_slice(signature)?;
+    bytes.extend_from_slice(&len.to_le_bytes())?;
+    bytes.extend_from_slice(&[0; 28])?;
+    bytes.extend_from_slice(content)?;
+    push_dump(alloc, dumps, address, bytes)
+}
+
+/// An SSDT, a DSDT and an SSDT without addresses.
+fn named(alloc: Global) -> Result<Vec<Dump>, AllocError> {
+    let mut dumps = Vec::new(alloc);
+    push_table(alloc, &mut dumps, None, b"SSDT", &[])?;
+    push_table(alloc, &mut dumps, None, b"DSDT", &[])?;
+    push_table(alloc, &mut dumps, None, b"SSDT", &[])?;
+    Ok(dumps)
+}
+
+/// A root pointer that leads to the XSDT at 1000.
+const ROOT: [u8; 36] =
+    *b"RSD PTR \x00TEST  \x02\x00\x00\x00\x00\x24\x00\x00\x00\x00\x10\x00\x00\x00\x00\x00\x00\x00\x00\x00\x00";
+
+/// What stands in a FADT behind its header: its DSDT is at 4000.
+fn fadt() -> [u8; 80] {
+    let mut content = [0; 80];
+    content[5] = 0x40;
+    content
+}
+
+/// The addresses 3000 and 2000.
+const ADDRESSES: [u8; 16] = [0, 0x30, 0, 0, 0, 0, 0, 0, 0, 0x20, 0, 0, 0, 0, 0, 0];
+
+/// A chain from the root pointer to a DSDT and an SSDT.
+fn chained(alloc: Global) -> Result<Vec<Dump>, AllocError> {
+    let mut dumps = Vec::new(alloc);
+    push_table(alloc, &mut dumps, Some(0x2000), b"FACP", &fadt())?;
+    push_table(alloc, &mut dumps, Some(0x4000), b"DSDT", &[])?;
+    push_table(alloc, &mut dumps, Some(0x3000), b"SSDT", &[])?;
+    push_table(alloc, &mut dumps, Some(0x1000), b"XSDT", &ADDRESSES)?;
+    push_dump(alloc, &mut dumps, None, ROOT.to_vec(alloc)?)?;
+    Ok(dumps)
+}
+
+/// Whether a set has this order, or memory was refused.
+fn has_order(alloc: Global, dumps: &[Dump], dsdt: usize, ssdts: &[usize]) -> bool {
+    match load_order(alloc, dumps, true) {
+        Ok(order) => order.dsdt == dsdt && order.ssdts.as_slice() == ssdts,
+        Err(fault) => fault.dump.is_none() && matches!(fault.bad, Bad::NoMemory),
+    }
+}
+
+#[test]
+fn whole_order_or_no_memory(rt: HostRuntime) -> Result<(), Fail> {
+    let alloc = rt.alloc();
+    if let Ok(dumps) = named(alloc) {
+        assert!(rt; has_order(alloc, &dumps, 1, &[0, 2]));
+    }
+    if let Ok(dumps) = chained(alloc) {
+        assert!(rt; has_order(alloc, &dumps, 1, &[2]));
+    }
+    Ok(())
+}

@@ -1,0 +1,118 @@
+//! Runs whose writer fails, or takes few bytes a call.
+use acpi_tables::Dump;
+use acpidis::{Options, run};
+use std::alloc::{AllocError, Global};
+use std::io;
+use std::test::Fail;
+
+/// The DSDT of a method that returns its argument.
+const METHOD: [u8; 45] =
+    *b"DSDT\x2D\x00\x00\x00\x02\x48TEST  EXAMPLE \x01\x00\x00\x00TEST\x01\x00\x00\x00\x14\x08FOO_\x01\xA4\x68";
+
+/// Its text.
+const TEXT: &str =
+    "DefinitionBlock (\"a\") {\n  Method (FOO_, 1, NotSerialized, 0) {\n    Return (Arg0)\n  }\n}\n";
+
+const OPTIONS: Options = Options {
+    any_sum: false,
+    unknown_zero: false,
+};
+
+/// A writer that takes so many bytes, some a call, and then fails.
+#[derive(Drop)]
+struct Slow {
+    taken: Vec<u8>,
+    room: usize,
+    a_call: usize,
+}
+
+impl Slow {
+    fn new(alloc: Global, room: usize, a_call: usize) -> Slow {
+        Slow {
+            taken: Vec::new(alloc),
+            room,
+            a_call,
+        }
+    }
+}
+
+impl io::Write for Slow {
+    fn write(&mut self, bytes: &[u8]) -> io::Result<usize> {
+        if self.room == 0 {
+            return Err(io::Error::from(AllocError));
+        }
+        let count = self.room.min(self.a_call).min(bytes.len());
+        self.room = self.room.saturating_sub(count);
+        self.taken.write(&bytes[..count])
+    }
+
+    fn flush(&mut self) -> io::Result<()> {
+        Ok(())
+    }
+}
+
+/// A set of this dump.
+fn set(alloc: Global, bytes: &[u8]) -> Result<[Dump; 1], AllocError> {
+    Ok([Dump {
+        name: String::from_str(alloc, "a")?,
+        address: None,
+        bytes: bytes.to_vec(alloc)?,
+    }])
+}
+
+/// The status and the error line of a run to this writer.
+fn run_to(alloc: Global, out: &mut Slow) -> Result<(u8, Vec<u8>), AllocError> {
+    let dumps = set(alloc, &METHOD)?;
+    let mut error = Vec::new(alloc);
+    let status = run(alloc, &dumps, OPTIONS, out, &mut error);
+    Ok((status, error))
+}
+
+#[test]
+fn a_writer_that_fails_has_the_first_bytes(rt: HostRuntime) -> Result<(), Fail> {
+    let alloc = rt.alloc();
+    for room in 0..TEXT.len() {
+        let mut out = Slow::new(alloc, room, usize::MAX);
+        let (status, error) = run_to(alloc, &mut out)?;
+        let line = format!(in alloc; "acpidis: write failed after {room} bytes\n")?;
+        assert_eq!(rt; status, 4);
+        assert_eq!(rt; error.as_slice(), line.as_bytes());
+        assert_eq!(rt; Some(out.taken.as_slice()), TEXT.as_bytes().get(..room));
+    }
+    Ok(())
+}
+
+#[test]
+fn a_writer_that_takes_one_byte_a_call_has_all(rt: HostRuntime) -> Result<(), Fail> {
+    let mut out = Slow::new(rt.alloc(), usize::MAX, 1);
+    let (status, error) = run_to(rt.alloc(), &mut out)?;
+    assert_eq!(rt; status, 0);
+    assert_eq!(rt; error.len(), 0);
+    assert_eq!(rt; out.taken.as_slice(), TEXT.as_bytes());
+    Ok(())
+}
+
+#[test]
+fn a_writer_that_takes_nothing_is_a_fault(rt: HostRuntime) -> Result<(), Fail> {
+    let mut out = Slow::new(rt.alloc(), usize::MAX, 0);
+    let (status, error) = run_to(rt.alloc(), &mut out)?;
+    assert_eq!(rt; status, 4);
+    assert_eq!(rt;
+        error.as_slice(),
+        b"acpidis: write failed after 0 bytes\n".as_slice()
+    );
+    Ok(())
+}
+
+#[test]
+fn an_error_line_that_fails_changes_no_status(rt: HostRuntime) -> Result<(), Fail> {
+    let alloc = rt.alloc();
+    let dumps = set(alloc, b"")?;
+    let mut out = Vec::new(alloc);
+    let mut error = Slow::new(alloc, 5, 5);
+    let status = run(alloc, &dumps, OPTIONS, &mut out, &mut error);
+    assert_eq!(rt; status, 1);
+    assert_eq!(rt; out.len(), 0);
+    assert_eq!(rt; error.taken.as_slice(), b"acpid".as_slice());
+    Ok(())
+}
