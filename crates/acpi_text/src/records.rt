@@ -113,10 +113,10 @@ fn print_address_override<W: Write>(out: &mut Out<'_, W>, address: u64)
 }
 
 /// A record of a MADT on one line.
-fn print_record<W: Write>(out: &mut Out<'_, W>, record: &MadtView<'_>)
-    ensures { Prints W.contents out.old out.new (record_text (seen_by (λ content. content.now) record.now)) }
+fn print_record<W: Write>(out: &mut Out<'_, W>, view: &MadtView<'_>)
+    ensures { Prints W.contents out.old out.new (record_text (seen_by (λ content. content.now) view.now)) }
 {
-    match *record {
+    match *view {
         MadtRecord::LocalApic { uid, apic, flags } => print_local_apic(out, uid, apic, flags),
         MadtRecord::IoApic { id, address, gsi } => print_io_apic(out, id, address, gsi),
         MadtRecord::Override {
@@ -135,11 +135,11 @@ fn print_record<W: Write>(out: &mut Out<'_, W>, record: &MadtView<'_>)
 }
 
 #[tactic(auto, using(text_writer::proofs::PrintLaws::straight), unfolding(crate::specs::Dumps::record_line, crate::specs::Dumps::below))]
-fn print_record_line<W: Write>(out: &mut Out<'_, W>, record: &MadtView<'_>)
-    ensures { Prints W.contents out.old out.new (record_line (seen_by (λ content. content.now) record.now)) }
+fn print_record_line<W: Write>(out: &mut Out<'_, W>, view: &MadtView<'_>)
+    ensures { Prints W.contents out.old out.new (record_line (seen_by (λ content. content.now) view.now)) }
 {
     out.put(b"  ");
-    print_record(out, record);
+    print_record(out, view);
     out.put(b"\n");
 }
 
