@@ -180,7 +180,7 @@ one_term_is (kinds.Qword ∷ ks) h = absurd cc
 one_term_is (kinds.Text ∷ ks) h = absurd cc
 
 if_row : Row → Bool
-if_row r = cond (is_if_place r.place) (one_term (r.parts) && has_length r.tail) true
+if_row r = cond (is_if_place r.place) (one_term r.parts && has_length r.tail) true
 
 all_ifs : list_all if_row rows ≡ true
 unfolding rows if_row one_term
@@ -190,15 +190,15 @@ where_true : (b c : Bool) → b ≡ true → cond b c true ≡ true → c ≡ tr
 where_true true c h e = e
 where_true false c h e = absurd cc
 
-if_passes : (o : ℕ) (r : Row) → row_of o ≡ Some r → is_if_place r.place ≡ true → (one_term (r.parts) && has_length r.tail) ≡ true
+if_passes : (o : ℕ) (r : Row) → row_of o ≡ Some r → is_if_place r.place ≡ true → (one_term r.parts && has_length r.tail) ≡ true
 unfolding if_row
-if_passes o r e h = where_true (is_if_place r.place) (one_term (r.parts) && has_length r.tail) h (row_passes if_row all_ifs o r e)
+if_passes o r e h = where_true (is_if_place r.place) (one_term r.parts && has_length r.tail) h (row_passes if_row all_ifs o r e)
 
 pub if_parts : (o : ℕ) (r : Row) → row_of o ≡ Some r → is_if_place r.place ≡ true → r.parts ≡ kinds.Term ∷ []
-if_parts o r e h = one_term_is (r.parts) (and_left (one_term (r.parts)) (has_length r.tail) (if_passes o r e h))
+if_parts o r e h = one_term_is r.parts (and_left (one_term r.parts) (has_length r.tail) (if_passes o r e h))
 
 pub if_has_length : (o : ℕ) (r : Row) → row_of o ≡ Some r → is_if_place r.place ≡ true → has_length r.tail ≡ true
-if_has_length o r e h = and_right (one_term (r.parts)) (has_length r.tail) (if_passes o r e h)
+if_has_length o r e h = and_right (one_term r.parts) (has_length r.tail) (if_passes o r e h)
 
 pub guard_place : (p : Position) (place : Place) → is_guard p place ≡ true → is_if_place place ≡ true
 guard_place positions.ModuleTerm places.If h = refl
@@ -228,7 +228,7 @@ no_parts_is [] h = refl
 no_parts_is (k ∷ ks) h = absurd cc
 
 zero_row : Row → Bool
-zero_row r = cond (r.opcode == 0x00) (no_parts_kind (r.parts) && not (has_length r.tail)) true
+zero_row r = cond (r.opcode == 0x00) (no_parts_kind r.parts && not (has_length r.tail)) true
 
 all_zeros : list_all zero_row rows ≡ true
 unfolding rows zero_row no_parts_kind
@@ -238,8 +238,8 @@ pub zero_bare : (r : Row) → row_of 0x00 ≡ Some r → (r.parts ≡ []) × (ha
 unfolding zero_row
 zero_bare r e =
     let is : (r.opcode == 0x00) ≡ true = eq-eqb _ _ (row_opcode 0x00 r e) in
-    let both = where_true (r.opcode == 0x00) (no_parts_kind (r.parts) && not (has_length r.tail)) is (row_passes zero_row all_zeros 0x00 r e) in
-    (no_parts_is (r.parts) (and_left (no_parts_kind (r.parts)) (not (has_length r.tail)) both), not_true (has_length r.tail) (and_right (no_parts_kind (r.parts)) (not (has_length r.tail)) both))
+    let both = where_true (r.opcode == 0x00) (no_parts_kind r.parts && not (has_length r.tail)) is (row_passes zero_row all_zeros 0x00 r e) in
+    (no_parts_is r.parts (and_left (no_parts_kind r.parts) (not (has_length r.tail)) both), not_true (has_length r.tail) (and_right (no_parts_kind r.parts) (not (has_length r.tail)) both))
 
 -- ---- the bytes of an opcode
 

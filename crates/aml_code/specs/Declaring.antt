@@ -10,29 +10,19 @@ use Rattle.aml_code.specs.declared.rows.Role.{Role}
 use Rattle.aml_code.specs.declared.rows.Role.TheVariants as roles
 use Rattle.aml_code.specs.Opcodes.{Row}
 use Rattle.aml_code.specs.Rows.{row_of}
-use Rattle.aml_code.specs.Tree.{Tree, nothing, named, op, Trees, no_trees, tree_more, OnePart, child, label, byte, word, dword, qword, text, Parts, no_parts, part_more, Rest, empty, terms, bytes, elements, fields, body, OneUnit, unit, reserved, access, connection, extended, Units, no_units, unit_more, Joint, target, buffer}
+use Rattle.aml_code.specs.Tree.{Tree, nothing, named, op, Trees, no_trees, tree_more, OnePart, child, label, byte, Parts, no_parts, part_more, Rest, terms, elements, fields, OneUnit, unit, connection, Units, no_units, unit_more, Joint, target, buffer}
 
 -- the last part that is a name, or else this
 abbrev pub last_label : Option Name → Parts → Option Name
 last_label found no_parts = found
 last_label found (part_more (label n) ps) = last_label (Some n) ps
-last_label found (part_more (child t) ps) = last_label found ps
-last_label found (part_more (byte b) ps) = last_label found ps
-last_label found (part_more (word n) ps) = last_label found ps
-last_label found (part_more (dword n) ps) = last_label found ps
-last_label found (part_more (qword n) ps) = last_label found ps
-last_label found (part_more (text s) ps) = last_label found ps
+last_label found (part_more _ ps) = last_label found ps
 
 -- the last part that is a byte, or else this
 abbrev pub last_byte : Option ℕ → Parts → Option ℕ
 last_byte found no_parts = found
 last_byte found (part_more (byte b) ps) = last_byte (Some b) ps
-last_byte found (part_more (child t) ps) = last_byte found ps
-last_byte found (part_more (label n) ps) = last_byte found ps
-last_byte found (part_more (word n) ps) = last_byte found ps
-last_byte found (part_more (dword n) ps) = last_byte found ps
-last_byte found (part_more (qword n) ps) = last_byte found ps
-last_byte found (part_more (text s) ps) = last_byte found ps
+last_byte found (part_more _ ps) = last_byte found ps
 
 abbrev pub listed : Option Name → List Name
 listed None = []
@@ -46,18 +36,11 @@ plain_name s = record { root = false; ups = 0; form = One; segs = s ∷ [] }
 abbrev pub unit_names : Units → List Name
 unit_names no_units = []
 unit_names (unit_more (unit s w n) us) = plain_name s ∷ unit_names us
-unit_names (unit_more (reserved w n) us) = unit_names us
-unit_names (unit_more (access a b) us) = unit_names us
-unit_names (unit_more (connection l) us) = unit_names us
-unit_names (unit_more (extended a b c) us) = unit_names us
+unit_names (unit_more _ us) = unit_names us
 
 abbrev pub field_names : Rest → List Name
-field_names empty = []
-field_names (terms ts) = []
-field_names (bytes bs) = []
-field_names (elements ts) = []
 field_names (fields us) = unit_names us
-field_names (body start len) = []
+field_names _ = []
 
 -- The names that a term declares itself, by the role of its row, in the order of the text. An External declares none: what
 -- it names is declared elsewhere.
@@ -100,35 +83,25 @@ abbrev mutual
 
   pub after_part : Option (List Seg) → PathSet → OnePart → PathSet
   after_part scope ls (child t) = after scope ls t
-  after_part scope ls (label n) = ls
-  after_part scope ls (byte b) = ls
-  after_part scope ls (word n) = ls
-  after_part scope ls (dword n) = ls
-  after_part scope ls (qword n) = ls
-  after_part scope ls (text s) = ls
+  after_part scope ls _ = ls
 
   pub after_parts : Option (List Seg) → PathSet → Parts → PathSet
   after_parts scope ls no_parts = ls
   after_parts scope ls (part_more p ps) = after_parts scope (after_part scope ls p) ps
 
   pub after_rest : Option (List Seg) → PathSet → Rest → PathSet
-  after_rest scope ls empty = ls
   after_rest scope ls (terms ts) = after_all scope ls ts
-  after_rest scope ls (bytes bs) = ls
   after_rest scope ls (elements ts) = after_all scope ls ts
   after_rest scope ls (fields us) = after_units scope ls us
-  after_rest scope ls (body start len) = ls
+  after_rest scope ls _ = ls
 
   pub after_units : Option (List Seg) → PathSet → Units → PathSet
   after_units scope ls no_units = ls
   after_units scope ls (unit_more u us) = after_units scope (after_unit scope ls u) us
 
   pub after_unit : Option (List Seg) → PathSet → OneUnit → PathSet
-  after_unit scope ls (unit s w n) = ls
-  after_unit scope ls (reserved w n) = ls
-  after_unit scope ls (access a b) = ls
   after_unit scope ls (connection l) = after_joint scope ls l
-  after_unit scope ls (extended a b c) = ls
+  after_unit scope ls _ = ls
 
   pub after_joint : Option (List Seg) → PathSet → Joint → PathSet
   after_joint scope ls (target n) = ls

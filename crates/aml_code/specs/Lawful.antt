@@ -82,19 +82,14 @@ is_if_row None = false
 is_if_row (Some r) = is_if_place r.place
 
 abbrev pub is_if : Tree → Bool
-is_if nothing = false
-is_if (named n ts) = false
 is_if (op o w ps t) = is_if_row (row_of o)
+is_if _ = false
 
 -- where the next term of a list stands
 abbrev pub next_position : Position → Tree → Position
 next_position positions.BodyTerm t = cond (is_if t) positions.AfterIf positions.BodyTerm
 next_position positions.AfterIf t = cond (is_if t) positions.AfterIf positions.BodyTerm
-next_position positions.ModuleTerm t = positions.ModuleTerm
-next_position positions.GuardTerm t = positions.GuardTerm
-next_position positions.Argument t = positions.Argument
-next_position positions.Target t = positions.Target
-next_position positions.Data t = positions.Data
+next_position p t = p
 
 abbrev pub AreBytes : List ℕ → Type 0
 AreBytes [] = Unit {0}
@@ -107,9 +102,8 @@ AreTextBytes (b ∷ bs) = (0 < b) × (b < 256) × AreTextBytes bs
 
 -- a Buffer, as the lead byte of a connection tells it
 abbrev pub IsBuffer : Tree → Type 0
-IsBuffer nothing = ⊥
-IsBuffer (named n ts) = ⊥
 IsBuffer (op o w ps t) = o ≡ 0x11
+IsBuffer _ = ⊥
 
 -- An operation: its opcode has a row that the position takes, with a package length, parts and a tail as the row says.
 pub record IsOperation (p : Position) (o : ℕ) (w : Option PkgWidth) (len : ℕ) (ps : Parts) (AreItsParts IsItsTail : Row → Type 0) : Type 0 where
@@ -132,7 +126,7 @@ abbrev mutual
   IsLawful s zero p ls (op o w ps t) = ⊥
   IsLawful s (suc levels) p ls (op o w ps t) =
       IsOperation p o w (length (parts_encoding s.code ps ++ rest_encoding s.code t)) ps
-      (λ row. AreParts s levels (row.parts) ls ps)
+      (λ row. AreParts s levels row.parts ls ps)
       (λ row. IsTail s levels (terms_in p row.place) row.tail (after_parts s.scope ls ps) t)
 
   pub AreArguments : Setting → ℕ → PathSet → Trees → Type 0

@@ -40,17 +40,13 @@ abbrev mutual
   BodiesStand code at (tree_more t ts) = BodyStands code at t × BodiesStand code (at + length (encoding code t)) ts
 
   pub BodyStands : List ℕ → ℕ → Tree → Type 0
-  BodyStands code at nothing = Unit {0}
-  BodyStands code at (named n ts) = Unit {0}
   BodyStands code at (op o w ps t) = RestStands code (at + (length (opcode_bytes o) + (length_bytes w + length (parts_encoding code ps)))) t
+  BodyStands code at _ = Unit {0}
 
   pub RestStands : List ℕ → ℕ → Rest → Type 0
-  RestStands code at empty = Unit {0}
   RestStands code at (terms ts) = BodiesStand code at ts
-  RestStands code at (bytes bs) = Unit {0}
-  RestStands code at (elements ts) = Unit {0}
-  RestStands code at (fields us) = Unit {0}
   RestStands code at (body start len) = start ≡ at
+  RestStands code at _ = Unit {0}
 
 -- The AML of a table reads as these terms: they are lawful as terms of a table, with at most 512 levels, no name has
 -- arguments, they are spelled by the code, and each method's body is the span where it stands.

@@ -20,11 +20,7 @@ row_view r = record { opcode = r.opcode; mnemonic = r.mnemonic.now; group = r.gr
 -- a row with a tail has a package length before its parts
 abbrev pub has_length : TailKind → Bool
 has_length tails.Empty = false
-has_length tails.Terms = true
-has_length tails.Bytes = true
-has_length tails.Elements = true
-has_length tails.Fields = true
-has_length tails.Body = true
+has_length _ = true
 
 -- what may stand in a list of terms of a table
 abbrev pub taken_in_module : Place → Bool

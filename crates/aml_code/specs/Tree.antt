@@ -1,4 +1,11 @@
 -- A tree of terms as plain data: what a Node is, without where it lies in memory.
+--
+--   in the code            here
+--   Node, Vec<Node>        Tree, Trees
+--   Part, Vec<Part>        OnePart, Parts
+--   Tail                   Rest
+--   Field, Vec<Field>      OneUnit, Units
+--   Link                   Joint
 use Rattle.std.specs.Prelude.{ℕ, suc, List, Option}
 use Rattle.aml_names.specs.declared.segments.Seg.{Seg}
 use Rattle.aml_names.specs.declared.names.Name.{Name}

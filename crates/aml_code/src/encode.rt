@@ -61,7 +61,8 @@ fn open_package(width: PkgWidth, out: &mut Vec<u8>) -> Result<usize, NoMemory>
 /// Writes the package length into the room that was left for it at `at`: it covers all that stands from there on.
 fn close_package(width: PkgWidth, at: usize, out: &mut Vec<u8>)
     requires { at + width_len width ≤ length out.old.items }
-    ensures { out.new.items ≡ take at out.old.items ++ (package_bytes width (length out.old.items - at) ++ drop (at + width_len width) out.old.items) }
+    ensures { out.new.items ≡ take at out.old.items ++
+        (package_bytes width (length out.old.items - at) ++ drop (at + width_len width) out.old.items) }
 {
     let n = out.len() - at;
     match width {

@@ -19,5 +19,5 @@ pub use bytes_of::Bytes;
 pub use encode::{encode_terms, slice};
 pub use packages::{PkgWidth, length_of, little_of, read_pkg, span_of};
 pub use rows::{Group, Object, OpRow, PartKind, Place, Position, Role, TailKind, takes};
-pub use table::listed_row;
+pub use table::{listed_row, row};
 pub use tree::{Field, Link, Node, Part, Tail};

@@ -131,11 +131,14 @@ fn front_of(bytes: &[u8]) -> Result<(PkgWidth, u32), CodeFault>
 pub fn read_pkg(bytes: &[u8]) -> Result<(PkgWidth, u32), CodeFault>
     requires { length bytes.now < 2 ^ 32 }
     // What is read is spelled at the front.
-    ensures sound { IfOk result (λ x. FitsWidth x.0 x.1 × ((rest : List ℕ) × (bytes.now ≡ package_bytes x.0 x.1 ++ rest))) }
+    ensures sound { IfOk result (λ x. FitsWidth x.0 x.1 ×
+        ((rest : List ℕ) × (bytes.now ≡ package_bytes x.0 x.1 ++ rest))) }
     // Nothing else is spelled there.
-    ensures one { IfOk result (λ x. (w : PkgWidth) (v : ℕ) (rest : List ℕ) → FitsWidth w v → bytes.now ≡ package_bytes w v ++ rest → (w ≡ x.0) × (v ≡ x.1)) }
+    ensures one { IfOk result (λ x. (w : PkgWidth) (v : ℕ) (rest : List ℕ) → FitsWidth w v →
+        bytes.now ≡ package_bytes w v ++ rest → (w ≡ x.0) × (v ≡ x.1)) }
     // What is refused is no length.
-    ensures complete { IfErr result (λ e. (w : PkgWidth) (v : ℕ) (rest : List ℕ) → FitsWidth w v → bytes.now ≡ package_bytes w v ++ rest → ⊥) }
+    ensures complete { IfErr result (λ e. (w : PkgWidth) (v : ℕ) (rest : List ℕ) → FitsWidth w v →
+        bytes.now ≡ package_bytes w v ++ rest → ⊥) }
     // A fault is true of its offset.
     ensures placed { IfErr result (IsLengthFault bytes.now) }
     // Which fault it is.

@@ -208,7 +208,7 @@ fn row_at(rows: &[OpRow], place: u8) -> Option<&OpRow>
     rows.get(place as usize)
 }
 
-/// The row of an opcode, if it has one.
+/// The row of an opcode where it stands in the table, if it has one.
 pub fn listed_row(opcode: u16) -> Option<&'static OpRow>
     ensures { option_map row_view (option_copied result) ≡ row_of opcode }
 {
@@ -222,4 +222,11 @@ pub fn listed_row(opcode: u16) -> Option<&'static OpRow>
             }
         }
     }
+}
+
+/// The row of an opcode, if it has one.
+pub fn row(opcode: u16) -> Option<OpRow>
+    ensures { option_map row_view result ≡ row_of opcode }
+{
+    listed_row(opcode).copied()
 }

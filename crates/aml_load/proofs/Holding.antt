@@ -1,9 +1,19 @@
 -- What the progress holds after one entry more.
-use Rattle.std.proofs.Common.{◌≡◌, ℕ, ◌-◌, nat_le, true, cond, List, [], ◌∷◌, ◌++◌, length, Option, Some, None, is_some, IsTrue, Result, Ok, Err, refl, sym, ap, subst, ◌∙◌, ◌⊎◌, inl, inr, arith}
+use Rattle.std.proofs.Common.{◌≡◌, ℕ, ◌-◌, nat_le, true, cond, List, [], ◌∷◌, ◌++◌, length, Vec, Option, Some, None, is_some, IsTrue, Result, Ok, Err, refl, sym, ap, subst, ◌∙◌, ◌⊎◌, inl, inr, arith}
 use Rattle.std.proofs.lemmas.Bool.Decides.{nat_tests}
 use Rattle.std.proofs.lemmas.List.{append-nil, take_all}
 use Rattle.aml_names.specs.Names.{placed}
+use Rattle.std.specs.declared.alloc.Global.{Global}
 use Rattle.aml_code.specs.Declaring.{plain_name}
+use Rattle.aml_code.specs.declared.packages.PkgWidth.{PkgWidth}
+use Rattle.aml_code.specs.declared.rows.Role.{Role}
+use Rattle.aml_code.specs.declared.tree.Node.{Node, Op}
+use Rattle.aml_code.specs.declared.tree.Part.{Part}
+use Rattle.aml_code.specs.declared.tree.Tail.{Tail}
+use Rattle.aml_code.specs.Rows.{row_of}
+use Rattle.aml_code.specs.Tree.{Parts, Rest}
+use Rattle.aml_code.specs.View.{node_view, parts_view, tail_view}
+use Rattle.aml_code.proofs.Views.{view-Op}
 use Rattle.std.specs.FinMap as map
 use Rattle.aml_names.specs.declared.segments.Seg.{Seg}
 use Rattle.aml_space.specs.declared.kinds.Kind.{Kind}
@@ -16,8 +26,10 @@ use Rattle.aml_load.specs.declared.faults.LoadFault.{LoadFault}
 use Rattle.aml_load.specs.declared.faults.LoadFault.TheVariants as loads
 use Rattle.aml_load.specs.declared.methods.Method.{Method}
 use Rattle.aml_load.specs.declared.walking.Progress.{Progress}
-use Rattle.aml_load.specs.Loading.{Listed, plus, methods_of}
-use Rattle.aml_load.specs.Walking.{◌>>=◌, given, space_fault, entry_at, name_at, units_at}
+use Rattle.aml_load.specs.Loading.{Listed, plus, with_uses, methods_of}
+use Rattle.aml_load.specs.Roles.{role_of}
+use Rattle.aml_load.specs.Uses.{kinds_in, parts_uses, rest_uses}
+use Rattle.aml_load.specs.Walking.{◌>>=◌, given, space_fault, entry_at, name_at, units_at, do_as, walk, walk_inside}
 use Rattle.aml_load.specs.Views.{Holds, Fails}
 use Rattle.aml_load.proofs.Steps.{place_again}
 use Rattle.aml_load.proofs.Walks.{methods_more}
@@ -46,6 +58,24 @@ method_held old new l p k b m h s ms is us = record {
   methods = ms ∙ ap (λ xs. xs ++ m ∷ []) h.methods ∙ ap (λ (x : Method). methods_of l.entries ++ x ∷ []) is ∙ sym (methods_more l.entries (declares p k (Some b)));
   uses = us ∙ h.uses;
 }
+
+-- the names of a term more
+pub uses_held : (old new : Progress) (l : Listed) (t : ℕ) (scope : List Seg) (o : ℕ) (ps : Parts) (r : Rest) → Holds old l → new.space ≡ old.space → new.methods.items ≡ old.methods.items
+    → new.uses.items ≡ old.uses.items ++ (parts_uses t scope (kinds_in (row_of o)) ps ++ rest_uses t scope r) → Holds new (with_uses t l scope o ps r)
+uses_held old new l t scope o ps r h s ms us = record {
+  space = subst (λ k. StandsFor k l.entries) (sym s) h.space;
+  methods = ms ∙ h.methods;
+  uses = us ∙ ap (λ us. us ++ (parts_uses t scope (kinds_in (row_of o)) ps ++ rest_uses t scope r)) h.uses;
+}
+
+-- what the walk of an opcode is
+pub walk_op : (t : ℕ) (l : Listed) (scope : List Seg) (node : Node) (o : ℕ) (w : Option PkgWidth) (ps : Vec Part Global) (r : Tail) (role : Role) → node ≡ Op o w ps r → role ≡ role_of o
+    → walk t l scope (node_view node) ≡ do_as role t (with_uses t l scope o (parts_view ps.items) (tail_view r)) scope (parts_view ps.items) (tail_view r) (λ l p. walk_inside t l p (tail_view r))
+unfolding walk
+walk_op t l scope node o w ps r role e is =
+    ap (λ n. walk t l scope (node_view n)) e
+    ∙ ap (walk t l scope) (view-Op o w ps r)
+    ∙ ap (λ k. do_as k t (with_uses t l scope o (parts_view ps.items) (tail_view r)) scope (parts_view ps.items) (tail_view r) (λ l p. walk_inside t l p (tail_view r))) (sym is)
 
 fresh_by : (o : Option Kind) (u : Unit {0}) (e : SpaceFault) → (IsTrue (is_some o) → Ok u ≡ Err e) → o ≡ None
 fresh_by None u e h = refl

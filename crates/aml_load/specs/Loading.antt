@@ -5,7 +5,7 @@ use Rattle.std.specs.FinSet as set
 use Rattle.aml_names.specs.declared.segments.Seg.{Seg}
 use Rattle.aml_names.specs.declared.names.Name.{Name}
 use Rattle.aml_names.specs.Names.{placed}
-use Rattle.aml_code.specs.Tree.{Tree, nothing, named, op, Trees, no_trees, tree_more, child, label, byte, word, dword, qword, text, Parts, no_parts, part_more, Rest, empty, terms, bytes, elements, fields, body}
+use Rattle.aml_code.specs.Tree.{Tree, op, Trees, no_trees, tree_more, label, Parts, part_more, Rest, terms, body}
 use Rattle.aml_code.specs.Declaring.{last_label, last_byte, field_names}
 use Rattle.aml_code.specs.Meaning.{ReadsModule}
 use Rattle.aml_code.specs.Rows.{row_of}
@@ -38,14 +38,8 @@ with_uses t l scope o ps r = record { entries = l.entries; uses = l.uses ++ (par
 
 -- the first part, if it is a name: of an Alias, its source
 abbrev pub first_label : Parts → Option Name
-first_label no_parts = None
 first_label (part_more (label n) ps) = Some n
-first_label (part_more (child t) ps) = None
-first_label (part_more (byte b) ps) = None
-first_label (part_more (word n) ps) = None
-first_label (part_more (dword n) ps) = None
-first_label (part_more (qword n) ps) = None
-first_label (part_more (text s) ps) = None
+first_label _ = None
 
 -- the last byte: a method's flags, an External's number of arguments
 abbrev pub byte_of : Parts → ℕ
@@ -112,19 +106,14 @@ DoesAs roles.Other t l scope ps r Inside m = m ≡ l
 -- Declares t l scope x m: after l, the term x of table t, in this scope, leads to m. Terms go in the order of the text.
 abbrev mutual
   pub Declares : ℕ → Listed → List Seg → Tree → Listed → Type 0
-  Declares t l scope nothing m = m ≡ l
-  Declares t l scope (named n ts) m = m ≡ l
   Declares t l scope (op o w ps r) m =
       DoesAs (role_of o) t (with_uses t l scope o ps r) scope ps r (λ l p m. DeclareInside t l p r m) m
+  Declares t l scope _ m = m ≡ l
 
   -- the terms inside a term
   pub DeclareInside : ℕ → Listed → List Seg → Rest → Listed → Type 0
-  DeclareInside t l scope empty m = m ≡ l
   DeclareInside t l scope (terms ts) m = DeclareAll t l scope ts m
-  DeclareInside t l scope (bytes bs) m = m ≡ l
-  DeclareInside t l scope (elements ts) m = m ≡ l
-  DeclareInside t l scope (fields us) m = m ≡ l
-  DeclareInside t l scope (body start len) m = m ≡ l
+  DeclareInside t l scope _ m = m ≡ l
 
   pub DeclareAll : ℕ → Listed → List Seg → Trees → Listed → Type 0
   DeclareAll t l scope no_trees m = m ≡ l

@@ -7,7 +7,7 @@ use Rattle.aml_code.specs.Opcodes.{Row}
 use Rattle.aml_code.specs.declared.rows.PartKind.{PartKind}
 use Rattle.aml_code.specs.declared.rows.PartKind.TheVariants as kinds
 use Rattle.aml_code.specs.Rows.{row_of}
-use Rattle.aml_code.specs.Tree.{Tree, nothing, named, op, Trees, no_trees, tree_more, OnePart, child, label, byte, word, dword, qword, text, Parts, no_parts, part_more, Rest, empty, terms, bytes, elements, fields, body, OneUnit, unit, reserved, access, connection, extended, Units, no_units, unit_more, Joint, target, buffer}
+use Rattle.aml_code.specs.Tree.{Tree, nothing, named, op, Trees, no_trees, tree_more, OnePart, child, Parts, no_parts, part_more, Rest, elements, fields, OneUnit, connection, Units, no_units, unit_more, Joint, target, buffer}
 
 -- whether a part of this kind is a TermArg
 abbrev pub is_argument : PartKind → Bool
@@ -39,20 +39,12 @@ abbrev mutual
 
   pub part_uses : ℕ → List Seg → Bool → OnePart → List Use
   part_uses tb scope argument (child t) = uses_in tb scope argument t
-  part_uses tb scope argument (label n) = []
-  part_uses tb scope argument (byte b) = []
-  part_uses tb scope argument (word b) = []
-  part_uses tb scope argument (dword b) = []
-  part_uses tb scope argument (qword b) = []
-  part_uses tb scope argument (text s) = []
+  part_uses tb scope argument _ = []
 
   pub rest_uses : ℕ → List Seg → Rest → List Use
-  rest_uses tb scope empty = []
-  rest_uses tb scope (terms ts) = []
-  rest_uses tb scope (bytes bs) = []
   rest_uses tb scope (elements ts) = elements_uses tb scope ts
   rest_uses tb scope (fields us) = units_uses tb scope us
-  rest_uses tb scope (body start len) = []
+  rest_uses tb scope _ = []
 
   pub elements_uses : ℕ → List Seg → Trees → List Use
   elements_uses tb scope no_trees = []
@@ -63,11 +55,8 @@ abbrev mutual
   units_uses tb scope (unit_more u us) = unit_uses tb scope u ++ units_uses tb scope us
 
   pub unit_uses : ℕ → List Seg → OneUnit → List Use
-  unit_uses tb scope (unit s w n) = []
-  unit_uses tb scope (reserved w n) = []
-  unit_uses tb scope (access a b) = []
   unit_uses tb scope (connection l) = joint_uses tb scope l
-  unit_uses tb scope (extended a b c) = []
+  unit_uses tb scope _ = []
 
   pub joint_uses : ℕ → List Seg → Joint → List Use
   joint_uses tb scope (target n) = []

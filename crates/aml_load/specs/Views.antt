@@ -6,7 +6,7 @@ use Rattle.aml_code.specs.declared.tree.Node.{Node}
 use Rattle.aml_code.specs.Tree.{Trees}
 use Rattle.aml_code.specs.Encoding.{slice_of, encodings}
 use Rattle.aml_code.specs.View.{nodes_view}
-use Rattle.aml_space.specs.Known.{StandsFor}
+use Rattle.aml_space.specs.Known.{Known, StandsFor}
 use Rattle.aml_load.specs.declared.faults.LoadFault.{LoadFault}
 use Rattle.aml_load.specs.declared.faults.LoadFault.TheVariants as loads
 use Rattle.aml_load.specs.declared.loading.Loaded.{Loaded}
@@ -57,6 +57,17 @@ Walked new (Err e) walk = Fails e walk
 abbrev pub WalkedTo : {X Y : Type 0} → (X → Y) → Progress → Result X LoadFault → Result (Listed × Y) LoadFault → Type 0
 WalkedTo view new (Ok x) walk = (m : Listed) × Holds new m × (walk ≡ Ok (m, view x))
 WalkedTo view new (Err e) walk = Fails e walk
+
+-- what a function made of the progress before it, whatever that holds
+abbrev pub Walks : {X : Type 0} → Progress → Progress → Result X LoadFault → (Listed → Result Listed LoadFault) → Type 0
+Walks old new answer walk = (l : Listed) → Holds old l → Walked new answer (walk l)
+
+abbrev pub WalksTo : {X Y : Type 0} → (X → Y) → Progress → Progress → Result X LoadFault → (Listed → Result (Listed × Y) LoadFault) → Type 0
+WalksTo view old new answer walk = (l : Listed) → Holds old l → WalkedTo view new answer (walk l)
+
+-- what a function answers of the namespace, whatever that stands for
+abbrev pub GivesIn : {X Y : Type 0} → (X → Y) → Known → Result X LoadFault → (Listed → Result Y LoadFault) → Type 0
+GivesIn view space answer walk = (l : Listed) → StandsFor space l.entries → Gives view answer (walk l)
 
 -- the same, with the trees before what is listed
 abbrev pub TableWalked : {X Y : Type 0} → (X → Y) → Progress → Result X LoadFault → Result (Y × Listed) LoadFault → Type 0

@@ -8,7 +8,7 @@ use Rattle.aml_names.specs.declared.faults.CodeFault.{CodeFault}
 use Rattle.aml_names.specs.declared.faults.CodeFault.TheVariants as codes
 use Rattle.aml_code.specs.declared.rows.Position.TheVariants as positions
 use Rattle.aml_code.specs.Meaning.{no_arguments}
-use Rattle.aml_code.specs.Tree.{Tree, nothing, named, op, Trees, no_trees, tree_more, Parts, Rest, empty, terms, bytes, elements, fields, body}
+use Rattle.aml_code.specs.Tree.{Tree, op, Trees, no_trees, tree_more, Parts, Rest, terms}
 use Rattle.aml_code.specs.Declaring.{last_label, field_names}
 use Rattle.aml_parse.specs.Reading.{all_at}
 use Rattle.aml_space.specs.declared.faults.SpaceFault.{SpaceFault}
@@ -50,17 +50,21 @@ or_fault e (Some x) = Ok x
 unfoldable pub place_at : ℕ → List Seg → Option Name → Result (List Seg) LoadFault
 place_at t scope n = or_fault (loads.Space t faults.AboveRoot) (place_of scope n)
 
+-- the path that a name leads to, or this fault
+abbrev pub led_at : ℕ → List Entry → List Seg → Option Name → SpaceFault → Result (List Seg) LoadFault
+led_at t es scope n missing = or_fault (loads.Space t missing) (lead_of es scope n)
+
 -- the path that a Scope opens, or the fault that its name leads nowhere
 unfoldable pub scope_at : ℕ → List Entry → List Seg → Option Name → Result (List Seg) LoadFault
 scope_at t es scope n = do
   p ← place_at t scope n
-  or_fault (loads.Space t (faults.ScopeMissing p)) (lead_of es scope n)
+  led_at t es scope n (faults.ScopeMissing p)
 
 -- the path that an Alias' source leads to, or the fault that it leads nowhere
 unfoldable pub source_at : ℕ → List Entry → List Seg → Option Name → Result (List Seg) LoadFault
 source_at t es scope n = do
   p ← place_at t scope n
-  or_fault (loads.Space t (faults.AliasMissing p)) (lead_of es scope n)
+  led_at t es scope n (faults.AliasMissing p)
 
 -- an entry that declares a path, once
 unfoldable pub entry_at : ℕ → Listed → List Seg → Entry → Result Listed LoadFault
@@ -121,18 +125,13 @@ do_as roles.Other t l scope ps r inside = Ok l
 
 unfoldable mutual
   pub walk : ℕ → Listed → List Seg → Tree → Result Listed LoadFault
-  walk t l scope nothing = Ok l
-  walk t l scope (named n ts) = Ok l
   walk t l scope (op o w ps r) =
       do_as (role_of o) t (with_uses t l scope o ps r) scope ps r (λ l p. walk_inside t l p r)
+  walk t l scope _ = Ok l
 
   pub walk_inside : ℕ → Listed → List Seg → Rest → Result Listed LoadFault
-  walk_inside t l scope empty = Ok l
   walk_inside t l scope (terms ts) = walk_all t l scope ts
-  walk_inside t l scope (bytes bs) = Ok l
-  walk_inside t l scope (elements ts) = Ok l
-  walk_inside t l scope (fields us) = Ok l
-  walk_inside t l scope (body start len) = Ok l
+  walk_inside t l scope _ = Ok l
 
   pub walk_all : ℕ → Listed → List Seg → Trees → Result Listed LoadFault
   walk_all t l scope no_trees = Ok l

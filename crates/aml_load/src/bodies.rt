@@ -34,7 +34,8 @@ fn read_body(
     unknown_zero: bool,
 ) -> Result<Vec<Node>, LoadFault>
     requires { AreShort (codes_view tables.now) }
-    ensures { (es : List Entry) → StandsFor space.now es → BodyGiven (λ nodes. nodes_view nodes.items) unknown_zero es (codes_view tables.now) method.now result }
+    ensures { (es : List Entry) → StandsFor space.now es →
+        BodyGiven (λ nodes. nodes_view nodes.items) unknown_zero es (codes_view tables.now) method.now result }
 {
     let scope = BodyScope {
         space,
@@ -55,7 +56,8 @@ fn read_methods(
     unknown_zero: bool,
 ) -> Result<Vec<Vec<Node>>, LoadFault>
     requires { AreShort (codes_view tables.now) }
-    ensures { (es : List Entry) → StandsFor space.now es → BodiesGiven (λ x. trees_view x.items) unknown_zero es (codes_view tables.now) methods.now result }
+    ensures { (es : List Entry) → StandsFor space.now es →
+        BodiesGiven (λ x. trees_view x.items) unknown_zero es (codes_view tables.now) methods.now result }
 {
     let mut bodies = Vec::new(alloc);
     for method in methods {
@@ -80,12 +82,21 @@ pub fn read_bodies(
     requires { AreShort (codes_view loaded.now.tables.items) }
 
     // Each body reads as its terms.
-    ensures sound { (es : List Entry) → StandsFor loaded.now.space es → IfOk result (λ bodies. AreBodies unknown_zero es (codes_view loaded.now.tables.items) loaded.now.methods.items (trees_view bodies.items)) }
+    ensures sound { (es : List Entry) → StandsFor loaded.now.space es →
+        IfOk result (λ bodies. AreBodies unknown_zero es (codes_view loaded.now.tables.items)
+            loaded.now.methods.items (trees_view bodies.items)) }
     // As no others.
-    ensures one { (es : List Entry) → StandsFor loaded.now.space es → IfOk result (λ bodies. (bs : List Trees) → AreBodies unknown_zero es (codes_view loaded.now.tables.items) loaded.now.methods.items bs → bs ≡ trees_view bodies.items) }
+    ensures one { (es : List Entry) → StandsFor loaded.now.space es →
+        IfOk result (λ bodies. (bs : List Trees) →
+            AreBodies unknown_zero es (codes_view loaded.now.tables.items) loaded.now.methods.items bs →
+            bs ≡ trees_view bodies.items) }
     // A refusal for another cause than memory comes only where a body reads as no terms, and it is true of that body.
-    ensures complete { (es : List Entry) → StandsFor loaded.now.space es → IfErr result (λ e. (e ≡ LoadFault.NoMemory) ⊎ ((bs : List Trees) → AreBodies unknown_zero es (codes_view loaded.now.tables.items) loaded.now.methods.items bs → ⊥)) }
-    ensures true_fault { (es : List Entry) → StandsFor loaded.now.space es → IfErr result (λ e. (e ≡ LoadFault.NoMemory) ⊎ LacksBody unknown_zero es (codes_view loaded.now.tables.items) loaded.now.methods.items e) }
+    ensures complete { (es : List Entry) → StandsFor loaded.now.space es →
+        IfErr result (λ e. (e ≡ LoadFault.NoMemory) ⊎ ((bs : List Trees) →
+            AreBodies unknown_zero es (codes_view loaded.now.tables.items) loaded.now.methods.items bs → ⊥)) }
+    ensures true_fault { (es : List Entry) → StandsFor loaded.now.space es →
+        IfErr result (λ e. (e ≡ LoadFault.NoMemory) ⊎
+            LacksBody unknown_zero es (codes_view loaded.now.tables.items) loaded.now.methods.items e) }
 {
     read_methods(
         alloc,

@@ -11,7 +11,8 @@ ghost use Rattle.aml_load.specs.Views.{codes_view, trees_view, AreShort, IsCode,
 
 use crate::faults::LoadFault;
 use crate::methods::{Method, Use};
-use crate::walking::{Progress, walk_all};
+use crate::uses::Site;
+use crate::walking::Progress;
 use aml_code::{Locals, NoMemory, Node, Path, encode_terms, slice};
 use aml_names::Arity;
 use aml_parse::parse_module;
@@ -34,34 +35,32 @@ pub struct Loaded<'a> {
 /// Reads a table, and declares what it declares.
 #[tactic(auto, unfolding(crate::specs::Walking::table_at))]
 fn load_table(
-    alloc: Global,
     progress: &mut Progress,
     table: usize,
     code: &[u8],
 ) -> Result<Vec<Node>, LoadFault>
     requires { length code.now ≤ 16777216 }
-    ensures { (l : Listed) → Holds progress.old l → TableWalked (λ x. nodes_view x.items) progress.new result (table_at table l code.now) }
+    ensures { (l : Listed) → Holds progress.old l →
+        TableWalked (λ x. nodes_view x.items) progress.new result (table_at table l code.now) }
 {
-    let terms = match parse_module(alloc, code) {
+    let terms = match parse_module(progress.alloc, code) {
         Ok(terms) => terms,
         Err(fault) => return Err(LoadFault::in_code(table, fault)),
     };
-    walk_all(alloc, progress, table, &Path::root(alloc), terms.as_slice())?;
+    let root = Path::root(progress.alloc);
+    progress.walk_all(&Site { table, scope: &root }, terms.as_slice())?;
     Ok(terms)
 }
 
 #[tactic(auto, unfolding(crate::specs::Walking::tables_at))]
-fn load_tables(
-    alloc: Global,
-    progress: &mut Progress,
-    tables: &[&[u8]],
-) -> Result<Vec<Vec<Node>>, LoadFault>
+fn load_tables(progress: &mut Progress, tables: &[&[u8]]) -> Result<Vec<Vec<Node>>, LoadFault>
     requires { AreShort (codes_view tables.now) }
-    ensures { (l : Listed) → Holds progress.old l → TableWalked (λ x. trees_view x.items) progress.new result (tables_at 0 [] l (codes_view tables.now)) }
+    ensures { (l : Listed) → Holds progress.old l →
+        TableWalked (λ x. trees_view x.items) progress.new result (tables_at 0 [] l (codes_view tables.now)) }
 {
-    let mut trees = Vec::new(alloc);
+    let mut trees = Vec::new(progress.alloc);
     for table in 0..tables.len() {
-        let terms = load_table(alloc, progress, table, tables[table])?;
+        let terms = load_table(progress, table, tables[table])?;
         trees.push(terms)?;
     }
     Ok(trees)
@@ -69,7 +68,8 @@ fn load_tables(
 
 /// How many arguments a name takes that stands as a TermArg outside the methods.
 fn count_of(alloc: Global, space: &Space, used: &Use) -> Result<u8, NoMemory>
-    ensures { (l : Listed) → StandsFor space.now l.entries → IfOk result (λ n. n ≡ unwrap_or (use_count l.entries used.now) 0) }
+    ensures { (l : Listed) → StandsFor space.now l.entries →
+        IfOk result (λ n. n ≡ unwrap_or (use_count l.entries used.now) 0) }
 {
     let scope = BodyScope {
         space,
@@ -101,11 +101,12 @@ fn load_whole<'a>(alloc: Global, tables: &[&'a [u8]]) -> Result<Loaded<'a>, Load
     let mut kept = Vec::new(alloc);
     kept.extend_from_slice(tables)?;
     let mut progress = Progress {
+        alloc,
         space: Space::new(alloc)?,
         methods: Vec::new(alloc),
         uses: Vec::new(alloc),
     };
-    let trees = load_tables(alloc, &mut progress, tables)?;
+    let trees = load_tables(&mut progress, tables)?;
     check_uses(alloc, &progress.space, progress.uses.as_slice())?;
     Ok(Loaded {
         tables: kept,
@@ -140,11 +141,14 @@ pub fn load<'a>(alloc: Global, tables: &[&'a [u8]]) -> Result<Loaded<'a>, LoadFa
     requires { AreShort (codes_view tables.now) }
 
     // The tables' AML reads as the trees, and these load to entries whose namespace and methods are the answer's.
-    ensures sound { IfOk result (λ x. (trees : List Trees) × (m : Listed) × IsLoad (codes_view tables.now) trees m × HoldsLoad x (codes_view tables.now) trees m) }
+    ensures sound { IfOk result (λ x. (trees : List Trees) × (m : Listed) × IsLoad (codes_view tables.now) trees m ×
+        HoldsLoad x (codes_view tables.now) trees m) }
     // To nothing else.
-    ensures one { IfOk result (λ x. (trees : List Trees) (m : Listed) → IsLoad (codes_view tables.now) trees m → HoldsLoad x (codes_view tables.now) trees m) }
+    ensures one { IfOk result (λ x. (trees : List Trees) (m : Listed) → IsLoad (codes_view tables.now) trees m →
+        HoldsLoad x (codes_view tables.now) trees m) }
     // A refusal for another cause than memory comes only where there are no trees and entries that load.
-    ensures complete { IfErr result (λ e. (e ≡ LoadFault.NoMemory) ⊎ ((trees : List Trees) (m : Listed) → IsLoad (codes_view tables.now) trees m → ⊥)) }
+    ensures complete { IfErr result (λ e. (e ≡ LoadFault.NoMemory) ⊎
+        ((trees : List Trees) (m : Listed) → IsLoad (codes_view tables.now) trees m → ⊥)) }
     // A fault is true of its table and of the entries where it stands.
     ensures true_fault { IfErr result (λ e. (e ≡ LoadFault.NoMemory) ⊎ StopsLoad (codes_view tables.now) e) }
 {

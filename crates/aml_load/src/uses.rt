@@ -8,9 +8,9 @@ use crate::methods::Use;
 use aml_code::{Field, Link, NoMemory, Node, Part, PartKind, Tail, listed_row};
 use aml_names::{Name, Path};
 
-/// Where uses are found.
+/// Where a term stands: the table, by its place in load order from 0 on, and the scope.
 #[derive(Drop)]
-pub struct Around<'a> {
+pub struct Site<'a> {
     pub table: usize,
     pub scope: &'a Path,
 }
@@ -31,13 +31,14 @@ fn kinds_of(opcode: u16) -> &'static [PartKind]
     }
 }
 
-fn add_use(around: &Around<'_>, name: &Name, uses: &mut Vec<Use>) -> Result<(), NoMemory>
-    ensures { OnOk result (uses.new.items ≡ uses.old.items ++ use_of around.now.table around.now.scope.now name.now ∷ []) }
+fn add_use(site: &Site<'_>, name: &Name, uses: &mut Vec<Use>) -> Result<(), NoMemory>
+    ensures { OnOk result (uses.new.items ≡ uses.old.items ++
+        use_of site.now.table site.now.scope.now name.now ∷ []) }
 {
-    let scope = around.scope.clone()?;
+    let scope = site.scope.clone()?;
     let name = name.clone()?;
     uses.push(Use {
-        table: around.table,
+        table: site.table,
         scope,
         name,
     })?;
@@ -47,18 +48,19 @@ fn add_use(around: &Around<'_>, name: &Name, uses: &mut Vec<Use>) -> Result<(), 
 /// Adds the names of a node, which itself is a TermArg or isn't.
 #[cycle(uses)]
 fn add_node(
-    around: &Around<'_>,
+    site: &Site<'_>,
     argument: bool,
     node: &Node,
     uses: &mut Vec<Use>,
 ) -> Result<(), NoMemory>
-    ensures { OnOk result (uses.new.items ≡ uses.old.items ++ (uses_in around.now.table around.now.scope.now argument (node_view node.now))) }
+    ensures { OnOk result (uses.new.items ≡ uses.old.items ++
+        (uses_in site.now.table site.now.scope.now argument (node_view node.now))) }
 {
     match node {
         Node::Nothing => Ok(()),
         Node::Named { name, .. } => {
             if argument {
-                add_use(around, name, uses)
+                add_use(site, name, uses)
             } else {
                 Ok(())
             }
@@ -69,48 +71,45 @@ fn add_node(
             tail,
             ..
         } => {
-            add_parts(around, kinds_of(*opcode), parts.as_slice(), uses)?;
-            add_tail(around, tail, uses)
+            add_parts(site, kinds_of(*opcode), parts.as_slice(), uses)?;
+            add_tail(site, tail, uses)
         }
     }
 }
 
 #[cycle(uses)]
 fn add_part(
-    around: &Around<'_>,
+    site: &Site<'_>,
     argument: bool,
     part: &Part,
     uses: &mut Vec<Use>,
 ) -> Result<(), NoMemory>
-    ensures { OnOk result (uses.new.items ≡ uses.old.items ++ (part_uses around.now.table around.now.scope.now argument (part_view part.now))) }
+    ensures { OnOk result (uses.new.items ≡ uses.old.items ++
+        (part_uses site.now.table site.now.scope.now argument (part_view part.now))) }
 {
     match part {
-        Part::Child(node) => add_node(around, argument, node, uses),
-        Part::Label(_) => Ok(()),
-        Part::Byte(_) => Ok(()),
-        Part::Word(_) => Ok(()),
-        Part::Dword(_) => Ok(()),
-        Part::Qword(_) => Ok(()),
-        Part::Text(_) => Ok(()),
+        Part::Child(node) => add_node(site, argument, node, uses),
+        _ => Ok(()),
     }
 }
 
 /// Adds the names of the parts of an opcode, outside the terms behind them.
 #[cycle(uses)]
-pub fn add_parts(
-    around: &Around<'_>,
+fn add_parts(
+    site: &Site<'_>,
     kinds: &[PartKind],
     parts: &[Part],
     uses: &mut Vec<Use>,
 ) -> Result<(), NoMemory>
-    ensures { OnOk result (uses.new.items ≡ uses.old.items ++ (parts_uses around.now.table around.now.scope.now kinds.now (parts_view parts.now))) }
+    ensures { OnOk result (uses.new.items ≡ uses.old.items ++
+        (parts_uses site.now.table site.now.scope.now kinds.now (parts_view parts.now))) }
 {
     let mut left = kinds;
     for part in parts {
         match left {
             [] => return Ok(()),
             [kind, behind @ ..] => {
-                add_part(around, is_argument(*kind), part, uses)?;
+                add_part(site, is_argument(*kind), part, uses)?;
                 left = behind;
             }
         }
@@ -119,72 +118,73 @@ pub fn add_parts(
 }
 
 #[cycle(uses)]
-pub fn add_tail(around: &Around<'_>, tail: &Tail, uses: &mut Vec<Use>) -> Result<(), NoMemory>
-    ensures { OnOk result (uses.new.items ≡ uses.old.items ++ (rest_uses around.now.table around.now.scope.now (tail_view tail.now))) }
+fn add_tail(site: &Site<'_>, tail: &Tail, uses: &mut Vec<Use>) -> Result<(), NoMemory>
+    ensures { OnOk result (uses.new.items ≡ uses.old.items ++
+        (rest_uses site.now.table site.now.scope.now (tail_view tail.now))) }
 {
     match tail {
-        Tail::Empty => Ok(()),
-        Tail::Terms(_) => Ok(()),
-        Tail::Bytes(_) => Ok(()),
-        Tail::Elements(nodes) => add_elements(around, nodes.as_slice(), uses),
-        Tail::Fields(fields) => add_fields(around, fields.as_slice(), uses),
-        Tail::Body { .. } => Ok(()),
+        Tail::Elements(nodes) => add_elements(site, nodes.as_slice(), uses),
+        Tail::Fields(fields) => add_fields(site, fields.as_slice(), uses),
+        _ => Ok(()),
     }
 }
 
 #[cycle(uses)]
-fn add_elements(around: &Around<'_>, nodes: &[Node], uses: &mut Vec<Use>) -> Result<(), NoMemory>
-    ensures { OnOk result (uses.new.items ≡ uses.old.items ++ (elements_uses around.now.table around.now.scope.now (nodes_view nodes.now))) }
+fn add_elements(site: &Site<'_>, nodes: &[Node], uses: &mut Vec<Use>) -> Result<(), NoMemory>
+    ensures { OnOk result (uses.new.items ≡ uses.old.items ++
+        (elements_uses site.now.table site.now.scope.now (nodes_view nodes.now))) }
 {
     for node in nodes {
-        add_node(around, false, node, uses)?;
+        add_node(site, false, node, uses)?;
     }
     Ok(())
 }
 
 #[cycle(uses)]
-fn add_fields(around: &Around<'_>, fields: &[Field], uses: &mut Vec<Use>) -> Result<(), NoMemory>
-    ensures { OnOk result (uses.new.items ≡ uses.old.items ++ (units_uses around.now.table around.now.scope.now (fields_view fields.now))) }
+fn add_fields(site: &Site<'_>, fields: &[Field], uses: &mut Vec<Use>) -> Result<(), NoMemory>
+    ensures { OnOk result (uses.new.items ≡ uses.old.items ++
+        (units_uses site.now.table site.now.scope.now (fields_view fields.now))) }
 {
     for field in fields {
-        add_field(around, field, uses)?;
+        add_field(site, field, uses)?;
     }
     Ok(())
 }
 
 #[cycle(uses)]
-fn add_field(around: &Around<'_>, field: &Field, uses: &mut Vec<Use>) -> Result<(), NoMemory>
-    ensures { OnOk result (uses.new.items ≡ uses.old.items ++ (unit_uses around.now.table around.now.scope.now (field_view field.now))) }
+fn add_field(site: &Site<'_>, field: &Field, uses: &mut Vec<Use>) -> Result<(), NoMemory>
+    ensures { OnOk result (uses.new.items ≡ uses.old.items ++
+        (unit_uses site.now.table site.now.scope.now (field_view field.now))) }
 {
     match field {
-        Field::NamedUnit { .. } => Ok(()),
-        Field::Reserved { .. } => Ok(()),
-        Field::Access(_, _) => Ok(()),
-        Field::Connection(link) => add_link(around, link, uses),
-        Field::Extended(_, _, _) => Ok(()),
+        Field::Connection(link) => add_link(site, link, uses),
+        _ => Ok(()),
     }
 }
 
 #[cycle(uses)]
-fn add_link(around: &Around<'_>, link: &Link, uses: &mut Vec<Use>) -> Result<(), NoMemory>
-    ensures { OnOk result (uses.new.items ≡ uses.old.items ++ (joint_uses around.now.table around.now.scope.now (link_view link.now))) }
+fn add_link(site: &Site<'_>, link: &Link, uses: &mut Vec<Use>) -> Result<(), NoMemory>
+    ensures { OnOk result (uses.new.items ≡ uses.old.items ++
+        (joint_uses site.now.table site.now.scope.now (link_view link.now))) }
 {
     match link {
         Link::Target(_) => Ok(()),
-        Link::Buffer(node) => add_node(around, false, node, uses),
+        Link::Buffer(node) => add_node(site, false, node, uses),
     }
 }
 
 /// Adds the names that stand as TermArgs in a term, outside the terms inside it.
 pub fn add_names(
-    around: &Around<'_>,
+    site: &Site<'_>,
     opcode: u16,
     parts: &[Part],
     tail: &Tail,
     uses: &mut Vec<Use>,
 ) -> Result<(), NoMemory>
-    ensures { OnOk result (uses.new.items ≡ uses.old.items ++ (parts_uses around.now.table around.now.scope.now (kinds_in (row_of opcode)) (parts_view parts.now) ++ rest_uses around.now.table around.now.scope.now (tail_view tail.now))) }
+    ensures { OnOk result (uses.new.items ≡ uses.old.items ++
+        (parts_uses site.now.table site.now.scope.now (kinds_in (row_of opcode)) (parts_view parts.now) ++
+            rest_uses site.now.table site.now.scope.now (tail_view tail.now))) }
 {
-    add_parts(around, kinds_of(opcode), parts, uses)?;
-    add_tail(around, tail, uses)
+    add_parts(site, kinds_of(opcode), parts, uses)?;
+    add_tail(site, tail, uses)
 }

@@ -28,7 +28,7 @@ use Rattle.aml_code.specs.Lawful.{HasWidth, IsGuarded, is_guard, terms_in, next_
 use Rattle.aml_code.specs.Meaning.{setting_of, BodyStands, BodiesStand, RestStands}
 use Rattle.aml_code.proofs.LengthLaws.{span_again, length-package_bytes}
 use Rattle.aml_code.proofs.RowFacts.{row_opcode, row_is_opcode, lead_of, row_apart, target_opcode, opcode_lead}
-use Rattle.aml_parse.specs.Reading.{Reader, flat, byte_part, count_part, word_part, dword_part, qword_part, text_part, any_name_part, name_part, child_at, part_at, parts_at, arguments_at, terms_at, named_unit, reserved_unit, access_unit, extended_unit, named_joint, buffer_at, joint_at, connection_at, unit_at, units_at, wanted, known, call_at, takes_names, name_term_at, refusal, guard_at, body_to, tail_at, plain_at, packed_at, row_at, by_row, operation_at, is_none, term_at}
+use Rattle.aml_parse.specs.Reading.{Reader, flat, byte_part, count_part, word_part, dword_part, qword_part, text_part, any_name_part, name_part, child_at, part_at, parts_at, arguments_at, terms_at, named_unit, reserved_unit, access_unit, extended_unit, named_joint, buffer_at, joint_at, connection_at, unit_at, units_at, wanted, known, call_at, takes_names, name_term_at, refusal, guard_at, body_to, tail_at, plain_at, packed_at, row_at, by_row, operation_at, is_absent_target, term_at}
 use Rattle.aml_parse.proofs.FlatLaws.{byte_again, count_again, word_again, dword_again, qword_again, text_again, segmented_again, labelled_again, any_name_again, opcode_again}
 use Rattle.aml_parse.proofs.UnitLaws.{apart, named_unit_again, reserved_again, access_again, extended_again}
 use Rattle.aml_parse.proofs.Leads.{empty_rest, guard_again}
@@ -252,7 +252,7 @@ unfolding term_at name_term_at
 term_name arity scope read p end ls lead behind h g = rw (h, g) refl
 
 -- other bytes
-term_opcode : (arity : Arities) (scope : Option (List Seg)) (read : Position → Reader Tree) (p : Position) (end : ℕ) (ls : PathSet) (lead : ℕ) (behind : List ℕ) → is_name_lead lead ≡ false → is_none p lead ≡ false
+term_opcode : (arity : Arities) (scope : Option (List Seg)) (read : Position → Reader Tree) (p : Position) (end : ℕ) (ls : PathSet) (lead : ℕ) (behind : List ℕ) → is_name_lead lead ≡ false → is_absent_target p lead ≡ false
     → term_at arity scope read p end ls (lead ∷ behind) ≡ operation_at scope read p end ls (lead ∷ behind)
 unfolding term_at name_term_at
 term_opcode arity scope read p end ls lead behind h g = rw (h, g) refl
@@ -305,7 +305,7 @@ tail_again arity scope code levels read law p _ at end ls _ h some stands place 
 
 -- ---- opcodes
 
-taken_target : (p : Position) (o : ℕ) (row : Row) → row_of o ≡ Some row → takes p row.place ≡ true → is_none p (lead_of o) ≡ false
+taken_target : (p : Position) (o : ℕ) (row : Row) → row_of o ≡ Some row → takes p row.place ≡ true → is_absent_target p (lead_of o) ≡ false
 taken_target positions.ModuleTerm o row listed taken = refl
 taken_target positions.GuardTerm o row listed taken = refl
 taken_target positions.BodyTerm o row listed taken = refl

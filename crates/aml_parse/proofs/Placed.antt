@@ -33,7 +33,7 @@ use Rattle.aml_code.specs.Lawful.{is_if_place, is_guard, terms_in, next_position
 use Rattle.aml_code.proofs.LengthLaws.{length_fault, span_takes, span_fault}
 use Rattle.aml_code.proofs.RowFacts.{guard_place, opcode_some}
 use Rattle.aml_code.proofs.Within.{Within, onward, inward, text_there, byte_there, truncated_placed, offset_is, length_placed, past_placed, name_placed}
-use Rattle.aml_parse.specs.Reading.{Reader, flat, byte_part, count_part, word_part, dword_part, qword_part, text_part, any_name_part, segmented_at, name_part, child_at, part_at, parts_at, arguments_at, terms_at, named_unit, reserved_unit, access_unit, extended_unit, named_joint, buffer_at, joint_at, connection_at, unit_at, units_at, wanted, known, call_at, takes_names, name_term_at, opcode_at, refused_in_body, refusal, guard_at, tail_at, plain_at, packed_at, row_at, by_row, operation_at, is_none, term_at}
+use Rattle.aml_parse.specs.Reading.{Reader, flat, byte_part, count_part, word_part, dword_part, qword_part, text_part, any_name_part, segmented_at, name_part, child_at, part_at, parts_at, arguments_at, terms_at, named_unit, reserved_unit, access_unit, extended_unit, named_joint, buffer_at, joint_at, connection_at, unit_at, units_at, wanted, known, call_at, takes_names, name_term_at, opcode_at, refused_in_body, refusal, guard_at, tail_at, plain_at, packed_at, row_at, by_row, operation_at, is_absent_target, term_at}
 use Rattle.aml_parse.proofs.FlatLaws.{number_fault, count_fault, text_fault, any_name_fault, segmented_fault, opcode_takes, opcode_fault}
 use Rattle.aml_parse.proofs.UnitLaws.{reserved_fault, access_fault, extended_fault}
 use Rattle.aml_parse.proofs.Leads.{guard_fault}
@@ -354,9 +354,9 @@ term_placed arity scope code levels read law placer p at end ls (lead ∷ behind
     let P : Type 0 = StandsAt arity code d in
     let none : Result (Tree × PathSet × List ℕ) CodeFault = Ok (nothing, ls, behind) in
     let refused : Result (Tree × PathSet × List ℕ) CodeFault = Err (faults.ModuleCode (end - length bs)) in
-    cond_then P (is_name_lead lead) (cond (takes_names p) (call_at arity read p end ls bs) refused) (cond (is_none p lead) none (operation_at scope read p end ls bs)) (Err d) e
+    cond_then P (is_name_lead lead) (cond (takes_names p) (call_at arity read p end ls bs) refused) (cond (is_absent_target p lead) none (operation_at scope read p end ls bs)) (Err d) e
     (λ is_lead q. cond_then P (takes_names p) (call_at arity read p end ls bs) refused (Err d) q
     (λ inner r. call_placed arity scope code levels read law placer p at end ls bs d w deep inner r)
     (λ outer r. at_offset arity code at end bs d (λ n. faults.ModuleCode n) w (inl (lead, byte_there code at end lead behind w, is_lead)) (sym (err_is {A = Tree × PathSet × List ℕ} (faults.ModuleCode (end - length bs)) d r))))
-    (λ other q. cond_then P (is_none p lead) none (operation_at scope read p end ls bs) (Err d) q (λ nought r. absurd cc)
+    (λ other q. cond_then P (is_absent_target p lead) none (operation_at scope read p end ls bs) (Err d) q (λ nought r. absurd cc)
     (λ more r. operation_placed arity scope code levels read law placer p at end ls bs d w deep r))

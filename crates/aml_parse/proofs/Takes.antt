@@ -32,7 +32,7 @@ use Rattle.aml_code.specs.Meaning.{setting_of, RestStands}
 use Rattle.aml_code.proofs.LengthLaws.{span_takes}
 use Rattle.aml_code.proofs.RowFacts.{row_opcode, if_parts, if_has_length, guard_place}
 use Rattle.aml_code.proofs.Within.{Within, onward, inward, slice_there, span_inside, offset_is}
-use Rattle.aml_parse.specs.Reading.{Reader, flat, child_at, part_at, parts_at, arguments_at, terms_at, segmented_at, named_unit, reserved_unit, access_unit, extended_unit, named_joint, buffer_at, joint_at, connection_at, unit_at, units_at, wanted, known, call_at, takes_names, name_term_at, opcode_at, refusal, guard_at, body_to, tail_at, plain_at, packed_at, row_at, by_row, operation_at, is_none, term_at}
+use Rattle.aml_parse.specs.Reading.{Reader, flat, child_at, part_at, parts_at, arguments_at, terms_at, segmented_at, named_unit, reserved_unit, access_unit, extended_unit, named_joint, buffer_at, joint_at, connection_at, unit_at, units_at, wanted, known, call_at, takes_names, name_term_at, opcode_at, refusal, guard_at, body_to, tail_at, plain_at, packed_at, row_at, by_row, operation_at, is_absent_target, term_at}
 use Rattle.aml_parse.proofs.FlatLaws.{TookFlat, byte_took, count_took, word_took, dword_took, qword_took, text_took, segmented_takes, name_took, any_name_took, opcode_takes}
 use Rattle.aml_parse.proofs.UnitLaws.{TookUnit, behind_lead, named_took, reserved_took, access_took, extended_took}
 use Rattle.aml_parse.proofs.Leads.{led_by, is_buffer, guard_holds, not_guarded}
@@ -365,7 +365,7 @@ operation_take arity scope code levels read law p at end ls bs x w e =
 
 -- ---- terms
 
-is_target : (p : Position) (lead : ℕ) → is_none p lead ≡ true → (p ≡ positions.Target) × (lead ≡ 0)
+is_target : (p : Position) (lead : ℕ) → is_absent_target p lead ≡ true → (p ≡ positions.Target) × (lead ≡ 0)
 is_target positions.ModuleTerm lead h = absurd cc
 is_target positions.GuardTerm lead h = absurd cc
 is_target positions.BodyTerm lead h = absurd cc
@@ -382,11 +382,11 @@ term_take arity scope code levels read law p at end ls (lead ∷ behind) x w e =
     let bs : List ℕ = lead ∷ behind in
     let P : Type 0 = Took arity scope code (suc levels) p ls at bs x in
     let none : Result (Tree × PathSet × List ℕ) CodeFault = Ok (nothing, ls, behind) in
-    cond_then P (is_name_lead lead) (cond (takes_names p) (call_at arity read p end ls bs) (Err (faults.ModuleCode (end - length bs)))) (cond (is_none p lead) none (operation_at scope read p end ls bs)) (Ok x) e
+    cond_then P (is_name_lead lead) (cond (takes_names p) (call_at arity read p end ls bs) (Err (faults.ModuleCode (end - length bs)))) (cond (is_absent_target p lead) none (operation_at scope read p end ls bs)) (Ok x) e
     (λ is_lead q.
     let g = chosen_ok (takes_names p) (faults.ModuleCode (end - length bs)) (call_at arity read p end ls bs) x q in
     call_take arity scope code levels read law p at end ls lead behind x w is_lead g.1)
-    (λ other q. cond_then P (is_none p lead) none (operation_at scope read p end ls bs) (Ok x) q
+    (λ other q. cond_then P (is_absent_target p lead) none (operation_at scope read p end ls bs) (Ok x) q
     (λ nought r.
     let t = is_target p lead nought in
     let taken : Takes bs (0x00 ∷ []) behind = record { parts = ap (λ (n : ℕ). n ∷ behind) t.1; rest_fits = λ i. w.fits (suc i) } in

@@ -322,16 +322,16 @@ operation_at scope read p end ls bytes = do
   by_row (row_of o.0) scope read p (end - length bytes) end ls o.1
 
 -- 00 where a target is wanted
-abbrev pub is_none : Position → ℕ → Bool
-is_none positions.Target lead = lead == 0x00
-is_none _ lead = false
+abbrev pub is_absent_target : Position → ℕ → Bool
+is_absent_target positions.Target lead = lead == 0x00
+is_absent_target _ lead = false
 
 -- a term, with what is inside it read by another reader
 unfoldable pub term_at : Arities → Option (List Seg) → (Position → Reader Tree) → Position → Reader Tree
 term_at arity scope read p end ls bytes = do
   lead ← byte_at end bytes
   if is_name_lead lead.0 then name_term_at arity read p end ls bytes else
-      if is_none p lead.0 then Ok (nothing, ls, lead.1) else
+      if is_absent_target p lead.0 then Ok (nothing, ls, lead.1) else
       operation_at scope read p end ls bytes
 
 -- no level is left

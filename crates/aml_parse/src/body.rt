@@ -21,7 +21,8 @@ fn body_terms<A: Arity>(
     scope: &Path,
 ) -> Result<Vec<Node>, CodeFault>
     requires { length code.now < 2 ^ 32 }
-    ensures { Gives (λ x. nodes_view x.items) result (all_at (A.arity arity.now) (Some scope.now) Position.BodyTerm code.now) }
+    ensures { Gives (λ x. nodes_view x.items) result
+        (all_at (A.arity arity.now) (Some scope.now) Position.BodyTerm code.now) }
 {
     let context = Context {
         alloc,
@@ -56,13 +57,16 @@ pub fn parse_body<A: Arity>(
     // What is answered is lawful, and its bytes are the code.
     ensures sound { IfOk result (λ nodes. ReadsBody (A.arity arity.now) scope.now code.now (nodes_view nodes.items)) }
     // No other terms are.
-    ensures one { IfOk result (λ nodes. (ts : Trees) → ReadsBody (A.arity arity.now) scope.now code.now ts → ts ≡ nodes_view nodes.items) }
+    ensures one { IfOk result (λ nodes. (ts : Trees) → ReadsBody (A.arity arity.now) scope.now code.now ts →
+        ts ≡ nodes_view nodes.items) }
     // A refusal for another cause than memory comes only where no terms are.
-    ensures complete { IfErr result (λ fault. (fault ≡ CodeFault.NoMemory) ⊎ ((ts : Trees) → ReadsBody (A.arity arity.now) scope.now code.now ts → ⊥)) }
+    ensures complete { IfErr result (λ fault. (fault ≡ CodeFault.NoMemory) ⊎
+        ((ts : Trees) → ReadsBody (A.arity arity.now) scope.now code.now ts → ⊥)) }
     // A fault is true of its offset.
     ensures placed { IfErr result (StandsAt (A.arity arity.now) code.now) }
     // Which fault it is.
-    ensures forward { Gives (λ nodes. nodes_view nodes.items) result (all_at (A.arity arity.now) (Some scope.now) Position.BodyTerm code.now) }
+    ensures forward { Gives (λ nodes. nodes_view nodes.items) result
+        (all_at (A.arity arity.now) (Some scope.now) Position.BodyTerm code.now) }
 {
     body_terms(alloc, code, arity, scope)
 }

@@ -32,7 +32,8 @@ impl<'a, A: Arity> Context<'a, A> {
         locals: &Locals,
         name: &Name,
     ) -> Result<u8, CodeFault>
-        ensures { Gives (λ n. n) result (known at (wanted (A.arity self.now.arity.now) position locals.now name.now)) }
+        ensures { Gives (λ n. n) result (known at
+            (wanted (A.arity self.now.arity.now) position locals.now name.now)) }
     {
         match position {
             Position::Target | Position::Data => Ok(0),
@@ -54,7 +55,8 @@ impl<'a, A: Arity> Context<'a, A> {
         tail: &Tail,
         locals: &mut Locals,
     ) -> Result<(), NoMemory>
-        ensures { OnOk result (locals.new ≡ with_declared (scope_of self.now.scope) locals.old (names_declared role (parts_view parts.now) (tail_view tail.now))) }
+        ensures { OnOk result (locals.new ≡ with_declared (scope_of self.now.scope) locals.old
+            (names_declared role (parts_view parts.now) (tail_view tail.now))) }
     {
         match self.scope {
             None => Ok(()),
@@ -72,7 +74,8 @@ fn declare_in(
     tail: &Tail,
     locals: &mut Locals,
 ) -> Result<(), NoMemory>
-    ensures { OnOk result (locals.new ≡ with_names scope.now locals.old (names_declared role (parts_view parts.now) (tail_view tail.now))) }
+    ensures { OnOk result (locals.new ≡ with_names scope.now locals.old
+        (names_declared role (parts_view parts.now) (tail_view tail.now))) }
 {
     match role {
         Role::Declares(_) | Role::Method | Role::Alias => {
@@ -90,7 +93,8 @@ fn declare_last(
     parts: &[Part],
     locals: &mut Locals,
 ) -> Result<(), NoMemory>
-    ensures { OnOk result (locals.new ≡ with_names scope.now locals.old (listed (last_label None (parts_view parts.now)))) }
+    ensures { OnOk result (locals.new ≡ with_names scope.now locals.old
+        (listed (last_label None (parts_view parts.now)))) }
 {
     match last_name(parts) {
         None => Ok(()),
@@ -124,11 +128,7 @@ fn declare_units(
 {
     match tail {
         Tail::Fields(fields) => declare_fields(alloc, scope, fields.as_slice(), locals),
-        Tail::Empty => Ok(()),
-        Tail::Terms(_) => Ok(()),
-        Tail::Bytes(_) => Ok(()),
-        Tail::Elements(_) => Ok(()),
-        Tail::Body { .. } => Ok(()),
+        _ => Ok(()),
     }
 }
 
@@ -153,7 +153,8 @@ fn declare_field(
     field: &Field,
     locals: &mut Locals,
 ) -> Result<(), NoMemory>
-    ensures { OnOk result (locals.new ≡ with_names scope.now locals.old (unit_names (unit_more (field_view field.now) no_units))) }
+    ensures { OnOk result (locals.new ≡ with_names scope.now locals.old
+        (unit_names (unit_more (field_view field.now) no_units))) }
 {
     match field {
         Field::NamedUnit { seg, .. } => {
@@ -167,9 +168,6 @@ fn declare_field(
             };
             declare_name(alloc, scope, &name, locals)
         }
-        Field::Reserved { .. } => Ok(()),
-        Field::Access(_, _) => Ok(()),
-        Field::Connection(_) => Ok(()),
-        Field::Extended(_, _, _) => Ok(()),
+        _ => Ok(()),
     }
 }

@@ -8,6 +8,7 @@ use aml_code::{Bytes, CodeFault, Name, Part, little_of, offset_of};
 use aml_names::name_of;
 use std::alloc::Global;
 
+/// A number of one byte.
 pub fn byte_part_of(end: u32, bytes: &[u8]) -> Result<(Part, &[u8]), CodeFault>
     ensures { Gives (λ x. (part_view x.0, x.1.now)) result (byte_part end bytes.now) }
 {
@@ -29,6 +30,7 @@ pub fn count_part_of(end: u32, bytes: &[u8]) -> Result<(Part, &[u8]), CodeFault>
     Ok((Part::Byte(value as u8), rest))
 }
 
+/// A number of two bytes.
 pub fn word_part_of(end: u32, bytes: &[u8]) -> Result<(Part, &[u8]), CodeFault>
     ensures { Gives (λ x. (part_view x.0, x.1.now)) result (word_part end bytes.now) }
 {
@@ -36,6 +38,7 @@ pub fn word_part_of(end: u32, bytes: &[u8]) -> Result<(Part, &[u8]), CodeFault>
     Ok((Part::Word(value as u16), rest))
 }
 
+/// A number of four bytes.
 pub fn dword_part_of(end: u32, bytes: &[u8]) -> Result<(Part, &[u8]), CodeFault>
     ensures { Gives (λ x. (part_view x.0, x.1.now)) result (dword_part end bytes.now) }
 {
@@ -43,6 +46,7 @@ pub fn dword_part_of(end: u32, bytes: &[u8]) -> Result<(Part, &[u8]), CodeFault>
     Ok((Part::Dword(value as u32), rest))
 }
 
+/// A number of eight bytes.
 pub fn qword_part_of(end: u32, bytes: &[u8]) -> Result<(Part, &[u8]), CodeFault>
     ensures { Gives (λ x. (part_view x.0, x.1.now)) result (qword_part end bytes.now) }
 {

@@ -7,6 +7,7 @@ mod body;
 mod context;
 mod flat;
 mod module;
+mod positions;
 mod terms;
 mod units;
 

@@ -65,11 +65,13 @@ pub fn parse_module(alloc: Global, code: &[u8]) -> Result<Vec<Node>, CodeFault>
     // No other terms are.
     ensures one { IfOk result (λ nodes. (ts : Trees) → ReadsModule code.now ts → ts ≡ nodes_view nodes.items) }
     // A refusal for another cause than memory comes only where no terms are.
-    ensures complete { IfErr result (λ fault. (fault ≡ CodeFault.NoMemory) ⊎ ((ts : Trees) → ReadsModule code.now ts → ⊥)) }
+    ensures complete { IfErr result (λ fault. (fault ≡ CodeFault.NoMemory) ⊎
+        ((ts : Trees) → ReadsModule code.now ts → ⊥)) }
     // A fault is true of its offset.
     ensures placed { IfErr result (StandsAt no_arguments code.now) }
     // Which fault it is.
-    ensures forward { Gives (λ nodes. nodes_view nodes.items) result (all_at no_arguments None Position.ModuleTerm code.now) }
+    ensures forward { Gives (λ nodes. nodes_view nodes.items) result
+        (all_at no_arguments None Position.ModuleTerm code.now) }
 {
     module_terms(alloc, code)
 }

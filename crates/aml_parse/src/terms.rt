@@ -1,24 +1,26 @@
 //! Terms, and what is inside them.
 ghost use Rattle.std.specs.Prelude.{◌≡◌, None, length};
 ghost use Rattle.aml_names.specs.Steps.{Gives};
-ghost use Rattle.aml_code.specs.Lawful.{is_guard, is_if, next_position, terms_in};
+ghost use Rattle.aml_code.specs.Rows.{row_view};
 ghost use Rattle.aml_code.specs.Tree.{op, no_parts, empty};
 ghost use Rattle.aml_code.specs.View.{node_view, nodes_view, part_view, parts_view, tail_view, field_view, fields_view, link_view};
-ghost use Rattle.aml_parse.specs.Contexts.{scope_of};
-ghost use Rattle.aml_code.specs.Rows.{row_view};
-ghost use Rattle.aml_parse.specs.Reading.{child_at, opcode_at, refused_in_body, refusal, is_none, takes_names, guard_at, part_at, parts_at, arguments_at, terms_at, units_at, unit_at, joint_at, call_at, name_term_at, tail_at, plain_at, packed_at, by_row, row_at, operation_at, read_at};
+ghost use Rattle.aml_parse.specs.Contexts.{scope_of, read_in};
+ghost use Rattle.aml_parse.specs.Reading.{child_at, part_at, parts_at, arguments_at, terms_at, units_at, unit_at, joint_at, call_at, name_term_at, tail_at, plain_at, packed_at, by_row, row_at, operation_at};
 
 use crate::context::Context;
 use crate::flat::{
     any_name_part_of, byte_part_of, count_part_of, dword_part_of, name_part_of, qword_part_of,
     text_part_of, word_part_of,
 };
+use crate::positions::{
+    guard_of, is_absent_target, is_guard, next_position, opcode_of, refusal, takes_names, terms_in,
+};
 use crate::units::{
     access_unit_of, extended_unit_of, named_joint_of, named_unit_of, reserved_unit_of,
 };
 use aml_code::{
-    Arity, Bytes, CodeFault, Field, Link, Locals, Node, OpRow, Part, PartKind, Place, Position,
-    Tail, TailKind, byte_of, listed_row, offset_of, span_of, takes,
+    Arity, Bytes, CodeFault, Field, Link, Locals, Node, OpRow, Part, PartKind, Position, Tail,
+    TailKind, byte_of, listed_row, offset_of, span_of, takes,
 };
 use aml_names::{is_name_lead, name_of};
 use std::alloc::Global;
@@ -26,117 +28,7 @@ use std::alloc::Global;
 /// The opcode of a Buffer.
 const BUFFER: u8 = 0x11;
 
-/// An opcode: one byte, or 5B and a second.
-#[tactic(auto, unfolding(crate::specs::Reading::opcode_at))]
-fn opcode_of(end: u32, bytes: &[u8]) -> Result<(u16, &[u8]), CodeFault>
-    ensures { Gives (λ x. (x.0, x.1.now)) result (opcode_at end bytes.now) }
-{
-    let (lead, rest) = byte_of(end, bytes)?;
-    if lead != 0x5B {
-        return Ok((lead as u16, rest));
-    }
-    let (second, rest) = byte_of(end, rest)?;
-    Ok((0x5B00 + second as u16, rest))
-}
-
-/// Why a method's body doesn't take an opcode of a place.
-fn refused_in_body(place: Place, at: u32) -> CodeFault
-    ensures { result ≡ refused_in_body place at }
-{
-    match place {
-        Place::Method => CodeFault::NestedMethod { at },
-        Place::Scope => CodeFault::NestedScope { at },
-        Place::Else => CodeFault::StrayElse { at },
-        _ => CodeFault::NotHere { at },
-    }
-}
-
-/// Why a position doesn't take an opcode of a place.
-fn refusal(position: Position, place: Place, at: u32) -> CodeFault
-    ensures { result ≡ refusal position place at }
-{
-    match position {
-        Position::ModuleTerm | Position::GuardTerm => CodeFault::ModuleCode { at },
-        Position::BodyTerm | Position::AfterIf => refused_in_body(place, at),
-        Position::Argument | Position::Target | Position::Data => CodeFault::NotHere { at },
-    }
-}
-
-fn is_none(position: Position, lead: u8) -> bool
-    ensures { result ≡ is_none position lead }
-{
-    position == Position::Target && lead == 0x00
-}
-
-fn takes_names(position: Position) -> bool
-    ensures { result ≡ takes_names position }
-{
-    !matches!(position, Position::ModuleTerm | Position::GuardTerm)
-}
-
-/// Whether the terms inside a term of a table are those of a guard.
-fn is_guard(position: Position, place: Place) -> bool
-    ensures { result ≡ is_guard position place }
-{
-    position == Position::ModuleTerm && place == Place::If
-}
-
-/// Where the terms inside a term stand.
-fn terms_in(position: Position, place: Place) -> Position
-    ensures { result ≡ terms_in position place }
-{
-    match position {
-        Position::ModuleTerm => match place {
-            Place::If => Position::GuardTerm,
-            _ => Position::ModuleTerm,
-        },
-        _ => Position::BodyTerm,
-    }
-}
-
-fn is_if(node: &Node) -> bool
-    ensures { result ≡ is_if (node_view node.now) }
-{
-    match node {
-        Node::Nothing => false,
-        Node::Named { .. } => false,
-        Node::Op { opcode, .. } => match listed_row(*opcode) {
-            None => false,
-            Some(row) => row.place == Place::If,
-        },
-    }
-}
-
-/// Where the term after a term of a list stands.
-fn next_position(position: Position, node: &Node) -> Position
-    ensures { result ≡ next_position position (node_view node.now) }
-{
-    match position {
-        Position::BodyTerm | Position::AfterIf => {
-            if is_if(node) {
-                Position::AfterIf
-            } else {
-                Position::BodyTerm
-            }
-        }
-        _ => position,
-    }
-}
-
-/// Whether a guard begins with its predicate 00. `ModuleCode` at the guard where it begins with another byte.
-fn guard_of(guarded: bool, at: u32, end: u32, inside: &[u8]) -> Result<bool, CodeFault>
-    ensures { Gives (λ b. b) result (guard_at guarded at end inside.now) }
-{
-    if !guarded {
-        return Ok(false);
-    }
-    let (first, _) = byte_of(end, inside)?;
-    if first != 0x00 {
-        return Err(CodeFault::ModuleCode { at });
-    }
-    Ok(true)
-}
-
+/// A term: its first byte tells whether it is a name, nothing or an opcode. `TooDeep` where no level is left.
 #[cycle(terms)]
 #[tactic(auto, unfolding(crate::specs::Reading::read_at, crate::specs::Reading::term_at, crate::specs::Reading::too_deep))]
 fn term<'b, A: Arity>(
@@ -147,7 +39,8 @@ fn term<'b, A: Arity>(
     locals: &mut Locals,
     bytes: &'b [u8],
 ) -> Result<(Node, &'b [u8]), CodeFault>
-    ensures { Gives (λ x. (node_view x.0, locals.new, x.1.now)) result (read_at (A.arity context.now.arity.now) (scope_of context.now.scope) levels position end locals.old bytes.now) }
+    ensures { Gives (λ x. (node_view x.0, locals.new, x.1.now)) result
+        (read_in A.arity context.now levels position end locals.old bytes.now) }
 {
     let (lead, rest) = byte_of(end, bytes)?;
     if levels == 0 {
@@ -158,12 +51,13 @@ fn term<'b, A: Arity>(
     if is_name_lead(lead) {
         return name_term(context, levels - 1, position, end, locals, bytes);
     }
-    if is_none(position, lead) {
+    if is_absent_target(position, lead) {
         return Ok((Node::Nothing, rest));
     }
     operation(context, levels - 1, position, end, locals, bytes)
 }
 
+/// A name as a term, with its arguments. `ModuleCode` where no name may stand.
 #[cycle(terms)]
 #[tactic(auto, unfolding(crate::specs::Reading::name_term_at))]
 fn name_term<'b, A: Arity>(
@@ -174,7 +68,8 @@ fn name_term<'b, A: Arity>(
     locals: &mut Locals,
     bytes: &'b [u8],
 ) -> Result<(Node, &'b [u8]), CodeFault>
-    ensures { Gives (λ x. (node_view x.0, locals.new, x.1.now)) result (name_term_at (A.arity context.now.arity.now) (read_at (A.arity context.now.arity.now) (scope_of context.now.scope) levels) position end locals.old bytes.now) }
+    ensures { Gives (λ x. (node_view x.0, locals.new, x.1.now)) result
+        (name_term_at (A.arity context.now.arity.now) (read_in A.arity context.now levels) position end locals.old bytes.now) }
 {
     if !takes_names(position) {
         return Err(CodeFault::ModuleCode {
@@ -184,6 +79,7 @@ fn name_term<'b, A: Arity>(
     call(context, levels, position, end, locals, bytes)
 }
 
+/// A name and as many arguments as it takes in its position.
 #[cycle(terms)]
 #[tactic(auto, unfolding(crate::specs::Reading::call_at))]
 fn call<'b, A: Arity>(
@@ -194,7 +90,8 @@ fn call<'b, A: Arity>(
     locals: &mut Locals,
     bytes: &'b [u8],
 ) -> Result<(Node, &'b [u8]), CodeFault>
-    ensures { Gives (λ x. (node_view x.0, locals.new, x.1.now)) result (call_at (A.arity context.now.arity.now) (read_at (A.arity context.now.arity.now) (scope_of context.now.scope) levels) position end locals.old bytes.now) }
+    ensures { Gives (λ x. (node_view x.0, locals.new, x.1.now)) result
+        (call_at (A.arity context.now.arity.now) (read_in A.arity context.now levels) position end locals.old bytes.now) }
 {
     let (name, rest) = name_of(context.alloc, end, bytes)?;
     let count = context.count(position, offset_of(end, bytes), locals, &name)?;
@@ -202,6 +99,7 @@ fn call<'b, A: Arity>(
     Ok((Node::Named { name, args }, rest))
 }
 
+/// So many arguments.
 #[cycle(terms)]
 fn arguments<'b, A: Arity>(
     context: &Context<'_, A>,
@@ -211,7 +109,8 @@ fn arguments<'b, A: Arity>(
     locals: &mut Locals,
     bytes: &'b [u8],
 ) -> Result<(Vec<Node>, &'b [u8]), CodeFault>
-    ensures { Gives (λ x. (nodes_view x.0.items, locals.new, x.1.now)) result (arguments_at (read_at (A.arity context.now.arity.now) (scope_of context.now.scope) levels) count end locals.old bytes.now) }
+    ensures { Gives (λ x. (nodes_view x.0.items, locals.new, x.1.now)) result
+        (arguments_at (read_in A.arity context.now levels) count end locals.old bytes.now) }
 {
     let mut found = Vec::with_capacity(context.alloc, count as usize)?;
     let mut rest = bytes;
@@ -227,6 +126,7 @@ fn arguments<'b, A: Arity>(
     Ok((found, rest))
 }
 
+/// An opcode and what its row says. `UnknownOp` where it has no row, and a fault where the position does not take it.
 #[cycle(terms)]
 #[tactic(auto, unfolding(crate::specs::Reading::operation_at))]
 fn operation<'b, A: Arity>(
@@ -237,7 +137,8 @@ fn operation<'b, A: Arity>(
     locals: &mut Locals,
     bytes: &'b [u8],
 ) -> Result<(Node, &'b [u8]), CodeFault>
-    ensures { Gives (λ x. (node_view x.0, locals.new, x.1.now)) result (operation_at (scope_of context.now.scope) (read_at (A.arity context.now.arity.now) (scope_of context.now.scope) levels) position end locals.old bytes.now) }
+    ensures { Gives (λ x. (node_view x.0, locals.new, x.1.now)) result
+        (operation_at (scope_of context.now.scope) (read_in A.arity context.now levels) position end locals.old bytes.now) }
 {
     let (opcode, rest) = opcode_of(end, bytes)?;
     let at = offset_of(end, bytes);
@@ -279,7 +180,9 @@ fn plain<'b, A: Arity>(
     locals: &mut Locals,
     bytes: &'b [u8],
 ) -> Result<(Node, &'b [u8]), CodeFault>
-    ensures { Gives (λ x. (node_view x.0, locals.new, x.1.now)) result (plain_at (scope_of context.now.scope) (read_at (A.arity context.now.arity.now) (scope_of context.now.scope) levels) (row_view row.now) end locals.old bytes.now) }
+    ensures { Gives (λ x. (node_view x.0, locals.new, x.1.now)) result
+        (plain_at (scope_of context.now.scope) (read_in A.arity context.now levels)
+            (row_view row.now) end locals.old bytes.now) }
 {
     if row.parts.is_empty() {
         return Ok((bare(context.alloc, row.opcode), bytes));
@@ -309,7 +212,9 @@ fn packed<'b, A: Arity>(
     locals: &mut Locals,
     bytes: &'b [u8],
 ) -> Result<(Node, &'b [u8]), CodeFault>
-    ensures { Gives (λ x. (node_view x.0, locals.new, x.1.now)) result (packed_at (scope_of context.now.scope) (read_at (A.arity context.now.arity.now) (scope_of context.now.scope) levels) position at (row_view row.now) end locals.old bytes.now) }
+    ensures { Gives (λ x. (node_view x.0, locals.new, x.1.now)) result
+        (packed_at (scope_of context.now.scope) (read_in A.arity context.now levels) position at
+            (row_view row.now) end locals.old bytes.now) }
 {
     let (width, inside, behind) = span_of(end, bytes)?;
     let inner = offset_of(end, behind);
@@ -335,6 +240,7 @@ fn packed<'b, A: Arity>(
     Ok((node, behind))
 }
 
+/// The parts of these kinds, in order.
 #[cycle(terms)]
 #[tactic(auto, unfolding(crate::specs::Reading::parts_at))]
 fn parts<'b, A: Arity>(
@@ -345,7 +251,8 @@ fn parts<'b, A: Arity>(
     locals: &mut Locals,
     bytes: &'b [u8],
 ) -> Result<(Vec<Part>, &'b [u8]), CodeFault>
-    ensures { Gives (λ x. (parts_view x.0.items, locals.new, x.1.now)) result (parts_at (read_at (A.arity context.now.arity.now) (scope_of context.now.scope) levels) kinds.now end locals.old bytes.now) }
+    ensures { Gives (λ x. (parts_view x.0.items, locals.new, x.1.now)) result
+        (parts_at (read_in A.arity context.now levels) kinds.now end locals.old bytes.now) }
 {
     let mut found = Vec::with_capacity(context.alloc, kinds.len())?;
     let mut rest = bytes;
@@ -357,6 +264,7 @@ fn parts<'b, A: Arity>(
     Ok((found, rest))
 }
 
+/// A part of this kind.
 #[cycle(terms)]
 fn part<'b, A: Arity>(
     context: &Context<'_, A>,
@@ -366,7 +274,8 @@ fn part<'b, A: Arity>(
     locals: &mut Locals,
     bytes: &'b [u8],
 ) -> Result<(Part, &'b [u8]), CodeFault>
-    ensures { Gives (λ x. (part_view x.0, locals.new, x.1.now)) result (part_at (read_at (A.arity context.now.arity.now) (scope_of context.now.scope) levels) kind end locals.old bytes.now) }
+    ensures { Gives (λ x. (part_view x.0, locals.new, x.1.now)) result
+        (part_at (read_in A.arity context.now levels) kind end locals.old bytes.now) }
 {
     match kind {
         PartKind::Term => child(context, levels, Position::Argument, end, locals, bytes),
@@ -383,6 +292,7 @@ fn part<'b, A: Arity>(
     }
 }
 
+/// A part that is a term.
 #[cycle(terms)]
 fn child<'b, A: Arity>(
     context: &Context<'_, A>,
@@ -392,7 +302,8 @@ fn child<'b, A: Arity>(
     locals: &mut Locals,
     bytes: &'b [u8],
 ) -> Result<(Part, &'b [u8]), CodeFault>
-    ensures { Gives (λ x. (part_view x.0, locals.new, x.1.now)) result (child_at (read_at (A.arity context.now.arity.now) (scope_of context.now.scope) levels position) end locals.old bytes.now) }
+    ensures { Gives (λ x. (part_view x.0, locals.new, x.1.now)) result
+        (child_at (read_in A.arity context.now levels position) end locals.old bytes.now) }
 {
     let (node, rest) = term(context, levels, position, end, locals, bytes)?;
     Ok((Part::Child(node), rest))
@@ -409,7 +320,8 @@ fn tail<A: Arity>(
     locals: &mut Locals,
     inside: &[u8],
 ) -> Result<Tail, CodeFault>
-    ensures { Gives (λ x. (tail_view x, locals.new)) result (tail_at (read_at (A.arity context.now.arity.now) (scope_of context.now.scope) levels) position kind end locals.old inside.now) }
+    ensures { Gives (λ x. (tail_view x, locals.new)) result
+        (tail_at (read_in A.arity context.now levels) position kind end locals.old inside.now) }
 {
     match kind {
         TailKind::Empty => Err(CodeFault::Truncated { at: end }),
@@ -449,7 +361,8 @@ fn fields<A: Arity>(
     locals: &mut Locals,
     bytes: &[u8],
 ) -> Result<Vec<Field>, CodeFault>
-    ensures { Gives (λ x. (fields_view x.items, locals.new)) result (units_at (read_at (A.arity context.now.arity.now) (scope_of context.now.scope) levels) (length bytes.now) end locals.old bytes.now) }
+    ensures { Gives (λ x. (fields_view x.items, locals.new)) result
+        (units_at (read_in A.arity context.now levels) (length bytes.now) end locals.old bytes.now) }
 {
     let mut found = Vec::new(context.alloc);
     let mut rest = bytes;
@@ -482,7 +395,8 @@ fn field<'b, A: Arity>(
     locals: &mut Locals,
     bytes: &'b [u8],
 ) -> Result<(Field, &'b [u8]), CodeFault>
-    ensures { Gives (λ x. (field_view x.0, locals.new, x.1.now)) result (unit_at (read_at (A.arity context.now.arity.now) (scope_of context.now.scope) levels) end locals.old bytes.now) }
+    ensures { Gives (λ x. (field_view x.0, locals.new, x.1.now)) result
+        (unit_at (read_in A.arity context.now levels) end locals.old bytes.now) }
 {
     let (lead, rest) = byte_of(end, bytes)?;
     match lead {
@@ -507,7 +421,8 @@ fn link<'b, A: Arity>(
     locals: &mut Locals,
     bytes: &'b [u8],
 ) -> Result<(Link, &'b [u8]), CodeFault>
-    ensures { Gives (λ x. (link_view x.0, locals.new, x.1.now)) result (joint_at (read_at (A.arity context.now.arity.now) (scope_of context.now.scope) levels) end locals.old bytes.now) }
+    ensures { Gives (λ x. (link_view x.0, locals.new, x.1.now)) result
+        (joint_at (read_in A.arity context.now levels) end locals.old bytes.now) }
 {
     let (lead, _) = byte_of(end, bytes)?;
     if lead != BUFFER {
@@ -527,7 +442,8 @@ pub fn terms<A: Arity>(
     locals: &mut Locals,
     bytes: &[u8],
 ) -> Result<Vec<Node>, CodeFault>
-    ensures { Gives (λ x. (nodes_view x.items, locals.new)) result (terms_at (read_at (A.arity context.now.arity.now) (scope_of context.now.scope) levels) (length bytes.now) position end locals.old bytes.now) }
+    ensures { Gives (λ x. (nodes_view x.items, locals.new)) result
+        (terms_at (read_in A.arity context.now levels) (length bytes.now) position end locals.old bytes.now) }
 {
     let mut found = Vec::new(context.alloc);
     let mut here = position;

@@ -1,15 +1,17 @@
 -- The texts of nodes in memory.
-use Rattle.std.specs.Prelude.{ℕ, List}
+use Rattle.std.specs.Prelude.{ℕ, List, None}
 use Rattle.aml_code.specs.declared.tree.Field.{Field}
 use Rattle.aml_code.specs.declared.tree.Link.{Link}
 use Rattle.aml_code.specs.declared.tree.Node.{Node}
 use Rattle.aml_code.specs.declared.tree.Part.{Part}
-use Rattle.aml_code.specs.View.{node_view, nodes_view, part_view, field_view, link_view}
+use Rattle.aml_code.specs.Declaring.{last_label, last_byte}
+use Rattle.aml_code.specs.Rows.{row_of}
+use Rattle.aml_code.specs.View.{node_view, nodes_view, part_view, parts_view, field_view, link_view}
 use Rattle.aml_text.specs.declared.blocks.Block.{Block}
 use Rattle.aml_text.specs.declared.blocks.Body.{Body}
 use Rattle.aml_text.specs.declared.blocks.Body.TheVariants as bodies
-use Rattle.aml_text.specs.Texts.{inline, part_text}
-use Rattle.aml_text.specs.Lines.{line, lines, unit_text, joint_text, OneBody, read, raw, OneBlock}
+use Rattle.aml_text.specs.Texts.{inline, head_text, part_text, part_texts}
+use Rattle.aml_text.specs.Lines.{line, lines, method_head, unit_text, joint_text, OneBody, read, raw, OneBlock}
 
 unfoldable pub node_inline : Node → List ℕ
 node_inline node = inline (node_view node)
@@ -28,6 +30,13 @@ field_line level field = line level (field_inline field)
 
 unfoldable pub link_inline : Link → List ℕ
 link_inline link = joint_text (link_view link)
+
+-- an opcode and its parts; the same of a method, whose flags are spelled out
+abbrev pub head_of : ℕ → List Part → List ℕ
+head_of opcode ps = head_text (row_of opcode) (part_texts (parts_view ps))
+
+abbrev pub method_head_of : ℕ → List Part → List ℕ
+method_head_of opcode ps = method_head (last_label None (parts_view ps)) (last_byte None (parts_view ps)) (head_of opcode ps)
 
 -- what a body stands for: the fault of a raw one isn't printed
 abbrev pub body_view : Body → OneBody

@@ -1,12 +1,9 @@
 //! Definition blocks: the terms of a table, with the bodies of its methods in their places.
-ghost use Rattle.std.specs.Prelude.{◌≡◌, [], ◌∷◌, ◌++◌, drop, map, None};
-ghost use Rattle.aml_code.specs.Declaring.{last_label, last_byte};
-ghost use Rattle.aml_code.specs.Rows.{row_of};
+ghost use Rattle.std.specs.Prelude.{◌≡◌, [], ◌∷◌, ◌++◌, drop, map};
 ghost use Rattle.aml_code.specs.View.{node_view, nodes_view, parts_view, tail_view};
-ghost use Rattle.aml_text.specs.Views.{body_view, block_view};
+ghost use Rattle.aml_text.specs.Views.{body_view, block_view, head_of, method_head_of};
 ghost use Rattle.text_writer.specs.Prints.{Prints};
-ghost use Rattle.aml_text.specs.Texts.{head_text, part_texts};
-ghost use Rattle.aml_text.specs.Lines.{deeper, line, opening, closing, serialized_text, comma_decimal, flags_text, method_text, method_head, raw_text, body_lines, left, left_rest, left_all, table_lines, table_op_lines, all_table_lines, block_opening, block_text, blocks_text};
+ghost use Rattle.aml_text.specs.Lines.{deeper, line, opening, closing, serialized_text, comma_decimal, flags_text, method_text, raw_text, body_lines, left, left_rest, left_all, table_lines, table_op_lines, all_table_lines, block_opening, block_text, blocks_text};
 
 use crate::lines::{
     print_closing, print_indent, print_lines, print_op_lines, print_opening, print_terms,
@@ -49,6 +46,7 @@ fn print_serialized<W: Write>(out: &mut Out<'_, W>, flags: u8)
     }
 }
 
+/// A comma and a number.
 #[tactic(auto, using(text_writer::proofs::PrintLaws::straight), unfolding(crate::specs::Lines::comma_decimal))]
 fn print_comma_decimal<W: Write>(out: &mut Out<'_, W>, n: u8)
     ensures { Prints W.contents out.old out.new (comma_decimal n) }
@@ -57,6 +55,7 @@ fn print_comma_decimal<W: Write>(out: &mut Out<'_, W>, n: u8)
     print_decimal(out, n as u64);
 }
 
+/// The number of arguments, whether the method is serialized, and its sync level.
 #[tactic(auto, using(text_writer::proofs::PrintLaws::straight), unfolding(crate::specs::Lines::flags_text))]
 fn print_flags<W: Write>(out: &mut Out<'_, W>, flags: u8)
     ensures { Prints W.contents out.old out.new (flags_text flags) }
@@ -66,6 +65,7 @@ fn print_flags<W: Write>(out: &mut Out<'_, W>, flags: u8)
     print_comma_decimal(out, flags / 16);
 }
 
+/// A method by its name and flags.
 #[tactic(auto, using(text_writer::proofs::PrintLaws::straight), unfolding(crate::specs::Lines::method_text))]
 fn print_method<W: Write>(out: &mut Out<'_, W>, name: &Name, flags: u8)
     ensures { Prints W.contents out.old out.new (method_text name.now flags) }
@@ -79,7 +79,7 @@ fn print_method<W: Write>(out: &mut Out<'_, W>, name: &Name, flags: u8)
 /// The head of a method, from its name and flags.
 #[tactic(auto, using(text_writer::proofs::PrintLaws::straight, crate::proofs::BlockLaws::heads))]
 fn print_method_head<W: Write>(out: &mut Out<'_, W>, opcode: u16, parts: &[Part])
-    ensures { Prints W.contents out.old out.new (method_head (last_label None (parts_view parts.now)) (last_byte None (parts_view parts.now)) (head_text (row_of opcode) (part_texts (parts_view parts.now)))) }
+    ensures { Prints W.contents out.old out.new (method_head_of opcode parts.now) }
 {
     match last_name(parts) {
         None => print_head(out, opcode, parts),
@@ -90,15 +90,17 @@ fn print_method_head<W: Write>(out: &mut Out<'_, W>, opcode: u16, parts: &[Part]
     }
 }
 
+/// The first line of a method.
 #[tactic(auto, using(text_writer::proofs::PrintLaws::straight), unfolding(crate::specs::Lines::opening))]
 fn print_method_opening<W: Write>(out: &mut Out<'_, W>, level: u32, opcode: u16, parts: &[Part])
-    ensures { Prints W.contents out.old out.new (opening level (method_head (last_label None (parts_view parts.now)) (last_byte None (parts_view parts.now)) (head_text (row_of opcode) (part_texts (parts_view parts.now))))) }
+    ensures { Prints W.contents out.old out.new (opening level (method_head_of opcode parts.now)) }
 {
     print_indent(out, level);
     print_method_head(out, opcode, parts);
     out.put(b" {\n");
 }
 
+/// The bytes of a body that can't be read.
 #[tactic(auto, using(text_writer::proofs::PrintLaws::straight), unfolding(crate::specs::Lines::raw_text))]
 fn print_raw<W: Write>(out: &mut Out<'_, W>, bytes: &[u8])
     ensures { Prints W.contents out.old out.new (raw_text bytes.now) }
@@ -108,6 +110,7 @@ fn print_raw<W: Write>(out: &mut Out<'_, W>, bytes: &[u8])
     out.put(b"}");
 }
 
+/// The same, on a line of its own.
 #[tactic(auto, using(text_writer::proofs::PrintLaws::straight), unfolding(crate::specs::Lines::line))]
 fn print_raw_line<W: Write>(out: &mut Out<'_, W>, level: u32, bytes: &[u8])
     ensures { Prints W.contents out.old out.new (line level (raw_text bytes.now)) }
@@ -127,6 +130,7 @@ fn print_body<W: Write>(out: &mut Out<'_, W>, level: u32, bytes: &[u8], bodies: 
     }
 }
 
+/// The lines of a body with these bytes.
 #[tactic(auto, using(text_writer::proofs::PrintLaws::straight, crate::proofs::BlockLaws::one_body))]
 fn print_one_body<W: Write>(out: &mut Out<'_, W>, level: u32, bytes: &[u8], body: &Body)
     ensures { Prints W.contents out.old out.new (body_lines level bytes.now (body_view body.now ∷ [])) }
@@ -147,7 +151,9 @@ fn print_method_block<W: Write>(
     bytes: &[u8],
     bodies: &[Body],
 )
-    ensures { Prints W.contents out.old out.new (opening level (method_head (last_label None (parts_view parts.now)) (last_byte None (parts_view parts.now)) (head_text (row_of opcode) (part_texts (parts_view parts.now)))) ++ body_lines (deeper level) bytes.now (map body_view bodies.now) ++ closing level) }
+    ensures { Prints W.contents out.old out.new
+        (opening level (method_head_of opcode parts.now) ++
+            body_lines (deeper level) bytes.now (map body_view bodies.now) ++ closing level) }
 {
     print_method_opening(out, level, opcode, parts);
     print_body(out, level.saturating_add(1), bytes, bodies);
@@ -174,27 +180,25 @@ fn print_table_term<'b, W: Write>(
     node: &Node,
     bodies: &'b [Body],
 ) -> &'b [Body]
-    ensures prints { Prints W.contents out.old out.new (table_lines code.now level (node_view node.now) (map body_view bodies.now)) }
+    ensures prints { Prints W.contents out.old out.new
+        (table_lines code.now level (node_view node.now) (map body_view bodies.now)) }
     ensures others { map body_view result.now ≡ left (node_view node.now) (map body_view bodies.now) }
 {
     match node {
-        Node::Nothing => {
-            print_lines(out, level, node);
-            bodies
-        }
-        Node::Named { .. } => {
-            print_lines(out, level, node);
-            bodies
-        }
         Node::Op {
             opcode,
             parts,
             tail,
             ..
         } => print_table_op(out, code, level, tail, *opcode, parts.as_slice(), bodies),
+        Node::Nothing | Node::Named { .. } => {
+            print_lines(out, level, node);
+            bodies
+        }
     }
 }
 
+/// The lines of an opcode of a table. Bodies are taken and answered as for a term.
 #[cycle(blocks)]
 #[tactic(auto, using(text_writer::proofs::PrintLaws::straight, crate::proofs::BlockLaws::table_tails))]
 fn print_table_op<'b, W: Write>(
@@ -206,7 +210,9 @@ fn print_table_op<'b, W: Write>(
     parts: &[Part],
     bodies: &'b [Body],
 ) -> &'b [Body]
-    ensures prints { Prints W.contents out.old out.new (table_op_lines code.now level opcode (parts_view parts.now) (tail_view tail.now) (map body_view bodies.now)) }
+    ensures prints { Prints W.contents out.old out.new
+        (table_op_lines code.now level opcode (parts_view parts.now) (tail_view tail.now)
+            (map body_view bodies.now)) }
     ensures others { map body_view result.now ≡ left_rest (tail_view tail.now) (map body_view bodies.now) }
 {
     match tail {
@@ -223,25 +229,14 @@ fn print_table_op<'b, W: Write>(
             print_method_block(out, level, opcode, parts, slice(code, *start, *len), bodies);
             others(bodies)
         }
-        Tail::Empty => {
-            print_op_lines(out, level, tail, opcode, parts);
-            bodies
-        }
-        Tail::Bytes(_) => {
-            print_op_lines(out, level, tail, opcode, parts);
-            bodies
-        }
-        Tail::Elements(_) => {
-            print_op_lines(out, level, tail, opcode, parts);
-            bodies
-        }
-        Tail::Fields(_) => {
+        _ => {
             print_op_lines(out, level, tail, opcode, parts);
             bodies
         }
     }
 }
 
+/// An opcode with terms of a table as a block.
 #[cycle(blocks)]
 #[tactic(auto, using(text_writer::proofs::PrintLaws::straight))]
 fn print_table_block<'b, W: Write>(
@@ -253,7 +248,9 @@ fn print_table_block<'b, W: Write>(
     parts: &[Part],
     bodies: &'b [Body],
 ) -> &'b [Body]
-    ensures prints { Prints W.contents out.old out.new (opening level (head_text (row_of opcode) (part_texts (parts_view parts.now))) ++ all_table_lines code.now (deeper level) (nodes_view nodes.now) (map body_view bodies.now) ++ closing level) }
+    ensures prints { Prints W.contents out.old out.new
+        (opening level (head_of opcode parts.now) ++
+            all_table_lines code.now (deeper level) (nodes_view nodes.now) (map body_view bodies.now) ++ closing level) }
     ensures others { map body_view result.now ≡ left_all (nodes_view nodes.now) (map body_view bodies.now) }
 {
     print_opening(out, level, opcode, parts);
@@ -272,7 +269,8 @@ fn print_table_terms<'b, W: Write>(
     nodes: &[Node],
     bodies: &'b [Body],
 ) -> &'b [Body]
-    ensures prints { Prints W.contents out.old out.new (all_table_lines code.now level (nodes_view nodes.now) (map body_view bodies.now)) }
+    ensures prints { Prints W.contents out.old out.new
+        (all_table_lines code.now level (nodes_view nodes.now) (map body_view bodies.now)) }
     ensures others { map body_view result.now ≡ left_all (nodes_view nodes.now) (map body_view bodies.now) }
 {
     let mut rest = bodies;
@@ -292,7 +290,8 @@ pub fn print_block<'b, W: Write>(
     nodes: &[Node],
     bodies: &'b [Body],
 ) -> &'b [Body]
-    ensures prints { Prints W.contents out.old out.new (block_text name.now code.now (nodes_view nodes.now) (map body_view bodies.now)) }
+    ensures prints { Prints W.contents out.old out.new
+        (block_text name.now code.now (nodes_view nodes.now) (map body_view bodies.now)) }
     ensures others { map body_view result.now ≡ left_all (nodes_view nodes.now) (map body_view bodies.now) }
 {
     print_block_opening(out, name);
@@ -312,6 +311,7 @@ pub fn print_blocks<W: Write>(out: &mut Out<'_, W>, blocks: &[Block<'_>], bodies
     }
 }
 
+/// The first line of a definition block.
 #[tactic(auto, using(text_writer::proofs::PrintLaws::straight), unfolding(crate::specs::Lines::block_opening))]
 fn print_block_opening<W: Write>(out: &mut Out<'_, W>, name: &[u8])
     ensures { Prints W.contents out.old out.new (block_opening name.now) }

@@ -1,12 +1,11 @@
 //! The lines of terms and of field lists.
 ghost use Rattle.std.specs.Prelude.{◌++◌, decimal, flat_map};
-ghost use Rattle.aml_code.specs.Rows.{row_of};
 ghost use Rattle.aml_code.specs.View.{parts_view, tail_view};
 ghost use Rattle.text_writer.specs.Prints.{Prints};
 ghost use Rattle.text_writer.specs.Words.{word};
-ghost use Rattle.aml_text.specs.Texts.{head_text, part_texts, tail_text};
+ghost use Rattle.aml_text.specs.Texts.{tail_text};
 ghost use Rattle.aml_text.specs.Lines.{byte_pair, byte_end, deeper, indent, line, opening, closing, op_lines};
-ghost use Rattle.aml_text.specs.Views.{node_inline, node_lines, field_inline, field_line, link_inline};
+ghost use Rattle.aml_text.specs.Views.{head_of, node_inline, node_lines, field_inline, field_line, link_inline};
 
 use crate::texts::{print_byte, print_head, print_inline, print_tail};
 use crate::words::print_name;
@@ -36,13 +35,14 @@ pub fn print_closing<W: Write>(out: &mut Out<'_, W>, level: u32)
 /// The first line of a block.
 #[tactic(auto, using(text_writer::proofs::PrintLaws::straight), unfolding(crate::specs::Lines::opening))]
 pub fn print_opening<W: Write>(out: &mut Out<'_, W>, level: u32, opcode: u16, parts: &[Part])
-    ensures { Prints W.contents out.old out.new (opening level (head_text (row_of opcode) (part_texts (parts_view parts.now)))) }
+    ensures { Prints W.contents out.old out.new (opening level (head_of opcode parts.now)) }
 {
     print_indent(out, level);
     print_head(out, opcode, parts);
     out.put(b" {\n");
 }
 
+/// A term on a line of its own.
 #[tactic(auto, using(text_writer::proofs::PrintLaws::straight), unfolding(crate::specs::Lines::line))]
 fn print_node_line<W: Write>(out: &mut Out<'_, W>, level: u32, node: &Node)
     ensures { Prints W.contents out.old out.new (line level (node_inline node.now)) }
@@ -52,14 +52,16 @@ fn print_node_line<W: Write>(out: &mut Out<'_, W>, level: u32, node: &Node)
     out.put(b"\n");
 }
 
+/// An opcode with its parts and its tail, on one line.
 #[tactic(auto, using(text_writer::proofs::PrintLaws::straight))]
 fn print_op<W: Write>(out: &mut Out<'_, W>, opcode: u16, parts: &[Part], tail: &Tail)
-    ensures { Prints W.contents out.old out.new (head_text (row_of opcode) (part_texts (parts_view parts.now)) ++ tail_text (tail_view tail.now)) }
+    ensures { Prints W.contents out.old out.new (head_of opcode parts.now ++ tail_text (tail_view tail.now)) }
 {
     print_head(out, opcode, parts);
     print_tail(out, tail);
 }
 
+/// The same, on a line of its own.
 #[tactic(auto, using(text_writer::proofs::PrintLaws::straight), unfolding(crate::specs::Lines::line))]
 fn print_op_line<W: Write>(
     out: &mut Out<'_, W>,
@@ -68,13 +70,15 @@ fn print_op_line<W: Write>(
     parts: &[Part],
     tail: &Tail,
 )
-    ensures { Prints W.contents out.old out.new (line level (head_text (row_of opcode) (part_texts (parts_view parts.now)) ++ tail_text (tail_view tail.now))) }
+    ensures { Prints W.contents out.old out.new
+        (line level (head_of opcode parts.now ++ tail_text (tail_view tail.now))) }
 {
     print_indent(out, level);
     print_op(out, opcode, parts, tail);
     out.put(b"\n");
 }
 
+/// What a connection leads to.
 #[tactic(auto, using(text_writer::proofs::PrintLaws::straight, crate::proofs::LineLaws::links))]
 fn print_link<W: Write>(out: &mut Out<'_, W>, link: &Link)
     ensures { Prints W.contents out.old out.new (link_inline link.now) }
@@ -85,6 +89,7 @@ fn print_link<W: Write>(out: &mut Out<'_, W>, link: &Link)
     }
 }
 
+/// A named unit and its number of bits.
 #[tactic(auto, using(text_writer::proofs::PrintLaws::straight))]
 fn print_unit<W: Write>(out: &mut Out<'_, W>, seg: &Seg, bits: u32)
     ensures { Prints W.contents out.old out.new (seg.now.0 ++ word ", " ++ decimal bits) }
@@ -94,6 +99,7 @@ fn print_unit<W: Write>(out: &mut Out<'_, W>, seg: &Seg, bits: u32)
     print_decimal(out, bits as u64);
 }
 
+/// A number of reserved bits.
 #[tactic(auto, using(text_writer::proofs::PrintLaws::straight))]
 fn print_reserved<W: Write>(out: &mut Out<'_, W>, bits: u32)
     ensures { Prints W.contents out.old out.new (word "Reserved, " ++ decimal bits) }
@@ -112,6 +118,7 @@ fn print_byte_pair<W: Write>(out: &mut Out<'_, W>, first: u8, second: u8)
     print_byte(out, second);
 }
 
+/// An access type and an access attribute.
 #[tactic(auto, using(text_writer::proofs::PrintLaws::straight))]
 fn print_access<W: Write>(out: &mut Out<'_, W>, access: u8, attribute: u8)
     ensures { Prints W.contents out.old out.new (word "Access (" ++ byte_pair access attribute ++ word ")") }
@@ -121,9 +128,11 @@ fn print_access<W: Write>(out: &mut Out<'_, W>, access: u8, attribute: u8)
     out.put(b")");
 }
 
+/// An access type, an access attribute and an access length.
 #[tactic(auto, using(text_writer::proofs::PrintLaws::straight))]
 fn print_extended<W: Write>(out: &mut Out<'_, W>, access: u8, attribute: u8, length: u8)
-    ensures { Prints W.contents out.old out.new (word "ExtendedAccess (" ++ byte_pair access attribute ++ byte_end length) }
+    ensures { Prints W.contents out.old out.new
+        (word "ExtendedAccess (" ++ byte_pair access attribute ++ byte_end length) }
 {
     out.put(b"ExtendedAccess (");
     print_byte_pair(out, access, attribute);
@@ -139,6 +148,7 @@ fn print_byte_end<W: Write>(out: &mut Out<'_, W>, last: u8)
     out.put(b")");
 }
 
+/// A connection.
 #[tactic(auto, using(text_writer::proofs::PrintLaws::straight))]
 fn print_connection<W: Write>(out: &mut Out<'_, W>, link: &Link)
     ensures { Prints W.contents out.old out.new (word "Connection (" ++ link_inline link.now ++ word ")") }
@@ -164,6 +174,7 @@ fn print_field<W: Write>(out: &mut Out<'_, W>, field: &Field)
     }
 }
 
+/// An element of a field list, on a line of its own.
 #[tactic(auto, using(text_writer::proofs::PrintLaws::straight), unfolding(crate::specs::Lines::line, crate::specs::Views::field_line))]
 fn print_field_line<W: Write>(out: &mut Out<'_, W>, level: u32, field: &Field)
     ensures { Prints W.contents out.old out.new (field_line level field.now) }
@@ -183,6 +194,7 @@ fn print_fields<W: Write>(out: &mut Out<'_, W>, level: u32, fields: &[Field])
     }
 }
 
+/// An opcode with a field list as a block.
 #[tactic(auto, using(text_writer::proofs::PrintLaws::straight))]
 fn print_fields_block<W: Write>(
     out: &mut Out<'_, W>,
@@ -191,7 +203,9 @@ fn print_fields_block<W: Write>(
     parts: &[Part],
     fields: &[Field],
 )
-    ensures { Prints W.contents out.old out.new (opening level (head_text (row_of opcode) (part_texts (parts_view parts.now))) ++ flat_map (field_line (deeper level)) fields.now ++ closing level) }
+    ensures { Prints W.contents out.old out.new
+        (opening level (head_of opcode parts.now) ++
+            flat_map (field_line (deeper level)) fields.now ++ closing level) }
 {
     print_opening(out, level, opcode, parts);
     print_fields(out, level.saturating_add(1), fields);
@@ -205,17 +219,17 @@ pub fn print_lines<W: Write>(out: &mut Out<'_, W>, level: u32, node: &Node)
     ensures { Prints W.contents out.old out.new (node_lines level node.now) }
 {
     match node {
-        Node::Nothing => print_node_line(out, level, node),
-        Node::Named { .. } => print_node_line(out, level, node),
         Node::Op {
             opcode,
             parts,
             tail,
             ..
         } => print_op_lines(out, level, tail, *opcode, parts.as_slice()),
+        Node::Nothing | Node::Named { .. } => print_node_line(out, level, node),
     }
 }
 
+/// The lines of an opcode with its parts and its tail.
 #[cycle(lines)]
 #[tactic(auto, using(text_writer::proofs::PrintLaws::straight, crate::proofs::LineLaws::tail_variants))]
 pub fn print_op_lines<W: Write>(
@@ -225,18 +239,16 @@ pub fn print_op_lines<W: Write>(
     opcode: u16,
     parts: &[Part],
 )
-    ensures { Prints W.contents out.old out.new (op_lines level (head_text (row_of opcode) (part_texts (parts_view parts.now))) (tail_view tail.now)) }
+    ensures { Prints W.contents out.old out.new (op_lines level (head_of opcode parts.now) (tail_view tail.now)) }
 {
     match tail {
-        Tail::Empty => print_op_line(out, level, opcode, parts, tail),
         Tail::Terms(nodes) => print_terms_block(out, level, nodes.as_slice(), opcode, parts),
-        Tail::Bytes(_) => print_op_line(out, level, opcode, parts, tail),
-        Tail::Elements(_) => print_op_line(out, level, opcode, parts, tail),
         Tail::Fields(fields) => print_fields_block(out, level, opcode, parts, fields.as_slice()),
-        Tail::Body { .. } => print_op_line(out, level, opcode, parts, tail),
+        _ => print_op_line(out, level, opcode, parts, tail),
     }
 }
 
+/// An opcode with terms as a block.
 #[cycle(lines)]
 #[tactic(auto, using(text_writer::proofs::PrintLaws::straight))]
 fn print_terms_block<W: Write>(
@@ -246,7 +258,9 @@ fn print_terms_block<W: Write>(
     opcode: u16,
     parts: &[Part],
 )
-    ensures { Prints W.contents out.old out.new (opening level (head_text (row_of opcode) (part_texts (parts_view parts.now))) ++ flat_map (node_lines (deeper level)) nodes.now ++ closing level) }
+    ensures { Prints W.contents out.old out.new
+        (opening level (head_of opcode parts.now) ++
+            flat_map (node_lines (deeper level)) nodes.now ++ closing level) }
 {
     print_opening(out, level, opcode, parts);
     print_terms(out, level.saturating_add(1), nodes);

@@ -34,6 +34,7 @@ pub fn print_bytes<W: Write>(out: &mut Out<'_, W>, bytes: &[u8])
     }
 }
 
+/// Bytes in braces.
 #[tactic(auto, using(text_writer::proofs::PrintLaws::straight, crate::proofs::TextLaws::braces), unfolding(crate::specs::Texts::braced))]
 fn print_braced_bytes<W: Write>(out: &mut Out<'_, W>, bytes: &[u8])
     ensures { Prints W.contents out.old out.new (braced (map hex2 bytes.now)) }
@@ -43,6 +44,7 @@ fn print_braced_bytes<W: Write>(out: &mut Out<'_, W>, bytes: &[u8])
     out.put(b"}");
 }
 
+/// A number of one byte as a constant.
 #[tactic(auto, using(text_writer::proofs::PrintLaws::straight))]
 pub fn print_byte<W: Write>(out: &mut Out<'_, W>, n: u8)
     ensures { Prints W.contents out.old out.new (word "0x" ++ hex2 n) }
@@ -51,6 +53,7 @@ pub fn print_byte<W: Write>(out: &mut Out<'_, W>, n: u8)
     print_hex2(out, n);
 }
 
+/// A number of two bytes as a constant.
 #[tactic(auto, using(text_writer::proofs::PrintLaws::straight))]
 fn print_word<W: Write>(out: &mut Out<'_, W>, n: u16)
     ensures { Prints W.contents out.old out.new (word "0x" ++ hex4 n) }
@@ -59,6 +62,7 @@ fn print_word<W: Write>(out: &mut Out<'_, W>, n: u16)
     print_hex4(out, n);
 }
 
+/// A number of four bytes as a constant.
 #[tactic(auto, using(text_writer::proofs::PrintLaws::straight))]
 fn print_dword<W: Write>(out: &mut Out<'_, W>, n: u32)
     ensures { Prints W.contents out.old out.new (word "0x" ++ hex8 n) }
@@ -67,6 +71,7 @@ fn print_dword<W: Write>(out: &mut Out<'_, W>, n: u32)
     print_hex8(out, n);
 }
 
+/// A number of eight bytes as a constant.
 #[tactic(auto, using(text_writer::proofs::PrintLaws::straight))]
 fn print_qword<W: Write>(out: &mut Out<'_, W>, n: u64)
     ensures { Prints W.contents out.old out.new (word "0x" ++ hex16 n) }
@@ -82,6 +87,7 @@ fn is_constant(row: &OpRow) -> bool
     row.group == Group::Value && !row.has_length() && !row.parts.is_empty()
 }
 
+/// A term on one line.
 #[cycle(inline)]
 #[tactic(auto, using(text_writer::proofs::PrintLaws::straight, crate::proofs::NodeLaws::inline_nodes))]
 pub fn print_inline<W: Write>(out: &mut Out<'_, W>, node: &Node)
@@ -105,7 +111,8 @@ pub fn print_inline<W: Write>(out: &mut Out<'_, W>, node: &Node)
 #[cycle(inline)]
 #[tactic(auto, using(text_writer::proofs::PrintLaws::straight))]
 fn print_call<W: Write>(out: &mut Out<'_, W>, name: &Name, args: &[Node])
-    ensures { Prints W.contents out.old out.new (name_text name.now ++ arguments_text (inlines (nodes_view args.now))) }
+    ensures { Prints W.contents out.old out.new
+        (name_text name.now ++ arguments_text (inlines (nodes_view args.now))) }
 {
     print_name(out, name);
     print_arguments(out, args);
@@ -159,10 +166,12 @@ pub fn print_head<W: Write>(out: &mut Out<'_, W>, opcode: u16, parts: &[Part])
     }
 }
 
+/// An opcode with its parts, by its row.
 #[cycle(inline)]
 #[tactic(auto, using(text_writer::proofs::PrintLaws::straight, crate::proofs::NodeLaws::heads))]
 fn print_row_head<W: Write>(out: &mut Out<'_, W>, row: &OpRow, parts: &[Part])
-    ensures { Prints W.contents out.old out.new (head_text (Some (row_view row.now)) (part_texts (parts_view parts.now))) }
+    ensures { Prints W.contents out.old out.new
+        (head_text (Some (row_view row.now)) (part_texts (parts_view parts.now))) }
 {
     if is_constant(row) {
         print_parts(out, parts);
@@ -185,6 +194,7 @@ fn print_part_arguments<W: Write>(out: &mut Out<'_, W>, parts: &[Part])
     }
 }
 
+/// A part behind a comma.
 #[cycle(inline)]
 #[tactic(auto, using(text_writer::proofs::PrintLaws::straight), unfolding(crate::specs::Texts::after_separator))]
 fn print_next_part<W: Write>(out: &mut Out<'_, W>, part: &Part)
@@ -208,6 +218,7 @@ fn print_parts<W: Write>(out: &mut Out<'_, W>, parts: &[Part])
     }
 }
 
+/// A part.
 #[cycle(inline)]
 #[tactic(auto, using(text_writer::proofs::PrintLaws::straight, crate::proofs::NodeLaws::inline_parts))]
 fn print_part<W: Write>(out: &mut Out<'_, W>, part: &Part)
@@ -233,13 +244,11 @@ pub fn print_tail<W: Write>(out: &mut Out<'_, W>, tail: &Tail)
     match tail {
         Tail::Bytes(bytes) => print_braced_bytes(out, bytes.as_slice()),
         Tail::Elements(nodes) => print_braced_nodes(out, nodes.as_slice()),
-        Tail::Empty => {}
-        Tail::Terms(_) => {}
-        Tail::Fields(_) => {}
-        Tail::Body { .. } => {}
+        Tail::Empty | Tail::Terms(_) | Tail::Fields(_) | Tail::Body { .. } => {}
     }
 }
 
+/// Elements in braces.
 #[cycle(inline)]
 #[tactic(auto, using(text_writer::proofs::PrintLaws::straight, crate::proofs::NodeLaws::braced_nodes))]
 fn print_braced_nodes<W: Write>(out: &mut Out<'_, W>, nodes: &[Node])

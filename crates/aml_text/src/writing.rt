@@ -17,7 +17,8 @@ pub fn write_blocks<W: Write>(
     blocks: &[Block<'_>],
     bodies: &[Body],
 ) -> Result<(), WriteFault>
-    ensures { Writes (W.contents out.old) (W.contents out.new) (blocks_text (map block_view blocks.now) (map body_view bodies.now)) result }
+    ensures { Writes (W.contents out.old) (W.contents out.new)
+        (blocks_text (map block_view blocks.now) (map body_view bodies.now)) result }
 {
     let mut sink = Out::new(out);
     print_blocks(&mut sink, blocks, bodies);

@@ -40,6 +40,7 @@ fn send<W: Write>(to: &mut W, bytes: &[u8]) -> usize
 }
 
 impl<'w, W: Write> Out<'w, W> {
+    /// An output that has written nothing so far.
     pub fn new(inner: &'w mut W) -> Out<'w, W>
         ensures same { result.inner.ghost_name ≡ inner.entry.ghost_name }
         ensures now { result.inner.now ≡ inner.old }

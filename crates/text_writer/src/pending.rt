@@ -4,6 +4,7 @@ ghost use Rattle.std.specs.Prelude.{◌≤◌};
 /// How many bytes can wait.
 pub const ROOM: usize = 4096;
 
+/// At most 4,096 bytes, in order.
 #[derive(Drop)]
 pub struct Pending {
     bytes: [u8; 4096],
@@ -15,6 +16,7 @@ impl Pending {
     ghost use Rattle.std.specs.Prelude.{◌≡◌, ◌+◌, ◌++◌, [], length};
     ghost use Rattle.text_writer.specs.Waiting.{waiting};
 
+    /// No bytes.
     pub fn new() -> Pending
         ensures { waiting result ≡ [] }
     {
@@ -31,18 +33,21 @@ impl Pending {
         ROOM - self.len
     }
 
+    /// The bytes in order.
     pub fn as_slice(&self) -> &[u8]
         ensures { result.now ≡ waiting self.now }
     {
         &self.bytes[..self.len]
     }
 
+    /// Forgets all bytes.
     pub fn clear(&mut self)
         ensures { waiting self.new ≡ [] }
     {
         self.len = 0;
     }
 
+    /// Puts more bytes behind the others.
     pub fn add(&mut self, more: &[u8])
         requires { length (waiting self.old) + length more.now ≤ 4096 }
         ensures { waiting self.new ≡ waiting self.old ++ more.now }

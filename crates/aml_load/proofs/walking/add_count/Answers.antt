@@ -1,8 +1,0 @@
-use Rattle.std.proofs.Common.{refl}
-use Rattle.aml_space.specs.Entries.{external}
-use Rattle.aml_load.specs.Loading.{plus}
-use Rattle.aml_load.proofs.Holding.{external_held}
-use Rattle.aml_load.proofs.walking.add_count.Goals as goal
-
-pub returns : goal.returns
-returns c l h = (plus l (external c.args.path c.args.count), external_held c.args.progress.now _ l c.args.path c.args.count h (c.in_ok-external.ensures.stands l.entries h.space) refl refl, refl)

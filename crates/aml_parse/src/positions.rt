@@ -1,0 +1,121 @@
+//! Opcodes, which of them a position takes, and which position comes next.
+ghost use Rattle.std.specs.Prelude.{◌≡◌};
+ghost use Rattle.aml_names.specs.Steps.{Gives};
+ghost use Rattle.aml_code.specs.Lawful.{is_guard, is_if, next_position, terms_in};
+ghost use Rattle.aml_code.specs.View.{node_view};
+ghost use Rattle.aml_parse.specs.Reading.{opcode_at, refused_in_body, refusal, is_absent_target, takes_names, guard_at};
+
+use aml_code::{CodeFault, Node, Place, Position, byte_of, listed_row};
+
+/// An opcode: one byte, or 5B and a second.
+#[tactic(auto, unfolding(crate::specs::Reading::opcode_at))]
+pub fn opcode_of(end: u32, bytes: &[u8]) -> Result<(u16, &[u8]), CodeFault>
+    ensures { Gives (λ x. (x.0, x.1.now)) result (opcode_at end bytes.now) }
+{
+    let (lead, rest) = byte_of(end, bytes)?;
+    if lead != 0x5B {
+        return Ok((lead as u16, rest));
+    }
+    let (second, rest) = byte_of(end, rest)?;
+    Ok((0x5B00 + second as u16, rest))
+}
+
+/// Why a method's body doesn't take an opcode of a place.
+fn refused_in_body(place: Place, at: u32) -> CodeFault
+    ensures { result ≡ refused_in_body place at }
+{
+    match place {
+        Place::Method => CodeFault::NestedMethod { at },
+        Place::Scope => CodeFault::NestedScope { at },
+        Place::Else => CodeFault::StrayElse { at },
+        _ => CodeFault::NotHere { at },
+    }
+}
+
+/// Why a position doesn't take an opcode of a place.
+pub fn refusal(position: Position, place: Place, at: u32) -> CodeFault
+    ensures { result ≡ refusal position place at }
+{
+    match position {
+        Position::ModuleTerm | Position::GuardTerm => CodeFault::ModuleCode { at },
+        Position::BodyTerm | Position::AfterIf => refused_in_body(place, at),
+        Position::Argument | Position::Target | Position::Data => CodeFault::NotHere { at },
+    }
+}
+
+/// Whether a target is absent: its place holds the byte 00.
+pub fn is_absent_target(position: Position, lead: u8) -> bool
+    ensures { result ≡ is_absent_target position lead }
+{
+    position == Position::Target && lead == 0x00
+}
+
+/// Whether a term may be a name.
+pub fn takes_names(position: Position) -> bool
+    ensures { result ≡ takes_names position }
+{
+    !matches!(position, Position::ModuleTerm | Position::GuardTerm)
+}
+
+/// Whether the terms inside a term of a table are those of a guard.
+pub fn is_guard(position: Position, place: Place) -> bool
+    ensures { result ≡ is_guard position place }
+{
+    position == Position::ModuleTerm && place == Place::If
+}
+
+/// Where the terms inside a term stand.
+pub fn terms_in(position: Position, place: Place) -> Position
+    ensures { result ≡ terms_in position place }
+{
+    match position {
+        Position::ModuleTerm => match place {
+            Place::If => Position::GuardTerm,
+            _ => Position::ModuleTerm,
+        },
+        _ => Position::BodyTerm,
+    }
+}
+
+/// Whether a term is an If.
+fn is_if(node: &Node) -> bool
+    ensures { result ≡ is_if (node_view node.now) }
+{
+    match node {
+        Node::Op { opcode, .. } => match listed_row(*opcode) {
+            None => false,
+            Some(row) => row.place == Place::If,
+        },
+        _ => false,
+    }
+}
+
+/// Where the term after a term of a list stands.
+pub fn next_position(position: Position, node: &Node) -> Position
+    ensures { result ≡ next_position position (node_view node.now) }
+{
+    match position {
+        Position::BodyTerm | Position::AfterIf => {
+            if is_if(node) {
+                Position::AfterIf
+            } else {
+                Position::BodyTerm
+            }
+        }
+        _ => position,
+    }
+}
+
+/// Whether a guard begins with its predicate 00. `ModuleCode` at the guard where it begins with another byte.
+pub fn guard_of(guarded: bool, at: u32, end: u32, inside: &[u8]) -> Result<bool, CodeFault>
+    ensures { Gives (λ b. b) result (guard_at guarded at end inside.now) }
+{
+    if !guarded {
+        return Ok(false);
+    }
+    let (first, _) = byte_of(end, inside)?;
+    if first != 0x00 {
+        return Err(CodeFault::ModuleCode { at });
+    }
+    Ok(true)
+}
