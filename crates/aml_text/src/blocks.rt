@@ -153,7 +153,7 @@ fn print_method_block<W: Write>(
 )
     ensures { Prints W.contents out.old out.new
         (opening level (method_head_of opcode parts.now) ++
-            body_lines (deeper level) bytes.now (map body_view bodies.now) ++ closing level) }
+        body_lines (deeper level) bytes.now (map body_view bodies.now) ++ closing level) }
 {
     print_method_opening(out, level, opcode, parts);
     print_body(out, level.saturating_add(1), bytes, bodies);
@@ -212,7 +212,7 @@ fn print_table_op<'b, W: Write>(
 ) -> &'b [Body]
     ensures prints { Prints W.contents out.old out.new
         (table_op_lines code.now level opcode (parts_view parts.now) (tail_view tail.now)
-            (map body_view bodies.now)) }
+        (map body_view bodies.now)) }
     ensures others { map body_view result.now ≡ left_rest (tail_view tail.now) (map body_view bodies.now) }
 {
     match tail {
@@ -250,7 +250,7 @@ fn print_table_block<'b, W: Write>(
 ) -> &'b [Body]
     ensures prints { Prints W.contents out.old out.new
         (opening level (head_of opcode parts.now) ++
-            all_table_lines code.now (deeper level) (nodes_view nodes.now) (map body_view bodies.now) ++ closing level) }
+        all_table_lines code.now (deeper level) (nodes_view nodes.now) (map body_view bodies.now) ++ closing level) }
     ensures others { map body_view result.now ≡ left_all (nodes_view nodes.now) (map body_view bodies.now) }
 {
     print_opening(out, level, opcode, parts);

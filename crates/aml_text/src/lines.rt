@@ -205,7 +205,7 @@ fn print_fields_block<W: Write>(
 )
     ensures { Prints W.contents out.old out.new
         (opening level (head_of opcode parts.now) ++
-            flat_map (field_line (deeper level)) fields.now ++ closing level) }
+        flat_map (field_line (deeper level)) fields.now ++ closing level) }
 {
     print_opening(out, level, opcode, parts);
     print_fields(out, level.saturating_add(1), fields);
@@ -260,7 +260,7 @@ fn print_terms_block<W: Write>(
 )
     ensures { Prints W.contents out.old out.new
         (opening level (head_of opcode parts.now) ++
-            flat_map (node_lines (deeper level)) nodes.now ++ closing level) }
+        flat_map (node_lines (deeper level)) nodes.now ++ closing level) }
 {
     print_opening(out, level, opcode, parts);
     print_terms(out, level.saturating_add(1), nodes);
