@@ -1,4 +1,3 @@
 pub mod Children
 pub mod Codes
 pub mod Trees
-pub mod Sizes

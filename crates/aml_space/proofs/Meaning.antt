@@ -1,8 +1,7 @@
 -- What is known of a path, by its node.
-use Rattle.std.proofs.Common.{◌≡◌, ℕ, zero, suc, ◌-◌, ◌<◌, ◌≤◌, Bool, true, false, cond, List, [], ◌∷◌, ◌++◌, length, take, Option, Some, None, IfSome, is_some, refl, sym, ap, subst, ◌∙◌, arith}
+use Rattle.std.proofs.Common.{◌≡◌, ℕ, zero, suc, ◌-◌, ◌<◌, ◌≤◌, Bool, true, false, cond, List, [], ◌∷◌, ◌++◌, length, take, Option, Some, None, IfSome, is_some, refl, sym, ap, ◌∙◌, arith}
 use Rattle.std.specs.Prelude.{◌||◌}
 use Rattle.std.specs.Option.{option_or, option_and_then, option_map}
-use Rattle.std.specs.List.{find}
 use Rattle.std.specs.FinMap as map
 use Rattle.std.specs.FinSet as set
 use Rattle.aml_names.specs.declared.segments.Seg.{Seg}

@@ -1,19 +1,19 @@
 -- One row more, counted along its path.
 use mathlib.Core.Bool.{true≢false}
 use Rattle.std.specs.Prelude.{◌==◌, slice_get}
-use Rattle.std.proofs.Common.{◌≡◌, ℕ, zero, suc, ◌+◌, ◌<◌, ◌≤◌, Bool, true, false, cond, List, [], ◌∷◌, ◌++◌, Option, Some, None, is_some, length, refl, sym, ap, subst, ◌∙◌, arith, inl, inr}
+use Rattle.std.proofs.Common.{◌≡◌, ℕ, suc, ◌+◌, ◌≤◌, Bool, true, false, cond, List, [], ◌∷◌, ◌++◌, Option, Some, None, is_some, length, refl, sym, ap, subst, ◌∙◌, arith}
 use Rattle.std.specs.Option.{unwrap_or}
 use Rattle.std.specs.Ordering.{eq_by_cmp, is_eq}
-use Rattle.std.proofs.lemmas.Bool.{cases_lt, eq-eqb, ne_eqb}
+use Rattle.std.proofs.lemmas.Bool.{eq-eqb, ne_eqb}
 use Rattle.std.proofs.lemmas.List.{append_cancel_left}
 use Rattle.std.proofs.lemmas.Map.Views.{tells_apart, exact_unsigned_eq}
 use Rattle.std.specs.Cmp.{tied_itself}
-use Rattle.std.specs.declared.cmp.Ordering.TheVariants.{Less, Equal}
+use Rattle.std.specs.declared.cmp.Ordering.TheVariants.{Less}
 use Rattle.aml_names.specs.declared.segments.Seg.{Seg}
 use Rattle.aml_names.specs.Paths.{seg_cmp, segs_total, exact_segs}
 use Rattle.aml_children.specs.declared.children.Child.{Child}
 use Rattle.aml_space.specs.declared.nodes.Node.{Node}
-use Rattle.aml_space.specs.Graph.{walk, one_if, IsFamily, IsTree}
+use Rattle.aml_space.specs.Graph.{walk, one_if, IsTree}
 use Rattle.aml_children.specs.Children.{Counted, bare, child_in, raised, total, Rise}
 use Rattle.aml_children.proofs.Sides.{total_raised}
 use Rattle.aml_space.specs.Nodes.{counted_of, kids_of, kinds_of, outs_of, pairs_of, rows_of, HaveRows, IsShape, IsIndex, IsCounted, IsOwed, IsRecounted, HasRaised, HasRow, HasOut}

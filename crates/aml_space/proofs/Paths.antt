@@ -1,5 +1,5 @@
 -- The nodes of a path below a node, each made below the one before it.
-use Rattle.std.proofs.Common.{◌≡◌, ℕ, zero, suc, ◌+◌, ◌<◌, ◌≤◌, List, [], ◌∷◌, ◌++◌, length, take, drop, get_or, Option, Some, None, refl, sym, ap, subst, ◌∙◌, arith, append_assoc, length-append}
+use Rattle.std.proofs.Common.{◌≡◌, ℕ, ◌+◌, ◌<◌, List, [], ◌∷◌, ◌++◌, length, take, drop, get_or, Some, None, refl, sym, ap, subst, ◌∙◌, arith, append_assoc, length-append}
 use Rattle.std.proofs.lemmas.List.{append-nil, take-append-drop}
 use Rattle.std.specs.Option.{option_and_then}
 use Rattle.aml_names.specs.declared.segments.Seg.{Seg}
@@ -62,13 +62,13 @@ rest_more ns xs p (s ∷ q) so =
     let long : length before ≡ length xs + 1 = length-append xs (empty ∷ []) in
     let one = one_more before p (length xs) s (omega (arith, long)) so.index so.led (last_leaf xs s) in
     let is : with_child before (length xs) (record { seg = s; node = length before }) ++ empty ∷ [] ≡ (xs ++ filled ∷ []) ++ empty ∷ [] =
-        ap (λ n. with_child before (length xs) (record { seg = s; node = n }) ++ empty ∷ []) long ∙ ap (λ ms. ms ++ empty ∷ []) (with_pushed xs [] empty c) in
+    ap (λ n. with_child before (length xs) (record { seg = s; node = n }) ++ empty ∷ []) long ∙ ap (λ ms. ms ++ empty ∷ []) (with_pushed xs [] empty c) in
     let long_next : length (xs ++ filled ∷ []) ≡ length xs + 1 = length-append xs (filled ∷ []) in
     let next : Leads ns ((xs ++ filled ∷ []) ++ empty ∷ []) (p ++ s ∷ []) (length (xs ++ filled ∷ [])) =
-        subst (λ ms. Leads ns ms (p ++ s ∷ []) (length (xs ++ filled ∷ []))) is (subst (Leads ns (with_child before (length xs) (record { seg = s; node = length before }) ++ empty ∷ []) (p ++ s ∷ [])) {x = length before} {y = length (xs ++ filled ∷ [])} (omega (arith, long, long_next)) (record { index = one.index; known = one.known ∙ so.known; rows = one.rows ∙ so.rows; led = one.led })) in
+    subst (λ ms. Leads ns ms (p ++ s ∷ []) (length (xs ++ filled ∷ []))) is (subst (Leads ns (with_child before (length xs) (record { seg = s; node = length before }) ++ empty ∷ []) (p ++ s ∷ [])) {x = length before} {y = length (xs ++ filled ∷ [])} (omega (arith, long, long_next)) (record { index = one.index; known = one.known ∙ so.known; rows = one.rows ∙ so.rows; led = one.led })) in
     let rest = rest_more ns (xs ++ filled ∷ []) (p ++ s ∷ []) q next in
     let list : (xs ++ filled ∷ []) ++ chain (length (xs ++ filled ∷ [])) q ≡ xs ++ filled ∷ chain (length xs + 1) q =
-        append_assoc xs (filled ∷ []) (chain (length (xs ++ filled ∷ [])) q) ∙ ap (λ n. xs ++ filled ∷ chain n q) long_next in
+    append_assoc xs (filled ∷ []) (chain (length (xs ++ filled ∷ [])) q) ∙ ap (λ n. xs ++ filled ∷ chain n q) long_next in
     let path : (p ++ s ∷ []) ++ q ≡ p ++ s ∷ q = append_assoc p (s ∷ []) q in
     let end : length (xs ++ filled ∷ []) + length q ≡ length xs + length (s ∷ q) = omega (arith, long_next) in
     subst (λ ms. Leads ns ms (p ++ s ∷ q) (length xs + length (s ∷ q))) list (subst (λ l. Leads ns ((xs ++ filled ∷ []) ++ chain (length (xs ++ filled ∷ [])) q) l (length xs + length (s ∷ q))) path (subst (Leads ns ((xs ++ filled ∷ []) ++ chain (length (xs ++ filled ∷ [])) q) ((p ++ s ∷ []) ++ q)) end rest))

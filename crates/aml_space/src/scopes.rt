@@ -1,5 +1,5 @@
 //! Scopes in the index, and what a name of one segment means in them.
-ghost use Rattle.std.specs.Prelude.{◌≡◌, ◌||◌, ℕ, ◌+◌, ◌<◌, ◌≤◌, ◌++◌, List, cond, length, take, slice_get, Some, None, is_some, IsTrue, IfOk, IfSome};
+ghost use Rattle.std.specs.Prelude.{◌≡◌, ◌||◌, ℕ, ◌+◌, ◌<◌, ◌≤◌, ◌++◌, List, cond, length, take, slice_get, Some, None, is_some, IfOk, IfSome};
 ghost use Rattle.std.specs.Option.{option_or, option_and_then, option_copied, option_map};
 ghost use Rattle.std.specs.FinSet as set;
 ghost use Rattle.aml_names.specs.declared.segments.Seg.{Seg};
@@ -146,7 +146,12 @@ impl<'a> Scope<'a> {
         if here.local {
             return Some(0);
         }
-        count_met(self.nodes, self.predefined, here.node, self.standing(segment, here.depth))
+        count_met(
+            self.nodes,
+            self.predefined,
+            here.node,
+            self.standing(segment, here.depth),
+        )
     }
 
     /// The path of a candidate.

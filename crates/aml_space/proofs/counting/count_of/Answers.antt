@@ -1,4 +1,4 @@
-use Rattle.std.proofs.Common.{sym, ap, ◌∙◌}
+use Rattle.std.proofs.Common.{ap, ◌∙◌}
 use Rattle.aml_space.specs.Graph.{walk}
 use Rattle.aml_space.specs.Nodes.{kids_of}
 use Rattle.aml_space.proofs.Meaning.{count_of_met}

@@ -1,4 +1,4 @@
-use Rattle.std.proofs.Common.{sym, ap, ◌∙◌}
+use Rattle.std.proofs.Common.{ap, ◌∙◌}
 use Rattle.aml_space.specs.Graph.{walk}
 use Rattle.aml_space.specs.Namespace.{target_count}
 use Rattle.aml_space.specs.Nodes.{kids_of}
@@ -10,4 +10,4 @@ returns c =
     let ns = c.args.nodes.now in
     let met = c.walk_counted-node.ensures.node ∙ ap (walk (kids_of ns) 0) c.segs.ensures in
     c.count_of_target.ensures ∙ (λ i. target_count ((c.kind_met-kind.ensures ∙ kind_of_met ns c.requires c.args.target.now c.walk_counted-node.result.0 met _ (c.kind.ensures ∙ ap Rattle.aml_space.specs.Predefined.predefined c.segs-2.ensures)) i)
-        ((c.out_at.ensures ∙ out_of_met ns c.requires c.args.target.now c.walk_counted-node.result.0 met) i))
+    ((c.out_at.ensures ∙ out_of_met ns c.requires c.args.target.now c.walk_counted-node.result.0 met) i))

@@ -1,5 +1,4 @@
-use Rattle.std.proofs.Common.{◌≡◌, ◌+◌, length, sym, ap, ◌∙◌, arith}
-use Rattle.aml_space.specs.Nodes.{with_path}
+use Rattle.std.proofs.Common.{◌≡◌, ◌+◌, length, ap, ◌∙◌, arith}
 use Rattle.aml_space.proofs.Paths.{long_path}
 use Rattle.aml_space.proofs.growing.grow.Goals as goal
 

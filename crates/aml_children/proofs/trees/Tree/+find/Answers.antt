@@ -1,6 +1,5 @@
-use Rattle.std.proofs.Common.{◌≡◌, ℕ, ◌+◌, ◌<◌, ◌≤◌, List, length, Some, sym, subst, ap, ◌∙◌, arith, rules}
+use Rattle.std.proofs.Common.{◌≡◌, ℕ, ◌<◌, List, length, Some, sym, subst, ap, ◌∙◌, arith, rules}
 use Rattle.aml_children.specs.Children.{Counted, bare, child_in, Rise}
-use Rattle.aml_children.specs.Trees.{list_of}
 use Rattle.aml_children.specs.declared.trees.Fork.{Fork}
 use Rattle.aml_children.proofs.Sides.{rise_left, rise_right, found_left, found_right, found_middle}
 use Rattle.aml_children.proofs.Forks.{listed, heighted, rising, balanced_top, left_shorter, right_shorter}

@@ -1,5 +1,5 @@
-use Rattle.std.proofs.Common.{◌≡◌, ℕ, ◌+◌, ◌-◌, ◌<◌, ◌≤◌, List, ◌∷◌, ◌++◌, Some, sym, ap, ◌∙◌, arith}
-use Rattle.aml_children.specs.Children.{Counted, total, holding}
+use Rattle.std.proofs.Common.{◌≡◌, ◌-◌, ◌∷◌, Some, sym, ap, ◌∙◌, arith}
+use Rattle.aml_children.specs.Children.{total, holding}
 use Rattle.aml_children.specs.declared.trees.Fork.{Fork}
 use Rattle.aml_children.proofs.Sides.{held_left, held_past, held_middle, held_right}
 use Rattle.aml_children.proofs.Forks.{listed}

@@ -1,12 +1,11 @@
-use Rattle.std.proofs.Common.{◌≡◌, ℕ, ◌+◌, ◌^◌, ◌<◌, ◌≤◌, max, List, ◌∷◌, ◌++◌, length, Option, Some, None, sym, subst, ap, ◌∙◌, arith, rules}
+use Rattle.std.proofs.Common.{◌≡◌, ℕ, ◌<◌, List, ◌∷◌, ◌++◌, length, Option, Some, None, sym, subst, ap, ◌∙◌, arith, rules}
 use Rattle.std.specs.Global.{Box}
-use Rattle.std.specs.declared.cmp.Ordering.TheVariants.{Less, Equal, Greater}
 use Rattle.aml_names.specs.Paths.{seg_cmp}
 use Rattle.aml_children.specs.Children.{Counted, bare, child_in, total, put, Rise}
-use Rattle.aml_children.specs.Trees.{list_of, list_and_height, sum_of, Rebalances}
+use Rattle.aml_children.specs.Trees.{list_and_height, Rebalances}
 use Rattle.aml_children.specs.declared.trees.Fork.{Fork}
 use Rattle.aml_children.proofs.Sides.{rise_left, rise_right, absent_left, absent_right, no_middle, put_left, put_right, total_put}
-use Rattle.aml_children.proofs.Forks.{total_of, listed, heighted, rising, balanced_top, left_shorter, right_shorter}
+use Rattle.aml_children.proofs.Forks.{listed, heighted, rising, balanced_top, left_shorter, right_shorter}
 use Rattle.aml_children.proofs.trees.Tree.+insert.Goals as goal
 use Rattle.aml_children.proofs.trees.Tree.+insert.Goals.{in-Less+in_ok-insert-in-Less, in-Equal, in-Greater+in_ok-insert-in-Greater}
 

@@ -1,9 +1,7 @@
-use Rattle.std.proofs.Common.{◌≡◌, ℕ, Option, Some, None, Bool, false, cond, sym, ap, ◌∙◌}
+use Rattle.std.proofs.Common.{◌≡◌, Some, None, false, cond, sym, ◌∙◌}
 use Rattle.std.specs.Option.{option_or}
 use Rattle.std.specs.FinSet as set
-use Rattle.aml_names.specs.declared.segments.Seg.{Seg}
-use Rattle.aml_names.specs.Paths.{PathSet}
-use Rattle.aml_space.specs.Namespace.{Namespace, count_at, arity_at, first_of}
+use Rattle.aml_space.specs.Namespace.{count_at}
 use Rattle.aml_space.specs.Known.{namespace_in}
 use Rattle.aml_space.specs.Nodes.{known_by}
 use Rattle.aml_space.proofs.Meaning.{placed}

@@ -4,10 +4,10 @@ use Rattle.aml_names.specs.declared.segments.Seg.{Seg}
 use Rattle.aml_names.specs.Searching.{upward}
 use Rattle.aml_children.specs.Children.{child_in}
 use Rattle.aml_space.specs.declared.scopes.Candidate.{Candidate}
-use Rattle.aml_space.specs.Namespace.{Namespace, decides, is_outside}
+use Rattle.aml_space.specs.Namespace.{decides, is_outside}
 use Rattle.aml_space.specs.Known.{namespace_in}
-use Rattle.aml_space.specs.Nodes.{kids_of, outs_of, known_by}
-use Rattle.aml_space.specs.Candidates.{path_at, raised_path, IsCandidate, IsScratch}
+use Rattle.aml_space.specs.Nodes.{kids_of, known_by}
+use Rattle.aml_space.specs.Candidates.{path_at, IsCandidate, IsScratch}
 use Rattle.aml_space.proofs.Along.{along_within, candidate_node}
 use Rattle.aml_space.proofs.Upward.{rest_of, hit, step}
 use Rattle.aml_space.proofs.Meaning.{meant_path, outside_path, outside_depth, outside_still, ended, scratch_raised}
@@ -31,7 +31,7 @@ pub child_along-node-requires-clause-within : goal.child_along-node-requires-cla
 child_along-node-requires-clause-within c =
     let s = c.args.self.now in
     subst (λ chain. (d j : ℕ) → slice_get chain d ≡ Some j → j < length s.nodes.now) (sym c.as_slice.ensures.value)
-        (along_within s.nodes.now s.path.now s.chain.items c.requires.scope.shape c.requires.scope.along c.requires.scope.long)
+    (along_within s.nodes.now s.path.now s.chain.items c.requires.scope.shape c.requires.scope.along c.requires.scope.long)
 
 pub returns-then-is_meant-clause-found : goal.returns-then-is_meant-clause-found
 returns-then-is_meant-clause-found c =
@@ -70,7 +70,7 @@ returns-then-depth-eq0-clause-found c =
     let root : path ≡ segment = ap (λ d. take d s.path.now ++ segment) {x = d} {y = 0} c.if-depth-eq0.true in
     ap (option_map (path_at s.path.now segment)) (first ∙ ap (λ p. option_or c.depths.outside (cond (is_outside k p) (Some here) None)) root)
     ∙ sym (inv.same ∙ ap (λ d. rest_of k locals s.path.now segment (option_map (λ (c : Candidate). c.depth) c.depths.outside) (upward d s.path.now segment)) {x = d} {y = 0} c.if-depth-eq0.true
-        ∙ ended k locals s.path.now segment c.depths.outside (ap (decides k locals) (sym root) ∙ fails) here c.if-depth-eq0.true)
+    ∙ ended k locals s.path.now segment c.depths.outside (ap (decides k locals) (sym root) ∙ fails) here c.if-depth-eq0.true)
 
 pub depths-preserved : goal.depths-preserved
 depths-preserved c =

@@ -1,1 +1,0 @@
--- The sides of a fork are smaller.
