@@ -5,7 +5,7 @@ use Rattle.aml_names.specs.declared.segments.Seg.{Seg}
 use Rattle.aml_code.specs.declared.packages.PkgWidth.{PkgWidth}
 use Rattle.aml_code.specs.declared.rows.Position.TheVariants as positions
 use Rattle.aml_code.specs.Packages.{width_len}
-use Rattle.aml_code.specs.Tree.{Tree, nothing, named, op, Trees, no_trees, tree_more, Rest, empty, terms, bytes, elements, fields, body}
+use Rattle.aml_code.specs.Tree.{Tree, op, Trees, no_trees, tree_more, Rest, terms, body}
 use Rattle.aml_code.specs.Encoding.{opcode_bytes, encoding, encodings, parts_encoding}
 use Rattle.aml_code.specs.Faults.{Arities}
 use Rattle.aml_code.specs.Lawful.{Count, exactly, unknown, Setting, AreTerms}

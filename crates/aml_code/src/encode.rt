@@ -28,24 +28,34 @@ fn push_little8(n: u64, out: &mut Vec<u8>) -> Result<(), NoMemory>
     out.extend_from_slice(&n.to_le_bytes())
 }
 
+/// The bytes of a package length, with zeros behind them up to four.
+fn length_bytes(width: PkgWidth, n: usize) -> [u8; 4]
+    ensures { take (width_len width) result ≡ package_bytes width n }
+{
+    let high = n / 16;
+    match width {
+        PkgWidth::One => [(n % 64) as u8, 0, 0, 0],
+        PkgWidth::Two => [64 + (n % 16) as u8, (high % 256) as u8, 0, 0],
+        PkgWidth::Three => [
+            128 + (n % 16) as u8,
+            (high % 256) as u8,
+            (high / 256 % 256) as u8,
+            0,
+        ],
+        PkgWidth::Four => [
+            192 + (n % 16) as u8,
+            (high % 256) as u8,
+            (high / 256 % 256) as u8,
+            (high / 256 / 256 % 256) as u8,
+        ],
+    }
+}
+
 fn push_length(width: PkgWidth, n: usize, out: &mut Vec<u8>) -> Result<(), NoMemory>
     ensures { OnOk result (out.new.items ≡ out.old.items ++ package_bytes width n) }
 {
-    match width {
-        PkgWidth::One => out.extend_from_slice(&[(n % 64) as u8]),
-        PkgWidth::Two => { out.extend_from_slice(&[64 + (n % 16) as u8, (n / 16 % 256) as u8]) }
-        PkgWidth::Three => out.extend_from_slice(&[
-            128 + (n % 16) as u8,
-            (n / 16 % 256) as u8,
-            (n / 16 / 256 % 256) as u8,
-        ]),
-        PkgWidth::Four => out.extend_from_slice(&[
-            192 + (n % 16) as u8,
-            (n / 16 % 256) as u8,
-            (n / 16 / 256 % 256) as u8,
-            (n / 16 / 256 / 256 % 256) as u8,
-        ]),
-    }
+    let len = width.bytes() as usize;
+    out.extend_from_slice(&length_bytes(width, n)[..len])
 }
 
 /// Leaves room for a package length at the end, and says where.
@@ -64,24 +74,9 @@ fn close_package(width: PkgWidth, at: usize, out: &mut Vec<u8>)
     ensures { out.new.items ≡ take at out.old.items ++
         (package_bytes width (length out.old.items - at) ++ drop (at + width_len width) out.old.items) }
 {
+    let len = width.bytes() as usize;
     let n = out.len() - at;
-    match width {
-        PkgWidth::One => out[at..at + 1].copy_from_slice(&[(n % 64) as u8]),
-        PkgWidth::Two => {
-            out[at..at + 2].copy_from_slice(&[64 + (n % 16) as u8, (n / 16 % 256) as u8])
-        }
-        PkgWidth::Three => out[at..at + 3].copy_from_slice(&[
-            128 + (n % 16) as u8,
-            (n / 16 % 256) as u8,
-            (n / 16 / 256 % 256) as u8,
-        ]),
-        PkgWidth::Four => out[at..at + 4].copy_from_slice(&[
-            192 + (n % 16) as u8,
-            (n / 16 % 256) as u8,
-            (n / 16 / 256 % 256) as u8,
-            (n / 16 / 256 / 256 % 256) as u8,
-        ]),
-    }
+    out[at..at + len].copy_from_slice(&length_bytes(width, n)[..len]);
 }
 
 fn encode_segs(segs: &[Seg], out: &mut Vec<u8>) -> Result<(), NoMemory>

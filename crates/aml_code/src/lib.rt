@@ -4,7 +4,7 @@
 #![tactic(auto)]
 
 mod accessors;
-mod bytes_of;
+mod bytes;
 mod encode;
 mod packages;
 mod rows;
@@ -15,7 +15,7 @@ pub use accessors::{last_byte, last_name};
 pub use aml_names::{
     Arity, CodeFault, Locals, Name, NameForm, NoMemory, Path, Seg, Segs, byte_of, offset_of, place,
 };
-pub use bytes_of::Bytes;
+pub use bytes::Bytes;
 pub use encode::{encode_terms, slice};
 pub use packages::{PkgWidth, length_of, little_of, read_pkg, span_of};
 pub use rows::{Group, Object, OpRow, PartKind, Place, Position, Role, TailKind, takes};

@@ -8,7 +8,10 @@ ghost use Rattle.aml_code.specs.declared.table.TheConstants.{INDEX};
 use crate::rows::{Group, Object, OpRow, PartKind, Place, Role, TailKind};
 
 macro_rules! rows {
-    ($($opcode:literal $mnemonic:literal $group:ident $place:ident [$($part:ident)*] $tail:ident $role:ident $(($object:ident))?;)*) => {
+    ($(
+        $opcode:literal $mnemonic:literal $group:ident $place:ident [$($part:ident)*] $tail:ident
+            $role:ident $(($object:ident))?;
+    )*) => {
         [$(OpRow {
             opcode: $opcode,
             mnemonic: $mnemonic,

@@ -3,7 +3,7 @@
 //! One type holds every term. What a node is made of is said by the row of its opcode (`row`), and where it may
 //! stand by its position (`Position`).
 
-use crate::bytes_of::Bytes;
+use crate::bytes::Bytes;
 use crate::packages::PkgWidth;
 use aml_names::{Name, Seg};
 

@@ -84,19 +84,19 @@ pub fn read_bodies(
     // Each body reads as its terms.
     ensures sound { (es : List Entry) → StandsFor loaded.now.space es →
         IfOk result (λ bodies. AreBodies unknown_zero es (codes_view loaded.now.tables.items)
-            loaded.now.methods.items (trees_view bodies.items)) }
+        loaded.now.methods.items (trees_view bodies.items)) }
     // As no others.
     ensures one { (es : List Entry) → StandsFor loaded.now.space es →
         IfOk result (λ bodies. (bs : List Trees) →
-            AreBodies unknown_zero es (codes_view loaded.now.tables.items) loaded.now.methods.items bs →
-            bs ≡ trees_view bodies.items) }
+        AreBodies unknown_zero es (codes_view loaded.now.tables.items) loaded.now.methods.items bs →
+        bs ≡ trees_view bodies.items) }
     // A refusal for another cause than memory comes only where a body reads as no terms, and it is true of that body.
     ensures complete { (es : List Entry) → StandsFor loaded.now.space es →
         IfErr result (λ e. (e ≡ LoadFault.NoMemory) ⊎ ((bs : List Trees) →
-            AreBodies unknown_zero es (codes_view loaded.now.tables.items) loaded.now.methods.items bs → ⊥)) }
+        AreBodies unknown_zero es (codes_view loaded.now.tables.items) loaded.now.methods.items bs → ⊥)) }
     ensures true_fault { (es : List Entry) → StandsFor loaded.now.space es →
         IfErr result (λ e. (e ≡ LoadFault.NoMemory) ⊎
-            LacksBody unknown_zero es (codes_view loaded.now.tables.items) loaded.now.methods.items e) }
+        LacksBody unknown_zero es (codes_view loaded.now.tables.items) loaded.now.methods.items e) }
 {
     read_methods(
         alloc,

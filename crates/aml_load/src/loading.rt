@@ -34,11 +34,7 @@ pub struct Loaded<'a> {
 
 /// Reads a table, and declares what it declares.
 #[tactic(auto, unfolding(crate::specs::Walking::table_at))]
-fn load_table(
-    progress: &mut Progress,
-    table: usize,
-    code: &[u8],
-) -> Result<Vec<Node>, LoadFault>
+fn load_table(progress: &mut Progress, table: usize, code: &[u8]) -> Result<Vec<Node>, LoadFault>
     requires { length code.now ≤ 16777216 }
     ensures { (l : Listed) → Holds progress.old l →
         TableWalked (λ x. nodes_view x.items) progress.new result (table_at table l code.now) }
@@ -48,7 +44,13 @@ fn load_table(
         Err(fault) => return Err(LoadFault::in_code(table, fault)),
     };
     let root = Path::root(progress.alloc);
-    progress.walk_all(&Site { table, scope: &root }, terms.as_slice())?;
+    progress.walk_all(
+        &Site {
+            table,
+            scope: &root,
+        },
+        terms.as_slice(),
+    )?;
     Ok(terms)
 }
 

@@ -183,7 +183,7 @@ pub fn add_names(
 ) -> Result<(), NoMemory>
     ensures { OnOk result (uses.new.items ≡ uses.old.items ++
         (parts_uses site.now.table site.now.scope.now (kinds_in (row_of opcode)) (parts_view parts.now) ++
-            rest_uses site.now.table site.now.scope.now (tail_view tail.now))) }
+        rest_uses site.now.table site.now.scope.now (tail_view tail.now))) }
 {
     add_parts(site, kinds_of(opcode), parts, uses)?;
     add_tail(site, tail, uses)

@@ -204,15 +204,10 @@ impl Progress {
     }
 
     #[tactic(auto, unfolding(crate::specs::Walking::method_at))]
-    fn add_method(
-        &mut self,
-        site: &Site<'_>,
-        parts: &[Part],
-        tail: &Tail,
-    ) -> Result<(), LoadFault>
+    fn add_method(&mut self, site: &Site<'_>, parts: &[Part], tail: &Tail) -> Result<(), LoadFault>
         ensures { Walks self.old self.new result (λ l.
             method_at site.now.table l site.now.scope.now (last_label None (parts_view parts.now))
-                (byte_of (parts_view parts.now)) (body_start (tail_view tail.now)) (body_len (tail_view tail.now))) }
+            (byte_of (parts_view parts.now)) (body_start (tail_view tail.now)) (body_len (tail_view tail.now))) }
     {
         let path = self.own_path(site, last_name(parts))?;
         let (start, len) = body_span(tail);
@@ -229,7 +224,7 @@ impl Progress {
     fn add_alias(&mut self, site: &Site<'_>, parts: &[Part]) -> Result<(), LoadFault>
         ensures { Walks self.old self.new result (λ l.
             alias_at site.now.table l site.now.scope.now (first_label (parts_view parts.now))
-                (last_label None (parts_view parts.now))) }
+            (last_label None (parts_view parts.now))) }
     {
         let source = self.source_path(site, first_name(parts))?;
         let target = self.target_of(source)?;
@@ -248,7 +243,7 @@ impl Progress {
     fn add_external(&mut self, site: &Site<'_>, parts: &[Part]) -> Result<(), LoadFault>
         ensures { Walks self.old self.new result (λ l.
             external_at site.now.table l site.now.scope.now (last_label None (parts_view parts.now))
-                (byte_of (parts_view parts.now))) }
+            (byte_of (parts_view parts.now))) }
     {
         let path = self.own_path(site, last_name(parts))?;
         self.add_count(path, byte_in(parts))
@@ -330,17 +325,29 @@ impl Progress {
     ) -> Result<(), LoadFault>
         ensures { Walks self.old self.new result (λ l.
             do_as role site.now.table l site.now.scope.now (parts_view parts.now) (tail_view tail.now)
-                (λ l p. walk_inside site.now.table l p (tail_view tail.now))) }
+            (λ l p. walk_inside site.now.table l p (tail_view tail.now))) }
     {
         match role {
             Role::Declares(object) => {
                 let path = self.open_name(site, last_name(parts), kind_of(object))?;
-                self.walk_inside(&Site { table: site.table, scope: &path }, tail)
+                self.walk_inside(
+                    &Site {
+                        table: site.table,
+                        scope: &path,
+                    },
+                    tail,
+                )
             }
             Role::Method => self.add_method(site, parts, tail),
             Role::Scope => {
                 let path = self.scope_path(site, last_name(parts))?;
-                self.walk_inside(&Site { table: site.table, scope: &path }, tail)
+                self.walk_inside(
+                    &Site {
+                        table: site.table,
+                        scope: &path,
+                    },
+                    tail,
+                )
             }
             Role::Alias => self.add_alias(site, parts),
             Role::External => self.add_external(site, parts),

@@ -182,7 +182,7 @@ fn plain<'b, A: Arity>(
 ) -> Result<(Node, &'b [u8]), CodeFault>
     ensures { Gives (λ x. (node_view x.0, locals.new, x.1.now)) result
         (plain_at (scope_of context.now.scope) (read_in A.arity context.now levels)
-            (row_view row.now) end locals.old bytes.now) }
+        (row_view row.now) end locals.old bytes.now) }
 {
     if row.parts.is_empty() {
         return Ok((bare(context.alloc, row.opcode), bytes));
@@ -214,7 +214,7 @@ fn packed<'b, A: Arity>(
 ) -> Result<(Node, &'b [u8]), CodeFault>
     ensures { Gives (λ x. (node_view x.0, locals.new, x.1.now)) result
         (packed_at (scope_of context.now.scope) (read_in A.arity context.now levels) position at
-            (row_view row.now) end locals.old bytes.now) }
+        (row_view row.now) end locals.old bytes.now) }
 {
     let (width, inside, behind) = span_of(end, bytes)?;
     let inner = offset_of(end, behind);
