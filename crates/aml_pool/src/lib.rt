@@ -20,4 +20,3 @@ pub use results::{Results, harvest};
 pub use shelf::{Shelf, ShelfFault};
 pub use work::Work;
 pub use workers::{Share, crew};
-
