@@ -1,3 +1,4 @@
 mod limits;
 mod memory;
+mod spaces;
 mod writers;
