@@ -56,7 +56,7 @@ fn many_names_in_a_mixed_order(rt: HostRuntime) -> Result<(), Fail> {
     let mut number: u32 = 0;
     for _declared in 0..NAMES {
         declare(alloc, &mut space, number)?;
-        number = (number + STEP) % NAMES;
+        number = number.saturating_add(STEP) % NAMES;
     }
     let rows = space.rows(alloc)?;
     assert!(rt; rows.len() == NAMES as usize);
