@@ -1,4 +1,4 @@
-//! Reads worked rows from standard input, one a line, and prints each, and below it what it is read as.
+//! Reads worked examples from standard input, one a line, and prints each, and below it what it is read as.
 #![tactic(auto)]
 
 mod cases;

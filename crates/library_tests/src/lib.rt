@@ -1,4 +1,4 @@
-//! What no worked row can show of the libraries: writers that fail, limits, refused memory.
+//! What no worked example can show of the libraries: writers that fail, limits, refused memory.
 #![tactic(auto)]
 
 #[cfg(test)]
