@@ -1,6 +1,8 @@
-"""The namespace of several tables after docs/loading.md and docs/names.md, and the text after docs/listing.md."""
+"""The namespace of several tables after docs/loading.md and docs/names.md, and the bodies of their methods."""
 
-from reading import ALIAS, EXTERNAL, FIELD_LISTS, IF, KINDS, METHOD, SCOPE, SCOPES, Name, Named, Nothing, Op, Reader, Refused
+from dataclasses import dataclass
+
+from reading import ALIAS, EXTERNAL, FIELD_LISTS, IF, KINDS, METHOD, SCOPE, SCOPES, Named, Op, Reader, Refused
 
 MOST_METHODS = 1_048_576
 
@@ -13,8 +15,36 @@ PREDEFINED = {
 }
 
 
+class Unloadable(Exception):
+    """Why tables can't be loaded: a fault, and the number of its table, if it is about one."""
+
+    def __init__(self, fault, table):
+        super().__init__(str(fault))
+        self.table = table
+
+
 def path_text(path):
     return "\\" + ".".join(path)
+
+
+@dataclass
+class Method:
+    """Where the body of a method stands: its table, and the offsets of its first byte and behind its last."""
+
+    path: tuple
+    table: int
+    start: int
+    end: int
+
+
+@dataclass
+class Body:
+    """The body of a method, with its terms or the fault for which it has none."""
+
+    method: Method
+    code: bytes
+    terms: list | None = None
+    fault: Refused | None = None
 
 
 class Namespace:
@@ -23,6 +53,10 @@ class Namespace:
 
     def kind(self, path):
         return self.kinds.get(path) or PREDEFINED.get(path)
+
+    def rows(self):
+        """The declared paths with their kinds: by segments, and a path before those that it begins."""
+        return sorted(self.kinds.items())
 
     def find(self, scope, name, declared=()):
         candidates = name.candidates(scope)
@@ -42,10 +76,14 @@ class Namespace:
             return target[1] if target[0] == "Method" else 0
         return kind[1] if kind[0] == "Method" else 0
 
-    def arity(self, scope):
+    def arity(self, scope, unknown_zero=False):
+        """How many arguments a name takes in a body, by the paths that the body declared so far."""
+
         def count(declared, name):
             path = self.find(scope, name, declared)
-            return None if path is None else 0 if path in declared else self.count(path)
+            if path is None:
+                return 0 if unknown_zero else None
+            return 0 if path in declared else self.count(path)
 
         return count
 
@@ -57,8 +95,11 @@ class Namespace:
             raise Refused("Duplicate", path=path_text(path))
         self.kinds[path] = kind
         if method:
-            self.methods.append((path, *method))
+            self.methods.append(Method(path, *method))
         return path
+
+    def add_external(self, path, count):
+        self.externals[path] = max(self.externals.get(path, 0), count)
 
     def lead(self, scope, name, missing):
         """Where the name of a Scope or an Alias' source leads."""
@@ -77,7 +118,7 @@ class Namespace:
         opcode, names = term.opcode, term.names()
         if opcode == METHOD:
             flags = term.parts[1][1]
-            self.declare(scope, names[0], ("Method", flags & 7), (table, term.tail))
+            self.declare(scope, names[0], ("Method", flags & 7), (table, *term.tail))
         elif opcode == SCOPE:
             self.load(table, self.lead(scope, names[0], "ScopeMissing"), term.tail)
         elif opcode in SCOPES:
@@ -87,8 +128,7 @@ class Namespace:
             kind = self.kind(target)
             self.declare(scope, names[1], ("Alias", kind[1] if kind and kind[0] == "Alias" else target))
         elif opcode == EXTERNAL:
-            path = placed(scope, names[0])
-            self.externals[path] = max(self.externals.get(path, 0), term.parts[2][1])
+            self.add_external(placed(scope, names[0]), term.parts[2][1])
         elif opcode == IF:
             self.load(table, scope, term.tail)
         else:
@@ -116,94 +156,38 @@ def uses_in(term):
     return named + [name for part in within for name in uses_in(part)]
 
 
-# ---- the text
+@dataclass
+class Loaded:
+    """Tables in load order: their AML, the terms of each, and the namespace of all."""
+
+    codes: list
+    trees: list
+    space: Namespace
+
+    def bodies(self, unknown_zero):
+        """The bodies of all methods, each read in the namespace of all tables."""
+        return [self.body(method, unknown_zero) for method in self.space.methods]
+
+    def body(self, method, unknown_zero):
+        body = Body(method, self.codes[method.table][method.start:method.end])
+        try:
+            body.terms = Reader(body.code, self.space.arity(method.path, unknown_zero), method.path).read()
+        except Refused as fault:
+            body.fault = fault
+        return body
 
 
-def quoted(text):
-    plain = (chr(byte) if 0x20 <= byte <= 0x7E and byte not in b'"\\' else f"\\x{byte:02X}" for byte in text)
-    return '"' + "".join(plain) + '"'
-
-
-def inline(part):
-    if isinstance(part, Nothing):
-        return ""
-    if isinstance(part, Name):
-        return str(part)
-    if isinstance(part, bytes):
-        return quoted(part)
-    if isinstance(part, tuple):
-        return f"0x{part[1]:0{2 * part[0]}X}"
-    if isinstance(part, Named):
-        return str(part.name) + (f" ({', '.join(map(inline, part.args))})" if part.args else "")
-    if part.opcode in (0x0A, 0x0B, 0x0C, 0x0D, 0x0E):
-        return inline(part.parts[0])
-    text = head(part)
-    if part.row.tail == "y":
-        text += f" {{{', '.join(f'{byte:02X}' for byte in part.tail)}}}"
-    if part.row.tail == "e":
-        text += f" {{{', '.join(map(inline, part.tail))}}}"
-    return text
-
-
-def unit_text(unit):
-    kind, *rest = unit
-    if kind == "unit":
-        return f"{rest[0]}, {rest[1]}"
-    if kind == "reserved":
-        return f"Reserved, {rest[0]}"
-    if kind == "connection":
-        return f"Connection ({inline(rest[0])})"
-    word = {"access": "Access", "extended": "ExtendedAccess"}[kind]
-    return f"{word} ({', '.join(f'0x{byte:02X}' for byte in rest)})"
-
-
-def lines(term, bodies, level=1):
-    """The lines of a term; the bodies of methods are taken from the iterator."""
-    indent = "  " * level
-    if not isinstance(term, Op) or term.row.tail in ("", "y", "e"):
-        yield indent + inline(term)
-        return
-    if term.opcode == METHOD:
-        flags = term.parts[1][1]
-        serialized = "Serialized" if flags & 8 else "NotSerialized"
-        yield f"{indent}Method ({term.parts[0]}, {flags & 7}, {serialized}, {flags >> 4}) {{"
-        inside = next(bodies)
-    else:
-        yield f"{indent}{head(term)} {{"
-        inside = term.tail
-    if term.row.tail == "f":
-        for unit in inside:
-            yield f"{indent}  {unit_text(unit)}"
-    else:
-        for one in inside:
-            yield from lines(one, bodies, level + 1)
-    yield indent + "}"
-
-
-def head(term):
-    return term.row.mnemonic + (f" ({', '.join(map(inline, term.parts))})" if term.row.parts else "")
-
-
-def disassembled(tables):
-    """The text of tables, as pairs of a file's name and AML, in load order, or the line that refuses them."""
-    space, trees, bodies, table = Namespace(), [], [], None
+def load(codes):
+    """Reads and loads the AML of tables in load order."""
+    loaded, table = Loaded(codes, [], Namespace()), None
     try:
-        for table, (_, code) in enumerate(tables):
-            trees.append(Reader(code).read())
-            space.load(table, (), trees[-1])
-        for table, scope, name in space.uses:
-            path = space.find(scope, name)
-            if path is not None and space.count(path):
+        for table, code in enumerate(codes):
+            loaded.trees.append(Reader(code).read())
+            loaded.space.load(table, (), loaded.trees[-1])
+        for table, scope, name in loaded.space.uses:
+            path = loaded.space.find(scope, name)
+            if path is not None and loaded.space.count(path):
                 raise Refused("ModuleCall")
-        for path, table, (start, end) in space.methods:
-            bodies.append(Reader(tables[table][1][start:end], space.arity(path), path).read())
     except Refused as fault:
-        file = "" if fault.name == "TooManyMethods" else f"table {quoted(tables[table][0].encode())}: "
-        return "", f"acpidis: {file}{fault}\n"
-    left, text = iter(bodies), []
-    for (name, _), terms in zip(tables, trees):
-        text.append(f"DefinitionBlock ({quoted(name.encode())}) {{")
-        for term in terms:
-            text += lines(term, left)
-        text.append("}")
-    return "\n".join(text) + "\n", ""
+        raise Unloadable(fault, None if fault.name == "TooManyMethods" else table) from fault
+    return loaded

@@ -3,9 +3,12 @@
 It is slow and simple on purpose: what it prints is compared with what the program prints.
 """
 
+import sys
 from dataclasses import dataclass, field
 
 MOST_LEVELS = 512
+# A level of terms is a few calls deep, when it is read and when it is printed.
+sys.setrecursionlimit(20_000)
 
 
 class Refused(Exception):

@@ -1,0 +1,263 @@
+"""Dumps of tables after docs/tables.md: which are taken, the order of the definition blocks, and the lines of all dumps."""
+
+import re
+from typing import NamedTuple
+
+from printing import file_text, hexadecimal, quoted
+
+MOST_DUMPS, MOST_BYTES = 512, 16_777_216
+HEADER_LENGTH, FADT_LENGTH, MADT_LENGTH = 36, 116, 44
+ROOT, FACS = b"RSD PTR ", b"FACS"
+
+# A field of the FADT: its label, its offset, its width.
+FADT_FIELDS = (
+    ("FirmwareCtrl", 36, 4), ("Dsdt", 40, 4), ("Profile", 45, 1), ("SciInt", 46, 2), ("SmiCmd", 48, 4), ("AcpiEnable", 52, 1),
+    ("AcpiDisable", 53, 1), ("Pm1aEvt", 56, 4), ("Pm1aCnt", 64, 4), ("PmTmr", 76, 4), ("Gpe0", 80, 4), ("Gpe0Len", 92, 1),
+    ("BootArch", 109, 2), ("Flags", 112, 4), ("XFirmwareCtrl", 132, 8), ("XDsdt", 140, 8),
+)
+# A record of the MADT by its type and length: its label, and for each field label, offset, width, and whether it is hexadecimal.
+RECORDS = {
+    (0, 8): ("LocalApic", ("Uid", 2, 1, 0), ("Apic", 3, 1, 0), ("Flags", 4, 4, 1)),
+    (1, 12): ("IoApic", ("Id", 2, 1, 0), ("Address", 4, 4, 1), ("Gsi", 8, 4, 0)),
+    (2, 10): ("Override", ("Bus", 2, 1, 0), ("Source", 3, 1, 0), ("Gsi", 4, 4, 0), ("Flags", 8, 2, 1)),
+    (3, 8): ("NmiSource", ("Flags", 2, 2, 1), ("Gsi", 4, 4, 0)),
+    (4, 6): ("LocalNmi", ("Uid", 2, 1, 0), ("Flags", 3, 2, 1), ("Lint", 5, 1, 0)),
+    (5, 12): ("AddressOverride", ("", 4, 8, 1)),
+    (9, 16): ("X2Apic", ("Id", 4, 4, 0), ("Flags", 8, 4, 1), ("Uid", 12, 4, 0)),
+    (10, 12): ("X2Nmi", ("Flags", 2, 2, 1), ("Uid", 4, 4, 0), ("Lint", 8, 1, 0)),
+}
+
+
+class Bad(Exception):
+    """Why a set of dumps is refused: the fault with its offset, if it has one, and the index of the dump that it is about."""
+
+    def __init__(self, fault, dump=None):
+        super().__init__(fault)
+        self.dump = dump
+
+
+class Dump(NamedTuple):
+    """The name of its file, the address at which the table stood, if that is known, and its bytes."""
+
+    name: str
+    address: int | None
+    data: bytes
+
+
+def little(data, at, width):
+    return int.from_bytes(data[at:at + width], "little")
+
+
+def sums_to_zero(data):
+    return sum(data) % 256 == 0
+
+
+# ---- one dump
+
+
+def table_of(data):
+    """The bytes of a table with the standard header."""
+    if len(data) < HEADER_LENGTH or not HEADER_LENGTH <= little(data, 4, 4) <= len(data):
+        raise Bad("Short")
+    return data[:little(data, 4, 4)]
+
+
+def aml_of(data):
+    return table_of(data)[HEADER_LENGTH:]
+
+
+def is_wide(root):
+    """Whether a root pointer has the fields of revision 2."""
+    return root[15] >= 2
+
+
+def check_root(data):
+    if len(data) < 20:
+        raise Bad("BadRoot")
+    if is_wide(data) and (len(data) < 36 or not 36 <= little(data, 20, 4) <= len(data)):
+        raise Bad("BadRoot")
+
+
+def root_sums(data):
+    return sums_to_zero(data[:20]) and (not is_wide(data) or sums_to_zero(data[:little(data, 20, 4)]))
+
+
+def check_facs(data):
+    if len(data) < 8 or not 8 <= little(data, 4, 4) <= len(data):
+        raise Bad("Short")
+
+
+def addresses_of(xsdt):
+    if (len(xsdt) - HEADER_LENGTH) % 8:
+        raise Bad("BadRoot")
+    return [little(xsdt, at, 8) for at in range(HEADER_LENGTH, len(xsdt), 8)]
+
+
+def check_fadt(fadt):
+    if len(fadt) < FADT_LENGTH:
+        raise Bad("FadtShort")
+
+
+def records_of(madt):
+    if len(madt) < MADT_LENGTH:
+        raise Bad("Short")
+    at, records = MADT_LENGTH, []
+    while at < len(madt):
+        length = madt[at + 1] if at + 1 < len(madt) else 0
+        if length < 2 or at + length > len(madt):
+            raise Bad(f"MadtRecord at {at}")
+        records.append(madt[at:at + length])
+        at += length
+    return records
+
+
+def check_dump(data, any_sum):
+    if len(data) > MOST_BYTES:
+        raise Bad("TooLarge")
+    if data.startswith(ROOT):
+        check_root(data)
+        if not any_sum and not root_sums(data):
+            raise Bad("BadSum")
+    elif data.startswith(FACS):
+        check_facs(data)
+    else:
+        table = table_of(data)
+        if not any_sum and not sums_to_zero(table):
+            raise Bad("BadSum")
+        check_content = {b"FACP": check_fadt, b"APIC": records_of, b"XSDT": addresses_of}.get(table[:4])
+        if check_content:
+            check_content(table)
+
+
+# ---- the order
+
+
+def order_of(dumps, any_sum):
+    """The indexes of the definition blocks in load order."""
+    if len(dumps) > MOST_DUMPS:
+        raise Bad("TooManyTables")
+    for index, dump in enumerate(dumps):
+        try:
+            check_dump(dump.data, any_sum)
+        except Bad as bad:
+            raise Bad(str(bad), index) from bad
+    return order_by_names(dumps) if all(dump.address is None for dump in dumps) else order_by_chain(dumps)
+
+
+def signed(dumps, signature):
+    """The indexes of the dumps that begin with a signature."""
+    return [index for index, dump in enumerate(dumps) if dump.data.startswith(signature)]
+
+
+def stem_number(name):
+    stem = name.rpartition(".")[0] or name
+    return int(re.search("[0-9]*$", stem)[0][-9:] or 0)
+
+
+def order_by_names(dumps):
+    dsdts = signed(dumps, b"DSDT")
+    if not dsdts:
+        raise Bad("NoDsdt")
+    if len(dsdts) > 1:
+        raise Bad("TwoDsdts", dsdts[1])
+
+    def place(index):
+        return stem_number(dumps[index].name), dumps[index].name.encode(), index
+
+    return dsdts + sorted(signed(dumps, b"SSDT"), key=place)
+
+
+def indexes_by_address(dumps):
+    """The first dump at each address."""
+    at = {}
+    for index, dump in enumerate(dumps):
+        if dump.address is not None:
+            at.setdefault(dump.address, index)
+    return at
+
+
+def order_by_chain(dumps):
+    at = indexes_by_address(dumps)
+    roots, xsdts, fadts, dsdts, ssdts = (signed(dumps, word) for word in (ROOT, b"XSDT", b"FACP", b"DSDT", b"SSDT"))
+    if not roots:
+        raise Bad("RootMissing")
+    root = dumps[roots[0]].data
+    if not is_wide(root):
+        raise Bad("OldRoot", roots[0])
+    xsdt = at.get(little(root, 24, 8))
+    if xsdt not in xsdts:
+        raise Bad("RootMissing", roots[0])
+    listed = [at[address] for address in addresses_of(table_of(dumps[xsdt].data)) if address in at]
+    fadts = [index for index in listed if index in fadts]
+    if not fadts:
+        raise Bad("FadtMissing", xsdt)
+    dsdt = at.get(dsdt_address(table_of(dumps[fadts[0]].data)))
+    if dsdt not in dsdts:
+        raise Bad("NoDsdt")
+    return [dsdt, *dict.fromkeys(index for index in listed if index in ssdts)]
+
+
+def dsdt_address(fadt):
+    wide = little(fadt, 140, 8) if len(fadt) >= 148 else 0
+    return wide or little(fadt, 40, 4)
+
+
+# ---- the lines
+
+
+def dump_lines(dumps):
+    """The first part of a listing."""
+    at = indexes_by_address(dumps)
+    owners = {address: dumps[index].name for address, index in at.items()}
+    for dump in dumps:
+        line, sums = root_line(dump) if dump.data.startswith(ROOT) else table_line(dump)
+        address = "" if dump.address is None else f" At {dump.address:016X}"
+        yield line + address + ("" if sums else " BadSum")
+        yield from (f"  {line}" for line in content_lines(dump.data, owners))
+
+
+def root_line(dump):
+    """The line of a root pointer, and whether its sums are right."""
+    data = dump.data
+    line = f"Root {file_text(dump.name)} Oem {quoted(data[9:15])} Revision {data[15]} Rsdt {little(data, 16, 4):08X}"
+    if is_wide(data):
+        line += f" Length {little(data, 20, 4)} Xsdt {little(data, 24, 8):016X}"
+    return line, root_sums(data)
+
+
+def table_line(dump):
+    """The line of any other table, and whether its sum is right."""
+    data = dump.data
+    line = f"Table {file_text(dump.name)} {quoted(data[:4])} Length {little(data, 4, 4)}"
+    if data.startswith(FACS):
+        return line, True
+    line += f" Revision {data[8]} Oem {quoted(data[10:16])} {quoted(data[16:24])} {little(data, 24, 4):08X}"
+    line += f" Creator {quoted(data[28:32])} {little(data, 32, 4):08X}"
+    return line, sums_to_zero(table_of(data))
+
+
+def content_lines(data, owners):
+    """What stands below the line of a table. `owners` are the names of the files at addresses."""
+    if data.startswith(b"XSDT"):
+        for address in addresses_of(table_of(data)):
+            yield f"Entry {address:016X}" + (f" {file_text(owners[address])}" if address in owners else "")
+    elif data.startswith(b"FACP"):
+        table = table_of(data)
+        for label, at, width in FADT_FIELDS:
+            if len(table) >= at + width:
+                yield f"{label} {little(table, at, width):0{2 * width}X}"
+    elif data.startswith(b"APIC"):
+        table = table_of(data)
+        yield f"Controller {little(table, 36, 4):08X} Flags {little(table, 40, 4):08X}"
+        yield from map(record_text, records_of(table))
+
+
+def record_text(record):
+    known = RECORDS.get((record[0], len(record)))
+    if not known:
+        return " ".join([f"Record {record[0]} Length {len(record)}", *hexadecimal(record[2:])])
+    texts = [known[0]]
+    for label, start, width, is_hex in known[1:]:
+        value = little(record, start, width)
+        texts += [label] * bool(label) + [f"{value:0{2 * width}X}" if is_hex else str(value)]
+    return " ".join(texts)

@@ -1,0 +1,120 @@
+"""The text of terms, namespaces and definition blocks after docs/listing.md, line by line."""
+
+from loading import path_text
+from reading import METHOD, Name, Named, Nothing, Op
+
+CONSTANTS = {0x0A, 0x0B, 0x0C, 0x0D, 0x0E}
+UNIT_WORDS = {"access": "Access", "extended": "ExtendedAccess"}
+
+
+def quoted(text):
+    """Bytes in double quotes."""
+    plain = (chr(byte) if 0x20 <= byte <= 0x7E and byte not in b'"\\' else f"\\x{byte:02X}" for byte in text)
+    return '"' + "".join(plain) + '"'
+
+
+def file_text(name):
+    return quoted(name.encode())
+
+
+def listed(texts):
+    return f"{{{', '.join(texts)}}}"
+
+
+def hexadecimal(data):
+    return (f"{byte:02X}" for byte in data)
+
+
+# ---- terms within a line
+
+
+def inline(part):
+    if isinstance(part, Nothing):
+        return ""
+    if isinstance(part, Name):
+        return str(part)
+    if isinstance(part, bytes):
+        return quoted(part)
+    if isinstance(part, tuple):
+        return f"0x{part[1]:0{2 * part[0]}X}"
+    if isinstance(part, Named):
+        return str(part.name) + (f" ({', '.join(map(inline, part.args))})" if part.args else "")
+    if part.opcode in CONSTANTS:
+        return inline(part.parts[0])
+    if part.row.tail == "y":
+        return f"{head(part)} {listed(hexadecimal(part.tail))}"
+    if part.row.tail == "e":
+        return f"{head(part)} {listed(map(inline, part.tail))}"
+    return head(part)
+
+
+def head(term):
+    return term.row.mnemonic + (f" ({', '.join(map(inline, term.parts))})" if term.row.parts else "")
+
+
+def unit_text(unit):
+    kind, *rest = unit
+    if kind == "unit":
+        return f"{rest[0]}, {rest[1]}"
+    if kind == "reserved":
+        return f"Reserved, {rest[0]}"
+    if kind == "connection":
+        return f"Connection ({inline(rest[0])})"
+    return f"{UNIT_WORDS[kind]} ({', '.join(f'0x{byte:02X}' for byte in rest)})"
+
+
+# ---- lines
+
+
+def term_lines(term, body_of, level):
+    """The lines of a term. `body_of` says what a Method's body is."""
+    indent = "  " * level
+    if not isinstance(term, Op) or term.row.tail in ("", "y", "e"):
+        yield indent + inline(term)
+        return
+    yield f"{indent}{method_head(term) if term.opcode == METHOD else head(term)} {{"
+    if term.opcode == METHOD:
+        yield from body_lines(body_of(term), level + 1)
+    elif term.row.tail == "f":
+        yield from (f"{indent}  {unit_text(unit)}" for unit in term.tail)
+    else:
+        for inner in term.tail:
+            yield from term_lines(inner, body_of, level + 1)
+    yield indent + "}"
+
+
+def method_head(term):
+    flags = term.parts[1][1]
+    serialized = "Serialized" if flags & 8 else "NotSerialized"
+    return f"Method ({term.parts[0]}, {flags & 7}, {serialized}, {flags >> 4})"
+
+
+def body_lines(body, level):
+    """The terms of a body, or its bytes where it has none."""
+    if body.terms is None:
+        yield f"{'  ' * level}Raw {listed(hexadecimal(body.code))}"
+        return
+    for term in body.terms:
+        yield from term_lines(term, None, level)
+
+
+def row_text(path, kind):
+    """A path of the namespace with its kind."""
+    word, *more = kind
+    return " ".join([path_text(path), word, *(path_text(one) if isinstance(one, tuple) else str(one) for one in more)])
+
+
+def namespace_lines(space):
+    rows = space.rows()
+    yield f"Namespace {len(rows)}"
+    yield from (f"  {row_text(path, kind)}" for path, kind in rows)
+
+
+def block_lines(names, loaded, bodies):
+    """The definition blocks of tables from files of these names."""
+    by_place = {(body.method.table, body.method.start): body for body in bodies}
+    for table, (name, terms) in enumerate(zip(names, loaded.trees)):
+        yield f"DefinitionBlock ({file_text(name)}) {{"
+        for term in terms:
+            yield from term_lines(term, lambda method, table=table: by_place[table, method.tail[0]], 1)
+        yield "}"
