@@ -1,0 +1,318 @@
+"""Makes up the AML of sets of tables: near the grammar of reading.py, most of it lawful, and most of it with names that lead
+somewhere."""
+
+from loading import PREDEFINED
+from reading import ALIAS, BUFFER, ELSE, EXTERNAL, FIELD_LISTS, IF, METHOD, ROWS, SCOPE, SCOPES, Name
+
+PLAIN_VALUES = [0x00, 0x01, 0xFF, 0x60, 0x61, 0x68, 0x0A, 0x0B, 0x0C, 0x0E, 0x0D, 0x5B30, 0x5B31, 0x5B33]
+VALUES = [opcode for opcode, row in ROWS.items() if row.group in ("value", "expression")]
+PLAIN_TARGETS = [0x60, 0x68, 0x5B31]
+TARGETS = [0x71, 0x83, 0x88, *PLAIN_TARGETS]
+PLAIN_DATA = [0x00, 0x01, 0xFF, 0x5B30, 0x0A, 0x0B, 0x0C, 0x0E, 0x0D]
+DATA = [0x11, 0x12, 0x13, *PLAIN_DATA]
+IN_BODIES = [opcode for opcode in ROWS if opcode not in SCOPES and opcode not in (METHOD, ELSE)]
+IN_DEEP_BODIES = [0xA3, 0x70, 0xA4]
+DECLARATIONS = [opcode for opcode, row in ROWS.items() if row.group == "declaration"]
+IN_TABLES = DECLARATIONS + [METHOD] * 20 + [0x08] * 4 + [SCOPE, 0x5B82] * 3 + [IF]
+IN_DEEP_TABLES = [0x08, METHOD]
+STRANGE_SEGMENTS = ["AAAA", "BBBB", "_SB_", "DEV0", "_OSI"]
+LIKELY_BYTES = [
+    0x00, 0x01, 0xFF, 0x5B, 0x5C, 0x5E, 0x2E, 0x2F, 0x70, 0x10, 0x14, 0xA0, 0xA1, 0x11, 0x12, 0x60, 0x41, 0x15, 0x06, 0x08,
+    0x40, 0x50, 0x80, 0xC0,
+]
+MOST_DEPTH = 6
+ARGUMENT_COUNTS = [0, 0, 0, 1, 1, 2, 2, 3, 7]
+
+
+def predefined_counts():
+    """How many arguments the predefined paths take."""
+    return {path: kind[1] if kind[0] == "Method" else 0 for path, kind in PREDEFINED.items()}
+
+
+def spelled(chance, name):
+    """The bytes of a name, in one of the forms that it can have."""
+    segs = [seg.encode() for seg in name.segs]
+    front = b"\\" if name.root else b"^" * name.ups
+    if not segs:
+        return front + b"\0"
+    if len(segs) <= 2 and chance.random() < 0.85:
+        return front + (b"." if len(segs) == 2 else b"") + b"".join(segs)
+    return front + b"/%c" % len(segs) + b"".join(segs)
+
+
+class Maker:
+    """Makes the AML of one set.
+
+    `known` are the paths that the set has so far, with how many arguments each takes; `methods` those that are called from the
+    beginning and declared at the end; `locals` those that the body declares. `scope` is where the code stands, and `opened` the
+    path of the last name that was declared or looked up. `strange_terms` and `strange_calls` are the shares of what may not be
+    lawful, outside the methods and in their bodies.
+    """
+
+    def __init__(self, chance):
+        self.chance = chance
+        self.strange_terms = chance.choices([0, 0.01, 0.1], [85, 10, 5])[0]
+        self.strange_calls = chance.choices([0, 0.02, 0.2], [70, 20, 10])[0]
+        self.scope, self.opened, self.fresh_count = (), (), 0
+        self.known, self.locals = predefined_counts(), []
+        self.methods = {(self.fresh_segment(),): chance.choice(ARGUMENT_COUNTS) for _ in range(4)}
+
+    def tables(self):
+        """The AML of the tables of the set, the DSDT's first."""
+        codes = [self.terms(0, "table") for _ in range(self.chance.choice((1, 1, 2, 3)))]
+        for path, count in self.methods.items():
+            codes[self.chance.randrange(len(codes))] += self.late_method(path, count)
+        return codes
+
+    def late_method(self, path, count):
+        """The declaration of a method that the set calls; seldom it is an External, or missing."""
+        name, how = spelled(self.chance, Name(True, 0, list(path))), self.chance.random()
+        if how < 0.03:
+            return b""
+        if how < 0.15:
+            return b"\x15" + name + b"\x08" + bytes([count])
+        content = name + bytes([count | self.chance.choice((0x00, 0x08, 0x30))]) + self.body(path)
+        return b"\x14" + self.length(len(content)) + content
+
+    def is_strange(self, inside):
+        return self.chance.random() < (self.strange_calls if inside == "body" else self.strange_terms)
+
+    # ---- bytes
+
+    def bytes(self, most):
+        return self.chance.randbytes(self.chance.randrange(most + 1))
+
+    def length(self, size):
+        """A package length, sometimes wider than it needs to be."""
+        widths = [width for width in (1, 2, 3, 4) if size + width < (64, 1 << 12, 1 << 20, 1 << 28)[width - 1]]
+        width = widths[0] if self.chance.random() < 0.85 else self.chance.choice(widths)
+        value = size + width
+        return bytes([value]) if width == 1 else bytes([(width - 1) << 6 | value & 15]) + (value >> 4).to_bytes(width - 1, "little")
+
+    def bits(self):
+        bits = self.chance.randrange(300)
+        return bytes([bits]) if bits < 64 else bytes([0x40 | bits & 15, bits >> 4])
+
+    # ---- names
+
+    def fresh_segment(self):
+        self.fresh_count += 1
+        high, low = divmod(self.fresh_count, 10)
+        return f"N{chr(0x41 + high // 26 % 26)}{chr(0x41 + high % 26)}{low}"
+
+    def strange_name(self, lengths=(0, 1, 1, 1, 1, 1, 1, 2, 3)):
+        """A name with so many segments that may lead nowhere."""
+        prefix = self.chance.choice(["", "", "\\", "^", "^^"])
+        segs = [self.chance.choice(STRANGE_SEGMENTS) for _ in range(self.chance.choice(lengths))]
+        return spelled(self.chance, Name(prefix == "\\", prefix.count("^"), segs))
+
+    def new_name(self, inside, count=0):
+        """A name to be declared."""
+        if self.is_strange(inside):
+            return self.strange_name()
+        ups = self.chance.randrange(len(self.scope) + 1) if self.chance.random() < 0.1 else 0
+        name = Name(False, ups, [self.fresh_segment()])
+        if self.chance.random() < 0.1:
+            name = Name(True, 0, ["_SB_", *name.segs])
+        elif inside == "table" and self.chance.random() < 0.02:
+            name = Name(True, 0, [self.chance.choice(["_GL_", "_OS_", "_REV", "_OSI"])])
+        self.opened = name.placed(self.scope)
+        if inside == "body":
+            self.locals.append(self.opened)
+        else:
+            self.known[self.opened] = count
+        return spelled(self.chance, name)
+
+    def name_to(self, path):
+        """A name that leads to a path from where the code stands."""
+        shared = next(length for length in range(len(self.scope), -1, -1) if path[:length] == self.scope[:length])
+        names = [Name(True, 0, list(path))]
+        if path[shared:]:
+            names.append(Name(False, len(self.scope) - shared, list(path[shared:])))
+        upward = Name(False, 0, list(path[-1:]))
+        if path and self.found(upward) == path:
+            names += [upward] * 4
+        return spelled(self.chance, self.chance.choice(names))
+
+    def found(self, name):
+        everything = self.known.keys() | self.methods.keys()
+        return next((path for path in name.candidates(self.scope) if path in everything), None)
+
+    def scope_name(self):
+        """The name of the path that a Scope opens."""
+        self.opened = self.scope if self.chance.random() < 0.2 else self.chance.choice(list(self.known))
+        if self.is_strange("table"):
+            return self.strange_name()
+        return b"\0" if self.opened == self.scope else self.name_to(self.opened)
+
+    def alias_names(self, inside):
+        """The source of an Alias, and its new name."""
+        source = self.chance.choice([path for path in self.known if path])
+        name = self.strange_name() if self.is_strange(inside) else self.name_to(source)
+        return name + self.new_name(inside, self.known[source])
+
+    def any_name(self):
+        """A name of which nothing is asked but that it has a segment."""
+        if self.chance.random() < 0.2:
+            return self.strange_name((1, 2, 3))
+        return self.name_to(self.chance.choice([path for path in self.known if path]))
+
+    def called(self, depth, inside):
+        """A name where a value is wanted, and its arguments."""
+        if self.is_strange(inside):
+            return self.strange_name() + b"".join(self.value(depth + 1, inside) for _ in range(self.chance.randrange(3)))
+        if inside == "body" and self.locals and self.chance.random() < 0.3:
+            return self.name_to(self.chance.choice(self.locals))
+        counts = {**self.known, **self.methods}
+        paths = [path for path in counts if path and (inside == "body" or not counts[path])]
+        path = self.chance.choice(list(self.methods) if inside == "body" and self.chance.random() < 0.5 else paths)
+        return self.name_to(path) + b"".join(self.value(depth + 1, inside) for _ in range(counts[path]))
+
+    # ---- terms
+
+    def terms(self, depth, inside):
+        """The terms of a table, of a guard, or of a block of a body."""
+        if inside == "body":
+            return self.statements(depth)
+        opcodes = [EXTERNAL] if inside == "guard" else IN_TABLES if depth < MOST_DEPTH else IN_DEEP_TABLES
+        count = self.chance.randrange(4) if depth else self.chance.randrange(3, 12)
+        return b"".join(self.operation(self.chance.choice(opcodes), depth, inside) for _ in range(count))
+
+    def statements(self, depth):
+        code = b""
+        for _ in range(self.chance.randrange(5)):
+            if self.chance.random() < 0.3:
+                code += self.value(depth, "body")
+                continue
+            opcode = self.chance.choice(IN_BODIES if depth < MOST_DEPTH else IN_DEEP_BODIES)
+            code += self.operation(opcode, depth, "body")
+            if self.chance.random() < (0.5 if opcode == IF else 0.1 * self.strange_calls):
+                code += self.operation(ELSE, depth, "body")
+        return code
+
+    def body(self, path):
+        """The body of the method of this path."""
+        scope, self.scope, self.locals = self.scope, path, []
+        code = self.statements(2)
+        self.scope = scope
+        return code
+
+    def operation(self, opcode, depth, inside):
+        row = ROWS[opcode]
+        code = self.parts(opcode, depth + 1, inside)
+        code += self.tail(row.tail, opcode, depth + 1, inside)
+        if row.packed:
+            code = self.length(len(code)) + code
+        return (bytes([opcode]) if opcode < 256 else bytes([0x5B, opcode & 0xFF])) + code
+
+    def parts(self, opcode, depth, inside):
+        count = self.chance.choice(ARGUMENT_COUNTS)
+        if opcode == METHOD:
+            return self.new_name(inside, count) + bytes([count | self.chance.choice((0x00, 0x08, 0xF0))])
+        if opcode == EXTERNAL:
+            count = 8 if self.is_strange(inside) else count
+            return self.new_name(inside, count) + self.chance.randbytes(1) + bytes([count])
+        if opcode == ALIAS:
+            return self.alias_names(inside)
+        if opcode == SCOPE:
+            return self.scope_name()
+        return b"".join(self.part(kind, opcode, depth, inside) for kind in ROWS[opcode].parts)
+
+    def part(self, kind, opcode, depth, inside):
+        if kind == "T":
+            return b"\0" if opcode == IF and inside == "table" else self.value(depth, inside)
+        if kind == "S":
+            return self.target(depth, inside)
+        if kind == "D":
+            return self.data(depth, inside)
+        if kind == "N":
+            is_new = opcode in DECLARATIONS and opcode not in FIELD_LISTS
+            return self.new_name(inside) if is_new else self.any_name()
+        if kind == "Z":
+            return bytes(self.chance.randrange(1, 256) for _ in range(self.chance.randrange(4))) + b"\0"
+        return self.chance.randbytes(int(kind))
+
+    def tail(self, kind, opcode, depth, inside):
+        if kind == "t":
+            return self.block(opcode, depth, inside)
+        if kind == "b":
+            return self.body(self.opened)
+        if kind == "y":
+            return self.bytes(4)
+        if kind == "e":
+            return b"".join(self.data(depth, inside) for _ in range(self.chance.randrange(4)))
+        if kind == "f":
+            return b"".join(self.unit(depth, inside) for _ in range(self.chance.randrange(5)))
+        return b""
+
+    def block(self, opcode, depth, inside):
+        if opcode not in SCOPES:
+            return self.terms(depth, "guard" if inside == "table" else inside)
+        scope, self.scope = self.scope, self.opened
+        code = self.terms(depth, inside)
+        self.scope = scope
+        return code
+
+    def unit(self, depth, inside):
+        kind = self.chance.randrange(8)
+        if kind == 0:
+            return b"\0" + self.bits()
+        if kind == 1:
+            return b"\1" + self.chance.randbytes(2)
+        if kind == 2:
+            return b"\3" + self.chance.randbytes(3)
+        if kind == 3:
+            return b"\2" + self.any_name()
+        if kind == 4:
+            return b"\2" + self.operation(BUFFER, depth, inside)
+        return self.new_unit(inside) + self.bits()
+
+    def new_unit(self, inside):
+        seg = self.chance.choice(STRANGE_SEGMENTS) if self.is_strange(inside) else self.fresh_segment()
+        path = (*self.scope, seg)
+        if inside == "body":
+            self.locals.append(path)
+        else:
+            self.known.setdefault(path, 0)
+        return seg.encode()
+
+    # ---- values
+
+    def value(self, depth, inside):
+        kind = self.chance.random() if depth < MOST_DEPTH else 1
+        if kind < 0.35:
+            return self.called(depth, inside)
+        return self.operation(self.chance.choice(VALUES if kind < 0.6 else PLAIN_VALUES), depth, inside)
+
+    def target(self, depth, inside):
+        kind = self.chance.random()
+        if kind < 0.3:
+            return b"\0"
+        if kind < 0.6:
+            return self.any_name()
+        return self.operation(self.chance.choice(TARGETS if depth < MOST_DEPTH else PLAIN_TARGETS), depth, inside)
+
+    def data(self, depth, inside):
+        if self.chance.random() < 0.3:
+            return self.any_name()
+        return self.operation(self.chance.choice(DATA if depth < MOST_DEPTH else PLAIN_DATA), depth, inside)
+
+
+def damaged(chance, code):
+    """Bytes of which a few are changed, gone or new."""
+    code = bytearray(code)
+    for _ in range(chance.choice((1, 1, 1, 2, 3))):
+        at, how = chance.randrange(len(code) + 1), chance.random()
+        if how < 0.2:
+            code.insert(at, chance.randrange(256))
+        elif at == len(code):
+            continue
+        elif how < 0.7:
+            code[at] = chance.choice((chance.randrange(256), chance.choice(LIKELY_BYTES)))
+        elif how < 0.8:
+            code[at] ^= 1 << chance.randrange(8)
+        elif how < 0.9:
+            del code[at]
+        else:
+            del code[at:]
+    return bytes(code)

@@ -1,0 +1,198 @@
+"""Makes up folders of dumps with the options of a run: most of them to be taken, the others near that."""
+
+from dataclasses import dataclass
+
+from dumps import FACS, RECORDS, ROOT
+from folders import MAP_NAME
+from made_code import Maker, damaged
+from running import Options
+
+ODD_NAMES = ["SSDT", "SSDT10", "SSDT2", 'a"7.dat', "b\\7", "é 03.dat", ".9", "s.11.", "s0000000012.aml", "s9000000003.aml"]
+FADT_LENGTHS = [116, 117, 139, 140, 147, 148, 244, 276]
+SIGNATURES = [b"HPET", b"MCFG", b"RSDT", b"PSDT", b"dsdt", b'\x01"\\\xFF']
+BLOCKS = (b"DSDT", b"SSDT")
+
+
+@dataclass
+class Trial:
+    """The contents of files by name, and the options of a run over a folder of them."""
+
+    files: dict
+    options: Options
+
+
+# ---- tables
+
+
+def sealed(data):
+    """A table with its length and a right checksum."""
+    data = bytearray(data)
+    data[4:8] = len(data).to_bytes(4, "little")
+    data[9] = 0
+    data[9] = -sum(data) % 256
+    return bytes(data)
+
+
+def table(chance, signature, content):
+    rest = b"\x02\0TEST  EXAMPLE \x01\0\0\0TEST\x01\0\0\0" if chance.random() < 0.8 else chance.randbytes(28)
+    return sealed(signature + bytes(4) + rest + content)
+
+
+def root(chance, revision, xsdt):
+    length = chance.choice((36, 36, 40))
+    data = bytearray(ROOT + b"\0TEST  " + bytes([revision]) + chance.randbytes(4))
+    data[8] = -sum(data) % 256
+    if revision >= 2:
+        data += length.to_bytes(4, "little") + xsdt.to_bytes(8, "little") + bytes(4) + chance.randbytes(length - 36)
+        data[32] = -sum(data) % 256
+    return bytes(data)
+
+
+def fadt(chance, dsdt):
+    """A FADT that leads to the DSDT at this address: by X_DSDT, or by DSDT."""
+    length = chance.choice(FADT_LENGTHS)
+    content = bytearray(chance.randbytes(length - 36))
+    if length >= 148:
+        content[104:112] = dsdt.to_bytes(8, "little")
+    if length < 148 or dsdt < 1 << 32 and chance.random() < 0.3:
+        content[4:8] = (dsdt % (1 << 32)).to_bytes(4, "little")
+        content[104:112] = bytes(len(content[104:112]))
+    return table(chance, b"FACP", bytes(content))
+
+
+def record(chance):
+    """A record of a MADT: known, of a known type with another length, or of another type."""
+    kind, length = chance.choice(list(RECORDS))
+    how = chance.random()
+    if how < 0.1:
+        length = chance.randrange(2, 20)
+    elif how < 0.3:
+        kind, length = chance.randrange(256), chance.randrange(2, 20)
+    return bytes([kind, length]) + chance.randbytes(length - 2)
+
+
+def madt(chance):
+    records = b"".join(record(chance) for _ in range(chance.randrange(6)))
+    broken = chance.choice((b"\0", b"\0\1", b"\7\3")) if chance.random() < 0.05 else b""
+    return table(chance, b"APIC", chance.randbytes(8) + records + broken)
+
+
+def facs(chance):
+    length = chance.choice((8, 9, 64))
+    return FACS + length.to_bytes(4, "little") + chance.randbytes(length - 8)
+
+
+def other(chance):
+    return table(chance, chance.choice(SIGNATURES), chance.randbytes(chance.randrange(40)))
+
+
+def with_wrong_sum(chance, data):
+    at = 8 if data.startswith(ROOT) else 9
+    return data[:at] + bytes([data[at] ^ chance.randrange(1, 256)]) + data[at + 1:]
+
+
+# ---- folders
+
+
+class SetMaker:
+    """Makes one trial after another: of made-up tables, or of the known folders, given by the contents of their files."""
+
+    def __init__(self, chance, known=()):
+        self.chance, self.known = chance, known
+
+    def is_rare(self, share):
+        return self.chance.random() < share
+
+    def trial(self):
+        if self.known and self.is_rare(0.4):
+            files = self.spoiled(self.chance.choice(self.known))
+        else:
+            files = self.made_files()
+            if self.is_rare(0.15):
+                files = self.spoiled(files)
+        summed = [name for name, data in files.items() if len(data) > 9 and name != MAP_NAME]
+        if summed and self.is_rare(0.06):
+            name = self.chance.choice(summed)
+            return Trial({**files, name: with_wrong_sum(self.chance, files[name])}, self.options(False))
+        return Trial(files, self.options(True))
+
+    def options(self, is_summed):
+        return Options(
+            any_sum=self.is_rare(0.2 if is_summed else 0.75),
+            unknown_zero=self.is_rare(0.25),
+            check=self.is_rare(0.15),
+            workers=self.chance.choice((None, 1, 2, 3, 4)),
+        )
+
+    def spoiled(self, files):
+        """The files with a damage in one of them, most often in AML."""
+        name = self.chance.choice(list(files))
+        blocks = [name for name, data in files.items() if data.startswith(BLOCKS)]
+        how = self.chance.random()
+        if blocks and how < 0.85:
+            name = self.chance.choice(blocks)
+            return {**files, name: sealed(files[name][:36] + damaged(self.chance, files[name][36:]))}
+        if how < 0.98:
+            return {**files, name: damaged(self.chance, files[name])}
+        return {kept: data for kept, data in files.items() if kept != name}
+
+    def made_files(self):
+        codes = Maker(self.chance).tables()
+        signatures = [b"DSDT"] + [b"SSDT"] * (len(codes) - 1)
+        names = self.block_names(len(codes))
+        files = {name: table(self.chance, signature, code) for name, signature, code in zip(names, signatures, codes)}
+        files |= self.extra_files()
+        if self.is_rare(0.3):
+            files = self.chained(files, names)
+        elif self.is_rare(0.1):
+            files[MAP_NAME] = b""
+        return {name: data + self.chance.randbytes(3) if self.is_rare(0.02) else data for name, data in files.items()}
+
+    def block_names(self, count):
+        if self.is_rare(0.8):
+            return ["dsdt.dat", *(f"ssdt{number}.dat" for number in range(1, count))]
+        return self.chance.sample(ODD_NAMES, count)
+
+    def extra_files(self):
+        chance = self.chance
+        makers = {
+            "rsdp.dat": lambda: root(chance, chance.choice((0, 2)), chance.randrange(1 << 64)),
+            "xsdt.dat": lambda: table(chance, b"XSDT", chance.randbytes(8 * chance.randrange(4))),
+            "facp.dat": lambda: fadt(chance, chance.randrange(1 << 32)),
+            "apic.dat": lambda: madt(chance),
+            "facs.dat": lambda: facs(chance),
+            "other.dat": lambda: other(chance),
+            "other2.dat": lambda: other(chance),
+        }
+        return {name: make() for name, make in makers.items() if self.is_rare(0.25)}
+
+    def chained(self, files, blocks):
+        """The files with the tables that lead to the blocks, and a map."""
+        chance = self.chance
+        names = list(dict.fromkeys([*files, "rsdp.dat", "xsdt.dat", "facp.dat"]))
+        addresses = {name: page << 12 for name, page in zip(names, chance.sample(range(1, 1 << 20), len(names)))}
+        if self.is_rare(0.08):
+            addresses[blocks[0]] += chance.randrange(1 << 32) << 32
+        listed = ["facp.dat", *blocks[1:], *(name for name in files if self.is_rare(0.3))]
+        if self.is_rare(0.2):
+            chance.shuffle(listed)
+        entries = [addresses[name] for name in listed if not self.is_rare(0.01)] + [chance.randrange(1 << 64)] * self.is_rare(0.1)
+        files = {
+            **files,
+            "rsdp.dat": root(chance, 0 if self.is_rare(0.04) else 2, addresses["rsdp.dat" if self.is_rare(0.03) else "xsdt.dat"]),
+            "xsdt.dat": table(chance, b"XSDT", b"".join(entry.to_bytes(8, "little") for entry in entries)),
+            "facp.dat": fadt(chance, addresses[blocks[0]]),
+        }
+        return {**files, MAP_NAME: self.map_of(addresses)}
+
+    def map_of(self, addresses):
+        first, second, *_ = addresses
+        if self.is_rare(0.02):
+            addresses = {**addresses, second: addresses[first]}
+        lines = [f"{address:016X} {name}" for name, address in addresses.items() if not self.is_rare(0.01)]
+        if self.is_rare(0.2):
+            lines = [line[:16].lower() + line[16:] for line in lines]
+        self.chance.shuffle(lines)
+        if self.is_rare(0.05):
+            lines.append(self.chance.choice([*lines[:1], "", "0000000000001000 none.dat", "100 dsdt.dat"]))
+        return ("\n".join(lines) + self.chance.choice(("", "\n"))).encode()
