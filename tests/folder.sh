@@ -1,6 +1,6 @@
 #!/bin/sh
-# The reading of folders by the program: what it prints on standard error, and its status. It runs ./acpidis, which builds it first.
-# Some rows are skipped where the system can't make the folder.
+# The command line, the reading of folders, and what the program writes where: its status, its lines on standard error and its
+# text. It runs ./acpidis, which builds the program first. Some rows are skipped where the system can't make the folder.
 
 here=$(CDPATH='' cd -- "$(dirname -- "$0")" && pwd) || exit 1
 "$here/../acpidis" >/dev/null 2>&1
@@ -13,25 +13,89 @@ cd "$work" || exit 1
 failed=0
 passed=0
 
-# row NAME STATUS LINE WORD..: the program with these words has this status, and prints this line on standard error, or nothing
+pass() {
+    passed=$((passed + 1))
+}
+
+# fail TEXT..: the last row failed
+fail() {
+    failed=$((failed + 1))
+    echo "FAILED $*"
+}
+
+# row NAME STATUS LINES WORD..: the command has this status, and prints these lines on standard error, or nothing. Where it is
+# refused nothing goes to standard output.
 row() {
-    name=$1 status=$2 line=$3
+    name=$1 status=$2 lines=$3
     shift 3
     error=$("$@" 2>&1 >output)
     got=$?
-    if [ "$got" = "$status" ] && [ "$error" = "$line" ]; then
-        passed=$((passed + 1))
+    if [ "$got" = "$status" ] && [ "$error" = "$lines" ]; then
+        pass
     else
-        failed=$((failed + 1))
-        printf 'FAILED %s: status %s, not %s\n  printed %s\n  not     %s\n' "$name" "$got" "$status" "$error" "$line"
+        fail "$name: status $got, not $status"
+        printf '  printed %s\n  not     %s\n' "$error" "$lines"
     fi
     if [ "$status" != 0 ] && [ "$status" != 3 ] && [ -s output ]; then
-        failed=$((failed + 1))
-        echo "FAILED $name: something went to standard output"
+        fail "$name: something went to standard output"
     fi
 }
 
-# map NAME LINE MAP: a folder with the demo's table and this map
+# prints: what the last row wrote to standard output is what stands on standard input
+prints() {
+    if cmp -s - output; then pass; else fail "$name: another text"; sed 's/^/  /' output; fi
+}
+
+# refuses NAME TEXT WORD..: the command line is refused with status 2, and standard error has this text
+refuses() {
+    name=$1 text=$2
+    shift 2
+    "$@" >output 2>error
+    got=$?
+    if [ "$got" = 2 ] && [ ! -s output ] && [ -s error ] && grep -qF -- "$text" error; then
+        pass
+    else
+        fail "$name: status $got, not 2, or not the word $text in"
+        sed 's/^/  /' error
+    fi
+}
+
+# tells NAME TEXT..: the words of NAME print a line with each text to standard output, and nothing to standard error
+tells() {
+    name=$1
+    shift
+    ./program "$name" >output 2>error
+    got=$?
+    if [ "$got" = 0 ] && [ ! -s error ]; then pass; else fail "$name: status $got, or something on standard error"; fi
+    for text do
+        if grep -q -- "$text" output; then pass; else fail "$name: no line with $text"; fi
+    done
+}
+
+# cut_off NAME BYTES: status 4 in the file status, and on standard error the one line that a write failed after so many bytes
+cut_off() {
+    if [ "$(cat status)" = 4 ] && [ "$(grep -c '' error)" = 1 ] && grep -qx "acpidis: write failed after $2 bytes" error; then
+        pass
+    else
+        fail "$1: status $(cat status), not 4, or another line than 'write failed after $2 bytes'"
+        sed 's/^/  /' error
+    fi
+}
+
+# table FILE SIGNATURE AML: writes a table with this AML, which is given in hexadecimal digits
+table() {
+    python3 - "$@" <<'P'
+import sys
+
+file, signature, digits = sys.argv[1:]
+code = bytes.fromhex(digits)
+table = bytearray(signature.encode() + (36 + len(code)).to_bytes(4, "little") + b"\2\0TEST  EXAMPLE \1\0\0\0TEST\1\0\0\0" + code)
+table[9] = -sum(table) % 256
+open(file, "wb").write(table)
+P
+}
+
+# map NAME LINE MAP STATUS: a folder with the demo's table and this map
 map() {
     rm -rf folder
     cp -r "$demo" folder
@@ -39,20 +103,130 @@ map() {
     row "$1" "$4" "$2" ./program folder
 }
 
-usage='usage: acpidis FOLDER'
-row 'no word' 2 "$usage" ./program
-row 'two words' 2 "$usage" ./program folder folder
-row 'a word that is no text' 2 "$usage" ./program "$(printf 'a\377')"
+cat >demo.text <<'T'
+Table "dsdt.dat" "DSDT" Length 45 Revision 2 Oem "TEST  " "EXAMPLE " 00000001 Creator "TEST" 00000001
+Namespace 1
+  \FOO_ Method 1
+DefinitionBlock ("dsdt.dat") {
+  Method (FOO_, 1, NotSerialized, 0) {
+    Return (Arg0)
+  }
+}
+T
 
+# a folder with a body that calls what nothing declares, among others; the last table has a wrong checksum in `summed`
+mkdir raw
+table raw/dsdt.dat DSDT '140E4141414100A442424242010A0514084343434300A460'
+table raw/ssdt1.dat SSDT '140B4444444400A442424242'
+cp -r raw summed
+printf '\001' | dd of=summed/ssdt1.dat bs=1 seek=9 conv=notrunc 2>/dev/null
+raw_errors='acpidis: body \AAAA: UnknownName at 1
+acpidis: body \DDDD: UnknownName at 1'
+cat >raw.text <<'T'
+Table "dsdt.dat" "DSDT" Length 60 Revision 2 Oem "TEST  " "EXAMPLE " 00000001 Creator "TEST" 00000001
+Table "ssdt1.dat" "SSDT" Length 48 Revision 2 Oem "TEST  " "EXAMPLE " 00000001 Creator "TEST" 00000001
+Namespace 3
+  \AAAA Method 0
+  \CCCC Method 0
+  \DDDD Method 0
+DefinitionBlock ("dsdt.dat") {
+  Method (AAAA, 0, NotSerialized, 0) {
+    Raw {A4, 42, 42, 42, 42, 01, 0A, 05}
+  }
+  Method (CCCC, 0, NotSerialized, 0) {
+    Return (Local0)
+  }
+}
+DefinitionBlock ("ssdt1.dat") {
+  Method (DDDD, 0, NotSerialized, 0) {
+    Raw {A4, 42, 42, 42, 42}
+  }
+}
+T
+
+# the command line
+cp -r "$demo" folder
+tells --help '--workers' '--any-sum' '--unknown-zero' '--check' 'FOLDER'
+tells -h '--workers' '--any-sum' '--unknown-zero' '--check' 'FOLDER'
+tells --version '^acpidis [0-9]'
+refuses 'no word' FOLDER ./program
+refuses 'options without a folder' FOLDER ./program --check
+refuses 'two folders' folder ./program folder folder
+refuses 'an option that there is not' --nothing ./program --nothing folder
+refuses 'a word that is no text' '' ./program "$(printf 'a\377')"
+refuses 'no worker' --workers ./program --workers 0 folder
+refuses 'too many workers' --workers ./program --workers 65 folder
+refuses 'more workers than a number holds' --workers ./program --workers 4294967297 folder
+refuses 'workers that are no number' --workers ./program --workers x folder
+refuses 'workers without a number' --workers ./program folder --workers
+refuses 'a check with a value' --check ./program --check=yes folder
+
+# options
+row 'one table' 0 '' ./program folder
+prints <demo.text
+row 'all options' 0 '' ./program --workers 64 --any-sum --unknown-zero folder
+prints <demo.text
+row 'options behind the folder' 0 '' ./program folder --workers=2 --any-sum
+prints <demo.text
+row 'a check' 0 '' ./program --check folder
+echo 'Check "dsdt.dat" Bytes 9 Methods 1 Raw 0 Same' | prints
+row 'bodies that are given as their bytes' 3 "$raw_errors" ./program raw
+prints <raw.text
+row 'a check with such bodies' 3 "$raw_errors" ./program --check raw
+prints <<'T'
+Check "dsdt.dat" Bytes 24 Methods 2 Raw 1 Same
+Check "ssdt1.dat" Bytes 12 Methods 1 Raw 1 Same
+T
+row 'unknown names without arguments' 0 '' ./program --unknown-zero raw
+sed 's/^    Raw {A4, 42, 42, 42, 42}$/    Return (BBBB)/; s/^    Raw.*05}$/    Return (BBBB)\n    One\n    0x05/' raw.text | prints
+row 'a wrong checksum' 1 'acpidis: table "ssdt1.dat": BadSum' ./program summed
+row 'a check of a wrong checksum' 1 'acpidis: table "ssdt1.dat": BadSum' ./program --check summed
+row 'any checksum' 3 "$raw_errors" ./program --any-sum summed
+sed '2s/$/ BadSum/' raw.text | prints
+
+# the number of workers changes nothing: of 300 bodies two in three can't be read
+mkdir crowd
+table crowd/dsdt.dat DSDT "$(python3 -c 'print("".join(
+    "140B" + (b"M%03d" % number).hex() + ("00A442424242" if number % 3 else "00A44D303030") for number in range(300)))')"
+./program crowd >crowd.text 2>crowd.errors
+[ "$(grep -c 'Raw {' crowd.text) $(grep -c UnknownName crowd.errors)" = '200 200' ] || fail 'the bodies of a crowd'
+for workers in 1 2 3 64; do
+    row "$workers workers" 3 "$(cat crowd.errors)" ./program --workers "$workers" crowd
+    prints <crowd.text
+done
+
+# standard output that can't be written: more lines than a pipe holds, of which one is read
+mkdir long
+table long/dsdt.dat DSDT "$(python3 -c 'print("".join("08" + (b"N%03X" % number).hex() + "00" for number in range(4096)))')"
+row 'a long listing' 0 '' ./program long
+{ ./program long 2>error; echo $? >status; } | head -n 1 >first
+cut_off 'a pipe that is closed' '[0-9]*'
+head -n 1 output | cmp -s - first || fail 'a pipe that is closed: another first line'
+if [ -w /dev/full ]; then
+    for words in folder long '--check folder' raw; do
+        # shellcheck disable=SC2086
+        ./program $words >/dev/full 2>error
+        echo $? >status
+        cut_off "a full standard output, $words" 0
+    done
+    row 'a refusal and a full standard output' 1 'acpidis: table "ssdt1.dat": BadSum' sh -c './program summed >/dev/full'
+fi
+
+# standard error that can't be written: full, or closed
+mkdir empty
+for place in /dev/full '&-'; do
+    row "a refusal and standard error at $place" 1 '' sh -c "./program empty 2>$place"
+    row "raw bodies and standard error at $place" 3 '' sh -c "./program raw 2>$place"
+    prints <raw.text
+    row "a command line and standard error at $place" 2 '' sh -c "./program 2>$place"
+done
+
+# what is no folder
 row 'no folder' 1 'acpidis: cannot read folder' ./program nowhere
 row 'an empty word' 1 'acpidis: cannot read folder' ./program ''
 : >file
 row 'a file' 1 'acpidis: cannot read folder' ./program file
-mkdir empty
 row 'an empty folder' 1 'acpidis: NoDsdt' ./program empty
-
-cp -r "$demo" folder
-row 'one table' 0 '' ./program folder
 row 'a folder with a slash' 0 '' ./program folder/
 ln -s folder link
 row 'a link to a folder' 0 '' ./program link
@@ -69,13 +243,53 @@ import socket
 socket.socket(socket.AF_UNIX).bind('folder/socket')
 P
 row 'folders, links, a pipe, a socket' 0 '' ./program folder
+prints <demo.text
 rmdir folder/tables.map
 printf 'no map\n' >map
 ln -s ../map folder/tables.map
 row 'a map that is a link' 0 '' ./program folder
+prints <demo.text
+
+# a folder as Linux has it under /sys/firmware/acpi/tables: names without a dot, and the folders data and dynamic
+mkdir -p system/data system/dynamic
+cp "$demo/dsdt.dat" system/DSDT
+table system/SSDT10 SSDT 084242424200
+table system/SSDT9 SSDT 084141414100
+table system/MCFG MCFG 00
+table system/dynamic/SSDT11 SSDT 084343434300
+printf 'no table' >system/data/BERT
+row "the system's own folder" 0 '' ./program system
+prints <<'T'
+Table "DSDT" "DSDT" Length 45 Revision 2 Oem "TEST  " "EXAMPLE " 00000001 Creator "TEST" 00000001
+Table "MCFG" "MCFG" Length 37 Revision 2 Oem "TEST  " "EXAMPLE " 00000001 Creator "TEST" 00000001
+Table "SSDT10" "SSDT" Length 42 Revision 2 Oem "TEST  " "EXAMPLE " 00000001 Creator "TEST" 00000001
+Table "SSDT9" "SSDT" Length 42 Revision 2 Oem "TEST  " "EXAMPLE " 00000001 Creator "TEST" 00000001
+Namespace 3
+  \AAAA Name
+  \BBBB Name
+  \FOO_ Method 1
+DefinitionBlock ("DSDT") {
+  Method (FOO_, 1, NotSerialized, 0) {
+    Return (Arg0)
+  }
+}
+DefinitionBlock ("SSDT9") {
+  Name (AAAA, Zero)
+}
+DefinitionBlock ("SSDT10") {
+  Name (BBBB, Zero)
+}
+T
+
+# any other regular file is taken for a dump
+printf 'not a table\n' >system/README
+row 'a short text' 1 'acpidis: table "README": Short' ./program system
+printf 'some text that is as long as the header of a table\n' >system/README
+row 'a text longer than a header' 1 'acpidis: table "README": Short' ./program --any-sum system
 
 # maps
 map 'an empty map' '' '' 0
+prints <demo.text
 map 'an address leads to no root' 'acpidis: RootMissing' '0000000000001000 dsdt.dat\n' 1
 map 'no end of the last line' 'acpidis: RootMissing' '00000000abcDEF00 dsdt.dat' 1
 map 'too few digits' 'acpidis: tables.map line 1: BadLine' '00000000001000 dsdt.dat\n' 1
@@ -100,6 +314,7 @@ rm -rf folder
 cp -r "$demo" folder
 truncate -s 16777216 folder/dsdt.dat
 row 'a table of as many bytes as may be' 0 '' ./program folder
+prints <demo.text
 truncate -s 17000000 folder/dsdt.dat
 row 'a table of too many bytes' 1 'acpidis: table "dsdt.dat": TooLarge' ./program folder
 rm folder/dsdt.dat
@@ -128,7 +343,6 @@ if [ "$(id -u)" = 0 ] && command -v setpriv >/dev/null; then
 fi
 
 # numbers of files
-rm -rf many
 mkdir many
 number=0
 while [ "$number" -lt 511 ]; do
@@ -153,10 +367,6 @@ if mkdir many/"$(printf '\377')" 2>/dev/null; then
     ln -s nowhere "folder/$(printf 'a\300')"
     row 'a link whose name is no text' 1 'acpidis: cannot read folder' ./program folder
 fi
-
-# standard error that can't be written
-./program empty 2>/dev/full
-[ $? = 1 ] || { failed=$((failed + 1)); echo 'FAILED a full standard error'; }
 
 echo "$passed passed, $failed failed"
 [ "$failed" = 0 ]
