@@ -151,7 +151,7 @@ def signed(dumps, signature):
 
 def stem_number(name):
     stem = name.rpartition(".")[0] or name
-    return int(re.search("[0-9]*$", stem)[0][-9:] or 0)
+    return int(re.search(r"[0-9]*\Z", stem)[0][-9:] or 0)
 
 
 def order_by_names(dumps):

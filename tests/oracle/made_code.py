@@ -2,7 +2,7 @@
 somewhere."""
 
 from loading import PREDEFINED
-from reading import ALIAS, BUFFER, ELSE, EXTERNAL, FIELD_LISTS, IF, METHOD, ROWS, SCOPE, SCOPES, Name
+from reading import ALIAS, BUFFER, ELSE, EXTERNAL, FIELD_LISTS, IF, METHOD, MOST_LEVELS, ROWS, SCOPE, SCOPES, Name
 
 PLAIN_VALUES = [0x00, 0x01, 0xFF, 0x60, 0x61, 0x68, 0x0A, 0x0B, 0x0C, 0x0E, 0x0D, 0x5B30, 0x5B31, 0x5B33]
 VALUES = [opcode for opcode, row in ROWS.items() if row.group in ("value", "expression")]
@@ -279,6 +279,8 @@ class Maker:
     # ---- values
 
     def value(self, depth, inside):
+        if self.chance.random() < 0.0005:
+            return b"\x92" * self.chance.randrange(MOST_LEVELS - 12, MOST_LEVELS + 3) + b"\x60"
         kind = self.chance.random() if depth < MOST_DEPTH else 1
         if kind < 0.35:
             return self.called(depth, inside)

@@ -7,7 +7,7 @@ from folders import MAP_NAME
 from made_code import Maker, damaged
 from running import Options
 
-ODD_NAMES = ["SSDT", "SSDT10", "SSDT2", 'a"7.dat', "b\\7", "é 03.dat", ".9", "s.11.", "s0000000012.aml", "s9000000003.aml"]
+ODD_NAMES = ["SSDT", "SSDT10", "SSDT2", 'a"7.dat', "b\\7", "é 03.dat", ".9", "s.11.", "s12\n.aml", "s9000000003.aml"]
 FADT_LENGTHS = [116, 117, 139, 140, 147, 148, 244, 276]
 SIGNATURES = [b"HPET", b"MCFG", b"RSDT", b"PSDT", b"dsdt", b'\x01"\\\xFF']
 BLOCKS = (b"DSDT", b"SSDT")
