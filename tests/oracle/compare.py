@@ -75,6 +75,7 @@ class Comparison:
             self.faults[outcome.err.rsplit(": ", 1)[-1].split()[0]] += 1
 
     def report(self):
+        """Says how the sets ended, so that a reader sees what was compared."""
         ends = ", ".join(f"{self.ends[end]} {end}" for end in ("accepted", "with raw bodies", "refused"))
         faults = ", ".join(f"{fault} {count}" for fault, count in self.faults.most_common())
         print(f"{self.ends.total()} sets: {ends}" + (f" ({faults})" if faults else ""))

@@ -100,27 +100,27 @@ class SetMaker:
     def __init__(self, chance, known=()):
         self.chance, self.known = chance, known
 
-    def is_rare(self, share):
+    def happens(self, share):
         return self.chance.random() < share
 
     def trial(self):
-        if self.known and self.is_rare(0.4):
+        if self.known and self.happens(0.4):
             files = self.spoiled(self.chance.choice(self.known))
         else:
             files = self.made_files()
-            if self.is_rare(0.15):
+            if self.happens(0.15):
                 files = self.spoiled(files)
         summed = [name for name, data in files.items() if len(data) > 9 and name != MAP_NAME]
-        if summed and self.is_rare(0.06):
+        if summed and self.happens(0.06):
             name = self.chance.choice(summed)
             return Trial({**files, name: with_wrong_sum(self.chance, files[name])}, self.options(False))
         return Trial(files, self.options(True))
 
     def options(self, is_summed):
         return Options(
-            any_sum=self.is_rare(0.2 if is_summed else 0.75),
-            unknown_zero=self.is_rare(0.25),
-            check=self.is_rare(0.15),
+            any_sum=self.happens(0.2 if is_summed else 0.75),
+            unknown_zero=self.happens(0.25),
+            check=self.happens(0.15),
             workers=self.chance.choice((None, 1, 2, 3, 4)),
         )
 
@@ -142,14 +142,14 @@ class SetMaker:
         names = self.block_names(len(codes))
         files = {name: table(self.chance, signature, code) for name, signature, code in zip(names, signatures, codes)}
         files |= self.extra_files()
-        if self.is_rare(0.3):
+        if self.happens(0.3):
             files = self.chained(files, names)
-        elif self.is_rare(0.1):
+        elif self.happens(0.1):
             files[MAP_NAME] = b""
-        return {name: data + self.chance.randbytes(3) if self.is_rare(0.02) else data for name, data in files.items()}
+        return {name: data + self.chance.randbytes(3) if self.happens(0.02) else data for name, data in files.items()}
 
     def block_names(self, count):
-        if self.is_rare(0.8):
+        if self.happens(0.8):
             return ["dsdt.dat", *(f"ssdt{number}.dat" for number in range(1, count))]
         return self.chance.sample(ODD_NAMES, count)
 
@@ -164,22 +164,25 @@ class SetMaker:
             "other.dat": lambda: other(chance),
             "other2.dat": lambda: other(chance),
         }
-        return {name: make() for name, make in makers.items() if self.is_rare(0.25)}
+        return {name: make() for name, make in makers.items() if self.happens(0.25)}
 
     def chained(self, files, blocks):
         """The files with the tables that lead to the blocks, and a map."""
         chance = self.chance
         names = list(dict.fromkeys([*files, "rsdp.dat", "xsdt.dat", "facp.dat"]))
         addresses = {name: page << 12 for name, page in zip(names, chance.sample(range(1, 1 << 20), len(names)))}
-        if self.is_rare(0.08):
+        if self.happens(0.08):
             addresses[blocks[0]] += chance.randrange(1 << 32) << 32
-        listed = ["facp.dat", *blocks[1:], *(name for name in files if self.is_rare(0.3))]
-        if self.is_rare(0.2):
+        listed = ["facp.dat", *blocks[1:], *(name for name in files if self.happens(0.3))]
+        if self.happens(0.2):
             chance.shuffle(listed)
-        entries = [addresses[name] for name in listed if not self.is_rare(0.01)] + [chance.randrange(1 << 64)] * self.is_rare(0.1)
+        entries = [addresses[name] for name in listed if not self.happens(0.01)]
+        if self.happens(0.1):
+            entries.append(chance.randrange(1 << 64))
+        revision, xsdt = 0 if self.happens(0.04) else 2, "facp.dat" if self.happens(0.03) else "xsdt.dat"
         files = {
             **files,
-            "rsdp.dat": root(chance, 0 if self.is_rare(0.04) else 2, addresses["rsdp.dat" if self.is_rare(0.03) else "xsdt.dat"]),
+            "rsdp.dat": root(chance, revision, addresses[xsdt]),
             "xsdt.dat": table(chance, b"XSDT", b"".join(entry.to_bytes(8, "little") for entry in entries)),
             "facp.dat": fadt(chance, addresses[blocks[0]]),
         }
@@ -187,12 +190,12 @@ class SetMaker:
 
     def map_of(self, addresses):
         first, second, *_ = addresses
-        if self.is_rare(0.02):
+        if self.happens(0.02):
             addresses = {**addresses, second: addresses[first]}
-        lines = [f"{address:016X} {name}" for name, address in addresses.items() if not self.is_rare(0.01)]
-        if self.is_rare(0.2):
+        lines = [f"{address:016X} {name}" for name, address in addresses.items() if not self.happens(0.01)]
+        if self.happens(0.2):
             lines = [line[:16].lower() + line[16:] for line in lines]
         self.chance.shuffle(lines)
-        if self.is_rare(0.05):
+        if self.happens(0.05):
             lines.append(self.chance.choice([*lines[:1], "", "0000000000001000 none.dat", "100 dsdt.dat"]))
         return ("\n".join(lines) + self.chance.choice(("", "\n"))).encode()
