@@ -1,6 +1,6 @@
 -- Reading terms forward, with the first fault that is met. A stepping stone: what it means that code reads as terms is
 -- said without it, by the definitions of aml_code.
-use Rattle.std.specs.Prelude.{ℕ, zero, suc, ◌+◌, ◌-◌, Bool, true, false, ◌==◌, if◌then◌else◌, nat_lt, List, [], ◌∷◌, length, take, drop, position, Option, Some, None, Result, Ok, Err}
+use Rattle.std.specs.Prelude.{◌≡◌, ℕ, zero, suc, ◌+◌, ◌-◌, Bool, true, false, ◌==◌, if◌then◌else◌, nat_lt, List, [], ◌∷◌, length, take, drop, position, Option, Some, None, Result, Ok, Err}
 use Rattle.std.specs.FinSet as set
 use Rattle.aml_names.specs.declared.faults.CodeFault.{CodeFault}
 use Rattle.aml_names.specs.declared.faults.CodeFault.TheVariants as faults
@@ -26,6 +26,8 @@ use Rattle.aml_code.specs.Tree as trees
 use Rattle.aml_code.specs.Declaring.{names_declared, with_declared}
 use Rattle.aml_code.specs.Faults.{Arities}
 use Rattle.aml_code.specs.Lawful.{is_guard, terms_in, next_position}
+use Rattle.aml_parse.specs.declared.positions.Lead.{Lead}
+use Rattle.aml_parse.specs.declared.positions.Lead.TheVariants as leads
 
 -- A reader is handed where the innermost span ends, the paths declared so far and what is left of the span. It answers
 -- what it read, the paths declared then, and what is left.
@@ -325,6 +327,12 @@ operation_at scope read p end ls bytes = do
 abbrev pub is_absent_target : Position → ℕ → Bool
 is_absent_target positions.Target lead = lead == 0x00
 is_absent_target _ lead = false
+
+-- what the first byte of a term begins
+abbrev pub Begins : Lead → Position → ℕ → Type 0
+Begins leads.Name p lead = is_name_lead lead ≡ true
+Begins leads.Nothing p lead = (is_name_lead lead ≡ false) × (is_absent_target p lead ≡ true)
+Begins leads.Opcode p lead = (is_name_lead lead ≡ false) × (is_absent_target p lead ≡ false)
 
 -- a term, with what is inside it read by another reader
 unfoldable pub term_at : Arities → Option (List Seg) → (Position → Reader Tree) → Position → Reader Tree

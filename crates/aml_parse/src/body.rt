@@ -30,14 +30,8 @@ fn body_terms<A: Arity>(
         scope: Some(scope),
     };
     let mut locals = Locals::new(alloc);
-    terms(
-        &context,
-        512,
-        Position::BodyTerm,
-        code.len() as u32,
-        &mut locals,
-        code,
-    )
+    let end = code.len() as u32;
+    terms(&context, 512, Position::BodyTerm, end, &mut locals, code)
 }
 
 /// The terms of a method's body, which `code` holds whole. How many arguments a name takes is asked of `arity`, by the

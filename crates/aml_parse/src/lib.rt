@@ -7,6 +7,7 @@ mod body;
 mod context;
 mod flat;
 mod module;
+mod packages;
 mod positions;
 mod terms;
 mod units;

@@ -3,9 +3,10 @@ ghost use Rattle.std.specs.Prelude.{◌≡◌};
 ghost use Rattle.aml_names.specs.Steps.{Gives};
 ghost use Rattle.aml_code.specs.Lawful.{is_guard, is_if, next_position, terms_in};
 ghost use Rattle.aml_code.specs.View.{node_view};
-ghost use Rattle.aml_parse.specs.Reading.{opcode_at, refused_in_body, refusal, is_absent_target, takes_names, guard_at};
+ghost use Rattle.aml_parse.specs.Reading.{opcode_at, refused_in_body, refusal, is_absent_target, Begins, takes_names, guard_at};
 
 use aml_code::{CodeFault, Node, Place, Position, byte_of, listed_row};
+use aml_names::is_name_lead;
 
 /// An opcode: one byte, or 5B and a second.
 #[tactic(auto, unfolding(crate::specs::Reading::opcode_at))]
@@ -44,10 +45,32 @@ pub fn refusal(position: Position, place: Place, at: u32) -> CodeFault
 }
 
 /// Whether a target is absent: its place holds the byte 00.
-pub fn is_absent_target(position: Position, lead: u8) -> bool
+fn is_absent_target(position: Position, lead: u8) -> bool
     ensures { result ≡ is_absent_target position lead }
 {
     position == Position::Target && lead == 0x00
+}
+
+/// What the first byte of a term begins.
+#[derive(Clone, Copy)]
+pub enum Lead {
+    Name,
+    /// An absent target, which is this byte alone.
+    Nothing,
+    Opcode,
+}
+
+/// What the first byte of a term begins in its position.
+pub fn lead_of(position: Position, lead: u8) -> Lead
+    ensures { Begins result position lead }
+{
+    if is_name_lead(lead) {
+        return Lead::Name;
+    }
+    if is_absent_target(position, lead) {
+        return Lead::Nothing;
+    }
+    Lead::Opcode
 }
 
 /// Whether a term may be a name.

@@ -12,17 +12,18 @@ use crate::flat::{
     any_name_part_of, byte_part_of, count_part_of, dword_part_of, name_part_of, qword_part_of,
     text_part_of, word_part_of,
 };
+use crate::packages::{body_of, operation_of, package_of};
 use crate::positions::{
-    guard_of, is_absent_target, is_guard, next_position, opcode_of, refusal, takes_names, terms_in,
+    Lead, guard_of, is_guard, lead_of, next_position, opcode_of, refusal, takes_names, terms_in,
 };
 use crate::units::{
     access_unit_of, extended_unit_of, named_joint_of, named_unit_of, reserved_unit_of,
 };
 use aml_code::{
     Arity, Bytes, CodeFault, Field, Link, Locals, Node, OpRow, Part, PartKind, Position, Tail,
-    TailKind, byte_of, listed_row, offset_of, span_of, takes,
+    TailKind, byte_of, listed_row, offset_of, takes,
 };
-use aml_names::{is_name_lead, name_of};
+use aml_names::name_of;
 use std::alloc::Global;
 
 /// The opcode of a Buffer.
@@ -48,13 +49,11 @@ fn term<'b, A: Arity>(
             at: offset_of(end, bytes),
         });
     }
-    if is_name_lead(lead) {
-        return name_term(context, levels - 1, position, end, locals, bytes);
+    match lead_of(position, lead) {
+        Lead::Name => name_term(context, levels - 1, position, end, locals, bytes),
+        Lead::Nothing => Ok((Node::Nothing, rest)),
+        Lead::Opcode => operation(context, levels - 1, position, end, locals, bytes),
     }
-    if is_absent_target(position, lead) {
-        return Ok((Node::Nothing, rest));
-    }
-    operation(context, levels - 1, position, end, locals, bytes)
 }
 
 /// A name as a term, with its arguments. `ModuleCode` where no name may stand.
@@ -190,12 +189,7 @@ fn plain<'b, A: Arity>(
     let (parts, rest) = parts(context, levels, row.parts, end, locals, bytes)?;
     let tail = Tail::Empty;
     context.declare(row.role, parts.as_slice(), &tail, locals)?;
-    let node = Node::Op {
-        opcode: row.opcode,
-        width: None,
-        parts,
-        tail,
-    };
+    let node = operation_of(row.opcode, None, parts, tail);
     Ok((node, rest))
 }
 
@@ -216,8 +210,7 @@ fn packed<'b, A: Arity>(
         (packed_at (scope_of context.now.scope) (read_in A.arity context.now levels) position at
         (row_view row.now) end locals.old bytes.now) }
 {
-    let (width, inside, behind) = span_of(end, bytes)?;
-    let inner = offset_of(end, behind);
+    let (width, inner, inside, behind) = package_of(end, bytes)?;
     guard_of(is_guard(position, row.place), at, inner, inside)?;
     let (parts, rest) = parts(context, levels, row.parts, inner, locals, inside)?;
     let inner_position = terms_in(position, row.place);
@@ -231,12 +224,7 @@ fn packed<'b, A: Arity>(
         rest,
     )?;
     context.declare(row.role, parts.as_slice(), &tail, locals)?;
-    let node = Node::Op {
-        opcode: row.opcode,
-        width: Some(width),
-        parts,
-        tail,
-    };
+    let node = operation_of(row.opcode, Some(width), parts, tail);
     Ok((node, behind))
 }
 
@@ -341,13 +329,7 @@ fn tail<A: Arity>(
             let fields = fields(context, levels, end, locals, inside)?;
             Ok(Tail::Fields(fields))
         }
-        TailKind::Body => {
-            let start = offset_of(end, inside);
-            Ok(Tail::Body {
-                start,
-                len: end - start,
-            })
-        }
+        TailKind::Body => Ok(body_of(end, inside)),
     }
 }
 

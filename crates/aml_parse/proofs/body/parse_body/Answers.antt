@@ -15,3 +15,6 @@ returns-clause-complete g c = given_body_complete (λ x. nodes_view x.items) c.b
 
 pub returns-clause-placed : goal.returns-clause-placed
 returns-clause-placed g c = given_placed (λ x. nodes_view x.items) c.body_terms.result (g.A.Arity.arity c.args.arity.now) (Some c.args.scope.now) positions.BodyTerm c.args.code.now (λ i. omega (arith, c.type_inv.code i)) c.body_terms.ensures
+
+pub returns-clause-forward : goal.returns-clause-forward
+returns-clause-forward g c = c.body_terms.ensures
