@@ -1,5 +1,5 @@
 //! A crew of workers, in threads that halve it.
-ghost use Rattle.std.specs.Prelude.{◌≡◌, ◌+◌, ◌≤◌, Err, IfOk, IfErr};
+ghost use Rattle.std.specs.Prelude.{◌≡◌, ◌+◌, ◌/◌, ◌≤◌, Err, IfOk, IfErr};
 ghost use Rattle.std.specs.Thread.{IsSync, IsSend};
 ghost use Rattle.aml_pool.specs.Seats.{count_of, IsSeatOf, IsFresh, IsCut};
 ghost use Rattle.aml_pool.specs.Shares.{EachBelow, CanBegin, IsShare};
@@ -74,8 +74,7 @@ where
     if workers == 1 {
         return alone(alloc, board, seat, first, work, gate);
     }
-    let others = workers / 2;
-    let mine = workers - others;
+    let (mine, others) = halved(workers);
     let middle = first + mine;
     let whole = Snapshot::of(&seat);
     let other = board.split(&mut seat, others);
@@ -115,6 +114,16 @@ where
         },
     )?;
     together(board, work, &halves, here, there)
+}
+
+/// Two halves of some workers; the second one is rounded down.
+fn halved(workers: u32) -> (u32, u32)
+    requires { 2 ≤ workers }
+    ensures all { result.0 + result.1 ≡ workers }
+    ensures second { result.1 ≡ workers / 2 }
+{
+    let others = workers / 2;
+    (workers - others, others)
 }
 
 /// One worker: it draws, passes the gate, works, and keeps what it found.
