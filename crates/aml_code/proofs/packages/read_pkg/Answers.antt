@@ -13,3 +13,6 @@ returns-clause-complete c = given_complete c.front_of.result c.args.bytes.now c.
 
 pub returns-clause-placed : goal.returns-clause-placed
 returns-clause-placed c = given_placed c.front_of.result c.args.bytes.now c.front_of.ensures.takes_none c.front_of.ensures.exact
+
+pub returns-clause-exact : goal.returns-clause-exact
+returns-clause-exact c = c.front_of.ensures.exact

@@ -1,4 +1,5 @@
-use Rattle.std.proofs.Common.{◌/◌, arith}
+use Rattle.std.proofs.Common.{◌/◌, arith, rules, tests}
+use Rattle.aml_code.specs.Lengths.{value_at}
 use Rattle.aml_code.proofs.LengthLaws.{three_bytes}
 use Rattle.aml_code.proofs.packages.value_of.Goals as goal
 
@@ -10,3 +11,11 @@ overflow_mul-value c = omega (arith, c.in_ok-high.ensures.below, three_bytes (c.
 
 pub overflow_add-value : goal.overflow_add-value
 overflow_add-value c = omega (arith, c.in_ok-high.ensures.below, three_bytes (c.args.lead / 64))
+
+pub returns-in_err-high-clause-exact : goal.returns-in_err-high-clause-exact
+unfolding value_at
+returns-in_err-high-clause-exact c = search (rules, tests)
+
+pub returns-clause-exact : goal.returns-clause-exact
+unfolding value_at
+returns-clause-exact c = search (rules, tests)
