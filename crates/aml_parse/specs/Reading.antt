@@ -99,18 +99,31 @@ child_at read end ls bytes = do
   t ← read end ls bytes
   Ok (child t.0, t.1, t.2)
 
+-- where a part stands that is a term
+abbrev pub child_position : PartKind → Option Position
+child_position kinds.Term = Some positions.Argument
+child_position kinds.Target = Some positions.Target
+child_position kinds.Data = Some positions.Data
+child_position _ = None
+
+-- a part of another kind
+abbrev pub flat_part : PartKind → ℕ → List ℕ → Left OnePart
+flat_part kinds.Name end bytes = name_part end bytes
+flat_part kinds.ScopeName end bytes = any_name_part end bytes
+flat_part kinds.Byte end bytes = byte_part end bytes
+flat_part kinds.Count end bytes = count_part end bytes
+flat_part kinds.Word end bytes = word_part end bytes
+flat_part kinds.Dword end bytes = dword_part end bytes
+flat_part kinds.Qword end bytes = qword_part end bytes
+flat_part kinds.Text end bytes = text_part end bytes
+flat_part _ end bytes = Err (faults.Truncated end)
+
+abbrev pub part_by : Option Position → (Position → Reader Tree) → PartKind → Reader OnePart
+part_by (Some p) read k = child_at (read p)
+part_by None read k = flat (flat_part k)
+
 abbrev pub part_at : (Position → Reader Tree) → PartKind → Reader OnePart
-part_at read kinds.Term = child_at (read positions.Argument)
-part_at read kinds.Target = child_at (read positions.Target)
-part_at read kinds.Data = child_at (read positions.Data)
-part_at read kinds.Name = flat name_part
-part_at read kinds.ScopeName = flat any_name_part
-part_at read kinds.Byte = flat byte_part
-part_at read kinds.Count = flat count_part
-part_at read kinds.Word = flat word_part
-part_at read kinds.Dword = flat dword_part
-part_at read kinds.Qword = flat qword_part
-part_at read kinds.Text = flat text_part
+part_at read k = part_by (child_position k) read k
 
 unfoldable pub parts_at : (Position → Reader Tree) → List PartKind → Reader Parts
 parts_at read [] end ls bytes = Ok (no_parts, ls, bytes)

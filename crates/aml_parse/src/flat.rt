@@ -2,14 +2,14 @@
 ghost use Rattle.std.specs.Prelude.{◌≡◌, ◌<◌, ◌==◌, position, take, drop, suc, IfSome, length};
 ghost use Rattle.aml_names.specs.Steps.{Gives};
 ghost use Rattle.aml_code.specs.View.{part_view};
-ghost use Rattle.aml_parse.specs.Reading.{byte_part, count_part, word_part, dword_part, qword_part, text_part, text_to, any_name_part, segmented_at, name_part};
+ghost use Rattle.aml_parse.specs.Reading.{byte_part, count_part, word_part, dword_part, qword_part, text_part, text_to, any_name_part, segmented_at, name_part, flat_part};
 
-use aml_code::{Bytes, CodeFault, Name, Part, little_of, offset_of};
+use aml_code::{Bytes, CodeFault, Name, Part, PartKind, little_of, offset_of};
 use aml_names::name_of;
 use std::alloc::Global;
 
 /// A number of one byte.
-pub fn byte_part_of(end: u32, bytes: &[u8]) -> Result<(Part, &[u8]), CodeFault>
+fn byte_part_of(end: u32, bytes: &[u8]) -> Result<(Part, &[u8]), CodeFault>
     ensures { Gives (λ x. (part_view x.0, x.1.now)) result (byte_part end bytes.now) }
 {
     let (value, rest) = little_of(1, end, bytes)?;
@@ -18,7 +18,7 @@ pub fn byte_part_of(end: u32, bytes: &[u8]) -> Result<(Part, &[u8]), CodeFault>
 
 /// A number of arguments. `BadCount` at the byte where it is above 7.
 #[tactic(auto, unfolding(crate::specs::Reading::count_part))]
-pub fn count_part_of(end: u32, bytes: &[u8]) -> Result<(Part, &[u8]), CodeFault>
+fn count_part_of(end: u32, bytes: &[u8]) -> Result<(Part, &[u8]), CodeFault>
     ensures { Gives (λ x. (part_view x.0, x.1.now)) result (count_part end bytes.now) }
 {
     let (value, rest) = little_of(1, end, bytes)?;
@@ -31,7 +31,7 @@ pub fn count_part_of(end: u32, bytes: &[u8]) -> Result<(Part, &[u8]), CodeFault>
 }
 
 /// A number of two bytes.
-pub fn word_part_of(end: u32, bytes: &[u8]) -> Result<(Part, &[u8]), CodeFault>
+fn word_part_of(end: u32, bytes: &[u8]) -> Result<(Part, &[u8]), CodeFault>
     ensures { Gives (λ x. (part_view x.0, x.1.now)) result (word_part end bytes.now) }
 {
     let (value, rest) = little_of(2, end, bytes)?;
@@ -39,7 +39,7 @@ pub fn word_part_of(end: u32, bytes: &[u8]) -> Result<(Part, &[u8]), CodeFault>
 }
 
 /// A number of four bytes.
-pub fn dword_part_of(end: u32, bytes: &[u8]) -> Result<(Part, &[u8]), CodeFault>
+fn dword_part_of(end: u32, bytes: &[u8]) -> Result<(Part, &[u8]), CodeFault>
     ensures { Gives (λ x. (part_view x.0, x.1.now)) result (dword_part end bytes.now) }
 {
     let (value, rest) = little_of(4, end, bytes)?;
@@ -47,7 +47,7 @@ pub fn dword_part_of(end: u32, bytes: &[u8]) -> Result<(Part, &[u8]), CodeFault>
 }
 
 /// A number of eight bytes.
-pub fn qword_part_of(end: u32, bytes: &[u8]) -> Result<(Part, &[u8]), CodeFault>
+fn qword_part_of(end: u32, bytes: &[u8]) -> Result<(Part, &[u8]), CodeFault>
     ensures { Gives (λ x. (part_view x.0, x.1.now)) result (qword_part end bytes.now) }
 {
     let (value, rest) = little_of(8, end, bytes)?;
@@ -63,7 +63,7 @@ fn first_zero(bytes: &[u8]) -> Option<usize>
 }
 
 /// A text up to its 00. `Truncated` at the span's end where there is none.
-pub fn text_part_of(alloc: Global, end: u32, bytes: &[u8]) -> Result<(Part, &[u8]), CodeFault>
+fn text_part_of(alloc: Global, end: u32, bytes: &[u8]) -> Result<(Part, &[u8]), CodeFault>
     ensures { Gives (λ x. (part_view x.0, x.1.now)) result (text_part end bytes.now) }
 {
     match first_zero(bytes) {
@@ -76,7 +76,7 @@ pub fn text_part_of(alloc: Global, end: u32, bytes: &[u8]) -> Result<(Part, &[u8
 }
 
 /// A name that may have no segment.
-pub fn any_name_part_of(alloc: Global, end: u32, bytes: &[u8]) -> Result<(Part, &[u8]), CodeFault>
+fn any_name_part_of(alloc: Global, end: u32, bytes: &[u8]) -> Result<(Part, &[u8]), CodeFault>
     ensures { Gives (λ x. (part_view x.0, x.1.now)) result (any_name_part end bytes.now) }
 {
     let (name, rest) = name_of(alloc, end, bytes)?;
@@ -98,9 +98,33 @@ pub fn segmented_of(alloc: Global, end: u32, bytes: &[u8]) -> Result<(Name, &[u8
 }
 
 /// A name with a segment, as a part.
-pub fn name_part_of(alloc: Global, end: u32, bytes: &[u8]) -> Result<(Part, &[u8]), CodeFault>
+fn name_part_of(alloc: Global, end: u32, bytes: &[u8]) -> Result<(Part, &[u8]), CodeFault>
     ensures { Gives (λ x. (part_view x.0, x.1.now)) result (name_part end bytes.now) }
 {
     let (name, rest) = segmented_of(alloc, end, bytes)?;
     Ok((Part::Label(name), rest))
+}
+
+/// A part of a kind that holds no terms. `Truncated` for other kinds.
+pub fn flat_part_of(
+    alloc: Global,
+    kind: PartKind,
+    end: u32,
+    bytes: &[u8],
+) -> Result<(Part, &[u8]), CodeFault>
+    ensures { Gives (λ x. (part_view x.0, x.1.now)) result (flat_part kind end bytes.now) }
+{
+    match kind {
+        PartKind::Name => name_part_of(alloc, end, bytes),
+        PartKind::ScopeName => any_name_part_of(alloc, end, bytes),
+        PartKind::Byte => byte_part_of(end, bytes),
+        PartKind::Count => count_part_of(end, bytes),
+        PartKind::Word => word_part_of(end, bytes),
+        PartKind::Dword => dword_part_of(end, bytes),
+        PartKind::Qword => qword_part_of(end, bytes),
+        PartKind::Text => text_part_of(alloc, end, bytes),
+        PartKind::Term | PartKind::Target | PartKind::Data => {
+            Err(CodeFault::Truncated { at: end })
+        }
+    }
 }

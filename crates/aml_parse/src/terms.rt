@@ -8,13 +8,11 @@ ghost use Rattle.aml_parse.specs.Contexts.{scope_of, read_in};
 ghost use Rattle.aml_parse.specs.Reading.{child_at, part_at, parts_at, arguments_at, terms_at, units_at, unit_at, joint_at, call_at, name_term_at, tail_at, plain_at, packed_at, by_row, row_at, operation_at};
 
 use crate::context::Context;
-use crate::flat::{
-    any_name_part_of, byte_part_of, count_part_of, dword_part_of, name_part_of, qword_part_of,
-    text_part_of, word_part_of,
-};
+use crate::flat::flat_part_of;
 use crate::packages::{body_of, operation_of, package_of};
 use crate::positions::{
-    Lead, guard_of, is_guard, lead_of, next_position, opcode_of, refusal, takes_names, terms_in,
+    Lead, child_position, guard_of, is_guard, lead_of, next_position, opcode_of, refusal,
+    takes_names, terms_in,
 };
 use crate::units::{
     access_unit_of, extended_unit_of, named_joint_of, named_unit_of, reserved_unit_of,
@@ -265,18 +263,9 @@ fn part<'b, A: Arity>(
     ensures { Gives (λ x. (part_view x.0, locals.new, x.1.now)) result
         (part_at (read_in A.arity context.now levels) kind end locals.old bytes.now) }
 {
-    match kind {
-        PartKind::Term => child(context, levels, Position::Argument, end, locals, bytes),
-        PartKind::Target => child(context, levels, Position::Target, end, locals, bytes),
-        PartKind::Data => child(context, levels, Position::Data, end, locals, bytes),
-        PartKind::Name => Ok(name_part_of(context.alloc, end, bytes)?),
-        PartKind::ScopeName => Ok(any_name_part_of(context.alloc, end, bytes)?),
-        PartKind::Byte => Ok(byte_part_of(end, bytes)?),
-        PartKind::Count => Ok(count_part_of(end, bytes)?),
-        PartKind::Word => Ok(word_part_of(end, bytes)?),
-        PartKind::Dword => Ok(dword_part_of(end, bytes)?),
-        PartKind::Qword => Ok(qword_part_of(end, bytes)?),
-        PartKind::Text => Ok(text_part_of(context.alloc, end, bytes)?),
+    match child_position(kind) {
+        Some(position) => child(context, levels, position, end, locals, bytes),
+        None => Ok(flat_part_of(context.alloc, kind, end, bytes)?),
     }
 }
 
