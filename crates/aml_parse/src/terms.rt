@@ -5,7 +5,7 @@ ghost use Rattle.aml_code.specs.Rows.{row_view};
 ghost use Rattle.aml_code.specs.Tree.{op, no_parts, empty};
 ghost use Rattle.aml_code.specs.View.{node_view, nodes_view, part_view, parts_view, tail_view, field_view, fields_view, link_view};
 ghost use Rattle.aml_parse.specs.Contexts.{scope_of, read_in};
-ghost use Rattle.aml_parse.specs.Reading.{child_at, part_at, parts_at, arguments_at, terms_at, units_at, unit_at, joint_at, call_at, name_term_at, tail_at, plain_at, packed_at, by_row, row_at, operation_at};
+ghost use Rattle.aml_parse.specs.Reading.{part_at, parts_at, arguments_at, terms_at, units_at, unit_at, joint_at, call_at, name_term_at, tail_at, plain_at, packed_at, by_row, row_at, operation_at};
 
 use crate::context::Context;
 use crate::flat::flat_part_of;
@@ -264,26 +264,12 @@ fn part<'b, A: Arity>(
         (part_at (read_in A.arity context.now levels) kind end locals.old bytes.now) }
 {
     match child_position(kind) {
-        Some(position) => child(context, levels, position, end, locals, bytes),
+        Some(position) => {
+            let (node, rest) = term(context, levels, position, end, locals, bytes)?;
+            Ok((Part::Child(node), rest))
+        }
         None => Ok(flat_part_of(context.alloc, kind, end, bytes)?),
     }
-}
-
-/// A part that is a term.
-#[cycle(terms)]
-fn child<'b, A: Arity>(
-    context: &Context<'_, A>,
-    levels: u16,
-    position: Position,
-    end: u32,
-    locals: &mut Locals,
-    bytes: &'b [u8],
-) -> Result<(Part, &'b [u8]), CodeFault>
-    ensures { Gives (λ x. (part_view x.0, locals.new, x.1.now)) result
-        (child_at (read_in A.arity context.now levels position) end locals.old bytes.now) }
-{
-    let (node, rest) = term(context, levels, position, end, locals, bytes)?;
-    Ok((Part::Child(node), rest))
 }
 
 /// What follows the parts, to the end of the span.

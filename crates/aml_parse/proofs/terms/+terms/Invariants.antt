@@ -32,9 +32,6 @@ decreases-parts g l = 8 * l.levels + 5
 abbrev pub decreases-part : goal.decreases-part
 decreases-part g l = 8 * l.levels + 4
 
-abbrev pub decreases-child : goal.decreases-child
-decreases-child g l = 8 * l.levels + 3
-
 abbrev pub decreases-tail : goal.decreases-tail
 decreases-tail g l = 8 * l.levels + 5
 
