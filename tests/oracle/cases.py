@@ -16,7 +16,7 @@ sys.path.insert(0, str(pathlib.Path(__file__).resolve().parent))
 from dumps import Bad, Dump, dump_lines, order_of  # noqa: E402
 from folders import MapFault, parse_map  # noqa: E402
 from loading import Body, Namespace, path_text  # noqa: E402
-from printing import quoted, row_text, term_lines  # noqa: E402
+from printing import row_text, term_lines  # noqa: E402
 from reading import Name, Reader, Refused  # noqa: E402
 from running import Options, run  # noqa: E402
 
@@ -86,11 +86,6 @@ def name_text(code):
     return [" ".join([f"{FORMS.get(lead, 'One')}, {length} bytes:", *["\\"] * name.root, *["^"] * name.ups, *name.segs])]
 
 
-def segment_text(code):
-    seg, at = Reader(code).segment(0, len(code))
-    return [f"{seg}, {len(code) - at} bytes left"]
-
-
 def length_text(code):
     value, width = Reader(code).length(0, len(code))
     return [f"{value} in width {WIDTHS[width]}"]
@@ -156,9 +151,6 @@ class Rows:
     def row_name(self, _, code):
         return name_text(code)
 
-    def row_segment(self, _, code):
-        return segment_text(code)
-
     def row_length(self, _, code):
         return length_text(code)
 
@@ -166,9 +158,6 @@ class Rows:
 
     def row_map(self, words, text):
         return map_text(words.split(" "), text)
-
-    def row_quoted(self, _, data):
-        return ["Name " + quoted(data)]
 
     # sets
 
@@ -207,10 +196,6 @@ class Rows:
             self.row_cut(left, b"")
             answers += [f"{left} bytes:", *self.answer("order")]
         return answers
-
-    def row_lines(self, _, __):
-        order_of(self.dumps, True)
-        return list(dump_lines(self.dumps))
 
     def row_run(self, words, _):
         status, out, err = run(self.dumps, options_of(words))
@@ -254,9 +239,6 @@ class Rows:
 
     def row_rows(self, _, __):
         return [row_text(*row) for row in self.names.rows()]
-
-    def row_row(self, words, _):
-        return or_none(dict(enumerate(self.row_rows(words, _))).get(int(words)))
 
     def row_arity(self, words, _, unknown_zero=False):
         method, name = words.split()

@@ -6,6 +6,8 @@ use crate::spaces::Names;
 use crate::{code, files, sets};
 use acpi_tables::Dump;
 use std::alloc::{AllocError, Global};
+use std::sync::Wait;
+use std::thread::Threads;
 
 /// The greatest number of bytes of a row.
 const LIMIT: usize = 16_777_216;
@@ -26,19 +28,25 @@ impl Cases {
     }
 
     /// What a row is read as. A row of no kind, as a heading, has no answer.
-    pub fn answer(&mut self, alloc: Global, row: &str) -> Result<String, AllocError> {
+    pub fn answer<T: Threads + Wait + Sync>(
+        &mut self,
+        threads: &T,
+        alloc: Global,
+        row: &str,
+    ) -> Result<String, AllocError> {
         let (line, text) = split_line(row);
         let bytes = bytes_of(alloc, text)?;
         let mut out = String::new(alloc);
         if bytes.len() <= LIMIT {
-            self.push_code(alloc, &mut out, line, &bytes)?;
+            self.push_code(threads, alloc, &mut out, line, &bytes)?;
         }
         Ok(out)
     }
 
     /// What code is read as.
-    fn push_code(
+    fn push_code<T: Threads + Wait + Sync>(
         &mut self,
+        threads: &T,
         alloc: Global,
         out: &mut String,
         line: Line<'_>,
@@ -52,15 +60,15 @@ impl Cases {
             "table" => code::push_table(alloc, out, bytes),
             "cuts" => code::push_cuts(alloc, out, bytes),
             "name" => code::push_name(alloc, out, bytes),
-            "segment" => code::push_segment(out, bytes),
             "length" => code::push_length(out, bytes),
-            _ => self.change_set(alloc, out, line, bytes),
+            _ => self.change_set(threads, alloc, out, line, bytes),
         }
     }
 
     /// Changes the set.
-    fn change_set(
+    fn change_set<T: Threads + Wait + Sync>(
         &mut self,
+        threads: &T,
         alloc: Global,
         out: &mut String,
         line: Line<'_>,
@@ -73,24 +81,23 @@ impl Cases {
             "cut" => sets::cut(&mut self.dumps, number_of(line.words)),
             "put" => sets::put_byte(&mut self.dumps, number_of(line.words), bytes),
             "add" => sets::add_bytes(&mut self.dumps, bytes),
-            _ => self.push_set(alloc, out, line, bytes),
+            _ => self.push_set(threads, alloc, out, line, bytes),
         }
     }
 
     /// What the set is read as.
-    fn push_set(
+    fn push_set<T: Threads + Wait + Sync>(
         &mut self,
+        threads: &T,
         alloc: Global,
         out: &mut String,
         line: Line<'_>,
         bytes: &[u8],
     ) -> Result<(), AllocError> {
         match line.kind {
-            "lines" => sets::push_lines(alloc, out, &self.dumps),
             "order" => sets::push_order(alloc, out, line.words, &self.dumps),
             "orders" => sets::push_orders(alloc, out, &mut self.dumps, number_of(line.words)),
-            "run" => sets::push_run(alloc, out, line.words, &self.dumps),
-            "load" => sets::push_loaded(alloc, out, line.words, &self.dumps),
+            "run" => sets::push_run(threads, alloc, out, line.words, &self.dumps),
             _ => self.change_names(alloc, out, line, bytes),
         }
     }
@@ -106,7 +113,7 @@ impl Cases {
         match line.kind {
             "space" => self.begin_names(alloc),
             "declare" | "external" | "local" => self.names.change(alloc, out, line),
-            "count" | "kind" | "rows" | "row" => self.names.push_known(alloc, out, line),
+            "count" | "kind" | "rows" => self.names.push_known(alloc, out, line),
             "place" | "find" | "search" | "arity" | "arity_unknown_zero" => {
                 self.names.push_lead(alloc, out, line)
             }
@@ -136,7 +143,6 @@ fn push_table(
 ) -> Result<(), AllocError> {
     match line.kind {
         "map" => files::push_map(alloc, out, line.words, bytes),
-        "quoted" => files::push_name(out, bytes),
         _ => Ok(()),
     }
 }

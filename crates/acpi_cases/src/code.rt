@@ -5,11 +5,12 @@ use aml_code::{
     Arity, CodeFault, Locals, Name, NameForm, NoMemory, Node, Path, PkgWidth, encode_terms,
     read_pkg,
 };
-use aml_names::{read_name, segment_of};
+use aml_names::read_name;
 use aml_parse::{parse_body, parse_module};
-use aml_text::{Block, Body, write_blocks};
+use aml_text::{Body, print_block};
 use std::alloc::{AllocError, Global};
 use std::fmt::Write;
+use text_writer::Out;
 
 /// The text around the terms of a definition block without a name.
 const OPENING: &str = "DefinitionBlock (\"\") {\n";
@@ -89,14 +90,11 @@ fn push_terms(
     if bytes.as_slice() != code {
         return writeln!(out, "  other bytes");
     }
-    let block = Block {
-        name: b"",
-        code,
-        nodes,
-    };
     let bodies = raw_bodies(alloc, code)?;
     let mut text = Vec::new(alloc);
-    match write_blocks(&mut text, &[block], &bodies) {
+    let mut sink = Out::new(&mut text);
+    print_block(&mut sink, b"", code, nodes, &bodies);
+    match sink.finish() {
         Err(_) => Err(AllocError),
         Ok(()) => out.push_str(inner_text(&text)),
     }
@@ -152,19 +150,6 @@ fn form_word(form: NameForm) -> &'static str {
         NameForm::One => "One",
         NameForm::Dual => "Dual",
         NameForm::Multi => "Multi",
-    }
-}
-
-/// A segment, and how many bytes are left.
-pub fn push_segment(out: &mut String, bytes: &[u8]) -> Result<(), AllocError>
-    requires { length bytes.now ≤ 16777216 }
-{
-    match segment_of(bytes.len() as u32, bytes) {
-        Err(fault) => push_fault(out, fault),
-        Ok((seg, rest)) => {
-            let left = rest.len();
-            writeln!(out, "  {seg}, {left} bytes left")
-        }
     }
 }
 

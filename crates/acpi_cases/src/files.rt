@@ -1,6 +1,6 @@
-//! Rows of `tables.map` and of file names.
+//! Rows of `tables.map`.
 
-use acpi_folder::{MapFault, Quoted, parse_map};
+use acpi_folder::{MapFault, parse_map};
 use std::alloc::{AllocError, Global};
 use std::fmt::Write;
 
@@ -9,17 +9,6 @@ fn push_address(out: &mut String, label: &str, address: Option<u64>) -> Result<(
         None => writeln!(out, "  {label} none"),
         Some(address) => writeln!(out, "  {label} {address:X}"),
     }
-}
-
-/// A field of text, in quotes.
-fn push_text(out: &mut String, label: &str, bytes: &[u8]) -> Result<(), AllocError> {
-    let text = Quoted(str::from_utf8(bytes).unwrap_or("no text"));
-    writeln!(out, "  {label} {text}")
-}
-
-/// A file's name as the program prints it.
-pub fn push_name(out: &mut String, bytes: &[u8]) -> Result<(), AllocError> {
-    push_text(out, "Name", bytes)
 }
 
 /// The address that a map gives each of some files.

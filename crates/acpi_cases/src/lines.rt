@@ -1,7 +1,6 @@
 //! What a line holds: a kind, words, and bytes behind a colon.
 
 use std::alloc::{AllocError, Global};
-use std::fmt;
 use std::fmt::Write;
 
 /// What a row shows, by its kind and the words behind it.
@@ -68,19 +67,6 @@ fn push_times(
         bytes.extend_from_slice(unit)?;
     }
     Ok(())
-}
-
-/// Displays as two digits for each byte, with a space in front of each.
-#[derive(Clone, Copy)]
-pub struct Hex<'a>(pub &'a [u8]);
-
-impl fmt::Display for Hex<'_> {
-    fn fmt<W: fmt::Write>(&self, f: &mut fmt::Formatter<W>) -> fmt::Result {
-        for byte in self.0 {
-            write!(f, " {byte:02X}")?;
-        }
-        Ok(())
-    }
 }
 
 /// Each line of a text, indented.

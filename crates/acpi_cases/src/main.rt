@@ -14,14 +14,10 @@ use std::io;
 fn main(rt: HostRuntime) -> io::Result<()> {
     let mut cases = Cases::new(rt.alloc())?;
     for row in rt.lines(rt.alloc()) {
-        show(&rt, &mut cases, row?.as_str())?;
+        let row = row?;
+        let answer = cases.answer(&rt, rt.alloc(), row.as_str())?;
+        println!(rt; "{row}")?;
+        print!(rt; "{answer}")?;
     }
     Ok(())
-}
-
-/// Prints a row, and below it what it is read as.
-fn show(rt: &HostRuntime, cases: &mut Cases, row: &str) -> io::Result<()> {
-    let answer = cases.answer(rt.alloc(), row)?;
-    println!(rt; "{row}")?;
-    print!(rt; "{answer}")
 }

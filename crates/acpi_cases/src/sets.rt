@@ -1,16 +1,14 @@
-//! Rows of sets of dumps: their lines, their order, and whole runs.
-ghost use Rattle.std.specs.Prelude.{true};
-ghost use Rattle.acpi_tables.specs.Order.{AreTaken};
+//! Rows of sets of dumps: their order, and whole runs.
+ghost use Rattle.std.specs.Prelude.{◌≤◌};
 
-use crate::lines::{Hex, first_word, push_indented};
-use crate::spaces::push_rows;
+use crate::lines::{first_word, push_indented};
 use acpi_tables::{Dump, Order, TableFault, load_order, sum};
-use acpi_text::print_dumps;
-use acpidis::{Options, ReadSet, read_set, run};
-use aml_load::rebuild;
+use acpidis::{Options, run};
+use aml_pool::FreeGate;
 use std::alloc::{AllocError, Global};
 use std::fmt::Write;
-use text_writer::Out;
+use std::sync::Wait;
+use std::thread::Threads;
 
 /// What stands in a header behind the length: revision, checksum, OEM and creator.
 const HEADER: [u8; 28] = *b"\x02\x00TEST  EXAMPLE \x01\x00\x00\x00TEST\x01\x00\x00\x00";
@@ -108,26 +106,6 @@ pub fn push_order(
     }
 }
 
-/// The lines of the dumps, with which a listing begins, or why the set has no order.
-pub fn push_lines(alloc: Global, out: &mut String, dumps: &[Dump]) -> Result<(), AllocError> {
-    match load_order(alloc, dumps, true) {
-        Err(fault) => push_refusal(out, fault),
-        Ok(_) => push_dumps(alloc, out, dumps),
-    }
-}
-
-fn push_dumps(alloc: Global, out: &mut String, dumps: &[Dump]) -> Result<(), AllocError>
-    requires { AreTaken dumps.now true }
-{
-    let mut text = Vec::new(alloc);
-    let mut sink = Out::new(&mut text);
-    print_dumps(&mut sink, dumps);
-    let Ok(()) = sink.finish() else {
-        return Err(AllocError);
-    };
-    push_indented(out, &text)
-}
-
 fn push_refusal(out: &mut String, fault: TableFault) -> Result<(), AllocError> {
     match fault.dump {
         None => writeln!(out, "  {fault}"),
@@ -160,8 +138,18 @@ pub fn push_orders(
     Ok(())
 }
 
-/// The status of a run, what it writes, and its error line.
-pub fn push_run(
+/// How many workers the words name, 1 to 64; one where they name none.
+fn workers_of(words: &str) -> u32
+    ensures { (1 ≤ result) × (result ≤ 64) }
+{
+    let (_, count) = words.split_once("workers ").unwrap_or(("", "1"));
+    let (count, _) = first_word(count);
+    count.parse::<u32>().unwrap_or(1).clamp(1, 64)
+}
+
+/// The status of a run, what it writes, and its error lines.
+pub fn push_run<T: Threads + Wait + Sync>(
+    threads: &T,
     alloc: Global,
     out: &mut String,
     words: &str,
@@ -169,52 +157,18 @@ pub fn push_run(
 ) -> Result<(), AllocError> {
     let mut text = Vec::new(alloc);
     let mut error = Vec::new(alloc);
-    let status = run(alloc, dumps, options_of(words), &mut text, &mut error);
+    let status = run(
+        threads,
+        alloc,
+        dumps,
+        options_of(words),
+        workers_of(words),
+        words.contains("check"),
+        &FreeGate,
+        &mut text,
+        &mut error,
+    );
     writeln!(out, "  status {status}")?;
     push_indented(out, &text)?;
     push_indented(out, &error)
-}
-
-/// What a set declares, the bytes of its methods' bodies, and whether its tables are made anew from their terms.
-pub fn push_loaded(
-    alloc: Global,
-    out: &mut String,
-    words: &str,
-    dumps: &[Dump],
-) -> Result<(), AllocError> {
-    match read_set(alloc, dumps, options_of(words)) {
-        Err(_) => out.push_str("  refused\n"),
-        Ok(set) => push_parts(alloc, out, &set),
-    }
-}
-
-fn push_parts(alloc: Global, out: &mut String, set: &ReadSet<'_>) -> Result<(), AllocError> {
-    push_rows(alloc, out, &set.loaded.space)?;
-    push_methods(out, set)?;
-    push_rebuilt(alloc, out, set)
-}
-
-fn push_methods(out: &mut String, set: &ReadSet<'_>) -> Result<(), AllocError> {
-    let mut number = 0u32;
-    for method in &set.loaded.methods {
-        let path = &method.path;
-        let body = Hex(set.loaded.body(number));
-        writeln!(out, "  body {number} {path}:{body}")?;
-        number = number.saturating_add(1);
-    }
-    Ok(())
-}
-
-fn push_rebuilt(alloc: Global, out: &mut String, set: &ReadSet<'_>) -> Result<(), AllocError> {
-    for (number, code) in set.loaded.tables.iter().enumerate() {
-        let bytes = rebuild(alloc, &set.loaded, number)?;
-        let same = if bytes.as_slice() == *code {
-            "same"
-        } else {
-            "other"
-        };
-        let count = bytes.len();
-        writeln!(out, "  table {number}: the {same} {count} bytes")?;
-    }
-    Ok(())
 }

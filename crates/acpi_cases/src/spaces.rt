@@ -2,7 +2,7 @@
 ghost use Rattle.std.specs.Prelude.{◌≤◌, length};
 
 use crate::code::push_body_of;
-use crate::lines::{Line, first_word, number_of};
+use crate::lines::{Line, first_word};
 use aml_names::{Arity, Locals, Name, NameForm, Path, Seg, Segs, place};
 use aml_space::{BodyScope, Kind, Space};
 use std::alloc::{AllocError, Global};
@@ -118,7 +118,6 @@ impl Names {
         match line.kind {
             "count" => push_count(out, self.space.count(&path_of(alloc, line.words)?)),
             "kind" => self.push_kind(out, &path_of(alloc, line.words)?),
-            "row" => self.push_row_at(out, number_of(line.words)),
             _ => push_rows(alloc, out, &self.space),
         }
     }
@@ -127,13 +126,6 @@ impl Names {
         match self.space.kind(path) {
             None => out.push_str("  none\n"),
             Some(kind) => push_row(out, path, kind),
-        }
-    }
-
-    fn push_row_at(&self, out: &mut String, index: usize) -> Result<(), AllocError> {
-        match self.space.row_at(index) {
-            None => out.push_str("  none\n"),
-            Some((path, kind)) => push_row(out, path, kind),
         }
     }
 }

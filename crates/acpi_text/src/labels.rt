@@ -6,6 +6,7 @@ ghost use Rattle.text_writer.specs.Numbers.{hex4, hex8, hex16, quoted};
 use std::io::Write;
 use text_writer::{Out, print_decimal, print_hex4, print_hex8, print_hex16, print_quoted};
 
+/// A label, and a number in decimal digits.
 #[tactic(auto, using(text_writer::proofs::PrintLaws::straight))]
 pub fn put_decimal<W: Write>(out: &mut Out<'_, W>, label: &[u8], value: u64)
     ensures { Prints W.contents out.old out.new (label.now ++ decimal value) }
@@ -38,6 +39,7 @@ pub fn put_hex16<W: Write>(out: &mut Out<'_, W>, label: &[u8], value: u64)
     print_hex16(out, value);
 }
 
+/// A label, and bytes between quotes.
 #[tactic(auto, using(text_writer::proofs::PrintLaws::straight))]
 pub fn put_quoted<W: Write>(out: &mut Out<'_, W>, label: &[u8], bytes: &[u8])
     ensures { Prints W.contents out.old out.new (label.now ++ quoted bytes.now) }

@@ -10,3 +10,4 @@ mod labels;
 mod records;
 
 pub use dumps::print_dumps;
+pub use labels::{put_decimal, put_quoted};

@@ -1,1 +1,6 @@
-pub mod SetLaws
+pub mod TableLaws
+pub mod BodyLaws
+pub mod MeaningLaws
+pub mod RunLaws
+pub mod CheckLaws
+pub mod SameLaws

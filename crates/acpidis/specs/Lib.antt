@@ -1,2 +1,7 @@
-pub mod Listing
-pub mod Sets
+pub mod Tables
+pub mod Bodies
+pub mod Meaning
+pub mod Refusals
+pub mod Runs
+pub mod Checks
+pub mod Tallies

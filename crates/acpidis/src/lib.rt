@@ -1,14 +1,20 @@
-//! A whole run: from the dumps of a set to the text of its tables.
+//! A whole run: from the dumps of a set to its listing and the text of it.
 #![tactic(auto)]
 
 mod aml;
+mod bodies;
+mod check_lines;
+mod checking;
+mod disassembling;
 mod faults;
 mod options;
-mod reading;
+mod refusal;
 mod running;
+mod tables;
 
 pub use acpi_folder::{MapFault, parse_map};
-pub use faults::ReadFault;
+pub use checking::{Checked, check};
+pub use disassembling::disassemble;
 pub use options::Options;
-pub use reading::{ReadSet, blocks_in, read_set};
+pub use refusal::Refusal;
 pub use running::run;

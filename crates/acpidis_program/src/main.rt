@@ -1,33 +1,27 @@
 //! Disassembles the ACPI tables of a folder.
 #![tactic(auto)]
 
-use acpi_folder::read_folder;
-use acpidis::{Options, run};
-use std::process::ExitCode;
-use std::{env, io};
+mod command_line;
 
-/// The status of a command line that isn't one folder.
+use acpi_folder::read_folder;
+use acpidis::run;
+use aml_pool::FreeGate;
+use command_line::{CommandLine, Stop, read};
+use std::process::ExitCode;
+use std::sync::Wait;
+use std::thread::Threads;
+
+/// The status of a command line that can't be read.
 const COMMAND_LINE: u8 = 2;
 
 /// The status where the folder can't be read, or memory is short.
 const REFUSED: u8 = 1;
 
-/// Why the program ends before it begins.
-#[derive(Clone, Copy)]
-enum Stop {
-    /// The command line isn't one word of text.
-    Usage,
-    /// A growth was refused.
-    NoMemory,
-}
-
 fn main(rt: HostRuntime) -> ExitCode {
-    match folder_word(&rt) {
-        Ok(folder) => ExitCode::from(run_folder(&rt, folder.as_str())),
-        Err(Stop::Usage) => {
-            let _ = eprintln!(rt; "usage: acpidis FOLDER");
-            ExitCode::from(COMMAND_LINE)
-        }
+    match read(&rt) {
+        Ok(line) => ExitCode::from(run_folder(&rt, &rt, &line)),
+        Err(Stop::Shown) => ExitCode::SUCCESS,
+        Err(Stop::Refused) => ExitCode::from(COMMAND_LINE),
         Err(Stop::NoMemory) => {
             let _ = eprintln!(rt; "acpidis: NoMemory");
             ExitCode::from(REFUSED)
@@ -35,36 +29,23 @@ fn main(rt: HostRuntime) -> ExitCode {
     }
 }
 
-/// The one word of the command line.
-fn folder_word(rt: &HostRuntime) -> Result<String, Stop> {
-    let mut words = match env::args(rt) {
-        Ok(words) => words.skip(1),
-        Err(error) if error.kind() == io::ErrorKind::OutOfMemory => return Err(Stop::NoMemory),
-        Err(_) => return Err(Stop::Usage),
-    };
-    match (words.next(), words.next()) {
-        (Some(folder), None) => Ok(folder),
-        _ => Err(Stop::Usage),
-    }
-}
-
-/// Disassembles the tables of this folder, and returns the exit status.
-fn run_folder(rt: &HostRuntime, folder: &str) -> u8 {
-    let dumps = match read_folder(rt, folder) {
+/// Disassembles the tables of a folder, the bodies of methods by workers on `threads`, and returns the exit status.
+fn run_folder<T: Threads + Wait + Sync>(rt: &HostRuntime, threads: &T, line: &CommandLine) -> u8 {
+    let dumps = match read_folder(rt, line.folder.as_str()) {
         Ok(dumps) => dumps,
         Err(fault) => {
             let _ = eprintln!(rt; "acpidis: {fault}");
             return REFUSED;
         }
     };
-    let options = Options {
-        any_sum: false,
-        unknown_zero: false,
-    };
     run(
+        threads,
         rt.alloc(),
         &dumps,
-        options,
+        line.options,
+        line.workers,
+        line.check,
+        &FreeGate,
         &mut rt.stdout(),
         &mut rt.stderr(),
     )

@@ -1,16 +1,14 @@
 //! The bodies of methods.
-ghost use Rattle.std.specs.Prelude.{◌≡◌, ◌⊎◌, List, IfOk, IfErr};
-ghost use Rattle.aml_code.specs.Tree.{Trees};
+ghost use Rattle.std.specs.Prelude.{◌≡◌, ◌<◌, List, length, slice_get};
 ghost use Rattle.aml_code.specs.View.{nodes_view};
 ghost use Rattle.aml_space.specs.Entries.{Entry};
 ghost use Rattle.aml_space.specs.Known.{StandsFor};
-ghost use Rattle.aml_load.specs.Bodies.{BodyGiven, BodiesGiven, AreBodies, LacksBody};
-ghost use Rattle.aml_load.specs.Views.{span_of, codes_view, trees_view, AreShort};
+ghost use Rattle.aml_load.specs.Bodies.{IsReading, OfMethod};
+ghost use Rattle.aml_load.specs.Views.{span_of, codes_view, AreShort};
 
-use crate::faults::LoadFault;
 use crate::loading::Loaded;
 use crate::methods::Method;
-use aml_code::{Node, slice};
+use aml_code::{CodeFault, Node, slice};
 use aml_parse::parse_body;
 use aml_space::{BodyScope, Space};
 use std::alloc::Global;
@@ -26,83 +24,50 @@ fn span_of<'a>(tables: &[&'a [u8]], method: &Method) -> &'a [u8]
 }
 
 /// The terms of a method's body, in the namespace of all that is declared.
-fn read_body(
+fn read_method(
     alloc: Global,
     tables: &[&[u8]],
     space: &Space,
     method: &Method,
     unknown_zero: bool,
-) -> Result<Vec<Node>, LoadFault>
+) -> Result<Vec<Node>, CodeFault>
     requires { AreShort (codes_view tables.now) }
     ensures { (es : List Entry) → StandsFor space.now es →
-        BodyGiven (λ nodes. nodes_view nodes.items) unknown_zero es (codes_view tables.now) method.now result }
+        IsReading (λ nodes. nodes_view nodes.items) unknown_zero es (codes_view tables.now) method.now result }
 {
     let scope = BodyScope {
         space,
         method: &method.path,
         unknown_zero,
     };
-    match parse_body(alloc, span_of(tables, method), &scope, &method.path) {
-        Ok(nodes) => Ok(nodes),
-        Err(fault) => Err(LoadFault::in_code(method.table, fault)),
-    }
+    let names = scope.open(alloc)?;
+    parse_body(alloc, span_of(tables, method), &names, &method.path)
 }
 
-fn read_methods(
-    alloc: Global,
-    tables: &[&[u8]],
-    space: &Space,
-    methods: &[Method],
-    unknown_zero: bool,
-) -> Result<Vec<Vec<Node>>, LoadFault>
-    requires { AreShort (codes_view tables.now) }
-    ensures { (es : List Entry) → StandsFor space.now es →
-        BodiesGiven (λ x. trees_view x.items) unknown_zero es (codes_view tables.now) methods.now result }
-{
-    let mut bodies = Vec::new(alloc);
-    for method in methods {
-        match read_body(alloc, tables, space, method, unknown_zero) {
-            Err(fault) => return Err(fault),
-            Ok(nodes) => bodies.push(nodes)?,
-        }
-    }
-    Ok(bodies)
-}
-
-/// The terms of the bodies of all methods, in the order of their numbers, each in the namespace of all tables. With
+/// The terms of the body of the method with this number, in the namespace of all tables (ACPI 6.5, 5.3). With
 /// `unknown_zero` a name that leads nowhere counts as one without arguments.
 ///
-/// A body that can't be read refuses all, by its table and an offset in that body.
-pub fn read_bodies(
+/// The offset of a fault counts from the body's first byte.
+pub fn read_body(
     alloc: Global,
     loaded: &Loaded<'_>,
+    number: u32,
     unknown_zero: bool,
-) -> Result<Vec<Vec<Node>>, LoadFault>
+) -> Result<Vec<Node>, CodeFault>
     // The limit of a table.
-    requires { AreShort (codes_view loaded.now.tables.items) }
+    requires short { AreShort (codes_view loaded.now.tables.items) }
+    requires there { number < length loaded.now.methods.items }
 
-    // Each body reads as its terms.
-    ensures sound { (es : List Entry) → StandsFor loaded.now.space es →
-        IfOk result (λ bodies. AreBodies unknown_zero es (codes_view loaded.now.tables.items)
-        loaded.now.methods.items (trees_view bodies.items)) }
-    // As no others.
-    ensures one { (es : List Entry) → StandsFor loaded.now.space es →
-        IfOk result (λ bodies. (bs : List Trees) →
-        AreBodies unknown_zero es (codes_view loaded.now.tables.items) loaded.now.methods.items bs →
-        bs ≡ trees_view bodies.items) }
-    // A refusal for another cause than memory comes only where a body reads as no terms, and it is true of that body.
-    ensures complete { (es : List Entry) → StandsFor loaded.now.space es →
-        IfErr result (λ e. (e ≡ LoadFault.NoMemory) ⊎ ((bs : List Trees) →
-        AreBodies unknown_zero es (codes_view loaded.now.tables.items) loaded.now.methods.items bs → ⊥)) }
-    ensures true_fault { (es : List Entry) → StandsFor loaded.now.space es →
-        IfErr result (λ e. (e ≡ LoadFault.NoMemory) ⊎
-        LacksBody unknown_zero es (codes_view loaded.now.tables.items) loaded.now.methods.items e) }
+    // The body reads as its terms and as no others; or memory was refused; or it reads as none, and the fault is true of it.
+    ensures { (es : List Entry) → StandsFor loaded.now.space es →
+        OfMethod (slice_get loaded.now.methods.items number) (λ m. IsReading (λ nodes. nodes_view nodes.items)
+        unknown_zero es (codes_view loaded.now.tables.items) m result) }
 {
-    read_methods(
+    read_method(
         alloc,
         loaded.tables.as_slice(),
         &loaded.space,
-        loaded.methods.as_slice(),
+        &loaded.methods[number as usize],
         unknown_zero,
     )
 }

@@ -11,7 +11,7 @@ mod roles;
 mod uses;
 mod walking;
 
-pub use bodies::read_bodies;
+pub use bodies::read_body;
 pub use faults::LoadFault;
 pub use loading::{Loaded, load, rebuild};
 pub use methods::Method;

@@ -15,7 +15,7 @@ use crate::kinds::Kind;
 use crate::listing::list_rows;
 use crate::nodes::{Node, Row};
 use crate::predefined::Predefined;
-use crate::walking::{children_at, kind_at, out_at, row_under, walk_counted};
+use crate::walking::{children_at, kind_at, out_at, row_here, row_under, walk_counted};
 use aml_names::{NoMemory, Path};
 use std::alloc::Global;
 use std::marker::Model;
@@ -164,6 +164,18 @@ impl Space {
         ensures listed { (es : List Entry) → StandsFor self.now es → result ≡ count_at (namespace_of es) path.now }
     {
         count_of(self.nodes.as_slice(), &self.predefined, path)
+    }
+
+    /// How many paths are declared.
+    pub fn row_count(&self) -> usize
+        ensures { result ≡ length (map.entries self.now.kinds) }
+    {
+        let nodes = self.nodes.as_slice();
+        let below = children_at(nodes, 0).rows();
+        match row_here(nodes, 0) {
+            None => below,
+            Some(_) => below + 1,
+        }
     }
 
     /// The declared path at a place in the order of the paths, with its kind. Paths are ordered by their segments as bytes,

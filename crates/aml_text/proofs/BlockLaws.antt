@@ -17,11 +17,10 @@ use Rattle.aml_code.specs.Tree as trees
 use Rattle.aml_code.specs.View.{node_view, nodes_view, parts_view, tail_view, fields_view}
 use Rattle.aml_code.proofs.Views.{view-Nothing, view-Named, view-Op, view-tail-Empty, view-tail-Terms, view-tail-Bytes, view-tail-Elements, view-tail-Fields, view-tail-Body}
 use Rattle.aml_text.specs.Texts.{head_text, part_texts}
-use Rattle.aml_text.specs.declared.blocks.Block.{Block}
 use Rattle.aml_text.specs.declared.blocks.Body.{Body}
 use Rattle.aml_text.specs.declared.blocks.Body.TheVariants as bodies
-use Rattle.aml_text.specs.Lines.{deeper, line, lines, op_lines, opening, closing, method_text, method_head, raw_text, OneBody, read, raw, body_lines, left, left_rest, left_all, table_lines, table_op_lines, all_table_lines, block_text, blocks_text}
-use Rattle.aml_text.specs.Views.{node_lines, body_view, block_view}
+use Rattle.aml_text.specs.Lines.{deeper, line, lines, op_lines, opening, closing, method_text, method_head, raw_text, OneBody, read, raw, OneBlock, body_lines, left, left_rest, left_all, table_lines, table_op_lines, all_table_lines, block_text, blocks_text}
+use Rattle.aml_text.specs.Views.{node_lines, body_view}
 use Rattle.aml_text.proofs.LineLaws.{all_lines-map}
 
 pub head_unnamed : (o : Option Name) (f : Option ℕ) (other : List ℕ) → o ≡ None → method_head o f other ≡ other
@@ -150,10 +149,10 @@ table_turn code level n ns bs rest done total e so_far =
 -- ---- definition blocks
 
 -- what was printed, and the blocks that are still to be
-pub blocks_turn : (b : Block) (others : List Block) (bs rest : List OneBody) (done total : List ℕ)
-    → rest ≡ left_all (nodes_view b.nodes.now) bs → done ++ blocks_text (map block_view (b ∷ others)) bs ≡ total
-    → (done ++ block_text b.name.now b.code.now (nodes_view b.nodes.now) bs) ++ blocks_text (map block_view others) rest ≡ total
+pub blocks_turn : (b : OneBlock) (others : List OneBlock) (bs rest : List OneBody) (done total : List ℕ)
+    → rest ≡ left_all b.terms bs → done ++ blocks_text (b ∷ others) bs ≡ total
+    → (done ++ block_text b.name b.code b.terms bs) ++ blocks_text others rest ≡ total
 blocks_turn b others bs rest done total e so_far =
-    let first = block_text b.name.now b.code.now (nodes_view b.nodes.now) bs in
-    ap (λ (r : List OneBody). (done ++ first) ++ blocks_text (map block_view others) r) e
-    ∙ append_assoc done first (blocks_text (map block_view others) (left_all (nodes_view b.nodes.now) bs)) ∙ so_far
+    let first = block_text b.name b.code b.terms bs in
+    ap (λ (r : List OneBody). (done ++ first) ++ blocks_text others r) e
+    ∙ append_assoc done first (blocks_text others (left_all b.terms bs)) ∙ so_far

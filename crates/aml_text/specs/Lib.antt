@@ -2,3 +2,5 @@
 pub mod Texts
 pub mod Lines
 pub mod Views
+pub mod Rows
+pub mod Listing

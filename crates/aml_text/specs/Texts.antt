@@ -1,5 +1,5 @@
 -- The text of names and of terms on one line.
-use Rattle.std.specs.Prelude.{ℕ, Bool, true, false, cond, ◌/◌, ◌%◌, List, [], ◌∷◌, ◌++◌, map, flat_map, replicate, codes, slice_index, nat_eq, nat_le, ◌&&◌, not, if◌then◌else◌, Option, Some, None}
+use Rattle.std.specs.Prelude.{ℕ, Bool, true, false, cond, List, [], ◌∷◌, ◌++◌, map, flat_map, replicate, ◌&&◌, not, Option, Some, None}
 use Rattle.aml_names.specs.declared.segments.Seg.{Seg}
 use Rattle.aml_names.specs.declared.names.Name.{Name}
 use Rattle.aml_code.specs.declared.rows.Group.{Group}

@@ -1,9 +1,9 @@
 //! Definition blocks: the terms of a table, with the bodies of its methods in their places.
 ghost use Rattle.std.specs.Prelude.{◌≡◌, [], ◌∷◌, ◌++◌, drop, map};
 ghost use Rattle.aml_code.specs.View.{node_view, nodes_view, parts_view, tail_view};
-ghost use Rattle.aml_text.specs.Views.{body_view, block_view, head_of, method_head_of};
+ghost use Rattle.aml_text.specs.Views.{body_view, head_of, method_head_of};
 ghost use Rattle.text_writer.specs.Prints.{Prints};
-ghost use Rattle.aml_text.specs.Lines.{deeper, line, opening, closing, serialized_text, comma_decimal, flags_text, method_text, raw_text, body_lines, left, left_rest, left_all, table_lines, table_op_lines, all_table_lines, block_opening, block_text, blocks_text};
+ghost use Rattle.aml_text.specs.Lines.{deeper, line, opening, closing, serialized_text, comma_decimal, flags_text, method_text, raw_text, body_lines, left, left_rest, left_all, table_lines, table_op_lines, all_table_lines, block_opening, block_text};
 
 use crate::lines::{
     print_closing, print_indent, print_lines, print_op_lines, print_opening, print_terms,
@@ -298,17 +298,6 @@ pub fn print_block<'b, W: Write>(
     let others = print_table_terms(out, code, 1, nodes, bodies);
     out.put(b"}\n");
     others
-}
-
-/// Definition blocks, one after the other. Each takes the bodies of its own methods, from the first on.
-#[tactic(auto, using(text_writer::proofs::PrintLaws::straight))]
-pub fn print_blocks<W: Write>(out: &mut Out<'_, W>, blocks: &[Block<'_>], bodies: &[Body])
-    ensures { Prints W.contents out.old out.new (blocks_text (map block_view blocks.now) (map body_view bodies.now)) }
-{
-    let mut rest = bodies;
-    for block in blocks {
-        rest = print_block(out, block.name, block.code, block.nodes, rest);
-    }
 }
 
 /// The first line of a definition block.

@@ -1,13 +1,19 @@
-//! The printed text of AML: ASL-like lines, exactly as the definitions of `specs/` say.
+//! The text of a listing: the dumps, the namespace, and ASL-like lines of AML, exactly as the definitions of `specs/` say.
 //!
-//! Nothing here takes memory. Each printing function's contract gives the text that it prints.
+//! Nothing here takes memory, but for `term_text`. Each printing function's contract gives the text that it prints.
 #![tactic(auto)]
 
 mod blocks;
 mod lines;
+mod listing;
+mod rows;
+mod tables;
 mod texts;
 mod words;
 mod writing;
 
-pub use blocks::{Block, Body, print_block, print_blocks};
-pub use writing::write_blocks;
+pub use blocks::{Block, Body, print_block};
+pub use listing::Listing;
+pub use rows::print_rows;
+pub use tables::block_at;
+pub use writing::{term_text, write_listing};

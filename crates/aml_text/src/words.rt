@@ -52,7 +52,7 @@ fn print_next_segment<W: Write>(out: &mut Out<'_, W>, seg: &Seg)
 
 /// Segments with a dot between two.
 #[tactic(auto, using(text_writer::proofs::PrintLaws::straight, crate::proofs::TextLaws::separations))]
-fn print_segments<W: Write>(out: &mut Out<'_, W>, segs: &[Seg])
+pub fn print_segments<W: Write>(out: &mut Out<'_, W>, segs: &[Seg])
     ensures { Prints W.contents out.old out.new (separated_by (word ".") segment_text segs.now) }
 {
     if let Some((first, rest)) = segs.split_first() {

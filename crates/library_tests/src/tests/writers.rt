@@ -1,17 +1,28 @@
 //! Runs whose writer fails, or takes few bytes a call.
 use acpi_tables::Dump;
 use acpidis::{Options, run};
+use aml_pool::FreeGate;
 use std::alloc::{AllocError, Global};
 use std::io;
+use std::sync::Wait;
 use std::test::Fail;
+use std::thread::Threads;
 
 /// The DSDT of a method that returns its argument.
 const METHOD: [u8; 45] =
     *b"DSDT\x2D\x00\x00\x00\x02\x48TEST  EXAMPLE \x01\x00\x00\x00TEST\x01\x00\x00\x00\x14\x08FOO_\x01\xA4\x68";
 
 /// Its text.
-const TEXT: &str =
-    "DefinitionBlock (\"a\") {\n  Method (FOO_, 1, NotSerialized, 0) {\n    Return (Arg0)\n  }\n}\n";
+const TEXT: &str = "\
+Table \"a\" \"DSDT\" Length 45 Revision 2 Oem \"TEST  \" \"EXAMPLE \" 00000001 Creator \"TEST\" 00000001
+Namespace 1
+  \\FOO_ Method 1
+DefinitionBlock (\"a\") {
+  Method (FOO_, 1, NotSerialized, 0) {
+    Return (Arg0)
+  }
+}
+";
 
 const OPTIONS: Options = Options {
     any_sum: false,
@@ -61,10 +72,16 @@ fn set(alloc: Global, bytes: &[u8]) -> Result<[Dump; 1], AllocError> {
 }
 
 /// The status and the error line of a run to this writer.
-fn run_to(alloc: Global, out: &mut Slow) -> Result<(u8, Vec<u8>), AllocError> {
+fn run_to<T: Threads + Wait + Sync>(
+    threads: &T,
+    alloc: Global,
+    out: &mut Slow,
+) -> Result<(u8, Vec<u8>), AllocError> {
     let dumps = set(alloc, &METHOD)?;
     let mut error = Vec::new(alloc);
-    let status = run(alloc, &dumps, OPTIONS, out, &mut error);
+    let status = run(
+        threads, alloc, &dumps, OPTIONS, 1, false, &FreeGate, out, &mut error,
+    );
     Ok((status, error))
 }
 
@@ -73,7 +90,7 @@ fn a_writer_that_fails_has_the_first_bytes(rt: HostRuntime) -> Result<(), Fail> 
     let alloc = rt.alloc();
     for room in 0..TEXT.len() {
         let mut out = Slow::new(alloc, room, usize::MAX);
-        let (status, error) = run_to(alloc, &mut out)?;
+        let (status, error) = run_to(&rt, rt.alloc(), &mut out)?;
         let line = format!(in alloc; "acpidis: write failed after {room} bytes\n")?;
         assert_eq!(rt; status, 4);
         assert_eq!(rt; error.as_slice(), line.as_bytes());
@@ -85,7 +102,7 @@ fn a_writer_that_fails_has_the_first_bytes(rt: HostRuntime) -> Result<(), Fail> 
 #[test]
 fn a_writer_that_takes_one_byte_a_call_has_all(rt: HostRuntime) -> Result<(), Fail> {
     let mut out = Slow::new(rt.alloc(), usize::MAX, 1);
-    let (status, error) = run_to(rt.alloc(), &mut out)?;
+    let (status, error) = run_to(&rt, rt.alloc(), &mut out)?;
     assert_eq!(rt; status, 0);
     assert_eq!(rt; error.len(), 0);
     assert_eq!(rt; out.taken.as_slice(), TEXT.as_bytes());
@@ -95,7 +112,7 @@ fn a_writer_that_takes_one_byte_a_call_has_all(rt: HostRuntime) -> Result<(), Fa
 #[test]
 fn a_writer_that_takes_nothing_is_a_fault(rt: HostRuntime) -> Result<(), Fail> {
     let mut out = Slow::new(rt.alloc(), usize::MAX, 0);
-    let (status, error) = run_to(rt.alloc(), &mut out)?;
+    let (status, error) = run_to(&rt, rt.alloc(), &mut out)?;
     assert_eq!(rt; status, 4);
     assert_eq!(rt;
         error.as_slice(),
@@ -110,7 +127,9 @@ fn an_error_line_that_fails_changes_no_status(rt: HostRuntime) -> Result<(), Fai
     let dumps = set(alloc, b"")?;
     let mut out = Vec::new(alloc);
     let mut error = Slow::new(alloc, 5, 5);
-    let status = run(alloc, &dumps, OPTIONS, &mut out, &mut error);
+    let status = run(
+        &rt, alloc, &dumps, OPTIONS, 1, false, &FreeGate, &mut out, &mut error,
+    );
     assert_eq!(rt; status, 1);
     assert_eq!(rt; out.len(), 0);
     assert_eq!(rt; error.taken.as_slice(), b"acpid".as_slice());

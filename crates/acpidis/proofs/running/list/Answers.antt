@@ -1,8 +1,7 @@
-use Rattle.std.proofs.Common.{rules}
+use Rattle.acpidis.proofs.RunLaws.{ends_so}
 use Rattle.acpidis.proofs.running.list.Goals as goal
 
-pub returns-in-Ok-write_blocks : goal.returns-in-Ok-write_blocks
-returns-in-Ok-write_blocks g c = search rules
-
 pub returns : goal.returns
-returns g c = search rules
+returns g c =
+    ends_so c.args.dumps.now c.args.options.any_sum c.args.options.unknown_zero c.args.check c.in-Ok.listing _ _ c.in-Err-print.fault
+    (record { sound = c.in-Ok.ensures.sound; one = c.in-Ok.ensures.one }) c.in-Err-print.ensures

@@ -1,6 +1,19 @@
-use Rattle.std.proofs.Common.{subst, sym}
-use Rattle.std.specs.Io.KnownBytes.{Appends}
+use Rattle.std.proofs.Common.{ap, ◌∙◌, cond, map}
+use Rattle.aml_text.specs.Views.{body_view}
+use Rattle.acpidis.specs.Bodies.{has_raw}
+use Rattle.acpidis.specs.Runs.{shown_of}
+use Rattle.acpidis.proofs.RunLaws.{lists_so, appends_each}
 use Rattle.acpidis.proofs.running.run.Goals as goal
 
+pub returns-in-Ok-clause-done : goal.returns-in-Ok-clause-done
+returns-in-Ok-clause-done g c = λ _. (
+  shown_of c.args.check c.in-Ok.listing,
+  lists_so c.args.dumps.now c.args.options.any_sum c.args.options.unknown_zero c.args.check c.in-Ok.listing c.status_of_bodies.result c.in-Ok.ensures.0
+      (c.status_of_bodies.ensures ∙ ap (λ ds. cond (has_raw (map body_view ds)) 3 0) c.as_slice.ensures.value),
+  c.in-Ok.ensures.1,
+)
+
 pub returns-in-Ok-clause-one : goal.returns-in-Ok-clause-one
-returns-in-Ok-clause-one g c z text h = subst (Appends (g.O.Write.contents c.args.out.now) (g.O.Write.contents c.list.new.out)) (sym (c.in-Ok.ensures.2 text h)) c.in-Ok.ensures.3
+returns-in-Ok-clause-one g c = λ _.
+    appends_each c.args.dumps.now c.args.options.any_sum c.args.options.unknown_zero c.args.check c.in-Ok.listing _ _ c.status_of_bodies.result c.in-Ok.ensures.0 c.in-Ok.ensures.1
+    (c.status_of_bodies.ensures ∙ ap (λ ds. cond (has_raw (map body_view ds)) 3 0) c.as_slice.ensures.value)

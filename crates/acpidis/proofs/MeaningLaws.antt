@@ -1,0 +1,77 @@
+-- A set of dumps means one listing.
+use Rattle.std.proofs.Common.{◌≡◌, ◌⊎◌, inl, inr, ℕ, ◌≤◌, Bool, true, List, [], ◌∷◌, map, length, refl, sym, ap, subst, ◌∙◌, arith}
+use Rattle.aml_code.specs.Tree.{Trees}
+use Rattle.aml_space.specs.Entries.{Entry}
+use Rattle.aml_space.specs.Known.{StandsFor}
+use Rattle.aml_load.specs.Loading.{Listed, IsLoad, methods_of}
+use Rattle.aml_load.specs.Stops.{StopsLoad}
+use Rattle.aml_load.specs.Views.{codes_view, HoldsLoad}
+use Rattle.aml_load.specs.declared.faults.LoadFault.{LoadFault}
+use Rattle.aml_load.specs.declared.faults.LoadFault.TheVariants as loads
+use Rattle.aml_load.specs.declared.loading.Loaded.{Loaded}
+use Rattle.aml_load.specs.declared.methods.Method.{Method}
+use Rattle.acpidis.specs.declared.refusal.Refusal.{Refusal}
+use Rattle.acpidis.specs.declared.refusal.Refusal.TheVariants as refusals
+use Rattle.aml_text.specs.Views.{body_view}
+use Rattle.acpi_tables.specs.declared.dump.Dump.{Dump}
+use Rattle.acpi_tables.specs.Order.{IsOrder, AreTaken}
+use Rattle.aml_text.specs.declared.listing.Listing.{Listing}
+use Rattle.acpidis.specs.Tables.{codes_in}
+use Rattle.acpidis.specs.Bodies.{AreEntries}
+use Rattle.acpidis.specs.Meaning.{Meaning, Means, Shows}
+use Rattle.acpidis.specs.Refusals.{IsWant, load_refusal, in_dump, TellsTable, TellsLoad, TellsBlocks}
+
+-- a loaded set has few methods
+pub few_methods : (x : Loaded) (codes : List (List ℕ)) → (trees : List Trees) × (m : Listed) × IsLoad codes trees m × HoldsLoad x codes trees m → length x.methods.items ≤ 1048576
+few_methods x codes h = omega (arith, ap length h.3.methods, h.2.loads.few)
+
+pub want_or : {A : Type 0} (order : List ℕ) (e : LoadFault) → (e ≡ loads.NoMemory) ⊎ A → IsWant (load_refusal order e) ⊎ A
+want_or order e (inl h) = inl (subst (λ f. IsWant (load_refusal order f)) (sym h) tt)
+want_or order e (inr a) = inr a
+
+pub tells_load : (codes : List (List ℕ)) (order : List ℕ) (e : LoadFault) → (e ≡ loads.NoMemory) ⊎ StopsLoad codes e → TellsLoad codes order (load_refusal order e)
+tells_load codes order (loads.Code t f) (inl h) = absurd cc
+tells_load codes order (loads.Code t f) (inr s) = (loads.Code t f, s, refl)
+tells_load codes order (loads.Space t f) (inl h) = absurd cc
+tells_load codes order (loads.Space t f) (inr s) = (loads.Space t f, s, refl)
+tells_load codes order (loads.ModuleCall t) (inl h) = absurd cc
+tells_load codes order (loads.ModuleCall t) (inr s) = (loads.ModuleCall t, s, refl)
+tells_load codes order loads.TooManyMethods (inl h) = absurd cc
+tells_load codes order loads.TooManyMethods (inr s) = (loads.TooManyMethods, s, refl)
+tells_load codes order loads.NoMemory h = tt
+
+pub of_load : (order : List ℕ) (e : LoadFault) (dumps : List Dump) (any_sum : Bool) → TellsTable dumps any_sum (load_refusal order e)
+of_load order (loads.Code t f) dumps any_sum = tt
+of_load order (loads.Space t f) dumps any_sum = tt
+of_load order (loads.ModuleCall t) dumps any_sum = tt
+of_load order loads.TooManyMethods dumps any_sum = tt
+of_load order loads.NoMemory dumps any_sum = tt
+
+-- what a load refuses is told of the one order
+pub tells_blocks : (dumps : List Dump) (any_sum : Bool) (dsdt : ℕ) (ssdts indexes order : List ℕ) (codes : List (List ℕ)) (e : Refusal) → ((d : ℕ) (s : List ℕ) → IsOrder dumps any_sum d s → (d ≡ dsdt) × (s ≡ ssdts))
+    → indexes ≡ dsdt ∷ ssdts → order ≡ dsdt ∷ ssdts → codes ≡ codes_in dumps indexes → TellsLoad codes order e → TellsBlocks dumps any_sum e
+tells_blocks dumps any_sum dsdt ssdts indexes order codes e only is same cs t = λ d s o.
+    let p = only d s o in
+    let whole : dsdt ∷ ssdts ≡ d ∷ s = ap (λ x. x ∷ ssdts) (sym p.0) ∙ ap (λ xs. d ∷ xs) (sym p.1) in
+    let all : codes ≡ codes_in dumps (dsdt ∷ ssdts) = cs ∙ ap (codes_in dumps) is in
+    subst (λ (w : List ℕ). TellsLoad (codes_in dumps w) w e) whole (subst (λ (c : List (List ℕ)). TellsLoad c (dsdt ∷ ssdts) e) all (subst (λ (w : List ℕ). TellsLoad codes w e) same t))
+
+-- the dumps mean what was loaded and read of them
+pub means_so : (dumps : List Dump) (any_sum z : Bool) (x : Listing) (indexes : List ℕ) (codes : List (List ℕ)) → x.dumps.now ≡ dumps → IsOrder dumps any_sum x.order.dsdt x.order.ssdts.items
+    → indexes ≡ x.order.dsdt ∷ x.order.ssdts.items → codes ≡ codes_in dumps indexes → (trees : List Trees) × (m : Listed) × IsLoad codes trees m × HoldsLoad x.loaded codes trees m
+    → ((es : List Entry) → StandsFor x.loaded.space es → AreEntries z es (codes_view x.loaded.tables.items) x.loaded.methods.items (map body_view x.bodies.items)) → (k : Meaning) × Means dumps any_sum z k × Shows x dumps k
+means_so dumps any_sum z x indexes codes same o is cs l e =
+    let all : codes ≡ codes_in dumps (x.order.dsdt ∷ x.order.ssdts.items) = cs ∙ ap (codes_in dumps) is in
+    let h = subst (λ (c : List (List ℕ)). (trees : List Trees) × (m : Listed) × IsLoad c trees m × HoldsLoad x.loaded c trees m) all l in
+    let here = subst (λ (c : List (List ℕ)). AreEntries z h.1.entries c x.loaded.methods.items (map body_view x.bodies.items)) h.3.tables (e h.1.entries h.3.space) in
+    let there = subst (λ (ms : List Method). AreEntries z h.1.entries (codes_in dumps (x.order.dsdt ∷ x.order.ssdts.items)) ms (map body_view x.bodies.items)) h.3.methods here in (
+      record { dsdt = x.order.dsdt; ssdts = x.order.ssdts.items; trees = h.0; listed = h.1; bodies = map body_view x.bodies.items },
+      record { order = o; loads = h.2; entries = there },
+      record { same_dumps = same; dsdt = refl; ssdts = refl; holds = h.3; bodies = refl },
+    )
+
+-- dumps that are taken are taken with any checksum
+pub taken_so : (dumps : List Dump) (any_sum : Bool) (dsdt : ℕ) (ssdts : List ℕ) → IsOrder dumps any_sum dsdt ssdts → AreTaken dumps true
+taken_so dumps any_sum dsdt ssdts o = λ index inside.
+    let h = o.each index inside in
+    record { small = h.small; shape = h.shape; sums = λ e. absurd cc; content = h.content }

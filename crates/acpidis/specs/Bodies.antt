@@ -1,0 +1,71 @@
+-- What became of the bodies of methods: terms, or bytes where a body reads as none.
+use Rattle.std.specs.Prelude.{◌≡◌, ℕ, ◌<◌, Bool, true, false, List, [], ◌∷◌, length, slice_get, All, Vec}
+use Rattle.std.specs.Global.{Global}
+use Rattle.std.specs.List.Sorted.{IsStrictlyIncreasing}
+use Rattle.aml_code.specs.Tree.{Trees}
+use Rattle.aml_code.specs.View.{nodes_view}
+use Rattle.aml_space.specs.Entries.{Entry}
+use Rattle.aml_space.specs.Known.{StandsFor}
+use Rattle.aml_load.specs.Bodies.{IsBody, IsUnread, OfMethod}
+use Rattle.aml_load.specs.declared.loading.Loaded.{Loaded}
+use Rattle.aml_load.specs.declared.methods.Method.{Method}
+use Rattle.aml_load.specs.Views.{codes_view, AreShort}
+use Rattle.aml_pool.specs.Counting.{IsOnce}
+use Rattle.aml_pool.specs.Shares.{all_of}
+use Rattle.aml_text.specs.declared.blocks.Body.{Body}
+use Rattle.aml_text.specs.declared.blocks.Body.TheVariants as bodies
+use Rattle.aml_text.specs.Lines.{OneBody, read, raw}
+
+-- what a listing has of a method: the terms that its body reads as, or its bytes, where the body reads as no terms
+abbrev pub IsEntry : Bool → List Entry → List (List ℕ) → Method → OneBody → Type 0
+IsEntry unknown_zero es tables m (read ts) = IsBody unknown_zero es tables m ts
+IsEntry unknown_zero es tables m raw = (ts : Trees) → IsBody unknown_zero es tables m ts → ⊥
+
+-- one for each method
+abbrev pub AreEntries : Bool → List Entry → List (List ℕ) → List Method → List OneBody → Type 0
+AreEntries unknown_zero es tables [] [] = Unit {0}
+AreEntries unknown_zero es tables [] (b ∷ bodies) = ⊥
+AreEntries unknown_zero es tables (m ∷ ms) [] = ⊥
+AreEntries unknown_zero es tables (m ∷ ms) (b ∷ bodies) =
+    IsEntry unknown_zero es tables m b × AreEntries unknown_zero es tables ms bodies
+
+-- whether a body is raw
+abbrev pub has_raw : List OneBody → Bool
+has_raw [] = false
+has_raw (read ts ∷ bodies) = has_raw bodies
+has_raw (raw ∷ bodies) = true
+
+-- the fault of a raw body is true of the byte at its offset in the body
+abbrev pub IsTold : Bool → List Entry → List (List ℕ) → Method → Body → Type 0
+IsTold z es tables m (bodies.Tree nodes) = Unit {0}
+IsTold z es tables m (bodies.Raw fault) = IsUnread z es tables m fault
+
+-- that of each raw body
+abbrev pub AreTold : Bool → List Entry → List (List ℕ) → List Method → List Body → Type 0
+AreTold z es tables [] ds = Unit {0}
+AreTold z es tables (m ∷ ms) [] = Unit {0}
+AreTold z es tables (m ∷ ms) (d ∷ ds) = IsTold z es tables m d × AreTold z es tables ms ds
+
+-- one ascending list for each worker, and each number below the count stands in exactly one of them, once
+pub record AreDrawn (workers count : ℕ) (drawn : List (Vec ℕ Global)) : Type 0 where
+  pub lists : length drawn ≡ workers
+  pub ascending : All (λ v. IsStrictlyIncreasing v.items) drawn
+  pub once : IsOnce (all_of drawn) count
+
+-- ---- the work of one number
+
+-- a body in memory: it reads as its terms and as no others, or it reads as none, and its fault is true of it
+abbrev pub Became : Bool → List Entry → List (List ℕ) → Method → Body → Type 0
+Became z es tables m (bodies.Tree nodes) =
+    IsBody z es tables m (nodes_view nodes.items) × ((ts : Trees) → IsBody z es tables m ts → ts ≡ nodes_view nodes.items)
+Became z es tables m (bodies.Raw fault) = IsUnread z es tables m fault
+
+-- the body of this number can be read
+abbrev pub CanRead : Loaded → ℕ → Type 0
+CanRead x number = (number < length x.methods.items) × AreShort (codes_view x.tables.items)
+
+-- what became of the body of this number
+abbrev pub BecameOf : Bool → Loaded → ℕ → Body → Type 0
+BecameOf z x number d =
+    (es : List Entry) → StandsFor x.space es →
+    OfMethod (slice_get x.methods.items number) (λ m. Became z es (codes_view x.tables.items) m d)

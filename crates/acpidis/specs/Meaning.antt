@@ -1,0 +1,63 @@
+-- What a set of dumps means: one listing, as plain data, and its text.
+use Rattle.std.specs.Prelude.{◌≡◌, ℕ, Bool, List, ◌∷◌, map}
+use Rattle.std.specs.FinMap as finite
+use Rattle.aml_names.specs.declared.segments.Seg.{Seg}
+use Rattle.aml_code.specs.Tree.{Trees}
+use Rattle.aml_space.specs.declared.kinds.Kind.{Kind}
+use Rattle.aml_space.specs.Entries.{Entry}
+use Rattle.aml_space.specs.Known.{kinds_in}
+use Rattle.aml_load.specs.Loading.{Listed, IsLoad, methods_of}
+use Rattle.aml_load.specs.Views.{HoldsLoad}
+use Rattle.aml_text.specs.Lines.{OneBody}
+use Rattle.aml_text.specs.Listing.{listing_text}
+use Rattle.aml_text.specs.Views.{body_view}
+use Rattle.aml_text.specs.declared.listing.Listing.{Listing}
+use Rattle.acpi_tables.specs.declared.dump.Dump.{Dump}
+use Rattle.acpi_tables.specs.Order.{IsOrder}
+use Rattle.acpidis.specs.Tables.{codes_in}
+use Rattle.acpidis.specs.Bodies.{AreEntries, AreTold}
+
+-- a listing: the indexes of the definition blocks in load order, their terms, what these declare, and a body for each method
+pub record Meaning : Type 0 where
+  pub dsdt : ℕ
+  pub ssdts : List ℕ
+  pub trees : List Trees
+  pub listed : Listed
+  pub bodies : List OneBody
+
+-- the indexes of the definition blocks, and their AML
+abbrev pub order_of : Meaning → List ℕ
+order_of k = k.dsdt ∷ k.ssdts
+
+abbrev pub codes_of : List Dump → Meaning → List (List ℕ)
+codes_of dumps k = codes_in dumps (order_of k)
+
+-- The dumps mean this listing: its order is theirs, its trees are what the tables' AML reads as, and load to its entries, and
+-- each body is the terms that it reads as in the namespace of all entries, or raw, where it reads as no terms.
+pub record Means (dumps : List Dump) (any_sum unknown_zero : Bool) (k : Meaning) : Type 0 where
+  pub order : IsOrder dumps any_sum k.dsdt k.ssdts
+  pub loads : IsLoad (codes_of dumps k) k.trees k.listed
+  pub entries : AreEntries unknown_zero k.listed.entries (codes_of dumps k) (methods_of k.listed.entries) k.bodies
+
+-- the rows of the namespace: the declared paths in order, each once, with its kind
+abbrev pub rows_of : List Entry → List (List Seg × Kind)
+rows_of es = finite.entries (kinds_in es)
+
+-- the text of a listing
+abbrev pub text_of : List Dump → Meaning → List ℕ
+text_of dumps k = listing_text dumps (order_of k) (rows_of k.listed.entries) (codes_of dumps k) k.trees k.bodies
+
+-- ---- a listing in memory
+
+-- it is this listing
+pub record Shows (x : Listing) (dumps : List Dump) (k : Meaning) : Type 0 where
+  pub same_dumps : x.dumps.now ≡ dumps
+  pub dsdt : x.order.dsdt ≡ k.dsdt
+  pub ssdts : x.order.ssdts.items ≡ k.ssdts
+  pub holds : HoldsLoad x.loaded (codes_of dumps k) k.trees k.listed
+  pub bodies : map body_view x.bodies.items ≡ k.bodies
+
+-- the fault of each of its raw bodies is true of it
+abbrev pub Told : Listing → List Dump → Bool → Meaning → Type 0
+Told x dumps unknown_zero k =
+    AreTold unknown_zero k.listed.entries (codes_of dumps k) (methods_of k.listed.entries) x.bodies.items

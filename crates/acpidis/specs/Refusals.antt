@@ -1,0 +1,47 @@
+-- What a refusal says of a set of dumps.
+use Rattle.std.specs.Prelude.{◌≡◌, ℕ, Bool, List, ◌∷◌, get_or, ⊤}
+use Rattle.aml_load.specs.Stops.{StopsLoad}
+use Rattle.aml_load.specs.declared.faults.LoadFault.{LoadFault}
+use Rattle.aml_load.specs.declared.faults.LoadFault.TheVariants as loads
+use Rattle.acpi_tables.specs.declared.dump.Dump.{Dump}
+use Rattle.acpi_tables.specs.Order.{IsOrder, Refuses}
+use Rattle.acpidis.specs.declared.refusal.Refusal.{Refusal}
+use Rattle.acpidis.specs.declared.refusal.Refusal.TheVariants as refusals
+use Rattle.acpidis.specs.Tables.{codes_in}
+
+-- memory or a thread was refused, which says nothing of the set
+abbrev pub IsWant : Refusal → Type 0
+IsWant (refusals.Table fault) = ⊥
+IsWant (refusals.Load fault) = ⊥
+IsWant refusals.NoThread = ⊤
+IsWant refusals.NoMemory = ⊤
+
+-- a fault of a table of this order, by the index of its dump
+abbrev pub in_dump : List ℕ → LoadFault → LoadFault
+in_dump order (loads.Code t f) = loads.Code (get_or order t 0) f
+in_dump order (loads.Space t f) = loads.Space (get_or order t 0) f
+in_dump order (loads.ModuleCall t) = loads.ModuleCall (get_or order t 0)
+in_dump order loads.TooManyMethods = loads.TooManyMethods
+in_dump order loads.NoMemory = loads.NoMemory
+
+abbrev pub load_refusal : List ℕ → LoadFault → Refusal
+load_refusal order (loads.Code t f) = refusals.Load (in_dump order (loads.Code t f))
+load_refusal order (loads.Space t f) = refusals.Load (in_dump order (loads.Space t f))
+load_refusal order (loads.ModuleCall t) = refusals.Load (in_dump order (loads.ModuleCall t))
+load_refusal order loads.TooManyMethods = refusals.Load loads.TooManyMethods
+load_refusal order loads.NoMemory = refusals.NoMemory
+
+-- a refusal of the set's order is true of it
+abbrev pub TellsTable : List Dump → Bool → Refusal → Type 0
+TellsTable dumps any_sum (refusals.Table fault) = Refuses dumps any_sum fault
+TellsTable dumps any_sum _ = ⊤
+
+-- a refusal of tables in this order: their load stops for this reason, in the table of the dump that the refusal names
+abbrev pub TellsLoad : List (List ℕ) → List ℕ → Refusal → Type 0
+TellsLoad codes order (refusals.Load fault) = (f : LoadFault) × StopsLoad codes f × (fault ≡ in_dump order f)
+TellsLoad codes order _ = ⊤
+
+-- the same, of the set's order
+abbrev pub TellsBlocks : List Dump → Bool → Refusal → Type 0
+TellsBlocks dumps any_sum e =
+    (dsdt : ℕ) (ssdts : List ℕ) → IsOrder dumps any_sum dsdt ssdts → TellsLoad (codes_in dumps (dsdt ∷ ssdts)) (dsdt ∷ ssdts) e

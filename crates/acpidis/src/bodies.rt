@@ -1,0 +1,79 @@
+//! The bodies of all methods, read by workers.
+ghost use Rattle.std.specs.Prelude.{◌≡◌, ◌≤◌, List, IfOk, IfErr, length, map};
+ghost use Rattle.aml_space.specs.Entries.{Entry};
+ghost use Rattle.aml_space.specs.Known.{StandsFor};
+ghost use Rattle.aml_load.specs.Views.{codes_view, AreShort};
+ghost use Rattle.aml_text.specs.Lines.{OneBody};
+ghost use Rattle.aml_text.specs.Views.{body_view};
+ghost use Rattle.acpidis.specs.Bodies.{AreEntries, AreTold, CanRead, BecameOf, AreDrawn};
+
+use aml_code::CodeFault;
+use aml_load::{Loaded, read_body};
+use aml_pool::{Gate, NoMemory, PoolFault, Results, Work, harvest};
+use aml_text::Body;
+use std::alloc::Global;
+use std::sync::Wait;
+use std::thread::Threads;
+
+/// The bodies of a loaded set, each to be read by its method's number.
+#[derive(Clone, Copy)]
+struct Bodies<'a, 'b> {
+    alloc: Global,
+    loaded: &'a Loaded<'b>,
+    unknown_zero: bool,
+}
+
+impl<'a, 'b> Work for Bodies<'a, 'b> {
+    type Done = Body;
+
+    ghost can_work = { λ w n. CanRead w.loaded.now n };
+
+    ghost gives = { λ w n d. BecameOf w.unknown_zero w.loaded.now n d };
+
+    fn work(&self, number: u32) -> Result<Body, NoMemory> {
+        match read_body(self.alloc, self.loaded, number, self.unknown_zero) {
+            Ok(nodes) => Ok(Body::Tree(nodes)),
+            Err(CodeFault::NoMemory) => Err(NoMemory),
+            Err(fault) => Ok(Body::Raw(fault)),
+        }
+    }
+}
+
+/// Reads the bodies of all methods by so many workers, 1 to 64. With `unknown_zero` a name that leads nowhere counts as
+/// one without arguments. A body that can't be read is raw, and refuses nothing.
+pub(crate) fn read_bodies<R: Threads + Wait + Sync, G: Gate + Sync>(
+    rt: &R,
+    alloc: Global,
+    loaded: &Loaded<'_>,
+    unknown_zero: bool,
+    workers: u32,
+    gate: &G,
+) -> Result<Results<Body>, PoolFault>
+    requires workers { (1 ≤ workers) × (workers ≤ 64) }
+    // The limits of a table and of the methods.
+    requires short { AreShort (codes_view loaded.now.tables.items) }
+    requires few { length loaded.now.methods.items ≤ 1048576 }
+
+    // There is one for each method: its terms, or its bytes where it reads as none.
+    ensures sound { (es : List Entry) → StandsFor loaded.now.space es → IfOk result (λ r.
+        AreEntries unknown_zero es (codes_view loaded.now.tables.items) loaded.now.methods.items (map body_view r.items.items)) }
+    // There are no others.
+    ensures one { (es : List Entry) → StandsFor loaded.now.space es → IfOk result (λ r. (bs : List OneBody) →
+        AreEntries unknown_zero es (codes_view loaded.now.tables.items) loaded.now.methods.items bs →
+        bs ≡ map body_view r.items.items) }
+    // The fault of a raw body is true of it.
+    ensures told { (es : List Entry) → StandsFor loaded.now.space es → IfOk result (λ r.
+        AreTold unknown_zero es (codes_view loaded.now.tables.items) loaded.now.methods.items r.items.items) }
+    // Each method was drawn by one worker, once.
+    ensures drawn { IfOk result (λ r. AreDrawn workers (length loaded.now.methods.items) r.drawn.items) }
+    // A refusal says nothing of the set; one worker needs no thread.
+    ensures one_needs_no_thread { workers ≡ 1 → IfErr result (λ fault. fault ≡ PoolFault.NoMemory) }
+{
+    let work = Bodies {
+        alloc,
+        loaded,
+        unknown_zero,
+    };
+    let found = harvest(rt, alloc, workers, loaded.methods.len() as u32, &work, gate)?;
+    Ok(found)
+}

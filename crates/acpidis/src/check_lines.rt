@@ -1,0 +1,79 @@
+//! The lines that `--check` prints.
+ghost use Rattle.std.specs.Prelude.{◌≡◌};
+ghost use Rattle.text_writer.specs.Prints.{Prints, Writes};
+ghost use Rattle.aml_text.specs.Listing.{blocks_in};
+ghost use Rattle.acpidis.specs.Checks.{same_word, check_head, check_line, check_lines, all_same};
+
+use crate::checking::Checked;
+use acpi_text::{put_decimal, put_quoted};
+use aml_text::{Listing, block_at};
+use std::io::Write;
+use text_writer::{Out, WriteFault};
+
+/// The file's name, and what is counted first.
+#[tactic(auto, using(text_writer::proofs::PrintLaws::straight), unfolding(crate::specs::Checks::check_head))]
+fn print_check_head<W: Write>(out: &mut Out<'_, W>, name: &[u8], checked: Checked)
+    ensures { Prints W.contents out.old out.new (check_head name.now checked) }
+{
+    put_quoted(out, b"Check ", name);
+    put_decimal(out, b" Bytes ", checked.bytes as u64);
+    put_decimal(out, b" Methods ", checked.methods as u64);
+}
+
+#[tactic(auto, using(text_writer::proofs::PrintLaws::straight))]
+fn print_same<W: Write>(out: &mut Out<'_, W>, same: bool)
+    ensures { Prints W.contents out.old out.new (same_word same) }
+{
+    if same {
+        out.put(b" Same\n");
+    } else {
+        out.put(b" Differs\n");
+    }
+}
+
+/// The line of a table, by its file's name.
+#[tactic(auto, using(text_writer::proofs::PrintLaws::straight), unfolding(crate::specs::Checks::check_line))]
+fn print_check<W: Write>(out: &mut Out<'_, W>, name: &[u8], checked: Checked)
+    ensures { Prints W.contents out.old out.new (check_line name.now checked) }
+{
+    print_check_head(out, name, checked);
+    put_decimal(out, b" Raw ", checked.raw as u64);
+    print_same(out, checked.same);
+}
+
+/// The lines of the tables of a listing.
+fn print_checks<W: Write>(out: &mut Out<'_, W>, listing: &Listing<'_>, checks: &[Checked])
+    ensures { Prints W.contents out.old out.new (check_lines (blocks_in listing.now) checks.now) }
+{
+    for table in 0..checks.len() {
+        let Some(block) = block_at(listing, table) else {
+            return;
+        };
+        print_check(out, block.name, checks[table]);
+    }
+}
+
+/// Writes a line for each table of a listing: what `check` says of it.
+pub(crate) fn write_checks<W: Write>(
+    out: &mut W,
+    listing: &Listing<'_>,
+    checks: &[Checked],
+) -> Result<(), WriteFault>
+    ensures { Writes (W.contents out.old) (W.contents out.new) (check_lines (blocks_in listing.now) checks.now) result }
+{
+    let mut sink = Out::new(out);
+    print_checks(&mut sink, listing, checks);
+    sink.finish()
+}
+
+/// Whether all tables are the same.
+pub(crate) fn are_same(checks: &[Checked]) -> bool
+    ensures { result ≡ all_same checks.now }
+{
+    for checked in checks {
+        if !checked.same {
+            return false;
+        }
+    }
+    true
+}

@@ -1,0 +1,169 @@
+//! From the dumps of a set to its listing, the bodies read by workers.
+ghost use Rattle.std.specs.Prelude.{◌≡◌, ◌⊎◌, ◌≤◌, ℕ, Bool, true, List, ◌∷◌, map, IfOk, IfErr, get_or, length};
+ghost use Rattle.aml_code.specs.Tree.{Trees};
+ghost use Rattle.aml_space.specs.Entries.{Entry};
+ghost use Rattle.aml_space.specs.Known.{StandsFor};
+ghost use Rattle.aml_load.specs.Loading.{Listed, IsLoad};
+ghost use Rattle.aml_load.specs.Views.{codes_view, AreShort, HoldsLoad};
+ghost use Rattle.aml_text.specs.Lines.{OneBody};
+ghost use Rattle.aml_text.specs.Views.{body_view};
+ghost use Rattle.acpi_tables.specs.Order.{AreTables, AreTaken, IsOrder};
+ghost use Rattle.acpidis.specs.Tables.{codes_in};
+ghost use Rattle.acpidis.specs.Bodies.{AreEntries, AreTold, AreDrawn};
+ghost use Rattle.acpidis.specs.Meaning.{Meaning, Means, Shows, Told};
+ghost use Rattle.acpidis.specs.Refusals.{IsWant, load_refusal, TellsTable, TellsLoad, TellsBlocks};
+
+use crate::bodies::read_bodies;
+use crate::options::Options;
+use crate::refusal::Refusal;
+use crate::tables::{codes_of, indexes_of};
+use acpi_tables::{Bad, Dump, Order, TableFault, load_order};
+use aml_load::{LoadFault, Loaded, load};
+use aml_pool::{Gate, PoolFault, Results};
+use aml_text::{Body, Listing};
+use std::alloc::Global;
+use std::sync::Wait;
+use std::thread::Threads;
+
+fn refused_order(fault: TableFault) -> Refusal
+    ensures want { fault.bad ≡ Bad.NoMemory → result ≡ Refusal.NoMemory }
+    ensures other { (result ≡ Refusal.NoMemory) ⊎ (result ≡ Refusal.Table fault) }
+{
+    match fault.bad {
+        Bad::NoMemory => Refusal::NoMemory,
+        _ => Refusal::Table(fault),
+    }
+}
+
+/// The order of the definition blocks.
+fn order_in(alloc: Global, dumps: &[Dump], any_sum: bool) -> Result<Order, Refusal>
+    ensures order { IfOk result (λ order. IsOrder dumps.now any_sum order.dsdt order.ssdts.items) }
+    ensures only { IfOk result (λ order. (dsdt : ℕ) (ssdts : List ℕ) → IsOrder dumps.now any_sum dsdt ssdts → (dsdt ≡ order.dsdt) × (ssdts ≡ order.ssdts.items)) }
+    ensures tables { IfOk result (λ order. AreTables dumps.now (order.dsdt ∷ order.ssdts.items)) }
+    ensures none { IfErr result (λ e. IsWant e ⊎ ((dsdt : ℕ) (ssdts : List ℕ) → ¬ IsOrder dumps.now any_sum dsdt ssdts)) }
+    ensures tells { IfErr result (TellsTable dumps.now any_sum) }
+{
+    match load_order(alloc, dumps, any_sum) {
+        Ok(order) => Ok(order),
+        Err(fault) => Err(refused_order(fault)),
+    }
+}
+
+/// The dump of a table.
+fn dump_at(order: &[usize], table: usize) -> usize
+    ensures { result ≡ get_or order.now table 0 }
+{
+    match order.get(table) {
+        None => 0,
+        Some(index) => *index,
+    }
+}
+
+fn refused_load(order: &[usize], fault: LoadFault) -> Refusal
+    ensures { result ≡ load_refusal order.now fault }
+{
+    match fault {
+        LoadFault::Code(table, fault) => Refusal::Load(LoadFault::Code(
+            dump_at(order, table),
+            fault,
+        )),
+        LoadFault::Space(table, fault) => Refusal::Load(LoadFault::Space(
+            dump_at(order, table),
+            fault,
+        )),
+        LoadFault::ModuleCall(table) => Refusal::Load(LoadFault::ModuleCall(dump_at(order, table))),
+        LoadFault::TooManyMethods => Refusal::Load(LoadFault::TooManyMethods),
+        LoadFault::NoMemory => Refusal::NoMemory,
+    }
+}
+
+/// Loads the tables.
+fn load_in<'a>(alloc: Global, codes: &[&'a [u8]], order: &[usize]) -> Result<Loaded<'a>, Refusal>
+    requires short { AreShort (codes_view codes.now) }
+    ensures sound { IfOk result (λ x. (trees : List Trees) × (m : Listed) × IsLoad (codes_view codes.now) trees m × HoldsLoad x (codes_view codes.now) trees m) }
+    ensures one { IfOk result (λ x. (trees : List Trees) (m : Listed) → IsLoad (codes_view codes.now) trees m → HoldsLoad x (codes_view codes.now) trees m) }
+    ensures few { IfOk result (λ x. length x.methods.items ≤ 1048576) }
+    ensures still { IfOk result (λ x. AreShort (codes_view x.tables.items)) }
+    ensures complete { IfErr result (λ e. IsWant e ⊎ ((trees : List Trees) (m : Listed) → IsLoad (codes_view codes.now) trees m → ⊥)) }
+    ensures tells { IfErr result (TellsLoad (codes_view codes.now) order.now) }
+    ensures of_load { IfErr result (λ e. (dumps : List Dump) (any_sum : Bool) → TellsTable dumps any_sum e) }
+{
+    match load(alloc, codes) {
+        Ok(loaded) => Ok(loaded),
+        Err(fault) => Err(refused_load(order, fault)),
+    }
+}
+
+/// Reads the bodies.
+fn bodies_in<R: Threads + Wait + Sync, G: Gate + Sync>(
+    rt: &R,
+    alloc: Global,
+    loaded: &Loaded<'_>,
+    unknown_zero: bool,
+    workers: u32,
+    gate: &G,
+) -> Result<Results<Body>, Refusal>
+    requires workers { (1 ≤ workers) × (workers ≤ 64) }
+    requires short { AreShort (codes_view loaded.now.tables.items) }
+    requires few { length loaded.now.methods.items ≤ 1048576 }
+    ensures sound { (es : List Entry) → StandsFor loaded.now.space es → IfOk result (λ r. AreEntries unknown_zero es (codes_view loaded.now.tables.items) loaded.now.methods.items (map body_view r.items.items)) }
+    ensures one { (es : List Entry) → StandsFor loaded.now.space es → IfOk result (λ r. (bs : List OneBody) → AreEntries unknown_zero es (codes_view loaded.now.tables.items) loaded.now.methods.items bs → bs ≡ map body_view r.items.items) }
+    ensures told { (es : List Entry) → StandsFor loaded.now.space es → IfOk result (λ r. AreTold unknown_zero es (codes_view loaded.now.tables.items) loaded.now.methods.items r.items.items) }
+    ensures drawn { IfOk result (λ r. AreDrawn workers (length loaded.now.methods.items) r.drawn.items) }
+    ensures want { IfErr result (λ e. (e ≡ Refusal.NoThread) ⊎ (e ≡ Refusal.NoMemory)) }
+    ensures one_needs_no_thread { workers ≡ 1 → IfErr result (λ e. e ≡ Refusal.NoMemory) }
+{
+    match read_bodies(rt, alloc, loaded, unknown_zero, workers, gate) {
+        Ok(found) => Ok(found),
+        Err(PoolFault::NoThread) => Err(Refusal::NoThread),
+        Err(PoolFault::NoMemory) => Err(Refusal::NoMemory),
+    }
+}
+
+/// Disassembles a set of dumps by so many workers, 1 to 64, each on a thread of its own.
+///
+/// A body that can't be read is raw, and refuses nothing.
+pub fn disassemble<'a, R: Threads + Wait + Sync, G: Gate + Sync>(
+    rt: &R,
+    alloc: Global,
+    dumps: &'a [Dump],
+    options: Options,
+    workers: u32,
+    gate: &G,
+) -> Result<Listing<'a>, Refusal>
+    requires workers { (1 ≤ workers) × (workers ≤ 64) }
+
+    // The dumps mean the listing.
+    ensures sound { IfOk result (λ x. (k : Meaning) × Means dumps.now options.any_sum options.unknown_zero k × Shows x dumps.now k) }
+    // They mean no other.
+    ensures one { IfOk result (λ x. (k : Meaning) → Means dumps.now options.any_sum options.unknown_zero k → Shows x dumps.now k) }
+    // Each dump is one that is taken with any checksum.
+    ensures taken { IfOk result (λ x. AreTaken x.dumps.now true) }
+    // No table is longer than a table may be, and there are no more methods than there may be.
+    ensures limits { IfOk result (λ x. AreShort (codes_view x.loaded.tables.items) ×
+        (length x.loaded.methods.items ≤ 1048576)) }
+    // The fault of each raw body is true of it.
+    ensures told { IfOk result (λ x. (k : Meaning) → Means dumps.now options.any_sum options.unknown_zero k → Told x dumps.now options.unknown_zero k) }
+    // Each method was drawn by one worker, once.
+    ensures drawn { IfOk result (λ x. AreDrawn workers (length x.loaded.methods.items) x.drawn.items) }
+    // A refusal for another cause than memory or threads comes only where the dumps mean nothing, and it is true of them.
+    ensures complete { IfErr result (λ e. IsWant e ⊎ ((k : Meaning) → ¬ Means dumps.now options.any_sum options.unknown_zero k)) }
+    ensures true_table { IfErr result (TellsTable dumps.now options.any_sum) }
+    ensures true_load { IfErr result (TellsBlocks dumps.now options.any_sum) }
+{
+    let order = order_in(alloc, dumps, options.any_sum)?;
+    let indexes = indexes_of(alloc, &order)?;
+    let codes = codes_of(alloc, dumps, indexes.as_slice())?;
+    let loaded = match load_in(alloc, codes.as_slice(), indexes.as_slice()) {
+        Ok(loaded) => loaded,
+        Err(refusal) => return Err(refusal),
+    };
+    let found = bodies_in(rt, alloc, &loaded, options.unknown_zero, workers, gate)?;
+    Ok(Listing {
+        dumps,
+        order,
+        loaded,
+        bodies: found.items,
+        drawn: found.drawn,
+    })
+}

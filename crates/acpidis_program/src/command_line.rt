@@ -1,0 +1,128 @@
+//! The command line.
+ghost use Rattle.std.specs.Prelude.{◌≤◌};
+
+use acpidis::Options;
+use clap::{Arg, ArgAction, Command, Error, value_parser};
+use std::alloc::Global;
+use std::{env, io};
+
+/// How many workers read the bodies where the line doesn't say.
+const WORKERS: u32 = 4;
+
+const MOST_WORKERS: u32 = 64;
+
+const ABOUT: &str =
+    "Disassembles the ACPI tables of a folder: the tables' headers and records, the namespace of all of them, and every control method as ASL-like text";
+
+const STATUSES: &str = "\
+Exit status:
+  0  all is printed; with --check, each table is the same
+  1  the folder or a table is refused, and nothing is printed; with --check, a table differs
+  2  the command line is at fault
+  3  all is printed, and the body of a method can't be read: it stands there as its bytes
+  4  standard output took no more";
+
+/// What the command line asks for.
+#[derive(Drop)]
+pub struct CommandLine {
+    pub options: Options,
+    /// How many workers read the bodies, 1 to 64.
+    pub workers: u32,
+    /// Whether a line for each table is printed in place of the listing.
+    pub check: bool,
+    pub folder: String,
+    ghost some_workers: { (1 ≤ workers) × (workers ≤ 64) },
+}
+
+/// Why the program ends before it begins.
+#[derive(Clone, Copy)]
+pub enum Stop {
+    /// Help or the version was asked for, and printed.
+    Shown,
+    /// The line has a fault, which was printed.
+    Refused,
+    /// A growth was refused.
+    NoMemory,
+}
+
+/// Reads the command line, and prints the text of a help request or of a fault.
+pub fn read(rt: &HostRuntime) -> Result<CommandLine, Stop> {
+    let alloc = rt.alloc();
+    let words = match env::args(rt) {
+        Ok(words) => words,
+        Err(error) if error.kind() == io::ErrorKind::OutOfMemory => return Err(Stop::NoMemory),
+        Err(_) => {
+            let _ = eprintln!(rt; "error: a word of the command line isn't text");
+            return Err(Stop::Refused);
+        }
+    };
+    let Ok(words): Result<Vec<String>, _> = words.collect(alloc) else {
+        return Err(Stop::NoMemory);
+    };
+    match parse(alloc, words.as_slice()) {
+        Ok(line) => Ok(line),
+        Err(error) => {
+            let _ = error.print(rt);
+            if error.use_stderr() {
+                Err(Stop::Refused)
+            } else {
+                Err(Stop::Shown)
+            }
+        }
+    }
+}
+
+/// The options, and their help.
+fn command<'a>(alloc: Global) -> Result<Command<'a>, Error> {
+    let workers = Arg::new(alloc, "workers")
+        .long("workers")
+        .value_name("N")
+        .help(
+            "How many workers read the bodies of methods, 1 to 64; the text is the same for each number",
+        )
+        .value_parser(value_parser!(u32).range(1..=64))
+        .default_value("4");
+    let any_sum = Arg::new(alloc, "any-sum")
+        .long("any-sum")
+        .help("Take tables with any checksum, and say BadSum behind those whose sum is wrong")
+        .action(ArgAction::SetTrue);
+    let unknown_zero = Arg::new(alloc, "unknown-zero")
+        .long("unknown-zero")
+        .help("Read a name of a body that no table declares as one without arguments")
+        .action(ArgAction::SetTrue);
+    let check = Arg::new(alloc, "check")
+        .long("check")
+        .help("Print a line for each table: whether its terms encode to its bytes again")
+        .action(ArgAction::SetTrue);
+    let folder = Arg::new(alloc, "FOLDER")
+        .help("The folder with a file for each table, and tables.map, if their addresses are known")
+        .required(true);
+    Ok(
+        Command::new(alloc, "acpidis")
+            .about(ABOUT)
+            .version("0.1.0")
+            .after_help(STATUSES)
+            .arg(workers)?
+            .arg(any_sum)?
+            .arg(unknown_zero)?
+            .arg(check)?
+            .arg(folder)?,
+    )
+}
+
+fn parse(alloc: Global, words: &[String]) -> Result<CommandLine, Error> {
+    let matches = command(alloc)?.try_get_matches_from(words)?;
+    Ok(CommandLine {
+        options: Options {
+            any_sum: matches.get_flag("any-sum"),
+            unknown_zero: matches.get_flag("unknown-zero"),
+        },
+        // The parser takes no other number; `run` wants to know.
+        workers: matches
+            .get_one::<u32>("workers")
+            .unwrap_or(WORKERS)
+            .clamp(1, MOST_WORKERS),
+        check: matches.get_flag("check"),
+        folder: String::from_str(alloc, matches.get_str("FOLDER").unwrap_or(""))?,
+    })
+}

@@ -1,0 +1,5 @@
+use Rattle.text_writer.proofs.PrintLaws.{prints_word}
+use Rattle.aml_text.proofs.rows.print_kind.Goals as goal
+
+pub returns-in-BufferField : goal.returns-in-BufferField
+returns-in-BufferField g c = rw c.in-BufferField.is (prints_word g.W.Write.contents _ _ "BufferField" c.put-in-BufferField.ensures)

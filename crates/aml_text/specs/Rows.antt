@@ -1,0 +1,44 @@
+-- The second part of a listing: the namespace, a line for each declared path.
+use Rattle.std.specs.Prelude.{ℕ, decimal, List, ◌++◌, flat_map, length}
+use Rattle.aml_names.specs.declared.segments.Seg.{Seg}
+use Rattle.aml_space.specs.declared.kinds.Kind.{Kind}
+use Rattle.aml_space.specs.declared.kinds.Kind.TheVariants.{Scope, Name, Method, Alias, Device, Processor, PowerResource, ThermalZone, Mutex, Event, Region, DataRegion, Field, BufferField}
+use Rattle.text_writer.specs.Words.{word}
+use Rattle.aml_text.specs.Texts.{separated_by, segment_text}
+use Rattle.aml_text.specs.Lines.{line}
+
+-- a path: \ and its segments, with a dot between two
+unfoldable pub path_text : List Seg → List ℕ
+path_text path = word "\\" ++ separated_by (word ".") segment_text path
+
+-- what a path stands for: a method with its number of arguments, an Alias with the path that it leads to
+abbrev pub kind_text : Kind → List ℕ
+kind_text Scope = word "Scope"
+kind_text Name = word "Name"
+kind_text (Method args) = word "Method " ++ decimal args
+kind_text (Alias target) = word "Alias " ++ path_text target
+kind_text Device = word "Device"
+kind_text Processor = word "Processor"
+kind_text PowerResource = word "PowerResource"
+kind_text ThermalZone = word "ThermalZone"
+kind_text Mutex = word "Mutex"
+kind_text Event = word "Event"
+kind_text Region = word "Region"
+kind_text DataRegion = word "DataRegion"
+kind_text Field = word "Field"
+kind_text BufferField = word "BufferField"
+
+unfoldable pub row_text : List Seg × Kind → List ℕ
+row_text row = path_text row.0 ++ word " " ++ kind_text row.1
+
+-- the line of a path with its kind
+unfoldable pub row_line : List Seg × Kind → List ℕ
+row_line row = line 1 (row_text row)
+
+-- the line above the rows
+unfoldable pub count_line : ℕ → List ℕ
+count_line count = word "Namespace " ++ decimal count ++ word "\n"
+
+-- the number of rows, and their lines
+unfoldable pub namespace_text : List (List Seg × Kind) → List ℕ
+namespace_text rows = count_line (length rows) ++ flat_map row_line rows

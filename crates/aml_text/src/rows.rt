@@ -1,0 +1,103 @@
+//! The namespace: a line for each declared path.
+ghost use Rattle.std.specs.FinMap as map;
+ghost use Rattle.text_writer.specs.Prints.{Prints};
+ghost use Rattle.aml_text.specs.Rows.{path_text, kind_text, row_text, row_line, count_line, namespace_text};
+
+use crate::lines::print_indent;
+use crate::words::print_segments;
+use aml_code::Path;
+use aml_space::{Kind, Space};
+use std::io::Write;
+use text_writer::{Out, print_decimal};
+
+/// A path: `\` and its segments, with a dot between two.
+#[tactic(auto, using(text_writer::proofs::PrintLaws::straight), unfolding(crate::specs::Rows::path_text))]
+fn print_path<W: Write>(out: &mut Out<'_, W>, path: &Path)
+    ensures { Prints W.contents out.old out.new (path_text path.now) }
+{
+    out.put(b"\\");
+    print_segments(out, path.segs());
+}
+
+#[tactic(auto, using(text_writer::proofs::PrintLaws::straight))]
+fn print_method<W: Write>(out: &mut Out<'_, W>, args: u8)
+    ensures { Prints W.contents out.old out.new (kind_text (Kind.Method args)) }
+{
+    out.put(b"Method ");
+    print_decimal(out, args as u64);
+}
+
+#[tactic(auto, using(text_writer::proofs::PrintLaws::straight))]
+fn print_alias<W: Write>(out: &mut Out<'_, W>, target: &Path)
+    ensures { Prints W.contents out.old out.new (kind_text (Kind.Alias target.now)) }
+{
+    out.put(b"Alias ");
+    print_path(out, target);
+}
+
+/// What a path stands for.
+#[tactic(auto, using(text_writer::proofs::PrintLaws::straight))]
+fn print_kind<W: Write>(out: &mut Out<'_, W>, kind: &Kind)
+    ensures { Prints W.contents out.old out.new (kind_text kind.now) }
+{
+    match kind {
+        Kind::Scope => out.put(b"Scope"),
+        Kind::Name => out.put(b"Name"),
+        Kind::Method { args } => print_method(out, *args),
+        Kind::Alias { target } => print_alias(out, target),
+        Kind::Device => out.put(b"Device"),
+        Kind::Processor => out.put(b"Processor"),
+        Kind::PowerResource => out.put(b"PowerResource"),
+        Kind::ThermalZone => out.put(b"ThermalZone"),
+        Kind::Mutex => out.put(b"Mutex"),
+        Kind::Event => out.put(b"Event"),
+        Kind::Region => out.put(b"Region"),
+        Kind::DataRegion => out.put(b"DataRegion"),
+        Kind::Field => out.put(b"Field"),
+        Kind::BufferField => out.put(b"BufferField"),
+    }
+}
+
+#[tactic(auto, using(text_writer::proofs::PrintLaws::straight), unfolding(crate::specs::Rows::row_text))]
+fn print_row_text<W: Write>(out: &mut Out<'_, W>, path: &Path, kind: &Kind)
+    ensures { Prints W.contents out.old out.new (row_text (path.now, kind.now)) }
+{
+    print_path(out, path);
+    out.put(b" ");
+    print_kind(out, kind);
+}
+
+/// The line of a path with its kind.
+#[tactic(auto, using(text_writer::proofs::PrintLaws::straight), unfolding(crate::specs::Rows::row_line, crate::specs::Lines::line))]
+fn print_row<W: Write>(out: &mut Out<'_, W>, path: &Path, kind: &Kind)
+    ensures { Prints W.contents out.old out.new (row_line (path.now, kind.now)) }
+{
+    print_indent(out, 1);
+    print_row_text(out, path, kind);
+    out.put(b"\n");
+}
+
+/// The line above the rows.
+#[tactic(auto, using(text_writer::proofs::PrintLaws::straight), unfolding(crate::specs::Rows::count_line))]
+fn print_count<W: Write>(out: &mut Out<'_, W>, count: usize)
+    ensures { Prints W.contents out.old out.new (count_line count) }
+{
+    out.put(b"Namespace ");
+    print_decimal(out, count as u64);
+    out.put(b"\n");
+}
+
+/// The namespace: how many paths are declared, and a line for each, in the order of the paths.
+#[tactic(auto, using(text_writer::proofs::PrintLaws::straight), unfolding(crate::specs::Rows::namespace_text))]
+pub fn print_rows<W: Write>(out: &mut Out<'_, W>, space: &Space)
+    ensures { Prints W.contents out.old out.new (namespace_text (map.entries space.now.kinds)) }
+{
+    let count = space.row_count();
+    print_count(out, count);
+    for index in 0..count {
+        match space.row_at(index) {
+            None => unreachable!(),
+            Some((path, kind)) => print_row(out, path, kind),
+        }
+    }
+}
