@@ -38,13 +38,32 @@ same() {
 "$top/acpidis" demo >/dev/null 2>&1
 row 'the demo' 0 '    Return (Arg0)' "$top/acpidis" demo
 same 'the demo and nothing else'
-row 'two folders' 2 'usage: acpidis FOLDER' "$top/acpidis" demo demo
+row 'a check of the demo' 0 'Check "dsdt.dat" Bytes 9 Methods 1 Raw 0 Same' "$top/acpidis" --check demo
+row 'the demo between options' 0 '    Return (Arg0)' "$top/acpidis" --workers 2 demo --any-sum
+same 'the demo between options, and nothing else'
+row 'two folders' 2 "For more information, try '--help'." "$top/acpidis" demo demo
+
+# the launcher's own help has the options of the program
+options() {
+    grep -o -- '--[a-z][a-z-]*' | sort -u
+}
+"$top/acpidis" --help | options >own
+"$top/out/acpidis" --help 2>&1 | options >program
+if [ -s own ] && cmp -s own program; then
+    passed=$((passed + 1))
+else
+    failed=$((failed + 1))
+    echo 'FAILED the options of the help: the own ones, those of the program'
+    sed 's/^/  /' own program
+fi
 
 mkdir copy empty commands
 cp "$top/acpidis" "$top/crates.txt" copy
 mkdir -p copy/crates/acpidis_program/src copy/crates/acpidis_program/out copy/crates/acpidis/src
 path=$work/commands:/usr/bin:/bin
-row 'help, with nothing built' 0 'usage: acpidis FOLDER' env PATH="$work/empty:/usr/bin:/bin" copy/acpidis --help
+for word in --help -h; do
+    row "$word, with nothing built" 0 'Usage: acpidis [OPTIONS] <FOLDER>' env PATH="$work/empty:/usr/bin:/bin" copy/acpidis "$word"
+done
 row 'no kit' 127 "acpidis: the Rattle kit isn't there: its command rt proves and builds this program" env PATH="$work/empty:/usr/bin:/bin" copy/acpidis demo
 
 # a build that fails, with an older program in place
@@ -59,7 +78,7 @@ row 'what the build said' 126 'no proof' env PATH="$path" copy/acpidis demo
 
 # a build that works, in silence but for what it is at
 printf '#!/bin/sh\n[ "$1" = run ] || exit 0\nprintf "#!/bin/sh\\necho built\\n" >out/acpidis_program\n' >commands/rt
-row 'a build that works' 0 'acpidis: building, which takes half an hour of processor time the first time, since every crate is proved' env PATH="$path" copy/acpidis demo
+row 'a build that works' 0 'acpidis: building, which takes more than half an hour of processor time the first time, since every crate is proved' env PATH="$path" copy/acpidis demo
 row 'a built program' 0 'built' env PATH="$work/empty:/usr/bin:/bin" copy/acpidis demo
 
 echo "$passed passed, $failed failed"
