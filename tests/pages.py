@@ -1,0 +1,82 @@
+#!/usr/bin/env python3
+"""Runs the commands of the pages for users, each as its page prints it, and compares what comes with what stands there.
+
+    python3 tests/pages.py
+
+A block that begins with ```console has commands behind `$ `, and below each what it prints. They run in a folder with `mine`, the
+set of docs/listing.md, whose text is the first block of that page. `./acpidis` is the launcher. The last line is
+'N passed, N failed'.
+"""
+
+import pathlib
+import re
+import subprocess
+import sys
+import tempfile
+
+TOP = pathlib.Path(__file__).resolve().parent.parent
+LISTING = "docs/listing.md"
+PAGES = ["docs/folders.md", "docs/refusals.md", "docs/reading.md"]
+DSDT = b"\x08BAR_\x0A\x05" + b"\x14\x0BFOO_\x02\xA4\x72\x68\x69\x00" + b"\x14\x0BCALL\x00\xA4ZZZZ"
+SSDT = b"\x10\x17\\_SB_\x5B\x82\x0FDEV0\x14\x09_STA\x08\xA4\x0A\x0F" + b"\x06FOO_ALIA"
+
+
+def table(signature, code):
+    """A table with this AML and a right checksum."""
+    data = bytearray(signature + (36 + len(code)).to_bytes(4, "little"))
+    data += b"\2\0TEST  EXAMPLE \1\0\0\0TEST\1\0\0\0" + code
+    data[9] = -sum(data) % 256
+    return bytes(data)
+
+
+def make_room(room):
+    (room / "mine").mkdir()
+    (room / "mine/dsdt.dat").write_bytes(table(b"DSDT", DSDT))
+    (room / "mine/ssdt1.dat").write_bytes(table(b"SSDT", SSDT))
+    (room / "acpidis").write_text(f"#!/bin/sh\nexec '{TOP}/acpidis' \"$@\"\n")
+    (room / "acpidis").chmod(0o755)
+
+
+def printed_by(command, room):
+    run = subprocess.run(["sh", "-c", command], cwd=room, stdout=subprocess.PIPE, stderr=subprocess.STDOUT, check=False)
+    return run.stdout.decode()
+
+
+def blocks_of(page, kind):
+    return re.findall(rf"^```{kind}\n(.*?)^```$", (TOP / page).read_text(), re.MULTILINE | re.DOTALL)
+
+
+def commands_of(page):
+    """Each command of a page with what stands below it."""
+    for block in blocks_of(page, "console"):
+        for part in re.split(r"^\$ ", block, flags=re.MULTILINE)[1:]:
+            command, _, wanted = part.partition("\n")
+            yield command, wanted
+
+
+def checks_of(page):
+    """What has to be run for a page, and what has to come."""
+    if page == LISTING:
+        return [("./acpidis mine 2>/dev/null", blocks_of(page, "")[0])]
+    return commands_of(page)
+
+
+def fails_of(page):
+    """Whether each command of a page fails, in its order."""
+    with tempfile.TemporaryDirectory() as room:
+        make_room(pathlib.Path(room))
+        for command, wanted in checks_of(page):
+            printed = printed_by(command, room)
+            if printed != wanted:
+                print(f"FAILED {page}: {command}\nprinted\n{printed}not\n{wanted}", end="")
+            yield printed != wanted
+
+
+def main():
+    fails = [fail for page in [LISTING, *PAGES] for fail in fails_of(page)]
+    print(f"{fails.count(False)} passed, {fails.count(True)} failed")
+    sys.exit(any(fails))
+
+
+if __name__ == "__main__":
+    main()
