@@ -60,6 +60,16 @@ lists_only dumps any_sum z check x status text only l =
     let shows = only.one l.listing l.means in
     (l.status_is ∙ sym (ap (λ bs. cond (has_raw bs) 3 0) shows.bodies), l.text_is ∙ sym (output_is check x dumps l.listing shows))
 
+-- Two listings of the same dumps and options are the same one, whatever number of workers read their bodies: what they mean
+-- is the same, and so is what is printed of them.
+pub one_listing : (dumps : List Dump) (any_sum z : Bool) (x y : Listing) → IsOnly dumps any_sum z x → IsOnly dumps any_sum z y → (k : Meaning) × Means dumps any_sum z k × Shows x dumps k × Shows y dumps k
+one_listing dumps any_sum z x y a b = (a.sound.0, a.sound.1, a.sound.2, b.one a.sound.0 a.sound.1)
+
+pub one_output : (dumps : List Dump) (any_sum z check : Bool) (x y : Listing) → IsOnly dumps any_sum z x → IsOnly dumps any_sum z y → shown_of check x ≡ shown_of check y
+one_output dumps any_sum z check x y a b =
+    let same = one_listing dumps any_sum z x y a b in
+    output_is check x dumps same.0 same.2 ∙ sym (output_is check y dumps same.0 same.3)
+
 -- what was appended is each text of the dumps
 pub appends_each : (dumps : List Dump) (any_sum z check : Bool) (x : Listing) (before after : Option (List ℕ)) (now : ℕ) → IsOnly dumps any_sum z x → Appends before after (shown_of check x)
     → now ≡ cond (has_raw (map body_view x.bodies.items)) 3 0 → (status : ℕ) (text : List ℕ) → Lists dumps any_sum z check status text → (status ≡ now) × Appends before after text
