@@ -8,11 +8,15 @@ use crate::board::{Board, Seat};
 use crate::fault::PoolFault;
 use crate::gate::Gate;
 use crate::work::Work;
+use core::thread::Stack;
 use std::alloc::Global;
 use std::snapshot::Snapshot;
 use std::sync::Wait;
 use std::thread;
 use std::thread::{Promise, Threads};
+
+/// The stack of each thread, whatever the system's own limit is. The deepest bodies need about 1 MB of it.
+const STACK_BYTES: usize = 8 << 20;
 
 /// What a crew hands over: its seat, each number drawn with its result, in any order, and for each worker the numbers
 /// that it drew, ascending.
@@ -106,7 +110,8 @@ where
                     × EachBelow (count_of board.now) (W.can_work work.now) }
                 ensures { IfOk result (λ s. IsShare (W.gives work.entry.now) other others s) }
             { crew(rt, alloc, board, other, middle, others, work, gate) };
-            let Ok(child) = scope.spawn_with(promise, there) else {
+            let stack = Stack::new().stack_size(STACK_BYTES);
+            let Ok(child) = stack.spawn_scoped_with(scope, promise, there) else {
                 return Err(PoolFault::NoThread);
             };
             let here = crew(rt, alloc, board, seat, first, mine, work, gate);
