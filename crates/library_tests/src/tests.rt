@@ -1,4 +1,7 @@
+mod fixtures;
 mod limits;
+mod listings;
 mod memory;
+mod nesting;
 mod spaces;
 mod writers;

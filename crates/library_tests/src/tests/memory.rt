@@ -1,39 +1,15 @@
 //! Answers where a growth is refused, as by `rt try --test --fail-alloc N`: the whole answer, or the want of memory.
+ghost use Rattle.std.specs.Prelude.{◌≤◌};
+
+use super::fixtures::{ANY_SUM, push_dump, push_table};
+use super::listings::{has_three_bodies, three_methods};
 use acpi_tables::{Bad, Dump, load_order};
+use acpidis::{Refusal, disassemble};
+use aml_pool::FreeGate;
 use std::alloc::{AllocError, Global};
+use std::sync::Wait;
 use std::test::Fail;
-
-/// Adds a dump.
-fn push_dump(
-    alloc: Global,
-    dumps: &mut Vec<Dump>,
-    address: Option<u64>,
-    bytes: Vec<u8>,
-) -> Result<(), AllocError> {
-    dumps.push(Dump {
-        name: String::new(alloc),
-        address,
-        bytes,
-    })?;
-    Ok(())
-}
-
-/// Adds a table with this signature and this content, whose checksum is any.
-fn push_table(
-    alloc: Global,
-    dumps: &mut Vec<Dump>,
-    address: Option<u64>,
-    signature: &[u8; 4],
-    content: &[u8],
-) -> Result<(), AllocError> {
-    let len = u32::try_from(content.len()).unwrap_or(0).saturating_add(36);
-    let mut bytes = Vec::new(alloc);
-    bytes.extend_from_slice(signature)?;
-    bytes.extend_from_slice(&len.to_le_bytes())?;
-    bytes.extend_from_slice(&[0; 28])?;
-    bytes.extend_from_slice(content)?;
-    push_dump(alloc, dumps, address, bytes)
-}
+use std::thread::Threads;
 
 /// An SSDT, a DSDT and an SSDT without addresses.
 fn named(alloc: Global) -> Result<Vec<Dump>, AllocError> {
@@ -85,6 +61,31 @@ fn whole_order_or_no_memory(rt: HostRuntime) -> Result<(), Fail> {
     }
     if let Ok(dumps) = chained(alloc) {
         assert!(rt; has_order(alloc, &dumps, 1, &[2]));
+    }
+    Ok(())
+}
+
+/// Whether so many workers answer all three bodies, or memory or a thread was refused.
+fn has_bodies<T: Threads + Wait + Sync>(
+    threads: &T,
+    alloc: Global,
+    dumps: &[Dump],
+    workers: u32,
+) -> bool
+    requires { (1 ≤ workers) × (workers ≤ 64) }
+{
+    match disassemble(threads, alloc, dumps, ANY_SUM, workers, &FreeGate) {
+        Ok(listing) => has_three_bodies(&listing),
+        Err(refusal) => matches!(refusal, Refusal::NoMemory | Refusal::NoThread),
+    }
+}
+
+#[test]
+fn whole_listing_or_want(rt: HostRuntime) -> Result<(), Fail> {
+    if let Ok(dumps) = three_methods(rt.alloc()) {
+        for workers in [1, 2] {
+            assert!(rt; has_bodies(&rt, rt.alloc(), &dumps, workers));
+        }
     }
     Ok(())
 }
