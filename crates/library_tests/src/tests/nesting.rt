@@ -115,7 +115,9 @@ fn the_deepest_bodies_are_printed(rt: HostRuntime) -> Result<(), Fail> {
     let gate = Watch::new(alloc, 2, 0)?;
     let mut out = Vec::new(alloc);
     let mut error = Vec::new(alloc);
-    let status = run(&rt, alloc, &dumps, ANY_SUM, 2, &gate, &mut out, &mut error);
+    let status = run(
+        &rt, alloc, &dumps, ANY_SUM, 2, false, &gate, &mut out, &mut error,
+    );
     assert_eq!(rt; (status, error.len()), (0, 0));
     Ok(())
 }
