@@ -73,9 +73,11 @@ struct Line<'a> {
 /// its name or its address, the first of these that holds. `MapFault::NoMemory` where a growth was refused.
 pub fn parse_map(alloc: Global, text: &[u8], names: &[String]) -> Result<Vec<Option<u64>>, MapFault>
     ensures map { OnOk result (HoldsMap (map string_bytes names.now) text.now) }
-    ensures addresses { IfOk result (λ addresses. addresses.items ≡ addresses_of (map string_bytes names.now) text.now) }
+    ensures addresses { IfOk result (λ addresses. addresses.items
+        ≡ addresses_of (map string_bytes names.now) text.now) }
 
-    ensures refused { IfErr result (λ fault. (fault ≡ NoMemory) ⊎ RefusesMap (map string_bytes names.now) text.now fault) }
+    ensures refused { IfErr result (λ fault. (fault ≡ NoMemory) ⊎
+        RefusesMap (map string_bytes names.now) text.now fault) }
     ensures none { IfErr result (λ fault. (fault ≡ NoMemory) ⊎ (¬ HoldsMap (map string_bytes names.now) text.now)) }
 {
     let lines = read_lines(alloc, text, names)?;
@@ -89,7 +91,8 @@ fn addresses_in(
     lines: &[Line<'_>],
     names: &[String],
 ) -> Result<Vec<Option<u64>>, AllocError>
-    ensures { IfOk result (λ addresses. addresses.items ≡ map (λ name. option_map (λ line. line.address) (find (λ line. bytes_eq line.name.now (string_bytes name)) lines.now)) names.now) }
+    ensures { IfOk result (λ addresses. addresses.items ≡ map (λ name. option_map (λ line. line.address) (find
+        (λ line. bytes_eq line.name.now (string_bytes name)) lines.now)) names.now) }
 {
     names
         .iter()
@@ -105,7 +108,8 @@ fn read_lines<'a>(
 ) -> Result<Vec<Line<'a>>, MapFault>
     ensures map { OnOk result (HoldsMap (map string_bytes names.now) text.now) }
     ensures lines { IfOk result (λ lines. map shown_by lines.items ≡ map entry_of (lines_of text.now)) }
-    ensures refused { IfErr result (λ fault. (fault ≡ NoMemory) ⊎ RefusesMap (map string_bytes names.now) text.now fault) }
+    ensures refused { IfErr result (λ fault. (fault ≡ NoMemory) ⊎
+        RefusesMap (map string_bytes names.now) text.now fault) }
 {
     let mut lines: Vec<Line<'a>> = Vec::new(alloc);
     let mut rest = text;
@@ -176,7 +180,8 @@ fn is_repeated(line: &Line<'_>, earlier: &[Line<'_>]) -> bool
 impl<'a> Line<'a> {
     /// What a line says, if it has the form.
     fn read(bytes: &'a [u8]) -> Option<Line<'a>>
-        ensures { MatchOption result (¬ IsLine bytes.now) (λ line. IsLine bytes.now × (shown_by line ≡ entry_of bytes.now)) }
+        ensures { MatchOption result (¬ IsLine bytes.now) (λ line. IsLine bytes.now ×
+            (shown_by line ≡ entry_of bytes.now)) }
     {
         if bytes.len() < 17 || bytes[16] != b' ' {
             return None;
@@ -198,7 +203,8 @@ impl<'a> Line<'a> {
 /// The number that 16 hexadecimal digits spell.
 fn hex_number(digits: &[u8]) -> Option<u64>
     requires { length digits.now ≡ 16 }
-    ensures { MatchOption result (list_all is_hex_digit digits.now ≡ false) (λ number. (list_all is_hex_digit digits.now ≡ true) × (number ≡ hex_number digits.now)) }
+    ensures { MatchOption result (list_all is_hex_digit digits.now ≡ false)
+        (λ number. (list_all is_hex_digit digits.now ≡ true) × (number ≡ hex_number digits.now)) }
 {
     let mut number = 0;
     for digit in digits {
@@ -209,7 +215,8 @@ fn hex_number(digits: &[u8]) -> Option<u64>
 
 /// The value of a hexadecimal digit.
 fn hex_value(digit: u8) -> Option<u8>
-    ensures { MatchOption result (is_hex_digit digit ≡ false) (λ value. (is_hex_digit digit ≡ true) × (value ≡ hex_value digit) × (value < 16)) }
+    ensures { MatchOption result (is_hex_digit digit ≡ false) (λ value. (is_hex_digit digit ≡ true) ×
+        (value ≡ hex_value digit) × (value < 16)) }
 {
     match digit {
         b'0'..=b'9' => Some(digit - b'0'),

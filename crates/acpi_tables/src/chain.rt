@@ -22,7 +22,8 @@ pub(crate) fn order_by_chain(alloc: Global, dumps: &[Dump]) -> Result<Order, Tab
     requires each { AreTaken dumps.now true }
     requires addressed { is_addressed dumps.now ≡ true }
     ensures order { IfOk result (λ order. IsChained dumps.now order.dsdt order.ssdts.items) }
-    ensures refused { IfErr result (λ fault. (fault ≡ record { dump = None; bad = NoMemory }) ⊎ RefusesOrder dumps.now fault.dump fault.bad) }
+    ensures refused { IfErr result (λ fault. (fault ≡ record { dump = None; bad = NoMemory }) ⊎
+        RefusesOrder dumps.now fault.dump fault.bad) }
 {
     let Some(root) = root_of(dumps) else {
         return Err(TableFault::of_set(Bad::RootMissing));
@@ -73,7 +74,8 @@ fn root_of(dumps: &[Dump]) -> Option<usize>
 /// The XSDT's address in an RSDP, which it has from revision 2 on.
 fn xsdt_address(root: &[u8]) -> Option<u64>
     requires { HoldsRoot root.now }
-    ensures { MatchOption result (revision_of root.now < 2) (λ address. (2 ≤ revision_of root.now) × (address ≡ number_at root.now 24 8)) }
+    ensures { MatchOption result (revision_of root.now < 2) (λ address. (2 ≤ revision_of root.now) ×
+        (address ≡ number_at root.now 24 8)) }
 {
     if u8_at(root, 15) < 2 {
         None
@@ -149,7 +151,8 @@ fn each_with(
     listed: &[usize],
     signature: &[u8],
 ) -> Result<Vec<usize>, AllocError>
-    ensures { IfOk result (λ found. found.items ≡ each_once (filter (has_signature dumps.now signature.now) listed.now)) }
+    ensures { IfOk result (λ found. found.items
+        ≡ each_once (filter (has_signature dumps.now signature.now) listed.now)) }
 {
     let mut found = Vec::new(alloc);
     for index in listed {

@@ -133,7 +133,8 @@ impl<'a> MadtRecord<&'a [u8]> {
 
     /// The same record with a copy of its content.
     pub fn to_record(&self, alloc: Global) -> Result<MadtRecord, AllocError>
-        ensures { IfOk result (λ copy. seen_by (λ content. content.items) copy ≡ seen_by (λ content. content.now) self.now) }
+        ensures { IfOk result (λ copy. seen_by (λ content. content.items) copy ≡ seen_by
+            (λ content. content.now) self.now) }
     {
         Ok(match *self {
             MadtRecord::LocalApic { uid, apic, flags } => MadtRecord::LocalApic {
@@ -224,7 +225,8 @@ impl Madt {
     /// length byte, where the length is below 2, and where the record ends past the table.
     pub fn record_at(table: &[u8], at: usize) -> Option<(MadtView<'_>, usize)>
         ensures holds { IsSome result ↔ HoldsRecord table.now at }
-        ensures record { IfSome result (λ r. seen_by (λ content. content.now) r.0 ≡ meaning_of (record_bytes_at table.now at)) }
+        ensures record { IfSome result (λ r. seen_by (λ content. content.now) r.0
+            ≡ meaning_of (record_bytes_at table.now at)) }
         ensures end { IfSome result (λ r. r.1 ≡ record_end table.now at) }
     {
         if at < 44 || table.len() < 2 || at > table.len() - 2 {

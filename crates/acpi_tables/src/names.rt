@@ -16,7 +16,8 @@ const MAX_DIGITS: u8 = 9;
 pub(crate) fn order_by_name(alloc: Global, dumps: &[Dump]) -> Result<Order, TableFault>
     requires { is_addressed dumps.now ≡ false }
     ensures order { IfOk result (λ order. IsNamed dumps.now order.dsdt order.ssdts.items) }
-    ensures refused { IfErr result (λ fault. (fault ≡ record { dump = None; bad = NoMemory }) ⊎ RefusesOrder dumps.now fault.dump fault.bad) }
+    ensures refused { IfErr result (λ fault. (fault ≡ record { dump = None; bad = NoMemory }) ⊎
+        RefusesOrder dumps.now fault.dump fault.bad) }
 {
     let dsdts = indexes_with(alloc, dumps, b"DSDT")?;
     let dsdt = match dsdts.as_slice() {

@@ -41,7 +41,8 @@ pub fn load_order(alloc: Global, dumps: &[Dump], any_sum: bool) -> Result<Order,
     ensures sound { OnOk result ((fault : TableFault) → ¬ Refuses dumps.now any_sum fault) }
     ensures tables { IfOk result (λ order. AreTables dumps.now (order.dsdt ∷ order.ssdts.items)) }
 
-    ensures refused { IfErr result (λ fault. (fault ≡ record { dump = None; bad = NoMemory }) ⊎ Refuses dumps.now any_sum fault) }
+    ensures refused { IfErr result (λ fault. (fault ≡ record { dump = None; bad = NoMemory }) ⊎
+        Refuses dumps.now any_sum fault) }
     ensures none { IfErr result (λ fault. (fault ≡ record { dump = None; bad = NoMemory })
         ⊎ ((dsdt : ℕ) (ssdts : List ℕ) → ¬ IsOrder dumps.now any_sum dsdt ssdts)) }
 {

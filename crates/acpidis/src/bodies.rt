@@ -56,7 +56,8 @@ pub(crate) fn read_bodies<R: Threads + Wait + Sync, G: Gate + Sync>(
 
     // There is one for each method: its terms, or its bytes where it reads as none.
     ensures sound { (es : List Entry) → StandsFor loaded.now.space es → IfOk result (λ r.
-        AreEntries unknown_zero es (codes_view loaded.now.tables.items) loaded.now.methods.items (map body_view r.items.items)) }
+        AreEntries unknown_zero es (codes_view loaded.now.tables.items) loaded.now.methods.items
+        (map body_view r.items.items)) }
     // There are no others.
     ensures one { (es : List Entry) → StandsFor loaded.now.space es → IfOk result (λ r. (bs : List OneBody) →
         AreEntries unknown_zero es (codes_view loaded.now.tables.items) loaded.now.methods.items bs →

@@ -38,9 +38,11 @@ fn refused_order(fault: TableFault) -> Refusal
 /// The order of the definition blocks.
 fn order_in(alloc: Global, dumps: &[Dump], any_sum: bool) -> Result<Order, Refusal>
     ensures order { IfOk result (λ order. IsOrder dumps.now any_sum order.dsdt order.ssdts.items) }
-    ensures only { IfOk result (λ order. (dsdt : ℕ) (ssdts : List ℕ) → IsOrder dumps.now any_sum dsdt ssdts → (dsdt ≡ order.dsdt) × (ssdts ≡ order.ssdts.items)) }
+    ensures only { IfOk result (λ order. (dsdt : ℕ) (ssdts : List ℕ) → IsOrder dumps.now any_sum dsdt ssdts →
+        (dsdt ≡ order.dsdt) × (ssdts ≡ order.ssdts.items)) }
     ensures tables { IfOk result (λ order. AreTables dumps.now (order.dsdt ∷ order.ssdts.items)) }
-    ensures none { IfErr result (λ e. IsWant e ⊎ ((dsdt : ℕ) (ssdts : List ℕ) → ¬ IsOrder dumps.now any_sum dsdt ssdts)) }
+    ensures none { IfErr result (λ e. IsWant e ⊎ ((dsdt : ℕ) (ssdts : List ℕ) →
+        ¬ IsOrder dumps.now any_sum dsdt ssdts)) }
     ensures tells { IfErr result (TellsTable dumps.now any_sum) }
 {
     match load_order(alloc, dumps, any_sum) {
@@ -80,11 +82,14 @@ fn refused_load(order: &[usize], fault: LoadFault) -> Refusal
 /// Loads the tables.
 fn load_in<'a>(alloc: Global, codes: &[&'a [u8]], order: &[usize]) -> Result<Loaded<'a>, Refusal>
     requires short { AreShort (codes_view codes.now) }
-    ensures sound { IfOk result (λ x. (trees : List Trees) × (m : Listed) × IsLoad (codes_view codes.now) trees m × HoldsLoad x (codes_view codes.now) trees m) }
-    ensures one { IfOk result (λ x. (trees : List Trees) (m : Listed) → IsLoad (codes_view codes.now) trees m → HoldsLoad x (codes_view codes.now) trees m) }
+    ensures sound { IfOk result (λ x. (trees : List Trees) × (m : Listed) × IsLoad (codes_view codes.now) trees m ×
+        HoldsLoad x (codes_view codes.now) trees m) }
+    ensures one { IfOk result (λ x. (trees : List Trees) (m : Listed) → IsLoad (codes_view codes.now) trees m →
+        HoldsLoad x (codes_view codes.now) trees m) }
     ensures few { IfOk result (λ x. length x.methods.items ≤ 1048576) }
     ensures still { IfOk result (λ x. AreShort (codes_view x.tables.items)) }
-    ensures complete { IfErr result (λ e. IsWant e ⊎ ((trees : List Trees) (m : Listed) → IsLoad (codes_view codes.now) trees m → ⊥)) }
+    ensures complete { IfErr result (λ e. IsWant e ⊎ ((trees : List Trees) (m : Listed) →
+        IsLoad (codes_view codes.now) trees m → ⊥)) }
     ensures tells { IfErr result (TellsLoad (codes_view codes.now) order.now) }
     ensures of_load { IfErr result (λ e. (dumps : List Dump) (any_sum : Bool) → TellsTable dumps any_sum e) }
 {
@@ -106,9 +111,16 @@ fn bodies_in<R: Threads + Wait + Sync, G: Gate + Sync>(
     requires workers { (1 ≤ workers) × (workers ≤ 64) }
     requires short { AreShort (codes_view loaded.now.tables.items) }
     requires few { length loaded.now.methods.items ≤ 1048576 }
-    ensures sound { (es : List Entry) → StandsFor loaded.now.space es → IfOk result (λ r. AreEntries unknown_zero es (codes_view loaded.now.tables.items) loaded.now.methods.items (map body_view r.items.items)) }
-    ensures one { (es : List Entry) → StandsFor loaded.now.space es → IfOk result (λ r. (bs : List OneBody) → AreEntries unknown_zero es (codes_view loaded.now.tables.items) loaded.now.methods.items bs → bs ≡ map body_view r.items.items) }
-    ensures told { (es : List Entry) → StandsFor loaded.now.space es → IfOk result (λ r. AreTold unknown_zero es (codes_view loaded.now.tables.items) loaded.now.methods.items r.items.items) }
+    ensures sound { (es : List Entry) → StandsFor loaded.now.space es →
+        IfOk result (λ r.
+        AreEntries unknown_zero es (codes_view loaded.now.tables.items) loaded.now.methods.items
+        (map body_view r.items.items)) }
+    ensures one { (es : List Entry) → StandsFor loaded.now.space es → IfOk result (λ r. (bs : List OneBody) →
+        AreEntries unknown_zero es (codes_view loaded.now.tables.items) loaded.now.methods.items bs →
+        bs ≡ map body_view r.items.items) }
+    ensures told { (es : List Entry) → StandsFor loaded.now.space es →
+        IfOk result (λ r.
+        AreTold unknown_zero es (codes_view loaded.now.tables.items) loaded.now.methods.items r.items.items) }
     ensures drawn { IfOk result (λ r. AreDrawn workers (length loaded.now.methods.items) r.drawn.items) }
     ensures want { IfErr result (λ e. (e ≡ Refusal.NoThread) ⊎ (e ≡ Refusal.NoMemory)) }
     ensures one_needs_no_thread { workers ≡ 1 → IfErr result (λ e. e ≡ Refusal.NoMemory) }
@@ -134,20 +146,24 @@ pub fn disassemble<'a, R: Threads + Wait + Sync, G: Gate + Sync>(
     requires workers { (1 ≤ workers) × (workers ≤ 64) }
 
     // The dumps mean the listing.
-    ensures sound { IfOk result (λ x. (k : Meaning) × Means dumps.now options.any_sum options.unknown_zero k × Shows x dumps.now k) }
+    ensures sound { IfOk result (λ x. (k : Meaning) × Means dumps.now options.any_sum options.unknown_zero k ×
+        Shows x dumps.now k) }
     // They mean no other.
-    ensures one { IfOk result (λ x. (k : Meaning) → Means dumps.now options.any_sum options.unknown_zero k → Shows x dumps.now k) }
+    ensures one { IfOk result (λ x. (k : Meaning) → Means dumps.now options.any_sum options.unknown_zero k →
+        Shows x dumps.now k) }
     // Each dump is one that is taken with any checksum.
     ensures taken { IfOk result (λ x. AreTaken x.dumps.now true) }
     // No table is longer than a table may be, and there are no more methods than there may be.
     ensures limits { IfOk result (λ x. AreShort (codes_view x.loaded.tables.items) ×
         (length x.loaded.methods.items ≤ 1048576)) }
     // The fault of each raw body is true of it.
-    ensures told { IfOk result (λ x. (k : Meaning) → Means dumps.now options.any_sum options.unknown_zero k → Told x dumps.now options.unknown_zero k) }
+    ensures told { IfOk result (λ x. (k : Meaning) → Means dumps.now options.any_sum options.unknown_zero k →
+        Told x dumps.now options.unknown_zero k) }
     // Each method was drawn by one worker, once.
     ensures drawn { IfOk result (λ x. AreDrawn workers (length x.loaded.methods.items) x.drawn.items) }
-    // A refusal for another cause than memory or threads comes only where the dumps mean nothing, and it is true of them.
-    ensures complete { IfErr result (λ e. IsWant e ⊎ ((k : Meaning) → ¬ Means dumps.now options.any_sum options.unknown_zero k)) }
+    // A refusal for another cause than memory or threads comes only where the dumps mean nothing, and is true of them.
+    ensures complete { IfErr result (λ e. IsWant e ⊎ ((k : Meaning) →
+        ¬ Means dumps.now options.any_sum options.unknown_zero k)) }
     ensures true_table { IfErr result (TellsTable dumps.now options.any_sum) }
     ensures true_load { IfErr result (TellsBlocks dumps.now options.any_sum) }
 {

@@ -36,8 +36,8 @@ const RAW: u8 = 3;
 /// The status where the writer takes no more.
 const UNWRITTEN: u8 = 4;
 
-/// Disassembles the tables of these dumps by so many workers, 1 to 64, and writes the listing to `out`, or with `check` a
-/// line for each table. What is refused, and then each body that can't be read, gets a line on `err`; a fault of `err`
+/// Disassembles the tables of these dumps by so many workers, 1 to 64, and writes the listing to `out`, or with `check`
+/// a line for each table. What is refused, and then each body that can't be read, gets a line on `err`; a fault of `err`
 /// changes nothing.
 ///
 /// Returns the exit status: 0 where all is written, 1 where the set is refused, and nothing is written, 3 where all is
@@ -92,7 +92,8 @@ fn list<'a, R: Threads + Wait + Sync, G: Gate + Sync, O: Write>(
     out: &mut O,
 ) -> Result<Listing<'a>, RunFault>
     requires workers { (1 ≤ workers) × (workers ≤ 64) }
-    ensures { Ends dumps.now options.any_sum options.unknown_zero check (O.contents out.old) (O.contents out.new) result }
+    ensures { Ends dumps.now options.any_sum options.unknown_zero check
+        (O.contents out.old) (O.contents out.new) result }
 {
     let listing = match disassemble(rt, alloc, dumps, options, workers, gate) {
         Ok(listing) => listing,

@@ -88,7 +88,7 @@ fn command<'a>(alloc: Global) -> Result<Command<'a>, Error> {
         .action(ArgAction::SetTrue);
     let unknown_zero = Arg::new(alloc, "unknown-zero")
         .long("unknown-zero")
-        .help("Read a name of a body that no table declares as one without arguments")
+        .help("Read a name in a body as one without arguments where no table tells how many it has")
         .action(ArgAction::SetTrue);
     let check = Arg::new(alloc, "check")
         .long("check")

@@ -11,7 +11,7 @@ use thiserror::Error;
 /// Why tables can't be loaded. The number is that of the table, in load order from 0 on.
 #[derive(Debug, Drop, Error)]
 pub enum LoadFault {
-    /// AML that can't be read: that of the table, or that of a method's body, by an offset in it.
+    /// The table's AML can't be read, by an offset in it.
     #[error("{1}")]
     Code(usize, CodeFault),
     /// A name that the namespace refuses.

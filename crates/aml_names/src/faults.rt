@@ -11,13 +11,14 @@ pub type NoMemory = AllocError;
 /// Why AML could not be read. `at` is an offset in the bytes that were handed in.
 #[derive(Clone, Copy, Debug, Error)]
 pub enum CodeFault {
-    /// The bytes, or those of a span, end here, and one more is wanted.
+    /// One more byte was wanted where the bytes end, or those of a package whose length is spelled in them.
     #[error("Truncated at {at}")]
     Truncated { at: u32 },
     /// The lead byte of a package length of several bytes has bit 5 or 4 set.
     #[error("PkgBits at {at}")]
     PkgBits { at: u32 },
-    /// A package length that is smaller than its own bytes, or that leads past the end of the span around it.
+    /// A package length that is smaller than its own bytes, or that leads past the end of the bytes or of a package that
+    /// begins before it.
     #[error("PkgPast at {at}")]
     PkgPast { at: u32 },
     /// A byte that can't stand in its place of a name.

@@ -179,7 +179,8 @@ where
         (halves.now.mine + halves.now.others) s) }
     ensures own_start_refused { here ≡ Err PoolFault.NoThread → result ≡ Err PoolFault.NoThread }
     ensures other_start_refused { there ≡ Err PoolFault.NoThread → result ≡ Err PoolFault.NoThread }
-    ensures no_start_refused { IfErr here (λ fault. fault ≡ PoolFault.NoMemory) → IfErr there (λ fault. fault ≡ PoolFault.NoMemory)
+    ensures no_start_refused { IfErr here (λ fault. fault ≡ PoolFault.NoMemory) →
+        IfErr there (λ fault. fault ≡ PoolFault.NoMemory)
         → IfErr result (λ fault. fault ≡ PoolFault.NoMemory) }
 {
     match (here, there) {

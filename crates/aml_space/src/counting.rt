@@ -18,7 +18,8 @@ pub fn kind_met<'a>(
     standing: Option<&'a Kind>,
 ) -> Option<&'a Kind>
     requires { IfSome node (λ i. i < length nodes.now) }
-    ensures { option_copied result ≡ option_or (option_and_then (kinds_of nodes.now) node) (option_copied standing.entry) }
+    ensures { option_copied result
+        ≡ option_or (option_and_then (kinds_of nodes.now) node) (option_copied standing.entry) }
 {
     match kind_at(nodes, node) {
         Some(kind) => Some(kind),
@@ -35,7 +36,8 @@ pub fn count_met(
 ) -> Option<u8>
     requires shape { IsShape nodes.now }
     requires within { IfSome node (λ i. i < length nodes.now) }
-    ensures { result ≡ count_by (namespace_in (known_by nodes.now)) (option_or (option_and_then (kinds_of nodes.now) node) (option_copied standing.entry)) (option_and_then (outs_of nodes.now) node) }
+    ensures { result
+        ≡ count_by (namespace_in (known_by nodes.now)) (option_or (option_and_then (kinds_of nodes.now) node) (option_copied standing.entry)) (option_and_then (outs_of nodes.now) node) }
 {
     match kind_met(nodes, node, standing) {
         None => out_at(nodes, node),
@@ -48,7 +50,8 @@ pub fn count_met(
 /// How many arguments the target of an Alias takes.
 fn count_target(nodes: &[Node], predefined: &Predefined, target: &Path) -> u8
     requires { IsShape nodes.now }
-    ensures { let known = namespace_in (known_by nodes.now) in result ≡ target_count (kind_of_path known target.now) (known.outs target.now) }
+    ensures { let known = namespace_in (known_by nodes.now) in result
+        ≡ target_count (kind_of_path known target.now) (known.outs target.now) }
 {
     let (node, _) = walk_counted(nodes, target.segs());
     let kind = kind_met(nodes, node, predefined.kind(target.segs()));

@@ -73,8 +73,10 @@ impl<'a> Scope<'a> {
     ) -> Result<Option<Candidate>, NoMemory>
         requires scope { IsScope self.now }
         requires one { length segment.now ≡ 1 }
-        ensures found { IfOk result (λ met. option_map (path_at self.now.path.now segment.now) met ≡ first_of (namespace_in (known_by self.now.nodes.now)) locals.now (upward (length self.now.path.now) self.now.path.now segment.now)) }
-        ensures met { IfOk result (λ met. IfSome met (IsCandidate self.now.nodes.now locals.now self.now.path.now segment.now)) }
+        ensures found { IfOk result (λ met. option_map (path_at self.now.path.now segment.now) met
+            ≡ first_of (namespace_in (known_by self.now.nodes.now)) locals.now (upward (length self.now.path.now) self.now.path.now segment.now)) }
+        ensures met { IfOk result
+            (λ met. IfSome met (IsCandidate self.now.nodes.now locals.now self.now.path.now segment.now)) }
     {
         let mut scratch = scratch_of(alloc, locals, self.path.segs(), segment)?;
         let mut outside: Option<Candidate> = None;
@@ -113,7 +115,8 @@ impl<'a> Scope<'a> {
         requires one { length segment.now ≡ 1 }
         requires within { here.depth ≤ length self.now.path.now }
         requires node { IfSome here.node (λ i. i < length self.now.nodes.now) }
-        ensures { result ≡ (here.local || is_some (option_or (option_and_then (kinds_of self.now.nodes.now) here.node) (predefined (take here.depth self.now.path.now ++ segment.now)))) }
+        ensures { result
+            ≡ (here.local || is_some (option_or (option_and_then (kinds_of self.now.nodes.now) here.node) (predefined (take here.depth self.now.path.now ++ segment.now)))) }
     {
         here.local || kind_met(self.nodes, here.node, self.standing(segment, here.depth)).is_some()
     }
@@ -121,7 +124,8 @@ impl<'a> Scope<'a> {
     /// The first candidate that an External names, from what was met so far and one more.
     fn first_outside(&self, outside: Option<Candidate>, here: Candidate) -> Option<Candidate>
         requires { IfSome here.node (λ i. i < length self.now.nodes.now) }
-        ensures { result ≡ option_or outside (cond (is_some (option_and_then (outs_of self.now.nodes.now) here.node)) (Some here) None) }
+        ensures { result
+            ≡ option_or outside (cond (is_some (option_and_then (outs_of self.now.nodes.now) here.node)) (Some here) None) }
     {
         match outside {
             Some(found) => Some(found),
@@ -140,8 +144,10 @@ impl<'a> Scope<'a> {
         requires scope { IsScope self.now }
         requires one { length segment.now ≡ 1 }
         requires within { here.depth ≤ length self.now.path.now }
-        requires node { here.node ≡ walk (kids_of self.now.nodes.now) 0 (take here.depth self.now.path.now ++ segment.now) }
-        ensures { result ≡ cond here.local (Some 0) (count_at (namespace_in (known_by self.now.nodes.now)) (take here.depth self.now.path.now ++ segment.now)) }
+        requires node { here.node ≡ walk (kids_of self.now.nodes.now) 0 (take here.depth self.now.path.now
+            ++ segment.now) }
+        ensures { result
+            ≡ cond here.local (Some 0) (count_at (namespace_in (known_by self.now.nodes.now)) (take here.depth self.now.path.now ++ segment.now)) }
     {
         if here.local {
             return Some(0);

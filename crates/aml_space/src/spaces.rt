@@ -69,9 +69,11 @@ impl Space {
     /// A refused declaration changes nothing.
     pub fn declare(&mut self, path: Path, kind: Kind) -> Result<(), SpaceFault>
         ensures ok { OnOk result (self.new ≡ with_declared self.old path kind) }
-        ensures stands { (es : List Entry) (body : Option Body) → StandsFor self.old es → OnOk result (StandsFor self.new (es ++ declares path kind body ∷ [])) }
+        ensures stands { (es : List Entry) (body : Option Body) → StandsFor self.old es →
+            OnOk result (StandsFor self.new (es ++ declares path kind body ∷ [])) }
         ensures err { OnErr result (self.new ≡ self.old) }
-        ensures only_then { IfErr result (λ e. (e ≡ SpaceFault.NoMemory) ⊎ ((e ≡ SpaceFault.Duplicate path) × IsTrue (declared_yet self.old path))) }
+        ensures only_then { IfErr result (λ e. (e ≡ SpaceFault.NoMemory) ⊎ ((e ≡ SpaceFault.Duplicate path) ×
+            IsTrue (declared_yet self.old path))) }
         ensures duplicate { IsTrue (declared_yet self.old path) → result ≡ Err (SpaceFault.Duplicate path) }
     {
         if self.is_declared(&path) {
@@ -90,7 +92,8 @@ impl Space {
     /// path may stand. A refused External changes nothing.
     pub fn external(&mut self, path: Path, count: u8) -> Result<(), NoMemory>
         ensures ok { OnOk result (self.new ≡ with_external self.old path count) }
-        ensures stands { (es : List Entry) → StandsFor self.old es → OnOk result (StandsFor self.new (es ++ outside path count ∷ [])) }
+        ensures stands { (es : List Entry) → StandsFor self.old es →
+            OnOk result (StandsFor self.new (es ++ outside path count ∷ [])) }
         ensures err { OnErr result (self.new ≡ self.old) }
     {
         let at = make_node(self.alloc, &mut self.nodes, path.segs())?;
@@ -134,7 +137,8 @@ impl Space {
     #[tactic(auto, using(crate::proofs::Stands::kind_listed))]
     pub fn kind(&self, path: &Path) -> Option<&Kind>
         ensures known { option_copied result ≡ kind_at (namespace_in self.now) path.now }
-        ensures listed { (es : List Entry) → StandsFor self.now es → option_copied result ≡ kind_at (namespace_of es) path.now }
+        ensures listed { (es : List Entry) → StandsFor self.now es →
+            option_copied result ≡ kind_at (namespace_of es) path.now }
     {
         match self.declared(path) {
             Some(kind) => Some(kind),
@@ -146,7 +150,8 @@ impl Space {
     #[tactic(auto, using(crate::proofs::Stands::kind_listed))]
     pub fn kind_counted(&self, path: &Path) -> (Option<&Kind>, u128)
         ensures known { option_copied result.0 ≡ kind_at (namespace_in self.now) path.now }
-        ensures listed { (es : List Entry) → StandsFor self.now es → option_copied result.0 ≡ kind_at (namespace_of es) path.now }
+        ensures listed { (es : List Entry) → StandsFor self.now es →
+            option_copied result.0 ≡ kind_at (namespace_of es) path.now }
         ensures few { result.1 ≤ 64 * length path.now }
     {
         let (declared, compared) = self.declared_counted(path);
@@ -189,7 +194,8 @@ impl Space {
     /// The declared paths in order, each once, with its kind.
     pub fn rows(&self, alloc: Global) -> Result<Vec<SpaceRow>, NoMemory>
         ensures known { IfOk result (λ rows. row_pairs rows.items ≡ map.entries self.now.kinds) }
-        ensures listed { (es : List Entry) → StandsFor self.now es → IfOk result (λ rows. AreRows es (row_pairs rows.items)) }
+        ensures listed { (es : List Entry) → StandsFor self.now es →
+            IfOk result (λ rows. AreRows es (row_pairs rows.items)) }
     {
         let rows = list_rows(alloc, self.nodes.as_slice())?;
         Ok(rows)
