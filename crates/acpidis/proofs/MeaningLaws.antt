@@ -2,7 +2,10 @@
 use Rattle.std.proofs.Common.{◌≡◌, ◌⊎◌, inl, inr, ℕ, ◌≤◌, Bool, true, List, [], ◌∷◌, map, length, refl, sym, ap, subst, ◌∙◌, arith}
 use Rattle.aml_code.specs.Tree.{Trees}
 use Rattle.aml_space.specs.Entries.{Entry}
-use Rattle.aml_space.specs.Known.{StandsFor}
+use Rattle.aml_space.specs.Known.{StandsFor, known}
+use Rattle.aml_space.specs.Rows.{AreRows}
+use Rattle.aml_space.proofs.Stands.{known_stands}
+use Rattle.aml_space.proofs.Ordered.{entries_rows}
 use Rattle.aml_load.specs.Loading.{Listed, IsLoad, methods_of}
 use Rattle.aml_load.specs.Stops.{StopsLoad}
 use Rattle.aml_load.specs.Views.{codes_view, HoldsLoad}
@@ -18,7 +21,7 @@ use Rattle.acpi_tables.specs.Order.{IsOrder, AreTaken}
 use Rattle.aml_text.specs.declared.listing.Listing.{Listing}
 use Rattle.acpidis.specs.Tables.{codes_in}
 use Rattle.acpidis.specs.Bodies.{AreEntries}
-use Rattle.acpidis.specs.Meaning.{Meaning, Means, Shows}
+use Rattle.acpidis.specs.Meaning.{Meaning, Means, Shows, rows_of}
 use Rattle.acpidis.specs.Refusals.{IsWant, load_refusal, in_dump, TellsTable, TellsLoad, TellsBlocks}
 
 -- a loaded set has few methods
@@ -75,3 +78,7 @@ pub taken_so : (dumps : List Dump) (any_sum : Bool) (dsdt : ℕ) (ssdts : List �
 taken_so dumps any_sum dsdt ssdts o = λ index inside.
     let h = o.each index inside in
     record { small = h.small; shape = h.shape; sums = λ e. absurd cc; content = h.content }
+
+-- the rows of a listing's namespace are its declared paths, each once, in order
+pub rows_are : (es : List Entry) → AreRows es (rows_of es)
+rows_are es = entries_rows (known es) es (known_stands es)

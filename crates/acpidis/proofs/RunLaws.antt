@@ -16,7 +16,7 @@ use Rattle.aml_text.specs.Views.{body_view}
 use Rattle.acpi_tables.specs.declared.dump.Dump.{Dump}
 use Rattle.acpidis.specs.Bodies.{has_raw}
 use Rattle.acpidis.specs.Meaning.{Meaning, Means, Shows, order_of, codes_of, rows_of, text_of}
-use Rattle.acpidis.specs.Runs.{output_of, shown_of, Lists, IsOnly, IsCut, Prints, Ends}
+use Rattle.acpidis.specs.Runs.{output_of, shown_of, Lists, IsOnly, IsCut, Printed, Ends}
 use Rattle.acpidis.specs.declared.faults.RunFault.{RunFault}
 use Rattle.acpidis.specs.declared.faults.RunFault.TheVariants as faults
 use Rattle.acpidis.proofs.SameLaws.{checks_are, shown_same}
@@ -84,7 +84,7 @@ cut_so dumps any_sum z check x before after wrote only cut =
     record { status = cond (has_raw (map body_view x.bodies.items)) 3 0; text = shown_of check x; wrote = wrote; lists = lists_so dumps any_sum z check x _ only refl; cut = cut }
 
 -- how a listing is printed is how the run ends, but for its bodies
-pub ends_so : (dumps : List Dump) (any_sum z check : Bool) (x : Listing) (before after : Option (List ℕ)) (fault : RunFault) → IsOnly dumps any_sum z x → Prints check x before after (Err fault)
+pub ends_so : (dumps : List Dump) (any_sum z check : Bool) (x : Listing) (before after : Option (List ℕ)) (fault : RunFault) → IsOnly dumps any_sum z x → Printed check x before after (Err fault)
     → Ends dumps any_sum z check before after (Err fault)
 ends_so dumps any_sum z check x before after (faults.Write fault) only p = cut_so dumps any_sum z check x before after fault.wrote only p
 ends_so dumps any_sum z check x before after (faults.Refused fault) only p = (p.0, inl p.1)

@@ -44,11 +44,11 @@ shown_of true x = check_lines (blocks_in x) (checks_of x)
 
 -- How the printing of a listing in memory ends: all went out, or the first bytes did, or nothing, for want of memory; or all went
 -- out, and a table differs.
-abbrev pub Prints : Bool → Listing → Option (List ℕ) → Option (List ℕ) → Result (Unit {0}) RunFault → Type 0
-Prints check x before after (Ok u) = Appends before after (shown_of check x)
-Prints check x before after (Err (faults.Write fault)) = Cut before after (shown_of check x) fault.wrote
-Prints check x before after (Err (faults.Refused fault)) = (after ≡ before) × IsWant fault
-Prints check x before after (Err faults.Differs) = all_same (checks_of x) ≡ false
+abbrev pub Printed : Bool → Listing → Option (List ℕ) → Option (List ℕ) → Result (Unit {0}) RunFault → Type 0
+Printed check x before after (Ok u) = Appends before after (shown_of check x)
+Printed check x before after (Err (faults.Write fault)) = Cut before after (shown_of check x) fault.wrote
+Printed check x before after (Err (faults.Refused fault)) = (after ≡ before) × IsWant fault
+Printed check x before after (Err faults.Differs) = all_same (checks_of x) ≡ false
 
 -- How a run ends before its status is made: the text of the one listing went out, or its first bytes did, or nothing, and then
 -- the set means no listing, unless memory or a thread was refused. No table of a listing that the dumps mean differs.

@@ -5,8 +5,10 @@ ghost use Rattle.aml_space.specs.Known.{StandsFor};
 ghost use Rattle.aml_load.specs.Views.{codes_view, AreShort};
 ghost use Rattle.aml_text.specs.Lines.{OneBody};
 ghost use Rattle.aml_text.specs.Views.{body_view};
+ghost use Rattle.acpidis.specs.Refusals.{IsWant};
 ghost use Rattle.acpidis.specs.Bodies.{AreEntries, AreTold, CanRead, BecameOf, AreDrawn};
 
+use crate::refusal::Refusal;
 use aml_code::CodeFault;
 use aml_load::{Loaded, read_body};
 use aml_pool::{Gate, NoMemory, PoolFault, Results, Work, harvest};
@@ -48,7 +50,7 @@ pub(crate) fn read_bodies<R: Threads + Wait + Sync, G: Gate + Sync>(
     unknown_zero: bool,
     workers: u32,
     gate: &G,
-) -> Result<Results<Body>, PoolFault>
+) -> Result<Results<Body>, Refusal>
     requires workers { (1 ≤ workers) × (workers ≤ 64) }
     // The limits of a table and of the methods.
     requires short { AreShort (codes_view loaded.now.tables.items) }
@@ -68,13 +70,17 @@ pub(crate) fn read_bodies<R: Threads + Wait + Sync, G: Gate + Sync>(
     // Each method was drawn by one worker, once.
     ensures drawn { IfOk result (λ r. AreDrawn workers (length loaded.now.methods.items) r.drawn.items) }
     // A refusal says nothing of the set; one worker needs no thread.
-    ensures one_needs_no_thread { workers ≡ 1 → IfErr result (λ fault. fault ≡ PoolFault.NoMemory) }
+    ensures want { IfErr result IsWant }
+    ensures one_needs_no_thread { workers ≡ 1 → IfErr result (λ e. e ≡ Refusal.NoMemory) }
 {
     let work = Bodies {
         alloc,
         loaded,
         unknown_zero,
     };
-    let found = harvest(rt, alloc, workers, loaded.methods.len() as u32, &work, gate)?;
-    Ok(found)
+    match harvest(rt, alloc, workers, loaded.methods.len() as u32, &work, gate) {
+        Ok(found) => Ok(found),
+        Err(PoolFault::NoThread) => Err(Refusal::NoThread),
+        Err(PoolFault::NoMemory) => Err(Refusal::NoMemory),
+    }
 }

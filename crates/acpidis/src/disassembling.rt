@@ -1,15 +1,10 @@
 //! From the dumps of a set to its listing, the bodies read by workers.
 ghost use Rattle.std.specs.Prelude.{◌≡◌, ◌⊎◌, ◌≤◌, ℕ, Bool, true, List, ◌∷◌, map, IfOk, IfErr, get_or, length};
 ghost use Rattle.aml_code.specs.Tree.{Trees};
-ghost use Rattle.aml_space.specs.Entries.{Entry};
-ghost use Rattle.aml_space.specs.Known.{StandsFor};
 ghost use Rattle.aml_load.specs.Loading.{Listed, IsLoad};
 ghost use Rattle.aml_load.specs.Views.{codes_view, AreShort, HoldsLoad};
-ghost use Rattle.aml_text.specs.Lines.{OneBody};
-ghost use Rattle.aml_text.specs.Views.{body_view};
 ghost use Rattle.acpi_tables.specs.Order.{AreTables, AreTaken, IsOrder};
-ghost use Rattle.acpidis.specs.Tables.{codes_in};
-ghost use Rattle.acpidis.specs.Bodies.{AreEntries, AreTold, AreDrawn};
+ghost use Rattle.acpidis.specs.Bodies.{AreDrawn};
 ghost use Rattle.acpidis.specs.Meaning.{Meaning, Means, Shows, Told};
 ghost use Rattle.acpidis.specs.Refusals.{IsWant, load_refusal, TellsTable, TellsLoad, TellsBlocks};
 
@@ -19,12 +14,13 @@ use crate::refusal::Refusal;
 use crate::tables::{codes_of, indexes_of};
 use acpi_tables::{Bad, Dump, Order, TableFault, load_order};
 use aml_load::{LoadFault, Loaded, load};
-use aml_pool::{Gate, PoolFault, Results};
-use aml_text::{Body, Listing};
+use aml_pool::Gate;
+use aml_text::Listing;
 use std::alloc::Global;
 use std::sync::Wait;
 use std::thread::Threads;
 
+/// Why a set without an order isn't disassembled.
 fn refused_order(fault: TableFault) -> Refusal
     ensures want { fault.bad ≡ Bad.NoMemory → result ≡ Refusal.NoMemory }
     ensures other { (result ≡ Refusal.NoMemory) ⊎ (result ≡ Refusal.Table fault) }
@@ -61,6 +57,7 @@ fn dump_at(order: &[usize], table: usize) -> usize
     }
 }
 
+/// Why tables that can't be loaded aren't disassembled, by the dump of the table at fault.
 fn refused_load(order: &[usize], fault: LoadFault) -> Refusal
     ensures { result ≡ load_refusal order.now fault }
 {
@@ -96,39 +93,6 @@ fn load_in<'a>(alloc: Global, codes: &[&'a [u8]], order: &[usize]) -> Result<Loa
     match load(alloc, codes) {
         Ok(loaded) => Ok(loaded),
         Err(fault) => Err(refused_load(order, fault)),
-    }
-}
-
-/// Reads the bodies.
-fn bodies_in<R: Threads + Wait + Sync, G: Gate + Sync>(
-    rt: &R,
-    alloc: Global,
-    loaded: &Loaded<'_>,
-    unknown_zero: bool,
-    workers: u32,
-    gate: &G,
-) -> Result<Results<Body>, Refusal>
-    requires workers { (1 ≤ workers) × (workers ≤ 64) }
-    requires short { AreShort (codes_view loaded.now.tables.items) }
-    requires few { length loaded.now.methods.items ≤ 1048576 }
-    ensures sound { (es : List Entry) → StandsFor loaded.now.space es →
-        IfOk result (λ r.
-        AreEntries unknown_zero es (codes_view loaded.now.tables.items) loaded.now.methods.items
-        (map body_view r.items.items)) }
-    ensures one { (es : List Entry) → StandsFor loaded.now.space es → IfOk result (λ r. (bs : List OneBody) →
-        AreEntries unknown_zero es (codes_view loaded.now.tables.items) loaded.now.methods.items bs →
-        bs ≡ map body_view r.items.items) }
-    ensures told { (es : List Entry) → StandsFor loaded.now.space es →
-        IfOk result (λ r.
-        AreTold unknown_zero es (codes_view loaded.now.tables.items) loaded.now.methods.items r.items.items) }
-    ensures drawn { IfOk result (λ r. AreDrawn workers (length loaded.now.methods.items) r.drawn.items) }
-    ensures want { IfErr result (λ e. (e ≡ Refusal.NoThread) ⊎ (e ≡ Refusal.NoMemory)) }
-    ensures one_needs_no_thread { workers ≡ 1 → IfErr result (λ e. e ≡ Refusal.NoMemory) }
-{
-    match read_bodies(rt, alloc, loaded, unknown_zero, workers, gate) {
-        Ok(found) => Ok(found),
-        Err(PoolFault::NoThread) => Err(Refusal::NoThread),
-        Err(PoolFault::NoMemory) => Err(Refusal::NoMemory),
     }
 }
 
@@ -174,7 +138,7 @@ pub fn disassemble<'a, R: Threads + Wait + Sync, G: Gate + Sync>(
         Ok(loaded) => loaded,
         Err(refusal) => return Err(refusal),
     };
-    let found = bodies_in(rt, alloc, &loaded, options.unknown_zero, workers, gate)?;
+    let found = read_bodies(rt, alloc, &loaded, options.unknown_zero, workers, gate)?;
     Ok(Listing {
         dumps,
         order,

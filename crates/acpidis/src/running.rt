@@ -5,7 +5,7 @@ ghost use Rattle.acpi_tables.specs.Order.{AreTaken};
 ghost use Rattle.aml_load.specs.Views.{codes_view, AreShort};
 ghost use Rattle.aml_text.specs.Views.{body_view};
 ghost use Rattle.acpidis.specs.Bodies.{has_raw};
-ghost use Rattle.acpidis.specs.Runs.{Lists, IsCut, Prints, Ends, status_of};
+ghost use Rattle.acpidis.specs.Runs.{Lists, IsCut, Printed, Ends, status_of};
 
 use crate::check_lines::{are_same, write_checks};
 use crate::checking::check;
@@ -21,6 +21,7 @@ use aml_text::{Body, Listing, write_listing};
 use std::alloc::Global;
 use std::fmt::Display;
 use std::io::Write;
+use std::mem;
 use std::sync::Wait;
 use std::thread::Threads;
 
@@ -42,7 +43,7 @@ const UNWRITTEN: u8 = 4;
 ///
 /// Returns the exit status: 0 where all is written, 1 where the set is refused, and nothing is written, 3 where all is
 /// written and the body of a method can't be read, so that it stands there as its bytes, and 4 where the writer took no
-/// more.
+/// more. What was read isn't freed where all was written: this is the last call of a program.
 pub fn run<R: Threads + Wait + Sync, G: Gate + Sync, O: Write, E: Write>(
     rt: &R,
     alloc: Global,
@@ -74,7 +75,10 @@ pub fn run<R: Threads + Wait + Sync, G: Gate + Sync, O: Write, E: Write>(
     match list(rt, alloc, dumps, options, workers, check, gate, out) {
         Ok(listing) => {
             print_raw_bodies(&listing, err);
-            status_of_bodies(listing.bodies.as_slice())
+            let status = status_of_bodies(listing.bodies.as_slice());
+            // A program ends here. To give millions of terms back one by one would take a third of its time.
+            mem::forget(listing);
+            status
         }
         Err(fault) => print_fault(dumps, fault, err),
     }
@@ -115,7 +119,7 @@ fn print<O: Write>(
     requires taken { AreTaken listing.now.dumps.now true }
     requires limits { AreShort (codes_view listing.now.loaded.tables.items)
         × (length listing.now.loaded.methods.items ≤ 1048576) }
-    ensures { Prints check listing.now (O.contents out.old) (O.contents out.new) result }
+    ensures { Printed check listing.now (O.contents out.old) (O.contents out.new) result }
 {
     if check {
         return print_checks(alloc, listing, out);
@@ -130,7 +134,7 @@ fn print<O: Write>(
 fn print_checks<O: Write>(alloc: Global, listing: &Listing<'_>, out: &mut O) -> Result<(), RunFault>
     requires limits { AreShort (codes_view listing.now.loaded.tables.items)
         × (length listing.now.loaded.methods.items ≤ 1048576) }
-    ensures { Prints true listing.now (O.contents out.old) (O.contents out.new) result }
+    ensures { Printed true listing.now (O.contents out.old) (O.contents out.new) result }
 {
     let Ok(checks) = check(alloc, listing) else {
         return Err(RunFault::Refused(Refusal::NoMemory));

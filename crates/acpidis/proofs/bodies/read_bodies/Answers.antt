@@ -3,17 +3,17 @@ use Rattle.aml_load.specs.Views.{codes_view}
 use Rattle.acpidis.proofs.BodyLaws.{harvested, are_entries, the_entries, are_told}
 use Rattle.acpidis.proofs.bodies.read_bodies.Goals as goal
 
-pub returns-clause-sound : goal.returns-clause-sound
-returns-clause-sound g c es s =
-    let len : length c.in_ok-found.found.items.items ≡ length c.args.loaded.now.methods.items = omega (arith, c.in_ok-found.ensures.results.items_len, c.len.ensures, c.requires.few) in
-    are_entries c.args.unknown_zero es (codes_view c.args.loaded.now.tables.items) c.args.loaded.now.methods.items c.in_ok-found.found.items.items (harvested c.args.unknown_zero c.args.loaded.now c.in_ok-found.found.items.items es s len c.in_ok-found.ensures.results.results)
+pub returns-in-Ok-clause-sound : goal.returns-in-Ok-clause-sound
+returns-in-Ok-clause-sound g c es s =
+    let len : length c.in-Ok.found.items.items ≡ length c.args.loaded.now.methods.items = omega (arith, c.in-Ok.ensures.results.items_len, c.len.ensures, c.requires.few) in
+    are_entries c.args.unknown_zero es (codes_view c.args.loaded.now.tables.items) c.args.loaded.now.methods.items c.in-Ok.found.items.items (harvested c.args.unknown_zero c.args.loaded.now c.in-Ok.found.items.items es s len c.in-Ok.ensures.results.results)
 
-pub returns-clause-one : goal.returns-clause-one
-returns-clause-one g c es s bs =
-    let len : length c.in_ok-found.found.items.items ≡ length c.args.loaded.now.methods.items = omega (arith, c.in_ok-found.ensures.results.items_len, c.len.ensures, c.requires.few) in
-    the_entries c.args.unknown_zero es (codes_view c.args.loaded.now.tables.items) c.args.loaded.now.methods.items c.in_ok-found.found.items.items bs (harvested c.args.unknown_zero c.args.loaded.now c.in_ok-found.found.items.items es s len c.in_ok-found.ensures.results.results)
+pub returns-in-Ok-clause-one : goal.returns-in-Ok-clause-one
+returns-in-Ok-clause-one g c es s bs =
+    let len : length c.in-Ok.found.items.items ≡ length c.args.loaded.now.methods.items = omega (arith, c.in-Ok.ensures.results.items_len, c.len.ensures, c.requires.few) in
+    the_entries c.args.unknown_zero es (codes_view c.args.loaded.now.tables.items) c.args.loaded.now.methods.items c.in-Ok.found.items.items bs (harvested c.args.unknown_zero c.args.loaded.now c.in-Ok.found.items.items es s len c.in-Ok.ensures.results.results)
 
-pub returns-clause-told : goal.returns-clause-told
-returns-clause-told g c es s =
-    let len : length c.in_ok-found.found.items.items ≡ length c.args.loaded.now.methods.items = omega (arith, c.in_ok-found.ensures.results.items_len, c.len.ensures, c.requires.few) in
-    are_told c.args.unknown_zero es (codes_view c.args.loaded.now.tables.items) c.args.loaded.now.methods.items c.in_ok-found.found.items.items (harvested c.args.unknown_zero c.args.loaded.now c.in_ok-found.found.items.items es s len c.in_ok-found.ensures.results.results)
+pub returns-in-Ok-clause-told : goal.returns-in-Ok-clause-told
+returns-in-Ok-clause-told g c es s =
+    let len : length c.in-Ok.found.items.items ≡ length c.args.loaded.now.methods.items = omega (arith, c.in-Ok.ensures.results.items_len, c.len.ensures, c.requires.few) in
+    are_told c.args.unknown_zero es (codes_view c.args.loaded.now.tables.items) c.args.loaded.now.methods.items c.in-Ok.found.items.items (harvested c.args.unknown_zero c.args.loaded.now c.in-Ok.found.items.items es s len c.in-Ok.ensures.results.results)
