@@ -5,6 +5,7 @@ use aml_pool::Gate;
 use std::alloc::{AllocError, Global};
 use std::sync::atomic::Ordering::SeqCst;
 use std::sync::atomic::{AtomicBool, AtomicU64};
+use std::thread;
 
 /// Any checksum is taken.
 pub const ANY_SUM: Options = Options {
@@ -44,8 +45,9 @@ pub fn push_table(
     push_dump(alloc, dumps, address, bytes)
 }
 
-/// How often a held call looks again before the gate counts as stuck and lets each call pass: some 20 seconds.
-const TURNS: u32 = 500_000_000;
+/// How often a held call lets other threads run and looks again, before the gate counts as stuck and lets each call pass:
+/// some 20 seconds.
+const TURNS: u32 = 100_000_000;
 
 /// Keeps its calls. The first call of each group of so many waits until the others of its group have entered.
 #[derive(Drop)]
@@ -92,6 +94,7 @@ impl Watch {
             if self.entered.load(SeqCst) >= entered || self.is_stuck() {
                 return;
             }
+            thread::yield_now();
         }
         self.stuck.store(true, SeqCst);
     }
