@@ -8,6 +8,8 @@ from printing import file_text, hexadecimal, quoted
 MOST_DUMPS, MOST_BYTES = 512, 16_777_216
 HEADER_LENGTH, FADT_LENGTH, MADT_LENGTH = 36, 116, 44
 ROOT, FACS = b"RSD PTR ", b"FACS"
+# The tables that list others, and how many bytes an address has in them.
+LISTS = {b"XSDT": 8, b"RSDT": 4}
 
 # A field of the FADT: its label, its offset, its width.
 FADT_FIELDS = (
@@ -87,10 +89,12 @@ def check_facs(data):
         raise Bad("Short")
 
 
-def addresses_of(xsdt):
-    if (len(xsdt) - HEADER_LENGTH) % 8:
+def addresses_of(table):
+    """The addresses that an XSDT or an RSDT lists."""
+    width = LISTS[table[:4]]
+    if (len(table) - HEADER_LENGTH) % width:
         raise Bad("BadRoot")
-    return [little(xsdt, at, 8) for at in range(HEADER_LENGTH, len(xsdt), 8)]
+    return [little(table, at, width) for at in range(HEADER_LENGTH, len(table), width)]
 
 
 def check_fadt(fadt):
@@ -124,7 +128,7 @@ def check_dump(data, any_sum):
         table = table_of(data)
         if not any_sum and not sums_to_zero(table):
             raise Bad("BadSum")
-        check_content = {b"FACP": check_fadt, b"APIC": records_of, b"XSDT": addresses_of}.get(table[:4])
+        check_content = {b"FACP": check_fadt, b"APIC": records_of, **dict.fromkeys(LISTS, addresses_of)}.get(table[:4])
         if check_content:
             check_content(table)
 
@@ -178,23 +182,27 @@ def indexes_by_address(dumps):
 
 def order_by_chain(dumps):
     at = indexes_by_address(dumps)
-    roots, xsdts, fadts, dsdts, ssdts = (signed(dumps, word) for word in (ROOT, b"XSDT", b"FACP", b"DSDT", b"SSDT"))
+    roots, fadts, dsdts, ssdts = (signed(dumps, word) for word in (ROOT, b"FACP", b"DSDT", b"SSDT"))
     if not roots:
         raise Bad("RootMissing")
-    root = dumps[roots[0]].data
-    if not is_wide(root):
-        raise Bad("OldRoot", roots[0])
-    xsdt = at.get(little(root, 24, 8))
-    if xsdt not in xsdts:
+    signature, address = list_of(dumps[roots[0]].data)
+    tables = at.get(address)
+    if tables not in signed(dumps, signature):
         raise Bad("RootMissing", roots[0])
-    listed = [at[address] for address in addresses_of(table_of(dumps[xsdt].data)) if address in at]
+    listed = [at[address] for address in addresses_of(table_of(dumps[tables].data)) if address in at]
     fadts = [index for index in listed if index in fadts]
     if not fadts:
-        raise Bad("FadtMissing", xsdt)
+        raise Bad("FadtMissing", tables)
     dsdt = at.get(dsdt_address(table_of(dumps[fadts[0]].data)))
     if dsdt not in dsdts:
         raise Bad("NoDsdt")
     return [dsdt, *dict.fromkeys(index for index in listed if index in ssdts)]
+
+
+def list_of(root):
+    """The signature and the address of the table from which a root pointer leads on."""
+    xsdt = little(root, 24, 8) if is_wide(root) else 0
+    return (b"XSDT", xsdt) if xsdt else (b"RSDT", little(root, 16, 4))
 
 
 def dsdt_address(fadt):
@@ -238,9 +246,9 @@ def table_line(dump):
 
 def content_lines(data, owners):
     """What stands below the line of a table. `owners` are the names of the files at addresses."""
-    if data.startswith(b"XSDT"):
+    if data[:4] in LISTS:
         for address in addresses_of(table_of(data)):
-            yield f"Entry {address:016X}" + (f" {file_text(owners[address])}" if address in owners else "")
+            yield f"Entry {address:0{2 * LISTS[data[:4]]}X}" + (f" {file_text(owners[address])}" if address in owners else "")
     elif data.startswith(b"FACP"):
         table = table_of(data)
         for label, at, width in FADT_FIELDS:

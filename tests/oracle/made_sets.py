@@ -9,8 +9,10 @@ from running import Options
 
 ODD_NAMES = ["SSDT", "SSDT10", "SSDT2", 'a"7.dat', "b\\7", "é 03.dat", ".9", "s.11.", "s12\n.aml", "s9000000003.aml"]
 FADT_LENGTHS = [116, 117, 139, 140, 147, 148, 244, 276]
-SIGNATURES = [b"HPET", b"MCFG", b"RSDT", b"PSDT", b"dsdt", b'\x01"\\\xFF']
+SIGNATURES = [b"HPET", b"MCFG", b"RSDX", b"PSDT", b"dsdt", b'\x01"\\\xFF']
 BLOCKS = (b"DSDT", b"SSDT")
+# The files of the tables that list others, and how many bytes an address has in them.
+LISTS = {"xsdt.dat": 8, "rsdt.dat": 4}
 
 
 @dataclass
@@ -38,14 +40,21 @@ def table(chance, signature, content):
     return sealed(signature + bytes(4) + rest + content)
 
 
-def root(chance, revision, xsdt):
+def root(chance, revision, rsdt, xsdt):
     length = chance.choice((36, 36, 40))
-    data = bytearray(ROOT + b"\0TEST  " + bytes([revision]) + chance.randbytes(4))
+    data = bytearray(ROOT + b"\0TEST  " + bytes([revision]) + rsdt.to_bytes(4, "little"))
     data[8] = -sum(data) % 256
     if revision >= 2:
         data += length.to_bytes(4, "little") + xsdt.to_bytes(8, "little") + bytes(4) + chance.randbytes(length - 36)
         data[32] = -sum(data) % 256
     return bytes(data)
+
+
+def table_list(chance, name, entries):
+    """The XSDT or RSDT of this name."""
+    width = LISTS[name]
+    content = b"".join((entry % (1 << 8 * width)).to_bytes(width, "little") for entry in entries)
+    return table(chance, name[:4].upper().encode(), content)
 
 
 def fadt(chance, dsdt):
@@ -156,8 +165,8 @@ class SetMaker:
     def extra_files(self):
         chance = self.chance
         makers = {
-            "rsdp.dat": lambda: root(chance, chance.choice((0, 2)), chance.randrange(1 << 64)),
-            "xsdt.dat": lambda: table(chance, b"XSDT", chance.randbytes(8 * chance.randrange(4))),
+            "rsdp.dat": lambda: root(chance, chance.choice((0, 2)), chance.randrange(1 << 32), chance.randrange(1 << 64)),
+            **{name: lambda name=name: self.stray_list(name) for name in LISTS},
             "facp.dat": lambda: fadt(chance, chance.randrange(1 << 32)),
             "apic.dat": lambda: madt(chance),
             "facs.dat": lambda: facs(chance),
@@ -166,27 +175,43 @@ class SetMaker:
         }
         return {name: make() for name, make in makers.items() if self.happens(0.25)}
 
+    def stray_list(self, name):
+        """An XSDT or RSDT that leads nowhere, now and then with a rest."""
+        entries = [self.chance.randrange(1 << 64) for _ in range(self.chance.randrange(4))]
+        made = table_list(self.chance, name, entries)
+        return sealed(made + b"\0" * self.chance.randrange(1, 8)) if self.happens(0.05) else made
+
     def chained(self, files, blocks):
         """The files with the tables that lead to the blocks, and a map."""
         chance = self.chance
-        names = list(dict.fromkeys([*files, "rsdp.dat", "xsdt.dat", "facp.dat"]))
+        lists = chance.choice((["xsdt.dat"], ["rsdt.dat"], ["xsdt.dat", "rsdt.dat"]))
+        names = list(dict.fromkeys([*files, "rsdp.dat", *lists, "facp.dat"]))
         addresses = {name: page << 12 for name, page in zip(names, chance.sample(range(1, 1 << 20), len(names)))}
         if self.happens(0.08):
             addresses[blocks[0]] += chance.randrange(1 << 32) << 32
-        listed = ["facp.dat", *blocks[1:], *(name for name in files if self.happens(0.3))]
-        if self.happens(0.2):
-            chance.shuffle(listed)
-        entries = [addresses[name] for name in listed if not self.happens(0.01)]
-        if self.happens(0.1):
-            entries.append(chance.randrange(1 << 64))
-        revision, xsdt = 0 if self.happens(0.04) else 2, "facp.dat" if self.happens(0.03) else "xsdt.dat"
         files = {
             **files,
-            "rsdp.dat": root(chance, revision, addresses[xsdt]),
-            "xsdt.dat": table(chance, b"XSDT", b"".join(entry.to_bytes(8, "little") for entry in entries)),
+            "rsdp.dat": self.root_of(lists, addresses),
+            **{name: table_list(chance, name, self.entries(files, blocks, addresses)) for name in lists},
             "facp.dat": fadt(chance, addresses[blocks[0]]),
         }
         return {**files, MAP_NAME: self.map_of(addresses)}
+
+    def entries(self, files, blocks, addresses):
+        """The addresses that a list has: of the FADT, of the SSDTs, of some others."""
+        listed = ["facp.dat", *blocks[1:], *(name for name in files if self.happens(0.3))]
+        if self.happens(0.2):
+            self.chance.shuffle(listed)
+        entries = [addresses[name] for name in listed if not self.happens(0.01)]
+        return entries + [self.chance.randrange(1 << 64)] * self.happens(0.1)
+
+    def root_of(self, lists, addresses):
+        """A root pointer to these lists, now and then of a revision that has no XSDT, or to another table."""
+        chance = self.chance
+        places = {name: addresses["facp.dat" if self.happens(0.03) else name] for name in lists}
+        xsdt, rsdt = places.get("xsdt.dat", 0), places.get("rsdt.dat", chance.choice((0, chance.randrange(1 << 32))))
+        is_old = self.happens(0.04) or not xsdt and self.happens(0.6)
+        return root(chance, chance.randrange(2) if is_old else chance.choice((2, 2, 3)), rsdt, xsdt)
 
     def map_of(self, addresses):
         first, second, *_ = addresses

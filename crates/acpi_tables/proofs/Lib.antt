@@ -1,6 +1,7 @@
 pub mod Numbers
 pub mod FadtFields
 pub mod Entries
+pub mod RsdtEntries
 pub mod Meanings
 pub mod Cuts
 pub mod Places

@@ -5,17 +5,15 @@ use Rattle.acpi_tables.specs.declared.dump.Dump.{Dump}
 use Rattle.acpi_tables.specs.declared.dump.Kind.{Kind}
 use Rattle.acpi_tables.specs.declared.dump.Kind.TheVariants.{Root, Facs, Standard}
 use Rattle.acpi_tables.specs.declared.fault.Bad.{Bad}
-use Rattle.acpi_tables.specs.declared.fault.Bad.TheVariants.{Short, BadSum, BadRoot, OldRoot, RootMissing, FadtMissing, FadtShort, MadtRecord, NoDsdt, TwoDsdts}
+use Rattle.acpi_tables.specs.declared.fault.Bad.TheVariants.{Short, BadSum, BadRoot, RootMissing, FadtMissing, FadtShort, MadtRecord, NoDsdt, TwoDsdts}
 use Rattle.acpi_tables.specs.declared.fault.TableFault.{TableFault}
-use Rattle.acpi_tables.specs.Bytes.{number_at}
 use Rattle.acpi_tables.specs.Header.{table_of}
-use Rattle.acpi_tables.specs.Rsdp.{revision_of}
 use Rattle.acpi_tables.specs.Dumps.{kind_of, HoldsShape, HasSums, HoldsContent, HoldsDump, RefusesRoot, RefusesFacs, RefusesContent, RefusesTable, RefusesBy, RefusesDump}
-use Rattle.acpi_tables.specs.Order.{AreTables, bytes_of, has_signature, signed_at, listed_by, dsdt_address, is_addressed, IsNamed, IsChained, IsOrder, RefusesAll, RefusesPlace, RefusesOrder, RefusesBytes, Refuses}
+use Rattle.acpi_tables.specs.Order.{AreTables, bytes_of, has_signature, signed_at, list_of, listed_by, dsdt_address, is_addressed, IsNamed, IsChained, IsOrder, RefusesAll, RefusesPlace, RefusesOrder, RefusesBytes, Refuses}
 use Rattle.acpi_tables.proofs.Cuts.{whole_not_refused}
 use Rattle.acpi_tables.specs.declared.order.Order.{Order}
 use Rattle.acpi_tables.proofs.Blocks.{are_tables}
-use Rattle.acpi_tables.proofs.Unique.{xsdt_unique, fadt_unique, order_unique}
+use Rattle.acpi_tables.proofs.Unique.{list_unique, fadt_unique, order_unique}
 
 root_taken : (any_sum : Bool) (bytes : List ℕ) (bad : Bad) → HoldsShape Root bytes → (any_sum ≡ false → HasSums Root bytes) → ¬ RefusesRoot any_sum bytes bad
 root_taken any_sum bytes BadRoot shape sums refused = refused shape
@@ -27,7 +25,8 @@ facs_taken bytes Short shape refused = refused shape
 facs_taken bytes _ shape refused = refused
 
 content_taken : (bytes : List ℕ) (bad : Bad) → HoldsContent Standard bytes → ¬ RefusesContent bytes bad
-content_taken bytes BadRoot content refused = refused.1 (content.xsdt refused.0)
+content_taken bytes BadRoot content (inl refused) = refused.1 (content.xsdt refused.0)
+content_taken bytes BadRoot content (inr refused) = refused.1 (content.rsdt refused.0)
 content_taken bytes FadtShort content refused = refused.1 (content.fadt refused.0)
 content_taken bytes Short content refused = whole_not_refused _ (content.madt refused.0) Short refused.1
 content_taken bytes (MadtRecord at) content refused = whole_not_refused _ (content.madt refused.0) (MadtRecord at) refused.1
@@ -69,24 +68,20 @@ module _ (dumps : List Dump) (any_sum : Bool) (dsdt : ℕ) (ssdts : List ℕ) (o
       cc (lacks.none, ap (λ n. signed_at dumps (codes "DSDT") (dsdt_address (table_of (bytes_of dumps n)))) same.1, chain.there)
 
   all_taken : (bad : Bad) → ¬ RefusesAll dumps bad
-  all_taken RootMissing refused = cc ((chained refused.0).to_fadt.to_xsdt.first, refused.1)
+  all_taken RootMissing refused = cc ((chained refused.0).to_fadt.to_list.first, refused.1)
   all_taken NoDsdt refused = no_dsdt refused
   all_taken _ refused = refused
 
   place_taken : (index : ℕ) (bad : Bad) → ¬ RefusesPlace dumps index bad
-  place_taken index OldRoot refused =
-      let to_xsdt = (chained refused.0).to_fadt.to_xsdt in
-      let root = same_Some index _ (sym refused.1 ∙ to_xsdt.first) in
-      absurd (omega (arith, ap (λ n. revision_of (bytes_of dumps n)) root, refused.2, to_xsdt.revised))
   place_taken index RootMissing refused =
-      let to_xsdt = (chained refused.0).to_fadt.to_xsdt in
-      let root = same_Some index _ (sym refused.1 ∙ to_xsdt.first) in
-      cc (refused.3, ap (λ n. signed_at dumps (codes "XSDT") (number_at (bytes_of dumps n) 24 8)) root, to_xsdt.there)
+      let to_list = (chained refused.0).to_fadt.to_list in
+      let root = same_Some index _ (sym refused.1 ∙ to_list.first) in
+      cc (refused.2, ap (λ n. list_of dumps (bytes_of dumps n)) root, to_list.there)
   place_taken index FadtMissing refused =
       let to_fadt = (chained refused.0).to_fadt in
       let lacks = refused.1 in
-      let xsdt = (xsdt_unique dumps _ _ _ _ lacks.to_xsdt to_fadt.to_xsdt).1 in
-      cc (lacks.none, ap (λ n. find (has_signature dumps (codes "FACP")) (listed_by dumps n)) xsdt, to_fadt.first)
+      let list = (list_unique dumps _ _ _ _ lacks.to_list to_fadt.to_list).1 in
+      cc (lacks.none, ap (λ n. find (has_signature dumps (codes "FACP")) (listed_by dumps n)) list, to_fadt.first)
   place_taken index TwoDsdts refused = cc (ap (λ l. slice_get l 1) (named refused.0).only, refused.1)
   place_taken index _ refused = refused
 

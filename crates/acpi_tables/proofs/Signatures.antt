@@ -1,5 +1,6 @@
 -- What a signature tells of a dump.
-use Rattle.std.proofs.Common.{◌≡◌, ◌≢◌, ℕ, ◌<◌, Bool, true, false, List, [], ◌∷◌, ◌++◌, length, drop, get_or, codes, cond, Some, None, position, find, ltb, refl, sym, ap, ◌∙◌, subst, arith, rules, tests, length-append}
+use Rattle.std.proofs.Common.{◌≡◌, ◌≢◌, ℕ, ◌<◌, ◌⊎◌, inl, inr, Bool, true, false, List, [], ◌∷◌, ◌++◌, length, drop, get_or, codes, cond, Some, None, position, find, ltb, refl, sym, ap, ◌∙◌, subst, arith, rules, tests, length-append}
+use Rattle.std.proofs.lemmas.Bool.{true≢false}
 use Rattle.std.proofs.lemmas.Slice.Eq.{starts_is}
 use Rattle.std.proofs.lemmas.Bool.Decides.{Decides-eqb}
 use Rattle.std.proofs.lemmas.List.{get_or-map, get_or_append_left}
@@ -7,13 +8,14 @@ use Rattle.std.proofs.lemmas.Option.{option_and_then_some, same_Some}
 use Rattle.std.proofs.lemmas.List.Quantifiers.{position-Some}
 use Rattle.acpi_tables.specs.declared.dump.Dump.{Dump}
 use Rattle.acpi_tables.specs.declared.dump.Kind.TheVariants.{Root, Facs, Standard}
-use Rattle.acpi_tables.specs.Bytes.{begins_with}
+use Rattle.acpi_tables.specs.Bytes.{begins_with, number_at}
 use Rattle.acpi_tables.specs.Header.{HoldsTable, table_of}
 use Rattle.acpi_tables.specs.Rsdp.{HoldsRoot}
+use Rattle.acpi_tables.specs.Rsdt.{HoldsRsdt}
 use Rattle.acpi_tables.specs.Xsdt.{HoldsEntries}
 use Rattle.acpi_tables.specs.Fadt.{HoldsFadt}
 use Rattle.acpi_tables.specs.Dumps.{kind_of, HoldsShape, HoldsContent, HoldsTables, HoldsDump}
-use Rattle.acpi_tables.specs.Order.{bytes_of, has_signature, dump_at, signed_at, root_of}
+use Rattle.acpi_tables.specs.Order.{bytes_of, has_signature, dump_at, signed_at, root_of, gives_xsdt, list_of}
 use Rattle.acpi_tables.proofs.Places.{bytes_of-past}
 
 begins : (bytes word : List ℕ) → begins_with bytes word ≡ true → bytes ≡ word ++ drop (length word) bytes
@@ -41,6 +43,11 @@ standard bytes word k some root inside four facs is =
 pub xsdt_is_standard : (bytes : List ℕ) → begins_with bytes (codes "XSDT") ≡ true → kind_of bytes ≡ Standard
 xsdt_is_standard bytes is = standard bytes (codes "XSDT") 0 (omega arith) (omega arith) (omega arith) (omega arith) (omega arith) is
 
+pub rsdt_is_standard : (bytes : List ℕ) → begins_with bytes (codes "RSDT") ≡ true → kind_of bytes ≡ Standard
+rsdt_is_standard bytes is =
+    ap (λ b. cond b Root (cond (begins_with bytes (codes "FACS")) Facs Standard)) (begins_only bytes (codes "RSDT") (codes "RSD PTR ") 3 (omega arith) (omega arith) (omega arith) is)
+    ∙ ap (λ b. cond b Facs Standard) (begins_only bytes (codes "RSDT") (codes "FACS") 0 (omega arith) (omega arith) (omega arith) is)
+
 pub fadt_is_standard : (bytes : List ℕ) → begins_with bytes (codes "FACP") ≡ true → kind_of bytes ≡ Standard
 fadt_is_standard bytes is = standard bytes (codes "FACP") 3 (omega arith) (omega arith) (omega arith) (omega arith) (omega arith) is
 
@@ -64,6 +71,26 @@ signed_inside dumps word index some is = by_place (ltb index (length dumps)) ref
         let empty = sym none ∙ begins (bytes_of dumps index) word is in
         absurd (omega (arith, ap length empty, length-append word (drop (length word) (bytes_of dumps index))))
 
+if_signed : (b : Bool) (i index : ℕ) → cond b (Some i) None ≡ Some index → (b ≡ true) × (i ≡ index)
+if_signed true i index e = (refl, same_Some i index e)
+if_signed false i index e = cc
+
+pub signed_at-signed : (dumps : List Dump) (word : List ℕ) (address index : ℕ) → signed_at dumps word address ≡ Some index → has_signature dumps word index ≡ true
+signed_at-signed dumps word address index e =
+    option_and_then_some (λ i. cond (has_signature dumps word i) (Some i) None) (dump_at dumps address) index e
+    (λ i there some. let h = if_signed (has_signature dumps word i) i index some in ap (has_signature dumps word) (sym h.1) ∙ h.0)
+
+-- the list that a root leads to is an XSDT or an RSDT
+list_by : (dumps : List Dump) (root : List ℕ) (index : ℕ) (b : Bool)
+    → cond b (signed_at dumps (codes "XSDT") (number_at root 24 8)) (signed_at dumps (codes "RSDT") (number_at root 16 4)) ≡ Some index
+    → (has_signature dumps (codes "XSDT") index ≡ true) ⊎ (has_signature dumps (codes "RSDT") index ≡ true)
+list_by dumps root index true e = inl (signed_at-signed dumps (codes "XSDT") (number_at root 24 8) index e)
+list_by dumps root index false e = inr (signed_at-signed dumps (codes "RSDT") (number_at root 16 4) index e)
+
+list_signed : (dumps : List Dump) (root : List ℕ) (index : ℕ) → list_of dumps root ≡ Some index
+    → (has_signature dumps (codes "XSDT") index ≡ true) ⊎ (has_signature dumps (codes "RSDT") index ≡ true)
+list_signed dumps root index e = list_by dumps root index (gives_xsdt root) e
+
 module _ (dumps : List Dump) (each : (index : ℕ) → index < length dumps → HoldsDump true (bytes_of dumps index)) where
   held : (word : List ℕ) (index : ℕ) → 0 < length word → has_signature dumps word index ≡ true → HoldsDump true (bytes_of dumps index)
   held word index some is = each index (signed_inside dumps word index some is)
@@ -78,6 +105,29 @@ module _ (dumps : List Dump) (each : (index : ℕ) → index < length dumps → 
   entries_hold index is =
       let tables : HoldsTables (bytes_of dumps index) = subst (λ kind. HoldsContent kind (bytes_of dumps index)) (xsdt_is_standard _ is) (held _ index (omega arith) is).content in
       tables.xsdt is
+
+  pub rsdt_holds : (index : ℕ) → has_signature dumps (codes "RSDT") index ≡ true → HoldsTable (bytes_of dumps index)
+  rsdt_holds index is = subst (λ kind. HoldsShape kind (bytes_of dumps index)) (rsdt_is_standard _ is) (held _ index (omega arith) is).shape
+
+  pub addresses_hold : (index : ℕ) → has_signature dumps (codes "RSDT") index ≡ true → HoldsRsdt (table_of (bytes_of dumps index))
+  addresses_hold index is =
+      let tables : HoldsTables (bytes_of dumps index) = subst (λ kind. HoldsContent kind (bytes_of dumps index)) (rsdt_is_standard _ is) (held _ index (omega arith) is).content in
+      tables.rsdt is
+
+  -- the list that a root leads to
+  pub list_holds : (root : List ℕ) (index : ℕ) → list_of dumps root ≡ Some index → HoldsTable (bytes_of dumps index)
+  list_holds root index e = by_list (list_signed dumps root index e)
+    where
+      by_list : (has_signature dumps (codes "XSDT") index ≡ true) ⊎ (has_signature dumps (codes "RSDT") index ≡ true) → HoldsTable (bytes_of dumps index)
+      by_list (inl is) = xsdt_holds index is
+      by_list (inr is) = rsdt_holds index is
+
+  pub list_addresses_hold : (root : List ℕ) (index : ℕ) → list_of dumps root ≡ Some index → has_signature dumps (codes "XSDT") index ≡ false → HoldsRsdt (table_of (bytes_of dumps index))
+  list_addresses_hold root index e other = by_list (list_signed dumps root index e)
+    where
+      by_list : (has_signature dumps (codes "XSDT") index ≡ true) ⊎ (has_signature dumps (codes "RSDT") index ≡ true) → HoldsRsdt (table_of (bytes_of dumps index))
+      by_list (inl is) = absurd (true≢false (sym is ∙ other))
+      by_list (inr is) = addresses_hold index is
 
   pub fadt_holds : (index : ℕ) → has_signature dumps (codes "FACP") index ≡ true → HoldsTable (bytes_of dumps index)
   fadt_holds index is = subst (λ kind. HoldsShape kind (bytes_of dumps index)) (fadt_is_standard _ is) (held _ index (omega arith) is).shape
@@ -98,15 +148,6 @@ first_of (dump ∷ dumps) test index e =
 pub root_of-signed : (dumps : List Dump) (index : ℕ) → root_of dumps ≡ Some index → has_signature dumps (codes "RSD PTR ") index ≡ true
 unfolding root_of
 root_of-signed dumps index e = first_of dumps (λ bytes. begins_with bytes (codes "RSD PTR ")) index e
-
-if_signed : (b : Bool) (i index : ℕ) → cond b (Some i) None ≡ Some index → (b ≡ true) × (i ≡ index)
-if_signed true i index e = (refl, same_Some i index e)
-if_signed false i index e = cc
-
-pub signed_at-signed : (dumps : List Dump) (word : List ℕ) (address index : ℕ) → signed_at dumps word address ≡ Some index → has_signature dumps word index ≡ true
-signed_at-signed dumps word address index e =
-    option_and_then_some (λ i. cond (has_signature dumps word i) (Some i) None) (dump_at dumps address) index e
-    (λ i there some. let h = if_signed (has_signature dumps word i) i index some in ap (has_signature dumps word) (sym h.1) ∙ h.0)
 
 found_or_later : (test : ℕ → Bool) (xs : List ℕ) (y x : ℕ) (b : Bool) → test y ≡ b → (find test xs ≡ Some x → test x ≡ true) → cond b (Some y) (find test xs) ≡ Some x → test x ≡ true
 found_or_later test xs y x true is later e = ap test (sym (same_Some y x e)) ∙ is

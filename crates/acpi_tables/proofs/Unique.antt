@@ -12,9 +12,8 @@ use Rattle.std.proofs.lemmas.List.Sorted.{sorted_far, sum_by-IsPermutation}
 use Rattle.std.proofs.lemmas.List.Sums.{sum_by-cons}
 use Rattle.std.proofs.lemmas.Option.{same_Some}
 use Rattle.acpi_tables.specs.declared.dump.Dump.{Dump}
-use Rattle.acpi_tables.specs.Bytes.{number_at}
 use Rattle.acpi_tables.specs.Header.{table_of}
-use Rattle.acpi_tables.specs.Order.{rank_cmp, bytes_of, has_signature, signed_at, listed_by, dsdt_address, each_once, is_addressed, IsNamed, IsChained, IsOrder, LeadsToXsdt, LeadsToFadt}
+use Rattle.acpi_tables.specs.Order.{rank_cmp, bytes_of, has_signature, signed_at, list_of, listed_by, dsdt_address, each_once, is_addressed, IsNamed, IsChained, IsOrder, LeadsToList, LeadsToFadt}
 use Rattle.acpi_tables.proofs.Ranks.{ranks_below, rank_order, rank_total}
 
 -- how often a number stands in a list
@@ -90,15 +89,15 @@ named_unique dumps d d' s s' a b = (
 )
 
 -- each step of the chain has one end
-pub xsdt_unique : (dumps : List Dump) (r r' x x' : ℕ) → LeadsToXsdt dumps r x → LeadsToXsdt dumps r' x' → (r ≡ r') × (x ≡ x')
-xsdt_unique dumps r r' x x' a b =
+pub list_unique : (dumps : List Dump) (r r' x x' : ℕ) → LeadsToList dumps r x → LeadsToList dumps r' x' → (r ≡ r') × (x ≡ x')
+list_unique dumps r r' x x' a b =
     let root = same_Some r r' (sym a.first ∙ b.first) in
-    (root, same_Some x x' (sym a.there ∙ ap (λ n. signed_at dumps (codes "XSDT") (number_at (bytes_of dumps n) 24 8)) root ∙ b.there))
+    (root, same_Some x x' (sym a.there ∙ ap (λ n. list_of dumps (bytes_of dumps n)) root ∙ b.there))
 
 pub fadt_unique : (dumps : List Dump) (r r' x x' f f' : ℕ) → LeadsToFadt dumps r x f → LeadsToFadt dumps r' x' f' → (x ≡ x') × (f ≡ f')
 fadt_unique dumps r r' x x' f f' a b =
-    let xsdt = (xsdt_unique dumps r r' x x' a.to_xsdt b.to_xsdt).1 in
-    (xsdt, same_Some f f' (sym a.first ∙ ap (λ n. find (has_signature dumps (codes "FACP")) (listed_by dumps n)) xsdt ∙ b.first))
+    let list = (list_unique dumps r r' x x' a.to_list b.to_list).1 in
+    (list, same_Some f f' (sym a.first ∙ ap (λ n. find (has_signature dumps (codes "FACP")) (listed_by dumps n)) list ∙ b.first))
 
 chained_unique : (dumps : List Dump) (d d' : ℕ) (s s' : List ℕ) → IsChained dumps d s → IsChained dumps d' s' → (d ≡ d') × (s ≡ s')
 chained_unique dumps d d' s s' a b =

@@ -1,6 +1,7 @@
 pub mod Bytes
 pub mod Header
 pub mod Rsdp
+pub mod Rsdt
 pub mod Xsdt
 pub mod Fadt
 pub mod Madt

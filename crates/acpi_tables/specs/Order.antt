@@ -7,11 +7,12 @@ use Rattle.std.specs.Cmp.Lexicographic.{slice_cmp}
 use Rattle.acpi_tables.specs.Bytes.{begins_with, number_at}
 use Rattle.acpi_tables.specs.Header.{HoldsTable, table_of}
 use Rattle.acpi_tables.specs.Rsdp.{revision_of}
+use Rattle.acpi_tables.specs.Rsdt.{rsdt_entries}
 use Rattle.acpi_tables.specs.Xsdt.{entries_of}
 use Rattle.acpi_tables.specs.Dumps.{HoldsDump, RefusesDump}
 use Rattle.acpi_tables.specs.declared.dump.Dump.{Dump}
 use Rattle.acpi_tables.specs.declared.fault.Bad.{Bad}
-use Rattle.acpi_tables.specs.declared.fault.Bad.TheVariants.{TooManyTables, OldRoot, RootMissing, FadtMissing, NoDsdt, TwoDsdts}
+use Rattle.acpi_tables.specs.declared.fault.Bad.TheVariants.{TooManyTables, RootMissing, FadtMissing, NoDsdt, TwoDsdts}
 use Rattle.acpi_tables.specs.declared.fault.TableFault.{TableFault}
 
 -- the bytes of the dump at an index, and its name
@@ -65,7 +66,7 @@ pub record IsNamed (dumps : List Dump) (dsdt : ℕ) (ssdts : List ℕ) : Type 0 
   pub all : IsPermutation (indexes_with dumps (codes "SSDT")) ssdts
   pub sorted : IsSorted (rank_cmp dumps) ssdts
 
--- Where a dump has an address, the chain from the RSDP decides (sections 5.2.5, 5.2.8 and 5.2.9).
+-- Where a dump has an address, the chain from the RSDP decides (sections 5.2.5, 5.2.7, 5.2.8 and 5.2.9).
 
 abbrev pub is_addressed : List Dump → Bool
 is_addressed dumps = list_any (λ dump. is_some dump.address) dumps
@@ -89,20 +90,31 @@ signed_at dumps signature address = option_and_then (λ index. if has_signature 
 unfoldable pub root_of : List Dump → Option ℕ
 root_of dumps = position (λ dump. begins_with dump.bytes.items (codes "RSD PTR ")) dumps
 
--- The first RSDP, of revision 2 or later, gives the address of the XSDT.
-pub record LeadsToXsdt (dumps : List Dump) (root xsdt : ℕ) : Type 0 where
-  pub first : root_of dumps ≡ Some root
-  pub revised : 2 ≤ revision_of (bytes_of dumps root)
-  pub there : signed_at dumps (codes "XSDT") (number_at (bytes_of dumps root) 24 8) ≡ Some xsdt
+-- whether an RSDP gives the address of an XSDT: from revision 2 on, where it isn't 0
+abbrev pub gives_xsdt : List ℕ → Bool
+gives_xsdt root = nat_le 2 (revision_of root) && not (nat_eq (number_at root 24 8) 0)
 
--- the dumps that an XSDT lists, in its order; an entry with no dump is skipped
+-- the list of the tables that an RSDP leads to: the XSDT where it gives that address, else the RSDT
+abbrev pub list_of : List Dump → List ℕ → Option ℕ
+list_of dumps root = if gives_xsdt root then signed_at dumps (codes "XSDT") (number_at root 24 8) else signed_at dumps (codes "RSDT") (number_at root 16 4)
+
+-- The first RSDP leads to the list.
+pub record LeadsToList (dumps : List Dump) (root list : ℕ) : Type 0 where
+  pub first : root_of dumps ≡ Some root
+  pub there : list_of dumps (bytes_of dumps root) ≡ Some list
+
+-- the addresses in such a list
+abbrev pub addresses_in : List ℕ → List ℕ
+addresses_in list = if begins_with list (codes "XSDT") then entries_of (table_of list) else rsdt_entries (table_of list)
+
+-- the dumps that it lists, in its order; an entry with no dump is skipped
 abbrev pub listed_by : List Dump → ℕ → List ℕ
-listed_by dumps xsdt = filter_map (dump_at dumps) (entries_of (table_of (bytes_of dumps xsdt)))
+listed_by dumps list = filter_map (dump_at dumps) (addresses_in (bytes_of dumps list))
 
 -- The first of these that is a FADT.
-pub record LeadsToFadt (dumps : List Dump) (root xsdt fadt : ℕ) : Type 0 where
-  pub to_xsdt : LeadsToXsdt dumps root xsdt
-  pub first : find (has_signature dumps (codes "FACP")) (listed_by dumps xsdt) ≡ Some fadt
+pub record LeadsToFadt (dumps : List Dump) (root list fadt : ℕ) : Type 0 where
+  pub to_list : LeadsToList dumps root list
+  pub first : find (has_signature dumps (codes "FACP")) (listed_by dumps list) ≡ Some fadt
 
 -- the DSDT's address in a FADT: X_DSDT where the table reaches to its end and it isn't 0, else DSDT
 abbrev pub dsdt_address : List ℕ → ℕ
@@ -113,14 +125,14 @@ abbrev pub each_once : List ℕ → List ℕ
 each_once [] = []
 each_once (x ∷ xs) = x ∷ filter (λ y. not (nat_eq y x)) (each_once xs)
 
--- The FADT gives the address of the DSDT, and the SSDTs are those that the XSDT lists, each once.
+-- The FADT gives the address of the DSDT, and the SSDTs are those that the list has, each once.
 pub record IsChained (dumps : List Dump) (dsdt : ℕ) (ssdts : List ℕ) : Type 0 where
   pub root : ℕ
-  pub xsdt : ℕ
+  pub list : ℕ
   pub fadt : ℕ
-  pub to_fadt : LeadsToFadt dumps root xsdt fadt
+  pub to_fadt : LeadsToFadt dumps root list fadt
   pub there : signed_at dumps (codes "DSDT") (dsdt_address (table_of (bytes_of dumps fadt))) ≡ Some dsdt
-  pub listed : ssdts ≡ each_once (filter (has_signature dumps (codes "SSDT")) (listed_by dumps xsdt))
+  pub listed : ssdts ≡ each_once (filter (has_signature dumps (codes "SSDT")) (listed_by dumps list))
 
 -- Each dump is taken by itself.
 abbrev pub AreTaken : List Dump → Bool → Type 0
@@ -137,17 +149,17 @@ abbrev pub AreTables : List Dump → List ℕ → Type 0
 AreTables dumps [] = ⊤
 AreTables dumps (index ∷ indexes) = HoldsTable (bytes_of dumps index) × (length (bytes_of dumps index) ≤ 16777216) × AreTables dumps indexes
 
--- The chain ends at an XSDT that lists no FADT, or at a FADT whose address leads to no DSDT.
-pub record LacksFadt (dumps : List Dump) (xsdt : ℕ) : Type 0 where
+-- The chain ends at a list without a FADT, or at a FADT whose address leads to no DSDT.
+pub record LacksFadt (dumps : List Dump) (list : ℕ) : Type 0 where
   pub root : ℕ
-  pub to_xsdt : LeadsToXsdt dumps root xsdt
-  pub none : find (has_signature dumps (codes "FACP")) (listed_by dumps xsdt) ≡ None
+  pub to_list : LeadsToList dumps root list
+  pub none : find (has_signature dumps (codes "FACP")) (listed_by dumps list) ≡ None
 
 pub record LacksDsdt (dumps : List Dump) : Type 0 where
   pub root : ℕ
-  pub xsdt : ℕ
+  pub list : ℕ
   pub fadt : ℕ
-  pub to_fadt : LeadsToFadt dumps root xsdt fadt
+  pub to_fadt : LeadsToFadt dumps root list fadt
   pub none : signed_at dumps (codes "DSDT") (dsdt_address (table_of (bytes_of dumps fadt))) ≡ None
 
 -- Why there is no order of dumps that are all taken: what a refusal says where it names no dump, and of the place of the dump that it names.
@@ -159,10 +171,7 @@ RefusesAll dumps NoDsdt =
 RefusesAll dumps _ = ⊥
 
 abbrev pub RefusesPlace : List Dump → ℕ → Bad → Type 0
-RefusesPlace dumps index OldRoot = (is_addressed dumps ≡ true) × (root_of dumps ≡ Some index) × (revision_of (bytes_of dumps index) < 2)
-RefusesPlace dumps index RootMissing =
-    (is_addressed dumps ≡ true) × (root_of dumps ≡ Some index) × (2 ≤ revision_of (bytes_of dumps index))
-    × (signed_at dumps (codes "XSDT") (number_at (bytes_of dumps index) 24 8) ≡ None)
+RefusesPlace dumps index RootMissing = (is_addressed dumps ≡ true) × (root_of dumps ≡ Some index) × (list_of dumps (bytes_of dumps index) ≡ None)
 RefusesPlace dumps index FadtMissing = (is_addressed dumps ≡ true) × LacksFadt dumps index
 RefusesPlace dumps index TwoDsdts = (is_addressed dumps ≡ false) × (slice_get (indexes_with dumps (codes "DSDT")) 1 ≡ Some index)
 RefusesPlace dumps index _ = ⊥

@@ -1,11 +1,12 @@
-//! The order of the definition blocks where addresses lead from the RSDP over the XSDT and the FADT to the DSDT.
-ghost use Rattle.std.specs.Prelude.{◌≡◌, ◌⊎◌, ◌<◌, ◌≤◌, ℕ, List, None, true, length, filter, find, codes, MatchOption, IfOk, IfErr};
-ghost use Rattle.acpi_tables.specs.Bytes.{number_at};
+//! The order of the definition blocks where addresses lead from the RSDP over the XSDT or RSDT and the FADT to a DSDT.
+ghost use Rattle.std.specs.Prelude.{◌≡◌, ◌⊎◌, ◌<◌, ℕ, List, None, true, false, length, filter, filter_map, find, codes, IfOk, IfErr};
+ghost use Rattle.acpi_tables.specs.Bytes.{begins_with as has_front};
 ghost use Rattle.acpi_tables.specs.Header.{HoldsTable, table_of};
-ghost use Rattle.acpi_tables.specs.Rsdp.{HoldsRoot, revision_of};
-ghost use Rattle.acpi_tables.specs.Xsdt.{HoldsEntries};
+ghost use Rattle.acpi_tables.specs.Rsdp.{HoldsRoot};
+ghost use Rattle.acpi_tables.specs.Rsdt.{HoldsRsdt, rsdt_entries};
+ghost use Rattle.acpi_tables.specs.Xsdt.{HoldsEntries, entries_of};
 ghost use Rattle.acpi_tables.specs.Fadt.{HoldsFadt};
-ghost use Rattle.acpi_tables.specs.Order.{AreTaken, IsChained, RefusesOrder, bytes_of, dump_at, signed_at, root_of, listed_by, dsdt_address, each_once, has_signature, is_addressed};
+ghost use Rattle.acpi_tables.specs.Order.{AreTaken, IsChained, RefusesOrder, bytes_of, dump_at, signed_at, root_of, gives_xsdt, list_of, listed_by, dsdt_address, each_once, has_signature, is_addressed};
 ghost use Rattle.acpi_tables.specs.declared.fault.Bad.TheVariants.{NoMemory};
 
 use crate::bytes::{begins_with, u8_at, u32_at, u64_at};
@@ -14,6 +15,7 @@ use crate::fadt::Fadt;
 use crate::fault::{Bad, TableFault};
 use crate::order::Order;
 use crate::rsdp::RSDP_SIGNATURE;
+use crate::rsdt::Rsdt;
 use crate::xsdt::Xsdt;
 use std::alloc::{AllocError, Global};
 
@@ -28,15 +30,12 @@ pub(crate) fn order_by_chain(alloc: Global, dumps: &[Dump]) -> Result<Order, Tab
     let Some(root) = root_of(dumps) else {
         return Err(TableFault::of_set(Bad::RootMissing));
     };
-    let Some(address) = xsdt_address(bytes_of(dumps, root)) else {
-        return Err(TableFault::of_dump(root, Bad::OldRoot));
-    };
-    let Some(xsdt) = signed_at(dumps, b"XSDT", address) else {
+    let Some(list) = list_of(dumps, bytes_of(dumps, root)) else {
         return Err(TableFault::of_dump(root, Bad::RootMissing));
     };
-    let listed = listed_by(alloc, dumps, xsdt)?;
+    let listed = listed_by(alloc, dumps, list)?;
     let Some(fadt) = first_with(dumps, &listed, b"FACP") else {
-        return Err(TableFault::of_dump(xsdt, Bad::FadtMissing));
+        return Err(TableFault::of_dump(list, Bad::FadtMissing));
     };
     let Some(dsdt) = signed_at(
         dumps,
@@ -71,16 +70,23 @@ fn root_of(dumps: &[Dump]) -> Option<usize>
         .position(|dump| dump.has_signature(&RSDP_SIGNATURE))
 }
 
-/// The XSDT's address in an RSDP, which it has from revision 2 on.
-fn xsdt_address(root: &[u8]) -> Option<u64>
+/// Whether an RSDP gives the address of an XSDT.
+fn gives_xsdt(root: &[u8]) -> bool
     requires { HoldsRoot root.now }
-    ensures { MatchOption result (revision_of root.now < 2) (λ address. (2 ≤ revision_of root.now) ×
-        (address ≡ number_at root.now 24 8)) }
+    ensures { result ≡ gives_xsdt root.now }
 {
-    if u8_at(root, 15) < 2 {
-        None
+    u8_at(root, 15) >= 2 && u64_at(root, 24) != 0
+}
+
+/// The XSDT that an RSDP leads to, or else the RSDT.
+fn list_of(dumps: &[Dump], root: &[u8]) -> Option<usize>
+    requires { HoldsRoot root.now }
+    ensures { result ≡ list_of dumps.now root.now }
+{
+    if gives_xsdt(root) {
+        signed_at(dumps, b"XSDT", u64_at(root, 24))
     } else {
-        Some(u64_at(root, 24))
+        signed_at(dumps, b"RSDT", u64::from(u32_at(root, 16)))
     }
 }
 
@@ -104,16 +110,44 @@ fn signed_at(dumps: &[Dump], signature: &[u8], address: u64) -> Option<usize>
     }
 }
 
-/// The dumps that an XSDT lists, in its order.
-fn listed_by(alloc: Global, dumps: &[Dump], xsdt: usize) -> Result<Vec<usize>, AllocError>
-    requires table { HoldsTable (bytes_of dumps.now xsdt) }
-    requires entries { HoldsEntries (table_of (bytes_of dumps.now xsdt)) }
-    ensures { IfOk result (λ listed. listed.items ≡ listed_by dumps.now xsdt) }
+/// The dumps that an XSDT or an RSDT lists, in its order.
+fn listed_by(alloc: Global, dumps: &[Dump], list: usize) -> Result<Vec<usize>, AllocError>
+    requires table { HoldsTable (bytes_of dumps.now list) }
+    requires xsdt { has_front (bytes_of dumps.now list) (codes "XSDT") ≡ true
+        → HoldsEntries (table_of (bytes_of dumps.now list)) }
+    requires rsdt { has_front (bytes_of dumps.now list) (codes "XSDT") ≡ false
+        → HoldsRsdt (table_of (bytes_of dumps.now list)) }
+    ensures { IfOk result (λ listed. listed.items ≡ listed_by dumps.now list) }
 {
-    let table = table_of(bytes_of(dumps, xsdt));
+    let bytes = bytes_of(dumps, list);
+    let table = table_of(bytes);
+    if begins_with(bytes, b"XSDT") {
+        listed_by_xsdt(alloc, dumps, table)
+    } else {
+        listed_by_rsdt(alloc, dumps, table)
+    }
+}
+
+fn listed_by_xsdt(alloc: Global, dumps: &[Dump], table: &[u8]) -> Result<Vec<usize>, AllocError>
+    requires { HoldsEntries table.now }
+    ensures { IfOk result (λ listed. listed.items ≡ filter_map (dump_at dumps.now) (entries_of table.now)) }
+{
     let mut listed = Vec::new(alloc);
     for index in 0..Xsdt::entry_count(table) {
         if let Some(dump) = dump_at(dumps, u64_at(table, 36 + 8 * index)) {
+            listed.push(dump)?;
+        }
+    }
+    Ok(listed)
+}
+
+fn listed_by_rsdt(alloc: Global, dumps: &[Dump], table: &[u8]) -> Result<Vec<usize>, AllocError>
+    requires { HoldsRsdt table.now }
+    ensures { IfOk result (λ listed. listed.items ≡ filter_map (dump_at dumps.now) (rsdt_entries table.now)) }
+{
+    let mut listed = Vec::new(alloc);
+    for index in 0..Rsdt::entry_count(table) {
+        if let Some(dump) = dump_at(dumps, u64::from(u32_at(table, 36 + 4 * index))) {
             listed.push(dump)?;
         }
     }

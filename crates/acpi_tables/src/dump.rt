@@ -11,6 +11,7 @@ use crate::fault::Bad;
 use crate::header::Header;
 use crate::madt::Madt;
 use crate::rsdp::{RSDP_SIGNATURE, Rsdp};
+use crate::rsdt::Rsdt;
 use crate::xsdt::Xsdt;
 
 /// The greatest number of bytes of a dump.
@@ -147,6 +148,9 @@ fn check_content(bytes: &[u8]) -> Result<(), Bad>
         Madt::check(table)?;
     }
     if begins_with(bytes, b"XSDT") && !Xsdt::holds_entries(table) {
+        return Err(Bad::BadRoot);
+    }
+    if begins_with(bytes, b"RSDT") && !Rsdt::holds_entries(table) {
         return Err(Bad::BadRoot);
     }
     Ok(())

@@ -20,16 +20,13 @@ pub enum Bad {
     /// A checksum that isn't 0.
     #[error("BadSum")]
     BadSum,
-    /// An RSDP or an XSDT that isn't well formed.
+    /// An RSDP, an XSDT or an RSDT that isn't well formed.
     #[error("BadRoot")]
     BadRoot,
-    /// An RSDP of a revision below 2, which has no XSDT.
-    #[error("OldRoot")]
-    OldRoot,
-    /// No RSDP, or no XSDT at the address that the RSDP gives.
+    /// No RSDP, or no XSDT, or RSDT, at the address that the RSDP gives.
     #[error("RootMissing")]
     RootMissing,
-    /// An XSDT that leads to no FADT.
+    /// An XSDT or an RSDT that leads to no FADT.
     #[error("FadtMissing")]
     FadtMissing,
     /// A FADT of less than 116 bytes.

@@ -12,6 +12,7 @@ mod madt;
 mod names;
 mod order;
 mod rsdp;
+mod rsdt;
 mod xsdt;
 
 pub use bytes::{begins_with, sum, u32_at};
@@ -24,4 +25,5 @@ pub use header::Header;
 pub use madt::{Madt, MadtRecord, MadtView};
 pub use order::{MAX_DUMPS, Order, load_order};
 pub use rsdp::{RSDP_SIGNATURE, Rsdp, Wide};
+pub use rsdt::Rsdt;
 pub use xsdt::Xsdt;

@@ -27,8 +27,8 @@ ghost use Rattle.acpi_tables.specs.Order.{AreTables, AreTaken, IsOrder, Refuses,
 ///
 /// Where no dump has an address, the DSDT is the only dump with its signature, and the SSDTs go by the decimal number
 /// that ends the stem of their name, then by name as bytes, then by index. Where a dump has an address, the chain from
-/// the RSDP over the XSDT and the FADT decides (ACPI 6.5, sections 5.2.5, 5.2.8 and 5.2.9). Each dump of the order is a
-/// table with its header.
+/// the RSDP over the XSDT, or the RSDT, and the FADT decides (ACPI 6.5, sections 5.2.5, 5.2.7, 5.2.8 and 5.2.9). Each
+/// dump of the order is a table with its header.
 ///
 /// # Errors
 /// The first fault that is met, in this order: `Bad::TooManyTables` for more than 512 dumps; what the first dump that

@@ -5,6 +5,7 @@ use Rattle.acpi_tables.specs.Header.{table_of, header_of}
 use Rattle.acpi_tables.specs.Rsdp.{revision_of, rsdp_of}
 use Rattle.acpi_tables.specs.Fadt.{Field, fadt_fields, field_bytes}
 use Rattle.acpi_tables.specs.Madt.{records_of, meaning_of}
+use Rattle.acpi_tables.specs.Rsdt.{rsdt_entries}
 use Rattle.acpi_tables.specs.Xsdt.{entries_of}
 use Rattle.acpi_tables.specs.Dumps.{kind_of}
 use Rattle.acpi_tables.specs.Order.{dump_at, name_of}
@@ -93,7 +94,7 @@ owner_text (Some name) = word " " ++ quoted name
 abbrev pub owner_of : List Dump → ℕ → Option (List ℕ)
 owner_of dumps address = option_map (name_of dumps) (dump_at dumps address)
 
--- an address that the XSDT lists
+-- an address that an XSDT lists
 unfoldable pub entry_text : List Dump → ℕ → List ℕ
 entry_text dumps address = (word "Entry " ++ hex16 address) ++ owner_text (owner_of dumps address)
 
@@ -102,6 +103,16 @@ entry_line dumps address = below (entry_text dumps address)
 
 unfoldable pub entry_lines : List Dump → List ℕ → List ℕ
 entry_lines dumps table = flat_map (entry_line dumps) (entries_of table)
+
+-- an address that an RSDT lists
+unfoldable pub rsdt_entry_text : List Dump → ℕ → List ℕ
+rsdt_entry_text dumps address = (word "Entry " ++ hex8 address) ++ owner_text (owner_of dumps address)
+
+unfoldable pub rsdt_entry_line : List Dump → ℕ → List ℕ
+rsdt_entry_line dumps address = below (rsdt_entry_text dumps address)
+
+unfoldable pub rsdt_entry_lines : List Dump → List ℕ → List ℕ
+rsdt_entry_lines dumps table = flat_map (rsdt_entry_line dumps) (rsdt_entries table)
 
 -- a field of the FADT, the highest byte of its value first
 unfoldable pub value_text : List ℕ → List ℕ
@@ -162,9 +173,14 @@ abbrev pub lines_if : Bool → List ℕ → List ℕ
 lines_if true lines = lines
 lines_if false lines = []
 
+unfoldable pub list_lines : List Dump → List ℕ → List ℕ
+list_lines dumps bytes =
+    lines_if (begins_with bytes (codes "XSDT")) (entry_lines dumps (table_of bytes))
+    ++ lines_if (begins_with bytes (codes "RSDT")) (rsdt_entry_lines dumps (table_of bytes))
+
 unfoldable pub table_lines : List Dump → List ℕ → List ℕ
 table_lines dumps bytes =
-    lines_if (begins_with bytes (codes "XSDT")) (entry_lines dumps (table_of bytes))
+    list_lines dumps bytes
     ++ lines_if (begins_with bytes (codes "FACP")) (fadt_lines (table_of bytes))
     ++ lines_if (begins_with bytes (codes "APIC")) (madt_lines (table_of bytes))
 

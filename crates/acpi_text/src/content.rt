@@ -1,13 +1,14 @@
-//! The lines below a table: the addresses of an XSDT, and the fields of a FADT.
+//! The lines below a table: the addresses of an XSDT or an RSDT, and the fields of a FADT.
 ghost use Rattle.std.specs.Prelude.{◌≡◌, option_map};
 ghost use Rattle.text_writer.specs.Prints.{Prints};
 ghost use Rattle.acpi_tables.specs.Order.{name_of};
 ghost use Rattle.acpi_tables.specs.Fadt.{field_view};
+ghost use Rattle.acpi_tables.specs.Rsdt.{HoldsRsdt};
 ghost use Rattle.acpi_tables.specs.Xsdt.{HoldsEntries};
-ghost use Rattle.acpi_text.specs.Dumps.{owner_text, owner_of, entry_text, entry_line, entry_lines, value_text, below, labelled, field_line, fadt_lines};
+ghost use Rattle.acpi_text.specs.Dumps.{owner_text, owner_of, entry_text, entry_line, entry_lines, rsdt_entry_text, rsdt_entry_line, rsdt_entry_lines, value_text, below, labelled, field_line, fadt_lines};
 
-use crate::labels::{put_hex16, put_quoted};
-use acpi_tables::{Dump, TableField, Xsdt, dump_at};
+use crate::labels::{put_hex8, put_hex16, put_quoted};
+use acpi_tables::{Dump, Rsdt, TableField, Xsdt, dump_at};
 use std::io::Write;
 use text_writer::{Out, print_hex2};
 
@@ -64,6 +65,33 @@ pub fn print_entries<W: Write>(out: &mut Out<'_, W>, dumps: &[Dump], table: &[u8
 {
     for index in 0..Xsdt::entry_count(table) {
         print_entry(out, dumps, Xsdt::entry_at(table, index));
+    }
+}
+
+#[tactic(auto, using(text_writer::proofs::PrintLaws::straight), unfolding(crate::specs::Dumps::rsdt_entry_text))]
+fn print_rsdt_entry_text<W: Write>(out: &mut Out<'_, W>, dumps: &[Dump], address: u32)
+    ensures { Prints W.contents out.old out.new (rsdt_entry_text dumps.now address) }
+{
+    put_hex8(out, b"Entry ", address);
+    print_owner(out, dumps, u64::from(address));
+}
+
+#[tactic(auto, using(text_writer::proofs::PrintLaws::straight), unfolding(crate::specs::Dumps::rsdt_entry_line, crate::specs::Dumps::below))]
+fn print_rsdt_entry<W: Write>(out: &mut Out<'_, W>, dumps: &[Dump], address: u32)
+    ensures { Prints W.contents out.old out.new (rsdt_entry_line dumps.now address) }
+{
+    out.put(b"  ");
+    print_rsdt_entry_text(out, dumps, address);
+    out.put(b"\n");
+}
+
+/// The addresses that an RSDT lists, each with the name of the dump there.
+pub fn print_rsdt_entries<W: Write>(out: &mut Out<'_, W>, dumps: &[Dump], table: &[u8])
+    requires entries { HoldsRsdt table.now }
+    ensures { Prints W.contents out.old out.new (rsdt_entry_lines dumps.now table.now) }
+{
+    for index in 0..Rsdt::entry_count(table) {
+        print_rsdt_entry(out, dumps, Rsdt::entry_at(table, index));
     }
 }
 

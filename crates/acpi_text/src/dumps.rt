@@ -5,9 +5,9 @@ ghost use Rattle.acpi_tables.specs.Bytes.{begins_with as has_front};
 ghost use Rattle.acpi_tables.specs.Header.{HoldsTable, table_of as front_table};
 ghost use Rattle.acpi_tables.specs.Dumps.{HoldsDump, HoldsShape, HoldsTables, HoldsContent};
 ghost use Rattle.acpi_tables.specs.Order.{AreTaken};
-ghost use Rattle.acpi_text.specs.Dumps.{lines_if, entry_lines, fadt_lines, madt_lines, table_lines, lines_by, dump_lines, dumps_text};
+ghost use Rattle.acpi_text.specs.Dumps.{lines_if, entry_lines, rsdt_entry_lines, list_lines, fadt_lines, madt_lines, table_lines, lines_by, dump_lines, dumps_text};
 
-use crate::content::{print_entries, print_fadt};
+use crate::content::{print_entries, print_fadt, print_rsdt_entries};
 use crate::heads::print_line;
 use crate::records::print_madt;
 use acpi_tables::{Dump, Kind, begins_with, table_of};
@@ -24,6 +24,29 @@ fn print_if_xsdt<W: Write>(out: &mut Out<'_, W>, dumps: &[Dump], bytes: &[u8])
     if begins_with(bytes, b"XSDT") {
         print_entries(out, dumps, table_of(bytes));
     }
+}
+
+/// The addresses that an RSDT lists; nothing below another table.
+#[tactic(auto, using(text_writer::proofs::PrintLaws::straight))]
+fn print_if_rsdt<W: Write>(out: &mut Out<'_, W>, dumps: &[Dump], bytes: &[u8])
+    requires table { HoldsTable bytes.now }
+    requires content { HoldsTables bytes.now }
+    ensures { Prints W.contents out.old out.new
+        (lines_if (has_front bytes.now (codes "RSDT")) (rsdt_entry_lines dumps.now (front_table bytes.now))) }
+{
+    if begins_with(bytes, b"RSDT") {
+        print_rsdt_entries(out, dumps, table_of(bytes));
+    }
+}
+
+#[tactic(auto, using(text_writer::proofs::PrintLaws::straight), unfolding(crate::specs::Dumps::list_lines))]
+fn print_if_list<W: Write>(out: &mut Out<'_, W>, dumps: &[Dump], bytes: &[u8])
+    requires table { HoldsTable bytes.now }
+    requires content { HoldsTables bytes.now }
+    ensures { Prints W.contents out.old out.new (list_lines dumps.now bytes.now) }
+{
+    print_if_xsdt(out, dumps, bytes);
+    print_if_rsdt(out, dumps, bytes);
 }
 
 /// The fields of a FADT; nothing below another table.
@@ -55,7 +78,7 @@ fn print_table_lines<W: Write>(out: &mut Out<'_, W>, dumps: &[Dump], bytes: &[u8
     requires content { HoldsTables bytes.now }
     ensures { Prints W.contents out.old out.new (table_lines dumps.now bytes.now) }
 {
-    print_if_xsdt(out, dumps, bytes);
+    print_if_list(out, dumps, bytes);
     print_if_fadt(out, bytes);
     print_if_madt(out, bytes);
 }

@@ -3,20 +3,21 @@ use Rattle.acpi_tables.specs.Header.{HoldsTable, table_of}
 use Rattle.acpi_tables.specs.Rsdp.{HoldsRoot}
 use Rattle.acpi_tables.specs.Fadt.{HoldsFadt}
 use Rattle.acpi_tables.specs.Order.{has_signature}
-use Rattle.acpi_tables.proofs.Signatures.{root_holds, xsdt_holds, entries_hold, fadt_holds, fields_hold, root_of-signed, signed_at-signed, find-passes}
+use Rattle.acpi_tables.proofs.Signatures.{root_holds, list_holds, entries_hold, list_addresses_hold, fadt_holds, fields_hold, root_of-signed, find-passes}
 use Rattle.acpi_tables.proofs.chain.order_by_chain.Goals as goal
 
-pub xsdt_address-requires : goal.xsdt_address-requires
-xsdt_address-requires c =
+pub list_of-requires : goal.list_of-requires
+list_of-requires c =
     subst HoldsRoot (sym c.bytes_of.ensures) (root_holds c.args.dumps.now c.requires.each c.in-Some.root (root_of-signed _ _ (sym c.in-Some.ensures)))
 
 pub listed_by-requires-clause-table : goal.listed_by-requires-clause-table
-listed_by-requires-clause-table c =
-    xsdt_holds c.args.dumps.now c.requires.each c.in-Some-signed_at.xsdt (signed_at-signed c.args.dumps.now (codes "XSDT") _ _ (sym c.in-Some-signed_at.ensures))
+listed_by-requires-clause-table c = list_holds c.args.dumps.now c.requires.each c.bytes_of.result.now c.in-Some-list_of.list (sym c.in-Some-list_of.ensures)
 
-pub listed_by-requires-clause-entries : goal.listed_by-requires-clause-entries
-listed_by-requires-clause-entries c =
-    entries_hold c.args.dumps.now c.requires.each c.in-Some-signed_at.xsdt (signed_at-signed c.args.dumps.now (codes "XSDT") _ _ (sym c.in-Some-signed_at.ensures))
+pub listed_by-requires-clause-xsdt : goal.listed_by-requires-clause-xsdt
+listed_by-requires-clause-xsdt c = entries_hold c.args.dumps.now c.requires.each c.in-Some-list_of.list
+
+pub listed_by-requires-clause-rsdt : goal.listed_by-requires-clause-rsdt
+listed_by-requires-clause-rsdt c = list_addresses_hold c.args.dumps.now c.requires.each c.bytes_of.result.now c.in-Some-list_of.list (sym c.in-Some-list_of.ensures)
 
 pub table_of-requires : goal.table_of-requires
 table_of-requires c =
