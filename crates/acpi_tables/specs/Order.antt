@@ -90,7 +90,7 @@ signed_at dumps signature address = option_and_then (λ index. if has_signature 
 unfoldable pub root_of : List Dump → Option ℕ
 root_of dumps = position (λ dump. begins_with dump.bytes.items (codes "RSD PTR ")) dumps
 
--- whether an RSDP gives the address of an XSDT: from revision 2 on, where it isn't 0
+-- whether an RSDP (section 5.2.5.3) gives the address of an XSDT: from revision 2 on, where it isn't 0
 abbrev pub gives_xsdt : List ℕ → Bool
 gives_xsdt root = nat_le 2 (revision_of root) && not (nat_eq (number_at root 24 8) 0)
 

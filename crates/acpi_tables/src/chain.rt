@@ -1,5 +1,5 @@
 //! The order of the definition blocks where addresses lead from the RSDP over the XSDT or RSDT and the FADT to a DSDT.
-ghost use Rattle.std.specs.Prelude.{◌≡◌, ◌⊎◌, ◌<◌, ℕ, List, None, true, false, length, filter, filter_map, find, codes, IfOk, IfErr};
+ghost use Rattle.std.specs.Prelude.{◌≡◌, ◌⊎◌, ℕ, List, None, true, false, length, filter, filter_map, find, codes, IfOk, IfErr};
 ghost use Rattle.acpi_tables.specs.Bytes.{begins_with as has_front};
 ghost use Rattle.acpi_tables.specs.Header.{HoldsTable, table_of};
 ghost use Rattle.acpi_tables.specs.Rsdp.{HoldsRoot};
@@ -128,6 +128,7 @@ fn listed_by(alloc: Global, dumps: &[Dump], list: usize) -> Result<Vec<usize>, A
     }
 }
 
+/// Those that this XSDT lists.
 fn listed_by_xsdt(alloc: Global, dumps: &[Dump], table: &[u8]) -> Result<Vec<usize>, AllocError>
     requires { HoldsEntries table.now }
     ensures { IfOk result (λ listed. listed.items ≡ filter_map (dump_at dumps.now) (entries_of table.now)) }
@@ -141,6 +142,7 @@ fn listed_by_xsdt(alloc: Global, dumps: &[Dump], table: &[u8]) -> Result<Vec<usi
     Ok(listed)
 }
 
+/// Those that this RSDT lists.
 fn listed_by_rsdt(alloc: Global, dumps: &[Dump], table: &[u8]) -> Result<Vec<usize>, AllocError>
     requires { HoldsRsdt table.now }
     ensures { IfOk result (λ listed. listed.items ≡ filter_map (dump_at dumps.now) (rsdt_entries table.now)) }
