@@ -78,7 +78,8 @@ pub fn parse_map(alloc: Global, text: &[u8], names: &[String]) -> Result<Vec<Opt
 
     ensures refused { IfErr result (λ fault. (fault ≡ NoMemory) ⊎
         RefusesMap (map string_bytes names.now) text.now fault) }
-    ensures none { IfErr result (λ fault. (fault ≡ NoMemory) ⊎ (¬ HoldsMap (map string_bytes names.now) text.now)) }
+    ensures none { IfErr result (λ fault. (fault ≡ NoMemory) ⊎
+        (¬ HoldsMap (map string_bytes names.now) text.now)) }
 {
     let lines = read_lines(alloc, text, names)?;
     let addresses = addresses_in(alloc, &lines, names)?;
@@ -242,7 +243,8 @@ fn is_among(names: &[String], name: &[u8]) -> bool
 
 /// The address of the line that has this name.
 fn address_in(lines: &[Line<'_>], name: &[u8]) -> Option<u64>
-    ensures { result ≡ option_map (λ line. line.address) (find (λ line. bytes_eq line.name.now name.now) lines.now) }
+    ensures { result ≡ option_map (λ line. line.address)
+        (find (λ line. bytes_eq line.name.now name.now) lines.now) }
 {
     line_named(lines, name).map(|line| line.address)
 }

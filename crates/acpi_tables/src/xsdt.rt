@@ -18,7 +18,8 @@ impl Xsdt {
     pub fn entries(alloc: Global, table: &[u8]) -> Result<Vec<u64>, Bad>
         ensures holds { OnOk result (HoldsEntries table.now) }
         ensures entries { IfOk result (λ entries. entries.items ≡ entries_of table.now) }
-        ensures bad_root { IfErr result (λ bad. (bad ≡ NoMemory) ⊎ ((bad ≡ BadRoot) × ¬ HoldsEntries table.now)) }
+        ensures bad_root { IfErr result (λ bad. (bad ≡ NoMemory) ⊎
+            ((bad ≡ BadRoot) × ¬ HoldsEntries table.now)) }
     {
         if !Xsdt::holds_entries(table) {
             return Err(Bad::BadRoot);
