@@ -13,6 +13,7 @@ use Rattle.aml_load.specs.declared.faults.LoadFault.{LoadFault}
 use Rattle.aml_load.specs.declared.faults.LoadFault.TheVariants as loads
 use Rattle.aml_load.specs.declared.loading.Loaded.{Loaded}
 use Rattle.aml_load.specs.declared.methods.Method.{Method}
+use Rattle.acpidis.specs.declared.options.Options.{Options}
 use Rattle.acpidis.specs.declared.refusal.Refusal.{Refusal}
 use Rattle.acpidis.specs.declared.refusal.Refusal.TheVariants as refusals
 use Rattle.aml_text.specs.Views.{body_view}
@@ -51,23 +52,23 @@ of_load order loads.TooManyMethods dumps any_sum = tt
 of_load order loads.NoMemory dumps any_sum = tt
 
 -- what a load refuses is told of the one order
-pub tells_blocks : (dumps : List Dump) (any_sum : Bool) (dsdt : ℕ) (ssdts indexes order : List ℕ) (codes : List (List ℕ)) (e : Refusal) → ((d : ℕ) (s : List ℕ) → IsOrder dumps any_sum d s → (d ≡ dsdt) × (s ≡ ssdts))
-    → indexes ≡ dsdt ∷ ssdts → order ≡ dsdt ∷ ssdts → codes ≡ codes_in dumps indexes → TellsLoad codes order e → TellsBlocks dumps any_sum e
-tells_blocks dumps any_sum dsdt ssdts indexes order codes e only is same cs t = λ d s o.
+pub tells_blocks : (dumps : List Dump) (options : Options) (dsdt : ℕ) (ssdts indexes order : List ℕ) (codes : List (List ℕ)) (e : Refusal) → ((d : ℕ) (s : List ℕ) → IsOrder dumps options.any_sum d s → (d ≡ dsdt) × (s ≡ ssdts))
+    → indexes ≡ dsdt ∷ ssdts → order ≡ dsdt ∷ ssdts → codes ≡ codes_in dumps indexes → TellsLoad codes order e → TellsBlocks dumps options e
+tells_blocks dumps options dsdt ssdts indexes order codes e only is same cs t = λ d s o.
     let p = only d s o in
     let whole : dsdt ∷ ssdts ≡ d ∷ s = ap (λ x. x ∷ ssdts) (sym p.0) ∙ ap (λ xs. d ∷ xs) (sym p.1) in
     let all : codes ≡ codes_in dumps (dsdt ∷ ssdts) = cs ∙ ap (codes_in dumps) is in
     subst (λ (w : List ℕ). TellsLoad (codes_in dumps w) w e) whole (subst (λ (c : List (List ℕ)). TellsLoad c (dsdt ∷ ssdts) e) all (subst (λ (w : List ℕ). TellsLoad codes w e) same t))
 
 -- the dumps mean what was loaded and read of them
-pub means_so : (dumps : List Dump) (any_sum z : Bool) (x : Listing) (indexes : List ℕ) (codes : List (List ℕ)) → x.dumps.now ≡ dumps → IsOrder dumps any_sum x.order.dsdt x.order.ssdts.items
+pub means_so : (dumps : List Dump) (options : Options) (x : Listing) (indexes : List ℕ) (codes : List (List ℕ)) → x.dumps.now ≡ dumps → IsOrder dumps options.any_sum x.order.dsdt x.order.ssdts.items
     → indexes ≡ x.order.dsdt ∷ x.order.ssdts.items → codes ≡ codes_in dumps indexes → (trees : List Trees) × (m : Listed) × IsLoad codes trees m × HoldsLoad x.loaded codes trees m
-    → ((es : List Entry) → StandsFor x.loaded.space es → AreEntries z es (codes_view x.loaded.tables.items) x.loaded.methods.items (map body_view x.bodies.items)) → (k : Meaning) × Means dumps any_sum z k × Shows x dumps k
-means_so dumps any_sum z x indexes codes same o is cs l e =
+    → ((es : List Entry) → StandsFor x.loaded.space es → AreEntries options.unknown_zero es (codes_view x.loaded.tables.items) x.loaded.methods.items (map body_view x.bodies.items)) → (k : Meaning) × Means dumps options k × Shows x dumps k
+means_so dumps options x indexes codes same o is cs l e =
     let all : codes ≡ codes_in dumps (x.order.dsdt ∷ x.order.ssdts.items) = cs ∙ ap (codes_in dumps) is in
     let h = subst (λ (c : List (List ℕ)). (trees : List Trees) × (m : Listed) × IsLoad c trees m × HoldsLoad x.loaded c trees m) all l in
-    let here = subst (λ (c : List (List ℕ)). AreEntries z h.1.entries c x.loaded.methods.items (map body_view x.bodies.items)) h.3.tables (e h.1.entries h.3.space) in
-    let there = subst (λ (ms : List Method). AreEntries z h.1.entries (codes_in dumps (x.order.dsdt ∷ x.order.ssdts.items)) ms (map body_view x.bodies.items)) h.3.methods here in (
+    let here = subst (λ (c : List (List ℕ)). AreEntries options.unknown_zero h.1.entries c x.loaded.methods.items (map body_view x.bodies.items)) h.3.tables (e h.1.entries h.3.space) in
+    let there = subst (λ (ms : List Method). AreEntries options.unknown_zero h.1.entries (codes_in dumps (x.order.dsdt ∷ x.order.ssdts.items)) ms (map body_view x.bodies.items)) h.3.methods here in (
       record { dsdt = x.order.dsdt; ssdts = x.order.ssdts.items; trees = h.0; listed = h.1; bodies = map body_view x.bodies.items },
       record { order = o; loads = h.2; entries = there },
       record { same_dumps = same; dsdt = refl; ssdts = refl; holds = h.3; bodies = refl },

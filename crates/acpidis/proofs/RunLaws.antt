@@ -17,6 +17,7 @@ use Rattle.acpi_tables.specs.declared.dump.Dump.{Dump}
 use Rattle.acpidis.specs.Bodies.{has_raw}
 use Rattle.acpidis.specs.Meaning.{Meaning, Means, Shows, order_of, codes_of, rows_of, text_of}
 use Rattle.acpidis.specs.Runs.{output_of, shown_of, Lists, IsOnly, IsCut, Printed, Ends}
+use Rattle.acpidis.specs.declared.options.Options.{Options}
 use Rattle.acpidis.specs.declared.faults.RunFault.{RunFault}
 use Rattle.acpidis.specs.declared.faults.RunFault.TheVariants as faults
 use Rattle.acpidis.proofs.SameLaws.{checks_are, shown_same}
@@ -42,9 +43,9 @@ output_is false x dumps k s = shown_is x dumps k s
 output_is true x dumps k s = checks_are x dumps k s
 
 -- a listing in memory has a text of the dumps
-pub lists_so : (dumps : List Dump) (any_sum z check : Bool) (x : Listing) (status : ℕ) → IsOnly dumps any_sum z x → status ≡ cond (has_raw (map body_view x.bodies.items)) 3 0
-    → Lists dumps any_sum z check status (shown_of check x)
-lists_so dumps any_sum z check x status only is =
+pub lists_so : (dumps : List Dump) (options : Options) (check : Bool) (x : Listing) (status : ℕ) → IsOnly dumps options x → status ≡ cond (has_raw (map body_view x.bodies.items)) 3 0
+    → Lists dumps options check status (shown_of check x)
+lists_so dumps options check x status only is =
     let shows = only.sound.2 in
     record {
       listing = only.sound.0;
@@ -54,40 +55,40 @@ lists_so dumps any_sum z check x status only is =
     }
 
 -- and they have no other
-pub lists_only : (dumps : List Dump) (any_sum z check : Bool) (x : Listing) (status : ℕ) (text : List ℕ) → IsOnly dumps any_sum z x → Lists dumps any_sum z check status text
+pub lists_only : (dumps : List Dump) (options : Options) (check : Bool) (x : Listing) (status : ℕ) (text : List ℕ) → IsOnly dumps options x → Lists dumps options check status text
     → (status ≡ cond (has_raw (map body_view x.bodies.items)) 3 0) × (text ≡ shown_of check x)
-lists_only dumps any_sum z check x status text only l =
+lists_only dumps options check x status text only l =
     let shows = only.one l.listing l.means in
     (l.status_is ∙ sym (ap (λ bs. cond (has_raw bs) 3 0) shows.bodies), l.text_is ∙ sym (output_is check x dumps l.listing shows))
 
 -- Two listings of the same dumps and options are the same one, whatever number of workers read their bodies: what they mean
 -- is the same, and so is what is printed of them.
-pub one_listing : (dumps : List Dump) (any_sum z : Bool) (x y : Listing) → IsOnly dumps any_sum z x → IsOnly dumps any_sum z y → (k : Meaning) × Means dumps any_sum z k × Shows x dumps k × Shows y dumps k
-one_listing dumps any_sum z x y a b = (a.sound.0, a.sound.1, a.sound.2, b.one a.sound.0 a.sound.1)
+pub one_listing : (dumps : List Dump) (options : Options) (x y : Listing) → IsOnly dumps options x → IsOnly dumps options y → (k : Meaning) × Means dumps options k × Shows x dumps k × Shows y dumps k
+one_listing dumps options x y a b = (a.sound.0, a.sound.1, a.sound.2, b.one a.sound.0 a.sound.1)
 
-pub one_output : (dumps : List Dump) (any_sum z check : Bool) (x y : Listing) → IsOnly dumps any_sum z x → IsOnly dumps any_sum z y → shown_of check x ≡ shown_of check y
-one_output dumps any_sum z check x y a b =
-    let same = one_listing dumps any_sum z x y a b in
+pub one_output : (dumps : List Dump) (options : Options) (check : Bool) (x y : Listing) → IsOnly dumps options x → IsOnly dumps options y → shown_of check x ≡ shown_of check y
+one_output dumps options check x y a b =
+    let same = one_listing dumps options x y a b in
     output_is check x dumps same.0 same.2 ∙ sym (output_is check y dumps same.0 same.3)
 
 -- what was appended is each text of the dumps
-pub appends_each : (dumps : List Dump) (any_sum z check : Bool) (x : Listing) (before after : Option (List ℕ)) (now : ℕ) → IsOnly dumps any_sum z x → Appends before after (shown_of check x)
-    → now ≡ cond (has_raw (map body_view x.bodies.items)) 3 0 → (status : ℕ) (text : List ℕ) → Lists dumps any_sum z check status text → (status ≡ now) × Appends before after text
-appends_each dumps any_sum z check x before after now only gained is status text l =
-    let both = lists_only dumps any_sum z check x status text only l in
+pub appends_each : (dumps : List Dump) (options : Options) (check : Bool) (x : Listing) (before after : Option (List ℕ)) (now : ℕ) → IsOnly dumps options x → Appends before after (shown_of check x)
+    → now ≡ cond (has_raw (map body_view x.bodies.items)) 3 0 → (status : ℕ) (text : List ℕ) → Lists dumps options check status text → (status ≡ now) × Appends before after text
+appends_each dumps options check x before after now only gained is status text l =
+    let both = lists_only dumps options check x status text only l in
     (both.0 ∙ sym is, subst (Appends before after) (sym both.1) gained)
 
 -- the first bytes of that text went out
-pub cut_so : (dumps : List Dump) (any_sum z check : Bool) (x : Listing) (before after : Option (List ℕ)) (wrote : ℕ) → IsOnly dumps any_sum z x → Cut before after (shown_of check x) wrote
-    → IsCut dumps any_sum z check before after
-cut_so dumps any_sum z check x before after wrote only cut =
-    record { status = cond (has_raw (map body_view x.bodies.items)) 3 0; text = shown_of check x; wrote = wrote; lists = lists_so dumps any_sum z check x _ only refl; cut = cut }
+pub cut_so : (dumps : List Dump) (options : Options) (check : Bool) (x : Listing) (before after : Option (List ℕ)) (wrote : ℕ) → IsOnly dumps options x → Cut before after (shown_of check x) wrote
+    → IsCut dumps options check before after
+cut_so dumps options check x before after wrote only cut =
+    record { status = cond (has_raw (map body_view x.bodies.items)) 3 0; text = shown_of check x; wrote = wrote; lists = lists_so dumps options check x _ only refl; cut = cut }
 
 -- how a listing is printed is how the run ends, but for its bodies
-pub ends_so : (dumps : List Dump) (any_sum z check : Bool) (x : Listing) (before after : Option (List ℕ)) (fault : RunFault) → IsOnly dumps any_sum z x → Printed check x before after (Err fault)
-    → Ends dumps any_sum z check before after (Err fault)
-ends_so dumps any_sum z check x before after (faults.Write fault) only p = cut_so dumps any_sum z check x before after fault.wrote only p
-ends_so dumps any_sum z check x before after (faults.Refused fault) only p = (p.0, inl p.1)
-ends_so dumps any_sum z check x before after faults.Differs only p =
-    let same = shown_same x dumps any_sum z only.sound.0 only.sound.1 only.sound.2 in
+pub ends_so : (dumps : List Dump) (options : Options) (check : Bool) (x : Listing) (before after : Option (List ℕ)) (fault : RunFault) → IsOnly dumps options x → Printed check x before after (Err fault)
+    → Ends dumps options check before after (Err fault)
+ends_so dumps options check x before after (faults.Write fault) only p = cut_so dumps options check x before after fault.wrote only p
+ends_so dumps options check x before after (faults.Refused fault) only p = (p.0, inl p.1)
+ends_so dumps options check x before after faults.Differs only p =
+    let same = shown_same x dumps options only.sound.0 only.sound.1 only.sound.2 in
     absurd (mathlib.Core.Bool.true≢false (sym same ∙ p))

@@ -12,6 +12,7 @@ use Rattle.aml_text.specs.Lines.{OneBody, read, raw}
 use Rattle.aml_text.specs.Listing.{indexes_in, names_in, blocks_of, blocks_in}
 use Rattle.aml_text.specs.Views.{body_view}
 use Rattle.acpi_tables.specs.declared.dump.Dump.{Dump}
+use Rattle.acpidis.specs.declared.options.Options.{Options}
 use Rattle.acpidis.specs.Bodies.{IsEntry, AreEntries}
 use Rattle.acpidis.specs.Checks.{same_bytes, body_same, bodies_same, checks_from, checks_of, all_same, check_lines, checks_text}
 use Rattle.acpidis.specs.Meaning.{Meaning, Means, Shows, order_of, codes_of}
@@ -71,8 +72,8 @@ abbrev sound_in : List (List ℕ) → List (List ℕ) → List Trees → List Me
 sound_in names codes trees ms bs = all_same (checks_from codes ms bs 0 (blocks_of names codes trees))
 
 -- all its tables are the same
-pub shown_same : (x : Listing) (dumps : List Dump) (any_sum z : Bool) (k : Meaning) → Means dumps any_sum z k → Shows x dumps k → all_same (checks_of x) ≡ true
-shown_same x dumps any_sum z k means s =
+pub shown_same : (x : Listing) (dumps : List Dump) (options : Options) (k : Meaning) → Means dumps options k → Shows x dumps k → all_same (checks_of x) ≡ true
+shown_same x dumps options k means s =
     let names = names_in x.dumps.now (indexes_in x.order) in
     let ms = x.loaded.methods.items in
     let bs = map body_view x.bodies.items in
@@ -80,4 +81,4 @@ shown_same x dumps any_sum z k means s =
     ∙ ap (λ ts. sound_in names (codes_of dumps k) ts ms bs) s.holds.trees
     ∙ ap (λ l. sound_in names (codes_of dumps k) k.trees l bs) s.holds.methods
     ∙ ap (λ l. sound_in names (codes_of dumps k) k.trees (methods_of k.listed.entries) l) s.bodies
-    ∙ sames z k.listed.entries (codes_of dumps k) (codes_of dumps k) k.trees names (methods_of k.listed.entries) k.bodies 0 means.loads.read means.entries
+    ∙ sames options.unknown_zero k.listed.entries (codes_of dumps k) (codes_of dumps k) k.trees names (methods_of k.listed.entries) k.bodies 0 means.loads.read means.entries

@@ -1,5 +1,5 @@
 -- What a set of dumps means: one listing, as plain data, and its text.
-use Rattle.std.specs.Prelude.{◌≡◌, ℕ, Bool, List, ◌∷◌, map}
+use Rattle.std.specs.Prelude.{◌≡◌, ℕ, List, ◌∷◌, map}
 use Rattle.std.specs.FinMap as finite
 use Rattle.aml_names.specs.declared.segments.Seg.{Seg}
 use Rattle.aml_code.specs.Tree.{Trees}
@@ -14,6 +14,7 @@ use Rattle.aml_text.specs.Views.{body_view}
 use Rattle.aml_text.specs.declared.listing.Listing.{Listing}
 use Rattle.acpi_tables.specs.declared.dump.Dump.{Dump}
 use Rattle.acpi_tables.specs.Order.{IsOrder}
+use Rattle.acpidis.specs.declared.options.Options.{Options}
 use Rattle.acpidis.specs.Tables.{codes_in}
 use Rattle.acpidis.specs.Bodies.{AreEntries, AreTold}
 
@@ -32,12 +33,12 @@ order_of k = k.dsdt ∷ k.ssdts
 abbrev pub codes_of : List Dump → Meaning → List (List ℕ)
 codes_of dumps k = codes_in dumps (order_of k)
 
--- The dumps mean this listing: its order is theirs, its trees are what the tables' AML reads as, and load to its entries, and
+-- The dumps mean this listing, with these options: its order is theirs, its trees are what the tables' AML reads as, and load to its entries, and
 -- each body is the terms that it reads as in the namespace of all entries, or raw, where it reads as no terms.
-pub record Means (dumps : List Dump) (any_sum unknown_zero : Bool) (k : Meaning) : Type 0 where
-  pub order : IsOrder dumps any_sum k.dsdt k.ssdts
+pub record Means (dumps : List Dump) (options : Options) (k : Meaning) : Type 0 where
+  pub order : IsOrder dumps options.any_sum k.dsdt k.ssdts
   pub loads : IsLoad (codes_of dumps k) k.trees k.listed
-  pub entries : AreEntries unknown_zero k.listed.entries (codes_of dumps k) (methods_of k.listed.entries) k.bodies
+  pub entries : AreEntries options.unknown_zero k.listed.entries (codes_of dumps k) (methods_of k.listed.entries) k.bodies
 
 -- the rows of the namespace: the declared paths in order, each once, with its kind
 abbrev pub rows_of : List Entry → List (List Seg × Kind)
@@ -58,6 +59,6 @@ pub record Shows (x : Listing) (dumps : List Dump) (k : Meaning) : Type 0 where
   pub bodies : map body_view x.bodies.items ≡ k.bodies
 
 -- the fault of each of its raw bodies is true of it
-abbrev pub Told : Listing → List Dump → Bool → Meaning → Type 0
-Told x dumps unknown_zero k =
-    AreTold unknown_zero k.listed.entries (codes_of dumps k) (methods_of k.listed.entries) x.bodies.items
+abbrev pub Told : Listing → List Dump → Options → Meaning → Type 0
+Told x dumps options k =
+    AreTold options.unknown_zero k.listed.entries (codes_of dumps k) (methods_of k.listed.entries) x.bodies.items

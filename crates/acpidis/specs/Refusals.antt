@@ -5,6 +5,7 @@ use Rattle.aml_load.specs.declared.faults.LoadFault.{LoadFault}
 use Rattle.aml_load.specs.declared.faults.LoadFault.TheVariants as loads
 use Rattle.acpi_tables.specs.declared.dump.Dump.{Dump}
 use Rattle.acpi_tables.specs.Order.{IsOrder, Refuses}
+use Rattle.acpidis.specs.declared.options.Options.{Options}
 use Rattle.acpidis.specs.declared.refusal.Refusal.{Refusal}
 use Rattle.acpidis.specs.declared.refusal.Refusal.TheVariants as refusals
 use Rattle.acpidis.specs.Tables.{codes_in}
@@ -42,6 +43,6 @@ TellsLoad codes order (refusals.Load fault) = (f : LoadFault) × StopsLoad codes
 TellsLoad codes order _ = ⊤
 
 -- the same, of the set's order
-abbrev pub TellsBlocks : List Dump → Bool → Refusal → Type 0
-TellsBlocks dumps any_sum e =
-    (dsdt : ℕ) (ssdts : List ℕ) → IsOrder dumps any_sum dsdt ssdts → TellsLoad (codes_in dumps (dsdt ∷ ssdts)) (dsdt ∷ ssdts) e
+abbrev pub TellsBlocks : List Dump → Options → Refusal → Type 0
+TellsBlocks dumps options e =
+    (dsdt : ℕ) (ssdts : List ℕ) → IsOrder dumps options.any_sum dsdt ssdts → TellsLoad (codes_in dumps (dsdt ∷ ssdts)) (dsdt ∷ ssdts) e

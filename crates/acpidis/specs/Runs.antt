@@ -7,6 +7,7 @@ use Rattle.aml_text.specs.Listing.{blocks_in, shown_text}
 use Rattle.acpi_tables.specs.declared.dump.Dump.{Dump}
 use Rattle.acpidis.specs.declared.faults.RunFault.{RunFault}
 use Rattle.acpidis.specs.declared.faults.RunFault.TheVariants as faults
+use Rattle.acpidis.specs.declared.options.Options.{Options}
 use Rattle.acpidis.specs.Bodies.{has_raw}
 use Rattle.acpidis.specs.Checks.{checks_of, all_same, check_lines, checks_text}
 use Rattle.acpidis.specs.Meaning.{Meaning, Means, Shows, text_of}
@@ -18,24 +19,24 @@ output_of false dumps k = text_of dumps k
 output_of true dumps k = checks_text dumps k
 
 -- The dumps have this text: that of a listing that they mean. The status that goes with it is 3 where a body is raw, else 0.
-pub record Lists (dumps : List Dump) (any_sum unknown_zero check : Bool) (status : ℕ) (text : List ℕ) : Type 0 where
+pub record Lists (dumps : List Dump) (options : Options) (check : Bool) (status : ℕ) (text : List ℕ) : Type 0 where
   pub listing : Meaning
-  pub means : Means dumps any_sum unknown_zero listing
+  pub means : Means dumps options listing
   pub text_is : text ≡ output_of check dumps listing
   pub status_is : status ≡ cond (has_raw listing.bodies) 3 0
 
 -- the first bytes of the text went out, and not all
-pub record IsCut (dumps : List Dump) (any_sum unknown_zero check : Bool) (before after : Option (List ℕ)) : Type 0 where
+pub record IsCut (dumps : List Dump) (options : Options) (check : Bool) (before after : Option (List ℕ)) : Type 0 where
   pub status : ℕ
   pub text : List ℕ
   pub wrote : ℕ
-  pub lists : Lists dumps any_sum unknown_zero check status text
+  pub lists : Lists dumps options check status text
   pub cut : Cut before after text wrote
 
 -- the listing in memory is the one that the dumps mean
-pub record IsOnly (dumps : List Dump) (any_sum unknown_zero : Bool) (x : Listing) : Type 0 where
-  pub sound : (k : Meaning) × Means dumps any_sum unknown_zero k × Shows x dumps k
-  pub one : (k : Meaning) → Means dumps any_sum unknown_zero k → Shows x dumps k
+pub record IsOnly (dumps : List Dump) (options : Options) (x : Listing) : Type 0 where
+  pub sound : (k : Meaning) × Means dumps options k × Shows x dumps k
+  pub one : (k : Meaning) → Means dumps options k → Shows x dumps k
 
 -- what is printed of a listing in memory
 abbrev pub shown_of : Bool → Listing → List ℕ
@@ -52,12 +53,12 @@ Printed check x before after (Err faults.Differs) = all_same (checks_of x) ≡ f
 
 -- How a run ends before its status is made: the text of the one listing went out, or its first bytes did, or nothing, and then
 -- the set means no listing, unless memory or a thread was refused. No table of a listing that the dumps mean differs.
-abbrev pub Ends : List Dump → Bool → Bool → Bool → Option (List ℕ) → Option (List ℕ) → Result Listing RunFault → Type 0
-Ends dumps any_sum z check before after (Ok x) = IsOnly dumps any_sum z x × Appends before after (shown_of check x)
-Ends dumps any_sum z check before after (Err (faults.Write fault)) = IsCut dumps any_sum z check before after
-Ends dumps any_sum z check before after (Err (faults.Refused fault)) =
-    (after ≡ before) × (IsWant fault ⊎ ((k : Meaning) → ¬ Means dumps any_sum z k))
-Ends dumps any_sum z check before after (Err faults.Differs) = ⊥
+abbrev pub Ends : List Dump → Options → Bool → Option (List ℕ) → Option (List ℕ) → Result Listing RunFault → Type 0
+Ends dumps options check before after (Ok x) = IsOnly dumps options x × Appends before after (shown_of check x)
+Ends dumps options check before after (Err (faults.Write fault)) = IsCut dumps options check before after
+Ends dumps options check before after (Err (faults.Refused fault)) =
+    (after ≡ before) × (IsWant fault ⊎ ((k : Meaning) → ¬ Means dumps options k))
+Ends dumps options check before after (Err faults.Differs) = ⊥
 
 -- the exit status of a run that ends early
 abbrev pub status_of : RunFault → ℕ

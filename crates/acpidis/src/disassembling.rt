@@ -110,10 +110,10 @@ pub fn disassemble<'a, R: Threads + Wait + Sync, G: Gate + Sync>(
     requires workers { (1 ≤ workers) × (workers ≤ 64) }
 
     // The dumps mean the listing.
-    ensures sound { IfOk result (λ x. (k : Meaning) × Means dumps.now options.any_sum options.unknown_zero k ×
+    ensures sound { IfOk result (λ x. (k : Meaning) × Means dumps.now options k ×
         Shows x dumps.now k) }
     // They mean no other.
-    ensures one { IfOk result (λ x. (k : Meaning) → Means dumps.now options.any_sum options.unknown_zero k →
+    ensures one { IfOk result (λ x. (k : Meaning) → Means dumps.now options k →
         Shows x dumps.now k) }
     // Each dump is one that is taken with any checksum.
     ensures taken { IfOk result (λ x. AreTaken x.dumps.now true) }
@@ -121,15 +121,15 @@ pub fn disassemble<'a, R: Threads + Wait + Sync, G: Gate + Sync>(
     ensures limits { IfOk result (λ x. AreShort (codes_view x.loaded.tables.items) ×
         (length x.loaded.methods.items ≤ 1048576)) }
     // The fault of each raw body is true of it.
-    ensures told { IfOk result (λ x. (k : Meaning) → Means dumps.now options.any_sum options.unknown_zero k →
-        Told x dumps.now options.unknown_zero k) }
+    ensures told { IfOk result (λ x. (k : Meaning) → Means dumps.now options k →
+        Told x dumps.now options k) }
     // Each method was drawn by one worker, once.
     ensures drawn { IfOk result (λ x. AreDrawn workers (length x.loaded.methods.items) x.drawn.items) }
     // A refusal for another cause than memory or threads comes only where the dumps mean nothing, and is true of them.
     ensures complete { IfErr result (λ e. IsWant e ⊎ ((k : Meaning) →
-        ¬ Means dumps.now options.any_sum options.unknown_zero k)) }
+        ¬ Means dumps.now options k)) }
     ensures true_table { IfErr result (TellsTable dumps.now options.any_sum) }
-    ensures true_load { IfErr result (TellsBlocks dumps.now options.any_sum) }
+    ensures true_load { IfErr result (TellsBlocks dumps.now options) }
 {
     let order = order_in(alloc, dumps, options.any_sum)?;
     let indexes = indexes_of(alloc, &order)?;

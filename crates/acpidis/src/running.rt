@@ -60,17 +60,17 @@ pub fn run<R: Threads + Wait + Sync, G: Gate + Sync, O: Write, E: Write>(
     ensures statuses { (result ≡ 0) ⊎ (result ≡ 1) ⊎ (result ≡ 3) ⊎ (result ≡ 4) }
     // What the writer took is the text of a listing that the set means.
     ensures done { (result ≡ 0) ⊎ (result ≡ 3) → (text : List ℕ) ×
-        Lists dumps.now options.any_sum options.unknown_zero check result text ×
+        Lists dumps.now options check result text ×
         Appends (O.contents out.old) (O.contents out.new) text }
     // The set has no other text, and no other status goes with it.
     ensures one { (result ≡ 0) ⊎ (result ≡ 3) → (status : ℕ) (text : List ℕ) →
-        Lists dumps.now options.any_sum options.unknown_zero check status text →
+        Lists dumps.now options check status text →
         (status ≡ result) × Appends (O.contents out.old) (O.contents out.new) text }
     // Nothing was written.
     ensures refused { result ≡ 1 → O.contents out.new ≡ O.contents out.old }
     // The first bytes of a text of the set were written, and not all.
     ensures cut { result ≡ 4 →
-        IsCut dumps.now options.any_sum options.unknown_zero check (O.contents out.old) (O.contents out.new) }
+        IsCut dumps.now options check (O.contents out.old) (O.contents out.new) }
 {
     match list(rt, alloc, dumps, options, workers, check, gate, out) {
         Ok(listing) => {
@@ -96,7 +96,7 @@ fn list<'a, R: Threads + Wait + Sync, G: Gate + Sync, O: Write>(
     out: &mut O,
 ) -> Result<Listing<'a>, RunFault>
     requires workers { (1 ≤ workers) × (workers ≤ 64) }
-    ensures { Ends dumps.now options.any_sum options.unknown_zero check
+    ensures { Ends dumps.now options check
         (O.contents out.old) (O.contents out.new) result }
 {
     let listing = match disassemble(rt, alloc, dumps, options, workers, gate) {
