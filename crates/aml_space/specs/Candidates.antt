@@ -7,13 +7,19 @@ use Rattle.aml_space.specs.declared.nodes.Node.{Node}
 use Rattle.aml_space.specs.declared.scopes.Scope.{Scope}
 use Rattle.aml_space.specs.declared.scopes.Candidate.{Candidate}
 use Rattle.aml_space.specs.Graph.{walk}
-use Rattle.aml_space.specs.Nodes.{kids_of, IsShape, IsAlong}
+use Rattle.aml_space.specs.Known.{namespace_in}
+use Rattle.aml_space.specs.Namespace.{Namespace}
+use Rattle.aml_space.specs.Nodes.{kids_of, known_with, IsShape, IsAlong}
 
 -- a scope has the nodes of its path
 pub record IsScope (s : Scope) : Type 0 where
   pub shape : IsShape s.nodes.now
   pub along : IsAlong s.nodes.now s.path.now s.chain.items
   pub long : length s.chain.items ≤ length s.path.now + 1
+
+-- the namespace in which a scope stands
+abbrev pub names_of : Scope → Namespace
+names_of s = namespace_in (known_with s.nodes.now s.givens.now)
 
 -- the path of a candidate
 abbrev pub path_at : List Seg → List Seg → Candidate → List Seg

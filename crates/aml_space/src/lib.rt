@@ -6,6 +6,7 @@
 mod bodies;
 mod counting;
 mod faults;
+mod givens;
 mod growing;
 mod kinds;
 mod listing;

@@ -7,12 +7,12 @@ ghost use Rattle.aml_names.specs.Searching.{upward};
 ghost use Rattle.aml_children.specs.Children.{child_in};
 ghost use Rattle.aml_space.specs.Predefined.{predefined};
 ghost use Rattle.aml_space.specs.Namespace.{first_of, count_at};
-ghost use Rattle.aml_space.specs.Known.{namespace_in};
 ghost use Rattle.aml_space.specs.Graph.{walk};
-ghost use Rattle.aml_space.specs.Nodes.{kids_of, kinds_of, outs_of, known_by, IsShape, IsAlong};
-ghost use Rattle.aml_space.specs.Candidates.{path_at, raised_path, IsScope, IsCandidate, IsScratch};
+ghost use Rattle.aml_space.specs.Nodes.{kids_of, kinds_of, outs_of, IsShape, IsAlong};
+ghost use Rattle.aml_space.specs.Candidates.{path_at, raised_path, names_of, IsScope, IsCandidate, IsScratch};
 
 use crate::counting::{count_met, kind_met};
+use crate::givens::Givens;
 use crate::kinds::Kind;
 use crate::nodes::Node;
 use crate::predefined::Predefined;
@@ -25,6 +25,7 @@ use std::alloc::Global;
 pub struct Scope<'a> {
     pub nodes: &'a [Node],
     pub predefined: &'a Predefined,
+    pub givens: &'a Givens,
     pub path: &'a Path,
     /// The node of the first `n` segments of the path at `n`, as far as they stand in the index.
     pub chain: Vec<usize>,
@@ -47,17 +48,20 @@ impl<'a> Scope<'a> {
         alloc: Global,
         nodes: &'a [Node],
         predefined: &'a Predefined,
+        givens: &'a Givens,
         path: &'a Path,
     ) -> Result<Scope<'a>, NoMemory>
         requires { IsShape nodes.now }
         ensures scope { IfOk result IsScope }
         ensures nodes { IfOk result (λ scope. scope.nodes.now ≡ nodes.now) }
+        ensures givens { IfOk result (λ scope. scope.givens.now ≡ givens.now) }
         ensures path { IfOk result (λ scope. scope.path.now ≡ path.now) }
     {
         let chain = nodes_along(alloc, nodes, path.segs())?;
         Ok(Scope {
             nodes,
             predefined,
+            givens,
             path,
             chain,
         })
@@ -74,7 +78,7 @@ impl<'a> Scope<'a> {
         requires scope { IsScope self.now }
         requires one { length segment.now ≡ 1 }
         ensures found { IfOk result (λ met. option_map (path_at self.now.path.now segment.now) met
-            ≡ first_of (namespace_in (known_by self.now.nodes.now)) locals.now (upward (length self.now.path.now) self.now.path.now segment.now)) }
+            ≡ first_of (names_of self.now) locals.now (upward (length self.now.path.now) self.now.path.now segment.now)) }
         ensures met { IfOk result
             (λ met. IfSome met (IsCandidate self.now.nodes.now locals.now self.now.path.now segment.now)) }
     {
@@ -147,7 +151,7 @@ impl<'a> Scope<'a> {
         requires node { here.node ≡ walk (kids_of self.now.nodes.now) 0 (take here.depth self.now.path.now
             ++ segment.now) }
         ensures { result
-            ≡ cond here.local (Some 0) (count_at (namespace_in (known_by self.now.nodes.now)) (take here.depth self.now.path.now ++ segment.now)) }
+            ≡ cond here.local (Some 0) (count_at (names_of self.now) (take here.depth self.now.path.now ++ segment.now)) }
     {
         if here.local {
             return Some(0);

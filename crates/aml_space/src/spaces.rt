@@ -2,14 +2,15 @@
 ghost use Rattle.std.specs.Prelude.{◌≡◌, ◌≤◌, ◌*◌, length, slice_get, [], ◌∷◌, ◌++◌, List, Option, ◌⊎◌, OnOk, OnErr, IfOk, IfErr, IsTrue};
 ghost use Rattle.std.specs.Option.{option_map, option_copied};
 ghost use Rattle.std.specs.FinMap as map;
-ghost use Rattle.aml_space.specs.Entries.{Entry, Body, declares, external as outside};
+ghost use Rattle.aml_space.specs.Entries.{Entry, Body, declares, external as outside, given as said};
 ghost use Rattle.aml_space.specs.Namespace.{kind_at, count_at, namespace_of};
-ghost use Rattle.aml_space.specs.Known.{StandsFor, nothing_known, with_declared, with_external, is_declared as declared_yet, namespace_in};
+ghost use Rattle.aml_space.specs.Known.{StandsFor, nothing_known, with_declared, with_external, with_given, is_declared as declared_yet, namespace_in};
 ghost use Rattle.aml_space.specs.Listed.{row_pair, row_pairs};
 ghost use Rattle.aml_space.specs.Rows.{AreRows};
 
 use crate::counting::count_of;
 use crate::faults::SpaceFault;
+use crate::givens::Givens;
 use crate::growing::{count_path, make_node, set_out, set_row};
 use crate::kinds::Kind;
 use crate::listing::list_rows;
@@ -20,13 +21,15 @@ use aml_names::{NoMemory, Path};
 use std::alloc::Global;
 use std::marker::Model;
 
-/// The namespace of the tables so far: what they declare, and what Externals name, over the predefined names.
+/// The namespace of the tables so far: what they declare, and what Externals name, over the predefined names; and the
+/// argument counts that the user gives to paths of which no table says one.
 #[derive(Drop)]
 pub struct Space {
     alloc: Global,
     /// The root first. A child has a greater number than its parent.
     pub(crate) nodes: Vec<Node>,
     pub(crate) predefined: Predefined,
+    pub(crate) givens: Givens,
 }
 
 impl Model for Space {
@@ -36,9 +39,9 @@ impl Model for Space {
 
     ghost coded = { coded_known };
 
-    ghost use Rattle.aml_space.specs.Nodes.{known_by, IsIndex};
+    ghost use Rattle.aml_space.specs.Nodes.{known_with, IsIndex};
 
-    ghost view = { λ s. known_by s.nodes.items };
+    ghost view = { λ s. known_with s.nodes.items s.givens };
 
     ghost invariant = { λ s. IsIndex s.nodes.items };
 }
@@ -62,6 +65,7 @@ impl Space {
             alloc,
             nodes,
             predefined: Predefined::new(),
+            givens: Givens::new(alloc),
         })
     }
 
@@ -98,6 +102,18 @@ impl Space {
     {
         let at = make_node(self.alloc, &mut self.nodes, path.segs())?;
         set_out(&mut self.nodes, at, count);
+        Ok(())
+    }
+
+    /// Adds an argument count that the user gives to a path. It counts where a name leads nowhere that any table names, and
+    /// declares nothing. Many of one path may stand; the greatest counts. A refused one changes nothing.
+    pub fn given(&mut self, path: Path, count: u8) -> Result<(), NoMemory>
+        ensures ok { OnOk result (self.new ≡ with_given self.old path count) }
+        ensures stands { (es : List Entry) → StandsFor self.old es →
+            OnOk result (StandsFor self.new (es ++ said path count ∷ [])) }
+        ensures err { OnErr result (self.new ≡ self.old) }
+    {
+        self.givens.add(path, count)?;
         Ok(())
     }
 
