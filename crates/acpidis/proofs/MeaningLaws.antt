@@ -1,7 +1,7 @@
 -- A set of dumps means one listing.
 use Rattle.std.proofs.Common.{◌≡◌, ◌⊎◌, inl, inr, ℕ, ◌≤◌, Bool, true, List, [], ◌∷◌, map, length, refl, sym, ap, subst, ◌∙◌, arith}
 use Rattle.aml_code.specs.Tree.{Trees}
-use Rattle.aml_space.specs.Entries.{Entry}
+use Rattle.aml_space.specs.Entries.{Entry, Givens}
 use Rattle.aml_space.specs.Known.{StandsFor, known}
 use Rattle.aml_space.specs.Rows.{AreRows}
 use Rattle.aml_space.proofs.Stands.{known_stands}
@@ -26,23 +26,23 @@ use Rattle.acpidis.specs.Meaning.{Meaning, Means, Shows, rows_of}
 use Rattle.acpidis.specs.Refusals.{IsWant, load_refusal, in_dump, TellsTable, TellsLoad, TellsBlocks}
 
 -- a loaded set has few methods
-pub few_methods : (x : Loaded) (codes : List (List ℕ)) → (trees : List Trees) × (m : Listed) × IsLoad codes trees m × HoldsLoad x codes trees m → length x.methods.items ≤ 1048576
-few_methods x codes h = omega (arith, ap length h.3.methods, h.2.loads.few)
+pub few_methods : (gs : Givens) (x : Loaded) (codes : List (List ℕ)) → (trees : List Trees) × (m : Listed) × IsLoad gs codes trees m × HoldsLoad x codes trees m → length x.methods.items ≤ 1048576
+few_methods gs x codes h = omega (arith, ap length h.3.methods, h.2.loads.few)
 
 pub want_or : {A : Type 0} (order : List ℕ) (e : LoadFault) → (e ≡ loads.NoMemory) ⊎ A → IsWant (load_refusal order e) ⊎ A
 want_or order e (inl h) = inl (subst (λ f. IsWant (load_refusal order f)) (sym h) tt)
 want_or order e (inr a) = inr a
 
-pub tells_load : (codes : List (List ℕ)) (order : List ℕ) (e : LoadFault) → (e ≡ loads.NoMemory) ⊎ StopsLoad codes e → TellsLoad codes order (load_refusal order e)
-tells_load codes order (loads.Code t f) (inl h) = absurd cc
-tells_load codes order (loads.Code t f) (inr s) = (loads.Code t f, s, refl)
-tells_load codes order (loads.Space t f) (inl h) = absurd cc
-tells_load codes order (loads.Space t f) (inr s) = (loads.Space t f, s, refl)
-tells_load codes order (loads.ModuleCall t) (inl h) = absurd cc
-tells_load codes order (loads.ModuleCall t) (inr s) = (loads.ModuleCall t, s, refl)
-tells_load codes order loads.TooManyMethods (inl h) = absurd cc
-tells_load codes order loads.TooManyMethods (inr s) = (loads.TooManyMethods, s, refl)
-tells_load codes order loads.NoMemory h = tt
+pub tells_load : (gs : Givens) (codes : List (List ℕ)) (order : List ℕ) (e : LoadFault) → (e ≡ loads.NoMemory) ⊎ StopsLoad gs codes e → TellsLoad gs codes order (load_refusal order e)
+tells_load gs codes order (loads.Code t f) (inl h) = absurd cc
+tells_load gs codes order (loads.Code t f) (inr s) = (loads.Code t f, s, refl)
+tells_load gs codes order (loads.Space t f) (inl h) = absurd cc
+tells_load gs codes order (loads.Space t f) (inr s) = (loads.Space t f, s, refl)
+tells_load gs codes order (loads.ModuleCall t) (inl h) = absurd cc
+tells_load gs codes order (loads.ModuleCall t) (inr s) = (loads.ModuleCall t, s, refl)
+tells_load gs codes order loads.TooManyMethods (inl h) = absurd cc
+tells_load gs codes order loads.TooManyMethods (inr s) = (loads.TooManyMethods, s, refl)
+tells_load gs codes order loads.NoMemory h = tt
 
 pub of_load : (order : List ℕ) (e : LoadFault) (dumps : List Dump) (any_sum : Bool) → TellsTable dumps any_sum (load_refusal order e)
 of_load order (loads.Code t f) dumps any_sum = tt
@@ -53,20 +53,20 @@ of_load order loads.NoMemory dumps any_sum = tt
 
 -- what a load refuses is told of the one order
 pub tells_blocks : (dumps : List Dump) (options : Options) (dsdt : ℕ) (ssdts indexes order : List ℕ) (codes : List (List ℕ)) (e : Refusal) → ((d : ℕ) (s : List ℕ) → IsOrder dumps options.any_sum d s → (d ≡ dsdt) × (s ≡ ssdts))
-    → indexes ≡ dsdt ∷ ssdts → order ≡ dsdt ∷ ssdts → codes ≡ codes_in dumps indexes → TellsLoad codes order e → TellsBlocks dumps options e
+    → indexes ≡ dsdt ∷ ssdts → order ≡ dsdt ∷ ssdts → codes ≡ codes_in dumps indexes → TellsLoad options.externals.items codes order e → TellsBlocks dumps options e
 tells_blocks dumps options dsdt ssdts indexes order codes e only is same cs t = λ d s o.
     let p = only d s o in
     let whole : dsdt ∷ ssdts ≡ d ∷ s = ap (λ x. x ∷ ssdts) (sym p.0) ∙ ap (λ xs. d ∷ xs) (sym p.1) in
     let all : codes ≡ codes_in dumps (dsdt ∷ ssdts) = cs ∙ ap (codes_in dumps) is in
-    subst (λ (w : List ℕ). TellsLoad (codes_in dumps w) w e) whole (subst (λ (c : List (List ℕ)). TellsLoad c (dsdt ∷ ssdts) e) all (subst (λ (w : List ℕ). TellsLoad codes w e) same t))
+    subst (λ (w : List ℕ). TellsLoad options.externals.items (codes_in dumps w) w e) whole (subst (λ (c : List (List ℕ)). TellsLoad options.externals.items c (dsdt ∷ ssdts) e) all (subst (λ (w : List ℕ). TellsLoad options.externals.items codes w e) same t))
 
 -- the dumps mean what was loaded and read of them
 pub means_so : (dumps : List Dump) (options : Options) (x : Listing) (indexes : List ℕ) (codes : List (List ℕ)) → x.dumps.now ≡ dumps → IsOrder dumps options.any_sum x.order.dsdt x.order.ssdts.items
-    → indexes ≡ x.order.dsdt ∷ x.order.ssdts.items → codes ≡ codes_in dumps indexes → (trees : List Trees) × (m : Listed) × IsLoad codes trees m × HoldsLoad x.loaded codes trees m
+    → indexes ≡ x.order.dsdt ∷ x.order.ssdts.items → codes ≡ codes_in dumps indexes → (trees : List Trees) × (m : Listed) × IsLoad options.externals.items codes trees m × HoldsLoad x.loaded codes trees m
     → ((es : List Entry) → StandsFor x.loaded.space es → AreEntries options.unknown_zero es (codes_view x.loaded.tables.items) x.loaded.methods.items (map body_view x.bodies.items)) → (k : Meaning) × Means dumps options k × Shows x dumps k
 means_so dumps options x indexes codes same o is cs l e =
     let all : codes ≡ codes_in dumps (x.order.dsdt ∷ x.order.ssdts.items) = cs ∙ ap (codes_in dumps) is in
-    let h = subst (λ (c : List (List ℕ)). (trees : List Trees) × (m : Listed) × IsLoad c trees m × HoldsLoad x.loaded c trees m) all l in
+    let h = subst (λ (c : List (List ℕ)). (trees : List Trees) × (m : Listed) × IsLoad options.externals.items c trees m × HoldsLoad x.loaded c trees m) all l in
     let here = subst (λ (c : List (List ℕ)). AreEntries options.unknown_zero h.1.entries c x.loaded.methods.items (map body_view x.bodies.items)) h.3.tables (e h.1.entries h.3.space) in
     let there = subst (λ (ms : List Method). AreEntries options.unknown_zero h.1.entries (codes_in dumps (x.order.dsdt ∷ x.order.ssdts.items)) ms (map body_view x.bodies.items)) h.3.methods here in (
       record { dsdt = x.order.dsdt; ssdts = x.order.ssdts.items; trees = h.0; listed = h.1; bodies = map body_view x.bodies.items },

@@ -37,7 +37,7 @@ codes_of dumps k = codes_in dumps (order_of k)
 -- each body is the terms that it reads as in the namespace of all entries, or raw, where it reads as no terms.
 pub record Means (dumps : List Dump) (options : Options) (k : Meaning) : Type 0 where
   pub order : IsOrder dumps options.any_sum k.dsdt k.ssdts
-  pub loads : IsLoad (codes_of dumps k) k.trees k.listed
+  pub loads : IsLoad options.externals.items (codes_of dumps k) k.trees k.listed
   pub entries : AreEntries options.unknown_zero k.listed.entries (codes_of dumps k) (methods_of k.listed.entries) k.bodies
 
 -- the rows of the namespace: the declared paths in order, each once, with its kind

@@ -1,5 +1,6 @@
 -- What a refusal says of a set of dumps.
 use Rattle.std.specs.Prelude.{◌≡◌, ℕ, Bool, List, ◌∷◌, get_or, ⊤}
+use Rattle.aml_space.specs.Entries.{Givens}
 use Rattle.aml_load.specs.Stops.{StopsLoad}
 use Rattle.aml_load.specs.declared.faults.LoadFault.{LoadFault}
 use Rattle.aml_load.specs.declared.faults.LoadFault.TheVariants as loads
@@ -38,11 +39,12 @@ TellsTable dumps any_sum (refusals.Table fault) = Refuses dumps any_sum fault
 TellsTable dumps any_sum _ = ⊤
 
 -- a refusal of tables in this order: their load stops for this reason, in the table of the dump that the refusal names
-abbrev pub TellsLoad : List (List ℕ) → List ℕ → Refusal → Type 0
-TellsLoad codes order (refusals.Load fault) = (f : LoadFault) × StopsLoad codes f × (fault ≡ in_dump order f)
-TellsLoad codes order _ = ⊤
+abbrev pub TellsLoad : Givens → List (List ℕ) → List ℕ → Refusal → Type 0
+TellsLoad gs codes order (refusals.Load fault) = (f : LoadFault) × StopsLoad gs codes f × (fault ≡ in_dump order f)
+TellsLoad gs codes order _ = ⊤
 
 -- the same, of the set's order
 abbrev pub TellsBlocks : List Dump → Options → Refusal → Type 0
 TellsBlocks dumps options e =
-    (dsdt : ℕ) (ssdts : List ℕ) → IsOrder dumps options.any_sum dsdt ssdts → TellsLoad (codes_in dumps (dsdt ∷ ssdts)) (dsdt ∷ ssdts) e
+    (dsdt : ℕ) (ssdts : List ℕ) → IsOrder dumps options.any_sum dsdt ssdts →
+    TellsLoad options.externals.items (codes_in dumps (dsdt ∷ ssdts)) (dsdt ∷ ssdts) e

@@ -14,6 +14,7 @@ use crate::refusal::Refusal;
 use crate::tables::{codes_of, indexes_of};
 use acpi_tables::{Bad, Dump, Order, TableFault, load_order};
 use aml_load::{LoadFault, Loaded, load};
+use aml_names::Path;
 use aml_pool::Gate;
 use aml_text::Listing;
 use std::alloc::Global;
@@ -77,20 +78,25 @@ fn refused_load(order: &[usize], fault: LoadFault) -> Refusal
 }
 
 /// Loads the tables.
-fn load_in<'a>(alloc: Global, codes: &[&'a [u8]], order: &[usize]) -> Result<Loaded<'a>, Refusal>
+fn load_in<'a>(
+    alloc: Global,
+    codes: &[&'a [u8]],
+    givens: &[(Path, u8)],
+    order: &[usize],
+) -> Result<Loaded<'a>, Refusal>
     requires short { AreShort (codes_view codes.now) }
-    ensures sound { IfOk result (λ x. (trees : List Trees) × (m : Listed) × IsLoad (codes_view codes.now) trees m ×
+    ensures sound { IfOk result (λ x. (trees : List Trees) × (m : Listed) × IsLoad givens.now (codes_view codes.now) trees m ×
         HoldsLoad x (codes_view codes.now) trees m) }
-    ensures one { IfOk result (λ x. (trees : List Trees) (m : Listed) → IsLoad (codes_view codes.now) trees m →
+    ensures one { IfOk result (λ x. (trees : List Trees) (m : Listed) → IsLoad givens.now (codes_view codes.now) trees m →
         HoldsLoad x (codes_view codes.now) trees m) }
     ensures few { IfOk result (λ x. length x.methods.items ≤ 1048576) }
     ensures still { IfOk result (λ x. AreShort (codes_view x.tables.items)) }
     ensures complete { IfErr result (λ e. IsWant e ⊎ ((trees : List Trees) (m : Listed) →
-        IsLoad (codes_view codes.now) trees m → ⊥)) }
-    ensures tells { IfErr result (TellsLoad (codes_view codes.now) order.now) }
+        IsLoad givens.now (codes_view codes.now) trees m → ⊥)) }
+    ensures tells { IfErr result (TellsLoad givens.now (codes_view codes.now) order.now) }
     ensures of_load { IfErr result (λ e. (dumps : List Dump) (any_sum : Bool) → TellsTable dumps any_sum e) }
 {
-    match load(alloc, codes) {
+    match load(alloc, codes, givens) {
         Ok(loaded) => Ok(loaded),
         Err(fault) => Err(refused_load(order, fault)),
     }
@@ -134,7 +140,12 @@ pub fn disassemble<'a, R: Threads + Wait + Sync, G: Gate + Sync>(
     let order = order_in(alloc, dumps, options.any_sum)?;
     let indexes = indexes_of(alloc, &order)?;
     let codes = codes_of(alloc, dumps, indexes.as_slice())?;
-    let loaded = match load_in(alloc, codes.as_slice(), indexes.as_slice()) {
+    let loaded = match load_in(
+        alloc,
+        codes.as_slice(),
+        options.externals.as_slice(),
+        indexes.as_slice(),
+    ) {
         Ok(loaded) => loaded,
         Err(refusal) => return Err(refusal),
     };

@@ -12,6 +12,7 @@ use Rattle.aml_code.specs.Faults.{StandsAt}
 use Rattle.aml_code.specs.Meaning.{ReadsBody}
 use Rattle.aml_space.specs.Bodies.{BodyView}
 use Rattle.aml_space.specs.Entries.{Entry}
+use Rattle.aml_space.proofs.Stands.{same_namespace}
 use Rattle.aml_space.specs.Namespace.{Namespace, namespace_of, arity_of}
 use Rattle.aml_space.specs.Known.{Known, StandsFor, namespace_in}
 use Rattle.aml_load.specs.declared.methods.Method.{Method}
@@ -30,10 +31,6 @@ short_at (x ∷ cs) (suc n) c h e = short_at cs n c h.1 e
 
 pub short_span : (cs : List (List ℕ)) (m : Method) → AreShort cs → length (span_of cs m) ≤ 16777216
 short_span cs m h = short_in (slice_get cs m.table) m (λ c e. short_at cs m.table c h e)
-
--- the namespace of what is known is that of the entries it stands for
-pub namespace_same : (k : Known) (es : List Entry) → StandsFor k es → namespace_in k ≡ namespace_of es
-namespace_same k es s = λ i. record { declared = λ q. s.same_kinds q i; outs = λ q. s.same_outs q i }
 
 abbrev Reads : Namespace → Bool → Method → List ℕ → Trees → Type 0
 Reads n z m bytes ts = ReadsBody (arity_of n z m.path) m.path bytes ts
@@ -83,5 +80,5 @@ pub reading_is : {X : Type 0} (view : X → Trees) (names : BodyView) (k : Known
     → Says view m.path bytes r (arity_of (namespace_in names.known) names.unknown_zero names.method) → IsReading view z es cs m r
 reading_is view names k es cs m z bytes r named s is says =
     let here = subst (λ (v : BodyView). Says view m.path bytes r (arity_of (namespace_in v.known) v.unknown_zero v.method)) named says in
-    let there = subst (λ (n : Namespace). Says view m.path bytes r (arity_of n z m.path)) (namespace_same k es s) here in
+    let there = subst (λ (n : Namespace). Says view m.path bytes r (arity_of n z m.path)) (same_namespace k es s) here in
     reading_of view es cs m z r (subst (λ (b : List ℕ). Says view m.path b r (arity_of (namespace_of es) z m.path)) is there)

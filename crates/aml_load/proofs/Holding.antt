@@ -29,7 +29,7 @@ use Rattle.aml_load.specs.declared.walking.Progress.{Progress}
 use Rattle.aml_load.specs.Loading.{Listed, plus, with_uses, methods_of}
 use Rattle.aml_load.specs.Roles.{role_of}
 use Rattle.aml_load.specs.Uses.{kinds_in, parts_uses, rest_uses}
-use Rattle.aml_load.specs.Walking.{◌>>=◌, given, space_fault, entry_at, name_at, units_at, do_as, walk, walk_inside}
+use Rattle.aml_load.specs.Walking.{◌>>=◌, listed, space_fault, entry_at, name_at, units_at, do_as, walk, walk_inside}
 use Rattle.aml_load.specs.Views.{Holds, Fails}
 use Rattle.aml_load.proofs.Steps.{place_again}
 use Rattle.aml_load.proofs.Walks.{methods_more}
@@ -88,7 +88,7 @@ fresh_by (Some k) u e h = absurd (differ (h refl))
 pub fresh : (k : Known) (es : List Entry) (p : List Seg) (u : Unit {0}) → StandsFor k es → (IsTrue (is_declared k p) → Ok u ≡ Err (faults.Duplicate p)) → declared_at es p ≡ None
 fresh k es p u s h = sym (s.same_kinds p) ∙ fresh_by (map.get k.kinds p) u (faults.Duplicate p) h
 
-ended : (r : Result Listed LoadFault) → (r >>= λ k. given k) ≡ r
+ended : (r : Result Listed LoadFault) → (r >>= λ k. listed k) ≡ r
 ended (Ok l) = refl
 ended (Err e) = refl
 
@@ -106,7 +106,7 @@ unit_is t l scope p s e =
     ∙ sym (ap (λ r. r >>= λ q. entry_at t l q (declares q kinds.Field None)) (place_again t scope (Some (plain_name s)) (scope ++ s ∷ []) (unit_placed scope s)))
     ∙ sym (ended (name_at t l scope (Some (plain_name s)) kinds.Field))
 
-twice : (o : Option Kind) (p : List Seg) (t : ℕ) (l : Listed) → IsTrue (is_some o) → cond (is_some o) (Err (loads.Space t (faults.Duplicate p))) (given l) ≡ Err (loads.Space t (faults.Duplicate p))
+twice : (o : Option Kind) (p : List Seg) (t : ℕ) (l : Listed) → IsTrue (is_some o) → cond (is_some o) (Err (loads.Space t (faults.Duplicate p))) (listed l) ≡ Err (loads.Space t (faults.Duplicate p))
 twice None p t l d = absurd cc
 twice (Some k) p t l d = refl
 

@@ -2,4 +2,5 @@ pub mod Steps
 pub mod Walks
 pub mod Holding
 pub mod Outcome
+mod Givens
 pub mod BodyLaws

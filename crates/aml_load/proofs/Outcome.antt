@@ -12,12 +12,13 @@ use Rattle.aml_code.specs.Meaning.{ReadsModule, no_arguments}
 use Rattle.aml_code.specs.Tree.{Trees}
 use Rattle.aml_parse.specs.Reading.{all_at}
 use Rattle.aml_parse.proofs.Readings.{module_sound, module_again, all_placed}
-use Rattle.aml_space.specs.Entries.{Entry}
+use Rattle.aml_space.specs.Entries.{Entry, Givens}
 use Rattle.aml_load.specs.declared.faults.LoadFault.{LoadFault}
 use Rattle.aml_load.specs.declared.faults.LoadFault.TheVariants as loads
 use Rattle.aml_load.specs.declared.loading.Loaded.{Loaded}
 use Rattle.aml_load.specs.declared.methods.Use.{Use}
-use Rattle.aml_load.specs.Loading.{Listed, nothing_listed, DeclareAll, DeclareTables, Uncalled, use_count, Loads, ReadTables, IsLoad}
+use Rattle.aml_load.proofs.Givens.{no_methods}
+use Rattle.aml_load.specs.Loading.{Listed, first_listed, DeclareAll, DeclareTables, Uncalled, use_count, methods_of, Loads, ReadTables, IsLoad}
 use Rattle.aml_load.specs.Walking.{◌>>=◌, code_fault, in_code, walk_all, table_at, tables_at, uses_at, load_at}
 use Rattle.aml_load.specs.Stops.{StopTable, StopTables, Called, StopsLoad}
 use Rattle.aml_load.specs.Views.{AreCodes, AreShort, codes_view, GivesLoad, HoldsLoad}
@@ -144,72 +145,72 @@ uses_err es (u ∷ us) e h =
 
 -- ---- the whole load
 
-load_takes : (cs : List (List ℕ)) (x : List Trees × Listed) → AreCodes cs → load_at cs ≡ Ok x → IsLoad cs x.0 x.1
+load_takes : (gs : Givens) (cs : List (List ℕ)) (x : List Trees × Listed) → AreCodes cs → load_at gs cs ≡ Ok x → IsLoad gs cs x.0 x.1
 unfolding load_at
-load_takes cs x fits e =
-    let P : Type 0 = IsLoad cs x.0 x.1 in
-    bind_then P (tables_at 0 [] nothing_listed cs) (λ y. uses_at y.1.entries y.1.uses >>= λ u. Ok y) x e (λ y h1 e1.
+load_takes gs cs x fits e =
+    let P : Type 0 = IsLoad gs cs x.0 x.1 in
+    bind_then P (tables_at 0 [] (first_listed gs) cs) (λ y. uses_at y.1.entries y.1.uses >>= λ u. Ok y) x e (λ y h1 e1.
     bind_then P (uses_at y.1.entries y.1.uses) (λ u. Ok y) x e1 (λ u h2 e2.
-    let a = tables_take 0 nothing_listed [] cs y fits h1 in
-    let all : Loads y.0 y.1 = record {
-      declared = subst (λ ts. DeclareTables 0 nothing_listed ts y.1) (sym a.are) a.declares;
-      few = a.few (omega arith);
+    let a = tables_take 0 (first_listed gs) [] cs y fits h1 in
+    let all : Loads gs y.0 y.1 = record {
+      declared = subst (λ ts. DeclareTables 0 (first_listed gs) ts y.1) (sym a.are) a.declares;
+      few = a.few (subst (λ ms. length ms ≤ 1048576) (sym (no_methods gs)) (omega arith));
       uncalled = uses_ok y.1.entries y.1.uses u h2;
     } in
-    subst (λ (z : List Trees × Listed). IsLoad cs z.0 z.1) (ok_is y x e2) (record { read = subst (ReadTables cs) (sym a.are) a.reads; loads = all })))
+    subst (λ (z : List Trees × Listed). IsLoad gs cs z.0 z.1) (ok_is y x e2) (record { read = subst (ReadTables cs) (sym a.are) a.reads; loads = all })))
 
-load_again : (cs : List (List ℕ)) (ts : List Trees) (m : Listed) → IsLoad cs ts m → load_at cs ≡ Ok (ts, m)
+load_again : (gs : Givens) (cs : List (List ℕ)) (ts : List Trees) (m : Listed) → IsLoad gs cs ts m → load_at gs cs ≡ Ok (ts, m)
 unfolding load_at
-load_again cs ts m h =
-    ap (λ r. r >>= λ y. uses_at y.1.entries y.1.uses >>= λ u. Ok y) (tables_again 0 nothing_listed [] cs ts m h.read h.loads.declared h.loads.few)
+load_again gs cs ts m h =
+    ap (λ r. r >>= λ y. uses_at y.1.entries y.1.uses >>= λ u. Ok y) (tables_again 0 (first_listed gs) [] cs ts m h.read h.loads.declared h.loads.few)
     ∙ ap (λ r. r >>= λ u. Ok (ts, m)) (uses_again m.entries m.uses h.loads.uncalled)
 
-load_err : (cs : List (List ℕ)) (e : LoadFault) → AreCodes cs → load_at cs ≡ Err e → StopsLoad cs e
+load_err : (gs : Givens) (cs : List (List ℕ)) (e : LoadFault) → AreCodes cs → load_at gs cs ≡ Err e → StopsLoad gs cs e
 unfolding load_at
-load_err cs e fits h =
-    let P : Type 0 = StopsLoad cs e in
-    err_then P (tables_at 0 [] nothing_listed cs) (λ y. uses_at y.1.entries y.1.uses >>= λ u. Ok y) e h (λ g. inl (tables_err 0 nothing_listed [] cs e fits g)) (λ y h1 e1.
+load_err gs cs e fits h =
+    let P : Type 0 = StopsLoad gs cs e in
+    err_then P (tables_at 0 [] (first_listed gs) cs) (λ y. uses_at y.1.entries y.1.uses >>= λ u. Ok y) e h (λ g. inl (tables_err 0 (first_listed gs) [] cs e fits g)) (λ y h1 e1.
     err_then P (uses_at y.1.entries y.1.uses) (λ u. Ok y) e e1 (λ g.
-    let a = tables_take 0 nothing_listed [] cs y fits h1 in
+    let a = tables_take 0 (first_listed gs) [] cs y fits h1 in
     inr (a.trees, a.reads, (y.1, a.declares, uses_err y.1.entries y.1.uses e g))) (λ u h2 e2. absurd cc))
 
 -- ---- the same of what a function gave
 
-abbrev pub Sound : List (List ℕ) → Loaded → Type 0
-Sound cs x = (trees : List Trees) × (m : Listed) × IsLoad cs trees m × HoldsLoad x cs trees m
+abbrev pub Sound : Givens → List (List ℕ) → Loaded → Type 0
+Sound gs cs x = (trees : List Trees) × (m : Listed) × IsLoad gs cs trees m × HoldsLoad x cs trees m
 
-pub given_sound : (r : Result Loaded LoadFault) (cs : List (List ℕ)) → AreCodes cs → GivesLoad r cs → IfOk r (Sound cs)
-given_sound (Ok x) cs fits g = (g.0, g.1, load_takes cs (g.0, g.1) fits g.3, g.2)
-given_sound (Err e) cs fits g = tt
+pub given_sound : (gs : Givens) (r : Result Loaded LoadFault) (cs : List (List ℕ)) → AreCodes cs → GivesLoad gs r cs → IfOk r (Sound gs cs)
+given_sound gs (Ok x) cs fits g = (g.0, g.1, load_takes gs cs (g.0, g.1) fits g.3, g.2)
+given_sound gs (Err e) cs fits g = tt
 
-abbrev pub Only : List (List ℕ) → Loaded → Type 0
-Only cs x = (trees : List Trees) (m : Listed) → IsLoad cs trees m → HoldsLoad x cs trees m
+abbrev pub Only : Givens → List (List ℕ) → Loaded → Type 0
+Only gs cs x = (trees : List Trees) (m : Listed) → IsLoad gs cs trees m → HoldsLoad x cs trees m
 
 same : (x : Loaded) (cs : List (List ℕ)) (a b : List Trees × Listed) (r : Result (List Trees × Listed) LoadFault) → r ≡ Ok a → r ≡ Ok b → HoldsLoad x cs a.0 a.1 → HoldsLoad x cs b.0 b.1
 same x cs a b r p q h = subst (λ (y : List Trees × Listed). HoldsLoad x cs y.0 y.1) (ok_is a b (sym p ∙ q)) h
 
-pub given_one : (r : Result Loaded LoadFault) (cs : List (List ℕ)) → GivesLoad r cs → IfOk r (Only cs)
-given_one (Ok x) cs g = λ trees m h. same x cs (g.0, g.1) (trees, m) (load_at cs) g.3 (load_again cs trees m h) g.2
-given_one (Err e) cs g = tt
+pub given_one : (gs : Givens) (r : Result Loaded LoadFault) (cs : List (List ℕ)) → GivesLoad gs r cs → IfOk r (Only gs cs)
+given_one gs (Ok x) cs g = λ trees m h. same x cs (g.0, g.1) (trees, m) (load_at gs cs) g.3 (load_again gs cs trees m h) g.2
+given_one gs (Err e) cs g = tt
 
 not_both : (x : List Trees × Listed) (e : LoadFault) (r : Result (List Trees × Listed) LoadFault) → r ≡ Ok x → r ≡ Err e → ⊥
 not_both x e r p q = absurd (cc (p, q))
 
-pub given_complete : (r : Result Loaded LoadFault) (cs : List (List ℕ)) → GivesLoad r cs → IfErr r (λ e. (e ≡ loads.NoMemory) ⊎ ((trees : List Trees) (m : Listed) → IsLoad cs trees m → ⊥))
-given_complete (Ok x) cs g = tt
-given_complete (Err e) cs (inl g) = inl g
-given_complete (Err e) cs (inr g) = inr (λ trees m h. not_both (trees, m) e (load_at cs) (load_again cs trees m h) g)
+pub given_complete : (gs : Givens) (r : Result Loaded LoadFault) (cs : List (List ℕ)) → GivesLoad gs r cs → IfErr r (λ e. (e ≡ loads.NoMemory) ⊎ ((trees : List Trees) (m : Listed) → IsLoad gs cs trees m → ⊥))
+given_complete gs (Ok x) cs g = tt
+given_complete gs (Err e) cs (inl g) = inl g
+given_complete gs (Err e) cs (inr g) = inr (λ trees m h. not_both (trees, m) e (load_at gs cs) (load_again gs cs trees m h) g)
 
-pub given_true : (r : Result Loaded LoadFault) (cs : List (List ℕ)) → AreCodes cs → GivesLoad r cs → IfErr r (λ e. (e ≡ loads.NoMemory) ⊎ StopsLoad cs e)
-given_true (Ok x) cs fits g = tt
-given_true (Err e) cs fits (inl g) = inl g
-given_true (Err e) cs fits (inr g) = inr (load_err cs e fits g)
+pub given_true : (gs : Givens) (r : Result Loaded LoadFault) (cs : List (List ℕ)) → AreCodes cs → GivesLoad gs r cs → IfErr r (λ e. (e ≡ loads.NoMemory) ⊎ StopsLoad gs cs e)
+given_true gs (Ok x) cs fits g = tt
+given_true gs (Err e) cs fits (inl g) = inl g
+given_true gs (Err e) cs fits (inr g) = inr (load_err gs cs e fits g)
 
 -- ---- the steps of a load put together
 
-pub load_gives : (cs : List (List ℕ)) (ts : List Trees) (m : Listed) (us : List Use) (u : Unit {0}) → tables_at 0 [] nothing_listed cs ≡ Ok (ts, m) → us ≡ m.uses → uses_at m.entries us ≡ Ok u → load_at cs ≡ Ok (ts, m)
+pub load_gives : (gs : Givens) (cs : List (List ℕ)) (ts : List Trees) (m : Listed) (us : List Use) (u : Unit {0}) → tables_at 0 [] (first_listed gs) cs ≡ Ok (ts, m) → us ≡ m.uses → uses_at m.entries us ≡ Ok u → load_at gs cs ≡ Ok (ts, m)
 unfolding load_at
-load_gives cs ts m us u read is free =
+load_gives gs cs ts m us u read is free =
     ap (λ r. r >>= λ y. uses_at y.1.entries y.1.uses >>= λ u. Ok y) read ∙ ap (λ r. r >>= λ u. Ok (ts, m)) (ap (uses_at m.entries) (sym is) ∙ free)
 
 -- a table by its number is short where all are

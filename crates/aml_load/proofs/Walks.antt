@@ -8,7 +8,7 @@ use Rattle.aml_code.specs.Tree.{Tree, nothing, named, op, Trees, no_trees, tree_
 use Rattle.aml_code.specs.Declaring.{last_label, field_names}
 use Rattle.aml_space.specs.declared.kinds.Kind.TheVariants as kinds
 use Rattle.aml_space.specs.declared.faults.SpaceFault.TheVariants as faults
-use Rattle.aml_space.specs.Entries.{Entry, declares, external}
+use Rattle.aml_space.specs.Entries.{Entry, declares, external, given}
 use Rattle.aml_load.specs.declared.faults.LoadFault.{LoadFault}
 use Rattle.aml_load.specs.declared.faults.LoadFault.TheVariants as loads
 use Rattle.aml_load.specs.declared.methods.Method.{Method}
@@ -106,12 +106,15 @@ count l = length (methods_of l.entries)
 abbrev method_in : Entry → List Method
 method_in (declares p k b) = methods_at p b
 method_in (external p n) = []
+method_in (given p n) = []
 
 pub methods_more : (es : List Entry) (e : Entry) → methods_of (es ++ e ∷ []) ≡ methods_of es ++ method_in e
 methods_more [] (declares p k b) = append-nil (methods_at p b)
 methods_more [] (external p n) = refl
+methods_more [] (given p n) = refl
 methods_more (declares p k b ∷ es) e = ap (λ ms. methods_at p b ++ ms) (methods_more es e) ∙ sym (append_assoc (methods_at p b) (methods_of es) (method_in e))
 methods_more (external p n ∷ es) e = methods_more es e
+methods_more (given p n ∷ es) e = methods_more es e
 
 count_plus : (l : Listed) (e : Entry) → count (plus l e) ≡ count l + length (method_in e)
 count_plus l e = ap length (methods_more l.entries e) ∙ length-append (methods_of l.entries) (method_in e)

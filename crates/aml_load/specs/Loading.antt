@@ -1,4 +1,5 @@
--- What tables declare (ACPI 6.5, 5.2.11, 5.3 and 20.2.5): one list of entries, in load order and in the order of the text.
+-- What tables declare (ACPI 6.5, 5.2.11, 5.3 and 20.2.5): one list of entries, in load order and in the order of the text,
+-- behind the counts that the user gives.
 use Rattle.std.specs.Prelude.{◌≡◌, ℕ, suc, ◌+◌, ◌%◌, ◌≤◌, false, List, [], ◌∷◌, ◌++◌, length, Option, Some, None}
 use Rattle.std.specs.Option.{unwrap_or}
 use Rattle.std.specs.FinSet as set
@@ -11,7 +12,7 @@ use Rattle.aml_code.specs.Meaning.{ReadsModule}
 use Rattle.aml_code.specs.Rows.{row_of}
 use Rattle.aml_space.specs.declared.kinds.Kind.{Kind}
 use Rattle.aml_space.specs.declared.kinds.Kind.TheVariants as kinds
-use Rattle.aml_space.specs.Entries.{Entry, Body, declares, external, declared_at}
+use Rattle.aml_space.specs.Entries.{Entry, Body, Givens, declares, external, given, given_entries, declared_at}
 use Rattle.aml_space.specs.Namespace.{namespace_of, kind_at, found, arity_of}
 use Rattle.aml_load.specs.declared.methods.Method.{Method}
 use Rattle.aml_load.specs.declared.methods.Use.{Use}
@@ -25,8 +26,9 @@ pub record Listed : Type 0 where
   pub entries : List Entry
   pub uses : List Use
 
-abbrev pub nothing_listed : Listed
-nothing_listed = record { entries = []; uses = [] }
+-- before any table: what the user gives
+abbrev pub first_listed : Givens → Listed
+first_listed gs = record { entries = given_entries gs; uses = [] }
 
 -- one entry more
 abbrev pub plus : Listed → Entry → Listed
@@ -133,6 +135,7 @@ abbrev pub methods_of : List Entry → List Method
 methods_of [] = []
 methods_of (declares p k b ∷ es) = methods_at p b ++ methods_of es
 methods_of (external p n ∷ es) = methods_of es
+methods_of (given p n ∷ es) = methods_of es
 
 -- how many arguments a name takes that stands as a TermArg of a table
 abbrev pub use_count : List Entry → Use → Option ℕ
@@ -143,9 +146,9 @@ abbrev pub Uncalled : List Entry → List Use → Type 0
 Uncalled es [] = Unit {0}
 Uncalled es (u ∷ us) = (unwrap_or (use_count es u) 0 ≡ 0) × Uncalled es us
 
--- The trees of all tables load to these entries, with at most 1,048,576 methods.
-pub record Loads (trees : List Trees) (m : Listed) : Type 0 where
-  pub declared : DeclareTables 0 nothing_listed trees m
+-- The trees of all tables load to these entries, behind the given counts, with at most 1,048,576 methods.
+pub record Loads (gs : Givens) (trees : List Trees) (m : Listed) : Type 0 where
+  pub declared : DeclareTables 0 (first_listed gs) trees m
   pub few : length (methods_of m.entries) ≤ 1048576
   pub uncalled : Uncalled m.entries m.uses
 
@@ -156,7 +159,7 @@ ReadTables [] (t ∷ ts) = ⊥
 ReadTables (c ∷ cs) [] = ⊥
 ReadTables (c ∷ cs) (t ∷ ts) = ReadsModule c t × ReadTables cs ts
 
--- The tables have these trees, and these load to these entries.
-pub record IsLoad (tables : List (List ℕ)) (trees : List Trees) (m : Listed) : Type 0 where
+-- The tables have these trees, and these load to these entries, where the user gives these counts.
+pub record IsLoad (gs : Givens) (tables : List (List ℕ)) (trees : List Trees) (m : Listed) : Type 0 where
   pub read : ReadTables tables trees
-  pub loads : Loads trees m
+  pub loads : Loads gs trees m

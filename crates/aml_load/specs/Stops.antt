@@ -10,14 +10,14 @@ use Rattle.aml_code.specs.Tree.{Tree, nothing, named, op, Trees, no_trees, tree_
 use Rattle.aml_code.specs.Declaring.{last_label, field_names}
 use Rattle.aml_space.specs.declared.faults.SpaceFault.TheVariants as faults
 use Rattle.aml_space.specs.declared.kinds.Kind.TheVariants as kinds
-use Rattle.aml_space.specs.Entries.{Entry, declares, declared_at}
+use Rattle.aml_space.specs.Entries.{Entry, Givens, declares, declared_at}
 use Rattle.aml_load.specs.declared.faults.LoadFault.{LoadFault}
 use Rattle.aml_load.specs.declared.faults.LoadFault.TheVariants as loads
 use Rattle.aml_load.specs.declared.methods.Use.{Use}
 use Rattle.aml_code.specs.declared.rows.Role.{Role}
 use Rattle.aml_code.specs.declared.rows.Role.TheVariants as roles
 use Rattle.aml_load.specs.Roles.{role_of, kind_of}
-use Rattle.aml_load.specs.Loading.{Listed, nothing_listed, plus, with_uses, first_label, place_of, lead_of, IsNew, Leads, Declares, DeclareAll, DeclareTables, ReadTables, methods_of, use_count}
+use Rattle.aml_load.specs.Loading.{Listed, first_listed, plus, with_uses, first_label, place_of, lead_of, IsNew, Leads, Declares, DeclareAll, DeclareTables, ReadTables, methods_of, use_count}
 use Rattle.aml_load.specs.Walking.{code_fault}
 
 -- a name has no path in a scope: its prefixes lead above the root
@@ -94,7 +94,8 @@ abbrev pub Called : List Entry → List Use → LoadFault → Type 0
 Called es [] e = ⊥
 Called es (u ∷ us) e = ((0 < unwrap_or (use_count es u) 0) × (e ≡ loads.ModuleCall u.table)) ⊎ Called es us e
 
--- The load of these tables stops for this reason.
-abbrev pub StopsLoad : List (List ℕ) → LoadFault → Type 0
-StopsLoad codes e =
-    StopTables 0 nothing_listed codes e ⊎ ((ts : List Trees) × ReadTables codes ts × ((m : Listed) × DeclareTables 0 nothing_listed ts m × Called m.entries m.uses e))
+-- The load of these tables, where the user gives these counts, stops for this reason.
+abbrev pub StopsLoad : Givens → List (List ℕ) → LoadFault → Type 0
+StopsLoad gs codes e =
+    StopTables 0 (first_listed gs) codes e
+    ⊎ ((ts : List Trees) × ReadTables codes ts × ((m : Listed) × DeclareTables 0 (first_listed gs) ts m × Called m.entries m.uses e))

@@ -6,6 +6,7 @@ use Rattle.aml_code.specs.declared.tree.Node.{Node}
 use Rattle.aml_code.specs.Tree.{Trees}
 use Rattle.aml_code.specs.Encoding.{slice_of, encodings}
 use Rattle.aml_code.specs.View.{nodes_view}
+use Rattle.aml_space.specs.Entries.{Givens}
 use Rattle.aml_space.specs.Known.{Known, StandsFor}
 use Rattle.aml_load.specs.declared.faults.LoadFault.{LoadFault}
 use Rattle.aml_load.specs.declared.faults.LoadFault.TheVariants as loads
@@ -82,9 +83,9 @@ pub record HoldsLoad (x : Loaded) (codes : List (List ℕ)) (ts : List Trees) (m
   pub methods : x.methods.items ≡ methods_of m.entries
 
 -- what a load answered is what loading forward gives, unless memory was refused
-abbrev pub GivesLoad : Result Loaded LoadFault → List (List ℕ) → Type 0
-GivesLoad (Ok x) codes = (trees : List Trees) × (m : Listed) × HoldsLoad x codes trees m × (load_at codes ≡ Ok (trees, m))
-GivesLoad (Err e) codes = Fails e (load_at codes)
+abbrev pub GivesLoad : Givens → Result Loaded LoadFault → List (List ℕ) → Type 0
+GivesLoad gs (Ok x) codes = (trees : List Trees) × (m : Listed) × HoldsLoad x codes trees m × (load_at gs codes ≡ Ok (trees, m))
+GivesLoad gs (Err e) codes = Fails e (load_at gs codes)
 
 abbrev pub span_in : Option (List ℕ) → Method → List ℕ
 span_in None m = []

@@ -15,22 +15,22 @@ use Rattle.aml_space.specs.declared.faults.SpaceFault.{SpaceFault}
 use Rattle.aml_space.specs.declared.faults.SpaceFault.TheVariants as faults
 use Rattle.aml_space.specs.declared.kinds.Kind.{Kind}
 use Rattle.aml_space.specs.declared.kinds.Kind.TheVariants as kinds
-use Rattle.aml_space.specs.Entries.{Entry, declares, external, declared_at}
+use Rattle.aml_space.specs.Entries.{Entry, Givens, declares, external, declared_at}
 use Rattle.aml_load.specs.declared.faults.LoadFault.{LoadFault}
 use Rattle.aml_load.specs.declared.faults.LoadFault.TheVariants as loads
 use Rattle.aml_load.specs.declared.methods.Use.{Use}
 use Rattle.aml_code.specs.declared.rows.Role.{Role}
 use Rattle.aml_code.specs.declared.rows.Role.TheVariants as roles
 use Rattle.aml_load.specs.Roles.{role_of, kind_of}
-use Rattle.aml_load.specs.Loading.{Listed, nothing_listed, plus, with_uses, first_label, byte_of, place_of, lead_of, target_of, body_start, body_len, method_entry, methods_of, use_count}
+use Rattle.aml_load.specs.Loading.{Listed, first_listed, plus, with_uses, first_label, byte_of, place_of, lead_of, target_of, body_start, body_len, method_entry, methods_of, use_count}
 
 infixl 10 ◌>>=◌
 abbrev pub ◌>>=◌ : {A B : Type 0} → Result A LoadFault → (A → Result B LoadFault) → Result B LoadFault
 (Ok x) >>= f = f x
 (Err e) >>= f = Err e
 
-abbrev pub given : Listed → Result Listed LoadFault
-given l = Ok l
+abbrev pub listed : Listed → Result Listed LoadFault
+listed l = Ok l
 
 -- a fault of the AML of table t
 abbrev pub code_fault : ℕ → CodeFault → LoadFault
@@ -100,7 +100,7 @@ alias_at t l scope source n = do
 unfoldable pub external_at : ℕ → Listed → List Seg → Option Name → ℕ → Result Listed LoadFault
 external_at t l scope n count = do
   p ← place_at t scope n
-  given (plus l (external p count))
+  listed (plus l (external p count))
 
 unfoldable pub units_at : ℕ → Listed → List Seg → List Name → Result Listed LoadFault
 units_at t l scope [] = Ok l
@@ -162,8 +162,8 @@ unfoldable pub uses_at : List Entry → List Use → Result (Unit {0}) LoadFault
 uses_at es [] = Ok tt
 uses_at es (u ∷ us) = if nat_lt 0 (unwrap_or (use_count es u) 0) then Err (loads.ModuleCall u.table) else uses_at es us
 
-unfoldable pub load_at : List (List ℕ) → Result (List Trees × Listed) LoadFault
-load_at codes = do
-  x ← tables_at 0 [] nothing_listed codes
+unfoldable pub load_at : Givens → List (List ℕ) → Result (List Trees × Listed) LoadFault
+load_at gs codes = do
+  x ← tables_at 0 [] (first_listed gs) codes
   _ ← uses_at x.1.entries x.1.uses
   Ok x

@@ -3,8 +3,9 @@ ghost use Rattle.std.specs.Prelude.{◌≡◌, ◌⊎◌, [], List, IfOk, IfErr,
 ghost use Rattle.std.specs.Option.{unwrap_or};
 ghost use Rattle.aml_code.specs.Tree.{Trees};
 ghost use Rattle.aml_code.specs.View.{nodes_view};
+ghost use Rattle.aml_space.specs.Entries.{given_entries};
 ghost use Rattle.aml_space.specs.Known.{StandsFor};
-ghost use Rattle.aml_load.specs.Loading.{Listed, IsLoad, use_count};
+ghost use Rattle.aml_load.specs.Loading.{Listed, first_listed, IsLoad, use_count};
 ghost use Rattle.aml_load.specs.Walking.{table_at, tables_at, uses_at, load_at};
 ghost use Rattle.aml_load.specs.Stops.{StopsLoad};
 ghost use Rattle.aml_load.specs.Views.{codes_view, trees_view, AreShort, IsCode, AreCodes, Holds, HoldsLoad, Gives, GivesLoad, TableWalked, body_of, table_encoding};
@@ -95,19 +96,41 @@ fn check_uses(alloc: Global, space: &Space, uses: &[Use]) -> Result<(), LoadFaul
     Ok(())
 }
 
+/// A namespace before any table, with the counts that the user gives.
+fn space_with(alloc: Global, givens: &[(Path, u8)]) -> Result<Space, NoMemory>
+    ensures { IfOk result (λ space. StandsFor space (given_entries givens.now)) }
+{
+    let mut space = Space::new(alloc)?;
+    for (path, count) in givens {
+        space.given(path.clone()?, *count)?;
+    }
+    Ok(space)
+}
+
+/// What the tables have made before any of them.
+fn first_progress(alloc: Global, givens: &[(Path, u8)]) -> Result<Progress, NoMemory>
+    ensures { IfOk result (λ progress. Holds progress (first_listed givens.now)) }
+{
+    Ok(Progress {
+        alloc,
+        space: space_with(alloc, givens)?,
+        methods: Vec::new(alloc),
+        uses: Vec::new(alloc),
+    })
+}
+
 #[tactic(auto, unfolding(crate::specs::Walking::load_at))]
-fn load_whole<'a>(alloc: Global, tables: &[&'a [u8]]) -> Result<Loaded<'a>, LoadFault>
+fn load_whole<'a>(
+    alloc: Global,
+    tables: &[&'a [u8]],
+    givens: &[(Path, u8)],
+) -> Result<Loaded<'a>, LoadFault>
     requires { AreShort (codes_view tables.now) }
-    ensures { GivesLoad result (codes_view tables.now) }
+    ensures { GivesLoad givens.now result (codes_view tables.now) }
 {
     let mut kept = Vec::new(alloc);
     kept.extend_from_slice(tables)?;
-    let mut progress = Progress {
-        alloc,
-        space: Space::new(alloc)?,
-        methods: Vec::new(alloc),
-        uses: Vec::new(alloc),
-    };
+    let mut progress = first_progress(alloc, givens)?;
     let trees = load_tables(&mut progress, tables)?;
     check_uses(alloc, &progress.space, progress.uses.as_slice())?;
     Ok(Loaded {
@@ -138,24 +161,31 @@ fn are_codes(tables: &[&[u8]])
 /// Each table is read whole, and then its terms declare in the order of the text. A path is declared once; a Scope or an
 /// Alias needs a name that is predefined or came earlier; there are at most 1,048,576 methods; and no name that takes
 /// arguments stands as a TermArg outside the methods. The fault is the first that is met.
-pub fn load<'a>(alloc: Global, tables: &[&'a [u8]]) -> Result<Loaded<'a>, LoadFault>
+///
+/// `givens` are argument counts, 0 to 7, that the user gives to paths. They count for a name that leads nowhere that any
+/// table names, by the first of the paths that it may mean, and the greatest of a path; and they declare nothing.
+pub fn load<'a>(
+    alloc: Global,
+    tables: &[&'a [u8]],
+    givens: &[(Path, u8)],
+) -> Result<Loaded<'a>, LoadFault>
     // The limit of a table.
     requires { AreShort (codes_view tables.now) }
 
     // The tables' AML reads as the trees, and these load to entries whose namespace and methods are the answer's.
-    ensures sound { IfOk result (λ x. (trees : List Trees) × (m : Listed) × IsLoad (codes_view tables.now) trees m ×
+    ensures sound { IfOk result (λ x. (trees : List Trees) × (m : Listed) × IsLoad givens.now (codes_view tables.now) trees m ×
         HoldsLoad x (codes_view tables.now) trees m) }
     // To nothing else.
-    ensures one { IfOk result (λ x. (trees : List Trees) (m : Listed) → IsLoad (codes_view tables.now) trees m →
+    ensures one { IfOk result (λ x. (trees : List Trees) (m : Listed) → IsLoad givens.now (codes_view tables.now) trees m →
         HoldsLoad x (codes_view tables.now) trees m) }
     // A refusal for another cause than memory comes only where there are no trees and entries that load.
     ensures complete { IfErr result (λ e. (e ≡ LoadFault.NoMemory) ⊎
-        ((trees : List Trees) (m : Listed) → IsLoad (codes_view tables.now) trees m → ⊥)) }
+        ((trees : List Trees) (m : Listed) → IsLoad givens.now (codes_view tables.now) trees m → ⊥)) }
     // A fault is true of its table and of the entries where it stands.
-    ensures true_fault { IfErr result (λ e. (e ≡ LoadFault.NoMemory) ⊎ StopsLoad (codes_view tables.now) e) }
+    ensures true_fault { IfErr result (λ e. (e ≡ LoadFault.NoMemory) ⊎ StopsLoad givens.now (codes_view tables.now) e) }
 {
     are_codes(tables);
-    load_whole(alloc, tables)
+    load_whole(alloc, tables, givens)
 }
 
 impl<'a> Loaded<'a> {

@@ -7,7 +7,7 @@ ghost use Rattle.aml_code.specs.View.{node_view, nodes_view, parts_view, tail_vi
 ghost use Rattle.aml_space.specs.Entries.{declares, external as outside};
 ghost use Rattle.aml_space.specs.Known.{StandsFor};
 ghost use Rattle.aml_load.specs.Loading.{Listed, plus, method_entry, first_label, byte_of, lead_of, target_of, body_start, body_len};
-ghost use Rattle.aml_load.specs.Walking.{given, led_at, place_at, scope_at, source_at, entry_at, new_at, name_at, number_at, method_at, alias_at, external_at, units_at, do_as, walk, walk_inside, walk_all};
+ghost use Rattle.aml_load.specs.Walking.{listed, led_at, place_at, scope_at, source_at, entry_at, new_at, name_at, number_at, method_at, alias_at, external_at, units_at, do_as, walk, walk_inside, walk_all};
 ghost use Rattle.aml_load.specs.Views.{Gives, GivesIn, Walks, WalksTo};
 
 use crate::faults::LoadFault;
@@ -233,7 +233,7 @@ impl Progress {
 
     /// Adds an External of a path.
     fn add_count(&mut self, path: Path, count: u8) -> Result<(), LoadFault>
-        ensures { Walks self.old self.new result (λ l. given (plus l (outside path count))) }
+        ensures { Walks self.old self.new result (λ l. listed (plus l (outside path count))) }
     {
         self.space.external(path, count)?;
         Ok(())

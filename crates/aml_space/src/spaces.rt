@@ -65,7 +65,7 @@ impl Space {
             alloc,
             nodes,
             predefined: Predefined::new(),
-            givens: Givens::new(alloc),
+            givens: Givens::new(alloc)?,
         })
     }
 
@@ -107,10 +107,10 @@ impl Space {
 
     /// Adds an argument count that the user gives to a path. It counts where a name leads nowhere that any table names, and
     /// declares nothing. Many of one path may stand; the greatest counts. A refused one changes nothing.
-    pub fn given(&mut self, path: Path, count: u8) -> Result<(), NoMemory>
-        ensures ok { OnOk result (self.new ≡ with_given self.old path count) }
+    pub fn given(&mut self, path: &Path, count: u8) -> Result<(), NoMemory>
+        ensures ok { OnOk result (self.new ≡ with_given self.old path.now count) }
         ensures stands { (es : List Entry) → StandsFor self.old es →
-            OnOk result (StandsFor self.new (es ++ said path count ∷ [])) }
+            OnOk result (StandsFor self.new (es ++ said path.now count ∷ [])) }
         ensures err { OnErr result (self.new ≡ self.old) }
     {
         self.givens.add(path, count)?;

@@ -8,8 +8,8 @@ use Rattle.aml_space.proofs.spaces.Space.given.Goals as goal
 pub returns-clause-ok : goal.returns-clause-ok
 returns-clause-ok c =
     ap (λ g. with_givens (known_by c.self.inside.nodes.items) g) c.in_ok-add.ensures.ok
-    ∙ ap (λ (k : Known). with_given k c.args.path c.args.count) c.self.view_is
+    ∙ ap (λ (k : Known). with_given k c.args.path.now c.args.count) c.self.view_is
 
 pub returns-clause-stands : goal.returns-clause-stands
 returns-clause-stands c = λ es stands.
-    subst (λ k. StandsFor k (es ++ said c.args.path c.args.count ∷ [])) (sym (returns-clause-ok c)) (stands_given c.args.self.now es c.args.path c.args.count stands)
+    subst (λ k. StandsFor k (es ++ said c.args.path.now c.args.count ∷ [])) (sym (returns-clause-ok c)) (stands_given c.args.self.now es c.args.path.now c.args.count stands)

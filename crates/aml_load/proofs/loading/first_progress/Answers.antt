@@ -1,0 +1,10 @@
+use Rattle.std.proofs.Common.{sym, ◌∙◌}
+use Rattle.aml_load.proofs.Givens.{no_methods}
+use Rattle.aml_load.proofs.loading.first_progress.Goals as goal
+
+pub returns : goal.returns
+returns c = record {
+  space = c.in_ok-space_with.ensures;
+  methods = c.new.ensures.items ∙ sym (no_methods c.args.givens.now);
+  uses = c.new-2.ensures.items;
+}
