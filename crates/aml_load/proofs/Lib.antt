@@ -4,3 +4,5 @@ pub mod Holding
 pub mod Outcome
 mod Givens
 pub mod BodyLaws
+pub mod NoSpans
+pub mod SpanLaws

@@ -5,3 +5,4 @@ pub mod Walking
 pub mod Stops
 pub mod Views
 pub mod Bodies
+pub mod Spans
