@@ -116,7 +116,8 @@ mutual
       both_none (part_spans t p) (parts_spans t ps) (part_none s levels k ls t p l.0) (parts_none s levels ks (after_part s.scope ls p) t ps l.1)
 
   -- a tail that is no body, and whose terms aren't those of a table
-  pub rest_none : (s : Setting) (levels : ℕ) (p : Position) (k : TailKind) (ls : PathSet) (t : ℕ) (r : Rest) → (k ≡ tails.Terms → takes_names p ≡ true) → (k ≡ tails.Body → ⊥) → IsTail s levels p k ls r → rest_spans t r ≡ []
+  pub rest_none : (s : Setting) (levels : ℕ) (p : Position) (k : TailKind) (ls : PathSet) (t : ℕ) (r : Rest)
+      → (k ≡ tails.Terms → takes_names p ≡ true) → (k ≡ tails.Body → ⊥) → IsTail s levels p k ls r → rest_spans t r ≡ []
   rest_none s levels p k ls t empty h other l = refl
   rest_none s levels p k ls t (terms xs) h other l = let d = terms_tail s levels p k ls xs l in all_none s levels p ls t xs (h d.0) d.1
   rest_none s levels p k ls t (bytes bs) h other l = refl

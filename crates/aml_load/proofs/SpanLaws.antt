@@ -28,9 +28,10 @@ use Rattle.aml_code.proofs.RowFacts.{and_left, and_right}
 use Rattle.aml_parse.specs.Reading.{takes_names}
 use Rattle.aml_space.specs.declared.kinds.Kind.{Kind}
 use Rattle.aml_space.specs.declared.kinds.Kind.TheVariants as kinds
-use Rattle.aml_space.specs.Entries.{declares, external}
+use Rattle.aml_space.specs.Entries.{Givens, declares, external}
 use Rattle.aml_load.specs.Roles.{role_of, role_in, kind_of}
-use Rattle.aml_load.specs.Loading.{Listed, plus, with_uses, byte_of, body_start, body_len, target_of, method_entry, DeclareUnits, DoesAs, Declares, DeclareInside, DeclareAll, DeclareTables, methods_of, ReadTables, IsLoad, nothing_listed}
+use Rattle.aml_load.proofs.Givens.{no_methods}
+use Rattle.aml_load.specs.Loading.{Listed, plus, with_uses, byte_of, body_start, body_len, target_of, method_entry, DeclareUnits, DoesAs, Declares, DeclareInside, DeclareAll, DeclareTables, methods_of, ReadTables, IsLoad, first_listed}
 use Rattle.aml_load.specs.Spans.{Span, method_span, tree_spans, all_spans, rest_spans, units_spans, tables_spans, InTextOrder}
 use Rattle.aml_load.proofs.NoSpans.{terms_tail, body_tail, parts_none, arguments_none, rest_none, elements_none, fields_none}
 use Rattle.aml_load.proofs.Walks.{methods_more}
@@ -228,7 +229,8 @@ body_one s levels p ls t (body start len) l = refl
 mutual
   unfolding Adding
 
-  tree_adds : (s : Setting) (levels : ℕ) (p : Position) (ls : PathSet) (t : ℕ) (l : Listed) (scope : List Seg) (x : Tree) (m : Listed) → takes_names p ≡ false → IsLawful s levels p ls x → Declares t l scope x m → Adds l m (tree_spans t x)
+  tree_adds : (s : Setting) (levels : ℕ) (p : Position) (ls : PathSet) (t : ℕ) (l : Listed) (scope : List Seg) (x : Tree) (m : Listed)
+      → takes_names p ≡ false → IsLawful s levels p ls x → Declares t l scope x m → Adds l m (tree_spans t x)
   tree_adds s levels p ls t l scope nothing m h law d = same_adds l m [] (ap spans_so_far d) refl
   tree_adds s zero p ls t l scope (named n xs) m h law d = absurd law
   tree_adds s (suc levels) p ls t l scope (named n xs) m h law d = same_adds l m (all_spans t xs) (ap spans_so_far d) (arguments_none s levels ls t xs law.3)
@@ -255,7 +257,8 @@ mutual
   inside_adds s levels p k ls t l scope (fields us) m h other law d = same_adds l m (units_spans t us) (ap spans_so_far d) (fields_none s levels p k ls t us law)
   inside_adds s levels p k ls t l scope (body start len) m h other law d = absurd (other (body_tail s levels p k ls start len law))
 
-  pub all_add : (s : Setting) (levels : ℕ) (p : Position) (ls : PathSet) (t : ℕ) (l : Listed) (scope : List Seg) (xs : Trees) (m : Listed) → takes_names p ≡ false → AreTerms s levels p ls xs → DeclareAll t l scope xs m → Adds l m (all_spans t xs)
+  pub all_add : (s : Setting) (levels : ℕ) (p : Position) (ls : PathSet) (t : ℕ) (l : Listed) (scope : List Seg) (xs : Trees) (m : Listed)
+      → takes_names p ≡ false → AreTerms s levels p ls xs → DeclareAll t l scope xs m → Adds l m (all_spans t xs)
   all_add s levels p ls t l scope no_trees m h law d = same_adds l m [] (ap spans_so_far d) refl
   all_add s levels p ls t l scope (tree_more x xs) m h law d =
       then_adds l d.0 m (tree_spans t x) (all_spans t xs) (tree_adds s levels p ls t l scope x d.0 h law.0 d.1)
@@ -273,13 +276,16 @@ tables_add t l (c ∷ codes) (xs ∷ trees) m read d =
     (tables_add (suc t) d.0 codes trees m read.1 d.2)
 
 -- The methods that tables load to are those whose bodies stand in the trees, in load order and in the order of the text.
-pub in_text_order : (tables : List (List ℕ)) (trees : List Trees) (m : Listed) → IsLoad tables trees m → InTextOrder trees m
-in_text_order tables trees m h = tables_add 0 nothing_listed tables trees m h.read (h.loads).declared
+pub in_text_order : (gs : Givens) (tables : List (List ℕ)) (trees : List Trees) (m : Listed) → IsLoad gs tables trees m → InTextOrder trees m
+in_text_order gs tables trees m h =
+    tables_add 0 (first_listed gs) tables trees m h.read (h.loads).declared
+    ∙ ap (λ ms. map method_span ms ++ tables_spans 0 trees) (no_methods gs)
 
 -- there are as many methods as bodies
-pub as_many : (tables : List (List ℕ)) (trees : List Trees) (m : Listed) → IsLoad tables trees m → length (methods_of m.entries) ≡ length (tables_spans 0 trees)
-as_many tables trees m h = sym (length-map (methods_of m.entries) method_span) ∙ ap length (in_text_order tables trees m h)
+pub as_many : (gs : Givens) (tables : List (List ℕ)) (trees : List Trees) (m : Listed) → IsLoad gs tables trees m → length (methods_of m.entries) ≡ length (tables_spans 0 trees)
+as_many gs tables trees m h = sym (length-map (methods_of m.entries) method_span) ∙ ap length (in_text_order gs tables trees m h)
 
 -- the method with a number is that of the body with this number
-pub body_of_number : (tables : List (List ℕ)) (trees : List Trees) (m : Listed) (i : ℕ) → IsLoad tables trees m → slice_get (tables_spans 0 trees) i ≡ option_map method_span (slice_get (methods_of m.entries) i)
-body_of_number tables trees m i h = ap (λ spans. slice_get spans i) (sym (in_text_order tables trees m h)) ∙ slice_get-map method_span (methods_of m.entries) i
+pub body_of_number : (gs : Givens) (tables : List (List ℕ)) (trees : List Trees) (m : Listed) (i : ℕ)
+    → IsLoad gs tables trees m → slice_get (tables_spans 0 trees) i ≡ option_map method_span (slice_get (methods_of m.entries) i)
+body_of_number gs tables trees m i h = ap (λ spans. slice_get spans i) (sym (in_text_order gs tables trees m h)) ∙ slice_get-map method_span (methods_of m.entries) i

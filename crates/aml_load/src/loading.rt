@@ -102,7 +102,7 @@ fn space_with(alloc: Global, givens: &[(Path, u8)]) -> Result<Space, NoMemory>
 {
     let mut space = Space::new(alloc)?;
     for (path, count) in givens {
-        space.given(path.clone()?, *count)?;
+        space.given(path, *count)?;
     }
     Ok(space)
 }

@@ -4,3 +4,4 @@ pub mod LineLaws
 pub mod BlockLaws
 pub mod ListingLaws
 mod EndLaws
+pub mod Taking
