@@ -1,4 +1,6 @@
-pub mod Lines
+pub mod FirstLines
 pub mod Digits
+pub mod Counts
+pub mod Pairs
 pub mod Entries
 pub mod Turns

@@ -11,17 +11,17 @@ use Rattle.acpi_folder.specs.Map.{Entry, entry_of, shown_by, lines_of, repeats, 
 use Rattle.acpi_folder.proofs.Entries.{address_in-shown}
 
 -- what stands at an index, where the lines from there on are known
-inside : (lines : List (List ℕ)) (n : ℕ) (line : List ℕ) (others : List (List ℕ)) → drop n lines ≡ line ∷ others → n < length lines
+pub inside : (lines : List (List ℕ)) (n : ℕ) (line : List ℕ) (others : List (List ℕ)) → drop n lines ≡ line ∷ others → n < length lines
 inside lines n line others is =
     let long : length lines - n ≡ suc (length others) = sym (length-drop n lines) ∙ ap length is in omega arith
 
-front : (lines : List (List ℕ)) (n : ℕ) (line : List ℕ) (others : List (List ℕ)) → drop n lines ≡ line ∷ others → get_or lines n [] ≡ line
+pub front : (lines : List (List ℕ)) (n : ℕ) (line : List ℕ) (others : List (List ℕ)) → drop n lines ≡ line ∷ others → get_or lines n [] ≡ line
 front lines n line others is =
     let within : n < length lines = inside lines n line others is in
     let cut : drop n lines ≡ get_or lines n [] ∷ drop (suc n) lines = drop-cons lines n [] within in
     cc
 
-back : (lines : List (List ℕ)) (n : ℕ) (line : List ℕ) (others : List (List ℕ)) → drop n lines ≡ line ∷ others → drop (n + 1) lines ≡ others
+pub back : (lines : List (List ℕ)) (n : ℕ) (line : List ℕ) (others : List (List ℕ)) → drop n lines ≡ line ∷ others → drop (n + 1) lines ≡ others
 back lines n line others is =
     let within : n < length lines = inside lines n line others is in
     let cut : drop n lines ≡ get_or lines n [] ∷ drop (suc n) lines = drop-cons lines n [] within in

@@ -1,10 +1,11 @@
 //! The file `tables.map` of a folder: the physical address at which each table stood.
-ghost use Rattle.std.specs.Prelude.{◌≡◌, ◌⊎◌, ◌+◌, ◌<◌, ◌∷◌, [], true, false, None, Some, MatchOption, OnOk, IfOk, IfErr, map, find, option_map, length, position, string_bytes};
+ghost use Rattle.std.specs.Prelude.{◌≡◌, ◌⊎◌, ◌+◌, ◌<◌, ◌∷◌, [], true, false, None, Some, MatchOption, OnOk, IfOk, IfErr, map, find, option_map, length, string_bytes};
 ghost use Rattle.std.specs.List.{list_any, list_all};
 ghost use Rattle.std.specs.Str.{bytes_eq};
 ghost use Rattle.acpi_folder.specs.declared.map.MapFault.TheVariants.{NoMemory};
-ghost use Rattle.acpi_folder.specs.Map.{lines_of, is_line_end, is_hex_digit, hex_value, hex_number, IsLine, entry_of, shown_by, is_listed, repeats, address_in, addresses_of, HoldsMap, HasFault, RefusesMap, numbered_by};
+ghost use Rattle.acpi_folder.specs.Map.{lines_of, is_hex_digit, hex_value, hex_number, IsLine, entry_of, shown_by, is_listed, repeats, address_in, addresses_of, HoldsMap, HasFault, RefusesMap, numbered_by};
 
+use crate::lines::first_line;
 use std::alloc::{AllocError, AllocFailed, Global};
 use thiserror::Error;
 
@@ -121,26 +122,6 @@ fn read_lines<'a>(
         rest = others;
     }
     Ok(lines)
-}
-
-/// The first line of a text, and what follows it.
-#[tactic(auto, using(crate::proofs::Lines::ends))]
-fn first_line(text: &[u8]) -> (&[u8], &[u8])
-    requires { 0 < length text.now }
-    ensures lines { lines_of text.now ≡ result.0.now ∷ lines_of result.1.now }
-    ensures shorter { length result.1.now < length text.now }
-{
-    match line_end(text) {
-        Some(end) => (&text[..end], &text[end + 1..]),
-        None => (text, &[]),
-    }
-}
-
-/// The index of the byte that ends the first line.
-fn line_end(text: &[u8]) -> Option<usize>
-    ensures { result ≡ position is_line_end text.now }
-{
-    text.iter().position(|byte| *byte == b'\n')
 }
 
 /// What the line of this number says, behind these.

@@ -1,8 +1,8 @@
 use Rattle.std.proofs.Common.{◌+◌, ◌-◌, ◌∷◌, length, take, drop, sym, ap, ◌∙◌, arith, length-drop}
 use Rattle.std.proofs.lemmas.List.{take_all}
 use Rattle.acpi_folder.specs.Map.{lines_of}
-use Rattle.acpi_folder.proofs.Lines.{lines_of-ended}
-use Rattle.acpi_folder.proofs.map.first_line.Goals as goal
+use Rattle.acpi_folder.proofs.FirstLines.{lines_of-ended}
+use Rattle.acpi_folder.proofs.lines.first_line.Goals as goal
 
 pub returns-in-Some-clause-lines : goal.returns-in-Some-clause-lines
 returns-in-Some-clause-lines c =
