@@ -14,6 +14,7 @@ sys.dont_write_bytecode = True
 sys.path.insert(0, str(pathlib.Path(__file__).resolve().parent))
 
 from dumps import Bad, Dump, dump_lines, order_of  # noqa: E402
+from externals import ExternalsFault, parse_externals  # noqa: E402
 from folders import MapFault, parse_map  # noqa: E402
 from loading import Body, Namespace, path_text  # noqa: E402
 from printing import row_text, term_lines  # noqa: E402
@@ -103,6 +104,13 @@ def map_text(names, text):
     return [f"{name} {'none' if address is None else f'{address:X}'}" for name, address in given.items()]
 
 
+def externals_text(text):
+    try:
+        return [f"{path_text(path)} {count}" for path, count in parse_externals(text)]
+    except ExternalsFault as fault:
+        return [f"{fault} in line {fault.line}"]
+
+
 def or_none(answer):
     return ["none" if answer is None else str(answer)]
 
@@ -115,7 +123,8 @@ class Rows:
     """The answers to rows: a set and a namespace grow until the next begins."""
 
     def __init__(self):
-        self.dumps, self.names, self.declared = [], Namespace(), set()
+        self.dumps, self.given = [], []
+        self.names, self.declared = Namespace(), set()
 
     def answer(self, row):
         """The lines that stand below a row."""
@@ -159,10 +168,13 @@ class Rows:
     def row_map(self, words, text):
         return map_text(words.split(" "), text)
 
+    def row_externals(self, _, text):
+        return externals_text(text)
+
     # sets
 
     def row_set(self, _, __):
-        self.dumps = []
+        self.dumps, self.given = [], []
 
     def row_dump(self, words, content):
         name, signature = words.split(" ")
@@ -198,7 +210,7 @@ class Rows:
         return answers
 
     def row_run(self, words, _):
-        status, out, err = run(self.dumps, options_of(words))
+        status, out, err = run(self.dumps, options_of(words), self.given)
         return [f"status {status}", *out.splitlines(), *err.splitlines()]
 
     # namespaces
@@ -214,6 +226,12 @@ class Rows:
     def row_external(self, words, _):
         path, count = words.split()
         self.names.add_external(path_of(path), int(count))
+
+    def row_given(self, words, _):
+        """A count for a path that no table says anything of: in the namespace, and in the runs over the set."""
+        path, count = words.split()
+        self.names.give(path_of(path), int(count))
+        self.given.append((path_of(path), int(count)))
 
     def row_local(self, words, _):
         self.declared.add(path_of(words))

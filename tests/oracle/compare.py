@@ -1,15 +1,18 @@
 #!/usr/bin/env python3
 """Compares what acpidis prints with an independent reading, over folders that are made up near the grammar and then damaged.
 
-    python3 tests/oracle/compare.py [--seconds N | --sets N] [--seed N] [FOLDER ..]
+    python3 tests/oracle/compare.py [--seconds N | --sets N] [--seed N] [--with-externals] [FOLDER ..]
 
 Standard output, standard error and the status are compared whole. A FOLDER of dumps is compared as it stands, and then damaged
-copies of it. The first sets that differ are kept, and the status is 1. ./test compares 500 sets of seed 0.
+copies of it. The first sets that differ are kept, and the status is 1. With --with-externals most made-up sets come
+with a file for the option --externals. ./test compares 500 sets of seed 0.
 """
 
 import argparse
 import collections
+import dataclasses
 import itertools
+import os
 import pathlib
 import random
 import shutil
@@ -25,6 +28,7 @@ from folders import file_names  # noqa: E402
 from made_sets import SetMaker  # noqa: E402
 from running import DONE, RAW, Options, Outcome, run_folder  # noqa: E402
 
+FOLDER, EXTERNALS = "set", "externals.txt"
 PROGRAM = pathlib.Path(__file__).resolve().parents[2] / "out/acpidis"
 LONGEST_RUN = 60
 MOST_DIFFERENCES = 5
@@ -55,16 +59,17 @@ class Comparison:
     def __init__(self, program):
         self.program = program
         self.ends, self.faults = collections.Counter(), collections.Counter()
-        self.methods = self.raw = self.differences = 0
+        self.methods = self.raw = self.differences = self.decided = 0
 
     def compare(self, folder, options):
         wanted = run_folder(folder, options)
         self.count(wanted)
+        if options.externals is not None:
+            self.decided += wanted != run_folder(folder, dataclasses.replace(options, externals=None))
         difference = first_difference(run_program(self.program, folder, options), wanted)
         if difference:
             self.differences += 1
-            kept = shutil.copytree(folder, tempfile.mkdtemp() + "/set")
-            print(f"set {self.ends.total()} differs: acpidis {' '.join([*options.words(), kept])}: {difference}")
+            print(f"set {self.ends.total()} differs: acpidis {' '.join(kept_words(folder, options))}: {difference}")
 
     def count(self, outcome):
         self.ends[{DONE: "accepted", RAW: "with raw bodies"}.get(outcome.status, "refused")] += 1
@@ -80,15 +85,30 @@ class Comparison:
         faults = ", ".join(f"{fault} {count}" for fault, count in self.faults.most_common())
         print(f"{self.ends.total()} sets: {ends}" + (f" ({faults})" if faults else ""))
         print(f"{self.methods} methods listed, {self.raw} bodies raw")
+        if self.decided:
+            print(f"{self.decided} sets that a file of externals changes")
         print(f"{self.ends.total() - self.differences} passed, {self.differences} failed")
 
 
-def write_files(room, files):
-    """Makes the folder one of these files alone."""
-    for path in room.iterdir():
-        path.unlink()
-    for name, data in files.items():
-        (room / name).write_bytes(data)
+def kept_words(folder, options):
+    """Copies what a run reads, and gives the words of the run over the copies."""
+    room = pathlib.Path(tempfile.mkdtemp())
+    kept = shutil.copytree(folder, room / FOLDER)
+    if options.externals is not None and os.path.exists(options.externals):
+        options = dataclasses.replace(options, externals=str(shutil.copy(options.externals, room / EXTERNALS)))
+    return [*options.words(), str(kept)]
+
+
+def write_trial(room, trial):
+    """Writes what a trial reads into an empty room, and gives its folder and its options."""
+    folder = room / FOLDER
+    folder.mkdir()
+    for name, data in trial.files.items():
+        (folder / name).write_bytes(data)
+    if trial.externals is None:
+        return folder, trial.options
+    (room / EXTERNALS).write_bytes(trial.externals)
+    return folder, dataclasses.replace(trial.options, externals=str(room / EXTERNALS))
 
 
 def read_files(folder):
@@ -101,6 +121,7 @@ def main():
     words.add_argument("--seconds", type=float, default=60)
     words.add_argument("--sets", type=int, help="compare so many made-up sets, however long it takes")
     words.add_argument("--seed", type=int, default=0)
+    words.add_argument("--with-externals", action="store_true", help="make up files for the option --externals too")
     words.add_argument("--program", type=pathlib.Path, default=PROGRAM, help="another program than out/acpidis")
     asked = words.parse_args()
     if not asked.program.exists():
@@ -109,15 +130,14 @@ def main():
     for folder in asked.folders:
         comparison.compare(folder, Options())
         comparison.compare(folder, Options(check=True))
-    maker = SetMaker(random.Random(asked.seed), [read_files(folder) for folder in asked.folders])
+    maker = SetMaker(random.Random(asked.seed), [read_files(folder) for folder in asked.folders], asked.with_externals)
     number, until = 0, time.monotonic() + asked.seconds
-    with tempfile.TemporaryDirectory() as room:
-        while number < asked.sets if asked.sets is not None else time.monotonic() < until:
-            if comparison.differences >= MOST_DIFFERENCES:
-                break
-            trial, number = maker.trial(), number + 1
-            write_files(pathlib.Path(room), trial.files)
-            comparison.compare(room, trial.options)
+    while number < asked.sets if asked.sets is not None else time.monotonic() < until:
+        if comparison.differences >= MOST_DIFFERENCES:
+            break
+        trial, number = maker.trial(), number + 1
+        with tempfile.TemporaryDirectory() as room:
+            comparison.compare(*write_trial(pathlib.Path(room), trial))
     print(f"seed {asked.seed}")
     comparison.report()
     sys.exit(comparison.differences > 0)

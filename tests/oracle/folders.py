@@ -44,12 +44,16 @@ def file_names(folder):
 
 
 def read_file(folder, name, most):
-    """The first bytes of a file, one more than a table or a map may have."""
     try:
-        with open(os.path.join(os.fsencode(folder), name.encode()), "rb") as file:
-            return file.read(most + 1)
+        return read_bytes(os.path.join(os.fsencode(folder), name.encode()), most)
     except OSError as error:
         raise unreadable_file(name) from error
+
+
+def read_bytes(path, most):
+    """The first bytes of a file, one more than it may have."""
+    with open(path, "rb") as file:
+        return file.read(most + 1)
 
 
 def unreadable_file(name):

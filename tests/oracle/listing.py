@@ -1,7 +1,7 @@
 #!/usr/bin/env python3
 """Prints what acpidis has to print of a folder, by the independent reading, and ends with the same status.
 
-    python3 tests/oracle/listing.py [--workers N] [--any-sum] [--unknown-zero] [--check] FOLDER
+    python3 tests/oracle/listing.py [--workers N] [--any-sum] [--unknown-zero] [--check] [--externals FILE] FOLDER
 """
 
 import argparse
@@ -21,6 +21,7 @@ def main():
     words.add_argument("--any-sum", action="store_true")
     words.add_argument("--unknown-zero", action="store_true")
     words.add_argument("--check", action="store_true")
+    words.add_argument("--externals", metavar="FILE", help="counts for paths that no table says anything of")
     asked = vars(words.parse_args())
     outcome = run_folder(asked.pop("folder"), Options(**asked))
     sys.stdout.write(outcome.out)

@@ -48,8 +48,12 @@ class Body:
 
 
 class Namespace:
-    def __init__(self):
-        self.kinds, self.externals, self.methods, self.uses = {}, {}, [], []
+    """`given` are the counts of arguments that no table says: paths with counts, of which the greatest holds."""
+
+    def __init__(self, given=()):
+        self.kinds, self.externals, self.methods, self.uses, self.given = {}, {}, [], [], {}
+        for path, count in given:
+            self.give(path, count)
 
     def kind(self, path):
         return self.kinds.get(path) or PREDEFINED.get(path)
@@ -82,10 +86,18 @@ class Namespace:
         def count(declared, name):
             path = self.find(scope, name, declared)
             if path is None:
-                return 0 if unknown_zero else None
+                given = self.given_count(scope, name)
+                return 0 if given is None and unknown_zero else given
             return 0 if path in declared else self.count(path)
 
         return count
+
+    def given_count(self, scope, name):
+        """The count that is given to the first candidate of a name that has one."""
+        return next((self.given[path] for path in name.candidates(scope) if path in self.given), None)
+
+    def give(self, path, count):
+        self.given[path] = max(self.given.get(path, 0), count)
 
     def declare(self, scope, name, kind, method=None):
         path = placed(scope, name)
@@ -177,16 +189,15 @@ class Loaded:
         return body
 
 
-def load(codes):
+def load(codes, given=()):
     """Reads and loads the AML of tables in load order."""
-    loaded, table = Loaded(codes, [], Namespace()), None
+    loaded, table = Loaded(codes, [], Namespace(given)), None
     try:
         for table, code in enumerate(codes):
             loaded.trees.append(Reader(code).read())
             loaded.space.load(table, (), loaded.trees[-1])
         for table, scope, name in loaded.space.uses:
-            path = loaded.space.find(scope, name)
-            if path is not None and loaded.space.count(path):
+            if loaded.space.arity(scope)((), name):
                 raise Refused("ModuleCall")
     except Refused as fault:
         raise Unloadable(fault, None if fault.name == "TooManyMethods" else table) from fault

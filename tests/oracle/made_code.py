@@ -44,18 +44,24 @@ class Maker:
     """Makes the AML of one set.
 
     `known` are the paths that the set has so far, with how many arguments each takes; `methods` those that are called from the
-    beginning and declared at the end; `locals` those that the body declares. `scope` is where the code stands, and `opened` the
+    beginning and declared at the end; `given` those of them of which no table says anything, with their counts (none
+    where `gives` isn't set); `locals` those that the body declares. `scope` is where the code stands, and `opened` the
     path of the last name that was declared or looked up. `strange_terms` and `strange_calls` are the shares of what may not be
     lawful, outside the methods and in their bodies.
     """
 
-    def __init__(self, chance):
-        self.chance = chance
+    def __init__(self, chance, gives=False):
+        self.chance, self.gives, self.given = chance, gives, {}
         self.strange_terms = chance.choices([0, 0.01, 0.1], [85, 10, 5])[0]
         self.strange_calls = chance.choices([0, 0.02, 0.2], [70, 20, 10])[0]
         self.scope, self.opened, self.fresh_count = (), (), 0
         self.known, self.locals = predefined_counts(), []
         self.methods = {(self.fresh_segment(),): chance.choice(ARGUMENT_COUNTS) for _ in range(4)}
+        if gives:
+            self.methods |= {self.deep_path(): chance.choice(ARGUMENT_COUNTS) for _ in range(3)}
+
+    def deep_path(self):
+        return (*self.chance.choice(((), ("_SB_",), ("_GPE",), (self.fresh_segment(),))), self.fresh_segment())
 
     def tables(self):
         """The AML of the tables of the set, the DSDT's first."""
@@ -65,8 +71,11 @@ class Maker:
         return codes
 
     def late_method(self, path, count):
-        """The declaration of a method that the set calls; seldom it is an External, or missing."""
+        """The declaration of a method that the set calls; seldom it is an External, or missing, or given."""
         name, how = spelled(self.chance, Name(True, 0, list(path))), self.chance.random()
+        if self.gives and self.chance.random() < 0.4:
+            self.given[path] = count
+            return b""
         if how < 0.03:
             return b""
         if how < 0.15:

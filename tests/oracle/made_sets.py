@@ -3,24 +3,33 @@
 from dataclasses import dataclass
 
 from dumps import FACS, RECORDS, ROOT
+from externals import MOST_BYTES as MOST_EXTERNALS_BYTES
 from folders import MAP_NAME
-from made_code import Maker, damaged
+from loading import path_text
+from made_code import ARGUMENT_COUNTS, STRANGE_SEGMENTS, Maker, damaged
 from running import Options
 
 ODD_NAMES = ["SSDT", "SSDT10", "SSDT2", 'a"7.dat', "b\\7", "é 03.dat", ".9", "s.11.", "s12\n.aml", "s9000000003.aml"]
 FADT_LENGTHS = [116, 117, 139, 140, 147, 148, 244, 276]
 SIGNATURES = [b"HPET", b"MCFG", b"RSDX", b"PSDT", b"dsdt", b'\x01"\\\xFF']
 BLOCKS = (b"DSDT", b"SSDT")
+BAD_LINES = [
+    "", " ", "1", "\\ 2", "AAAA 2", "^AAAA 2", "\\\\AAAA 1", "\\AAAA", "\\AAAA 8", "\\AAAA 01", "\\AAAA  2",
+    "\\AAAA 2 ", "\\AAAA 2\r", "\\AAAA\t1", "\\AAA 2", "\\aaaa 1", "\\1AAA 1", "\\AAAA. 1", "\\.AAAA 1",
+    "\\AAAA.BBB 1", "\\AAAABBBB 1", "\\AAAA..BBBB 1",
+]
 # The files of the tables that list others, and how many bytes an address has in them.
 LISTS = {"xsdt.dat": 8, "rsdt.dat": 4}
 
 
 @dataclass
 class Trial:
-    """The contents of files by name, and the options of a run over a folder of them."""
+    """The contents of files by name, the options of a run over a folder of them, and the content of the file that
+    `--externals` names, where the run has this option."""
 
     files: dict
     options: Options
+    externals: bytes | None = None
 
 
 # ---- tables
@@ -104,15 +113,24 @@ def with_wrong_sum(chance, data):
 
 
 class SetMaker:
-    """Makes one trial after another: of made-up tables, or of the known folders, given by the contents of their files."""
+    """Makes one trial after another: of made-up tables, or of the known folders, given by the contents of their files.
+    Where `gives` is set, most of them have a file for `--externals`."""
 
-    def __init__(self, chance, known=()):
-        self.chance, self.known = chance, known
+    def __init__(self, chance, known=(), gives=False):
+        self.chance, self.known, self.gives = chance, known, gives
+        self.given, self.paths = {}, []
 
     def happens(self, share):
         return self.chance.random() < share
 
     def trial(self):
+        self.given, self.paths = {}, []
+        trial = self.plain_trial()
+        if self.gives and self.happens(0.8):
+            trial.externals = self.externals()
+        return trial
+
+    def plain_trial(self):
         if self.known and self.happens(0.4):
             files = self.spoiled(self.chance.choice(self.known))
         else:
@@ -146,7 +164,9 @@ class SetMaker:
         return {kept: data for kept, data in files.items() if kept != name}
 
     def made_files(self):
-        codes = Maker(self.chance).tables()
+        maker = Maker(self.chance, self.gives)
+        codes = maker.tables()
+        self.given, self.paths = maker.given, [path for path in maker.known if path]
         signatures = [b"DSDT"] + [b"SSDT"] * (len(codes) - 1)
         names = self.block_names(len(codes))
         files = {name: table(self.chance, signature, code) for name, signature, code in zip(names, signatures, codes)}
@@ -156,6 +176,33 @@ class SetMaker:
         elif self.happens(0.1):
             files[MAP_NAME] = b""
         return {name: data + self.chance.randbytes(3) if self.happens(0.02) else data for name, data in files.items()}
+
+    def externals(self):
+        """A file of the counts that the tables want, and some that decide nothing, or seldom what they shouldn't."""
+        chance = self.chance
+        given = [*self.given.items()]
+        given += [(path, chance.randrange(count + 1)) for path, count in given if self.happens(0.2)]
+        given += [(self.stray_path(), chance.choice(ARGUMENT_COUNTS)) for _ in range(chance.choice((0, 0, 1, 2, 5)))]
+        lines = [f"{path_text(path)} {count}" for path, count in given if not self.happens(0.03)]
+        chance.shuffle(lines)
+        if self.happens(0.08):
+            lines.insert(chance.randrange(len(lines) + 1), chance.choice(BAD_LINES))
+        text = "".join(line + "\n" for line in lines).encode()
+        if self.happens(0.003):
+            return b"\\AAAA 1\n".ljust(MOST_EXTERNALS_BYTES + chance.choice((0, 1)), b"\n")
+        if self.happens(0.04):
+            return damaged(chance, text)
+        return text[:-1] if self.happens(0.2) else text
+
+    def stray_path(self):
+        """A path that tables declare, or of such names as they have where they may lead nowhere."""
+        how = self.chance.random()
+        if self.paths and how < 0.4:
+            return self.chance.choice(self.paths)
+        segs = [self.chance.choice(STRANGE_SEGMENTS) for _ in range(self.chance.choice((1, 1, 2, 3)))]
+        if self.given and how < 0.6:
+            return (*segs, self.chance.choice(list(self.given))[-1])
+        return tuple(segs)
 
     def block_names(self, count):
         if self.happens(0.8):

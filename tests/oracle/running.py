@@ -4,6 +4,7 @@ from dataclasses import dataclass
 from typing import NamedTuple
 
 from dumps import Bad, aml_of, dump_lines, order_of
+from externals import read_externals
 from folders import Unreadable, read_folder
 from loading import Unloadable, load, path_text
 from printing import block_lines, file_text, namespace_lines
@@ -17,12 +18,14 @@ class Options:
     unknown_zero: bool = False
     check: bool = False
     workers: int | None = None
+    externals: str | None = None
 
     def words(self):
         """The options as words of the command line."""
         flags = {"--any-sum": self.any_sum, "--unknown-zero": self.unknown_zero, "--check": self.check}
-        workers = [] if self.workers is None else ["--workers", str(self.workers)]
-        return workers + [word for word, is_given in flags.items() if is_given]
+        values = {"--workers": self.workers, "--externals": self.externals}
+        valued = [word for option, value in values.items() if value is not None for word in (option, str(value))]
+        return valued + [word for word, is_given in flags.items() if is_given]
 
 
 class Outcome(NamedTuple):
@@ -43,19 +46,23 @@ def refused(fault):
 
 def run_folder(folder, options):
     try:
-        return run(read_folder(folder), options)
+        dumps = read_folder(folder)
+        return run(dumps, options, read_externals(options.externals) if options.externals is not None else ())
     except Unreadable as fault:
         return refused(fault)
 
 
-def run(dumps, options):
-    """How a run over dumps ends. The number of workers makes no difference."""
+def run(dumps, options, given=()):
+    """How a run over dumps ends, with counts for paths that no table says anything of.
+
+    The number of workers makes no difference.
+    """
     try:
         order = order_of(dumps, options.any_sum)
     except Bad as bad:
         return refused_dump(dumps, bad.dump, bad)
     try:
-        loaded = load([aml_of(dumps[index].data) for index in order])
+        loaded = load([aml_of(dumps[index].data) for index in order], given)
     except Unloadable as fault:
         return refused_dump(dumps, None if fault.table is None else order[fault.table], fault)
     bodies = loaded.bodies(options.unknown_zero)
