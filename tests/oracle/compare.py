@@ -26,7 +26,7 @@ sys.path.insert(0, str(pathlib.Path(__file__).resolve().parent))
 
 from folders import file_names  # noqa: E402
 from made_sets import SetMaker  # noqa: E402
-from running import DONE, RAW, Options, Outcome, run_folder  # noqa: E402
+from running import DONE, RAW, REFUSED, Options, Outcome, run_folder  # noqa: E402
 
 FOLDER, EXTERNALS = "set", "externals.txt"
 PROGRAM = pathlib.Path(__file__).resolve().parents[2] / "out/acpidis"
@@ -64,7 +64,7 @@ class Comparison:
     def compare(self, folder, options):
         wanted = run_folder(folder, options)
         self.count(wanted)
-        if options.externals is not None:
+        if options.externals is not None and wanted.status != REFUSED:
             self.decided += wanted != run_folder(folder, dataclasses.replace(options, externals=None))
         difference = first_difference(run_program(self.program, folder, options), wanted)
         if difference:
