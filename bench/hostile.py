@@ -1,0 +1,151 @@
+#!/usr/bin/env python3
+"""Times the disassembly of sets that are made to hurt, each at half its size and at its whole size.
+
+usage: bench/hostile.py [ACPIDIS] [--only WORD] [--keep FOLDER] [--runs N] [--seconds N] [--large] [--no-iasl]
+
+ACPIDIS is the built program, out/acpidis if left out. Each set is written to a folder of its own. For each shape one
+line is printed: its size; the shortest time of N runs, 3 if left out, at the whole size; the most memory; how many
+times as much processor time and memory it takes as at half the size; how much text that is, which is thrown away; the
+status; the same of `--check`; and, where it is installed (Debian: apt-get install acpica-tools) and answers within 20
+seconds, the time of `iasl -d` on the DSDT. A run is stopped after so many seconds, 120 if left out. --large adds
+512 files of 16 MB each, for which the program needs 9 GB. Shapes of the option --externals are left out where the
+program doesn't have it. The script is no part of the gate.
+
+A shape's time should grow no more than 2.4 times; where it does, the line ends with GROWS. The shapes with `*` may take
+4.4 times as much: docs/limits.md says which two dimensions grow together in them.
+"""
+import argparse
+import os
+import pathlib
+import shutil
+import subprocess
+import sys
+import tempfile
+from typing import NamedTuple
+
+import hostile_shapes
+import runs
+
+MOST_GROWTH, MOST_SQUARE_GROWTH = 2.4, 4.4
+IASL_SECONDS = 20
+# Below this much processor time the start of the program counts for too much.
+LEAST_SECONDS = 0.1
+
+
+class Measure(NamedTuple):
+    """What a run took: seconds, processor seconds, peak memory in bytes, and its status."""
+
+    seconds: float
+    processor: float
+    peak: int
+    status: int
+
+
+def write(folder, make, size):
+    """Writes a set, from a process of its own: a program begun later counts this one's peak memory as its own."""
+    folder.mkdir(parents=True)
+    child = os.fork()
+    if child == 0:
+        for name, content in make(size).items():
+            hostile_shapes.write_file(folder / name, content)
+        os._exit(0)
+    _, status = os.waitpid(child, 0)
+    if status:
+        sys.exit(f"{folder} couldn't be written")
+
+
+def measured(command, folder, count, limit):
+    """The least of each of so many runs, but the most memory; nothing where one takes too long."""
+    answers = []
+    for _ in range(count):
+        answer = runs.run(command, folder, limit)
+        if answer is None:
+            return None
+        answers.append(Measure(*answer))
+    least, most = map(Measure._make, (map(min, zip(*answers)), map(max, zip(*answers))))
+    return least._replace(peak=most.peak)
+
+
+def printed_bytes(command, folder):
+    """How many bytes a run writes to standard output."""
+    with subprocess.Popen(command, cwd=folder, stdout=subprocess.PIPE, stderr=subprocess.DEVNULL) as child:
+        with subprocess.Popen(["wc", "-c"], stdin=child.stdout, stdout=subprocess.PIPE) as counter:
+            child.stdout.close()
+            return int(counter.stdout.read())
+
+
+def growth(whole, half):
+    """How many times as much processor time and memory the whole takes as its half, and the text of that."""
+    time, memory = whole.processor / max(half.processor, 0.001), whole.peak / half.peak
+    return time, f"({time:.1f} and {memory:.1f} times)"
+
+
+def answer_text(whole, half, most):
+    """The time and the memory of a run, with their growth, and whether it is too much."""
+    if whole is None:
+        return "no answer", True
+    text = f"{whole.seconds:7.2f} s {whole.peak / 1e6:6.0f} MB"
+    if half is None:
+        return text, True
+    times, more = growth(whole, half)
+    return f"{text} {more}", times > most and whole.processor > LEAST_SECONDS
+
+
+def line(shape, answers, text_bytes, iasl):
+    most = MOST_SQUARE_GROWTH if shape.is_square else MOST_GROWTH
+    plain, grows = answer_text(*answers[0], most)
+    check, check_grows = answer_text(*answers[1], most)
+    whole, star = answers[0][0], "*" if shape.is_square else ""
+    words = [
+        f"{shape.name + star:18}", f"{shape.size:>8} {shape.unit:9}", plain,
+        f"{text_bytes / 1e6:6.0f} MB of text" if text_bytes is not None else "",
+        f"status {whole.status}" if whole else "", f"--check {check}", f"iasl -d {iasl.seconds:.2f} s" if iasl else "",
+        "GROWS" if grows or check_grows else "",
+    ]
+    return "   ".join(word for word in words if word)
+
+
+def run_shape(shape, program, compiler, work, asked):
+    folders = [work / f"{shape.name}-{part}" for part in ("half", "whole")]
+    answers = [[], []]
+    for folder, size in zip(folders, (shape.size // 2, shape.size)):
+        write(folder, shape.make, size)
+        command = [program, *shape.options(folder), str(folder)]
+        for kind, words in zip(answers, (command, [*command, "--check"])):
+            kind.insert(0, measured(words, folder, asked.runs, asked.seconds))
+    text_bytes = printed_bytes(command, folder) if answers[0][0] else None
+    iasl = measured([compiler, "-d", "dsdt.dat"], folder, 1, IASL_SECONDS) if compiler else None
+    print(line(shape, answers, text_bytes, iasl), flush=True)
+    if not asked.keep:
+        for folder in folders:
+            shutil.rmtree(folder)
+
+
+def main():
+    top = pathlib.Path(__file__).resolve().parent.parent
+    words = argparse.ArgumentParser(description=__doc__, formatter_class=argparse.RawDescriptionHelpFormatter)
+    words.add_argument("acpidis", nargs="?", default=str(top / "out/acpidis"))
+    words.add_argument("--only", default="")
+    words.add_argument("--keep")
+    words.add_argument("--runs", type=int, default=3)
+    words.add_argument("--seconds", type=float, default=120)
+    words.add_argument("--large", action="store_true")
+    words.add_argument("--no-iasl", action="store_true")
+    asked = words.parse_args()
+    program = shutil.which(os.path.abspath(asked.acpidis))
+    if program is None:
+        sys.exit(f"{asked.acpidis} isn't built")
+    compiler = None if asked.no_iasl else shutil.which("iasl")
+    print(f"a load of {os.getloadavg()[0]:.1f} on {len(os.sched_getaffinity(0))} processors", flush=True)
+    work = pathlib.Path(asked.keep or tempfile.mkdtemp())
+    known_words = subprocess.run([program, "--help"], capture_output=True, check=True).stdout
+    has_option = hostile_shapes.OPTION.encode() in known_words
+    for shape in hostile_shapes.SHAPES:
+        if asked.only in shape.name and (asked.large or not shape.large) and (has_option or not shape.given):
+            run_shape(shape, program, compiler, work, asked)
+    if not asked.keep:
+        shutil.rmtree(work)
+
+
+if __name__ == "__main__":
+    main()

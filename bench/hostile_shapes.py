@@ -1,0 +1,343 @@
+"""The sets of bench/hostile.py: a DSDT of at most 16,777,216 bytes each, or many files."""
+import os
+from typing import Callable, NamedTuple
+
+from bodies import HEADER_BYTES, MOST_BYTES, method, table
+from names import local_names, mixed, package, scopes, segment
+
+SEGMENTS = 255
+# A file of a set that is no dump, since it lies in a folder of its own.
+OPTION, GIVEN = "--externals", "given/externals.txt"
+# Names that `segment` gives no number to, below a million.
+RUN, NOTHING = b"_RUN", b"ZZZZ"
+
+
+class Shape(NamedTuple):
+    """A set by its size, which is doubled; `is_square` where twice the size may take four times as long, `given` where
+    its runs have the option `--externals` with the set's file of that name, `large` where it takes 9 GB of memory."""
+
+    name: str
+    size: int
+    unit: str
+    make: Callable
+    is_square: bool = False
+    given: bool = False
+    large: bool = False
+
+    def options(self, folder):
+        return [OPTION, str(folder / GIVEN)] if self.given else []
+
+
+class Sparse(NamedTuple):
+    """A file of these bytes and then so many zeros that it has this size."""
+
+    head: bytes
+    size: int
+
+
+def write_file(path, content):
+    path.parent.mkdir(exist_ok=True)
+    if not isinstance(content, Sparse):
+        path.write_bytes(content)
+        return
+    same = path.parent.parent / f"{path.parent.name}.sparse"
+    if not same.exists():
+        same.write_bytes(content.head)
+        os.truncate(same, content.size)
+    os.link(same, path)
+
+
+def head(signature, length):
+    """A header whose table, with zeros behind it, has the sum zero."""
+    data = bytearray(signature + length.to_bytes(4, "little") + b"\x02\0BENCH HOSTILE \x01\0\0\0BNCH\x01\0\0\0")
+    data[9] = -sum(data) % 256
+    return bytes(data)
+
+
+def any_table(signature, content):
+    """A table of another signature than DSDT."""
+    data = bytearray(table(content))
+    data[:4] = signature
+    data[9] = 0
+    data[9] = -sum(data) % 256
+    return bytes(data)
+
+
+def one(make):
+    """A set of one DSDT of this AML."""
+    return lambda size: {"dsdt.dat": table(make(size))}
+
+
+def within(segments, code):
+    """AML in a scope of so many segments: Devices of up to 255, one in the other."""
+    while segments:
+        count = segments % SEGMENTS or SEGMENTS
+        segments -= count
+        name = b"\x2f" + bytes([count]) + b"".join(segment(number) for number in range(count))
+        code = package(b"\x5b\x82", name + code)
+    return code
+
+
+def main_method(body):
+    return method(RUN, 0, body)
+
+
+def named(count, what=b"\x00"):
+    """Names of integers, in no order."""
+    return b"".join(b"\x08" + segment(number) + what for number in mixed(count))
+
+
+def uses(count):
+    return b"".join(segment(number) for number in mixed(count))
+
+
+# ---- names and scopes
+
+
+def upward(count, depth):
+    """So many names at the root, and as many uses of them in a method of a scope of so many segments."""
+    return named(count) + within(depth, main_method(uses(count)))
+
+
+def upward_with_local(count, depth):
+    """The same, in a method that has a local name."""
+    return named(count) + within(depth, main_method(b"\x08LOCL\0" + uses(count)))
+
+
+def upward_outside(count, depth):
+    """Regions in a deep scope, with an offset and a length that nothing declares."""
+    regions = (b"\x5b\x80" + segment(number) + b"\0" + NOTHING + NOTHING for number in range(count))
+    return within(depth, b"".join(regions))
+
+
+def deep_names(count, depth):
+    return within(depth, named(count))
+
+
+def deep_locals(count, depth):
+    return within(depth, local_names(count))
+
+
+def deep_methods(count, depth):
+    calls = (method(segment(number), 0, segment(count - number - 1)) for number in range(count))
+    return within(depth, b"".join(calls))
+
+
+def deep_aliases(count, depth):
+    aliases = b"".join(b"\x06" + segment(number) + segment(number + 1) for number in range(count))
+    return within(depth, b"\x08" + segment(0) + b"\0" + aliases)
+
+
+def deep_alias(count, depth):
+    """Uses of an Alias of a method in a deep scope."""
+    alias = b"\x06" + segment(0) + b"\x5cALIA"
+    return within(depth, method(segment(0), 0, b"") + alias) + main_method(b"ALIA" * count)
+
+
+def alias_chain(count):
+    chain = b"".join(b"\x06" + segment(number) + segment(number + 1) for number in range(count))
+    calls = b"".join(segment(number) + b"\x60" for number in mixed(1000))
+    return method(segment(0), 1, b"") + chain + main_method(calls)
+
+
+def one_external(count):
+    externals = b"".join(b"\x15AAAA\x08" + bytes([number % 8]) for number in range(count))
+    return externals + main_method(b"AAAA" + b"\x60" * 7)
+
+
+def one_each(count):
+    """As many Externals, each of a path of its own, as uses of them."""
+    externals = b"".join(b"\x15" + segment(number) + b"\x08\0" for number in range(count))
+    return externals + main_method(uses(count))
+
+
+def long_names(size):
+    name = b"\x5c\x2f\xff" + b"".join(segment(number) for number in range(SEGMENTS))
+    return b"\x08" + name + b"\0" + main_method(name * ((size - 2 * len(name) - 64) // len(name)))
+
+
+def carets(count):
+    return main_method(b"\x71" + b"^" * (count - 64) + b"AAAA")
+
+
+def undeclared(count):
+    return b"\x08PKG_" + package(b"\x12", b"\0" + uses(count))
+
+
+def undeclared_in_body(count):
+    return main_method(package(b"\x12", b"\0" + uses(count)))
+
+
+def given(count):
+    """As many uses of names as lines that give them counts."""
+    lines = (b"\\%s 0\n" % segment(number) for number in mixed(count))
+    return {"dsdt.dat": table(main_method(uses(count))), GIVEN: b"".join(lines)}
+
+
+def given_again(count):
+    lines = (b"\\AAAA %d\n" % (number % 8) for number in range(count))
+    return {"dsdt.dat": table(main_method(b"AAAA" + b"\x60" * 7)), GIVEN: b"".join(lines)}
+
+
+# ---- nesting
+
+
+def nested(levels, segments):
+    name = b"\x2f" + bytes([segments]) + b"".join(segment(number) for number in range(segments))
+    code = main_method(b"GLOB")
+    for _ in range(levels):
+        code = package(b"\x5b\x82", name + code)
+    return method(b"GLOB", 0, b"") + code
+
+
+def nots(count, levels):
+    """Methods of so many LNots, one in the other."""
+    return b"".join(method(segment(number), 0, b"\x92" * levels + b"\x60") for number in range(count))
+
+
+def packages(count, levels):
+    """Methods of Packages of Packages."""
+    inner = b"\0"
+    for _ in range(levels):
+        inner = package(b"\x12", b"\x01" + inner)
+    return b"".join(method(segment(number), 0, inner) for number in range(count))
+
+
+def indented(count, levels):
+    """A method of as many Noops in so many Ifs, each of which moves them further right."""
+    body = b"\xa3" * count
+    for _ in range(levels):
+        body = package(b"\xa0", b"\x60" + body)
+    return main_method(body)
+
+
+# ---- much of the same
+
+
+def tiny_methods(count):
+    return b"".join(method(segment(number), 0, b"") for number in range(count))
+
+
+def raw_methods(count):
+    return b"".join(method(segment(number), 0, NOTHING) for number in range(count))
+
+
+def buffer(size):
+    content = b"\x0e" + bytes(8)
+    return b"\x08BUF_" + package(b"\x11", content + b"\xff" * (size - HEADER_BYTES - 32))
+
+
+def text(size):
+    return b"\x08TXT_\x0d" + b"\xff" * (size - HEADER_BYTES - 8) + b"\0"
+
+
+def raw_body(size):
+    return main_method(NOTHING + b"\xff" * (size - HEADER_BYTES - 32))
+
+
+def small_scopes(count):
+    return b"\x10\x03\x5c\0" * count
+
+
+def dense(size):
+    unit = bytes.fromhex("a472606100")
+    return main_method(unit * ((size - 64) // len(unit)))
+
+
+# ---- many files
+
+
+def sparse_files(count, size):
+    files = {f"other{number}.dat": Sparse(head(b"OTHR", size), size) for number in range(count - 1)}
+    return {"dsdt.dat": table(main_method(b"")), **files}
+
+
+def calling_files(count, methods):
+    """Tables of methods, each of which calls one of the next table."""
+    files = {}
+    for number in range(count):
+        called = (number + 1) % count * methods
+        bodies = (b"\xa4" + segment(called + index) + b"\x68" for index in range(methods))
+        code = b"".join(method(segment(number * methods + index), 1, body) for index, body in enumerate(bodies))
+        files["dsdt.dat" if not number else f"ssdt{number}.dat"] = any_table(b"SSDT" if number else b"DSDT", code)
+    return files
+
+
+def madt(size):
+    records = b"\xff\x02" * ((size - HEADER_BYTES - 8) // 2)
+    return {"dsdt.dat": table(b""), "apic.dat": any_table(b"APIC", bytes(8) + records)}
+
+
+ADDRESS = 0x1000
+
+
+def root(xsdt):
+    data = bytearray(b"RSD PTR \0BENCH \x02" + bytes(4) + (36).to_bytes(4, "little"))
+    data += xsdt.to_bytes(8, "little") + bytes(4)
+    data[8] = -sum(data[:20]) % 256
+    data[32] = -sum(data) % 256
+    return bytes(data)
+
+
+def listed(entries):
+    """Five hundred SSDTs with addresses, and an XSDT that lists so many, the last of them again and again."""
+    names = ["rsdp.dat", "xsdt.dat", "facp.dat", "dsdt.dat", *(f"ssdt{number}.dat" for number in range(500))]
+    places = {name: ADDRESS * (number + 1) for number, name in enumerate(names)}
+    listed_names = names[2:3] + names[4:] + names[-1:] * (entries - 501)
+    content = b"".join(places[name].to_bytes(8, "little") for name in listed_names)
+    fadt = bytes(104) + places["dsdt.dat"].to_bytes(8, "little")
+    ssdts = {name: any_table(b"SSDT", b"") for name in names[4:]}
+    return {
+        "rsdp.dat": root(places["xsdt.dat"]),
+        "xsdt.dat": any_table(b"XSDT", content),
+        "facp.dat": any_table(b"FACP", fadt),
+        "dsdt.dat": table(b""),
+        **ssdts,
+        "tables.map": "".join(f"{places[name]:016X} {name}\n" for name in names).encode(),
+    }
+
+
+SHAPES = (
+    Shape("nested", 510, "levels", one(lambda count: nested(count, SEGMENTS)), True),
+    Shape("nested-short", 510, "levels", one(lambda count: nested(count, 1)), True),
+    Shape("nested-long", 254, "segments", one(lambda count: nested(510, count))),
+    Shape("upward", 100_000, "names", one(lambda count: upward(count, 1000))),
+    Shape("upward-deep", 1_000, "segments", one(lambda count: upward(100_000, count))),
+    Shape("upward-local", 2_000, "names", one(lambda count: upward_with_local(count, 1000))),
+    Shape("upward-local-deep", 1_000, "segments", one(lambda count: upward_with_local(2000, count))),
+    Shape("upward-outside", 100_000, "names", one(lambda count: upward_outside(count // 2, 1000))),
+    Shape("deep-names", 2_000, "names", one(lambda count: deep_names(count, 10_000))),
+    Shape("deep-scope", 10_000, "segments", one(lambda count: deep_names(2000, count))),
+    Shape("deep-locals", 2_000, "names", one(lambda count: deep_locals(count, 10_000))),
+    Shape("deep-methods", 2_000, "methods", one(lambda count: deep_methods(count, 10_000))),
+    Shape("deep-alias", 100_000, "names", one(lambda count: deep_alias(count, 10_000))),
+    Shape("deep-aliases", 2_000, "names", one(lambda count: deep_aliases(count, 10_000))),
+    Shape("deep-outside", 2_000, "names", one(lambda count: upward_outside(count // 2, 10_000))),
+    Shape("locals", 1_000_000, "names", one(local_names)),
+    Shape("package", 1_000_000, "names", one(undeclared)),
+    Shape("package-body", 1_000_000, "names", one(undeclared_in_body)),
+    Shape("aliases", 1_000_000, "names", one(alias_chain)),
+    Shape("external", 1_000_000, "terms", one(one_external)),
+    Shape("externals", 1_000_000, "names", one(one_each)),
+    Shape("given", 1_000_000, "lines", given, given=True),
+    Shape("given-again", 2_000_000, "lines", given_again, given=True),
+    Shape("long-names", MOST_BYTES - HEADER_BYTES, "bytes", one(long_names)),
+    Shape("carets", MOST_BYTES - HEADER_BYTES, "bytes", one(carets)),
+    Shape("nots", 32_000, "methods", one(lambda count: nots(count, 500))),
+    Shape("nots-deep", 508, "levels", one(lambda count: nots(32_000, count))),
+    Shape("packages-deep", 508, "levels", one(lambda count: packages(4_000, count))),
+    Shape("indented", 200_000, "terms", one(lambda count: indented(count, 508))),
+    Shape("indented-deep", 508, "levels", one(lambda count: indented(200_000, count))),
+    Shape("tiny", 1_048_576, "methods", one(tiny_methods)),
+    Shape("raw", 1_048_576, "methods", one(raw_methods)),
+    Shape("raw-body", MOST_BYTES, "bytes", one(raw_body)),
+    Shape("buffer", MOST_BYTES, "bytes", one(buffer)),
+    Shape("text", MOST_BYTES, "bytes", one(text)),
+    Shape("scopes", 4_000_000, "terms", one(small_scopes)),
+    Shape("dense", MOST_BYTES - HEADER_BYTES, "bytes", one(dense)),
+    Shape("files", 512, "files", lambda count: sparse_files(count, 1 << 20)),
+    Shape("files-large", 512, "files", lambda count: sparse_files(count, MOST_BYTES), large=True),
+    Shape("tables", 512, "files", lambda count: calling_files(count, 500)),
+    Shape("madt", MOST_BYTES, "bytes", madt),
+    Shape("listed", 2_000_000, "entries", listed),
+)
