@@ -1,0 +1,183 @@
+#!/usr/bin/env bash
+# Runs acpidis over many sets of tables, and writes one line a set. docs/many.md says how to use it.
+#
+#   survey.sh [-j JOBS] [-s SECONDS] SETS RESULTS [OPTION..]
+#   survey.sh --left SETS RESULTS
+#   survey.sh --one SETS [OPTION..] -- FOLDER..
+#
+# The first form runs each set below SETS that has no line in RESULTS yet, JOBS at a time (as many as there are processors, if
+# left out), each for SECONDS at most (600). The second prints the folders of these sets, each ended by a NUL. The third prints
+# the lines of the given ones. Each OPTION is one of acpidis. ACPIDIS names another program, SURVEY_SECONDS is the third form's
+# SECONDS. It needs bash 5 and the tools of GNU or Linux: awk, find, flock, sort, timeout, xargs.
+set -u
+export LC_ALL=C CDPATH=
+
+fail() {
+    echo "survey: $*" >&2
+    exit 1
+}
+
+script=$(cd -- "$(dirname -- "$0")" && pwd -P)/${0##*/} || exit 1
+top=${script%/*/*}
+
+# Sets ACPIDIS to the program: the one it names, else that of this repository, which is built where it isn't, else the command's.
+find_program() {
+    if [ -z "${ACPIDIS-}" ] && [ -x "$top/acpidis" ]; then
+        "$top/acpidis" --version >/dev/null || exit
+        ACPIDIS=$top/out/acpidis
+    fi
+    ACPIDIS=$(command -v -- "${ACPIDIS:-acpidis}") || fail 'no program acpidis: install it, or name it in ACPIDIS'
+    export ACPIDIS
+}
+
+# show FOLDER: sets `shown` to its name in a line, each byte that isn't printable ASCII, and \, as \x and two digits
+show() {
+    local rest=$1 char code
+    shown=$rest
+    [[ $rest == *[!\ -~]* || $rest == *\\* ]] || return 0
+    shown=
+    while [ -n "$rest" ]; do
+        char=${rest:0:1} rest=${rest:1}
+        if [[ $char == [!\ -~] || $char == \\ ]]; then
+            printf -v code %d "'$char"
+            printf -v char '\\x%02X' $((code & 255))
+        fi
+        shown+=$char
+    done
+}
+
+# The folders below SETS that hold a file, are empty, or can't be read; files in SETS itself are none of a set.
+folders_of() {
+    (cd -- "$1" && find . -mindepth 1 \( -type d ! -readable -print0 -prune \) -o \( -type d -empty -print0 \) \
+        -o \( ! -type d -path './*/*' -printf '%h\0' \)) | sort -zu
+}
+
+# Leaves out the folders `data` and `dynamic` of a set: they come along from /sys/firmware/acpi/tables.
+only_sets() {
+    local -A is_set=()
+    local folder folders
+    mapfile -d '' folders
+    for folder in "${folders[@]}"; do is_set["$folder"]=1; done
+    for folder in "${folders[@]}"; do
+        case ${folder##*/} in
+        data | dynamic) [ -z "${is_set["${folder%/*}"]-}" ] || continue ;;
+        esac
+        printf '%s\0' "${folder#./}"
+    done
+}
+
+# without_line RESULTS: of the sets on standard input those that have no line
+without_line() {
+    local -A has_line=()
+    local name folder
+    while IFS=$'\t' read -r name _; do has_line["/$name"]=1; done <"$1"
+    while IFS= read -rd '' folder; do
+        show "$folder"
+        [ -n "${has_line["/$shown"]-}" ] || printf '%s\0' "$folder"
+    done
+}
+
+# open_results SETS RESULTS: makes the file where it isn't there, and cuts off a last line that isn't whole
+open_results() {
+    [ -d "$1" ] || fail "no folder $1"
+    : >>"$2" || fail "cannot write $2"
+    if [ -n "$(tail -c 1 -- "$2")" ]; then
+        truncate -s "$(head -n "$(wc -l <"$2")" -- "$2" | wc -c)" -- "$2" || fail "cannot write $2"
+    fi
+}
+
+left() {
+    open_results "$1" "$2"
+    folders_of "$1" | only_sets | without_line "$2"
+}
+
+# one SET OPTION..: the line of the set in the folder `folder`
+one() {
+    local from=$EPOCHREALTIME set=$1 until counts status micros
+    shift
+    show "$folder"
+    if [ "$shown" != "$folder" ] && [ -r "$set" ]; then
+        exec 8<"$set" # a name that isn't UTF-8 can be no word of a command line
+        set=/dev/fd/8
+    fi
+    counts=$(
+        timeout --foreground -k 5 "${SURVEY_SECONDS:-600}" "$ACPIDIS" --check --workers 1 "$@" "$set" 2>&1 </dev/null | awk '
+            /^Check "/ { tables++; methods += $(NF - 3); raw += $(NF - 1); next }
+            fault == "" { sub(/^acpidis: /, ""); fault = $0 }
+            END {
+                if (fault == "") fault = "-"
+                if (tables) print fault "\t" tables "\t" methods "\t" raw; else print fault "\t-\t-\t-"
+            }'
+        exit "${PIPESTATUS[0]}"
+    )
+    status=$? until=$EPOCHREALTIME
+    case $status in 126 | 127) fail "cannot run $ACPIDIS" ;; esac
+    micros=$((${until/./} - ${from/./}))
+    printf '%s\t%s\t%s\t%d.%03d\n' "$shown" "$status" "$counts" $((micros / 1000000)) $((micros / 1000 % 1000))
+}
+
+# The lines of the folders behind `--`. Status 255 makes xargs stop.
+ones() {
+    trap 'case $? in 0) ;; *) exit 255 ;; esac' EXIT
+    find_program
+    local sets=$1 options=() folder
+    shift
+    case $sets in /*) ;; *) sets=./$sets ;; esac
+    while [ $# -gt 0 ] && [ "$1" != -- ]; do
+        options+=("$1")
+        shift
+    done
+    shift || fail 'no folders: they stand behind --'
+    for folder; do
+        folder=${folder#./}
+        one "$sets/$folder" "${options[@]}" || exit
+    done
+}
+
+# report SETS RESULTS: how many sets have which status, and whether all have a line
+report() {
+    awk -F '\t' '{ count[$2]++ } END { for (status in count) print "survey: status " status ": " count[status] }' "$2" | sort >&2
+    local missing
+    missing=$(left "$1" "$2" | tr -dc '\0' | wc -c)
+    [ "$missing" = 0 ] || fail "$missing sets have no line: run it again"
+}
+
+survey() {
+    find_program
+    open_results "$1" "$2"
+    exec 9<"$2"
+    flock -n 9 || fail "another survey is writing $2"
+    local sets=$1 results=$2 folders
+    shift 2
+    "$ACPIDIS" --check --workers 1 "$@" --help >/dev/null || exit
+    mapfile -d '' folders < <(left "$sets" "$results")
+    if [ ${#folders[@]} -gt 0 ]; then
+        # One process writes the file, and each line comes to it whole.
+        printf '%s\0' "${folders[@]}" |
+            xargs -0 -n "$((${#folders[@]} / (jobs * 8) + 1))" -s 100000 -P "$jobs" "$BASH" "$script" --one "$sets" "$@" -- |
+            cat >>"$results"
+    fi
+    report "$sets" "$results"
+}
+
+jobs=$(nproc 2>/dev/null) || jobs=1
+case ${1-} in
+--left | --one)
+    mode=$1
+    shift
+    [ $# -ge 2 ] || fail "$mode needs more words"
+    if [ "$mode" = --left ]; then left "$1" "$2"; else ones "$@"; fi
+    exit
+    ;;
+esac
+while getopts j:s: option; do
+    case $option in
+    j) jobs=$OPTARG ;;
+    s) export SURVEY_SECONDS=$OPTARG ;;
+    *) exit 1 ;;
+    esac
+done
+shift $((OPTIND - 1))
+case $jobs in '' | 0* | *[!0-9]*) fail "-j takes a number of jobs, not $jobs" ;; esac
+[ $# -ge 2 ] || fail 'usage: survey.sh [-j JOBS] [-s SECONDS] SETS RESULTS [OPTION..]'
+survey "$@"

@@ -1,0 +1,154 @@
+#!/usr/bin/env bash
+# examples/survey.sh: odd names, refused sets, sets that end a run, and surveys that are broken off. It runs ./acpidis, which
+# builds the program first. The last line is 'N passed, N failed'.
+
+here=$(CDPATH='' cd -- "$(dirname -- "$0")" && pwd) || exit 1
+"$here/../acpidis" --version >/dev/null 2>&1
+work=$(mktemp -d) || exit 1
+trap 'chmod -R u+rwx "$work"; rm -rf "$work"' EXIT
+program=$here/../out/acpidis
+demo=$here/../crates/acpidis_program/data/demo
+survey=$here/../examples/survey.sh
+cd "$work" || exit 1
+passed=0
+failed=0
+
+# is NAME GOT WANTED
+is() {
+    if [ "$2" = "$3" ]; then
+        passed=$((passed + 1))
+    else
+        failed=$((failed + 1))
+        printf 'FAILED %s: got\n%s\nnot\n%s\n' "$1" "$2" "$3"
+    fi
+}
+
+# slow.sh is the program, which waits first; calls has a line for each run of it
+cat >slow.sh <<S
+#!/bin/sh
+case " \$* " in *' --help '*) ;; *) echo "\$*" >>'$work/calls'; sleep "\${SLOW-0}" ;; esac
+exec '$program' "\$@"
+S
+chmod +x slow.sh
+
+# sets of odd names, among folders that are none
+# shellcheck disable=SC2016
+names=("plain" "two words" $'tab\there' $'new\nline\n' 'back\slash' '-dash' '$(touch bad)' '*' ']' "quote'\"" 'é' $'not\xfftext' '%s' '@')
+for name in "${names[@]}"; do
+    mkdir -p "sets/rack 1/$name"
+    cp "$demo/dsdt.dat" "sets/rack 1/$name"
+done
+mkdir -p "sets/rack 1/plain/dynamic" "sets/rack 1/plain/data" sets/data sets/empty sets/text
+cp "$demo/dsdt.dat" "sets/rack 1/plain/dynamic"
+cp "$demo/dsdt.dat" sets/data
+echo 'no table' >sets/text/NOTES
+echo 'beside the sets' >sets/NOTES
+cat >wanted <<'W'
+data	0	-	1	1	0
+empty	1	NoDsdt	-	-	-
+rack 1/$(touch bad)	0	-	1	1	0
+rack 1/%s	0	-	1	1	0
+rack 1/*	0	-	1	1	0
+rack 1/-dash	0	-	1	1	0
+rack 1/@	0	-	1	1	0
+rack 1/\xC3\xA9	0	-	1	1	0
+rack 1/]	0	-	1	1	0
+rack 1/back\x5Cslash	0	-	1	1	0
+rack 1/new\x0Aline\x0A	0	-	1	1	0
+rack 1/not\xFFtext	0	-	1	1	0
+rack 1/plain	0	-	1	1	0
+rack 1/quote'"	0	-	1	1	0
+rack 1/tab\x09here	0	-	1	1	0
+rack 1/two words	0	-	1	1	0
+text	1	table "NOTES": Short	-	-	-
+W
+lines() {
+    LC_ALL=C sort "$1" | cut -f 1-6
+}
+"$survey" -j 3 sets results 2>report
+is 'status of a survey' "$?" 0
+is 'lines' "$(lines results)" "$(cat wanted)"
+is 'seconds' "$(grep -cvP '\t[0-9]+\.[0-9]{3}$' results)" 0
+is 'the report' "$(cat report)" $'survey: status 0: 15\nsurvey: status 1: 2'
+is 'no name ran' "$(ls -d bad sets/bad 2>/dev/null)" ''
+
+# a second survey runs nothing, one of a line less runs that, and a last line that isn't whole doesn't count
+ACPIDIS=$work/slow.sh "$survey" sets results 2>/dev/null
+is 'nothing is run again' "$(cat calls 2>/dev/null)" ''
+grep -v '^text' results >fewer
+printf 'text\t1\ttable "NOTES": Sho' >>fewer
+ACPIDIS=$work/slow.sh "$survey" sets fewer 2>/dev/null
+is 'a cut line' "$(cat calls)" '--check --workers 1 ./sets/text'
+is 'a cut line is made anew' "$(lines fewer)" "$(cat wanted)"
+
+# what is at fault in the command stops it, and leaves no line
+"$survey" sets none --no-such-option >/dev/null 2>&1
+is 'a wrong option' "$? $(cat none)" '2 '
+ACPIDIS=/none/acpidis "$survey" sets none >/dev/null 2>&1
+is 'no program' "$? $(cat none)" '1 '
+"$survey" nowhere none >/dev/null 2>&1
+is 'no sets' "$? $(cat none)" '1 '
+"$survey" sets >/dev/null 2>&1
+is 'too few words' "$?" 1
+
+# options are the program's
+mkdir summed
+cp -r "$demo" summed/one
+printf '\001' | dd of=summed/one/dsdt.dat bs=1 seek=9 conv=notrunc 2>/dev/null
+"$survey" summed strict 2>/dev/null
+"$survey" summed lax --any-sum 2>/dev/null
+is 'an option' "$(cut -f 1-3 strict lax)" $'one\t1\ttable "dsdt.dat": BadSum\none\t0\t-'
+
+# a run that ends by a signal, or takes too long, has a line too
+mkdir -p some
+for number in 1 2 3; do cp -r "$demo" some/$number; done
+printf '#!/bin/sh\ncase $* in *--help*) ;; *some/2) kill -9 $$ ;; esac\nexec %s "$@"\n' "$program" >dies.sh
+chmod +x dies.sh
+ACPIDIS=$work/dies.sh "$survey" some died 2>/dev/null
+is 'a signal' "$(lines died)" $'1\t0\t-\t1\t1\t0\n2\t137\t-\t-\t-\t-\n3\t0\t-\t1\t1\t0'
+printf '#!/bin/sh\ncase $* in *--help*) ;; *) exec sleep 9 ;; esac\n' >late.sh
+chmod +x late.sh
+ACPIDIS=$work/late.sh "$survey" -s 0.1 -j 3 some late 2>/dev/null
+is 'too long' "$(lines late)" $'1\t124\t-\t-\t-\t-\n2\t124\t-\t-\t-\t-\n3\t124\t-\t-\t-\t-'
+
+# killed in the middle, again and again, with all that it started: each set gets just one line in the end
+mkdir many
+for number in {001..150}; do cp -r "$demo" many/"$number"; done
+kills=0
+for wait in 0.4 0.5 0.6; do
+    SLOW=0.05 ACPIDIS=$work/slow.sh setsid "$survey" -j 3 many killed 2>/dev/null &
+    sleep "$wait"
+    kill -9 -- "-$!" 2>/dev/null && kills=$((kills + 1))
+    wait "$!" 2>/dev/null
+done
+before=$(wc -l <killed)
+SLOW=0.02 ACPIDIS=$work/slow.sh "$survey" -j 3 many killed 2>/dev/null
+is 'status after kills' "$? $kills" '0 3'
+is 'each set once' "$(lines killed | grep -c .) $(cut -f 1 killed | sort -u | grep -c .)" '150 150'
+is 'killed in the middle' "$([ "$before" -gt 0 ] && [ "$before" -lt 150 ] && echo yes)" yes
+
+# two surveys of one file don't run beside each other
+SLOW=0.3 ACPIDIS=$work/slow.sh "$survey" -j 1 some both 2>/dev/null &
+sleep 0.3
+is 'two at once' "$("$survey" some both 2>&1)" 'survey: another survey is writing both'
+wait "$!"
+is 'the first goes on' "$(wc -l <both)" 3
+
+# the parts of the script, as GNU parallel and xargs use them
+is 'the sets that are left' "$("$survey" --left some /dev/null | tr '\0' '|')" '1|2|3|'
+"$survey" --left some /dev/null | xargs -0 "$survey" --one some --any-sum -- >parts
+is 'the lines of the given' "$(lines parts)" $'1\t0\t-\t1\t1\t0\n2\t0\t-\t1\t1\t0\n3\t0\t-\t1\t1\t0'
+
+# a folder that may not be read, by a user who may not
+if [ "$(id -u)" = 0 ] && command -v setpriv >/dev/null && setpriv --reuid=65534 --clear-groups test -x "$survey" -a -x "$program"; then
+    mkdir closed
+    cp -r "$demo" closed/open
+    mkdir closed/shut
+    chmod 700 closed/shut
+    chmod 777 .
+    ACPIDIS=$program setpriv --reuid=65534 --clear-groups "$survey" closed shut 2>/dev/null
+    is 'a folder that may not be read' "$(lines shut)" $'open\t0\t-\t1\t1\t0\nshut\t1\tcannot read folder\t-\t-\t-'
+fi
+
+echo "$passed passed, $failed failed"
+[ "$failed" = 0 ]
