@@ -4,19 +4,24 @@
     python3 tests/pages.py
 
 A block that begins with ```console has commands behind `$ `, and below each what it prints. They run in a folder with `mine`, the
-set of docs/listing.md, whose text is the first block of that page. `./acpidis` is the launcher. The last line is
-'N passed, N failed'.
+set of docs/listing.md, whose text is the first block of that page, and with `examples`. `./acpidis` is the launcher. Then the
+manual page is looked through by mandoc and groff, each where it is installed, and the scripts that the pages speak of are tried.
+The last line is 'N passed, N failed'.
 """
 
 import pathlib
 import re
+import shutil
 import subprocess
 import sys
 import tempfile
 
 TOP = pathlib.Path(__file__).resolve().parent.parent
 LISTING = "docs/listing.md"
-PAGES = ["docs/folders.md", "docs/refusals.md", "docs/reading.md"]
+PAGES = ["docs/folders.md", "docs/refusals.md", "docs/reading.md", "docs/many.md"]
+MANUAL = "docs/acpidis.1"
+LINTS = [["mandoc", "-T", "lint"], ["groff", "-ww", "-man", "-z"]]
+SCRIPTS = ["tests/survey.sh", "tests/install.sh"]
 DSDT = b"\x08BAR_\x0A\x05" + b"\x14\x0BFOO_\x02\xA4\x72\x68\x69\x00" + b"\x14\x0BCALL\x00\xA4ZZZZ"
 SSDT = b"\x10\x17\\_SB_\x5B\x82\x0FDEV0\x14\x09_STA\x08\xA4\x0A\x0F" + b"\x06FOO_ALIA"
 
@@ -33,6 +38,7 @@ def make_room(room):
     (room / "mine").mkdir()
     (room / "mine/dsdt.dat").write_bytes(table(b"DSDT", DSDT))
     (room / "mine/ssdt1.dat").write_bytes(table(b"SSDT", SSDT))
+    (room / "examples").symlink_to(TOP / "examples")
     (room / "acpidis").write_text(f"#!/bin/sh\nexec '{TOP}/acpidis' \"$@\"\n")
     (room / "acpidis").chmod(0o755)
 
@@ -72,8 +78,29 @@ def fails_of(page):
             yield printed != wanted
 
 
+def fails_of_manual():
+    """Whether each lint that is installed says anything of the manual page."""
+    for lint in LINTS:
+        if shutil.which(lint[0]):
+            run = subprocess.run([*lint, TOP / MANUAL], stdout=subprocess.PIPE, stderr=subprocess.STDOUT, check=False)
+            if run.stdout:
+                print(f"FAILED {MANUAL}: {lint[0]}\n{run.stdout.decode()}", end="")
+            yield bool(run.stdout)
+
+
+def fails_of_scripts():
+    """Whether each check of a script fails, by its last line."""
+    for script in SCRIPTS:
+        run = subprocess.run([TOP / script], stdout=subprocess.PIPE, check=False)
+        *shown, last = run.stdout.decode().splitlines()
+        print("".join(f"{line}\n" for line in shown), end="")
+        passed, failed = map(int, re.fullmatch(r"(\d+) passed, (\d+) failed", last).groups())
+        yield from [False] * passed + [True] * failed
+
+
 def main():
     fails = [fail for page in [LISTING, *PAGES] for fail in fails_of(page)]
+    fails += [*fails_of_manual(), *fails_of_scripts()]
     print(f"{fails.count(False)} passed, {fails.count(True)} failed")
     sys.exit(any(fails))
 
