@@ -5,10 +5,10 @@
 #   survey.sh --left SETS RESULTS
 #   survey.sh --one SETS [OPTION..] -- FOLDER..
 #
-# The first form runs each set below SETS that has no line in RESULTS yet, JOBS at a time (as many as there are processors, if
-# left out), each for SECONDS at most (600). The second prints the folders of these sets, each ended by a NUL. The third prints
-# the lines of the given ones. Each OPTION is one of acpidis. ACPIDIS names another program, SURVEY_SECONDS is the third form's
-# SECONDS. It needs bash 5 and the tools of GNU or Linux: awk, find, flock, sort, timeout, xargs.
+# The first form runs each set below SETS that has no line in RESULTS yet, JOBS at a time (as many as there are
+# processors, if left out), each for SECONDS at most (600). The second prints the folders of these sets, each ended by a
+# NUL. The third prints the lines of the given ones. Each OPTION is one of acpidis. ACPIDIS names another program,
+# SURVEY_SECONDS is the third form's SECONDS. It needs bash 5, awk, and of Linux find, flock, sort, timeout and xargs.
 set -u
 export LC_ALL=C CDPATH=
 
@@ -20,7 +20,8 @@ fail() {
 script=$(cd -- "$(dirname -- "$0")" && pwd -P)/${0##*/} || exit 1
 top=${script%/*/*}
 
-# Sets ACPIDIS to the program: the one it names, else that of this repository, which is built where it isn't, else the command's.
+# Sets ACPIDIS to the program: the one it names, else that of this repository, which is built where it isn't, else the
+# installed one.
 find_program() {
     if [ -z "${ACPIDIS-}" ] && [ -x "$top/acpidis" ]; then
         "$top/acpidis" --version >/dev/null || exit
@@ -91,6 +92,17 @@ left() {
     folders_of "$1" | only_sets | without_line "$2"
 }
 
+# The first fault, tables, methods and raw bodies of a run, from its lines
+count_checks() {
+    awk '
+        /^Check "/ { tables++; methods += $(NF - 3); raw += $(NF - 1); next }
+        fault == "" { sub(/^acpidis: /, ""); fault = $0 }
+        END {
+            if (fault == "") fault = "-"
+            if (tables) print fault "\t" tables "\t" methods "\t" raw; else print fault "\t-\t-\t-"
+        }'
+}
+
 # one SET OPTION..: the line of the set in the folder `folder`
 one() {
     local from=$EPOCHREALTIME set=$1 until counts status micros
@@ -100,14 +112,9 @@ one() {
         exec 8<"$set" # a name that isn't UTF-8 can be no word of a command line
         set=/dev/fd/8
     fi
+    set -- "$ACPIDIS" --check --workers 1 "$@" "$set"
     counts=$(
-        timeout --foreground -k 5 "${SURVEY_SECONDS:-600}" "$ACPIDIS" --check --workers 1 "$@" "$set" 2>&1 </dev/null | awk '
-            /^Check "/ { tables++; methods += $(NF - 3); raw += $(NF - 1); next }
-            fault == "" { sub(/^acpidis: /, ""); fault = $0 }
-            END {
-                if (fault == "") fault = "-"
-                if (tables) print fault "\t" tables "\t" methods "\t" raw; else print fault "\t-\t-\t-"
-            }'
+        timeout --foreground -k 5 "${SURVEY_SECONDS:-600}" "$@" 2>&1 </dev/null | count_checks
         exit "${PIPESTATUS[0]}"
     )
     status=$? until=$EPOCHREALTIME
@@ -136,8 +143,8 @@ ones() {
 
 # report SETS RESULTS: how many sets have which status, and whether all have a line
 report() {
-    awk -F '\t' '{ count[$2]++ } END { for (status in count) print "survey: status " status ": " count[status] }' "$2" | sort >&2
     local missing
+    cut -f 2 -- "$2" | sort -n | uniq -c | awk '{ print "survey: status " $2 ": " $1 }' >&2
     missing=$(left "$1" "$2" | tr -dc '\0' | wc -c)
     [ "$missing" = 0 ] || fail "$missing sets have no line: run it again"
 }
@@ -147,15 +154,15 @@ survey() {
     open_results "$1" "$2"
     exec 9<"$2"
     flock -n 9 || fail "another survey is writing $2"
-    local sets=$1 results=$2 folders
+    local sets=$1 results=$2 folders batch
     shift 2
     "$ACPIDIS" --check --workers 1 "$@" --help >/dev/null || exit
     mapfile -d '' folders < <(left "$sets" "$results")
     if [ ${#folders[@]} -gt 0 ]; then
         # One process writes the file, and each line comes to it whole.
+        batch=$((${#folders[@]} / (jobs * 8) + 1))
         printf '%s\0' "${folders[@]}" |
-            xargs -0 -n "$((${#folders[@]} / (jobs * 8) + 1))" -s 100000 -P "$jobs" "$BASH" "$script" --one "$sets" "$@" -- |
-            cat >>"$results"
+            xargs -0 -n "$batch" -s 100000 -P "$jobs" "$BASH" "$script" --one "$sets" "$@" -- | cat >>"$results"
     fi
     report "$sets" "$results"
 }

@@ -29,7 +29,8 @@ wanted="$prefix/bin/acpidis
 $prefix/share/man/man1/acpidis.1"
 is 'what is said' "$(PREFIX=$prefix "$top/install")" "$wanted"
 is 'what is there' "$(files "$prefix")" "$wanted"
-is 'it runs' "$("$prefix/bin/acpidis" "$top/crates/acpidis_program/data/demo")" "$(cat "$top/crates/acpidis_program/stdout")"
+program=$top/crates/acpidis_program
+is 'it runs' "$("$prefix/bin/acpidis" "$program/data/demo")" "$(cat "$program/stdout")"
 is 'modes' "$(stat -c %a "$prefix/bin/acpidis" "$prefix/share/man/man1/acpidis.1" | tr '\n' ' ')" '755 644 '
 if command -v man >/dev/null; then
     is 'the page is found' "$(man -M "$prefix/share/man" -w acpidis 2>&1)" "$prefix/share/man/man1/acpidis.1"
@@ -48,7 +49,8 @@ is 'another word' "$(PREFIX=$prefix "$top/install" --delete 2>&1 | cut -c 1-15)"
 is 'a prefix that is no whole path' "$(PREFIX=usr "$top/install" 2>&1)" 'install: PREFIX has to begin with /: usr'
 mkdir shut
 : >shut/bin
-is 'where nothing can be written' "$(PREFIX=$work/shut "$top/install" 2>&1 | tail -n 1)" "install: cannot write $work/shut/bin/acpidis"
+said=$(PREFIX=$work/shut "$top/install" 2>&1 | tail -n 1)
+is 'where nothing can be written' "$said" "install: cannot write $work/shut/bin/acpidis"
 
 echo "$passed passed, $failed failed"
 [ "$failed" = 0 ]

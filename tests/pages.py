@@ -3,10 +3,10 @@
 
     python3 tests/pages.py
 
-A block that begins with ```console has commands behind `$ `, and below each what it prints. They run in a folder with `mine`, the
-set of docs/listing.md, whose text is the first block of that page, and with `examples`. `./acpidis` is the launcher. Then the
-manual page is looked through by mandoc and groff, each where it is installed, and the scripts that the pages speak of are tried.
-The last line is 'N passed, N failed'.
+A block that begins with ```console has commands behind `$ `, and below each what it prints. They run in a folder with
+`mine`, the set of docs/listing.md, whose text is the first block of that page, and with `examples`. `./acpidis` is the
+launcher. Then the manual page is looked through by mandoc and groff, each where it is installed, and the scripts that
+the pages speak of are tried. The last line is 'N passed, N failed'.
 """
 
 import pathlib

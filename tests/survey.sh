@@ -1,6 +1,6 @@
 #!/usr/bin/env bash
-# examples/survey.sh: odd names, refused sets, sets that end a run, and surveys that are broken off. It runs ./acpidis, which
-# builds the program first. The last line is 'N passed, N failed'.
+# examples/survey.sh: odd names, refused sets, sets that end a run, and surveys that are broken off. It runs ./acpidis,
+# which builds the program first. The last line is 'N passed, N failed'.
 
 here=$(CDPATH='' cd -- "$(dirname -- "$0")" && pwd) || exit 1
 "$here/../acpidis" --version >/dev/null 2>&1
@@ -33,7 +33,8 @@ chmod +x slow.sh
 
 # sets of odd names, among folders that are none
 # shellcheck disable=SC2016
-names=("plain" "two words" $'tab\there' $'new\nline\n' 'back\slash' '-dash' '$(touch bad)' '*' ']' "quote'\"" 'é' $'not\xfftext' '%s' '@')
+names=("plain" "two words" $'tab\there' $'new\nline\n' 'back\slash' '-dash' '$(touch bad)' '*' ']' "quote'\"" 'é'
+    $'not\xfftext' '%s' '@')
 for name in "${names[@]}"; do
     mkdir -p "sets/rack 1/$name"
     cp "$demo/dsdt.dat" "sets/rack 1/$name"
@@ -140,13 +141,14 @@ is 'the sets that are left' "$("$survey" --left some /dev/null | tr '\0' '|')" '
 is 'the lines of the given' "$(lines parts)" $'1\t0\t-\t1\t1\t0\n2\t0\t-\t1\t1\t0\n3\t0\t-\t1\t1\t0'
 
 # a folder that may not be read, by a user who may not
-if [ "$(id -u)" = 0 ] && command -v setpriv >/dev/null && setpriv --reuid=65534 --clear-groups test -x "$survey" -a -x "$program"; then
+nobody=(setpriv --reuid=65534 --clear-groups)
+if [ "$(id -u)" = 0 ] && command -v setpriv >/dev/null && "${nobody[@]}" test -x "$survey" -a -x "$program"; then
     mkdir closed
     cp -r "$demo" closed/open
     mkdir closed/shut
     chmod 700 closed/shut
     chmod 777 .
-    ACPIDIS=$program setpriv --reuid=65534 --clear-groups "$survey" closed shut 2>/dev/null
+    ACPIDIS=$program "${nobody[@]}" "$survey" closed shut 2>/dev/null
     is 'a folder that may not be read' "$(lines shut)" $'open\t0\t-\t1\t1\t0\nshut\t1\tcannot read folder\t-\t-\t-'
 fi
 
