@@ -116,9 +116,10 @@ is 'too long' "$(lines late)" $'1\t124\t-\t-\t-\t-\n2\t124\t-\t-\t-\t-\n3\t124\t
 mkdir many
 for number in {001..150}; do cp -r "$demo" many/"$number"; done
 kills=0
-for wait in 0.4 0.5 0.6; do
+: >killed
+for enough in 20 50 80; do
     SLOW=0.05 ACPIDIS=$work/slow.sh setsid "$survey" -j 3 many killed 2>/dev/null &
-    sleep "$wait"
+    while [ "$(wc -l <killed)" -lt "$enough" ] && kill -0 "$!" 2>/dev/null; do sleep 0.05; done
     kill -9 -- "-$!" 2>/dev/null && kills=$((kills + 1))
     wait "$!" 2>/dev/null
 done
@@ -129,11 +130,9 @@ is 'each set once' "$(lines killed | grep -c .) $(cut -f 1 killed | sort -u | gr
 is 'killed in the middle' "$([ "$before" -gt 0 ] && [ "$before" -lt 150 ] && echo yes)" yes
 
 # two surveys of one file don't run beside each other
-SLOW=0.3 ACPIDIS=$work/slow.sh "$survey" -j 1 some both 2>/dev/null &
-sleep 0.3
-is 'two at once' "$("$survey" some both 2>&1)" 'survey: another survey is writing both'
-wait "$!"
-is 'the first goes on' "$(wc -l <both)" 3
+: >both
+is 'two at once' "$(flock both "$survey" some both 2>&1)" 'survey: another survey is writing both'
+is 'the second writes nothing' "$(cat both)" ''
 
 # the parts of the script, as GNU parallel and xargs use them
 is 'the sets that are left' "$("$survey" --left some /dev/null | tr '\0' '|')" '1|2|3|'
