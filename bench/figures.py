@@ -1,0 +1,286 @@
+#!/usr/bin/env python3
+"""Measures what README shows under "Figures", and writes that section and docs/figures.svg.
+
+usage: bench/figures.py [ACPIDIS] [--only WORD] [--runs N] [--seconds N] [--print]
+
+ACPIDIS is the built program, out/acpidis if left out. iasl and GNU time have to be there (Debian: apt-get install
+acpica-tools time). iasl compiles some of the sets, and `iasl -d` is measured on the same files in the same run. Each
+program runs N times, 5 if left out, and the shortest time counts; its peak memory is that of one more run. Both write
+their text to files beside the set. A run is stopped after so many seconds, 60 if left out. With --print, or where
+--only leaves sets out, nothing is written but the section to standard output. The script is no part of the gate.
+
+The sets:
+  10 KB, 40 KB, 1 MB  one table each, compiled by iasl from devices with resources, fields and methods as firmware has
+  16 MB               sixteen times the terms of that of 1 MB, in one table
+  20,000 methods      small methods, in ascending order
+  101 tables          a DSDT and 100 SSDTs of 20 methods, each of which calls those of the next table through Externals
+  one long body       a method of 1 MB: constants, texts, names and stores
+"""
+import argparse
+import datetime
+import math
+import os
+import pathlib
+import re
+import shutil
+import subprocess
+import sys
+import tempfile
+import time
+from dataclasses import dataclass
+
+import bodies
+import plot
+
+TOP = pathlib.Path(__file__).resolve().parent.parent
+README = TOP / "README.md"
+PICTURE = TOP / "docs/figures.svg"
+BEGIN, END = "<!-- by bench/figures.py -->\n", "<!-- end -->\n"
+TIME = "/usr/bin/time"
+RUNS = 5
+MOST_WORKERS = 4
+# With a higher load for each processor than these runs bring about, others work on the machine too.
+BUSY_SHARE = 0.6
+DEVICES_OF_A_BUS = 16
+OUTERMOST = b"X000"
+
+DEVICE = """
+Device (D%(number)03X) {
+  Name (_HID, "BNCH%(number)04X")
+  Name (_UID, 0x%(number)02X)
+  Name (_CRS, ResourceTemplate () {
+    Memory32Fixed (ReadWrite, 0xFED%(number)02X000, 0x00001000)
+    IO (Decode16, 0x03F8, 0x03F8, 0x01, 0x08)
+    Interrupt (ResourceConsumer, Level, ActiveLow, Shared) { %(number)d }
+  })
+  OperationRegion (REGS, SystemMemory, 0xFED%(number)02X000, 0x0100)
+  Field (REGS, DWordAcc, NoLock, Preserve) { CTRL, 8, STAT, 8, Offset (0x10), DATA, 32, LIMT, 16, MODE, 3 }
+  Name (SAVE, Package () { 0x00, "saved", Buffer (0x04) { 0x01, 0x02, 0x03, 0x04 }, 0x12345678 })
+  Method (_STA) { If ((STAT & 0x01)) { Return (0x0F) } Return (Zero) }
+  Method (_PS0) { CTRL = 0x01  PAUS (0x10, 0x00) }
+  Method (_PS3) { SAVE [0x00] = DATA  CTRL = 0x00 }
+  Method (PAUS, 2) {
+    Local0 = Zero
+    While ((Local0 < Arg0)) {
+      If (((STAT & 0x80) == Arg1)) { Break }
+      Stall (0x0A)
+      Local0++
+    }
+    Return ((Local0 == Arg0))
+  }
+  Method (XFER, 3, Serialized) {
+    Name (BUFF, Buffer (0x20) {})
+    CreateDWordField (BUFF, 0x04, VALU)
+    If (PAUS (LIMT, 0x80)) { Return (Ones) }
+    ElseIf ((Arg2 > 0x1F)) { DATA = ((Arg0 << 0x08) | (Arg1 & 0xFF)) }
+    Else { DATA = DerefOf (SAVE [Arg2])  MODE = ToInteger (Arg1) }
+    VALU = (DATA + 0x1234)
+    Notify (D%(number)03X, 0x80)
+    Return (BUFF)
+  }
+  Method (_DSM, 4, Serialized) {
+    If ((Arg0 == ToUUID ("e5c937d0-3553-4d7a-9117-ea4d19c3434d"))) {
+      If ((Arg2 == Zero)) { Return (Buffer (One) { 0x03 }) }
+      Return (XFER (Arg1, Arg2, SizeOf (Arg3)))
+    }
+    Return (Buffer (One) { 0x00 })
+  }
+}
+"""
+
+
+# ---- sets
+
+
+def source(devices: int) -> str:
+    """A DSDT in ASL with so many devices, sixteen to a bus."""
+    text = 'DefinitionBlock ("", "DSDT", 2, "BENCH", "FIGURES", 1) {\nDevice (\\_SB.' + OUTERMOST.decode() + ") {\n"
+    for first in range(0, devices, DEVICES_OF_A_BUS):
+        inner = [DEVICE % {"number": number} for number in range(min(DEVICES_OF_A_BUS, devices - first))]
+        text += f"Device (B{first // DEVICES_OF_A_BUS:03X}) {{ Name (_ADR, 0x{first:08X}) {''.join(inner)} }}\n"
+    return text + "} }\n"
+
+
+def compiled(devices: int) -> bytes:
+    with tempfile.TemporaryDirectory() as folder:
+        asl = pathlib.Path(folder) / "figures.asl"
+        asl.write_text(source(devices))
+        subprocess.run(["iasl", "-p", "figures", asl.name], cwd=folder, check=True, capture_output=True)
+        return (pathlib.Path(folder) / "figures.aml").read_bytes()
+
+
+def repeated(table: bytes, times: int) -> bytes:
+    """A table with the terms of this one so many times, each with another outermost device."""
+    code = table[bodies.HEADER_BYTES:]
+    assert code.count(OUTERMOST) == 1
+    return bodies.table(b"".join(code.replace(OUTERMOST, b"X%03d" % number) for number in range(times)))
+
+
+# The name of each set, and what makes its files. A device has some 420 bytes.
+SETS = (
+    ("10 KB", bodies.one(lambda: compiled(24))),
+    ("40 KB", bodies.one(lambda: compiled(95))),
+    ("1 MB", bodies.one(lambda: compiled(2_360))),
+    ("16 MB", bodies.one(lambda: repeated(compiled(2_360), 16))),
+    ("20,000 methods", bodies.one(lambda: bodies.many_methods(20_000))),
+    ("101 tables", lambda: bodies.calls(101, 20)),
+    ("one long body", bodies.one(lambda: bodies.long_body(bodies.MIXED, bodies.SIZES["1"]))),
+)
+
+
+# ---- measuring
+
+
+@dataclass
+class Answer:
+    """The shortest time of some runs, peak memory in bytes, and the status; no seconds where a run took too long."""
+
+    seconds: float | None
+    peak: int
+    status: int
+
+
+@dataclass
+class Figures:
+    """What was measured of one set."""
+
+    name: str
+    size: int
+    alone: Answer
+    together: Answer
+    iasl: Answer
+
+
+def run(command, folder, limit):
+    """Seconds, or None where it takes too long, and the status."""
+    with open(folder / "text", "wb") as text, open(folder / "errors", "wb") as errors:
+        started = time.monotonic()
+        child = subprocess.Popen(command, cwd=folder, stdout=text, stderr=errors)
+        try:
+            status = child.wait(limit)
+        except subprocess.TimeoutExpired:
+            child.kill()
+            child.wait()
+            return None, None
+        return time.monotonic() - started, status
+
+
+def peak_of(command, folder):
+    """Peak memory in bytes. GNU time begins the command from a small process; else this one's memory would count."""
+    run([TIME, "-q", "-f", "%M", "-o", "peak", *command], folder, None)
+    return int((folder / "peak").read_text().split()[-1]) * 1024
+
+
+def best(command, folder, runs, limit):
+    shortest, its_status = math.inf, 0
+    for _ in range(runs):
+        seconds, status = run(command, folder, limit)
+        if seconds is None:
+            return Answer(None, 0, 0)
+        if seconds < shortest:
+            shortest, its_status = seconds, status
+    return Answer(shortest, peak_of(command, folder), its_status)
+
+
+def figures_of(name, make, program, asked):
+    """The figures of a set, in a folder that is gone afterwards."""
+    with tempfile.TemporaryDirectory() as room:
+        tables, beside = pathlib.Path(room) / "tables", pathlib.Path(room) / "beside"
+        tables.mkdir()
+        beside.mkdir()
+        size = bodies.write(tables, make)
+        files = sorted(shutil.copy(path, beside) for path in tables.iterdir())
+        commands = [[program, "--workers", str(count), str(tables)] for count in (1, MOST_WORKERS)]
+        commands.append(["iasl", "-d", *(os.path.basename(file) for file in files)])
+        return Figures(name, size, *(best(command, beside, asked.runs, asked.seconds) for command in commands))
+
+
+# ---- the section of README
+
+
+def seconds_text(answer, limit):
+    if answer.seconds is None:
+        return f"no answer in {limit:g} s"
+    return f"{answer.seconds:.3f} s" if answer.seconds < 1 else f"{answer.seconds:.1f} s"
+
+
+def memory_text(answer):
+    return f"{answer.peak / 1e6:,.0f} MB"
+
+
+def size_text(size):
+    return f"{size / 1e6:.1f} MB" if size >= 1e5 else f"{size / 1e3:.1f} KB"
+
+
+def row(figures, limit):
+    iasl = figures.iasl
+    cells = [
+        figures.name,
+        size_text(figures.size),
+        seconds_text(figures.alone, limit),
+        seconds_text(figures.together, limit),
+        memory_text(figures.together),
+        seconds_text(iasl, limit),
+        "" if iasl.seconds is None else memory_text(iasl),
+        "" if iasl.seconds is None else str(iasl.status),
+    ]
+    return "| " + " | ".join(cells) + " |\n"
+
+
+def versions():
+    shown = subprocess.run(["iasl", "-v"], capture_output=True, text=True, check=False).stdout
+    found = re.search(r"version (\d+)", shown)
+    return f"iasl {found[1]}" if found else "iasl"
+
+
+def section(all_figures, asked, loads):
+    processors = len(os.sched_getaffinity(0))
+    text = f"![Seconds by set: acpidis with 1 and {MOST_WORKERS} workers, and iasl -d](docs/figures.svg)\n\n"
+    text += f"| Set | Bytes | `acpidis`, 1 worker | {MOST_WORKERS} workers | Peak memory |"
+    text += " `iasl -d` | Its peak memory | Its status |\n"
+    text += "|---|---|---|---|---|---|---|---|\n"
+    text += "".join(row(figures, asked.seconds) for figures in all_figures)
+    text += f"\nMeasured on {datetime.date.today()} beside {versions()}, the best of {asked.runs} runs,"
+    text += f" on {processors} processors with a load of {min(loads):.1f} to {max(loads):.1f}."
+    if max(loads) > BUSY_SHARE * processors:
+        text += " Others worked on the machine: the times are too high, and more workers gain less than they could."
+    return text + "\n"
+
+
+def put_in_readme(text):
+    before, mark, rest = README.read_text().partition(BEGIN)
+    _, end, after = rest.partition(END)
+    if not mark or not end:
+        sys.exit("README.md has no place for the figures")
+    README.write_text(before + mark + text + end + after)
+
+
+def main():
+    words = argparse.ArgumentParser(description=__doc__, formatter_class=argparse.RawDescriptionHelpFormatter)
+    words.add_argument("acpidis", nargs="?", default=str(TOP / "out/acpidis"))
+    words.add_argument("--only", default="")
+    words.add_argument("--runs", type=int, default=RUNS)
+    words.add_argument("--seconds", type=float, default=bodies.SECONDS)
+    words.add_argument("--print", action="store_true")
+    asked = words.parse_args()
+    program = shutil.which(os.path.abspath(asked.acpidis))
+    if program is None:
+        sys.exit(f"{asked.acpidis} isn't built: ./acpidis demo builds it")
+    if shutil.which("iasl") is None or not os.access(TIME, os.X_OK):
+        sys.exit("iasl or GNU time isn't installed: apt-get install acpica-tools time")
+    all_figures, loads = [], []
+    for name, make in SETS:
+        if asked.only in name:
+            loads.append(os.getloadavg()[0])
+            all_figures.append(figures_of(name, make, program, asked))
+            print(row(all_figures[-1], asked.seconds), end="", file=sys.stderr, flush=True)
+    text = section(all_figures, asked, loads)
+    if asked.print or asked.only:
+        print(text, end="")
+        return
+    put_in_readme(text)
+    PICTURE.write_text(plot.picture(all_figures, asked.seconds, MOST_WORKERS))
+
+
+if __name__ == "__main__":
+    main()
