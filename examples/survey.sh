@@ -144,15 +144,15 @@ ones() {
 # report SETS RESULTS: how many sets have which status, and whether all have a line
 report() {
     local missing
-    cut -f 2 -- "$2" | sort -n | uniq -c | awk '{ print "survey: status " $2 ": " $1 }' >&2
     missing=$(left "$1" "$2" | tr -dc '\0' | wc -c)
+    cut -f 2 -- "$2" | sort -n | uniq -c | awk '{ print "survey: status " $2 ": " $1 }' >&2
     [ "$missing" = 0 ] || fail "$missing sets have no line: run it again"
 }
 
 survey() {
     find_program
     open_results "$1" "$2"
-    exec 9<"$2"
+    exec 9>>"$2"
     flock -n 9 || fail "another survey is writing $2"
     local sets=$1 results=$2 folders batch
     shift 2

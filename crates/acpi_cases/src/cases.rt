@@ -5,6 +5,7 @@ use crate::lines::{Line, bytes_of, number_of, split_line};
 use crate::spaces::Names;
 use crate::{code, files, sets};
 use acpi_tables::Dump;
+use aml_names::Path;
 use std::alloc::{AllocError, Global};
 use std::sync::Wait;
 use std::thread::Threads;
@@ -16,6 +17,7 @@ const LIMIT: usize = 16_777_216;
 #[derive(Drop)]
 pub struct Cases {
     dumps: Vec<Dump>,
+    givens: Vec<(Path, u8)>,
     names: Names,
 }
 
@@ -23,6 +25,7 @@ impl Cases {
     pub fn new(alloc: Global) -> Result<Cases, AllocError> {
         Ok(Cases {
             dumps: Vec::new(alloc),
+            givens: Vec::new(alloc),
             names: Names::new(alloc)?,
         })
     }
@@ -97,7 +100,7 @@ impl Cases {
         match line.kind {
             "order" => sets::push_order(alloc, out, line.words, &self.dumps),
             "orders" => sets::push_orders(alloc, out, &mut self.dumps, number_of(line.words)),
-            "run" => sets::push_run(threads, alloc, out, line.words, &self.dumps),
+            "run" => sets::push_run(threads, alloc, out, line.words, &self.dumps, &self.givens),
             _ => self.change_names(alloc, out, line, bytes),
         }
     }
@@ -112,6 +115,7 @@ impl Cases {
     ) -> Result<(), AllocError> {
         match line.kind {
             "space" => self.begin_names(alloc),
+            "given" => self.give(alloc, line),
             "declare" | "external" | "local" => self.names.change(alloc, out, line),
             "count" | "kind" | "rows" => self.names.push_known(alloc, out, line),
             "place" | "find" | "search" | "arity" | "arity_unknown_zero" => {
@@ -121,9 +125,17 @@ impl Cases {
         }
     }
 
+    /// A count that the user gives: in the namespace, and in the runs over the set.
+    fn give(&mut self, alloc: Global, line: Line<'_>) -> Result<(), AllocError> {
+        let (path, count) = self.names.give(alloc, line)?;
+        self.givens.push((path, count))?;
+        Ok(())
+    }
+
     /// No dump.
     fn begin_set(&mut self) -> Result<(), AllocError> {
         self.dumps.clear();
+        self.givens.clear();
         Ok(())
     }
 
@@ -143,6 +155,7 @@ fn push_table(
 ) -> Result<(), AllocError> {
     match line.kind {
         "map" => files::push_map(alloc, out, line.words, bytes),
+        "externals" => files::push_externals(alloc, out, bytes),
         _ => Ok(()),
     }
 }

@@ -1,6 +1,6 @@
-//! Rows of `tables.map`.
+//! Rows of files beside the dumps: `tables.map`, and the counts that the user gives.
 
-use acpi_folder::{MapFault, parse_map};
+use acpi_folder::{ExternalsFault, MapFault, parse_externals, parse_map};
 use std::alloc::{AllocError, Global};
 use std::fmt::Write;
 
@@ -23,6 +23,19 @@ pub fn push_map(
         Err(fault) => push_map_fault(out, fault),
         Ok(addresses) => push_names(out, &names, &addresses),
     }
+}
+
+/// The paths and counts of a file that the user gives.
+pub fn push_externals(alloc: Global, out: &mut String, text: &[u8]) -> Result<(), AllocError> {
+    let givens = match parse_externals(alloc, text) {
+        Ok(givens) => givens,
+        Err(ExternalsFault::BadLine(line)) => return writeln!(out, "  BadLine in line {line}"),
+        Err(ExternalsFault::NoMemory) => return Err(AllocError),
+    };
+    for (path, count) in &givens {
+        writeln!(out, "  {path} {count}")?;
+    }
+    Ok(())
 }
 
 fn names_of(alloc: Global, words: &str) -> Result<Vec<String>, AllocError> {

@@ -4,6 +4,7 @@ ghost use Rattle.std.specs.Prelude.{◌≤◌};
 use crate::lines::{first_word, push_indented};
 use acpi_tables::{Dump, Order, TableFault, load_order, sum};
 use acpidis::{Options, run};
+use aml_names::Path;
 use aml_pool::FreeGate;
 use std::alloc::{AllocError, Global};
 use std::fmt::Write;
@@ -85,12 +86,21 @@ pub fn add_bytes(dumps: &mut [Dump], bytes: &[u8]) -> Result<(), AllocError> {
     }
 }
 
-/// The options that are named.
-fn options_of(words: &str) -> Options {
-    Options {
+/// The options that are named, with these counts.
+fn options_of(
+    alloc: Global,
+    words: &str,
+    givens: &[(Path, u8)],
+) -> Result<Options, AllocError> {
+    let mut externals = Vec::new(alloc);
+    for (path, count) in givens {
+        externals.push((path.clone()?, *count))?;
+    }
+    Ok(Options {
         any_sum: words.contains("any_sum"),
         unknown_zero: words.contains("unknown_zero"),
-    }
+        externals,
+    })
 }
 
 /// The dumps of the definition blocks in load order, by index and name, or why they have none.
@@ -100,7 +110,7 @@ pub fn push_order(
     words: &str,
     dumps: &[Dump],
 ) -> Result<(), AllocError> {
-    match load_order(alloc, dumps, options_of(words).any_sum) {
+    match load_order(alloc, dumps, words.contains("any_sum")) {
         Err(fault) => push_refusal(out, fault),
         Ok(order) => push_indexes(out, &order),
     }
@@ -154,6 +164,7 @@ pub fn push_run<T: Threads + Wait + Sync>(
     out: &mut String,
     words: &str,
     dumps: &[Dump],
+    givens: &[(Path, u8)],
 ) -> Result<(), AllocError> {
     let mut text = Vec::new(alloc);
     let mut error = Vec::new(alloc);
@@ -161,7 +172,7 @@ pub fn push_run<T: Threads + Wait + Sync>(
         threads,
         alloc,
         dumps,
-        options_of(words),
+        options_of(alloc, words, givens)?,
         workers_of(words),
         words.contains("check"),
         &FreeGate,

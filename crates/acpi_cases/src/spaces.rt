@@ -40,6 +40,15 @@ impl Names {
         }
     }
 
+    /// Adds a count that the user gives to a path.
+    pub fn give(&mut self, alloc: Global, line: Line<'_>) -> Result<(Path, u8), AllocError> {
+        let (path, count) = first_word(line.words);
+        let path = path_of(alloc, path)?;
+        let count = count.parse::<u8>().unwrap_or(0);
+        self.space.given(&path, count)?;
+        Ok((path, count))
+    }
+
     /// Declares a path with the kind of these words.
     fn declare(
         &mut self,

@@ -1,5 +1,6 @@
 -- Bodies that were read are the entries of a listing.
 use Rattle.std.proofs.Common.{◌≡◌, ℕ, zero, suc, Bool, List, [], ◌∷◌, map, length, Option, Some, None, refl, sym, ap, subst, ◌∙◌, arith, slice_get}
+use denote.Ref.{Bor}
 use Rattle.aml_code.specs.Tree.{Trees}
 use Rattle.aml_space.specs.Entries.{Entry}
 use Rattle.aml_load.specs.Bodies.{IsBody, OfMethod}
@@ -63,6 +64,9 @@ are_told z es cs (m ∷ ms) [] h = absurd h
 are_told z es cs (m ∷ ms) (d ∷ ds) h = (is_told z es cs m d h.0, are_told z es cs ms ds h.1)
 
 -- the answers of a harvest
-pub harvested : (z : Bool) (loaded : Loaded) (ds : List Body) (es : List Entry) → StandsFor loaded.space es → length ds ≡ length loaded.methods.items → ((n : ℕ) (d : Body) → slice_get ds n ≡ Some d → BecameOf z loaded n d)
+pub harvested : (z : Bool) (loaded : Loaded) (tables : List (Bor (List ℕ))) (ms : List Method) (ds : List Body) (es : List Entry) → tables ≡ loaded.tables.items → ms ≡ loaded.methods.items
+    → StandsFor loaded.space es → length ds ≡ length loaded.methods.items → ((n : ℕ) (d : Body) → slice_get ds n ≡ Some d → BecameOf z loaded.space (codes_view tables) ms n d)
     → EachBecame z es (codes_view loaded.tables.items) loaded.methods.items ds
-harvested z loaded ds es s l h = by_number z es (codes_view loaded.tables.items) loaded.methods.items ds l (λ n d e. h n d e es s)
+harvested z loaded tables ms ds es same alike s l h = by_number z es (codes_view loaded.tables.items) loaded.methods.items ds l (λ n d e.
+    subst (λ (l : List Method). OfMethod (slice_get l n) (λ m. Became z es (codes_view loaded.tables.items) m d)) alike
+    (subst (λ (ts : List (Bor (List ℕ))). OfMethod (slice_get ms n) (λ m. Became z es (codes_view ts) m d)) same (h n d e es s)))

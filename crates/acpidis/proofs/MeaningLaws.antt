@@ -52,21 +52,21 @@ of_load order loads.TooManyMethods dumps any_sum = tt
 of_load order loads.NoMemory dumps any_sum = tt
 
 -- what a load refuses is told of the one order
-pub tells_blocks : (dumps : List Dump) (options : Options) (dsdt : ℕ) (ssdts indexes order : List ℕ) (codes : List (List ℕ)) (e : Refusal) → ((d : ℕ) (s : List ℕ) → IsOrder dumps options.any_sum d s → (d ≡ dsdt) × (s ≡ ssdts))
-    → indexes ≡ dsdt ∷ ssdts → order ≡ dsdt ∷ ssdts → codes ≡ codes_in dumps indexes → TellsLoad options.externals.items codes order e → TellsBlocks dumps options e
-tells_blocks dumps options dsdt ssdts indexes order codes e only is same cs t = λ d s o.
+pub tells_blocks : (dumps : List Dump) (options : Options) (gs : Givens) (dsdt : ℕ) (ssdts indexes order : List ℕ) (codes : List (List ℕ)) (e : Refusal) → ((d : ℕ) (s : List ℕ) → IsOrder dumps options.any_sum d s → (d ≡ dsdt) × (s ≡ ssdts))
+    → indexes ≡ dsdt ∷ ssdts → order ≡ dsdt ∷ ssdts → codes ≡ codes_in dumps indexes → gs ≡ options.externals.items → TellsLoad gs codes order e → TellsBlocks dumps options e
+tells_blocks dumps options gs dsdt ssdts indexes order codes e only is same cs given t = λ d s o.
     let p = only d s o in
     let whole : dsdt ∷ ssdts ≡ d ∷ s = ap (λ x. x ∷ ssdts) (sym p.0) ∙ ap (λ xs. d ∷ xs) (sym p.1) in
     let all : codes ≡ codes_in dumps (dsdt ∷ ssdts) = cs ∙ ap (codes_in dumps) is in
-    subst (λ (w : List ℕ). TellsLoad options.externals.items (codes_in dumps w) w e) whole (subst (λ (c : List (List ℕ)). TellsLoad options.externals.items c (dsdt ∷ ssdts) e) all (subst (λ (w : List ℕ). TellsLoad options.externals.items codes w e) same t))
+    subst (λ (w : List ℕ). TellsLoad options.externals.items (codes_in dumps w) w e) whole (subst (λ (c : List (List ℕ)). TellsLoad options.externals.items c (dsdt ∷ ssdts) e) all (subst (λ (w : List ℕ). TellsLoad options.externals.items codes w e) same (subst (λ (g : Givens). TellsLoad g codes order e) given t)))
 
 -- the dumps mean what was loaded and read of them
-pub means_so : (dumps : List Dump) (options : Options) (x : Listing) (indexes : List ℕ) (codes : List (List ℕ)) → x.dumps.now ≡ dumps → IsOrder dumps options.any_sum x.order.dsdt x.order.ssdts.items
-    → indexes ≡ x.order.dsdt ∷ x.order.ssdts.items → codes ≡ codes_in dumps indexes → (trees : List Trees) × (m : Listed) × IsLoad options.externals.items codes trees m × HoldsLoad x.loaded codes trees m
+pub means_so : (dumps : List Dump) (options : Options) (gs : Givens) (x : Listing) (indexes : List ℕ) (codes : List (List ℕ)) → x.dumps.now ≡ dumps → IsOrder dumps options.any_sum x.order.dsdt x.order.ssdts.items
+    → indexes ≡ x.order.dsdt ∷ x.order.ssdts.items → codes ≡ codes_in dumps indexes → gs ≡ options.externals.items → (trees : List Trees) × (m : Listed) × IsLoad gs codes trees m × HoldsLoad x.loaded codes trees m
     → ((es : List Entry) → StandsFor x.loaded.space es → AreEntries options.unknown_zero es (codes_view x.loaded.tables.items) x.loaded.methods.items (map body_view x.bodies.items)) → (k : Meaning) × Means dumps options k × Shows x dumps k
-means_so dumps options x indexes codes same o is cs l e =
+means_so dumps options gs x indexes codes same o is cs given l e =
     let all : codes ≡ codes_in dumps (x.order.dsdt ∷ x.order.ssdts.items) = cs ∙ ap (codes_in dumps) is in
-    let h = subst (λ (c : List (List ℕ)). (trees : List Trees) × (m : Listed) × IsLoad options.externals.items c trees m × HoldsLoad x.loaded c trees m) all l in
+    let h = subst (λ (c : List (List ℕ)). (trees : List Trees) × (m : Listed) × IsLoad options.externals.items c trees m × HoldsLoad x.loaded c trees m) all (subst (λ (g : Givens). (trees : List Trees) × (m : Listed) × IsLoad g codes trees m × HoldsLoad x.loaded codes trees m) given l) in
     let here = subst (λ (c : List (List ℕ)). AreEntries options.unknown_zero h.1.entries c x.loaded.methods.items (map body_view x.bodies.items)) h.3.tables (e h.1.entries h.3.space) in
     let there = subst (λ (ms : List Method). AreEntries options.unknown_zero h.1.entries (codes_in dumps (x.order.dsdt ∷ x.order.ssdts.items)) ms (map body_view x.bodies.items)) h.3.methods here in (
       record { dsdt = x.order.dsdt; ssdts = x.order.ssdts.items; trees = h.0; listed = h.1; bodies = map body_view x.bodies.items },

@@ -5,11 +5,10 @@ use Rattle.std.specs.List.Sorted.{IsStrictlyIncreasing}
 use Rattle.aml_code.specs.Tree.{Trees}
 use Rattle.aml_code.specs.View.{nodes_view}
 use Rattle.aml_space.specs.Entries.{Entry}
-use Rattle.aml_space.specs.Known.{StandsFor}
+use Rattle.aml_space.specs.Known.{Known, StandsFor}
 use Rattle.aml_load.specs.Bodies.{IsBody, IsUnread, OfMethod}
-use Rattle.aml_load.specs.declared.loading.Loaded.{Loaded}
 use Rattle.aml_load.specs.declared.methods.Method.{Method}
-use Rattle.aml_load.specs.Views.{codes_view, AreShort}
+use Rattle.aml_load.specs.Views.{AreShort}
 use Rattle.aml_pool.specs.Counting.{IsOnce}
 use Rattle.aml_pool.specs.Shares.{all_of}
 use Rattle.aml_text.specs.declared.blocks.Body.{Body}
@@ -61,11 +60,10 @@ Became z es tables m (bodies.Tree nodes) =
 Became z es tables m (bodies.Raw fault) = IsUnread z es tables m fault
 
 -- the body of this number can be read
-abbrev pub CanRead : Loaded → ℕ → Type 0
-CanRead x number = (number < length x.methods.items) × AreShort (codes_view x.tables.items)
+abbrev pub CanRead : List (List ℕ) → List Method → ℕ → Type 0
+CanRead tables ms number = (number < length ms) × AreShort tables
 
 -- what became of the body of this number
-abbrev pub BecameOf : Bool → Loaded → ℕ → Body → Type 0
-BecameOf z x number d =
-    (es : List Entry) → StandsFor x.space es →
-    OfMethod (slice_get x.methods.items number) (λ m. Became z es (codes_view x.tables.items) m d)
+abbrev pub BecameOf : Bool → Known → List (List ℕ) → List Method → ℕ → Body → Type 0
+BecameOf z space tables ms number d =
+    (es : List Entry) → StandsFor space es → OfMethod (slice_get ms number) (λ m. Became z es tables m d)

@@ -10,8 +10,9 @@ ghost use Rattle.acpidis.specs.Bodies.{AreEntries, AreTold, CanRead, BecameOf, A
 
 use crate::refusal::Refusal;
 use aml_code::CodeFault;
-use aml_load::{Loaded, read_body};
+use aml_load::{Loaded, Method, read_body};
 use aml_pool::{Gate, NoMemory, PoolFault, Results, Work, harvest};
+use aml_space::Space;
 use aml_text::Body;
 use std::alloc::Global;
 use std::sync::Wait;
@@ -21,19 +22,29 @@ use std::thread::Threads;
 #[derive(Clone, Copy)]
 struct Bodies<'a, 'b> {
     alloc: Global,
-    loaded: &'a Loaded<'b>,
+    /// The AML of each table, in load order.
+    tables: &'a [&'b [u8]],
+    space: &'a Space,
+    methods: &'a [Method],
     unknown_zero: bool,
 }
 
 impl<'a, 'b> Work for Bodies<'a, 'b> {
     type Done = Body;
 
-    ghost can_work = { λ w n. CanRead w.loaded.now n };
+    ghost can_work = { λ w n. CanRead (codes_view w.tables.now) w.methods.now n };
 
-    ghost gives = { λ w n d. BecameOf w.unknown_zero w.loaded.now n d };
+    ghost gives = { λ w n d. BecameOf w.unknown_zero w.space.now (codes_view w.tables.now) w.methods.now n d };
 
     fn work(&self, number: u32) -> Result<Body, NoMemory> {
-        match read_body(self.alloc, self.loaded, number, self.unknown_zero) {
+        let method = &self.methods[number as usize];
+        match read_body(
+            self.alloc,
+            self.tables,
+            self.space,
+            method,
+            self.unknown_zero,
+        ) {
             Ok(nodes) => Ok(Body::Tree(nodes)),
             Err(CodeFault::NoMemory) => Err(NoMemory),
             Err(fault) => Ok(Body::Raw(fault)),
@@ -75,7 +86,9 @@ pub(crate) fn read_bodies<R: Threads + Wait + Sync, G: Gate + Sync>(
 {
     let work = Bodies {
         alloc,
-        loaded,
+        tables: loaded.tables.as_slice(),
+        space: &loaded.space,
+        methods: loaded.methods.as_slice(),
         unknown_zero,
     };
     match harvest(rt, alloc, workers, loaded.methods.len() as u32, &work, gate) {

@@ -1,7 +1,6 @@
 //! The command line.
 ghost use Rattle.std.specs.Prelude.{◌≤◌};
 
-use acpidis::Options;
 use clap::{Arg, ArgAction, Command, Error, value_parser};
 use std::alloc::Global;
 use std::{env, io};
@@ -25,7 +24,12 @@ Exit status:
 /// What the command line asks for.
 #[derive(Drop)]
 pub struct CommandLine {
-    pub options: Options,
+    /// Whether tables with any checksum are taken.
+    pub any_sum: bool,
+    /// Whether an unknown name in a body is read as one without arguments.
+    pub unknown_zero: bool,
+    /// The file with argument counts of paths that no table declares.
+    pub externals: Option<String>,
     /// How many workers read the bodies, 1 to 64.
     pub workers: u32,
     /// Whether a line for each table is printed in place of the listing.
@@ -90,6 +94,10 @@ fn command<'a>(alloc: Global) -> Result<Command<'a>, Error> {
         .long("unknown-zero")
         .help("Read a name in a body as one without arguments where no table tells how many it has")
         .action(ArgAction::SetTrue);
+    let externals = Arg::new(alloc, "externals")
+        .long("externals")
+        .value_name("FILE")
+        .help("Take argument counts of names that no table declares from a file of lines like \\_SB_.PC00.MTHD 2");
     let check = Arg::new(alloc, "check")
         .long("check")
         .help("Print a line for each table: whether its terms encode to its bytes again")
@@ -104,6 +112,7 @@ fn command<'a>(alloc: Global) -> Result<Command<'a>, Error> {
             .after_help(STATUSES)
             .arg(workers)?
             .arg(any_sum)?
+            .arg(externals)?
             .arg(unknown_zero)?
             .arg(check)?
             .arg(folder)?,
@@ -113,9 +122,11 @@ fn command<'a>(alloc: Global) -> Result<Command<'a>, Error> {
 fn parse(alloc: Global, words: &[String]) -> Result<CommandLine, Error> {
     let matches = command(alloc)?.try_get_matches_from(words)?;
     Ok(CommandLine {
-        options: Options {
-            any_sum: matches.get_flag("any-sum"),
-            unknown_zero: matches.get_flag("unknown-zero"),
+        any_sum: matches.get_flag("any-sum"),
+        unknown_zero: matches.get_flag("unknown-zero"),
+        externals: match matches.get_str("externals") {
+            Some(file) => Some(String::from_str(alloc, file)?),
+            None => None,
         },
         // The parser takes no other number; `run` wants to know.
         workers: matches

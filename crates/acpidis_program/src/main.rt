@@ -2,11 +2,14 @@
 #![tactic(auto)]
 
 mod command_line;
+mod externals;
 
 use acpi_folder::read_folder;
-use acpidis::run;
+use acpidis::{Options, run};
 use aml_pool::FreeGate;
+use aml_names::Path;
 use command_line::{CommandLine, Stop, read};
+use externals::{FileFault, read_externals};
 use std::process::ExitCode;
 use std::sync::Wait;
 use std::thread::Threads;
@@ -38,15 +41,37 @@ fn run_folder<T: Threads + Wait + Sync>(rt: &HostRuntime, threads: &T, line: &Co
             return REFUSED;
         }
     };
+    let externals = match externals_of(rt, line) {
+        Ok(externals) => externals,
+        Err(fault) => {
+            let _ = eprintln!(rt; "acpidis: {fault}");
+            return REFUSED;
+        }
+    };
     run(
         threads,
         rt.alloc(),
         &dumps,
-        line.options,
+        Options {
+            any_sum: line.any_sum,
+            unknown_zero: line.unknown_zero,
+            externals,
+        },
         line.workers,
         line.check,
         &FreeGate,
         &mut rt.stdout(),
         &mut rt.stderr(),
     )
+}
+
+/// The argument counts of the file that the command line names, or none.
+fn externals_of<'a>(
+    rt: &HostRuntime,
+    line: &'a CommandLine,
+) -> Result<Vec<(Path, u8)>, FileFault<'a>> {
+    match &line.externals {
+        Some(file) => read_externals(rt, file.as_str()),
+        None => Ok(Vec::new(rt.alloc())),
+    }
 }

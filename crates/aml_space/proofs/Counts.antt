@@ -100,10 +100,10 @@ module _ (ns : List Node) (is : IsIndex ns) where
       ∙ ap (λ n. n + total (counted_of ns 0)) (ap one_if (kind_of_pair (slice_get ns 0)) ∙ one_still (pairs_of ns 0))
 
 -- the number of rows, by the root's row and the rows of its children
-pub count_is : (ns items : List Node) (known : Known) (row : Option (List Seg × Kind)) (kids : List Counted) (under : ℕ) → IsIndex items → ns ≡ items → (known_by items).kinds ≡ known.kinds
+pub count_is : (ns items : List Node) (known : Known) (row : Option (List Seg × Kind)) (kids : List Counted) (under : ℕ) → IsIndex items → ns ≡ items → known_by items ≡ known
     → row ≡ pairs_of ns 0 → kids ≡ counted_of ns 0 → under ≡ total kids → (length (map.entries known.kinds) ≡ one_if row + under) × (length (map.entries known.kinds) ≤ length ns)
 count_is ns items known row kids under is same knows row_is kids_are under_is =
     let here = subst IsIndex (sym same) is in
-    let entries = ap (λ m. length (map.entries m)) (sym knows ∙ ap (λ ms. (known_by ms).kinds) (sym same)) in
+    let entries = ap (λ k. length (map.entries k.kinds)) (sym knows ∙ sym (ap known_by same)) in
     let counted : one_if (pairs_of ns 0) + total (counted_of ns 0) ≡ one_if row + under = (λ t. one_if (sym row_is t) + (ap total (sym kids_are) ∙ sym under_is) t) in
     (entries ∙ rows_counted ns here ∙ counted, omega (arith, entries, rows_fit ns here))

@@ -5,17 +5,16 @@ use Rattle.std.specs.Option.{option_or, option_and_then, option_map}
 use Rattle.std.specs.FinMap as map
 use Rattle.std.specs.FinSet as set
 use Rattle.aml_names.specs.declared.segments.Seg.{Seg}
-use Rattle.aml_names.specs.Paths.{PathSet, path_cmp}
+use Rattle.aml_names.specs.Paths.{PathSet}
 use Rattle.aml_names.specs.Searching.{upward}
 use Rattle.aml_space.specs.declared.kinds.Kind.{Kind}
-use Rattle.aml_space.specs.declared.kinds.Kind.TheVariants as kinds
 use Rattle.aml_space.specs.declared.nodes.Node.{Node}
 use Rattle.aml_space.specs.declared.scopes.Candidate.{Candidate}
 use Rattle.aml_space.specs.Predefined.{predefined}
-use Rattle.aml_space.specs.Namespace.{Namespace, kind_at, kind_count, count_at, count_by, arity_at, unknown_count, first_of, decides, is_outside}
+use Rattle.aml_space.specs.Namespace.{Namespace, kind_at, count_at, count_by, arity_at, unknown_count, first_of, decides, is_outside}
 use Rattle.aml_space.specs.Known.{namespace_in}
 use Rattle.aml_space.specs.Graph.{walk}
-use Rattle.aml_space.specs.Nodes.{kids_of, kinds_of, outs_of, known_by, known_with, IsShape}
+use Rattle.aml_space.specs.Nodes.{kids_of, kinds_of, outs_of, known_by, IsShape}
 use Rattle.aml_space.specs.Candidates.{path_at, raised_path, IsCandidate, IsScratch}
 use Rattle.aml_space.proofs.Change.{walk_range}
 use Rattle.aml_space.proofs.Index.{known_kind, known_out}
@@ -49,30 +48,6 @@ predefined_deep (suc d) (s ∷ scope) (t ∷ rest) deep within one = by (take d 
     by : (front : List Seg) → predefined (s ∷ (front ++ t ∷ rest)) ≡ None
     by [] = refl
     by (u ∷ front) = refl
-
--- the given counts say nothing of a path's own count
-pub count_beside : (ns : List Node) (givens : map.FinMap path_cmp ℕ) (p : List Seg) → count_at (namespace_in (known_by ns)) p ≡ count_at (namespace_in (known_with ns givens)) p
-count_beside ns givens p = by (kind_at (namespace_in (known_by ns)) p) (map.get (known_by ns).outs p)
-  where
-    kinds_beside : (k : Kind) → kind_count (namespace_in (known_by ns)) k ≡ kind_count (namespace_in (known_with ns givens)) k
-    kinds_beside kinds.Scope = refl
-    kinds_beside kinds.Name = refl
-    kinds_beside (kinds.Method n) = refl
-    kinds_beside (kinds.Alias t) = refl
-    kinds_beside kinds.Device = refl
-    kinds_beside kinds.Processor = refl
-    kinds_beside kinds.PowerResource = refl
-    kinds_beside kinds.ThermalZone = refl
-    kinds_beside kinds.Mutex = refl
-    kinds_beside kinds.Event = refl
-    kinds_beside kinds.Region = refl
-    kinds_beside kinds.DataRegion = refl
-    kinds_beside kinds.Field = refl
-    kinds_beside kinds.BufferField = refl
-
-    by : (k : Option Kind) (out : Option ℕ) → count_by (namespace_in (known_by ns)) k out ≡ count_by (namespace_in (known_with ns givens)) k out
-    by None out = refl
-    by (Some k) out = ap Some (kinds_beside k)
 
 -- a name that leads to one path
 pub placed : (n : Namespace) (unknown_zero : Bool) (locals : PathSet) (p : List Seg) →

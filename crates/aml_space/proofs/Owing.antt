@@ -16,7 +16,7 @@ use Rattle.aml_space.specs.declared.nodes.Node.{Node}
 use Rattle.aml_space.specs.Graph.{walk, one_if, IsTree}
 use Rattle.aml_children.specs.Children.{Counted, bare, child_in, raised, total, Rise}
 use Rattle.aml_children.proofs.Sides.{total_raised}
-use Rattle.aml_space.specs.Nodes.{counted_of, kids_of, kinds_of, outs_of, pairs_of, rows_of, HaveRows, IsShape, IsIndex, IsCounted, IsOwed, IsRecounted, HasRaised, HasRow, HasOut}
+use Rattle.aml_space.specs.Nodes.{counted_of, kids_of, kinds_of, outs_of, givens_of, pairs_of, rows_of, HaveRows, IsShape, IsIndex, IsCounted, IsOwed, IsRecounted, HasRaised, HasRow, HasOut, HasGiven, HasGiven}
 use Rattle.aml_space.specs.declared.kinds.Kind.{Kind}
 use Rattle.aml_space.proofs.Change.{child_range, one_path}
 use Rattle.aml_space.proofs.Family.{at_found, before_at, family_rises}
@@ -169,6 +169,9 @@ module _ (first ns new : List Node) (p : List Seg) (x : ℕ) (kind : Kind) (is :
   pub settled_outs : (k : ℕ) → outs_of new k ≡ outs_of first k
   settled_outs k = has.outs k ∙ same.outs k
 
+  pub settled_givens : (k : ℕ) → givens_of new k ≡ givens_of first k
+  settled_givens k = has.givens k ∙ same.givens k
+
   named : (q : List Seg) (i : ℕ) (e : List Seg × Kind) → walk (kids_of new) 0 q ≡ Some i → pairs_of new i ≡ Some e → e.0 ≡ q
   named q i e led_q at = by (i == x) refl (sym (has.names i) ∙ at)
     where
@@ -194,12 +197,18 @@ module _ (first ns new : List Node) (p : List Seg) (x : ℕ) (kind : Kind) (is :
   pub settled : IsIndex new
   settled = record { shape = counted_shape first new is.shape settled_long settled_kids; named = named; counted = counted }
 
--- an External changes no row
-pub index_outed : (ns new : List Node) (x count : ℕ) → IsIndex ns → HasOut ns new x count → IsIndex new
-index_outed ns new x count is has =
-    let kids : (k : ℕ) → kids_of new k ≡ kids_of ns k = λ k. ap bare (has.counted k) in
+-- a count changes no row
+same_rows : (ns new : List Node) → IsIndex ns → length new ≡ length ns → ((k : ℕ) → counted_of new k ≡ counted_of ns k) → ((k : ℕ) → kinds_of new k ≡ kinds_of ns k) → ((k : ℕ) → pairs_of new k ≡ pairs_of ns k) → IsIndex new
+same_rows ns new is long same kinds names =
+    let kids : (k : ℕ) → kids_of new k ≡ kids_of ns k = λ k. ap bare (same k) in
     record {
-      shape = counted_shape ns new is.shape has.long kids;
-      named = λ q i e led at. is.named q i e (sym (led_kids ns new kids 0 q) ∙ led) (sym (has.names i) ∙ at);
-      counted = λ i. subst (HaveRows (rows_of new)) (sym (has.counted i)) (have_apart (rows_of ns) (rows_of new) (counted_of ns i) (λ k c at. sym (λ t. one_if (has.kinds c.node t) + total (has.counted c.node t))) (is.counted i));
+      shape = counted_shape ns new is.shape long kids;
+      named = λ q i e led at. is.named q i e (sym (led_kids ns new kids 0 q) ∙ led) (sym (names i) ∙ at);
+      counted = λ i. subst (HaveRows (rows_of new)) (sym (same i)) (have_apart (rows_of ns) (rows_of new) (counted_of ns i) (λ k c at. sym (λ t. one_if (kinds c.node t) + total (same c.node t))) (is.counted i));
     }
+
+pub index_outed : (ns new : List Node) (x count : ℕ) → IsIndex ns → HasOut ns new x count → IsIndex new
+index_outed ns new x count is has = same_rows ns new is has.long has.counted has.kinds has.names
+
+pub index_given : (ns new : List Node) (x count : ℕ) → IsIndex ns → HasGiven ns new x count → IsIndex new
+index_given ns new x count is has = same_rows ns new is has.long has.counted has.kinds has.names

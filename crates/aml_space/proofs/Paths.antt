@@ -58,7 +58,7 @@ rest_more ns xs p [] so = record {
 rest_more ns xs p (s ∷ q) so =
     let before = xs ++ empty ∷ [] in
     let c : Child = record { seg = s; node = length xs + 1 } in
-    let filled : Node = record { row = None; outs = None; children = Rattle.aml_children.specs.Children.put [] c } in
+    let filled : Node = record { row = None; outs = None; given = None; children = Rattle.aml_children.specs.Children.put [] c } in
     let long : length before ≡ length xs + 1 = length-append xs (empty ∷ []) in
     let one = one_more before p (length xs) s (omega (arith, long)) so.index so.led (last_leaf xs s) in
     let is : with_child before (length xs) (record { seg = s; node = length before }) ++ empty ∷ [] ≡ (xs ++ filled ∷ []) ++ empty ∷ [] =

@@ -9,7 +9,7 @@ use Rattle.aml_space.specs.declared.scopes.Candidate.{Candidate}
 use Rattle.aml_space.specs.Graph.{walk}
 use Rattle.aml_space.specs.Known.{namespace_in}
 use Rattle.aml_space.specs.Namespace.{Namespace}
-use Rattle.aml_space.specs.Nodes.{kids_of, known_with, IsShape, IsAlong}
+use Rattle.aml_space.specs.Nodes.{kids_of, known_by, IsShape, IsAlong}
 
 -- a scope has the nodes of its path
 pub record IsScope (s : Scope) : Type 0 where
@@ -19,7 +19,7 @@ pub record IsScope (s : Scope) : Type 0 where
 
 -- the namespace in which a scope stands
 abbrev pub names_of : Scope → Namespace
-names_of s = namespace_in (known_with s.nodes.now s.givens.now)
+names_of s = namespace_in (known_by s.nodes.now)
 
 -- the path of a candidate
 abbrev pub path_at : List Seg → List Seg → Candidate → List Seg

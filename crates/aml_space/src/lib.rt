@@ -6,7 +6,6 @@
 mod bodies;
 mod counting;
 mod faults;
-mod givens;
 mod growing;
 mod kinds;
 mod listing;

@@ -20,6 +20,8 @@ pub struct Node {
     pub row: Option<Row>,
     /// The greatest count of its Externals.
     pub outs: Option<u8>,
+    /// The greatest count that the user gives it.
+    pub given: Option<u8>,
     /// The nodes below, each with the number of paths that are declared at it and below.
     pub children: Children,
 }
@@ -32,6 +34,7 @@ impl Node {
         Node {
             row: None,
             outs: None,
+            given: None,
             children: Children::new(),
         }
     }

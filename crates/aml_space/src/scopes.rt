@@ -6,17 +6,16 @@ ghost use Rattle.aml_names.specs.declared.segments.Seg.{Seg};
 ghost use Rattle.aml_names.specs.Searching.{upward};
 ghost use Rattle.aml_children.specs.Children.{child_in};
 ghost use Rattle.aml_space.specs.Predefined.{predefined};
-ghost use Rattle.aml_space.specs.Namespace.{first_of, count_at};
+ghost use Rattle.aml_space.specs.Namespace.{first_of, first_given, count_at};
 ghost use Rattle.aml_space.specs.Graph.{walk};
 ghost use Rattle.aml_space.specs.Nodes.{kids_of, kinds_of, outs_of, IsShape, IsAlong};
 ghost use Rattle.aml_space.specs.Candidates.{path_at, raised_path, names_of, IsScope, IsCandidate, IsScratch};
 
 use crate::counting::{count_met, kind_met};
-use crate::givens::Givens;
 use crate::kinds::Kind;
 use crate::nodes::Node;
 use crate::predefined::Predefined;
-use crate::walking::{child, out_at};
+use crate::walking::{child, given_at, out_at};
 use aml_names::{Locals, NoMemory, Path, Seg};
 use std::alloc::Global;
 
@@ -25,7 +24,6 @@ use std::alloc::Global;
 pub struct Scope<'a> {
     pub nodes: &'a [Node],
     pub predefined: &'a Predefined,
-    pub givens: &'a Givens,
     pub path: &'a Path,
     /// The node of the first `n` segments of the path at `n`, as far as they stand in the index.
     pub chain: Vec<usize>,
@@ -48,20 +46,17 @@ impl<'a> Scope<'a> {
         alloc: Global,
         nodes: &'a [Node],
         predefined: &'a Predefined,
-        givens: &'a Givens,
         path: &'a Path,
     ) -> Result<Scope<'a>, NoMemory>
         requires { IsShape nodes.now }
         ensures scope { IfOk result IsScope }
         ensures nodes { IfOk result (λ scope. scope.nodes.now ≡ nodes.now) }
-        ensures givens { IfOk result (λ scope. scope.givens.now ≡ givens.now) }
         ensures path { IfOk result (λ scope. scope.path.now ≡ path.now) }
     {
         let chain = nodes_along(alloc, nodes, path.segs())?;
         Ok(Scope {
             nodes,
             predefined,
-            givens,
             path,
             chain,
         })
@@ -162,6 +157,25 @@ impl<'a> Scope<'a> {
             here.node,
             self.standing(segment, here.depth),
         )
+    }
+
+    /// The count that the user gives to the first candidate of a segment that has one.
+    pub fn given(&self, segment: &[Seg]) -> Option<u8>
+        requires scope { IsScope self.now }
+        requires one { length segment.now ≡ 1 }
+        ensures { result ≡ first_given (names_of self.now) (upward (length self.now.path.now) self.now.path.now segment.now) }
+    {
+        let mut depth = self.path.segs().len();
+        'depths: loop {
+            let node = child_along(self.nodes, self.chain.as_slice(), depth, segment[0]);
+            if let Some(count) = given_at(self.nodes, node) {
+                return Some(count);
+            }
+            if depth == 0 {
+                return None;
+            }
+            depth -= 1;
+        }
     }
 
     /// The path of a candidate.

@@ -10,8 +10,7 @@ ghost use Rattle.aml_space.specs.Rows.{AreRows};
 
 use crate::counting::count_of;
 use crate::faults::SpaceFault;
-use crate::givens::Givens;
-use crate::growing::{count_path, make_node, set_out, set_row};
+use crate::growing::{count_path, make_node, set_given, set_out, set_row};
 use crate::kinds::Kind;
 use crate::listing::list_rows;
 use crate::nodes::{Node, Row};
@@ -29,7 +28,6 @@ pub struct Space {
     /// The root first. A child has a greater number than its parent.
     pub(crate) nodes: Vec<Node>,
     pub(crate) predefined: Predefined,
-    pub(crate) givens: Givens,
 }
 
 impl Model for Space {
@@ -39,9 +37,9 @@ impl Model for Space {
 
     ghost coded = { coded_known };
 
-    ghost use Rattle.aml_space.specs.Nodes.{known_with, IsIndex};
+    ghost use Rattle.aml_space.specs.Nodes.{known_by, IsIndex};
 
-    ghost view = { λ s. known_with s.nodes.items s.givens };
+    ghost view = { λ s. known_by s.nodes.items };
 
     ghost invariant = { λ s. IsIndex s.nodes.items };
 }
@@ -65,7 +63,6 @@ impl Space {
             alloc,
             nodes,
             predefined: Predefined::new(),
-            givens: Givens::new(alloc)?,
         })
     }
 
@@ -113,7 +110,8 @@ impl Space {
             OnOk result (StandsFor self.new (es ++ said path.now count ∷ [])) }
         ensures err { OnErr result (self.new ≡ self.old) }
     {
-        self.givens.add(path, count)?;
+        let at = make_node(self.alloc, &mut self.nodes, path.segs())?;
+        set_given(&mut self.nodes, at, count);
         Ok(())
     }
 

@@ -8,10 +8,13 @@ use std::sync::atomic::{AtomicBool, AtomicU64};
 use std::thread;
 
 /// Any checksum is taken.
-pub const ANY_SUM: Options = Options {
-    any_sum: true,
-    unknown_zero: false,
-};
+pub fn any_sum(alloc: Global) -> Options {
+    Options {
+        any_sum: true,
+        unknown_zero: false,
+        externals: Vec::new(alloc),
+    }
+}
 
 /// Adds a dump.
 pub fn push_dump(

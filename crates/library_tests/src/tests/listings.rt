@@ -1,5 +1,5 @@
 //! Listings by several workers.
-use super::fixtures::{ANY_SUM, Watch, push_table};
+use super::fixtures::{Watch, push_table, any_sum};
 use acpi_tables::Dump;
 use acpidis::{Refusal, disassemble};
 use aml_code::CodeFault;
@@ -36,7 +36,7 @@ pub fn has_three_bodies(listing: &Listing<'_>) -> bool {
 fn three_bodies_by_any_number_of_workers(rt: HostRuntime) -> Result<(), Fail> {
     let dumps = three_methods(rt.alloc())?;
     for workers in [1, 2, 3, 64] {
-        let listing = disassemble(&rt, rt.alloc(), &dumps, ANY_SUM, workers, &FreeGate)?;
+        let listing = disassemble(&rt, rt.alloc(), &dumps, any_sum(rt.alloc()), workers, &FreeGate)?;
         assert!(rt; has_three_bodies(&listing));
         assert_eq!(rt; listing.drawn.len(), workers as usize);
         let lists = listing.drawn.iter();
@@ -64,7 +64,7 @@ fn lists_are_calls<T: Threads + Wait + Sync>(
     gate: &Watch,
 ) -> Result<bool, Refusal> {
     let dumps = eight_methods(alloc)?;
-    let listing = disassemble(threads, alloc, &dumps, ANY_SUM, 2, gate)?;
+    let listing = disassemble(threads, alloc, &dumps, any_sum(alloc), 2, gate)?;
     for (worker, list) in (0..2).zip(listing.drawn.iter()) {
         if gate.numbers_of(alloc, worker)?.as_slice() != list.as_slice() {
             return Ok(false);

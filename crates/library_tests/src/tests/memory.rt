@@ -1,7 +1,7 @@
 //! Answers where a growth is refused, as by `rt try --test --fail-alloc N`: the whole answer, or the want of memory.
 ghost use Rattle.std.specs.Prelude.{◌≤◌};
 
-use super::fixtures::{ANY_SUM, push_dump, push_table};
+use super::fixtures::{push_dump, push_table, any_sum};
 use super::listings::{has_three_bodies, three_methods};
 use acpi_tables::{Bad, Dump, load_order};
 use acpidis::{Refusal, disassemble};
@@ -74,7 +74,7 @@ fn has_bodies<T: Threads + Wait + Sync>(
 ) -> bool
     requires { (1 ≤ workers) × (workers ≤ 64) }
 {
-    match disassemble(threads, alloc, dumps, ANY_SUM, workers, &FreeGate) {
+    match disassemble(threads, alloc, dumps, any_sum(alloc), workers, &FreeGate) {
         Ok(listing) => has_three_bodies(&listing),
         Err(refusal) => matches!(refusal, Refusal::NoMemory | Refusal::NoThread),
     }

@@ -1,5 +1,5 @@
 //! Bodies of 512 levels, the most that are read, on each thread.
-use super::fixtures::{ANY_SUM, Watch, push_table};
+use super::fixtures::{Watch, push_table, any_sum};
 use acpi_tables::Dump;
 use acpidis::{disassemble, run};
 use aml_text::{Body, Listing};
@@ -103,7 +103,7 @@ fn is_whole(listing: &Listing<'_>) -> bool {
 fn the_deepest_bodies_on_each_thread(rt: HostRuntime) -> Result<(), Fail> {
     let dumps = deepest_methods(rt.alloc())?;
     let gate = Watch::new(rt.alloc(), 2, 0)?;
-    let listing = disassemble(&rt, rt.alloc(), &dumps, ANY_SUM, 2, &gate)?;
+    let listing = disassemble(&rt, rt.alloc(), &dumps, any_sum(rt.alloc()), 2, &gate)?;
     assert!(rt; is_whole(&listing) && !gate.is_stuck());
     Ok(())
 }
@@ -116,7 +116,7 @@ fn the_deepest_bodies_are_printed(rt: HostRuntime) -> Result<(), Fail> {
     let mut out = Vec::new(alloc);
     let mut error = Vec::new(alloc);
     let status = run(
-        &rt, alloc, &dumps, ANY_SUM, 2, false, &gate, &mut out, &mut error,
+        &rt, alloc, &dumps, any_sum(alloc), 2, false, &gate, &mut out, &mut error,
     );
     assert_eq!(rt; (status, error.len()), (0, 0));
     Ok(())

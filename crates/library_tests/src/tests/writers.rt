@@ -24,10 +24,13 @@ DefinitionBlock (\"a\") {
 }
 ";
 
-const OPTIONS: Options = Options {
-    any_sum: false,
-    unknown_zero: false,
-};
+fn options(alloc: Global) -> Options {
+    Options {
+        any_sum: false,
+        unknown_zero: false,
+        externals: Vec::new(alloc),
+    }
+}
 
 /// A writer that takes so many bytes, some a call, and then fails.
 #[derive(Drop)]
@@ -80,7 +83,7 @@ fn run_to<T: Threads + Wait + Sync>(
     let dumps = set(alloc, &METHOD)?;
     let mut error = Vec::new(alloc);
     let status = run(
-        threads, alloc, &dumps, OPTIONS, 1, false, &FreeGate, out, &mut error,
+        threads, alloc, &dumps, options(alloc), 1, false, &FreeGate, out, &mut error,
     );
     Ok((status, error))
 }
@@ -128,7 +131,7 @@ fn an_error_line_that_fails_changes_no_status(rt: HostRuntime) -> Result<(), Fai
     let mut out = Vec::new(alloc);
     let mut error = Slow::new(alloc, 5, 5);
     let status = run(
-        &rt, alloc, &dumps, OPTIONS, 1, false, &FreeGate, &mut out, &mut error,
+        &rt, alloc, &dumps, options(alloc), 1, false, &FreeGate, &mut out, &mut error,
     );
     assert_eq!(rt; status, 1);
     assert_eq!(rt; out.len(), 0);

@@ -6,14 +6,14 @@ use Rattle.acpidis.proofs.bodies.read_bodies.Goals as goal
 pub returns-in-Ok-clause-sound : goal.returns-in-Ok-clause-sound
 returns-in-Ok-clause-sound g c es s =
     let len : length c.in-Ok.found.items.items ≡ length c.args.loaded.now.methods.items = omega (arith, c.in-Ok.ensures.results.items_len, c.len.ensures, c.requires.few) in
-    are_entries c.args.unknown_zero es (codes_view c.args.loaded.now.tables.items) c.args.loaded.now.methods.items c.in-Ok.found.items.items (harvested c.args.unknown_zero c.args.loaded.now c.in-Ok.found.items.items es s len c.in-Ok.ensures.results.results)
+    are_entries c.args.unknown_zero es (codes_view c.args.loaded.now.tables.items) c.args.loaded.now.methods.items c.in-Ok.found.items.items (harvested c.args.unknown_zero c.args.loaded.now c.as_slice.result.now c.as_slice-2.result.now c.in-Ok.found.items.items es c.as_slice.ensures.value c.as_slice-2.ensures.value s len c.in-Ok.ensures.results.results)
 
 pub returns-in-Ok-clause-one : goal.returns-in-Ok-clause-one
 returns-in-Ok-clause-one g c es s bs =
     let len : length c.in-Ok.found.items.items ≡ length c.args.loaded.now.methods.items = omega (arith, c.in-Ok.ensures.results.items_len, c.len.ensures, c.requires.few) in
-    the_entries c.args.unknown_zero es (codes_view c.args.loaded.now.tables.items) c.args.loaded.now.methods.items c.in-Ok.found.items.items bs (harvested c.args.unknown_zero c.args.loaded.now c.in-Ok.found.items.items es s len c.in-Ok.ensures.results.results)
+    the_entries c.args.unknown_zero es (codes_view c.args.loaded.now.tables.items) c.args.loaded.now.methods.items c.in-Ok.found.items.items bs (harvested c.args.unknown_zero c.args.loaded.now c.as_slice.result.now c.as_slice-2.result.now c.in-Ok.found.items.items es c.as_slice.ensures.value c.as_slice-2.ensures.value s len c.in-Ok.ensures.results.results)
 
 pub returns-in-Ok-clause-told : goal.returns-in-Ok-clause-told
 returns-in-Ok-clause-told g c es s =
     let len : length c.in-Ok.found.items.items ≡ length c.args.loaded.now.methods.items = omega (arith, c.in-Ok.ensures.results.items_len, c.len.ensures, c.requires.few) in
-    are_told c.args.unknown_zero es (codes_view c.args.loaded.now.tables.items) c.args.loaded.now.methods.items c.in-Ok.found.items.items (harvested c.args.unknown_zero c.args.loaded.now c.in-Ok.found.items.items es s len c.in-Ok.ensures.results.results)
+    are_told c.args.unknown_zero es (codes_view c.args.loaded.now.tables.items) c.args.loaded.now.methods.items c.in-Ok.found.items.items (harvested c.args.unknown_zero c.args.loaded.now c.as_slice.result.now c.as_slice-2.result.now c.in-Ok.found.items.items es c.as_slice.ensures.value c.as_slice-2.ensures.value s len c.in-Ok.ensures.results.results)

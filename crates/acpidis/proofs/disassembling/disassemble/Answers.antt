@@ -5,14 +5,14 @@ use Rattle.acpidis.proofs.disassembling.disassemble.Goals as goal
 
 pub returns-in-Err-clause-true_load : goal.returns-in-Err-clause-true_load
 returns-in-Err-clause-true_load g c =
-    tells_blocks c.args.dumps.now c.args.options c.in_ok-order.order.dsdt c.in_ok-order.order.ssdts.items c.as_slice.result.now c.as_slice-3.result.now (codes_view c.as_slice-2.result.now) c.in-Err.refusal c.in_ok-order.ensures.only
-    (c.as_slice.ensures.value ∙ c.in_ok-indexes.ensures) (c.as_slice-3.ensures.value ∙ c.in_ok-indexes.ensures) (ap codes_view c.as_slice-2.ensures.value ∙ c.in_ok-codes.ensures.codes) c.in-Err.ensures.tells
+    tells_blocks c.args.dumps.now c.args.options c.as_slice-3.result.now c.in_ok-order.order.dsdt c.in_ok-order.order.ssdts.items c.as_slice.result.now c.as_slice-4.result.now (codes_view c.as_slice-2.result.now) c.in-Err.refusal c.in_ok-order.ensures.only
+    (c.as_slice.ensures.value ∙ c.in_ok-indexes.ensures) (c.as_slice-4.ensures.value ∙ c.in_ok-indexes.ensures) (ap codes_view c.as_slice-2.ensures.value ∙ c.in_ok-codes.ensures.codes) c.as_slice-3.ensures.value c.in-Err.ensures.tells
 
 pub returns-clause-sound : goal.returns-clause-sound
 returns-clause-sound g c =
-    means_so c.args.dumps.now c.args.options record { dumps = c.args.dumps; order = c.in_ok-order.order; loaded = c.in-Ok.loaded; bodies = c.in_ok-found.found.items; drawn = c.in_ok-found.found.drawn }
+    means_so c.args.dumps.now c.args.options c.as_slice-3.result.now record { dumps = c.args.dumps; order = c.in_ok-order.order; loaded = c.in-Ok.loaded; bodies = c.in_ok-found.found.items; drawn = c.in_ok-found.found.drawn }
     c.as_slice.result.now (codes_view c.as_slice-2.result.now) refl c.in_ok-order.ensures.order (c.as_slice.ensures.value ∙ c.in_ok-indexes.ensures) (ap codes_view c.as_slice-2.ensures.value ∙ c.in_ok-codes.ensures.codes)
-    c.in-Ok.ensures.sound c.in_ok-found.ensures.sound
+    c.as_slice-3.ensures.value c.in-Ok.ensures.sound c.in_ok-found.ensures.sound
 
 pub returns-in-Err-clause-true_table : goal.returns-in-Err-clause-true_table
 returns-in-Err-clause-true_table g c = c.in-Err.ensures.of_load c.args.dumps.now c.args.options.any_sum

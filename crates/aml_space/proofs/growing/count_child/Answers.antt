@@ -28,4 +28,4 @@ pub returns : goal.returns
 returns c =
     let ns = c.args.nodes.now.items in
     let was : slice_get ns c.args.at ≡ Some c.index_mut-node.result.now = slice_get-get_or ns c.args.at c.index_mut-node.result.now c.requires.within ∙ ap Some (sym c.index_mut-node.ensures.value) in
-    recounted ns c.args.at c.index_mut-node.result.now _ c.args.seg c.requires.within was c.add_row.ensures refl refl
+    recounted ns c.args.at c.index_mut-node.result.now _ c.args.seg c.requires.within was c.add_row.ensures refl refl refl

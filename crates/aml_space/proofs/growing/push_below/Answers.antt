@@ -44,7 +44,7 @@ returns-clause-ok c =
     let n = c.index_mut-parent.result.now in
     let was : slice_get mid c.args.at ≡ Some n = slice_get-get_or mid c.args.at n inside ∙ ap Some (sym c.index_mut-parent.ensures.value) in
     let child : Child = record { seg = c.args.seg; node = c.len-node.result } in
-    (λ i. set mid c.args.at (record { row = n.row; outs = n.outs; children = c.in_ok-insert.ensures.ok i }))
+    (λ i. set mid c.args.at (record { row = n.row; outs = n.outs; given = n.given; children = c.in_ok-insert.ensures.ok i }))
     ∙ set_with mid c.args.at child n was
     ∙ ap (λ ms. with_child ms c.args.at child) is
     ∙ with_front ns tail c.args.at child c.requires.within

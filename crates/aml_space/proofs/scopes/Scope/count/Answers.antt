@@ -1,7 +1,8 @@
 use Rattle.std.proofs.Common.{Some, cond, take, ◌++◌, ap, sym, ◌∙◌}
 use Rattle.aml_space.specs.Namespace.{count_at}
-use Rattle.aml_space.specs.Candidates.{names_of}
-use Rattle.aml_space.proofs.Meaning.{count_of_met, within_met, count_beside}
+use Rattle.aml_space.specs.Known.{namespace_in}
+use Rattle.aml_space.specs.Nodes.{known_by}
+use Rattle.aml_space.proofs.Meaning.{count_of_met, within_met}
 use Rattle.aml_space.proofs.scopes.Scope.count.Goals as goal
 
 pub count_met-requires-clause-within : goal.count_met-requires-clause-within
@@ -10,5 +11,4 @@ count_met-requires-clause-within c = within_met c.args.self.now.nodes.now c.requ
 pub returns : goal.returns
 returns c =
     c.count_met.ensures ∙ count_of_met c.args.self.now.nodes.now c.requires.scope.shape _ c.args.here.node c.requires.node _ c.standing.ensures
-    ∙ count_beside c.args.self.now.nodes.now c.args.self.now.givens.now _
-    ∙ sym (ap (λ b. cond b (Some 0) (count_at (names_of c.args.self.now) (take c.args.here.depth c.args.self.now.path.now ++ c.args.segment.now))) c.if-here.false)
+    ∙ sym (ap (λ b. cond b (Some 0) (count_at (namespace_in (known_by c.args.self.now.nodes.now)) (take c.args.here.depth c.args.self.now.path.now ++ c.args.segment.now))) c.if-here.false)

@@ -2,7 +2,7 @@ use Rattle.std.proofs.Common.{List, ℕ, ◌≤◌, length, subst, sym}
 use Rattle.aml_code.specs.View.{nodes_view}
 use Rattle.aml_load.specs.Views.{codes_view}
 use Rattle.aml_load.proofs.BodyLaws.{short_span, reading_is}
-use Rattle.aml_load.proofs.bodies.read_method.Goals as goal
+use Rattle.aml_load.proofs.bodies.read_body.Goals as goal
 
 pub parse_body-requires : goal.parse_body-requires
 parse_body-requires c = subst (λ (b : List ℕ). length b ≤ 16777216) (sym c.span_of.ensures) (short_span (codes_view c.args.tables.now) c.args.method.now c.requires)

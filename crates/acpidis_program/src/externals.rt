@@ -1,0 +1,60 @@
+//! The file of argument counts that the user gives.
+use acpi_folder::{ExternalsFault, Quoted, parse_externals};
+use aml_names::Path;
+use std::alloc::AllocError;
+use std::io::Read;
+use std::{fs, io};
+use thiserror::Error;
+
+/// The greatest number of bytes of such a file.
+const MAX_BYTES: usize = 16_777_216;
+
+/// One byte more is read, so that a longer file is seen.
+const READ_LIMIT: u64 = 16_777_217;
+
+/// Why a file of argument counts isn't taken. It displays as the program prints it.
+#[derive(Debug, Drop, Error)]
+pub enum FileFault<'a> {
+    /// The file can't be read, or has more than 16,777,216 bytes.
+    #[error("cannot read {}", Quoted(*.0))]
+    File(&'a str),
+    /// A line has not the form, by its number from 1.
+    #[error("externals line {0}: BadLine")]
+    BadLine(usize),
+    /// A growth was refused.
+    #[error("NoMemory")]
+    NoMemory,
+}
+
+impl From<AllocError> for FileFault<'_> {
+    fn from(_error: AllocError) -> FileFault<'_> {
+        FileFault::NoMemory
+    }
+}
+
+/// The paths and counts of the lines of a file, in their order.
+pub fn read_externals<'a>(
+    rt: &HostRuntime,
+    file: &'a str,
+) -> Result<Vec<(Path, u8)>, FileFault<'a>> {
+    let text = match read_file(rt, file) {
+        Ok(text) => text,
+        Err(error) if error.kind() == io::ErrorKind::OutOfMemory => return Err(FileFault::NoMemory),
+        Err(_) => return Err(FileFault::File(file)),
+    };
+    if text.len() > MAX_BYTES {
+        return Err(FileFault::File(file));
+    }
+    match parse_externals(rt.alloc(), &text) {
+        Ok(externals) => Ok(externals),
+        Err(ExternalsFault::BadLine(number)) => Err(FileFault::BadLine(number)),
+        Err(ExternalsFault::NoMemory) => Err(FileFault::NoMemory),
+    }
+}
+
+fn read_file(rt: &HostRuntime, path: &str) -> io::Result<Vec<u8>> {
+    let mut bytes = Vec::new(rt.alloc());
+    let file = fs::open(rt, path)?;
+    file.take(READ_LIMIT).read_to_end(&mut bytes)?;
+    Ok(bytes)
+}
