@@ -2,6 +2,7 @@
 """Times the disassembly of sets that are made to hurt, each at half its size and at its whole size.
 
 usage: bench/hostile.py [ACPIDIS] [--only WORD] [--keep FOLDER] [--runs N] [--seconds N] [--large] [--no-iasl]
+                        [--instructions]
 
 ACPIDIS is the built program, out/acpidis if left out. Each set is written to a folder of its own. For each shape one
 line is printed: its size; the shortest time of N runs, 3 if left out, at the whole size; the most memory; how many
@@ -11,12 +12,16 @@ seconds, the time of `iasl -d` on the DSDT. A run is stopped after so many secon
 512 files of 16 MB each, for which the program needs 9 GB. Shapes of the option --externals are left out where the
 program doesn't have it. The script is no part of the gate.
 
+With --instructions the growth is of the instructions that one worker needs, by valgrind, in place of the processor
+time. They don't depend on what else the machine does; the runs take some fifty times as long, so name a shape.
+
 A shape's time should grow no more than 2.4 times; where it does, the line ends with GROWS. The shapes with `*` may take
 4.4 times as much: docs/limits.md says which two dimensions grow together in them.
 """
 import argparse
 import os
 import pathlib
+import re
 import shutil
 import subprocess
 import sys
@@ -52,6 +57,13 @@ def write(folder, make, size):
     _, status = os.waitpid(child, 0)
     if status:
         sys.exit(f"{folder} couldn't be written")
+
+
+def instructions(command, folder):
+    """The instructions that a run by one worker needs, in thousands of millions."""
+    words = ["valgrind", "--tool=callgrind", "--callgrind-out-file=/dev/null", *command, "--workers", "1"]
+    ran = subprocess.run(words, cwd=folder, stdout=subprocess.DEVNULL, stderr=subprocess.PIPE, check=False)
+    return int(re.search(rb"refs: *([0-9,]+)", ran.stderr)[1].replace(b",", b"")) / 1e9
 
 
 def measured(command, folder, count, limit):
@@ -112,7 +124,10 @@ def run_shape(shape, program, compiler, work, asked):
         write(folder, shape.make, size)
         command = [program, *shape.options(folder), str(folder)]
         for kind, words in zip(answers, (command, [*command, "--check"])):
-            kind.insert(0, measured(words, folder, asked.runs, asked.seconds))
+            answer = measured(words, folder, asked.runs, asked.seconds)
+            if answer and asked.instructions:
+                answer = answer._replace(processor=instructions(words, folder))
+            kind.insert(0, answer)
     text_bytes = printed_bytes(command, folder) if answers[0][0] else None
     iasl = measured([compiler, "-d", "dsdt.dat"], folder, 1, IASL_SECONDS) if compiler else None
     print(line(shape, answers, text_bytes, iasl), flush=True)
@@ -131,6 +146,7 @@ def main():
     words.add_argument("--seconds", type=float, default=120)
     words.add_argument("--large", action="store_true")
     words.add_argument("--no-iasl", action="store_true")
+    words.add_argument("--instructions", action="store_true")
     asked = words.parse_args()
     program = shutil.which(os.path.abspath(asked.acpidis))
     if program is None:

@@ -6,8 +6,8 @@
 Each set is a made-up one or one of the folders given, with one to four changes: bits, bytes and names; terms that go,
 come from elsewhere or move, with the lengths around them repaired; lengths; cuts; halves of two tables; headers; files.
 Checksums are repaired most of the time. A set fails where text, error lines or status differ, where a signal ends the
-program, and where it takes more than 10 seconds or 2 GB. A failing set is made smaller while it fails in the same way,
-and kept. The same seed makes the same sets. The script is no part of the gate.
+program, and where it takes more than 10 seconds of processor time, a minute in all, or 2 GB. A failing set is made
+smaller while it fails in the same way, and kept. The same seed makes the same sets. The script is no part of the gate.
 """
 
 import argparse
@@ -34,6 +34,7 @@ from set_mutating import SetMutator  # noqa: E402
 from shrinking import shrunk  # noqa: E402
 
 MOST_SECONDS, MOST_MEMORY = 10, 2 << 30
+STOP_SECONDS = 60
 MEMORY_STOP = 6 << 30
 STATUSES = range(5)
 MOST_CHANGES = 4
@@ -44,22 +45,20 @@ def limit_memory():
 
 
 def run_program(program, folder, options):
-    """What the program does, the seconds that it takes, and its peak memory in bytes."""
+    """What the program does, the seconds of processor time that it takes, and its peak memory in bytes."""
     with tempfile.TemporaryFile() as out, tempfile.TemporaryFile() as err:
-        started = time.monotonic()
         words = [program, *options.words(), folder]
         child = subprocess.Popen(words, stdout=out, stderr=err, stdin=subprocess.DEVNULL, preexec_fn=limit_memory)
-        stop = threading.Timer(2 * MOST_SECONDS, child.kill)
+        stop = threading.Timer(STOP_SECONDS, child.kill)
         stop.start()
         _, status, usage = wait4(child.pid, 0)
         stop.cancel()
-        seconds = time.monotonic() - started
         child.returncode = waitstatus_to_exitcode(status)
         texts = []
         for file in (out, err):
             file.seek(0)
             texts.append(file.read().decode("latin-1"))
-    return Outcome(child.returncode, *texts), seconds, usage.ru_maxrss * 1024
+    return Outcome(child.returncode, *texts), usage.ru_utime + usage.ru_stime, usage.ru_maxrss * 1024
 
 
 class Trier:
@@ -172,7 +171,7 @@ def main():
             if trier.tally.differences >= MOST_DIFFERENCES:
                 break
     print(f"seed {asked.seed}: " + ", ".join(f"{way} {count}" for way, count in sorted(maker.ways.items())))
-    print(f"the slowest took {trier.slowest:.2f} s, the largest {trier.largest / 1e6:.0f} MB")
+    print(f"the slowest took {trier.slowest:.2f} s of processor time, the largest {trier.largest / 1e6:.0f} MB")
     trier.tally.report()
     sys.exit(trier.tally.differences > 0)
 
