@@ -18,7 +18,7 @@ import tempfile
 
 TOP = pathlib.Path(__file__).resolve().parent.parent
 LISTING = "docs/listing.md"
-PAGES = ["docs/folders.md", "docs/refusals.md", "docs/reading.md", "docs/many.md"]
+PAGES = ["docs/folders.md", "docs/refusals.md", "docs/externals.md", "docs/reading.md", "docs/many.md"]
 MANUAL = "docs/acpidis.1"
 LINTS = [["mandoc", "-T", "lint"], ["groff", "-ww", "-man", "-z"]]
 SCRIPTS = ["tests/survey.sh", "tests/install.sh"]
