@@ -7,9 +7,9 @@ usage: bench/hostile.py [ACPIDIS] [--only WORD] [--keep FOLDER] [--runs N] [--se
 ACPIDIS is the built program, out/acpidis if left out. Each set is written to a folder of its own. For each shape one
 line is printed: its size; the shortest time of N runs, 3 if left out, at the whole size; the most memory; how many
 times as much processor time and memory it takes as at half the size; how much text that is, which is thrown away; the
-status; the same of `--check`; and, where it is installed (Debian: apt-get install acpica-tools) and answers within 20
-seconds, the time of `iasl -d` on the DSDT. A run is stopped after so many seconds, 120 if left out. --large adds
-512 files of 16 MB each, for which the program needs 9 GB. Shapes of the option --externals are left out where the
+status; the same of `--check`; and for sets of one table, where it is installed (Debian: apt-get install acpica-tools)
+and answers within 20 seconds, the time of `iasl -d`. A run is stopped after so many seconds, 120 if left out. --large
+adds 512 files of 16 MB each, for which the program needs 9 GB. Shapes of the option --externals are left out where the
 program doesn't have it. The script is no part of the gate.
 
 With --instructions the growth is of the instructions that one worker needs, by valgrind, in place of the processor
@@ -103,6 +103,12 @@ def answer_text(whole, half, most):
     return f"{text} {more}", times > most and whole.processor > LEAST_SECONDS
 
 
+def iasl_text(iasl):
+    if iasl is None:
+        return ""
+    return f"iasl -d {iasl.seconds:.2f} s" + (f", status {iasl.status}" if iasl.status else "")
+
+
 def line(shape, answers, text_bytes, iasl):
     most = MOST_SQUARE_GROWTH if shape.is_square else MOST_GROWTH
     plain, grows = answer_text(*answers[0], most)
@@ -111,7 +117,7 @@ def line(shape, answers, text_bytes, iasl):
     words = [
         f"{shape.name + star:18}", f"{shape.size:>8} {shape.unit:9}", plain,
         f"{text_bytes / 1e6:6.0f} MB of text" if text_bytes is not None else "",
-        f"status {whole.status}" if whole else "", f"--check {check}", f"iasl -d {iasl.seconds:.2f} s" if iasl else "",
+        f"status {whole.status}" if whole else "", f"--check {check}", iasl_text(iasl),
         "GROWS" if grows or check_grows else "",
     ]
     return "   ".join(word for word in words if word)
@@ -129,7 +135,8 @@ def run_shape(shape, program, compiler, work, asked):
                 answer = answer._replace(processor=instructions(words, folder))
             kind.insert(0, answer)
     text_bytes = printed_bytes(command, folder) if answers[0][0] else None
-    iasl = measured([compiler, "-d", "dsdt.dat"], folder, 1, IASL_SECONDS) if compiler else None
+    is_one = [path.name for path in folder.iterdir()] == ["dsdt.dat"]
+    iasl = measured([compiler, "-d", "dsdt.dat"], folder, 1, IASL_SECONDS) if compiler and is_one else None
     print(line(shape, answers, text_bytes, iasl), flush=True)
     if not asked.keep:
         for folder in folders:
