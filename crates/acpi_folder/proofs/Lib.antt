@@ -4,3 +4,4 @@ pub mod Counts
 pub mod Pairs
 pub mod Entries
 pub mod Turns
+pub mod Gathered

@@ -4,7 +4,7 @@
 mod command_line;
 mod externals;
 
-use acpi_folder::read_folder;
+use acpi_folder::{DiskFolder, gather};
 use acpidis::{Options, run};
 use aml_pool::FreeGate;
 use aml_names::Path;
@@ -34,7 +34,8 @@ fn main(rt: HostRuntime) -> ExitCode {
 
 /// Disassembles the tables of a folder, the bodies of methods by workers on `threads`, and returns the exit status.
 fn run_folder<T: Threads + Wait + Sync>(rt: &HostRuntime, threads: &T, line: &CommandLine) -> u8 {
-    let dumps = match read_folder(rt, line.folder.as_str()) {
+    let mut folder = DiskFolder::new(rt, line.folder.as_str());
+    let dumps = match gather(rt.alloc(), &mut folder) {
         Ok(dumps) => dumps,
         Err(fault) => {
             let _ = eprintln!(rt; "acpidis: {fault}");

@@ -1,0 +1,160 @@
+-- What a folder gives, and what is gathered from it: the dumps of its files, ordered by name, with the addresses of its map.
+use Rattle.std.specs.Prelude.{◌≡◌, ℕ, ◌<◌, ◌≤◌, Bool, true, false, not, List, [], ◌∷◌, length, take, map, slice_index_or, string_bytes, codes, Option, None, ◌⊎◌}
+use Rattle.std.specs.List.{list_any, filter}
+use Rattle.std.specs.List.Sorted.{IsPermutation, IsSorted}
+use Rattle.std.specs.Ordering.{nat_cmp}
+use Rattle.std.specs.Cmp.Lexicographic.{slice_cmp}
+use Rattle.std.specs.Str.{bytes_eq}
+use Rattle.acpi_tables.specs.declared.dump.Dump.{Dump}
+use Rattle.acpi_folder.specs.declared.map.MapFault.{MapFault}
+use Rattle.acpi_folder.specs.declared.gathering.GatherFault.{GatherFault}
+use Rattle.acpi_folder.specs.declared.gathering.GatherFault.TheVariants as faults
+use Rattle.acpi_folder.specs.Map.{HoldsMap, RefusesMap, addresses_of}
+
+-- What a folder may answer: these names for those of its files, or that its listing fails; these bytes for those of the file of a name, or that its
+-- reading fails. Of a folder in memory that is what it has; of one of the operating system anything.
+pub record Answers : Type 1 where
+  pub lists : List (List ℕ) → Type 0
+  pub unlisted : Type 0
+  pub holds : List ℕ → List ℕ → Type 0
+  pub unread : List ℕ → Type 0
+
+-- a folder that isn't known
+abbrev pub anything : Answers
+anything = record { lists = λ names. Unit {0}; unlisted = Unit {0}; holds = λ name bytes. Unit {0}; unread = λ name. Unit {0} }
+
+-- whatever the one may answer, the other may
+pub record IsWithin (later earlier : Answers) : Type 0 where
+  pub lists : (names : List (List ℕ)) → later.lists names → earlier.lists names
+  pub unlisted : later.unlisted → earlier.unlisted
+  pub holds : (name bytes : List ℕ) → later.holds name bytes → earlier.holds name bytes
+  pub unread : (name : List ℕ) → later.unread name → earlier.unread name
+
+-- the first bytes of a file, up to a limit
+pub record Reads (folder : Answers) (name : List ℕ) (limit : ℕ) (bytes : List ℕ) : Type 0 where
+  pub content : List ℕ
+  pub held : folder.holds name content
+  pub first : bytes ≡ take limit content
+
+-- The map, whose name is `tables.map`, is no dump. Dumps and the map have at most so many bytes, and one byte more is read.
+abbrev pub map_name : List ℕ
+map_name = codes "tables.map"
+
+abbrev pub is_map : List ℕ → Bool
+is_map name = bytes_eq name map_name
+
+abbrev pub most_bytes : ℕ
+most_bytes = 16777216
+
+abbrev pub read_limit : ℕ
+read_limit = 16777217
+
+-- The names of a folder's dumps, in the order of their bytes, and whether it has a map.
+pub record IsListing (folder : Answers) (names : List (List ℕ)) (mapped : Bool) : Type 0 where
+  pub listed : List (List ℕ)
+  pub given : folder.lists listed
+  pub all : IsPermutation (filter (λ name. not (is_map name)) listed) names
+  pub ordered : IsSorted (slice_cmp nat_cmp) names
+  pub map : mapped ≡ list_any is_map listed
+
+-- the files of these names are read as these bytes
+abbrev pub AreRead : Answers → List (List ℕ) → List (List ℕ) → Type 0
+AreRead folder [] [] = Unit {0}
+AreRead folder [] (bytes ∷ files) = ⊥
+AreRead folder (name ∷ names) [] = ⊥
+AreRead folder (name ∷ names) (bytes ∷ files) = Reads folder name read_limit bytes × AreRead folder names files
+
+-- the text of the folder's map, which isn't too long
+pub record IsMapText (folder : Answers) (text : List ℕ) : Type 0 where
+  pub read : Reads folder map_name read_limit text
+  pub short : length text ≤ most_bytes
+
+-- the addresses of the files of these names: those of the map, or none where there is no map
+abbrev pub AreAddresses : Answers → Bool → List (List ℕ) → List (Option ℕ) → Type 0
+AreAddresses folder true names addresses = (text : List ℕ) × IsMapText folder text × HoldsMap names text × (addresses ≡ addresses_of names text)
+AreAddresses folder false names addresses = addresses ≡ map (λ name. None) names
+
+abbrev pub name_of : Dump → List ℕ
+name_of dump = string_bytes dump.name
+
+abbrev pub bytes_of : Dump → List ℕ
+bytes_of dump = dump.bytes.items
+
+-- The dumps of a folder: its files but the map, at most 512, ordered by name, each with its bytes and its address.
+pub record AreGathered (folder : Answers) (dumps : List Dump) : Type 0 where
+  pub mapped : Bool
+  pub listing : IsListing folder (map name_of dumps) mapped
+  pub few : length dumps ≤ 512
+  pub files : AreRead folder (map name_of dumps) (map bytes_of dumps)
+  pub addresses : AreAddresses folder mapped (map name_of dumps) (map (λ dump. dump.address) dumps)
+
+-- Why no dumps are gathered. Listing comes first, then the number of dumps, the files by their names, the map.
+pub record IsSmall (folder : Answers) (names : List (List ℕ)) (mapped : Bool) : Type 0 where
+  pub listing : IsListing folder names mapped
+  pub few : length names ≤ 512
+
+-- more files than 512 are no map
+pub record IsTooLarge (folder : Answers) : Type 0 where
+  pub names : List (List ℕ)
+  pub mapped : Bool
+  pub listing : IsListing folder names mapped
+  pub many : 512 < length names
+
+-- the first file that can't be read, by name
+pub record StopsAtFile (folder : Answers) (names : List (List ℕ)) (name : List ℕ) : Type 0 where
+  pub index : ℕ
+  pub inside : index < length names
+  pub named : slice_index_or names index [] ≡ name
+  pub before : (files : List (List ℕ)) × AreRead folder (take index names) files
+  pub unread : folder.unread name
+
+-- all files are read, and the map can't be, or is too long
+pub record StopsAtMap (folder : Answers) (names : List (List ℕ)) : Type 0 where
+  pub before : (files : List (List ℕ)) × AreRead folder names files
+  pub cause : folder.unread map_name ⊎ ((text : List ℕ) × Reads folder map_name read_limit text × (most_bytes < length text))
+
+-- a file that stops the gathering
+pub record IsUnread (folder : Answers) (name : List ℕ) : Type 0 where
+  pub names : List (List ℕ)
+  pub mapped : Bool
+  pub small : IsSmall folder names mapped
+  pub stop : StopsAtFile folder names name ⊎ ((name ≡ map_name) × (mapped ≡ true) × StopsAtMap folder names)
+
+-- a map that is refused: all files are read before
+pub record RefusesMapOf (folder : Answers) (fault : MapFault) : Type 0 where
+  pub names : List (List ℕ)
+  pub small : IsSmall folder names true
+  pub before : (files : List (List ℕ)) × AreRead folder names files
+  pub text : List ℕ
+  pub map : IsMapText folder text
+  pub refused : RefusesMap names text fault
+
+abbrev pub RefusesFolder : Answers → GatherFault → Type 0
+RefusesFolder folder faults.Folder = folder.unlisted
+RefusesFolder folder (faults.File name) = IsUnread folder (string_bytes name)
+RefusesFolder folder (faults.Map fault) = RefusesMapOf folder fault
+RefusesFolder folder faults.TooManyTables = IsTooLarge folder
+RefusesFolder folder faults.NoMemory = Unit {0}
+
+-- The steps of it. A file that can't be read, the first of several that can't, a map that gives no addresses.
+abbrev pub FailsAt : Answers → List ℕ → GatherFault → Type 0
+FailsAt folder name faults.Folder = ⊥
+FailsAt folder name (faults.File other) = (string_bytes other ≡ name) × folder.unread name
+FailsAt folder name (faults.Map fault) = ⊥
+FailsAt folder name faults.TooManyTables = ⊥
+FailsAt folder name faults.NoMemory = Unit {0}
+
+abbrev pub StopsBy : Answers → List (List ℕ) → GatherFault → Type 0
+StopsBy folder names faults.Folder = ⊥
+StopsBy folder names (faults.File name) = StopsAtFile folder names (string_bytes name)
+StopsBy folder names (faults.Map fault) = ⊥
+StopsBy folder names faults.TooManyTables = ⊥
+StopsBy folder names faults.NoMemory = Unit {0}
+
+abbrev pub FailsAtMap : Answers → List (List ℕ) → GatherFault → Type 0
+FailsAtMap folder names faults.Folder = ⊥
+FailsAtMap folder names (faults.File name) =
+    (string_bytes name ≡ map_name) × (folder.unread map_name ⊎ ((text : List ℕ) × Reads folder map_name read_limit text × (most_bytes < length text)))
+FailsAtMap folder names (faults.Map fault) = (text : List ℕ) × IsMapText folder text × RefusesMap names text fault
+FailsAtMap folder names faults.TooManyTables = ⊥
+FailsAtMap folder names faults.NoMemory = Unit {0}

@@ -1,0 +1,67 @@
+//! A folder of the operating system.
+ghost use Rattle.acpi_folder.specs.Folders.{anything};
+
+use crate::folder::{Folder, FolderFault};
+use std::io::Read;
+use std::{fs, io};
+
+/// A folder of the operating system, by its path. What it has isn't known, so that it may answer anything.
+///
+/// Its files are the regular files directly in it. Folders, links and all else are passed over. The listing fails where the
+/// folder can't be read, or where a name in it isn't UTF-8, whatever bears it.
+#[derive(Clone, Copy)]
+pub struct DiskFolder<'a> {
+    rt: &'a HostRuntime,
+    path: &'a str,
+}
+
+impl<'a> DiskFolder<'a> {
+    /// The folder at this path.
+    pub fn new(rt: &'a HostRuntime, path: &'a str) -> DiskFolder<'a> {
+        DiskFolder { rt, path }
+    }
+
+    fn names(&self) -> io::Result<Vec<String>> {
+        let mut names = Vec::new(self.rt.alloc());
+        for entry in fs::read_dir(self.rt, self.path)? {
+            let entry = entry?;
+            if entry.metadata()?.is_file() {
+                names.push(String::from_str(self.rt.alloc(), entry.file_name())?)?;
+            }
+        }
+        Ok(names)
+    }
+
+    fn first_bytes(&self, name: &str, limit: u64) -> io::Result<Vec<u8>> {
+        let alloc = self.rt.alloc();
+        let path = format!(in alloc; "{}/{name}", self.path)?;
+        let mut bytes = Vec::new(alloc);
+        let file = fs::open(self.rt, path.as_str())?;
+        file.take(limit).read_to_end(&mut bytes)?;
+        Ok(bytes)
+    }
+}
+
+impl Folder for DiskFolder<'_> {
+    ghost answers = { λ _. anything };
+
+    fn list(&mut self) -> Result<Vec<String>, FolderFault> {
+        Ok(self.names()?)
+    }
+
+    fn read(&mut self, name: &str, limit: u64) -> Result<Vec<u8>, FolderFault> {
+        let mut bytes = self.first_bytes(name, limit)?;
+        // There are no more; this shows it.
+        bytes.truncate(limit as usize);
+        Ok(bytes)
+    }
+}
+
+impl From<io::Error> for FolderFault {
+    fn from(error: io::Error) -> FolderFault {
+        match error.kind() {
+            io::ErrorKind::OutOfMemory => FolderFault::NoMemory,
+            _ => FolderFault::Failed,
+        }
+    }
+}
