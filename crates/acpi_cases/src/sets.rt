@@ -87,11 +87,7 @@ pub fn add_bytes(dumps: &mut [Dump], bytes: &[u8]) -> Result<(), AllocError> {
 }
 
 /// The options that are named, with these counts.
-fn options_of(
-    alloc: Global,
-    words: &str,
-    givens: &[(Path, u8)],
-) -> Result<Options, AllocError> {
+fn options_of(alloc: Global, words: &str, givens: &[(Path, u8)]) -> Result<Options, AllocError> {
     let mut externals = Vec::new(alloc);
     for (path, count) in givens {
         externals.push((path.clone()?, *count))?;

@@ -97,7 +97,9 @@ fn command<'a>(alloc: Global) -> Result<Command<'a>, Error> {
     let externals = Arg::new(alloc, "externals")
         .long("externals")
         .value_name("FILE")
-        .help("Take argument counts of names that no table declares from a file of lines like \\_SB_.PC00.MTHD 2");
+        .help(
+            "Take argument counts of names that no table declares from a file of lines like \\_SB_.PC00.MTHD 2",
+        );
     let check = Arg::new(alloc, "check")
         .long("check")
         .help("Print a line for each table: whether its terms encode to its bytes again")

@@ -26,8 +26,8 @@ pub enum FileFault<'a> {
     NoMemory,
 }
 
-impl From<AllocError> for FileFault<'_> {
-    fn from(_error: AllocError) -> FileFault<'_> {
+impl<'a> From<AllocError> for FileFault<'a> {
+    fn from(_error: AllocError) -> FileFault<'a> {
         FileFault::NoMemory
     }
 }

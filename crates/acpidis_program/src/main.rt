@@ -6,8 +6,8 @@ mod externals;
 
 use acpi_folder::{DiskFolder, gather};
 use acpidis::{Options, run};
-use aml_pool::FreeGate;
 use aml_names::Path;
+use aml_pool::FreeGate;
 use command_line::{CommandLine, Stop, read};
 use externals::{FileFault, read_externals};
 use std::process::ExitCode;

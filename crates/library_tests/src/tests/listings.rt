@@ -1,5 +1,5 @@
 //! Listings by several workers.
-use super::fixtures::{Watch, push_table, any_sum};
+use super::fixtures::{Watch, any_sum, push_table};
 use acpi_tables::Dump;
 use acpidis::{Refusal, disassemble};
 use aml_code::CodeFault;
@@ -36,7 +36,14 @@ pub fn has_three_bodies(listing: &Listing<'_>) -> bool {
 fn three_bodies_by_any_number_of_workers(rt: HostRuntime) -> Result<(), Fail> {
     let dumps = three_methods(rt.alloc())?;
     for workers in [1, 2, 3, 64] {
-        let listing = disassemble(&rt, rt.alloc(), &dumps, any_sum(rt.alloc()), workers, &FreeGate)?;
+        let listing = disassemble(
+            &rt,
+            rt.alloc(),
+            &dumps,
+            any_sum(rt.alloc()),
+            workers,
+            &FreeGate,
+        )?;
         assert!(rt; has_three_bodies(&listing));
         assert_eq!(rt; listing.drawn.len(), workers as usize);
         let lists = listing.drawn.iter();

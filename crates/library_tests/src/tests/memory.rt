@@ -1,7 +1,7 @@
 //! Answers where a growth is refused, as by `rt try --test --fail-alloc N`: the whole answer, or the want of memory.
 ghost use Rattle.std.specs.Prelude.{◌≤◌};
 
-use super::fixtures::{push_dump, push_table, any_sum};
+use super::fixtures::{any_sum, push_dump, push_table};
 use super::listings::{has_three_bodies, three_methods};
 use acpi_tables::{Bad, Dump, load_order};
 use acpidis::{Refusal, disassemble};

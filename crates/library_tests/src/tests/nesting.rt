@@ -1,5 +1,5 @@
 //! Bodies of 512 levels, the most that are read, on each thread.
-use super::fixtures::{Watch, push_table, any_sum};
+use super::fixtures::{Watch, any_sum, push_table};
 use acpi_tables::Dump;
 use acpidis::{disassemble, run};
 use aml_text::{Body, Listing};
@@ -116,7 +116,15 @@ fn the_deepest_bodies_are_printed(rt: HostRuntime) -> Result<(), Fail> {
     let mut out = Vec::new(alloc);
     let mut error = Vec::new(alloc);
     let status = run(
-        &rt, alloc, &dumps, any_sum(alloc), 2, false, &gate, &mut out, &mut error,
+        &rt,
+        alloc,
+        &dumps,
+        any_sum(alloc),
+        2,
+        false,
+        &gate,
+        &mut out,
+        &mut error,
     );
     assert_eq!(rt; (status, error.len()), (0, 0));
     Ok(())

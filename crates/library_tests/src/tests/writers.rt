@@ -83,7 +83,15 @@ fn run_to<T: Threads + Wait + Sync>(
     let dumps = set(alloc, &METHOD)?;
     let mut error = Vec::new(alloc);
     let status = run(
-        threads, alloc, &dumps, options(alloc), 1, false, &FreeGate, out, &mut error,
+        threads,
+        alloc,
+        &dumps,
+        options(alloc),
+        1,
+        false,
+        &FreeGate,
+        out,
+        &mut error,
     );
     Ok((status, error))
 }
@@ -131,7 +139,15 @@ fn an_error_line_that_fails_changes_no_status(rt: HostRuntime) -> Result<(), Fai
     let mut out = Vec::new(alloc);
     let mut error = Slow::new(alloc, 5, 5);
     let status = run(
-        &rt, alloc, &dumps, options(alloc), 1, false, &FreeGate, &mut out, &mut error,
+        &rt,
+        alloc,
+        &dumps,
+        options(alloc),
+        1,
+        false,
+        &FreeGate,
+        &mut out,
+        &mut error,
     );
     assert_eq!(rt; status, 1);
     assert_eq!(rt; out.len(), 0);
