@@ -1,4 +1,5 @@
 mod Sets
+mod LengthLaws
 pub mod StepLaws
 mod NameLoops
 pub mod NameFaults

@@ -4,3 +4,4 @@ pub mod Steps
 pub mod NameReading
 pub mod Searching
 pub mod PathTexts
+pub mod Lengths

@@ -12,17 +12,23 @@ use std::marker::Model;
 #[derive(Drop)]
 pub struct Locals {
     paths: BTreeSet<Path>,
+    /// How many segments each of them has. A path of another length isn't compared with any: in a deep scope a search asks for
+    /// one path at each level, and these have long fronts in common.
+    lengths: BTreeSet<usize>,
 }
 
 impl Model for Locals {
     ghost use Rattle.std.specs.FinSet as set;
     ghost use Rattle.aml_names.specs.Paths.{path_cmp, coded_path};
+    ghost use Rattle.aml_names.specs.Lengths.{HaveLengths};
 
     ghost Value = { set.FinSet path_cmp };
 
     ghost coded = { set.code coded_path };
 
     ghost view = { λ a. set.from_list a.paths.keys };
+
+    ghost invariant = { λ a. HaveLengths a.paths.keys a.lengths.keys };
 }
 
 impl Locals {
@@ -32,6 +38,7 @@ impl Locals {
     {
         Locals {
             paths: BTreeSet::new(alloc),
+            lengths: BTreeSet::new(alloc),
         }
     }
 
@@ -40,6 +47,7 @@ impl Locals {
         ensures ok { OnOk result (self.new ≡ set.insert self.old path) }
         ensures err { OnErr result (self.new ≡ self.old) }
     {
+        self.lengths.insert(path.segs().len())?;
         self.paths.insert(path)?;
         Ok(())
     }
@@ -51,10 +59,15 @@ impl Locals {
         self.paths.is_empty()
     }
 
-    /// Whether the path is there, in time logarithmic in their number.
+    /// Whether the path is there, in time logarithmic in their number, and without a look at the path's segments where none of
+    /// them has as many.
     pub fn has(&self, path: &Path) -> bool
         ensures { result ≡ set.contains self.now path.now }
     {
+        let length = path.segs().len();
+        if !self.lengths.contains(&length) {
+            return false;
+        }
         self.paths.contains(path)
     }
 }
