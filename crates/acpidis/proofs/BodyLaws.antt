@@ -1,9 +1,8 @@
 -- Bodies that were read are the entries of a listing.
-use Rattle.std.proofs.Common.{◌≡◌, ℕ, zero, suc, Bool, List, [], ◌∷◌, map, length, Option, Some, None, refl, sym, ap, subst, ◌∙◌, arith, slice_get}
+use Rattle.std.proofs.Common.{◌≡◌, ℕ, suc, Bool, List, [], ◌∷◌, map, length, Some, refl, ap, subst, ◌∙◌, arith, slice_get}
 use denote.Ref.{Bor}
-use Rattle.aml_code.specs.Tree.{Trees}
 use Rattle.aml_space.specs.Entries.{Entry}
-use Rattle.aml_load.specs.Bodies.{IsBody, OfMethod}
+use Rattle.aml_load.specs.Bodies.{OfMethod}
 use Rattle.aml_load.specs.declared.methods.Method.{Method}
 use Rattle.aml_text.specs.declared.blocks.Body.{Body}
 use Rattle.aml_text.specs.declared.blocks.Body.TheVariants as bodies

@@ -1,12 +1,12 @@
 -- A set of dumps means one listing.
-use Rattle.std.proofs.Common.{◌≡◌, ◌⊎◌, inl, inr, ℕ, ◌≤◌, Bool, true, List, [], ◌∷◌, map, length, refl, sym, ap, subst, ◌∙◌, arith}
+use Rattle.std.proofs.Common.{◌≡◌, ◌⊎◌, inl, inr, ℕ, ◌≤◌, Bool, true, List, ◌∷◌, map, length, refl, sym, ap, subst, ◌∙◌, arith}
 use Rattle.aml_code.specs.Tree.{Trees}
 use Rattle.aml_space.specs.Entries.{Entry, Givens}
 use Rattle.aml_space.specs.Known.{StandsFor, known}
 use Rattle.aml_space.specs.Rows.{AreRows}
 use Rattle.aml_space.proofs.Stands.{known_stands}
 use Rattle.aml_space.proofs.Ordered.{entries_rows}
-use Rattle.aml_load.specs.Loading.{Listed, IsLoad, methods_of}
+use Rattle.aml_load.specs.Loading.{Listed, IsLoad}
 use Rattle.aml_load.specs.Stops.{StopsLoad}
 use Rattle.aml_load.specs.Views.{codes_view, HoldsLoad}
 use Rattle.aml_load.specs.declared.faults.LoadFault.{LoadFault}
@@ -15,7 +15,6 @@ use Rattle.aml_load.specs.declared.loading.Loaded.{Loaded}
 use Rattle.aml_load.specs.declared.methods.Method.{Method}
 use Rattle.acpidis.specs.declared.options.Options.{Options}
 use Rattle.acpidis.specs.declared.refusal.Refusal.{Refusal}
-use Rattle.acpidis.specs.declared.refusal.Refusal.TheVariants as refusals
 use Rattle.aml_text.specs.Views.{body_view}
 use Rattle.acpi_tables.specs.declared.dump.Dump.{Dump}
 use Rattle.acpi_tables.specs.Order.{IsOrder, AreTaken}
@@ -23,7 +22,7 @@ use Rattle.aml_text.specs.declared.listing.Listing.{Listing}
 use Rattle.acpidis.specs.Tables.{codes_in}
 use Rattle.acpidis.specs.Bodies.{AreEntries}
 use Rattle.acpidis.specs.Meaning.{Meaning, Means, Shows, rows_of}
-use Rattle.acpidis.specs.Refusals.{IsWant, load_refusal, in_dump, TellsTable, TellsLoad, TellsBlocks}
+use Rattle.acpidis.specs.Refusals.{IsWant, load_refusal, TellsTable, TellsLoad, TellsBlocks}
 
 -- a loaded set has few methods
 pub few_methods : (gs : Givens) (x : Loaded) (codes : List (List ℕ)) → (trees : List Trees) × (m : Listed) × IsLoad gs codes trees m × HoldsLoad x codes trees m → length x.methods.items ≤ 1048576

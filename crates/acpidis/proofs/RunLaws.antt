@@ -4,13 +4,10 @@ use Rattle.std.specs.FinMap as finite
 use Rattle.std.specs.Io.KnownBytes.{Appends}
 use Rattle.std.proofs.Common.{◌≡◌, ℕ, inl, Bool, true, false, List, ◌∷◌, map, Option, Err, refl, sym, ap, subst, ◌∙◌}
 use Rattle.text_writer.specs.Prints.{Cut}
-use Rattle.aml_code.specs.Tree.{Trees}
 use Rattle.aml_space.proofs.Stands.{known_alone}
 use Rattle.aml_space.specs.Known.{Known}
 use Rattle.aml_load.specs.Views.{codes_view, trees_view}
-use Rattle.aml_text.specs.declared.blocks.Body.{Body}
 use Rattle.aml_text.specs.declared.listing.Listing.{Listing}
-use Rattle.aml_text.specs.Lines.{OneBody}
 use Rattle.aml_text.specs.Listing.{listing_text, shown_text}
 use Rattle.aml_text.specs.Views.{body_view}
 use Rattle.acpi_tables.specs.declared.dump.Dump.{Dump}

@@ -1,7 +1,7 @@
 -- What a set means is the same when it is made anew.
 use Rattle.std.specs.Prelude.{cond, ◌&&◌}
 use Rattle.std.proofs.lemmas.Bool.Decides.{nat_tests}
-use Rattle.std.proofs.Common.{◌≡◌, ℕ, suc, nat_eq, ◌==◌, Bool, true, false, List, [], ◌∷◌, ◌++◌, map, refl, sym, ap, subst, ◌∙◌, arith}
+use Rattle.std.proofs.Common.{◌≡◌, ℕ, suc, nat_eq, ◌==◌, Bool, true, false, List, [], ◌∷◌, map, refl, ap, subst, ◌∙◌, arith}
 use Rattle.aml_code.specs.Tree.{Trees}
 use Rattle.aml_space.specs.Entries.{Entry}
 use Rattle.aml_load.specs.Loading.{ReadTables, methods_of}

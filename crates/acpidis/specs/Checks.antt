@@ -1,6 +1,6 @@
 -- What `check` says of each loaded table: its length, its methods, its raw bodies, and whether what was read encodes to the same
 -- bytes again.
-use Rattle.std.specs.Prelude.{ℕ, zero, suc, ◌+◌, ◌==◌, nat_eq, Bool, true, false, cond, ◌&&◌, List, [], ◌∷◌, ◌++◌, map, length, decimal}
+use Rattle.std.specs.Prelude.{ℕ, suc, ◌+◌, ◌==◌, nat_eq, Bool, true, false, cond, ◌&&◌, List, [], ◌∷◌, ◌++◌, map, length, decimal}
 use lib.Pointwise.{pointwise}
 use Rattle.aml_code.specs.Encoding.{encodings}
 use Rattle.aml_load.specs.Loading.{methods_of}

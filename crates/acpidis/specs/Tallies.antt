@@ -1,5 +1,5 @@
 -- The methods of tables, counted one after the other: what the proofs of `check` go by.
-use Rattle.std.specs.Prelude.{ℕ, zero, suc, ◌+◌, ◌<◌, Bool, ◌&&◌, List, [], ◌∷◌, map, length}
+use Rattle.std.specs.Prelude.{ℕ, zero, suc, ◌+◌, ◌<◌, Bool, ◌&&◌, List, [], ◌∷◌, length}
 use Rattle.aml_code.specs.Encoding.{encodings}
 use Rattle.aml_load.specs.declared.methods.Method.{Method}
 use Rattle.aml_text.specs.Lines.{OneBody, OneBlock}

@@ -75,14 +75,15 @@ impl Children {
         self.tree.rows()
     }
 
-    /// One row more for the child of a segment.
-    pub fn add_row(&mut self, seg: Seg)
+    /// One row more for the child of a segment. Gives the child's node.
+    pub fn add_row(&mut self, seg: Seg) -> usize
         requires rise { Rise (bare self.old) }
         requires there { IsTrue (is_some (child_in (bare self.old) seg)) }
         requires room { total self.old + 1 < 2 ^ 64 }
-        ensures { self.new ≡ raised self.old seg }
+        ensures rows { self.new ≡ raised self.old seg }
+        ensures node { child_in (bare self.old) seg ≡ Some result }
     {
-        self.tree.add_row(seg);
+        self.tree.add_row(seg)
     }
 
     /// The child among whose rows a row stands, and the row's place there.

@@ -143,19 +143,26 @@ impl Tree {
         Ok(())
     }
 
-    /// One row more for the child of a segment.
-    pub fn add_row(&mut self, seg: Seg)
+    /// One row more for the child of a segment. Gives the child's node.
+    pub fn add_row(&mut self, seg: Seg) -> usize
         requires rise { Rise (bare self.old.0) }
         requires there { IsTrue (is_some (child_in (bare self.old.0) seg)) }
         requires room { total self.old.0 + 1 < 2 ^ 64 }
-        ensures { self.new ≡ (raised self.old.0 seg, self.old.1) }
+        ensures rows { self.new ≡ (raised self.old.0 seg, self.old.1) }
+        ensures node { child_in (bare self.old.0) seg ≡ Some result }
     {
-        if let Some(fork) = &mut self.top {
-            fork.sum += 1;
-            match seg.cmp(&fork.child.seg) {
-                Ordering::Less => fork.left.add_row(seg),
-                Ordering::Equal => fork.rows += 1,
-                Ordering::Greater => fork.right.add_row(seg),
+        match &mut self.top {
+            None => 0,
+            Some(fork) => {
+                fork.sum += 1;
+                match seg.cmp(&fork.child.seg) {
+                    Ordering::Less => fork.left.add_row(seg),
+                    Ordering::Equal => {
+                        fork.rows += 1;
+                        fork.child.node
+                    }
+                    Ordering::Greater => fork.right.add_row(seg),
+                }
             }
         }
     }

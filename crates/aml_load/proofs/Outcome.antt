@@ -2,7 +2,7 @@
 use Rattle.std.specs.Prelude.{IfOk, IfErr}
 use denote.Ref.{Bor}
 use Rattle.std.specs.Option.{unwrap_or}
-use Rattle.std.proofs.Common.{◌≡◌, ℕ, zero, suc, slice_index_or, ◌≤◌, true, List, [], ◌∷◌, ◌++◌, length, None, Result, Ok, Err, refl, sym, ap, subst, ◌∙◌, append_assoc, arith, nat_lt, ◌⊎◌, inl, inr}
+use Rattle.std.proofs.Common.{◌≡◌, ℕ, zero, suc, slice_index_or, ◌≤◌, List, [], ◌∷◌, ◌++◌, length, None, Result, Ok, Err, refl, sym, ap, subst, ◌∙◌, append_assoc, arith, nat_lt, ◌⊎◌, inl, inr}
 use Rattle.std.proofs.lemmas.List.{append-nil}
 use Rattle.std.proofs.lemmas.Bool.Decides.{nat_tests}
 use Rattle.aml_names.specs.declared.faults.CodeFault.{CodeFault}
@@ -18,7 +18,7 @@ use Rattle.aml_load.specs.declared.faults.LoadFault.TheVariants as loads
 use Rattle.aml_load.specs.declared.loading.Loaded.{Loaded}
 use Rattle.aml_load.specs.declared.methods.Use.{Use}
 use Rattle.aml_load.proofs.Givens.{no_methods}
-use Rattle.aml_load.specs.Loading.{Listed, first_listed, DeclareAll, DeclareTables, Uncalled, use_count, methods_of, Loads, ReadTables, IsLoad}
+use Rattle.aml_load.specs.Loading.{Listed, first_listed, DeclareAll, DeclareTables, Uncalled, use_count, Loads, ReadTables, IsLoad}
 use Rattle.aml_load.specs.Walking.{◌>>=◌, code_fault, in_code, walk_all, table_at, tables_at, uses_at, load_at}
 use Rattle.aml_load.specs.Stops.{StopTable, StopTables, Called, StopsLoad}
 use Rattle.aml_load.specs.Views.{AreCodes, AreShort, codes_view, GivesLoad, HoldsLoad}

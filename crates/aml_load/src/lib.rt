@@ -8,6 +8,7 @@ mod faults;
 mod loading;
 mod methods;
 mod roles;
+mod scopes;
 mod uses;
 mod walking;
 

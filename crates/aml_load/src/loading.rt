@@ -12,6 +12,7 @@ ghost use Rattle.aml_load.specs.Views.{codes_view, trees_view, AreShort, IsCode,
 
 use crate::faults::LoadFault;
 use crate::methods::{Method, Use};
+use crate::scopes::SharedPath;
 use crate::uses::Site;
 use crate::walking::Progress;
 use aml_code::{Locals, NoMemory, Node, Path, encode_terms, slice};
@@ -44,7 +45,7 @@ fn load_table(progress: &mut Progress, table: usize, code: &[u8]) -> Result<Vec<
         Ok(terms) => terms,
         Err(fault) => return Err(LoadFault::in_code(table, fault)),
     };
-    let root = Path::root(progress.alloc);
+    let root = SharedPath::new(progress.alloc, Path::root(progress.alloc))?;
     progress.walk_all(
         &Site {
             table,
@@ -76,7 +77,7 @@ fn count_of(alloc: Global, space: &Space, used: &Use) -> Result<u8, NoMemory>
 {
     let scope = BodyScope {
         space,
-        method: &used.scope,
+        method: used.scope.path(),
         unknown_zero: false,
     };
     let count = scope.count(alloc, &Locals::new(alloc), &used.name)?;

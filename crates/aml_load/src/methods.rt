@@ -1,4 +1,5 @@
 //! What the tables say besides their names.
+use crate::scopes::SharedPath;
 use aml_names::{Name, Path};
 
 /// A method that a table declares.
@@ -21,6 +22,6 @@ pub struct Use {
     /// The table, by its place in load order from 0 on.
     pub table: usize,
     /// The scope in which it stands.
-    pub scope: Path,
+    pub scope: SharedPath,
     pub name: Name,
 }

@@ -5,14 +5,15 @@ ghost use Rattle.aml_code.specs.Rows.{row_of};
 ghost use Rattle.aml_load.specs.Uses.{is_argument, kinds_in, use_of, uses_in, part_uses, parts_uses, rest_uses, elements_uses, units_uses, unit_uses, joint_uses};
 
 use crate::methods::Use;
+use crate::scopes::SharedPath;
 use aml_code::{Field, Link, NoMemory, Node, Part, PartKind, Tail, listed_row};
-use aml_names::{Name, Path};
+use aml_names::Name;
 
 /// Where a term stands: the table, by its place in load order from 0 on, and the scope.
 #[derive(Drop)]
 pub struct Site<'a> {
     pub table: usize,
-    pub scope: &'a Path,
+    pub scope: &'a SharedPath,
 }
 
 fn is_argument(kind: PartKind) -> bool
@@ -35,7 +36,7 @@ fn add_use(site: &Site<'_>, name: &Name, uses: &mut Vec<Use>) -> Result<(), NoMe
     ensures { OnOk result (uses.new.items ≡ uses.old.items ++
         use_of site.now.table site.now.scope.now name.now ∷ []) }
 {
-    let scope = site.scope.clone()?;
+    let scope = site.scope.share()?;
     let name = name.clone()?;
     uses.push(Use {
         table: site.table,

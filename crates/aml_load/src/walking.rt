@@ -13,6 +13,7 @@ ghost use Rattle.aml_load.specs.Views.{Gives, GivesIn, Walks, WalksTo};
 use crate::faults::LoadFault;
 use crate::methods::{Method, Use};
 use crate::roles::{kind_of, role_of};
+use crate::scopes::SharedPath;
 use crate::uses::{Site, add_names};
 use aml_code::{
     Field, Name, NoMemory, Node, Part, Path, Role, Seg, Tail, last_byte, last_name, place,
@@ -67,7 +68,7 @@ impl Progress {
     {
         match name {
             None => Err(LoadFault::Space(site.table, SpaceFault::AboveRoot)),
-            Some(name) => match place(self.alloc, site.scope, name)? {
+            Some(name) => match place(self.alloc, site.scope.path(), name)? {
                 None => Err(LoadFault::Space(site.table, SpaceFault::AboveRoot)),
                 Some(path) => Ok(path),
             },
@@ -95,7 +96,7 @@ impl Progress {
         ensures { GivesIn (λ p. p) self.now.space result (λ l.
             led_at site.now.table l.entries site.now.scope.now (option_copied name.entry) missing) }
     {
-        match self.found_path(site.scope, name)? {
+        match self.found_path(site.scope.path(), name)? {
             None => Err(LoadFault::Space(site.table, missing)),
             Some(found) => Ok(found),
         }
@@ -255,7 +256,7 @@ impl Progress {
         ensures { Walks self.old self.new result (λ l.
             units_at site.now.table l site.now.scope.now (plain_name seg ∷ [])) }
     {
-        let path = Path::below(self.alloc, site.scope.segs(), &[seg])?;
+        let path = Path::below(self.alloc, site.scope.path().segs(), &[seg])?;
         self.declare(site.table, path, Kind::Field)
     }
 
@@ -330,24 +331,12 @@ impl Progress {
         match role {
             Role::Declares(object) => {
                 let path = self.open_name(site, last_name(parts), kind_of(object))?;
-                self.walk_inside(
-                    &Site {
-                        table: site.table,
-                        scope: &path,
-                    },
-                    tail,
-                )
+                self.walk_below(site.table, path, tail)
             }
             Role::Method => self.add_method(site, parts, tail),
             Role::Scope => {
                 let path = self.scope_path(site, last_name(parts))?;
-                self.walk_inside(
-                    &Site {
-                        table: site.table,
-                        scope: &path,
-                    },
-                    tail,
-                )
+                self.walk_below(site.table, path, tail)
             }
             Role::Alias => self.add_alias(site, parts),
             Role::External => self.add_external(site, parts),
@@ -355,6 +344,21 @@ impl Progress {
             Role::Guard => self.walk_inside(site, tail),
             Role::Other => Ok(()),
         }
+    }
+
+    /// Declares what the terms inside a term declare, whose scope is this path.
+    #[cycle(walk)]
+    fn walk_below(&mut self, table: usize, path: Path, tail: &Tail) -> Result<(), LoadFault>
+        ensures { Walks self.old self.new result (λ l. walk_inside table l path (tail_view tail.now)) }
+    {
+        let scope = SharedPath::new(self.alloc, path)?;
+        self.walk_inside(
+            &Site {
+                table,
+                scope: &scope,
+            },
+            tail,
+        )
     }
 
     /// Declares what the terms inside a term declare.

@@ -10,7 +10,9 @@ ghost use Rattle.aml_space.specs.Rows.{AreRows};
 
 use crate::counting::count_of;
 use crate::faults::SpaceFault;
-use crate::growing::{count_path, make_node, set_given, set_out, set_row};
+use crate::growing::{
+    count_path, deepest, extend, is_taken, make_node, set_given, set_out, set_row,
+};
 use crate::kinds::Kind;
 use crate::listing::list_rows;
 use crate::nodes::{Node, Row};
@@ -77,13 +79,14 @@ impl Space {
             IsTrue (declared_yet self.old path))) }
         ensures duplicate { IsTrue (declared_yet self.old path) → result ≡ Err (SpaceFault.Duplicate path) }
     {
-        if self.is_declared(&path) {
+        let reach = deepest(self.nodes.as_slice(), path.segs());
+        if is_taken(self.nodes.as_slice(), path.segs(), reach) {
             return Err(SpaceFault::Duplicate(path));
         }
         if children_at(self.nodes.as_slice(), 0).rows() == usize::MAX {
             return Err(SpaceFault::NoMemory);
         }
-        let at = make_node(self.alloc, &mut self.nodes, path.segs())?;
+        let at = extend(self.alloc, &mut self.nodes, path.segs(), reach)?;
         count_path(&mut self.nodes, path.segs());
         set_row(&mut self.nodes, at, Row { path, kind });
         Ok(())
@@ -113,12 +116,6 @@ impl Space {
         let at = make_node(self.alloc, &mut self.nodes, path.segs())?;
         set_given(&mut self.nodes, at, count);
         Ok(())
-    }
-
-    fn is_declared(&self, path: &Path) -> bool
-        ensures { result ≡ declared_yet self.now path.now }
-    {
-        self.declared(path).is_some()
     }
 
     /// The kind with which a path is declared, and the comparisons of segments that were made.

@@ -1,5 +1,5 @@
 use Rattle.std.specs.Prelude.{option_map}
-use Rattle.std.proofs.Common.{false, slice_index_or, ◌+◌, ◌++◌, [], drop, refl, sym, ap, ◌∙◌, subst, arith}
+use Rattle.std.proofs.Common.{false, slice_index_or, ◌++◌, [], refl, sym, ap, ◌∙◌, subst, arith}
 use Rattle.std.proofs.lemmas.Option.{slice_get-get_or}
 use Rattle.text_writer.specs.Prints.{Prints}
 use Rattle.text_writer.proofs.PrintLaws.{prints_then, prints_none}

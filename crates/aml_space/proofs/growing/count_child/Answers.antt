@@ -24,8 +24,14 @@ add_row-requires-clause-room c =
     let was : slice_get ns c.args.at ≡ Some c.index_mut-node.result.now = slice_get-get_or ns c.args.at c.index_mut-node.result.now c.requires.within ∙ ap Some (sym c.index_mut-node.ensures.value) in
     omega (arith, ap (λ o. total (counted_in o)) was, c.requires.room)
 
-pub returns : goal.returns
-returns c =
+pub returns-clause-raised : goal.returns-clause-raised
+returns-clause-raised c =
     let ns = c.args.nodes.now.items in
     let was : slice_get ns c.args.at ≡ Some c.index_mut-node.result.now = slice_get-get_or ns c.args.at c.index_mut-node.result.now c.requires.within ∙ ap Some (sym c.index_mut-node.ensures.value) in
-    recounted ns c.args.at c.index_mut-node.result.now _ c.args.seg c.requires.within was c.add_row.ensures refl refl refl
+    recounted ns c.args.at c.index_mut-node.result.now _ c.args.seg c.requires.within was c.add_row.ensures.rows refl refl refl
+
+pub returns-clause-child : goal.returns-clause-child
+returns-clause-child c =
+    let ns = c.args.nodes.now.items in
+    let was : slice_get ns c.args.at ≡ Some c.index_mut-node.result.now = slice_get-get_or ns c.args.at c.index_mut-node.result.now c.requires.within ∙ ap Some (sym c.index_mut-node.ensures.value) in
+    ap (λ o. child_in (bare (counted_in o)) c.args.seg) was ∙ c.add_row.ensures.node

@@ -4,13 +4,16 @@ use Rattle.aml_names.specs.Paths.{seg_cmp}
 use Rattle.aml_children.specs.Children.{Counted, bare, child_in, total, raised, Rise}
 use Rattle.aml_children.specs.Trees.{list_of, list_and_height, seen, IsBalanced}
 use Rattle.aml_children.specs.declared.trees.Fork.{Fork}
-use Rattle.aml_children.proofs.Sides.{rise_left, rise_right}
+use Rattle.aml_children.proofs.Sides.{rise_left, rise_right, found_left, found_right, found_middle}
 use Rattle.aml_children.proofs.Forks.{total_of, listed, heighted, rising, balanced_top, left_shorter, right_shorter, there_left, there_right, seen_left, seen_right, seen_middle, more_left, more_right, more_middle, balanced_left, balanced_right, balanced_middle}
 use Rattle.aml_children.proofs.trees.Tree.+add_row.Goals as goal
-use Rattle.aml_children.proofs.trees.Tree.+add_row.Goals.{in-Some+in-Less, in-Some+in-Equal, in-Some+in-Greater, in_default}
+use Rattle.aml_children.proofs.trees.Tree.+add_row.Goals.{in-Some+in-Less, in-Some+in-Equal, in-Some+in-Greater, in-None}
 
 abbrev added : Fork → Fork
 added h = record { left = h.left; child = h.child; rows = h.rows; sum = h.sum + 1; height = h.height; right = h.right }
+
+abbrev raised_here : Fork → Fork
+raised_here h = record { left = h.left; child = h.child; rows = h.rows + 1; sum = h.sum; height = h.height; right = h.right }
 
 room_for : (f : Fork) (es : List Counted) → es ≡ list_of f → f.sum ≡ Rattle.aml_children.specs.Trees.sum_of f → total es + 1 < 2 ^ 64 → f.sum + 1 < 2 ^ 64
 room_for f es is sum room = omega (arith, sum, total_of f, ap total is, room)
@@ -75,7 +78,7 @@ invariant_of-self t c = elim c.match-self.branch [
       let less : seg_cmp s f.child.seg ≡ Less = ap (λ (h : Fork). seg_cmp s h.child.seg) (sym (w.deref.ensures ∙ ap added w.deref_mut.ensures.value)) ∙ sym w.cmp.ensures ∙ w.in-Less.is in
       let there : is_some (child_in (bare f.left.0) s) ≡ true = there_left f s rise less (ap (λ es. is_some (child_in (bare es) s)) (sym is) ∙ c.requires.there) in
       let was : w.deref_mut-in-Less.result.now ≡ added f = w.deref_mut-in-Less.ensures.value ∙ ap added w.deref_mut.ensures.value in
-      let side : w.add_row.new.self ≡ (raised f.left.0 s, f.left.1) = w.add_row.ensures ∙ ap (λ (h : Fork). (raised h.left.0 s, h.left.1)) was in
+      let side : w.add_row.new.self ≡ (raised f.left.0 s, f.left.1) = w.add_row.ensures.rows ∙ ap (λ (h : Fork). (raised h.left.0 s, h.left.1)) was in
       rw w.self-inside-is (subst IsBalanced {x = more_left f s} (λ i. record { left = sym side i; child = (sym was i).child; rows = (sym was i).rows; sum = (sym was i).sum; height = (sym was i).height; right = (sym was i).right }) (balanced_left f s balanced (room_for f c.args.self.now.0 is balanced.sum c.requires.room) there))
   | in-Some+in-Equal w ↦
       let f = w.in-Some.fork.value in
@@ -92,13 +95,13 @@ invariant_of-self t c = elim c.match-self.branch [
       let more : seg_cmp s f.child.seg ≡ Greater = ap (λ (h : Fork). seg_cmp s h.child.seg) (sym (w.deref.ensures ∙ ap added w.deref_mut.ensures.value)) ∙ sym w.cmp.ensures ∙ w.in-Greater.is in
       let there : is_some (child_in (bare f.right.0) s) ≡ true = there_right f s rise more (ap (λ es. is_some (child_in (bare es) s)) (sym is) ∙ c.requires.there) in
       let was : w.deref_mut-in-Greater.result.now ≡ added f = w.deref_mut-in-Greater.ensures.value ∙ ap added w.deref_mut.ensures.value in
-      let side : w.add_row-in-Greater.new.self ≡ (raised f.right.0 s, f.right.1) = w.add_row-in-Greater.ensures ∙ ap (λ (h : Fork). (raised h.right.0 s, h.right.1)) was in
+      let side : w.add_row-in-Greater.new.self ≡ (raised f.right.0 s, f.right.1) = w.add_row-in-Greater.ensures.rows ∙ ap (λ (h : Fork). (raised h.right.0 s, h.right.1)) was in
       rw w.self-inside-is (subst IsBalanced {x = more_right f s} (λ i. record { left = (sym was i).left; child = (sym was i).child; rows = (sym was i).rows; sum = (sym was i).sum; height = (sym was i).height; right = sym side i }) (balanced_right f s balanced (room_for f c.args.self.now.0 is balanced.sum c.requires.room) there))
-  | in_default w ↦ rw w.self-inside-is c.self.invariant
+  | in-None w ↦ rw w.self-inside-is c.self.invariant
 ]
 
-pub returns : goal.returns
-returns t c = elim c.match-self.branch [
+pub returns-clause-rows : goal.returns-clause-rows
+returns-clause-rows t c = elim c.match-self.branch [
   | in-Some+in-Less w ↦
       let f = w.in-Some.fork.value in
       let s = c.args.seg in
@@ -107,7 +110,7 @@ returns t c = elim c.match-self.branch [
       let rise = rising c.args.self.now c.self.inside.top w.in-Some.fork c.self.view_is w.in-Some.is c.requires.rise in
       let less : seg_cmp s f.child.seg ≡ Less = ap (λ (h : Fork). seg_cmp s h.child.seg) (sym (w.deref.ensures ∙ ap added w.deref_mut.ensures.value)) ∙ sym w.cmp.ensures ∙ w.in-Less.is in
       let was : w.deref_mut-in-Less.result.now ≡ added f = w.deref_mut-in-Less.ensures.value ∙ ap added w.deref_mut.ensures.value in
-      let side : w.add_row.new.self ≡ (raised f.left.0 s, f.left.1) = w.add_row.ensures ∙ ap (λ (h : Fork). (raised h.left.0 s, h.left.1)) was in
+      let side : w.add_row.new.self ≡ (raised f.left.0 s, f.left.1) = w.add_row.ensures.rows ∙ ap (λ (h : Fork). (raised h.left.0 s, h.left.1)) was in
       rw w.self-inside-is ((λ i. seen (record { left = side i; child = (was i).child; rows = (was i).rows; sum = (was i).sum; height = (was i).height; right = (was i).right })) ∙ seen_left f s rise less ∙ (λ i. (raised (sym is i) s, sym high i)))
   | in-Some+in-Equal w ↦
       let f = w.in-Some.fork.value in
@@ -126,9 +129,40 @@ returns t c = elim c.match-self.branch [
       let rise = rising c.args.self.now c.self.inside.top w.in-Some.fork c.self.view_is w.in-Some.is c.requires.rise in
       let more : seg_cmp s f.child.seg ≡ Greater = ap (λ (h : Fork). seg_cmp s h.child.seg) (sym (w.deref.ensures ∙ ap added w.deref_mut.ensures.value)) ∙ sym w.cmp.ensures ∙ w.in-Greater.is in
       let was : w.deref_mut-in-Greater.result.now ≡ added f = w.deref_mut-in-Greater.ensures.value ∙ ap added w.deref_mut.ensures.value in
-      let side : w.add_row-in-Greater.new.self ≡ (raised f.right.0 s, f.right.1) = w.add_row-in-Greater.ensures ∙ ap (λ (h : Fork). (raised h.right.0 s, h.right.1)) was in
+      let side : w.add_row-in-Greater.new.self ≡ (raised f.right.0 s, f.right.1) = w.add_row-in-Greater.ensures.rows ∙ ap (λ (h : Fork). (raised h.right.0 s, h.right.1)) was in
       rw w.self-inside-is ((λ i. seen (record { left = (was i).left; child = (was i).child; rows = (was i).rows; sum = (was i).sum; height = (was i).height; right = side i })) ∙ seen_right f s rise more ∙ (λ i. (raised (sym is i) s, sym high i)))
-  | in_default w ↦
+  | in-None w ↦
+      let none : c.self.inside.top ≡ Rattle.std.proofs.Common.None = search rules in
+      absurd (mathlib.Core.Bool.true≢false (sym c.requires.there ∙ ap (λ (d : List Counted × ℕ). is_some (child_in (bare d.0) c.args.seg)) (sym c.self.view_is ∙ ap list_and_height none)))
+]
+
+pub returns-clause-node : goal.returns-clause-node
+returns-clause-node t c = elim c.match-self.branch [
+  | in-Some+in-Less w ↦
+      let f = w.in-Some.fork.value in
+      let s = c.args.seg in
+      let is = listed c.args.self.now c.self.inside.top w.in-Some.fork c.self.view_is w.in-Some.is in
+      let rise = rising c.args.self.now c.self.inside.top w.in-Some.fork c.self.view_is w.in-Some.is c.requires.rise in
+      let by : seg_cmp s f.child.seg ≡ Less = ap (λ (h : Fork). seg_cmp s h.child.seg) (sym (w.deref.ensures ∙ ap added w.deref_mut.ensures.value)) ∙ sym w.cmp.ensures ∙ w.in-Less.is in
+      let was : w.deref_mut-in-Less.result.now ≡ added f = w.deref_mut-in-Less.ensures.value ∙ ap added w.deref_mut.ensures.value in
+      ap (λ es. child_in (bare es) s) is ∙ found_left f.left.0 (f.child, f.rows) f.right.0 s rise by ∙ ap (λ (h : Fork). child_in (bare h.left.0) s) (sym was) ∙ w.add_row.ensures.node ∙ ap Some (sym w.result-is)
+  | in-Some+in-Equal w ↦
+      let f = w.in-Some.fork.value in
+      let s = c.args.seg in
+      let is = listed c.args.self.now c.self.inside.top w.in-Some.fork c.self.view_is w.in-Some.is in
+      let rise = rising c.args.self.now c.self.inside.top w.in-Some.fork c.self.view_is w.in-Some.is c.requires.rise in
+      let by : seg_cmp s f.child.seg ≡ Equal = ap (λ (h : Fork). seg_cmp s h.child.seg) (sym (w.deref.ensures ∙ ap added w.deref_mut.ensures.value)) ∙ sym w.cmp.ensures ∙ w.in-Equal.is in
+      ap (λ es. child_in (bare es) s) is ∙ found_middle f.left.0 (f.child, f.rows) f.right.0 s rise by
+      ∙ ap (λ (h : Fork). Some h.child.node) (sym (w.deref-in-Equal.ensures ∙ ap raised_here (w.deref_mut-in-Equal.ensures.value ∙ ap added w.deref_mut.ensures.value))) ∙ ap Some (sym w.result-is)
+  | in-Some+in-Greater w ↦
+      let f = w.in-Some.fork.value in
+      let s = c.args.seg in
+      let is = listed c.args.self.now c.self.inside.top w.in-Some.fork c.self.view_is w.in-Some.is in
+      let rise = rising c.args.self.now c.self.inside.top w.in-Some.fork c.self.view_is w.in-Some.is c.requires.rise in
+      let by : seg_cmp s f.child.seg ≡ Greater = ap (λ (h : Fork). seg_cmp s h.child.seg) (sym (w.deref.ensures ∙ ap added w.deref_mut.ensures.value)) ∙ sym w.cmp.ensures ∙ w.in-Greater.is in
+      let was : w.deref_mut-in-Greater.result.now ≡ added f = w.deref_mut-in-Greater.ensures.value ∙ ap added w.deref_mut.ensures.value in
+      ap (λ es. child_in (bare es) s) is ∙ found_right f.left.0 (f.child, f.rows) f.right.0 s rise by ∙ ap (λ (h : Fork). child_in (bare h.right.0) s) (sym was) ∙ w.add_row-in-Greater.ensures.node ∙ ap Some (sym w.result-is)
+  | in-None w ↦
       let none : c.self.inside.top ≡ Rattle.std.proofs.Common.None = search rules in
       absurd (mathlib.Core.Bool.true≢false (sym c.requires.there ∙ ap (λ (d : List Counted × ℕ). is_some (child_in (bare d.0) c.args.seg)) (sym c.self.view_is ∙ ap list_and_height none)))
 ]

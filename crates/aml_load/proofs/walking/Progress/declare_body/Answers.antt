@@ -1,4 +1,4 @@
-use Rattle.std.proofs.Common.{Some, refl, subst, ◌%◌}
+use Rattle.std.proofs.Common.{Some, refl, ◌%◌}
 use Rattle.aml_space.specs.Entries.{Body}
 use Rattle.aml_space.specs.declared.kinds.Kind.TheVariants as kinds
 use Rattle.aml_load.specs.Loading.{plus, method_entry}
