@@ -8,6 +8,7 @@ ghost use Rattle.aml_code.specs.View.{nodes_view};
 ghost use Rattle.aml_parse.specs.Reading.{all_at};
 
 use crate::context::Context;
+use crate::room::without_room;
 use crate::terms::terms;
 use aml_code::{Arity, CodeFault, Locals, Node, Path, Position};
 use std::alloc::Global;
@@ -31,7 +32,8 @@ fn body_terms<A: Arity>(
     };
     let mut locals = Locals::new(alloc);
     let end = code.len() as u32;
-    terms(&context, 512, Position::BodyTerm, end, &mut locals, code)
+    let nodes = terms(&context, 512, Position::BodyTerm, end, &mut locals, code)?;
+    Ok(without_room(nodes))
 }
 
 /// The terms of a method's body, which `code` holds whole. How many arguments a name takes is asked of `arity`, by the

@@ -9,6 +9,7 @@ mod flat;
 mod module;
 mod packages;
 mod positions;
+mod room;
 mod terms;
 mod units;
 

@@ -8,6 +8,7 @@ ghost use Rattle.aml_code.specs.View.{nodes_view};
 ghost use Rattle.aml_parse.specs.Reading.{all_at};
 
 use crate::context::Context;
+use crate::room::without_room;
 use crate::terms::terms;
 use aml_code::{Arity, CodeFault, Locals, Name, NoMemory, Node, Position};
 use std::alloc::Global;
@@ -41,14 +42,15 @@ fn module_terms(alloc: Global, code: &[u8]) -> Result<Vec<Node>, CodeFault>
         scope: None,
     };
     let mut locals = Locals::new(alloc);
-    terms(
+    let nodes = terms(
         &context,
         512,
         Position::ModuleTerm,
         code.len() as u32,
         &mut locals,
         code,
-    )
+    )?;
+    Ok(without_room(nodes))
 }
 
 /// The terms of a table's AML, which `code` holds whole. The body of a method isn't read: its tail is the span of `code`

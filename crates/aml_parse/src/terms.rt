@@ -14,6 +14,7 @@ use crate::positions::{
     Lead, child_position, guard_of, is_guard, lead_of, next_position, opcode_of, refusal,
     takes_names, terms_in,
 };
+use crate::room::without_room;
 use crate::units::{
     access_unit_of, extended_unit_of, named_joint_of, named_unit_of, reserved_unit_of,
 };
@@ -290,7 +291,7 @@ fn tail<A: Arity>(
         TailKind::Empty => Err(CodeFault::Truncated { at: end }),
         TailKind::Terms => {
             let nodes = terms(context, levels, position, end, locals, inside)?;
-            Ok(Tail::Terms(nodes))
+            Ok(Tail::Terms(without_room(nodes)))
         }
         TailKind::Bytes => {
             let bytes = Vec::from_slice(context.alloc, inside)?;
@@ -298,11 +299,11 @@ fn tail<A: Arity>(
         }
         TailKind::Elements => {
             let nodes = terms(context, levels, Position::Data, end, locals, inside)?;
-            Ok(Tail::Elements(nodes))
+            Ok(Tail::Elements(without_room(nodes)))
         }
         TailKind::Fields => {
             let fields = fields(context, levels, end, locals, inside)?;
-            Ok(Tail::Fields(fields))
+            Ok(Tail::Fields(without_room(fields)))
         }
         TailKind::Body => Ok(body_of(end, inside)),
     }
