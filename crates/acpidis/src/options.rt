@@ -8,7 +8,7 @@ pub struct Options {
     pub any_sum: bool,
     /// Whether a name of which nothing tells an argument count is taken to have none.
     pub unknown_zero: bool,
-    /// Argument counts, 0 to 7, of paths that no table declares or names by an External. Of a name that leads nowhere, the
-    /// first of the paths that it may mean decides, and the greatest count of it.
+    /// Argument counts, 0 to 7, of paths that no table declares or names by an External. Of a name that leads nowhere,
+    /// the first of the paths that it may mean decides, and the greatest count of it.
     pub externals: Vec<(Path, u8)>,
 }

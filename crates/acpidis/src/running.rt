@@ -38,8 +38,8 @@ const RAW: u8 = 3;
 const UNWRITTEN: u8 = 4;
 
 /// Disassembles the tables of these dumps by so many workers, 1 to 64, and writes the listing to `out`, or with `check`
-/// a line for each table. What is refused, and then each body that can't be read, gets a line on `err`; a fault of `err`
-/// changes nothing.
+/// a line for each table. What is refused, and then each body that can't be read, gets a line on `err`; a fault of
+/// `err` changes nothing.
 ///
 /// Returns the exit status: 0 where all is written, 1 where the set is refused, and nothing is written, 3 where all is
 /// written and the body of a method can't be read, so that it stands there as its bytes, and 4 where the writer took no

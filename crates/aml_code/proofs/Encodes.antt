@@ -8,7 +8,7 @@ use Rattle.aml_code.specs.declared.tree.Node.{Node, Op}
 use Rattle.aml_code.specs.declared.tree.Part.{Part}
 use Rattle.aml_code.specs.declared.tree.Tail.{Tail}
 use Rattle.aml_code.specs.View.{node_view, parts_view, tail_view}
-use Rattle.aml_code.specs.Encoding.{opcode_bytes, packed, encoding, parts_encoding, rest_encoding}
+use Rattle.aml_code.specs.Encoding.{opcode_bytes, packed, encoding, parts_encoding, tail_encoding}
 use Rattle.aml_code.proofs.Views.{view-Op}
 
 -- Room was left at the end of what stands, and content was written behind it: with the room filled in, what stands is
@@ -40,8 +40,8 @@ package_written o w ps t out0 out1 out2 out3 out4 out5 at e1 is_at e2 e3 e4 e5 w
 
 pub op_encoded : (code : List ℕ) (node : Node) (o : ℕ) (w : Option PkgWidth) (width : PkgWidth) (ps : Vec Part Global) (t : Tail) → node ≡ Op o w ps t → w ≡ Some width
     → (slice : List Part) → slice ≡ ps.items
-    → opcode_bytes o ++ packed (Some width) (parts_encoding code (parts_view slice) ++ rest_encoding code (tail_view t)) ≡ encoding code (node_view node)
+    → opcode_bytes o ++ packed (Some width) (parts_encoding code (parts_view slice) ++ tail_encoding code (tail_view t)) ≡ encoding code (node_view node)
 op_encoded code node o w width ps t is is_width slice is_slice =
-    ap (λ (xs : List Part). opcode_bytes o ++ packed (Some width) (parts_encoding code (parts_view xs) ++ rest_encoding code (tail_view t))) is_slice
-    ∙ ap (λ (u : Option PkgWidth). opcode_bytes o ++ packed u (parts_encoding code (parts_view ps.items) ++ rest_encoding code (tail_view t))) (sym is_width)
+    ap (λ (xs : List Part). opcode_bytes o ++ packed (Some width) (parts_encoding code (parts_view xs) ++ tail_encoding code (tail_view t))) is_slice
+    ∙ ap (λ (u : Option PkgWidth). opcode_bytes o ++ packed u (parts_encoding code (parts_view ps.items) ++ tail_encoding code (tail_view t))) (sym is_width)
     ∙ sym (ap (encoding code) (ap node_view is ∙ view-Op o w ps t))

@@ -48,7 +48,7 @@ pub row_opcode : (o : ℕ) (r : Row) → row_of o ≡ Some r → r.opcode ≡ o
 unfolding row_of
 row_opcode o r e = eqb-true _ _ (found_tested (λ r. r.opcode == o) rows r e)
 
-row_passes : (t : Row → Bool) → list_all t rows ≡ true → (o : ℕ) (r : Row) → row_of o ≡ Some r → t r ≡ true
+pub row_passes : (t : Row → Bool) → list_all t rows ≡ true → (o : ℕ) (r : Row) → row_of o ≡ Some r → t r ≡ true
 unfolding row_of
 row_passes t all o r e = found_passes (λ r. r.opcode == o) t rows r all e
 

@@ -10,7 +10,7 @@ use Rattle.aml_code.specs.declared.rows.Role.{Role}
 use Rattle.aml_code.specs.declared.rows.Role.TheVariants as roles
 use Rattle.aml_code.specs.Opcodes.{Row}
 use Rattle.aml_code.specs.Rows.{row_of}
-use Rattle.aml_code.specs.Tree.{Tree, nothing, named, op, Trees, no_trees, tree_more, OnePart, child, label, byte, Parts, no_parts, part_more, Rest, terms, elements, fields, OneUnit, unit, connection, Units, no_units, unit_more, Joint, target, buffer}
+use Rattle.aml_code.specs.Tree.{Tree, nothing, named, op, Trees, no_trees, tree_more, Part, child, label, byte, Parts, no_parts, part_more, Tail, terms, elements, fields, Field, unit, connection, Fields, no_fields, field_more, Link, target, buffer}
 
 -- the last part that is a name, or else this
 abbrev pub last_label : Option Name → Parts → Option Name
@@ -33,18 +33,18 @@ abbrev pub plain_name : Seg → Name
 plain_name s = record { root = false; ups = 0; form = One; segs = s ∷ [] }
 
 -- the named units of a field list, in order
-abbrev pub unit_names : Units → List Name
-unit_names no_units = []
-unit_names (unit_more (unit s w n) us) = plain_name s ∷ unit_names us
-unit_names (unit_more _ us) = unit_names us
+abbrev pub unit_names : Fields → List Name
+unit_names no_fields = []
+unit_names (field_more (unit s w n) us) = plain_name s ∷ unit_names us
+unit_names (field_more _ us) = unit_names us
 
-abbrev pub field_names : Rest → List Name
+abbrev pub field_names : Tail → List Name
 field_names (fields us) = unit_names us
 field_names _ = []
 
 -- The names that a term declares itself, by the role of its row, in the order of the text. An External declares none: what
 -- it names is declared elsewhere.
-abbrev pub names_declared : Role → Parts → Rest → List Name
+abbrev pub names_declared : Role → Parts → Tail → List Name
 names_declared (roles.Declares o) ps t = listed (last_label None ps)
 names_declared roles.Method ps t = listed (last_label None ps)
 names_declared roles.Alias ps t = listed (last_label None ps)
@@ -66,7 +66,7 @@ abbrev pub with_declared : Option (List Seg) → PathSet → List Name → PathS
 with_declared None ls ns = ls
 with_declared (Some scope) ls ns = with_names scope ls ns
 
-abbrev pub declared_by : Option (List Seg) → Option Row → PathSet → Parts → Rest → PathSet
+abbrev pub declared_by : Option (List Seg) → Option Row → PathSet → Parts → Tail → PathSet
 declared_by scope None ls ps t = ls
 declared_by scope (Some row) ls ps t = with_declared scope ls (names_declared row.role ps t)
 
@@ -75,13 +75,13 @@ abbrev mutual
   pub after : Option (List Seg) → PathSet → Tree → PathSet
   after scope ls nothing = ls
   after scope ls (named n ts) = after_all scope ls ts
-  after scope ls (op o w ps t) = declared_by scope (row_of o) (after_rest scope (after_parts scope ls ps) t) ps t
+  after scope ls (op o w ps t) = declared_by scope (row_of o) (after_tail scope (after_parts scope ls ps) t) ps t
 
   pub after_all : Option (List Seg) → PathSet → Trees → PathSet
   after_all scope ls no_trees = ls
   after_all scope ls (tree_more t ts) = after_all scope (after scope ls t) ts
 
-  pub after_part : Option (List Seg) → PathSet → OnePart → PathSet
+  pub after_part : Option (List Seg) → PathSet → Part → PathSet
   after_part scope ls (child t) = after scope ls t
   after_part scope ls _ = ls
 
@@ -89,20 +89,20 @@ abbrev mutual
   after_parts scope ls no_parts = ls
   after_parts scope ls (part_more p ps) = after_parts scope (after_part scope ls p) ps
 
-  pub after_rest : Option (List Seg) → PathSet → Rest → PathSet
-  after_rest scope ls (terms ts) = after_all scope ls ts
-  after_rest scope ls (elements ts) = after_all scope ls ts
-  after_rest scope ls (fields us) = after_units scope ls us
-  after_rest scope ls _ = ls
+  pub after_tail : Option (List Seg) → PathSet → Tail → PathSet
+  after_tail scope ls (terms ts) = after_all scope ls ts
+  after_tail scope ls (elements ts) = after_all scope ls ts
+  after_tail scope ls (fields us) = after_fields scope ls us
+  after_tail scope ls _ = ls
 
-  pub after_units : Option (List Seg) → PathSet → Units → PathSet
-  after_units scope ls no_units = ls
-  after_units scope ls (unit_more u us) = after_units scope (after_unit scope ls u) us
+  pub after_fields : Option (List Seg) → PathSet → Fields → PathSet
+  after_fields scope ls no_fields = ls
+  after_fields scope ls (field_more u us) = after_fields scope (after_field scope ls u) us
 
-  pub after_unit : Option (List Seg) → PathSet → OneUnit → PathSet
-  after_unit scope ls (connection l) = after_joint scope ls l
-  after_unit scope ls _ = ls
+  pub after_field : Option (List Seg) → PathSet → Field → PathSet
+  after_field scope ls (connection l) = after_link scope ls l
+  after_field scope ls _ = ls
 
-  pub after_joint : Option (List Seg) → PathSet → Joint → PathSet
-  after_joint scope ls (target n) = ls
-  after_joint scope ls (buffer t) = after scope ls t
+  pub after_link : Option (List Seg) → PathSet → Link → PathSet
+  after_link scope ls (target n) = ls
+  after_link scope ls (buffer t) = after scope ls t

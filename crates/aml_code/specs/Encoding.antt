@@ -3,7 +3,7 @@ use Rattle.std.specs.Prelude.{ℕ, ◌+◌, ◌/◌, ◌%◌, ltb, cond, List, [
 use Rattle.aml_names.specs.Names.{spelling}
 use Rattle.aml_code.specs.declared.packages.PkgWidth.{PkgWidth}
 use Rattle.aml_code.specs.Packages.{little, width_len, package_bytes}
-use Rattle.aml_code.specs.Tree.{Tree, nothing, named, op, Trees, no_trees, tree_more, OnePart, child, label, byte, word, dword, qword, text, Parts, no_parts, part_more, Rest, empty, terms, bytes, elements, fields, body, OneUnit, unit, reserved, access, connection, extended, Units, no_units, unit_more, Joint, target, buffer}
+use Rattle.aml_code.specs.Tree.{Tree, nothing, named, op, Trees, no_trees, tree_more, Part, child, label, byte, word, dword, qword, text, Parts, no_parts, part_more, Tail, empty, terms, bytes, elements, fields, body, Field, unit, reserved, access, connection, extended, Fields, no_fields, field_more, Link, target, buffer}
 
 -- an opcode is one byte, or 5B and one more
 abbrev pub opcode_bytes : ℕ → List ℕ
@@ -22,13 +22,13 @@ abbrev mutual
   pub encoding : List ℕ → Tree → List ℕ
   encoding code nothing = 0x00 ∷ []
   encoding code (named n ts) = spelling n ++ encodings code ts
-  encoding code (op o w ps t) = opcode_bytes o ++ packed w (parts_encoding code ps ++ rest_encoding code t)
+  encoding code (op o w ps t) = opcode_bytes o ++ packed w (parts_encoding code ps ++ tail_encoding code t)
 
   pub encodings : List ℕ → Trees → List ℕ
   encodings code no_trees = []
   encodings code (tree_more t ts) = encoding code t ++ encodings code ts
 
-  pub part_encoding : List ℕ → OnePart → List ℕ
+  pub part_encoding : List ℕ → Part → List ℕ
   part_encoding code (child t) = encoding code t
   part_encoding code (label n) = spelling n
   part_encoding code (byte b) = little 1 b
@@ -41,25 +41,25 @@ abbrev mutual
   parts_encoding code no_parts = []
   parts_encoding code (part_more p ps) = part_encoding code p ++ parts_encoding code ps
 
-  pub rest_encoding : List ℕ → Rest → List ℕ
-  rest_encoding code empty = []
-  rest_encoding code (terms ts) = encodings code ts
-  rest_encoding code (bytes bs) = bs
-  rest_encoding code (elements ts) = encodings code ts
-  rest_encoding code (fields us) = units_encoding code us
-  rest_encoding code (body start len) = slice_of code start len
+  pub tail_encoding : List ℕ → Tail → List ℕ
+  tail_encoding code empty = []
+  tail_encoding code (terms ts) = encodings code ts
+  tail_encoding code (bytes bs) = bs
+  tail_encoding code (elements ts) = encodings code ts
+  tail_encoding code (fields us) = fields_encoding code us
+  tail_encoding code (body start len) = slice_of code start len
 
-  pub units_encoding : List ℕ → Units → List ℕ
-  units_encoding code no_units = []
-  units_encoding code (unit_more u us) = unit_encoding code u ++ units_encoding code us
+  pub fields_encoding : List ℕ → Fields → List ℕ
+  fields_encoding code no_fields = []
+  fields_encoding code (field_more u us) = field_encoding code u ++ fields_encoding code us
 
-  pub unit_encoding : List ℕ → OneUnit → List ℕ
-  unit_encoding code (unit s w n) = s.0 ++ package_bytes w n
-  unit_encoding code (reserved w n) = 0x00 ∷ package_bytes w n
-  unit_encoding code (access a b) = 0x01 ∷ a ∷ b ∷ []
-  unit_encoding code (connection l) = 0x02 ∷ joint_encoding code l
-  unit_encoding code (extended a b c) = 0x03 ∷ a ∷ b ∷ c ∷ []
+  pub field_encoding : List ℕ → Field → List ℕ
+  field_encoding code (unit s w n) = s.0 ++ package_bytes w n
+  field_encoding code (reserved w n) = 0x00 ∷ package_bytes w n
+  field_encoding code (access a b) = 0x01 ∷ a ∷ b ∷ []
+  field_encoding code (connection l) = 0x02 ∷ link_encoding code l
+  field_encoding code (extended a b c) = 0x03 ∷ a ∷ b ∷ c ∷ []
 
-  pub joint_encoding : List ℕ → Joint → List ℕ
-  joint_encoding code (target n) = spelling n
-  joint_encoding code (buffer t) = encoding code t
+  pub link_encoding : List ℕ → Link → List ℕ
+  link_encoding code (target n) = spelling n
+  link_encoding code (buffer t) = encoding code t

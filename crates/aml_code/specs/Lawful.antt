@@ -17,9 +17,9 @@ use Rattle.aml_code.specs.declared.rows.TailKind.{TailKind}
 use Rattle.aml_code.specs.declared.rows.TailKind.TheVariants as tails
 use Rattle.aml_code.specs.Packages.{width_len, FitsWidth}
 use Rattle.aml_code.specs.Rows.{row_of, has_length, takes}
-use Rattle.aml_code.specs.Tree.{Tree, nothing, named, op, Trees, no_trees, tree_more, OnePart, child, label, byte, word, dword, qword, text, Parts, no_parts, part_more, Rest, empty, terms, bytes, elements, fields, body, OneUnit, unit, reserved, access, connection, extended, Units, no_units, unit_more, Joint, target, buffer, tree_count}
-use Rattle.aml_code.specs.Encoding.{parts_encoding, rest_encoding}
-use Rattle.aml_code.specs.Declaring.{after, after_part, after_parts, after_unit}
+use Rattle.aml_code.specs.Tree.{Tree, nothing, named, op, Trees, no_trees, tree_more, Part, child, label, byte, word, dword, qword, text, Parts, no_parts, part_more, Tail, empty, terms, bytes, elements, fields, body, Field, unit, reserved, access, connection, extended, Fields, no_fields, field_more, Link, target, buffer, tree_count}
+use Rattle.aml_code.specs.Encoding.{parts_encoding, tail_encoding}
+use Rattle.aml_code.specs.Declaring.{after, after_part, after_parts, after_field}
 
 -- how many arguments a name may have
 pub data Count : Type 0 where
@@ -125,7 +125,7 @@ abbrev mutual
   IsLawful s (suc levels) p ls (named n ts) = IsName n × (is_bare n ≡ false) × HasCount (count_in s p ls n) (tree_count ts) × AreArguments s levels ls ts
   IsLawful s zero p ls (op o w ps t) = ⊥
   IsLawful s (suc levels) p ls (op o w ps t) =
-      IsOperation p o w (length (parts_encoding s.code ps ++ rest_encoding s.code t)) ps
+      IsOperation p o w (length (parts_encoding s.code ps ++ tail_encoding s.code t)) ps
       (λ row. AreParts s levels row.parts ls ps)
       (λ row. IsTail s levels (terms_in p row.place) row.tail (after_parts s.scope ls ps) t)
 
@@ -138,7 +138,7 @@ abbrev mutual
   AreTerms s levels p ls no_trees = Unit {0}
   AreTerms s levels p ls (tree_more t ts) = IsLawful s levels p ls t × AreTerms s levels (next_position p t) (after s.scope ls t) ts
 
-  pub IsPart : Setting → ℕ → PartKind → PathSet → OnePart → Type 0
+  pub IsPart : Setting → ℕ → PartKind → PathSet → Part → Type 0
   IsPart s levels kinds.Term ls (child t) = IsLawful s levels positions.Argument ls t
   IsPart s levels kinds.Target ls (child t) = IsLawful s levels positions.Target ls t
   IsPart s levels kinds.Data ls (child t) = IsLawful s levels positions.Data ls t
@@ -158,26 +158,26 @@ abbrev mutual
   AreParts s levels (k ∷ ks) ls (part_more x xs) = IsPart s levels k ls x × AreParts s levels ks (after_part s.scope ls x) xs
   AreParts s levels _ ls _ = ⊥
 
-  pub IsTail : Setting → ℕ → Position → TailKind → PathSet → Rest → Type 0
+  pub IsTail : Setting → ℕ → Position → TailKind → PathSet → Tail → Type 0
   IsTail s levels p tails.Empty ls empty = Unit {0}
   IsTail s levels p tails.Terms ls (terms ts) = AreTerms s levels p ls ts
   IsTail s levels p tails.Bytes ls (bytes bs) = AreBytes bs
   IsTail s levels p tails.Elements ls (elements ts) = AreTerms s levels positions.Data ls ts
-  IsTail s levels p tails.Fields ls (fields us) = AreUnits s levels ls us
+  IsTail s levels p tails.Fields ls (fields us) = AreFields s levels ls us
   IsTail s levels p tails.Body ls (body start len) = start + len ≤ length s.code
   IsTail s levels p _ ls _ = ⊥
 
-  pub AreUnits : Setting → ℕ → PathSet → Units → Type 0
-  AreUnits s levels ls no_units = Unit {0}
-  AreUnits s levels ls (unit_more u us) = IsUnit s levels ls u × AreUnits s levels (after_unit s.scope ls u) us
+  pub AreFields : Setting → ℕ → PathSet → Fields → Type 0
+  AreFields s levels ls no_fields = Unit {0}
+  AreFields s levels ls (field_more u us) = IsField s levels ls u × AreFields s levels (after_field s.scope ls u) us
 
-  pub IsUnit : Setting → ℕ → PathSet → OneUnit → Type 0
-  IsUnit s levels ls (unit g w n) = IsNameSeg g.0 × FitsWidth w n
-  IsUnit s levels ls (reserved w n) = FitsWidth w n
-  IsUnit s levels ls (access a b) = (a < 256) × (b < 256)
-  IsUnit s levels ls (connection l) = IsJoint s levels ls l
-  IsUnit s levels ls (extended a b c) = (a < 256) × (b < 256) × (c < 256)
+  pub IsField : Setting → ℕ → PathSet → Field → Type 0
+  IsField s levels ls (unit g w n) = IsNameSeg g.0 × FitsWidth w n
+  IsField s levels ls (reserved w n) = FitsWidth w n
+  IsField s levels ls (access a b) = (a < 256) × (b < 256)
+  IsField s levels ls (connection l) = IsLink s levels ls l
+  IsField s levels ls (extended a b c) = (a < 256) × (b < 256) × (c < 256)
 
-  pub IsJoint : Setting → ℕ → PathSet → Joint → Type 0
-  IsJoint s levels ls (target n) = IsName n × (has_segment n ≡ true)
-  IsJoint s levels ls (buffer t) = IsBuffer t × IsLawful s levels positions.Data ls t
+  pub IsLink : Setting → ℕ → PathSet → Link → Type 0
+  IsLink s levels ls (target n) = IsName n × (has_segment n ≡ true)
+  IsLink s levels ls (buffer t) = IsBuffer t × IsLawful s levels positions.Data ls t

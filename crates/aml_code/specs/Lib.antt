@@ -8,4 +8,5 @@ pub mod Encoding
 pub mod Faults
 pub mod Declaring
 pub mod Lawful
+pub mod Elses
 pub mod Meaning

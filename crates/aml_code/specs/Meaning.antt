@@ -5,7 +5,7 @@ use Rattle.aml_names.specs.declared.segments.Seg.{Seg}
 use Rattle.aml_code.specs.declared.packages.PkgWidth.{PkgWidth}
 use Rattle.aml_code.specs.declared.rows.Position.TheVariants as positions
 use Rattle.aml_code.specs.Packages.{width_len}
-use Rattle.aml_code.specs.Tree.{Tree, op, Trees, no_trees, tree_more, Rest, terms, body}
+use Rattle.aml_code.specs.Tree.{Tree, op, Trees, no_trees, tree_more, Tail, terms, body}
 use Rattle.aml_code.specs.Encoding.{opcode_bytes, encoding, encodings, parts_encoding}
 use Rattle.aml_code.specs.Faults.{Arities}
 use Rattle.aml_code.specs.Lawful.{Count, exactly, unknown, Setting, AreTerms}
@@ -40,13 +40,13 @@ abbrev mutual
   BodiesStand code at (tree_more t ts) = BodyStands code at t × BodiesStand code (at + length (encoding code t)) ts
 
   pub BodyStands : List ℕ → ℕ → Tree → Type 0
-  BodyStands code at (op o w ps t) = RestStands code (at + (length (opcode_bytes o) + (length_bytes w + length (parts_encoding code ps)))) t
+  BodyStands code at (op o w ps t) = TailStands code (at + (length (opcode_bytes o) + (length_bytes w + length (parts_encoding code ps)))) t
   BodyStands code at _ = Unit {0}
 
-  pub RestStands : List ℕ → ℕ → Rest → Type 0
-  RestStands code at (terms ts) = BodiesStand code at ts
-  RestStands code at (body start len) = start ≡ at
-  RestStands code at _ = Unit {0}
+  pub TailStands : List ℕ → ℕ → Tail → Type 0
+  TailStands code at (terms ts) = BodiesStand code at ts
+  TailStands code at (body start len) = start ≡ at
+  TailStands code at _ = Unit {0}
 
 -- The AML of a table reads as these terms: they are lawful as terms of a table, with at most 512 levels, no name has
 -- arguments, they are spelled by the code, and each method's body is the span where it stands.

@@ -2,10 +2,10 @@
 --
 --   in the code            here
 --   Node, Vec<Node>        Tree, Trees
---   Part, Vec<Part>        OnePart, Parts
---   Tail                   Rest
---   Field, Vec<Field>      OneUnit, Units
---   Link                   Joint
+--   Part, Vec<Part>        Part, Parts: what stands in a fixed place after an opcode
+--   Tail                   Tail: what follows the parts, to the end of the package
+--   Field, Vec<Field>      Field, Fields: an element of a field list
+--   Link                   Link: what a connection leads to
 use Rattle.std.specs.Prelude.{ℕ, suc, List, Option}
 use Rattle.aml_names.specs.declared.segments.Seg.{Seg}
 use Rattle.aml_names.specs.declared.names.Name.{Name}
@@ -15,49 +15,47 @@ mutual
   pub data Tree : Type 0 where
     nothing : Tree
     named : Name → Trees → Tree
-    op : ℕ → Option PkgWidth → Parts → Rest → Tree
+    op : ℕ → Option PkgWidth → Parts → Tail → Tree
 
   pub data Trees : Type 0 where
     no_trees : Trees
     tree_more : Tree → Trees → Trees
 
-  pub data OnePart : Type 0 where
-    child : Tree → OnePart
-    label : Name → OnePart
-    byte : ℕ → OnePart
-    word : ℕ → OnePart
-    dword : ℕ → OnePart
-    qword : ℕ → OnePart
-    text : List ℕ → OnePart
+  pub data Part : Type 0 where
+    child : Tree → Part
+    label : Name → Part
+    byte : ℕ → Part
+    word : ℕ → Part
+    dword : ℕ → Part
+    qword : ℕ → Part
+    text : List ℕ → Part
 
   pub data Parts : Type 0 where
     no_parts : Parts
-    part_more : OnePart → Parts → Parts
+    part_more : Part → Parts → Parts
 
-  -- what follows the parts
-  pub data Rest : Type 0 where
-    empty : Rest
-    terms : Trees → Rest
-    bytes : List ℕ → Rest
-    elements : Trees → Rest
-    fields : Units → Rest
-    body : ℕ → ℕ → Rest
+  pub data Tail : Type 0 where
+    empty : Tail
+    terms : Trees → Tail
+    bytes : List ℕ → Tail
+    elements : Trees → Tail
+    fields : Fields → Tail
+    body : ℕ → ℕ → Tail
 
-  pub data OneUnit : Type 0 where
-    unit : Seg → PkgWidth → ℕ → OneUnit
-    reserved : PkgWidth → ℕ → OneUnit
-    access : ℕ → ℕ → OneUnit
-    connection : Joint → OneUnit
-    extended : ℕ → ℕ → ℕ → OneUnit
+  pub data Field : Type 0 where
+    unit : Seg → PkgWidth → ℕ → Field
+    reserved : PkgWidth → ℕ → Field
+    access : ℕ → ℕ → Field
+    connection : Link → Field
+    extended : ℕ → ℕ → ℕ → Field
 
-  pub data Units : Type 0 where
-    no_units : Units
-    unit_more : OneUnit → Units → Units
+  pub data Fields : Type 0 where
+    no_fields : Fields
+    field_more : Field → Fields → Fields
 
-  -- what a connection leads to
-  pub data Joint : Type 0 where
-    target : Name → Joint
-    buffer : Tree → Joint
+  pub data Link : Type 0 where
+    target : Name → Link
+    buffer : Tree → Link
 
 -- how many there are
 abbrev pub tree_count : Trees → ℕ

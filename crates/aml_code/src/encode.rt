@@ -3,7 +3,7 @@ ghost use Rattle.std.specs.Prelude.{◌≡◌, ◌+◌, ◌-◌, ◌≤◌, ◌+
 ghost use Rattle.aml_names.specs.Names.{form_bytes, segment_bytes, spelling};
 ghost use Rattle.aml_code.specs.Packages.{little, width_len, package_bytes};
 ghost use Rattle.aml_code.specs.View.{node_view, nodes_view, part_view, parts_view, tail_view, field_view, fields_view, link_view};
-ghost use Rattle.aml_code.specs.Encoding.{opcode_bytes, slice_of, encoding, encodings, part_encoding, parts_encoding, rest_encoding, unit_encoding, units_encoding, joint_encoding};
+ghost use Rattle.aml_code.specs.Encoding.{opcode_bytes, slice_of, encoding, encodings, part_encoding, parts_encoding, tail_encoding, field_encoding, fields_encoding, link_encoding};
 
 use crate::packages::PkgWidth;
 use crate::tree::{Field, Link, Node, Part, Tail};
@@ -215,7 +215,7 @@ fn encode_part(code: &[u8], part: &Part, out: &mut Vec<u8>) -> Result<(), NoMemo
 
 #[cycle(encode)]
 fn encode_tail(code: &[u8], tail: &Tail, out: &mut Vec<u8>) -> Result<(), NoMemory>
-    ensures { OnOk result (out.new.items ≡ out.old.items ++ rest_encoding code.now (tail_view tail.now)) }
+    ensures { OnOk result (out.new.items ≡ out.old.items ++ tail_encoding code.now (tail_view tail.now)) }
 {
     match tail {
         Tail::Empty => Ok(()),
@@ -229,7 +229,7 @@ fn encode_tail(code: &[u8], tail: &Tail, out: &mut Vec<u8>) -> Result<(), NoMemo
 
 #[cycle(encode)]
 fn encode_fields(code: &[u8], fields: &[Field], out: &mut Vec<u8>) -> Result<(), NoMemory>
-    ensures { OnOk result (out.new.items ≡ out.old.items ++ units_encoding code.now (fields_view fields.now)) }
+    ensures { OnOk result (out.new.items ≡ out.old.items ++ fields_encoding code.now (fields_view fields.now)) }
 {
     for field in fields {
         encode_field(code, field, out)?;
@@ -239,7 +239,7 @@ fn encode_fields(code: &[u8], fields: &[Field], out: &mut Vec<u8>) -> Result<(),
 
 #[cycle(encode)]
 fn encode_field(code: &[u8], field: &Field, out: &mut Vec<u8>) -> Result<(), NoMemory>
-    ensures { OnOk result (out.new.items ≡ out.old.items ++ unit_encoding code.now (field_view field.now)) }
+    ensures { OnOk result (out.new.items ≡ out.old.items ++ field_encoding code.now (field_view field.now)) }
 {
     match field {
         Field::NamedUnit { seg, width, bits } => {
@@ -263,7 +263,7 @@ fn encode_field(code: &[u8], field: &Field, out: &mut Vec<u8>) -> Result<(), NoM
 
 #[cycle(encode)]
 fn encode_link(code: &[u8], link: &Link, out: &mut Vec<u8>) -> Result<(), NoMemory>
-    ensures { OnOk result (out.new.items ≡ out.old.items ++ joint_encoding code.now (link_view link.now)) }
+    ensures { OnOk result (out.new.items ≡ out.old.items ++ link_encoding code.now (link_view link.now)) }
 {
     match link {
         Link::Target(name) => encode_name(name, out),

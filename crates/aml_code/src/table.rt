@@ -148,8 +148,8 @@ static ROWS: [OpRow; 113] = rows! {
     0x5B31 "Debug"                  Value       Target      []                               Empty    Other;
 };
 
-/// Where in `ROWS` the row of an opcode stands: first of those of one byte, then of those of 5B and a second byte. No row
-/// stands at 255.
+/// Where in `ROWS` the row of an opcode stands: first of those of one byte, then of those of 5B and a second byte. No
+/// row stands at 255.
 static INDEX: [u8; 512] = [
     5, 6, 255, 255, 255, 255, 12, 255, 13, 255, 0, 1, 2, 4, 3, 255, 14, 9, 10, 11, 28, 25, 255,
     255, 255, 255, 255, 255, 255, 255, 255, 255, 255, 255, 255, 255, 255, 255, 255, 255, 255, 255,

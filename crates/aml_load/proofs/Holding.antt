@@ -9,9 +9,9 @@ use Rattle.aml_code.specs.declared.packages.PkgWidth.{PkgWidth}
 use Rattle.aml_code.specs.declared.rows.Role.{Role}
 use Rattle.aml_code.specs.declared.tree.Node.{Node, Op}
 use Rattle.aml_code.specs.declared.tree.Part.{Part}
-use Rattle.aml_code.specs.declared.tree.Tail.{Tail}
+use Rattle.aml_code.specs.declared.tree.Tail.{Tail as CodeTail}
 use Rattle.aml_code.specs.Rows.{row_of}
-use Rattle.aml_code.specs.Tree.{Parts, Rest}
+use Rattle.aml_code.specs.Tree.{Parts, Tail}
 use Rattle.aml_code.specs.View.{node_view, parts_view, tail_view}
 use Rattle.aml_code.proofs.Views.{view-Op}
 use Rattle.std.specs.FinMap as map
@@ -28,8 +28,8 @@ use Rattle.aml_load.specs.declared.methods.Method.{Method}
 use Rattle.aml_load.specs.declared.walking.Progress.{Progress}
 use Rattle.aml_load.specs.Loading.{Listed, plus, with_uses, methods_of}
 use Rattle.aml_load.specs.Roles.{role_of}
-use Rattle.aml_load.specs.Uses.{kinds_in, parts_uses, rest_uses}
-use Rattle.aml_load.specs.Walking.{◌>>=◌, listed, space_fault, entry_at, name_at, units_at, do_as, walk, walk_inside}
+use Rattle.aml_load.specs.Uses.{kinds_in, parts_uses, tail_uses}
+use Rattle.aml_load.specs.Walking.{◌>>=◌, listed, space_fault, entry_at, name_at, fields_at, do_as, walk, walk_inside}
 use Rattle.aml_load.specs.Views.{Holds, Fails}
 use Rattle.aml_load.proofs.Steps.{place_again}
 use Rattle.aml_load.proofs.Walks.{methods_more}
@@ -60,16 +60,16 @@ method_held old new l p k b m h s ms is us = record {
 }
 
 -- the names of a term more
-pub uses_held : (old new : Progress) (l : Listed) (t : ℕ) (scope : List Seg) (o : ℕ) (ps : Parts) (r : Rest) → Holds old l → new.space ≡ old.space → new.methods.items ≡ old.methods.items
-    → new.uses.items ≡ old.uses.items ++ (parts_uses t scope (kinds_in (row_of o)) ps ++ rest_uses t scope r) → Holds new (with_uses t l scope o ps r)
+pub uses_held : (old new : Progress) (l : Listed) (t : ℕ) (scope : List Seg) (o : ℕ) (ps : Parts) (r : Tail) → Holds old l → new.space ≡ old.space → new.methods.items ≡ old.methods.items
+    → new.uses.items ≡ old.uses.items ++ (parts_uses t scope (kinds_in (row_of o)) ps ++ tail_uses t scope r) → Holds new (with_uses t l scope o ps r)
 uses_held old new l t scope o ps r h s ms us = record {
   space = subst (λ k. StandsFor k l.entries) (sym s) h.space;
   methods = ms ∙ h.methods;
-  uses = us ∙ ap (λ us. us ++ (parts_uses t scope (kinds_in (row_of o)) ps ++ rest_uses t scope r)) h.uses;
+  uses = us ∙ ap (λ us. us ++ (parts_uses t scope (kinds_in (row_of o)) ps ++ tail_uses t scope r)) h.uses;
 }
 
 -- what the walk of an opcode is
-pub walk_op : (t : ℕ) (l : Listed) (scope : List Seg) (node : Node) (o : ℕ) (w : Option PkgWidth) (ps : Vec Part Global) (r : Tail) (role : Role) → node ≡ Op o w ps r → role ≡ role_of o
+pub walk_op : (t : ℕ) (l : Listed) (scope : List Seg) (node : Node) (o : ℕ) (w : Option PkgWidth) (ps : Vec Part Global) (r : CodeTail) (role : Role) → node ≡ Op o w ps r → role ≡ role_of o
     → walk t l scope (node_view node) ≡ do_as role t (with_uses t l scope o (parts_view ps.items) (tail_view r)) scope (parts_view ps.items) (tail_view r) (λ l p. walk_inside t l p (tail_view r))
 unfolding walk
 walk_op t l scope node o w ps r role e is =
@@ -93,17 +93,17 @@ ended (Ok l) = refl
 ended (Err e) = refl
 
 -- a unit stands right below the scope
-unit_placed : (scope : List Seg) (s : Seg) → placed scope (plain_name s) ≡ Some (scope ++ s ∷ [])
-unit_placed scope s =
+field_placed : (scope : List Seg) (s : Seg) → placed scope (plain_name s) ≡ Some (scope ++ s ∷ [])
+field_placed scope s =
     let le : nat_le 0 (length scope) ≡ true = grind (arith, nat_tests) in
     let all : length scope - 0 ≡ length scope = omega arith in
     rw (le, all) (ap (λ front. Some (front ++ s ∷ [])) (take_all (length scope) scope (omega arith)))
 
-pub unit_is : (t : ℕ) (l : Listed) (scope p : List Seg) (s : Seg) → p ≡ scope ++ s ∷ [] → entry_at t l p (declares p kinds.Field None) ≡ units_at t l scope (plain_name s ∷ [])
-unfolding units_at name_at
+pub unit_is : (t : ℕ) (l : Listed) (scope p : List Seg) (s : Seg) → p ≡ scope ++ s ∷ [] → entry_at t l p (declares p kinds.Field None) ≡ fields_at t l scope (plain_name s ∷ [])
+unfolding fields_at name_at
 unit_is t l scope p s e =
     ap (λ q. entry_at t l q (declares q kinds.Field None)) e
-    ∙ sym (ap (λ r. r >>= λ q. entry_at t l q (declares q kinds.Field None)) (place_again t scope (Some (plain_name s)) (scope ++ s ∷ []) (unit_placed scope s)))
+    ∙ sym (ap (λ r. r >>= λ q. entry_at t l q (declares q kinds.Field None)) (place_again t scope (Some (plain_name s)) (scope ++ s ∷ []) (field_placed scope s)))
     ∙ sym (ended (name_at t l scope (Some (plain_name s)) kinds.Field))
 
 twice : (o : Option Kind) (p : List Seg) (t : ℕ) (l : Listed) → IsTrue (is_some o) → cond (is_some o) (Err (loads.Space t (faults.Duplicate p))) (listed l) ≡ Err (loads.Space t (faults.Duplicate p))

@@ -10,13 +10,13 @@ use Rattle.aml_code.specs.declared.rows.Position.TheVariants as positions
 use Rattle.aml_code.specs.declared.rows.TailKind.{TailKind}
 use Rattle.aml_code.specs.declared.rows.TailKind.TheVariants as tails
 use Rattle.aml_code.specs.Rows.{takes}
-use Rattle.aml_code.specs.Tree.{Tree, nothing, named, op, Trees, no_trees, tree_more, OnePart, child, label, byte, word, dword, qword, text, Parts, no_parts, part_more, Rest, empty, terms, bytes, elements, fields, body, OneUnit, unit, reserved, access, connection, extended, Units, no_units, unit_more, Joint, target, buffer}
-use Rattle.aml_code.specs.Declaring.{after, after_part, after_parts, after_unit}
-use Rattle.aml_code.specs.Lawful.{Setting, IsLawful, AreArguments, AreTerms, IsPart, AreParts, IsTail, AreUnits, IsUnit, IsJoint, terms_in, next_position}
+use Rattle.aml_code.specs.Tree.{Tree, nothing, named, op, Trees, no_trees, tree_more, Part, child, label, byte, word, dword, qword, text, Parts, no_parts, part_more, Tail, empty, terms, bytes, elements, fields, body, Field, unit, reserved, access, connection, extended, Fields, no_fields, field_more, Link, target, buffer}
+use Rattle.aml_code.specs.Declaring.{after, after_part, after_parts, after_field}
+use Rattle.aml_code.specs.Lawful.{Setting, IsLawful, AreArguments, AreTerms, IsPart, AreParts, IsTail, AreFields, IsField, IsLink, terms_in, next_position}
 use Rattle.aml_code.proofs.RowFacts.{body_place}
 use Rattle.aml_parse.specs.Reading.{takes_names}
 use Rattle.aml_parse.proofs.Bodiless.{next_takes, inner_takes}
-use Rattle.aml_load.specs.Spans.{tree_spans, all_spans, part_spans, parts_spans, rest_spans, unit_spans, units_spans, joint_spans}
+use Rattle.aml_load.specs.Spans.{tree_spans, all_spans, part_spans, parts_spans, tail_spans, field_spans, fields_spans, link_spans}
 
 -- ---- a tail is of its kind
 
@@ -36,7 +36,7 @@ elements_tail s levels p tails.Elements ls xs h = h
 elements_tail s levels p tails.Fields ls xs h = absurd h
 elements_tail s levels p tails.Body ls xs h = absurd h
 
-fields_tail : (s : Setting) (levels : ℕ) (p : Position) (k : TailKind) (ls : PathSet) (us : Units) → IsTail s levels p k ls (fields us) → AreUnits s levels ls us
+fields_tail : (s : Setting) (levels : ℕ) (p : Position) (k : TailKind) (ls : PathSet) (us : Fields) → IsTail s levels p k ls (fields us) → AreFields s levels ls us
 fields_tail s levels p tails.Empty ls us h = absurd h
 fields_tail s levels p tails.Terms ls us h = absurd h
 fields_tail s levels p tails.Bytes ls us h = absurd h
@@ -77,8 +77,8 @@ mutual
   tree_none s (suc levels) p ls t (named n xs) h l = arguments_none s levels ls t xs l.3
   tree_none s zero p ls t (op o w ps r) h l = absurd l
   tree_none s (suc levels) p ls t (op o w ps r) h l =
-      both_none (parts_spans t ps) (rest_spans t r) (parts_none s levels (l.row).parts ls t ps l.parts)
-      (rest_none s levels (terms_in p (l.row).place) (l.row).tail (after_parts s.scope ls ps) t r (λ e. inner_takes p (l.row).place h) (λ e. no_method p (l.row).place h l.taken (body_place o l.row l.listed e)) l.tail)
+      both_none (parts_spans t ps) (tail_spans t r) (parts_none s levels (l.row).parts ls t ps l.parts)
+      (tail_none s levels (terms_in p (l.row).place) (l.row).tail (after_parts s.scope ls ps) t r (λ e. inner_takes p (l.row).place h) (λ e. no_method p (l.row).place h l.taken (body_place o l.row l.listed e)) l.tail)
 
   pub arguments_none : (s : Setting) (levels : ℕ) (ls : PathSet) (t : ℕ) (xs : Trees) → AreArguments s levels ls xs → all_spans t xs ≡ []
   arguments_none s levels ls t no_trees l = refl
@@ -90,7 +90,7 @@ mutual
   all_none s levels p ls t (tree_more x xs) h l =
       both_none (tree_spans t x) (all_spans t xs) (tree_none s levels p ls t x h l.0) (all_none s levels (next_position p x) (after s.scope ls x) t xs (next_takes p x h) l.1)
 
-  part_none : (s : Setting) (levels : ℕ) (k : PartKind) (ls : PathSet) (t : ℕ) (p : OnePart) → IsPart s levels k ls p → part_spans t p ≡ []
+  part_none : (s : Setting) (levels : ℕ) (k : PartKind) (ls : PathSet) (t : ℕ) (p : Part) → IsPart s levels k ls p → part_spans t p ≡ []
   part_none s levels kinds.Term ls t (child x) l = tree_none s levels positions.Argument ls t x refl l
   part_none s levels kinds.Target ls t (child x) l = tree_none s levels positions.Target ls t x refl l
   part_none s levels kinds.Data ls t (child x) l = tree_none s levels positions.Data ls t x refl l
@@ -116,33 +116,33 @@ mutual
       both_none (part_spans t p) (parts_spans t ps) (part_none s levels k ls t p l.0) (parts_none s levels ks (after_part s.scope ls p) t ps l.1)
 
   -- a tail that is no body, and whose terms aren't those of a table
-  pub rest_none : (s : Setting) (levels : ℕ) (p : Position) (k : TailKind) (ls : PathSet) (t : ℕ) (r : Rest)
-      → (k ≡ tails.Terms → takes_names p ≡ true) → (k ≡ tails.Body → ⊥) → IsTail s levels p k ls r → rest_spans t r ≡ []
-  rest_none s levels p k ls t empty h other l = refl
-  rest_none s levels p k ls t (terms xs) h other l = let d = terms_tail s levels p k ls xs l in all_none s levels p ls t xs (h d.0) d.1
-  rest_none s levels p k ls t (bytes bs) h other l = refl
-  rest_none s levels p k ls t (elements xs) h other l = all_none s levels positions.Data ls t xs refl (elements_tail s levels p k ls xs l)
-  rest_none s levels p k ls t (fields us) h other l = units_none s levels ls t us (fields_tail s levels p k ls us l)
-  rest_none s levels p k ls t (body start len) h other l = absurd (other (body_tail s levels p k ls start len l))
+  pub tail_none : (s : Setting) (levels : ℕ) (p : Position) (k : TailKind) (ls : PathSet) (t : ℕ) (r : Tail)
+      → (k ≡ tails.Terms → takes_names p ≡ true) → (k ≡ tails.Body → ⊥) → IsTail s levels p k ls r → tail_spans t r ≡ []
+  tail_none s levels p k ls t empty h other l = refl
+  tail_none s levels p k ls t (terms xs) h other l = let d = terms_tail s levels p k ls xs l in all_none s levels p ls t xs (h d.0) d.1
+  tail_none s levels p k ls t (bytes bs) h other l = refl
+  tail_none s levels p k ls t (elements xs) h other l = all_none s levels positions.Data ls t xs refl (elements_tail s levels p k ls xs l)
+  tail_none s levels p k ls t (fields us) h other l = fields_none s levels ls t us (fields_tail s levels p k ls us l)
+  tail_none s levels p k ls t (body start len) h other l = absurd (other (body_tail s levels p k ls start len l))
 
-  unit_none : (s : Setting) (levels : ℕ) (ls : PathSet) (t : ℕ) (u : OneUnit) → IsUnit s levels ls u → unit_spans t u ≡ []
-  unit_none s levels ls t (unit g w n) l = refl
-  unit_none s levels ls t (reserved w n) l = refl
-  unit_none s levels ls t (access a b) l = refl
-  unit_none s levels ls t (connection j) l = joint_none s levels ls t j l
-  unit_none s levels ls t (extended a b c) l = refl
+  field_none : (s : Setting) (levels : ℕ) (ls : PathSet) (t : ℕ) (u : Field) → IsField s levels ls u → field_spans t u ≡ []
+  field_none s levels ls t (unit g w n) l = refl
+  field_none s levels ls t (reserved w n) l = refl
+  field_none s levels ls t (access a b) l = refl
+  field_none s levels ls t (connection j) l = link_none s levels ls t j l
+  field_none s levels ls t (extended a b c) l = refl
 
-  units_none : (s : Setting) (levels : ℕ) (ls : PathSet) (t : ℕ) (us : Units) → AreUnits s levels ls us → units_spans t us ≡ []
-  units_none s levels ls t no_units l = refl
-  units_none s levels ls t (unit_more u us) l =
-      both_none (unit_spans t u) (units_spans t us) (unit_none s levels ls t u l.0) (units_none s levels (after_unit s.scope ls u) t us l.1)
+  fields_none : (s : Setting) (levels : ℕ) (ls : PathSet) (t : ℕ) (us : Fields) → AreFields s levels ls us → fields_spans t us ≡ []
+  fields_none s levels ls t no_fields l = refl
+  fields_none s levels ls t (field_more u us) l =
+      both_none (field_spans t u) (fields_spans t us) (field_none s levels ls t u l.0) (fields_none s levels (after_field s.scope ls u) t us l.1)
 
-  joint_none : (s : Setting) (levels : ℕ) (ls : PathSet) (t : ℕ) (j : Joint) → IsJoint s levels ls j → joint_spans t j ≡ []
-  joint_none s levels ls t (target n) l = refl
-  joint_none s levels ls t (buffer x) l = tree_none s levels positions.Data ls t x refl l.1
+  link_none : (s : Setting) (levels : ℕ) (ls : PathSet) (t : ℕ) (j : Link) → IsLink s levels ls j → link_spans t j ≡ []
+  link_none s levels ls t (target n) l = refl
+  link_none s levels ls t (buffer x) l = tree_none s levels positions.Data ls t x refl l.1
 
 pub elements_none : (s : Setting) (levels : ℕ) (p : Position) (k : TailKind) (ls : PathSet) (t : ℕ) (xs : Trees) → IsTail s levels p k ls (elements xs) → all_spans t xs ≡ []
 elements_none s levels p k ls t xs l = all_none s levels positions.Data ls t xs refl (elements_tail s levels p k ls xs l)
 
-pub fields_none : (s : Setting) (levels : ℕ) (p : Position) (k : TailKind) (ls : PathSet) (t : ℕ) (us : Units) → IsTail s levels p k ls (fields us) → units_spans t us ≡ []
-fields_none s levels p k ls t us l = units_none s levels ls t us (fields_tail s levels p k ls us l)
+pub fields_tail_none : (s : Setting) (levels : ℕ) (p : Position) (k : TailKind) (ls : PathSet) (t : ℕ) (us : Fields) → IsTail s levels p k ls (fields us) → fields_spans t us ≡ []
+fields_tail_none s levels p k ls t us l = fields_none s levels ls t us (fields_tail s levels p k ls us l)

@@ -20,7 +20,7 @@ use Rattle.aml_code.specs.declared.rows.TailKind.{TailKind}
 use Rattle.aml_code.specs.declared.rows.TailKind.TheVariants as tails
 use Rattle.aml_code.specs.Opcodes.{Row, rows}
 use Rattle.aml_code.specs.Rows.{row_of, takes, taken_in_module, taken_in_guard}
-use Rattle.aml_code.specs.Tree.{Tree, nothing, named, op, Trees, no_trees, tree_more, Parts, Rest, empty, terms, bytes, elements, fields, body}
+use Rattle.aml_code.specs.Tree.{Tree, nothing, named, op, Trees, no_trees, tree_more, Parts, Tail, empty, terms, bytes, elements, fields, body}
 use Rattle.aml_code.specs.Declaring.{after, after_parts, field_names}
 use Rattle.aml_code.specs.Lawful.{Setting, IsLawful, AreTerms, IsTail, terms_in, next_position}
 use Rattle.aml_code.specs.Meaning.{setting_of, no_arguments}
@@ -32,8 +32,8 @@ use Rattle.aml_space.specs.Entries.{Givens, declares, external}
 use Rattle.aml_load.specs.Roles.{role_of, role_in, kind_of}
 use Rattle.aml_load.proofs.Givens.{no_methods}
 use Rattle.aml_load.specs.Loading.{Listed, plus, with_uses, byte_of, body_start, body_len, target_of, method_entry, DeclareUnits, DoesAs, Declares, DeclareInside, DeclareAll, DeclareTables, methods_of, ReadTables, IsLoad, first_listed}
-use Rattle.aml_load.specs.Spans.{Span, method_span, tree_spans, all_spans, rest_spans, units_spans, tables_spans, InTextOrder}
-use Rattle.aml_load.proofs.NoSpans.{terms_tail, body_tail, parts_none, arguments_none, rest_none, elements_none, fields_none}
+use Rattle.aml_load.specs.Spans.{Span, method_span, tree_spans, all_spans, tail_spans, fields_spans, tables_spans, InTextOrder}
+use Rattle.aml_load.proofs.NoSpans.{terms_tail, body_tail, parts_none, arguments_none, tail_none, elements_none, fields_tail_none}
 use Rattle.aml_load.proofs.Walks.{methods_more}
 
 -- ---- what the rows say of the terms of tables, by a test over the whole table of opcodes
@@ -171,14 +171,14 @@ declared_same l p k = ap (map method_span) (methods_more l.entries (declares p k
 external_same : (l : Listed) (p : List Seg) (n : ℕ) → spans_so_far (plus l (external p n)) ≡ spans_so_far l
 external_same l p n = ap (map method_span) (methods_more l.entries (external p n) ∙ append-nil (methods_of l.entries))
 
-units_same : (l : Listed) (scope : List Seg) (ns : List Name) (m : Listed) → DeclareUnits l scope ns m → spans_so_far m ≡ spans_so_far l
-units_same l scope [] m h = ap spans_so_far h
-units_same l scope (n ∷ ns) m h = units_same (plus l (declares h.0 kinds.Field None)) scope ns m h.2 ∙ declared_same l h.0 kinds.Field
+fields_same : (l : Listed) (scope : List Seg) (ns : List Name) (m : Listed) → DeclareUnits l scope ns m → spans_so_far m ≡ spans_so_far l
+fields_same l scope [] m h = ap spans_so_far h
+fields_same l scope (n ∷ ns) m h = fields_same (plus l (declares h.0 kinds.Field None)) scope ns m h.2 ∙ declared_same l h.0 kinds.Field
 
-abbrev one_span : ℕ → Rest → List Span
+abbrev one_span : ℕ → Tail → List Span
 one_span t x = record { table = t; start = body_start x; len = body_len x } ∷ []
 
-method_adds : (t : ℕ) (l : Listed) (p : List Seg) (flags : ℕ) (x : Rest) → Adds l (plus l (method_entry t p flags (body_start x) (body_len x))) (one_span t x)
+method_adds : (t : ℕ) (l : Listed) (p : List Seg) (flags : ℕ) (x : Tail) → Adds l (plus l (method_entry t p flags (body_start x) (body_len x))) (one_span t x)
 method_adds t l p flags x =
     let e = method_entry t p flags (body_start x) (body_len x) in
     ap (map method_span) (methods_more l.entries e)
@@ -190,33 +190,33 @@ Adding : (Listed → List Seg → Listed → Type 0) → List Span → Type 0
 Adding Inside spans = (l : Listed) (p : List Seg) (m : Listed) → Inside l p m → Adds l m spans
 
 -- what a tail of this kind has: no spans, its own body's span, or what the terms inside it add
-record TailSpans (k : TailKind) (t : ℕ) (x : Rest) (Inside : Listed → List Seg → Listed → Type 0) : Type 0 where
-  flat : is_flat k ≡ true → rest_spans t x ≡ []
-  one : is_body k ≡ true → rest_spans t x ≡ one_span t x
-  inside : not (is_body k) ≡ true → Adding Inside (rest_spans t x)
+record TailSpans (k : TailKind) (t : ℕ) (x : Tail) (Inside : Listed → List Seg → Listed → Type 0) : Type 0 where
+  flat : is_flat k ≡ true → tail_spans t x ≡ []
+  one : is_body k ≡ true → tail_spans t x ≡ one_span t x
+  inside : not (is_body k) ≡ true → Adding Inside (tail_spans t x)
 
-role_adds : (r : Role) (k : TailKind) (t : ℕ) (l : Listed) (scope : List Seg) (ps : Parts) (x : Rest) (Inside : Listed → List Seg → Listed → Type 0) (m : Listed)
-    → fits r k ≡ true → TailSpans k t x Inside → DoesAs r t l scope ps x Inside m → Adds l m (rest_spans t x)
+role_adds : (r : Role) (k : TailKind) (t : ℕ) (l : Listed) (scope : List Seg) (ps : Parts) (x : Tail) (Inside : Listed → List Seg → Listed → Type 0) (m : Listed)
+    → fits r k ≡ true → TailSpans k t x Inside → DoesAs r t l scope ps x Inside m → Adds l m (tail_spans t x)
 unfolding fits Adding
 role_adds (roles.Declares o) k t l scope ps x Inside m fit has h =
     let e = declares h.0 (kind_of o) None in
-    after_adds l (plus l e) m (rest_spans t x) (declared_same l h.0 (kind_of o)) (has.inside fit (plus l e) h.0 m h.2)
+    after_adds l (plus l e) m (tail_spans t x) (declared_same l h.0 (kind_of o)) (has.inside fit (plus l e) h.0 m h.2)
 role_adds roles.Method k t l scope ps x Inside m fit has h =
     ap spans_so_far h.2 ∙ method_adds t l h.0 (byte_of ps) x ∙ ap (λ zs. spans_so_far l ++ zs) (sym (has.one fit))
 role_adds roles.Scope k t l scope ps x Inside m fit has h = has.inside fit l h.0 m h.2
 role_adds roles.Alias k t l scope ps x Inside m fit has h =
-    same_adds l m (rest_spans t x) (ap spans_so_far h.2.2 ∙ declared_same l h.2.0 (kinds.Alias (target_of l.entries h.0))) (has.flat fit)
-role_adds roles.External k t l scope ps x Inside m fit has h = same_adds l m (rest_spans t x) (ap spans_so_far h.2 ∙ external_same l h.0 (byte_of ps)) (has.flat fit)
-role_adds roles.Fields k t l scope ps x Inside m fit has h = same_adds l m (rest_spans t x) (units_same l scope (field_names x) m h) (has.flat fit)
+    same_adds l m (tail_spans t x) (ap spans_so_far h.2.2 ∙ declared_same l h.2.0 (kinds.Alias (target_of l.entries h.0))) (has.flat fit)
+role_adds roles.External k t l scope ps x Inside m fit has h = same_adds l m (tail_spans t x) (ap spans_so_far h.2 ∙ external_same l h.0 (byte_of ps)) (has.flat fit)
+role_adds roles.Fields k t l scope ps x Inside m fit has h = same_adds l m (tail_spans t x) (fields_same l scope (field_names x) m h) (has.flat fit)
 role_adds roles.Guard k t l scope ps x Inside m fit has h = has.inside fit l scope m h
-role_adds roles.Other k t l scope ps x Inside m fit has h = same_adds l m (rest_spans t x) (ap spans_so_far h) (has.flat fit)
+role_adds roles.Other k t l scope ps x Inside m fit has h = same_adds l m (tail_spans t x) (ap spans_so_far h) (has.flat fit)
 
-flat_none : (s : Setting) (levels : ℕ) (p : Position) (k : TailKind) (ls : PathSet) (t : ℕ) (x : Rest) → IsTail s levels p k ls x → is_flat k ≡ true → rest_spans t x ≡ []
+flat_none : (s : Setting) (levels : ℕ) (p : Position) (k : TailKind) (ls : PathSet) (t : ℕ) (x : Tail) → IsTail s levels p k ls x → is_flat k ≡ true → tail_spans t x ≡ []
 unfolding is_flat
 flat_none s levels p k ls t x l h =
-    rest_none s levels p k ls t x (λ e. absurd (flat_terms k h e)) (not_body k (and_left (not (is_body k)) (not (is_terms k)) h)) l
+    tail_none s levels p k ls t x (λ e. absurd (flat_terms k h e)) (not_body k (and_left (not (is_body k)) (not (is_terms k)) h)) l
 
-body_one : (s : Setting) (levels : ℕ) (p : Position) (ls : PathSet) (t : ℕ) (x : Rest) → IsTail s levels p tails.Body ls x → rest_spans t x ≡ one_span t x
+body_one : (s : Setting) (levels : ℕ) (p : Position) (ls : PathSet) (t : ℕ) (x : Tail) → IsTail s levels p tails.Body ls x → tail_spans t x ≡ one_span t x
 body_one s levels p ls t empty l = absurd l
 body_one s levels p ls t (terms xs) l = absurd l
 body_one s levels p ls t (bytes bs) l = absurd l
@@ -246,15 +246,15 @@ mutual
         inside = λ e l scope m d. inside_adds s levels q k (after_parts s.scope ls ps) t l scope r m fit.1 (not_body k e) law.tail d;
       } in
       role_adds (role_of o) k t (with_uses t l scope o ps r) scope ps r (λ l p m. DeclareInside t l p r m) m here has d
-      ∙ ap (λ zs. spans_so_far l ++ (zs ++ rest_spans t r)) (sym (parts_none s levels (law.row).parts ls t ps law.parts))
+      ∙ ap (λ zs. spans_so_far l ++ (zs ++ tail_spans t r)) (sym (parts_none s levels (law.row).parts ls t ps law.parts))
 
-  inside_adds : (s : Setting) (levels : ℕ) (p : Position) (k : TailKind) (ls : PathSet) (t : ℕ) (l : Listed) (scope : List Seg) (r : Rest) (m : Listed)
-      → (k ≡ tails.Terms → takes_names p ≡ false) → (k ≡ tails.Body → ⊥) → IsTail s levels p k ls r → DeclareInside t l scope r m → Adds l m (rest_spans t r)
+  inside_adds : (s : Setting) (levels : ℕ) (p : Position) (k : TailKind) (ls : PathSet) (t : ℕ) (l : Listed) (scope : List Seg) (r : Tail) (m : Listed)
+      → (k ≡ tails.Terms → takes_names p ≡ false) → (k ≡ tails.Body → ⊥) → IsTail s levels p k ls r → DeclareInside t l scope r m → Adds l m (tail_spans t r)
   inside_adds s levels p k ls t l scope empty m h other law d = same_adds l m [] (ap spans_so_far d) refl
   inside_adds s levels p k ls t l scope (terms xs) m h other law d = let e = terms_tail s levels p k ls xs law in all_add s levels p ls t l scope xs m (h e.0) e.1 d
   inside_adds s levels p k ls t l scope (bytes bs) m h other law d = same_adds l m [] (ap spans_so_far d) refl
   inside_adds s levels p k ls t l scope (elements xs) m h other law d = same_adds l m (all_spans t xs) (ap spans_so_far d) (elements_none s levels p k ls t xs law)
-  inside_adds s levels p k ls t l scope (fields us) m h other law d = same_adds l m (units_spans t us) (ap spans_so_far d) (fields_none s levels p k ls t us law)
+  inside_adds s levels p k ls t l scope (fields us) m h other law d = same_adds l m (fields_spans t us) (ap spans_so_far d) (fields_tail_none s levels p k ls t us law)
   inside_adds s levels p k ls t l scope (body start len) m h other law d = absurd (other (body_tail s levels p k ls start len law))
 
   pub all_add : (s : Setting) (levels : ℕ) (p : Position) (ls : PathSet) (t : ℕ) (l : Listed) (scope : List Seg) (xs : Trees) (m : Listed)

@@ -15,7 +15,7 @@ use Rattle.aml_space.specs.Namespace.{Namespace, namespace_of, found, first_of}
 use Rattle.aml_load.specs.declared.faults.LoadFault.{LoadFault}
 use Rattle.aml_load.specs.declared.faults.LoadFault.TheVariants as loads
 use Rattle.aml_load.specs.Loading.{Listed, plus, place_of, lead_of, IsNew, DeclareUnits}
-use Rattle.aml_load.specs.Walking.{◌>>=◌, or_fault, place_at, scope_at, source_at, entry_at, new_at, name_at, units_at}
+use Rattle.aml_load.specs.Walking.{◌>>=◌, or_fault, place_at, scope_at, source_at, entry_at, new_at, name_at, fields_at}
 use Rattle.aml_load.specs.Stops.{Unplaced, Twice, NotNew, Nowhere, StopUnits}
 
 -- ---- results
@@ -207,24 +207,24 @@ name_err t l scope n k e h =
 
 -- ---- units
 
-pub units_ok : (t : ℕ) (l : Listed) (scope : List Seg) (ns : List Name) (m : Listed) → units_at t l scope ns ≡ Ok m → DeclareUnits l scope ns m
-unfolding units_at
-units_ok t l scope [] m e = sym (ok_is l m e)
-units_ok t l scope (n ∷ ns) m e =
-    bind_then (DeclareUnits l scope (n ∷ ns) m) (name_at t l scope (Some n) kinds.Field) (λ k. units_at t k scope ns) m e (λ k h1 e1.
+pub fields_ok : (t : ℕ) (l : Listed) (scope : List Seg) (ns : List Name) (m : Listed) → fields_at t l scope ns ≡ Ok m → DeclareUnits l scope ns m
+unfolding fields_at
+fields_ok t l scope [] m e = sym (ok_is l m e)
+fields_ok t l scope (n ∷ ns) m e =
+    bind_then (DeclareUnits l scope (n ∷ ns) m) (name_at t l scope (Some n) kinds.Field) (λ k. fields_at t k scope ns) m e (λ k h1 e1.
     let d = name_ok t l scope (Some n) kinds.Field k h1 in
-    (d.path, d.is_new, units_ok t (plus l (declares d.path kinds.Field None)) scope ns m (sym (ap (λ x. units_at t x scope ns) d.is) ∙ e1)))
+    (d.path, d.is_new, fields_ok t (plus l (declares d.path kinds.Field None)) scope ns m (sym (ap (λ x. fields_at t x scope ns) d.is) ∙ e1)))
 
-pub units_again : (t : ℕ) (l : Listed) (scope : List Seg) (ns : List Name) (m : Listed) → DeclareUnits l scope ns m → units_at t l scope ns ≡ Ok m
-unfolding units_at
-units_again t l scope [] m h = ap the_ok (sym h)
-units_again t l scope (n ∷ ns) m h =
-    ap (λ r. r >>= λ k. units_at t k scope ns) (name_again t l scope (Some n) kinds.Field h.0 h.1) ∙ units_again t (plus l (declares h.0 kinds.Field None)) scope ns m h.2
+pub fields_again : (t : ℕ) (l : Listed) (scope : List Seg) (ns : List Name) (m : Listed) → DeclareUnits l scope ns m → fields_at t l scope ns ≡ Ok m
+unfolding fields_at
+fields_again t l scope [] m h = ap the_ok (sym h)
+fields_again t l scope (n ∷ ns) m h =
+    ap (λ r. r >>= λ k. fields_at t k scope ns) (name_again t l scope (Some n) kinds.Field h.0 h.1) ∙ fields_again t (plus l (declares h.0 kinds.Field None)) scope ns m h.2
 
-pub units_err : (t : ℕ) (l : Listed) (scope : List Seg) (ns : List Name) (e : LoadFault) → units_at t l scope ns ≡ Err e → StopUnits t l scope ns e
-unfolding units_at
-units_err t l scope [] e h = absurd cc
-units_err t l scope (n ∷ ns) e h =
-    err_then (StopUnits t l scope (n ∷ ns) e) (name_at t l scope (Some n) kinds.Field) (λ k. units_at t k scope ns) e h (λ g. inl (name_err t l scope (Some n) kinds.Field e g)) (λ k h1 e1.
+pub fields_err : (t : ℕ) (l : Listed) (scope : List Seg) (ns : List Name) (e : LoadFault) → fields_at t l scope ns ≡ Err e → StopUnits t l scope ns e
+unfolding fields_at
+fields_err t l scope [] e h = absurd cc
+fields_err t l scope (n ∷ ns) e h =
+    err_then (StopUnits t l scope (n ∷ ns) e) (name_at t l scope (Some n) kinds.Field) (λ k. fields_at t k scope ns) e h (λ g. inl (name_err t l scope (Some n) kinds.Field e g)) (λ k h1 e1.
     let d = name_ok t l scope (Some n) kinds.Field k h1 in
-    inr (d.path, d.is_new, units_err t (plus l (declares d.path kinds.Field None)) scope ns e (sym (ap (λ x. units_at t x scope ns) d.is) ∙ e1)))
+    inr (d.path, d.is_new, fields_err t (plus l (declares d.path kinds.Field None)) scope ns e (sym (ap (λ x. fields_at t x scope ns) d.is) ∙ e1)))

@@ -4,7 +4,7 @@ use Rattle.std.proofs.lemmas.List.{length-append, append-nil}
 use Rattle.std.proofs.lemmas.Bool.Decides.{nat_tests}
 use Rattle.aml_names.specs.declared.segments.Seg.{Seg}
 use Rattle.aml_names.specs.declared.names.Name.{Name}
-use Rattle.aml_code.specs.Tree.{Tree, nothing, named, op, Trees, no_trees, tree_more, Parts, Rest, empty, terms, bytes, elements, fields, body}
+use Rattle.aml_code.specs.Tree.{Tree, nothing, named, op, Trees, no_trees, tree_more, Parts, Tail, empty, terms, bytes, elements, fields, body}
 use Rattle.aml_code.specs.Declaring.{last_label, field_names}
 use Rattle.aml_space.specs.declared.kinds.Kind.TheVariants as kinds
 use Rattle.aml_space.specs.declared.faults.SpaceFault.TheVariants as faults
@@ -18,7 +18,7 @@ use Rattle.aml_load.specs.Roles.{role_of, kind_of}
 use Rattle.aml_load.specs.Loading.{Listed, plus, with_uses, first_label, byte_of, place_of, IsNew, Leads, target_of, body_start, body_len, method_entry, DeclareUnits, DoesAs, Declares, DeclareInside, DeclareAll, methods_at, methods_of}
 use Rattle.aml_load.specs.Walking.{◌>>=◌, place_at, scope_at, source_at, entry_at, new_at, name_at, number_at, method_at, alias_at, external_at, do_as, walk, walk_inside, walk_all}
 use Rattle.aml_load.specs.Stops.{Unplaced, NotNew, Nowhere, TooMany, StopsAs, Stops, StopInside, StopAll}
-use Rattle.aml_load.proofs.Steps.{the_ok, ok_is, bind_then, err_then, guard_ok, guard_err, place_ok, place_again, place_err, scope_ok, scope_again, scope_err, source_ok, source_again, source_err, entry_ok, entry_again, entry_err, new_ok, new_again, new_err, name_ok, name_again, name_err, units_ok, units_again, units_err}
+use Rattle.aml_load.proofs.Steps.{the_ok, ok_is, bind_then, err_then, guard_ok, guard_err, place_ok, place_again, place_err, scope_ok, scope_again, scope_err, source_ok, source_again, source_err, entry_ok, entry_again, entry_err, new_ok, new_again, new_err, name_ok, name_again, name_err, fields_ok, fields_again, fields_err}
 
 -- ---- what walking gives is declared
 
@@ -55,7 +55,7 @@ external_ok t l scope n count m e =
 Takes : (Listed → List Seg → Result Listed LoadFault) → (Listed → List Seg → Listed → Type 0) → Type 0
 Takes inside Inside = (l : Listed) (p : List Seg) (m : Listed) → inside l p ≡ Ok m → Inside l p m
 
-role_takes : (r : Role) (t : ℕ) (l : Listed) (scope : List Seg) (ps : Parts) (x : Rest) (inside : Listed → List Seg → Result Listed LoadFault) (Inside : Listed → List Seg → Listed → Type 0) (m : Listed)
+role_takes : (r : Role) (t : ℕ) (l : Listed) (scope : List Seg) (ps : Parts) (x : Tail) (inside : Listed → List Seg → Result Listed LoadFault) (Inside : Listed → List Seg → Listed → Type 0) (m : Listed)
     → Takes inside Inside → do_as r t l scope ps x inside ≡ Ok m → DoesAs r t l scope ps x Inside m
 unfolding do_as Takes IsMethod IsAlias IsExternal
 role_takes (roles.Declares o) t l scope ps x inside Inside m law e =
@@ -70,7 +70,7 @@ role_takes roles.Scope t l scope ps x inside Inside m law e =
     (p, scope_ok t l.entries scope n p h1, law l p m e1))
 role_takes roles.Alias t l scope ps x inside Inside m law e = alias_ok t l scope (first_label ps) (last_label None ps) m e
 role_takes roles.External t l scope ps x inside Inside m law e = external_ok t l scope (last_label None ps) (byte_of ps) m e
-role_takes roles.Fields t l scope ps x inside Inside m law e = units_ok t l scope (field_names x) m e
+role_takes roles.Fields t l scope ps x inside Inside m law e = fields_ok t l scope (field_names x) m e
 role_takes roles.Guard t l scope ps x inside Inside m law e = law l scope m e
 role_takes roles.Other t l scope ps x inside Inside m law e = sym (ok_is l m e)
 
@@ -83,7 +83,7 @@ mutual
   walk_takes t l scope (op o w ps r) m e =
       role_takes (role_of o) t (with_uses t l scope o ps r) scope ps r (λ l p. walk_inside t l p r) (λ l p m. DeclareInside t l p r m) m (λ l p m e. inside_takes t l p r m e) e
 
-  pub inside_takes : (t : ℕ) (l : Listed) (scope : List Seg) (r : Rest) (m : Listed) → walk_inside t l scope r ≡ Ok m → DeclareInside t l scope r m
+  pub inside_takes : (t : ℕ) (l : Listed) (scope : List Seg) (r : Tail) (m : Listed) → walk_inside t l scope r ≡ Ok m → DeclareInside t l scope r m
   inside_takes t l scope empty m e = sym (ok_is l m e)
   inside_takes t l scope (terms ts) m e = all_takes t l scope ts m e
   inside_takes t l scope (bytes bs) m e = sym (ok_is l m e)
@@ -125,16 +125,16 @@ grows_plus l e = omega (arith, count_plus l e)
 grows_to : (l m k : Listed) → m ≡ k → count l ≤ count k → count l ≤ count m
 grows_to l m k e h = subst (λ x. count l ≤ count x) (sym e) h
 
-units_grow : (l : Listed) (scope : List Seg) (ns : List Name) (m : Listed) → DeclareUnits l scope ns m → count l ≤ count m
-units_grow l scope [] m h = grows_to l m l h (omega arith)
-units_grow l scope (n ∷ ns) m h =
+fields_grow : (l : Listed) (scope : List Seg) (ns : List Name) (m : Listed) → DeclareUnits l scope ns m → count l ≤ count m
+fields_grow l scope [] m h = grows_to l m l h (omega arith)
+fields_grow l scope (n ∷ ns) m h =
     let e = declares h.0 kinds.Field None in
-    omega (arith, grows_plus l e, units_grow (plus l e) scope ns m h.2)
+    omega (arith, grows_plus l e, fields_grow (plus l e) scope ns m h.2)
 
 Grows : (Listed → List Seg → Listed → Type 0) → Type 0
 Grows Inside = (l : Listed) (p : List Seg) (m : Listed) → Inside l p m → count l ≤ count m
 
-role_grows : (r : Role) (t : ℕ) (l : Listed) (scope : List Seg) (ps : Parts) (x : Rest) (Inside : Listed → List Seg → Listed → Type 0) (m : Listed) → Grows Inside → DoesAs r t l scope ps x Inside m → count l ≤ count m
+role_grows : (r : Role) (t : ℕ) (l : Listed) (scope : List Seg) (ps : Parts) (x : Tail) (Inside : Listed → List Seg → Listed → Type 0) (m : Listed) → Grows Inside → DoesAs r t l scope ps x Inside m → count l ≤ count m
 unfolding Grows
 role_grows (roles.Declares o) t l scope ps x Inside m law h =
     let e = declares h.0 (kind_of o) None in
@@ -149,7 +149,7 @@ role_grows roles.Alias t l scope ps x Inside m law h =
 role_grows roles.External t l scope ps x Inside m law h =
     let e = external h.0 (byte_of ps) in
     grows_to l m (plus l e) h.2 (grows_plus l e)
-role_grows roles.Fields t l scope ps x Inside m law h = units_grow l scope (field_names x) m h
+role_grows roles.Fields t l scope ps x Inside m law h = fields_grow l scope (field_names x) m h
 role_grows roles.Guard t l scope ps x Inside m law h = law l scope m h
 role_grows roles.Other t l scope ps x Inside m law h = grows_to l m l h (omega arith)
 
@@ -162,7 +162,7 @@ mutual
   walk_grows t l scope (op o w ps r) m h =
       role_grows (role_of o) t (with_uses t l scope o ps r) scope ps r (λ l p m. DeclareInside t l p r m) m (λ l p m h. inside_grows t l p r m h) h
 
-  pub inside_grows : (t : ℕ) (l : Listed) (scope : List Seg) (r : Rest) (m : Listed) → DeclareInside t l scope r m → count l ≤ count m
+  pub inside_grows : (t : ℕ) (l : Listed) (scope : List Seg) (r : Tail) (m : Listed) → DeclareInside t l scope r m → count l ≤ count m
   inside_grows t l scope empty m h = grows_to l m l h (omega arith)
   inside_grows t l scope (terms ts) m h = all_grow t l scope ts m h
   inside_grows t l scope (bytes bs) m h = grows_to l m l h (omega arith)
@@ -200,7 +200,7 @@ method_counts t l p flags start len m e few = omega (arith, count_plus l (method
 Agains : (Listed → List Seg → Result Listed LoadFault) → (Listed → List Seg → Listed → Type 0) → Type 0
 Agains inside Inside = (l : Listed) (p : List Seg) (m : Listed) → Inside l p m → count m ≤ 1048576 → inside l p ≡ Ok m
 
-role_again : (r : Role) (t : ℕ) (l : Listed) (scope : List Seg) (ps : Parts) (x : Rest) (inside : Listed → List Seg → Result Listed LoadFault) (Inside : Listed → List Seg → Listed → Type 0) (m : Listed)
+role_again : (r : Role) (t : ℕ) (l : Listed) (scope : List Seg) (ps : Parts) (x : Tail) (inside : Listed → List Seg → Result Listed LoadFault) (Inside : Listed → List Seg → Listed → Type 0) (m : Listed)
     → Agains inside Inside → DoesAs r t l scope ps x Inside m → count m ≤ 1048576 → do_as r t l scope ps x inside ≡ Ok m
 unfolding do_as Agains
 role_again (roles.Declares o) t l scope ps x inside Inside m law h few =
@@ -211,7 +211,7 @@ role_again roles.Scope t l scope ps x inside Inside m law h few =
     ap (λ r. r >>= λ p. inside l p) (scope_again t l.entries scope (last_label None ps) h.0 h.1) ∙ law l h.0 m h.2 few
 role_again roles.Alias t l scope ps x inside Inside m law h few = alias_again t l scope (first_label ps) (last_label None ps) h.0 h.2.0 h.1 h.2.1 ∙ ap the_ok (sym h.2.2)
 role_again roles.External t l scope ps x inside Inside m law h few = external_again t l scope (last_label None ps) (byte_of ps) h.0 h.1 ∙ ap the_ok (sym h.2)
-role_again roles.Fields t l scope ps x inside Inside m law h few = units_again t l scope (field_names x) m h
+role_again roles.Fields t l scope ps x inside Inside m law h few = fields_again t l scope (field_names x) m h
 role_again roles.Guard t l scope ps x inside Inside m law h few = law l scope m h few
 role_again roles.Other t l scope ps x inside Inside m law h few = ap the_ok (sym h)
 
@@ -224,7 +224,7 @@ mutual
   walk_again t l scope (op o w ps r) m h few =
       role_again (role_of o) t (with_uses t l scope o ps r) scope ps r (λ l p. walk_inside t l p r) (λ l p m. DeclareInside t l p r m) m (λ l p m h few. inside_again t l p r m h few) h few
 
-  pub inside_again : (t : ℕ) (l : Listed) (scope : List Seg) (r : Rest) (m : Listed) → DeclareInside t l scope r m → count m ≤ 1048576 → walk_inside t l scope r ≡ Ok m
+  pub inside_again : (t : ℕ) (l : Listed) (scope : List Seg) (r : Tail) (m : Listed) → DeclareInside t l scope r m → count m ≤ 1048576 → walk_inside t l scope r ≡ Ok m
   inside_again t l scope empty m h few = ap the_ok (sym h)
   inside_again t l scope (terms ts) m h few = all_again t l scope ts m h few
   inside_again t l scope (bytes bs) m h few = ap the_ok (sym h)
@@ -254,14 +254,14 @@ method_few t l scope n flags start len m e =
     let d = entry_ok t l p (method_entry t p flags start len) m g.1 in
     subst (λ k. count k ≤ 1048576) (sym d.1) (omega (arith, count_plus l (method_entry t p flags start len), room)))
 
-units_few : (l : Listed) (scope : List Seg) (ns : List Name) (m : Listed) → Few l → DeclareUnits l scope ns m → Few m
-units_few l scope [] m few h = subst Few (sym h) few
-units_few l scope (n ∷ ns) m few h = units_few (plus l (declares h.0 kinds.Field None)) scope ns m (few_plain l (declares h.0 kinds.Field None) refl few) h.2
+fields_few : (l : Listed) (scope : List Seg) (ns : List Name) (m : Listed) → Few l → DeclareUnits l scope ns m → Few m
+fields_few l scope [] m few h = subst Few (sym h) few
+fields_few l scope (n ∷ ns) m few h = fields_few (plus l (declares h.0 kinds.Field None)) scope ns m (few_plain l (declares h.0 kinds.Field None) refl few) h.2
 
 Fews : (Listed → List Seg → Result Listed LoadFault) → Type 0
 Fews inside = (l : Listed) (p : List Seg) (m : Listed) → Few l → inside l p ≡ Ok m → Few m
 
-role_few : (r : Role) (t : ℕ) (l : Listed) (scope : List Seg) (ps : Parts) (x : Rest) (inside : Listed → List Seg → Result Listed LoadFault) (m : Listed) → Fews inside → Few l → do_as r t l scope ps x inside ≡ Ok m → Few m
+role_few : (r : Role) (t : ℕ) (l : Listed) (scope : List Seg) (ps : Parts) (x : Tail) (inside : Listed → List Seg → Result Listed LoadFault) (m : Listed) → Fews inside → Few l → do_as r t l scope ps x inside ≡ Ok m → Few m
 unfolding do_as Fews IsAlias IsExternal
 role_few (roles.Declares o) t l scope ps x inside m law few e =
     let n = last_label None ps in
@@ -277,14 +277,14 @@ role_few roles.Alias t l scope ps x inside m law few e =
 role_few roles.External t l scope ps x inside m law few e =
     let d = external_ok t l scope (last_label None ps) (byte_of ps) m e in
     subst Few (sym d.2) (few_plain l (external d.0 (byte_of ps)) refl few)
-role_few roles.Fields t l scope ps x inside m law few e = units_few l scope (field_names x) m few (units_ok t l scope (field_names x) m e)
+role_few roles.Fields t l scope ps x inside m law few e = fields_few l scope (field_names x) m few (fields_ok t l scope (field_names x) m e)
 role_few roles.Guard t l scope ps x inside m law few e = law l scope m few e
 role_few roles.Other t l scope ps x inside m law few e = subst Few (ok_is l m e) few
 
 few_same : (l m : Listed) → Few l → the_ok l ≡ Ok m → Few m
 few_same l m few e = subst Few (ok_is l m e) few
 
-few_with : (t : ℕ) (l : Listed) (scope : List Seg) (o : ℕ) (ps : Parts) (r : Rest) → Few l → Few (with_uses t l scope o ps r)
+few_with : (t : ℕ) (l : Listed) (scope : List Seg) (o : ℕ) (ps : Parts) (r : Tail) → Few l → Few (with_uses t l scope o ps r)
 few_with t l scope o ps r few = few
 
 mutual
@@ -296,7 +296,7 @@ mutual
   walk_few t l scope (op o w ps r) m few e =
       role_few (role_of o) t (with_uses t l scope o ps r) scope ps r (λ l p. walk_inside t l p r) m (λ l p m few e. inside_few t l p r m few e) (few_with t l scope o ps r few) e
 
-  pub inside_few : (t : ℕ) (l : Listed) (scope : List Seg) (r : Rest) (m : Listed) → Few l → walk_inside t l scope r ≡ Ok m → Few m
+  pub inside_few : (t : ℕ) (l : Listed) (scope : List Seg) (r : Tail) (m : Listed) → Few l → walk_inside t l scope r ≡ Ok m → Few m
   inside_few t l scope empty m few e = few_same l m few e
   inside_few t l scope (terms ts) m few e = all_few t l scope ts m few e
   inside_few t l scope (bytes bs) m few e = few_same l m few e
@@ -344,7 +344,7 @@ external_err t l scope n k e h =
 Refuses : (Listed → List Seg → Result Listed LoadFault) → (Listed → List Seg → Type 0) → LoadFault → Type 0
 Refuses inside Inside e = (l : Listed) (p : List Seg) → inside l p ≡ Err e → Inside l p
 
-role_err : (r : Role) (t : ℕ) (l : Listed) (scope : List Seg) (ps : Parts) (x : Rest) (inside : Listed → List Seg → Result Listed LoadFault) (Inside : Listed → List Seg → Type 0) (e : LoadFault)
+role_err : (r : Role) (t : ℕ) (l : Listed) (scope : List Seg) (ps : Parts) (x : Tail) (inside : Listed → List Seg → Result Listed LoadFault) (Inside : Listed → List Seg → Type 0) (e : LoadFault)
     → Refuses inside Inside e → do_as r t l scope ps x inside ≡ Err e → StopsAs r t l scope ps x Inside e
 unfolding do_as Refuses AliasStops
 role_err (roles.Declares o) t l scope ps x inside Inside e law h =
@@ -358,7 +358,7 @@ role_err roles.Scope t l scope ps x inside Inside e law h =
     err_then (StopsAs roles.Scope t l scope ps x Inside e) (scope_at t l.entries scope n) (λ p. inside l p) e h (λ g. inl (scope_err t l scope n e g)) (λ p h1 e1. inr (p, scope_ok t l.entries scope n p h1, law l p e1))
 role_err roles.Alias t l scope ps x inside Inside e law h = alias_err t l scope (first_label ps) (last_label None ps) e h
 role_err roles.External t l scope ps x inside Inside e law h = external_err t l scope (last_label None ps) (byte_of ps) e h
-role_err roles.Fields t l scope ps x inside Inside e law h = units_err t l scope (field_names x) e h
+role_err roles.Fields t l scope ps x inside Inside e law h = fields_err t l scope (field_names x) e h
 role_err roles.Guard t l scope ps x inside Inside e law h = law l scope h
 role_err roles.Other t l scope ps x inside Inside e law h = absurd cc
 
@@ -371,7 +371,7 @@ mutual
   walk_err t l scope (op o w ps r) e h =
       role_err (role_of o) t (with_uses t l scope o ps r) scope ps r (λ l p. walk_inside t l p r) (λ l p. StopInside t l p r e) e (λ l p h. inside_err t l p r e h) h
 
-  pub inside_err : (t : ℕ) (l : Listed) (scope : List Seg) (r : Rest) (e : LoadFault) → walk_inside t l scope r ≡ Err e → StopInside t l scope r e
+  pub inside_err : (t : ℕ) (l : Listed) (scope : List Seg) (r : Tail) (e : LoadFault) → walk_inside t l scope r ≡ Err e → StopInside t l scope r e
   inside_err t l scope empty e h = absurd cc
   inside_err t l scope (terms ts) e h = all_err t l scope ts e h
   inside_err t l scope (bytes bs) e h = absurd cc

@@ -6,7 +6,7 @@ use Rattle.std.specs.FinSet as set
 use Rattle.aml_names.specs.declared.segments.Seg.{Seg}
 use Rattle.aml_names.specs.declared.names.Name.{Name}
 use Rattle.aml_names.specs.Names.{placed}
-use Rattle.aml_code.specs.Tree.{Tree, op, Trees, no_trees, tree_more, label, Parts, part_more, Rest, terms, body}
+use Rattle.aml_code.specs.Tree.{Tree, op, Trees, no_trees, tree_more, label, Parts, part_more, Tail, terms, body}
 use Rattle.aml_code.specs.Declaring.{last_label, last_byte, field_names}
 use Rattle.aml_code.specs.Meaning.{ReadsModule}
 use Rattle.aml_code.specs.Rows.{row_of}
@@ -19,7 +19,7 @@ use Rattle.aml_load.specs.declared.methods.Use.{Use}
 use Rattle.aml_code.specs.declared.rows.Role.{Role}
 use Rattle.aml_code.specs.declared.rows.Role.TheVariants as roles
 use Rattle.aml_load.specs.Roles.{role_of, kind_of}
-use Rattle.aml_load.specs.Uses.{kinds_in, parts_uses, rest_uses}
+use Rattle.aml_load.specs.Uses.{kinds_in, parts_uses, tail_uses}
 
 -- The entries, and the names that may not take arguments once all entries are there.
 pub record Listed : Type 0 where
@@ -35,8 +35,8 @@ abbrev pub plus : Listed → Entry → Listed
 plus l e = record { entries = l.entries ++ e ∷ []; uses = l.uses }
 
 -- the names that stand as TermArgs in a term of table t, in this scope
-abbrev pub with_uses : ℕ → Listed → List Seg → ℕ → Parts → Rest → Listed
-with_uses t l scope o ps r = record { entries = l.entries; uses = l.uses ++ (parts_uses t scope (kinds_in (row_of o)) ps ++ rest_uses t scope r) }
+abbrev pub with_uses : ℕ → Listed → List Seg → ℕ → Parts → Tail → Listed
+with_uses t l scope o ps r = record { entries = l.entries; uses = l.uses ++ (parts_uses t scope (kinds_in (row_of o)) ps ++ tail_uses t scope r) }
 
 -- the first part, if it is a name: of an Alias, its source
 abbrev pub first_label : Parts → Option Name
@@ -75,11 +75,11 @@ abbrev pub target_of : List Entry → List Seg → List Seg
 target_of es p = target_by (kind_at (namespace_of es) p) p
 
 -- the span of a method's body
-abbrev pub body_start : Rest → ℕ
+abbrev pub body_start : Tail → ℕ
 body_start (body start len) = start
 body_start _ = 0
 
-abbrev pub body_len : Rest → ℕ
+abbrev pub body_len : Tail → ℕ
 body_len (body start len) = len
 body_len _ = 0
 
@@ -94,7 +94,7 @@ DeclareUnits l scope (n ∷ ns) m = (p : List Seg) × IsNew l scope (Some n) p �
 
 -- What a term of table t does by its role, in a scope, from l to m. `Inside` are the terms inside it, from one list to the
 -- next, under a path.
-abbrev pub DoesAs : Role → ℕ → Listed → List Seg → Parts → Rest → (Listed → List Seg → Listed → Type 0) → Listed → Type 0
+abbrev pub DoesAs : Role → ℕ → Listed → List Seg → Parts → Tail → (Listed → List Seg → Listed → Type 0) → Listed → Type 0
 DoesAs (roles.Declares o) t l scope ps r Inside m = (p : List Seg) × IsNew l scope (last_label None ps) p × Inside (plus l (declares p (kind_of o) None)) p m
 DoesAs roles.Method t l scope ps r Inside m = (p : List Seg) × IsNew l scope (last_label None ps) p × (m ≡ plus l (method_entry t p (byte_of ps) (body_start r) (body_len r)))
 DoesAs roles.Scope t l scope ps r Inside m = (p : List Seg) × Leads l scope (last_label None ps) p × Inside l p m
@@ -113,7 +113,7 @@ abbrev mutual
   Declares t l scope _ m = m ≡ l
 
   -- the terms inside a term
-  pub DeclareInside : ℕ → Listed → List Seg → Rest → Listed → Type 0
+  pub DeclareInside : ℕ → Listed → List Seg → Tail → Listed → Type 0
   DeclareInside t l scope (terms ts) m = DeclareAll t l scope ts m
   DeclareInside t l scope _ m = m ≡ l
 

@@ -1,6 +1,6 @@
 -- Where the methods' bodies stand in the terms of tables, in the order of the text (ACPI 6.5, 20.2.5.2).
 use Rattle.std.specs.Prelude.{◌≡◌, ℕ, suc, List, [], ◌∷◌, ◌++◌, map}
-use Rattle.aml_code.specs.Tree.{Tree, nothing, named, op, Trees, no_trees, tree_more, OnePart, child, Parts, no_parts, part_more, Rest, terms, elements, fields, body, OneUnit, connection, Units, no_units, unit_more, Joint, target, buffer}
+use Rattle.aml_code.specs.Tree.{Tree, nothing, named, op, Trees, no_trees, tree_more, Part, child, Parts, no_parts, part_more, Tail, terms, elements, fields, body, Field, connection, Fields, no_fields, field_more, Link, target, buffer}
 use Rattle.aml_load.specs.declared.methods.Method.{Method}
 use Rattle.aml_load.specs.Loading.{Listed, methods_of}
 
@@ -19,13 +19,13 @@ abbrev mutual
   pub tree_spans : ℕ → Tree → List Span
   tree_spans t nothing = []
   tree_spans t (named n xs) = all_spans t xs
-  tree_spans t (op o w ps r) = parts_spans t ps ++ rest_spans t r
+  tree_spans t (op o w ps r) = parts_spans t ps ++ tail_spans t r
 
   pub all_spans : ℕ → Trees → List Span
   all_spans t no_trees = []
   all_spans t (tree_more x xs) = tree_spans t x ++ all_spans t xs
 
-  pub part_spans : ℕ → OnePart → List Span
+  pub part_spans : ℕ → Part → List Span
   part_spans t (child x) = tree_spans t x
   part_spans t _ = []
 
@@ -33,24 +33,24 @@ abbrev mutual
   parts_spans t no_parts = []
   parts_spans t (part_more p ps) = part_spans t p ++ parts_spans t ps
 
-  pub rest_spans : ℕ → Rest → List Span
-  rest_spans t (terms xs) = all_spans t xs
-  rest_spans t (elements xs) = all_spans t xs
-  rest_spans t (fields us) = units_spans t us
-  rest_spans t (body start len) = record { table = t; start = start; len = len } ∷ []
-  rest_spans t _ = []
+  pub tail_spans : ℕ → Tail → List Span
+  tail_spans t (terms xs) = all_spans t xs
+  tail_spans t (elements xs) = all_spans t xs
+  tail_spans t (fields us) = fields_spans t us
+  tail_spans t (body start len) = record { table = t; start = start; len = len } ∷ []
+  tail_spans t _ = []
 
-  pub unit_spans : ℕ → OneUnit → List Span
-  unit_spans t (connection j) = joint_spans t j
-  unit_spans t _ = []
+  pub field_spans : ℕ → Field → List Span
+  field_spans t (connection j) = link_spans t j
+  field_spans t _ = []
 
-  pub units_spans : ℕ → Units → List Span
-  units_spans t no_units = []
-  units_spans t (unit_more u us) = unit_spans t u ++ units_spans t us
+  pub fields_spans : ℕ → Fields → List Span
+  fields_spans t no_fields = []
+  fields_spans t (field_more u us) = field_spans t u ++ fields_spans t us
 
-  pub joint_spans : ℕ → Joint → List Span
-  joint_spans t (target n) = []
-  joint_spans t (buffer x) = tree_spans t x
+  pub link_spans : ℕ → Link → List Span
+  link_spans t (target n) = []
+  link_spans t (buffer x) = tree_spans t x
 
 -- those of the tables from number t on, in load order
 abbrev pub tables_spans : ℕ → List Trees → List Span

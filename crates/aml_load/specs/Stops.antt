@@ -6,7 +6,7 @@ use Rattle.aml_names.specs.declared.names.Name.{Name}
 use Rattle.aml_names.specs.declared.faults.CodeFault.{CodeFault}
 use Rattle.aml_code.specs.Faults.{StandsAt}
 use Rattle.aml_code.specs.Meaning.{ReadsModule, no_arguments}
-use Rattle.aml_code.specs.Tree.{Tree, nothing, named, op, Trees, no_trees, tree_more, Parts, Rest, empty, terms, bytes, elements, fields, body}
+use Rattle.aml_code.specs.Tree.{Tree, nothing, named, op, Trees, no_trees, tree_more, Parts, Tail, empty, terms, bytes, elements, fields, body}
 use Rattle.aml_code.specs.Declaring.{last_label, field_names}
 use Rattle.aml_space.specs.declared.faults.SpaceFault.TheVariants as faults
 use Rattle.aml_space.specs.declared.kinds.Kind.TheVariants as kinds
@@ -45,7 +45,7 @@ StopUnits t l scope (n ∷ ns) e =
     NotNew t l scope (Some n) e ⊎ ((p : List Seg) × IsNew l scope (Some n) p × StopUnits t (plus l (declares p kinds.Field None)) scope ns e)
 
 -- a term stops by its role
-abbrev pub StopsAs : Role → ℕ → Listed → List Seg → Parts → Rest → (Listed → List Seg → Type 0) → LoadFault → Type 0
+abbrev pub StopsAs : Role → ℕ → Listed → List Seg → Parts → Tail → (Listed → List Seg → Type 0) → LoadFault → Type 0
 StopsAs (roles.Declares o) t l scope ps r Inside e =
     NotNew t l scope (last_label None ps) e ⊎ ((p : List Seg) × IsNew l scope (last_label None ps) p × Inside (plus l (declares p (kind_of o) None)) p)
 StopsAs roles.Method t l scope ps r Inside e = TooMany l e ⊎ NotNew t l scope (last_label None ps) e
@@ -66,7 +66,7 @@ abbrev mutual
   Stops t l scope (op o w ps r) e =
       StopsAs (role_of o) t (with_uses t l scope o ps r) scope ps r (λ l p. StopInside t l p r e) e
 
-  pub StopInside : ℕ → Listed → List Seg → Rest → LoadFault → Type 0
+  pub StopInside : ℕ → Listed → List Seg → Tail → LoadFault → Type 0
   StopInside t l scope empty e = ⊥
   StopInside t l scope (terms ts) e = StopAll t l scope ts e
   StopInside t l scope (bytes bs) e = ⊥

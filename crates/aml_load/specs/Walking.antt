@@ -8,7 +8,7 @@ use Rattle.aml_names.specs.declared.faults.CodeFault.{CodeFault}
 use Rattle.aml_names.specs.declared.faults.CodeFault.TheVariants as codes
 use Rattle.aml_code.specs.declared.rows.Position.TheVariants as positions
 use Rattle.aml_code.specs.Meaning.{no_arguments}
-use Rattle.aml_code.specs.Tree.{Tree, op, Trees, no_trees, tree_more, Parts, Rest, terms}
+use Rattle.aml_code.specs.Tree.{Tree, op, Trees, no_trees, tree_more, Parts, Tail, terms}
 use Rattle.aml_code.specs.Declaring.{last_label, field_names}
 use Rattle.aml_parse.specs.Reading.{all_at}
 use Rattle.aml_space.specs.declared.faults.SpaceFault.{SpaceFault}
@@ -102,14 +102,14 @@ external_at t l scope n count = do
   p ← place_at t scope n
   listed (plus l (external p count))
 
-unfoldable pub units_at : ℕ → Listed → List Seg → List Name → Result Listed LoadFault
-units_at t l scope [] = Ok l
-units_at t l scope (n ∷ ns) = do
+unfoldable pub fields_at : ℕ → Listed → List Seg → List Name → Result Listed LoadFault
+fields_at t l scope [] = Ok l
+fields_at t l scope (n ∷ ns) = do
   k ← name_at t l scope (Some n) kinds.Field
-  units_at t k scope ns
+  fields_at t k scope ns
 
 -- what a term does by its role, with the terms inside it done by another walk
-unfoldable pub do_as : Role → ℕ → Listed → List Seg → Parts → Rest → (Listed → List Seg → Result Listed LoadFault) → Result Listed LoadFault
+unfoldable pub do_as : Role → ℕ → Listed → List Seg → Parts → Tail → (Listed → List Seg → Result Listed LoadFault) → Result Listed LoadFault
 do_as (roles.Declares o) t l scope ps r inside = do
   made ← new_at t l scope (last_label None ps) (kind_of o)
   inside made.0 made.1
@@ -119,7 +119,7 @@ do_as roles.Scope t l scope ps r inside = do
   inside l p
 do_as roles.Alias t l scope ps r inside = alias_at t l scope (first_label ps) (last_label None ps)
 do_as roles.External t l scope ps r inside = external_at t l scope (last_label None ps) (byte_of ps)
-do_as roles.Fields t l scope ps r inside = units_at t l scope (field_names r)
+do_as roles.Fields t l scope ps r inside = fields_at t l scope (field_names r)
 do_as roles.Guard t l scope ps r inside = inside l scope
 do_as roles.Other t l scope ps r inside = Ok l
 
@@ -129,7 +129,7 @@ unfoldable mutual
       do_as (role_of o) t (with_uses t l scope o ps r) scope ps r (λ l p. walk_inside t l p r)
   walk t l scope _ = Ok l
 
-  pub walk_inside : ℕ → Listed → List Seg → Rest → Result Listed LoadFault
+  pub walk_inside : ℕ → Listed → List Seg → Tail → Result Listed LoadFault
   walk_inside t l scope (terms ts) = walk_all t l scope ts
   walk_inside t l scope _ = Ok l
 

@@ -36,7 +36,8 @@ pub fn read_body(
     // The limit of a table.
     requires { AreShort (codes_view tables.now) }
 
-    // The body reads as its terms and as no others; or memory was refused; or it reads as none, and the fault is true of it.
+    // The body reads as its terms and as no others; or memory was refused; or it reads as none, and the fault is true
+    // of it.
     ensures { (es : List Entry) → StandsFor space.now es →
         IsReading (λ nodes. nodes_view nodes.items) unknown_zero es (codes_view tables.now) method.now result }
 {

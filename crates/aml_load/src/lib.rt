@@ -1,6 +1,7 @@
 //! The load pass: the namespace of all tables, and the bodies of their methods.
 //!
-//! It follows the ACPI Specification 6.5, sections 5.2.11 (definition blocks), 5.3 (the namespace) and 20.2.5 (the terms).
+//! It follows the ACPI Specification 6.5, sections 5.2.11 (definition blocks), 5.3 (the namespace) and 20.2.5 (the
+//! terms).
 #![tactic(auto)]
 
 mod bodies;

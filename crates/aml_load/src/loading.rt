@@ -159,12 +159,12 @@ fn are_codes(tables: &[&[u8]])
 
 /// Loads tables as one, each by its AML, in load order.
 ///
-/// Each table is read whole, and then its terms declare in the order of the text. A path is declared once; a Scope or an
-/// Alias needs a name that is predefined or came earlier; there are at most 1,048,576 methods; and no name that takes
-/// arguments stands as a TermArg outside the methods. The fault is the first that is met.
+/// Each table is read whole, and then its terms declare in the order of the text. A path is declared once; a Scope or
+/// an Alias needs a name that is predefined or came earlier; there are at most 1,048,576 methods; and no name that
+/// takes arguments stands as a TermArg outside the methods. The fault is the first that is met.
 ///
-/// `givens` are argument counts, 0 to 7, that the user gives to paths. They count for a name that leads nowhere that any
-/// table names, by the first of the paths that it may mean, and the greatest of a path; and they declare nothing.
+/// `givens` are argument counts, 0 to 7, that the user gives to paths. They count for a name that leads nowhere that
+/// any table names, by the first of the paths that it may mean, and the greatest of a path; and they declare nothing.
 pub fn load<'a>(
     alloc: Global,
     tables: &[&'a [u8]],
@@ -174,10 +174,12 @@ pub fn load<'a>(
     requires { AreShort (codes_view tables.now) }
 
     // The tables' AML reads as the trees, and these load to entries whose namespace and methods are the answer's.
-    ensures sound { IfOk result (λ x. (trees : List Trees) × (m : Listed) × IsLoad givens.now (codes_view tables.now) trees m ×
+    ensures sound { IfOk result (λ x. (trees : List Trees) × (m : Listed) × IsLoad givens.now
+        (codes_view tables.now) trees m ×
         HoldsLoad x (codes_view tables.now) trees m) }
     // To nothing else.
-    ensures one { IfOk result (λ x. (trees : List Trees) (m : Listed) → IsLoad givens.now (codes_view tables.now) trees m →
+    ensures one { IfOk result (λ x. (trees : List Trees) (m : Listed) → IsLoad givens.now
+        (codes_view tables.now) trees m →
         HoldsLoad x (codes_view tables.now) trees m) }
     // A refusal for another cause than memory comes only where there are no trees and entries that load.
     ensures complete { IfErr result (λ e. (e ≡ LoadFault.NoMemory) ⊎

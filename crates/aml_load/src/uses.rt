@@ -2,7 +2,7 @@
 ghost use Rattle.std.specs.Prelude.{◌≡◌, ◌++◌, ◌∷◌, [], OnOk, false};
 ghost use Rattle.aml_code.specs.View.{node_view, nodes_view, part_view, parts_view, tail_view, field_view, fields_view, link_view};
 ghost use Rattle.aml_code.specs.Rows.{row_of};
-ghost use Rattle.aml_load.specs.Uses.{is_argument, kinds_in, use_of, uses_in, part_uses, parts_uses, rest_uses, elements_uses, units_uses, unit_uses, joint_uses};
+ghost use Rattle.aml_load.specs.Uses.{is_argument, kinds_in, use_of, uses_in, part_uses, parts_uses, tail_uses, elements_uses, fields_uses, field_uses, link_uses};
 
 use crate::methods::Use;
 use crate::scopes::SharedPath;
@@ -121,7 +121,7 @@ fn add_parts(
 #[cycle(uses)]
 fn add_tail(site: &Site<'_>, tail: &Tail, uses: &mut Vec<Use>) -> Result<(), NoMemory>
     ensures { OnOk result (uses.new.items ≡ uses.old.items ++
-        (rest_uses site.now.table site.now.scope.now (tail_view tail.now))) }
+        (tail_uses site.now.table site.now.scope.now (tail_view tail.now))) }
 {
     match tail {
         Tail::Elements(nodes) => add_elements(site, nodes.as_slice(), uses),
@@ -144,7 +144,7 @@ fn add_elements(site: &Site<'_>, nodes: &[Node], uses: &mut Vec<Use>) -> Result<
 #[cycle(uses)]
 fn add_fields(site: &Site<'_>, fields: &[Field], uses: &mut Vec<Use>) -> Result<(), NoMemory>
     ensures { OnOk result (uses.new.items ≡ uses.old.items ++
-        (units_uses site.now.table site.now.scope.now (fields_view fields.now))) }
+        (fields_uses site.now.table site.now.scope.now (fields_view fields.now))) }
 {
     for field in fields {
         add_field(site, field, uses)?;
@@ -155,7 +155,7 @@ fn add_fields(site: &Site<'_>, fields: &[Field], uses: &mut Vec<Use>) -> Result<
 #[cycle(uses)]
 fn add_field(site: &Site<'_>, field: &Field, uses: &mut Vec<Use>) -> Result<(), NoMemory>
     ensures { OnOk result (uses.new.items ≡ uses.old.items ++
-        (unit_uses site.now.table site.now.scope.now (field_view field.now))) }
+        (field_uses site.now.table site.now.scope.now (field_view field.now))) }
 {
     match field {
         Field::Connection(link) => add_link(site, link, uses),
@@ -166,7 +166,7 @@ fn add_field(site: &Site<'_>, field: &Field, uses: &mut Vec<Use>) -> Result<(), 
 #[cycle(uses)]
 fn add_link(site: &Site<'_>, link: &Link, uses: &mut Vec<Use>) -> Result<(), NoMemory>
     ensures { OnOk result (uses.new.items ≡ uses.old.items ++
-        (joint_uses site.now.table site.now.scope.now (link_view link.now))) }
+        (link_uses site.now.table site.now.scope.now (link_view link.now))) }
 {
     match link {
         Link::Target(_) => Ok(()),
@@ -184,7 +184,7 @@ pub fn add_names(
 ) -> Result<(), NoMemory>
     ensures { OnOk result (uses.new.items ≡ uses.old.items ++
         (parts_uses site.now.table site.now.scope.now (kinds_in (row_of opcode)) (parts_view parts.now) ++
-        rest_uses site.now.table site.now.scope.now (tail_view tail.now))) }
+        tail_uses site.now.table site.now.scope.now (tail_view tail.now))) }
 {
     add_parts(site, kinds_of(opcode), parts, uses)?;
     add_tail(site, tail, uses)

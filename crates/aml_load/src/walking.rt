@@ -2,12 +2,12 @@
 ghost use Rattle.std.specs.Prelude.{◌≡◌, ◌%◌, ◌∷◌, [], None, IfOk};
 ghost use Rattle.std.specs.Option.{option_copied};
 ghost use Rattle.aml_code.specs.Declaring.{last_label, field_names, plain_name, unit_names};
-ghost use Rattle.aml_code.specs.Tree.{no_units, unit_more};
+ghost use Rattle.aml_code.specs.Tree.{no_fields, field_more};
 ghost use Rattle.aml_code.specs.View.{node_view, nodes_view, parts_view, tail_view, fields_view, field_view};
 ghost use Rattle.aml_space.specs.Entries.{declares, external as outside};
 ghost use Rattle.aml_space.specs.Known.{StandsFor};
 ghost use Rattle.aml_load.specs.Loading.{Listed, plus, method_entry, first_label, byte_of, lead_of, target_of, body_start, body_len};
-ghost use Rattle.aml_load.specs.Walking.{listed, led_at, place_at, scope_at, source_at, entry_at, new_at, name_at, number_at, method_at, alias_at, external_at, units_at, do_as, walk, walk_inside, walk_all};
+ghost use Rattle.aml_load.specs.Walking.{listed, led_at, place_at, scope_at, source_at, entry_at, new_at, name_at, number_at, method_at, alias_at, external_at, fields_at, do_as, walk, walk_inside, walk_all};
 ghost use Rattle.aml_load.specs.Views.{Gives, GivesIn, Walks, WalksTo};
 
 use crate::faults::LoadFault;
@@ -251,19 +251,19 @@ impl Progress {
     }
 
     /// Declares the unit of a field list with this segment.
-    #[tactic(auto, unfolding(crate::specs::Walking::units_at))]
+    #[tactic(auto, unfolding(crate::specs::Walking::fields_at))]
     fn add_unit(&mut self, site: &Site<'_>, seg: Seg) -> Result<(), LoadFault>
         ensures { Walks self.old self.new result (λ l.
-            units_at site.now.table l site.now.scope.now (plain_name seg ∷ [])) }
+            fields_at site.now.table l site.now.scope.now (plain_name seg ∷ [])) }
     {
         let path = Path::below(self.alloc, site.scope.path().segs(), &[seg])?;
         self.declare(site.table, path, Kind::Field)
     }
 
-    #[tactic(auto, unfolding(crate::specs::Walking::units_at))]
+    #[tactic(auto, unfolding(crate::specs::Walking::fields_at))]
     fn add_field(&mut self, site: &Site<'_>, field: &Field) -> Result<(), LoadFault>
         ensures { Walks self.old self.new result (λ l.
-            units_at site.now.table l site.now.scope.now (unit_names (unit_more (field_view field.now) no_units))) }
+            fields_at site.now.table l site.now.scope.now (unit_names (field_more (field_view field.now) no_fields))) }
     {
         match field {
             Field::NamedUnit { seg, .. } => self.add_unit(site, *seg),
@@ -271,10 +271,10 @@ impl Progress {
         }
     }
 
-    #[tactic(auto, unfolding(crate::specs::Walking::units_at))]
+    #[tactic(auto, unfolding(crate::specs::Walking::fields_at))]
     fn add_fields(&mut self, site: &Site<'_>, fields: &[Field]) -> Result<(), LoadFault>
         ensures { Walks self.old self.new result (λ l.
-            units_at site.now.table l site.now.scope.now (unit_names (fields_view fields.now))) }
+            fields_at site.now.table l site.now.scope.now (unit_names (fields_view fields.now))) }
     {
         for field in fields {
             self.add_field(site, field)?;
@@ -283,10 +283,10 @@ impl Progress {
     }
 
     /// Declares the named units of a field list.
-    #[tactic(auto, unfolding(crate::specs::Walking::units_at))]
+    #[tactic(auto, unfolding(crate::specs::Walking::fields_at))]
     fn add_units(&mut self, site: &Site<'_>, tail: &Tail) -> Result<(), LoadFault>
         ensures { Walks self.old self.new result (λ l.
-            units_at site.now.table l site.now.scope.now (field_names (tail_view tail.now))) }
+            fields_at site.now.table l site.now.scope.now (field_names (tail_view tail.now))) }
     {
         match tail {
             Tail::Fields(fields) => self.add_fields(site, fields.as_slice()),

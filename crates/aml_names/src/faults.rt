@@ -17,8 +17,8 @@ pub enum CodeFault {
     /// The lead byte of a package length of several bytes has bit 5 or 4 set.
     #[error("PkgBits at {at}")]
     PkgBits { at: u32 },
-    /// A package length that is smaller than its own bytes, or that leads past the end of the bytes or of a package that
-    /// begins before it.
+    /// A package length that is smaller than its own bytes, or that leads past the end of the bytes or of a package
+    /// that begins before it.
     #[error("PkgPast at {at}")]
     PkgPast { at: u32 },
     /// A byte that can't stand in its place of a name.

@@ -12,8 +12,8 @@ use std::marker::Model;
 #[derive(Drop)]
 pub struct Locals {
     paths: BTreeSet<Path>,
-    /// How many segments each of them has. A path of another length isn't compared with any: in a deep scope a search asks for
-    /// one path at each level, and these have long fronts in common.
+    /// How many segments each of them has. A path of another length isn't compared with any: in a deep scope a search
+    /// asks for one path at each level, and these have long fronts in common.
     lengths: BTreeSet<usize>,
 }
 
@@ -59,8 +59,8 @@ impl Locals {
         self.paths.is_empty()
     }
 
-    /// Whether the path is there, in time logarithmic in their number, and without a look at the path's segments where none of
-    /// them has as many.
+    /// Whether the path is there, in time logarithmic in their number, and without a look at the path's segments where
+    /// none of them has as many.
     pub fn has(&self, path: &Path) -> bool
         ensures { result ≡ set.contains self.now path.now }
     {

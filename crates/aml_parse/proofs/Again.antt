@@ -19,20 +19,20 @@ use Rattle.aml_code.specs.declared.rows.TailKind.{TailKind}
 use Rattle.aml_code.specs.declared.rows.TailKind.TheVariants as tails
 use Rattle.aml_code.specs.Packages.{width_len, package_bytes, FitsWidth}
 use Rattle.aml_code.specs.Rows.{row_of, has_length, takes}
-use Rattle.aml_code.specs.Tree.{Tree, nothing, named, op, Trees, no_trees, tree_more, OnePart, child, label, byte, word, dword, qword, text, Parts, no_parts, part_more, Rest, empty, terms, elements, fields, body, OneUnit, unit, reserved, access, connection, extended, Units, no_units, unit_more, Joint, target, buffer, tree_count}
+use Rattle.aml_code.specs.Tree.{Tree, nothing, named, op, Trees, no_trees, tree_more, Part, child, label, byte, word, dword, qword, text, Parts, no_parts, part_more, Tail, empty, terms, elements, fields, body, Field, unit, reserved, access, connection, extended, Fields, no_fields, field_more, Link, target, buffer, tree_count}
 use Rattle.aml_code.specs.Tree as trees
-use Rattle.aml_code.specs.Encoding.{opcode_bytes, packed, slice_of, encoding, encodings, part_encoding, parts_encoding, rest_encoding, unit_encoding, units_encoding, joint_encoding}
-use Rattle.aml_code.specs.Declaring.{names_declared, with_declared, declared_by, after, after_all, after_part, after_parts, after_rest, after_unit, after_units, after_joint}
+use Rattle.aml_code.specs.Encoding.{opcode_bytes, packed, slice_of, encoding, encodings, part_encoding, parts_encoding, tail_encoding, field_encoding, fields_encoding, link_encoding}
+use Rattle.aml_code.specs.Declaring.{names_declared, with_declared, declared_by, after, after_all, after_part, after_parts, after_tail, after_field, after_fields, after_link}
 use Rattle.aml_code.specs.Faults.{Arities}
-use Rattle.aml_code.specs.Lawful.{HasWidth, IsGuarded, is_guard, terms_in, next_position, IsLawful, AreArguments, AreTerms, IsPart, AreParts, IsTail, IsJoint, IsUnit, AreUnits}
-use Rattle.aml_code.specs.Meaning.{setting_of, BodyStands, BodiesStand, RestStands}
+use Rattle.aml_code.specs.Lawful.{HasWidth, IsGuarded, is_guard, terms_in, next_position, IsLawful, AreArguments, AreTerms, IsPart, AreParts, IsTail, IsLink, IsField, AreFields}
+use Rattle.aml_code.specs.Meaning.{setting_of, BodyStands, BodiesStand, TailStands}
 use Rattle.aml_code.proofs.LengthLaws.{span_again, length-package_bytes}
 use Rattle.aml_code.proofs.RowFacts.{row_opcode, row_is_opcode, lead_of, row_apart, target_opcode, opcode_lead}
-use Rattle.aml_parse.specs.Reading.{Reader, flat, byte_part, count_part, word_part, dword_part, qword_part, text_part, any_name_part, name_part, child_at, part_at, parts_at, arguments_at, terms_at, named_unit, reserved_unit, access_unit, extended_unit, named_joint, buffer_at, joint_at, connection_at, unit_at, units_at, wanted, known, call_at, takes_names, name_term_at, refusal, guard_at, body_to, tail_at, plain_at, packed_at, row_at, by_row, operation_at, is_absent_target, term_at}
+use Rattle.aml_parse.specs.Reading.{Reader, flat, byte_part, count_part, word_part, dword_part, qword_part, text_part, any_name_part, name_part, child_at, part_at, parts_at, arguments_at, terms_at, named_unit, reserved_unit, access_unit, extended_unit, named_link, buffer_at, link_at, connection_at, field_at, fields_at, wanted, known, call_at, takes_names, name_term_at, refusal, guard_at, body_to, tail_at, plain_at, packed_at, row_at, by_row, operation_at, is_absent_target, term_at}
 use Rattle.aml_parse.proofs.FlatLaws.{byte_again, count_again, word_again, dword_again, qword_again, text_again, segmented_again, labelled_again, any_name_again, opcode_again}
-use Rattle.aml_parse.proofs.UnitLaws.{apart, named_unit_again, reserved_again, access_again, extended_again}
-use Rattle.aml_parse.proofs.Leads.{empty_rest, guard_again}
-use Rattle.aml_parse.proofs.Took.{IsReader, nonempty, unit_some, wanted_of_count, names_taken, long_tail}
+use Rattle.aml_parse.proofs.FieldLaws.{apart, named_unit_again, reserved_again, access_again, extended_again}
+use Rattle.aml_parse.proofs.Leads.{tail_is_empty, guard_again}
+use Rattle.aml_parse.proofs.Took.{IsReader, nonempty, field_some, wanted_of_count, names_taken, long_tail}
 use Rattle.aml_parse.proofs.Bodiless.{bodiless, terms_bodiless}
 
 -- ---- parts
@@ -42,10 +42,10 @@ child_again : (arity : Arities) (scope : Option (List Seg)) (code : List ℕ) (l
 child_again arity scope code levels read law p inner end ls t rest h at place =
     ap (λ r. r >>= λ x. Ok (child x.0, x.1, x.2)) (law.again p at end ls t rest h (bodiless (setting_of arity scope code) code levels p ls at t inner h) place)
 
-flat_again : (step : ℕ → List ℕ → Left OnePart) (end : ℕ) (ls : PathSet) (bs rest : List ℕ) (x : OnePart) → step end bs ≡ Ok (x, rest) → flat step end ls bs ≡ Ok (x, ls, rest)
+flat_again : (step : ℕ → List ℕ → Left Part) (end : ℕ) (ls : PathSet) (bs rest : List ℕ) (x : Part) → step end bs ≡ Ok (x, rest) → flat step end ls bs ≡ Ok (x, ls, rest)
 flat_again step end ls bs rest x e = ap (λ r. r >>= λ y. Ok (y.0, ls, y.1)) e
 
-part_again : (arity : Arities) (scope : Option (List Seg)) (code : List ℕ) (levels : ℕ) (read : Position → Reader Tree) → IsReader arity scope code levels read → (k : PartKind) (at end : ℕ) (ls : PathSet) (x : OnePart) (rest : List ℕ)
+part_again : (arity : Arities) (scope : Option (List Seg)) (code : List ℕ) (levels : ℕ) (read : Position → Reader Tree) → IsReader arity scope code levels read → (k : PartKind) (at end : ℕ) (ls : PathSet) (x : Part) (rest : List ℕ)
     → IsPart (setting_of arity scope code) levels k ls x → at + length (part_encoding code x ++ rest) ≡ end → part_at read k end ls (part_encoding code x ++ rest) ≡ Ok (x, after_part scope ls x, rest)
 part_again arity scope code levels read law kinds.Term at end ls (child t) rest h place = child_again arity scope code levels read law positions.Argument refl end ls t rest h at place
 part_again arity scope code levels read law kinds.Target at end ls (child t) rest h place = child_again arity scope code levels read law positions.Target refl end ls t rest h at place
@@ -119,14 +119,14 @@ terms_again arity scope code levels read law (suc n) p at end ls (tree_more t ts
 -- ---- field lists
 
 -- bytes that begin with the lead byte of a Buffer
-joint_led : (read : Position → Reader Tree) (end : ℕ) (ls : PathSet) (behind : List ℕ) → joint_at read end ls (0x11 ∷ behind) ≡ buffer_at (read positions.Data) end ls (0x11 ∷ behind)
-unfolding joint_at
-joint_led read end ls behind = refl
+link_led : (read : Position → Reader Tree) (end : ℕ) (ls : PathSet) (behind : List ℕ) → link_at read end ls (0x11 ∷ behind) ≡ buffer_at (read positions.Data) end ls (0x11 ∷ behind)
+unfolding link_at
+link_led read end ls behind = refl
 
 -- other bytes
-joint_named : (read : Position → Reader Tree) (end : ℕ) (ls : PathSet) (lead : ℕ) (behind : List ℕ) → (lead == 0x11) ≡ false → joint_at read end ls (lead ∷ behind) ≡ flat named_joint end ls (lead ∷ behind)
-unfolding joint_at
-joint_named read end ls lead behind h = rw h refl
+link_named : (read : Position → Reader Tree) (end : ℕ) (ls : PathSet) (lead : ℕ) (behind : List ℕ) → (lead == 0x11) ≡ false → link_at read end ls (lead ∷ behind) ≡ flat named_link end ls (lead ∷ behind)
+unfolding link_at
+link_named read end ls lead behind h = rw h refl
 
 -- the first byte of a name isn't that of a Buffer
 name_apart : (n : Name) → IsName n → (lead : ℕ) × (behind : List ℕ) × (spelling n ≡ lead ∷ behind) × ((lead == 0x11) ≡ false)
@@ -137,25 +137,25 @@ name_apart n is =
       | inr k ↦ (l.lead, l.behind, l.text, ne_eqb l.lead 0x11 (λ e. absurd (omega (arith, e, k.1))))
     ]
 
-joint_again : (arity : Arities) (scope : Option (List Seg)) (code : List ℕ) (levels : ℕ) (read : Position → Reader Tree) → IsReader arity scope code levels read → (at end : ℕ) (ls : PathSet) (l : Joint) (rest : List ℕ)
-    → IsJoint (setting_of arity scope code) levels ls l → at + length (joint_encoding code l ++ rest) ≡ end → joint_at read end ls (joint_encoding code l ++ rest) ≡ Ok (l, after_joint scope ls l, rest)
-joint_again arity scope code levels read law at end ls (target n) rest h place =
+link_again : (arity : Arities) (scope : Option (List Seg)) (code : List ℕ) (levels : ℕ) (read : Position → Reader Tree) → IsReader arity scope code levels read → (at end : ℕ) (ls : PathSet) (l : Link) (rest : List ℕ)
+    → IsLink (setting_of arity scope code) levels ls l → at + length (link_encoding code l ++ rest) ≡ end → link_at read end ls (link_encoding code l ++ rest) ≡ Ok (l, after_link scope ls l, rest)
+link_again arity scope code levels read law at end ls (target n) rest h place =
     let f = name_apart n h.0 in
     let bs : List ℕ = spelling n ++ rest in
     let text : bs ≡ f.0 ∷ (f.1 ++ rest) = ap (λ (b : List ℕ). b ++ rest) f.2 in
-    let here : joint_at read end ls bs ≡ flat named_joint end ls bs =
-    subst (λ (b : List ℕ). joint_at read end ls b ≡ flat named_joint end ls b) (sym text) (joint_named read end ls f.0 (f.1 ++ rest) f.3) in
-    let read_name : named_joint end bs ≡ Ok (target n, rest) = ap (λ r. r >>= λ m. Ok (target m.0, m.1)) (segmented_again end n rest h.0 h.1) in
+    let here : link_at read end ls bs ≡ flat named_link end ls bs =
+    subst (λ (b : List ℕ). link_at read end ls b ≡ flat named_link end ls b) (sym text) (link_named read end ls f.0 (f.1 ++ rest) f.3) in
+    let read_name : named_link end bs ≡ Ok (target n, rest) = ap (λ r. r >>= λ m. Ok (target m.0, m.1)) (segmented_again end n rest h.0 h.1) in
     here ∙ ap (λ r. r >>= λ y. Ok (y.0, ls, y.1)) read_name
-joint_again arity scope code levels read law at end ls (buffer nothing) rest h place = absurd h.0
-joint_again arity scope code levels read law at end ls (buffer (named n ts)) rest h place = absurd h.0
-joint_again arity scope code levels read law at end ls (buffer (op o w ps t)) rest h place =
+link_again arity scope code levels read law at end ls (buffer nothing) rest h place = absurd h.0
+link_again arity scope code levels read law at end ls (buffer (named n ts)) rest h place = absurd h.0
+link_again arity scope code levels read law at end ls (buffer (op o w ps t)) rest h place =
     let s = setting_of arity scope code in
-    let content = packed w (parts_encoding code ps ++ rest_encoding code t) in
+    let content = packed w (parts_encoding code ps ++ tail_encoding code t) in
     let bs : List ℕ = encoding code (op o w ps t) ++ rest in
     let text : bs ≡ 0x11 ∷ (content ++ rest) = ap (λ (n : ℕ). (opcode_bytes n ++ content) ++ rest) h.0 in
-    let here : joint_at read end ls bs ≡ buffer_at (read positions.Data) end ls bs =
-    subst (λ (b : List ℕ). joint_at read end ls b ≡ buffer_at (read positions.Data) end ls b) (sym text) (joint_led read end ls (content ++ rest)) in
+    let here : link_at read end ls bs ≡ buffer_at (read positions.Data) end ls bs =
+    subst (λ (b : List ℕ). link_at read end ls b ≡ buffer_at (read positions.Data) end ls b) (sym text) (link_led read end ls (content ++ rest)) in
     here ∙ ap (λ r. r >>= λ x. Ok (buffer x.0, x.1, x.2)) (law.again positions.Data at end ls (op o w ps t) rest h.1 (bodiless s code levels positions.Data ls at (op o w ps t) refl h.1) place)
 
 seg_first : (front rest : List ℕ) → IsNameSeg front → (lead : ℕ) × (behind : List ℕ) × (front ++ rest ≡ lead ∷ behind) × (is_lead_char lead ≡ true)
@@ -167,69 +167,69 @@ seg_first (a ∷ b ∷ c ∷ d ∷ []) rest h = (a, b ∷ c ∷ d ∷ rest, refl
 seg_first (a ∷ b ∷ c ∷ d ∷ f ∷ front) rest h = absurd h
 
 -- bytes that begin with a segment
-unit_named : (read : Position → Reader Tree) (end : ℕ) (ls : PathSet) (lead : ℕ) (behind : List ℕ) → is_lead_char lead ≡ true → unit_at read end ls (lead ∷ behind) ≡ flat named_unit end ls (lead ∷ behind)
-unfolding unit_at
+unit_named : (read : Position → Reader Tree) (end : ℕ) (ls : PathSet) (lead : ℕ) (behind : List ℕ) → is_lead_char lead ≡ true → field_at read end ls (lead ∷ behind) ≡ flat named_unit end ls (lead ∷ behind)
+unfolding field_at
 unit_named read end ls lead behind h = rw (apart lead 0x00 h refl, apart lead 0x01 h refl, apart lead 0x02 h refl, apart lead 0x03 h refl) refl
 
-unit_reserved : (read : Position → Reader Tree) (end : ℕ) (ls : PathSet) (behind : List ℕ) → unit_at read end ls (0x00 ∷ behind) ≡ flat reserved_unit end ls behind
-unfolding unit_at
-unit_reserved read end ls behind = refl
+field_reserved : (read : Position → Reader Tree) (end : ℕ) (ls : PathSet) (behind : List ℕ) → field_at read end ls (0x00 ∷ behind) ≡ flat reserved_unit end ls behind
+unfolding field_at
+field_reserved read end ls behind = refl
 
-unit_access : (read : Position → Reader Tree) (end : ℕ) (ls : PathSet) (behind : List ℕ) → unit_at read end ls (0x01 ∷ behind) ≡ flat access_unit end ls behind
-unfolding unit_at
-unit_access read end ls behind = refl
+field_access : (read : Position → Reader Tree) (end : ℕ) (ls : PathSet) (behind : List ℕ) → field_at read end ls (0x01 ∷ behind) ≡ flat access_unit end ls behind
+unfolding field_at
+field_access read end ls behind = refl
 
-unit_connection : (read : Position → Reader Tree) (end : ℕ) (ls : PathSet) (behind : List ℕ) → unit_at read end ls (0x02 ∷ behind) ≡ connection_at read end ls behind
-unfolding unit_at
-unit_connection read end ls behind = refl
+field_connection : (read : Position → Reader Tree) (end : ℕ) (ls : PathSet) (behind : List ℕ) → field_at read end ls (0x02 ∷ behind) ≡ connection_at read end ls behind
+unfolding field_at
+field_connection read end ls behind = refl
 
-unit_extended : (read : Position → Reader Tree) (end : ℕ) (ls : PathSet) (behind : List ℕ) → unit_at read end ls (0x03 ∷ behind) ≡ flat extended_unit end ls behind
-unfolding unit_at
-unit_extended read end ls behind = refl
+field_extended : (read : Position → Reader Tree) (end : ℕ) (ls : PathSet) (behind : List ℕ) → field_at read end ls (0x03 ∷ behind) ≡ flat extended_unit end ls behind
+unfolding field_at
+field_extended read end ls behind = refl
 
-flat_unit : (step : ℕ → List ℕ → Left OneUnit) (end : ℕ) (ls : PathSet) (bs rest : List ℕ) (x : OneUnit) → step end bs ≡ Ok (x, rest) → flat step end ls bs ≡ Ok (x, ls, rest)
-flat_unit step end ls bs rest x e = ap (λ r. r >>= λ y. Ok (y.0, ls, y.1)) e
+flat_field : (step : ℕ → List ℕ → Left Field) (end : ℕ) (ls : PathSet) (bs rest : List ℕ) (x : Field) → step end bs ≡ Ok (x, rest) → flat step end ls bs ≡ Ok (x, ls, rest)
+flat_field step end ls bs rest x e = ap (λ r. r >>= λ y. Ok (y.0, ls, y.1)) e
 
-unit_again : (arity : Arities) (scope : Option (List Seg)) (code : List ℕ) (levels : ℕ) (read : Position → Reader Tree) → IsReader arity scope code levels read → (at end : ℕ) (ls : PathSet) (u : OneUnit) (rest : List ℕ)
-    → IsUnit (setting_of arity scope code) levels ls u → at + length (unit_encoding code u ++ rest) ≡ end → unit_at read end ls (unit_encoding code u ++ rest) ≡ Ok (u, after_unit scope ls u, rest)
-unit_again arity scope code levels read law at end ls (unit g w n) rest h place =
+field_again : (arity : Arities) (scope : Option (List Seg)) (code : List ℕ) (levels : ℕ) (read : Position → Reader Tree) → IsReader arity scope code levels read → (at end : ℕ) (ls : PathSet) (u : Field) (rest : List ℕ)
+    → IsField (setting_of arity scope code) levels ls u → at + length (field_encoding code u ++ rest) ≡ end → field_at read end ls (field_encoding code u ++ rest) ≡ Ok (u, after_field scope ls u, rest)
+field_again arity scope code levels read law at end ls (unit g w n) rest h place =
     let bs : List ℕ = (g.0 ++ package_bytes w n) ++ rest in
     let f = seg_first g.0 (package_bytes w n ++ rest) h.0 in
     let text : bs ≡ f.0 ∷ f.1 = append_assoc g.0 (package_bytes w n) rest ∙ f.2 in
-    let here : unit_at read end ls bs ≡ flat named_unit end ls bs =
-    subst (λ (b : List ℕ). unit_at read end ls b ≡ flat named_unit end ls b) (sym text) (unit_named read end ls f.0 f.1 f.3) in
-    here ∙ flat_unit named_unit end ls bs rest (unit g w n) (named_unit_again end g w n rest h.0 h.1)
-unit_again arity scope code levels read law at end ls (reserved w n) rest h place =
-    unit_reserved read end ls (package_bytes w n ++ rest) ∙ flat_unit reserved_unit end ls (package_bytes w n ++ rest) rest (reserved w n) (reserved_again end w n rest h)
-unit_again arity scope code levels read law at end ls (access a b) rest h place =
-    unit_access read end ls (a ∷ b ∷ rest) ∙ flat_unit access_unit end ls (a ∷ b ∷ rest) rest (access a b) (access_again end a b rest)
-unit_again arity scope code levels read law at end ls (connection l) rest h place =
-    unit_connection read end ls (joint_encoding code l ++ rest)
-    ∙ ap (λ r. r >>= λ m. Ok (connection m.0, m.1, m.2)) (joint_again arity scope code levels read law (at + 1) end ls l rest h (omega (arith, place)))
-unit_again arity scope code levels read law at end ls (extended a b c) rest h place =
-    unit_extended read end ls (a ∷ b ∷ c ∷ rest) ∙ flat_unit extended_unit end ls (a ∷ b ∷ c ∷ rest) rest (extended a b c) (extended_again end a b c rest)
+    let here : field_at read end ls bs ≡ flat named_unit end ls bs =
+    subst (λ (b : List ℕ). field_at read end ls b ≡ flat named_unit end ls b) (sym text) (unit_named read end ls f.0 f.1 f.3) in
+    here ∙ flat_field named_unit end ls bs rest (unit g w n) (named_unit_again end g w n rest h.0 h.1)
+field_again arity scope code levels read law at end ls (reserved w n) rest h place =
+    field_reserved read end ls (package_bytes w n ++ rest) ∙ flat_field reserved_unit end ls (package_bytes w n ++ rest) rest (reserved w n) (reserved_again end w n rest h)
+field_again arity scope code levels read law at end ls (access a b) rest h place =
+    field_access read end ls (a ∷ b ∷ rest) ∙ flat_field access_unit end ls (a ∷ b ∷ rest) rest (access a b) (access_again end a b rest)
+field_again arity scope code levels read law at end ls (connection l) rest h place =
+    field_connection read end ls (link_encoding code l ++ rest)
+    ∙ ap (λ r. r >>= λ m. Ok (connection m.0, m.1, m.2)) (link_again arity scope code levels read law (at + 1) end ls l rest h (omega (arith, place)))
+field_again arity scope code levels read law at end ls (extended a b c) rest h place =
+    field_extended read end ls (a ∷ b ∷ c ∷ rest) ∙ flat_field extended_unit end ls (a ∷ b ∷ c ∷ rest) rest (extended a b c) (extended_again end a b c rest)
 
-units_step : (read : Position → Reader Tree) (n end : ℕ) (ls : PathSet) (bs : List ℕ) → 0 < length bs
-    → units_at read (suc n) end ls bs ≡ (unit_at read end ls bs >>= λ first. units_at read n end first.1 first.2 >>= λ others. Ok (unit_more first.0 others.0, others.1))
-unfolding units_at
-units_step read n end ls [] h = absurd (omega arith)
-units_step read n end ls (b ∷ bs) h = refl
+fields_step : (read : Position → Reader Tree) (n end : ℕ) (ls : PathSet) (bs : List ℕ) → 0 < length bs
+    → fields_at read (suc n) end ls bs ≡ (field_at read end ls bs >>= λ first. fields_at read n end first.1 first.2 >>= λ others. Ok (field_more first.0 others.0, others.1))
+unfolding fields_at
+fields_step read n end ls [] h = absurd (omega arith)
+fields_step read n end ls (b ∷ bs) h = refl
 
-units_again : (arity : Arities) (scope : Option (List Seg)) (code : List ℕ) (levels : ℕ) (read : Position → Reader Tree) → IsReader arity scope code levels read → (n at end : ℕ) (ls : PathSet) (us : Units)
-    → length (units_encoding code us) ≤ n → AreUnits (setting_of arity scope code) levels ls us → at + length (units_encoding code us) ≡ end → units_at read n end ls (units_encoding code us) ≡ Ok (us, after_units scope ls us)
-unfolding units_at
-units_again arity scope code levels read law n at end ls no_units le h place = refl
-units_again arity scope code levels read law zero at end ls (unit_more u us) le h place =
-    absurd (omega (arith, unit_some (setting_of arity scope code) code levels ls u h.0, length-append (unit_encoding code u) (units_encoding code us)))
-units_again arity scope code levels read law (suc n) at end ls (unit_more u us) le h place =
-    let front = unit_encoding code u in
-    let back = units_encoding code us in
-    let some = unit_some (setting_of arity scope code) code levels ls u h.0 in
+fields_again : (arity : Arities) (scope : Option (List Seg)) (code : List ℕ) (levels : ℕ) (read : Position → Reader Tree) → IsReader arity scope code levels read → (n at end : ℕ) (ls : PathSet) (us : Fields)
+    → length (fields_encoding code us) ≤ n → AreFields (setting_of arity scope code) levels ls us → at + length (fields_encoding code us) ≡ end → fields_at read n end ls (fields_encoding code us) ≡ Ok (us, after_fields scope ls us)
+unfolding fields_at
+fields_again arity scope code levels read law n at end ls no_fields le h place = refl
+fields_again arity scope code levels read law zero at end ls (field_more u us) le h place =
+    absurd (omega (arith, field_some (setting_of arity scope code) code levels ls u h.0, length-append (field_encoding code u) (fields_encoding code us)))
+fields_again arity scope code levels read law (suc n) at end ls (field_more u us) le h place =
+    let front = field_encoding code u in
+    let back = fields_encoding code us in
+    let some = field_some (setting_of arity scope code) code levels ls u h.0 in
     let long = length-append front back in
     let next_place : (at + length front) + length back ≡ end = omega (arith, place, long) in
-    units_step read n end ls (front ++ back) (omega (arith, some, long))
-    ∙ ap (λ r. r >>= λ first. units_at read n end first.1 first.2 >>= λ others. Ok (unit_more first.0 others.0, others.1)) (unit_again arity scope code levels read law at end ls u back h.0 place)
-    ∙ ap (λ r. r >>= λ others. Ok (unit_more u others.0, others.1)) (units_again arity scope code levels read law n (at + length front) end (after_unit scope ls u) us (omega (arith, some, long)) h.1 next_place)
+    fields_step read n end ls (front ++ back) (omega (arith, some, long))
+    ∙ ap (λ r. r >>= λ first. fields_at read n end first.1 first.2 >>= λ others. Ok (field_more first.0 others.0, others.1)) (field_again arity scope code levels read law at end ls u back h.0 place)
+    ∙ ap (λ r. r >>= λ others. Ok (field_more u others.0, others.1)) (fields_again arity scope code levels read law n (at + length front) end (after_field scope ls u) us (omega (arith, some, long)) h.1 next_place)
 
 -- ---- names
 
@@ -281,12 +281,12 @@ named_again arity scope code levels read law p at end ls n ts rest h place =
 
 -- ---- tails
 
-tail_again : (arity : Arities) (scope : Option (List Seg)) (code : List ℕ) (levels : ℕ) (read : Position → Reader Tree) → IsReader arity scope code levels read → (p : Position) (k : TailKind) (at end : ℕ) (ls : PathSet) (t : Rest)
-    → IsTail (setting_of arity scope code) levels p k ls t → (k ≡ tails.Empty → ⊥) → RestStands code at t → at + length (rest_encoding code t) ≡ end
-    → tail_at read p k end ls (rest_encoding code t) ≡ Ok (t, after_rest scope ls t)
+tail_again : (arity : Arities) (scope : Option (List Seg)) (code : List ℕ) (levels : ℕ) (read : Position → Reader Tree) → IsReader arity scope code levels read → (p : Position) (k : TailKind) (at end : ℕ) (ls : PathSet) (t : Tail)
+    → IsTail (setting_of arity scope code) levels p k ls t → (k ≡ tails.Empty → ⊥) → TailStands code at t → at + length (tail_encoding code t) ≡ end
+    → tail_at read p k end ls (tail_encoding code t) ≡ Ok (t, after_tail scope ls t)
 tail_again arity scope code levels read law p tails.Empty at end ls t h some stands place = absurd (some refl)
 tail_again arity scope code levels read law p tails.Fields at end ls (fields us) h some stands place =
-    ap (λ r. r >>= λ x. Ok (fields x.0, x.1)) (units_again arity scope code levels read law (length (units_encoding code us)) at end ls us (omega arith) h place)
+    ap (λ r. r >>= λ x. Ok (fields x.0, x.1)) (fields_again arity scope code levels read law (length (fields_encoding code us)) at end ls us (omega arith) h place)
 tail_again arity scope code levels read law p tails.Terms at end ls (terms ts) h some stands place =
     ap (λ r. r >>= λ x. Ok (terms x.0, x.1)) (terms_again arity scope code levels read law (length (encodings code ts)) p at end ls ts (omega arith) h stands place)
 tail_again arity scope code levels read law p tails.Bytes at end ls (trees.bytes bs) h some stands place = refl
@@ -338,15 +338,15 @@ plain_again arity scope code levels read law o row at end ls ps rest listed h pl
     ∙ ap (λ (f : Option Row). Ok (op o None ps empty, declared_by scope f (after_parts scope ls ps) ps empty, rest)) (sym listed)
 
 packed_again : (arity : Arities) (scope : Option (List Seg)) (code : List ℕ) (levels : ℕ) (read : Position → Reader Tree) → IsReader arity scope code levels read → (p : Position) (o : ℕ) (w : PkgWidth) (row : Row) (there at end : ℕ) (ls : PathSet)
-    (ps : Parts) (t : Rest) (rest : List ℕ) → row_of o ≡ Some row → IsGuarded (is_guard p row.place) ps → FitsWidth w (width_len w + length (parts_encoding code ps ++ rest_encoding code t))
+    (ps : Parts) (t : Tail) (rest : List ℕ) → row_of o ≡ Some row → IsGuarded (is_guard p row.place) ps → FitsWidth w (width_len w + length (parts_encoding code ps ++ tail_encoding code t))
     → AreParts (setting_of arity scope code) levels row.parts ls ps → IsTail (setting_of arity scope code) levels (terms_in p row.place) row.tail (after_parts scope ls ps) t → (row.tail ≡ tails.Empty → ⊥)
-    → RestStands code (at + (width_len w + length (parts_encoding code ps))) t → at + length (packed (Some w) (parts_encoding code ps ++ rest_encoding code t) ++ rest) ≡ end
-    → packed_at scope read p there row end ls (packed (Some w) (parts_encoding code ps ++ rest_encoding code t) ++ rest)
-    ≡ Ok (op o (Some w) ps t, declared_by scope (row_of o) (after_rest scope (after_parts scope ls ps) t) ps t, rest)
+    → TailStands code (at + (width_len w + length (parts_encoding code ps))) t → at + length (packed (Some w) (parts_encoding code ps ++ tail_encoding code t) ++ rest) ≡ end
+    → packed_at scope read p there row end ls (packed (Some w) (parts_encoding code ps ++ tail_encoding code t) ++ rest)
+    ≡ Ok (op o (Some w) ps t, declared_by scope (row_of o) (after_tail scope (after_parts scope ls ps) t) ps t, rest)
 unfolding packed_at
 packed_again arity scope code levels read law p o w row there at end ls ps t rest listed guarded fits h tail some stands place =
     let front = parts_encoding code ps in
-    let back = rest_encoding code t in
+    let back = tail_encoding code t in
     let inside = front ++ back in
     let spelled = package_bytes w (width_len w + length inside) in
     let size = length-package_bytes w (width_len w + length inside) in
@@ -355,48 +355,48 @@ packed_again arity scope code levels read law p o w row there at end ls ps t res
     let long : length ((spelled ++ inside) ++ rest) ≡ (length spelled + length inside) + length rest = length-append (spelled ++ inside) rest ∙ ap (λ n. n + length rest) (length-append spelled inside) in
     let parts_place : (at + width_len w) + length (front ++ back) ≡ inner = omega (arith, place, long, size) in
     let tail_place : (at + (width_len w + length front)) + length back ≡ inner = omega (arith, parts_place, length-append front back) in
-    let made : PkgWidth → Parts → Rest → PathSet → List ℕ → Tree × PathSet × List ℕ = λ v xs y m r. (op row.opcode (Some v) xs y, with_declared scope m (names_declared row.role xs y), r) in
+    let made : PkgWidth → Parts → Tail → PathSet → List ℕ → Tree × PathSet × List ℕ = λ v xs y m r. (op row.opcode (Some v) xs y, with_declared scope m (names_declared row.role xs y), r) in
     ap (packed_at scope read p there row end ls) split
     ∙ ap (λ r. r >>= λ span. guard_at (is_guard p row.place) there (end - length span.2) span.1 >>= λ guarded. parts_at read row.parts (end - length span.2) ls span.1 >>= λ xs. tail_at read (terms_in p row.place) row.tail (end - length span.2) xs.1 xs.2 >>= λ y. Ok (made span.0 xs.0 y.0 y.1 span.2)) (span_again end w inside rest fits)
     ∙ ap (λ r. r >>= λ guarded. parts_at read row.parts inner ls inside >>= λ xs. tail_at read (terms_in p row.place) row.tail inner xs.1 xs.2 >>= λ y. Ok (made w xs.0 y.0 y.1 rest)) (guard_again (is_guard p row.place) there inner code ps back guarded)
     ∙ ap (λ r. r >>= λ xs. tail_at read (terms_in p row.place) row.tail inner xs.1 xs.2 >>= λ y. Ok (made w xs.0 y.0 y.1 rest)) (parts_again arity scope code levels read law row.parts (at + width_len w) inner ls ps back h parts_place)
     ∙ ap (λ r. r >>= λ y. Ok (made w ps y.0 y.1 rest)) (tail_again arity scope code levels read law (terms_in p row.place) row.tail (at + (width_len w + length front)) inner (after_parts scope ls ps) t tail some stands tail_place)
-    ∙ ap (λ (n : ℕ). Ok (op n (Some w) ps t, with_declared scope (after_rest scope (after_parts scope ls ps) t) (names_declared row.role ps t), rest)) (row_opcode o row listed)
-    ∙ ap (λ (f : Option Row). Ok (op o (Some w) ps t, declared_by scope f (after_rest scope (after_parts scope ls ps) t) ps t, rest)) (sym listed)
+    ∙ ap (λ (n : ℕ). Ok (op n (Some w) ps t, with_declared scope (after_tail scope (after_parts scope ls ps) t) (names_declared row.role ps t), rest)) (row_opcode o row listed)
+    ∙ ap (λ (f : Option Row). Ok (op o (Some w) ps t, declared_by scope f (after_tail scope (after_parts scope ls ps) t) ps t, rest)) (sym listed)
 
 -- by whether the row has a package length
 op_again : (arity : Arities) (scope : Option (List Seg)) (code : List ℕ) (levels : ℕ) (read : Position → Reader Tree) → IsReader arity scope code levels read → (p : Position) (o : ℕ) (w : Option PkgWidth) (at end : ℕ) (ls : PathSet)
-    (ps : Parts) (t : Rest) (rest : List ℕ) → (h : IsLawful (setting_of arity scope code) (suc levels) p ls (op o w ps t)) → (b : Bool) → has_length (h.row).tail ≡ b → BodyStands code at (op o w ps t) → at + length (encoding code (op o w ps t) ++ rest) ≡ end
+    (ps : Parts) (t : Tail) (rest : List ℕ) → (h : IsLawful (setting_of arity scope code) (suc levels) p ls (op o w ps t)) → (b : Bool) → has_length (h.row).tail ≡ b → BodyStands code at (op o w ps t) → at + length (encoding code (op o w ps t) ++ rest) ≡ end
     → term_at arity scope read p end ls (encoding code (op o w ps t) ++ rest) ≡ Ok (op o w ps t, after scope ls (op o w ps t), rest)
 op_again arity scope code levels read law p o None at end ls ps t rest h false short stands place =
     let row = h.row in
     let front = parts_encoding code ps in
-    let is_empty : t ≡ empty = empty_rest (setting_of arity scope code) levels (terms_in p row.place) row.tail (after_parts scope ls ps) t short h.tail in
-    let text : opcode_bytes o ++ (front ++ rest_encoding code t) ++ rest ≡ opcode_bytes o ++ (front ++ rest) =
-    ap (λ (y : Rest). opcode_bytes o ++ (front ++ rest_encoding code y) ++ rest) is_empty ∙ ap (λ (b : List ℕ). (opcode_bytes o ++ b) ++ rest) (append-nil front) ∙ append_assoc (opcode_bytes o) front rest in
+    let is_empty : t ≡ empty = tail_is_empty (setting_of arity scope code) levels (terms_in p row.place) row.tail (after_parts scope ls ps) t short h.tail in
+    let text : opcode_bytes o ++ (front ++ tail_encoding code t) ++ rest ≡ opcode_bytes o ++ (front ++ rest) =
+    ap (λ (y : Tail). opcode_bytes o ++ (front ++ tail_encoding code y) ++ rest) is_empty ∙ ap (λ (b : List ℕ). (opcode_bytes o ++ b) ++ rest) (append-nil front) ∙ append_assoc (opcode_bytes o) front rest in
     let there = end - length (opcode_bytes o ++ (front ++ rest)) in
     let inner_place : (at + length (opcode_bytes o)) + length (front ++ rest) ≡ end = omega (arith, place, ap length text, length-append (opcode_bytes o) (front ++ rest)) in
     ap (term_at arity scope read p end ls) text
     ∙ reach_row arity scope read p o row end ls (front ++ rest) h.listed h.taken
     ∙ ap (λ (c : Bool). cond c (packed_at scope read p there row end ls (front ++ rest)) (plain_at scope read row end ls (front ++ rest))) short
     ∙ plain_again arity scope code levels read law o row (at + length (opcode_bytes o)) end ls ps rest h.listed h.parts inner_place
-    ∙ ap (λ (y : Rest). Ok (op o None ps y, declared_by scope (row_of o) (after_rest scope (after_parts scope ls ps) y) ps y, rest)) (sym is_empty)
+    ∙ ap (λ (y : Tail). Ok (op o None ps y, declared_by scope (row_of o) (after_tail scope (after_parts scope ls ps) y) ps y, rest)) (sym is_empty)
 op_again arity scope code levels read law p o None at end ls ps t rest h true long stands place =
-    let width : HasWidth true None (length (parts_encoding code ps ++ rest_encoding code t)) = subst (λ (b : Bool). HasWidth b None (length (parts_encoding code ps ++ rest_encoding code t))) long h.width in
+    let width : HasWidth true None (length (parts_encoding code ps ++ tail_encoding code t)) = subst (λ (b : Bool). HasWidth b None (length (parts_encoding code ps ++ tail_encoding code t))) long h.width in
     absurd width
 op_again arity scope code levels read law p o (Some w) at end ls ps t rest h false short stands place =
-    let width : HasWidth false (Some w) (length (parts_encoding code ps ++ rest_encoding code t)) = subst (λ (b : Bool). HasWidth b (Some w) (length (parts_encoding code ps ++ rest_encoding code t))) short h.width in
+    let width : HasWidth false (Some w) (length (parts_encoding code ps ++ tail_encoding code t)) = subst (λ (b : Bool). HasWidth b (Some w) (length (parts_encoding code ps ++ tail_encoding code t))) short h.width in
     absurd width
 op_again arity scope code levels read law p o (Some w) at end ls ps t rest h true long stands place =
     let row = h.row in
-    let inside = parts_encoding code ps ++ rest_encoding code t in
+    let inside = parts_encoding code ps ++ tail_encoding code t in
     let content = packed (Some w) inside in
     let text = append_assoc (opcode_bytes o) content rest in
     let there = end - length (opcode_bytes o ++ (content ++ rest)) in
     let width : FitsWidth w (width_len w + length inside) = subst (λ (b : Bool). HasWidth b (Some w) (length inside)) long h.width in
     let inner_place : (at + length (opcode_bytes o)) + length (content ++ rest) ≡ end = omega (arith, place, ap length text, length-append (opcode_bytes o) (content ++ rest)) in
     let offset : at + (length (opcode_bytes o) + (width_len w + length (parts_encoding code ps))) ≡ (at + length (opcode_bytes o)) + (width_len w + length (parts_encoding code ps)) = omega arith in
-    let tail_stands : RestStands code ((at + length (opcode_bytes o)) + (width_len w + length (parts_encoding code ps))) t = subst (λ (n : ℕ). RestStands code n t) offset stands in
+    let tail_stands : TailStands code ((at + length (opcode_bytes o)) + (width_len w + length (parts_encoding code ps))) t = subst (λ (n : ℕ). TailStands code n t) offset stands in
     ap (term_at arity scope read p end ls) text
     ∙ reach_row arity scope read p o row end ls (content ++ rest) h.listed h.taken
     ∙ ap (λ (c : Bool). cond c (packed_at scope read p there row end ls (content ++ rest)) (plain_at scope read row end ls (content ++ rest))) long

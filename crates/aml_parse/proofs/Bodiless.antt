@@ -8,11 +8,11 @@ use Rattle.aml_code.specs.declared.rows.Position.TheVariants as positions
 use Rattle.aml_code.specs.declared.rows.TailKind.{TailKind}
 use Rattle.aml_code.specs.declared.rows.TailKind.TheVariants as tails
 use Rattle.aml_code.specs.Rows.{takes}
-use Rattle.aml_code.specs.Tree.{Tree, nothing, named, op, Trees, no_trees, tree_more, Rest, empty, terms, bytes, elements, fields, body}
+use Rattle.aml_code.specs.Tree.{Tree, nothing, named, op, Trees, no_trees, tree_more, Tail, empty, terms, bytes, elements, fields, body}
 use Rattle.aml_code.specs.Encoding.{opcode_bytes, encoding, parts_encoding}
 use Rattle.aml_code.specs.Declaring.{after, after_parts}
 use Rattle.aml_code.specs.Lawful.{Setting, IsLawful, AreTerms, IsTail, terms_in, is_if, next_position}
-use Rattle.aml_code.specs.Meaning.{length_bytes, BodyStands, BodiesStand, RestStands}
+use Rattle.aml_code.specs.Meaning.{length_bytes, BodyStands, BodiesStand, TailStands}
 use Rattle.aml_code.proofs.RowFacts.{body_place}
 use Rattle.aml_parse.specs.Reading.{takes_names}
 
@@ -69,7 +69,7 @@ mutual
   bodiless s code levels p ls at (named n ts) h l = tt
   bodiless s code zero p ls at (op o w ps t) h l = absurd l
   bodiless s code (suc levels) p ls at (op o w ps t) h l =
-      rest_bodiless s code levels (terms_in p (l.row).place) (l.row).tail (after_parts s.scope ls ps) (at + (length (opcode_bytes o) + (length_bytes w + length (parts_encoding code ps)))) t
+      tail_bodiless s code levels (terms_in p (l.row).place) (l.row).tail (after_parts s.scope ls ps) (at + (length (opcode_bytes o) + (length_bytes w + length (parts_encoding code ps)))) t
       (inner_takes p (l.row).place h) (λ e. no_method p (l.row).place h l.taken (body_place o l.row l.listed e)) l.tail
 
   pub terms_bodiless : (s : Setting) (code : List ℕ) (levels : ℕ) (p : Position) (ls : PathSet) (at : ℕ) (ts : Trees) → takes_names p ≡ true → AreTerms s levels p ls ts → BodiesStand code at ts
@@ -77,10 +77,10 @@ mutual
   terms_bodiless s code levels p ls at (tree_more t ts) h l =
       (bodiless s code levels p ls at t h l.0, terms_bodiless s code levels (next_position p t) (after s.scope ls t) (at + length (encoding code t)) ts (next_takes p t h) l.1)
 
-  rest_bodiless : (s : Setting) (code : List ℕ) (levels : ℕ) (p : Position) (k : TailKind) (ls : PathSet) (at : ℕ) (t : Rest) → takes_names p ≡ true → (k ≡ tails.Body → ⊥) → IsTail s levels p k ls t → RestStands code at t
-  rest_bodiless s code levels p k ls at empty h other l = tt
-  rest_bodiless s code levels p k ls at (terms ts) h other l = terms_bodiless s code levels p ls at ts h (terms_tail s levels p k ls ts l)
-  rest_bodiless s code levels p k ls at (bytes bs) h other l = tt
-  rest_bodiless s code levels p k ls at (elements ts) h other l = tt
-  rest_bodiless s code levels p k ls at (fields us) h other l = tt
-  rest_bodiless s code levels p k ls at (body start len) h other l = absurd (other (body_tail s levels p k ls start len l))
+  tail_bodiless : (s : Setting) (code : List ℕ) (levels : ℕ) (p : Position) (k : TailKind) (ls : PathSet) (at : ℕ) (t : Tail) → takes_names p ≡ true → (k ≡ tails.Body → ⊥) → IsTail s levels p k ls t → TailStands code at t
+  tail_bodiless s code levels p k ls at empty h other l = tt
+  tail_bodiless s code levels p k ls at (terms ts) h other l = terms_bodiless s code levels p ls at ts h (terms_tail s levels p k ls ts l)
+  tail_bodiless s code levels p k ls at (bytes bs) h other l = tt
+  tail_bodiless s code levels p k ls at (elements ts) h other l = tt
+  tail_bodiless s code levels p k ls at (fields us) h other l = tt
+  tail_bodiless s code levels p k ls at (body start len) h other l = absurd (other (body_tail s levels p k ls start len l))

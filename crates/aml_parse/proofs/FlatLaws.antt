@@ -20,7 +20,7 @@ use Rattle.aml_code.specs.declared.rows.PartKind.{PartKind}
 use Rattle.aml_code.specs.declared.rows.PartKind.TheVariants as kinds
 use Rattle.aml_code.specs.Packages.{little}
 use Rattle.aml_code.specs.Lengths.{little_at}
-use Rattle.aml_code.specs.Tree.{OnePart, byte, word, dword, qword, text, label}
+use Rattle.aml_code.specs.Tree.{Part, byte, word, dword, qword, text, label}
 use Rattle.aml_code.specs.Encoding.{opcode_bytes, part_encoding}
 use Rattle.aml_code.specs.Declaring.{after_part}
 use Rattle.aml_code.specs.Faults.{IsOpcode}
@@ -29,38 +29,38 @@ use Rattle.aml_code.proofs.LengthLaws.{little_takes, little_again, little_fault}
 use Rattle.aml_parse.specs.Reading.{byte_part, count_part, word_part, dword_part, qword_part, text_to, text_part, any_name_part, segmented_at, name_part, opcode_at}
 
 -- a part that was read from the front of the bytes, and declares nothing
-pub record TookFlat (s : Setting) (levels : ℕ) (k : PartKind) (ls : PathSet) (bs : List ℕ) (x : OnePart × List ℕ) : Type 0 where
+pub record TookFlat (s : Setting) (levels : ℕ) (k : PartKind) (ls : PathSet) (bs : List ℕ) (x : Part × List ℕ) : Type 0 where
   pub takes : Takes bs (part_encoding s.code x.0) x.1
   pub is_part : IsPart s levels k ls x.0
   pub after_is : after_part s.scope ls x.0 ≡ ls
 
 -- ---- numbers
 
-pub byte_took : (s : Setting) (levels : ℕ) (ls : PathSet) (end : ℕ) (bs : List ℕ) (x : OnePart × List ℕ) → IsBytes bs → byte_part end bs ≡ Ok x → TookFlat s levels kinds.Byte ls bs x
+pub byte_took : (s : Setting) (levels : ℕ) (ls : PathSet) (end : ℕ) (bs : List ℕ) (x : Part × List ℕ) → IsBytes bs → byte_part end bs ≡ Ok x → TookFlat s levels kinds.Byte ls bs x
 byte_took s levels ls end bs x fits e =
     bind_then (TookFlat s levels kinds.Byte ls bs x) (little_at 1 end bs) (λ n. Ok (byte n.0, n.1)) x e (λ n h1 e1.
     let t = little_takes 1 end bs n.0 n.1 fits h1 in
     subst (TookFlat s levels kinds.Byte ls bs) (ok_is (byte n.0, n.1) x e1) (record { takes = t.0; is_part = t.1; after_is = refl }))
 
-pub word_took : (s : Setting) (levels : ℕ) (ls : PathSet) (end : ℕ) (bs : List ℕ) (x : OnePart × List ℕ) → IsBytes bs → word_part end bs ≡ Ok x → TookFlat s levels kinds.Word ls bs x
+pub word_took : (s : Setting) (levels : ℕ) (ls : PathSet) (end : ℕ) (bs : List ℕ) (x : Part × List ℕ) → IsBytes bs → word_part end bs ≡ Ok x → TookFlat s levels kinds.Word ls bs x
 word_took s levels ls end bs x fits e =
     bind_then (TookFlat s levels kinds.Word ls bs x) (little_at 2 end bs) (λ n. Ok (word n.0, n.1)) x e (λ n h1 e1.
     let t = little_takes 2 end bs n.0 n.1 fits h1 in
     subst (TookFlat s levels kinds.Word ls bs) (ok_is (word n.0, n.1) x e1) (record { takes = t.0; is_part = t.1; after_is = refl }))
 
-pub dword_took : (s : Setting) (levels : ℕ) (ls : PathSet) (end : ℕ) (bs : List ℕ) (x : OnePart × List ℕ) → IsBytes bs → dword_part end bs ≡ Ok x → TookFlat s levels kinds.Dword ls bs x
+pub dword_took : (s : Setting) (levels : ℕ) (ls : PathSet) (end : ℕ) (bs : List ℕ) (x : Part × List ℕ) → IsBytes bs → dword_part end bs ≡ Ok x → TookFlat s levels kinds.Dword ls bs x
 dword_took s levels ls end bs x fits e =
     bind_then (TookFlat s levels kinds.Dword ls bs x) (little_at 4 end bs) (λ n. Ok (dword n.0, n.1)) x e (λ n h1 e1.
     let t = little_takes 4 end bs n.0 n.1 fits h1 in
     subst (TookFlat s levels kinds.Dword ls bs) (ok_is (dword n.0, n.1) x e1) (record { takes = t.0; is_part = t.1; after_is = refl }))
 
-pub qword_took : (s : Setting) (levels : ℕ) (ls : PathSet) (end : ℕ) (bs : List ℕ) (x : OnePart × List ℕ) → IsBytes bs → qword_part end bs ≡ Ok x → TookFlat s levels kinds.Qword ls bs x
+pub qword_took : (s : Setting) (levels : ℕ) (ls : PathSet) (end : ℕ) (bs : List ℕ) (x : Part × List ℕ) → IsBytes bs → qword_part end bs ≡ Ok x → TookFlat s levels kinds.Qword ls bs x
 qword_took s levels ls end bs x fits e =
     bind_then (TookFlat s levels kinds.Qword ls bs x) (little_at 8 end bs) (λ n. Ok (qword n.0, n.1)) x e (λ n h1 e1.
     let t = little_takes 8 end bs n.0 n.1 fits h1 in
     subst (TookFlat s levels kinds.Qword ls bs) (ok_is (qword n.0, n.1) x e1) (record { takes = t.0; is_part = t.1; after_is = refl }))
 
-pub count_took : (s : Setting) (levels : ℕ) (ls : PathSet) (end : ℕ) (bs : List ℕ) (x : OnePart × List ℕ) → IsBytes bs → count_part end bs ≡ Ok x → TookFlat s levels kinds.Count ls bs x
+pub count_took : (s : Setting) (levels : ℕ) (ls : PathSet) (end : ℕ) (bs : List ℕ) (x : Part × List ℕ) → IsBytes bs → count_part end bs ≡ Ok x → TookFlat s levels kinds.Count ls bs x
 unfolding count_part
 count_took s levels ls end bs x fits e =
     bind_then (TookFlat s levels kinds.Count ls bs x) (little_at 1 end bs) (λ n. cond (ltb 7 n.0) (Err (faults.BadCount (end - length bs))) (Ok (byte n.0, n.1))) x e (λ n h1 e1.
@@ -98,12 +98,12 @@ pub count_fault : (end : ℕ) (bs : List ℕ) (d : CodeFault) → IsBytes bs →
 unfolding count_part
 count_fault end bs d fits e =
     let P : Type 0 = (d ≡ faults.Truncated end) ⊎ ((b : ℕ) × (rest : List ℕ) × (bs ≡ b ∷ rest) × (7 < b) × (d ≡ faults.BadCount (end - length bs))) in
-    let bad : Result (OnePart × List ℕ) CodeFault = Err (faults.BadCount (end - length bs)) in
+    let bad : Result (Part × List ℕ) CodeFault = Err (faults.BadCount (end - length bs)) in
     err_then P (little_at 1 end bs) (λ n. cond (ltb 7 n.0) bad (Ok (byte n.0, n.1))) d e (λ h. inl (little_fault 1 end bs d h)) (λ n h1 e1.
     let t = little_takes 1 end bs n.0 n.1 fits h1 in
     let low : n.0 % 256 ≡ n.0 = omega (arith, t.1) in
     cond_then P (ltb 7 n.0) bad (Ok (byte n.0, n.1)) (Err d) e1
-    (λ g q. inr (n.0, n.1, t.0.parts ∙ ap (λ m. m ∷ n.1) low, ltb-true _ _ g, sym (err_is {A = OnePart × List ℕ} (faults.BadCount (end - length bs)) d q)))
+    (λ g q. inr (n.0, n.1, t.0.parts ∙ ap (λ m. m ∷ n.1) low, ltb-true _ _ g, sym (err_is {A = Part × List ℕ} (faults.BadCount (end - length bs)) d q)))
     (λ g q. absurd cc))
 
 -- ---- texts
@@ -119,7 +119,7 @@ text_bytes (suc n) (b ∷ bs) le h fits =
     positive zero h = absurd (h refl)
     positive (suc b) h = omega arith
 
-pub text_took : (s : Setting) (levels : ℕ) (ls : PathSet) (end : ℕ) (bs : List ℕ) (x : OnePart × List ℕ) → IsBytes bs → text_part end bs ≡ Ok x → TookFlat s levels kinds.Text ls bs x
+pub text_took : (s : Setting) (levels : ℕ) (ls : PathSet) (end : ℕ) (bs : List ℕ) (x : Part × List ℕ) → IsBytes bs → text_part end bs ≡ Ok x → TookFlat s levels kinds.Text ls bs x
 text_took s levels ls end bs x fits e = by_position (position (λ b. b == 0) bs) refl e
   where
     by_position : (o : Option ℕ) → position (λ b. b == 0) bs ≡ o → text_to o end bs ≡ Ok x → TookFlat s levels kinds.Text ls bs x
@@ -158,12 +158,12 @@ pub text_fault : (end : ℕ) (bs : List ℕ) (d : CodeFault) → text_part end b
 text_fault end bs d e = by_position (position (λ b. b == 0) bs) e
   where
     by_position : (o : Option ℕ) → text_to o end bs ≡ Err d → d ≡ faults.Truncated end
-    by_position None h = sym (err_is {A = OnePart × List ℕ} (faults.Truncated end) d h)
+    by_position None h = sym (err_is {A = Part × List ℕ} (faults.Truncated end) d h)
     by_position (Some n) h = absurd cc
 
 -- ---- names
 
-pub any_name_took : (s : Setting) (levels : ℕ) (ls : PathSet) (end : ℕ) (bs : List ℕ) (x : OnePart × List ℕ) → IsBytes bs → any_name_part end bs ≡ Ok x → TookFlat s levels kinds.ScopeName ls bs x
+pub any_name_took : (s : Setting) (levels : ℕ) (ls : PathSet) (end : ℕ) (bs : List ℕ) (x : Part × List ℕ) → IsBytes bs → any_name_part end bs ≡ Ok x → TookFlat s levels kinds.ScopeName ls bs x
 any_name_took s levels ls end bs x fits e =
     bind_then (TookFlat s levels kinds.ScopeName ls bs x) (name_at end bs) (λ n. Ok (label n.0, n.1)) x e (λ n h1 e1.
     let t = name_takes end bs n.0 n.1 fits h1 in
@@ -177,7 +177,7 @@ segmented_takes end bs x fits e =
     let g = chosen_ok (has_segment n.0) (faults.EmptyName (end - length bs)) (Ok n) x e1 in
     subst (λ (y : Name × List ℕ). Takes bs (spelling y.0) y.1 × IsName y.0 × (has_segment y.0 ≡ true)) (ok_is n x g.1) (t.0, t.1, g.0))
 
-pub name_took : (s : Setting) (levels : ℕ) (ls : PathSet) (end : ℕ) (bs : List ℕ) (x : OnePart × List ℕ) → IsBytes bs → name_part end bs ≡ Ok x → TookFlat s levels kinds.Name ls bs x
+pub name_took : (s : Setting) (levels : ℕ) (ls : PathSet) (end : ℕ) (bs : List ℕ) (x : Part × List ℕ) → IsBytes bs → name_part end bs ≡ Ok x → TookFlat s levels kinds.Name ls bs x
 name_took s levels ls end bs x fits e =
     bind_then (TookFlat s levels kinds.Name ls bs x) (segmented_at end bs) (λ n. Ok (label n.0, n.1)) x e (λ n h1 e1.
     let t = segmented_takes end bs n fits h1 in

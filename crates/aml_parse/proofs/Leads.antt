@@ -18,8 +18,8 @@ use Rattle.aml_code.specs.declared.rows.Position.TheVariants as positions
 use Rattle.aml_code.specs.declared.rows.TailKind.{TailKind}
 use Rattle.aml_code.specs.declared.rows.TailKind.TheVariants as tails
 use Rattle.aml_code.specs.Rows.{row_of, has_length}
-use Rattle.aml_code.specs.Tree.{Tree, nothing, named, op, child, label, byte, word, dword, qword, text, Parts, no_parts, part_more, Rest, empty, terms, bytes, elements, fields, body}
-use Rattle.aml_code.specs.Encoding.{opcode_bytes, packed, encoding, encodings, parts_encoding, rest_encoding}
+use Rattle.aml_code.specs.Tree.{Tree, nothing, named, op, child, label, byte, word, dword, qword, text, Parts, no_parts, part_more, Tail, empty, terms, bytes, elements, fields, body}
+use Rattle.aml_code.specs.Encoding.{opcode_bytes, packed, encoding, encodings, parts_encoding, tail_encoding}
 use Rattle.aml_code.specs.Declaring.{after_parts}
 use Rattle.aml_code.specs.Lawful.{HasWidth, IsGuarded, terms_in, IsBuffer, Setting, IsLawful, AreParts, IsTail}
 use Rattle.aml_code.proofs.RowFacts.{zero_bare, lead_of, opcode_lead, row_lead_is}
@@ -53,7 +53,7 @@ led_by s code (suc levels) p ls (named n ts) rest b behind h other e g =
     let leads = name_leads n behind (encodings code ts ++ rest) b h.0 h.1 (sym (append_assoc (spelling n) (encodings code ts) rest) ∙ e) in
     absurd (cc (leads, g))
 led_by s code levels p ls (op o w ps t) rest b behind h other e g =
-    let content = packed w (parts_encoding code ps ++ rest_encoding code t) in
+    let content = packed w (parts_encoding code ps ++ tail_encoding code t) in
     let l = opcode_lead o (content ++ rest) in
     first_same (lead_of o) b l.0 behind (sym l.1 ∙ sym (append_assoc (opcode_bytes o) content rest) ∙ e)
 
@@ -65,18 +65,18 @@ is_buffer s (suc levels) p ls (op o w ps t) h e = row_lead_is o 0x11 h.row h.lis
 
 -- ---- the opcode 00 stands alone
 
-pub empty_rest : (s : Setting) (levels : ℕ) (p : Position) (k : TailKind) (ls : PathSet) (t : Rest) → has_length k ≡ false → IsTail s levels p k ls t → t ≡ empty
-empty_rest s levels p tails.Empty ls empty e l = refl
-empty_rest s levels p tails.Empty ls (terms ts) e l = absurd l
-empty_rest s levels p tails.Empty ls (bytes bs) e l = absurd l
-empty_rest s levels p tails.Empty ls (elements ts) e l = absurd l
-empty_rest s levels p tails.Empty ls (fields us) e l = absurd l
-empty_rest s levels p tails.Empty ls (body start len) e l = absurd l
-empty_rest s levels p tails.Terms ls t e l = absurd cc
-empty_rest s levels p tails.Bytes ls t e l = absurd cc
-empty_rest s levels p tails.Elements ls t e l = absurd cc
-empty_rest s levels p tails.Fields ls t e l = absurd cc
-empty_rest s levels p tails.Body ls t e l = absurd cc
+pub tail_is_empty : (s : Setting) (levels : ℕ) (p : Position) (k : TailKind) (ls : PathSet) (t : Tail) → has_length k ≡ false → IsTail s levels p k ls t → t ≡ empty
+tail_is_empty s levels p tails.Empty ls empty e l = refl
+tail_is_empty s levels p tails.Empty ls (terms ts) e l = absurd l
+tail_is_empty s levels p tails.Empty ls (bytes bs) e l = absurd l
+tail_is_empty s levels p tails.Empty ls (elements ts) e l = absurd l
+tail_is_empty s levels p tails.Empty ls (fields us) e l = absurd l
+tail_is_empty s levels p tails.Empty ls (body start len) e l = absurd l
+tail_is_empty s levels p tails.Terms ls t e l = absurd cc
+tail_is_empty s levels p tails.Bytes ls t e l = absurd cc
+tail_is_empty s levels p tails.Elements ls t e l = absurd cc
+tail_is_empty s levels p tails.Fields ls t e l = absurd cc
+tail_is_empty s levels p tails.Body ls t e l = absurd cc
 
 no_width : (w : Option PkgWidth) (len : ℕ) → HasWidth false w len → w ≡ None
 no_width None len h = refl
@@ -97,11 +97,11 @@ zero_alone s (suc levels) p ls (op o w ps t) h e =
     let row = h.row in
     let o_is : o ≡ 0x00 = row_lead_is o 0x00 row h.listed e (omega arith) in
     let z = zero_bare row (subst (λ (n : ℕ). row_of n ≡ Some row) o_is h.listed) in
-    let len = length (parts_encoding s.code ps ++ rest_encoding s.code t) in
+    let len = length (parts_encoding s.code ps ++ tail_encoding s.code t) in
     let w_is : w ≡ None = no_width w len (subst (λ (b : Bool). HasWidth b w len) z.1 h.width) in
     let ps_is : ps ≡ no_parts = none_of_none s levels ls ps (subst (λ (ks : List PartKind). AreParts s levels ks ls ps) z.0 h.parts) in
-    let t_is : t ≡ empty = empty_rest s levels (terms_in p row.place) row.tail (after_parts s.scope ls ps) t z.1 h.tail in
-    ap (λ (n : ℕ). op n w ps t) o_is ∙ ap (λ (v : Option PkgWidth). op 0x00 v ps t) w_is ∙ ap (λ (xs : Parts). op 0x00 None xs t) ps_is ∙ ap (λ (y : Rest). op 0x00 None no_parts y) t_is
+    let t_is : t ≡ empty = tail_is_empty s levels (terms_in p row.place) row.tail (after_parts s.scope ls ps) t z.1 h.tail in
+    ap (λ (n : ℕ). op n w ps t) o_is ∙ ap (λ (v : Option PkgWidth). op 0x00 v ps t) w_is ∙ ap (λ (xs : Parts). op 0x00 None xs t) ps_is ∙ ap (λ (y : Tail). op 0x00 None no_parts y) t_is
 
 -- ---- guards
 

@@ -1,5 +1,5 @@
 pub mod FlatLaws
-pub mod UnitLaws
+pub mod FieldLaws
 pub mod Took
 pub mod Leads
 pub mod Bodiless

@@ -10,10 +10,10 @@ use Rattle.aml_code.specs.declared.rows.Position.TheVariants as positions
 use Rattle.aml_code.specs.declared.tree.Field.{Field}
 use Rattle.aml_code.specs.declared.tree.Node.{Node}
 use Rattle.aml_code.specs.declared.tree.Part.{Part}
-use Rattle.aml_code.specs.Tree.{Tree, Trees, no_trees, tree_more, Parts, no_parts, part_more, Units, no_units, unit_more}
+use Rattle.aml_code.specs.Tree.{Tree, Trees, no_trees, tree_more, Parts, no_parts, part_more, Fields, no_fields, field_more}
 use Rattle.aml_code.specs.View.{node_view, nodes_view, part_view, parts_view, field_view, fields_view}
 use Rattle.aml_code.specs.Lawful.{next_position}
-use Rattle.aml_parse.specs.Reading.{Reader, part_at, parts_at, arguments_at, terms_at, unit_at, units_at}
+use Rattle.aml_parse.specs.Reading.{Reader, part_at, parts_at, arguments_at, terms_at, field_at, fields_at}
 
 -- ---- lists
 
@@ -139,50 +139,50 @@ terms_end read front n p end ls (b ∷ bs) total none so_far = absurd (omega ari
 
 -- ---- elements of a field list to the end of a span
 
-abbrev pub joined_units : Units → Units → Units
-joined_units no_units us = us
-joined_units (unit_more u vs) us = unit_more u (joined_units vs us)
+abbrev pub joined_units : Fields → Fields → Fields
+joined_units no_fields us = us
+joined_units (field_more u vs) us = field_more u (joined_units vs us)
 
-joined_units_more : (front : List Field) (field : Field) (us : Units) → joined_units (fields_view (front ++ field ∷ [])) us ≡ joined_units (fields_view front) (unit_more (field_view field) us)
+joined_units_more : (front : List Field) (field : Field) (us : Fields) → joined_units (fields_view (front ++ field ∷ [])) us ≡ joined_units (fields_view front) (field_more (field_view field) us)
 joined_units_more [] field us = refl
-joined_units_more (f ∷ front) field us = ap (λ vs. unit_more (field_view f) vs) (joined_units_more front field us)
+joined_units_more (f ∷ front) field us = ap (λ vs. field_more (field_view f) vs) (joined_units_more front field us)
 
-joined_units_none : (us : Units) → joined_units us no_units ≡ us
-joined_units_none no_units = refl
-joined_units_none (unit_more u us) = ap (λ vs. unit_more u vs) (joined_units_none us)
+joined_units_none : (us : Fields) → joined_units us no_fields ≡ us
+joined_units_none no_fields = refl
+joined_units_none (field_more u us) = ap (λ vs. field_more u vs) (joined_units_none us)
 
-abbrev pub with_units : Units → Result (Units × PathSet) CodeFault → Result (Units × PathSet) CodeFault
+abbrev pub with_units : Fields → Result (Fields × PathSet) CodeFault → Result (Fields × PathSet) CodeFault
 with_units front read = read >>= λ x. Ok (joined_units front x.0, x.1)
 
-units_regroup : (front : List Field) (field : Field) (read : Result (Units × PathSet) CodeFault) → with_units (fields_view front) (read >>= λ x. Ok (unit_more (field_view field) x.0, x.1)) ≡ with_units (fields_view (front ++ field ∷ [])) read
-units_regroup front field (Ok x) = ap (λ (us : Units). Ok (us, x.1)) (sym (joined_units_more front field x.0))
-units_regroup front field (Err e) = refl
+fields_regroup : (front : List Field) (field : Field) (read : Result (Fields × PathSet) CodeFault) → with_units (fields_view front) (read >>= λ x. Ok (field_more (field_view field) x.0, x.1)) ≡ with_units (fields_view (front ++ field ∷ [])) read
+fields_regroup front field (Ok x) = ap (λ (us : Fields). Ok (us, x.1)) (sym (joined_units_more front field x.0))
+fields_regroup front field (Err e) = refl
 
-pub units_go_on : (read : Position → Reader Tree) (front : List Field) (field : Field) (n : ℕ) (end : ℕ) (ls : PathSet) (bs : List ℕ) (ls' : PathSet) (rest : List ℕ) (total : Result (Units × PathSet) CodeFault)
-    → 0 < length bs → 0 < n → unit_at read end ls bs ≡ Ok (field_view field, ls', rest) → with_units (fields_view front) (units_at read n end ls bs) ≡ total
-    → with_units (fields_view (front ++ field ∷ [])) (units_at read (n - 1) end ls' rest) ≡ total
-unfolding units_at
-units_go_on read front field n end ls [] ls' rest total some le h so_far = absurd (omega arith)
-units_go_on read front field zero end ls (b ∷ bs) ls' rest total some le h so_far = absurd (omega arith)
-units_go_on read front field (suc n) end ls (b ∷ bs) ls' rest total some le h so_far =
-    let one : with_units (fields_view front) (units_at read (suc n) end ls (b ∷ bs)) ≡ with_units (fields_view (front ++ field ∷ [])) (units_at read n end ls' rest) = rw h (units_regroup front field (units_at read n end ls' rest)) in
+pub fields_go_on : (read : Position → Reader Tree) (front : List Field) (field : Field) (n : ℕ) (end : ℕ) (ls : PathSet) (bs : List ℕ) (ls' : PathSet) (rest : List ℕ) (total : Result (Fields × PathSet) CodeFault)
+    → 0 < length bs → 0 < n → field_at read end ls bs ≡ Ok (field_view field, ls', rest) → with_units (fields_view front) (fields_at read n end ls bs) ≡ total
+    → with_units (fields_view (front ++ field ∷ [])) (fields_at read (n - 1) end ls' rest) ≡ total
+unfolding fields_at
+fields_go_on read front field n end ls [] ls' rest total some le h so_far = absurd (omega arith)
+fields_go_on read front field zero end ls (b ∷ bs) ls' rest total some le h so_far = absurd (omega arith)
+fields_go_on read front field (suc n) end ls (b ∷ bs) ls' rest total some le h so_far =
+    let one : with_units (fields_view front) (fields_at read (suc n) end ls (b ∷ bs)) ≡ with_units (fields_view (front ++ field ∷ [])) (fields_at read n end ls' rest) = rw h (fields_regroup front field (fields_at read n end ls' rest)) in
     let less : suc n - 1 ≡ n = omega arith in
     rw less (sym one ∙ so_far)
 
-pub units_fail : (e : CodeFault) (read : Position → Reader Tree) (front : Units) (n : ℕ) (end : ℕ) (ls : PathSet) (bs : List ℕ) (total : Result (Units × PathSet) CodeFault)
-    → 0 < length bs → 0 < n → unit_at read end ls bs ≡ Err e → with_units front (units_at read n end ls bs) ≡ total → total ≡ Err e
-unfolding units_at
-units_fail e read front n end ls [] total some le h so_far = absurd (omega arith)
-units_fail e read front zero end ls (b ∷ bs) total some le h so_far = absurd (omega arith)
-units_fail e read front (suc n) end ls (b ∷ bs) total some le h so_far =
-    let one : with_units front (units_at read (suc n) end ls (b ∷ bs)) ≡ Err e = rw h refl in
+pub fields_fail : (e : CodeFault) (read : Position → Reader Tree) (front : Fields) (n : ℕ) (end : ℕ) (ls : PathSet) (bs : List ℕ) (total : Result (Fields × PathSet) CodeFault)
+    → 0 < length bs → 0 < n → field_at read end ls bs ≡ Err e → with_units front (fields_at read n end ls bs) ≡ total → total ≡ Err e
+unfolding fields_at
+fields_fail e read front n end ls [] total some le h so_far = absurd (omega arith)
+fields_fail e read front zero end ls (b ∷ bs) total some le h so_far = absurd (omega arith)
+fields_fail e read front (suc n) end ls (b ∷ bs) total some le h so_far =
+    let one : with_units front (fields_at read (suc n) end ls (b ∷ bs)) ≡ Err e = rw h refl in
     sym so_far ∙ one
 
-pub units_end : (read : Position → Reader Tree) (front : Units) (n : ℕ) (end : ℕ) (ls : PathSet) (bs : List ℕ) (total : Result (Units × PathSet) CodeFault)
-    → length bs ≡ 0 → with_units front (units_at read n end ls bs) ≡ total → total ≡ Ok (front, ls)
-unfolding units_at
-units_end read front n end ls [] total none so_far = sym so_far ∙ ap (λ (us : Units). Ok (us, ls)) (joined_units_none front)
-units_end read front n end ls (b ∷ bs) total none so_far = absurd (omega arith)
+pub fields_end : (read : Position → Reader Tree) (front : Fields) (n : ℕ) (end : ℕ) (ls : PathSet) (bs : List ℕ) (total : Result (Fields × PathSet) CodeFault)
+    → length bs ≡ 0 → with_units front (fields_at read n end ls bs) ≡ total → total ≡ Ok (front, ls)
+unfolding fields_at
+fields_end read front n end ls [] total none so_far = sym so_far ∙ ap (λ (us : Fields). Ok (us, ls)) (joined_units_none front)
+fields_end read front n end ls (b ∷ bs) total none so_far = absurd (omega arith)
 
 -- ---- the faults, as a loop meets them
 
@@ -203,14 +203,14 @@ terms_run_out read front n p end ls [] total none some so_far = absurd (omega ar
 terms_run_out read front zero p end ls (b ∷ bs) total none some so_far = sym so_far
 terms_run_out read front (suc n) p end ls (b ∷ bs) total none some so_far = absurd (omega (arith, none))
 
-pub units_fails : (e : CodeFault) (read : Position → Reader Tree) (front : Units) (n i : ℕ) (end : ℕ) (ls : PathSet) (bs : List ℕ) (total : Result (Units × PathSet) CodeFault)
-    → i < n → 0 < length bs → Fails e (unit_at read end ls bs) → with_units front (units_at read (n - i) end ls bs) ≡ total → Fails e total
-units_fails e read front n i end ls bs total less some (inl h) so_far = inl h
-units_fails e read front n i end ls bs total less some (inr h) so_far = inr (units_fail e read front (n - i) end ls bs total some (omega (arith, less)) h so_far)
+pub fields_fails : (e : CodeFault) (read : Position → Reader Tree) (front : Fields) (n i : ℕ) (end : ℕ) (ls : PathSet) (bs : List ℕ) (total : Result (Fields × PathSet) CodeFault)
+    → i < n → 0 < length bs → Fails e (field_at read end ls bs) → with_units front (fields_at read (n - i) end ls bs) ≡ total → Fails e total
+fields_fails e read front n i end ls bs total less some (inl h) so_far = inl h
+fields_fails e read front n i end ls bs total less some (inr h) so_far = inr (fields_fail e read front (n - i) end ls bs total some (omega (arith, less)) h so_far)
 
-pub units_run_out : (read : Position → Reader Tree) (front : Units) (n : ℕ) (end : ℕ) (ls : PathSet) (bs : List ℕ) (total : Result (Units × PathSet) CodeFault)
-    → n ≡ 0 → 0 < length bs → with_units front (units_at read n end ls bs) ≡ total → total ≡ Err (faults.Truncated end)
-unfolding units_at
-units_run_out read front n end ls [] total none some so_far = absurd (omega arith)
-units_run_out read front zero end ls (b ∷ bs) total none some so_far = sym so_far
-units_run_out read front (suc n) end ls (b ∷ bs) total none some so_far = absurd (omega (arith, none))
+pub fields_run_out : (read : Position → Reader Tree) (front : Fields) (n : ℕ) (end : ℕ) (ls : PathSet) (bs : List ℕ) (total : Result (Fields × PathSet) CodeFault)
+    → n ≡ 0 → 0 < length bs → with_units front (fields_at read n end ls bs) ≡ total → total ≡ Err (faults.Truncated end)
+unfolding fields_at
+fields_run_out read front n end ls [] total none some so_far = absurd (omega arith)
+fields_run_out read front zero end ls (b ∷ bs) total none some so_far = sym so_far
+fields_run_out read front (suc n) end ls (b ∷ bs) total none some so_far = absurd (omega (arith, none))

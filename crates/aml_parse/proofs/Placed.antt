@@ -25,20 +25,20 @@ use Rattle.aml_code.specs.declared.rows.TailKind.TheVariants as tails
 use Rattle.aml_code.specs.Packages.{width_len}
 use Rattle.aml_code.specs.Lengths.{length_at, span_at}
 use Rattle.aml_code.specs.Rows.{row_of, has_length, takes}
-use Rattle.aml_code.specs.Tree.{Tree, nothing, named, op, Trees, tree_more, OnePart, child, byte, word, dword, qword, label, Parts, part_more, Rest, empty, terms, elements, fields, OneUnit, unit, connection, Units, unit_more, target, buffer}
-use Rattle.aml_code.specs.Encoding.{opcode_bytes, encoding, part_encoding, parts_encoding, unit_encoding}
+use Rattle.aml_code.specs.Tree.{Tree, nothing, named, op, Trees, tree_more, Part, child, byte, word, dword, qword, label, Parts, part_more, Tail, empty, terms, elements, fields, Field, unit, connection, Fields, field_more, target, buffer}
+use Rattle.aml_code.specs.Encoding.{opcode_bytes, encoding, part_encoding, parts_encoding, field_encoding}
 use Rattle.aml_code.specs.Declaring.{names_declared, with_declared}
 use Rattle.aml_code.specs.Faults.{Arities, StandsThere, IsOpcode, StandsAt}
 use Rattle.aml_code.specs.Lawful.{is_if_place, is_guard, terms_in, next_position}
 use Rattle.aml_code.proofs.LengthLaws.{length_fault, span_takes, span_fault}
 use Rattle.aml_code.proofs.RowFacts.{guard_place, opcode_some}
 use Rattle.aml_code.proofs.Within.{Within, onward, inward, text_there, byte_there, truncated_placed, offset_is, length_placed, past_placed, name_placed}
-use Rattle.aml_parse.specs.Reading.{Reader, flat, byte_part, count_part, word_part, dword_part, qword_part, text_part, any_name_part, segmented_at, name_part, child_at, part_at, parts_at, arguments_at, terms_at, named_unit, reserved_unit, access_unit, extended_unit, named_joint, buffer_at, joint_at, connection_at, unit_at, units_at, wanted, known, call_at, takes_names, name_term_at, opcode_at, refused_in_body, refusal, guard_at, tail_at, plain_at, packed_at, row_at, by_row, operation_at, is_absent_target, term_at}
+use Rattle.aml_parse.specs.Reading.{Reader, flat, byte_part, count_part, word_part, dword_part, qword_part, text_part, any_name_part, segmented_at, name_part, child_at, part_at, parts_at, arguments_at, terms_at, named_unit, reserved_unit, access_unit, extended_unit, named_link, buffer_at, link_at, connection_at, field_at, fields_at, wanted, known, call_at, takes_names, name_term_at, opcode_at, refused_in_body, refusal, guard_at, tail_at, plain_at, packed_at, row_at, by_row, operation_at, is_absent_target, term_at}
 use Rattle.aml_parse.proofs.FlatLaws.{number_fault, count_fault, text_fault, any_name_fault, segmented_fault, opcode_takes, opcode_fault}
-use Rattle.aml_parse.proofs.UnitLaws.{reserved_fault, access_fault, extended_fault}
+use Rattle.aml_parse.proofs.FieldLaws.{reserved_fault, access_fault, extended_fault}
 use Rattle.aml_parse.proofs.Leads.{guard_fault}
 use Rattle.aml_parse.proofs.Took.{IsReader, name_some}
-use Rattle.aml_parse.proofs.Takes.{part_take, parts_take, unit_take}
+use Rattle.aml_parse.proofs.Takes.{part_take, parts_take, field_take}
 
 -- the faults of a reader of terms are true
 unfoldable pub IsPlacer : Arities → List ℕ → ℕ → (Position → Reader Tree) → Type 0
@@ -55,7 +55,7 @@ child_placed : (arity : Arities) (code : List ℕ) (levels : ℕ) (read : Positi
 unfolding IsPlacer
 child_placed arity code levels read placer p at end ls bs d w deep e = err_then (StandsAt arity code d) (read p end ls bs) (λ t. Ok (child t.0, t.1, t.2)) d e (placer p at end ls bs d w deep) (λ t h1 e1. absurd cc)
 
-flat_placed : (P : Type 0) (step : ℕ → List ℕ → Left OnePart) (end : ℕ) (ls : PathSet) (bs : List ℕ) (d : CodeFault) → (step end bs ≡ Err d → P) → flat step end ls bs ≡ Err d → P
+flat_placed : (P : Type 0) (step : ℕ → List ℕ → Left Part) (end : ℕ) (ls : PathSet) (bs : List ℕ) (d : CodeFault) → (step end bs ≡ Err d → P) → flat step end ls bs ≡ Err d → P
 flat_placed P step end ls bs d k e = err_then P (step end bs) (λ y. Ok (y.0, ls, y.1)) d e k (λ y h1 e1. absurd cc)
 
 none_of : {A : Type 0} (xs : List A) → ltb 0 (length xs) ≡ false → xs ≡ []
@@ -135,21 +135,21 @@ terms_placed arity scope code levels read law placer (suc n) p at end ls (b ∷ 
 
 -- ---- field lists
 
-named_joint_placed : (arity : Arities) (code : List ℕ) (at end : ℕ) (bs : List ℕ) (d : CodeFault) → Within code at end bs → named_joint end bs ≡ Err d → StandsAt arity code d
-named_joint_placed arity code at end bs d w e = err_then (StandsAt arity code d) (segmented_at end bs) (λ n. Ok (target n.0, n.1)) d e (segmented_placed arity code at end bs d w) (λ n h1 e1. absurd cc)
+named_link_placed : (arity : Arities) (code : List ℕ) (at end : ℕ) (bs : List ℕ) (d : CodeFault) → Within code at end bs → named_link end bs ≡ Err d → StandsAt arity code d
+named_link_placed arity code at end bs d w e = err_then (StandsAt arity code d) (segmented_at end bs) (λ n. Ok (target n.0, n.1)) d e (segmented_placed arity code at end bs d w) (λ n h1 e1. absurd cc)
 
-joint_placed : (arity : Arities) (code : List ℕ) (levels : ℕ) (read : Position → Reader Tree) → IsPlacer arity code levels read → (at end : ℕ) (ls : PathSet) (bs : List ℕ) (d : CodeFault) → Within code at end bs → 512 ≤ levels + at
-    → joint_at read end ls bs ≡ Err d → StandsAt arity code d
-unfolding joint_at IsPlacer
-joint_placed arity code levels read placer at end ls bs d w deep e =
+link_placed : (arity : Arities) (code : List ℕ) (levels : ℕ) (read : Position → Reader Tree) → IsPlacer arity code levels read → (at end : ℕ) (ls : PathSet) (bs : List ℕ) (d : CodeFault) → Within code at end bs → 512 ≤ levels + at
+    → link_at read end ls bs ≡ Err d → StandsAt arity code d
+unfolding link_at IsPlacer
+link_placed arity code levels read placer at end ls bs d w deep e =
     let P : Type 0 = StandsAt arity code d in
-    err_then P (byte_at end bs) (λ lead. cond (eqb lead.0 0x11) (buffer_at (read positions.Data) end ls bs) (flat named_joint end ls bs)) d e (λ h. truncated_placed arity code at end bs d w (byte_fault end bs d h)) (λ lead h1 e1.
-    cond_then P (eqb lead.0 0x11) (buffer_at (read positions.Data) end ls bs) (flat named_joint end ls bs) (Err d) e1
+    err_then P (byte_at end bs) (λ lead. cond (eqb lead.0 0x11) (buffer_at (read positions.Data) end ls bs) (flat named_link end ls bs)) d e (λ h. truncated_placed arity code at end bs d w (byte_fault end bs d h)) (λ lead h1 e1.
+    cond_then P (eqb lead.0 0x11) (buffer_at (read positions.Data) end ls bs) (flat named_link end ls bs) (Err d) e1
     (λ g q. err_then P (read positions.Data end ls bs) (λ t. Ok (buffer t.0, t.1, t.2)) d q (placer positions.Data at end ls bs d w deep) (λ t h2 e2. absurd cc))
-    (λ g q. err_then P (named_joint end bs) (λ y. Ok (y.0, ls, y.1)) d q (named_joint_placed arity code at end bs d w) (λ y h2 e2. absurd cc)))
+    (λ g q. err_then P (named_link end bs) (λ y. Ok (y.0, ls, y.1)) d q (named_link_placed arity code at end bs d w) (λ y h2 e2. absurd cc)))
 
-flat_unit_placed : (P : Type 0) (step : ℕ → List ℕ → Left OneUnit) (end : ℕ) (ls : PathSet) (bs : List ℕ) (d : CodeFault) → (step end bs ≡ Err d → P) → flat step end ls bs ≡ Err d → P
-flat_unit_placed P step end ls bs d k e = err_then P (step end bs) (λ y. Ok (y.0, ls, y.1)) d e k (λ y h1 e1. absurd cc)
+flat_field_placed : (P : Type 0) (step : ℕ → List ℕ → Left Field) (end : ℕ) (ls : PathSet) (bs : List ℕ) (d : CodeFault) → (step end bs ≡ Err d → P) → flat step end ls bs ≡ Err d → P
+flat_field_placed P step end ls bs d k e = err_then P (step end bs) (λ y. Ok (y.0, ls, y.1)) d e k (λ y h1 e1. absurd cc)
 
 named_unit_placed : (arity : Arities) (code : List ℕ) (at end : ℕ) (bs : List ℕ) (d : CodeFault) → Within code at end bs → named_unit end bs ≡ Err d → StandsAt arity code d
 unfolding named_unit
@@ -160,42 +160,42 @@ named_unit_placed arity code at end bs d w e =
     let w1 = onward code at end bs (g.0).0 g.1 w t.0 in
     err_then P (length_at end g.1) (λ n. Ok (unit g.0 n.0.0 n.0.1, n.1)) d e1 (λ h. length_placed arity code (at + length (g.0).0) end g.1 d w1 (length_fault end g.1 d h)) (λ n h2 e2. absurd cc))
 
-unit_placed : (arity : Arities) (code : List ℕ) (levels : ℕ) (read : Position → Reader Tree) → IsPlacer arity code levels read → (at end : ℕ) (ls : PathSet) (bs : List ℕ) (d : CodeFault) → Within code at end bs → 512 ≤ levels + at
-    → unit_at read end ls bs ≡ Err d → StandsAt arity code d
-unfolding unit_at
-unit_placed arity code levels read placer at end ls [] d w deep e = truncated_placed arity code at end [] d w (sym (err_is {A = OneUnit × PathSet × List ℕ} (faults.Truncated end) d e))
-unit_placed arity code levels read placer at end ls (lead ∷ bs) d w deep e =
+field_placed : (arity : Arities) (code : List ℕ) (levels : ℕ) (read : Position → Reader Tree) → IsPlacer arity code levels read → (at end : ℕ) (ls : PathSet) (bs : List ℕ) (d : CodeFault) → Within code at end bs → 512 ≤ levels + at
+    → field_at read end ls bs ≡ Err d → StandsAt arity code d
+unfolding field_at
+field_placed arity code levels read placer at end ls [] d w deep e = truncated_placed arity code at end [] d w (sym (err_is {A = Field × PathSet × List ℕ} (faults.Truncated end) d e))
+field_placed arity code levels read placer at end ls (lead ∷ bs) d w deep e =
     let whole : List ℕ = lead ∷ bs in
     let P : Type 0 = StandsAt arity code d in
     let first : Takes whole (lead ∷ []) bs = record { parts = refl; rest_fits = λ i. w.fits (suc i) } in
     let w1 : Within code (at + 1) end bs = onward code at end whole (lead ∷ []) bs w first in
-    let r4 : Result (OneUnit × PathSet × List ℕ) CodeFault = flat named_unit end ls whole in
-    let r3 : Result (OneUnit × PathSet × List ℕ) CodeFault = cond (eqb lead 0x03) (flat extended_unit end ls bs) r4 in
-    let r2 : Result (OneUnit × PathSet × List ℕ) CodeFault = cond (eqb lead 0x02) (connection_at read end ls bs) r3 in
-    let r1 : Result (OneUnit × PathSet × List ℕ) CodeFault = cond (eqb lead 0x01) (flat access_unit end ls bs) r2 in
+    let r4 : Result (Field × PathSet × List ℕ) CodeFault = flat named_unit end ls whole in
+    let r3 : Result (Field × PathSet × List ℕ) CodeFault = cond (eqb lead 0x03) (flat extended_unit end ls bs) r4 in
+    let r2 : Result (Field × PathSet × List ℕ) CodeFault = cond (eqb lead 0x02) (connection_at read end ls bs) r3 in
+    let r1 : Result (Field × PathSet × List ℕ) CodeFault = cond (eqb lead 0x01) (flat access_unit end ls bs) r2 in
     cond_then P (eqb lead 0x00) (flat reserved_unit end ls bs) r1 (Err d) e
-    (λ g q. flat_unit_placed P reserved_unit end ls bs d (λ h. length_placed arity code (at + 1) end bs d w1 (reserved_fault end bs d h)) q) (λ g0 q0.
+    (λ g q. flat_field_placed P reserved_unit end ls bs d (λ h. length_placed arity code (at + 1) end bs d w1 (reserved_fault end bs d h)) q) (λ g0 q0.
     cond_then P (eqb lead 0x01) (flat access_unit end ls bs) r2 (Err d) q0
-    (λ g q. flat_unit_placed P access_unit end ls bs d (λ h. truncated_placed arity code (at + 1) end bs d w1 (access_fault end bs d h)) q) (λ g1 q1.
+    (λ g q. flat_field_placed P access_unit end ls bs d (λ h. truncated_placed arity code (at + 1) end bs d w1 (access_fault end bs d h)) q) (λ g1 q1.
     cond_then P (eqb lead 0x02) (connection_at read end ls bs) r3 (Err d) q1
-    (λ g q. err_then P (joint_at read end ls bs) (λ l. Ok (connection l.0, l.1, l.2)) d q (joint_placed arity code levels read placer (at + 1) end ls bs d w1 (omega (arith, deep))) (λ l h1 e1. absurd cc)) (λ g2 q2.
+    (λ g q. err_then P (link_at read end ls bs) (λ l. Ok (connection l.0, l.1, l.2)) d q (link_placed arity code levels read placer (at + 1) end ls bs d w1 (omega (arith, deep))) (λ l h1 e1. absurd cc)) (λ g2 q2.
     cond_then P (eqb lead 0x03) (flat extended_unit end ls bs) r4 (Err d) q2
-    (λ g q. flat_unit_placed P extended_unit end ls bs d (λ h. truncated_placed arity code (at + 1) end bs d w1 (extended_fault end bs d h)) q) (λ g3 q3.
-    flat_unit_placed P named_unit end ls whole d (named_unit_placed arity code at end whole d w) q3))))
+    (λ g q. flat_field_placed P extended_unit end ls bs d (λ h. truncated_placed arity code (at + 1) end bs d w1 (extended_fault end bs d h)) q) (λ g3 q3.
+    flat_field_placed P named_unit end ls whole d (named_unit_placed arity code at end whole d w) q3))))
 
-units_placed : (arity : Arities) (scope : Option (List Seg)) (code : List ℕ) (levels : ℕ) (read : Position → Reader Tree) → IsReader arity scope code levels read → IsPlacer arity code levels read → (n at end : ℕ) (ls : PathSet)
-    (bs : List ℕ) (d : CodeFault) → Within code at end bs → 512 ≤ levels + at → units_at read n end ls bs ≡ Err d → StandsAt arity code d
-unfolding units_at
-units_placed arity scope code levels read law placer n at end ls [] d w deep e = absurd cc
-units_placed arity scope code levels read law placer zero at end ls (b ∷ bs) d w deep e =
-    truncated_placed arity code at end (b ∷ bs) d w (sym (err_is {A = Units × PathSet} (faults.Truncated end) d e))
-units_placed arity scope code levels read law placer (suc n) at end ls (b ∷ bs) d w deep e =
+fields_placed : (arity : Arities) (scope : Option (List Seg)) (code : List ℕ) (levels : ℕ) (read : Position → Reader Tree) → IsReader arity scope code levels read → IsPlacer arity code levels read → (n at end : ℕ) (ls : PathSet)
+    (bs : List ℕ) (d : CodeFault) → Within code at end bs → 512 ≤ levels + at → fields_at read n end ls bs ≡ Err d → StandsAt arity code d
+unfolding fields_at
+fields_placed arity scope code levels read law placer n at end ls [] d w deep e = absurd cc
+fields_placed arity scope code levels read law placer zero at end ls (b ∷ bs) d w deep e =
+    truncated_placed arity code at end (b ∷ bs) d w (sym (err_is {A = Fields × PathSet} (faults.Truncated end) d e))
+fields_placed arity scope code levels read law placer (suc n) at end ls (b ∷ bs) d w deep e =
     let P : Type 0 = StandsAt arity code d in
-    err_then P (unit_at read end ls (b ∷ bs)) (λ first. units_at read n end first.1 first.2 >>= λ others. Ok (unit_more first.0 others.0, others.1)) d e (unit_placed arity code levels read placer at end ls (b ∷ bs) d w deep) (λ first h1 e1.
-    let a = unit_take arity scope code levels read law at end ls (b ∷ bs) first w h1 in
-    let w1 = onward code at end (b ∷ bs) (unit_encoding code first.0) first.2 w a.takes in
-    err_then P (units_at read n end first.1 first.2) (λ others. Ok (unit_more first.0 others.0, others.1)) d e1
-    (units_placed arity scope code levels read law placer n (at + length (unit_encoding code first.0)) end first.1 first.2 d w1 (omega (arith, deep))) (λ others h2 e2. absurd cc))
+    err_then P (field_at read end ls (b ∷ bs)) (λ first. fields_at read n end first.1 first.2 >>= λ others. Ok (field_more first.0 others.0, others.1)) d e (field_placed arity code levels read placer at end ls (b ∷ bs) d w deep) (λ first h1 e1.
+    let a = field_take arity scope code levels read law at end ls (b ∷ bs) first w h1 in
+    let w1 = onward code at end (b ∷ bs) (field_encoding code first.0) first.2 w a.takes in
+    err_then P (fields_at read n end first.1 first.2) (λ others. Ok (field_more first.0 others.0, others.1)) d e1
+    (fields_placed arity scope code levels read law placer n (at + length (field_encoding code first.0)) end first.1 first.2 d w1 (omega (arith, deep))) (λ others h2 e2. absurd cc))
 
 -- ---- names
 
@@ -232,9 +232,9 @@ call_placed arity scope code levels read law placer p at end ls bs d w deep inne
 
 tail_placed : (arity : Arities) (scope : Option (List Seg)) (code : List ℕ) (levels : ℕ) (read : Position → Reader Tree) → IsReader arity scope code levels read → IsPlacer arity code levels read → (p : Position) (k : TailKind) (at end : ℕ) (ls : PathSet)
     (bs : List ℕ) (d : CodeFault) → Within code at end bs → 512 ≤ levels + at → tail_at read p k end ls bs ≡ Err d → StandsAt arity code d
-tail_placed arity scope code levels read law placer p tails.Empty at end ls bs d w deep e = truncated_placed arity code at end bs d w (sym (err_is {A = Rest × PathSet} (faults.Truncated end) d e))
+tail_placed arity scope code levels read law placer p tails.Empty at end ls bs d w deep e = truncated_placed arity code at end bs d w (sym (err_is {A = Tail × PathSet} (faults.Truncated end) d e))
 tail_placed arity scope code levels read law placer p tails.Fields at end ls bs d w deep e =
-    err_then (StandsAt arity code d) (units_at read (length bs) end ls bs) (λ us. Ok (fields us.0, us.1)) d e (units_placed arity scope code levels read law placer (length bs) at end ls bs d w deep) (λ us h1 e1. absurd cc)
+    err_then (StandsAt arity code d) (fields_at read (length bs) end ls bs) (λ us. Ok (fields us.0, us.1)) d e (fields_placed arity scope code levels read law placer (length bs) at end ls bs d w deep) (λ us h1 e1. absurd cc)
 tail_placed arity scope code levels read law placer p tails.Bytes at end ls bs d w deep e = absurd cc
 tail_placed arity scope code levels read law placer p tails.Body at end ls bs d w deep e = absurd cc
 tail_placed arity scope code levels read law placer p tails.Terms at end ls bs d w deep e =
@@ -297,7 +297,7 @@ packed_placed : (arity : Arities) (scope : Option (List Seg)) (code : List ℕ) 
 unfolding packed_at
 packed_placed arity scope code levels read law placer p there o row found at end ls bs d w deep e =
     let P : Type 0 = StandsAt arity code d in
-    let made : PkgWidth × List ℕ × List ℕ → Parts × PathSet × List ℕ → Rest × PathSet → Tree × PathSet × List ℕ = λ span ps t. (op row.opcode (Some span.0) ps.0 t.0, with_declared scope t.1 (names_declared row.role ps.0 t.0), span.2) in
+    let made : PkgWidth × List ℕ × List ℕ → Parts × PathSet × List ℕ → Tail × PathSet → Tree × PathSet × List ℕ = λ span ps t. (op row.opcode (Some span.0) ps.0 t.0, with_declared scope t.1 (names_declared row.role ps.0 t.0), span.2) in
     let tailed : PkgWidth × List ℕ × List ℕ → Parts × PathSet × List ℕ → Result (Tree × PathSet × List ℕ) CodeFault = λ span ps.
     tail_at read (terms_in p row.place) row.tail (end - length span.2) ps.1 ps.2 >>= λ t. Ok (made span ps t) in
     let parted : PkgWidth × List ℕ × List ℕ → Result (Tree × PathSet × List ℕ) CodeFault = λ span.

@@ -22,42 +22,42 @@ use Rattle.aml_code.specs.declared.rows.TailKind.TheVariants as tails
 use Rattle.aml_code.specs.Packages.{width_len, package_bytes, FitsWidth}
 use Rattle.aml_code.specs.Lengths.{span_at}
 use Rattle.aml_code.specs.Rows.{row_of, has_length, takes}
-use Rattle.aml_code.specs.Tree.{Tree, nothing, named, op, Trees, no_trees, tree_more, OnePart, child, Parts, no_parts, part_more, Rest, empty, terms, elements, fields, OneUnit, connection, Units, no_units, unit_more, Joint, target, buffer, tree_count}
+use Rattle.aml_code.specs.Tree.{Tree, nothing, named, op, Trees, no_trees, tree_more, Part, child, Parts, no_parts, part_more, Tail, empty, terms, elements, fields, Field, connection, Fields, no_fields, field_more, Link, target, buffer, tree_count}
 use Rattle.aml_code.specs.Tree as trees
-use Rattle.aml_code.specs.Encoding.{opcode_bytes, slice_of, encoding, encodings, part_encoding, parts_encoding, rest_encoding, unit_encoding, joint_encoding}
-use Rattle.aml_code.specs.Declaring.{names_declared, with_declared, declared_by, after_all, after_parts, after_rest, after_units}
+use Rattle.aml_code.specs.Encoding.{opcode_bytes, slice_of, encoding, encodings, part_encoding, parts_encoding, tail_encoding, field_encoding, link_encoding}
+use Rattle.aml_code.specs.Declaring.{names_declared, with_declared, declared_by, after_all, after_parts, after_tail, after_fields}
 use Rattle.aml_code.specs.Faults.{Arities}
-use Rattle.aml_code.specs.Lawful.{HasWidth, IsGuarded, is_guard, terms_in, next_position, AreBytes, Setting, IsLawful, AreArguments, AreTerms, IsPart, AreParts, IsTail, AreUnits}
-use Rattle.aml_code.specs.Meaning.{setting_of, RestStands}
+use Rattle.aml_code.specs.Lawful.{HasWidth, IsGuarded, is_guard, terms_in, next_position, AreBytes, Setting, IsLawful, AreArguments, AreTerms, IsPart, AreParts, IsTail, AreFields}
+use Rattle.aml_code.specs.Meaning.{setting_of, TailStands}
 use Rattle.aml_code.proofs.LengthLaws.{span_takes}
 use Rattle.aml_code.proofs.RowFacts.{row_opcode, if_parts, if_has_length, guard_place}
 use Rattle.aml_code.proofs.Within.{Within, onward, inward, slice_there, span_inside, offset_is}
-use Rattle.aml_parse.specs.Reading.{Reader, flat, child_at, part_at, parts_at, arguments_at, terms_at, segmented_at, named_unit, reserved_unit, access_unit, extended_unit, named_joint, buffer_at, joint_at, connection_at, unit_at, units_at, wanted, known, call_at, takes_names, name_term_at, opcode_at, refusal, guard_at, body_to, tail_at, plain_at, packed_at, row_at, by_row, operation_at, is_absent_target, term_at}
+use Rattle.aml_parse.specs.Reading.{Reader, flat, child_at, part_at, parts_at, arguments_at, terms_at, segmented_at, named_unit, reserved_unit, access_unit, extended_unit, named_link, buffer_at, link_at, connection_at, field_at, fields_at, wanted, known, call_at, takes_names, name_term_at, opcode_at, refusal, guard_at, body_to, tail_at, plain_at, packed_at, row_at, by_row, operation_at, is_absent_target, term_at}
 use Rattle.aml_parse.proofs.FlatLaws.{TookFlat, byte_took, count_took, word_took, dword_took, qword_took, text_took, segmented_takes, name_took, any_name_took, opcode_takes}
-use Rattle.aml_parse.proofs.UnitLaws.{TookUnit, behind_lead, named_took, reserved_took, access_took, extended_took}
+use Rattle.aml_parse.proofs.FieldLaws.{TookField, behind_lead, named_took, reserved_took, access_took, extended_took}
 use Rattle.aml_parse.proofs.Leads.{led_by, is_buffer, guard_holds, not_guarded}
-use Rattle.aml_parse.proofs.Took.{Took, TookPart, TookParts, TookArguments, TookTerms, TookTail, TookJoint, TookOneUnit, TookUnits, IsReader, count_of_wanted, empty_tail}
+use Rattle.aml_parse.proofs.Took.{Took, TookPart, TookParts, TookArguments, TookTerms, TookTail, TookLink, TookOneField, TookFields, IsReader, count_of_wanted, empty_tail}
 
 -- ---- parts
 
 child_take : (arity : Arities) (scope : Option (List Seg)) (code : List ℕ) (levels : ℕ) (read : Position → Reader Tree) → IsReader arity scope code levels read → (k : PartKind) (p : Position)
     → ((ls : PathSet) (t : Tree) → IsLawful (setting_of arity scope code) levels p ls t → IsPart (setting_of arity scope code) levels k ls (child t))
-    → (at end : ℕ) (ls : PathSet) (bs : List ℕ) (x : OnePart × PathSet × List ℕ) → Within code at end bs → child_at (read p) end ls bs ≡ Ok x → TookPart arity scope code levels k ls bs x
+    → (at end : ℕ) (ls : PathSet) (bs : List ℕ) (x : Part × PathSet × List ℕ) → Within code at end bs → child_at (read p) end ls bs ≡ Ok x → TookPart arity scope code levels k ls bs x
 child_take arity scope code levels read law k p stands at end ls bs x w e =
     bind_then (TookPart arity scope code levels k ls bs x) (read p end ls bs) (λ t. Ok (child t.0, t.1, t.2)) x e (λ t h1 e1.
     let a = law.take p at end ls bs t w h1 in
     subst (TookPart arity scope code levels k ls bs) (ok_is (child t.0, t.1, t.2) x e1) (record { takes = a.takes; is_part = stands ls t.0 a.lawful; after_is = a.after_is }))
 
-flat_take : (arity : Arities) (scope : Option (List Seg)) (code : List ℕ) (levels : ℕ) (k : PartKind) (step : ℕ → List ℕ → Left OnePart)
-    → ((end : ℕ) (ls : PathSet) (bs : List ℕ) (y : OnePart × List ℕ) → IsBytes bs → step end bs ≡ Ok y → TookFlat (setting_of arity scope code) levels k ls bs y)
-    → (end : ℕ) (ls : PathSet) (bs : List ℕ) (x : OnePart × PathSet × List ℕ) → IsBytes bs → flat step end ls bs ≡ Ok x → TookPart arity scope code levels k ls bs x
+flat_take : (arity : Arities) (scope : Option (List Seg)) (code : List ℕ) (levels : ℕ) (k : PartKind) (step : ℕ → List ℕ → Left Part)
+    → ((end : ℕ) (ls : PathSet) (bs : List ℕ) (y : Part × List ℕ) → IsBytes bs → step end bs ≡ Ok y → TookFlat (setting_of arity scope code) levels k ls bs y)
+    → (end : ℕ) (ls : PathSet) (bs : List ℕ) (x : Part × PathSet × List ℕ) → IsBytes bs → flat step end ls bs ≡ Ok x → TookPart arity scope code levels k ls bs x
 flat_take arity scope code levels k step took end ls bs x fits e =
     bind_then (TookPart arity scope code levels k ls bs x) (step end bs) (λ y. Ok (y.0, ls, y.1)) x e (λ y h1 e1.
     let a = took end ls bs y fits h1 in
     subst (TookPart arity scope code levels k ls bs) (ok_is (y.0, ls, y.1) x e1) (record { takes = a.takes; is_part = a.is_part; after_is = sym a.after_is }))
 
 pub part_take : (arity : Arities) (scope : Option (List Seg)) (code : List ℕ) (levels : ℕ) (read : Position → Reader Tree) → IsReader arity scope code levels read → (k : PartKind) (at end : ℕ) (ls : PathSet) (bs : List ℕ)
-    (x : OnePart × PathSet × List ℕ) → Within code at end bs → part_at read k end ls bs ≡ Ok x → TookPart arity scope code levels k ls bs x
+    (x : Part × PathSet × List ℕ) → Within code at end bs → part_at read k end ls bs ≡ Ok x → TookPart arity scope code levels k ls bs x
 part_take arity scope code levels read law kinds.Term at end ls bs x w e = child_take arity scope code levels read law kinds.Term positions.Argument (λ ls t h. h) at end ls bs x w e
 part_take arity scope code levels read law kinds.Target at end ls bs x w e = child_take arity scope code levels read law kinds.Target positions.Target (λ ls t h. h) at end ls bs x w e
 part_take arity scope code levels read law kinds.Data at end ls bs x w e = child_take arity scope code levels read law kinds.Data positions.Data (λ ls t h. h) at end ls bs x w e
@@ -132,83 +132,83 @@ terms_take arity scope code levels read law (suc n) p at end ls (b ∷ bs) x w e
 
 -- ---- field lists
 
-joint_take : (arity : Arities) (scope : Option (List Seg)) (code : List ℕ) (levels : ℕ) (read : Position → Reader Tree) → IsReader arity scope code levels read → (at end : ℕ) (ls : PathSet) (bs : List ℕ)
-    (x : Joint × PathSet × List ℕ) → Within code at end bs → joint_at read end ls bs ≡ Ok x → TookJoint arity scope code levels ls bs x
-unfolding joint_at
-joint_take arity scope code levels read law at end ls bs x w e =
+link_take : (arity : Arities) (scope : Option (List Seg)) (code : List ℕ) (levels : ℕ) (read : Position → Reader Tree) → IsReader arity scope code levels read → (at end : ℕ) (ls : PathSet) (bs : List ℕ)
+    (x : Link × PathSet × List ℕ) → Within code at end bs → link_at read end ls bs ≡ Ok x → TookLink arity scope code levels ls bs x
+unfolding link_at
+link_take arity scope code levels read law at end ls bs x w e =
     let s : Setting = setting_of arity scope code in
-    let P : Type 0 = TookJoint arity scope code levels ls bs x in
-    bind_then P (byte_at end bs) (λ lead. cond (eqb lead.0 0x11) (buffer_at (read positions.Data) end ls bs) (flat named_joint end ls bs)) x e (λ lead h1 e1.
+    let P : Type 0 = TookLink arity scope code levels ls bs x in
+    bind_then P (byte_at end bs) (λ lead. cond (eqb lead.0 0x11) (buffer_at (read positions.Data) end ls bs) (flat named_link end ls bs)) x e (λ lead h1 e1.
     let l = byte_takes end bs lead.0 lead.1 w.fits h1 in
-    cond_then P (eqb lead.0 0x11) (buffer_at (read positions.Data) end ls bs) (flat named_joint end ls bs) (Ok x) e1
+    cond_then P (eqb lead.0 0x11) (buffer_at (read positions.Data) end ls bs) (flat named_link end ls bs) (Ok x) e1
     (λ g q. bind_then P (read positions.Data end ls bs) (λ t. Ok (buffer t.0, t.1, t.2)) x q (λ t h2 e2.
     let a = law.take positions.Data at end ls bs t w h2 in
     let first : encoding code t.0 ++ t.2 ≡ 0x11 ∷ lead.1 = sym a.takes.parts ∙ l.0.parts ∙ ap (λ (n : ℕ). n ∷ lead.1) (eqb-true lead.0 0x11 g) in
     let is = is_buffer s levels positions.Data ls t.0 a.lawful (led_by s code levels positions.Data ls t.0 t.2 0x11 lead.1 a.lawful (λ z. absurd cc) first refl) in
-    subst (TookJoint arity scope code levels ls bs) (ok_is (buffer t.0, t.1, t.2) x e2) (record { takes = a.takes; is_joint = (is, a.lawful); after_is = a.after_is })))
-    (λ g q. bind_then P (named_joint end bs) (λ y. Ok (y.0, ls, y.1)) x q (λ y h2 e2.
+    subst (TookLink arity scope code levels ls bs) (ok_is (buffer t.0, t.1, t.2) x e2) (record { takes = a.takes; is_link = (is, a.lawful); after_is = a.after_is })))
+    (λ g q. bind_then P (named_link end bs) (λ y. Ok (y.0, ls, y.1)) x q (λ y h2 e2.
     bind_then P (segmented_at end bs) (λ n. Ok (target n.0, n.1)) y h2 (λ n h3 e3.
     let a = segmented_takes end bs n w.fits h3 in
-    let found : TookJoint arity scope code levels ls bs (target n.0, ls, n.1) = record { takes = a.0; is_joint = (a.1, a.2); after_is = refl } in
-    let here = subst (λ (z : Joint × List ℕ). TookJoint arity scope code levels ls bs (z.0, ls, z.1)) (ok_is (target n.0, n.1) y e3) found in
-    subst (TookJoint arity scope code levels ls bs) (ok_is (y.0, ls, y.1) x e2) here))))
+    let found : TookLink arity scope code levels ls bs (target n.0, ls, n.1) = record { takes = a.0; is_link = (a.1, a.2); after_is = refl } in
+    let here = subst (λ (z : Link × List ℕ). TookLink arity scope code levels ls bs (z.0, ls, z.1)) (ok_is (target n.0, n.1) y e3) found in
+    subst (TookLink arity scope code levels ls bs) (ok_is (y.0, ls, y.1) x e2) here))))
 
 connection_take : (arity : Arities) (scope : Option (List Seg)) (code : List ℕ) (levels : ℕ) (read : Position → Reader Tree) → IsReader arity scope code levels read → (at end : ℕ) (ls : PathSet) (bs : List ℕ)
-    (x : OneUnit × PathSet × List ℕ) → Within code at end bs → connection_at read end ls bs ≡ Ok x → TookOneUnit arity scope code levels ls (0x02 ∷ bs) x
+    (x : Field × PathSet × List ℕ) → Within code at end bs → connection_at read end ls bs ≡ Ok x → TookOneField arity scope code levels ls (0x02 ∷ bs) x
 connection_take arity scope code levels read law at end ls bs x w e =
-    bind_then (TookOneUnit arity scope code levels ls (0x02 ∷ bs) x) (joint_at read end ls bs) (λ l. Ok (connection l.0, l.1, l.2)) x e (λ l h1 e1.
-    let a = joint_take arity scope code levels read law at end ls bs l w h1 in
-    subst (TookOneUnit arity scope code levels ls (0x02 ∷ bs)) (ok_is (connection l.0, l.1, l.2) x e1) (record { takes = behind_lead 0x02 bs (joint_encoding code l.0) l.2 a.takes; is_unit = a.is_joint; after_is = a.after_is }))
+    bind_then (TookOneField arity scope code levels ls (0x02 ∷ bs) x) (link_at read end ls bs) (λ l. Ok (connection l.0, l.1, l.2)) x e (λ l h1 e1.
+    let a = link_take arity scope code levels read law at end ls bs l w h1 in
+    subst (TookOneField arity scope code levels ls (0x02 ∷ bs)) (ok_is (connection l.0, l.1, l.2) x e1) (record { takes = behind_lead 0x02 bs (link_encoding code l.0) l.2 a.takes; is_unit = a.is_link; after_is = a.after_is }))
 
-flat_unit_take : (arity : Arities) (scope : Option (List Seg)) (code : List ℕ) (levels : ℕ) (step : ℕ → List ℕ → Left OneUnit) (end : ℕ) (ls : PathSet) (whole bs : List ℕ) (x : OneUnit × PathSet × List ℕ)
-    → ((y : OneUnit × List ℕ) → step end bs ≡ Ok y → TookUnit (setting_of arity scope code) levels ls whole y) → flat step end ls bs ≡ Ok x → TookOneUnit arity scope code levels ls whole x
-flat_unit_take arity scope code levels step end ls whole bs x took e =
-    bind_then (TookOneUnit arity scope code levels ls whole x) (step end bs) (λ y. Ok (y.0, ls, y.1)) x e (λ y h1 e1.
+flat_field_take : (arity : Arities) (scope : Option (List Seg)) (code : List ℕ) (levels : ℕ) (step : ℕ → List ℕ → Left Field) (end : ℕ) (ls : PathSet) (whole bs : List ℕ) (x : Field × PathSet × List ℕ)
+    → ((y : Field × List ℕ) → step end bs ≡ Ok y → TookField (setting_of arity scope code) levels ls whole y) → flat step end ls bs ≡ Ok x → TookOneField arity scope code levels ls whole x
+flat_field_take arity scope code levels step end ls whole bs x took e =
+    bind_then (TookOneField arity scope code levels ls whole x) (step end bs) (λ y. Ok (y.0, ls, y.1)) x e (λ y h1 e1.
     let a = took y h1 in
-    subst (TookOneUnit arity scope code levels ls whole) (ok_is (y.0, ls, y.1) x e1) (record { takes = a.takes; is_unit = a.is_unit; after_is = sym a.after_is }))
+    subst (TookOneField arity scope code levels ls whole) (ok_is (y.0, ls, y.1) x e1) (record { takes = a.takes; is_unit = a.is_unit; after_is = sym a.after_is }))
 
-pub unit_take : (arity : Arities) (scope : Option (List Seg)) (code : List ℕ) (levels : ℕ) (read : Position → Reader Tree) → IsReader arity scope code levels read → (at end : ℕ) (ls : PathSet) (bs : List ℕ)
-    (x : OneUnit × PathSet × List ℕ) → Within code at end bs → unit_at read end ls bs ≡ Ok x → TookOneUnit arity scope code levels ls bs x
-unfolding unit_at
-unit_take arity scope code levels read law at end ls [] x w e = absurd cc
-unit_take arity scope code levels read law at end ls (lead ∷ bs) x w e =
+pub field_take : (arity : Arities) (scope : Option (List Seg)) (code : List ℕ) (levels : ℕ) (read : Position → Reader Tree) → IsReader arity scope code levels read → (at end : ℕ) (ls : PathSet) (bs : List ℕ)
+    (x : Field × PathSet × List ℕ) → Within code at end bs → field_at read end ls bs ≡ Ok x → TookOneField arity scope code levels ls bs x
+unfolding field_at
+field_take arity scope code levels read law at end ls [] x w e = absurd cc
+field_take arity scope code levels read law at end ls (lead ∷ bs) x w e =
     let s : Setting = setting_of arity scope code in
     let whole : List ℕ = lead ∷ bs in
-    let P : Type 0 = TookOneUnit arity scope code levels ls whole x in
+    let P : Type 0 = TookOneField arity scope code levels ls whole x in
     let fits : IsBytes bs = λ i. w.fits (suc i) in
-    let led : (b : ℕ) → eqb lead b ≡ true → TookOneUnit arity scope code levels ls (b ∷ bs) x → P = λ b g t. subst (λ (c : ℕ). TookOneUnit arity scope code levels ls (c ∷ bs) x) (sym (eqb-true lead b g)) t in
-    let r4 : Result (OneUnit × PathSet × List ℕ) CodeFault = flat named_unit end ls whole in
-    let r3 : Result (OneUnit × PathSet × List ℕ) CodeFault = cond (eqb lead 0x03) (flat extended_unit end ls bs) r4 in
-    let r2 : Result (OneUnit × PathSet × List ℕ) CodeFault = cond (eqb lead 0x02) (connection_at read end ls bs) r3 in
-    let r1 : Result (OneUnit × PathSet × List ℕ) CodeFault = cond (eqb lead 0x01) (flat access_unit end ls bs) r2 in
+    let led : (b : ℕ) → eqb lead b ≡ true → TookOneField arity scope code levels ls (b ∷ bs) x → P = λ b g t. subst (λ (c : ℕ). TookOneField arity scope code levels ls (c ∷ bs) x) (sym (eqb-true lead b g)) t in
+    let r4 : Result (Field × PathSet × List ℕ) CodeFault = flat named_unit end ls whole in
+    let r3 : Result (Field × PathSet × List ℕ) CodeFault = cond (eqb lead 0x03) (flat extended_unit end ls bs) r4 in
+    let r2 : Result (Field × PathSet × List ℕ) CodeFault = cond (eqb lead 0x02) (connection_at read end ls bs) r3 in
+    let r1 : Result (Field × PathSet × List ℕ) CodeFault = cond (eqb lead 0x01) (flat access_unit end ls bs) r2 in
     let first : Takes whole (lead ∷ []) bs = record { parts = refl; rest_fits = fits } in
     cond_then P (eqb lead 0x00) (flat reserved_unit end ls bs) r1 (Ok x) e
-    (λ g q. led 0x00 g (flat_unit_take arity scope code levels reserved_unit end ls (0x00 ∷ bs) bs x (λ y. reserved_took s levels ls end bs y fits) q)) (λ g0 q0.
+    (λ g q. led 0x00 g (flat_field_take arity scope code levels reserved_unit end ls (0x00 ∷ bs) bs x (λ y. reserved_took s levels ls end bs y fits) q)) (λ g0 q0.
     cond_then P (eqb lead 0x01) (flat access_unit end ls bs) r2 (Ok x) q0
-    (λ g q. led 0x01 g (flat_unit_take arity scope code levels access_unit end ls (0x01 ∷ bs) bs x (λ y. access_took s levels ls end bs y fits) q)) (λ g1 q1.
+    (λ g q. led 0x01 g (flat_field_take arity scope code levels access_unit end ls (0x01 ∷ bs) bs x (λ y. access_took s levels ls end bs y fits) q)) (λ g1 q1.
     cond_then P (eqb lead 0x02) (connection_at read end ls bs) r3 (Ok x) q1
     (λ g q. led 0x02 g (connection_take arity scope code levels read law (at + 1) end ls bs x (onward code at end whole (lead ∷ []) bs w first) q)) (λ g2 q2.
     cond_then P (eqb lead 0x03) (flat extended_unit end ls bs) r4 (Ok x) q2
-    (λ g q. led 0x03 g (flat_unit_take arity scope code levels extended_unit end ls (0x03 ∷ bs) bs x (λ y. extended_took s levels ls end bs y fits) q)) (λ g3 q3.
-    flat_unit_take arity scope code levels named_unit end ls whole whole x (λ y. named_took s levels ls end whole y w.fits) q3))))
+    (λ g q. led 0x03 g (flat_field_take arity scope code levels extended_unit end ls (0x03 ∷ bs) bs x (λ y. extended_took s levels ls end bs y fits) q)) (λ g3 q3.
+    flat_field_take arity scope code levels named_unit end ls whole whole x (λ y. named_took s levels ls end whole y w.fits) q3))))
 
-units_take : (arity : Arities) (scope : Option (List Seg)) (code : List ℕ) (levels : ℕ) (read : Position → Reader Tree) → IsReader arity scope code levels read → (n at end : ℕ) (ls : PathSet) (bs : List ℕ)
-    (x : Units × PathSet) → Within code at end bs → units_at read n end ls bs ≡ Ok x → TookUnits arity scope code levels ls bs x
-unfolding units_at
-units_take arity scope code levels read law n at end ls [] x w e =
-    subst (TookUnits arity scope code levels ls []) (ok_is (no_units, ls) x e) (record { text = refl; are_units = tt; after_is = refl })
-units_take arity scope code levels read law zero at end ls (b ∷ bs) x w e = absurd cc
-units_take arity scope code levels read law (suc n) at end ls (b ∷ bs) x w e =
-    let P : Type 0 = TookUnits arity scope code levels ls (b ∷ bs) x in
-    bind_then P (unit_at read end ls (b ∷ bs)) (λ first. units_at read n end first.1 first.2 >>= λ others. Ok (unit_more first.0 others.0, others.1)) x e (λ first h1 e1.
-    let a = unit_take arity scope code levels read law at end ls (b ∷ bs) first w h1 in
-    let w1 = onward code at end (b ∷ bs) (unit_encoding code first.0) first.2 w a.takes in
-    bind_then P (units_at read n end first.1 first.2) (λ others. Ok (unit_more first.0 others.0, others.1)) x e1 (λ others h2 e2.
-    let c = units_take arity scope code levels read law n (at + length (unit_encoding code first.0)) end first.1 first.2 others w1 h2 in
-    subst (TookUnits arity scope code levels ls (b ∷ bs)) (ok_is (unit_more first.0 others.0, others.1) x e2) (record {
-      text = a.takes.parts ∙ ap (λ (r : List ℕ). unit_encoding code first.0 ++ r) c.text;
-      are_units = (a.is_unit, subst (λ (m : PathSet). AreUnits (setting_of arity scope code) levels m others.0) a.after_is c.are_units);
-      after_is = c.after_is ∙ ap (λ (m : PathSet). after_units scope m others.0) a.after_is;
+fields_take : (arity : Arities) (scope : Option (List Seg)) (code : List ℕ) (levels : ℕ) (read : Position → Reader Tree) → IsReader arity scope code levels read → (n at end : ℕ) (ls : PathSet) (bs : List ℕ)
+    (x : Fields × PathSet) → Within code at end bs → fields_at read n end ls bs ≡ Ok x → TookFields arity scope code levels ls bs x
+unfolding fields_at
+fields_take arity scope code levels read law n at end ls [] x w e =
+    subst (TookFields arity scope code levels ls []) (ok_is (no_fields, ls) x e) (record { text = refl; are_fields = tt; after_is = refl })
+fields_take arity scope code levels read law zero at end ls (b ∷ bs) x w e = absurd cc
+fields_take arity scope code levels read law (suc n) at end ls (b ∷ bs) x w e =
+    let P : Type 0 = TookFields arity scope code levels ls (b ∷ bs) x in
+    bind_then P (field_at read end ls (b ∷ bs)) (λ first. fields_at read n end first.1 first.2 >>= λ others. Ok (field_more first.0 others.0, others.1)) x e (λ first h1 e1.
+    let a = field_take arity scope code levels read law at end ls (b ∷ bs) first w h1 in
+    let w1 = onward code at end (b ∷ bs) (field_encoding code first.0) first.2 w a.takes in
+    bind_then P (fields_at read n end first.1 first.2) (λ others. Ok (field_more first.0 others.0, others.1)) x e1 (λ others h2 e2.
+    let c = fields_take arity scope code levels read law n (at + length (field_encoding code first.0)) end first.1 first.2 others w1 h2 in
+    subst (TookFields arity scope code levels ls (b ∷ bs)) (ok_is (field_more first.0 others.0, others.1) x e2) (record {
+      text = a.takes.parts ∙ ap (λ (r : List ℕ). field_encoding code first.0 ++ r) c.text;
+      are_fields = (a.is_unit, subst (λ (m : PathSet). AreFields (setting_of arity scope code) levels m others.0) a.after_is c.are_fields);
+      after_is = c.after_is ∙ ap (λ (m : PathSet). after_fields scope m others.0) a.after_is;
     })))
 
 -- ---- names
@@ -244,7 +244,7 @@ are_bytes [] fits = tt
 are_bytes (b ∷ bs) fits = (fits 0, are_bytes bs (λ i. fits (suc i)))
 
 tail_take : (arity : Arities) (scope : Option (List Seg)) (code : List ℕ) (levels : ℕ) (read : Position → Reader Tree) → IsReader arity scope code levels read → (p : Position) (k : TailKind) (at end : ℕ) (ls : PathSet) (bs : List ℕ)
-    (x : Rest × PathSet) → Within code at end bs → tail_at read p k end ls bs ≡ Ok x → TookTail arity scope code levels p k ls at bs x
+    (x : Tail × PathSet) → Within code at end bs → tail_at read p k end ls bs ≡ Ok x → TookTail arity scope code levels p k ls at bs x
 tail_take arity scope code levels read law p tails.Empty at end ls bs x w e = absurd cc
 tail_take arity scope code levels read law p tails.Terms at end ls bs x w e =
     bind_then (TookTail arity scope code levels p tails.Terms ls at bs x) (terms_at read (length bs) p end ls bs) (λ ts. Ok (terms ts.0, ts.1)) x e (λ ts h1 e1.
@@ -257,9 +257,9 @@ tail_take arity scope code levels read law p tails.Elements at end ls bs x w e =
     let a = terms_take arity scope code levels read law (length bs) positions.Data at end ls bs ts w h1 in
     subst (TookTail arity scope code levels p tails.Elements ls at bs) (ok_is (elements ts.0, ts.1) x e1) (record { text = a.text; is_tail = a.lawful; after_is = a.after_is; stands = tt }))
 tail_take arity scope code levels read law p tails.Fields at end ls bs x w e =
-    bind_then (TookTail arity scope code levels p tails.Fields ls at bs x) (units_at read (length bs) end ls bs) (λ us. Ok (fields us.0, us.1)) x e (λ us h1 e1.
-    let a = units_take arity scope code levels read law (length bs) at end ls bs us w h1 in
-    subst (TookTail arity scope code levels p tails.Fields ls at bs) (ok_is (fields us.0, us.1) x e1) (record { text = a.text; is_tail = a.are_units; after_is = a.after_is; stands = tt }))
+    bind_then (TookTail arity scope code levels p tails.Fields ls at bs x) (fields_at read (length bs) end ls bs) (λ us. Ok (fields us.0, us.1)) x e (λ us h1 e1.
+    let a = fields_take arity scope code levels read law (length bs) at end ls bs us w h1 in
+    subst (TookTail arity scope code levels p tails.Fields ls at bs) (ok_is (fields us.0, us.1) x e1) (record { text = a.text; is_tail = a.are_fields; after_is = a.after_is; stands = tt }))
 tail_take arity scope code levels read law p tails.Body at end ls bs x w e =
     let start_is : end - length bs ≡ at = offset_is code at end bs w in
     let len_is : end - (end - length bs) ≡ length bs = omega (arith, w.place) in
@@ -269,7 +269,7 @@ tail_take arity scope code levels read law p tails.Body at end ls bs x w e =
 
 -- ---- opcodes
 
-declared_is : (scope : Option (List Seg)) (o : ℕ) (row : Row) (ls : PathSet) (ps : Parts) (t : Rest) → row_of o ≡ Some row → with_declared scope ls (names_declared row.role ps t) ≡ declared_by scope (row_of o) ls ps t
+declared_is : (scope : Option (List Seg)) (o : ℕ) (row : Row) (ls : PathSet) (ps : Parts) (t : Tail) → row_of o ≡ Some row → with_declared scope ls (names_declared row.role ps t) ≡ declared_by scope (row_of o) ls ps t
 declared_is scope o row ls ps t e = ap (λ (r : Option Row). declared_by scope r ls ps t) (sym e)
 
 -- what has no package length is no guard
@@ -308,7 +308,7 @@ packed_take arity scope code levels read law p o row at end ls bs inside x w t0 
     let P : Type 0 = Took arity scope code (suc levels) p ls at bs x in
     let at1 = at + length (opcode_bytes o) in
     let w1 = onward code at end bs (opcode_bytes o) inside w t0 in
-    let made : PkgWidth × List ℕ × List ℕ → Parts × PathSet × List ℕ → Rest × PathSet → Tree × PathSet × List ℕ = λ span ps t. (op row.opcode (Some span.0) ps.0 t.0, with_declared scope t.1 (names_declared row.role ps.0 t.0), span.2) in
+    let made : PkgWidth × List ℕ × List ℕ → Parts × PathSet × List ℕ → Tail × PathSet → Tree × PathSet × List ℕ = λ span ps t. (op row.opcode (Some span.0) ps.0 t.0, with_declared scope t.1 (names_declared row.role ps.0 t.0), span.2) in
     let tailed : PkgWidth × List ℕ × List ℕ → Parts × PathSet × List ℕ → Result (Tree × PathSet × List ℕ) CodeFault = λ span ps.
     tail_at read (terms_in p row.place) row.tail (end - length span.2) ps.1 ps.2 >>= λ t. Ok (made span ps t) in
     let parted : PkgWidth × List ℕ × List ℕ → Result (Tree × PathSet × List ℕ) CodeFault = λ span.
@@ -326,7 +326,7 @@ packed_take arity scope code levels read law p o row at end ls bs inside x w t0 
     bind_then P (tail_at read (terms_in p row.place) row.tail inner ps.1 ps.2) (λ t. Ok (made span ps t)) x e3 (λ t h4 e4.
     let c = tail_take arity scope code levels read law (terms_in p row.place) row.tail at3 inner ps.1 ps.2 t w3 h4 in
     let is_guarded = guard_holds s code levels (is_guard p row.place) at inner span.1 guarded row.parts ls ps.0 ps.2 (λ g. if_parts o row listed (guard_place p row.place g)) h2 b.are_parts b.takes.parts in
-    let content = parts_encoding code ps.0 ++ rest_encoding code t.0 in
+    let content = parts_encoding code ps.0 ++ tail_encoding code t.0 in
     let whole : span.1 ≡ content = b.takes.parts ∙ ap (λ (r : List ℕ). parts_encoding code ps.0 ++ r) c.text in
     let spelled : Takes inside (package_bytes span.0 (width_len span.0 + length content) ++ content) span.2 × FitsWidth span.0 (width_len span.0 + length content) =
     subst (λ (i : List ℕ). Takes inside (package_bytes span.0 (width_len span.0 + length i) ++ i) span.2 × FitsWidth span.0 (width_len span.0 + length i)) whole (sp.0, sp.1) in
@@ -337,8 +337,8 @@ packed_take arity scope code levels read law p o row at end ls bs inside x w t0 
     let found : Took arity scope code (suc levels) p ls at bs (op o (Some span.0) ps.0 t.0, with_declared scope t.1 (names_declared row.role ps.0 t.0), span.2) = record {
       takes = both;
       lawful = record { row = row; listed = listed; taken = taken; width = width; guarded = is_guarded; parts = b.are_parts; tail = tail };
-      after_is = declared_is scope o row t.1 ps.0 t.0 listed ∙ ap (λ (m : PathSet). declared_by scope (row_of o) m ps.0 t.0) (c.after_is ∙ ap (λ (m : PathSet). after_rest scope m t.0) b.after_is);
-      stands = subst (λ (n : ℕ). RestStands code n t.0) offset c.stands;
+      after_is = declared_is scope o row t.1 ps.0 t.0 listed ∙ ap (λ (m : PathSet). declared_by scope (row_of o) m ps.0 t.0) (c.after_is ∙ ap (λ (m : PathSet). after_tail scope m t.0) b.after_is);
+      stands = subst (λ (n : ℕ). TailStands code n t.0) offset c.stands;
     } in
     let same : op o (Some span.0) ps.0 t.0 ≡ op row.opcode (Some span.0) ps.0 t.0 = ap (λ (n : ℕ). op n (Some span.0) ps.0 t.0) (sym (row_opcode o row listed)) in
     let moved = subst (λ (y : Tree). Took arity scope code (suc levels) p ls at bs (y, with_declared scope t.1 (names_declared row.role ps.0 t.0), span.2)) same found in

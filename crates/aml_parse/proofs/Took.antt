@@ -14,12 +14,12 @@ use Rattle.aml_code.specs.declared.rows.TailKind.{TailKind}
 use Rattle.aml_code.specs.declared.rows.TailKind.TheVariants as tails
 use Rattle.aml_code.specs.Packages.{package_bytes}
 use Rattle.aml_code.specs.Rows.{has_length}
-use Rattle.aml_code.specs.Tree.{Tree, nothing, named, op, Trees, OnePart, Parts, Rest, OneUnit, unit, reserved, access, connection, extended, Units, Joint, tree_count}
-use Rattle.aml_code.specs.Encoding.{opcode_bytes, packed, encoding, encodings, part_encoding, parts_encoding, rest_encoding, unit_encoding, units_encoding, joint_encoding}
-use Rattle.aml_code.specs.Declaring.{after, after_all, after_part, after_parts, after_rest, after_joint, after_unit, after_units}
+use Rattle.aml_code.specs.Tree.{Tree, nothing, named, op, Trees, Part, Parts, Tail, Field, unit, reserved, access, connection, extended, Fields, Link, tree_count}
+use Rattle.aml_code.specs.Encoding.{opcode_bytes, packed, encoding, encodings, part_encoding, parts_encoding, tail_encoding, field_encoding, fields_encoding, link_encoding}
+use Rattle.aml_code.specs.Declaring.{after, after_all, after_part, after_parts, after_tail, after_link, after_field, after_fields}
 use Rattle.aml_code.specs.Faults.{Arities}
-use Rattle.aml_code.specs.Lawful.{HasCount, count_in, Setting, IsLawful, AreArguments, AreTerms, IsPart, AreParts, IsTail, IsJoint, IsUnit, AreUnits}
-use Rattle.aml_code.specs.Meaning.{count_from, setting_of, BodyStands, BodiesStand, RestStands}
+use Rattle.aml_code.specs.Lawful.{HasCount, count_in, Setting, IsLawful, AreArguments, AreTerms, IsPart, AreParts, IsTail, IsLink, IsField, AreFields}
+use Rattle.aml_code.specs.Meaning.{count_from, setting_of, BodyStands, BodiesStand, TailStands}
 use Rattle.aml_code.proofs.RowFacts.{opcode_some}
 use Rattle.aml_code.proofs.Within.{Within}
 use Rattle.aml_parse.specs.Reading.{Reader, wanted, takes_names}
@@ -30,7 +30,7 @@ pub record Took (arity : Arities) (scope : Option (List Seg)) (code : List ℕ) 
   pub after_is : x.1 ≡ after scope ls x.0
   pub stands : BodyStands code at x.0
 
-pub record TookPart (arity : Arities) (scope : Option (List Seg)) (code : List ℕ) (levels : ℕ) (k : PartKind) (ls : PathSet) (bs : List ℕ) (x : OnePart × PathSet × List ℕ) : Type 0 where
+pub record TookPart (arity : Arities) (scope : Option (List Seg)) (code : List ℕ) (levels : ℕ) (k : PartKind) (ls : PathSet) (bs : List ℕ) (x : Part × PathSet × List ℕ) : Type 0 where
   pub takes : Takes bs (part_encoding code x.0) x.2
   pub is_part : IsPart (setting_of arity scope code) levels k ls x.0
   pub after_is : x.1 ≡ after_part scope ls x.0
@@ -52,26 +52,26 @@ pub record TookTerms (arity : Arities) (scope : Option (List Seg)) (code : List 
   pub after_is : x.1 ≡ after_all scope ls x.0
   pub stands : BodiesStand code at x.0
 
-pub record TookTail (arity : Arities) (scope : Option (List Seg)) (code : List ℕ) (levels : ℕ) (p : Position) (k : TailKind) (ls : PathSet) (at : ℕ) (bs : List ℕ) (x : Rest × PathSet) : Type 0 where
-  pub text : bs ≡ rest_encoding code x.0
+pub record TookTail (arity : Arities) (scope : Option (List Seg)) (code : List ℕ) (levels : ℕ) (p : Position) (k : TailKind) (ls : PathSet) (at : ℕ) (bs : List ℕ) (x : Tail × PathSet) : Type 0 where
+  pub text : bs ≡ tail_encoding code x.0
   pub is_tail : IsTail (setting_of arity scope code) levels p k ls x.0
-  pub after_is : x.1 ≡ after_rest scope ls x.0
-  pub stands : RestStands code at x.0
+  pub after_is : x.1 ≡ after_tail scope ls x.0
+  pub stands : TailStands code at x.0
 
-pub record TookJoint (arity : Arities) (scope : Option (List Seg)) (code : List ℕ) (levels : ℕ) (ls : PathSet) (bs : List ℕ) (x : Joint × PathSet × List ℕ) : Type 0 where
-  pub takes : Takes bs (joint_encoding code x.0) x.2
-  pub is_joint : IsJoint (setting_of arity scope code) levels ls x.0
-  pub after_is : x.1 ≡ after_joint scope ls x.0
+pub record TookLink (arity : Arities) (scope : Option (List Seg)) (code : List ℕ) (levels : ℕ) (ls : PathSet) (bs : List ℕ) (x : Link × PathSet × List ℕ) : Type 0 where
+  pub takes : Takes bs (link_encoding code x.0) x.2
+  pub is_link : IsLink (setting_of arity scope code) levels ls x.0
+  pub after_is : x.1 ≡ after_link scope ls x.0
 
-pub record TookOneUnit (arity : Arities) (scope : Option (List Seg)) (code : List ℕ) (levels : ℕ) (ls : PathSet) (bs : List ℕ) (x : OneUnit × PathSet × List ℕ) : Type 0 where
-  pub takes : Takes bs (unit_encoding code x.0) x.2
-  pub is_unit : IsUnit (setting_of arity scope code) levels ls x.0
-  pub after_is : x.1 ≡ after_unit scope ls x.0
+pub record TookOneField (arity : Arities) (scope : Option (List Seg)) (code : List ℕ) (levels : ℕ) (ls : PathSet) (bs : List ℕ) (x : Field × PathSet × List ℕ) : Type 0 where
+  pub takes : Takes bs (field_encoding code x.0) x.2
+  pub is_unit : IsField (setting_of arity scope code) levels ls x.0
+  pub after_is : x.1 ≡ after_field scope ls x.0
 
-pub record TookUnits (arity : Arities) (scope : Option (List Seg)) (code : List ℕ) (levels : ℕ) (ls : PathSet) (bs : List ℕ) (x : Units × PathSet) : Type 0 where
-  pub text : bs ≡ units_encoding code x.0
-  pub are_units : AreUnits (setting_of arity scope code) levels ls x.0
-  pub after_is : x.1 ≡ after_units scope ls x.0
+pub record TookFields (arity : Arities) (scope : Option (List Seg)) (code : List ℕ) (levels : ℕ) (ls : PathSet) (bs : List ℕ) (x : Fields × PathSet) : Type 0 where
+  pub text : bs ≡ fields_encoding code x.0
+  pub are_fields : AreFields (setting_of arity scope code) levels ls x.0
+  pub after_is : x.1 ≡ after_fields scope ls x.0
 
 -- what is read is lawful and spelled so, and a lawful term is read again, whatever follows it
 pub record IsReader (arity : Arities) (scope : Option (List Seg)) (code : List ℕ) (levels : ℕ) (read : Position → Reader Tree) : Type 0 where
@@ -93,18 +93,18 @@ nonempty s code zero p ls (op o w ps t) h = absurd h
 nonempty s code (suc levels) p ls (op o w ps t) h = omega (arith, opcode_some o, length_op)
   where
     length_op : length (opcode_bytes o) ≤ length (encoding code (op o w ps t))
-    length_op = omega (arith, length-append (opcode_bytes o) (packed w (parts_encoding code ps ++ rest_encoding code t)))
+    length_op = omega (arith, length-append (opcode_bytes o) (packed w (parts_encoding code ps ++ tail_encoding code t)))
 
 seg_some : (text : List ℕ) → IsNameSeg text → 0 < length text
 seg_some [] h = absurd h
 seg_some (a ∷ text) h = omega arith
 
-pub unit_some : (s : Setting) (code : List ℕ) (levels : ℕ) (ls : PathSet) (u : OneUnit) → IsUnit s levels ls u → 0 < length (unit_encoding code u)
-unit_some s code levels ls (unit g w n) h = omega (arith, seg_some g.0 h.0, length-append g.0 (package_bytes w n))
-unit_some s code levels ls (reserved w n) h = omega arith
-unit_some s code levels ls (access a b) h = omega arith
-unit_some s code levels ls (connection l) h = omega arith
-unit_some s code levels ls (extended a b c) h = omega arith
+pub field_some : (s : Setting) (code : List ℕ) (levels : ℕ) (ls : PathSet) (u : Field) → IsField s levels ls u → 0 < length (field_encoding code u)
+field_some s code levels ls (unit g w n) h = omega (arith, seg_some g.0 h.0, length-append g.0 (package_bytes w n))
+field_some s code levels ls (reserved w n) h = omega arith
+field_some s code levels ls (access a b) h = omega arith
+field_some s code levels ls (connection l) h = omega arith
+field_some s code levels ls (extended a b c) h = omega arith
 
 -- ---- how many arguments
 

@@ -21,7 +21,7 @@ use Rattle.aml_code.specs.declared.rows.TailKind.{TailKind}
 use Rattle.aml_code.specs.declared.rows.TailKind.TheVariants as tails
 use Rattle.aml_code.specs.Lengths.{little_at, length_at, span_at}
 use Rattle.aml_code.specs.Rows.{row_of, has_length, takes}
-use Rattle.aml_code.specs.Tree.{Tree, nothing, named, op, Trees, no_trees, tree_more, OnePart, child, label, byte, word, dword, qword, text, Parts, no_parts, part_more, Rest, empty, terms, elements, fields, body, OneUnit, unit, reserved, access, connection, extended, Units, no_units, unit_more, Joint, target, buffer}
+use Rattle.aml_code.specs.Tree.{Tree, nothing, named, op, Trees, no_trees, tree_more, Part, child, label, byte, word, dword, qword, text, Parts, no_parts, part_more, Tail, empty, terms, elements, fields, body, Field, unit, reserved, access, connection, extended, Fields, no_fields, field_more, Link, target, buffer}
 use Rattle.aml_code.specs.Tree as trees
 use Rattle.aml_code.specs.Declaring.{names_declared, with_declared}
 use Rattle.aml_code.specs.Faults.{Arities}
@@ -42,41 +42,41 @@ flat step end ls bytes = do
 
 -- ---- parts that hold no terms
 
-abbrev pub byte_part : ℕ → List ℕ → Left OnePart
+abbrev pub byte_part : ℕ → List ℕ → Left Part
 byte_part end bytes = do
   n ← little_at 1 end bytes
   Ok (byte n.0, n.1)
 
-unfoldable pub count_part : ℕ → List ℕ → Left OnePart
+unfoldable pub count_part : ℕ → List ℕ → Left Part
 count_part end bytes = do
   n ← little_at 1 end bytes
   if nat_lt 7 n.0 then Err (faults.BadCount (end - length bytes)) else Ok (byte n.0, n.1)
 
-abbrev pub word_part : ℕ → List ℕ → Left OnePart
+abbrev pub word_part : ℕ → List ℕ → Left Part
 word_part end bytes = do
   n ← little_at 2 end bytes
   Ok (word n.0, n.1)
 
-abbrev pub dword_part : ℕ → List ℕ → Left OnePart
+abbrev pub dword_part : ℕ → List ℕ → Left Part
 dword_part end bytes = do
   n ← little_at 4 end bytes
   Ok (dword n.0, n.1)
 
-abbrev pub qword_part : ℕ → List ℕ → Left OnePart
+abbrev pub qword_part : ℕ → List ℕ → Left Part
 qword_part end bytes = do
   n ← little_at 8 end bytes
   Ok (qword n.0, n.1)
 
 -- a text up to its 00
-abbrev pub text_to : Option ℕ → ℕ → List ℕ → Left OnePart
+abbrev pub text_to : Option ℕ → ℕ → List ℕ → Left Part
 text_to None end bytes = Err (faults.Truncated end)
 text_to (Some n) end bytes = Ok (text (take n bytes), drop (suc n) bytes)
 
-abbrev pub text_part : ℕ → List ℕ → Left OnePart
+abbrev pub text_part : ℕ → List ℕ → Left Part
 text_part end bytes = text_to (position (λ b. b == 0) bytes) end bytes
 
 -- a name that may have no segment
-abbrev pub any_name_part : ℕ → List ℕ → Left OnePart
+abbrev pub any_name_part : ℕ → List ℕ → Left Part
 any_name_part end bytes = do
   n ← name_at end bytes
   Ok (label n.0, n.1)
@@ -87,14 +87,14 @@ segmented_at end bytes = do
   n ← name_at end bytes
   if has_segment n.0 then Ok n else Err (faults.EmptyName (end - length bytes))
 
-abbrev pub name_part : ℕ → List ℕ → Left OnePart
+abbrev pub name_part : ℕ → List ℕ → Left Part
 name_part end bytes = do
   n ← segmented_at end bytes
   Ok (label n.0, n.1)
 
 -- ---- parts
 
-abbrev pub child_at : Reader Tree → Reader OnePart
+abbrev pub child_at : Reader Tree → Reader Part
 child_at read end ls bytes = do
   t ← read end ls bytes
   Ok (child t.0, t.1, t.2)
@@ -107,7 +107,7 @@ child_position kinds.Data = Some positions.Data
 child_position _ = None
 
 -- a part of another kind
-abbrev pub flat_part : PartKind → ℕ → List ℕ → Left OnePart
+abbrev pub flat_part : PartKind → ℕ → List ℕ → Left Part
 flat_part kinds.Name end bytes = name_part end bytes
 flat_part kinds.ScopeName end bytes = any_name_part end bytes
 flat_part kinds.Byte end bytes = byte_part end bytes
@@ -118,11 +118,11 @@ flat_part kinds.Qword end bytes = qword_part end bytes
 flat_part kinds.Text end bytes = text_part end bytes
 flat_part _ end bytes = Err (faults.Truncated end)
 
-abbrev pub part_by : Option Position → (Position → Reader Tree) → PartKind → Reader OnePart
+abbrev pub part_by : Option Position → (Position → Reader Tree) → PartKind → Reader Part
 part_by (Some p) read k = child_at (read p)
 part_by None read k = flat (flat_part k)
 
-abbrev pub part_at : (Position → Reader Tree) → PartKind → Reader OnePart
+abbrev pub part_at : (Position → Reader Tree) → PartKind → Reader Part
 part_at read k = part_by (child_position k) read k
 
 unfoldable pub parts_at : (Position → Reader Tree) → List PartKind → Reader Parts
@@ -154,27 +154,27 @@ terms_at read (suc n) p end ls (b ∷ bytes) = do
 -- ---- field lists (20.2.5.2)
 
 -- a NameSeg and a number of bits
-unfoldable pub named_unit : ℕ → List ℕ → Left OneUnit
+unfoldable pub named_unit : ℕ → List ℕ → Left Field
 named_unit end bytes = do
   s ← segment_at end bytes
   n ← length_at end s.1
   Ok (unit s.0 n.0.0 n.0.1, n.1)
 
 -- behind 00: a number of bits
-unfoldable pub reserved_unit : ℕ → List ℕ → Left OneUnit
+unfoldable pub reserved_unit : ℕ → List ℕ → Left Field
 reserved_unit end bytes = do
   n ← length_at end bytes
   Ok (reserved n.0.0 n.0.1, n.1)
 
 -- behind 01: type and attribute
-unfoldable pub access_unit : ℕ → List ℕ → Left OneUnit
+unfoldable pub access_unit : ℕ → List ℕ → Left Field
 access_unit end bytes = do
   kind ← byte_at end bytes
   attribute ← byte_at end kind.1
   Ok (access kind.0 attribute.0, attribute.1)
 
 -- behind 03: type, attribute and length
-unfoldable pub extended_unit : ℕ → List ℕ → Left OneUnit
+unfoldable pub extended_unit : ℕ → List ℕ → Left Field
 extended_unit end bytes = do
   kind ← byte_at end bytes
   attribute ← byte_at end kind.1
@@ -182,31 +182,31 @@ extended_unit end bytes = do
   Ok (extended kind.0 attribute.0 len.0, len.1)
 
 -- a connection's name
-abbrev pub named_joint : ℕ → List ℕ → Left Joint
-named_joint end bytes = do
+abbrev pub named_link : ℕ → List ℕ → Left Link
+named_link end bytes = do
   n ← segmented_at end bytes
   Ok (target n.0, n.1)
 
-abbrev pub buffer_at : Reader Tree → Reader Joint
+abbrev pub buffer_at : Reader Tree → Reader Link
 buffer_at read end ls bytes = do
   t ← read end ls bytes
   Ok (buffer t.0, t.1, t.2)
 
 -- what a connection leads to: a Buffer, by its lead byte, or a name
-unfoldable pub joint_at : (Position → Reader Tree) → Reader Joint
-joint_at read end ls bytes = do
+unfoldable pub link_at : (Position → Reader Tree) → Reader Link
+link_at read end ls bytes = do
   lead ← byte_at end bytes
-  if lead.0 == 0x11 then buffer_at (read positions.Data) end ls bytes else flat named_joint end ls bytes
+  if lead.0 == 0x11 then buffer_at (read positions.Data) end ls bytes else flat named_link end ls bytes
 
 -- behind 02
-abbrev pub connection_at : (Position → Reader Tree) → Reader OneUnit
+abbrev pub connection_at : (Position → Reader Tree) → Reader Field
 connection_at read end ls bytes = do
-  l ← joint_at read end ls bytes
+  l ← link_at read end ls bytes
   Ok (connection l.0, l.1, l.2)
 
 -- an element, by its lead byte
-unfoldable pub unit_at : (Position → Reader Tree) → Reader OneUnit
-unit_at read end ls bytes = do
+unfoldable pub field_at : (Position → Reader Tree) → Reader Field
+field_at read end ls bytes = do
   lead ← byte_at end bytes
   if lead.0 == 0x00 then flat reserved_unit end ls lead.1 else
       if lead.0 == 0x01 then flat access_unit end ls lead.1 else
@@ -215,13 +215,13 @@ unit_at read end ls bytes = do
       flat named_unit end ls bytes
 
 -- Elements to the end of the span. The number bounds the turns: that of the bytes is always enough.
-unfoldable pub units_at : (Position → Reader Tree) → ℕ → ℕ → PathSet → List ℕ → Result (Units × PathSet) CodeFault
-units_at read n end ls [] = Ok (no_units, ls)
-units_at read zero end ls (b ∷ bytes) = Err (faults.Truncated end)
-units_at read (suc n) end ls (b ∷ bytes) = do
-  first ← unit_at read end ls (b ∷ bytes)
-  others ← units_at read n end first.1 first.2
-  Ok (unit_more first.0 others.0, others.1)
+unfoldable pub fields_at : (Position → Reader Tree) → ℕ → ℕ → PathSet → List ℕ → Result (Fields × PathSet) CodeFault
+fields_at read n end ls [] = Ok (no_fields, ls)
+fields_at read zero end ls (b ∷ bytes) = Err (faults.Truncated end)
+fields_at read (suc n) end ls (b ∷ bytes) = do
+  first ← field_at read end ls (b ∷ bytes)
+  others ← fields_at read n end first.1 first.2
+  Ok (field_more first.0 others.0, others.1)
 
 -- ---- names
 
@@ -289,11 +289,11 @@ guard_at true at end inside = do
   if first.0 == 0x00 then Ok true else Err (faults.ModuleCode at)
 
 -- a method's body, from where it begins to the end of its span
-abbrev pub body_to : ℕ → ℕ → Rest
+abbrev pub body_to : ℕ → ℕ → Tail
 body_to end start = body start (end - start)
 
 -- a tail to the end of its span
-abbrev pub tail_at : (Position → Reader Tree) → Position → TailKind → ℕ → PathSet → List ℕ → Result (Rest × PathSet) CodeFault
+abbrev pub tail_at : (Position → Reader Tree) → Position → TailKind → ℕ → PathSet → List ℕ → Result (Tail × PathSet) CodeFault
 tail_at read p tails.Empty end ls inside = Err (faults.Truncated end)
 tail_at read p tails.Terms end ls inside = do
   ts ← terms_at read (length inside) p end ls inside
@@ -303,7 +303,7 @@ tail_at read p tails.Elements end ls inside = do
   ts ← terms_at read (length inside) positions.Data end ls inside
   Ok (elements ts.0, ts.1)
 tail_at read p tails.Fields end ls inside = do
-  us ← units_at read (length inside) end ls inside
+  us ← fields_at read (length inside) end ls inside
   Ok (fields us.0, us.1)
 tail_at read p tails.Body end ls inside = Ok (body_to end (end - length inside), ls)
 

@@ -2,7 +2,7 @@
 ghost use Rattle.std.specs.Prelude.{◌≡◌, None, OnOk};
 ghost use Rattle.aml_names.specs.Steps.{Gives};
 ghost use Rattle.aml_names.specs.Names.{placed};
-ghost use Rattle.aml_code.specs.Tree.{no_units, unit_more};
+ghost use Rattle.aml_code.specs.Tree.{no_fields, field_more};
 ghost use Rattle.aml_code.specs.Declaring.{field_names, last_label, listed, names_declared, unit_names, with_declared, with_names, with_path};
 ghost use Rattle.aml_code.specs.View.{field_view, fields_view, parts_view, tail_view};
 ghost use Rattle.aml_parse.specs.Reading.{wanted, known};
@@ -154,7 +154,7 @@ fn declare_field(
     locals: &mut Locals,
 ) -> Result<(), NoMemory>
     ensures { OnOk result (locals.new ≡ with_names scope.now locals.old
-        (unit_names (unit_more (field_view field.now) no_units))) }
+        (unit_names (field_more (field_view field.now) no_fields))) }
 {
     match field {
         Field::NamedUnit { seg, .. } => {

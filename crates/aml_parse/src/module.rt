@@ -53,8 +53,8 @@ fn module_terms(alloc: Global, code: &[u8]) -> Result<Vec<Node>, CodeFault>
     Ok(without_room(nodes))
 }
 
-/// The terms of a table's AML, which `code` holds whole. The body of a method isn't read: its tail is the span of `code`
-/// in which it stands, since the number of arguments of the names in it isn't known before all tables are.
+/// The terms of a table's AML, which `code` holds whole. The body of a method isn't read: its tail is the span of
+/// `code` in which it stands, since the number of arguments of the names in it isn't known before all tables are.
 ///
 /// A fault's offset is one in `code`, and what the fault says is true there. Which of several faults is answered is the
 /// first that is met in reading forward.

@@ -5,7 +5,7 @@ ghost use Rattle.aml_code.specs.Rows.{row_view};
 ghost use Rattle.aml_code.specs.Tree.{op, no_parts, empty};
 ghost use Rattle.aml_code.specs.View.{node_view, nodes_view, part_view, parts_view, tail_view, field_view, fields_view, link_view};
 ghost use Rattle.aml_parse.specs.Contexts.{scope_of, read_in};
-ghost use Rattle.aml_parse.specs.Reading.{part_at, parts_at, arguments_at, terms_at, units_at, unit_at, joint_at, call_at, name_term_at, tail_at, plain_at, packed_at, by_row, row_at, operation_at};
+ghost use Rattle.aml_parse.specs.Reading.{part_at, parts_at, arguments_at, terms_at, fields_at, field_at, link_at, call_at, name_term_at, tail_at, plain_at, packed_at, by_row, row_at, operation_at};
 
 use crate::context::Context;
 use crate::flat::flat_part_of;
@@ -16,7 +16,7 @@ use crate::positions::{
 };
 use crate::room::without_room;
 use crate::units::{
-    access_unit_of, extended_unit_of, named_joint_of, named_unit_of, reserved_unit_of,
+    access_unit_of, extended_unit_of, named_link_of, named_unit_of, reserved_unit_of,
 };
 use aml_code::{
     Arity, Bytes, CodeFault, Field, Link, Locals, Node, OpRow, Part, PartKind, Position, Tail,
@@ -67,7 +67,8 @@ fn name_term<'b, A: Arity>(
     bytes: &'b [u8],
 ) -> Result<(Node, &'b [u8]), CodeFault>
     ensures { Gives (λ x. (node_view x.0, locals.new, x.1.now)) result
-        (name_term_at (A.arity context.now.arity.now) (read_in A.arity context.now levels) position end locals.old bytes.now) }
+        (name_term_at (A.arity context.now.arity.now) (read_in A.arity context.now levels) position end locals.old
+        bytes.now) }
 {
     if !takes_names(position) {
         return Err(CodeFault::ModuleCode {
@@ -89,7 +90,8 @@ fn call<'b, A: Arity>(
     bytes: &'b [u8],
 ) -> Result<(Node, &'b [u8]), CodeFault>
     ensures { Gives (λ x. (node_view x.0, locals.new, x.1.now)) result
-        (call_at (A.arity context.now.arity.now) (read_in A.arity context.now levels) position end locals.old bytes.now) }
+        (call_at (A.arity context.now.arity.now) (read_in A.arity context.now levels) position end locals.old
+        bytes.now) }
 {
     let (name, rest) = name_of(context.alloc, end, bytes)?;
     let count = context.count(position, offset_of(end, bytes), locals, &name)?;
@@ -136,7 +138,8 @@ fn operation<'b, A: Arity>(
     bytes: &'b [u8],
 ) -> Result<(Node, &'b [u8]), CodeFault>
     ensures { Gives (λ x. (node_view x.0, locals.new, x.1.now)) result
-        (operation_at (scope_of context.now.scope) (read_in A.arity context.now levels) position end locals.old bytes.now) }
+        (operation_at (scope_of context.now.scope) (read_in A.arity context.now levels) position end locals.old
+        bytes.now) }
 {
     let (opcode, rest) = opcode_of(end, bytes)?;
     let at = offset_of(end, bytes);
@@ -309,8 +312,8 @@ fn tail<A: Arity>(
     }
 }
 
-/// The elements of a field list, to the end of the span. Each takes a byte at least, so as many turns as there are bytes
-/// are enough.
+/// The elements of a field list, to the end of the span. Each takes a byte at least, so as many turns as there are
+/// bytes are enough.
 #[cycle(terms)]
 fn fields<A: Arity>(
     context: &Context<'_, A>,
@@ -320,7 +323,7 @@ fn fields<A: Arity>(
     bytes: &[u8],
 ) -> Result<Vec<Field>, CodeFault>
     ensures { Gives (λ x. (fields_view x.items, locals.new)) result
-        (units_at (read_in A.arity context.now levels) (length bytes.now) end locals.old bytes.now) }
+        (fields_at (read_in A.arity context.now levels) (length bytes.now) end locals.old bytes.now) }
 {
     let mut found = Vec::new(context.alloc);
     let mut rest = bytes;
@@ -345,7 +348,7 @@ fn fields<A: Arity>(
 
 /// An element of a field list, by its lead byte.
 #[cycle(terms)]
-#[tactic(auto, unfolding(crate::specs::Reading::unit_at))]
+#[tactic(auto, unfolding(crate::specs::Reading::field_at))]
 fn field<'b, A: Arity>(
     context: &Context<'_, A>,
     levels: u16,
@@ -354,7 +357,7 @@ fn field<'b, A: Arity>(
     bytes: &'b [u8],
 ) -> Result<(Field, &'b [u8]), CodeFault>
     ensures { Gives (λ x. (field_view x.0, locals.new, x.1.now)) result
-        (unit_at (read_in A.arity context.now levels) end locals.old bytes.now) }
+        (field_at (read_in A.arity context.now levels) end locals.old bytes.now) }
 {
     let (lead, rest) = byte_of(end, bytes)?;
     match lead {
@@ -371,7 +374,7 @@ fn field<'b, A: Arity>(
 
 /// What a connection leads to: a Buffer, which its lead byte tells, or a name.
 #[cycle(terms)]
-#[tactic(auto, unfolding(crate::specs::Reading::joint_at))]
+#[tactic(auto, unfolding(crate::specs::Reading::link_at))]
 fn link<'b, A: Arity>(
     context: &Context<'_, A>,
     levels: u16,
@@ -380,11 +383,11 @@ fn link<'b, A: Arity>(
     bytes: &'b [u8],
 ) -> Result<(Link, &'b [u8]), CodeFault>
     ensures { Gives (λ x. (link_view x.0, locals.new, x.1.now)) result
-        (joint_at (read_in A.arity context.now levels) end locals.old bytes.now) }
+        (link_at (read_in A.arity context.now levels) end locals.old bytes.now) }
 {
     let (lead, _) = byte_of(end, bytes)?;
     if lead != BUFFER {
-        return Ok(named_joint_of(context.alloc, end, bytes)?);
+        return Ok(named_link_of(context.alloc, end, bytes)?);
     }
     let (node, rest) = term(context, levels, Position::Data, end, locals, bytes)?;
     Ok((Link::Buffer(node), rest))

@@ -1,7 +1,7 @@
 //! Elements of field lists that hold no terms (ACPI 6.5, 20.2.5.2).
 ghost use Rattle.aml_names.specs.Steps.{Gives};
 ghost use Rattle.aml_code.specs.View.{field_view, link_view};
-ghost use Rattle.aml_parse.specs.Reading.{named_unit, reserved_unit, access_unit, extended_unit, named_joint};
+ghost use Rattle.aml_parse.specs.Reading.{named_unit, reserved_unit, access_unit, extended_unit, named_link};
 
 use crate::flat::segmented_of;
 use aml_code::{CodeFault, Field, Link, byte_of, length_of};
@@ -49,8 +49,8 @@ pub fn extended_unit_of(end: u32, bytes: &[u8]) -> Result<(Field, &[u8]), CodeFa
 }
 
 /// A connection's name, which has a segment.
-pub fn named_joint_of(alloc: Global, end: u32, bytes: &[u8]) -> Result<(Link, &[u8]), CodeFault>
-    ensures { Gives (λ x. (link_view x.0, x.1.now)) result (named_joint end bytes.now) }
+pub fn named_link_of(alloc: Global, end: u32, bytes: &[u8]) -> Result<(Link, &[u8]), CodeFault>
+    ensures { Gives (λ x. (link_view x.0, x.1.now)) result (named_link end bytes.now) }
 {
     let (name, rest) = segmented_of(alloc, end, bytes)?;
     Ok((Link::Target(name), rest))

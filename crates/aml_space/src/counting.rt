@@ -37,7 +37,8 @@ pub fn count_met(
     requires shape { IsShape nodes.now }
     requires within { IfSome node (λ i. i < length nodes.now) }
     ensures { result
-        ≡ count_by (namespace_in (known_by nodes.now)) (option_or (option_and_then (kinds_of nodes.now) node) (option_copied standing.entry)) (option_and_then (outs_of nodes.now) node) }
+        ≡ count_by (namespace_in (known_by nodes.now)) (option_or (option_and_then (kinds_of nodes.now) node)
+        (option_copied standing.entry)) (option_and_then (outs_of nodes.now) node) }
 {
     match kind_met(nodes, node, standing) {
         None => out_at(nodes, node),
@@ -58,7 +59,8 @@ fn count_target(nodes: &[Node], predefined: &Predefined, target: &Path) -> u8
     count_of_target(kind, out_at(nodes, node))
 }
 
-/// The arguments of what stands at the target of an Alias: a method's, none for another kind, else those of its Externals.
+/// The arguments of what stands at the target of an Alias: a method's, none for another kind, else those of its
+/// Externals.
 fn count_of_target(kind: Option<&Kind>, out: Option<u8>) -> u8
     ensures { result ≡ target_count (option_copied kind.entry) out }
 {

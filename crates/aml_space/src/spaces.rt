@@ -92,8 +92,8 @@ impl Space {
         Ok(())
     }
 
-    /// Adds an External: it names a path and says how many arguments this takes, 0 to 7 (ACPI 6.5, 20.2.5.2). Many of one
-    /// path may stand. A refused External changes nothing.
+    /// Adds an External: it names a path and says how many arguments this takes, 0 to 7 (ACPI 6.5, 20.2.5.2). Many of
+    /// one path may stand. A refused External changes nothing.
     pub fn external(&mut self, path: Path, count: u8) -> Result<(), NoMemory>
         ensures ok { OnOk result (self.new ≡ with_external self.old path count) }
         ensures stands { (es : List Entry) → StandsFor self.old es →
@@ -105,8 +105,8 @@ impl Space {
         Ok(())
     }
 
-    /// Adds an argument count that the user gives to a path. It counts where a name leads nowhere that any table names, and
-    /// declares nothing. Many of one path may stand; the greatest counts. A refused one changes nothing.
+    /// Adds an argument count that the user gives to a path. It counts where a name leads nowhere that any table names,
+    /// and declares nothing. Many of one path may stand; the greatest counts. A refused one changes nothing.
     pub fn given(&mut self, path: &Path, count: u8) -> Result<(), NoMemory>
         ensures ok { OnOk result (self.new ≡ with_given self.old path.now count) }
         ensures stands { (es : List Entry) → StandsFor self.old es →
@@ -172,8 +172,8 @@ impl Space {
         }
     }
 
-    /// How many arguments a path takes: those of a method, also through an Alias; none for another kind. Where the path has
-    /// no kind, the greatest count of its Externals. Nothing where no table names it.
+    /// How many arguments a path takes: those of a method, also through an Alias; none for another kind. Where the path
+    /// has no kind, the greatest count of its Externals. Nothing where no table names it.
     #[tactic(auto, using(crate::proofs::Stands::count_listed))]
     pub fn count(&self, path: &Path) -> Option<u8>
         ensures known { result ≡ count_at (namespace_in self.now) path.now }
@@ -194,8 +194,8 @@ impl Space {
         }
     }
 
-    /// The declared path at a place in the order of the paths, with its kind. Paths are ordered by their segments as bytes,
-    /// a shorter path before those that it begins. The predefined names that nothing replaced aren't among them.
+    /// The declared path at a place in the order of the paths, with its kind. Paths are ordered by their segments as
+    /// bytes, a shorter path before those that it begins. The predefined names that nothing replaced aren't among them.
     pub fn row_at(&self, index: usize) -> Option<(&Path, &Kind)>
         ensures { option_map row_pair result ≡ slice_get (map.entries self.now.kinds) index }
     {

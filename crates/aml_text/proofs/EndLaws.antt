@@ -3,10 +3,10 @@ use Rattle.std.proofs.Common.{◌≡◌, ℕ, ◌-◌, List, ◌++◌, length, t
 use Rattle.std.proofs.lemmas.List.{length-append}
 use Rattle.std.proofs.Math.Seq.{take-append_seam}
 use Rattle.aml_code.specs.Rows.{row_of}
-use Rattle.aml_code.specs.Tree.{Tree, nothing, named, op, Rest, empty, terms, bytes, elements, fields, body}
+use Rattle.aml_code.specs.Tree.{Tree, nothing, named, op, Tail, empty, terms, bytes, elements, fields, body}
 use Rattle.text_writer.specs.Words.{word}
 use Rattle.aml_text.specs.Texts.{head_text, inline, part_texts, tail_text}
-use Rattle.aml_text.specs.Lines.{deeper, indent, line, opening, closing, block, lines, op_lines, all_lines, unit_lines}
+use Rattle.aml_text.specs.Lines.{deeper, indent, line, opening, closing, block, lines, op_lines, all_lines, field_lines}
 
 abbrev Ends : List ℕ → Type 0
 Ends text = (front : List ℕ) × (text ≡ front ++ word "\n")
@@ -23,12 +23,12 @@ ends_block level head inside = (
       ∙ sym (append_assoc (opening level head ++ inside) (indent level ++ word "}") (word "\n")),
 )
 
-ends_op : (level : ℕ) (head : List ℕ) (r : Rest) → Ends (op_lines level head r)
+ends_op : (level : ℕ) (head : List ℕ) (r : Tail) → Ends (op_lines level head r)
 ends_op level head empty = ends_line level (head ++ tail_text empty)
 ends_op level head (terms ts) = ends_block level head (all_lines (deeper level) ts)
 ends_op level head (bytes bs) = ends_line level (head ++ tail_text (bytes bs))
 ends_op level head (elements ts) = ends_line level (head ++ tail_text (elements ts))
-ends_op level head (fields us) = ends_block level head (unit_lines (deeper level) us)
+ends_op level head (fields us) = ends_block level head (field_lines (deeper level) us)
 ends_op level head (body start len) = ends_line level (head ++ tail_text (body start len))
 
 pub ends_lines : (level : ℕ) (t : Tree) → Ends (lines level t)

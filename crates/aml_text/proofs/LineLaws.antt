@@ -19,49 +19,49 @@ use Rattle.aml_code.specs.View.{node_view, nodes_view, parts_view, tail_view, fi
 use Rattle.aml_code.proofs.Views.{view-Nothing, view-Named, view-Op, view-tail-Empty, view-tail-Terms, view-tail-Bytes, view-tail-Elements, view-tail-Fields, view-tail-Body, view-field-NamedUnit, view-field-Reserved, view-field-Access, view-field-Connection, view-field-Extended, view-link-Target, view-link-Buffer}
 use Rattle.text_writer.specs.Words.{word}
 use Rattle.aml_text.specs.Texts.{name_text, head_text, part_texts, tail_text, inline}
-use Rattle.aml_text.specs.Lines.{byte_pair, byte_end, deeper, line, opening, closing, unit_text, unit_lines, joint_text, lines, op_lines, all_lines}
+use Rattle.aml_text.specs.Lines.{byte_pair, byte_end, deeper, line, opening, closing, field_text, field_lines, link_text, lines, op_lines, all_lines}
 use Rattle.aml_text.specs.Views.{node_inline, node_lines, field_inline, field_line, link_inline}
 
 -- ---- connections and units
 
 pub at_target : (link : Link) (n : Name) → link ≡ joints.Target n → link_inline link ≡ name_text n
 unfolding link_inline
-at_target link n e = ap (λ l. joint_text (link_view l)) e ∙ ap joint_text (view-link-Target n)
+at_target link n e = ap (λ l. link_text (link_view l)) e ∙ ap link_text (view-link-Target n)
 
 pub at_buffer : (link : Link) (t : Node) → link ≡ joints.Buffer t → link_inline link ≡ node_inline t
 unfolding link_inline node_inline
-at_buffer link t e = ap (λ l. joint_text (link_view l)) e ∙ ap joint_text (view-link-Buffer t)
+at_buffer link t e = ap (λ l. link_text (link_view l)) e ∙ ap link_text (view-link-Buffer t)
 
 pub ruleset links = (at_target, at_buffer)
 
 pub at_unit : (field : Field) (s : Seg) (w : PkgWidth) (n : ℕ) → field ≡ units.NamedUnit s w n → field_inline field ≡ s.0 ++ word ", " ++ decimal n
 unfolding field_inline
-at_unit field s w n e = ap (λ f. unit_text (field_view f)) e ∙ ap unit_text (view-field-NamedUnit s w n)
+at_unit field s w n e = ap (λ f. field_text (field_view f)) e ∙ ap field_text (view-field-NamedUnit s w n)
 
 pub at_reserved : (field : Field) (w : PkgWidth) (n : ℕ) → field ≡ units.Reserved w n → field_inline field ≡ word "Reserved, " ++ decimal n
 unfolding field_inline
-at_reserved field w n e = ap (λ f. unit_text (field_view f)) e ∙ ap unit_text (view-field-Reserved w n)
+at_reserved field w n e = ap (λ f. field_text (field_view f)) e ∙ ap field_text (view-field-Reserved w n)
 
 pub at_access : (field : Field) (a b : ℕ) → field ≡ units.Access a b → field_inline field ≡ word "Access (" ++ byte_pair a b ++ word ")"
 unfolding field_inline
-at_access field a b e = ap (λ f. unit_text (field_view f)) e ∙ ap unit_text (view-field-Access a b)
+at_access field a b e = ap (λ f. field_text (field_view f)) e ∙ ap field_text (view-field-Access a b)
 
 pub at_connection : (field : Field) (l : Link) → field ≡ units.Connection l → field_inline field ≡ word "Connection (" ++ link_inline l ++ word ")"
 unfolding field_inline link_inline
-at_connection field l e = ap (λ f. unit_text (field_view f)) e ∙ ap unit_text (view-field-Connection l)
+at_connection field l e = ap (λ f. field_text (field_view f)) e ∙ ap field_text (view-field-Connection l)
 
 pub at_extended : (field : Field) (a b c : ℕ) → field ≡ units.Extended a b c → field_inline field ≡ word "ExtendedAccess (" ++ byte_pair a b ++ byte_end c
 unfolding field_inline
-at_extended field a b c e = ap (λ f. unit_text (field_view f)) e ∙ ap unit_text (view-field-Extended a b c)
+at_extended field a b c e = ap (λ f. field_text (field_view f)) e ∙ ap field_text (view-field-Extended a b c)
 
-pub ruleset units_of = (at_unit, at_reserved, at_access, at_connection, at_extended)
+pub ruleset fields_of = (at_unit, at_reserved, at_access, at_connection, at_extended)
 
 -- ---- lists
 
-pub unit_lines-map : (level : ℕ) (fs : List Field) → unit_lines level (fields_view fs) ≡ flat_map (field_line level) fs
+pub field_lines-map : (level : ℕ) (fs : List Field) → field_lines level (fields_view fs) ≡ flat_map (field_line level) fs
 unfolding field_line field_inline
-unit_lines-map level [] = refl
-unit_lines-map level (f ∷ fs) = ap (λ (l : List ℕ). line level (unit_text (field_view f)) ++ l) (unit_lines-map level fs)
+field_lines-map level [] = refl
+field_lines-map level (f ∷ fs) = ap (λ (l : List ℕ). line level (field_text (field_view f)) ++ l) (field_lines-map level fs)
 
 pub all_lines-map : (level : ℕ) (ns : List Node) → all_lines level (nodes_view ns) ≡ flat_map (node_lines level) ns
 unfolding node_lines
@@ -118,6 +118,6 @@ tail_terms level head tail ns e =
 pub tail_fields : (level : ℕ) (head : List ℕ) (tail : Tail) (us : Vec Field Global) → tail ≡ tails.Fields us → op_lines level head (tail_view tail) ≡ opening level head ++ flat_map (field_line (deeper level)) us.items ++ closing level
 tail_fields level head tail us e =
     let is : tail_view tail ≡ trees.fields (fields_view us.items) = ap tail_view e ∙ view-tail-Fields us in
-    ap (op_lines level head) is ∙ ap (λ (l : List ℕ). opening level head ++ l ++ closing level) (unit_lines-map (deeper level) us.items)
+    ap (op_lines level head) is ∙ ap (λ (l : List ℕ). opening level head ++ l ++ closing level) (field_lines-map (deeper level) us.items)
 
 pub ruleset tail_variants = (tail_empty, tail_bytes, tail_elements, tail_body, tail_terms, tail_fields)

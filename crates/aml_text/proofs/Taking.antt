@@ -4,11 +4,11 @@ use Rattle.std.proofs.lemmas.List.{drop-drop, length-append}
 use Rattle.aml_names.specs.Paths.{PathSet}
 use Rattle.aml_code.specs.declared.rows.Position.{Position}
 use Rattle.aml_code.specs.declared.rows.TailKind.{TailKind}
-use Rattle.aml_code.specs.Tree.{Tree, nothing, named, op, Trees, no_trees, tree_more, Rest, empty, terms, bytes, elements, fields, body}
+use Rattle.aml_code.specs.Tree.{Tree, nothing, named, op, Trees, no_trees, tree_more, Tail, empty, terms, bytes, elements, fields, body}
 use Rattle.aml_code.specs.Declaring.{after, after_parts}
 use Rattle.aml_code.specs.Lawful.{Setting, IsLawful, AreTerms, IsTail, terms_in, next_position}
-use Rattle.aml_load.specs.Spans.{Span, tree_spans, all_spans, parts_spans, rest_spans, units_spans}
-use Rattle.aml_load.proofs.NoSpans.{terms_tail, parts_none, arguments_none, elements_none, fields_none}
+use Rattle.aml_load.specs.Spans.{Span, tree_spans, all_spans, parts_spans, tail_spans, fields_spans}
+use Rattle.aml_load.proofs.NoSpans.{terms_tail, parts_none, arguments_none, elements_none, fields_tail_none}
 use Rattle.aml_text.specs.Lines.{OneBody, left, left_rest, left_all}
 
 takes_none : (spans : List Span) (bs : List OneBody) → spans ≡ [] → bs ≡ drop (length spans) bs
@@ -24,16 +24,16 @@ mutual
   left_takes s (suc levels) p ls t (named n xs) bs law = takes_none (all_spans t xs) bs (arguments_none s levels ls t xs law.3)
   left_takes s zero p ls t (op o w ps r) bs law = absurd law
   left_takes s (suc levels) p ls t (op o w ps r) bs law =
-      rest_takes s levels (terms_in p (law.row).place) (law.row).tail (after_parts s.scope ls ps) t r bs law.tail
-      ∙ ap (λ xs. drop (length (xs ++ rest_spans t r)) bs) (sym (parts_none s levels (law.row).parts ls t ps law.parts))
+      tail_takes s levels (terms_in p (law.row).place) (law.row).tail (after_parts s.scope ls ps) t r bs law.tail
+      ∙ ap (λ xs. drop (length (xs ++ tail_spans t r)) bs) (sym (parts_none s levels (law.row).parts ls t ps law.parts))
 
-  rest_takes : (s : Setting) (levels : ℕ) (p : Position) (k : TailKind) (ls : PathSet) (t : ℕ) (r : Rest) (bs : List OneBody) → IsTail s levels p k ls r → left_rest r bs ≡ drop (length (rest_spans t r)) bs
-  rest_takes s levels p k ls t empty bs law = refl
-  rest_takes s levels p k ls t (terms xs) bs law = let e = terms_tail s levels p k ls xs law in all_take s levels p ls t xs bs e.1
-  rest_takes s levels p k ls t (bytes b) bs law = refl
-  rest_takes s levels p k ls t (elements xs) bs law = takes_none (all_spans t xs) bs (elements_none s levels p k ls t xs law)
-  rest_takes s levels p k ls t (fields us) bs law = takes_none (units_spans t us) bs (fields_none s levels p k ls t us law)
-  rest_takes s levels p k ls t (body start len) bs law = refl
+  tail_takes : (s : Setting) (levels : ℕ) (p : Position) (k : TailKind) (ls : PathSet) (t : ℕ) (r : Tail) (bs : List OneBody) → IsTail s levels p k ls r → left_rest r bs ≡ drop (length (tail_spans t r)) bs
+  tail_takes s levels p k ls t empty bs law = refl
+  tail_takes s levels p k ls t (terms xs) bs law = let e = terms_tail s levels p k ls xs law in all_take s levels p ls t xs bs e.1
+  tail_takes s levels p k ls t (bytes b) bs law = refl
+  tail_takes s levels p k ls t (elements xs) bs law = takes_none (all_spans t xs) bs (elements_none s levels p k ls t xs law)
+  tail_takes s levels p k ls t (fields us) bs law = takes_none (fields_spans t us) bs (fields_tail_none s levels p k ls t us law)
+  tail_takes s levels p k ls t (body start len) bs law = refl
 
   -- terms leave the bodies behind those that stand in them
   pub all_take : (s : Setting) (levels : ℕ) (p : Position) (ls : PathSet) (t : ℕ) (xs : Trees) (bs : List OneBody) → AreTerms s levels p ls xs → left_all xs bs ≡ drop (length (all_spans t xs)) bs

@@ -2,7 +2,7 @@
 use Rattle.std.specs.Prelude.{ℕ, zero, suc, min, decimal, cond, ◌+◌, ◌/◌, ◌%◌, ◌==◌, List, [], ◌∷◌, ◌++◌, drop, Option, Some, None}
 use Rattle.aml_names.specs.declared.names.Name.{Name}
 use Rattle.aml_code.specs.Rows.{row_of}
-use Rattle.aml_code.specs.Tree.{Tree, nothing, named, op, Trees, no_trees, tree_more, Parts, Rest, empty, terms, bytes, elements, fields, body, OneUnit, unit, reserved, access, connection, extended, Units, no_units, unit_more, Joint, target, buffer}
+use Rattle.aml_code.specs.Tree.{Tree, nothing, named, op, Trees, no_trees, tree_more, Parts, Tail, empty, terms, bytes, elements, fields, body, Field, unit, reserved, access, connection, extended, Fields, no_fields, field_more, Link, target, buffer}
 use Rattle.aml_code.specs.Declaring.{last_label, last_byte}
 use Rattle.aml_code.specs.Encoding.{slice_of}
 use Rattle.text_writer.specs.Words.{word}
@@ -35,9 +35,9 @@ block level head inside = opening level head ++ inside ++ closing level
 
 -- ---- field lists
 
-abbrev pub joint_text : Joint → List ℕ
-joint_text (target n) = name_text n
-joint_text (buffer t) = inline t
+abbrev pub link_text : Link → List ℕ
+link_text (target n) = name_text n
+link_text (buffer t) = inline t
 
 -- two bytes as constants
 unfoldable pub byte_pair : ℕ → ℕ → List ℕ
@@ -47,16 +47,16 @@ unfoldable pub byte_end : ℕ → List ℕ
 byte_end c = word ", " ++ (word "0x" ++ hex2 c) ++ word ")"
 
 -- the text of an element of a field list
-abbrev pub unit_text : OneUnit → List ℕ
-unit_text (unit s w n) = s.0 ++ word ", " ++ decimal n
-unit_text (reserved w n) = word "Reserved, " ++ decimal n
-unit_text (access a b) = word "Access (" ++ byte_pair a b ++ word ")"
-unit_text (connection l) = word "Connection (" ++ joint_text l ++ word ")"
-unit_text (extended a b c) = word "ExtendedAccess (" ++ byte_pair a b ++ byte_end c
+abbrev pub field_text : Field → List ℕ
+field_text (unit s w n) = s.0 ++ word ", " ++ decimal n
+field_text (reserved w n) = word "Reserved, " ++ decimal n
+field_text (access a b) = word "Access (" ++ byte_pair a b ++ word ")"
+field_text (connection l) = word "Connection (" ++ link_text l ++ word ")"
+field_text (extended a b c) = word "ExtendedAccess (" ++ byte_pair a b ++ byte_end c
 
-abbrev pub unit_lines : ℕ → Units → List ℕ
-unit_lines level no_units = []
-unit_lines level (unit_more u us) = line level (unit_text u) ++ unit_lines level us
+abbrev pub field_lines : ℕ → Fields → List ℕ
+field_lines level no_fields = []
+field_lines level (field_more u us) = line level (field_text u) ++ field_lines level us
 
 -- ---- terms
 
@@ -67,12 +67,12 @@ abbrev mutual
   lines level (named n ts) = line level (inline (named n ts))
   lines level (op o w ps t) = op_lines level (head_text (row_of o) (part_texts ps)) t
 
-  pub op_lines : ℕ → List ℕ → Rest → List ℕ
+  pub op_lines : ℕ → List ℕ → Tail → List ℕ
   op_lines level head empty = line level (head ++ tail_text empty)
   op_lines level head (terms ts) = block level head (all_lines (deeper level) ts)
   op_lines level head (bytes bs) = line level (head ++ tail_text (bytes bs))
   op_lines level head (elements ts) = line level (head ++ tail_text (elements ts))
-  op_lines level head (fields us) = block level head (unit_lines (deeper level) us)
+  op_lines level head (fields us) = block level head (field_lines (deeper level) us)
   op_lines level head (body start len) = line level (head ++ tail_text (body start len))
 
   pub all_lines : ℕ → Trees → List ℕ
@@ -126,7 +126,7 @@ abbrev mutual
   left (named n ts) bs = bs
   left (op o w ps t) bs = left_rest t bs
 
-  pub left_rest : Rest → List OneBody → List OneBody
+  pub left_rest : Tail → List OneBody → List OneBody
   left_rest empty bs = bs
   left_rest (terms ts) bs = left_all ts bs
   left_rest (bytes xs) bs = bs
@@ -145,7 +145,7 @@ abbrev mutual
   table_lines code level (named n ts) bs = line level (inline (named n ts))
   table_lines code level (op o w ps t) bs = table_op_lines code level o ps t bs
 
-  pub table_op_lines : List ℕ → ℕ → ℕ → Parts → Rest → List OneBody → List ℕ
+  pub table_op_lines : List ℕ → ℕ → ℕ → Parts → Tail → List OneBody → List ℕ
   table_op_lines code level o ps empty bs = op_lines level (head_text (row_of o) (part_texts ps)) empty
   table_op_lines code level o ps (terms ts) bs = block level (head_text (row_of o) (part_texts ps)) (all_table_lines code (deeper level) ts bs)
   table_op_lines code level o ps (bytes xs) bs = op_lines level (head_text (row_of o) (part_texts ps)) (bytes xs)

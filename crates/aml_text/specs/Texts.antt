@@ -7,7 +7,7 @@ use Rattle.aml_code.specs.declared.rows.Group.TheVariants as groups
 use Rattle.aml_code.specs.Opcodes.{Row}
 use Rattle.aml_code.specs.declared.rows.PartKind.{PartKind}
 use Rattle.aml_code.specs.Rows.{row_of, has_length}
-use Rattle.aml_code.specs.Tree.{Tree, nothing, named, op, Trees, no_trees, tree_more, OnePart, child, label, byte, word as word_part, dword, qword, text as text_part, Parts, no_parts, part_more, Rest, empty, terms, bytes, elements, fields, body}
+use Rattle.aml_code.specs.Tree.{Tree, nothing, named, op, Trees, no_trees, tree_more, Part, child, label, byte, word as word_part, dword, qword, text as text_part, Parts, no_parts, part_more, Tail, empty, terms, bytes, elements, fields, body}
 use Rattle.text_writer.specs.Words.{word}
 use Rattle.text_writer.specs.Numbers.{hex2, hex4, hex8, hex16, quoted}
 
@@ -76,7 +76,7 @@ abbrev mutual
   inlines no_trees = []
   inlines (tree_more t ts) = inline t ∷ inlines ts
 
-  pub part_text : OnePart → List ℕ
+  pub part_text : Part → List ℕ
   part_text (child t) = inline t
   part_text (label n) = name_text n
   part_text (byte b) = word "0x" ++ hex2 b
@@ -89,7 +89,7 @@ abbrev mutual
   part_texts no_parts = []
   part_texts (part_more p ps) = part_text p ∷ part_texts ps
 
-  pub tail_text : Rest → List ℕ
+  pub tail_text : Tail → List ℕ
   tail_text empty = []
   tail_text (terms ts) = []
   tail_text (bytes bs) = braced (map hex2 bs)

@@ -11,7 +11,7 @@ use Rattle.aml_text.specs.declared.blocks.Block.{Block}
 use Rattle.aml_text.specs.declared.blocks.Body.{Body}
 use Rattle.aml_text.specs.declared.blocks.Body.TheVariants as bodies
 use Rattle.aml_text.specs.Texts.{inline, head_text, part_text, part_texts}
-use Rattle.aml_text.specs.Lines.{line, lines, method_head, unit_text, joint_text, OneBody, read, raw, OneBlock}
+use Rattle.aml_text.specs.Lines.{line, lines, method_head, field_text, link_text, OneBody, read, raw, OneBlock}
 
 unfoldable pub node_inline : Node → List ℕ
 node_inline node = inline (node_view node)
@@ -23,13 +23,13 @@ unfoldable pub node_lines : ℕ → Node → List ℕ
 node_lines level node = lines level (node_view node)
 
 unfoldable pub field_inline : Field → List ℕ
-field_inline field = unit_text (field_view field)
+field_inline field = field_text (field_view field)
 
 unfoldable pub field_line : ℕ → Field → List ℕ
 field_line level field = line level (field_inline field)
 
 unfoldable pub link_inline : Link → List ℕ
-link_inline link = joint_text (link_view link)
+link_inline link = link_text (link_view link)
 
 -- an opcode and its parts; the same of a method, whose flags are spelled out
 abbrev pub head_of : ℕ → List Part → List ℕ

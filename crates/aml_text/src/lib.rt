@@ -1,4 +1,5 @@
-//! The text of a listing: the dumps, the namespace, and ASL-like lines of AML, exactly as the definitions of `specs/` say.
+//! The text of a listing: the dumps, the namespace, and ASL-like lines of AML, exactly as the definitions of `specs/`
+//! say.
 //!
 //! Nothing here takes memory, but for `term_text`. Each printing function's contract gives the text that it prints.
 #![tactic(auto)]

@@ -159,7 +159,7 @@ fn print_connection<W: Write>(out: &mut Out<'_, W>, link: &Link)
 }
 
 /// An element of a field list.
-#[tactic(auto, using(text_writer::proofs::PrintLaws::straight, crate::proofs::LineLaws::units_of))]
+#[tactic(auto, using(text_writer::proofs::PrintLaws::straight, crate::proofs::LineLaws::fields_of))]
 fn print_field<W: Write>(out: &mut Out<'_, W>, field: &Field)
     ensures { Prints W.contents out.old out.new (field_inline field.now) }
 {

@@ -28,8 +28,8 @@ fn print_listing<W: Write>(out: &mut Out<'_, W>, listing: &Listing<'_>)
     print_tables(out, listing);
 }
 
-/// Writes a listing: a line for each dump and what stands below it, then the namespace, then the definition blocks of the
-/// loaded tables with the bodies of their methods in their places.
+/// Writes a listing: a line for each dump and what stands below it, then the namespace, then the definition blocks of
+/// the loaded tables with the bodies of their methods in their places.
 ///
 /// Where the writer takes no more, it has the first bytes of that text, and the fault says how many.
 pub fn write_listing<W: Write>(out: &mut W, listing: &Listing<'_>) -> Result<(), WriteFault>

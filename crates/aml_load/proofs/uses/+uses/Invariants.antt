@@ -1,6 +1,6 @@
 use Rattle.std.proofs.Common.{◌≡◌, ◌++◌, drop}
 use Rattle.aml_code.specs.View.{nodes_view, parts_view, fields_view}
-use Rattle.aml_load.specs.Uses.{parts_uses, elements_uses, units_uses}
+use Rattle.aml_load.specs.Uses.{parts_uses, elements_uses, fields_uses}
 use Rattle.aml_load.proofs.uses.+uses.Given as goal
 
 abbrev pub invariant-add_parts-loop-part : goal.invariant-add_parts-loop-part
@@ -13,4 +13,4 @@ invariant-add_elements-loop-node l =
 
 abbrev pub invariant-add_fields-loop-field : goal.invariant-add_fields-loop-field
 invariant-add_fields-loop-field l =
-    l.uses.items ++ units_uses l.site.table l.site.scope.now (fields_view (drop l.field-index l.fields)) ≡ l.initial.uses.items ++ units_uses l.site.table l.site.scope.now (fields_view l.fields)
+    l.uses.items ++ fields_uses l.site.table l.site.scope.now (fields_view (drop l.field-index l.fields)) ≡ l.initial.uses.items ++ fields_uses l.site.table l.site.scope.now (fields_view l.fields)

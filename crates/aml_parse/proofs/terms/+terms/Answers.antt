@@ -5,9 +5,9 @@ use Rattle.aml_code.specs.declared.rows.PartKind.TheVariants as kinds
 use Rattle.aml_code.specs.Rows.{row_view}
 use Rattle.aml_code.specs.View.{nodes_view, parts_view, fields_view}
 use Rattle.aml_parse.specs.Contexts.{scope_of}
-use Rattle.aml_parse.specs.Reading.{read_at, arguments_at, terms_at, units_at}
+use Rattle.aml_parse.specs.Reading.{read_at, arguments_at, terms_at, fields_at}
 use Rattle.aml_parse.proofs.Bare.{plain_bare}
-use Rattle.aml_parse.proofs.Loops.{parts_go_on, parts_end, arguments_go_on, arguments_fails, arguments_end, terms_go_on, terms_fails, terms_end, terms_run_out, units_go_on, units_fails, units_end, units_run_out}
+use Rattle.aml_parse.proofs.Loops.{parts_go_on, parts_end, arguments_go_on, arguments_fails, arguments_end, terms_go_on, terms_fails, terms_end, terms_run_out, fields_go_on, fields_fails, fields_end, fields_run_out}
 use Rattle.aml_parse.proofs.terms.+terms.Goals as goal
 
 pub arguments-returns-in-Err : goal.arguments-returns-in-Err
@@ -80,27 +80,27 @@ terms-returns-else-is_empty-2 g t c =
 pub fields-returns-then-is_empty : goal.fields-returns-then-is_empty
 fields-returns-then-is_empty g t c =
     let read = read_at (g.A.Arity.arity c.args.context.now.arity.now) (scope_of c.args.context.now.scope) c.args.levels in
-    units_end read (fields_view c.loop-turn.found.items) (length c.args.bytes.now - c.loop-turn._turn) c.args.end c.loop-turn.locals c.loop-turn.rest.now _ (grind arith) c.loop-turn.invariant
+    fields_end read (fields_view c.loop-turn.found.items) (length c.args.bytes.now - c.loop-turn._turn) c.args.end c.loop-turn.locals c.loop-turn.rest.now _ (grind arith) c.loop-turn.invariant
 
 pub fields-returns-in-Err : goal.fields-returns-in-Err
 fields-returns-in-Err g t c =
     let read = read_at (g.A.Arity.arity c.args.context.now.arity.now) (scope_of c.args.context.now.scope) c.args.levels in
-    units_fails c.in-Err.fault read (fields_view c.loop-turn.found.items) (length c.args.bytes.now) c.loop-turn._turn c.args.end c.loop-turn.locals c.loop-turn.rest.now _ c.loop-turn-test.true (grind arith) c.in-Err.ensures c.loop-turn.invariant
+    fields_fails c.in-Err.fault read (fields_view c.loop-turn.found.items) (length c.args.bytes.now) c.loop-turn._turn c.args.end c.loop-turn.locals c.loop-turn.rest.now _ c.loop-turn-test.true (grind arith) c.in-Err.ensures c.loop-turn.invariant
 
 pub fields-loop-turn-preserved : goal.fields-loop-turn-preserved
 fields-loop-turn-preserved g t c =
     let read = read_at (g.A.Arity.arity c.args.context.now.arity.now) (scope_of c.args.context.now.scope) c.args.levels in
     let less : length c.args.bytes.now - c.loop-turn._turn - 1 ≡ length c.args.bytes.now - (c.loop-turn._turn + 1) = omega arith in
-    let next = units_go_on read c.loop-turn.found.items c.in-Ok.field (length c.args.bytes.now - c.loop-turn._turn) c.args.end c.loop-turn.locals c.loop-turn.rest.now c.field.new.locals c.in-Ok.behind.now
-    (units_at read (length c.args.bytes.now) c.args.end c.args.locals.now c.args.bytes.now) (grind arith) (omega (arith, c.loop-turn-test.true)) c.in-Ok.ensures c.loop-turn.invariant in
+    let next = fields_go_on read c.loop-turn.found.items c.in-Ok.field (length c.args.bytes.now - c.loop-turn._turn) c.args.end c.loop-turn.locals c.loop-turn.rest.now c.field.new.locals c.in-Ok.behind.now
+    (fields_at read (length c.args.bytes.now) c.args.end c.args.locals.now c.args.bytes.now) (grind arith) (omega (arith, c.loop-turn-test.true)) c.in-Ok.ensures c.loop-turn.invariant in
     rw c.in_ok-push-in-Ok.ensures.items (rw less at next)
 
 pub fields-returns-then-is_empty-2 : goal.fields-returns-then-is_empty-2
 fields-returns-then-is_empty-2 g t c =
     let read = read_at (g.A.Arity.arity c.args.context.now.arity.now) (scope_of c.args.context.now.scope) c.args.levels in
-    units_end read (fields_view c.loop-turn.found.items) (length c.args.bytes.now - c.loop-turn._turn) c.args.end c.loop-turn.locals c.loop-turn.rest.now _ (grind arith) c.loop-turn.invariant
+    fields_end read (fields_view c.loop-turn.found.items) (length c.args.bytes.now - c.loop-turn._turn) c.args.end c.loop-turn.locals c.loop-turn.rest.now _ (grind arith) c.loop-turn.invariant
 
 pub fields-returns-else-is_empty-2 : goal.fields-returns-else-is_empty-2
 fields-returns-else-is_empty-2 g t c =
     let read = read_at (g.A.Arity.arity c.args.context.now.arity.now) (scope_of c.args.context.now.scope) c.args.levels in
-    inr (units_run_out read (fields_view c.loop-turn.found.items) (length c.args.bytes.now - c.loop-turn._turn) c.args.end c.loop-turn.locals c.loop-turn.rest.now _ (omega (arith, c.loop-turn-test.false)) (grind arith) c.loop-turn.invariant)
+    inr (fields_run_out read (fields_view c.loop-turn.found.items) (length c.args.bytes.now - c.loop-turn._turn) c.args.end c.loop-turn.locals c.loop-turn.rest.now _ (omega (arith, c.loop-turn-test.false)) (grind arith) c.loop-turn.invariant)

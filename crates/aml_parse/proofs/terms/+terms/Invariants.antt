@@ -1,7 +1,7 @@
 use Rattle.std.proofs.Common.{◌≡◌, ◌+◌, ◌-◌, ◌*◌, length, drop}
 use Rattle.aml_code.specs.View.{nodes_view, parts_view, fields_view}
 use Rattle.aml_parse.specs.Contexts.{scope_of}
-use Rattle.aml_parse.specs.Reading.{read_at, parts_at, arguments_at, terms_at, units_at}
+use Rattle.aml_parse.specs.Reading.{read_at, parts_at, arguments_at, terms_at, fields_at}
 use Rattle.aml_parse.proofs.Loops.{with_arguments, with_parts, with_terms, with_units}
 use Rattle.aml_parse.proofs.terms.+terms.Given as goal
 
@@ -65,4 +65,4 @@ invariant-terms-loop-turn g l =
 abbrev pub invariant-fields-loop-turn : goal.invariant-fields-loop-turn
 invariant-fields-loop-turn g l =
     let read = read_at (g.A.Arity.arity l.context.arity.now) (scope_of l.context.scope) l.levels in
-    with_units (fields_view l.found.items) (units_at read (length l.bytes - l._turn) l.end l.locals l.rest) ≡ units_at read (length l.bytes) l.end l.initial.locals l.bytes
+    with_units (fields_view l.found.items) (fields_at read (length l.bytes - l._turn) l.end l.locals l.rest) ≡ fields_at read (length l.bytes) l.end l.initial.locals l.bytes

@@ -13,57 +13,57 @@ use Rattle.aml_names.proofs.StepLaws.{ok_is, bind_then, err_then, IsBytes, Takes
 use Rattle.aml_code.specs.declared.packages.PkgWidth.{PkgWidth}
 use Rattle.aml_code.specs.Packages.{package_bytes, FitsWidth}
 use Rattle.aml_code.specs.Lengths.{length_at}
-use Rattle.aml_code.specs.Tree.{OneUnit, unit, reserved, access, extended}
-use Rattle.aml_code.specs.Encoding.{unit_encoding}
-use Rattle.aml_code.specs.Declaring.{after_unit}
-use Rattle.aml_code.specs.Lawful.{Setting, IsUnit}
+use Rattle.aml_code.specs.Tree.{Field, unit, reserved, access, extended}
+use Rattle.aml_code.specs.Encoding.{field_encoding}
+use Rattle.aml_code.specs.Declaring.{after_field}
+use Rattle.aml_code.specs.Lawful.{Setting, IsField}
 use Rattle.aml_code.proofs.LengthLaws.{length_takes, length_again, length_fault, LengthFault}
 use Rattle.aml_parse.specs.Reading.{named_unit, reserved_unit, access_unit, extended_unit}
 
 -- an element that was read from the front of the bytes, and declares nothing inside it
-pub record TookUnit (s : Setting) (levels : ℕ) (ls : PathSet) (bs : List ℕ) (x : OneUnit × List ℕ) : Type 0 where
-  pub takes : Takes bs (unit_encoding s.code x.0) x.1
-  pub is_unit : IsUnit s levels ls x.0
-  pub after_is : after_unit s.scope ls x.0 ≡ ls
+pub record TookField (s : Setting) (levels : ℕ) (ls : PathSet) (bs : List ℕ) (x : Field × List ℕ) : Type 0 where
+  pub takes : Takes bs (field_encoding s.code x.0) x.1
+  pub is_unit : IsField s levels ls x.0
+  pub after_is : after_field s.scope ls x.0 ≡ ls
 
 pub behind_lead : (lead : ℕ) (bs text rest : List ℕ) → Takes bs text rest → Takes (lead ∷ bs) (lead ∷ text) rest
 behind_lead lead bs text rest t = record { parts = ap (λ (b : List ℕ). lead ∷ b) t.parts; rest_fits = t.rest_fits }
 
 -- ---- what was read
 
-pub named_took : (s : Setting) (levels : ℕ) (ls : PathSet) (end : ℕ) (bs : List ℕ) (x : OneUnit × List ℕ) → IsBytes bs → named_unit end bs ≡ Ok x → TookUnit s levels ls bs x
+pub named_took : (s : Setting) (levels : ℕ) (ls : PathSet) (end : ℕ) (bs : List ℕ) (x : Field × List ℕ) → IsBytes bs → named_unit end bs ≡ Ok x → TookField s levels ls bs x
 unfolding named_unit
 named_took s levels ls end bs x fits e =
-    let P : Type 0 = TookUnit s levels ls bs x in
+    let P : Type 0 = TookField s levels ls bs x in
     bind_then P (segment_at end bs) (λ g. length_at end g.1 >>= λ n. Ok (unit g.0 n.0.0 n.0.1, n.1)) x e (λ g h1 e1.
     let t = segment_takes end bs g.0 g.1 fits h1 in
     bind_then P (length_at end g.1) (λ n. Ok (unit g.0 n.0.0 n.0.1, n.1)) x e1 (λ n h2 e2.
     let u = length_takes end g.1 n t.0.rest_fits h2 in
     let both = Takes-then bs (g.0).0 g.1 (package_bytes n.0.0 n.0.1) n.1 t.0 u.0 in
-    subst (TookUnit s levels ls bs) (ok_is (unit g.0 n.0.0 n.0.1, n.1) x e2) (record { takes = both; is_unit = (t.1, u.1); after_is = refl })))
+    subst (TookField s levels ls bs) (ok_is (unit g.0 n.0.0 n.0.1, n.1) x e2) (record { takes = both; is_unit = (t.1, u.1); after_is = refl })))
 
-pub reserved_took : (s : Setting) (levels : ℕ) (ls : PathSet) (end : ℕ) (bs : List ℕ) (x : OneUnit × List ℕ) → IsBytes bs → reserved_unit end bs ≡ Ok x → TookUnit s levels ls (0x00 ∷ bs) x
+pub reserved_took : (s : Setting) (levels : ℕ) (ls : PathSet) (end : ℕ) (bs : List ℕ) (x : Field × List ℕ) → IsBytes bs → reserved_unit end bs ≡ Ok x → TookField s levels ls (0x00 ∷ bs) x
 unfolding reserved_unit
 reserved_took s levels ls end bs x fits e =
-    bind_then (TookUnit s levels ls (0x00 ∷ bs) x) (length_at end bs) (λ n. Ok (reserved n.0.0 n.0.1, n.1)) x e (λ n h1 e1.
+    bind_then (TookField s levels ls (0x00 ∷ bs) x) (length_at end bs) (λ n. Ok (reserved n.0.0 n.0.1, n.1)) x e (λ n h1 e1.
     let t = length_takes end bs n fits h1 in
-    subst (TookUnit s levels ls (0x00 ∷ bs)) (ok_is (reserved n.0.0 n.0.1, n.1) x e1) (record { takes = behind_lead 0x00 bs (package_bytes n.0.0 n.0.1) n.1 t.0; is_unit = t.1; after_is = refl }))
+    subst (TookField s levels ls (0x00 ∷ bs)) (ok_is (reserved n.0.0 n.0.1, n.1) x e1) (record { takes = behind_lead 0x00 bs (package_bytes n.0.0 n.0.1) n.1 t.0; is_unit = t.1; after_is = refl }))
 
-pub access_took : (s : Setting) (levels : ℕ) (ls : PathSet) (end : ℕ) (bs : List ℕ) (x : OneUnit × List ℕ) → IsBytes bs → access_unit end bs ≡ Ok x → TookUnit s levels ls (0x01 ∷ bs) x
+pub access_took : (s : Setting) (levels : ℕ) (ls : PathSet) (end : ℕ) (bs : List ℕ) (x : Field × List ℕ) → IsBytes bs → access_unit end bs ≡ Ok x → TookField s levels ls (0x01 ∷ bs) x
 unfolding access_unit
 access_took s levels ls end bs x fits e =
-    let P : Type 0 = TookUnit s levels ls (0x01 ∷ bs) x in
+    let P : Type 0 = TookField s levels ls (0x01 ∷ bs) x in
     bind_then P (byte_at end bs) (λ a. byte_at end a.1 >>= λ b. Ok (access a.0 b.0, b.1)) x e (λ a h1 e1.
     let t = byte_takes end bs a.0 a.1 fits h1 in
     bind_then P (byte_at end a.1) (λ b. Ok (access a.0 b.0, b.1)) x e1 (λ b h2 e2.
     let u = byte_takes end a.1 b.0 b.1 t.0.rest_fits h2 in
     let both = Takes-then bs (a.0 ∷ []) a.1 (b.0 ∷ []) b.1 t.0 u.0 in
-    subst (TookUnit s levels ls (0x01 ∷ bs)) (ok_is (access a.0 b.0, b.1) x e2) (record { takes = behind_lead 0x01 bs (a.0 ∷ b.0 ∷ []) b.1 both; is_unit = (t.1, u.1); after_is = refl })))
+    subst (TookField s levels ls (0x01 ∷ bs)) (ok_is (access a.0 b.0, b.1) x e2) (record { takes = behind_lead 0x01 bs (a.0 ∷ b.0 ∷ []) b.1 both; is_unit = (t.1, u.1); after_is = refl })))
 
-pub extended_took : (s : Setting) (levels : ℕ) (ls : PathSet) (end : ℕ) (bs : List ℕ) (x : OneUnit × List ℕ) → IsBytes bs → extended_unit end bs ≡ Ok x → TookUnit s levels ls (0x03 ∷ bs) x
+pub extended_took : (s : Setting) (levels : ℕ) (ls : PathSet) (end : ℕ) (bs : List ℕ) (x : Field × List ℕ) → IsBytes bs → extended_unit end bs ≡ Ok x → TookField s levels ls (0x03 ∷ bs) x
 unfolding extended_unit
 extended_took s levels ls end bs x fits e =
-    let P : Type 0 = TookUnit s levels ls (0x03 ∷ bs) x in
+    let P : Type 0 = TookField s levels ls (0x03 ∷ bs) x in
     bind_then P (byte_at end bs) (λ a. byte_at end a.1 >>= λ b. byte_at end b.1 >>= λ c. Ok (extended a.0 b.0 c.0, c.1)) x e (λ a h1 e1.
     let t = byte_takes end bs a.0 a.1 fits h1 in
     bind_then P (byte_at end a.1) (λ b. byte_at end b.1 >>= λ c. Ok (extended a.0 b.0 c.0, c.1)) x e1 (λ b h2 e2.
@@ -72,7 +72,7 @@ extended_took s levels ls end bs x fits e =
     let v = byte_takes end b.1 c.0 c.1 u.0.rest_fits h3 in
     let two = Takes-then bs (a.0 ∷ []) a.1 (b.0 ∷ []) b.1 t.0 u.0 in
     let all = Takes-then bs (a.0 ∷ b.0 ∷ []) b.1 (c.0 ∷ []) c.1 two v.0 in
-    subst (TookUnit s levels ls (0x03 ∷ bs)) (ok_is (extended a.0 b.0 c.0, c.1) x e3) (record { takes = behind_lead 0x03 bs (a.0 ∷ b.0 ∷ c.0 ∷ []) c.1 all; is_unit = (t.1, u.1, v.1); after_is = refl }))))
+    subst (TookField s levels ls (0x03 ∷ bs)) (ok_is (extended a.0 b.0 c.0, c.1) x e3) (record { takes = behind_lead 0x03 bs (a.0 ∷ b.0 ∷ c.0 ∷ []) c.1 all; is_unit = (t.1, u.1, v.1); after_is = refl }))))
 
 -- ---- what is read again
 

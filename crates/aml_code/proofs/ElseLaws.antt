@@ -1,0 +1,117 @@
+-- In lawful terms each Else stands right behind an If.
+use mathlib.Core.Bool.{true≢false}
+use Rattle.std.specs.Prelude.{◌==◌}
+use Rattle.std.proofs.Common.{◌≡◌, ℕ, zero, suc, Bool, List, true, false, cond, Option, Some, None, refl, sym, ap, subst, ◌∙◌}
+use Rattle.std.specs.List.{list_all}
+use Rattle.aml_names.specs.declared.segments.Seg.{Seg}
+use Rattle.aml_names.specs.Paths.{PathSet}
+use Rattle.aml_code.specs.Opcodes.{Row, rows}
+use Rattle.aml_code.specs.declared.rows.Place.{Place}
+use Rattle.aml_code.specs.declared.rows.Place.TheVariants as places
+use Rattle.aml_code.specs.declared.rows.Position.{Position}
+use Rattle.aml_code.specs.declared.rows.Position.TheVariants as positions
+use Rattle.aml_code.specs.Declaring.{after}
+use Rattle.aml_code.specs.Elses.{has_opcode, ElsesFollow}
+use Rattle.aml_code.specs.Faults.{Arities}
+use Rattle.aml_code.specs.Lawful.{Setting, IsLawful, AreTerms, is_if, is_if_row, is_if_place, next_position}
+use Rattle.aml_code.specs.Meaning.{ReadsBody, ReadsModule}
+use Rattle.aml_code.specs.Rows.{row_of, takes}
+use Rattle.aml_code.proofs.RowFacts.{row_opcode, row_passes}
+use Rattle.aml_code.specs.Tree.{Tree, nothing, named, op, Trees, no_trees, tree_more}
+
+abbrev pub is_after_if : Position → Bool
+is_after_if positions.AfterIf = true
+is_after_if _ = false
+
+-- only the position behind an If takes an Else
+taken_else : (p : Position) → takes p places.Else ≡ true → is_after_if p ≡ true
+taken_else positions.ModuleTerm e = absurd (true≢false (sym e))
+taken_else positions.GuardTerm e = absurd (true≢false (sym e))
+taken_else positions.BodyTerm e = absurd (true≢false (sym e))
+taken_else positions.AfterIf e = refl
+taken_else positions.Argument e = absurd (true≢false (sym e))
+taken_else positions.Target e = absurd (true≢false (sym e))
+taken_else positions.Data e = absurd (true≢false (sym e))
+
+-- ---- the rows of If and Else
+
+abbrev is_else_place : Place → Bool
+is_else_place places.Else = true
+is_else_place _ = false
+
+only_else : (p : Place) → is_else_place p ≡ true → p ≡ places.Else
+only_else places.Else e = refl
+only_else places.Data e = absurd (true≢false (sym e))
+only_else places.Target e = absurd (true≢false (sym e))
+only_else places.Argument e = absurd (true≢false (sym e))
+only_else places.Statement e = absurd (true≢false (sym e))
+only_else places.If e = absurd (true≢false (sym e))
+only_else places.Declaration e = absurd (true≢false (sym e))
+only_else places.External e = absurd (true≢false (sym e))
+only_else places.Scope e = absurd (true≢false (sym e))
+only_else places.Method e = absurd (true≢false (sym e))
+
+if_row : Row → Bool
+if_row r = cond (is_if_place r.place) (r.opcode == 0xA0) true
+
+else_row : Row → Bool
+else_row r = cond (r.opcode == 0xA1) (is_else_place r.place) true
+
+all_ifs : list_all if_row rows ≡ true
+unfolding rows if_row
+all_ifs = refl
+
+all_elses : list_all else_row rows ≡ true
+unfolding rows else_row
+all_elses = refl
+
+if_opcode : (o : ℕ) (r : Row) → row_of o ≡ Some r → is_if_place r.place ≡ true → (o == 0xA0) ≡ true
+unfolding if_row
+if_opcode o r e is = subst (λ n. (n == 0xA0) ≡ true) (row_opcode o r e) (sym (ap (λ b. cond b (r.opcode == 0xA0) true) is) ∙ row_passes if_row all_ifs o r e)
+
+else_place : (o : ℕ) (r : Row) → row_of o ≡ Some r → (o == 0xA1) ≡ true → r.place ≡ places.Else
+unfolding else_row
+else_place o r e is = only_else r.place (sym (ap (λ b. cond b (is_else_place r.place) true) (ap (λ n. n == 0xA1) (row_opcode o r e) ∙ is)) ∙ row_passes else_row all_elses o r e)
+
+-- ---- the terms of a list
+
+else_taken : (s : Setting) (levels : ℕ) (p : Position) (ls : PathSet) (t : Tree) → IsLawful s levels p ls t → has_opcode 0xA1 t ≡ true → takes p places.Else ≡ true
+else_taken s levels p ls nothing l e = absurd (true≢false (sym e))
+else_taken s levels p ls (named n ts) l e = absurd (true≢false (sym e))
+else_taken s zero p ls (op o w ps r) l e = absurd l
+else_taken s (suc levels) p ls (op o w ps r) l e = subst (λ x. takes p x ≡ true) (else_place o l.row l.listed e) l.taken
+
+if_is : (t : Tree) → is_if t ≡ true → has_opcode 0xA0 t ≡ true
+if_is nothing e = absurd (true≢false (sym e))
+if_is (named n ts) e = absurd (true≢false (sym e))
+if_is (op o w ps r) e = by (row_of o) refl e
+  where
+    by : (x : Option Row) → row_of o ≡ x → is_if_row x ≡ true → (o == 0xA0) ≡ true
+    by None is never = absurd (true≢false (sym never))
+    by (Some row) is it = if_opcode o row is it
+
+behind_by : (t : Tree) (b : Bool) → is_if t ≡ b → is_after_if (cond b positions.AfterIf positions.BodyTerm) ≡ true → has_opcode 0xA0 t ≡ true
+behind_by t true is e = if_is t is
+behind_by t false is e = absurd (true≢false (sym e))
+
+behind : (p : Position) (t : Tree) → is_after_if (next_position p t) ≡ true → has_opcode 0xA0 t ≡ true
+behind positions.ModuleTerm t e = absurd (true≢false (sym e))
+behind positions.GuardTerm t e = absurd (true≢false (sym e))
+behind positions.BodyTerm t e = behind_by t (is_if t) refl e
+behind positions.AfterIf t e = behind_by t (is_if t) refl e
+behind positions.Argument t e = absurd (true≢false (sym e))
+behind positions.Target t e = absurd (true≢false (sym e))
+behind positions.Data t e = absurd (true≢false (sym e))
+
+-- a list whose first term stands in a position
+pub elses_follow : (s : Setting) (levels : ℕ) (p : Position) (ls : PathSet) (ts : Trees) (before : Bool) → (is_after_if p ≡ true → before ≡ true) → AreTerms s levels p ls ts → ElsesFollow before ts
+elses_follow s levels p ls no_trees before k l = tt
+elses_follow s levels p ls (tree_more t ts) before k l =
+    (λ e. k (taken_else p (else_taken s levels p ls t l.0 e)), elses_follow s levels (next_position p t) (after s.scope ls t) ts (has_opcode 0xA0 t) (behind p t) l.1)
+
+-- in the body of a method, and in a table
+pub else_behind_if : (arity : Arities) (method : List Seg) (code : List ℕ) (ts : Trees) → ReadsBody arity method code ts → ElsesFollow false ts
+else_behind_if arity method code ts reads = elses_follow _ 512 positions.BodyTerm _ ts false (λ e. e) reads.lawful
+
+pub else_behind_if_of_a_table : (code : List ℕ) (ts : Trees) → ReadsModule code ts → ElsesFollow false ts
+else_behind_if_of_a_table code ts reads = elses_follow _ 512 positions.ModuleTerm _ ts false (λ e. e) reads.lawful
