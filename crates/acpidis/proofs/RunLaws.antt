@@ -13,7 +13,8 @@ use Rattle.aml_text.specs.Views.{body_view}
 use Rattle.acpi_tables.specs.declared.dump.Dump.{Dump}
 use Rattle.acpidis.specs.Bodies.{has_raw}
 use Rattle.acpidis.specs.Meaning.{Meaning, Means, Shows, order_of, codes_of, rows_of, text_of}
-use Rattle.acpidis.specs.Runs.{output_of, shown_of, Lists, IsOnly, IsCut, Printed, Ends}
+use Rattle.acpidis.specs.Runs.{output_of, Lists, IsCut}
+use Rattle.acpidis.specs.Endings.{shown_of, IsOnly, Printed, Ends}
 use Rattle.acpidis.specs.declared.options.Options.{Options}
 use Rattle.acpidis.specs.declared.faults.RunFault.{RunFault}
 use Rattle.acpidis.specs.declared.faults.RunFault.TheVariants as faults

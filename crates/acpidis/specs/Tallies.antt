@@ -1,4 +1,4 @@
--- The methods of tables, counted one after the other: what the proofs of `check` go by.
+-- A stepping stone of the proofs of `check`: the methods of tables, counted one after the other.
 use Rattle.std.specs.Prelude.{ℕ, zero, suc, ◌+◌, ◌<◌, Bool, ◌&&◌, List, [], ◌∷◌, length}
 use Rattle.aml_code.specs.Encoding.{encodings}
 use Rattle.aml_load.specs.declared.methods.Method.{Method}

@@ -85,11 +85,11 @@ fn load_in<'a>(
     order: &[usize],
 ) -> Result<Loaded<'a>, Refusal>
     requires short { AreShort (codes_view codes.now) }
-    ensures sound { IfOk result (λ x. (trees : List Trees) × (m : Listed) × IsLoad givens.now
-        (codes_view codes.now) trees m ×
+    ensures sound { IfOk result (λ x. (trees : List Trees) × (m : Listed) ×
+        IsLoad givens.now (codes_view codes.now) trees m ×
         HoldsLoad x (codes_view codes.now) trees m) }
-    ensures one { IfOk result (λ x. (trees : List Trees) (m : Listed) → IsLoad givens.now
-        (codes_view codes.now) trees m →
+    ensures one { IfOk result (λ x. (trees : List Trees) (m : Listed) →
+        IsLoad givens.now (codes_view codes.now) trees m →
         HoldsLoad x (codes_view codes.now) trees m) }
     ensures few { IfOk result (λ x. length x.methods.items ≤ 1048576) }
     ensures still { IfOk result (λ x. AreShort (codes_view x.tables.items)) }

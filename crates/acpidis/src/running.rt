@@ -5,7 +5,8 @@ ghost use Rattle.acpi_tables.specs.Order.{AreTaken};
 ghost use Rattle.aml_load.specs.Views.{codes_view, AreShort};
 ghost use Rattle.aml_text.specs.Views.{body_view};
 ghost use Rattle.acpidis.specs.Bodies.{has_raw};
-ghost use Rattle.acpidis.specs.Runs.{Lists, IsCut, Printed, Ends, status_of};
+ghost use Rattle.acpidis.specs.Runs.{Lists, IsCut};
+ghost use Rattle.acpidis.specs.Endings.{Printed, Ends, status_of};
 
 use crate::check_lines::{are_same, write_checks};
 use crate::checking::check;

@@ -1,4 +1,4 @@
--- Children can be stored as numbers and lists.
+-- A stepping stone of the proofs: children can be stored as numbers and lists.
 use Rattle.std.specs.Prelude.{ℕ, List, refl}
 use Rattle.std.specs.Coded.{Coded, code_by, coded×, coded_ℕ, coded_list}
 use Rattle.aml_names.specs.declared.segments.Seg.{Seg}

@@ -1,4 +1,4 @@
--- What a fork of a tree of children is seen as, and what holds of it.
+-- A stepping stone of the proofs: what a fork of a tree of children is seen as, and what holds of it.
 use Rattle.std.specs.Prelude.{◌≡◌, ℕ, ◌+◌, ◌^◌, ◌<◌, ◌≤◌, max, List, [], ◌∷◌, ◌++◌, Option, Some, None}
 use Rattle.std.specs.Global.{Box}
 use Rattle.aml_children.specs.Children.{Counted, total}

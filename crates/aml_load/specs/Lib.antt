@@ -4,5 +4,6 @@ pub mod Loading
 pub mod Walking
 pub mod Stops
 pub mod Views
+pub mod Progresses
 pub mod Bodies
 pub mod Spans

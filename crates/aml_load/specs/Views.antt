@@ -1,20 +1,15 @@
 -- What a loaded set of tables holds, apart from where it lies in memory.
-use Rattle.std.specs.Prelude.{◌≡◌, ℕ, List, [], ◌∷◌, map, Option, Some, None, Result, Ok, Err, slice_get, get_or, ◌⊎◌, ◌<◌, ◌≤◌, length}
+use Rattle.std.specs.Prelude.{◌≡◌, ℕ, List, [], ◌∷◌, map, Option, Some, None, slice_get, ◌≤◌, length}
 use Rattle.std.specs.Global.{Vec}
 use denote.Ref.{Bor}
 use Rattle.aml_code.specs.declared.tree.Node.{Node}
 use Rattle.aml_code.specs.Tree.{Trees}
 use Rattle.aml_code.specs.Encoding.{slice_of, encodings}
 use Rattle.aml_code.specs.View.{nodes_view}
-use Rattle.aml_space.specs.Entries.{Givens}
-use Rattle.aml_space.specs.Known.{Known, StandsFor}
-use Rattle.aml_load.specs.declared.faults.LoadFault.{LoadFault}
-use Rattle.aml_load.specs.declared.faults.LoadFault.TheVariants as loads
+use Rattle.aml_space.specs.Known.{StandsFor}
 use Rattle.aml_load.specs.declared.loading.Loaded.{Loaded}
 use Rattle.aml_load.specs.declared.methods.Method.{Method}
-use Rattle.aml_load.specs.declared.walking.Progress.{Progress}
 use Rattle.aml_load.specs.Loading.{Listed, methods_of}
-use Rattle.aml_load.specs.Walking.{load_at}
 
 abbrev pub codes_view : List (Bor (List ℕ)) → List (List ℕ)
 codes_view codes = map (λ c. c.now) codes
@@ -27,65 +22,12 @@ abbrev pub AreShort : List (List ℕ) → Type 0
 AreShort [] = Unit {0}
 AreShort (c ∷ cs) = (length c ≤ 16777216) × AreShort cs
 
--- numbers that are bytes
-abbrev pub IsCode : List ℕ → Type 0
-IsCode code = (i : ℕ) → get_or code i 0 < 256
-
-abbrev pub AreCodes : List (List ℕ) → Type 0
-AreCodes [] = Unit {0}
-AreCodes (c ∷ cs) = IsCode c × AreCodes cs
-
--- the namespace, the methods and the uses so far are those of what is listed
-pub record Holds (p : Progress) (l : Listed) : Type 0 where
-  pub space : StandsFor p.space l.entries
-  pub methods : p.methods.items ≡ methods_of l.entries
-  pub uses : p.uses.items ≡ l.uses
-
--- a function that refused by this fault: memory was refused, or the walk gives the fault
-abbrev pub Fails : {Y : Type 0} → LoadFault → Result Y LoadFault → Type 0
-Fails e walk = (e ≡ loads.NoMemory) ⊎ (walk ≡ Err e)
-
-abbrev pub Gives : {X Y : Type 0} → (X → Y) → Result X LoadFault → Result Y LoadFault → Type 0
-Gives view (Ok x) walk = walk ≡ Ok (view x)
-Gives view (Err e) walk = Fails e walk
-
--- what a function made of the progress is what the walk gives, unless memory was refused
-abbrev pub Walked : {X : Type 0} → Progress → Result X LoadFault → Result Listed LoadFault → Type 0
-Walked new (Ok x) walk = (m : Listed) × Holds new m × (walk ≡ Ok m)
-Walked new (Err e) walk = Fails e walk
-
--- the same, with another answer besides
-abbrev pub WalkedTo : {X Y : Type 0} → (X → Y) → Progress → Result X LoadFault → Result (Listed × Y) LoadFault → Type 0
-WalkedTo view new (Ok x) walk = (m : Listed) × Holds new m × (walk ≡ Ok (m, view x))
-WalkedTo view new (Err e) walk = Fails e walk
-
--- what a function made of the progress before it, whatever that holds
-abbrev pub Walks : {X : Type 0} → Progress → Progress → Result X LoadFault → (Listed → Result Listed LoadFault) → Type 0
-Walks old new answer walk = (l : Listed) → Holds old l → Walked new answer (walk l)
-
-abbrev pub WalksTo : {X Y : Type 0} → (X → Y) → Progress → Progress → Result X LoadFault → (Listed → Result (Listed × Y) LoadFault) → Type 0
-WalksTo view old new answer walk = (l : Listed) → Holds old l → WalkedTo view new answer (walk l)
-
--- what a function answers of the namespace, whatever that stands for
-abbrev pub GivesIn : {X Y : Type 0} → (X → Y) → Known → Result X LoadFault → (Listed → Result Y LoadFault) → Type 0
-GivesIn view space answer walk = (l : Listed) → StandsFor space l.entries → Gives view answer (walk l)
-
--- the same, with the trees before what is listed
-abbrev pub TableWalked : {X Y : Type 0} → (X → Y) → Progress → Result X LoadFault → Result (Y × Listed) LoadFault → Type 0
-TableWalked view new (Ok x) walk = (m : Listed) × Holds new m × (walk ≡ Ok (view x, m))
-TableWalked view new (Err e) walk = Fails e walk
-
 -- The namespace and the methods of a loaded set are those of these entries.
 pub record HoldsLoad (x : Loaded) (codes : List (List ℕ)) (ts : List Trees) (m : Listed) : Type 0 where
   pub tables : codes_view x.tables.items ≡ codes
   pub trees : trees_view x.trees.items ≡ ts
   pub space : StandsFor x.space m.entries
   pub methods : x.methods.items ≡ methods_of m.entries
-
--- what a load answered is what loading forward gives, unless memory was refused
-abbrev pub GivesLoad : Givens → Result Loaded LoadFault → List (List ℕ) → Type 0
-GivesLoad gs (Ok x) codes = (trees : List Trees) × (m : Listed) × HoldsLoad x codes trees m × (load_at gs codes ≡ Ok (trees, m))
-GivesLoad gs (Err e) codes = Fails e (load_at gs codes)
 
 abbrev pub span_in : Option (List ℕ) → Method → List ℕ
 span_in None m = []

@@ -8,7 +8,8 @@ ghost use Rattle.aml_space.specs.Known.{StandsFor};
 ghost use Rattle.aml_load.specs.Loading.{Listed, first_listed, IsLoad, use_count};
 ghost use Rattle.aml_load.specs.Walking.{table_at, tables_at, uses_at, load_at};
 ghost use Rattle.aml_load.specs.Stops.{StopsLoad};
-ghost use Rattle.aml_load.specs.Views.{codes_view, trees_view, AreShort, IsCode, AreCodes, Holds, HoldsLoad, Gives, GivesLoad, TableWalked, body_of, table_encoding};
+ghost use Rattle.aml_load.specs.Views.{codes_view, trees_view, AreShort, HoldsLoad, body_of, table_encoding};
+ghost use Rattle.aml_load.specs.Progresses.{IsCode, AreCodes, Holds, Gives, GivesLoad, TableWalked};
 
 use crate::faults::LoadFault;
 use crate::methods::{Method, Use};
@@ -174,12 +175,12 @@ pub fn load<'a>(
     requires { AreShort (codes_view tables.now) }
 
     // The tables' AML reads as the trees, and these load to entries whose namespace and methods are the answer's.
-    ensures sound { IfOk result (λ x. (trees : List Trees) × (m : Listed) × IsLoad givens.now
-        (codes_view tables.now) trees m ×
+    ensures sound { IfOk result (λ x. (trees : List Trees) × (m : Listed) ×
+        IsLoad givens.now (codes_view tables.now) trees m ×
         HoldsLoad x (codes_view tables.now) trees m) }
     // To nothing else.
-    ensures one { IfOk result (λ x. (trees : List Trees) (m : Listed) → IsLoad givens.now
-        (codes_view tables.now) trees m →
+    ensures one { IfOk result (λ x. (trees : List Trees) (m : Listed) →
+        IsLoad givens.now (codes_view tables.now) trees m →
         HoldsLoad x (codes_view tables.now) trees m) }
     // A refusal for another cause than memory comes only where there are no trees and entries that load.
     ensures complete { IfErr result (λ e. (e ≡ LoadFault.NoMemory) ⊎

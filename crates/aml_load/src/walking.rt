@@ -8,7 +8,7 @@ ghost use Rattle.aml_space.specs.Entries.{declares, external as outside};
 ghost use Rattle.aml_space.specs.Known.{StandsFor};
 ghost use Rattle.aml_load.specs.Loading.{Listed, plus, method_entry, first_label, byte_of, lead_of, target_of, body_start, body_len};
 ghost use Rattle.aml_load.specs.Walking.{listed, led_at, place_at, scope_at, source_at, entry_at, new_at, name_at, number_at, method_at, alias_at, external_at, fields_at, do_as, walk, walk_inside, walk_all};
-ghost use Rattle.aml_load.specs.Views.{Gives, GivesIn, Walks, WalksTo};
+ghost use Rattle.aml_load.specs.Progresses.{Gives, GivesIn, Walks, WalksTo};
 
 use crate::faults::LoadFault;
 use crate::methods::{Method, Use};

@@ -1,4 +1,4 @@
--- The lengths of some paths.
+-- A stepping stone of the proofs: the lengths of some paths.
 use Rattle.std.specs.Prelude.{◌≡◌, ℕ, true, List, length}
 use Rattle.std.specs.Ordering.{nat_cmp}
 use Rattle.std.specs.List.{list_any}

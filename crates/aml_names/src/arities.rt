@@ -4,7 +4,7 @@ ghost use Rattle.aml_names.specs.Paths.{PathSet};
 ghost use Rattle.aml_names.specs.declared.names.Name.{Name};
 
 use crate::faults::NoMemory;
-use crate::locals_of::Locals;
+use crate::locals::Locals;
 use crate::names::Name;
 use std::alloc::Global;
 

@@ -6,7 +6,7 @@
 
 mod arities;
 mod faults;
-mod locals_of;
+mod locals;
 mod names;
 mod paths;
 mod placing;
@@ -16,7 +16,7 @@ mod stepping;
 
 pub use arities::Arity;
 pub use faults::{CodeFault, NoMemory};
-pub use locals_of::Locals;
+pub use locals::Locals;
 pub use names::{Name, NameForm};
 pub use paths::Path;
 pub use placing::place;

@@ -1,4 +1,4 @@
--- What stays the same while a list of terms is read, as contracts see it.
+-- A stepping stone of the proofs: what stays the same while a list of terms is read, as contracts see it.
 use Rattle.std.specs.Prelude.{ℕ, List, Option, option_map}
 use denote.Ref.{Bor}
 use Rattle.aml_names.specs.declared.segments.Seg.{Seg}

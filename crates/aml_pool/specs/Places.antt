@@ -1,4 +1,4 @@
--- Places, each free or taken.
+-- A stepping stone of the proofs: places, each free or taken.
 use Rattle.std.specs.Prelude.{◌≡◌, ℕ, zero, suc, Option, Some, None, List, [], ◌∷◌, slice_get}
 
 -- how many places are free

@@ -1,4 +1,4 @@
--- The paths that a name of one segment may mean in a scope, by their nodes.
+-- A stepping stone of the proofs: the paths that a name of one segment may mean in a scope, by their nodes.
 use Rattle.std.specs.Prelude.{◌≡◌, ◌≤◌, ◌+◌, ◌-◌, List, ◌++◌, length, take, drop, Option, Some, None}
 use Rattle.std.specs.FinSet as set
 use Rattle.aml_names.specs.declared.segments.Seg.{Seg}

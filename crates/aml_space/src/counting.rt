@@ -37,8 +37,9 @@ pub fn count_met(
     requires shape { IsShape nodes.now }
     requires within { IfSome node (λ i. i < length nodes.now) }
     ensures { result
-        ≡ count_by (namespace_in (known_by nodes.now)) (option_or (option_and_then (kinds_of nodes.now) node)
-        (option_copied standing.entry)) (option_and_then (outs_of nodes.now) node) }
+        ≡ count_by (namespace_in (known_by nodes.now))
+        (option_or (option_and_then (kinds_of nodes.now) node) (option_copied standing.entry))
+        (option_and_then (outs_of nodes.now) node) }
 {
     match kind_met(nodes, node, standing) {
         None => out_at(nodes, node),

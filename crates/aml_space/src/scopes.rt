@@ -73,8 +73,8 @@ impl<'a> Scope<'a> {
         requires scope { IsScope self.now }
         requires one { length segment.now ≡ 1 }
         ensures found { IfOk result (λ met. option_map (path_at self.now.path.now segment.now) met
-            ≡ first_of (names_of self.now) locals.now (upward
-            (length self.now.path.now) self.now.path.now segment.now)) }
+            ≡ first_of (names_of self.now) locals.now
+            (upward (length self.now.path.now) self.now.path.now segment.now)) }
         ensures met { IfOk result
             (λ met. IfSome met (IsCandidate self.now.nodes.now locals.now self.now.path.now segment.now)) }
     {
@@ -116,7 +116,8 @@ impl<'a> Scope<'a> {
         requires within { here.depth ≤ length self.now.path.now }
         requires node { IfSome here.node (λ i. i < length self.now.nodes.now) }
         ensures { result
-            ≡ (here.local || is_some (option_or (option_and_then (kinds_of self.now.nodes.now) here.node)
+            ≡ (here.local || is_some (option_or
+            (option_and_then (kinds_of self.now.nodes.now) here.node)
             (predefined (take here.depth self.now.path.now ++ segment.now)))) }
     {
         here.local || kind_met(self.nodes, here.node, self.standing(segment, here.depth)).is_some()
@@ -126,8 +127,8 @@ impl<'a> Scope<'a> {
     fn first_outside(&self, outside: Option<Candidate>, here: Candidate) -> Option<Candidate>
         requires { IfSome here.node (λ i. i < length self.now.nodes.now) }
         ensures { result
-            ≡ option_or outside (cond (is_some (option_and_then (outs_of self.now.nodes.now) here.node))
-            (Some here) None) }
+            ≡ option_or outside
+            (cond (is_some (option_and_then (outs_of self.now.nodes.now) here.node)) (Some here) None) }
     {
         match outside {
             Some(found) => Some(found),
@@ -149,8 +150,8 @@ impl<'a> Scope<'a> {
         requires node { here.node ≡ walk (kids_of self.now.nodes.now) 0 (take here.depth self.now.path.now
             ++ segment.now) }
         ensures { result
-            ≡ cond here.local (Some 0) (count_at (names_of self.now)
-            (take here.depth self.now.path.now ++ segment.now)) }
+            ≡ cond here.local (Some 0)
+            (count_at (names_of self.now) (take here.depth self.now.path.now ++ segment.now)) }
     {
         if here.local {
             return Some(0);
@@ -167,8 +168,8 @@ impl<'a> Scope<'a> {
     pub fn given(&self, segment: &[Seg]) -> Option<u8>
         requires scope { IsScope self.now }
         requires one { length segment.now ≡ 1 }
-        ensures { result ≡ first_given (names_of self.now) (upward
-            (length self.now.path.now) self.now.path.now segment.now) }
+        ensures { result ≡ first_given (names_of self.now)
+            (upward (length self.now.path.now) self.now.path.now segment.now) }
     {
         let mut depth = self.path.segs().len();
         'depths: loop {

@@ -88,9 +88,9 @@ fn two_threads_drain_a_board(rt: HostRuntime) -> Result<(), Fail> {
             ),
         >
             requires { IsSeatOf shared.now seat × IsSeatOf shared.now other × IsDrawing seat × IsDrawing other }
-            ensures { IfSome result (λ p. IfOk p.0 (λ t. IsSeatOf shared.entry.now t.0 × (weight_of t.0
-                ≡ weight_of seat)) × IfOk p.1 (λ t. IsSeatOf shared.entry.now t.0 × (weight_of t.0
-                ≡ weight_of other))) }
+            ensures { IfSome result (λ p.
+                IfOk p.0 (λ t. IsSeatOf shared.entry.now t.0 × (weight_of t.0 ≡ weight_of seat)) ×
+                IfOk p.1 (λ t. IsSeatOf shared.entry.now t.0 × (weight_of t.0 ≡ weight_of other))) }
         {
             let promise = ComesBack(Snapshot::of(shared), Snapshot::of(&other));
             let there = move || -> Result<(Seat, Vec<u32>), NoMemory>

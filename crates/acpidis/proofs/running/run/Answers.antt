@@ -1,7 +1,7 @@
 use Rattle.std.proofs.Common.{ap, ◌∙◌, cond, map}
 use Rattle.aml_text.specs.Views.{body_view}
 use Rattle.acpidis.specs.Bodies.{has_raw}
-use Rattle.acpidis.specs.Runs.{shown_of}
+use Rattle.acpidis.specs.Endings.{shown_of}
 use Rattle.acpidis.proofs.RunLaws.{lists_so, appends_each}
 use Rattle.acpidis.proofs.running.run.Goals as goal
 

@@ -1,6 +1,6 @@
 use Rattle.std.proofs.Common.{sym, ◌∙◌}
 use Rattle.aml_names.proofs.Sets.{no_keys, empty_of}
-use Rattle.aml_names.proofs.locals_of.Locals.is_empty.Goals as goal
+use Rattle.aml_names.proofs.locals.Locals.is_empty.Goals as goal
 
 pub returns : goal.returns
 returns c =

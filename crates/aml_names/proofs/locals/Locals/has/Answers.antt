@@ -5,7 +5,7 @@ use Rattle.std.specs.List.{list_any}
 use Rattle.std.specs.BTreeMap.{is_at}
 use Rattle.aml_names.proofs.Sets.{any_path}
 use Rattle.aml_names.proofs.LengthLaws.{none_so_long}
-use Rattle.aml_names.proofs.locals_of.Locals.has.Goals as goal
+use Rattle.aml_names.proofs.locals.Locals.has.Goals as goal
 
 pub returns : goal.returns
 returns c = c.contains-2.ensures ∙ sym (any_path c.self.inside.paths.keys c.args.path.now) ∙ ap (λ s. set.contains s c.args.path.now) c.self.view_is

@@ -5,7 +5,7 @@ use Rattle.std.specs.List.{list_any}
 use Rattle.std.specs.BTreeMap.{is_at}
 use Rattle.aml_names.proofs.Sets.{one_added}
 use Rattle.aml_names.proofs.LengthLaws.{one_length}
-use Rattle.aml_names.proofs.locals_of.Locals.push.Goals as goal
+use Rattle.aml_names.proofs.locals.Locals.push.Goals as goal
 
 pub returns-clause-ok : goal.returns-clause-ok
 returns-clause-ok c = one_added c.self.inside.paths.keys c.insert-2.new.self.keys c.args.path c.in_ok-insert-2.ensures.updates.0 ∙ ap (λ s. set.insert s c.args.path) c.self.view_is
