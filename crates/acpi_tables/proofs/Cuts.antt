@@ -70,6 +70,16 @@ walk_more table at walk h = record {
   };
 }
 
+-- its records
+pub records-walk_start : (table : List ℕ) (h : 44 ≤ length table) → (walk_start table h).records ≡ []
+unfolding walk_start
+records-walk_start table h = refl
+
+pub records-walk_more : (table : List ℕ) (at : ℕ) (walk : WalksTo table at) (h : HoldsRecord table at)
+    → (walk_more table at walk h).records ≡ walk.records ++ record_bytes_at table at ∷ []
+unfolding walk_more
+records-walk_more table at walk h = refl
+
 -- What a record begins with does not depend on what follows it.
 second-append : (one rest : List ℕ) → IsRecord one → number_at (one ++ rest) 1 1 ≡ length one
 unfolding number_at bytes_at

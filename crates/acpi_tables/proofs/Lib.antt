@@ -1,5 +1,6 @@
 pub mod Numbers
 pub mod FadtFields
+pub mod Rows
 pub mod Entries
 pub mod RsdtEntries
 pub mod Meanings

@@ -1,5 +1,5 @@
 -- Fields of a table, and the numbers that their bytes spell.
-use Rattle.std.proofs.Common.{◌≡◌, ℕ, zero, suc, ◌+◌, ◌*◌, ◌<◌, ◌≤◌, List, [], ◌∷◌, length, slice_index, arith, length-take, length-drop, drop, ◌∙◌}
+use Rattle.std.proofs.Common.{◌≡◌, ℕ, zero, suc, ◌+◌, ◌*◌, ◌<◌, ◌≤◌, List, [], ◌∷◌, length, slice_index, arith, length-take, length-drop, drop, ◌++◌, replicate, refl, ap, ◌∙◌}
 use Rattle.std.proofs.lemmas.List.{get_or-drop, get_or-take}
 use Rattle.acpi_tables.specs.Bytes.{little_endian, bytes_at, number_at}
 
@@ -38,3 +38,11 @@ unfolding number_at bytes_at
 number_at-one (byte ∷ bytes) zero h = omega arith
 number_at-one (byte ∷ bytes) (suc offset) h = number_at-one bytes offset (omega arith)
 number_at-one [] offset h = absurd (omega arith)
+
+little_endian-zeros : (n : ℕ) → little_endian (replicate n 0) ≡ 0
+little_endian-zeros zero = refl
+little_endian-zeros (suc n) = omega (arith, little_endian-zeros n)
+
+pub little_endian-padded : (bytes : List ℕ) (n : ℕ) → little_endian (bytes ++ replicate n 0) ≡ little_endian bytes
+little_endian-padded [] n = little_endian-zeros n
+little_endian-padded (byte ∷ bytes) n = ap (λ number. byte + 256 * number) (little_endian-padded bytes n)

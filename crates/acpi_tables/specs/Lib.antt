@@ -1,9 +1,11 @@
 pub mod Bytes
+pub mod Fields
 pub mod Header
 pub mod Rsdp
 pub mod Rsdt
 pub mod Xsdt
 pub mod Fadt
+pub mod Records
 pub mod Madt
 pub mod Dumps
 pub mod Order

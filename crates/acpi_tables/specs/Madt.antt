@@ -1,15 +1,13 @@
 -- The Multiple APIC Description Table (ACPI 6.5, section 5.2.12, tables 5.19 to 5.21): two fields, and then records up to its end.
-use Rattle.std.specs.Prelude.{◌≡◌, ℕ, zero, suc, ◌+◌, ◌-◌, ◌<◌, ◌≤◌, ◌&&◌, Bool, List, [], ◌∷◌, length, take, drop, nat_eq, nat_le, if◌then◌else◌}
+use Rattle.std.specs.Prelude.{◌≡◌, ℕ, zero, suc, ◌+◌, ◌-◌, ◌<◌, ◌≤◌, ◌&&◌, Bool, List, [], ◌∷◌, length, take, drop, map, nat_eq, nat_le, Option, Some, if◌then◌else◌}
 use Rattle.std.specs.List.{AllByRecursion, concat}
 use Rattle.acpi_tables.specs.Bytes.{bytes_at, number_at}
+use Rattle.acpi_tables.specs.Fields.{value_in}
+use Rattle.acpi_tables.specs.Records.{kind_of, row_of, fields_by}
 use Rattle.acpi_tables.specs.declared.fault.Bad.{Bad}
 use Rattle.acpi_tables.specs.declared.fault.Bad.TheVariants.{Short, MadtRecord as BadRecord}
 use Rattle.acpi_tables.specs.declared.madt.MadtRecord.{MadtRecord}
 use Rattle.acpi_tables.specs.declared.madt.MadtRecord.TheVariants.{LocalApic, IoApic, Override, NmiSource, LocalNmi, AddressOverride, X2Apic, X2Nmi, Other}
-
--- A record's first byte is its type, its second its length, both of these included.
-abbrev pub kind_of : List ℕ → ℕ
-kind_of bytes = number_at bytes 0 1
 
 -- What a record of this type and length says: the fields of the known kinds (sections 5.2.12.2, 5.2.12.3, 5.2.12.5 to 5.2.12.8,
 -- 5.2.12.12 and 5.2.12.13), and of any other the bytes behind its length.
@@ -27,6 +25,22 @@ meaning_by kind long bytes =
 
 unfoldable pub meaning_of : List ℕ → MadtRecord (List ℕ)
 meaning_of bytes = meaning_by (kind_of bytes) (length bytes) bytes
+
+-- what was read of each field, in their order
+abbrev pub record_values : MadtRecord (List ℕ) → List (Option ℕ)
+record_values (LocalApic uid apic flags) = Some uid ∷ Some apic ∷ Some flags ∷ []
+record_values (IoApic id address gsi) = Some id ∷ Some address ∷ Some gsi ∷ []
+record_values (Override bus source gsi flags) = Some bus ∷ Some source ∷ Some gsi ∷ Some flags ∷ []
+record_values (NmiSource flags gsi) = Some flags ∷ Some gsi ∷ []
+record_values (LocalNmi uid flags lint) = Some uid ∷ Some flags ∷ Some lint ∷ []
+record_values (AddressOverride address) = Some address ∷ []
+record_values (X2Apic id flags uid) = Some id ∷ Some flags ∷ Some uid ∷ []
+record_values (X2Nmi flags uid lint) = Some flags ∷ Some uid ∷ Some lint ∷ []
+record_values (Other kind content) = []
+
+-- the values of the fields that the table of kinds gives a record
+unfoldable pub row_values : List ℕ → List (Option ℕ)
+row_values bytes = map (value_in bytes) (fields_by (row_of bytes))
 
 -- the same record with its raw content seen by a function
 abbrev pub seen_by : {A B : Type 0} → (A → B) → MadtRecord A → MadtRecord B

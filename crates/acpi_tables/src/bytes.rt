@@ -1,6 +1,6 @@
 //! Numbers at an offset of a table, and the sum of its bytes.
 ghost use Rattle.std.specs.Prelude.{◌≡◌, ◌+◌, ◌<◌, ◌≤◌, length};
-ghost use Rattle.acpi_tables.specs.Bytes.{bytes_at, number_at, begins_with, checksum};
+ghost use Rattle.acpi_tables.specs.Bytes.{little_endian, bytes_at, number_at, begins_with, checksum};
 
 /// The sum of the bytes modulo 256. It is 0 for a table whose checksum is right (ACPI 6.5, section 5.2.6).
 pub fn sum(bytes: &[u8]) -> u8
@@ -11,6 +11,16 @@ pub fn sum(bytes: &[u8]) -> u8
         total = total.wrapping_add(*byte);
     }
     total
+}
+
+/// The number that these bytes spell, the lowest byte first.
+pub fn little_endian(bytes: &[u8]) -> u64
+    requires { length bytes.now ≤ 8 }
+    ensures { result ≡ little_endian bytes.now }
+{
+    let mut array = [0; 8];
+    array[..bytes.len()].copy_from_slice(bytes);
+    u64::from_le_bytes(array)
 }
 
 /// The bytes at this offset.
@@ -46,7 +56,8 @@ pub(crate) fn u64_at(bytes: &[u8], at: usize) -> u64
     u64::from_le_bytes(array_at(bytes, at))
 }
 
-pub(crate) fn u8_at(bytes: &[u8], at: usize) -> u8
+/// The byte at this offset.
+pub fn u8_at(bytes: &[u8], at: usize) -> u8
     requires { at < length bytes.now }
     ensures { result ≡ number_at bytes.now at 1 }
 {

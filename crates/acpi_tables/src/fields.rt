@@ -1,62 +1,145 @@
-//! Fields of a table as data: where each stands, how many bytes it has, and how it is called.
-ghost use Rattle.std.specs.Prelude.{◌≡◌, map, option_map};
-ghost use Rattle.acpi_tables.specs.Fadt.{fadt_fields, field_bytes, field_view};
+//! The fields of tables as data: where each stands, how many bytes it has, and how a listing shows it.
+ghost use Rattle.std.specs.Prelude.{◌≡◌, ◌≤◌, ◌&&◌, nat_eq, length, map, find, option_map, IfSome};
+ghost use Rattle.std.specs.List.{All};
+ghost use Rattle.acpi_tables.specs.Fields.{field_bytes, field_view, IsNarrow};
+ghost use Rattle.acpi_tables.specs.Fadt.{fadt_fields};
+ghost use Rattle.acpi_tables.specs.Records.{madt_rows, row_view, row_of};
 
-/// A field of a table.
+use crate::bytes::u8_at;
+
+/// The base of the digits in which a listing shows a number.
+#[derive(Clone, Copy)]
+pub enum Base {
+    /// As few digits as the number has.
+    Decimal,
+    /// Two digits for each byte.
+    Hexadecimal,
+}
+
+/// A field of a table, or of a record of one.
 pub struct TableField {
-    /// Where it begins, in bytes from the table's start.
+    /// Where it begins, in bytes from the start of the table or the record.
     pub offset: usize,
     /// How many bytes it has.
     pub width: usize,
-    /// What the listing calls it.
+    /// What a listing calls it, and nothing for a field that it shows without a label.
     pub label: &'static str,
+    /// How a listing shows its number.
+    pub base: Base,
+}
+
+/// A kind of records of the MADT: those of one type and one length.
+pub struct RecordRow {
+    /// The type: the first byte of its records.
+    pub kind: u8,
+    /// How many bytes its records have.
+    pub length: usize,
+    /// What a listing calls it.
+    pub name: &'static str,
+    /// The fields that a listing shows, in the order of their offsets.
+    pub fields: &'static [TableField],
 }
 
 macro_rules! fields {
-    ($($offset:literal $width:literal $label:literal;)*) => {
+    ($($offset:literal $width:literal $label:literal $base:ident;)*) => {
         [$(TableField {
             offset: $offset,
             width: $width,
             label: $label,
+            base: Base::$base,
+        }),*]
+    };
+}
+
+macro_rules! rows {
+    ($($kind:literal $length:literal $name:literal { $($field:tt)* })*) => {
+        [$(RecordRow {
+            kind: $kind,
+            length: $length,
+            name: $name,
+            fields: &fields! { $($field)* },
         }),*]
     };
 }
 
 static FADT_FIELDS: [TableField; 16] = fields! {
-    36  4 "FirmwareCtrl";
-    40  4 "Dsdt";
-    45  1 "Profile";
-    46  2 "SciInt";
-    48  4 "SmiCmd";
-    52  1 "AcpiEnable";
-    53  1 "AcpiDisable";
-    56  4 "Pm1aEvt";
-    64  4 "Pm1aCnt";
-    76  4 "PmTmr";
-    80  4 "Gpe0";
-    92  1 "Gpe0Len";
-    109 2 "BootArch";
-    112 4 "Flags";
-    132 8 "XFirmwareCtrl";
-    140 8 "XDsdt";
+    36  4 "FirmwareCtrl"  Hexadecimal;
+    40  4 "Dsdt"          Hexadecimal;
+    45  1 "Profile"       Hexadecimal;
+    46  2 "SciInt"        Hexadecimal;
+    48  4 "SmiCmd"        Hexadecimal;
+    52  1 "AcpiEnable"    Hexadecimal;
+    53  1 "AcpiDisable"   Hexadecimal;
+    56  4 "Pm1aEvt"       Hexadecimal;
+    64  4 "Pm1aCnt"       Hexadecimal;
+    76  4 "PmTmr"         Hexadecimal;
+    80  4 "Gpe0"          Hexadecimal;
+    92  1 "Gpe0Len"       Hexadecimal;
+    109 2 "BootArch"      Hexadecimal;
+    112 4 "Flags"         Hexadecimal;
+    132 8 "XFirmwareCtrl" Hexadecimal;
+    140 8 "XDsdt"         Hexadecimal;
+};
+
+static MADT_ROWS: [RecordRow; 8] = rows! {
+    0 8 "LocalApic" { 2 1 "Uid" Decimal; 3 1 "Apic" Decimal; 4 4 "Flags" Hexadecimal; }
+    1 12 "IoApic" { 2 1 "Id" Decimal; 4 4 "Address" Hexadecimal; 8 4 "Gsi" Decimal; }
+    2 10 "Override" { 2 1 "Bus" Decimal; 3 1 "Source" Decimal; 4 4 "Gsi" Decimal; 8 2 "Flags" Hexadecimal; }
+    3 8 "NmiSource" { 2 2 "Flags" Hexadecimal; 4 4 "Gsi" Decimal; }
+    4 6 "LocalNmi" { 2 1 "Uid" Decimal; 3 2 "Flags" Hexadecimal; 5 1 "Lint" Decimal; }
+    5 12 "AddressOverride" { 4 8 "" Hexadecimal; }
+    9 16 "X2Apic" { 4 4 "Id" Decimal; 8 4 "Flags" Hexadecimal; 12 4 "Uid" Decimal; }
+    10 12 "X2Nmi" { 2 2 "Flags" Hexadecimal; 4 4 "Uid" Decimal; 8 1 "Lint" Decimal; }
 };
 
 impl TableField {
     /// The fields of a FADT that a listing shows, in the order of their offsets (ACPI 6.5, section 5.2.9).
     pub fn of_fadt() -> &'static [TableField]
-        ensures { map field_view result.now ≡ fadt_fields }
+        ensures fields { map field_view result.now ≡ fadt_fields }
+        ensures narrow { All IsNarrow result.now }
     {
         &FADT_FIELDS
     }
 
     /// The bytes of the field, in a table that reaches to its end.
-    #[tactic(auto, using(std::proofs::lemmas::Bool::Decides::nat_tests), unfolding(crate::specs::Fadt::field_bytes, crate::specs::Bytes::bytes_at))]
+    #[tactic(auto, unfolding(crate::specs::Fields::field_bytes, crate::specs::Bytes::bytes_at))]
     pub fn bytes_in<'t>(&self, table: &'t [u8]) -> Option<&'t [u8]>
-        ensures { option_map (λ bytes. bytes.now) result ≡ field_bytes table.now (field_view self.now) }
+        ensures bytes { option_map (λ bytes. bytes.now) result ≡ field_bytes table.now (field_view self.now) }
+        ensures width { IfSome result (λ bytes. length bytes.now ≡ self.now.width) }
     {
         if table.len() < self.offset || table.len() - self.offset < self.width {
             return None;
         }
         Some(&table[self.offset..self.offset + self.width])
     }
+}
+
+impl RecordRow {
+    /// The kinds of records of a MADT that are read here (ACPI 6.5, section 5.2.12).
+    pub fn of_madt() -> &'static [RecordRow]
+        ensures rows { map row_view result.now ≡ madt_rows }
+        ensures narrow { All (λ row. All IsNarrow row.fields.now) result.now }
+    {
+        &MADT_ROWS
+    }
+
+    /// The kind that has the type and the length of this record, if there is one.
+    pub fn of_record(bytes: &[u8]) -> Option<&'static RecordRow>
+        requires { 2 ≤ length bytes.now }
+        ensures row { option_map (λ row. row_view row.now) result ≡ row_of bytes.now }
+        ensures narrow { IfSome result (λ row. All IsNarrow row.now.fields.now) }
+    {
+        row_among(RecordRow::of_madt(), u8_at(bytes, 0), bytes.len())
+    }
+}
+
+/// The first of these kinds that has this type and this length.
+fn row_among(rows: &'static [RecordRow], kind: u8, length: usize) -> Option<&'static RecordRow>
+    requires narrow { All (λ row. All IsNarrow row.fields.now) rows.now }
+    ensures first { option_map (λ row. row.now) result
+        ≡ find (λ row. nat_eq kind row.kind && nat_eq length row.length) rows.now }
+    ensures narrow { IfSome result (λ row. All IsNarrow row.now.fields.now) }
+{
+    rows.iter()
+        .find(|row| kind == row.kind && length == row.length)
 }

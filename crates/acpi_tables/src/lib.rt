@@ -15,12 +15,12 @@ mod rsdp;
 mod rsdt;
 mod xsdt;
 
-pub use bytes::{begins_with, sum, u32_at};
+pub use bytes::{begins_with, little_endian, sum, u8_at, u32_at};
 pub use chain::dump_at;
 pub use dump::{Dump, Kind, MAX_DUMP_BYTES, table_of};
 pub use fadt::Fadt;
 pub use fault::{Bad, TableFault};
-pub use fields::TableField;
+pub use fields::{Base, RecordRow, TableField};
 pub use header::Header;
 pub use madt::{Madt, MadtRecord, MadtView};
 pub use order::{MAX_DUMPS, Order, load_order};

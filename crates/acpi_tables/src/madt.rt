@@ -1,7 +1,7 @@
 //! The table of interrupt controllers (ACPI 6.5, section 5.2.12).
-ghost use Rattle.std.specs.Prelude.{◌≡◌, ◌⊎◌, ◌↔◌, ◌<◌, ◌≤◌, ℕ, length, map, IsSome, IfSome, IfOk, IfErr, OnOk};
+ghost use Rattle.std.specs.Prelude.{◌≡◌, ◌⊎◌, ◌↔◌, ◌+◌, ◌<◌, ◌≤◌, ℕ, length, map, IsSome, IfSome, IfOk, IfErr, OnOk};
 ghost use Rattle.acpi_tables.specs.Bytes.{number_at};
-ghost use Rattle.acpi_tables.specs.Madt.{HoldsRecord, HoldsMadt, meaning_of, seen_by, record_bytes_at, record_end, records_of, RefusesMadt};
+ghost use Rattle.acpi_tables.specs.Madt.{HoldsRecord, HoldsMadt, meaning_of, record_values, row_values, seen_by, record_bytes_at, record_end, records_of, RefusesMadt};
 ghost use Rattle.acpi_tables.specs.declared.fault.Bad.{Bad};
 ghost use Rattle.acpi_tables.specs.declared.fault.Bad.TheVariants.{NoMemory};
 
@@ -179,6 +179,8 @@ impl Madt {
         ensures flags { IfOk result (λ madt. madt.flags ≡ number_at table.now 40 4) }
         ensures records { IfOk result (λ madt. map (seen_by (λ content. content.items)) madt.records.items
             ≡ map meaning_of (records_of table.now)) }
+        ensures values { IfOk result (λ madt. map (λ r. record_values (seen_by (λ content. content.items) r))
+            madt.records.items ≡ map row_values (records_of table.now)) }
         ensures refused { IfErr result (λ bad. (bad ≡ NoMemory) ⊎ RefusesMadt table.now bad) }
         ensures exact { OnOk result ((bad : Bad) → ¬ RefusesMadt table.now bad) }
     {
@@ -211,10 +213,10 @@ impl Madt {
         }
         let mut at = 44;
         while at < table.len() {
-            let Some((_, end)) = Madt::record_at(table, at) else {
+            let Some(bytes) = Madt::record_bytes(table, at) else {
                 return Err(Bad::MadtRecord(at));
             };
-            at = end;
+            at += bytes.len();
         }
         Ok(())
     }
@@ -227,7 +229,19 @@ impl Madt {
         ensures holds { IsSome result ↔ HoldsRecord table.now at }
         ensures record { IfSome result (λ r. seen_by (λ content. content.now) r.0
             ≡ meaning_of (record_bytes_at table.now at)) }
+        ensures values { IfSome result (λ r. record_values (seen_by (λ content. content.now) r.0)
+            ≡ row_values (record_bytes_at table.now at)) }
         ensures end { IfSome result (λ r. r.1 ≡ record_end table.now at) }
+    {
+        let bytes = Madt::record_bytes(table, at)?;
+        Some((MadtRecord::of_record(bytes), at + bytes.len()))
+    }
+
+    /// The bytes of the record at offset `at` of the table, and `None` where `record_at` is.
+    pub fn record_bytes(table: &[u8], at: usize) -> Option<&[u8]>
+        ensures holds { IsSome result ↔ HoldsRecord table.now at }
+        ensures bytes { IfSome result (λ bytes. bytes.now ≡ record_bytes_at table.now at) }
+        ensures end { IfSome result (λ bytes. at + length bytes.now ≡ record_end table.now at) }
     {
         if at < 44 || table.len() < 2 || at > table.len() - 2 {
             return None;
@@ -236,7 +250,6 @@ impl Madt {
         if long < 2 || long > table.len() - at {
             return None;
         }
-        let end = at + long;
-        Some((MadtRecord::of_record(&table[at..end]), end))
+        Some(&table[at..at + long])
     }
 }

@@ -1,10 +1,12 @@
 -- The first part of a listing: what it says of each dump. The fields are those of ACPI 6.5, sections 5.2.5 to 5.2.12.
-use Rattle.std.specs.Prelude.{ℕ, Bool, true, false, ◌&&◌, ◌||◌, not, nat_eq, nat_le, if◌then◌else◌, decimal, codes, List, [], ◌++◌, flat_map, map, take, reverse, length, ◌+◌, Option, Some, None, option_map, string_bytes}
-use Rattle.acpi_tables.specs.Bytes.{number_at, checksum, begins_with}
+use Rattle.std.specs.Prelude.{ℕ, Bool, true, false, ◌&&◌, ◌||◌, not, nat_eq, nat_le, if◌then◌else◌, decimal, codes, List, [], ◌++◌, flat_map, take, drop, reverse, length, Option, Some, None, option_map, string_bytes}
+use Rattle.acpi_tables.specs.Bytes.{little_endian, number_at, checksum, begins_with}
+use Rattle.acpi_tables.specs.Fields.{Field, field_bytes}
 use Rattle.acpi_tables.specs.Header.{table_of, header_of}
 use Rattle.acpi_tables.specs.Rsdp.{revision_of, rsdp_of}
-use Rattle.acpi_tables.specs.Fadt.{Field, fadt_fields, field_bytes}
-use Rattle.acpi_tables.specs.Madt.{records_of, meaning_of}
+use Rattle.acpi_tables.specs.Fadt.{fadt_fields}
+use Rattle.acpi_tables.specs.Records.{Row, row_of, kind_of as record_kind}
+use Rattle.acpi_tables.specs.Madt.{records_of}
 use Rattle.acpi_tables.specs.Rsdt.{rsdt_entries}
 use Rattle.acpi_tables.specs.Xsdt.{entries_of}
 use Rattle.acpi_tables.specs.Dumps.{kind_of}
@@ -12,16 +14,16 @@ use Rattle.acpi_tables.specs.Order.{dump_at, name_of}
 use Rattle.acpi_tables.specs.declared.dump.Dump.{Dump}
 use Rattle.acpi_tables.specs.declared.dump.Kind.{Kind}
 use Rattle.acpi_tables.specs.declared.dump.Kind.TheVariants.{Root, Facs, Standard}
+use Rattle.acpi_tables.specs.declared.fields.Base.{Base}
+use Rattle.acpi_tables.specs.declared.fields.Base.TheVariants.{Decimal, Hexadecimal}
 use Rattle.acpi_tables.specs.declared.header.Header.{Header}
-use Rattle.acpi_tables.specs.declared.madt.MadtRecord.{MadtRecord}
-use Rattle.acpi_tables.specs.declared.madt.MadtRecord.TheVariants.{LocalApic, IoApic, Override, NmiSource, LocalNmi, AddressOverride, X2Apic, X2Nmi, Other}
 use Rattle.acpi_tables.specs.declared.rsdp.Rsdp.{Rsdp}
 use Rattle.acpi_tables.specs.declared.rsdp.Wide.{Wide}
 use Rattle.text_writer.specs.Words.{word}
-use Rattle.text_writer.specs.Numbers.{hex2, hex4, hex8, hex16, quoted}
+use Rattle.text_writer.specs.Numbers.{hex2, hex8, hex16, quoted}
 
 -- a line one level below that of its dump
-unfoldable pub below : List ℕ → List ℕ
+abbrev pub below : List ℕ → List ℕ
 below text = word "  " ++ text ++ word "\n"
 
 -- ---- the line of a dump, up to its address
@@ -114,47 +116,53 @@ rsdt_entry_line dumps address = below (rsdt_entry_text dumps address)
 unfoldable pub rsdt_entry_lines : List Dump → List ℕ → List ℕ
 rsdt_entry_lines dumps table = flat_map (rsdt_entry_line dumps) (rsdt_entries table)
 
--- a field of the FADT, the highest byte of its value first
-unfoldable pub value_text : List ℕ → List ℕ
-value_text bytes = flat_map hex2 (reverse bytes)
+-- a field: its label, if it has one, and its value in the digits of its base; in hexadecimal the highest byte stands first
+unfoldable pub label_text : List ℕ → List ℕ
+label_text label = if nat_eq (length label) 0 then [] else label ++ word " "
 
-unfoldable pub labelled : List ℕ → List ℕ → List ℕ
-labelled label bytes = label ++ word " " ++ value_text bytes
+abbrev pub value_text : Base → List ℕ → List ℕ
+value_text Decimal bytes = decimal (little_endian bytes)
+value_text Hexadecimal bytes = flat_map hex2 (reverse bytes)
 
-abbrev pub field_line_by : List ℕ → Option (List ℕ) → List ℕ
-field_line_by label None = []
-field_line_by label (Some bytes) = below (labelled label bytes)
+unfoldable pub labelled : Field → List ℕ → List ℕ
+labelled f bytes = label_text f.label ++ value_text f.base bytes
+
+-- a field of the FADT, in a table that reaches to its end
+abbrev pub field_line_by : Field → Option (List ℕ) → List ℕ
+field_line_by f None = []
+field_line_by f (Some bytes) = below (labelled f bytes)
 
 unfoldable pub field_line : List ℕ → Field → List ℕ
-field_line table f = field_line_by f.label (field_bytes table f)
+field_line table f = field_line_by f (field_bytes table f)
 
 unfoldable pub fadt_lines : List ℕ → List ℕ
 fadt_lines table = flat_map (field_line table) fadt_fields
 
--- a record of the MADT
+-- a field of a record of the MADT
+abbrev pub record_field_by : Field → Option (List ℕ) → List ℕ
+record_field_by f None = []
+record_field_by f (Some bytes) = word " " ++ labelled f bytes
+
+unfoldable pub record_field : List ℕ → Field → List ℕ
+record_field bytes f = record_field_by f (field_bytes bytes f)
+
+-- a record of no known type and length: its type, its length and the bytes behind them
 unfoldable pub spaced_byte : ℕ → List ℕ
 spaced_byte byte = word " " ++ hex2 byte
 
--- a record of another type, or of another length than its type has, with its whole length
-unfoldable pub other_text : ℕ → List ℕ → List ℕ
-other_text kind content = (word "Record " ++ decimal kind) ++ (word " Length " ++ decimal (length content + 2)) ++ flat_map spaced_byte content
+unfoldable pub other_text : List ℕ → List ℕ
+other_text bytes =
+    (word "Record " ++ decimal (record_kind bytes))
+    ++ (word " Length " ++ decimal (length bytes))
+    ++ flat_map spaced_byte (drop 2 bytes)
 
-unfoldable pub override_text : ℕ → ℕ → List ℕ
-override_text bus source = (word "Override Bus " ++ decimal bus) ++ (word " Source " ++ decimal source)
+-- a record by the table of kinds
+abbrev pub record_text_by : Option Row → List ℕ → List ℕ
+record_text_by None bytes = other_text bytes
+record_text_by (Some r) bytes = r.name ++ flat_map (record_field bytes) r.fields
 
-abbrev pub record_text : MadtRecord (List ℕ) → List ℕ
-record_text (LocalApic uid apic flags) = (word "LocalApic Uid " ++ decimal uid) ++ (word " Apic " ++ decimal apic) ++ (word " Flags " ++ hex8 flags)
-record_text (IoApic id address gsi) = (word "IoApic Id " ++ decimal id) ++ (word " Address " ++ hex8 address) ++ (word " Gsi " ++ decimal gsi)
-record_text (Override bus source gsi flags) = override_text bus source ++ (word " Gsi " ++ decimal gsi) ++ (word " Flags " ++ hex4 flags)
-record_text (NmiSource flags gsi) = (word "NmiSource Flags " ++ hex4 flags) ++ (word " Gsi " ++ decimal gsi)
-record_text (LocalNmi uid flags lint) = (word "LocalNmi Uid " ++ decimal uid) ++ (word " Flags " ++ hex4 flags) ++ (word " Lint " ++ decimal lint)
-record_text (AddressOverride address) = (word "AddressOverride " ++ hex16 address)
-record_text (X2Apic id flags uid) = (word "X2Apic Id " ++ decimal id) ++ (word " Flags " ++ hex8 flags) ++ (word " Uid " ++ decimal uid)
-record_text (X2Nmi flags uid lint) = (word "X2Nmi Flags " ++ hex4 flags) ++ (word " Uid " ++ decimal uid) ++ (word " Lint " ++ decimal lint)
-record_text (Other kind content) = other_text kind content
-
-unfoldable pub record_line : MadtRecord (List ℕ) → List ℕ
-record_line r = below (record_text r)
+unfoldable pub record_line : List ℕ → List ℕ
+record_line bytes = below (record_text_by (row_of bytes) bytes)
 
 unfoldable pub controller_text : List ℕ → List ℕ
 controller_text table = (word "Controller " ++ hex8 (number_at table 36 4)) ++ (word " Flags " ++ hex8 (number_at table 40 4))
@@ -163,7 +171,7 @@ unfoldable pub controller_line : List ℕ → List ℕ
 controller_line table = below (controller_text table)
 
 unfoldable pub record_lines : List ℕ → List ℕ
-record_lines table = flat_map record_line (map meaning_of (records_of table))
+record_lines table = flat_map record_line (records_of table)
 
 unfoldable pub madt_lines : List ℕ → List ℕ
 madt_lines table = controller_line table ++ record_lines table

@@ -1,16 +1,17 @@
 //! The lines below a table: the addresses of an XSDT or an RSDT, and the fields of a FADT.
-ghost use Rattle.std.specs.Prelude.{◌≡◌, option_map};
+ghost use Rattle.std.specs.Prelude.{◌≡◌, ◌≤◌, length, option_map};
 ghost use Rattle.text_writer.specs.Prints.{Prints};
 ghost use Rattle.acpi_tables.specs.Order.{name_of};
-ghost use Rattle.acpi_tables.specs.Fadt.{field_view};
+ghost use Rattle.acpi_tables.specs.Fields.{field_view, IsNarrow};
 ghost use Rattle.acpi_tables.specs.Rsdt.{HoldsRsdt};
 ghost use Rattle.acpi_tables.specs.Xsdt.{HoldsEntries};
-ghost use Rattle.acpi_text.specs.Dumps.{owner_text, owner_of, entry_text, entry_line, entry_lines, rsdt_entry_text, rsdt_entry_line, rsdt_entry_lines, value_text, below, labelled, field_line, fadt_lines};
+ghost use Rattle.acpi_text.specs.Dumps.{owner_text, owner_of, entry_text, entry_line, entry_lines, rsdt_entry_text, rsdt_entry_line, rsdt_entry_lines, below, labelled, field_line, fadt_lines};
 
+use crate::fields::print_labelled;
 use crate::labels::{put_hex8, put_hex16, put_quoted};
 use acpi_tables::{Dump, Rsdt, TableField, Xsdt, dump_at};
 use std::io::Write;
-use text_writer::{Out, print_hex2};
+use text_writer::Out;
 
 /// The name of the dump at an index.
 fn name_at(dumps: &[Dump], index: usize) -> &[u8]
@@ -49,7 +50,7 @@ fn print_entry_text<W: Write>(out: &mut Out<'_, W>, dumps: &[Dump], address: u64
     print_owner(out, dumps, address);
 }
 
-#[tactic(auto, using(text_writer::proofs::PrintLaws::straight), unfolding(crate::specs::Dumps::entry_line, crate::specs::Dumps::below))]
+#[tactic(auto, using(text_writer::proofs::PrintLaws::straight), unfolding(crate::specs::Dumps::entry_line))]
 fn print_entry<W: Write>(out: &mut Out<'_, W>, dumps: &[Dump], address: u64)
     ensures { Prints W.contents out.old out.new (entry_line dumps.now address) }
 {
@@ -76,7 +77,7 @@ fn print_rsdt_entry_text<W: Write>(out: &mut Out<'_, W>, dumps: &[Dump], address
     print_owner(out, dumps, u64::from(address));
 }
 
-#[tactic(auto, using(text_writer::proofs::PrintLaws::straight), unfolding(crate::specs::Dumps::rsdt_entry_line, crate::specs::Dumps::below))]
+#[tactic(auto, using(text_writer::proofs::PrintLaws::straight), unfolding(crate::specs::Dumps::rsdt_entry_line))]
 fn print_rsdt_entry<W: Write>(out: &mut Out<'_, W>, dumps: &[Dump], address: u32)
     ensures { Prints W.contents out.old out.new (rsdt_entry_line dumps.now address) }
 {
@@ -95,41 +96,24 @@ pub fn print_rsdt_entries<W: Write>(out: &mut Out<'_, W>, dumps: &[Dump], table:
     }
 }
 
-/// The bytes of a value, the highest first.
-#[tactic(auto, using(text_writer::proofs::PrintLaws::straight), unfolding(crate::specs::Dumps::value_text))]
-fn print_value<W: Write>(out: &mut Out<'_, W>, bytes: &[u8])
-    ensures { Prints W.contents out.old out.new (value_text bytes.now) }
-{
-    for done in 0..bytes.len() {
-        print_hex2(out, bytes[bytes.len() - 1 - done]);
-    }
-}
-
-#[tactic(auto, using(text_writer::proofs::PrintLaws::straight), unfolding(crate::specs::Dumps::labelled))]
-fn print_labelled<W: Write>(out: &mut Out<'_, W>, label: &[u8], bytes: &[u8])
-    ensures { Prints W.contents out.old out.new (labelled label.now bytes.now) }
-{
-    out.put(label);
-    out.put(b" ");
-    print_value(out, bytes);
-}
-
-#[tactic(auto, using(text_writer::proofs::PrintLaws::straight), unfolding(crate::specs::Dumps::below))]
-fn print_field_line<W: Write>(out: &mut Out<'_, W>, label: &[u8], bytes: &[u8])
-    ensures { Prints W.contents out.old out.new (below (labelled label.now bytes.now)) }
+#[tactic(auto, using(text_writer::proofs::PrintLaws::straight))]
+fn print_field_line<W: Write>(out: &mut Out<'_, W>, field: &TableField, bytes: &[u8])
+    requires narrow { length bytes.now ≤ 8 }
+    ensures { Prints W.contents out.old out.new (below (labelled (field_view field.now) bytes.now)) }
 {
     out.put(b"  ");
-    print_labelled(out, label, bytes);
+    print_labelled(out, field, bytes);
     out.put(b"\n");
 }
 
 /// A field of a FADT, where the table reaches to its end.
 #[tactic(auto, using(text_writer::proofs::PrintLaws::straight), unfolding(crate::specs::Dumps::field_line))]
 fn print_field<W: Write>(out: &mut Out<'_, W>, table: &[u8], field: &TableField)
+    requires narrow { IsNarrow field.now }
     ensures { Prints W.contents out.old out.new (field_line table.now (field_view field.now)) }
 {
     if let Some(bytes) = field.bytes_in(table) {
-        print_field_line(out, field.label.as_bytes(), bytes);
+        print_field_line(out, field, bytes);
     }
 }
 

@@ -19,7 +19,8 @@ use text_writer::Out;
 fn print_if_xsdt<W: Write>(out: &mut Out<'_, W>, dumps: &[Dump], bytes: &[u8])
     requires table { HoldsTable bytes.now }
     requires content { HoldsTables bytes.now }
-    ensures { Prints W.contents out.old out.new (lines_if (has_front bytes.now (codes "XSDT")) (entry_lines dumps.now (front_table bytes.now))) }
+    ensures { Prints W.contents out.old out.new
+        (lines_if (has_front bytes.now (codes "XSDT")) (entry_lines dumps.now (front_table bytes.now))) }
 {
     if begins_with(bytes, b"XSDT") {
         print_entries(out, dumps, table_of(bytes));
@@ -53,7 +54,8 @@ fn print_if_list<W: Write>(out: &mut Out<'_, W>, dumps: &[Dump], bytes: &[u8])
 #[tactic(auto, using(text_writer::proofs::PrintLaws::straight))]
 fn print_if_fadt<W: Write>(out: &mut Out<'_, W>, bytes: &[u8])
     requires table { HoldsTable bytes.now }
-    ensures { Prints W.contents out.old out.new (lines_if (has_front bytes.now (codes "FACP")) (fadt_lines (front_table bytes.now))) }
+    ensures { Prints W.contents out.old out.new
+        (lines_if (has_front bytes.now (codes "FACP")) (fadt_lines (front_table bytes.now))) }
 {
     if begins_with(bytes, b"FACP") {
         print_fadt(out, table_of(bytes));
@@ -65,7 +67,8 @@ fn print_if_fadt<W: Write>(out: &mut Out<'_, W>, bytes: &[u8])
 fn print_if_madt<W: Write>(out: &mut Out<'_, W>, bytes: &[u8])
     requires table { HoldsTable bytes.now }
     requires content { HoldsTables bytes.now }
-    ensures { Prints W.contents out.old out.new (lines_if (has_front bytes.now (codes "APIC")) (madt_lines (front_table bytes.now))) }
+    ensures { Prints W.contents out.old out.new
+        (lines_if (has_front bytes.now (codes "APIC")) (madt_lines (front_table bytes.now))) }
 {
     if begins_with(bytes, b"APIC") {
         print_madt(out, table_of(bytes));

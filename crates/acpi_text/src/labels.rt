@@ -1,10 +1,10 @@
 //! A label, and a value behind it.
 ghost use Rattle.std.specs.Prelude.{◌++◌, decimal};
 ghost use Rattle.text_writer.specs.Prints.{Prints};
-ghost use Rattle.text_writer.specs.Numbers.{hex4, hex8, hex16, quoted};
+ghost use Rattle.text_writer.specs.Numbers.{hex8, hex16, quoted};
 
 use std::io::Write;
-use text_writer::{Out, print_decimal, print_hex4, print_hex8, print_hex16, print_quoted};
+use text_writer::{Out, print_decimal, print_hex8, print_hex16, print_quoted};
 
 /// A label, and a number in decimal digits.
 #[tactic(auto, using(text_writer::proofs::PrintLaws::straight))]
@@ -13,14 +13,6 @@ pub fn put_decimal<W: Write>(out: &mut Out<'_, W>, label: &[u8], value: u64)
 {
     out.put(label);
     print_decimal(out, value);
-}
-
-#[tactic(auto, using(text_writer::proofs::PrintLaws::straight))]
-pub fn put_hex4<W: Write>(out: &mut Out<'_, W>, label: &[u8], value: u16)
-    ensures { Prints W.contents out.old out.new (label.now ++ hex4 value) }
-{
-    out.put(label);
-    print_hex4(out, value);
 }
 
 #[tactic(auto, using(text_writer::proofs::PrintLaws::straight))]

@@ -5,6 +5,7 @@
 
 mod content;
 mod dumps;
+mod fields;
 mod heads;
 mod labels;
 mod records;

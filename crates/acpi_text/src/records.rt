@@ -1,13 +1,58 @@
 //! The lines below a MADT: its two fields, and its records.
-ghost use Rattle.std.specs.Prelude.{◌≤◌, flat_map, length};
+ghost use Rattle.std.specs.Prelude.{◌≤◌, ◌++◌, Some, flat_map, length, map};
+ghost use Rattle.std.specs.List.{All};
 ghost use Rattle.text_writer.specs.Prints.{Prints};
-ghost use Rattle.acpi_tables.specs.Madt.{HoldsMadt, seen_by};
-ghost use Rattle.acpi_text.specs.Dumps.{spaced_byte, other_text, override_text, record_text, record_line, record_lines, controller_text, controller_line, madt_lines};
+ghost use Rattle.text_writer.specs.Words.{word};
+ghost use Rattle.acpi_tables.specs.Fields.{field_view, IsNarrow};
+ghost use Rattle.acpi_tables.specs.Madt.{HoldsMadt};
+ghost use Rattle.acpi_tables.specs.Records.{row_of, row_view};
+ghost use Rattle.acpi_text.specs.Dumps.{labelled, record_field, spaced_byte, other_text, record_text_by, record_line, record_lines, controller_text, controller_line, madt_lines};
 
-use crate::labels::{put_decimal, put_hex4, put_hex8, put_hex16};
-use acpi_tables::{Madt, MadtRecord, MadtView, u32_at};
+use crate::fields::print_labelled;
+use crate::labels::{put_decimal, put_hex8};
+use acpi_tables::{Madt, RecordRow, TableField, u8_at, u32_at};
 use std::io::Write;
 use text_writer::{Out, print_hex2};
+
+/// A field of a record, behind a space.
+#[tactic(auto, using(text_writer::proofs::PrintLaws::straight))]
+fn print_spaced_field<W: Write>(out: &mut Out<'_, W>, field: &TableField, value: &[u8])
+    requires narrow { length value.now ≤ 8 }
+    ensures { Prints W.contents out.old out.new (word " " ++ labelled (field_view field.now) value.now) }
+{
+    out.put(b" ");
+    print_labelled(out, field, value);
+}
+
+#[tactic(auto, using(text_writer::proofs::PrintLaws::straight), unfolding(crate::specs::Dumps::record_field))]
+fn print_record_field<W: Write>(out: &mut Out<'_, W>, bytes: &[u8], field: &TableField)
+    requires narrow { IsNarrow field.now }
+    ensures { Prints W.contents out.old out.new (record_field bytes.now (field_view field.now)) }
+{
+    if let Some(value) = field.bytes_in(bytes) {
+        print_spaced_field(out, field, value);
+    }
+}
+
+#[tactic(auto, using(text_writer::proofs::PrintLaws::straight))]
+fn print_record_fields<W: Write>(out: &mut Out<'_, W>, bytes: &[u8], fields: &[TableField])
+    requires narrow { All IsNarrow fields.now }
+    ensures { Prints W.contents out.old out.new (flat_map (record_field bytes.now) (map field_view fields.now)) }
+{
+    for field in fields {
+        print_record_field(out, bytes, field);
+    }
+}
+
+/// A record of this kind.
+#[tactic(auto, using(text_writer::proofs::PrintLaws::straight))]
+fn print_known<W: Write>(out: &mut Out<'_, W>, bytes: &[u8], row: &RecordRow)
+    requires narrow { All IsNarrow row.now.fields.now }
+    ensures { Prints W.contents out.old out.new (record_text_by (Some (row_view row.now)) bytes.now) }
+{
+    out.put(row.name.as_bytes());
+    print_record_fields(out, bytes, row.fields);
+}
 
 #[tactic(auto, using(text_writer::proofs::PrintLaws::straight), unfolding(crate::specs::Dumps::spaced_byte))]
 fn print_spaced<W: Write>(out: &mut Out<'_, W>, byte: u8)
@@ -26,120 +71,36 @@ fn print_content<W: Write>(out: &mut Out<'_, W>, content: &[u8])
     }
 }
 
-/// A record of another type, or of another length than its type has.
+/// A record of no known type and length.
 #[tactic(auto, using(text_writer::proofs::PrintLaws::straight), unfolding(crate::specs::Dumps::other_text))]
-fn print_other<W: Write>(out: &mut Out<'_, W>, kind: u8, content: &[u8])
-    ensures { Prints W.contents out.old out.new (other_text kind content.now) }
+fn print_other<W: Write>(out: &mut Out<'_, W>, bytes: &[u8])
+    requires header { 2 ≤ length bytes.now }
+    ensures { Prints W.contents out.old out.new (other_text bytes.now) }
 {
-    put_decimal(out, b"Record ", kind as u64);
-    put_decimal(out, b" Length ", content.len() as u64 + 2);
-    print_content(out, content);
+    put_decimal(out, b"Record ", u64::from(u8_at(bytes, 0)));
+    put_decimal(out, b" Length ", bytes.len() as u64);
+    print_content(out, &bytes[2..]);
 }
 
-#[tactic(auto, using(text_writer::proofs::PrintLaws::straight), unfolding(crate::specs::Dumps::override_text))]
-fn print_override_source<W: Write>(out: &mut Out<'_, W>, bus: u8, source: u8)
-    ensures { Prints W.contents out.old out.new (override_text bus source) }
-{
-    put_decimal(out, b"Override Bus ", bus as u64);
-    put_decimal(out, b" Source ", source as u64);
-}
-
+/// A record by the table of kinds.
 #[tactic(auto, using(text_writer::proofs::PrintLaws::straight))]
-fn print_local_apic<W: Write>(out: &mut Out<'_, W>, uid: u8, apic: u8, flags: u32)
-    ensures { Prints W.contents out.old out.new (record_text (MadtRecord.LocalApic uid apic flags)) }
+fn print_record<W: Write>(out: &mut Out<'_, W>, bytes: &[u8])
+    requires header { 2 ≤ length bytes.now }
+    ensures { Prints W.contents out.old out.new (record_text_by (row_of bytes.now) bytes.now) }
 {
-    put_decimal(out, b"LocalApic Uid ", uid as u64);
-    put_decimal(out, b" Apic ", apic as u64);
-    put_hex8(out, b" Flags ", flags);
-}
-
-#[tactic(auto, using(text_writer::proofs::PrintLaws::straight))]
-fn print_io_apic<W: Write>(out: &mut Out<'_, W>, id: u8, address: u32, gsi: u32)
-    ensures { Prints W.contents out.old out.new (record_text (MadtRecord.IoApic id address gsi)) }
-{
-    put_decimal(out, b"IoApic Id ", id as u64);
-    put_hex8(out, b" Address ", address);
-    put_decimal(out, b" Gsi ", gsi as u64);
-}
-
-#[tactic(auto, using(text_writer::proofs::PrintLaws::straight))]
-fn print_override<W: Write>(out: &mut Out<'_, W>, bus: u8, source: u8, gsi: u32, flags: u16)
-    ensures { Prints W.contents out.old out.new (record_text (MadtRecord.Override bus source gsi flags)) }
-{
-    print_override_source(out, bus, source);
-    put_decimal(out, b" Gsi ", gsi as u64);
-    put_hex4(out, b" Flags ", flags);
-}
-
-#[tactic(auto, using(text_writer::proofs::PrintLaws::straight))]
-fn print_nmi_source<W: Write>(out: &mut Out<'_, W>, flags: u16, gsi: u32)
-    ensures { Prints W.contents out.old out.new (record_text (MadtRecord.NmiSource flags gsi)) }
-{
-    put_hex4(out, b"NmiSource Flags ", flags);
-    put_decimal(out, b" Gsi ", gsi as u64);
-}
-
-#[tactic(auto, using(text_writer::proofs::PrintLaws::straight))]
-fn print_local_nmi<W: Write>(out: &mut Out<'_, W>, uid: u8, flags: u16, lint: u8)
-    ensures { Prints W.contents out.old out.new (record_text (MadtRecord.LocalNmi uid flags lint)) }
-{
-    put_decimal(out, b"LocalNmi Uid ", uid as u64);
-    put_hex4(out, b" Flags ", flags);
-    put_decimal(out, b" Lint ", lint as u64);
-}
-
-#[tactic(auto, using(text_writer::proofs::PrintLaws::straight))]
-fn print_x2apic<W: Write>(out: &mut Out<'_, W>, id: u32, flags: u32, uid: u32)
-    ensures { Prints W.contents out.old out.new (record_text (MadtRecord.X2Apic id flags uid)) }
-{
-    put_decimal(out, b"X2Apic Id ", id as u64);
-    put_hex8(out, b" Flags ", flags);
-    put_decimal(out, b" Uid ", uid as u64);
-}
-
-#[tactic(auto, using(text_writer::proofs::PrintLaws::straight))]
-fn print_x2nmi<W: Write>(out: &mut Out<'_, W>, flags: u16, uid: u32, lint: u8)
-    ensures { Prints W.contents out.old out.new (record_text (MadtRecord.X2Nmi flags uid lint)) }
-{
-    put_hex4(out, b"X2Nmi Flags ", flags);
-    put_decimal(out, b" Uid ", uid as u64);
-    put_decimal(out, b" Lint ", lint as u64);
-}
-
-fn print_address_override<W: Write>(out: &mut Out<'_, W>, address: u64)
-    ensures { Prints W.contents out.old out.new (record_text (MadtRecord.AddressOverride address)) }
-{
-    put_hex16(out, b"AddressOverride ", address);
-}
-
-/// A record of a MADT on one line.
-fn print_record<W: Write>(out: &mut Out<'_, W>, view: &MadtView<'_>)
-    ensures { Prints W.contents out.old out.new (record_text (seen_by (λ content. content.now) view.now)) }
-{
-    match *view {
-        MadtRecord::LocalApic { uid, apic, flags } => print_local_apic(out, uid, apic, flags),
-        MadtRecord::IoApic { id, address, gsi } => print_io_apic(out, id, address, gsi),
-        MadtRecord::Override {
-            bus,
-            source,
-            gsi,
-            flags,
-        } => print_override(out, bus, source, gsi, flags),
-        MadtRecord::NmiSource { flags, gsi } => print_nmi_source(out, flags, gsi),
-        MadtRecord::LocalNmi { uid, flags, lint } => print_local_nmi(out, uid, flags, lint),
-        MadtRecord::X2Apic { id, flags, uid } => print_x2apic(out, id, flags, uid),
-        MadtRecord::X2Nmi { flags, uid, lint } => print_x2nmi(out, flags, uid, lint),
-        MadtRecord::AddressOverride { address } => print_address_override(out, address),
-        MadtRecord::Other { kind, content } => print_other(out, kind, content),
+    match RecordRow::of_record(bytes) {
+        Some(row) => print_known(out, bytes, row),
+        None => print_other(out, bytes),
     }
 }
 
-#[tactic(auto, using(text_writer::proofs::PrintLaws::straight), unfolding(crate::specs::Dumps::record_line, crate::specs::Dumps::below))]
-fn print_record_line<W: Write>(out: &mut Out<'_, W>, view: &MadtView<'_>)
-    ensures { Prints W.contents out.old out.new (record_line (seen_by (λ content. content.now) view.now)) }
+#[tactic(auto, using(text_writer::proofs::PrintLaws::straight), unfolding(crate::specs::Dumps::record_line))]
+fn print_record_line<W: Write>(out: &mut Out<'_, W>, bytes: &[u8])
+    requires header { 2 ≤ length bytes.now }
+    ensures { Prints W.contents out.old out.new (record_line bytes.now) }
 {
     out.put(b"  ");
-    print_record(out, view);
+    print_record(out, bytes);
     out.put(b"\n");
 }
 
@@ -152,7 +113,7 @@ fn print_controller<W: Write>(out: &mut Out<'_, W>, table: &[u8])
     put_hex8(out, b" Flags ", u32_at(table, 40));
 }
 
-#[tactic(auto, using(text_writer::proofs::PrintLaws::straight), unfolding(crate::specs::Dumps::controller_line, crate::specs::Dumps::below))]
+#[tactic(auto, using(text_writer::proofs::PrintLaws::straight), unfolding(crate::specs::Dumps::controller_line))]
 fn print_controller_line<W: Write>(out: &mut Out<'_, W>, table: &[u8])
     requires fields { 44 ≤ length table.now }
     ensures { Prints W.contents out.old out.new (controller_line table.now) }
@@ -169,11 +130,11 @@ fn print_records<W: Write>(out: &mut Out<'_, W>, table: &[u8])
 {
     let mut at = 44;
     while at < table.len() {
-        let Some((record, end)) = Madt::record_at(table, at) else {
+        let Some(bytes) = Madt::record_bytes(table, at) else {
             return;
         };
-        print_record_line(out, &record);
-        at = end;
+        print_record_line(out, bytes);
+        at += bytes.len();
     }
 }
 

@@ -1,4 +1,4 @@
-use Rattle.acpi_tables.specs.Fadt.{value_in}
+use Rattle.acpi_tables.specs.Fields.{value_in}
 use Rattle.acpi_tables.proofs.FadtFields.{map-value_in-fadt_fields}
 use Rattle.acpi_tables.proofs.fadt.Fadt.read.Goals as goal
 

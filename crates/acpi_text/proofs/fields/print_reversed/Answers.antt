@@ -4,7 +4,7 @@ use Rattle.std.proofs.lemmas.List.{get_or-reverse, length-reverse}
 use Rattle.std.proofs.lemmas.Grind.{get_or_default_zero}
 use Rattle.text_writer.specs.Numbers.{hex2}
 use Rattle.text_writer.proofs.PrintLaws.{prints_turn}
-use Rattle.acpi_text.proofs.content.print_value.Goals as goal
+use Rattle.acpi_text.proofs.fields.print_reversed.Goals as goal
 
 pub loop-done-preserved : goal.loop-done-preserved
 loop-done-preserved g c =

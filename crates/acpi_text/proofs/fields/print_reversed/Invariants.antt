@@ -1,7 +1,7 @@
 use Rattle.std.proofs.Common.{take, flat_map, reverse}
 use Rattle.text_writer.specs.Prints.{Prints}
 use Rattle.text_writer.specs.Numbers.{hex2}
-use Rattle.acpi_text.proofs.content.print_value.Given as goal
+use Rattle.acpi_text.proofs.fields.print_reversed.Given as goal
 
 abbrev pub invariant-loop-done : goal.invariant-loop-done
 invariant-loop-done g l = Prints g.W.Write.contents l.initial.out l.out (flat_map hex2 (take l.done (reverse l.bytes)))

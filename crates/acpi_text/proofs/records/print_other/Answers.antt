@@ -1,0 +1,15 @@
+use Rattle.std.proofs.Common.{◌≡◌, ◌-◌, length, take, drop, length-drop, arith}
+use Rattle.std.proofs.lemmas.List.{take_all}
+use Rattle.text_writer.specs.Words.{word}
+use Rattle.text_writer.proofs.PrintLaws.{prints_then}
+use Rattle.acpi_text.specs.Dumps.{other_text}
+use Rattle.acpi_text.proofs.records.print_other.Goals as goal
+
+pub returns : goal.returns
+unfolding word other_text
+returns g c =
+    let bytes = c.args.bytes.now in
+    let rest : take (length bytes - 2) (drop 2 bytes) ≡ drop 2 bytes = take_all _ _ (omega (arith, length-drop 2 bytes)) in
+    let kind = rw (c.from.ensures, c.u8_at.ensures) at c.put_decimal.ensures in
+    let content = rw rest at c.print_content.ensures in
+    prints_then _ _ _ _ _ _ (prints_then _ _ _ _ _ _ kind c.put_decimal-2.ensures) content
