@@ -7,8 +7,8 @@ use std::{fs, io};
 
 /// A folder of the operating system, by its path. What it has isn't known, so that it may answer anything.
 ///
-/// Its files are the regular files directly in it. Folders, links and all else are passed over. The listing fails where the
-/// folder can't be read, or where a name in it isn't UTF-8, whatever bears it.
+/// Its files are the regular files directly in it. Folders, links and all else are passed over. The listing fails where
+/// the folder can't be read, or where a name in it isn't UTF-8, whatever bears it.
 #[derive(Clone, Copy)]
 pub struct DiskFolder<'a> {
     rt: &'a HostRuntime,

@@ -2,7 +2,8 @@
 ghost use Rattle.std.specs.Prelude.{◌≡◌, ◌⊎◌, List, MatchOption, IfOk, IfErr};
 ghost use Rattle.acpi_folder.specs.declared.externals.ExternalsFault.TheVariants.{NoMemory};
 ghost use Rattle.acpi_folder.specs.Map.{lines_of};
-ghost use Rattle.acpi_folder.specs.Externals.{AreGiven, AreGiving, Gives, IsGiving, IsPrinted, BeginsWith, BeginsWithNone, RefusesExternals};
+ghost use Rattle.acpi_folder.specs.Externals.{AreGiven, AreGiving, Gives, IsGiving, IsPrinted};
+ghost use Rattle.acpi_folder.specs.Externals.{BeginsWith, BeginsWithNone, RefusesExternals};
 
 use crate::lines::first_line;
 use aml_names::{CodeFault, Path, Seg, segment_of};
@@ -38,13 +39,14 @@ impl<T: Drop> From<AllocFailed<T>> for ExternalsFault {
 
 /// The path and the number of arguments of each line of a file of counts, in their order.
 ///
-/// A line is a path as the listing prints it (`\` and its segments, joined by `.`), one space and a digit from 0 to 7: as
-/// many arguments as a method takes at most (ACPI 6.5, 20.2.5.2). The path isn't the root, and each segment is a NameSeg
-/// (20.2.2). The byte 0A ends a line; the last may go without. A path may come twice, and an empty text gives nothing.
+/// A line is a path as the listing prints it (`\` and its segments, joined by `.`), one space and a digit from 0 to 7:
+/// as many arguments as a method takes at most (ACPI 6.5, 20.2.5.2). The path isn't the root, and each segment is a
+/// NameSeg (20.2.2). The byte 0A ends a line; the last may go without. A path may come twice, and an empty text gives
+/// nothing.
 ///
 /// # Errors
-/// `ExternalsFault::BadLine` with the number of the first line, from 1, that hasn't this form. `ExternalsFault::NoMemory`
-/// where a growth was refused.
+/// `ExternalsFault::BadLine` with the number of the first line, from 1, that hasn't this form.
+/// `ExternalsFault::NoMemory` where a growth was refused.
 pub fn parse_externals(alloc: Global, text: &[u8]) -> Result<Vec<(Path, u8)>, ExternalsFault>
     ensures lines { IfOk result (λ given. AreGiven (lines_of text.now) given.items) }
 

@@ -1,9 +1,12 @@
 //! The dumps of a folder: its files, and the addresses that its map gives them.
-ghost use Rattle.std.specs.Prelude.{◌≡◌, ◌⊎◌, true, not, None, map, filter, zip, string_bytes, string_cmp, IsPermutation, IsSorted, IfOk, IfErr};
+ghost use Rattle.std.specs.Prelude.{◌≡◌, ◌⊎◌, true, not, None, map, filter, zip, string_bytes};
+ghost use Rattle.std.specs.Prelude.{string_cmp, IsPermutation, IsSorted, IfOk, IfErr};
 ghost use Rattle.std.specs.List.{list_any};
 ghost use Rattle.acpi_folder.specs.declared.gathering.GatherFault.TheVariants.{NoMemory};
 ghost use Rattle.acpi_folder.specs.Map.{HoldsMap, addresses_of};
-ghost use Rattle.acpi_folder.specs.Folders.{Answers, IsWithin, Reads, IsListing, AreRead, AreAddresses, AreGathered, RefusesFolder, StopsBy, FailsAt, FailsAtMap, is_map as is_map_name, read_limit, name_of, bytes_of};
+ghost use Rattle.acpi_folder.specs.Folders.{Answers, IsWithin, Reads, IsListing, AreRead, AreAddresses};
+ghost use Rattle.acpi_folder.specs.Folders.{AreGathered, RefusesFolder, StopsBy, FailsAt, FailsAtMap};
+ghost use Rattle.acpi_folder.specs.Folders.{is_map as is_map_name, read_limit, name_of, bytes_of};
 
 use crate::folder::{Folder, FolderFault};
 use crate::map::{MapFault, parse_map};
@@ -85,9 +88,9 @@ struct Listing {
 /// They are its files except `tables.map`, each with its first 16,777,217 bytes.
 ///
 /// # Errors
-/// The first fault that is met: the listing (`GatherFault::Folder`), the number of dumps (`GatherFault::TooManyTables`), the
-/// files in their order (`GatherFault::File`), the map (`GatherFault::File`, `GatherFault::Map`). `GatherFault::NoMemory`
-/// where a growth was refused.
+/// The first fault that is met: the listing (`GatherFault::Folder`), the number of dumps
+/// (`GatherFault::TooManyTables`), the files in their order (`GatherFault::File`), the map (`GatherFault::File`,
+/// `GatherFault::Map`). `GatherFault::NoMemory` where a growth was refused.
 pub fn gather<F: Folder>(alloc: Global, folder: &mut F) -> Result<Vec<Dump>, GatherFault>
     ensures gathered { IfOk result (λ dumps. AreGathered (F.answers folder.old) dumps.items) }
     ensures refused { IfErr result (RefusesFolder (F.answers folder.old)) }
@@ -237,7 +240,8 @@ fn dumps_of(
     files: Vec<Vec<u8>>,
     addresses: Vec<Option<u64>>,
 ) -> Result<Vec<Dump>, AllocError>
-    ensures { IfOk result (λ dumps. dumps.items ≡ map (λ parts. record { name = parts.0.0; address = parts.1; bytes = parts.0.1 })
+    ensures { IfOk result (λ dumps. dumps.items
+        ≡ map (λ parts. record { name = parts.0.0; address = parts.1; bytes = parts.0.1 })
         (zip (zip names.items files.items) addresses.items)) }
 {
     names

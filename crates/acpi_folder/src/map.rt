@@ -1,9 +1,12 @@
 //! The file `tables.map` of a folder: the physical address at which each table stood.
-ghost use Rattle.std.specs.Prelude.{◌≡◌, ◌⊎◌, ◌+◌, ◌<◌, ◌∷◌, [], true, false, None, Some, MatchOption, OnOk, IfOk, IfErr, map, find, option_map, length, string_bytes};
+ghost use Rattle.std.specs.Prelude.{◌≡◌, ◌⊎◌, ◌+◌, ◌<◌, ◌∷◌, [], true, false, None, Some, MatchOption};
+ghost use Rattle.std.specs.Prelude.{OnOk, IfOk, IfErr, map, find, option_map, length, string_bytes};
 ghost use Rattle.std.specs.List.{list_any, list_all};
 ghost use Rattle.std.specs.Str.{bytes_eq};
 ghost use Rattle.acpi_folder.specs.declared.map.MapFault.TheVariants.{NoMemory};
-ghost use Rattle.acpi_folder.specs.Map.{lines_of, is_hex_digit, hex_value, hex_number, IsLine, entry_of, shown_by, is_listed, repeats, address_in, addresses_of, HoldsMap, HasFault, RefusesMap, numbered_by};
+ghost use Rattle.acpi_folder.specs.Map.{lines_of, is_hex_digit, hex_value, hex_number, IsLine};
+ghost use Rattle.acpi_folder.specs.Map.{entry_of, shown_by, is_listed, repeats, address_in};
+ghost use Rattle.acpi_folder.specs.Map.{addresses_of, HoldsMap, HasFault, RefusesMap, numbered_by};
 
 use crate::lines::first_line;
 use std::alloc::{AllocError, AllocFailed, Global};

@@ -2,8 +2,8 @@
 use std::fmt;
 use std::fmt::Write;
 
-/// Displays as a text in double quotes, where each byte that isn't printable ASCII, and `"` and `\`, is `\x` and its two
-/// hexadecimal digits.
+/// Displays as a text in double quotes, where each byte that isn't printable ASCII, and `"` and `\`, is `\x` and its
+/// two hexadecimal digits.
 #[derive(Clone, Copy)]
 pub struct Quoted<'a>(pub &'a str);
 

@@ -1,18 +1,22 @@
 //! The order of the definition blocks where addresses lead from the RSDP over the XSDT or RSDT and the FADT to a DSDT.
-ghost use Rattle.std.specs.Prelude.{◌≡◌, ◌⊎◌, ℕ, List, None, true, false, length, filter, filter_map, find, codes, IfOk, IfErr};
+ghost use Rattle.std.specs.Prelude.{◌≡◌, ◌⊎◌, ℕ, List, None, true, false, length};
+ghost use Rattle.std.specs.Prelude.{filter, filter_map, find, codes, IfOk, IfErr};
 ghost use Rattle.acpi_tables.specs.Bytes.{begins_with as has_front};
 ghost use Rattle.acpi_tables.specs.Header.{HoldsTable, table_of};
 ghost use Rattle.acpi_tables.specs.Rsdp.{HoldsRoot};
 ghost use Rattle.acpi_tables.specs.Rsdt.{HoldsRsdt, rsdt_entries};
 ghost use Rattle.acpi_tables.specs.Xsdt.{HoldsEntries, entries_of};
 ghost use Rattle.acpi_tables.specs.Fadt.{HoldsFadt};
-ghost use Rattle.acpi_tables.specs.Order.{AreTaken, IsChained, RefusesOrder, bytes_of, dump_at, signed_at, root_of, gives_xsdt, list_of, listed_by, dsdt_address, each_once, has_signature, is_addressed};
+ghost use Rattle.acpi_tables.specs.Order.{AreTaken, IsChained, RefusesOrder, bytes_of, dump_at};
+ghost use Rattle.acpi_tables.specs.Order.{signed_at, root_of, gives_xsdt, list_of, listed_by};
+ghost use Rattle.acpi_tables.specs.Order.{dsdt_address, each_once, has_signature, is_addressed};
 ghost use Rattle.acpi_tables.specs.declared.fault.Bad.TheVariants.{NoMemory};
 
 use crate::bytes::{begins_with, u8_at, u32_at, u64_at};
 use crate::dump::{Dump, table_of};
-use crate::fadt::Fadt;
+use crate::fadt::X_DSDT_END;
 use crate::fault::{Bad, TableFault};
+use crate::header::HEADER_LENGTH;
 use crate::order::Order;
 use crate::rsdp::RSDP_SIGNATURE;
 use crate::rsdt::Rsdt;
@@ -135,7 +139,7 @@ fn listed_by_xsdt(alloc: Global, dumps: &[Dump], table: &[u8]) -> Result<Vec<usi
 {
     let mut listed = Vec::new(alloc);
     for index in 0..Xsdt::entry_count(table) {
-        if let Some(dump) = dump_at(dumps, u64_at(table, 36 + 8 * index)) {
+        if let Some(dump) = dump_at(dumps, u64_at(table, HEADER_LENGTH + 8 * index)) {
             listed.push(dump)?;
         }
     }
@@ -149,7 +153,7 @@ fn listed_by_rsdt(alloc: Global, dumps: &[Dump], table: &[u8]) -> Result<Vec<usi
 {
     let mut listed = Vec::new(alloc);
     for index in 0..Rsdt::entry_count(table) {
-        if let Some(dump) = dump_at(dumps, u64::from(u32_at(table, 36 + 4 * index))) {
+        if let Some(dump) = dump_at(dumps, u64::from(u32_at(table, HEADER_LENGTH + 4 * index))) {
             listed.push(dump)?;
         }
     }
@@ -171,7 +175,7 @@ fn dsdt_address(table: &[u8]) -> u64
     requires { HoldsFadt table.now }
     ensures { result ≡ dsdt_address table.now }
 {
-    if table.len() >= 148 {
+    if table.len() >= X_DSDT_END {
         let address = u64_at(table, 140);
         if address != 0 {
             return address;

@@ -3,7 +3,8 @@ ghost use Rattle.std.specs.Prelude.{◌≡◌, false, OnOk, IfErr};
 ghost use Rattle.acpi_tables.specs.Bytes.{HasLength, checksum};
 ghost use Rattle.acpi_tables.specs.Header.{HoldsTable, table_of};
 ghost use Rattle.acpi_tables.specs.Rsdp.{HoldsRoot, RootSums};
-ghost use Rattle.acpi_tables.specs.Dumps.{kind_of, HoldsDump, HoldsTables, RefusesDump, RefusesRoot, RefusesFacs, RefusesContent, RefusesTable};
+ghost use Rattle.acpi_tables.specs.Dumps.{kind_of, HoldsDump, HoldsTables, RefusesDump};
+ghost use Rattle.acpi_tables.specs.Dumps.{RefusesRoot, RefusesFacs, RefusesContent, RefusesTable};
 
 use crate::bytes::{begins_with, sum, u32_at};
 use crate::fadt::Fadt;

@@ -5,6 +5,12 @@ ghost use Rattle.acpi_tables.specs.declared.fault.Bad.TheVariants.{FadtShort};
 use crate::bytes::{u8_at, u16_at, u32_at, u64_at};
 use crate::fault::Bad;
 
+/// Where Flags ends, the last field of the FADT of ACPI 1.0.
+const FLAGS_END: usize = 116;
+
+/// Where X_DSDT ends.
+pub(crate) const X_DSDT_END: usize = 148;
+
 /// Fields of a Fixed ACPI Description Table, each named as in the standard, shortened.
 #[derive(Clone, Copy)]
 pub struct Fadt {
@@ -55,7 +61,7 @@ impl Fadt {
         ensures short { IfErr result (λ bad. bad ≡ FadtShort) }
         ensures fields { IfOk result (λ fadt. fadt_values fadt ≡ map (value_in table.now) fadt_fields) }
     {
-        if table.len() < 116 {
+        if table.len() < FLAGS_END {
             return Err(Bad::FadtShort);
         }
         Ok(Fadt {

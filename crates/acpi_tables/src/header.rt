@@ -5,7 +5,10 @@ ghost use Rattle.acpi_tables.specs.declared.fault.Bad.TheVariants.{Short};
 use crate::bytes::{array_at, u8_at, u32_at};
 use crate::fault::Bad;
 
-/// The fields of a System Description Table Header, which has 36 bytes.
+/// The bytes of a System Description Table Header.
+pub const HEADER_LENGTH: usize = 36;
+
+/// The fields of a System Description Table Header.
 #[derive(Clone, Copy)]
 pub struct Header {
     /// At offset 0.
@@ -40,11 +43,11 @@ impl Header {
         ensures short { IfErr result (λ bad. bad ≡ Short) }
         ensures fields { IfOk result (λ header. header ≡ header_of bytes.now) }
     {
-        if bytes.len() < 36 {
+        if bytes.len() < HEADER_LENGTH {
             return Err(Bad::Short);
         }
         let length = u32_at(bytes, 4);
-        if length < 36 || bytes.len() < length as usize {
+        if (length as usize) < HEADER_LENGTH || bytes.len() < length as usize {
             return Err(Bad::Short);
         }
         Ok(Header {

@@ -1,13 +1,17 @@
 //! The table of interrupt controllers (ACPI 6.5, section 5.2.12).
 ghost use Rattle.std.specs.Prelude.{◌≡◌, ◌⊎◌, ◌↔◌, ◌+◌, ◌<◌, ◌≤◌, ℕ, length, map, IsSome, IfSome, IfOk, IfErr, OnOk};
 ghost use Rattle.acpi_tables.specs.Bytes.{number_at};
-ghost use Rattle.acpi_tables.specs.Madt.{HoldsRecord, HoldsMadt, meaning_of, record_values, row_values, seen_by, record_bytes_at, record_end, records_of, RefusesMadt};
+ghost use Rattle.acpi_tables.specs.Madt.{HoldsRecord, HoldsMadt, meaning_of, record_values, row_values};
+ghost use Rattle.acpi_tables.specs.Madt.{seen_by, record_bytes_at, record_end, records_of, RefusesMadt};
 ghost use Rattle.acpi_tables.specs.declared.fault.Bad.{Bad};
 ghost use Rattle.acpi_tables.specs.declared.fault.Bad.TheVariants.{NoMemory};
 
 use crate::bytes::{u8_at, u16_at, u32_at, u64_at};
 use crate::fault::Bad;
 use std::alloc::{AllocError, Global};
+
+/// Where the records begin, behind the header and two fields.
+pub const MADT_RECORDS: usize = 44;
 
 /// The fields and the records of a Multiple APIC Description Table.
 #[derive(Drop)]
@@ -16,7 +20,7 @@ pub struct Madt {
     pub controller: u32,
     /// At offset 40.
     pub flags: u32,
-    /// The records, which begin at offset 44.
+    /// The records, which begin at offset [`MADT_RECORDS`].
     pub records: Vec<MadtRecord>,
 }
 
@@ -184,11 +188,11 @@ impl Madt {
         ensures refused { IfErr result (λ bad. (bad ≡ NoMemory) ⊎ RefusesMadt table.now bad) }
         ensures exact { OnOk result ((bad : Bad) → ¬ RefusesMadt table.now bad) }
     {
-        if table.len() < 44 {
+        if table.len() < MADT_RECORDS {
             return Err(Bad::Short);
         }
         let mut records = Vec::new(alloc);
-        let mut at = 44;
+        let mut at = MADT_RECORDS;
         while at < table.len() {
             let Some((view, end)) = Madt::record_at(table, at) else {
                 return Err(Bad::MadtRecord(at));
@@ -208,10 +212,10 @@ impl Madt {
         ensures holds { OnOk result (HoldsMadt table.now) }
         ensures refused { IfErr result (RefusesMadt table.now) }
     {
-        if table.len() < 44 {
+        if table.len() < MADT_RECORDS {
             return Err(Bad::Short);
         }
-        let mut at = 44;
+        let mut at = MADT_RECORDS;
         while at < table.len() {
             let Some(bytes) = Madt::record_bytes(table, at) else {
                 return Err(Bad::MadtRecord(at));
@@ -243,7 +247,7 @@ impl Madt {
         ensures bytes { IfSome result (λ bytes. bytes.now ≡ record_bytes_at table.now at) }
         ensures end { IfSome result (λ bytes. at + length bytes.now ≡ record_end table.now at) }
     {
-        if at < 44 || table.len() < 2 || at > table.len() - 2 {
+        if at < MADT_RECORDS || table.len() < 2 || at > table.len() - 2 {
             return None;
         }
         let long = usize::from(u8_at(table, at + 1));

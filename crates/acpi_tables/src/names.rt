@@ -1,6 +1,8 @@
 //! The order of the definition blocks where no addresses are known, and the names of the files decide.
-ghost use Rattle.std.specs.Prelude.{◌≡◌, ◌⊎◌, ◌<◌, ◌^◌, None, false, take, reverse, take_while, IfOk, IfErr, IsPermutation, IsSorted};
-ghost use Rattle.acpi_tables.specs.Order.{IsNamed, RefusesOrder, indexes_with, name_of, rank_cmp, stem_of, ending_number, decimal_of, is_digit, is_addressed};
+ghost use Rattle.std.specs.Prelude.{◌≡◌, ◌⊎◌, ◌<◌, ◌^◌, None, false, take, reverse};
+ghost use Rattle.std.specs.Prelude.{take_while, IfOk, IfErr, IsPermutation, IsSorted};
+ghost use Rattle.acpi_tables.specs.Order.{IsNamed, RefusesOrder, indexes_with, name_of, rank_cmp};
+ghost use Rattle.acpi_tables.specs.Order.{stem_of, ending_number, decimal_of, is_digit, is_addressed};
 ghost use Rattle.acpi_tables.specs.declared.fault.Bad.TheVariants.{NoMemory};
 
 use crate::dump::Dump;

@@ -8,6 +8,12 @@ use crate::fault::Bad;
 /// The bytes that every RSDP begins with.
 pub const RSDP_SIGNATURE: [u8; 8] = *b"RSD PTR ";
 
+/// The bytes of an RSDP before revision 2.
+const FIRST_LENGTH: usize = 20;
+
+/// The bytes of an RSDP from revision 2 on, at least.
+const EXTENDED_LENGTH: usize = 36;
+
 /// The fields of a Root System Description Pointer, but for its signature and its checksums.
 #[derive(Clone, Copy)]
 pub struct Rsdp {
@@ -43,7 +49,7 @@ impl Rsdp {
         ensures bad_root { IfErr result (λ bad. bad ≡ BadRoot) }
         ensures fields { IfOk result (λ rsdp. rsdp ≡ rsdp_of bytes.now) }
     {
-        if !begins_with(bytes, &RSDP_SIGNATURE) || bytes.len() < 20 {
+        if !begins_with(bytes, &RSDP_SIGNATURE) || bytes.len() < FIRST_LENGTH {
             return Err(Bad::BadRoot);
         }
         let revision = u8_at(bytes, 15);
@@ -66,7 +72,7 @@ impl Rsdp {
         requires { HoldsRoot bytes.now }
         ensures { IsTrue result ↔ RootSums bytes.now }
     {
-        sum(&bytes[..20]) == 0
+        sum(&bytes[..FIRST_LENGTH]) == 0
             && (u8_at(bytes, 15) < 2 || sum(&bytes[..u32_at(bytes, 20) as usize]) == 0)
     }
 }
@@ -80,11 +86,11 @@ impl Wide {
         ensures bad_root { IfErr result (λ bad. bad ≡ BadRoot) }
         ensures fields { IfOk result (λ wide. wide ≡ wide_of bytes.now) }
     {
-        if bytes.len() < 36 {
+        if bytes.len() < EXTENDED_LENGTH {
             return Err(Bad::BadRoot);
         }
         let length = u32_at(bytes, 20);
-        if length < 36 || bytes.len() < length as usize {
+        if (length as usize) < EXTENDED_LENGTH || bytes.len() < length as usize {
             return Err(Bad::BadRoot);
         }
         Ok(Wide {

@@ -5,6 +5,7 @@ ghost use Rattle.acpi_tables.specs.declared.fault.Bad.TheVariants.{BadRoot, NoMe
 
 use crate::bytes::u32_at;
 use crate::fault::Bad;
+use crate::header::HEADER_LENGTH;
 use std::alloc::Global;
 
 /// The readers of a Root System Description Table.
@@ -26,7 +27,7 @@ impl Rsdt {
         let count = Rsdt::entry_count(table);
         let mut entries = Vec::with_capacity(alloc, count)?;
         for index in 0..count {
-            entries.push(u64::from(u32_at(table, 36 + 4 * index)))?;
+            entries.push(u64::from(u32_at(table, HEADER_LENGTH + 4 * index)))?;
         }
         Ok(entries)
     }
@@ -38,7 +39,7 @@ impl Rsdt {
         if !Rsdt::holds_entries(table) || index >= Rsdt::entry_count(table) {
             return None;
         }
-        Some(u64::from(u32_at(table, 36 + 4 * index)))
+        Some(u64::from(u32_at(table, HEADER_LENGTH + 4 * index)))
     }
 
     /// The address at this index of a table that `entries` takes.
@@ -47,14 +48,14 @@ impl Rsdt {
         requires inside { index < rsdt_count table.now }
         ensures { slice_get (rsdt_entries table.now) index ≡ Some result }
     {
-        u32_at(table, 36 + 4 * index)
+        u32_at(table, HEADER_LENGTH + 4 * index)
     }
 
     /// Whether `entries` takes this table.
     pub fn holds_entries(table: &[u8]) -> bool
         ensures { IsTrue result ↔ HoldsRsdt table.now }
     {
-        table.len() >= 36 && (table.len() - 36) % 4 == 0
+        table.len() >= HEADER_LENGTH && (table.len() - HEADER_LENGTH) % 4 == 0
     }
 
     /// How many addresses a table lists.
@@ -62,6 +63,6 @@ impl Rsdt {
         requires { HoldsRsdt table.now }
         ensures { result ≡ rsdt_count table.now }
     {
-        (table.len() - 36) / 4
+        (table.len() - HEADER_LENGTH) / 4
     }
 }

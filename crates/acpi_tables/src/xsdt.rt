@@ -5,6 +5,7 @@ ghost use Rattle.acpi_tables.specs.declared.fault.Bad.TheVariants.{BadRoot, NoMe
 
 use crate::bytes::u64_at;
 use crate::fault::Bad;
+use crate::header::HEADER_LENGTH;
 use std::alloc::Global;
 
 /// The readers of an Extended System Description Table.
@@ -27,7 +28,7 @@ impl Xsdt {
         let count = Xsdt::entry_count(table);
         let mut entries = Vec::with_capacity(alloc, count)?;
         for index in 0..count {
-            entries.push(u64_at(table, 36 + 8 * index))?;
+            entries.push(u64_at(table, HEADER_LENGTH + 8 * index))?;
         }
         Ok(entries)
     }
@@ -39,7 +40,7 @@ impl Xsdt {
         if !Xsdt::holds_entries(table) || index >= Xsdt::entry_count(table) {
             return None;
         }
-        Some(u64_at(table, 36 + 8 * index))
+        Some(u64_at(table, HEADER_LENGTH + 8 * index))
     }
 
     /// The address at this index of a table that `entries` takes.
@@ -48,14 +49,14 @@ impl Xsdt {
         requires inside { index < entry_count table.now }
         ensures { slice_get (entries_of table.now) index ≡ Some result }
     {
-        u64_at(table, 36 + 8 * index)
+        u64_at(table, HEADER_LENGTH + 8 * index)
     }
 
     /// Whether `entries` takes this table.
     pub fn holds_entries(table: &[u8]) -> bool
         ensures { IsTrue result ↔ HoldsEntries table.now }
     {
-        table.len() >= 36 && (table.len() - 36) % 8 == 0
+        table.len() >= HEADER_LENGTH && (table.len() - HEADER_LENGTH) % 8 == 0
     }
 
     /// How many addresses a table lists.
@@ -63,6 +64,6 @@ impl Xsdt {
         requires { HoldsEntries table.now }
         ensures { result ≡ entry_count table.now }
     {
-        (table.len() - 36) / 8
+        (table.len() - HEADER_LENGTH) / 8
     }
 }

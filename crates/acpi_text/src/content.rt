@@ -5,7 +5,8 @@ ghost use Rattle.acpi_tables.specs.Order.{name_of};
 ghost use Rattle.acpi_tables.specs.Fields.{field_view, IsNarrow};
 ghost use Rattle.acpi_tables.specs.Rsdt.{HoldsRsdt};
 ghost use Rattle.acpi_tables.specs.Xsdt.{HoldsEntries};
-ghost use Rattle.acpi_text.specs.Dumps.{owner_text, owner_of, entry_text, entry_line, entry_lines, rsdt_entry_text, rsdt_entry_line, rsdt_entry_lines, below, labelled, field_line, fadt_lines};
+ghost use Rattle.acpi_text.specs.Dumps.{owner_text, owner_of, entry_text, entry_line, entry_lines, rsdt_entry_text};
+ghost use Rattle.acpi_text.specs.Dumps.{rsdt_entry_line, rsdt_entry_lines, below, labelled, field_line, fadt_lines};
 
 use crate::fields::print_labelled;
 use crate::labels::{put_hex8, put_hex16, put_quoted};

@@ -5,7 +5,8 @@ ghost use Rattle.acpi_tables.specs.Bytes.{begins_with as has_front};
 ghost use Rattle.acpi_tables.specs.Header.{HoldsTable, table_of as front_table};
 ghost use Rattle.acpi_tables.specs.Dumps.{HoldsDump, HoldsShape, HoldsTables, HoldsContent};
 ghost use Rattle.acpi_tables.specs.Order.{AreTaken};
-ghost use Rattle.acpi_text.specs.Dumps.{lines_if, entry_lines, rsdt_entry_lines, list_lines, fadt_lines, madt_lines, table_lines, lines_by, dump_lines, dumps_text};
+ghost use Rattle.acpi_text.specs.Dumps.{lines_if, entry_lines, rsdt_entry_lines, list_lines, fadt_lines};
+ghost use Rattle.acpi_text.specs.Dumps.{madt_lines, table_lines, lines_by, dump_lines, dumps_text};
 
 use crate::content::{print_entries, print_fadt, print_rsdt_entries};
 use crate::heads::print_line;

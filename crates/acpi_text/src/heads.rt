@@ -5,7 +5,9 @@ ghost use Rattle.acpi_tables.specs.Bytes.{HasLength};
 ghost use Rattle.acpi_tables.specs.Dumps.{HoldsShape};
 ghost use Rattle.acpi_tables.specs.Rsdp.{HoldsRoot};
 ghost use Rattle.acpi_tables.specs.Header.{HoldsTable};
-ghost use Rattle.acpi_text.specs.Dumps.{wide_text, addresses_text, root_text, maker_text, creator_text, origin_text, header_text, head_by, address_text, sums_hold, sum_text, size_text, end_text, line_by};
+ghost use Rattle.acpi_text.specs.Dumps.{wide_text, addresses_text, root_text, maker_text};
+ghost use Rattle.acpi_text.specs.Dumps.{creator_text, origin_text, header_text, head_by};
+ghost use Rattle.acpi_text.specs.Dumps.{address_text, sums_hold, sum_text, size_text, end_text, line_by};
 
 use crate::labels::{put_decimal, put_hex8, put_hex16, put_quoted};
 use acpi_tables::{Dump, Header, Kind, Rsdp, Wide, sum, table_of, u32_at};

@@ -6,11 +6,12 @@ ghost use Rattle.text_writer.specs.Words.{word};
 ghost use Rattle.acpi_tables.specs.Fields.{field_view, IsNarrow};
 ghost use Rattle.acpi_tables.specs.Madt.{HoldsMadt};
 ghost use Rattle.acpi_tables.specs.Records.{row_of, row_view};
-ghost use Rattle.acpi_text.specs.Dumps.{labelled, record_field, spaced_byte, other_text, record_text_by, record_line, record_lines, controller_text, controller_line, madt_lines};
+ghost use Rattle.acpi_text.specs.Dumps.{labelled, record_field, spaced_byte, other_text, record_text_by};
+ghost use Rattle.acpi_text.specs.Dumps.{record_line, record_lines, controller_text, controller_line, madt_lines};
 
 use crate::fields::print_labelled;
 use crate::labels::{put_decimal, put_hex8};
-use acpi_tables::{Madt, RecordRow, TableField, u8_at, u32_at};
+use acpi_tables::{MADT_RECORDS, Madt, RecordRow, TableField, u8_at, u32_at};
 use std::io::Write;
 use text_writer::{Out, print_hex2};
 
@@ -128,7 +129,7 @@ fn print_records<W: Write>(out: &mut Out<'_, W>, table: &[u8])
     requires holds { HoldsMadt table.now }
     ensures { Prints W.contents out.old out.new (record_lines table.now) }
 {
-    let mut at = 44;
+    let mut at = MADT_RECORDS;
     while at < table.len() {
         let Some(bytes) = Madt::record_bytes(table, at) else {
             return;

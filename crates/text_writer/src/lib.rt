@@ -1,4 +1,5 @@
-//! Text written piece by piece: a buffered writer that remembers its first fault, and the text of numbers and quoted bytes.
+//! Text written piece by piece: a buffered writer that remembers its first fault, and the text of numbers and of
+//! quoted bytes.
 //!
 //! Nothing here takes memory. Each printing function's contract gives the text that it prints.
 #![tactic(auto)]

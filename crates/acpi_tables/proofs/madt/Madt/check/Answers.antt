@@ -4,7 +4,7 @@ use Rattle.acpi_tables.proofs.Cuts.{WalksTo, walk_start, walk_more, HoldsMadt-wa
 use Rattle.acpi_tables.proofs.madt.Madt.check.Goals as goal
 
 pub loop-at-init : goal.loop-at-init
-loop-at-init c = walk_start c.args.table.now c.if-table-lt44.false
+loop-at-init c = walk_start c.args.table.now c.if-table-lt-MADT_RECORDS.false
 
 pub loop-at-preserved : goal.loop-at-preserved
 loop-at-preserved c = subst (WalksTo c.args.table.now) (sym c.in-Some.ensures.end) (walk_more _ _ c.loop-at.invariant (c.in-Some.ensures.holds.0 refl))

@@ -4,7 +4,7 @@ use Rattle.acpi_tables.proofs.Rows.{values_of_each}
 use Rattle.acpi_tables.proofs.madt.Madt.read.Goals as goal
 
 pub loop-at-init : goal.loop-at-init
-loop-at-init c = rw c.new-records.ensures.items (read_start _ _ c.if-table-lt44.false)
+loop-at-init c = rw c.new-records.ensures.items (read_start _ _ c.if-table-lt-MADT_RECORDS.false)
 
 pub loop-at-preserved : goal.loop-at-preserved
 loop-at-preserved c = rw (c.in_ok-push.ensures.items, c.in-Some.ensures.end)
