@@ -1,5 +1,6 @@
--- The file of the counts that are given: for a path that no table declares, the number of arguments of its method. A line is a path as it is printed,
--- a space and a digit from 0 to 7. The byte 0A ends a line; the last line may go without.
+-- The file of the counts that are given: for a path that no table declares, the number of arguments of its method.
+-- A line is a path as it is printed, a space and a digit from 0 to 7. The byte 0A ends a line; the last line may go
+-- without.
 use Rattle.std.specs.Prelude.{◌≡◌, ℕ, ◌+◌, ◌-◌, ◌<◌, ◌≤◌, List, [], ◌∷◌, ◌++◌, length, take}
 use Rattle.aml_names.specs.declared.segments.Seg.{Seg}
 use Rattle.aml_names.specs.Names.{IsNameSeg, AreNameSegs}

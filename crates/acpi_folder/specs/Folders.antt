@@ -1,5 +1,7 @@
--- What a folder gives, and what is gathered from it: the dumps of its files, ordered by name, with the addresses of its map.
-use Rattle.std.specs.Prelude.{◌≡◌, ℕ, ◌<◌, ◌≤◌, Bool, true, false, not, List, [], ◌∷◌, length, take, map, slice_index_or, string_bytes, codes, Option, None, ◌⊎◌}
+-- What a folder gives, and what is gathered from it: the dumps of its files, ordered by name, with the addresses of its
+-- map.
+use Rattle.std.specs.Prelude.{◌≡◌, ℕ, ◌<◌, ◌≤◌, Bool, true, false, not, List, [], ◌∷◌, length}
+use Rattle.std.specs.Prelude.{take, map, slice_index_or, string_bytes, codes, Option, None, ◌⊎◌}
 use Rattle.std.specs.List.{list_any, filter}
 use Rattle.std.specs.List.Sorted.{IsPermutation, IsSorted}
 use Rattle.std.specs.Ordering.{nat_cmp}
@@ -11,8 +13,9 @@ use Rattle.acpi_folder.specs.declared.gathering.GatherFault.{GatherFault}
 use Rattle.acpi_folder.specs.declared.gathering.GatherFault.TheVariants as faults
 use Rattle.acpi_folder.specs.Map.{HoldsMap, RefusesMap, addresses_of}
 
--- What a folder may answer: these names for those of its files, or that its listing fails; these bytes for those of the file of a name, or that its
--- reading fails. Of a folder in memory that is what it has; of one of the operating system anything.
+-- What a folder may answer: these names for those of its files, or that its listing fails; these bytes for those of the
+-- file of a name, or that its reading fails. Of a folder in memory that is what it has; of one of the operating system
+-- anything.
 pub record Answers : Type 1 where
   pub lists : List (List ℕ) → Type 0
   pub unlisted : Type 0
@@ -21,7 +24,12 @@ pub record Answers : Type 1 where
 
 -- a folder that isn't known
 abbrev pub anything : Answers
-anything = record { lists = λ names. Unit {0}; unlisted = Unit {0}; holds = λ name bytes. Unit {0}; unread = λ name. Unit {0} }
+anything = record {
+  lists = λ names. Unit {0};
+  unlisted = Unit {0};
+  holds = λ name bytes. Unit {0};
+  unread = λ name. Unit {0};
+}
 
 -- whatever the one may answer, the other may
 pub record IsWithin (later earlier : Answers) : Type 0 where
@@ -36,7 +44,8 @@ pub record Reads (folder : Answers) (name : List ℕ) (limit : ℕ) (bytes : Lis
   pub held : folder.holds name content
   pub first : bytes ≡ take limit content
 
--- The map, whose name is `tables.map`, is no dump. Dumps and the map have at most so many bytes, and one byte more is read.
+-- The map, whose name is `tables.map`, is no dump. Dumps and the map have at most so many bytes, and one byte more is
+-- read.
 abbrev pub map_name : List ℕ
 map_name = codes "tables.map"
 
@@ -71,7 +80,8 @@ pub record IsMapText (folder : Answers) (text : List ℕ) : Type 0 where
 
 -- the addresses of the files of these names: those of the map, or none where there is no map
 abbrev pub AreAddresses : Answers → Bool → List (List ℕ) → List (Option ℕ) → Type 0
-AreAddresses folder true names addresses = (text : List ℕ) × IsMapText folder text × HoldsMap names text × (addresses ≡ addresses_of names text)
+AreAddresses folder true names addresses =
+    (text : List ℕ) × IsMapText folder text × HoldsMap names text × (addresses ≡ addresses_of names text)
 AreAddresses folder false names addresses = addresses ≡ map (λ name. None) names
 
 abbrev pub name_of : Dump → List ℕ
@@ -111,7 +121,8 @@ pub record StopsAtFile (folder : Answers) (names : List (List ℕ)) (name : List
 -- all files are read, and the map can't be, or is too long
 pub record StopsAtMap (folder : Answers) (names : List (List ℕ)) : Type 0 where
   pub before : (files : List (List ℕ)) × AreRead folder names files
-  pub cause : folder.unread map_name ⊎ ((text : List ℕ) × Reads folder map_name read_limit text × (most_bytes < length text))
+  pub cause : folder.unread map_name
+      ⊎ ((text : List ℕ) × Reads folder map_name read_limit text × (most_bytes < length text))
 
 -- a file that stops the gathering
 pub record IsUnread (folder : Answers) (name : List ℕ) : Type 0 where
@@ -154,7 +165,9 @@ StopsBy folder names faults.NoMemory = Unit {0}
 abbrev pub FailsAtMap : Answers → List (List ℕ) → GatherFault → Type 0
 FailsAtMap folder names faults.Folder = ⊥
 FailsAtMap folder names (faults.File name) =
-    (string_bytes name ≡ map_name) × (folder.unread map_name ⊎ ((text : List ℕ) × Reads folder map_name read_limit text × (most_bytes < length text)))
+    (string_bytes name ≡ map_name)
+    × (folder.unread map_name
+    ⊎ ((text : List ℕ) × Reads folder map_name read_limit text × (most_bytes < length text)))
 FailsAtMap folder names (faults.Map fault) = (text : List ℕ) × IsMapText folder text × RefusesMap names text fault
 FailsAtMap folder names faults.TooManyTables = ⊥
 FailsAtMap folder names faults.NoMemory = Unit {0}

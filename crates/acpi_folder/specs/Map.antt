@@ -1,6 +1,9 @@
--- The file `tables.map` of a folder: the physical address at which each table stood. It has a line for each file that it places: 16 hexadecimal
--- digits of either case, a space and the file's name. The byte 0A ends a line; the last line may go without.
-use Rattle.std.specs.Prelude.{◌≡◌, ℕ, ◌+◌, ◌-◌, ◌*◌, ◌^◌, ◌<◌, ◌≤◌, ◌&&◌, ◌||◌, not, Bool, true, false, List, [], ◌∷◌, length, take, drop, map, find, nat_eq, nat_le, slice_index, slice_index_or, Option, Some, None, option_map, if◌then◌else◌}
+-- The file `tables.map` of a folder: the physical address at which each table stood. It has a line for each file that
+-- it places: 16 hexadecimal digits of either case, a space and the file's name. The byte 0A ends a line; the last line
+-- may go without.
+use Rattle.std.specs.Prelude.{◌≡◌, ℕ, ◌+◌, ◌-◌, ◌*◌, ◌^◌, ◌<◌, ◌≤◌, ◌&&◌, ◌||◌, not, Bool, true, false}
+use Rattle.std.specs.Prelude.{List, [], ◌∷◌, length, take, drop, map, find, nat_eq, nat_le, slice_index}
+use Rattle.std.specs.Prelude.{slice_index_or, Option, Some, None, option_map, if◌then◌else◌}
 use Rattle.std.specs.List.{list_any, list_all}
 use Rattle.std.specs.Str.{bytes_eq}
 use Rattle.acpi_folder.specs.declared.map.Line.{Line}
@@ -21,7 +24,8 @@ lines_of (byte ∷ bytes) = if is_line_end byte then [] ∷ lines_of bytes else 
 
 -- a hexadecimal digit, and its value
 abbrev pub is_hex_digit : ℕ → Bool
-is_hex_digit byte = (nat_le 48 byte && nat_le byte 57) || (nat_le 65 byte && nat_le byte 70) || (nat_le 97 byte && nat_le byte 102)
+is_hex_digit byte =
+    (nat_le 48 byte && nat_le byte 57) || (nat_le 65 byte && nat_le byte 70) || (nat_le 97 byte && nat_le byte 102)
 
 abbrev pub hex_value : ℕ → ℕ
 hex_value byte = if nat_le byte 57 then byte - 48 else if nat_le byte 70 then byte - 55 else byte - 87
@@ -80,7 +84,8 @@ address_in entries name = option_map (λ entry. entry.address) (find (λ entry. 
 abbrev pub addresses_of : List (List ℕ) → List ℕ → List (Option ℕ)
 addresses_of names text = map (address_in (map entry_of (lines_of text))) names
 
--- What a refusal says of a text: the line of this number, counted from 1, is the first that isn't a map's, and has this fault.
+-- What a refusal says of a text: the line of this number, counted from 1, is the first that isn't a map's, and has this
+-- fault.
 pub record IsFirst (names lines : List (List ℕ)) (number : ℕ) : Type 0 where
   pub counted : 1 ≤ number
   pub inside : number ≤ length lines
@@ -89,7 +94,10 @@ pub record IsFirst (names lines : List (List ℕ)) (number : ℕ) : Type 0 where
 abbrev pub HasFault : List (List ℕ) → List Entry → List ℕ → MapFault → Type 0
 HasFault names earlier line (BadLine number) = ¬ IsLine line
 HasFault names earlier line (NoSuchFile number) = IsLine line × (is_listed names (entry_of line).name ≡ false)
-HasFault names earlier line (Again number) = IsLine line × (is_listed names (entry_of line).name ≡ true) × (list_any (repeats (entry_of line)) earlier ≡ true)
+HasFault names earlier line (Again number) =
+    IsLine line
+    × (is_listed names (entry_of line).name ≡ true)
+    × (list_any (repeats (entry_of line)) earlier ≡ true)
 HasFault names earlier line NoMemory = ⊥
 
 -- the number of the line that a refusal is about
@@ -103,4 +111,5 @@ pub record RefusesMap (names : List (List ℕ)) (text : List ℕ) (fault : MapFa
   pub number : ℕ
   pub numbered : numbered_by fault ≡ Some number
   pub first : IsFirst names (lines_of text) number
-  pub there : HasFault names (map entry_of (take (number - 1) (lines_of text))) (line_at (lines_of text) (number - 1)) fault
+  pub there :
+      HasFault names (map entry_of (take (number - 1) (lines_of text))) (line_at (lines_of text) (number - 1)) fault

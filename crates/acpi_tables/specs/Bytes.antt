@@ -1,4 +1,5 @@
--- Fields of a table by their offset, and its checksum (ACPI 6.5, section 5.2: all numbers are little-endian; section 5.2.6: checksums).
+-- Fields of a table by their offset, and its checksum (ACPI 6.5, section 5.2: all numbers are little-endian;
+-- section 5.2.6: checksums).
 use Rattle.std.specs.Prelude.{ℕ, ◌+◌, ◌*◌, ◌%◌, ◌≤◌, Bool, List, [], ◌∷◌, length, take, drop, sum, nat_eq}
 use Rattle.std.specs.List.{starts_with}
 

@@ -14,7 +14,9 @@ use Rattle.acpi_tables.specs.declared.fault.Bad.TheVariants.{TooLarge, Short, Ba
 
 -- How a dump is read: the RSDP (section 5.2.5) and the FACS (section 5.2.10) have no standard header.
 abbrev pub kind_of : List ℕ → Kind
-kind_of bytes = if begins_with bytes (codes "RSD PTR ") then Root else (if begins_with bytes (codes "FACS") then Facs else Standard)
+kind_of bytes =
+    if begins_with bytes (codes "RSD PTR ") then Root else
+    (if begins_with bytes (codes "FACS") then Facs else Standard)
 
 -- The fields that say how long it is are there and agree with the bytes.
 abbrev pub HoldsShape : Kind → List ℕ → Type 0
@@ -47,7 +49,8 @@ pub record HoldsDump (any_sum : Bool) (bytes : List ℕ) : Type 0 where
   pub sums : any_sum ≡ false → HasSums (kind_of bytes) bytes
   pub content : HoldsContent (kind_of bytes) bytes
 
--- Why a dump is refused, each by the first of these reasons that stands: its size, its shape, its checksums, and its content.
+-- Why a dump is refused, each by the first of these reasons that stands: its size, its shape, its checksums, and its
+-- content.
 abbrev pub RefusesRoot : Bool → List ℕ → Bad → Type 0
 RefusesRoot any_sum bytes BadRoot = ¬ HoldsRoot bytes
 RefusesRoot any_sum bytes BadSum = HoldsRoot bytes × (any_sum ≡ false) × (¬ RootSums bytes)
@@ -63,7 +66,8 @@ RefusesContent bytes BadRoot =
     ⊎ ((begins_with bytes (codes "RSDT") ≡ true) × (¬ HoldsRsdt (table_of bytes)))
 RefusesContent bytes FadtShort = (begins_with bytes (codes "FACP") ≡ true) × (¬ HoldsFadt (table_of bytes))
 RefusesContent bytes Short = (begins_with bytes (codes "APIC") ≡ true) × RefusesMadt (table_of bytes) Short
-RefusesContent bytes (MadtRecord at) = (begins_with bytes (codes "APIC") ≡ true) × RefusesMadt (table_of bytes) (MadtRecord at)
+RefusesContent bytes (MadtRecord at) =
+    (begins_with bytes (codes "APIC") ≡ true) × RefusesMadt (table_of bytes) (MadtRecord at)
 RefusesContent bytes _ = ⊥
 
 abbrev pub RefusesTable : Bool → List ℕ → Bad → Type 0
@@ -79,4 +83,6 @@ RefusesBy Standard any_sum bytes = RefusesTable any_sum bytes
 
 -- What a refusal says of a dump.
 abbrev pub RefusesDump : Bool → List ℕ → Bad → Type 0
-RefusesDump any_sum bytes bad = ((bad ≡ TooLarge) × (16777216 < length bytes)) ⊎ ((length bytes ≤ 16777216) × RefusesBy (kind_of bytes) any_sum bytes bad)
+RefusesDump any_sum bytes bad =
+    ((bad ≡ TooLarge) × (16777216 < length bytes))
+    ⊎ ((length bytes ≤ 16777216) × RefusesBy (kind_of bytes) any_sum bytes bad)

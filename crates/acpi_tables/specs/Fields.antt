@@ -5,7 +5,7 @@ use Rattle.acpi_tables.specs.Bytes.{bytes_at, number_at}
 use Rattle.acpi_tables.specs.declared.fields.Base.{Base}
 use Rattle.acpi_tables.specs.declared.fields.TableField.{TableField}
 
--- a field: where it stands, how many bytes it has, how it is called, and the base of the digits in which a listing shows it
+-- a field: where it stands, how many bytes it has, how it is called, and the base of the digits that a listing shows
 pub record Field : Type 0 where
   pub offset : ℕ
   pub width : ℕ

@@ -1,5 +1,7 @@
--- The Multiple APIC Description Table (ACPI 6.5, section 5.2.12, tables 5.19 to 5.21): two fields, and then records up to its end.
-use Rattle.std.specs.Prelude.{◌≡◌, ℕ, zero, suc, ◌+◌, ◌-◌, ◌<◌, ◌≤◌, ◌&&◌, Bool, List, [], ◌∷◌, length, take, drop, map, nat_eq, nat_le, Option, Some, if◌then◌else◌}
+-- The Multiple APIC Description Table (ACPI 6.5, section 5.2.12, tables 5.19 to 5.21): two fields, and then records up
+-- to its end.
+use Rattle.std.specs.Prelude.{◌≡◌, ℕ, zero, suc, ◌+◌, ◌-◌, ◌<◌, ◌≤◌, ◌&&◌, Bool, List, [], ◌∷◌}
+use Rattle.std.specs.Prelude.{length, take, drop, map, nat_eq, nat_le, Option, Some, if◌then◌else◌}
 use Rattle.std.specs.List.{AllByRecursion, concat}
 use Rattle.acpi_tables.specs.Bytes.{bytes_at, number_at}
 use Rattle.acpi_tables.specs.Fields.{value_in}
@@ -7,20 +9,29 @@ use Rattle.acpi_tables.specs.Records.{kind_of, row_of, fields_by}
 use Rattle.acpi_tables.specs.declared.fault.Bad.{Bad}
 use Rattle.acpi_tables.specs.declared.fault.Bad.TheVariants.{Short, MadtRecord as BadRecord}
 use Rattle.acpi_tables.specs.declared.madt.MadtRecord.{MadtRecord}
-use Rattle.acpi_tables.specs.declared.madt.MadtRecord.TheVariants.{LocalApic, IoApic, Override, NmiSource, LocalNmi, AddressOverride, X2Apic, X2Nmi, Other}
+use Rattle.acpi_tables.specs.declared.madt.MadtRecord.TheVariants.{LocalApic, IoApic, Override, NmiSource, LocalNmi}
+use Rattle.acpi_tables.specs.declared.madt.MadtRecord.TheVariants.{AddressOverride, X2Apic, X2Nmi, Other}
 
--- What a record of this type and length says: the fields of the known kinds (sections 5.2.12.2, 5.2.12.3, 5.2.12.5 to 5.2.12.8,
--- 5.2.12.12 and 5.2.12.13), and of any other the bytes behind its length.
+-- What a record of this type and length says: the fields of the known kinds, and of any other the bytes behind its
+-- length.
 abbrev pub meaning_by : ℕ → ℕ → List ℕ → MadtRecord (List ℕ)
 meaning_by kind long bytes =
-    if nat_eq kind 0 && nat_eq long 8 then LocalApic (number_at bytes 2 1) (number_at bytes 3 1) (number_at bytes 4 4) else
-    if nat_eq kind 1 && nat_eq long 12 then IoApic (number_at bytes 2 1) (number_at bytes 4 4) (number_at bytes 8 4) else
-    if nat_eq kind 2 && nat_eq long 10 then Override (number_at bytes 2 1) (number_at bytes 3 1) (number_at bytes 4 4) (number_at bytes 8 2) else
-    if nat_eq kind 3 && nat_eq long 8 then NmiSource (number_at bytes 2 2) (number_at bytes 4 4) else
-    if nat_eq kind 4 && nat_eq long 6 then LocalNmi (number_at bytes 2 1) (number_at bytes 3 2) (number_at bytes 5 1) else
-    if nat_eq kind 5 && nat_eq long 12 then AddressOverride (number_at bytes 4 8) else
-    if nat_eq kind 9 && nat_eq long 16 then X2Apic (number_at bytes 4 4) (number_at bytes 8 4) (number_at bytes 12 4) else
-    if nat_eq kind 10 && nat_eq long 12 then X2Nmi (number_at bytes 2 2) (number_at bytes 4 4) (number_at bytes 8 1) else
+    if nat_eq kind 0 && nat_eq long 8
+    then LocalApic (number_at bytes 2 1) (number_at bytes 3 1) (number_at bytes 4 4) else
+    if nat_eq kind 1 && nat_eq long 12
+    then IoApic (number_at bytes 2 1) (number_at bytes 4 4) (number_at bytes 8 4) else
+    if nat_eq kind 2 && nat_eq long 10
+    then Override (number_at bytes 2 1) (number_at bytes 3 1) (number_at bytes 4 4) (number_at bytes 8 2) else
+    if nat_eq kind 3 && nat_eq long 8
+    then NmiSource (number_at bytes 2 2) (number_at bytes 4 4) else
+    if nat_eq kind 4 && nat_eq long 6
+    then LocalNmi (number_at bytes 2 1) (number_at bytes 3 2) (number_at bytes 5 1) else
+    if nat_eq kind 5 && nat_eq long 12
+    then AddressOverride (number_at bytes 4 8) else
+    if nat_eq kind 9 && nat_eq long 16
+    then X2Apic (number_at bytes 4 4) (number_at bytes 8 4) (number_at bytes 12 4) else
+    if nat_eq kind 10 && nat_eq long 12
+    then X2Nmi (number_at bytes 2 2) (number_at bytes 4 4) (number_at bytes 8 1) else
     Other kind (drop 2 bytes)
 
 unfoldable pub meaning_of : List ℕ → MadtRecord (List ℕ)
@@ -54,7 +65,8 @@ seen_by f (X2Apic id flags uid) = X2Apic id flags uid
 seen_by f (X2Nmi flags uid lint) = X2Nmi flags uid lint
 seen_by f (Other kind content) = Other kind (f content)
 
--- a whole record stands at this offset: its length is there and counts at least its first two bytes, and it lies within the table
+-- a whole record stands at this offset: its length is there and counts at least its first two bytes, and it lies within
+-- the table
 pub record HoldsRecord (table : List ℕ) (at : ℕ) : Type 0 where
   pub behind_fields : 44 ≤ at
   pub header : at + 2 ≤ length table
@@ -77,15 +89,17 @@ pub record IsCut (bytes : List ℕ) (records : List (List ℕ)) : Type 0 where
   pub joined : bytes ≡ concat records
   pub each : AllByRecursion IsRecord records
 
--- The records as a function of the bytes: as many as are whole. There is at most one cut of bytes, and where there is one this is it.
--- The number bounds the steps, and the count of the bytes is always enough.
+-- The records as a function of the bytes: as many as are whole. There is at most one cut of bytes, and where there is
+-- one this is it. The number bounds the steps, and the count of the bytes is always enough.
 abbrev pub begins_whole : List ℕ → Bool
-begins_whole bytes = nat_le 2 (length bytes) && (nat_le 2 (number_at bytes 1 1) && nat_le (number_at bytes 1 1) (length bytes))
+begins_whole bytes =
+    nat_le 2 (length bytes) && (nat_le 2 (number_at bytes 1 1) && nat_le (number_at bytes 1 1) (length bytes))
 
 unfoldable pub records_within : ℕ → List ℕ → List (List ℕ)
 records_within zero bytes = []
 records_within (suc n) bytes =
-    if begins_whole bytes then take (number_at bytes 1 1) bytes ∷ records_within n (drop (number_at bytes 1 1) bytes) else []
+    if begins_whole bytes
+    then take (number_at bytes 1 1) bytes ∷ records_within n (drop (number_at bytes 1 1) bytes) else []
 
 unfoldable pub records_of : List ℕ → List (List ℕ)
 records_of table = records_within (length table) (drop 44 table)

@@ -1,5 +1,8 @@
 -- The order in which the definition blocks of a set of dumps are loaded, and what each refusal of a set says of it.
-use Rattle.std.specs.Prelude.{◌≡◌, ℕ, ◌+◌, ◌-◌, ◌*◌, ◌<◌, ◌≤◌, ◌⊎◌, ◌&&◌, ⊤, not, Bool, true, false, List, [], ◌∷◌, codes, length, take, map, reverse, filter, filter_map, find, position, take_while, slice_get, slice_index_or, IsPermutation, IsSorted, is_some, nat_eq, nat_le, string_bytes, Option, Some, None, option_and_then, MatchBool, if◌then◌else◌}
+use Rattle.std.specs.Prelude.{◌≡◌, ℕ, ◌+◌, ◌-◌, ◌*◌, ◌<◌, ◌≤◌, ◌⊎◌, ◌&&◌, ⊤, not, Bool, true, false, List, []}
+use Rattle.std.specs.Prelude.{◌∷◌, codes, length, take, map, reverse, filter, filter_map, find, position}
+use Rattle.std.specs.Prelude.{take_while, slice_get, slice_index_or, IsPermutation, IsSorted, is_some, nat_eq}
+use Rattle.std.specs.Prelude.{nat_le, string_bytes, Option, Some, None, option_and_then, MatchBool, if◌then◌else◌}
 use Rattle.std.specs.List.{before_last, list_any}
 use Rattle.std.specs.declared.cmp.Ordering.{Ordering}
 use Rattle.std.specs.Ordering.{then_cmp, on, nat_cmp}
@@ -58,7 +61,9 @@ ending_number name = decimal_of (take 9 (take_while is_digit (reverse (stem_of n
 
 -- dumps by that number, then by their names as bytes, then by their indexes
 abbrev pub rank_cmp : List Dump → ℕ → ℕ → Ordering
-rank_cmp dumps = then_cmp (on (λ index. ending_number (name_of dumps index)) nat_cmp) (then_cmp (on (name_of dumps) (slice_cmp nat_cmp)) nat_cmp)
+rank_cmp dumps =
+    then_cmp (on (λ index. ending_number (name_of dumps index)) nat_cmp)
+    (then_cmp (on (name_of dumps) (slice_cmp nat_cmp)) nat_cmp)
 
 -- The DSDT is the only one, and the SSDTs are all of them, each once, sorted.
 pub record IsNamed (dumps : List Dump) (dsdt : ℕ) (ssdts : List ℕ) : Type 0 where
@@ -84,7 +89,8 @@ dump_at dumps address = position (stands_at address) dumps
 
 -- the same, if it has a signature
 abbrev pub signed_at : List Dump → List ℕ → ℕ → Option ℕ
-signed_at dumps signature address = option_and_then (λ index. if has_signature dumps signature index then Some index else None) (dump_at dumps address)
+signed_at dumps signature address =
+    option_and_then (λ index. if has_signature dumps signature index then Some index else None) (dump_at dumps address)
 
 -- the first RSDP
 unfoldable pub root_of : List Dump → Option ℕ
@@ -96,7 +102,9 @@ gives_xsdt root = nat_le 2 (revision_of root) && not (nat_eq (number_at root 24 
 
 -- the list of the tables that an RSDP leads to: the XSDT where it gives that address, else the RSDT
 abbrev pub list_of : List Dump → List ℕ → Option ℕ
-list_of dumps root = if gives_xsdt root then signed_at dumps (codes "XSDT") (number_at root 24 8) else signed_at dumps (codes "RSDT") (number_at root 16 4)
+list_of dumps root =
+    if gives_xsdt root then signed_at dumps (codes "XSDT") (number_at root 24 8)
+    else signed_at dumps (codes "RSDT") (number_at root 16 4)
 
 -- The first RSDP leads to the list.
 pub record LeadsToList (dumps : List Dump) (root list : ℕ) : Type 0 where
@@ -118,7 +126,9 @@ pub record LeadsToFadt (dumps : List Dump) (root list fadt : ℕ) : Type 0 where
 
 -- the DSDT's address in a FADT: X_DSDT where the table reaches to its end and it isn't 0, else DSDT
 abbrev pub dsdt_address : List ℕ → ℕ
-dsdt_address table = if nat_le 148 (length table) && not (nat_eq (number_at table 140 8) 0) then number_at table 140 8 else number_at table 40 4
+dsdt_address table =
+    if nat_le 148 (length table) && not (nat_eq (number_at table 140 8) 0) then number_at table 140 8
+    else number_at table 40 4
 
 -- each number where it stands first
 abbrev pub each_once : List ℕ → List ℕ
@@ -147,7 +157,8 @@ pub record IsOrder (dumps : List Dump) (any_sum : Bool) (dsdt : ℕ) (ssdts : Li
 -- Each of the dumps at these indexes is a table with its header, of no more bytes than a dump may have.
 abbrev pub AreTables : List Dump → List ℕ → Type 0
 AreTables dumps [] = ⊤
-AreTables dumps (index ∷ indexes) = HoldsTable (bytes_of dumps index) × (length (bytes_of dumps index) ≤ 16777216) × AreTables dumps indexes
+AreTables dumps (index ∷ indexes) =
+    HoldsTable (bytes_of dumps index) × (length (bytes_of dumps index) ≤ 16777216) × AreTables dumps indexes
 
 -- The chain ends at a list without a FADT, or at a FADT whose address leads to no DSDT.
 pub record LacksFadt (dumps : List Dump) (list : ℕ) : Type 0 where
@@ -162,7 +173,8 @@ pub record LacksDsdt (dumps : List Dump) : Type 0 where
   pub to_fadt : LeadsToFadt dumps root list fadt
   pub none : signed_at dumps (codes "DSDT") (dsdt_address (table_of (bytes_of dumps fadt))) ≡ None
 
--- Why there is no order of dumps that are all taken: what a refusal says where it names no dump, and of the place of the dump that it names.
+-- Why there is no order of dumps that are all taken: what a refusal says where it names no dump, and of the place of
+-- the dump that it names.
 abbrev pub RefusesAll : List Dump → Bad → Type 0
 RefusesAll dumps RootMissing = (is_addressed dumps ≡ true) × (root_of dumps ≡ None)
 RefusesAll dumps NoDsdt =
@@ -171,9 +183,11 @@ RefusesAll dumps NoDsdt =
 RefusesAll dumps _ = ⊥
 
 abbrev pub RefusesPlace : List Dump → ℕ → Bad → Type 0
-RefusesPlace dumps index RootMissing = (is_addressed dumps ≡ true) × (root_of dumps ≡ Some index) × (list_of dumps (bytes_of dumps index) ≡ None)
+RefusesPlace dumps index RootMissing =
+    (is_addressed dumps ≡ true) × (root_of dumps ≡ Some index) × (list_of dumps (bytes_of dumps index) ≡ None)
 RefusesPlace dumps index FadtMissing = (is_addressed dumps ≡ true) × LacksFadt dumps index
-RefusesPlace dumps index TwoDsdts = (is_addressed dumps ≡ false) × (slice_get (indexes_with dumps (codes "DSDT")) 1 ≡ Some index)
+RefusesPlace dumps index TwoDsdts =
+    (is_addressed dumps ≡ false) × (slice_get (indexes_with dumps (codes "DSDT")) 1 ≡ Some index)
 RefusesPlace dumps index _ = ⊥
 
 abbrev pub RefusesOrder : List Dump → Option ℕ → Bad → Type 0
@@ -192,4 +206,5 @@ pub record RefusesBytes (dumps : List Dump) (any_sum : Bool) (fault : TableFault
 abbrev pub Refuses : List Dump → Bool → TableFault → Type 0
 Refuses dumps any_sum fault =
     ((fault.dump ≡ None) × (fault.bad ≡ TooManyTables) × (512 < length dumps))
-    ⊎ ((length dumps ≤ 512) × (RefusesBytes dumps any_sum fault ⊎ (AreTaken dumps any_sum × RefusesOrder dumps fault.dump fault.bad)))
+    ⊎ ((length dumps ≤ 512)
+    × (RefusesBytes dumps any_sum fault ⊎ (AreTaken dumps any_sum × RefusesOrder dumps fault.dump fault.bad)))

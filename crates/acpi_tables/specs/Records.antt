@@ -1,4 +1,5 @@
--- The kinds of records of the MADT that are read here, as data: sections 5.2.12.2, .3, .5 to .8, .12 and .13 of ACPI 6.5.
+-- The kinds of records of the MADT that are read here, as data (ACPI 6.5, sections 5.2.12.2, 5.2.12.3, 5.2.12.5 to
+-- 5.2.12.8, 5.2.12.12 and 5.2.12.13).
 use Prim.Native.String.{String}
 use Rattle.std.specs.Prelude.{ℕ, ◌&&◌, List, [], ◌∷◌, length, map, find, nat_eq, Option, Some, None, codes}
 use Rattle.acpi_tables.specs.Bytes.{number_at}
@@ -22,7 +23,8 @@ madt_rows =
     row 0 8 "LocalApic" (field 2 1 "Uid" Decimal ∷ field 3 1 "Apic" Decimal ∷ field 4 4 "Flags" Hexadecimal ∷ [])
     ∷ row 1 12 "IoApic" (field 2 1 "Id" Decimal ∷ field 4 4 "Address" Hexadecimal ∷ field 8 4 "Gsi" Decimal ∷ [])
     ∷ row 2 10 "Override"
-    (field 2 1 "Bus" Decimal ∷ field 3 1 "Source" Decimal ∷ field 4 4 "Gsi" Decimal ∷ field 8 2 "Flags" Hexadecimal ∷ [])
+    (field 2 1 "Bus" Decimal ∷ field 3 1 "Source" Decimal
+    ∷ field 4 4 "Gsi" Decimal ∷ field 8 2 "Flags" Hexadecimal ∷ [])
     ∷ row 3 8 "NmiSource" (field 2 2 "Flags" Hexadecimal ∷ field 4 4 "Gsi" Decimal ∷ [])
     ∷ row 4 6 "LocalNmi" (field 2 1 "Uid" Decimal ∷ field 3 2 "Flags" Hexadecimal ∷ field 5 1 "Lint" Decimal ∷ [])
     ∷ row 5 12 "AddressOverride" (field 4 8 "" Hexadecimal ∷ [])

@@ -1,5 +1,7 @@
--- The Extended System Description Table (ACPI 6.5, section 5.2.8): the header, and then addresses of eight bytes up to its end.
-use Rattle.std.specs.Prelude.{◌≡◌, ℕ, ◌+◌, ◌-◌, ◌*◌, ◌/◌, ◌%◌, ◌≤◌, ◌&&◌, List, map, length, nat_eq, nat_le, slice_get, Option, None, if◌then◌else◌}
+-- The Extended System Description Table (ACPI 6.5, section 5.2.8): the header, and then addresses of eight bytes up
+-- to its end.
+use Rattle.std.specs.Prelude.{◌≡◌, ℕ, ◌+◌, ◌-◌, ◌*◌, ◌/◌, ◌%◌, ◌≤◌, ◌&&◌, List, map, length}
+use Rattle.std.specs.Prelude.{nat_eq, nat_le, slice_get, Option, None, if◌then◌else◌}
 use Rattle.std.specs.List.{range_with_len}
 use Rattle.acpi_tables.specs.Bytes.{number_at}
 
@@ -21,4 +23,6 @@ entries_of table = map (entry_at table) (range_with_len 0 (entry_count table))
 
 -- the member of the addresses at this index, in a table that holds them
 abbrev pub entry_in : List ℕ → ℕ → Option ℕ
-entry_in table index = if nat_le 36 (length table) && nat_eq ((length table - 36) % 8) 0 then slice_get (entries_of table) index else None
+entry_in table index =
+    if nat_le 36 (length table) && nat_eq ((length table - 36) % 8) 0
+    then slice_get (entries_of table) index else None

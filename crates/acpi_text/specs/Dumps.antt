@@ -1,5 +1,7 @@
 -- The first part of a listing: what it says of each dump. The fields are those of ACPI 6.5, sections 5.2.5 to 5.2.12.
-use Rattle.std.specs.Prelude.{ℕ, Bool, true, false, ◌&&◌, ◌||◌, not, nat_eq, nat_le, if◌then◌else◌, decimal, codes, List, [], ◌++◌, flat_map, take, drop, reverse, length, Option, Some, None, option_map, string_bytes}
+use Rattle.std.specs.Prelude.{ℕ, Bool, true, false, ◌&&◌, ◌||◌, not, nat_eq, nat_le, if◌then◌else◌}
+use Rattle.std.specs.Prelude.{decimal, codes, List, [], ◌++◌, flat_map, take, drop, reverse}
+use Rattle.std.specs.Prelude.{length, Option, Some, None, option_map, string_bytes}
 use Rattle.acpi_tables.specs.Bytes.{little_endian, number_at, checksum, begins_with}
 use Rattle.acpi_tables.specs.Fields.{Field, field_bytes}
 use Rattle.acpi_tables.specs.Header.{table_of, header_of}
@@ -41,7 +43,8 @@ root_text r = (word " Oem " ++ quoted r.oem) ++ (word " Revision " ++ decimal r.
 
 -- who made a table, and with what
 unfoldable pub maker_text : Header → List ℕ
-maker_text h = (word " Oem " ++ quoted h.oem_id) ++ (word " " ++ quoted h.oem_table_id) ++ (word " " ++ hex8 h.oem_revision)
+maker_text h =
+    (word " Oem " ++ quoted h.oem_id) ++ (word " " ++ quoted h.oem_table_id) ++ (word " " ++ hex8 h.oem_revision)
 
 unfoldable pub creator_text : Header → List ℕ
 creator_text h = (word " Creator " ++ quoted h.creator_id) ++ (word " " ++ hex8 h.creator_revision)
@@ -58,7 +61,10 @@ header_text h = (word " " ++ quoted h.signature) ++ size_text h ++ origin_text h
 -- a dump by its kind: the RSDP, the FACS, and any other table
 abbrev pub head_by : Kind → List ℕ → List ℕ → List ℕ
 head_by Root name bytes = (word "Root " ++ quoted name) ++ root_text (rsdp_of bytes)
-head_by Facs name bytes = (word "Table " ++ quoted name) ++ (word " " ++ quoted (codes "FACS")) ++ (word " Length " ++ decimal (number_at bytes 4 4))
+head_by Facs name bytes =
+    (word "Table " ++ quoted name)
+    ++ (word " " ++ quoted (codes "FACS"))
+    ++ (word " Length " ++ decimal (number_at bytes 4 4))
 head_by Standard name bytes = (word "Table " ++ quoted name) ++ header_text (header_of bytes)
 
 -- ---- the rest of that line
@@ -69,7 +75,9 @@ address_text (Some address) = word " At " ++ hex16 address
 
 -- whether the checksums of a dump are right (the FACS has none)
 abbrev pub sums_hold : Kind → List ℕ → Bool
-sums_hold Root bytes = nat_eq (checksum (take 20 bytes)) 0 && (not (nat_le 2 (revision_of bytes)) || nat_eq (checksum (take (number_at bytes 20 4) bytes)) 0)
+sums_hold Root bytes =
+    nat_eq (checksum (take 20 bytes)) 0
+    && (not (nat_le 2 (revision_of bytes)) || nat_eq (checksum (take (number_at bytes 20 4) bytes)) 0)
 sums_hold Facs bytes = true
 sums_hold Standard bytes = nat_eq (checksum (table_of bytes)) 0
 
@@ -116,7 +124,7 @@ rsdt_entry_line dumps address = below (rsdt_entry_text dumps address)
 unfoldable pub rsdt_entry_lines : List Dump → List ℕ → List ℕ
 rsdt_entry_lines dumps table = flat_map (rsdt_entry_line dumps) (rsdt_entries table)
 
--- a field: its label, if it has one, and its value in the digits of its base; in hexadecimal the highest byte stands first
+-- a field: its label, if it has one, and its value in the digits of its base, in hexadecimal the highest byte first
 unfoldable pub label_text : List ℕ → List ℕ
 label_text label = if nat_eq (length label) 0 then [] else label ++ word " "
 
@@ -165,7 +173,8 @@ unfoldable pub record_line : List ℕ → List ℕ
 record_line bytes = below (record_text_by (row_of bytes) bytes)
 
 unfoldable pub controller_text : List ℕ → List ℕ
-controller_text table = (word "Controller " ++ hex8 (number_at table 36 4)) ++ (word " Flags " ++ hex8 (number_at table 40 4))
+controller_text table =
+    (word "Controller " ++ hex8 (number_at table 36 4)) ++ (word " Flags " ++ hex8 (number_at table 40 4))
 
 unfoldable pub controller_line : List ℕ → List ℕ
 controller_line table = below (controller_text table)

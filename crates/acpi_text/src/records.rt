@@ -73,7 +73,6 @@ fn print_content<W: Write>(out: &mut Out<'_, W>, content: &[u8])
 }
 
 /// A record of no known type and length.
-#[tactic(auto, using(text_writer::proofs::PrintLaws::straight), unfolding(crate::specs::Dumps::other_text))]
 fn print_other<W: Write>(out: &mut Out<'_, W>, bytes: &[u8])
     requires header { 2 ≤ length bytes.now }
     ensures { Prints W.contents out.old out.new (other_text bytes.now) }
@@ -105,7 +104,6 @@ fn print_record_line<W: Write>(out: &mut Out<'_, W>, bytes: &[u8])
     out.put(b"\n");
 }
 
-#[tactic(auto, using(text_writer::proofs::PrintLaws::straight), unfolding(crate::specs::Dumps::controller_text))]
 fn print_controller<W: Write>(out: &mut Out<'_, W>, table: &[u8])
     requires fields { 44 ≤ length table.now }
     ensures { Prints W.contents out.old out.new (controller_text table.now) }

@@ -1,5 +1,6 @@
 -- The text of numbers and of quoted bytes.
-use Rattle.std.specs.Prelude.{ℕ, Bool, ◌/◌, ◌%◌, List, [], ◌∷◌, ◌++◌, flat_map, codes, slice_index, nat_eq, nat_le, ◌&&◌, not, if◌then◌else◌}
+use Rattle.std.specs.Prelude.{ℕ, Bool, ◌/◌, ◌%◌, List, [], ◌∷◌, ◌++◌, flat_map, codes}
+use Rattle.std.specs.Prelude.{slice_index, nat_eq, nat_le, ◌&&◌, not, if◌then◌else◌}
 use Rattle.text_writer.specs.Words.{word}
 
 -- a hexadecimal digit

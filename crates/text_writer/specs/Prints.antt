@@ -1,5 +1,6 @@
 -- What a writer took, and how much of it.
-use Rattle.std.specs.Prelude.{◌≡◌, ℕ, ◌+◌, ◌-◌, ◌^◌, ◌<◌, min, Bool, true, false, List, [], ◌++◌, length, Option, Result, MatchResult}
+use Rattle.std.specs.Prelude.{◌≡◌, ℕ, ◌+◌, ◌-◌, ◌^◌, ◌<◌, min, Bool, true, false}
+use Rattle.std.specs.Prelude.{List, [], ◌++◌, length, Option, Result, MatchResult}
 use Rattle.std.specs.Io.KnownBytes.{Appends}
 use Rattle.text_writer.specs.Waiting.{waiting}
 use Rattle.text_writer.specs.declared.output.Out.{Out}
@@ -36,7 +37,8 @@ PrintsBy true false contents before after text = ⊥
 unfoldable pub Prints : {W : Type 0} → (W → Option (List ℕ)) → Out W → Out W → List ℕ → Type 0
 Prints contents before after text = PrintsBy before.failed after.failed contents before after text
 
--- at `Ok` the writer took the text, and else a part of it that is cut short, of which `wrote` is the length, up to `u64::MAX`
+-- at `Ok` the writer took the text, and else a part of it that is cut short, of which `wrote` is the length, up to
+-- `u64::MAX`
 pub record Cut (before after : Option (List ℕ)) (text : List ℕ) (wrote : ℕ) : Type 0 where
   pub bytes : List ℕ
   pub rest : List ℕ
