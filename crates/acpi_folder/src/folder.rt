@@ -1,6 +1,6 @@
 //! A folder of files, whatever keeps it.
 ghost use Rattle.std.specs.Prelude.{◌≡◌, map, string_bytes, IfOk, IsErrOf};
-ghost use Rattle.acpi_folder.specs.declared.folder.FolderFault.TheVariants.{Failed};
+ghost use Rattle.acpi_folder.specs.declared.folder.FolderFault.TheVariants.{Failed, NoMemory};
 ghost use Rattle.acpi_folder.specs.Folders.{Answers, IsWithin, Reads};
 
 use std::alloc::{AllocError, AllocFailed};
@@ -15,12 +15,16 @@ pub enum FolderFault {
 }
 
 impl From<AllocError> for FolderFault {
+    ghost from_gives = { λ _ fault. fault ≡ NoMemory };
+
     fn from(_error: AllocError) -> FolderFault {
         FolderFault::NoMemory
     }
 }
 
 impl<T: Drop> From<AllocFailed<T>> for FolderFault {
+    ghost from_gives = { λ _ fault. fault ≡ NoMemory };
+
     fn from(_error: AllocFailed<T>) -> FolderFault {
         FolderFault::NoMemory
     }

@@ -1,7 +1,10 @@
+mod cuts;
 mod fixtures;
+mod folders;
 mod limits;
 mod listings;
 mod memory;
 mod nesting;
 mod spaces;
+mod starts;
 mod writers;

@@ -1,11 +1,76 @@
-//! Dumps, tables and gates that several tests hand in.
+//! Code, dumps, tables, works and gates that several tests hand in.
+ghost use Rattle.std.specs.Prelude.{◌≡◌, ◌*◌, ⊤, Some};
+
 use acpi_tables::Dump;
 use acpidis::Options;
-use aml_pool::Gate;
+use aml_code::{Arity, Locals};
+use aml_names::Name;
+use aml_pool::{Gate, NoMemory, Work};
 use std::alloc::{AllocError, Global};
 use std::sync::atomic::Ordering::SeqCst;
 use std::sync::atomic::{AtomicBool, AtomicU64};
 use std::thread;
+
+/// The AML of tables, of which the last five are refused.
+pub fn codes() -> [&'static [u8]; 19] {
+    [
+        b"\x14\x08FOO_\x01\xA4h".as_slice(),
+        b"\x08BAR_\x0A\x05\x14\x0BFOO_\x02\xA4rhi\x00".as_slice(),
+        b"\x08BAR_\x0A\x05\x14\x0CFOO_\x00pBAR_`".as_slice(),
+        b"\x14\x0EAAAA\x00\xA4BBBB\x01\x0A\x05\x14\x06BBBB\x02".as_slice(),
+        b"\x14G\x00FOO_\x00\x08BAR_\x00[\x82\x05DEV0[\x83\x0BCPU0\x01\x10\x04\x00\x00\x06[\x84\x08PWR0\x01\
+            \x02\x00[\x85\x05TZ00[\x01MTX0\x00[\x02EVT0[\x88DRG0\x0D\x00\x0D\x00\x0D\x00\x8CBAR_\x00BYT0"
+            .as_slice(),
+        b"\x10\x03\\\x00\x10\x02\x00".as_slice(),
+        b"\xA0\x10\x00\x15AAAA\x08\x02\x15BBBB\x05\x00".as_slice(),
+        b"\x14\x06MMMM\x03\x06MMMMALIA\x14\x0ECALL\x00ALIA`ab\xA3".as_slice(),
+        b"\x14\x06BBBB\x01\x10\x1A\\_SB_[\x82\x12DEV0\x14\x0CAAAA\x00\xA4BBBB`".as_slice(),
+        b"[\x80REG0\x01\x0B\x00\x04\x0A\x10[\x81\x10REG0\x01\x00\x08FLD0\x08\x01\x01\x00".as_slice(),
+        b"[\x81J\x02GNVS\x01ABCDH\x00\x00\x80\x00\x01\x01\x03\x00\x02\\._SB_GPIO\x03\x01\x0B\x04\x02\x11\
+            \x05\x0A\x02\x00y"
+            .as_slice(),
+        b"\x15BBBB\x08\x02\x14\x0EAAAA\x00\xA4BBBB\x01\x0A\x05".as_slice(),
+        b"\x14\x17AAAA\x00BBBB\x01\x01\x08BBBB\x00\xA4BBBB\x14\x06BBBB\x02".as_slice(),
+        b"\x08AAAB\x00[\x82\x0BAAAA\x08ZZZZ\x00\x08AAA_\x00\x08\\_GL_\x00\x14\x07\\_OSI\x02".as_slice(),
+        b"\x10\x0B\\_SB_[\x82\x05DEV0\x00".as_slice(),
+        b"\x14\x06BBBB\x01[\x80REG0\x01BBBB\x01".as_slice(),
+        b"\x08FOO_\x00\x08FOO_\x00".as_slice(),
+        b"\x14\x06MMMM\x03\x06MMM_ALIA".as_slice(),
+        b"\x08FOO_\x00\xA0\x02\x01".as_slice(),
+    ]
+}
+
+/// No name takes an argument.
+#[derive(Clone, Copy)]
+pub struct Bare;
+
+impl Arity for Bare {
+    ghost arity = { λ _ _ _. Some 0 };
+
+    fn count(
+        &self,
+        _alloc: Global,
+        _locals: &Locals,
+        _name: &Name,
+    ) -> Result<Option<u8>, aml_code::NoMemory> {
+        Ok(Some(0))
+    }
+}
+
+/// The square of the number.
+pub struct Square;
+
+impl Work for Square {
+    type Done = u64;
+
+    ghost can_work = { λ _ _. ⊤ };
+
+    ghost gives = { λ _ n d. d ≡ n * n };
+
+    fn work(&self, number: u32) -> Result<u64, NoMemory> {
+        Ok(u64::from(number) * u64::from(number))
+    }
+}
 
 /// Any checksum is taken.
 pub fn any_sum(alloc: Global) -> Options {
@@ -48,8 +113,8 @@ pub fn push_table(
     push_dump(alloc, dumps, address, bytes)
 }
 
-/// How often a held call lets other threads run and looks again, before the gate counts as stuck and lets each call pass:
-/// some 20 seconds.
+/// How often a held call lets other threads run and looks again, before the gate counts as stuck and lets each call
+/// pass: some 20 seconds.
 const TURNS: u32 = 100_000_000;
 
 /// Keeps its calls. The first call of each group of so many waits until the others of its group have entered.

@@ -1,29 +1,14 @@
 //! Rows that are too long to be written down.
-ghost use Rattle.std.specs.Prelude.{Some};
+ghost use Rattle.std.specs.Prelude.{◌≤◌, length};
 
+use super::fixtures::Bare;
 use acpi_tables::{Bad, Dump, MAX_DUMP_BYTES, MAX_DUMPS, load_order};
-use aml_code::{Arity, Locals, NoMemory, encode_terms};
-use aml_names::{Name, Path, place, read_name};
+use aml_code::encode_terms;
+use aml_load::{LoadFault, load};
+use aml_names::{Path, place, read_name};
 use aml_parse::parse_body;
 use std::alloc::{AllocError, Global};
 use std::test::Fail;
-
-/// No name takes an argument.
-#[derive(Clone, Copy)]
-struct Bare;
-
-impl Arity for Bare {
-    ghost arity = { λ _ _ _. Some 0 };
-
-    fn count(
-        &self,
-        _alloc: Global,
-        _locals: &Locals,
-        _name: &Name,
-    ) -> Result<Option<u8>, NoMemory> {
-        Ok(Some(0))
-    }
-}
 
 #[test]
 fn sixteen_million_parent_prefixes(rt: HostRuntime) -> Result<(), Fail> {
@@ -101,5 +86,53 @@ fn the_greatest_number_of_bytes(rt: HostRuntime) -> Result<(), Fail> {
         dump.bytes.push(0)?;
     }
     assert!(rt; matches!(refusal(alloc, &dumps), Some((Some(0), Bad::TooLarge))));
+    Ok(())
+}
+
+/// A letter or a digit for a number, in the order of the numbers below 36.
+fn letter(number: u32) -> u8 {
+    let number = (number % 36) as u8;
+    if number < 10 {
+        b'0' + number
+    } else {
+        b'A' + (number - 10)
+    }
+}
+
+/// So many methods without a body, whose names ascend.
+fn methods(alloc: Global, count: u32) -> Result<Vec<u8>, AllocError> {
+    let mut code = Vec::new(alloc);
+    for number in 0..count {
+        code.extend_from_slice(&[
+            0x14,
+            0x06,
+            b'A' + (number / 46_656 % 26) as u8,
+            letter(number / 1_296),
+            letter(number / 36),
+            letter(number),
+            0,
+        ])?;
+    }
+    Ok(code)
+}
+
+/// How many methods a table declares.
+fn count_methods(alloc: Global, code: &[u8]) -> Result<usize, LoadFault>
+    requires { length code.now ≤ 16777216 }
+{
+    let loaded = load(alloc, &[code], &[])?;
+    Ok(loaded.methods.len())
+}
+
+#[test]
+fn the_greatest_number_of_methods(rt: HostRuntime) -> Result<(), Fail> {
+    let alloc = rt.alloc();
+    let mut code = methods(alloc, 1_048_576)?;
+    if code.len() > 10_000_000 {
+        return Ok(());
+    }
+    assert!(rt; matches!(count_methods(alloc, &code), Ok(1_048_576)));
+    code.extend_from_slice(b"\x14\x06ZZZZ\x00")?;
+    assert!(rt; matches!(count_methods(alloc, &code), Err(LoadFault::TooManyMethods)));
     Ok(())
 }

@@ -1,15 +1,140 @@
-//! Answers where a growth is refused, as by `rt try --test --fail-alloc N`: the whole answer, or the want of memory.
+//! Answers where a growth is refused, a thread's start included: the whole answer, or the want of memory or a thread.
+//!
+//! `tests/refusals.sh` runs each of these tests again and again, with each growth refused in turn.
 ghost use Rattle.std.specs.Prelude.{◌≤◌};
 
-use super::fixtures::{any_sum, push_dump, push_table};
+use super::fixtures::{Bare, Square, any_sum, push_dump, push_table};
+use super::folders::{FILES, MemoryFolder, are_gathered};
 use super::listings::{has_three_bodies, three_methods};
+use acpi_folder::{ExternalsFault, FolderFault, GatherFault, gather, parse_externals};
 use acpi_tables::{Bad, Dump, load_order};
-use acpidis::{Refusal, disassemble};
-use aml_pool::FreeGate;
+use acpidis::{Refusal, check, disassemble};
+use aml_load::{LoadFault, Loaded, load, rebuild};
+use aml_names::{Path, Seg};
+use aml_parse::parse_body;
+use aml_pool::{Board, FreeGate, PoolFault, crew, harvest};
+use aml_space::Space;
+use aml_text::term_text;
 use std::alloc::{AllocError, Global};
 use std::sync::Wait;
 use std::test::Fail;
 use std::thread::Threads;
+
+/// Whether the dumps of a folder are gathered, or memory was refused.
+fn has_dumps(alloc: Global) -> bool {
+    let mut folder = MemoryFolder::new(alloc, &FILES, 5, FolderFault::Failed);
+    match gather(alloc, &mut folder) {
+        Ok(dumps) => are_gathered(&dumps),
+        Err(fault) => matches!(fault, GatherFault::NoMemory),
+    }
+}
+
+/// Whether a file that can't be read is named, or memory was refused.
+fn names_file(alloc: Global) -> bool {
+    let mut folder = MemoryFolder::new(alloc, &FILES, 2, FolderFault::Failed);
+    match gather(alloc, &mut folder) {
+        Err(GatherFault::File(name)) => name.as_str() == "ssdt1.dat",
+        Err(fault) => matches!(fault, GatherFault::NoMemory),
+        Ok(_) => false,
+    }
+}
+
+#[test]
+fn whole_folder_or_no_memory(rt: HostRuntime) -> Result<(), Fail> {
+    assert!(rt; has_dumps(rt.alloc()));
+    assert!(rt; names_file(rt.alloc()));
+    Ok(())
+}
+
+/// Whether the counts of a file are read, or memory was refused.
+fn has_counts(alloc: Global) -> bool {
+    match parse_externals(alloc, b"\\_SB_.PC00._EJ0 1\n\\BBBB 2") {
+        Ok(given) => {
+            let [(long, one), (short, two)] = given.as_slice() else {
+                return false;
+            };
+            long.segs().len() == 3 && short.segs().len() == 1 && (*one, *two) == (1, 2)
+        }
+        Err(fault) => matches!(fault, ExternalsFault::NoMemory),
+    }
+}
+
+#[test]
+fn whole_counts_or_no_memory(rt: HostRuntime) -> Result<(), Fail> {
+    assert!(rt; has_counts(rt.alloc()));
+    Ok(())
+}
+
+/// A table of two methods, a device and a region whose offset is a name.
+const CODE: &[u8] =
+    b"\x14\x06BBBB\x01\x10\x1A\\_SB_\x5B\x82\x12DEV0\x14\x0CAAAA\x00\xA4BBBB\x60\x5B\x80REG0\x01ZZZZ\x01";
+
+/// Whether the rows of a namespace are those of these segments, or memory was refused.
+fn has_rows(alloc: Global, space: &Space, names: &[&[&str]]) -> bool {
+    let Ok(rows) = space.rows(alloc) else {
+        return true;
+    };
+    rows.len() == names.len()
+        && rows.iter().zip(names).all(|(row, names)| {
+            row.path
+                .segs()
+                .iter()
+                .map(|seg| seg.0.as_slice())
+                .eq(names.iter().map(|name| name.as_bytes()))
+        })
+}
+
+/// Whether the bytes of a table are made anew, or memory was refused.
+fn has_bytes(alloc: Global, loaded: &Loaded<'_>) -> bool {
+    match rebuild(alloc, loaded, 0) {
+        Ok(bytes) => bytes.as_slice() == CODE,
+        Err(_) => true,
+    }
+}
+
+/// Whether a table loads, with a count that is given, or memory was refused.
+fn has_load(alloc: Global) -> Result<bool, AllocError> {
+    let given = [(Path::below(alloc, &[Seg(*b"ZZZZ")], &[])?, 0)];
+    match load(alloc, &[CODE], &given) {
+        Ok(loaded) => {
+            let names = [
+                ["BBBB"].as_slice(),
+                ["REG0"].as_slice(),
+                ["_SB_", "DEV0"].as_slice(),
+                ["_SB_", "DEV0", "AAAA"].as_slice(),
+            ];
+            Ok(has_bytes(alloc, &loaded) && has_rows(alloc, &loaded.space, &names))
+        }
+        Err(fault) => Ok(matches!(fault, LoadFault::NoMemory)),
+    }
+}
+
+#[test]
+fn whole_load_or_no_memory(rt: HostRuntime) -> Result<(), Fail> {
+    assert!(rt; has_load(rt.alloc()).unwrap_or(true));
+    Ok(())
+}
+
+/// Whether the text of a term is whole, or memory was refused.
+fn has_text(alloc: Global) -> bool {
+    let code = b"\xA0\x03\x60\xA3".as_slice();
+    let Ok(terms) = parse_body(alloc, code, &Bare, &Path::root(alloc)) else {
+        return true;
+    };
+    let [term] = terms.as_slice() else {
+        return false;
+    };
+    match term_text(alloc, term) {
+        Ok(text) => text.as_slice() == b"If (Local0) {\n  Noop\n}".as_slice(),
+        Err(_) => true,
+    }
+}
+
+#[test]
+fn whole_text_or_no_memory(rt: HostRuntime) -> Result<(), Fail> {
+    assert!(rt; has_text(rt.alloc()));
+    Ok(())
+}
 
 /// An SSDT, a DSDT and an SSDT without addresses.
 fn named(alloc: Global) -> Result<Vec<Dump>, AllocError> {
@@ -86,6 +211,67 @@ fn whole_listing_or_want(rt: HostRuntime) -> Result<(), Fail> {
         for workers in [1, 2] {
             assert!(rt; has_bodies(&rt, rt.alloc(), &dumps, workers));
         }
+    }
+    Ok(())
+}
+
+/// Whether both tables are the same when they are made anew, or memory was refused.
+fn has_checks<T: Threads + Wait + Sync>(threads: &T, alloc: Global, dumps: &[Dump]) -> bool {
+    let Ok(listing) = disassemble(threads, alloc, dumps, any_sum(alloc), 1, &FreeGate) else {
+        return true;
+    };
+    let Ok(checks) = check(alloc, &listing) else {
+        return true;
+    };
+    let [dsdt, ssdt] = checks.as_slice() else {
+        return false;
+    };
+    dsdt.same && ssdt.same && (dsdt.methods, dsdt.raw, ssdt.methods, ssdt.raw) == (2, 1, 1, 0)
+}
+
+#[test]
+fn whole_check_or_no_memory(rt: HostRuntime) -> Result<(), Fail> {
+    if let Ok(dumps) = three_methods(rt.alloc()) {
+        assert!(rt; has_checks(&rt, rt.alloc(), &dumps));
+    }
+    Ok(())
+}
+
+/// Whether so many workers do all of seven pieces of work, or memory or a thread was refused.
+fn has_share<T: Threads + Wait + Sync>(threads: &T, alloc: Global, workers: u32) -> bool
+    requires { (1 ≤ workers) × (workers ≤ 64) }
+{
+    let Ok((board, seat)) = Board::new(alloc, 7) else {
+        return true;
+    };
+    match crew(threads, alloc, &board, seat, 0, workers, &Square, &FreeGate) {
+        Ok(share) => {
+            share.done.len() == 7
+                && share.drawn.len() == workers as usize
+                && board.close(share.seat).numbers == 7
+        }
+        Err(PoolFault::NoThread | PoolFault::NoMemory) => true,
+    }
+}
+
+/// Whether so many workers answer the squares below seven, or memory or a thread was refused.
+fn has_squares<T: Threads + Wait + Sync>(threads: &T, alloc: Global, workers: u32) -> bool
+    requires { (1 ≤ workers) × (workers ≤ 64) }
+{
+    match harvest(threads, alloc, workers, 7, &Square, &FreeGate) {
+        Ok(found) => {
+            found.items.as_slice() == [0, 1, 4, 9, 16, 25, 36].as_slice()
+                && found.drawn.len() == workers as usize
+        }
+        Err(PoolFault::NoThread | PoolFault::NoMemory) => true,
+    }
+}
+
+#[test]
+fn whole_work_or_want(rt: HostRuntime) -> Result<(), Fail> {
+    for workers in [1, 2, 3] {
+        assert!(rt; has_share(&rt, rt.alloc(), workers));
+        assert!(rt; has_squares(&rt, rt.alloc(), workers));
     }
     Ok(())
 }

@@ -1,4 +1,5 @@
 //! Runs whose writer fails, or takes few bytes a call.
+use super::fixtures::{any_sum, push_table};
 use acpi_tables::Dump;
 use acpidis::{Options, run};
 use aml_pool::FreeGate;
@@ -132,25 +133,73 @@ fn a_writer_that_takes_nothing_is_a_fault(rt: HostRuntime) -> Result<(), Fail> {
     Ok(())
 }
 
-#[test]
-fn an_error_line_that_fails_changes_no_status(rt: HostRuntime) -> Result<(), Fail> {
-    let alloc = rt.alloc();
-    let dumps = set(alloc, b"")?;
-    let mut out = Vec::new(alloc);
-    let mut error = Slow::new(alloc, 5, 5);
-    let status = run(
-        &rt,
+/// A DSDT of a method whose body calls what no table has.
+fn unread(alloc: Global) -> Result<Vec<Dump>, AllocError> {
+    let mut dumps = Vec::new(alloc);
+    push_table(
         alloc,
-        &dumps,
-        options(alloc),
+        &mut dumps,
+        None,
+        b"DSDT",
+        b"\x14\x0BFOO_\x00\xA4BBBB",
+    )?;
+    Ok(dumps)
+}
+
+/// The status of a run to a writer of so much room, whose standard error is this one.
+fn status_beside<T: Threads + Wait + Sync>(
+    threads: &T,
+    alloc: Global,
+    dumps: &[Dump],
+    room: usize,
+    error: &mut Slow,
+) -> u8 {
+    let mut out = Slow::new(alloc, room, usize::MAX);
+    run(
+        threads,
+        alloc,
+        dumps,
+        any_sum(alloc),
         1,
         false,
         &FreeGate,
         &mut out,
-        &mut error,
-    );
-    assert_eq!(rt; status, 1);
-    assert_eq!(rt; out.len(), 0);
-    assert_eq!(rt; error.taken.as_slice(), b"acpid".as_slice());
+        error,
+    )
+}
+
+/// Whether a run has this status wherever standard error ends, and that takes the first bytes of this line.
+fn has_status<T: Threads + Wait + Sync>(
+    threads: &T,
+    alloc: Global,
+    dumps: &[Dump],
+    room: usize,
+    status: u8,
+    line: &str,
+) -> bool {
+    let line = line.as_bytes();
+    for taken in 0..=line.len() {
+        let mut error = Slow::new(alloc, taken, 7);
+        let seen = status_beside(threads, alloc, dumps, room, &mut error);
+        if seen != status || Some(error.taken.as_slice()) != line.get(..taken) {
+            return false;
+        }
+    }
+    true
+}
+
+/// A set that is refused, one with a body that can't be read, and one whose text isn't taken.
+#[test]
+fn an_error_line_that_fails_changes_no_status(rt: HostRuntime) -> Result<(), Fail> {
+    let alloc = rt.alloc();
+    let refused = set(alloc, b"")?;
+    let line = "acpidis: table \"a\": Short\n";
+    assert!(rt; has_status(&rt, alloc, &refused, usize::MAX, 1, line));
+    let raw = unread(alloc)?;
+    let line = "acpidis: body \\FOO_: UnknownName at 1\n";
+    assert!(rt; has_status(&rt, alloc, &raw, usize::MAX, 3, line));
+    let whole = set(alloc, &METHOD)?;
+    let line = "acpidis: write failed after 10 bytes\n";
+    assert!(rt; has_status(&rt, alloc, &whole, 10, 4, line));
     Ok(())
 }

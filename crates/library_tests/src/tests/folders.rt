@@ -1,0 +1,183 @@
+//! Folders kept in memory, of whose calls each fails in turn.
+ghost use Rattle.std.specs.Prelude.{◌≡◌, ⊤, IfErr};
+ghost use Rattle.acpi_folder.specs.Folders.{Answers};
+ghost use Rattle.acpi_folder.specs.declared.folder.FolderFault.TheVariants.{Failed};
+
+use acpi_folder::{Folder, FolderFault, gather};
+use acpi_tables::Dump;
+use std::alloc::Global;
+use std::test::Fail;
+
+/// Files by their names, and a fault that comes once so many calls were answered.
+#[derive(Clone, Copy)]
+pub struct MemoryFolder<'a> {
+    alloc: Global,
+    files: &'a [(&'a str, &'a [u8])],
+    answered: u32,
+    fault: FolderFault,
+}
+
+impl<'a> MemoryFolder<'a> {
+    /// Its first calls, so many of them, are answered.
+    pub fn new(
+        alloc: Global,
+        files: &'a [(&'a str, &'a [u8])],
+        answered: u32,
+        fault: FolderFault,
+    ) -> MemoryFolder<'a> {
+        MemoryFolder {
+            alloc,
+            files,
+            answered,
+            fault,
+        }
+    }
+
+    /// Whether the next call is answered.
+    fn turn(&mut self) -> Result<(), FolderFault>
+        ensures refused { IfErr result (λ fault. fault ≡ self.old.fault) }
+        ensures same { self.new.fault ≡ self.old.fault }
+    {
+        match self.answered.checked_sub(1) {
+            None => Err(self.fault),
+            Some(left) => {
+                self.answered = left;
+                Ok(())
+            }
+        }
+    }
+}
+
+impl Folder for MemoryFolder<'_> {
+    // A call fails only where that is the fault to come.
+    ghost answers = { λ folder. record {
+      lists = λ _. ⊤;
+      unlisted = folder.fault ≡ Failed;
+      holds = λ _ _. ⊤;
+      unread = λ _. folder.fault ≡ Failed;
+    } };
+
+    fn list(&mut self) -> Result<Vec<String>, FolderFault> {
+        self.turn()?;
+        let mut names = Vec::new(self.alloc);
+        for (name, _) in self.files {
+            names.push(String::from_str(self.alloc, name)?)?;
+        }
+        Ok(names)
+    }
+
+    fn read(&mut self, name: &str, limit: u64) -> Result<Vec<u8>, FolderFault> {
+        self.turn()?;
+        let mut bytes = Vec::new(self.alloc);
+        for (other, content) in self.files {
+            if *other == name {
+                bytes.extend_from_slice(content)?;
+            }
+        }
+        bytes.truncate(limit as usize);
+        Ok(bytes)
+    }
+}
+
+/// Three tables and their map, in no order.
+pub const FILES: [(&str, &[u8]); 4] = [
+    ("ssdt2.dat", b"two"),
+    ("tables.map", b"0000000000004000 dsdt.dat\n"),
+    ("dsdt.dat", b"none"),
+    ("ssdt1.dat", b"one"),
+];
+
+fn is_dump(dump: &Dump, name: &str, address: Option<u64>, bytes: &[u8]) -> bool {
+    dump.name.as_str() == name && dump.address == address && dump.bytes.as_slice() == bytes
+}
+
+/// Whether these are the dumps of those files.
+pub fn are_gathered(dumps: &[Dump]) -> bool {
+    let [dsdt, first, second] = dumps else {
+        return false;
+    };
+    is_dump(dsdt, "dsdt.dat", Some(0x4000), b"none")
+        && is_dump(first, "ssdt1.dat", None, b"one")
+        && is_dump(second, "ssdt2.dat", None, b"two")
+}
+
+/// What is printed where so many calls are answered before this fault.
+fn line_of(
+    alloc: Global,
+    files: &[(&str, &[u8])],
+    answered: u32,
+    fault: FolderFault,
+) -> Result<String, Fail> {
+    let mut folder = MemoryFolder::new(alloc, files, answered, fault);
+    match gather(alloc, &mut folder) {
+        Ok(dumps) => Ok(format!(in alloc; "{} dumps", dumps.len())?),
+        Err(fault) => Ok(format!(in alloc; "{fault}")?),
+    }
+}
+
+#[test]
+fn each_call_of_a_folder_fails_in_turn(rt: HostRuntime) -> Result<(), Fail> {
+    let alloc = rt.alloc();
+    let lines = [
+        "cannot read folder",
+        "cannot read \"dsdt.dat\"",
+        "cannot read \"ssdt1.dat\"",
+        "cannot read \"ssdt2.dat\"",
+        "cannot read \"tables.map\"",
+        "3 dumps",
+    ];
+    for (answered, line) in (0..).zip(lines) {
+        let seen = line_of(alloc, &FILES, answered, FolderFault::Failed)?;
+        assert_eq!(rt; seen.as_str(), line);
+        let seen = line_of(alloc, &FILES, answered, FolderFault::NoMemory)?;
+        assert!(rt; seen.as_str() == "NoMemory" || answered == 5);
+    }
+    Ok(())
+}
+
+#[test]
+fn what_a_folder_in_memory_has(rt: HostRuntime) -> Result<(), Fail> {
+    let alloc = rt.alloc();
+    let mut folder = MemoryFolder::new(alloc, &FILES, 5, FolderFault::Failed);
+    let Ok(dumps) = gather(alloc, &mut folder) else {
+        panic!(rt; "no call failed")
+    };
+    assert!(rt; are_gathered(&dumps));
+    Ok(())
+}
+
+#[test]
+fn maps_that_are_refused(rt: HostRuntime) -> Result<(), Fail> {
+    let alloc = rt.alloc();
+    let maps = [
+        (b"4000 a.dat\n".as_slice(), "tables.map line 1: BadLine"),
+        (
+            b"0000000000004000 a.dat\n0000000000005000 b.dat".as_slice(),
+            "tables.map line 2: NoSuchFile",
+        ),
+        (
+            b"0000000000004000 a.dat\n0000000000005000 a.dat".as_slice(),
+            "tables.map line 2: Again",
+        ),
+    ];
+    for (map, line) in maps {
+        let files = [("a.dat", b"".as_slice()), ("tables.map", map)];
+        let seen = line_of(alloc, &files, 3, FolderFault::Failed)?;
+        assert_eq!(rt; seen.as_str(), line);
+    }
+    Ok(())
+}
+
+/// The map isn't counted. Too many files are seen before any of them is read.
+#[test]
+fn the_greatest_number_of_files(rt: HostRuntime) -> Result<(), Fail> {
+    let alloc = rt.alloc();
+    let mut files = vec![in alloc; ("a.dat", b"".as_slice()); 512]?;
+    files.push(("tables.map", b"".as_slice()))?;
+    let seen = line_of(alloc, &files, 514, FolderFault::Failed)?;
+    assert_eq!(rt; seen.as_str(), "512 dumps");
+    files.push(("a.dat", b"".as_slice()))?;
+    let seen = line_of(alloc, &files, 1, FolderFault::Failed)?;
+    assert_eq!(rt; seen.as_str(), "TooManyTables");
+    Ok(())
+}
