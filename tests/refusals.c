@@ -1,0 +1,60 @@
+/* Loaded into a program ahead of the C library, this refuses some of its growths, or one start of a thread.
+ *
+ * REFUSE_GROWTH=N refuses the Nth call of malloc, calloc and realloc, be it the program's own or the C library's, as at the
+ * start of a thread; REFUSE_FROM=N that call and all later ones; REFUSE_START=N the Nth start. At the program's end file 3
+ * gets a line: how many growths there were, how many starts, how many of these were refused, and how many joins. */
+#define _GNU_SOURCE
+#include <dlfcn.h>
+#include <errno.h>
+#include <pthread.h>
+#include <stdatomic.h>
+#include <stdio.h>
+#include <stdlib.h>
+#include <unistd.h>
+
+extern void *__libc_malloc(size_t);
+extern void *__libc_calloc(size_t, size_t);
+extern void *__libc_realloc(void *, size_t);
+
+static atomic_ulong growths, starts, refused_starts, joins;
+
+static unsigned long number_in(const char *name) {
+    const char *word = getenv(name);
+    return word ? strtoul(word, NULL, 10) : 0;
+}
+
+static int refuses_growth(void) {
+    unsigned long number = atomic_fetch_add(&growths, 1) + 1, from = number_in("REFUSE_FROM");
+    if (number != number_in("REFUSE_GROWTH") && (from == 0 || number < from)) return 0;
+    errno = ENOMEM;
+    return 1;
+}
+
+void *malloc(size_t size) { return refuses_growth() ? NULL : __libc_malloc(size); }
+
+void *calloc(size_t count, size_t size) { return refuses_growth() ? NULL : __libc_calloc(count, size); }
+
+void *realloc(void *old, size_t size) { return refuses_growth() ? NULL : __libc_realloc(old, size); }
+
+int pthread_create(pthread_t *thread, const pthread_attr_t *attributes, void *(*run)(void *), void *argument) {
+    int (*create)(pthread_t *, const pthread_attr_t *, void *(*)(void *), void *) = dlsym(RTLD_NEXT, "pthread_create");
+    unsigned long number = atomic_fetch_add(&starts, 1) + 1;
+    int fault = number == number_in("REFUSE_START") ? EAGAIN : create(thread, attributes, run, argument);
+    if (fault) atomic_fetch_add(&refused_starts, 1);
+    return fault;
+}
+
+int pthread_join(pthread_t thread, void **result) {
+    int (*join)(pthread_t, void **) = dlsym(RTLD_NEXT, "pthread_join");
+    atomic_fetch_add(&joins, 1);
+    return join(thread, result);
+}
+
+void _exit(int status) {
+    void (*leave)(int) = dlsym(RTLD_NEXT, "_exit");
+    char line[100];
+    int length = snprintf(line, sizeof line, "%lu %lu %lu %lu\n", growths, starts, refused_starts, joins);
+    if (write(3, line, length) == length) leave(status);
+    leave(status);
+    __builtin_unreachable();
+}
