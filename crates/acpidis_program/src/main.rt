@@ -10,6 +10,7 @@ use aml_names::Path;
 use aml_pool::FreeGate;
 use command_line::{CommandLine, Stop, read};
 use externals::{FileFault, read_externals};
+use std::io::{BufWriter, Write};
 use std::process::ExitCode;
 use std::sync::Wait;
 use std::thread::Threads;
@@ -22,7 +23,15 @@ const REFUSED: u8 = 1;
 
 fn main(rt: HostRuntime) -> ExitCode {
     match read(&rt) {
-        Ok(line) => ExitCode::from(run_folder(&rt, &rt, &line)),
+        Ok(line) => ExitCode::from(match BufWriter::new(rt.alloc(), rt.stderr()) {
+            // There may be a line for each of a million methods.
+            Ok(mut err) => {
+                let status = run_folder(&rt, &rt, &line, &mut err);
+                let _ = err.flush();
+                status
+            }
+            Err(_) => run_folder(&rt, &rt, &line, &mut rt.stderr()),
+        }),
         Err(Stop::Shown) => ExitCode::SUCCESS,
         Err(Stop::Refused) => ExitCode::from(COMMAND_LINE),
         Err(Stop::NoMemory) => {
@@ -33,19 +42,24 @@ fn main(rt: HostRuntime) -> ExitCode {
 }
 
 /// Disassembles the tables of a folder, the bodies of methods by workers on `threads`, and returns the exit status.
-fn run_folder<T: Threads + Wait + Sync>(rt: &HostRuntime, threads: &T, line: &CommandLine) -> u8 {
+fn run_folder<T: Threads + Wait + Sync, E: Write>(
+    rt: &HostRuntime,
+    threads: &T,
+    line: &CommandLine,
+    err: &mut E,
+) -> u8 {
     let mut folder = DiskFolder::new(rt, line.folder.as_str());
     let dumps = match gather(rt.alloc(), &mut folder) {
         Ok(dumps) => dumps,
         Err(fault) => {
-            let _ = eprintln!(rt; "acpidis: {fault}");
+            let _ = writeln!(err, "acpidis: {fault}");
             return REFUSED;
         }
     };
     let externals = match externals_of(rt, line) {
         Ok(externals) => externals,
         Err(fault) => {
-            let _ = eprintln!(rt; "acpidis: {fault}");
+            let _ = writeln!(err, "acpidis: {fault}");
             return REFUSED;
         }
     };
@@ -62,7 +76,7 @@ fn run_folder<T: Threads + Wait + Sync>(rt: &HostRuntime, threads: &T, line: &Co
         line.check,
         &FreeGate,
         &mut rt.stdout(),
-        &mut rt.stderr(),
+        err,
     )
 }
 
