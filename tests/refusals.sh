@@ -1,48 +1,90 @@
 #!/bin/sh
-# What the libraries answer where a growth or the start of a thread is refused. The tests of library_tests in `memory` are
-# run with each growth refused in turn, alone and with all later ones; those in `starts` with each start refused in turn.
-# They pass where the answer is the whole one, or says that memory or a thread was wanted. Each thread that was started has
-# to be joined.
+# What is answered where a growth or the start of a thread is refused: the whole answer, or the want of memory or a thread.
 #
-# It needs a C compiler, for refusals.c. The tests are proved and built first; then it takes some seconds.
+# The tests of library_tests in `memory` run with each growth refused in turn, by itself and with all later ones, those in
+# `starts` with each start. So does the program, over a set whose first method can't be read. Each thread that was started
+# has to be joined. It needs a C compiler, for refusals.c. Tests and program are proved and built first; then it takes
+# some ten seconds.
 top=$(CDPATH='' cd -- "$(dirname -- "$0")/.." && pwd) || exit 1
-cd "$top/crates/library_tests" || exit 1
 work=$(mktemp -d) || exit 1
 trap 'rm -rf "$work"' EXIT
 "${CC:-cc}" -O1 -shared -fPIC -o "$work/refusals.so" "$top/tests/refusals.c" -ldl || exit 1
-rt test -- memory >"$work/log" 2>&1 || { cat "$work/log"; exit 1; }
+(cd "$top/crates/library_tests" && rt test -- memory) >"$work/log" 2>&1 || { cat "$work/log"; exit 1; }
+"$top/acpidis" demo >/dev/null 2>"$work/log" || { cat "$work/log"; exit 1; }
+cd "$work" || exit 1
 passed=0
 
-# passes TEST HOW N: the test passes with the Nth call refused. Sets the numbers of growths, starts, refused starts and joins.
-passes() {
-    : >"$work/counts"
-    if ! env "$2=$3" LD_PRELOAD="$work/refusals.so" timeout 60 out/library_tests_tests "$1" \
-        >"$work/log" 2>&1 3>"$work/counts" ||
-        ! read -r growths starts refused joins <"$work/counts" || [ "$joins" != $((starts - refused)) ]; then
-        echo "FAILED $1, $2=$3"
-        cat "$work/log" "$work/counts"
-        echo "$passed passed, 1 failed"
-        exit 1
-    fi
-    passed=$((passed + 1))
+# run_refused HOW N COMMAND..: runs the command with its Nth growth or start refused. Sets its status, and how many
+# growths, starts, refused starts and joins there were.
+run_refused() {
+    refusal=$1=$2
+    shift 2
+    : >counts
+    env "$refusal" LD_PRELOAD=./refusals.so timeout 60 "$@" >text 2>lines 3>counts
+    status=$?
+    read -r growths starts refused joins <counts || status="$status, and no counts"
 }
 
-# tests_in MODULE: the tests of a module
-tests_in() {
-    out/library_tests_tests --list | sed -n "s/^\(tests::$1::.*\): test\$/\1/p"
-}
-
-# Each until the Nth call doesn't come any more.
-for test in $(tests_in memory); do
-    for how in REFUSE_GROWTH REFUSE_FROM; do
-        n=1
-        while passes "$test" "$how" "$n" && [ "$growths" -ge "$n" ]; do n=$((n + 1)); done
+# sweep RIGHT HOW COMMAND..: the command has a right answer whichever of its calls is refused. The last run is the first in
+# which there is none to refuse: one that is refused counts.
+sweep() {
+    right=$1 how=$2 n=0
+    shift 2
+    while :; do
+        n=$((n + 1))
+        run_refused "$how" "$n" "$@"
+        if ! "$right" || [ "$joins" != $((starts - refused)) ]; then
+            echo "FAILED $how=$n $*: status $status, counts $(cat counts)"
+            cat lines
+            echo "$passed passed, 1 failed"
+            exit 1
+        fi
+        passed=$((passed + 1))
+        calls=$growths
+        if [ "$how" = REFUSE_START ]; then calls=$starts; fi
+        if [ "$calls" -lt "$n" ]; then break; fi
     done
-    echo "$test: $growths growths"
+    shown=$*
+    echo "$how ${shown##*/}: $calls"
+}
+
+has_passed() {
+    [ "$status" = 0 ]
+}
+
+# Refused while the command line is read, the status is 2; else it is 1, and nothing is printed.
+is_whole_or_want() {
+    if [ "$status" = "$whole" ]; then
+        cmp -s text whole_text && cmp -s lines whole_lines
+        return
+    fi
+    case $status:$(cat text lines) in
+    '1:acpidis: NoMemory' | '1:acpidis: NoThread') ;;
+    '2:error: out of memory'*) ;;
+    *) return 1 ;;
+    esac
+}
+
+tests=$top/crates/library_tests/out/library_tests_tests
+for test in $("$tests" --list | sed -n 's/^\(tests::memory::.*\): test$/\1/p'); do
+    sweep has_passed REFUSE_GROWTH "$tests" "$test"
+    sweep has_passed REFUSE_FROM "$tests" "$test"
 done
-for test in $(tests_in starts); do
-    n=1
-    while passes "$test" REFUSE_START "$n" && [ "$starts" -ge "$n" ]; do n=$((n + 1)); done
-    echo "$test: $starts starts"
+for test in $("$tests" --list | sed -n 's/^\(tests::starts::.*\): test$/\1/p'); do
+    sweep has_passed REFUSE_START "$tests" "$test"
+done
+
+mkdir set
+{ printf 'DSDT\063\0\0\0' && head -c 28 /dev/zero && printf '\024\016AAAA\0\244BBBB\001\012\005'; } >set/dsdt.dat
+{ printf 'SSDT\055\0\0\0' && head -c 28 /dev/zero && printf '\024\010FOO_\001\244h'; } >set/ssdt1.dat
+: >set/tables.map
+printf '\\CCCC 2\n' >counts_given
+for words in '--workers 1' '--workers 3' --check '--externals counts_given'; do
+    # shellcheck disable=SC2086
+    set -- "$top/out/acpidis" --any-sum $words set
+    "$@" >whole_text 2>whole_lines
+    whole=$?
+    [ "$whole" != 1 ] || { cat whole_lines; exit 1; }
+    for how in REFUSE_GROWTH REFUSE_FROM REFUSE_START; do sweep is_whole_or_want "$how" "$@"; done
 done
 echo "$passed passed, 0 failed"
