@@ -167,17 +167,3 @@ fn maps_that_are_refused(rt: HostRuntime) -> Result<(), Fail> {
     }
     Ok(())
 }
-
-/// The map isn't counted. Too many files are seen before any of them is read.
-#[test]
-fn the_greatest_number_of_files(rt: HostRuntime) -> Result<(), Fail> {
-    let alloc = rt.alloc();
-    let mut files = vec![in alloc; ("a.dat", b"".as_slice()); 512]?;
-    files.push(("tables.map", b"".as_slice()))?;
-    let seen = line_of(alloc, &files, 514, FolderFault::Failed)?;
-    assert_eq!(rt; seen.as_str(), "512 dumps");
-    files.push(("a.dat", b"".as_slice()))?;
-    let seen = line_of(alloc, &files, 1, FolderFault::Failed)?;
-    assert_eq!(rt; seen.as_str(), "TooManyTables");
-    Ok(())
-}

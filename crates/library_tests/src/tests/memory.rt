@@ -3,7 +3,7 @@
 //! `tests/refusals.sh` runs each of these tests again and again, with each growth refused in turn.
 ghost use Rattle.std.specs.Prelude.{◌≤◌};
 
-use super::fixtures::{Bare, Square, any_sum, push_dump, push_table};
+use super::fixtures::{Bare, Square, any_sum, codes, push_dump, push_table};
 use super::folders::{FILES, MemoryFolder, are_gathered};
 use super::listings::{has_three_bodies, three_methods};
 use acpi_folder::{ExternalsFault, FolderFault, GatherFault, gather, parse_externals};
@@ -14,7 +14,7 @@ use aml_names::{Path, Seg};
 use aml_parse::parse_body;
 use aml_pool::{Board, FreeGate, PoolFault, crew, harvest};
 use aml_space::Space;
-use aml_text::term_text;
+use aml_text::{Body, term_text};
 use std::alloc::{AllocError, Global};
 use std::sync::Wait;
 use std::test::Fail;
@@ -85,9 +85,9 @@ fn has_rows(alloc: Global, space: &Space, names: &[&[&str]]) -> bool {
 }
 
 /// Whether the bytes of a table are made anew, or memory was refused.
-fn has_bytes(alloc: Global, loaded: &Loaded<'_>) -> bool {
+fn has_bytes(alloc: Global, loaded: &Loaded<'_>, code: &[u8]) -> bool {
     match rebuild(alloc, loaded, 0) {
-        Ok(bytes) => bytes.as_slice() == CODE,
+        Ok(bytes) => bytes.as_slice() == code,
         Err(_) => true,
     }
 }
@@ -103,7 +103,7 @@ fn has_load(alloc: Global) -> Result<bool, AllocError> {
                 ["_SB_", "DEV0"].as_slice(),
                 ["_SB_", "DEV0", "AAAA"].as_slice(),
             ];
-            Ok(has_bytes(alloc, &loaded) && has_rows(alloc, &loaded.space, &names))
+            Ok(has_bytes(alloc, &loaded, CODE) && has_rows(alloc, &loaded.space, &names))
         }
         Err(fault) => Ok(matches!(fault, LoadFault::NoMemory)),
     }
@@ -112,6 +112,33 @@ fn has_load(alloc: Global) -> Result<bool, AllocError> {
 #[test]
 fn whole_load_or_no_memory(rt: HostRuntime) -> Result<(), Fail> {
     assert!(rt; has_load(rt.alloc()).unwrap_or(true));
+    Ok(())
+}
+
+/// Whether a table by itself is listed, each body as terms, and has its bytes, or memory was refused.
+fn is_listed<T: Threads + Wait + Sync>(threads: &T, alloc: Global, code: &[u8]) -> bool {
+    let mut dumps = Vec::new(alloc);
+    if push_table(alloc, &mut dumps, None, b"DSDT", code).is_err() {
+        return true;
+    }
+    match disassemble(threads, alloc, &dumps, any_sum(alloc), 1, &FreeGate) {
+        Ok(listing) => {
+            let trees = listing
+                .bodies
+                .iter()
+                .all(|body| matches!(body, Body::Tree(_)));
+            trees && has_bytes(alloc, &listing.loaded, code)
+        }
+        Err(refusal) => matches!(refusal, Refusal::NoMemory),
+    }
+}
+
+#[test]
+fn whole_tables_or_no_memory(rt: HostRuntime) -> Result<(), Fail> {
+    // The last five are refused for what they are.
+    for code in codes().iter().take(14) {
+        assert!(rt; is_listed(&rt, rt.alloc(), code));
+    }
     Ok(())
 }
 
