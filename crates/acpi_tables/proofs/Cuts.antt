@@ -9,8 +9,8 @@ use Rattle.std.specs.List.{AllByRecursion, concat}
 use Rattle.acpi_tables.specs.Bytes.{bytes_at, number_at}
 use Rattle.acpi_tables.specs.Madt.{HoldsRecord, HoldsMadt, BreaksAt, IsRecord, IsCut, begins_whole, record_bytes_at, record_end, records_within, records_of, meaning_of, seen_by, RefusesMadt}
 use Rattle.acpi_tables.specs.declared.madt.MadtRecord.{MadtRecord}
-use Rattle.acpi_tables.specs.declared.fault.Bad.{Bad}
-use Rattle.acpi_tables.specs.declared.fault.Bad.TheVariants.{TooManyTables, TooLarge, Short, BadSum, BadRoot, RootMissing, FadtMissing, FadtShort, MadtRecord as BadRecord, NoDsdt, TwoDsdts, NoMemory}
+use Rattle.acpi_tables.specs.declared.faults.Bad.{Bad}
+use Rattle.acpi_tables.specs.declared.faults.Bad.TheVariants.{TooManyTables, TooLarge, Short, BadSum, BadRoot, RootMissing, FadtMissing, FadtShort, MadtRecord as BadRecord, NoDsdt, TwoDsdts, NoMemory}
 use Rattle.acpi_tables.proofs.Numbers.{number_at-one, length-bytes_at, get_or-bytes_at}
 
 -- whole records up to an offset

@@ -4,9 +4,9 @@ use Rattle.std.proofs.lemmas.Option.{same_Some}
 use Rattle.acpi_tables.specs.declared.dump.Dump.{Dump}
 use Rattle.acpi_tables.specs.declared.dump.Kind.{Kind}
 use Rattle.acpi_tables.specs.declared.dump.Kind.TheVariants.{Root, Facs, Standard}
-use Rattle.acpi_tables.specs.declared.fault.Bad.{Bad}
-use Rattle.acpi_tables.specs.declared.fault.Bad.TheVariants.{Short, BadSum, BadRoot, RootMissing, FadtMissing, FadtShort, MadtRecord, NoDsdt, TwoDsdts}
-use Rattle.acpi_tables.specs.declared.fault.TableFault.{TableFault}
+use Rattle.acpi_tables.specs.declared.faults.Bad.{Bad}
+use Rattle.acpi_tables.specs.declared.faults.Bad.TheVariants.{Short, BadSum, BadRoot, RootMissing, FadtMissing, FadtShort, MadtRecord, NoDsdt, TwoDsdts}
+use Rattle.acpi_tables.specs.declared.faults.TableFault.{TableFault}
 use Rattle.acpi_tables.specs.Header.{table_of}
 use Rattle.acpi_tables.specs.Dumps.{kind_of, HoldsShape, HasSums, HoldsContent, HoldsDump, RefusesRoot, RefusesFacs, RefusesContent, RefusesTable, RefusesBy, RefusesDump}
 use Rattle.acpi_tables.specs.Order.{AreTables, bytes_of, has_signature, signed_at, list_of, listed_by, dsdt_address, is_addressed, IsNamed, IsChained, IsOrder, RefusesAll, RefusesPlace, RefusesOrder, RefusesBytes, Refuses}

@@ -9,8 +9,8 @@ use Rattle.acpi_tables.specs.Fadt.{HoldsFadt}
 use Rattle.acpi_tables.specs.Madt.{HoldsMadt, RefusesMadt}
 use Rattle.acpi_tables.specs.declared.dump.Kind.{Kind}
 use Rattle.acpi_tables.specs.declared.dump.Kind.TheVariants.{Root, Facs, Standard}
-use Rattle.acpi_tables.specs.declared.fault.Bad.{Bad}
-use Rattle.acpi_tables.specs.declared.fault.Bad.TheVariants.{TooLarge, Short, BadSum, BadRoot, FadtShort, MadtRecord}
+use Rattle.acpi_tables.specs.declared.faults.Bad.{Bad}
+use Rattle.acpi_tables.specs.declared.faults.Bad.TheVariants.{TooLarge, Short, BadSum, BadRoot, FadtShort, MadtRecord}
 
 -- How a dump is read: the RSDP (section 5.2.5) and the FACS (section 5.2.10) have no standard header.
 abbrev pub kind_of : List ℕ → Kind

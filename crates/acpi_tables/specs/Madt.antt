@@ -6,8 +6,8 @@ use Rattle.std.specs.List.{AllByRecursion, concat}
 use Rattle.acpi_tables.specs.Bytes.{bytes_at, number_at}
 use Rattle.acpi_tables.specs.Fields.{value_in}
 use Rattle.acpi_tables.specs.Records.{kind_of, row_of, fields_by}
-use Rattle.acpi_tables.specs.declared.fault.Bad.{Bad}
-use Rattle.acpi_tables.specs.declared.fault.Bad.TheVariants.{Short, MadtRecord as BadRecord}
+use Rattle.acpi_tables.specs.declared.faults.Bad.{Bad}
+use Rattle.acpi_tables.specs.declared.faults.Bad.TheVariants.{Short, MadtRecord as BadRecord}
 use Rattle.acpi_tables.specs.declared.madt.MadtRecord.{MadtRecord}
 use Rattle.acpi_tables.specs.declared.madt.MadtRecord.TheVariants.{LocalApic, IoApic, Override, NmiSource, LocalNmi}
 use Rattle.acpi_tables.specs.declared.madt.MadtRecord.TheVariants.{AddressOverride, X2Apic, X2Nmi, Other}

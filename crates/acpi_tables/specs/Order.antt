@@ -14,9 +14,9 @@ use Rattle.acpi_tables.specs.Rsdt.{rsdt_entries}
 use Rattle.acpi_tables.specs.Xsdt.{entries_of}
 use Rattle.acpi_tables.specs.Dumps.{HoldsDump, RefusesDump}
 use Rattle.acpi_tables.specs.declared.dump.Dump.{Dump}
-use Rattle.acpi_tables.specs.declared.fault.Bad.{Bad}
-use Rattle.acpi_tables.specs.declared.fault.Bad.TheVariants.{TooManyTables, RootMissing, FadtMissing, NoDsdt, TwoDsdts}
-use Rattle.acpi_tables.specs.declared.fault.TableFault.{TableFault}
+use Rattle.acpi_tables.specs.declared.faults.Bad.{Bad}
+use Rattle.acpi_tables.specs.declared.faults.Bad.TheVariants.{TooManyTables, RootMissing, FadtMissing, NoDsdt, TwoDsdts}
+use Rattle.acpi_tables.specs.declared.faults.TableFault.{TableFault}
 
 -- the bytes of the dump at an index, and its name
 unfoldable pub bytes_of : List Dump → ℕ → List ℕ

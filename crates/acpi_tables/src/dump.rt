@@ -8,7 +8,7 @@ ghost use Rattle.acpi_tables.specs.Dumps.{RefusesRoot, RefusesFacs, RefusesConte
 
 use crate::bytes::{begins_with, sum, u32_at};
 use crate::fadt::Fadt;
-use crate::fault::Bad;
+use crate::faults::Bad;
 use crate::header::Header;
 use crate::madt::Madt;
 use crate::rsdp::{RSDP_SIGNATURE, Rsdp};

@@ -1,9 +1,9 @@
 //! The table that names the DSDT (ACPI 6.5, section 5.2.9).
 ghost use Rattle.std.specs.Prelude.{◌≡◌, ◌↔◌, ◌≤◌, map, IsOk, IfOk, IfErr};
-ghost use Rattle.acpi_tables.specs.declared.fault.Bad.TheVariants.{FadtShort};
+ghost use Rattle.acpi_tables.specs.declared.faults.Bad.TheVariants.{FadtShort};
 
 use crate::bytes::{u8_at, u16_at, u32_at, u64_at};
-use crate::fault::Bad;
+use crate::faults::Bad;
 
 /// Where Flags ends, the last field of the FADT of ACPI 1.0.
 const FLAGS_END: usize = 116;

@@ -1,9 +1,9 @@
 //! The header that the tables share (ACPI 6.5, section 5.2.6).
 ghost use Rattle.std.specs.Prelude.{◌≡◌, ◌↔◌, IsOk, IfOk, IfErr};
-ghost use Rattle.acpi_tables.specs.declared.fault.Bad.TheVariants.{Short};
+ghost use Rattle.acpi_tables.specs.declared.faults.Bad.TheVariants.{Short};
 
 use crate::bytes::{array_at, u8_at, u32_at};
-use crate::fault::Bad;
+use crate::faults::Bad;
 
 /// The bytes of a System Description Table Header.
 pub const HEADER_LENGTH: usize = 36;

@@ -2,24 +2,25 @@
 #![tactic(auto)]
 
 mod bytes;
-mod chain;
+mod by_chain;
 mod dump;
 mod fadt;
-mod fault;
+mod faults;
 mod fields;
 mod header;
 mod madt;
-mod names;
+mod by_name;
 mod order;
 mod rsdp;
 mod rsdt;
 mod xsdt;
 
 pub use bytes::{begins_with, little_endian, sum, u8_at, u32_at};
-pub use chain::dump_at;
+pub use by_chain::dump_at;
+pub use by_name::name_of;
 pub use dump::{Dump, Kind, MAX_DUMP_BYTES, table_of};
 pub use fadt::Fadt;
-pub use fault::{Bad, TableFault};
+pub use faults::{Bad, TableFault};
 pub use fields::{Base, RecordRow, TableField};
 pub use header::{HEADER_LENGTH, Header};
 pub use madt::{MADT_RECORDS, Madt, MadtRecord, MadtView};

@@ -3,11 +3,11 @@ ghost use Rattle.std.specs.Prelude.{◌≡◌, ◌⊎◌, ◌↔◌, ◌+◌, �
 ghost use Rattle.acpi_tables.specs.Bytes.{number_at};
 ghost use Rattle.acpi_tables.specs.Madt.{HoldsRecord, HoldsMadt, meaning_of, record_values, row_values};
 ghost use Rattle.acpi_tables.specs.Madt.{seen_by, record_bytes_at, record_end, records_of, RefusesMadt};
-ghost use Rattle.acpi_tables.specs.declared.fault.Bad.{Bad};
-ghost use Rattle.acpi_tables.specs.declared.fault.Bad.TheVariants.{NoMemory};
+ghost use Rattle.acpi_tables.specs.declared.faults.Bad.{Bad};
+ghost use Rattle.acpi_tables.specs.declared.faults.Bad.TheVariants.{NoMemory};
 
 use crate::bytes::{u8_at, u16_at, u32_at, u64_at};
-use crate::fault::Bad;
+use crate::faults::Bad;
 use std::alloc::{AllocError, Global};
 
 /// Where the records begin, behind the header and two fields.

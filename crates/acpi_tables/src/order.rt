@@ -1,12 +1,12 @@
 //! The order in which the definition blocks of a set of tables are loaded.
 ghost use Rattle.std.specs.Prelude.{◌≡◌, ◌⊎◌, ◌<◌, ◌≤◌, ◌∷◌, ℕ, List, None, IfOk, IfErr, OnOk, length};
-ghost use Rattle.acpi_tables.specs.declared.fault.Bad.TheVariants.{NoMemory};
-ghost use Rattle.acpi_tables.specs.declared.fault.TableFault.{TableFault};
+ghost use Rattle.acpi_tables.specs.declared.faults.Bad.TheVariants.{NoMemory};
+ghost use Rattle.acpi_tables.specs.declared.faults.TableFault.{TableFault};
 
-use crate::chain::order_by_chain;
+use crate::by_chain::order_by_chain;
 use crate::dump::{Dump, check_dump};
-use crate::fault::{Bad, TableFault};
-use crate::names::order_by_name;
+use crate::faults::{Bad, TableFault};
+use crate::by_name::order_by_name;
 use std::alloc::Global;
 
 /// The greatest number of dumps of a set.

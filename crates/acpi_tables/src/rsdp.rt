@@ -1,9 +1,9 @@
 //! The pointer from which the tables are found (ACPI 6.5, section 5.2.5.3).
 ghost use Rattle.std.specs.Prelude.{◌≡◌, ◌↔◌, IsOk, IfOk, IfErr, IsTrue};
-ghost use Rattle.acpi_tables.specs.declared.fault.Bad.TheVariants.{BadRoot};
+ghost use Rattle.acpi_tables.specs.declared.faults.Bad.TheVariants.{BadRoot};
 
 use crate::bytes::{array_at, begins_with, sum, u8_at, u32_at, u64_at};
-use crate::fault::Bad;
+use crate::faults::Bad;
 
 /// The bytes that every RSDP begins with.
 pub const RSDP_SIGNATURE: [u8; 8] = *b"RSD PTR ";

@@ -1,10 +1,10 @@
 //! The addresses of the other tables, where they have 32 bits (ACPI 6.5, section 5.2.7).
 ghost use Rattle.std.specs.Prelude.{◌≡◌, ◌<◌, ◌⊎◌, ◌↔◌, IsTrue, Some, IfOk, IfErr, OnOk, slice_get};
 ghost use Rattle.acpi_tables.specs.Rsdt.{HoldsRsdt, rsdt_entries, rsdt_entry_in, rsdt_count};
-ghost use Rattle.acpi_tables.specs.declared.fault.Bad.TheVariants.{BadRoot, NoMemory};
+ghost use Rattle.acpi_tables.specs.declared.faults.Bad.TheVariants.{BadRoot, NoMemory};
 
 use crate::bytes::u32_at;
-use crate::fault::Bad;
+use crate::faults::Bad;
 use crate::header::HEADER_LENGTH;
 use std::alloc::Global;
 

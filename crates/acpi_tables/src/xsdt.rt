@@ -1,10 +1,10 @@
 //! The addresses of the other tables, where they have 64 bits (ACPI 6.5, section 5.2.8).
 ghost use Rattle.std.specs.Prelude.{◌≡◌, ◌<◌, ◌⊎◌, ◌↔◌, IsTrue, Some, IfOk, IfErr, OnOk, slice_get};
 ghost use Rattle.acpi_tables.specs.Xsdt.{HoldsEntries, entries_of, entry_in, entry_count};
-ghost use Rattle.acpi_tables.specs.declared.fault.Bad.TheVariants.{BadRoot, NoMemory};
+ghost use Rattle.acpi_tables.specs.declared.faults.Bad.TheVariants.{BadRoot, NoMemory};
 
 use crate::bytes::u64_at;
-use crate::fault::Bad;
+use crate::faults::Bad;
 use crate::header::HEADER_LENGTH;
 use std::alloc::Global;
 

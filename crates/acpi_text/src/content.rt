@@ -1,7 +1,6 @@
 //! The lines below a table: the addresses of an XSDT or an RSDT, and the fields of a FADT.
 ghost use Rattle.std.specs.Prelude.{◌≡◌, ◌≤◌, length, option_map};
 ghost use Rattle.text_writer.specs.Prints.{Prints};
-ghost use Rattle.acpi_tables.specs.Order.{name_of};
 ghost use Rattle.acpi_tables.specs.Fields.{field_view, IsNarrow};
 ghost use Rattle.acpi_tables.specs.Rsdt.{HoldsRsdt};
 ghost use Rattle.acpi_tables.specs.Xsdt.{HoldsEntries};
@@ -10,19 +9,9 @@ ghost use Rattle.acpi_text.specs.Dumps.{rsdt_entry_line, rsdt_entry_lines, below
 
 use crate::fields::print_labelled;
 use crate::labels::{put_hex8, put_hex16, put_quoted};
-use acpi_tables::{Dump, Rsdt, TableField, Xsdt, dump_at};
+use acpi_tables::{Dump, Rsdt, TableField, Xsdt, dump_at, name_of};
 use std::io::Write;
 use text_writer::Out;
-
-/// The name of the dump at an index.
-fn name_at(dumps: &[Dump], index: usize) -> &[u8]
-    ensures { result.now ≡ name_of dumps.now index }
-{
-    match dumps.get(index) {
-        None => &[],
-        Some(dump) => dump.name.as_bytes(),
-    }
-}
 
 /// The name of the dump at an address.
 fn owner_of(dumps: &[Dump], address: u64) -> Option<&[u8]>
@@ -30,7 +19,7 @@ fn owner_of(dumps: &[Dump], address: u64) -> Option<&[u8]>
 {
     match dump_at(dumps, address) {
         None => None,
-        Some(index) => Some(name_at(dumps, index)),
+        Some(index) => Some(name_of(dumps, index)),
     }
 }
 

@@ -6,7 +6,7 @@
 #![tactic(auto)]
 
 mod board;
-mod fault;
+mod faults;
 mod gate;
 mod results;
 mod shelf;
@@ -14,7 +14,7 @@ mod work;
 mod workers;
 
 pub use board::{Board, Drawn, Seat};
-pub use fault::{NoMemory, PoolFault};
+pub use faults::{NoMemory, PoolFault};
 pub use gate::{FreeGate, Gate};
 pub use results::{Results, harvest};
 pub use shelf::{Shelf, ShelfFault};

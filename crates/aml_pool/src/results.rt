@@ -7,7 +7,7 @@ ghost use Rattle.aml_pool.specs.Shelves.{places_of};
 ghost use Rattle.aml_pool.specs.Harvests.{IsHarvest};
 
 use crate::board::Board;
-use crate::fault::PoolFault;
+use crate::faults::PoolFault;
 use crate::gate::Gate;
 use crate::shelf::Shelf;
 use crate::work::Work;

@@ -2,7 +2,7 @@
 ghost use Rattle.std.specs.Prelude.{◌≡◌, [], ◌≤◌, length, vec_capacity};
 ghost use Rattle.aml_pool.specs.Places.{vacant};
 
-use crate::fault::NoMemory;
+use crate::faults::NoMemory;
 use std::alloc::Global;
 
 /// Why a value was not filed. It comes back.

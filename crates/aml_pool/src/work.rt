@@ -1,7 +1,7 @@
 //! What workers do.
 ghost use Rattle.std.specs.Prelude.{ℕ, IfOk};
 
-use crate::fault::NoMemory;
+use crate::faults::NoMemory;
 
 /// Pieces of work, one for each number.
 pub trait Work {

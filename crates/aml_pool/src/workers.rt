@@ -5,7 +5,7 @@ ghost use Rattle.aml_pool.specs.Seats.{count_of, IsSeatOf, IsFresh, IsCut};
 ghost use Rattle.aml_pool.specs.Shares.{EachBelow, CanBegin, IsShare};
 
 use crate::board::{Board, Seat};
-use crate::fault::PoolFault;
+use crate::faults::PoolFault;
 use crate::gate::Gate;
 use crate::work::Work;
 use core::thread::Stack;

@@ -1,6 +1,5 @@
 //! The definition blocks of a listing.
 ghost use Rattle.std.specs.Prelude.{◌≡◌, option_map, slice_get, map};
-ghost use Rattle.acpi_tables.specs.Order.{name_of};
 ghost use Rattle.text_writer.specs.Prints.{Prints};
 ghost use Rattle.aml_text.specs.Lines.{blocks_text};
 ghost use Rattle.aml_text.specs.Views.{body_view, block_view};
@@ -8,7 +7,7 @@ ghost use Rattle.aml_text.specs.Listing.{indexes_in, blocks_in};
 
 use crate::blocks::{Block, print_block};
 use crate::listing::Listing;
-use acpi_tables::{Dump, Order};
+use acpi_tables::{Order, name_of};
 use std::io::Write;
 use text_writer::Out;
 
@@ -23,16 +22,6 @@ fn dump_index(order: &Order, table: usize) -> Option<usize>
     }
 }
 
-/// The name of the file of the dump at an index.
-fn name_at(dumps: &[Dump], index: usize) -> &[u8]
-    ensures { result.now ≡ name_of dumps.now index }
-{
-    match dumps.get(index) {
-        None => &[],
-        Some(dump) => dump.name.as_bytes(),
-    }
-}
-
 /// The definition block of a table, by the table's place in load order; none past the last.
 pub fn block_at<'s>(listing: &'s Listing<'_>, table: usize) -> Option<Block<'s>>
     ensures { option_map block_view result ≡ slice_get (blocks_in listing.now) table }
@@ -41,7 +30,7 @@ pub fn block_at<'s>(listing: &'s Listing<'_>, table: usize) -> Option<Block<'s>>
     let code = listing.loaded.tables.get(table)?;
     let nodes = listing.loaded.trees.get(table)?;
     Some(Block {
-        name: name_at(listing.dumps, dump),
+        name: name_of(listing.dumps, dump),
         code,
         nodes: nodes.as_slice(),
     })

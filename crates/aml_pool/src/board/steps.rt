@@ -7,7 +7,7 @@ ghost use Rattle.aml_pool.specs.Rule.{kept, given, FollowsMachine};
 ghost use Rattle.aml_pool.specs.Seats.{count_of, numbers_of, weight_of, HasEnded, IsDrawing, claimant_of, IsSeatOf};
 
 use crate::board::{Board, DrawPlay, Drawn, LookPlay, Part, Seat, SeatJoin, SeatSplit, View};
-use crate::fault::NoMemory;
+use crate::faults::NoMemory;
 use atomic_table::Table;
 use std::alloc::Global;
 use std::marker::Brand;

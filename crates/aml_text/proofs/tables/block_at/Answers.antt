@@ -31,8 +31,8 @@ returns-in_err-nodes c =
 pub returns : goal.returns
 returns c =
     let x = c.args.listing.now in
-    let name = named x.dumps.now (indexes_in x.order) c.args.table c.in_ok-dump.dump (sym c.dump_index.ensures ∙ c.in_ok-dump.was) ∙ ap Some (sym c.name_at.ensures) in
+    let name = named x.dumps.now (indexes_in x.order) c.args.table c.in_ok-dump.dump (sym c.dump_index.ensures ∙ c.in_ok-dump.was) ∙ ap Some (sym c.name_of.ensures) in
     let code = seen_there (λ b. b.now) x.loaded.tables.items c.deref.result.now c.args.table c.in_ok-code.code.now c.deref.ensures.value c.in_ok-code.ensures.lookup.3.0 c.in_ok-code.ensures.lookup.1 in
     let nodes = seen_there (λ t. nodes_view t.items) x.loaded.trees.items c.deref-2.result.now c.args.table c.in_ok-nodes.nodes.now c.deref-2.ensures.value c.in_ok-nodes.ensures.lookup.3.0 c.in_ok-nodes.ensures.lookup.1
     ∙ ap (λ ns. Some (nodes_view ns)) (sym c.as_slice.ensures.value) in
-    sym (whole_block (names_in x.dumps.now (indexes_in x.order)) (codes_view x.loaded.tables.items) (trees_view x.loaded.trees.items) c.args.table c.name_at.result.now c.in_ok-code.code.now.now (nodes_view c.as_slice.result.now) name code nodes)
+    sym (whole_block (names_in x.dumps.now (indexes_in x.order)) (codes_view x.loaded.tables.items) (trees_view x.loaded.trees.items) c.args.table c.name_of.result.now c.in_ok-code.code.now.now (nodes_view c.as_slice.result.now) name code nodes)

@@ -1,4 +1,0 @@
-use Rattle.acpi_tables.proofs.names.+ending_digits.Given as goal
-
-abbrev pub decreases-ending_digits : goal.decreases-ending_digits
-decreases-ending_digits l = l.count

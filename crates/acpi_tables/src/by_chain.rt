@@ -1,0 +1,204 @@
+//! The order of the definition blocks where addresses lead from the RSDP over the XSDT or RSDT and the FADT to a DSDT.
+ghost use Rattle.std.specs.Prelude.{◌≡◌, ◌⊎◌, ℕ, List, None, true, false, length};
+ghost use Rattle.std.specs.Prelude.{filter, filter_map, find, codes, IfOk, IfErr};
+ghost use Rattle.acpi_tables.specs.Bytes.{begins_with as has_front};
+ghost use Rattle.acpi_tables.specs.Header.{HoldsTable, table_of};
+ghost use Rattle.acpi_tables.specs.Rsdp.{HoldsRoot};
+ghost use Rattle.acpi_tables.specs.Rsdt.{HoldsRsdt, rsdt_entries};
+ghost use Rattle.acpi_tables.specs.Xsdt.{HoldsEntries, entries_of};
+ghost use Rattle.acpi_tables.specs.Fadt.{HoldsFadt};
+ghost use Rattle.acpi_tables.specs.Order.{AreTaken, IsChained, RefusesOrder, bytes_of, dump_at};
+ghost use Rattle.acpi_tables.specs.Order.{signed_at, root_of, gives_xsdt, list_of, listed_by};
+ghost use Rattle.acpi_tables.specs.Order.{dsdt_address, each_once, has_signature, is_addressed};
+ghost use Rattle.acpi_tables.specs.declared.faults.Bad.TheVariants.{NoMemory};
+
+use crate::bytes::{begins_with, u8_at, u32_at, u64_at};
+use crate::dump::{Dump, table_of};
+use crate::fadt::X_DSDT_END;
+use crate::faults::{Bad, TableFault};
+use crate::header::HEADER_LENGTH;
+use crate::order::Order;
+use crate::rsdp::RSDP_SIGNATURE;
+use crate::rsdt::Rsdt;
+use crate::xsdt::Xsdt;
+use std::alloc::{AllocError, Global};
+
+/// The order that the chain gives.
+pub(crate) fn order_by_chain(alloc: Global, dumps: &[Dump]) -> Result<Order, TableFault>
+    requires each { AreTaken dumps.now true }
+    requires addressed { is_addressed dumps.now ≡ true }
+    ensures order { IfOk result (λ order. IsChained dumps.now order.dsdt order.ssdts.items) }
+    ensures refused { IfErr result (λ fault. (fault ≡ record { dump = None; bad = NoMemory }) ⊎
+        RefusesOrder dumps.now fault.dump fault.bad) }
+{
+    let Some(root) = root_of(dumps) else {
+        return Err(TableFault::of_set(Bad::RootMissing));
+    };
+    let Some(list) = list_of(dumps, bytes_of(dumps, root)) else {
+        return Err(TableFault::of_dump(root, Bad::RootMissing));
+    };
+    let listed = listed_by(alloc, dumps, list)?;
+    let Some(fadt) = first_with(dumps, &listed, b"FACP") else {
+        return Err(TableFault::of_dump(list, Bad::FadtMissing));
+    };
+    let Some(dsdt) = signed_at(
+        dumps,
+        b"DSDT",
+        dsdt_address(table_of(bytes_of(dumps, fadt))),
+    ) else {
+        return Err(TableFault::of_set(Bad::NoDsdt));
+    };
+    Ok(Order {
+        dsdt,
+        ssdts: each_with(alloc, dumps, &listed, b"SSDT")?,
+    })
+}
+
+/// The bytes of the dump at this index, and none past the last.
+fn bytes_of(dumps: &[Dump], index: usize) -> &[u8]
+    ensures { result.now ≡ bytes_of dumps.now index }
+{
+    match dumps.get(index) {
+        Some(dump) => &dump.bytes,
+        None => &[],
+    }
+}
+
+/// The first RSDP.
+#[tactic(auto, unfolding(crate::specs::Order::root_of))]
+fn root_of(dumps: &[Dump]) -> Option<usize>
+    ensures { result ≡ root_of dumps.now }
+{
+    dumps
+        .iter()
+        .position(|dump| dump.has_signature(&RSDP_SIGNATURE))
+}
+
+/// Whether an RSDP gives the address of an XSDT.
+fn gives_xsdt(root: &[u8]) -> bool
+    requires { HoldsRoot root.now }
+    ensures { result ≡ gives_xsdt root.now }
+{
+    u8_at(root, 15) >= 2 && u64_at(root, 24) != 0
+}
+
+/// The XSDT that an RSDP leads to, or else the RSDT.
+fn list_of(dumps: &[Dump], root: &[u8]) -> Option<usize>
+    requires { HoldsRoot root.now }
+    ensures { result ≡ list_of dumps.now root.now }
+{
+    if gives_xsdt(root) {
+        signed_at(dumps, b"XSDT", u64_at(root, 24))
+    } else {
+        signed_at(dumps, b"RSDT", u64::from(u32_at(root, 16)))
+    }
+}
+
+/// The index of the first dump that stood at this address.
+#[tactic(auto, unfolding(crate::specs::Order::dump_at))]
+pub fn dump_at(dumps: &[Dump], address: u64) -> Option<usize>
+    ensures { result ≡ dump_at dumps.now address }
+{
+    dumps.iter().position(|dump| dump.stands_at(address))
+}
+
+/// The first dump at this address, if it has this signature.
+fn signed_at(dumps: &[Dump], signature: &[u8], address: u64) -> Option<usize>
+    ensures { result ≡ signed_at dumps.now signature.now address }
+{
+    let index = dump_at(dumps, address)?;
+    if begins_with(bytes_of(dumps, index), signature) {
+        Some(index)
+    } else {
+        None
+    }
+}
+
+/// The dumps that an XSDT or an RSDT lists, in its order.
+fn listed_by(alloc: Global, dumps: &[Dump], list: usize) -> Result<Vec<usize>, AllocError>
+    requires table { HoldsTable (bytes_of dumps.now list) }
+    requires xsdt { has_front (bytes_of dumps.now list) (codes "XSDT") ≡ true
+        → HoldsEntries (table_of (bytes_of dumps.now list)) }
+    requires rsdt { has_front (bytes_of dumps.now list) (codes "XSDT") ≡ false
+        → HoldsRsdt (table_of (bytes_of dumps.now list)) }
+    ensures { IfOk result (λ listed. listed.items ≡ listed_by dumps.now list) }
+{
+    let bytes = bytes_of(dumps, list);
+    let table = table_of(bytes);
+    if begins_with(bytes, b"XSDT") {
+        listed_by_xsdt(alloc, dumps, table)
+    } else {
+        listed_by_rsdt(alloc, dumps, table)
+    }
+}
+
+/// Those that this XSDT lists.
+fn listed_by_xsdt(alloc: Global, dumps: &[Dump], table: &[u8]) -> Result<Vec<usize>, AllocError>
+    requires { HoldsEntries table.now }
+    ensures { IfOk result (λ listed. listed.items ≡ filter_map (dump_at dumps.now) (entries_of table.now)) }
+{
+    let mut listed = Vec::new(alloc);
+    for index in 0..Xsdt::entry_count(table) {
+        if let Some(dump) = dump_at(dumps, u64_at(table, HEADER_LENGTH + 8 * index)) {
+            listed.push(dump)?;
+        }
+    }
+    Ok(listed)
+}
+
+/// Those that this RSDT lists.
+fn listed_by_rsdt(alloc: Global, dumps: &[Dump], table: &[u8]) -> Result<Vec<usize>, AllocError>
+    requires { HoldsRsdt table.now }
+    ensures { IfOk result (λ listed. listed.items ≡ filter_map (dump_at dumps.now) (rsdt_entries table.now)) }
+{
+    let mut listed = Vec::new(alloc);
+    for index in 0..Rsdt::entry_count(table) {
+        if let Some(dump) = dump_at(dumps, u64::from(u32_at(table, HEADER_LENGTH + 4 * index))) {
+            listed.push(dump)?;
+        }
+    }
+    Ok(listed)
+}
+
+/// The first of these dumps that has this signature.
+fn first_with(dumps: &[Dump], listed: &[usize], signature: &[u8]) -> Option<usize>
+    ensures { result ≡ find (has_signature dumps.now signature.now) listed.now }
+{
+    listed
+        .iter()
+        .copied()
+        .find(|index| begins_with(bytes_of(dumps, *index), signature))
+}
+
+/// The DSDT's address in a FADT.
+fn dsdt_address(table: &[u8]) -> u64
+    requires { HoldsFadt table.now }
+    ensures { result ≡ dsdt_address table.now }
+{
+    if table.len() >= X_DSDT_END {
+        let address = u64_at(table, 140);
+        if address != 0 {
+            return address;
+        }
+    }
+    u64::from(u32_at(table, 40))
+}
+
+/// Those of these dumps that have this signature, each where it stands first.
+fn each_with(
+    alloc: Global,
+    dumps: &[Dump],
+    listed: &[usize],
+    signature: &[u8],
+) -> Result<Vec<usize>, AllocError>
+    ensures { IfOk result (λ found. found.items
+        ≡ each_once (filter (has_signature dumps.now signature.now) listed.now)) }
+{
+    let mut found = Vec::new(alloc);
+    for index in listed {
+        if begins_with(bytes_of(dumps, *index), signature) && !found.contains(index) {
+            found.push(*index)?;
+        }
+    }
+    Ok(found)
+}

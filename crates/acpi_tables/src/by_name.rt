@@ -1,0 +1,100 @@
+//! The order of the definition blocks where no addresses are known, and the names of the files decide.
+ghost use Rattle.std.specs.Prelude.{◌≡◌, ◌⊎◌, ◌<◌, ◌^◌, None, false, take, reverse};
+ghost use Rattle.std.specs.Prelude.{take_while, IfOk, IfErr, IsPermutation, IsSorted};
+ghost use Rattle.acpi_tables.specs.Order.{IsNamed, RefusesOrder, indexes_with, name_of, rank_cmp};
+ghost use Rattle.acpi_tables.specs.Order.{stem_of, ending_number, decimal_of, is_digit, is_addressed};
+ghost use Rattle.acpi_tables.specs.declared.faults.Bad.TheVariants.{NoMemory};
+
+use crate::dump::Dump;
+use crate::faults::{Bad, TableFault};
+use crate::order::Order;
+use std::alloc::{AllocError, Global};
+use std::cmp::Ordering;
+
+/// How many of the digits that end a stem count.
+const MAX_DIGITS: u8 = 9;
+
+/// The order that the names give.
+pub(crate) fn order_by_name(alloc: Global, dumps: &[Dump]) -> Result<Order, TableFault>
+    requires { is_addressed dumps.now ≡ false }
+    ensures order { IfOk result (λ order. IsNamed dumps.now order.dsdt order.ssdts.items) }
+    ensures refused { IfErr result (λ fault. (fault ≡ record { dump = None; bad = NoMemory }) ⊎
+        RefusesOrder dumps.now fault.dump fault.bad) }
+{
+    let dsdts = indexes_with(alloc, dumps, b"DSDT")?;
+    let dsdt = match dsdts.as_slice() {
+        [] => return Err(TableFault::of_set(Bad::NoDsdt)),
+        [dsdt] => *dsdt,
+        [_, second, ..] => return Err(TableFault::of_dump(*second, Bad::TwoDsdts)),
+    };
+    let mut ssdts = indexes_with(alloc, dumps, b"SSDT")?;
+    ssdts.sort_unstable_by(|a, b| compare(dumps, *a, *b));
+    Ok(Order { dsdt, ssdts })
+}
+
+/// The indexes of the dumps with this signature.
+fn indexes_with(alloc: Global, dumps: &[Dump], signature: &[u8]) -> Result<Vec<usize>, AllocError>
+    ensures { IfOk result (λ indexes. indexes.items ≡ indexes_with dumps.now signature.now) }
+{
+    let mut indexes = Vec::new(alloc);
+    for (index, dump) in dumps.iter().enumerate() {
+        if dump.has_signature(signature) {
+            indexes.push(index)?;
+        }
+    }
+    Ok(indexes)
+}
+
+/// Compares two dumps by the number that ends the stem of their name, then by name, then by index.
+fn compare(dumps: &[Dump], a: usize, b: usize) -> Ordering
+    ensures { result ≡ rank_cmp dumps.now a b }
+{
+    let (a_name, b_name) = (name_of(dumps, a), name_of(dumps, b));
+    let by_number = ending_number(a_name).cmp(&ending_number(b_name));
+    by_number.then(a_name.cmp(&b_name)).then(a.cmp(&b))
+}
+
+/// The name of the dump at this index, and an empty one past the last.
+pub fn name_of(dumps: &[Dump], index: usize) -> &[u8]
+    ensures { result.now ≡ name_of dumps.now index }
+{
+    match dumps.get(index) {
+        Some(dump) => dump.name.as_bytes(),
+        None => &[],
+    }
+}
+
+/// The decimal number that ends the stem of this name, of whose digits the last nine count.
+fn ending_number(name: &[u8]) -> u32
+    ensures { result ≡ ending_number name.now }
+{
+    ending_digits(stem_of(name), MAX_DIGITS)
+}
+
+/// The name up to its last dot, or all of it if there is none or it stands first.
+fn stem_of(name: &[u8]) -> &[u8]
+    ensures { result.now ≡ stem_of name.now }
+{
+    for dot in (1..name.len()).rev() {
+        if name[dot] == b'.' {
+            return &name[..dot];
+        }
+    }
+    name
+}
+
+/// The number that the digits at the end of these bytes spell, of which at most this many count.
+fn ending_digits(bytes: &[u8], count: u8) -> u32
+    requires { count < 10 }
+    ensures bound { result < 10 ^ count }
+    ensures value { result ≡ decimal_of (take count (take_while is_digit (reverse bytes.now))) }
+{
+    if count == 0 {
+        return 0;
+    }
+    match bytes {
+        [front @ .., digit @ b'0'..=b'9'] => u32::from(*digit - b'0')
+            + 10 * ending_digits(front, count - 1),
+        _ => 0,
+    }
+}
