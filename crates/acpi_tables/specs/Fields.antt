@@ -29,6 +29,6 @@ value_in table f =
 abbrev pub field_view : TableField → Field
 field_view f = record { offset = f.offset; width = f.width; label = f.label.now; base = f.base }
 
--- a field whose number fits in eight bytes
+-- a field of at most eight bytes
 abbrev pub IsNarrow : TableField → Type 0
 IsNarrow f = f.width ≤ 8

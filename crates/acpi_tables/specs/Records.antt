@@ -17,7 +17,7 @@ pub record Row : Type 0 where
 abbrev pub row : ℕ → ℕ → String → List Field → Row
 row kind long name fields = record { kind = kind; long = long; name = codes name; fields = fields }
 
--- the kinds; the address that replaces the local APICs' has no label
+-- the kinds; the field of AddressOverride has no label
 abbrev pub madt_rows : List Row
 madt_rows =
     row 0 8 "LocalApic" (field 2 1 "Uid" Decimal ∷ field 3 1 "Apic" Decimal ∷ field 4 4 "Flags" Hexadecimal ∷ [])
