@@ -1,23 +1,23 @@
 //! The system description tables of ACPI, and the order in which their definition blocks are loaded.
 #![tactic(auto)]
 
-mod bytes;
 mod by_chain;
+mod by_name;
+mod bytes;
 mod dump;
 mod fadt;
 mod faults;
 mod fields;
 mod header;
 mod madt;
-mod by_name;
 mod order;
 mod rsdp;
 mod rsdt;
 mod xsdt;
 
-pub use bytes::{begins_with, little_endian, sum, u8_at, u32_at};
 pub use by_chain::dump_at;
 pub use by_name::name_of;
+pub use bytes::{begins_with, little_endian, sum, u8_at, u32_at};
 pub use dump::{Dump, Kind, MAX_DUMP_BYTES, table_of};
 pub use fadt::Fadt;
 pub use faults::{Bad, TableFault};

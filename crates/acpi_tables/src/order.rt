@@ -4,9 +4,9 @@ ghost use Rattle.acpi_tables.specs.declared.faults.Bad.TheVariants.{NoMemory};
 ghost use Rattle.acpi_tables.specs.declared.faults.TableFault.{TableFault};
 
 use crate::by_chain::order_by_chain;
+use crate::by_name::order_by_name;
 use crate::dump::{Dump, check_dump};
 use crate::faults::{Bad, TableFault};
-use crate::by_name::order_by_name;
 use std::alloc::Global;
 
 /// The greatest number of dumps of a set.
