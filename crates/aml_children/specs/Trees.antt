@@ -3,6 +3,8 @@ use Rattle.std.specs.Prelude.{◌≡◌, ℕ, ◌+◌, ◌^◌, ◌<◌, ◌≤�
 use Rattle.std.specs.Global.{Box}
 use Rattle.aml_children.specs.Children.{Counted, total}
 use Rattle.aml_children.specs.declared.children.Child.{Child}
+use Rattle.aml_children.specs.declared.children.Kept.{Kept}
+use Rattle.aml_children.specs.declared.children.Kept.TheVariants.{Nobody, Only, Many}
 use Rattle.aml_children.specs.declared.trees.Fork.{Fork}
 
 -- the children of a fork in order
@@ -76,3 +78,15 @@ abbrev pub Rebalances : Option (Box Fork) → Option (Box Fork) → Type 0
 Rebalances None m = m ≡ None
 Rebalances (Some b) None = ⊥
 Rebalances (Some b) (Some m) = IsRebalanced b.value m.value
+
+-- the children that are kept in one of three ways
+abbrev pub kept_list : Kept → List Counted
+kept_list Nobody = []
+kept_list (Only c n) = (c, n) ∷ []
+kept_list (Many t) = t.0
+
+-- where they are a tree, it is low
+abbrev pub IsLow : Kept → Type 0
+IsLow Nobody = Unit {0}
+IsLow (Only c n) = Unit {0}
+IsLow (Many t) = t.1 ≤ 64

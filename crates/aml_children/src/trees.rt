@@ -1,5 +1,5 @@
 //! A balanced tree of children, seen as the list of these in order and the tree's height (Adelson-Velsky and Landis).
-ghost use Rattle.std.specs.Prelude.{◌≡◌, ℕ, ◌+◌, ◌^◌, ◌<◌, ◌≤◌, max, [], ◌∷◌, ◌++◌, Some, None, is_some, is_ok, if◌then◌else◌, IsTrue, OnOk, OnErr};
+ghost use Rattle.std.specs.Prelude.{◌≡◌, ℕ, ◌+◌, ◌^◌, ◌<◌, ◌≤◌, max, [], ◌∷◌, ◌++◌, Some, None, is_some, is_ok, if◌then◌else◌, IsTrue, OnOk, OnErr, IfOk};
 ghost use Rattle.aml_children.specs.Children.{bare, child_in, Rise, total, put, raised, holding, backwards};
 ghost use Rattle.aml_children.specs.Trees.{made, list_of, list_and_height, seen, sum_of, height_of, left_lifted, right_lifted, DifferByAtMost, IsBalanced, AreBalanced, IsNearlyBalanced, AreNearlyBalanced, CanLean, IsRebalanced, Rebalances};
 
@@ -58,6 +58,14 @@ impl Tree {
         ensures { result ≡ ([], 0) }
     {
         Tree { top: None }
+    }
+
+    /// One child, with its rows.
+    pub fn of(alloc: Global, child: Child, rows: usize) -> Result<Tree, AllocError>
+        ensures { IfOk result (λ tree. tree ≡ ((child, rows) ∷ [], 1)) }
+    {
+        let leaf = Box::new(alloc, Fork::leaf(child, rows))?;
+        Ok(Tree { top: Some(leaf) })
     }
 
     pub fn height(&self) -> u64
@@ -129,7 +137,7 @@ impl Tree {
     {
         match &mut self.top {
             None => {
-                let leaf = Box::new(alloc, Fork::leaf(child))?;
+                let leaf = Box::new(alloc, Fork::leaf(child, 0))?;
                 self.top = Some(leaf);
                 return Ok(());
             }
@@ -204,15 +212,15 @@ impl Tree {
 }
 
 impl Fork {
-    /// A child alone, without rows.
-    fn leaf(child: Child) -> Fork
-        ensures { result ≡ made ([], 0) child 0 ([], 0) }
+    /// A child alone, with its rows.
+    fn leaf(child: Child, rows: usize) -> Fork
+        ensures { result ≡ made ([], 0) child rows ([], 0) }
     {
         Fork {
             left: Tree::new(),
             child,
-            rows: 0,
-            sum: 0,
+            rows,
+            sum: rows,
             height: 1,
             right: Tree::new(),
         }

@@ -16,8 +16,8 @@ pub struct Row {
 /// A node of the index. It stands for one path.
 #[derive(Drop)]
 pub struct Node {
-    /// The path and its kind, where it is declared.
-    pub row: Option<Row>,
+    /// The path and its kind, where it is declared; in a box, since most nodes of a long path have none.
+    pub row: Option<Box<Row>>,
     /// The greatest count of its Externals.
     pub outs: Option<u8>,
     /// The greatest count that the user gives it.

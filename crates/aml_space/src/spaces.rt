@@ -86,9 +86,10 @@ impl Space {
         if children_at(self.nodes.as_slice(), 0).rows() == usize::MAX {
             return Err(SpaceFault::NoMemory);
         }
-        let at = extend(self.alloc, &mut self.nodes, path.segs(), reach)?;
-        count_path(&mut self.nodes, path.segs());
-        set_row(&mut self.nodes, at, Row { path, kind });
+        let row = Box::new(self.alloc, Row { path, kind })?;
+        let at = extend(self.alloc, &mut self.nodes, row.path.segs(), reach)?;
+        count_path(&mut self.nodes, row.path.segs());
+        set_row(&mut self.nodes, at, row);
         Ok(())
     }
 
