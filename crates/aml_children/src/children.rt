@@ -127,7 +127,13 @@ impl Children {
     {
         match &self.kept {
             Kept::Nobody => None,
-            Kept::Only { child, rows } => { if index < *rows { Some((child.node, index)) } else { None } }
+            Kept::Only { child, rows } => {
+                if index < *rows {
+                    Some((child.node, index))
+                } else {
+                    None
+                }
+            }
             Kept::Many(tree) => tree.holding(index),
         }
     }

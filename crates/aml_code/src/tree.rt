@@ -28,6 +28,11 @@ pub enum Node {
     },
 }
 
+// Most of the memory of a run are these.
+const _: () = prove!(size_of::<Node>() == 72);
+
+const _: () = prove!(size_of::<Part>() == 80);
+
 /// A fixed part of an opcode's row.
 #[cycle(tree)]
 #[derive(Drop)]

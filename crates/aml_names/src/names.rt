@@ -24,9 +24,10 @@ pub enum NameForm {
 pub struct Name {
     /// Whether the name begins with `\`, and so at the root.
     pub root: bool,
+    // Beside the root flag it takes no room of its own, and terms are mostly names.
+    pub form: NameForm,
     /// How many prefixes `^` it has, each of which leads to the parent.
     pub ups: u32,
-    pub form: NameForm,
     pub segs: Segs,
 }
 

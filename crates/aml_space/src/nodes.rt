@@ -26,6 +26,9 @@ pub struct Node {
     pub children: Children,
 }
 
+// A path may have many thousands of segments, each of which has a node.
+const _: () = prove!(size_of::<Node>() == 56);
+
 impl Node {
     /// A node without content.
     pub fn empty() -> Node
