@@ -28,7 +28,7 @@ pub enum Node {
     },
 }
 
-// Most of the memory of a run are these.
+// Terms and their parts are most of what a run keeps in memory.
 const _: () = prove!(size_of::<Node>() == 72);
 
 const _: () = prove!(size_of::<Part>() == 80);

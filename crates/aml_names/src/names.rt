@@ -24,7 +24,7 @@ pub enum NameForm {
 pub struct Name {
     /// Whether the name begins with `\`, and so at the root.
     pub root: bool,
-    // Beside the root flag it takes no room of its own, and terms are mostly names.
+    // Here, beside the root flag, it makes a name 8 bytes shorter than behind the number.
     pub form: NameForm,
     /// How many prefixes `^` it has, each of which leads to the parent.
     pub ups: u32,

@@ -26,7 +26,7 @@ pub struct Node {
     pub children: Children,
 }
 
-// A path may have many thousands of segments, each of which has a node.
+// Each segment of a path has a node, and a path may have many thousands.
 const _: () = prove!(size_of::<Node>() == 56);
 
 impl Node {
