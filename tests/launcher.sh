@@ -78,7 +78,7 @@ row 'what the build said' 126 'no proof' env PATH="$path" copy/acpidis demo
 
 # a build that works, in silence but for what it is at
 printf '#!/bin/sh\n[ "$1" = run ] || exit 0\nprintf "#!/bin/sh\\necho built\\n" >out/acpidis_program\n' >commands/rt
-row 'a build that works' 0 'acpidis: building, which takes about 20 minutes of processor time the first time, since every crate is proved' env PATH="$path" copy/acpidis demo
+row 'a build that works' 0 'acpidis: building, which takes half an hour of processor time or more the first time, since every crate is proved' env PATH="$path" copy/acpidis demo
 row 'a built program' 0 'built' env PATH="$work/empty:/usr/bin:/bin" copy/acpidis demo
 
 echo "$passed passed, $failed failed"
