@@ -294,7 +294,8 @@ fn lean_left(mut fork: Box<Fork>) -> Box<Fork>
     requires { CanLean fork.value }
     ensures list { list_of result.value ≡ list_of fork.value }
     ensures outer { result.value.left.1 + 1 ≡ fork.value.height }
-    ensures inner { (fork.value.height ≤ result.value.right.1 + 3) × (result.value.right.1 + 1 ≤ fork.value.height) }
+    ensures inner { (fork.value.height ≤ result.value.right.1 + 3) ×
+        (result.value.right.1 + 1 ≤ fork.value.height) }
 {
     if fork.left.height() >= fork.right.height() {
         return fork;
@@ -310,7 +311,8 @@ fn lean_right(mut fork: Box<Fork>) -> Box<Fork>
     requires { CanLean fork.value }
     ensures list { list_of result.value ≡ list_of fork.value }
     ensures outer { result.value.right.1 + 1 ≡ fork.value.height }
-    ensures inner { (fork.value.height ≤ result.value.left.1 + 3) × (result.value.left.1 + 1 ≤ fork.value.height) }
+    ensures inner { (fork.value.height ≤ result.value.left.1 + 3) ×
+        (result.value.left.1 + 1 ≤ fork.value.height) }
 {
     if fork.right.height() >= fork.left.height() {
         return fork;
