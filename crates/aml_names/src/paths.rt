@@ -7,6 +7,7 @@ ghost use Rattle.aml_names.specs.Paths.{path_cmp, paths_total};
 ghost use Rattle.aml_names.specs.PathTexts.{joined_text};
 
 use crate::segments::Seg;
+use smallvec::SmallVec;
 use std::alloc::{AllocError, Global};
 use std::cmp::Ordering;
 use std::fmt;
@@ -14,11 +15,15 @@ use std::marker::Model;
 
 /// An absolute path: the segments from the root on, none for the root itself (ACPI 6.5, 5.3).
 ///
-/// Paths are ordered by their segments as bytes, a shorter path before those that it begins.
+/// Paths are ordered by their segments as bytes, a shorter path before those that it begins. A path of up to four
+/// segments needs no allocation.
 #[derive(Debug, Drop)]
 pub struct Path {
-    segs: Vec<Seg>,
+    segs: SmallVec<Seg, 4>,
 }
+
+// With more segments inside it would be larger; with fewer it would not be smaller.
+const _: () = prove!(size_of::<Path>() == 32);
 
 impl Model for Path {
     ghost use Rattle.std.specs.Prelude.{List};
@@ -38,7 +43,7 @@ impl Path {
         ensures { result ≡ [] }
     {
         Path {
-            segs: Vec::new(alloc),
+            segs: SmallVec::new(alloc),
         }
     }
 
@@ -46,14 +51,16 @@ impl Path {
     pub fn from_segs(segs: Vec<Seg>) -> Path
         ensures { result ≡ segs.items }
     {
-        Path { segs }
+        Path {
+            segs: SmallVec::from_vec(segs),
+        }
     }
 
     /// The path of some segments and more below them.
     pub fn below(alloc: Global, front: &[Seg], tail: &[Seg]) -> Result<Path, AllocError>
         ensures { IfOk result (λ path. path ≡ front.now ++ tail.now) }
     {
-        let mut segs = Vec::new(alloc);
+        let mut segs = SmallVec::new(alloc);
         segs.extend_from_slice(front)?;
         segs.extend_from_slice(tail)?;
         Ok(Path { segs })
@@ -106,9 +113,8 @@ impl Clone for Path {
     ghost is_clone = { λ path copy. copy ≡ path };
 
     fn clone(&self) -> Result<Path, AllocError> {
-        Ok(Path {
-            segs: self.segs.clone()?,
-        })
+        let segs = SmallVec::from_slice(*self.segs.allocator(), self.segs())?;
+        Ok(Path { segs })
     }
 }
 

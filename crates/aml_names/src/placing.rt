@@ -13,15 +13,14 @@ use std::alloc::Global;
 pub fn place(alloc: Global, scope: &Path, name: &Name) -> Result<Option<Path>, NoMemory>
     ensures { IfOk result (λ path. path ≡ placed scope.now name.now) }
 {
-    let mut segs = Vec::new(alloc);
-    if !name.root {
-        let scope = scope.segs();
-        let ups = name.ups as usize;
-        if ups > scope.len() {
-            return Ok(None);
-        }
-        segs.extend_from_slice(&scope[..scope.len() - ups])?;
+    if name.root {
+        return Ok(Some(Path::below(alloc, &[], name.segs.as_slice())?));
     }
-    segs.extend_from_slice(name.segs.as_slice())?;
-    Ok(Some(Path::from_segs(segs)))
+    let scope = scope.segs();
+    let ups = name.ups as usize;
+    if ups > scope.len() {
+        return Ok(None);
+    }
+    let front = &scope[..scope.len() - ups];
+    Ok(Some(Path::below(alloc, front, name.segs.as_slice())?))
 }
