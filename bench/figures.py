@@ -41,6 +41,8 @@ RUNS = 5
 MOST_WORKERS = 4
 # With a higher load for each processor than these runs bring about, others work on the machine too.
 BUSY_SHARE = 0.6
+# From this share of stolen time on the section says so.
+STOLEN_SHARE = 0.03
 DEVICES_OF_A_BUS = 16
 OUTERMOST = b"X000"
 
@@ -233,7 +235,13 @@ def versions():
     return f"iasl {found[1]}" if found else "iasl"
 
 
-def section(all_figures, asked, loads):
+def processor_time():
+    """The ticks of all processors since the start, and how many of them a virtual machine's host gave to others."""
+    times = [int(word) for word in pathlib.Path("/proc/stat").read_text().split("\n")[0].split()[1:9]]
+    return sum(times), times[7]
+
+
+def section(all_figures, asked, loads, stolen):
     processors = len(os.sched_getaffinity(0))
     text = f"![Seconds by set: acpidis with 1 and {MOST_WORKERS} workers, and iasl -d](docs/figures.svg)\n\n"
     text += f"| Set | Bytes | `acpidis`, 1 worker | {MOST_WORKERS} workers | Peak memory |"
@@ -242,6 +250,8 @@ def section(all_figures, asked, loads):
     text += "".join(row(figures, asked.seconds) for figures in all_figures)
     text += f"\nMeasured on {datetime.date.today()} beside {versions()}, the best of {asked.runs} runs,"
     text += f" on {processors} processors with a load of {min(loads):.1f} to {max(loads):.1f}."
+    if stolen >= STOLEN_SHARE:
+        text += f" Other machines took {stolen:.0%} of the processors' time meanwhile, so the times are too high."
     if max(loads) > BUSY_SHARE * processors:
         text += " Others worked on the machine: the times are too high, and more workers gain less than they could."
     return text + "\n"
@@ -268,13 +278,15 @@ def main():
         sys.exit(f"{asked.acpidis} isn't built: ./acpidis demo builds it")
     if shutil.which("iasl") is None or not os.access(TIME, os.X_OK):
         sys.exit("iasl or GNU time isn't installed: apt-get install acpica-tools time")
-    all_figures, loads = [], []
+    all_figures, loads, begun = [], [], processor_time()
     for name, make in SETS:
         if asked.only in name:
             loads.append(os.getloadavg()[0])
             all_figures.append(figures_of(name, make, program, asked))
             print(row(all_figures[-1], asked.seconds), end="", file=sys.stderr, flush=True)
-    text = section(all_figures, asked, loads)
+    (first_all, first_stolen), (last_all, last_stolen) = begun, processor_time()
+    stolen = (last_stolen - first_stolen) / max(last_all - first_all, 1)
+    text = section(all_figures, asked, loads, stolen)
     if asked.print or asked.only:
         print(text, end="")
         return
