@@ -1,0 +1,186 @@
+#!/usr/bin/env python3
+"""Tries wrong bodies, several in one check: the prover must refuse the function that each stands in.
+
+usage: tests/wrong_bodies.py [--outside] [--over FOLDER] [CRATE..]
+
+The wrong bodies are those of crates/CRATE/must-fail, or with --outside those of crates/CRATE/wrong-bodies.edits. The crates
+below are proved first, where that isn't done yet; with --over they are those that rt ci left in a copy of the repository. The
+last line is 'N passed, N failed'.
+
+A function is proved from its own body and the contracts of what it calls. So wrong bodies of different functions don't touch
+each other, and one check of a crate with all of them says of each function whether it is proved. Two of one function, or of one
+cycle of calls, are tried in different checks, and so is one that the prover left aside since what it calls wasn't proved. One
+that stands in no function, as in a table, is tried alone. `rt must-fail CRATE` tries one after the other.
+"""
+
+import argparse
+import collections
+import concurrent.futures
+import glob
+import importlib.util
+import os
+import re
+import shutil
+import subprocess
+import sys
+import tempfile
+
+TOP = os.path.dirname(os.path.dirname(os.path.abspath(__file__)))
+FUNCTION = re.compile(r"( {4})?(?:pub(?:\(\w+\))? )?(?:(?:const|final|unsafe|ghost) )*fn (\w+)")
+BLOCK = re.compile(r"(?:unsafe )?(?:pub )?(?:impl|trait)\b(?:<[^{]*?> )?\s*(?:(?P<trait>[\w:]+(?:<[^{]*?>)?) for )?(?P<type>\w+)")
+
+# A function by its name, as the prover gives it, or its end; else the module whose items outside functions are meant
+Place = collections.namedtuple("Place", "path is_function cycle")
+WrongBody = collections.namedtuple("WrongBody", "name changes places")
+
+
+def kit():
+    """The kit's library, which says how a crate is checked: it lies beside the command rt."""
+    command = shutil.which("rt") or sys.exit("the Rattle kit isn't there: its command rt has to be on the PATH")
+    file = os.path.join(os.path.dirname(os.path.realpath(command)), "rtlib.py")
+    spec = importlib.util.spec_from_file_location("rtlib", file)
+    library = importlib.util.module_from_spec(spec)
+    sys.modules["rtlib"] = library
+    spec.loader.exec_module(library)
+    return library
+
+
+def path_of(module, block, name):
+    """The name of a function, or its end: a method stands below its type, wherever its impl stands."""
+    if not block:
+        return "::".join(it for it in (module, name) if it)
+    return f"{block['type']}{re.sub(r'.*::|[^A-Za-z0-9_]', '', block['trait'] or '')}::{name}"
+
+
+def place_at(file, text, at):
+    """What stands at an offset of a source: the function, or the module's other items."""
+    words = file.removeprefix("src/").removesuffix(".rt").split("/")
+    module = "::".join(it for it in words if it not in ("lib", "mod"))
+    found, closing, block, cycle, end = None, None, None, None, 0
+    for line in text.split("\n"):
+        begin, end = end, end + len(line) + 1
+        block = BLOCK.match(line) or (block if line != "}" else None)
+        in_cycle, started = re.match(r" *#\[cycle\((\w+)\)\]", line), FUNCTION.match(line)
+        cycle = in_cycle[1] if in_cycle else cycle
+        if started:
+            found = Place(path_of(module, started[1] and block, started[2]), True, cycle)
+            closing, cycle = (started[1] or "") + "}", None
+        if begin <= at < end:
+            break
+        found = found if line != closing else None
+    return found or Place(module, False, None)
+
+
+def read_wrong_body(name, text, folder):
+    """A wrong body from the text of its edit: lines `file: PATH`, and then pairs of `old: TEXT` and `new: TEXT`."""
+    changes, places, file, old, sources = [], set(), None, None, {}
+    for line in text.split("\n"):
+        word, _, rest = line.partition(": ")
+        if word == "file":
+            file = rest.strip()
+        elif word == "old":
+            old = rest
+        elif line.startswith("new:") and file and old:
+            source = sources.get(file) or open(f"{folder}/{file}", encoding="utf-8").read()
+            if source.count(old) != 1:
+                sys.exit(f"{folder}: {name}: its old text stands {source.count(old)} times in {file}, and not once")
+            changes.append((file, old, rest))
+            places.add(place_at(file, source, source.index(old)))
+            sources[file], old = source.replace(old, rest), None
+    return WrongBody(name, changes, places) if changes else sys.exit(f"{folder}: {name}: it changes nothing")
+
+
+def wrong_bodies(folder, outside):
+    """The wrong bodies of a crate: those that the gate tries, or the others."""
+    texts = {}
+    for file in sorted(glob.glob(f"{folder}/wrong-bodies.edits" if outside else f"{folder}/must-fail/*.edit")):
+        text = open(file, encoding="utf-8").read()
+        parts = re.split(r"^edit: ", text, flags=re.M)[1:] if outside else [f"{os.path.basename(file)[:-5]}\n{text}"]
+        texts.update(it.split("\n", 1) for it in parts)
+    return [read_wrong_body(name.strip(), text, folder) for name, text in texts.items()]
+
+
+def first_batch(waiting):
+    """Wrong bodies of different functions and cycles, as many as there are; or one that stands in no function."""
+    batch, taken = [], set()
+    for it in waiting:
+        keys = {place.cycle or place.path for place in it.places}
+        if all(place.is_function for place in it.places) and not keys & taken:
+            batch.append(it)
+            taken |= keys
+    return batch or waiting[:1]
+
+
+def check(rtlib, crate, batch, kept):
+    """Checks a copy of the crate with these wrong bodies, and returns what was printed and whether there is a verdict."""
+    folder = f"{TOP}/crates/{crate.name}"
+    with tempfile.TemporaryDirectory() as room:
+        for part in ("src", "specs", "proofs"):
+            if os.path.isdir(f"{folder}/{part}"):
+                shutil.copytree(f"{folder}/{part}", f"{room}/{part}")
+        for file, old, new in [change for it in batch for change in it.changes]:
+            with open(f"{room}/{file}", encoding="utf-8") as it:
+                source = it.read()
+            with open(f"{room}/{file}", "w", encoding="utf-8") as it:
+                it.write(source.replace(old, new))
+        words = [rtlib.RATTLE, "check", *crate.words(["--jobs", "1"], keeps=False), "--incremental", kept]
+        for path in {place.path for it in batch for place in it.places}:
+            words += ["--only", path]
+        how = {"stdin": subprocess.DEVNULL, "stdout": subprocess.PIPE, "stderr": subprocess.STDOUT, "errors": "replace"}
+        ran = subprocess.run(words, cwd=room, **how)
+    has_read = not re.search(r"^(\./)?(src|specs)/\S+: error", ran.stdout, re.M)
+    return ran.stdout, ran.returncode == 1 and has_read and "\nonly=" in ran.stdout
+
+
+def is_refused(printed, place):
+    """Whether a check found the function itself unproved, and not only what it calls."""
+    said = re.findall(rf"^fn (?:\S+::)?{place.path}: (.*)", printed, re.M)
+    return any(it.startswith(("not proved", "no proof")) and "it calls" not in it for it in said)
+
+
+def tried(rtlib, crate, waiting, kept):
+    """Tries all wrong bodies of a crate, and gives for each that isn't refused what was printed, and else nothing."""
+    alone, answers = False, {}
+    while waiting:
+        batch = waiting[:1] if alone else first_batch(waiting)
+        printed, has_verdict = check(rtlib, crate, batch, kept)
+        alone = True
+        for it in batch:
+            if len(batch) == 1 or has_verdict and any(is_refused(printed, place) for place in it.places):
+                answers[it.name] = "" if has_verdict else printed
+                alone = False
+        waiting = [it for it in waiting if it.name not in answers]
+    return answers
+
+
+def main():
+    parser = argparse.ArgumentParser(usage=__doc__.split("usage: ")[1].split("\n")[0])
+    parser.add_argument("--outside", action="store_true")
+    parser.add_argument("--over", metavar="FOLDER", default=TOP)
+    parser.add_argument("crates", nargs="*")
+    given = parser.parse_args()
+    rtlib = kit()
+    os.chdir(given.over)
+    tasks = []
+    for crate in rtlib.crates_below(os.getcwd()):
+        bodies = wrong_bodies(f"{TOP}/crates/{crate.name}", given.outside)
+        if bodies and (not given.crates or crate.name in given.crates):
+            tasks.append((crate, bodies))
+            if given.over == TOP and any(below.build_rlib(["--jobs", "1"], anew=False) for below in crate.below()):
+                sys.exit(f"{crate.name}: what it stands on isn't proved")
+    refused = failed = 0
+    lanes = int(os.environ.get("RT_JOBS") or len(os.sched_getaffinity(0)))
+    with tempfile.TemporaryDirectory() as kept, concurrent.futures.ThreadPoolExecutor(lanes) as pool:
+        tasks.sort(key=lambda it: -len(it[1]))
+        running = {pool.submit(tried, rtlib, crate, bodies, f"{kept}/{crate.name}"): crate for crate, bodies in tasks}
+        for it in concurrent.futures.as_completed(running):
+            for name, printed in it.result().items():
+                said = ["NOT REFUSED", *printed.rstrip("\n").split("\n")[-40:]] if printed else ["refused"]
+                print(f"{running[it].name}/{name}: {said[0]}", *said[1:], sep="\n", flush=True)
+                refused, failed = refused + (not printed), failed + bool(printed)
+    print(f"{refused} passed, {failed} failed")
+    return 1 if failed or not refused else 0
+
+
+if __name__ == "__main__":
+    sys.exit(main())
