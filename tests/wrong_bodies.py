@@ -29,8 +29,8 @@ TOP = os.path.dirname(os.path.dirname(os.path.abspath(__file__)))
 FUNCTION = re.compile(r"( {4})?(?:pub(?:\(\w+\))? )?(?:(?:const|final|unsafe|ghost) )*fn (\w+)")
 BLOCK = re.compile(r"(?:unsafe )?(?:pub )?(?:impl|trait)\b(?:<[^{]*?> )?\s*(?:(?P<trait>[\w:]+(?:<[^{]*?>)?) for )?(?P<type>\w+)")
 
-# A function by its name, as the prover gives it, or its end; else the module whose items outside functions are meant
-Place = collections.namedtuple("Place", "path is_function cycle")
+# A function by the end of its name, and the module that it is written in; without a name the module's other items
+Place = collections.namedtuple("Place", "module name cycle")
 WrongBody = collections.namedtuple("WrongBody", "name changes places")
 
 
@@ -45,30 +45,34 @@ def kit():
     return library
 
 
-def path_of(module, block, name):
-    """The name of a function, or its end: a method stands below its type, wherever its impl stands."""
+def name_of(module, block, name):
+    """The end of a function's name as the prover gives it: a method stands below its type, wherever its impl stands."""
     if not block:
-        return "::".join(it for it in (module, name) if it)
+        return f"{module}::{name}".removeprefix("::")
     return f"{block['type']}{re.sub(r'.*::|[^A-Za-z0-9_]', '', block['trait'] or '')}::{name}"
 
 
 def place_at(file, text, at):
-    """What stands at an offset of a source: the function, or the module's other items."""
+    """What stands at an offset of a source: the body of a function, or one of the module's other items."""
     words = file.removeprefix("src/").removesuffix(".rt").split("/")
     module = "::".join(it for it in words if it not in ("lib", "mod"))
-    found, closing, block, cycle, end = None, None, None, None, 0
+    found, in_body, indent, block, cycle, end = None, False, "", None, None, 0
     for line in text.split("\n"):
         begin, end = end, end + len(line) + 1
         block = BLOCK.match(line) or (block if line != "}" else None)
         in_cycle, started = re.match(r" *#\[cycle\((\w+)\)\]", line), FUNCTION.match(line)
         cycle = in_cycle[1] if in_cycle else cycle
         if started:
-            found = Place(path_of(module, started[1] and block, started[2]), True, cycle)
-            closing, cycle = (started[1] or "") + "}", None
+            indent = started[1] or ""
+            found, in_body = Place(module, name_of(module, indent and block, started[2]), cycle), False
+            cycle = None
         if begin <= at < end:
             break
-        found = found if line != closing else None
-    return found or Place(module, False, None)
+        if found and re.match(rf"{indent}\S.*{{$|{indent}{{$", line):
+            in_body = True
+        if line == indent + "}":
+            found, in_body = None, False
+    return found if in_body else Place(module, None, None)
 
 
 def read_wrong_body(name, text, folder):
@@ -77,7 +81,7 @@ def read_wrong_body(name, text, folder):
     for line in text.split("\n"):
         word, _, rest = line.partition(": ")
         if word == "file":
-            file = rest.strip()
+            file = rest.strip() if rest.startswith("src/") else sys.exit(f"{folder}: {name}: a wrong body stands in src/")
         elif word == "old":
             old = rest
         elif line.startswith("new:") and file and old:
@@ -104,37 +108,50 @@ def first_batch(waiting):
     """Wrong bodies of different functions and cycles, as many as there are; or one that stands in no function."""
     batch, taken = [], set()
     for it in waiting:
-        keys = {place.cycle or place.path for place in it.places}
-        if all(place.is_function for place in it.places) and not keys & taken:
+        keys = {place.cycle or place.name for place in it.places}
+        if all(place.name for place in it.places) and not keys & taken:
             batch.append(it)
             taken |= keys
     return batch or waiting[:1]
 
 
+def copy_with(batch, folder, room):
+    """Makes a copy of a crate with these wrong bodies in it."""
+    for part in ("src", "specs", "proofs"):
+        if os.path.isdir(f"{folder}/{part}"):
+            shutil.copytree(f"{folder}/{part}", f"{room}/{part}")
+    for file, old, new in [change for it in batch for change in it.changes]:
+        with open(f"{room}/{file}", encoding="utf-8") as it:
+            source = it.read()
+        if source.count(old) != 1:
+            sys.exit(f"{folder}/{file}: beside the other wrong bodies this stands {source.count(old)} times, and not once: {old}")
+        with open(f"{room}/{file}", "w", encoding="utf-8") as it:
+            it.write(source.replace(old, new))
+
+
 def check(rtlib, crate, batch, kept):
     """Checks a copy of the crate with these wrong bodies, and returns what was printed and whether there is a verdict."""
-    folder = f"{TOP}/crates/{crate.name}"
+    modules = {place.name or place.module: place.module for it in batch for place in it.places}
     with tempfile.TemporaryDirectory() as room:
-        for part in ("src", "specs", "proofs"):
-            if os.path.isdir(f"{folder}/{part}"):
-                shutil.copytree(f"{folder}/{part}", f"{room}/{part}")
-        for file, old, new in [change for it in batch for change in it.changes]:
-            with open(f"{room}/{file}", encoding="utf-8") as it:
-                source = it.read()
-            with open(f"{room}/{file}", "w", encoding="utf-8") as it:
-                it.write(source.replace(old, new))
-        words = [rtlib.RATTLE, "check", *crate.words(["--jobs", "1"], keeps=False), "--incremental", kept]
-        for path in {place.path for it in batch for place in it.places}:
-            words += ["--only", path]
-        how = {"stdin": subprocess.DEVNULL, "stdout": subprocess.PIPE, "stderr": subprocess.STDOUT, "errors": "replace"}
-        ran = subprocess.run(words, cwd=room, **how)
+        copy_with(batch, f"{TOP}/crates/{crate.name}", room)
+        while True:
+            words = [rtlib.RATTLE, "check", *crate.words(["--jobs", "1"], keeps=False), "--incremental", kept]
+            words += [word for name in modules for word in ("--only", name)]
+            how = {"stdin": subprocess.DEVNULL, "stdout": subprocess.PIPE, "stderr": subprocess.STDOUT, "errors": "replace"}
+            ran = subprocess.run(words, cwd=room, **how)
+            # An impl for one instance of a generic type gives its methods longer names: all of the module is checked.
+            unknown = re.search(r"has no function `(\S+)`", ran.stdout)
+            if not unknown or not modules.get(unknown[1]):
+                break
+            modules[modules.pop(unknown[1])] = None
     has_read = not re.search(r"^(\./)?(src|specs)/\S+: error", ran.stdout, re.M)
     return ran.stdout, ran.returncode == 1 and has_read and "\nonly=" in ran.stdout
 
 
 def is_refused(printed, place):
     """Whether a check found the function itself unproved, and not only what it calls."""
-    said = re.findall(rf"^fn (?:\S+::)?{place.path}: (.*)", printed, re.M)
+    name = r"(?:\+[^:\s]*)?::".join((place.name or "").rsplit("::", 1))
+    said = re.findall(rf"^fn (?:\S+::)?{name}: (.*)", printed, re.M)
     return any(it.startswith(("not proved", "no proof")) and "it calls" not in it for it in said)
 
 
