@@ -148,11 +148,28 @@ def check(rtlib, crate, batch, kept):
     return ran.stdout, ran.returncode == 1 and has_read and "\nonly=" in ran.stdout
 
 
-def is_refused(printed, place):
-    """Whether a check found the function itself unproved, and not only what it calls."""
-    name = r"(?:\+[^:\s]*)?::".join((place.name or "").rsplit("::", 1))
-    said = re.findall(rf"^fn (?:\S+::)?{name}: (.*)", printed, re.M)
-    return any(it.startswith(("not proved", "no proof")) and "it calls" not in it for it in said)
+def stands_at(place, path):
+    """Whether a function, or the cycle that it is in, is the one at this path below proofs/."""
+    name = r"(\+[^/]*)?/".join((place.name or "").replace("::", "/").rsplit("/", 1))
+    return bool(re.search(rf"(^|/){name}$", path)) or place.cycle is not None and path.split("/")[-1] == f"+{place.cycle}"
+
+
+def refused_in(printed, batch):
+    """The wrong bodies that a check refused for their own sake.
+
+    What a function has to show comes from its body and from what its callees state. So what was tried and isn't shown is its
+    own fault, also where a callee isn't proved; but that is only believed where no function without a wrong body has such faults.
+    """
+    faults, beside = set(), set(re.findall(r"^(?:\./)?proofs/(\S+)/(?:Answers|Proof)\.antt:\S+ error: ", printed, re.M))
+    for name, said in re.findall(r"^fn \w+::(\S+): (n.*)", printed, re.M):
+        path = name.replace("::", "/")
+        if said.startswith(("not proved", "no proof")) and "it calls" not in said:
+            faults.add(path)
+        elif "did not prove" in said:
+            beside.add(path)
+    if all(any(stands_at(place, path) for it in batch for place in it.places) for path in beside):
+        faults |= beside
+    return [it for it in batch if any(stands_at(place, path) for place in it.places for path in faults)]
 
 
 def tried(rtlib, crate, waiting, kept):
@@ -161,12 +178,9 @@ def tried(rtlib, crate, waiting, kept):
     while waiting:
         batch = waiting[:1] if alone else first_batch(waiting)
         printed, has_verdict = check(rtlib, crate, batch, kept)
-        alone = True
-        for it in batch:
-            if len(batch) == 1 or has_verdict and any(is_refused(printed, place) for place in it.places):
-                answers[it.name] = "" if has_verdict else printed
-                alone = False
-        waiting = [it for it in waiting if it.name not in answers]
+        refused = batch if len(batch) == 1 else refused_in(printed, batch) if has_verdict else []
+        answers.update((it.name, "" if has_verdict else printed) for it in refused)
+        waiting, alone = [it for it in waiting if it.name not in answers], not refused
     return answers
 
 
