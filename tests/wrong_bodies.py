@@ -150,8 +150,9 @@ def check(rtlib, crate, batch, kept):
 
 def stands_at(place, path):
     """Whether a function, or the cycle that it is in, is the one at this path below proofs/."""
-    name = r"(\+[^/]*)?/".join((place.name or "").replace("::", "/").rsplit("/", 1))
-    return bool(re.search(rf"(^|/){name}$", path)) or place.cycle is not None and path.split("/")[-1] == f"+{place.cycle}"
+    above, _, name = (place.name or "").rpartition("::")
+    own = rf"(^|/){above.replace('::', '/')}(\+[^/]*)?/\+?{name}$" if above else rf"(^|/)\+?{name}$"
+    return bool(name and re.search(own, path)) or place.cycle is not None and path.split("/")[-1] == f"+{place.cycle}"
 
 
 def refused_in(printed, batch):
