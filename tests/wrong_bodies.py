@@ -8,9 +8,10 @@ below are proved first, where that isn't done yet; with --over they are those th
 last line is 'N passed, N failed'.
 
 A function is proved from its own body and the contracts of what it calls. So wrong bodies of different functions don't touch
-each other, and one check of a crate with all of them says of each function whether it is proved. Two of one function, or of one
-cycle of calls, are tried in different checks, and so is one that the prover left aside since what it calls wasn't proved. One
-that stands in no function, as in a table, is tried alone. `rt must-fail CRATE` tries one after the other.
+each other, and one check of a crate with all of them says of each function whether it is proved. For the same reason the bodies
+of the other functions are left out at first, with a hole for the proof of each. Two wrong bodies of one function, or of one
+cycle of calls, are tried in different checks. What such checks don't refuse is tried with all bodies, and at last alone, as one
+is at once that stands in no function, as in a table. `rt must-fail CRATE` tries one after the other.
 """
 
 import argparse
@@ -29,8 +30,11 @@ TOP = os.path.dirname(os.path.dirname(os.path.abspath(__file__)))
 FUNCTION = re.compile(r"( {4})?(?:pub(?:\(\w+\))? )?(?:(?:const|final|unsafe|ghost) )*fn (\w+)")
 BLOCK = re.compile(r"(?:unsafe )?(?:pub )?(?:impl|trait)\b(?:<[^{]*?> )?\s*(?:(?P<trait>[\w:]+(?:<[^{]*?>)?) for )?(?P<type>\w+)")
 
+TYPE = re.compile(r"^(?:pub(?:\(\w+\))? )?(?:struct|enum) (\w+)", re.M)
+
 # A function by the end of its name, and the module that it is written in; without a name the module's other items
 Place = collections.namedtuple("Place", "module name cycle")
+Function = collections.namedtuple("Function", "place begin end")
 WrongBody = collections.namedtuple("WrongBody", "name changes places")
 
 
@@ -52,11 +56,16 @@ def name_of(module, block, name):
     return f"{block['type']}{re.sub(r'.*::|[^A-Za-z0-9_]', '', block['trait'] or '')}::{name}"
 
 
-def place_at(file, text, at):
-    """What stands at an offset of a source: the body of a function, or one of the module's other items."""
+def module_of(file):
+    """The module that a source is: the path of its names below the crate."""
     words = file.removeprefix("src/").removesuffix(".rt").split("/")
-    module = "::".join(it for it in words if it not in ("lib", "mod"))
-    found, in_body, indent, block, cycle, end = None, False, "", None, None, 0
+    return "::".join(it for it in words if it not in ("lib", "mod"))
+
+
+def functions_of(file, text):
+    """The functions of a source that have a body of more than one line, each with the offsets that its body lies between."""
+    module = module_of(file)
+    place, body, indent, block, cycle, end = None, None, "", None, None, 0
     for line in text.split("\n"):
         begin, end = end, end + len(line) + 1
         block = BLOCK.match(line) or (block if line != "}" else None)
@@ -64,15 +73,18 @@ def place_at(file, text, at):
         cycle = in_cycle[1] if in_cycle else cycle
         if started:
             indent = started[1] or ""
-            found, in_body = Place(module, name_of(module, indent and block, started[2]), cycle), False
+            place, body = Place(module, name_of(module, indent and block, started[2]), cycle), None
             cycle = None
-        if begin <= at < end:
-            break
-        if found and re.match(rf"{indent}\S.*{{$|{indent}{{$", line):
-            in_body = True
-        if line == indent + "}":
-            found, in_body = None, False
-    return found if in_body else Place(module, None, None)
+        if place and body is None and re.match(rf"{indent}\S.*{{$|{indent}{{$", line):
+            body = end
+        elif place and body is not None and line == indent + "}":
+            yield Function(place, body, begin)
+            place = None
+
+
+def place_at(file, text, at):
+    """What stands at an offset of a source: the body of a function, or one of the module's other items."""
+    return next((it.place for it in functions_of(file, text) if it.begin <= at < it.end), Place(module_of(file), None, None))
 
 
 def read_wrong_body(name, text, folder):
@@ -129,13 +141,60 @@ def copy_with(batch, folder, room):
             it.write(source.replace(old, new))
 
 
-def check(rtlib, crate, batch, kept):
-    """Checks a copy of the crate with these wrong bodies, and returns what was printed and whether there is a verdict."""
+def left_out(file, text, types, tried):
+    """The functions of a source whose bodies can be left out: neither tried, nor of a cycle, nor methods of a trait.
+
+    Each comes with its path below the crate. A method stands below its type, wherever its impl stands.
+    """
+    for it in reversed(list(functions_of(file, text))):
+        *above, name = it.place.name.split("::")
+        if above and above[0] in types:
+            above = [*filter(None, types[above[0]].split("::")), *above]
+        is_known = above == list(filter(None, it.place.module.split("::"))) or it.place.name.split("::")[0] in types
+        calls_itself = re.search(rf"\b{name}\(", text[it.begin : it.end])
+        if is_known and not (it.place.name in tried or it.place.cycle or calls_itself):
+            yield it, [*above, name]
+
+
+def leave_out_bodies(crate, room, batch):
+    """Makes the functions of a copy that have no wrong body never end, with a hole for the proof of each.
+
+    What they state is left, which is all that the others know of them.
+    """
+    tried = {place.name for it in batch for place in it.places}
+    sources = {}
+    for path in glob.glob(f"{room}/src/**/*.rt", recursive=True):
+        with open(path, encoding="utf-8") as it:
+            sources[os.path.relpath(path, room)] = it.read()
+    types = {found[1]: module_of(file) for file, text in sources.items() for found in TYPE.finditer(text)}
+    for file, text in sources.items():
+        for it, path in left_out(file, text, types, tried):
+            text = f"{text[: it.begin]}loop {{}}\n{text[it.end :]}"
+            folder = f"{room}/proofs/{'/'.join(path)}"
+            shutil.rmtree(folder, ignore_errors=True)
+            os.makedirs(folder)
+            with open(f"{folder}/Proof.antt", "w", encoding="utf-8") as proof:
+                statement = ".".join(["Rattle", crate, "proofs", *path, "Statement"])
+                name = f"{path[-1]}_spec"
+                proof.write(f"use {statement}.{{statement}}\n\npub {name} : {{M : Type 1}} → statement M\n{name} = ?\n")
+        with open(f"{room}/{file}", "w", encoding="utf-8") as it:
+            it.write(text)
+
+
+def check(rtlib, crate, batch, kept, only_these):
+    """Checks a copy of the crate with these wrong bodies, and returns what was printed and whether there is a verdict.
+
+    `only_these` says that the other functions' bodies are left out.
+    """
     modules = {place.name or place.module: place.module for it in batch for place in it.places}
     with tempfile.TemporaryDirectory() as room:
         copy_with(batch, f"{TOP}/crates/{crate.name}", room)
+        if only_these:
+            leave_out_bodies(crate.name, room, batch)
         while True:
-            words = [rtlib.RATTLE, "check", *crate.words(["--jobs", "1"], keeps=False), "--incremental", kept]
+            words = [rtlib.RATTLE, "check", *crate.words(["--jobs", "1"], keeps=False)]
+            words += ["--incremental", kept] if kept else []
+            words += ["--allow-holes"] if only_these else []
             words += [word for name in modules for word in ("--only", name)]
             how = {"stdin": subprocess.DEVNULL, "stdout": subprocess.PIPE, "stderr": subprocess.STDOUT, "errors": "replace"}
             ran = subprocess.run(words, cwd=room, **how)
@@ -163,7 +222,9 @@ def refused_in(printed, batch):
     """
     faults, beside = set(), set(re.findall(r"^(?:\./)?proofs/(\S+)/(?:Answers|Proof)\.antt:\S+ error: ", printed, re.M))
     for name, said in re.findall(r"^fn \w+::(\S+): (n.*)", printed, re.M):
-        path = name.replace("::", "/")
+        # Of a function in a cycle the answers stand in the folder of the cycle.
+        file = re.search(r"expected answers in (?:\./)?proofs/(\S+)/Answers\.antt", said)
+        path = file[1] if file else name.replace("::", "/")
         if said.startswith(("not proved", "no proof")) and "it calls" not in said:
             faults.add(path)
         elif "did not prove" in said:
@@ -175,13 +236,20 @@ def refused_in(printed, batch):
 
 def tried(rtlib, crate, waiting, kept):
     """Tries all wrong bodies of a crate, and gives for each that isn't refused what was printed, and else nothing."""
-    alone, answers = False, {}
+    only_these, alone, answers = True, False, {}
     while waiting:
         batch = waiting[:1] if alone else first_batch(waiting)
-        printed, has_verdict = check(rtlib, crate, batch, kept)
-        refused = batch if len(batch) == 1 else refused_in(printed, batch) if has_verdict else []
+        only_these = only_these and any(place.name for it in batch for place in it.places)
+        # What is checked is only worth keeping where another check follows.
+        is_last = len(batch) == len(waiting) and not os.path.exists(kept)
+        printed, has_verdict = check(rtlib, crate, batch, None if is_last else kept, only_these)
+        if only_these or len(batch) > 1:
+            refused = refused_in(printed, batch) if has_verdict else []
+        else:
+            refused = batch
         answers.update((it.name, "" if has_verdict else printed) for it in refused)
-        waiting, alone = [it for it in waiting if it.name not in answers], not refused
+        waiting = [it for it in waiting if it.name not in answers]
+        only_these, alone = only_these and bool(refused), not (only_these or refused)
     return answers
 
 

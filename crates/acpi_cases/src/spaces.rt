@@ -73,12 +73,36 @@ impl Names {
         let (scope, name) = first_word(line.words);
         let scope = path_of(alloc, scope)?;
         let name = name_of(alloc, name)?;
-        match line.kind {
-            "place" => push_path(out, place(alloc, &scope, &name)?),
-            "find" => push_path(out, self.space.find(alloc, &scope, &name)?),
-            "search" => push_path(out, self.space.search(alloc, &self.locals, &scope, &name)?),
-            "arity" => push_count(out, self.count(alloc, &scope, &name, false)?),
-            _ => push_count(out, self.count(alloc, &scope, &name, true)?),
+        self.push_answer(alloc, out, line.kind, &scope, &name)
+    }
+
+    fn push_answer(
+        &self,
+        alloc: Global,
+        out: &mut String,
+        asked: &str,
+        scope: &Path,
+        name: &Name,
+    ) -> Result<(), AllocError> {
+        match asked {
+            "arity" => push_count(out, self.count(alloc, scope, name, false)?),
+            "arity_unknown_zero" => push_count(out, self.count(alloc, scope, name, true)?),
+            way => push_path(out, self.led_path(alloc, way, scope, name)?),
+        }
+    }
+
+    /// Where a name leads from a scope.
+    fn led_path(
+        &self,
+        alloc: Global,
+        way: &str,
+        scope: &Path,
+        name: &Name,
+    ) -> Result<Option<Path>, AllocError> {
+        match way {
+            "place" => place(alloc, scope, name),
+            "find" => self.space.find(alloc, scope, name),
+            _ => self.space.search(alloc, &self.locals, scope, name),
         }
     }
 

@@ -78,47 +78,67 @@ pub fn read(rt: &HostRuntime) -> Result<CommandLine, Stop> {
 
 /// The options, and their help.
 fn command<'a>(alloc: Global) -> Result<Command<'a>, Error> {
-    let workers = Arg::new(alloc, "workers")
+    let mut command = Command::new(alloc, "acpidis")
+        .about(ABOUT)
+        .version("0.1.0")
+        .after_help(STATUSES);
+    for argument in [
+        workers(alloc),
+        flag(
+            alloc,
+            "any-sum",
+            "Take tables with any checksum, and say BadSum behind those whose sum is wrong",
+        ),
+        externals(alloc),
+        flag(
+            alloc,
+            "unknown-zero",
+            "Read a name in a body as one without arguments where no table tells how many it has",
+        ),
+        flag(
+            alloc,
+            "check",
+            "Print a line for each table: whether its terms encode to its bytes again",
+        ),
+        folder(alloc),
+    ] {
+        command = command.arg(argument)?;
+    }
+    Ok(command)
+}
+
+/// An option without a value.
+fn flag<'a>(alloc: Global, name: &'a str, help: &'a str) -> Arg<'a> {
+    Arg::new(alloc, name)
+        .long(name)
+        .help(help)
+        .action(ArgAction::SetTrue)
+}
+
+fn workers<'a>(alloc: Global) -> Arg<'a> {
+    Arg::new(alloc, "workers")
         .long("workers")
         .value_name("N")
         .help(
             "How many workers read the bodies of methods, 1 to 64; the text is the same for each number",
         )
         .value_parser(value_parser!(u32).range(1..=64))
-        .default_value("4");
-    let any_sum = Arg::new(alloc, "any-sum")
-        .long("any-sum")
-        .help("Take tables with any checksum, and say BadSum behind those whose sum is wrong")
-        .action(ArgAction::SetTrue);
-    let unknown_zero = Arg::new(alloc, "unknown-zero")
-        .long("unknown-zero")
-        .help("Read a name in a body as one without arguments where no table tells how many it has")
-        .action(ArgAction::SetTrue);
-    let externals = Arg::new(alloc, "externals")
+        .default_value("4")
+}
+
+fn externals<'a>(alloc: Global) -> Arg<'a> {
+    Arg::new(alloc, "externals")
         .long("externals")
         .value_name("FILE")
         .help(
             "Take argument counts of names that no table declares from a file of lines like \\_SB_.PC00.MTHD 2",
-        );
-    let check = Arg::new(alloc, "check")
-        .long("check")
-        .help("Print a line for each table: whether its terms encode to its bytes again")
-        .action(ArgAction::SetTrue);
-    let folder = Arg::new(alloc, "FOLDER")
+        )
+}
+
+fn folder<'a>(alloc: Global) -> Arg<'a> {
+    Arg::new(alloc, "FOLDER")
         .help("The folder with a file for each table, and tables.map, if their addresses are known")
-        .required(true);
-    Ok(
-        Command::new(alloc, "acpidis")
-            .about(ABOUT)
-            .version("0.1.0")
-            .after_help(STATUSES)
-            .arg(workers)?
-            .arg(any_sum)?
-            .arg(externals)?
-            .arg(unknown_zero)?
-            .arg(check)?
-            .arg(folder)?,
-    )
+        .required(true)
 }
 
 fn parse(alloc: Global, words: &[String]) -> Result<CommandLine, Error> {

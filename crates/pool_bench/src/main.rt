@@ -59,12 +59,31 @@ fn turns_of_a_piece(rt: &HostRuntime) -> io::Result<u32> {
     Ok((2_000_000_000 / micros) as u32)
 }
 
+/// The mode, the number of workers and the number of pieces that are asked for.
+fn asked(mut words: env::Args) -> Option<(String, u32, u32)> {
+    let mode = words.nth(1)?;
+    let workers = words.next()?.parse::<u32>().ok()?;
+    let count = words.next()?.parse::<u32>().ok()?;
+    Some((mode, workers, count))
+}
+
+/// Prints what a harvest answered, or how long it took.
+fn print_found(
+    rt: &HostRuntime,
+    mode: &str,
+    found: Result<Results<u64>, PoolFault>,
+    count: u32,
+    micros: u128,
+) -> io::Result<()> {
+    if mode == "answer" {
+        return println!(rt; "{}", answer(found, count));
+    }
+    let done = if found.is_ok() { "done" } else { "refused" };
+    println!(rt; "{done} {}.{:03} ms", micros / 1000, micros % 1000)
+}
+
 fn main(rt: HostRuntime) -> io::Result<()> {
-    let mut words = env::args(&rt)?.skip(1);
-    let mode = words.next();
-    let workers = words.next().and_then(|word| word.parse::<u32>().ok());
-    let count = words.next().and_then(|word| word.parse::<u32>().ok());
-    let (Some(mode), Some(workers), Some(count)) = (mode, workers, count) else {
+    let Some((mode, workers, count)) = asked(env::args(&rt)?) else {
         return println!(rt; "pool_bench empty|busy|answer WORKERS COUNT");
     };
     if workers < 1 || workers > 64 || count > 1_048_576 {
@@ -78,14 +97,5 @@ fn main(rt: HostRuntime) -> io::Result<()> {
     let start = Instant::now(&rt)?;
     let found = harvest(&rt, rt.alloc(), workers, count, &Turns { turns }, &FreeGate);
     let micros = start.elapsed(&rt)?.as_micros();
-    if mode.as_str() == "answer" {
-        println!(rt; "{}", answer(found, count))
-    } else {
-        println!(rt;
-            "{} {}.{:03} ms",
-            if found.is_ok() { "done" } else { "refused" },
-            micros / 1000,
-            micros % 1000
-        )
-    }
+    print_found(&rt, mode.as_str(), found, count, micros)
 }

@@ -5,18 +5,23 @@ ghost use Rattle.std.specs.Prelude.{◌≤◌, length};
 
 use super::fixtures::{Bare, codes};
 use aml_code::{CodeFault, encode_terms};
-use aml_load::{LoadFault, load, rebuild};
+use aml_load::{LoadFault, Loaded, load, rebuild};
 use aml_names::Path;
 use aml_parse::parse_body;
 use std::alloc::{AllocError, Global};
 use std::test::Fail;
+
+/// The AML of a loaded table, made anew.
+fn remade(alloc: Global, loaded: &Loaded<'_>) -> Result<Option<Vec<u8>>, AllocError> {
+    Ok(Some(rebuild(alloc, loaded, 0)?))
+}
 
 /// The AML of a table, made anew from what it loads to, if it loads.
 fn remade_table(alloc: Global, code: &[u8]) -> Result<Option<Vec<u8>>, AllocError>
     requires { length code.now ≤ 16777216 }
 {
     match load(alloc, &[code], &[]) {
-        Ok(loaded) => Ok(Some(rebuild(alloc, &loaded, 0)?)),
+        Ok(loaded) => remade(alloc, &loaded),
         Err(LoadFault::NoMemory) => Err(AllocError),
         Err(_) => Ok(None),
     }

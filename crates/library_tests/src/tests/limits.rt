@@ -3,12 +3,17 @@ ghost use Rattle.std.specs.Prelude.{◌≤◌, length};
 
 use super::fixtures::Bare;
 use acpi_tables::{Bad, Dump, MAX_DUMP_BYTES, MAX_DUMPS, load_order};
-use aml_code::encode_terms;
+use aml_code::{Node, encode_terms};
 use aml_load::{LoadFault, load};
-use aml_names::{Path, place, read_name};
+use aml_names::{Name, Path, place, read_name};
 use aml_parse::parse_body;
 use std::alloc::{AllocError, Global};
 use std::test::Fail;
+
+/// Whether a name leads to a path from the root.
+fn is_placed(alloc: Global, name: &Name) -> Result<bool, AllocError> {
+    Ok(place(alloc, &Path::root(alloc), name)?.is_some())
+}
 
 #[test]
 fn sixteen_million_parent_prefixes(rt: HostRuntime) -> Result<(), Fail> {
@@ -19,27 +24,36 @@ fn sixteen_million_parent_prefixes(rt: HostRuntime) -> Result<(), Fail> {
         return Ok(());
     }
     let (name, len) = read_name(alloc, &bytes)?;
-    assert_eq!(rt; name.ups, 16_777_212);
-    assert_eq!(rt; len, 16_777_216);
-    assert!(rt; place(alloc, &Path::root(alloc), &name)?.is_none());
+    assert_eq!(rt; (name.ups, len), (16_777_212, 16_777_216));
+    assert!(rt; !is_placed(alloc, &name)?);
     Ok(())
 }
 
-#[test]
-fn a_long_body(rt: HostRuntime) -> Result<(), Fail> {
-    let alloc = rt.alloc();
-    // Return (Add (Local0, Local1, )) a hundred thousand times
+/// `Return (Add (Local0, Local1, ))`, a hundred thousand times.
+fn long_body(alloc: Global) -> Result<Vec<u8>, AllocError> {
     let mut code = Vec::new(alloc);
     for _ in 0..100_000 {
         code.extend_from_slice(&[0xA4, 0x72, 0x60, 0x61, 0x00])?;
     }
+    Ok(code)
+}
+
+/// Whether these are so many terms, which encode to this code.
+fn encode_to(alloc: Global, terms: &[Node], code: &[u8]) -> Result<bool, AllocError>
+    requires { length code.now ≤ 16777216 }
+{
+    let bytes = encode_terms(alloc, code, terms)?;
+    Ok(terms.len() == 100_000 && bytes.as_slice() == code)
+}
+
+#[test]
+fn a_long_body(rt: HostRuntime) -> Result<(), Fail> {
+    let code = long_body(rt.alloc())?;
     if code.len() > 16_777_216 {
         return Ok(());
     }
-    let terms = parse_body(alloc, &code, &Bare, &Path::root(alloc))?;
-    assert_eq!(rt; terms.len(), 100_000);
-    let bytes = encode_terms(alloc, &code, &terms)?;
-    assert_eq!(rt; bytes.as_slice(), code.as_slice());
+    let terms = parse_body(rt.alloc(), &code, &Bare, &Path::root(rt.alloc()))?;
+    assert!(rt; encode_to(rt.alloc(), terms.as_slice(), code.as_slice())?);
     Ok(())
 }
 

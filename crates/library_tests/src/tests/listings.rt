@@ -32,6 +32,13 @@ pub fn has_three_bodies(listing: &Listing<'_>) -> bool {
     first.len() == 1 && last.is_empty()
 }
 
+/// Whether the bodies are those, read by so many workers.
+fn is_shared(listing: &Listing<'_>, workers: u32) -> bool {
+    let lists = listing.drawn.iter();
+    let numbers = lists.fold(0, |sum: usize, list| sum.saturating_add(list.len()));
+    has_three_bodies(listing) && listing.drawn.len() == workers as usize && numbers == 3
+}
+
 #[test]
 fn three_bodies_by_any_number_of_workers(rt: HostRuntime) -> Result<(), Fail> {
     let dumps = three_methods(rt.alloc())?;
@@ -44,11 +51,7 @@ fn three_bodies_by_any_number_of_workers(rt: HostRuntime) -> Result<(), Fail> {
             workers,
             &FreeGate,
         )?;
-        assert!(rt; has_three_bodies(&listing));
-        assert_eq!(rt; listing.drawn.len(), workers as usize);
-        let lists = listing.drawn.iter();
-        let numbers = lists.fold(0, |sum: usize, list| sum.saturating_add(list.len()));
-        assert_eq!(rt; numbers, 3);
+        assert!(rt; is_shared(&listing, workers));
     }
     Ok(())
 }
@@ -65,6 +68,16 @@ fn eight_methods(alloc: Global) -> Result<Vec<Dump>, AllocError> {
 }
 
 /// Whether the lists of two workers who read eight bodies are what the gate kept.
+fn are_calls(alloc: Global, gate: &Watch, listing: &Listing<'_>) -> Result<bool, AllocError> {
+    for (worker, list) in (0..2).zip(listing.drawn.iter()) {
+        if gate.numbers_of(alloc, worker)?.as_slice() != list.as_slice() {
+            return Ok(false);
+        }
+    }
+    Ok(listing.bodies.len() == 8)
+}
+
+/// Whether they are, where two workers read the eight methods behind this gate.
 fn lists_are_calls<T: Threads + Wait + Sync>(
     threads: &T,
     alloc: Global,
@@ -72,12 +85,7 @@ fn lists_are_calls<T: Threads + Wait + Sync>(
 ) -> Result<bool, Refusal> {
     let dumps = eight_methods(alloc)?;
     let listing = disassemble(threads, alloc, &dumps, any_sum(alloc), 2, gate)?;
-    for (worker, list) in (0..2).zip(listing.drawn.iter()) {
-        if gate.numbers_of(alloc, worker)?.as_slice() != list.as_slice() {
-            return Ok(false);
-        }
-    }
-    Ok(listing.bodies.len() == 8)
+    Ok(are_calls(alloc, gate, &listing)?)
 }
 
 /// The first of two calls waits for the second, which comes from another thread.

@@ -1,20 +1,21 @@
 //! Answers where a growth is refused, a thread's start included: the whole answer, or the want of memory or a thread.
 //!
 //! `tests/refusals.sh` runs each of these tests again and again, with each growth refused in turn.
-ghost use Rattle.std.specs.Prelude.{◌≤◌};
+ghost use Rattle.std.specs.Prelude.{◌≤◌, length};
+ghost use Rattle.aml_load.specs.Views.{codes_view, AreShort};
 
 use super::fixtures::{Bare, Square, any_sum, codes, push_dump, push_table};
 use super::folders::{FILES, MemoryFolder, are_gathered};
 use super::listings::{has_three_bodies, three_methods};
 use acpi_folder::{ExternalsFault, FolderFault, GatherFault, gather, parse_externals};
 use acpi_tables::{Bad, Dump, load_order};
-use acpidis::{Refusal, check, disassemble};
+use acpidis::{Checked, Refusal, check, disassemble};
 use aml_load::{LoadFault, Loaded, load, rebuild};
 use aml_names::{Path, Seg};
 use aml_parse::parse_body;
 use aml_pool::{Board, FreeGate, PoolFault, crew, harvest};
 use aml_space::Space;
-use aml_text::{Body, term_text};
+use aml_text::{Body, Listing, term_text};
 use std::alloc::{AllocError, Global};
 use std::sync::Wait;
 use std::test::Fail;
@@ -92,19 +93,22 @@ fn has_bytes(alloc: Global, loaded: &Loaded<'_>, code: &[u8]) -> bool {
     }
 }
 
+/// Whether the rows are those of that table, or memory was refused.
+fn has_names(alloc: Global, space: &Space) -> bool {
+    let names = [
+        ["BBBB"].as_slice(),
+        ["REG0"].as_slice(),
+        ["_SB_", "DEV0"].as_slice(),
+        ["_SB_", "DEV0", "AAAA"].as_slice(),
+    ];
+    has_rows(alloc, space, &names)
+}
+
 /// Whether a table loads, with a count that is given, or memory was refused.
 fn has_load(alloc: Global) -> Result<bool, AllocError> {
     let given = [(Path::below(alloc, &[Seg(*b"ZZZZ")], &[])?, 0)];
     match load(alloc, &[CODE], &given) {
-        Ok(loaded) => {
-            let names = [
-                ["BBBB"].as_slice(),
-                ["REG0"].as_slice(),
-                ["_SB_", "DEV0"].as_slice(),
-                ["_SB_", "DEV0", "AAAA"].as_slice(),
-            ];
-            Ok(has_bytes(alloc, &loaded, CODE) && has_rows(alloc, &loaded.space, &names))
-        }
+        Ok(loaded) => Ok(has_bytes(alloc, &loaded, CODE) && has_names(alloc, &loaded.space)),
         Err(fault) => Ok(matches!(fault, LoadFault::NoMemory)),
     }
 }
@@ -115,6 +119,10 @@ fn whole_load_or_no_memory(rt: HostRuntime) -> Result<(), Fail> {
     Ok(())
 }
 
+fn are_trees(bodies: &[Body]) -> bool {
+    bodies.iter().all(|body| matches!(body, Body::Tree(_)))
+}
+
 /// Whether a table by itself is listed, each body as terms, and has its bytes, or memory was refused.
 fn is_listed<T: Threads + Wait + Sync>(threads: &T, alloc: Global, code: &[u8]) -> bool {
     let mut dumps = Vec::new(alloc);
@@ -123,11 +131,7 @@ fn is_listed<T: Threads + Wait + Sync>(threads: &T, alloc: Global, code: &[u8]) 
     }
     match disassemble(threads, alloc, &dumps, any_sum(alloc), 1, &FreeGate) {
         Ok(listing) => {
-            let trees = listing
-                .bodies
-                .iter()
-                .all(|body| matches!(body, Body::Tree(_)));
-            trees && has_bytes(alloc, &listing.loaded, code)
+            are_trees(listing.bodies.as_slice()) && has_bytes(alloc, &listing.loaded, code)
         }
         Err(refusal) => matches!(refusal, Refusal::NoMemory),
     }
@@ -242,18 +246,31 @@ fn whole_listing_or_want(rt: HostRuntime) -> Result<(), Fail> {
     Ok(())
 }
 
-/// Whether both tables are the same when they are made anew, or memory was refused.
-fn has_checks<T: Threads + Wait + Sync>(threads: &T, alloc: Global, dumps: &[Dump]) -> bool {
-    let Ok(listing) = disassemble(threads, alloc, dumps, any_sum(alloc), 1, &FreeGate) else {
-        return true;
-    };
-    let Ok(checks) = check(alloc, &listing) else {
-        return true;
-    };
-    let [dsdt, ssdt] = checks.as_slice() else {
+/// Whether these are the checks of three methods in two tables, which are the same when they are made anew.
+fn are_same(checks: &[Checked]) -> bool {
+    let [dsdt, ssdt] = checks else {
         return false;
     };
     dsdt.same && ssdt.same && (dsdt.methods, dsdt.raw, ssdt.methods, ssdt.raw) == (2, 1, 1, 0)
+}
+
+/// Whether the tables of a listing have these checks, or memory was refused.
+fn is_checked(alloc: Global, listing: &Listing<'_>) -> bool
+    requires { AreShort (codes_view listing.now.loaded.tables.items)
+        × (length listing.now.loaded.methods.items ≤ 1048576) }
+{
+    match check(alloc, listing) {
+        Ok(checks) => are_same(checks.as_slice()),
+        Err(_) => true,
+    }
+}
+
+/// Whether both tables are the same when they are made anew, or memory was refused.
+fn has_checks<T: Threads + Wait + Sync>(threads: &T, alloc: Global, dumps: &[Dump]) -> bool {
+    match disassemble(threads, alloc, dumps, any_sum(alloc), 1, &FreeGate) {
+        Ok(listing) => is_checked(alloc, &listing),
+        Err(refusal) => matches!(refusal, Refusal::NoMemory),
+    }
 }
 
 #[test]

@@ -63,12 +63,20 @@ fn connection(alloc: Global, around: u32, within: u32) -> Result<Vec<u8>, AllocE
 /// A body for each way in which terms stand in terms.
 fn deepest_bodies(alloc: Global) -> Result<Vec<Vec<u8>>, AllocError> {
     let mut bodies = Vec::new(alloc);
-    bodies.push(chain(alloc, AROUND, b"\x92", b"\x60")?)?;
-    bodies.push(chain(alloc, AROUND, b"\x88\x60\x00", b"\x00")?)?;
-    bodies.push(chain(alloc, AROUND, b"CALL", b"\x60")?)?;
-    bodies.push(packages(alloc, AROUND, b"\xA0", b"\x60", vec![in alloc; 0xA3]?)?)?;
-    bodies.push(packages(alloc, AROUND, b"\x12", b"\x01", vec![in alloc; 0x00]?)?)?;
-    bodies.push(packages(alloc, AROUND, b"\x11", b"", vec![in alloc; 0x00]?)?)?;
+    for (link, last) in [
+        (b"\x92".as_slice(), b"\x60"),
+        (b"\x88\x60\x00".as_slice(), b"\x00"),
+        (b"CALL".as_slice(), b"\x60"),
+    ] {
+        bodies.push(chain(alloc, AROUND, link, last)?)?;
+    }
+    for (opcode, front, inner) in [
+        (b"\xA0", b"\x60".as_slice(), 0xA3),
+        (b"\x12", b"\x01".as_slice(), 0x00),
+        (b"\x11", b"".as_slice(), 0x00),
+    ] {
+        bodies.push(packages(alloc, AROUND, opcode, front, vec![in alloc; inner]?)?)?;
+    }
     bodies.push(connection(alloc, 300, 209)?)?;
     Ok(bodies)
 }

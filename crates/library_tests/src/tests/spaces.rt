@@ -1,6 +1,6 @@
 //! A namespace of many names: what stands at each place of its list, and how many comparisons a look-up makes.
 use aml_names::{Path, Seg};
-use aml_space::{Kind, Space, SpaceFault};
+use aml_space::{Kind, Space, SpaceFault, SpaceRow};
 use std::alloc::{AllocError, Global};
 use std::test::Fail;
 
@@ -49,22 +49,33 @@ fn stands(space: &Space, index: usize, path: &Path, number: u32) -> bool {
         && compared <= 64
 }
 
-#[test]
-fn many_names_in_a_mixed_order(rt: HostRuntime) -> Result<(), Fail> {
-    let alloc = rt.alloc();
-    let mut space = Space::new(alloc)?;
+/// Declares all names.
+fn declare_all(alloc: Global, space: &mut Space) -> Result<(), SpaceFault> {
     let mut number: u32 = 0;
     for _declared in 0..NAMES {
-        declare(alloc, &mut space, number)?;
+        declare(alloc, space, number)?;
         number = number.saturating_add(STEP) % NAMES;
     }
-    let rows = space.rows(alloc)?;
-    assert!(rt; rows.len() == NAMES as usize);
+    Ok(())
+}
+
+/// Whether these are the rows of all names, each at its place of the list.
+fn stand_in_order(space: &Space, rows: &[SpaceRow]) -> bool {
     let mut number: u32 = 0;
     for (index, row) in rows.iter().enumerate() {
-        assert!(rt; stands(&space, index, &row.path, number));
+        if !stands(space, index, &row.path, number) {
+            return false;
+        }
         number = number.saturating_add(1);
     }
-    assert!(rt; space.row_at(rows.len()).is_none());
+    number == NAMES && space.row_at(rows.len()).is_none()
+}
+
+#[test]
+fn many_names_in_a_mixed_order(rt: HostRuntime) -> Result<(), Fail> {
+    let mut space = Space::new(rt.alloc())?;
+    declare_all(rt.alloc(), &mut space)?;
+    let rows = space.rows(rt.alloc())?;
+    assert!(rt; stand_in_order(&space, rows.as_slice()));
     Ok(())
 }

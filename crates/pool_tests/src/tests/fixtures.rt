@@ -162,6 +162,21 @@ impl Log {
         self.entered.load(SeqCst)
     }
 
+    /// Whether these are the lists of the workers from this one on.
+    pub fn has_lists(
+        &self,
+        alloc: Global,
+        first: u32,
+        lists: &[Vec<u32>],
+    ) -> Result<bool, AllocError> {
+        for (worker, list) in (first..64).zip(lists) {
+            if self.numbers_of(alloc, worker)?.as_slice() != list.as_slice() {
+                return Ok(false);
+            }
+        }
+        Ok(true)
+    }
+
     /// The numbers with which this worker entered, in the order of its calls.
     pub fn numbers_of(&self, alloc: Global, worker: u32) -> Result<Vec<u32>, AllocError> {
         let mut numbers = Vec::new(alloc);
