@@ -1,17 +1,26 @@
 #!/usr/bin/env python3
-"""Tries wrong bodies, several in one check: the prover must refuse the function that each stands in.
+"""Tries wrong bodies, several in one check: a goal of the function that each stands in must be refused.
 
-usage: tests/wrong_bodies.py [--outside] [--over FOLDER] [CRATE..]
+usage: tests/wrong_bodies.py [--outside|--all] [--over FOLDER] [--shown FOLDER] [CRATE[/NAME]..]
 
-The wrong bodies are those of crates/CRATE/must-fail, or with --outside those of crates/CRATE/wrong-bodies.edits. The crates
-below are proved first, where that isn't done yet; with --over they are those that rt ci left in a copy of the repository. The
-last line is 'N passed, N failed'.
+The wrong bodies are those of crates/CRATE/must-fail, with --outside those of crates/CRATE/wrong-bodies.edits, or both. The crates
+below are proved first, where that isn't done yet; with --over they are those that rt ci left in a copy of the repository. With
+--shown what the prover printed is kept in a folder, a file for each check. The last line is 'N passed, N failed'.
+
+There are three verdicts, each printed with its reason:
+
+- refused: the prover tried a goal of the wrong body's own function and couldn't show it. The goal's name is printed.
+- UNDECIDED: the function isn't proved, but no goal of it was tried and refused: a name of a proof no longer fits the changed
+  code, a text can't be read, or only what it calls isn't proved. That says nothing of the contract, so the run fails, and the
+  wrong body wants another form.
+- PROVED: the contract lets the wrong body through. The run fails.
 
 A function is proved from its own body and the contracts of what it calls. So wrong bodies of different functions don't touch
 each other, and one check of a crate with all of them says of each function whether it is proved. For the same reason the bodies
-of the other functions are left out at first, with a hole for the proof of each. Two wrong bodies of one function, or of one
-cycle of calls, are tried in different checks. What such checks don't refuse is tried with all bodies, and at last alone, as one
-is at once that stands in no function, as in a table. `rt must-fail CRATE` tries one after the other.
+of the other functions are left out at first, with a hole for the proof of each, unless out/ has kept proofs of the crate. Two
+wrong bodies of one function, or of one cycle of calls, are tried in different checks. What such checks don't refuse is tried
+with all bodies, and at last alone, as one is at once that stands in no function, as in a table. `rt must-fail CRATE` tries one
+after the other.
 """
 
 import argparse
@@ -36,6 +45,8 @@ TYPE = re.compile(r"^(?:pub(?:\(\w+\))? )?(?:struct|enum) (\w+)", re.M)
 Place = collections.namedtuple("Place", "module name cycle")
 Function = collections.namedtuple("Function", "place begin end")
 WrongBody = collections.namedtuple("WrongBody", "name changes places")
+# Refused by which goals, or undecided or proved, and why
+Verdict = collections.namedtuple("Verdict", "kind reason")
 
 
 def kit():
@@ -110,9 +121,10 @@ def wrong_bodies(folder, outside):
     """The wrong bodies of a crate: those that the gate tries, or the others."""
     texts = {}
     for file in sorted(glob.glob(f"{folder}/wrong-bodies.edits" if outside else f"{folder}/must-fail/*.edit")):
-        text = open(file, encoding="utf-8").read()
+        with open(file, encoding="utf-8") as it:
+            text = it.read()
         parts = re.split(r"^edit: ", text, flags=re.M)[1:] if outside else [f"{os.path.basename(file)[:-5]}\n{text}"]
-        texts.update(it.split("\n", 1) for it in parts)
+        texts.update(part.split("\n", 1) for part in parts)
     return [read_wrong_body(name.strip(), text, folder) for name, text in texts.items()]
 
 
@@ -207,6 +219,20 @@ def check(rtlib, crate, batch, kept, only_these):
     return ran.stdout, ran.returncode == 1 and has_read and "\nonly=" in ran.stdout
 
 
+# What an answer is refused with that was tried at its goal. All else that is said of an answer, as that a name is not in scope
+# or that a value has no such field, says that it wasn't.
+TRIED = re.compile(
+    r"the two types|expected type|expected .*, but|no occurrence|did not|does not|found no|list the missing equation"
+)
+STALE = re.compile(r"has no |is not in scope|not admitted|is no name|cannot be named|unknown|ambiguous|no module")
+
+
+def owner_of(goal, path, names):
+    """Whether a goal is one of these functions: in a cycle its name begins with that of its function."""
+    is_cycle = path.rpartition("/")[2].startswith("+")
+    return not is_cycle or any(goal.startswith(f"{name}-") for name in names)
+
+
 def stands_at(place, path):
     """Whether a function, or the cycle that it is in, is the one at this path below proofs/."""
     above, _, name = (place.name or "").rpartition("::")
@@ -214,72 +240,141 @@ def stands_at(place, path):
     return bool(name and re.search(own, path)) or place.cycle is not None and path.split("/")[-1] == f"+{place.cycle}"
 
 
-def refused_in(printed, batch):
-    """The wrong bodies that a check refused for their own sake.
+def answered_goals(file):
+    """The goals that a file of answers has answers to: what else it declares is a step on the way."""
+    if not os.path.exists(file):
+        return set()
+    with open(file, encoding="utf-8") as it:
+        return set(re.findall(r"^pub (\S+)\s*:\s*goal\.", it.read(), re.M))
 
-    What a function has to show comes from its body and from what its callees state. So what was tried and isn't shown is its
-    own fault, also where a callee isn't proved; but that is only believed where no function without a wrong body has such faults.
+
+REFUSED = re.compile(r"(?:\./)?proofs/(\S+)/(Answers|Proof|Invariants)\.antt:\S+ error: (?:`([^`]+)`: )?(.*)")
+FALSE = re.compile(r"note: .*\(`([^`]+)`\); the facts known there allow values at which this goal is false")
+UNPROVED = re.compile(r"`search` did not prove ((?:`[^`]+`(?:, )?)+)")
+
+
+def read_output(printed, proofs):
+    """What a check printed, by the path below proofs/ of each function or cycle that isn't proved: goals, and other reasons.
+
+    The goals are those that were tried and aren't shown, by the prover's own search or by an answer in `proofs`.
     """
-    faults, beside = set(), set(re.findall(r"^(?:\./)?proofs/(\S+)/(?:Answers|Proof)\.antt:\S+ error: ", printed, re.M))
-    for name, said in re.findall(r"^fn \w+::(\S+): (n.*)", printed, re.M):
-        # Of a function in a cycle the answers stand in the folder of the cycle.
-        file = re.search(r"expected answers in (?:\./)?proofs/(\S+)/Answers\.antt", said)
-        path = file[1] if file else name.replace("::", "/")
-        if said.startswith(("not proved", "no proof")) and "it calls" not in said:
-            faults.add(path)
-        elif "did not prove" in said:
-            beside.add(path)
-    if all(any(stands_at(place, path) for it in batch for place in it.places) for path in beside):
-        faults |= beside
-    return [it for it in batch if any(stands_at(place, path) for place in it.places for path in faults)]
+    goals, others, false = {}, {}, set()
+    for line in printed.split("\n"):
+        answer, ended, counterexample = REFUSED.match(line), re.match(r"fn \w+::(\S+): (.*)", line), FALSE.match(line)
+        if answer:
+            path, file, name, said = answer.groups()
+            answers = answered_goals(f"{proofs}/{path}/Answers.antt")
+            if file == "Answers" and name in answers and TRIED.search(said) and not STALE.search(said):
+                goals.setdefault(path, []).append(name)
+            else:
+                others.setdefault(path, []).append(f"{file}: `{name}`: {said}")
+        elif counterexample:
+            false.add(counterexample[1])
+        elif ended:
+            name, said = ended.groups()
+            # Of a function in a cycle the answers stand in the folder of the cycle.
+            file, unproved = re.search(r"expected answers in (?:\./)?proofs/(\S+)/Answers\.antt", said), UNPROVED.search(said)
+            path = file[1] if file else name.replace("::", "/")
+            if unproved:
+                found = re.findall(r"`([^`]+)`", unproved[1])
+                goals.setdefault(path, []).extend(f"{it}{' (false at some values)' * (it in false)}" for it in found)
+            elif said not in ("proved", "no holes") and not said.startswith("depends on a hole"):
+                others.setdefault(path, []).append(said)
+            false = set()
+    return goals, others
 
 
-def tried(rtlib, crate, waiting, kept):
-    """Tries all wrong bodies of a crate, and gives for each that isn't refused what was printed, and else nothing."""
-    only_these, alone, answers = True, False, {}
+def verdict_of(wrong, goals, others, printed):
+    """The verdict on a wrong body from the goals and other reasons that a check told, by the path of what was to be proved."""
+    names = {place.name.rpartition("::")[2] for place in wrong.places if place.name}
+    is_own = lambda path: any(stands_at(place, path) for place in wrong.places) or not names
+    own = [(path, goal) for path in goals if is_own(path) for goal in goals[path] if owner_of(goal, path, names)]
+    if own:
+        told = [f"{goal} of {path}" for path, goal in own]
+        return Verdict("refused", "; ".join(dict.fromkeys(told)))
+    told = [f"{path}: {it}" for path in others if is_own(path) for it in others[path]]
+    ends = [said for name, said in re.findall(r"^fn \w+::(\S+): (.*)", printed, re.M) if is_own(name.replace("::", "/"))]
+    if not told and ends and all(it == "proved" for it in ends):
+        return Verdict("PROVED", "the contract lets it through")
+    elsewhere = [f"{path}: {it}" for found in (goals, others) for path in found for it in found[path]]
+    return Verdict("UNDECIDED", "\n".join(told or elsewhere or printed.rstrip("\n").split("\n")[-20:]))
+
+
+def judged(rtlib, crate, waiting, kept, shown, is_seeded):
+    """Gives the verdicts on all wrong bodies of a crate, each with its name, as they come."""
+    left_out, alone, proofs = not is_seeded, False, f"{TOP}/crates/{crate.name}/proofs"
     while waiting:
         batch = waiting[:1] if alone else first_batch(waiting)
-        only_these = only_these and any(place.name for it in batch for place in it.places)
+        left_out = left_out and any(place.name for it in batch for place in it.places)
         # What is checked is only worth keeping where another check follows.
         is_last = len(batch) == len(waiting) and not os.path.exists(kept)
-        printed, has_verdict = check(rtlib, crate, batch, None if is_last else kept, only_these)
-        if only_these or len(batch) > 1:
-            refused = refused_in(printed, batch) if has_verdict else []
-        else:
-            refused = batch
-        answers.update((it.name, "" if has_verdict else printed) for it in refused)
-        waiting = [it for it in waiting if it.name not in answers]
-        only_these, alone = only_these and bool(refused), not (only_these or refused)
-    return answers
+        printed, has_read = check(rtlib, crate, batch, None if is_last else kept, left_out)
+        if shown:
+            file = f"{shown}/{crate.name}.{len(waiting)}{'.left_out' if left_out else '.alone' if alone else ''}"
+            with open(file, "w", encoding="utf-8") as it:
+                print(*(body.name for body in batch), printed, sep="\n", file=it)
+        goals, others = read_output(printed, proofs)
+        found = {it.name: verdict_of(it, goals, others, printed) for it in batch}
+        if len(batch) > 1 or left_out:
+            # A fault of a function that no wrong body stands in is the check's own, and then no goal is believed.
+            in_batch = lambda path: any(stands_at(place, path) for it in batch for place in it.places)
+            is_sound = has_read and all(map(in_batch, goals))
+            found = {name: it for name, it in found.items() if is_sound and it.kind == "refused"}
+        elif not has_read:
+            unread = re.findall(r"^(?:\./)?(?:src|specs)/\S+: error.*", printed, re.M)
+            found = {batch[0].name: Verdict("UNDECIDED", "\n".join(unread or printed.rstrip("\n").split("\n")[-20:]))}
+        yield from found.items()
+        waiting = [it for it in waiting if it.name not in found]
+        left_out, alone = left_out and bool(found), not (left_out or found)
+
+
+def seed(crate, kept):
+    """Begins with what `rt check` kept of a crate, if there is anything: then each check proves little more than what changed."""
+    own = f"{crate.folder}/out/incremental"
+    if os.path.isdir(own):
+        shutil.copytree(own, kept)
+    return os.path.isdir(own)
 
 
 def main():
     parser = argparse.ArgumentParser(usage=__doc__.split("usage: ")[1].split("\n")[0])
-    parser.add_argument("--outside", action="store_true")
+    which = parser.add_mutually_exclusive_group()
+    which.add_argument("--outside", dest="kinds", action="store_const", const=[True], default=[False])
+    which.add_argument("--all", dest="kinds", action="store_const", const=[False, True])
     parser.add_argument("--over", metavar="FOLDER", default=TOP)
-    parser.add_argument("crates", nargs="*")
+    parser.add_argument("--shown", metavar="FOLDER", type=os.path.abspath)
+    parser.add_argument("names", nargs="*", metavar="CRATE[/NAME]")
     given = parser.parse_args()
     rtlib = kit()
     os.chdir(given.over)
     tasks = []
     for crate in rtlib.crates_below(os.getcwd()):
-        bodies = wrong_bodies(f"{TOP}/crates/{crate.name}", given.outside)
-        if bodies and (not given.crates or crate.name in given.crates):
+        bodies = [it for kind in given.kinds for it in wrong_bodies(f"{TOP}/crates/{crate.name}", kind)]
+        is_asked = lambda it: not given.names or {crate.name, f"{crate.name}/{it.name}"} & set(given.names)
+        bodies = [it for it in bodies if is_asked(it)]
+        if bodies:
             tasks.append((crate, bodies))
             if given.over == TOP and any(below.build_rlib(["--jobs", "1"], anew=False) for below in crate.below()):
                 sys.exit(f"{crate.name}: what it stands on isn't proved")
-    refused = failed = 0
+    counts = collections.Counter()
+
+    def judge(crate, bodies, kept):
+        is_seeded = given.over == TOP and seed(crate, kept)
+        for name, verdict in judged(rtlib, crate, bodies, kept, given.shown, is_seeded):
+            said = verdict.reason.replace("\n", "\n    ")
+            print(f"{crate.name}/{name}: {verdict.kind}: {said}", flush=True)
+            counts[verdict.kind] += 1
+        shutil.rmtree(kept, ignore_errors=True)
+
     lanes = int(os.environ.get("RT_JOBS") or len(os.sched_getaffinity(0)))
-    with tempfile.TemporaryDirectory() as kept, concurrent.futures.ThreadPoolExecutor(lanes) as pool:
+    with tempfile.TemporaryDirectory() as room, concurrent.futures.ThreadPoolExecutor(lanes) as pool:
         tasks.sort(key=lambda it: -len(it[1]))
-        running = {pool.submit(tried, rtlib, crate, bodies, f"{kept}/{crate.name}"): crate for crate, bodies in tasks}
-        for it in concurrent.futures.as_completed(running):
-            for name, printed in it.result().items():
-                said = ["NOT REFUSED", *printed.rstrip("\n").split("\n")[-40:]] if printed else ["refused"]
-                print(f"{running[it].name}/{name}: {said[0]}", *said[1:], sep="\n", flush=True)
-                refused, failed = refused + (not printed), failed + bool(printed)
-    print(f"{refused} passed, {failed} failed")
-    return 1 if failed or not refused else 0
+        running = [pool.submit(judge, crate, bodies, f"{room}/{crate.name}") for crate, bodies in tasks]
+        for it in running:
+            it.result()
+    failed = counts["UNDECIDED"] + counts["PROVED"]
+    print(f"{counts['refused']} passed, {failed} failed")
+    return 1 if failed or not counts["refused"] else 0
 
 
 if __name__ == "__main__":
