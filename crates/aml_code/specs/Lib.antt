@@ -10,3 +10,4 @@ pub mod Declaring
 pub mod Lawful
 pub mod Elses
 pub mod Meaning
+pub mod Prefixes

@@ -7,5 +7,6 @@ pub mod Takes
 pub mod Again
 pub mod Placed
 pub mod Readings
+pub mod PrefixLaws
 pub mod Loops
 pub mod Bare
