@@ -3,5 +3,6 @@ pub mod Views
 pub mod Within
 pub mod RowFacts
 pub mod ElseLaws
+pub mod LevelLaws
 mod Encodes
 mod RowIndex

@@ -1,5 +1,5 @@
--- Where an Else stands (ACPI 6.5, 20.2.5.3): DefIfElse is an If and perhaps one Else, and nothing comes between them. So
--- an Else, at whatever depth, is a term of a list of terms, and the term before it is an If.
+-- Where an Else stands (ACPI 6.5, 20.2.5.3): DefIfElse is an If and perhaps one Else, and nothing comes between them.
+-- So an Else, at whatever depth, is a term of a list of terms, and the term before it is an If.
 use Rattle.std.specs.Prelude.{◌≡◌, ℕ, ◌==◌, Bool, true, false}
 use Rattle.aml_code.specs.Tree.{Tree, nothing, named, op, Trees, no_trees, tree_more, Part, child, Parts, no_parts, part_more, Tail, terms, elements, fields, Field, connection, Fields, no_fields, field_more, Link, target, buffer}
 
@@ -9,8 +9,8 @@ has_opcode o (op p w ps t) = p == o
 has_opcode o _ = false
 
 abbrev mutual
-  -- In a list of terms, and in all lists inside these terms, each Else stands right behind an If. It is said whether an If
-  -- stands before the list.
+  -- In a list of terms, and in all lists inside these terms, each Else stands right behind an If. It is said whether an
+  -- If stands before the list.
   pub ElsesFollow : Bool → Trees → Type 0
   ElsesFollow behind_if no_trees = Unit {0}
   ElsesFollow behind_if (tree_more t ts) = ElseFollows behind_if t × ElsesFollow (has_opcode 0xA0 t) ts
