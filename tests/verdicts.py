@@ -36,13 +36,13 @@ SAMPLES = [
     ([ANSWER + "`returns-in-Ok-clause-sound`: `front` was not admitted", NOT_PROVED], "UNDECIDED", "not admitted"),
     (["./proofs/reading/read_name/Invariants.antt:3:1: error: `invariant-loop`: expected type `a`, but this has type `b`", NOT_PROVED],
      "UNDECIDED", "invariant-loop"),
-    # Another function's failure
+    # Another function's failure is none of its own: it is tried again without that one, and at last undecided.
     (["fn aml_names::reading::read_name: no proof: it calls `aml_names::reading::path_of`, which is not proved"],
-     "UNDECIDED", "which is not proved"),
+     None, "which is not proved"),
     (["fn aml_names::reading::path_of: no proof: expected answers in ./proofs/reading/path_of/Answers.antt; `search` did not prove `a`",
       "fn aml_names::reading::read_name: no proof: it calls `aml_names::reading::path_of`, which is not proved"],
-     "UNDECIDED", "which is not proved"),
-    (["rattle: no verdict"], "UNDECIDED", "no verdict"),
+     None, "which is not proved"),
+    (["rattle: no verdict"], None, "no verdict"),
 ]
 
 
@@ -60,7 +60,7 @@ def main():
         cycle = "fn aml_code::encode::{}: no proof: expected answers in ./proofs/encode/+encode/Answers.antt; `search` did not prove `{}`"
         samples = [(wrong, *it) for it in SAMPLES]
         samples.append((in_cycle, [cycle.format("encode_node", "encode_node-returns")], "refused", "encode_node-returns"))
-        samples.append((in_cycle, [cycle.format("encode_tail", "encode_tail-returns")], "UNDECIDED", "encode_tail-returns"))
+        samples.append((in_cycle, [cycle.format("encode_tail", "encode_tail-returns")], None, "encode_tail-returns"))
         for body, lines, kind, words in samples:
             printed = "\n".join(lines)
             verdict = tried.verdict_of(body, *tried.read_output(printed, proofs), printed)

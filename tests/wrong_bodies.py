@@ -285,24 +285,43 @@ def read_output(printed, proofs):
 
 
 def verdict_of(wrong, goals, others, printed):
-    """The verdict on a wrong body from the goals and other reasons that a check told, by the path of what was to be proved."""
+    """The verdict on a wrong body from the goals and other reasons that a check told, by the path of what was to be proved.
+
+    There is none, with the lines that were printed of it, where all that is said of its function is that a callee isn't proved.
+    """
     names = {place.name.rpartition("::")[2] for place in wrong.places if place.name}
     is_own = lambda path: any(stands_at(place, path) for place in wrong.places) or not names
     own = [(path, goal) for path in goals if is_own(path) for goal in goals[path] if owner_of(goal, path, names)]
     if own:
-        told = [f"{goal} of {path}" for path, goal in own]
-        return Verdict("refused", "; ".join(dict.fromkeys(told)))
+        return Verdict("refused", "; ".join(dict.fromkeys(f"{goal} of {path}" for path, goal in own)))
     told = [f"{path}: {it}" for path in others if is_own(path) for it in others[path]]
     ends = [said for name, said in re.findall(r"^fn \w+::(\S+): (.*)", printed, re.M) if is_own(name.replace("::", "/"))]
     if not told and ends and all(it == "proved" for it in ends):
         return Verdict("PROVED", "the contract lets it through")
+    if any("it calls" not in it for it in told):
+        return Verdict("UNDECIDED", "\n".join(told))
     elsewhere = [f"{path}: {it}" for found in (goals, others) for path in found for it in found[path]]
-    return Verdict("UNDECIDED", "\n".join(told or elsewhere or printed.rstrip("\n").split("\n")[-20:]))
+    return Verdict(None, "\n".join(told or elsewhere or printed.rstrip("\n").split("\n")[-20:]))
+
+
+def verdicts_on(batch, printed, has_read, proofs, left_out):
+    """The verdicts that a check gives on some of the wrong bodies in it, by their names."""
+    goals, others = read_output(printed, proofs)
+    found = {it.name: verdict_of(it, goals, others, printed) for it in batch}
+    if not has_read:
+        unread = re.findall(r"^(?:\./)?(?:src|specs)/\S+: error.*", printed, re.M)
+        found = {it.name: Verdict(None, "\n".join(unread or printed.rstrip("\n").split("\n")[-20:])) for it in batch}
+    if len(batch) == 1 and not left_out:
+        return {name: Verdict(it.kind or "UNDECIDED", it.reason) for name, it in found.items()}
+    # A fault of a function that no wrong body stands in is the check's own, and then nothing is believed.
+    in_batch = lambda path: any(stands_at(place, path) for it in batch for place in it.places)
+    is_sound = all(map(in_batch, goals))
+    return {name: it for name, it in found.items() if is_sound and it.kind and (it.kind == "refused" or not left_out)}
 
 
 def judged(rtlib, crate, waiting, kept, shown, is_seeded):
     """Gives the verdicts on all wrong bodies of a crate, each with its name, as they come."""
-    left_out, alone, proofs = not is_seeded, False, f"{TOP}/crates/{crate.name}/proofs"
+    left_out, alone = not is_seeded, False
     while waiting:
         batch = waiting[:1] if alone else first_batch(waiting)
         left_out = left_out and any(place.name for it in batch for place in it.places)
@@ -313,16 +332,7 @@ def judged(rtlib, crate, waiting, kept, shown, is_seeded):
             file = f"{shown}/{crate.name}.{len(waiting)}{'.left_out' if left_out else '.alone' if alone else ''}"
             with open(file, "w", encoding="utf-8") as it:
                 print(*(body.name for body in batch), printed, sep="\n", file=it)
-        goals, others = read_output(printed, proofs)
-        found = {it.name: verdict_of(it, goals, others, printed) for it in batch}
-        if len(batch) > 1 or left_out:
-            # A fault of a function that no wrong body stands in is the check's own, and then no goal is believed.
-            in_batch = lambda path: any(stands_at(place, path) for it in batch for place in it.places)
-            is_sound = has_read and all(map(in_batch, goals))
-            found = {name: it for name, it in found.items() if is_sound and it.kind == "refused"}
-        elif not has_read:
-            unread = re.findall(r"^(?:\./)?(?:src|specs)/\S+: error.*", printed, re.M)
-            found = {batch[0].name: Verdict("UNDECIDED", "\n".join(unread or printed.rstrip("\n").split("\n")[-20:]))}
+        found = verdicts_on(batch, printed, has_read, f"{TOP}/crates/{crate.name}/proofs", left_out)
         yield from found.items()
         waiting = [it for it in waiting if it.name not in found]
         left_out, alone = left_out and bool(found), not (left_out or found)
