@@ -100,9 +100,9 @@ class Namespace:
         self.given[path] = max(self.given.get(path, 0), count)
 
     def declare(self, scope, name, kind, method=None):
-        path = placed(scope, name)
         if kind[0] == "Method" and len(self.methods) >= MOST_METHODS:
             raise Refused("TooManyMethods")
+        path = placed(scope, name)
         if path in self.kinds or path == ():
             raise Refused("Duplicate", path=path_text(path))
         self.kinds[path] = kind

@@ -7,16 +7,19 @@ use Rattle.aml_names.specs.declared.names.Name.{Name}
 use Rattle.aml_names.specs.Paths.{PathSet}
 use Rattle.aml_names.specs.declared.faults.CodeFault.{CodeFault}
 use Rattle.aml_names.specs.declared.faults.CodeFault.TheVariants as codes
+use Rattle.aml_names.specs.Steps.{Gives}
+use Rattle.aml_code.specs.declared.rows.Position.TheVariants as positions
 use Rattle.aml_code.specs.Tree.{Trees}
 use Rattle.aml_code.specs.Faults.{StandsAt}
 use Rattle.aml_code.specs.Meaning.{ReadsBody}
+use Rattle.aml_parse.specs.Reading.{all_at}
 use Rattle.aml_space.specs.Bodies.{BodyView}
 use Rattle.aml_space.specs.Entries.{Entry}
 use Rattle.aml_space.proofs.Stands.{same_namespace}
 use Rattle.aml_space.specs.Namespace.{Namespace, namespace_of, arity_of}
 use Rattle.aml_space.specs.Known.{Known, StandsFor, namespace_in}
 use Rattle.aml_load.specs.declared.methods.Method.{Method}
-use Rattle.aml_load.specs.Bodies.{IsBody, IsUnread, IsReading}
+use Rattle.aml_load.specs.Bodies.{IsBody, IsUnread, IsReading, GivesBody}
 use Rattle.aml_load.specs.Views.{AreShort, span_in, span_of}
 
 -- a span is no longer than its table
@@ -74,11 +77,26 @@ reading_of : {X : Type 0} (view : X → Trees) (es : List Entry) (cs : List (Lis
 reading_of view es cs m z (Ok x) says = (says.0, says.1)
 reading_of view es cs m z (Err f) says = unread view es cs m z f says.2 says.3 (want_or f)
 
+-- what is said of a body by the counts of its names, and by its bytes, is said of the method in the namespace of the
+-- entries
+said_of_method : (P : Counts → List ℕ → Type 0) (names : BodyView) (k : Known) (es : List Entry) (cs : List (List ℕ)) (m : Method) (z : Bool) (bytes : List ℕ)
+    → names ≡ record { known = k; method = m.path; unknown_zero = z } → StandsFor k es → bytes ≡ span_of cs m
+    → P (arity_of (namespace_in names.known) names.unknown_zero names.method) bytes → P (arity_of (namespace_of es) z m.path) (span_of cs m)
+said_of_method P names k es cs m z bytes named s is says =
+    let here = subst (λ (v : BodyView). P (arity_of (namespace_in v.known) v.unknown_zero v.method) bytes) named says in
+    let there = subst (λ (n : Namespace). P (arity_of n z m.path) bytes) (same_namespace k es s) here in
+    subst (λ (b : List ℕ). P (arity_of (namespace_of es) z m.path) b) is there
+
 -- what `parse_body` answers over the names of a method's body is a reading of this body
 pub reading_is : {X : Type 0} (view : X → Trees) (names : BodyView) (k : Known) (es : List Entry) (cs : List (List ℕ)) (m : Method) (z : Bool) (bytes : List ℕ) (r : Result X CodeFault)
     → names ≡ record { known = k; method = m.path; unknown_zero = z } → StandsFor k es → bytes ≡ span_of cs m
     → Says view m.path bytes r (arity_of (namespace_in names.known) names.unknown_zero names.method) → IsReading view z es cs m r
 reading_is view names k es cs m z bytes r named s is says =
-    let here = subst (λ (v : BodyView). Says view m.path bytes r (arity_of (namespace_in v.known) v.unknown_zero v.method)) named says in
-    let there = subst (λ (n : Namespace). Says view m.path bytes r (arity_of n z m.path)) (same_namespace k es s) here in
-    reading_of view es cs m z r (subst (λ (b : List ℕ). Says view m.path b r (arity_of (namespace_of es) z m.path)) is there)
+    reading_of view es cs m z r (said_of_method (λ counts b. Says view m.path b r counts) names k es cs m z bytes named s is says)
+
+-- what reading forward gives of its bytes is what it gives of the method's body
+pub forward_is : {X : Type 0} (view : X → Trees) (names : BodyView) (k : Known) (es : List Entry) (cs : List (List ℕ)) (m : Method) (z : Bool) (bytes : List ℕ) (r : Result X CodeFault)
+    → names ≡ record { known = k; method = m.path; unknown_zero = z } → StandsFor k es → bytes ≡ span_of cs m
+    → Gives view r (all_at (arity_of (namespace_in names.known) names.unknown_zero names.method) (Some m.path) positions.BodyTerm bytes) → GivesBody view z es cs m r
+forward_is view names k es cs m z bytes r named s is says =
+    said_of_method (λ counts b. Gives view r (all_at counts (Some m.path) positions.BodyTerm b)) names k es cs m z bytes named s is says

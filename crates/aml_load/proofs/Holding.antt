@@ -29,8 +29,8 @@ use Rattle.aml_load.specs.declared.walking.Progress.{Progress}
 use Rattle.aml_load.specs.Loading.{Listed, plus, with_uses, methods_of}
 use Rattle.aml_load.specs.Roles.{role_of}
 use Rattle.aml_load.specs.Uses.{kinds_in, parts_uses, tail_uses}
-use Rattle.aml_load.specs.Walking.{◌>>=◌, listed, space_fault, entry_at, name_at, fields_at, do_as, walk, walk_inside}
-use Rattle.aml_load.specs.Progresses.{Holds, Fails}
+use Rattle.aml_load.specs.Walking.{◌>>=◌, listed, space_fault, entry_at, name_at, fields_at, do_as, walk, walk_inside, Fails}
+use Rattle.aml_load.specs.Progresses.{Holds}
 use Rattle.aml_load.proofs.Steps.{place_again}
 use Rattle.aml_load.proofs.Walks.{methods_more}
 

@@ -19,10 +19,10 @@ use Rattle.aml_load.specs.declared.loading.Loaded.{Loaded}
 use Rattle.aml_load.specs.declared.methods.Use.{Use}
 use Rattle.aml_load.proofs.Givens.{no_methods}
 use Rattle.aml_load.specs.Loading.{Listed, first_listed, DeclareAll, DeclareTables, Uncalled, use_count, Loads, ReadTables, IsLoad}
-use Rattle.aml_load.specs.Walking.{◌>>=◌, code_fault, in_code, walk_all, table_at, tables_at, uses_at, load_at}
+use Rattle.aml_load.specs.Walking.{◌>>=◌, code_fault, in_code, walk_all, table_at, tables_at, uses_at, load_at, GivesLoad}
 use Rattle.aml_load.specs.Stops.{StopTable, StopTables, Called, StopsLoad}
 use Rattle.aml_load.specs.Views.{AreShort, codes_view, HoldsLoad}
-use Rattle.aml_load.specs.Progresses.{AreCodes, GivesLoad}
+use Rattle.aml_load.specs.Progresses.{AreCodes}
 use Rattle.aml_load.proofs.Steps.{ok_is, bind_then, err_then, guard_ok, guard_err}
 use Rattle.aml_load.proofs.Walks.{count, all_takes, all_grow, all_again, all_few_count, all_err}
 

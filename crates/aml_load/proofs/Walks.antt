@@ -16,7 +16,7 @@ use Rattle.aml_code.specs.declared.rows.Role.{Role}
 use Rattle.aml_code.specs.declared.rows.Role.TheVariants as roles
 use Rattle.aml_load.specs.Roles.{role_of, kind_of}
 use Rattle.aml_load.specs.Loading.{Listed, plus, with_uses, first_label, byte_of, place_of, IsNew, Leads, target_of, body_start, body_len, method_entry, DeclareUnits, DoesAs, Declares, DeclareInside, DeclareAll, methods_at, methods_of}
-use Rattle.aml_load.specs.Walking.{◌>>=◌, place_at, scope_at, source_at, entry_at, new_at, name_at, number_at, method_at, alias_at, external_at, do_as, walk, walk_inside, walk_all}
+use Rattle.aml_load.specs.Walking.{◌>>=◌, place_at, scope_at, source_at, entry_at, new_at, name_at, new_method_at, method_at, alias_at, external_at, do_as, walk, walk_inside, walk_all}
 use Rattle.aml_load.specs.Stops.{Unplaced, NotNew, Nowhere, TooMany, StopsAs, Stops, StopInside, StopAll}
 use Rattle.aml_load.proofs.Steps.{the_ok, ok_is, bind_then, err_then, guard_ok, guard_err, place_ok, place_again, place_err, scope_ok, scope_again, scope_err, source_ok, source_again, source_err, entry_ok, entry_again, entry_err, new_ok, new_again, new_err, name_ok, name_again, name_err, fields_ok, fields_again, fields_err}
 
@@ -25,13 +25,20 @@ use Rattle.aml_load.proofs.Steps.{the_ok, ok_is, bind_then, err_then, guard_ok, 
 IsMethod : ℕ → Listed → List Seg → Option Name → ℕ → ℕ → ℕ → Listed → Type 0
 IsMethod t l scope n flags start len m = (p : List Seg) × IsNew l scope n p × (m ≡ plus l (method_entry t p flags start len))
 
-method_ok : (t : ℕ) (l : Listed) (scope : List Seg) (n : Option Name) (flags start len : ℕ) (m : Listed) → method_at t l scope n flags start len ≡ Ok m → IsMethod t l scope n flags start len m
-unfolding method_at number_at IsMethod
-method_ok t l scope n flags start len m e =
-    bind_then (IsMethod t l scope n flags start len m) (place_at t scope n) (λ p. number_at t l p flags start len) m e (λ p h1 e1.
-    let g = guard_ok (nat_le 1048576 (length (methods_of l.entries))) loads.TooManyMethods (entry_at t l p (method_entry t p flags start len)) m e1 in
-    let d = entry_ok t l p (method_entry t p flags start len) m g.1 in
+new_method_ok : (t : ℕ) (l : Listed) (scope : List Seg) (n : Option Name) (flags start len : ℕ) (m : Listed) → new_method_at t l scope n flags start len ≡ Ok m → IsMethod t l scope n flags start len m
+unfolding new_method_at IsMethod
+new_method_ok t l scope n flags start len m e =
+    bind_then (IsMethod t l scope n flags start len m) (place_at t scope n) (λ p. entry_at t l p (method_entry t p flags start len)) m e (λ p h1 e1.
+    let d = entry_ok t l p (method_entry t p flags start len) m e1 in
     (p, (place_ok t scope n p h1, d.0), d.1))
+
+-- there was room for a method, and its name is declared
+method_ok : (t : ℕ) (l : Listed) (scope : List Seg) (n : Option Name) (flags start len : ℕ) (m : Listed) → method_at t l scope n flags start len ≡ Ok m
+    → (nat_le 1048576 (length (methods_of l.entries)) ≡ false) × IsMethod t l scope n flags start len m
+unfolding method_at
+method_ok t l scope n flags start len m e =
+    let g = guard_ok (nat_le 1048576 (length (methods_of l.entries))) loads.TooManyMethods (new_method_at t l scope n flags start len) m e in
+    (g.0, new_method_ok t l scope n flags start len m g.1)
 
 IsAlias : Listed → List Seg → Option Name → Option Name → Listed → Type 0
 IsAlias l scope source n m = (q : List Seg) × Leads l scope source q × ((p : List Seg) × IsNew l scope n p × (m ≡ plus l (declares p (kinds.Alias (target_of l.entries q)) None)))
@@ -63,7 +70,7 @@ role_takes (roles.Declares o) t l scope ps x inside Inside m law e =
     bind_then (DoesAs (roles.Declares o) t l scope ps x Inside m) (new_at t l scope n (kind_of o)) (λ made. inside made.0 made.1) m e (λ made h1 e1.
     let d = new_ok t l scope n (kind_of o) made h1 in
     (made.1, d.is_new, subst (λ k. Inside k made.1 m) d.is (law made.0 made.1 m e1)))
-role_takes roles.Method t l scope ps x inside Inside m law e = method_ok t l scope (last_label None ps) (byte_of ps) (body_start x) (body_len x) m e
+role_takes roles.Method t l scope ps x inside Inside m law e = (method_ok t l scope (last_label None ps) (byte_of ps) (body_start x) (body_len x) m e).1
 role_takes roles.Scope t l scope ps x inside Inside m law e =
     let n = last_label None ps in
     bind_then (DoesAs roles.Scope t l scope ps x Inside m) (scope_at t l.entries scope n) (λ p. inside l p) m e (λ p h1 e1.
@@ -178,10 +185,10 @@ mutual
 
 method_again : (t : ℕ) (l : Listed) (scope : List Seg) (n : Option Name) (flags start len : ℕ) (p : List Seg) → IsNew l scope n p → count l < 1048576
     → method_at t l scope n flags start len ≡ Ok (plus l (method_entry t p flags start len))
-unfolding method_at number_at
+unfolding method_at new_method_at
 method_again t l scope n flags start len p h few =
     let room : nat_le 1048576 (length (methods_of l.entries)) ≡ false = grind (arith, nat_tests) in
-    ap (λ r. r >>= λ q. number_at t l q flags start len) (place_again t scope n p h.0) ∙ rw room (entry_again t l p (method_entry t p flags start len) h.1)
+    rw room (ap (λ r. r >>= λ q. entry_at t l q (method_entry t q flags start len)) (place_again t scope n p h.0) ∙ entry_again t l p (method_entry t p flags start len) h.1)
 
 alias_again : (t : ℕ) (l : Listed) (scope : List Seg) (source n : Option Name) (q p : List Seg) → Leads l scope source q → IsNew l scope n p
     → alias_at t l scope source n ≡ Ok (plus l (declares p (kinds.Alias (target_of l.entries q)) None))
@@ -246,13 +253,11 @@ few_plain : (l : Listed) (e : Entry) → length (method_in e) ≡ 0 → Few l �
 few_plain l e none few = omega (arith, count_plus l e, none, few)
 
 method_few : (t : ℕ) (l : Listed) (scope : List Seg) (n : Option Name) (flags start len : ℕ) (m : Listed) → method_at t l scope n flags start len ≡ Ok m → Few m
-unfolding method_at number_at
+unfolding IsMethod
 method_few t l scope n flags start len m e =
-    bind_then (Few m) (place_at t scope n) (λ p. number_at t l p flags start len) m e (λ p h1 e1.
-    let g = guard_ok (nat_le 1048576 (length (methods_of l.entries))) loads.TooManyMethods (entry_at t l p (method_entry t p flags start len)) m e1 in
-    let room : count l < 1048576 = grind (arith, nat_tests) in
-    let d = entry_ok t l p (method_entry t p flags start len) m g.1 in
-    subst (λ k. count k ≤ 1048576) (sym d.1) (omega (arith, count_plus l (method_entry t p flags start len), room)))
+    let d = method_ok t l scope n flags start len m e in
+    let room : count l < 1048576 = grind (arith, nat_tests, d.0) in
+    subst Few (sym d.1.2) (omega (arith, count_plus l (method_entry t d.1.0 flags start len), room))
 
 fields_few : (l : Listed) (scope : List Seg) (ns : List Name) (m : Listed) → Few l → DeclareUnits l scope ns m → Few m
 fields_few l scope [] m few h = subst Few (sym h) few
@@ -314,18 +319,17 @@ all_few_count t l scope xs m few e = all_few t l scope xs m few e
 
 -- ---- what walking refuses stops for that reason
 
-number_err : (t : ℕ) (l : Listed) (scope : List Seg) (n : Option Name) (p : List Seg) (flags start len : ℕ) (e : LoadFault) → place_of scope n ≡ Some p → number_at t l p flags start len ≡ Err e → TooMany l e ⊎ NotNew t l scope n e
-unfolding number_at
-number_err t l scope n p flags start len e place h =
-    guard_err (TooMany l e ⊎ NotNew t l scope n e) (nat_le 1048576 (length (methods_of l.entries))) loads.TooManyMethods (entry_at t l p (method_entry t p flags start len)) e h
-    (λ b d. inl (grind (arith, nat_tests), sym d))
-    (λ g. inr (inr (p, place, entry_err t l p (method_entry t p flags start len) e g)))
+new_method_err : (t : ℕ) (l : Listed) (scope : List Seg) (n : Option Name) (flags start len : ℕ) (e : LoadFault) → new_method_at t l scope n flags start len ≡ Err e → NotNew t l scope n e
+unfolding new_method_at
+new_method_err t l scope n flags start len e h =
+    err_then (NotNew t l scope n e) (place_at t scope n) (λ p. entry_at t l p (method_entry t p flags start len)) e h (λ g. inl (place_err t scope n e g)) (λ p h1 e1.
+    inr (p, place_ok t scope n p h1, entry_err t l p (method_entry t p flags start len) e e1))
 
 method_err : (t : ℕ) (l : Listed) (scope : List Seg) (n : Option Name) (flags start len : ℕ) (e : LoadFault) → method_at t l scope n flags start len ≡ Err e → TooMany l e ⊎ NotNew t l scope n e
 unfolding method_at
 method_err t l scope n flags start len e h =
-    err_then (TooMany l e ⊎ NotNew t l scope n e) (place_at t scope n) (λ p. number_at t l p flags start len) e h (λ g. inr (inl (place_err t scope n e g)))
-    (λ p h1 e1. number_err t l scope n p flags start len e (place_ok t scope n p h1) e1)
+    guard_err (TooMany l e ⊎ NotNew t l scope n e) (nat_le 1048576 (length (methods_of l.entries))) loads.TooManyMethods (new_method_at t l scope n flags start len) e h
+    (λ b d. inl (grind (arith, nat_tests), sym d)) (λ g. inr (new_method_err t l scope n flags start len e g))
 
 AliasStops : ℕ → Listed → List Seg → Option Name → Option Name → LoadFault → Type 0
 AliasStops t l scope source n e = Nowhere t l scope source (λ p. loads.Space t (faults.AliasMissing p)) e ⊎ NotNew t l scope n e

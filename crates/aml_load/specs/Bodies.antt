@@ -1,10 +1,13 @@
--- The bodies of methods, each read in the namespace of all entries (ACPI 6.5, 5.3).
+-- The bodies of methods, each read in the namespace of all entries (ACPI 6.5, 5.3 and 20.2.5).
 use Rattle.std.specs.Prelude.{◌≡◌, ◌≢◌, Bool, ℕ, List, ◌⊎◌, Option, Some, None, Result, Ok, Err}
 use Rattle.aml_names.specs.declared.faults.CodeFault.{CodeFault}
 use Rattle.aml_names.specs.declared.faults.CodeFault.TheVariants as codes
+use Rattle.aml_names.specs.Steps.{Gives}
+use Rattle.aml_code.specs.declared.rows.Position.TheVariants as positions
 use Rattle.aml_code.specs.Faults.{StandsAt}
 use Rattle.aml_code.specs.Meaning.{ReadsBody}
 use Rattle.aml_code.specs.Tree.{Trees}
+use Rattle.aml_parse.specs.Reading.{all_at}
 use Rattle.aml_space.specs.Entries.{Entry}
 use Rattle.aml_space.specs.Namespace.{namespace_of, arity_of}
 use Rattle.aml_load.specs.declared.methods.Method.{Method}
@@ -24,6 +27,15 @@ pub record IsUnread (unknown_zero : Bool) (es : List Entry) (tables : List (List
 abbrev pub IsReading : {X : Type 0} → (X → Trees) → Bool → List Entry → List (List ℕ) → Method → Result X CodeFault → Type 0
 IsReading view z es tables m (Ok x) = IsBody z es tables m (view x) × ((ts : Trees) → IsBody z es tables m ts → ts ≡ view x)
 IsReading view z es tables m (Err f) = (f ≡ codes.NoMemory) ⊎ IsUnread z es tables m f
+
+-- Reading the body of a method forward, in the namespace of the entries: its terms, or the first fault that is met.
+abbrev pub body_at : Bool → List Entry → List (List ℕ) → Method → Result Trees CodeFault
+body_at unknown_zero es tables m =
+    all_at (arity_of (namespace_of es) unknown_zero m.path) (Some m.path) positions.BodyTerm (span_of tables m)
+
+-- What was answered of a method's body, seen by a view, is what reading it forward gives, unless memory was refused.
+abbrev pub GivesBody : {X : Type 0} → (X → Trees) → Bool → List Entry → List (List ℕ) → Method → Result X CodeFault → Type 0
+GivesBody view unknown_zero es tables m answer = Gives view answer (body_at unknown_zero es tables m)
 
 -- a fact of the method with this number, if there is one
 abbrev pub OfMethod : Option Method → (Method → Type 0) → Type 0

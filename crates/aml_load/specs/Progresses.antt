@@ -1,15 +1,10 @@
--- A stepping stone of the proofs: what the load holds so far, and what a step of it gives, as `Walking` says it.
-use Rattle.std.specs.Prelude.{◌≡◌, ℕ, List, [], ◌∷◌, Result, Ok, Err, get_or, ◌⊎◌, ◌<◌}
-use Rattle.aml_code.specs.Tree.{Trees}
-use Rattle.aml_space.specs.Entries.{Givens}
+-- A stepping stone: what the load holds so far, and what a step of it gives, as `Walking` says it.
+use Rattle.std.specs.Prelude.{◌≡◌, ℕ, List, [], ◌∷◌, Result, Ok, Err, get_or, ◌<◌}
 use Rattle.aml_space.specs.Known.{Known, StandsFor}
 use Rattle.aml_load.specs.declared.faults.LoadFault.{LoadFault}
-use Rattle.aml_load.specs.declared.faults.LoadFault.TheVariants as loads
-use Rattle.aml_load.specs.declared.loading.Loaded.{Loaded}
 use Rattle.aml_load.specs.declared.walking.Progress.{Progress}
 use Rattle.aml_load.specs.Loading.{Listed, methods_of}
-use Rattle.aml_load.specs.Walking.{load_at}
-use Rattle.aml_load.specs.Views.{HoldsLoad}
+use Rattle.aml_load.specs.Walking.{Fails}
 
 -- numbers that are bytes
 abbrev pub IsCode : List ℕ → Type 0
@@ -25,10 +20,7 @@ pub record Holds (p : Progress) (l : Listed) : Type 0 where
   pub methods : p.methods.items ≡ methods_of l.entries
   pub uses : p.uses.items ≡ l.uses
 
--- a function that refused by this fault: memory was refused, or the walk gives the fault
-abbrev pub Fails : {Y : Type 0} → LoadFault → Result Y LoadFault → Type 0
-Fails e walk = (e ≡ loads.NoMemory) ⊎ (walk ≡ Err e)
-
+-- what a function answered, seen by a view, is what the walk gives, unless memory was refused
 abbrev pub Gives : {X Y : Type 0} → (X → Y) → Result X LoadFault → Result Y LoadFault → Type 0
 Gives view (Ok x) walk = walk ≡ Ok (view x)
 Gives view (Err e) walk = Fails e walk
@@ -58,8 +50,3 @@ GivesIn view space answer walk = (l : Listed) → StandsFor space l.entries → 
 abbrev pub TableWalked : {X Y : Type 0} → (X → Y) → Progress → Result X LoadFault → Result (Y × Listed) LoadFault → Type 0
 TableWalked view new (Ok x) walk = (m : Listed) × Holds new m × (walk ≡ Ok (view x, m))
 TableWalked view new (Err e) walk = Fails e walk
-
--- what a load answered is what loading forward gives, unless memory was refused
-abbrev pub GivesLoad : Givens → Result Loaded LoadFault → List (List ℕ) → Type 0
-GivesLoad gs (Ok x) codes = (trees : List Trees) × (m : Listed) × HoldsLoad x codes trees m × (load_at gs codes ≡ Ok (trees, m))
-GivesLoad gs (Err e) codes = Fails e (load_at gs codes)

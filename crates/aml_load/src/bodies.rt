@@ -3,7 +3,7 @@ ghost use Rattle.std.specs.Prelude.{◌≡◌, List};
 ghost use Rattle.aml_code.specs.View.{nodes_view};
 ghost use Rattle.aml_space.specs.Entries.{Entry};
 ghost use Rattle.aml_space.specs.Known.{StandsFor};
-ghost use Rattle.aml_load.specs.Bodies.{IsReading};
+ghost use Rattle.aml_load.specs.Bodies.{IsReading, GivesBody};
 ghost use Rattle.aml_load.specs.Views.{span_of, codes_view, AreShort};
 
 use crate::methods::Method;
@@ -38,8 +38,11 @@ pub fn read_body(
 
     // The body reads as its terms and as no others; or memory was refused; or it reads as none, and the fault is true
     // of it.
-    ensures { (es : List Entry) → StandsFor space.now es →
+    ensures reading { (es : List Entry) → StandsFor space.now es →
         IsReading (λ nodes. nodes_view nodes.items) unknown_zero es (codes_view tables.now) method.now result }
+    // Which fault it is: the first that is met in reading forward.
+    ensures forward { (es : List Entry) → StandsFor space.now es →
+        GivesBody (λ nodes. nodes_view nodes.items) unknown_zero es (codes_view tables.now) method.now result }
 {
     let scope = BodyScope {
         space,

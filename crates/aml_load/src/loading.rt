@@ -6,10 +6,10 @@ ghost use Rattle.aml_code.specs.View.{nodes_view};
 ghost use Rattle.aml_space.specs.Entries.{given_entries};
 ghost use Rattle.aml_space.specs.Known.{StandsFor};
 ghost use Rattle.aml_load.specs.Loading.{Listed, first_listed, IsLoad, use_count};
-ghost use Rattle.aml_load.specs.Walking.{table_at, tables_at, uses_at, load_at};
+ghost use Rattle.aml_load.specs.Walking.{table_at, tables_at, uses_at, GivesLoad};
 ghost use Rattle.aml_load.specs.Stops.{StopsLoad};
 ghost use Rattle.aml_load.specs.Views.{codes_view, trees_view, AreShort, HoldsLoad, body_of, table_encoding};
-ghost use Rattle.aml_load.specs.Progresses.{IsCode, AreCodes, Holds, Gives, GivesLoad, TableWalked};
+ghost use Rattle.aml_load.specs.Progresses.{IsCode, AreCodes, Holds, Gives, TableWalked};
 
 use crate::faults::LoadFault;
 use crate::methods::{Method, Use};
@@ -187,6 +187,8 @@ pub fn load<'a>(
         ((trees : List Trees) (m : Listed) → IsLoad givens.now (codes_view tables.now) trees m → ⊥)) }
     // A fault is true of its table and of the entries where it stands.
     ensures true_fault { IfErr result (λ e. (e ≡ LoadFault.NoMemory) ⊎ StopsLoad givens.now (codes_view tables.now) e) }
+    // Which fault it is: the first that is met in loading forward.
+    ensures forward { GivesLoad givens.now result (codes_view tables.now) }
 {
     are_codes(tables);
     load_whole(alloc, tables, givens)

@@ -7,7 +7,7 @@ ghost use Rattle.aml_code.specs.View.{node_view, nodes_view, parts_view, tail_vi
 ghost use Rattle.aml_space.specs.Entries.{declares, external as outside};
 ghost use Rattle.aml_space.specs.Known.{StandsFor};
 ghost use Rattle.aml_load.specs.Loading.{Listed, plus, method_entry, first_label, byte_of, lead_of, target_of, body_start, body_len};
-ghost use Rattle.aml_load.specs.Walking.{listed, led_at, place_at, scope_at, source_at, entry_at, new_at, name_at, number_at, method_at, alias_at, external_at, fields_at, do_as, walk, walk_inside, walk_all};
+ghost use Rattle.aml_load.specs.Walking.{listed, led_at, place_at, scope_at, source_at, entry_at, new_at, name_at, new_method_at, method_at, alias_at, external_at, fields_at, do_as, walk, walk_inside, walk_all};
 ghost use Rattle.aml_load.specs.Progresses.{Gives, GivesIn, Walks, WalksTo};
 
 use crate::faults::LoadFault;
@@ -192,33 +192,40 @@ impl Progress {
         Ok(())
     }
 
-    /// Declares a method. `TooManyMethods` where as many as there may be are there.
-    #[tactic(auto, unfolding(crate::specs::Walking::number_at))]
-    fn declare_method(&mut self, method: Method) -> Result<(), LoadFault>
+    /// Declares a method, however many there are.
+    #[tactic(auto, unfolding(crate::specs::Walking::new_method_at))]
+    fn declare_method(
+        &mut self,
+        site: &Site<'_>,
+        parts: &[Part],
+        tail: &Tail,
+    ) -> Result<(), LoadFault>
         ensures { Walks self.old self.new result (λ l.
-            number_at method.table l method.path method.flags method.start method.len) }
-    {
-        if MAX_METHODS <= self.methods.len() {
-            return Err(LoadFault::TooManyMethods);
-        }
-        self.declare_body(method)
-    }
-
-    #[tactic(auto, unfolding(crate::specs::Walking::method_at))]
-    fn add_method(&mut self, site: &Site<'_>, parts: &[Part], tail: &Tail) -> Result<(), LoadFault>
-        ensures { Walks self.old self.new result (λ l.
-            method_at site.now.table l site.now.scope.now (last_label None (parts_view parts.now))
+            new_method_at site.now.table l site.now.scope.now (last_label None (parts_view parts.now))
             (byte_of (parts_view parts.now)) (body_start (tail_view tail.now)) (body_len (tail_view tail.now))) }
     {
         let path = self.own_path(site, last_name(parts))?;
         let (start, len) = body_span(tail);
-        self.declare_method(Method {
+        self.declare_body(Method {
             path,
             table: site.table,
             start,
             len,
             flags: byte_in(parts),
         })
+    }
+
+    /// Declares a method. `TooManyMethods` where as many as there may be are there, whatever its name is.
+    #[tactic(auto, unfolding(crate::specs::Walking::method_at))]
+    fn add_method(&mut self, site: &Site<'_>, parts: &[Part], tail: &Tail) -> Result<(), LoadFault>
+        ensures { Walks self.old self.new result (λ l.
+            method_at site.now.table l site.now.scope.now (last_label None (parts_view parts.now))
+            (byte_of (parts_view parts.now)) (body_start (tail_view tail.now)) (body_len (tail_view tail.now))) }
+    {
+        if MAX_METHODS <= self.methods.len() {
+            return Err(LoadFault::TooManyMethods);
+        }
+        self.declare_method(site, parts, tail)
     }
 
     #[tactic(auto, unfolding(crate::specs::Walking::alias_at))]
