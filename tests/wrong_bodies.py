@@ -99,12 +99,17 @@ def place_at(file, text, at):
 
 
 def read_wrong_body(name, text, folder):
-    """A wrong body from the text of its edit: lines `file: PATH`, and then pairs of `old: TEXT` and `new: TEXT`."""
+    """A wrong body from the text of its edit: lines `file: PATH`, and then pairs of `old: TEXT` and `new: TEXT`.
+
+    It may change names in a file of answers too, where the wrong body gives a call of the right one another name.
+    """
     changes, places, file, old, sources = [], set(), None, None, {}
     for line in text.split("\n"):
         word, _, rest = line.partition(": ")
         if word == "file":
-            file = rest.strip() if rest.startswith("src/") else sys.exit(f"{folder}: {name}: a wrong body stands in src/")
+            file = rest.strip()
+            if not re.fullmatch(r"src/\S+\.rt|proofs/\S+/Answers\.antt", file):
+                sys.exit(f"{folder}: {name}: a wrong body stands in src/, and the names that it changes in a file of answers")
         elif word == "old":
             old = rest
         elif line.startswith("new:") and file and old:
@@ -112,9 +117,10 @@ def read_wrong_body(name, text, folder):
             if source.count(old) != 1:
                 sys.exit(f"{folder}: {name}: its old text stands {source.count(old)} times in {file}, and not once")
             changes.append((file, old, rest))
-            places.add(place_at(file, source, source.index(old)))
+            if file.startswith("src/"):
+                places.add(place_at(file, source, source.index(old)))
             sources[file], old = source.replace(old, rest), None
-    return WrongBody(name, changes, places) if changes else sys.exit(f"{folder}: {name}: it changes nothing")
+    return WrongBody(name, changes, places) if places else sys.exit(f"{folder}: {name}: it changes no body")
 
 
 def wrong_bodies(folder, outside):
@@ -222,7 +228,7 @@ def check(rtlib, crate, batch, kept, only_these):
 # What an answer is refused with that was tried at its goal. All else that is said of an answer, as that a name is not in scope
 # or that a value has no such field, says that it wasn't.
 TRIED = re.compile(
-    r"the two types|expected type|expected .*, but|no occurrence|did not|does not|found no|list the missing equation"
+    r"the two types|expected type|expected .*, but|no occurrence|no proof of|did not|does not|found no|list the missing equation"
 )
 STALE = re.compile(r"has no |is not in scope|not admitted|is no name|cannot be named|unknown|ambiguous|no module")
 
