@@ -184,6 +184,22 @@ row 'a check of a wrong checksum' 1 'acpidis: table "ssdt1.dat": BadSum' ./progr
 row 'any checksum' 3 "$raw_errors" ./program --any-sum summed
 sed '2s/$/ BadSum/' raw.text | prints
 
+# a file of argument counts: read, with a line of another form, not there, of as many bytes as may be, of one more
+printf '\\AAAA.BBBB 2\n\\BBBB 0\n' >counts
+row 'argument counts' 0 '' ./program --externals counts raw
+sed 's/^    Raw {A4, 42, 42, 42, 42}$/    Return (BBBB)/; s/^    Raw.*05}$/    Return (BBBB (One, 0x05))/' raw.text | prints
+printf '\\BBBB 2\n\\BBBB\n' >counts
+row 'argument counts in another form' 1 'acpidis: externals line 2: BadLine' ./program --externals counts folder
+row 'no file of argument counts' 1 'acpidis: cannot read "nowhere"' ./program --externals nowhere folder
+row 'a folder as a file of argument counts' 1 'acpidis: cannot read "folder"' ./program --externals folder folder
+: >counts
+row 'no argument counts' 0 '' ./program --externals counts folder
+prints <demo.text
+truncate -s 16777216 counts
+row 'argument counts of as many bytes as may be' 1 'acpidis: externals line 1: BadLine' ./program --externals counts folder
+truncate -s 16777217 counts
+row 'argument counts of too many bytes' 1 'acpidis: cannot read "counts"' ./program --externals counts folder
+
 # the number of workers changes nothing: of 300 bodies two in three can't be read
 mkdir crowd
 table crowd/dsdt.dat DSDT "$(python3 -c 'print("".join(
@@ -340,6 +356,9 @@ if [ "$(id -u)" = 0 ] && command -v setpriv >/dev/null; then
     chmod 000 folder
     row 'a folder that may not be read' 1 'acpidis: cannot read folder' setpriv --reuid=65534 --clear-groups ./program folder
     chmod 755 folder
+    chmod 000 counts
+    row 'argument counts that may not be read' 1 'acpidis: cannot read "counts"' \
+        setpriv --reuid=65534 --clear-groups ./program --externals counts empty
 fi
 
 # numbers of files
