@@ -13,11 +13,11 @@ import sys
 sys.dont_write_bytecode = True
 sys.path.insert(0, str(pathlib.Path(__file__).resolve().parent))
 
-from dumps import Bad, Dump, dump_lines, order_of  # noqa: E402
+from dumps import HEADER_LENGTH, LISTS, RECORDS, Bad, Dump, little, order_of, records_of  # noqa: E402
 from externals import ExternalsFault, parse_externals  # noqa: E402
 from folders import MapFault, parse_map  # noqa: E402
 from loading import Body, Namespace, path_text  # noqa: E402
-from printing import row_text, term_lines  # noqa: E402
+from printing import hexadecimal, row_text, term_lines  # noqa: E402
 from reading import Name, Reader, Refused  # noqa: E402
 from running import Options, run  # noqa: E402
 
@@ -73,6 +73,14 @@ def text_of(reader):
     return [line for term in terms for line in term_lines(term, body_of, 0)]
 
 
+def each_text(reader):
+    """The text of each term that a reader reads: how many bytes it has, and its lines, joined by newlines."""
+    for term in reader.read():
+        lines = list(term_lines(term, None, 0))
+        yield f"{len(chr(10).join(lines))} bytes:"
+        yield from lines
+
+
 def table_text(code):
     return text_of(Reader(code))
 
@@ -90,6 +98,30 @@ def name_text(code):
 def length_text(code):
     value, width = Reader(code).length(0, len(code))
     return [f"{value} in width {WIDTHS[width]}"]
+
+
+# ---- single tables
+
+
+def entries_text(signature, table):
+    """The addresses that a table lists whose signature is this one."""
+    width = LISTS[signature]
+    if len(table) < HEADER_LENGTH or (len(table) - HEADER_LENGTH) % width:
+        raise Bad("BadRoot")
+    entries = [f"{little(table, at, width):X}" for at in range(HEADER_LENGTH, len(table), width)]
+    return [", ".join(entries) or "none"]
+
+
+def record_text(record):
+    """The kind of a record with its fields, or with the bytes behind its length."""
+    label, *fields = RECORDS.get((record[0], len(record)), [f"Other {record[0]:X}:"])
+    values = [f"{little(record, at, width):X}" for _, at, width, _ in fields] or hexadecimal(record[2:])
+    return " ".join([label, *values])
+
+
+def madt_text(table):
+    records = map(record_text, records_of(table))
+    return [f"Controller {little(table, 36, 4):X} Flags {little(table, 40, 4):X}", *records]
 
 
 # ---- answers
@@ -147,6 +179,9 @@ class Rows:
     def row_body(self, words, code):
         return text_of(Reader(code, lambda _declared, _name: int(words)))
 
+    def row_terms(self, words, code):
+        return list(each_text(Reader(code, lambda _declared, _name: int(words))))
+
     def row_method(self, words, code):
         path = path_of(words)
         return text_of(Reader(code, self.names.arity(path), path))
@@ -162,6 +197,17 @@ class Rows:
 
     def row_length(self, _, code):
         return length_text(code)
+
+    # single tables
+
+    def row_xsdt(self, _, table):
+        return entries_text(b"XSDT", table)
+
+    def row_rsdt(self, _, table):
+        return entries_text(b"RSDT", table)
+
+    def row_madt(self, _, table):
+        return madt_text(table)
 
     # files
 

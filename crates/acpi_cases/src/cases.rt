@@ -3,7 +3,7 @@ ghost use Rattle.std.specs.Prelude.{◌≤◌, length};
 
 use crate::lines::{Line, bytes_of, number_of, split_line};
 use crate::spaces::Names;
-use crate::{code, files, sets};
+use crate::{code, files, sets, tables};
 use acpi_tables::Dump;
 use aml_names::Path;
 use std::alloc::{AllocError, Global};
@@ -64,6 +64,7 @@ impl Cases {
             "cuts" => code::push_cuts(alloc, out, bytes),
             "name" => code::push_name(alloc, out, bytes),
             "length" => code::push_length(out, bytes),
+            "terms" => code::push_texts(alloc, out, line.words, bytes),
             _ => self.change_set(threads, alloc, out, line, bytes),
         }
     }
@@ -146,7 +147,7 @@ impl Cases {
     }
 }
 
-/// What a table's reader gives.
+/// What the readers of single tables and of other files give.
 fn push_table(
     alloc: Global,
     out: &mut String,
@@ -154,6 +155,9 @@ fn push_table(
     bytes: &[u8],
 ) -> Result<(), AllocError> {
     match line.kind {
+        "xsdt" => tables::push_xsdt(alloc, out, bytes),
+        "rsdt" => tables::push_rsdt(alloc, out, bytes),
+        "madt" => tables::push_madt(alloc, out, bytes),
         "map" => files::push_map(alloc, out, line.words, bytes),
         "externals" => files::push_externals(alloc, out, bytes),
         _ => Ok(()),

@@ -1,13 +1,14 @@
 //! Rows of AML: bodies, tables, names and package lengths.
 ghost use Rattle.std.specs.Prelude.{◌≤◌, Some, length};
 
+use crate::lines::push_indented;
 use aml_code::{
     Arity, CodeFault, Locals, Name, NameForm, NoMemory, Node, Path, PkgWidth, encode_terms,
     read_pkg,
 };
 use aml_names::read_name;
 use aml_parse::{parse_body, parse_module};
-use aml_text::{Body, print_block};
+use aml_text::{Body, print_block, term_text};
 use std::alloc::{AllocError, Global};
 use std::fmt::Write;
 use text_writer::Out;
@@ -47,6 +48,35 @@ pub fn push_body(
 {
     let count = count.parse::<u8>().unwrap_or(0);
     push_body_of(alloc, out, &Each { count }, &Path::root(alloc), code)
+}
+
+/// The text of each term of a body by itself, in which each name takes so many arguments.
+pub fn push_texts(
+    alloc: Global,
+    out: &mut String,
+    count: &str,
+    code: &[u8],
+) -> Result<(), AllocError>
+    requires { length code.now ≤ 16777216 }
+{
+    let count = count.parse::<u8>().unwrap_or(0);
+    match parse_body(alloc, code, &Each { count }, &Path::root(alloc)) {
+        Err(fault) => push_fault(out, fault),
+        Ok(nodes) => push_each_text(alloc, out, &nodes),
+    }
+}
+
+/// How many bytes the text of each term has, and its lines: no newline stands behind the last.
+fn push_each_text(alloc: Global, out: &mut String, nodes: &[Node]) -> Result<(), AllocError> {
+    for node in nodes {
+        let Ok(text) = term_text(alloc, node) else {
+            return out.push_str("  NoMemory\n");
+        };
+        let len = text.len();
+        writeln!(out, "  {len} bytes:")?;
+        push_indented(out, &text)?;
+    }
+    Ok(())
 }
 
 /// The terms of a method's body.

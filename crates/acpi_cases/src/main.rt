@@ -7,6 +7,7 @@ mod files;
 mod lines;
 mod sets;
 mod spaces;
+mod tables;
 
 use crate::cases::Cases;
 use std::alloc::{AllocError, Global};
