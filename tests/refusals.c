@@ -1,8 +1,9 @@
 /* Loaded into a program ahead of the C library, this refuses some of its growths, or one start of a thread.
  *
  * REFUSE_GROWTH=N refuses the Nth call of malloc, calloc and realloc, be it the program's own or the C library's, as at the
- * start of a thread; REFUSE_FROM=N that call and all later ones; REFUSE_START=N the Nth start. At the program's end file 3
- * gets a line: how many growths there were, how many starts, how many of these were refused, and how many joins. */
+ * start of a thread; REFUSE_FROM=N that call and all later ones; REFUSE_START=N the Nth start. Once something is refused
+ * the variable REFUSED, where there is one, is 1. At the program's end file 3 gets a line: how many growths there were, how
+ * many starts, how many of these were refused, and how many joins. */
 #define _GNU_SOURCE
 #include <dlfcn.h>
 #include <errno.h>
@@ -23,9 +24,16 @@ static unsigned long number_in(const char *name) {
     return word ? strtoul(word, NULL, 10) : 0;
 }
 
+/* Changes the variable in its place, since setenv would take memory. */
+static void tell_refused(void) {
+    char *word = getenv("REFUSED");
+    if (word && *word) *word = '1';
+}
+
 static int refuses_growth(void) {
     unsigned long number = atomic_fetch_add(&growths, 1) + 1, from = number_in("REFUSE_FROM");
     if (number != number_in("REFUSE_GROWTH") && (from == 0 || number < from)) return 0;
+    tell_refused();
     errno = ENOMEM;
     return 1;
 }
@@ -39,7 +47,9 @@ void *realloc(void *old, size_t size) { return refuses_growth() ? NULL : __libc_
 int pthread_create(pthread_t *thread, const pthread_attr_t *attributes, void *(*run)(void *), void *argument) {
     int (*create)(pthread_t *, const pthread_attr_t *, void *(*)(void *), void *) = dlsym(RTLD_NEXT, "pthread_create");
     unsigned long number = atomic_fetch_add(&starts, 1) + 1;
-    int fault = number == number_in("REFUSE_START") ? EAGAIN : create(thread, attributes, run, argument);
+    int is_refused = number == number_in("REFUSE_START");
+    if (is_refused) tell_refused();
+    int fault = is_refused ? EAGAIN : create(thread, attributes, run, argument);
     if (fault) atomic_fetch_add(&refused_starts, 1);
     return fault;
 }

@@ -1,18 +1,31 @@
 #!/bin/sh
 # What is answered where a growth or the start of a thread is refused: the whole answer, or the want of memory or a thread.
 #
+# usage: tests/refusals.sh [program]
+#
 # The tests of library_tests in `memory` run with each growth refused in turn, by itself and with all later ones, those in
 # `starts` with each start. So does the program, over a set whose first method can't be read. Each thread that was started
-# has to be joined. It needs a C compiler, for refusals.c. Tests and program are proved and built first; then it takes
-# some ten seconds.
+# has to be joined, and a want is an answer only where something was refused. With the word program only the program runs so,
+# as in ./test, in some seconds; the tests are proved and built first. It needs a C compiler, for refusals.c.
 top=$(CDPATH='' cd -- "$(dirname -- "$0")/.." && pwd) || exit 1
+parts=${1-all}
 work=$(mktemp -d) || exit 1
 trap 'rm -rf "$work"' EXIT
-"${CC:-cc}" -O1 -shared -fPIC -o "$work/refusals.so" "$top/tests/refusals.c" -ldl || exit 1
-(cd "$top/crates/library_tests" && rt test -- memory) >"$work/log" 2>&1 || { cat "$work/log"; exit 1; }
+sweeps=0
+
+compiler=${CC:-$(command -v cc || command -v gcc || command -v clang)}
+if [ -z "$compiler" ]; then
+    echo 'SKIPPED: there is no C compiler, so that nothing can be refused, and nothing is tried'
+    echo '0 passed, 0 failed'
+    [ "$parts" = program ]
+    exit
+fi
+"$compiler" -O1 -shared -fPIC -o "$work/refusals.so" "$top/tests/refusals.c" -ldl || exit 1
+if [ "$parts" = all ]; then
+    (cd "$top/crates/library_tests" && rt test -- memory) >"$work/log" 2>&1 || { cat "$work/log"; exit 1; }
+fi
 "$top/acpidis" demo >/dev/null 2>"$work/log" || { cat "$work/log"; exit 1; }
 cd "$work" || exit 1
-passed=0
 
 # run_refused HOW N COMMAND..: runs the command with its Nth growth or start refused. Sets its status, and how many
 # growths, starts, refused starts and joins there were.
@@ -20,44 +33,55 @@ run_refused() {
     refusal=$1=$2
     shift 2
     : >counts
-    env "$refusal" LD_PRELOAD=./refusals.so timeout 60 "$@" >text 2>lines 3>counts
+    timeout 60 env "$refusal" REFUSED=0 LD_PRELOAD="$work/refusals.so" "$@" >text 2>lines 3>counts
     status=$?
     read -r growths starts refused joins <counts || status="$status, and no counts"
 }
 
-# sweep RIGHT HOW COMMAND..: the command has a right answer whichever of its calls is refused. The last run is the first in
-# which there is none to refuse: one that is refused counts.
-sweep() {
+# run_sweep RIGHT HOW COMMAND..: the command has a right answer whichever of its calls is refused. The last run is the first
+# in which there is none to refuse: one that is refused counts.
+run_sweep() {
     right=$1 how=$2 n=0
     shift 2
+    "$@" >whole_text 2>whole_lines
+    whole=$?
     while :; do
         n=$((n + 1))
         run_refused "$how" "$n" "$@"
+        calls=$growths
+        if [ "$how" = REFUSE_START ]; then calls=$starts; fi
         if ! "$right" || [ "$joins" != $((starts - refused)) ]; then
             echo "FAILED $how=$n $*: status $status, counts $(cat counts)"
             cat lines
-            echo "$passed passed, 1 failed"
-            exit 1
+            return
         fi
-        passed=$((passed + 1))
-        calls=$growths
-        if [ "$how" = REFUSE_START ]; then calls=$starts; fi
+        echo "$n" >passed
         if [ "$calls" -lt "$n" ]; then break; fi
     done
     shown=$*
-    echo "$how ${shown##*/}: $calls"
+    echo "$how ${shown#"$top/"}: $calls"
+    : >whole_sweep
 }
 
+# sweep RIGHT HOW COMMAND..: begins a sweep in a folder of its own, beside those that have begun.
+sweep() {
+    sweeps=$((sweeps + 1))
+    mkdir "$sweeps"
+    (cd "$sweeps" && echo 0 >passed && run_sweep "$@") >"$sweeps/told" 2>&1 &
+}
+
+# A test knows by itself whether a want is an answer.
 has_passed() {
-    [ "$status" = 0 ]
+    [ "$whole" = 0 ] && [ "$status" = 0 ]
 }
 
 # Refused while the command line is read, the status is 2; else it is 1, and nothing is printed.
 is_whole_or_want() {
     if [ "$status" = "$whole" ]; then
-        cmp -s text whole_text && cmp -s lines whole_lines
+        [ "$whole" = 3 ] && cmp -s text whole_text && cmp -s lines whole_lines
         return
     fi
+    [ "$calls" -ge "$n" ] || return
     case $status:$(cat text lines) in
     '1:acpidis: NoMemory' | '1:acpidis: NoThread') ;;
     '2:error: out of memory'*) ;;
@@ -65,26 +89,37 @@ is_whole_or_want() {
     esac
 }
 
-tests=$top/crates/library_tests/out/library_tests_tests
-for test in $("$tests" --list | sed -n 's/^\(tests::memory::.*\): test$/\1/p'); do
-    sweep has_passed REFUSE_GROWTH "$tests" "$test"
-    sweep has_passed REFUSE_FROM "$tests" "$test"
-done
-for test in $("$tests" --list | sed -n 's/^\(tests::starts::.*\): test$/\1/p'); do
-    sweep has_passed REFUSE_START "$tests" "$test"
-done
-
 mkdir set
 { printf 'DSDT\063\0\0\0' && head -c 28 /dev/zero && printf '\024\016AAAA\0\244BBBB\001\012\005'; } >set/dsdt.dat
 { printf 'SSDT\055\0\0\0' && head -c 28 /dev/zero && printf '\024\010FOO_\001\244h'; } >set/ssdt1.dat
 : >set/tables.map
 printf '\\CCCC 2\n' >counts_given
-for words in '--workers 1' '--workers 3' --check '--externals counts_given'; do
-    # shellcheck disable=SC2086
-    set -- "$top/out/acpidis" --any-sum $words set
-    "$@" >whole_text 2>whole_lines
-    whole=$?
-    [ "$whole" != 1 ] || { cat whole_lines; exit 1; }
-    for how in REFUSE_GROWTH REFUSE_FROM REFUSE_START; do sweep is_whole_or_want "$how" "$@"; done
+for words in '--workers 1' '--workers 3' --check '--externals ../counts_given'; do
+    for how in REFUSE_GROWTH REFUSE_FROM REFUSE_START; do
+        # shellcheck disable=SC2086
+        sweep is_whole_or_want "$how" "$top/out/acpidis" --any-sum $words ../set
+    done
 done
-echo "$passed passed, 0 failed"
+wait
+
+if [ "$parts" = all ]; then
+    tests=$top/crates/library_tests/out/library_tests_tests
+    for test in $("$tests" --list | sed -n 's/^\(tests::memory::.*\): test$/\1/p'); do
+        sweep has_passed REFUSE_GROWTH "$tests" "$test"
+        sweep has_passed REFUSE_FROM "$tests" "$test"
+    done
+    for test in $("$tests" --list | sed -n 's/^\(tests::starts::.*\): test$/\1/p'); do
+        sweep has_passed REFUSE_START "$tests" "$test"
+    done
+    wait
+fi
+
+passed=0
+failed=0
+for number in $(seq "$sweeps"); do
+    cat "$number/told"
+    passed=$((passed + $(cat "$number/passed")))
+    if [ ! -e "$number/whole_sweep" ]; then failed=$((failed + 1)); fi
+done
+echo "$passed passed, $failed failed"
+[ "$failed" = 0 ]

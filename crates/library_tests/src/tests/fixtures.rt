@@ -7,6 +7,7 @@ use aml_code::{Arity, Locals};
 use aml_names::Name;
 use aml_pool::{Gate, NoMemory, Work};
 use std::alloc::{AllocError, Global};
+use std::env::Env;
 use std::sync::atomic::Ordering::SeqCst;
 use std::sync::atomic::{AtomicBool, AtomicU64};
 use std::thread;
@@ -38,6 +39,27 @@ pub fn codes() -> [&'static [u8]; 19] {
         b"\x14\x06MMMM\x03\x06MMM_ALIA".as_slice(),
         b"\x08FOO_\x00\xA0\x02\x01".as_slice(),
     ]
+}
+
+/// Memory or a thread was wanted, and refused.
+#[derive(Clone, Copy)]
+pub struct Want;
+
+impl From<AllocError> for Want {
+    fn from(_: AllocError) -> Want {
+        Want
+    }
+}
+
+/// Whether a growth or the start of a thread was refused. `tests/refusals.c` sets this variable once it refuses one.
+pub fn is_refused<E: Env>(env: &E) -> bool {
+    let mut word = [0];
+    matches!(env.var("REFUSED", &mut word), Ok(1)) && word == *b"1"
+}
+
+/// Whether an answer is the whole one, or a want where something was refused.
+pub fn is_whole_or_want<E: Env>(env: &E, answer: Result<bool, Want>) -> bool {
+    answer.unwrap_or_else(|_| is_refused(env))
 }
 
 /// No name takes an argument.

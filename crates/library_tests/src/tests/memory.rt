@@ -1,15 +1,19 @@
 //! Answers where a growth is refused, a thread's start included: the whole answer, or the want of memory or a thread.
 //!
-//! `tests/refusals.sh` runs each of these tests again and again, with each growth refused in turn.
+//! `tests/refusals.sh` runs each of these tests again and again, with each growth refused in turn. Where none is refused
+//! the answer has to be whole.
 ghost use Rattle.std.specs.Prelude.{◌≤◌, length};
 ghost use Rattle.aml_load.specs.Views.{codes_view, AreShort};
 
-use super::fixtures::{Bare, Square, any_sum, codes, push_dump, push_table};
+use super::fixtures::{
+    Bare, Square, Want, any_sum, codes, is_whole_or_want, push_dump, push_table,
+};
 use super::folders::{FILES, MemoryFolder, are_gathered};
 use super::listings::{has_three_bodies, three_methods};
 use acpi_folder::{ExternalsFault, FolderFault, GatherFault, gather, parse_externals};
 use acpi_tables::{Bad, Dump, load_order};
 use acpidis::{Checked, Refusal, check, disassemble};
+use aml_code::CodeFault;
 use aml_load::{LoadFault, Loaded, load, rebuild};
 use aml_names::{Path, Seg};
 use aml_parse::parse_body;
@@ -21,48 +25,53 @@ use std::sync::Wait;
 use std::test::Fail;
 use std::thread::Threads;
 
-/// Whether the dumps of a folder are gathered, or memory was refused.
-fn has_dumps(alloc: Global) -> bool {
+/// Whether the dumps of a folder are gathered.
+fn has_dumps(alloc: Global) -> Result<bool, Want> {
     let mut folder = MemoryFolder::new(alloc, &FILES, 5, FolderFault::Failed);
     match gather(alloc, &mut folder) {
-        Ok(dumps) => are_gathered(&dumps),
-        Err(fault) => matches!(fault, GatherFault::NoMemory),
+        Ok(dumps) => Ok(are_gathered(&dumps)),
+        Err(GatherFault::NoMemory) => Err(Want),
+        Err(_) => Ok(false),
     }
 }
 
-/// Whether a file that can't be read is named, or memory was refused.
-fn names_file(alloc: Global) -> bool {
+/// Whether a file that can't be read is named.
+fn names_file(alloc: Global) -> Result<bool, Want> {
     let mut folder = MemoryFolder::new(alloc, &FILES, 2, FolderFault::Failed);
     match gather(alloc, &mut folder) {
-        Err(GatherFault::File(name)) => name.as_str() == "ssdt1.dat",
-        Err(fault) => matches!(fault, GatherFault::NoMemory),
-        Ok(_) => false,
+        Err(GatherFault::File(name)) => Ok(name.as_str() == "ssdt1.dat"),
+        Err(GatherFault::NoMemory) => Err(Want),
+        _ => Ok(false),
     }
 }
 
 #[test]
 fn whole_folder_or_no_memory(rt: HostRuntime) -> Result<(), Fail> {
-    assert!(rt; has_dumps(rt.alloc()));
-    assert!(rt; names_file(rt.alloc()));
+    assert!(rt; is_whole_or_want(&rt, has_dumps(rt.alloc())));
+    assert!(rt; is_whole_or_want(&rt, names_file(rt.alloc())));
     Ok(())
 }
 
-/// Whether the counts of a file are read, or memory was refused.
-fn has_counts(alloc: Global) -> bool {
+/// Whether these are one argument for a path of three segments, and two for one of one.
+fn are_counts(given: &[(Path, u8)]) -> bool {
+    let [(long, one), (short, two)] = given else {
+        return false;
+    };
+    long.segs().len() == 3 && short.segs().len() == 1 && (*one, *two) == (1, 2)
+}
+
+/// Whether the counts of a file are read.
+fn has_counts(alloc: Global) -> Result<bool, Want> {
     match parse_externals(alloc, b"\\_SB_.PC00._EJ0 1\n\\BBBB 2") {
-        Ok(given) => {
-            let [(long, one), (short, two)] = given.as_slice() else {
-                return false;
-            };
-            long.segs().len() == 3 && short.segs().len() == 1 && (*one, *two) == (1, 2)
-        }
-        Err(fault) => matches!(fault, ExternalsFault::NoMemory),
+        Ok(given) => Ok(are_counts(&given)),
+        Err(ExternalsFault::NoMemory) => Err(Want),
+        Err(_) => Ok(false),
     }
 }
 
 #[test]
 fn whole_counts_or_no_memory(rt: HostRuntime) -> Result<(), Fail> {
-    assert!(rt; has_counts(rt.alloc()));
+    assert!(rt; is_whole_or_want(&rt, has_counts(rt.alloc())));
     Ok(())
 }
 
@@ -70,52 +79,58 @@ fn whole_counts_or_no_memory(rt: HostRuntime) -> Result<(), Fail> {
 const CODE: &[u8] =
     b"\x14\x06BBBB\x01\x10\x1A\\_SB_\x5B\x82\x12DEV0\x14\x0CAAAA\x00\xA4BBBB\x60\x5B\x80REG0\x01ZZZZ\x01";
 
-/// Whether the rows of a namespace are those of these segments, or memory was refused.
-fn has_rows(alloc: Global, space: &Space, names: &[&[&str]]) -> bool {
-    let Ok(rows) = space.rows(alloc) else {
-        return true;
-    };
-    rows.len() == names.len()
-        && rows.iter().zip(names).all(|(row, names)| {
-            row.path
-                .segs()
+/// The paths that it declares.
+const NAMES: [&[&str]; 4] = [
+    &["BBBB"],
+    &["REG0"],
+    &["_SB_", "DEV0"],
+    &["_SB_", "DEV0", "AAAA"],
+];
+
+/// Whether a path has these segments.
+fn is_path(path: &Path, names: &[&str]) -> bool {
+    path.segs()
+        .iter()
+        .map(|seg| seg.0.as_slice())
+        .eq(names.iter().map(|name| name.as_bytes()))
+}
+
+/// Whether the rows of a namespace are those of that table.
+fn has_names(alloc: Global, space: &Space) -> Result<bool, Want> {
+    let rows = space.rows(alloc)?;
+    Ok(
+        rows.len() == NAMES.len()
+            && rows
                 .iter()
-                .map(|seg| seg.0.as_slice())
-                .eq(names.iter().map(|name| name.as_bytes()))
-        })
+                .zip(NAMES)
+                .all(|(row, names)| is_path(&row.path, names)),
+    )
 }
 
-/// Whether the bytes of a table are made anew, or memory was refused.
-fn has_bytes(alloc: Global, loaded: &Loaded<'_>, code: &[u8]) -> bool {
-    match rebuild(alloc, loaded, 0) {
-        Ok(bytes) => bytes.as_slice() == code,
-        Err(_) => true,
-    }
+/// Whether the bytes of a table are made anew.
+fn has_bytes(alloc: Global, loaded: &Loaded<'_>, code: &[u8]) -> Result<bool, Want> {
+    let bytes = rebuild(alloc, loaded, 0)?;
+    Ok(bytes.as_slice() == code)
 }
 
-/// Whether the rows are those of that table, or memory was refused.
-fn has_names(alloc: Global, space: &Space) -> bool {
-    let names = [
-        ["BBBB"].as_slice(),
-        ["REG0"].as_slice(),
-        ["_SB_", "DEV0"].as_slice(),
-        ["_SB_", "DEV0", "AAAA"].as_slice(),
-    ];
-    has_rows(alloc, space, &names)
+/// Whether a table that loads has its bytes and its names.
+fn is_whole(alloc: Global, loaded: &Loaded<'_>) -> Result<bool, Want> {
+    Ok(has_bytes(alloc, loaded, CODE)? && has_names(alloc, &loaded.space)?)
 }
 
-/// Whether a table loads, with a count that is given, or memory was refused.
-fn has_load(alloc: Global) -> Result<bool, AllocError> {
+/// Whether a table loads, with a count that is given.
+fn has_load(alloc: Global) -> Result<bool, Want> {
     let given = [(Path::below(alloc, &[Seg(*b"ZZZZ")], &[])?, 0)];
     match load(alloc, &[CODE], &given) {
-        Ok(loaded) => Ok(has_bytes(alloc, &loaded, CODE) && has_names(alloc, &loaded.space)),
-        Err(fault) => Ok(matches!(fault, LoadFault::NoMemory)),
+        Ok(loaded) => is_whole(alloc, &loaded),
+        Err(LoadFault::NoMemory) => Err(Want),
+        Err(_) => Ok(false),
     }
 }
 
 #[test]
 fn whole_load_or_no_memory(rt: HostRuntime) -> Result<(), Fail> {
-    assert!(rt; has_load(rt.alloc()).unwrap_or(true));
+    assert!(rt; is_whole_or_want(&rt, has_load(rt.alloc())));
     Ok(())
 }
 
@@ -123,17 +138,20 @@ fn are_trees(bodies: &[Body]) -> bool {
     bodies.iter().all(|body| matches!(body, Body::Tree(_)))
 }
 
-/// Whether a table by itself is listed, each body as terms, and has its bytes, or memory was refused.
-fn is_listed<T: Threads + Wait + Sync>(threads: &T, alloc: Global, code: &[u8]) -> bool {
+/// Whether a table by itself is listed, each body as terms, and has its bytes.
+fn is_listed<T: Threads + Wait + Sync>(
+    threads: &T,
+    alloc: Global,
+    code: &[u8],
+) -> Result<bool, Want> {
     let mut dumps = Vec::new(alloc);
-    if push_table(alloc, &mut dumps, None, b"DSDT", code).is_err() {
-        return true;
-    }
+    push_table(alloc, &mut dumps, None, b"DSDT", code)?;
     match disassemble(threads, alloc, &dumps, any_sum(alloc), 1, &FreeGate) {
         Ok(listing) => {
-            are_trees(listing.bodies.as_slice()) && has_bytes(alloc, &listing.loaded, code)
+            Ok(are_trees(&listing.bodies) && has_bytes(alloc, &listing.loaded, code)?)
         }
-        Err(refusal) => matches!(refusal, Refusal::NoMemory),
+        Err(Refusal::NoMemory) => Err(Want),
+        Err(_) => Ok(false),
     }
 }
 
@@ -141,29 +159,29 @@ fn is_listed<T: Threads + Wait + Sync>(threads: &T, alloc: Global, code: &[u8]) 
 fn whole_tables_or_no_memory(rt: HostRuntime) -> Result<(), Fail> {
     // The last five are refused for what they are.
     for code in codes().iter().take(14) {
-        assert!(rt; is_listed(&rt, rt.alloc(), code));
+        assert!(rt; is_whole_or_want(&rt, is_listed(&rt, rt.alloc(), code)));
     }
     Ok(())
 }
 
-/// Whether the text of a term is whole, or memory was refused.
-fn has_text(alloc: Global) -> bool {
+/// Whether the text of a term is whole.
+fn has_text(alloc: Global) -> Result<bool, Want> {
     let code = b"\xA0\x03\x60\xA3".as_slice();
-    let Ok(terms) = parse_body(alloc, code, &Bare, &Path::root(alloc)) else {
-        return true;
+    let terms = match parse_body(alloc, code, &Bare, &Path::root(alloc)) {
+        Ok(terms) => terms,
+        Err(CodeFault::NoMemory) => return Err(Want),
+        Err(_) => return Ok(false),
     };
     let [term] = terms.as_slice() else {
-        return false;
+        return Ok(false);
     };
-    match term_text(alloc, term) {
-        Ok(text) => text.as_slice() == b"If (Local0) {\n  Noop\n}".as_slice(),
-        Err(_) => true,
-    }
+    let text = term_text(alloc, term)?;
+    Ok(text.as_slice() == b"If (Local0) {\n  Noop\n}".as_slice())
 }
 
 #[test]
 fn whole_text_or_no_memory(rt: HostRuntime) -> Result<(), Fail> {
-    assert!(rt; has_text(rt.alloc()));
+    assert!(rt; is_whole_or_want(&rt, has_text(rt.alloc())));
     Ok(())
 }
 
@@ -201,47 +219,48 @@ fn chained(alloc: Global) -> Result<Vec<Dump>, AllocError> {
     Ok(dumps)
 }
 
-/// Whether a set has this order, or memory was refused.
-fn has_order(alloc: Global, dumps: &[Dump], dsdt: usize, ssdts: &[usize]) -> bool {
+/// Whether a set has this order.
+fn has_order(alloc: Global, dumps: &[Dump], dsdt: usize, ssdts: &[usize]) -> Result<bool, Want> {
     match load_order(alloc, dumps, true) {
-        Ok(order) => order.dsdt == dsdt && order.ssdts.as_slice() == ssdts,
-        Err(fault) => fault.dump.is_none() && matches!(fault.bad, Bad::NoMemory),
+        Ok(order) => Ok(order.dsdt == dsdt && order.ssdts.as_slice() == ssdts),
+        Err(fault) if matches!((fault.dump, fault.bad), (None, Bad::NoMemory)) => Err(Want),
+        Err(_) => Ok(false),
     }
+}
+
+/// Whether both sets have their orders.
+fn have_orders(alloc: Global) -> Result<bool, Want> {
+    let by_name = named(alloc)?;
+    let by_chain = chained(alloc)?;
+    Ok(has_order(alloc, &by_name, 1, &[0, 2])? && has_order(alloc, &by_chain, 1, &[2])?)
 }
 
 #[test]
 fn whole_order_or_no_memory(rt: HostRuntime) -> Result<(), Fail> {
-    let alloc = rt.alloc();
-    if let Ok(dumps) = named(alloc) {
-        assert!(rt; has_order(alloc, &dumps, 1, &[0, 2]));
-    }
-    if let Ok(dumps) = chained(alloc) {
-        assert!(rt; has_order(alloc, &dumps, 1, &[2]));
-    }
+    assert!(rt; is_whole_or_want(&rt, have_orders(rt.alloc())));
     Ok(())
 }
 
-/// Whether so many workers answer all three bodies, or memory or a thread was refused.
+/// Whether so many workers answer all three bodies.
 fn has_bodies<T: Threads + Wait + Sync>(
     threads: &T,
     alloc: Global,
-    dumps: &[Dump],
     workers: u32,
-) -> bool
+) -> Result<bool, Want>
     requires { (1 ≤ workers) × (workers ≤ 64) }
 {
-    match disassemble(threads, alloc, dumps, any_sum(alloc), workers, &FreeGate) {
-        Ok(listing) => has_three_bodies(&listing),
-        Err(refusal) => matches!(refusal, Refusal::NoMemory | Refusal::NoThread),
+    let dumps = three_methods(alloc)?;
+    match disassemble(threads, alloc, &dumps, any_sum(alloc), workers, &FreeGate) {
+        Ok(listing) => Ok(has_three_bodies(&listing)),
+        Err(Refusal::NoMemory | Refusal::NoThread) => Err(Want),
+        Err(_) => Ok(false),
     }
 }
 
 #[test]
 fn whole_listing_or_want(rt: HostRuntime) -> Result<(), Fail> {
-    if let Ok(dumps) = three_methods(rt.alloc()) {
-        for workers in [1, 2] {
-            assert!(rt; has_bodies(&rt, rt.alloc(), &dumps, workers));
-        }
+    for workers in [1, 2] {
+        assert!(rt; is_whole_or_want(&rt, has_bodies(&rt, rt.alloc(), workers)));
     }
     Ok(())
 }
@@ -254,68 +273,74 @@ fn are_same(checks: &[Checked]) -> bool {
     dsdt.same && ssdt.same && (dsdt.methods, dsdt.raw, ssdt.methods, ssdt.raw) == (2, 1, 1, 0)
 }
 
-/// Whether the tables of a listing have these checks, or memory was refused.
-fn is_checked(alloc: Global, listing: &Listing<'_>) -> bool
+/// Whether the tables of a listing have these checks.
+fn is_checked(alloc: Global, listing: &Listing<'_>) -> Result<bool, Want>
     requires { AreShort (codes_view listing.now.loaded.tables.items)
         × (length listing.now.loaded.methods.items ≤ 1048576) }
 {
-    match check(alloc, listing) {
-        Ok(checks) => are_same(checks.as_slice()),
-        Err(_) => true,
-    }
+    let checks = check(alloc, listing)?;
+    Ok(are_same(&checks))
 }
 
-/// Whether both tables are the same when they are made anew, or memory was refused.
-fn has_checks<T: Threads + Wait + Sync>(threads: &T, alloc: Global, dumps: &[Dump]) -> bool {
-    match disassemble(threads, alloc, dumps, any_sum(alloc), 1, &FreeGate) {
+/// Whether both tables are the same when they are made anew.
+fn has_checks<T: Threads + Wait + Sync>(threads: &T, alloc: Global) -> Result<bool, Want> {
+    let dumps = three_methods(alloc)?;
+    match disassemble(threads, alloc, &dumps, any_sum(alloc), 1, &FreeGate) {
         Ok(listing) => is_checked(alloc, &listing),
-        Err(refusal) => matches!(refusal, Refusal::NoMemory),
+        Err(Refusal::NoMemory) => Err(Want),
+        Err(_) => Ok(false),
     }
 }
 
 #[test]
 fn whole_check_or_no_memory(rt: HostRuntime) -> Result<(), Fail> {
-    if let Ok(dumps) = three_methods(rt.alloc()) {
-        assert!(rt; has_checks(&rt, rt.alloc(), &dumps));
-    }
+    assert!(rt; is_whole_or_want(&rt, has_checks(&rt, rt.alloc())));
     Ok(())
 }
 
-/// Whether so many workers do all of seven pieces of work, or memory or a thread was refused.
-fn has_share<T: Threads + Wait + Sync>(threads: &T, alloc: Global, workers: u32) -> bool
+/// Whether so many workers do all of seven pieces of work.
+fn has_share<T: Threads + Wait + Sync>(
+    threads: &T,
+    alloc: Global,
+    workers: u32,
+) -> Result<bool, Want>
     requires { (1 ≤ workers) × (workers ≤ 64) }
 {
     let Ok((board, seat)) = Board::new(alloc, 7) else {
-        return true;
+        return Err(Want);
     };
     match crew(threads, alloc, &board, seat, 0, workers, &Square, &FreeGate) {
-        Ok(share) => {
+        Ok(share) => Ok(
             share.done.len() == 7
                 && share.drawn.len() == workers as usize
-                && board.close(share.seat).numbers == 7
-        }
-        Err(PoolFault::NoThread | PoolFault::NoMemory) => true,
+                && board.close(share.seat).numbers == 7,
+        ),
+        Err(PoolFault::NoThread | PoolFault::NoMemory) => Err(Want),
     }
 }
 
-/// Whether so many workers answer the squares below seven, or memory or a thread was refused.
-fn has_squares<T: Threads + Wait + Sync>(threads: &T, alloc: Global, workers: u32) -> bool
+/// Whether so many workers answer the squares below seven.
+fn has_squares<T: Threads + Wait + Sync>(
+    threads: &T,
+    alloc: Global,
+    workers: u32,
+) -> Result<bool, Want>
     requires { (1 ≤ workers) × (workers ≤ 64) }
 {
     match harvest(threads, alloc, workers, 7, &Square, &FreeGate) {
-        Ok(found) => {
+        Ok(found) => Ok(
             found.items.as_slice() == [0, 1, 4, 9, 16, 25, 36].as_slice()
-                && found.drawn.len() == workers as usize
-        }
-        Err(PoolFault::NoThread | PoolFault::NoMemory) => true,
+                && found.drawn.len() == workers as usize,
+        ),
+        Err(PoolFault::NoThread | PoolFault::NoMemory) => Err(Want),
     }
 }
 
 #[test]
 fn whole_work_or_want(rt: HostRuntime) -> Result<(), Fail> {
     for workers in [1, 2, 3] {
-        assert!(rt; has_share(&rt, rt.alloc(), workers));
-        assert!(rt; has_squares(&rt, rt.alloc(), workers));
+        assert!(rt; is_whole_or_want(&rt, has_share(&rt, rt.alloc(), workers)));
+        assert!(rt; is_whole_or_want(&rt, has_squares(&rt, rt.alloc(), workers)));
     }
     Ok(())
 }
