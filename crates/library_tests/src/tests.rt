@@ -1,3 +1,4 @@
+mod checks;
 mod cuts;
 mod fixtures;
 mod folders;
