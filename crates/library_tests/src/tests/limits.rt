@@ -20,9 +20,7 @@ fn sixteen_million_parent_prefixes(rt: HostRuntime) -> Result<(), Fail> {
     let alloc = rt.alloc();
     let mut bytes = vec![in alloc; b'^'; 16_777_212]?;
     bytes.extend_from_slice(b"BBBB")?;
-    if bytes.len() > 16_777_216 {
-        return Ok(());
-    }
+    assert!(rt; bytes.len() <= 16_777_216);
     let (name, len) = read_name(alloc, &bytes)?;
     assert_eq!(rt; (name.ups, len), (16_777_212, 16_777_216));
     assert!(rt; !is_placed(alloc, &name)?);
@@ -49,9 +47,7 @@ fn encode_to(alloc: Global, terms: &[Node], code: &[u8]) -> Result<bool, AllocEr
 #[test]
 fn a_long_body(rt: HostRuntime) -> Result<(), Fail> {
     let code = long_body(rt.alloc())?;
-    if code.len() > 16_777_216 {
-        return Ok(());
-    }
+    assert!(rt; code.len() <= 16_777_216);
     let terms = parse_body(rt.alloc(), &code, &Bare, &Path::root(rt.alloc()))?;
     assert!(rt; encode_to(rt.alloc(), terms.as_slice(), code.as_slice())?);
     Ok(())
@@ -142,11 +138,24 @@ fn count_methods(alloc: Global, code: &[u8]) -> Result<usize, LoadFault>
 fn the_greatest_number_of_methods(rt: HostRuntime) -> Result<(), Fail> {
     let alloc = rt.alloc();
     let mut code = methods(alloc, 1_048_576)?;
-    if code.len() > 10_000_000 {
-        return Ok(());
-    }
+    assert!(rt; code.len() <= 10_000_000);
     assert!(rt; matches!(count_methods(alloc, &code), Ok(1_048_576)));
     code.extend_from_slice(b"\x14\x06ZZZZ\x00")?;
     assert!(rt; matches!(count_methods(alloc, &code), Err(LoadFault::TooManyMethods)));
+    Ok(())
+}
+
+/// One method more is too many, also where its name would lead above the root.
+#[test]
+fn a_method_too_many_has_no_place(rt: HostRuntime) -> Result<(), Fail> {
+    let mut code = methods(rt.alloc(), 1_048_576)?;
+    code.extend_from_slice(b"\x14\x07^ABCD\x00")?;
+    assert!(rt; code.len() <= 10_000_000);
+    assert!(rt;
+        matches!(
+            count_methods(rt.alloc(), &code),
+            Err(LoadFault::TooManyMethods)
+        )
+    );
     Ok(())
 }
