@@ -213,6 +213,70 @@ impl Gate for Watch {
     }
 }
 
+/// A gate that keeps the numbers that entered, and a work that counts its calls and sees whether their numbers did.
+#[derive(Drop)]
+pub struct Order {
+    entered: Vec<AtomicBool>,
+    works: AtomicU64,
+    unentered: AtomicU64,
+}
+
+impl Order {
+    /// For the numbers below this one.
+    pub fn of_numbers(alloc: Global, count: u32) -> Result<Order, AllocError> {
+        let mut entered = Vec::new(alloc);
+        for _ in 0..count {
+            entered.push(AtomicBool::new(false))?;
+        }
+        Ok(Order {
+            entered,
+            works: AtomicU64::new(0),
+            unentered: AtomicU64::new(0),
+        })
+    }
+
+    /// How many pieces of work were done.
+    pub fn works(&self) -> u64 {
+        self.works.load(SeqCst)
+    }
+
+    /// How many of them before their numbers had entered.
+    pub fn unentered(&self) -> u64 {
+        self.unentered.load(SeqCst)
+    }
+
+    fn has_entered(&self, number: u32) -> bool {
+        match self.entered.get(number as usize) {
+            Some(entered) => entered.load(SeqCst),
+            None => false,
+        }
+    }
+}
+
+impl Gate for Order {
+    fn enter(&self, _worker: u32, number: u32) {
+        if let Some(entered) = self.entered.get(number as usize) {
+            entered.store(true, SeqCst);
+        }
+    }
+}
+
+impl Work for Order {
+    type Done = u32;
+
+    ghost can_work = { λ _ _. ⊤ };
+
+    ghost gives = { λ _ n d. d ≡ n };
+
+    fn work(&self, number: u32) -> Result<u32, NoMemory> {
+        self.works.fetch_add(1, SeqCst);
+        if !self.has_entered(number) {
+            self.unentered.fetch_add(1, SeqCst);
+        }
+        Ok(number)
+    }
+}
+
 /// Whether each number below `count` stands once in the lists, and nothing else stands there.
 pub fn each_once(drawn: &[Vec<u32>], count: u32) -> bool {
     let none_else = drawn.iter().all(|list| list.iter().all(|&n| n < count));

@@ -1,4 +1,4 @@
-use super::fixtures::{Hold, Log, Meeting, Square, ThirdFails, Watch, each_once};
+use super::fixtures::{Hold, Log, Meeting, Order, Square, ThirdFails, Watch, each_once};
 use aml_pool::{FreeGate, PoolFault, harvest};
 use std::test::Fail;
 
@@ -65,6 +65,17 @@ fn a_held_worker_holds_up_no_other(rt: HostRuntime) -> Result<(), Fail> {
         found.items.as_slice(),
         [0, 1, 4, 9, 16, 25, 36, 49].as_slice()
     );
+    Ok(())
+}
+
+#[test]
+fn each_number_enters_before_its_work(rt: HostRuntime) -> Result<(), Fail> {
+    for workers in [1, 3] {
+        let order = Order::of_numbers(rt.alloc(), 50)?;
+        let found = harvest(&rt, rt.alloc(), workers, 50, &order, &order)?;
+        assert_eq!(rt; found.items.len(), 50);
+        assert_eq!(rt; (order.works(), order.unentered()), (50, 0));
+    }
     Ok(())
 }
 
