@@ -30,12 +30,12 @@ by_number z es cs (m ∷ ms) (d ∷ ds) l h = (h 0 d refl, by_number z es cs ms 
 
 is_entry : (z : Bool) (es : List Entry) (cs : List (List ℕ)) (m : Method) (d : Body) → Became z es cs m d → IsEntry z es cs m (body_view d)
 is_entry z es cs m (bodies.Tree nodes) h = h.0
-is_entry z es cs m (bodies.Raw f) h = h.none
+is_entry z es cs m (bodies.Raw f) h = h.unread.none
 
 the_entry : (z : Bool) (es : List Entry) (cs : List (List ℕ)) (m : Method) (d : Body) (b : OneBody) → Became z es cs m d → IsEntry z es cs m b → b ≡ body_view d
 the_entry z es cs m (bodies.Tree nodes) (read ts) h e = ap read (h.1 ts e)
 the_entry z es cs m (bodies.Tree nodes) raw h e = absurd (e _ h.0)
-the_entry z es cs m (bodies.Raw f) (read ts) h e = absurd (h.none ts e)
+the_entry z es cs m (bodies.Raw f) (read ts) h e = absurd (h.unread.none ts e)
 the_entry z es cs m (bodies.Raw f) raw h e = refl
 
 is_told : (z : Bool) (es : List Entry) (cs : List (List ℕ)) (m : Method) (d : Body) → Became z es cs m d → IsTold z es cs m d

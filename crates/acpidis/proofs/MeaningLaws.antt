@@ -7,7 +7,9 @@ use Rattle.aml_space.specs.Rows.{AreRows}
 use Rattle.aml_space.proofs.Stands.{known_stands}
 use Rattle.aml_space.proofs.Ordered.{entries_rows}
 use Rattle.aml_load.specs.Loading.{Listed, IsLoad}
+use Rattle.aml_load.specs.Progresses.{Fails}
 use Rattle.aml_load.specs.Stops.{StopsLoad}
+use Rattle.aml_load.specs.Walking.{load_at}
 use Rattle.aml_load.specs.Views.{codes_view, HoldsLoad}
 use Rattle.aml_load.specs.declared.faults.LoadFault.{LoadFault}
 use Rattle.aml_load.specs.declared.faults.LoadFault.TheVariants as loads
@@ -15,6 +17,7 @@ use Rattle.aml_load.specs.declared.loading.Loaded.{Loaded}
 use Rattle.aml_load.specs.declared.methods.Method.{Method}
 use Rattle.acpidis.specs.declared.options.Options.{Options}
 use Rattle.acpidis.specs.declared.refusal.Refusal.{Refusal}
+use Rattle.acpidis.specs.declared.refusal.Refusal.TheVariants as refusals
 use Rattle.aml_text.specs.Views.{body_view}
 use Rattle.acpi_tables.specs.declared.dump.Dump.{Dump}
 use Rattle.acpi_tables.specs.Order.{IsOrder, AreTaken}
@@ -22,7 +25,7 @@ use Rattle.aml_text.specs.declared.listing.Listing.{Listing}
 use Rattle.acpidis.specs.Tables.{codes_in}
 use Rattle.acpidis.specs.Bodies.{AreEntries}
 use Rattle.acpidis.specs.Meaning.{Meaning, Means, Shows, rows_of}
-use Rattle.acpidis.specs.Refusals.{IsWant, load_refusal, TellsTable, TellsLoad, TellsBlocks}
+use Rattle.acpidis.specs.Refusals.{IsWant, in_dump, load_refusal, TellsTable, StopsInOrder, TellsLoad, TellsBlocks}
 
 -- a loaded set has few methods
 pub few_methods : (gs : Givens) (x : Loaded) (codes : List (List ℕ)) → (trees : List Trees) × (m : Listed) × IsLoad gs codes trees m × HoldsLoad x codes trees m → length x.methods.items ≤ 1048576
@@ -32,16 +35,18 @@ pub want_or : {A : Type 0} (order : List ℕ) (e : LoadFault) → (e ≡ loads.N
 want_or order e (inl h) = inl (subst (λ f. IsWant (load_refusal order f)) (sym h) tt)
 want_or order e (inr a) = inr a
 
-pub tells_load : (gs : Givens) (codes : List (List ℕ)) (order : List ℕ) (e : LoadFault) → (e ≡ loads.NoMemory) ⊎ StopsLoad gs codes e → TellsLoad gs codes order (load_refusal order e)
-tells_load gs codes order (loads.Code t f) (inl h) = absurd cc
-tells_load gs codes order (loads.Code t f) (inr s) = (loads.Code t f, s, refl)
-tells_load gs codes order (loads.Space t f) (inl h) = absurd cc
-tells_load gs codes order (loads.Space t f) (inr s) = (loads.Space t f, s, refl)
-tells_load gs codes order (loads.ModuleCall t) (inl h) = absurd cc
-tells_load gs codes order (loads.ModuleCall t) (inr s) = (loads.ModuleCall t, s, refl)
-tells_load gs codes order loads.TooManyMethods (inl h) = absurd cc
-tells_load gs codes order loads.TooManyMethods (inr s) = (loads.TooManyMethods, s, refl)
-tells_load gs codes order loads.NoMemory h = tt
+-- a fault that isn't want of memory is the one that stops the load, and the first that is met
+stops_so : (gs : Givens) (codes : List (List ℕ)) (order : List ℕ) (e : LoadFault) → (e ≡ loads.NoMemory → ⊥) → (e ≡ loads.NoMemory) ⊎ StopsLoad gs codes e → Fails e (load_at gs codes) → StopsInOrder gs codes order (in_dump order e)
+stops_so gs codes order e other (inl h) m = absurd (other h)
+stops_so gs codes order e other (inr s) (inl h) = absurd (other h)
+stops_so gs codes order e other (inr s) (inr m) = record { met = e; named = refl; stops = s; first = m }
+
+pub tells_load : (gs : Givens) (codes : List (List ℕ)) (order : List ℕ) (e : LoadFault) → (e ≡ loads.NoMemory) ⊎ StopsLoad gs codes e → Fails e (load_at gs codes) → TellsLoad gs codes order (load_refusal order e)
+tells_load gs codes order (loads.Code t f) s m = stops_so gs codes order (loads.Code t f) (λ h. absurd cc) s m
+tells_load gs codes order (loads.Space t f) s m = stops_so gs codes order (loads.Space t f) (λ h. absurd cc) s m
+tells_load gs codes order (loads.ModuleCall t) s m = stops_so gs codes order (loads.ModuleCall t) (λ h. absurd cc) s m
+tells_load gs codes order loads.TooManyMethods s m = stops_so gs codes order loads.TooManyMethods (λ h. absurd cc) s m
+tells_load gs codes order loads.NoMemory s m = tt
 
 pub of_load : (order : List ℕ) (e : LoadFault) (dumps : List Dump) (any_sum : Bool) → TellsTable dumps any_sum (load_refusal order e)
 of_load order (loads.Code t f) dumps any_sum = tt
@@ -51,13 +56,22 @@ of_load order loads.TooManyMethods dumps any_sum = tt
 of_load order loads.NoMemory dumps any_sum = tt
 
 -- what a load refuses is told of the one order
-pub tells_blocks : (dumps : List Dump) (options : Options) (gs : Givens) (dsdt : ℕ) (ssdts indexes order : List ℕ) (codes : List (List ℕ)) (e : Refusal) → ((d : ℕ) (s : List ℕ) → IsOrder dumps options.any_sum d s → (d ≡ dsdt) × (s ≡ ssdts))
-    → indexes ≡ dsdt ∷ ssdts → order ≡ dsdt ∷ ssdts → codes ≡ codes_in dumps indexes → gs ≡ options.externals.items → TellsLoad gs codes order e → TellsBlocks dumps options e
-tells_blocks dumps options gs dsdt ssdts indexes order codes e only is same cs given t = λ d s o.
-    let p = only d s o in
-    let whole : dsdt ∷ ssdts ≡ d ∷ s = ap (λ x. x ∷ ssdts) (sym p.0) ∙ ap (λ xs. d ∷ xs) (sym p.1) in
+pub tells_blocks : (dumps : List Dump) (options : Options) (gs : Givens) (dsdt : ℕ) (ssdts indexes order : List ℕ) (codes : List (List ℕ)) (e : Refusal) → IsOrder dumps options.any_sum dsdt ssdts
+    → ((d : ℕ) (s : List ℕ) → IsOrder dumps options.any_sum d s → (d ≡ dsdt) × (s ≡ ssdts)) → indexes ≡ dsdt ∷ ssdts → order ≡ dsdt ∷ ssdts → codes ≡ codes_in dumps indexes → gs ≡ options.externals.items → TellsLoad gs codes order e → TellsBlocks dumps options e
+tells_blocks dumps options gs dsdt ssdts indexes order codes (refusals.Table fault) there only is same cs given t = tt
+tells_blocks dumps options gs dsdt ssdts indexes order codes refusals.NoThread there only is same cs given t = tt
+tells_blocks dumps options gs dsdt ssdts indexes order codes refusals.NoMemory there only is same cs given t = tt
+tells_blocks dumps options gs dsdt ssdts indexes order codes (refusals.Load fault) there only is same cs given t =
     let all : codes ≡ codes_in dumps (dsdt ∷ ssdts) = cs ∙ ap (codes_in dumps) is in
-    subst (λ (w : List ℕ). TellsLoad options.externals.items (codes_in dumps w) w e) whole (subst (λ (c : List (List ℕ)). TellsLoad options.externals.items c (dsdt ∷ ssdts) e) all (subst (λ (w : List ℕ). TellsLoad options.externals.items codes w e) same (subst (λ (g : Givens). TellsLoad g codes order e) given t)))
+    let load = subst (λ (c : List (List ℕ)). StopsInOrder options.externals.items c (dsdt ∷ ssdts) fault) all (subst (λ (w : List ℕ). StopsInOrder options.externals.items codes w fault) same (subst (λ (g : Givens). StopsInOrder g codes order fault) given t)) in
+    record { dsdt = dsdt; ssdts = ssdts; order = there; only = only; load = load }
+
+-- want of memory or of a thread tells nothing of it
+pub want_tells : (dumps : List Dump) (options : Options) (e : Refusal) → IsWant e → TellsBlocks dumps options e
+want_tells dumps options (refusals.Table fault) w = tt
+want_tells dumps options refusals.NoThread w = tt
+want_tells dumps options refusals.NoMemory w = tt
+want_tells dumps options (refusals.Load fault) w = absurd w
 
 -- the dumps mean what was loaded and read of them
 pub means_so : (dumps : List Dump) (options : Options) (gs : Givens) (x : Listing) (indexes : List ℕ) (codes : List (List ℕ)) → x.dumps.now ≡ dumps → IsOrder dumps options.any_sum x.order.dsdt x.order.ssdts.items

@@ -1,14 +1,18 @@
 -- What became of the bodies of methods: terms, or bytes where a body reads as none.
-use Rattle.std.specs.Prelude.{◌≡◌, ℕ, ◌<◌, Bool, true, false, List, [], ◌∷◌, length, slice_get, All, Vec}
+use Rattle.std.specs.Prelude.{◌≡◌, ℕ, ◌<◌, Bool, true, false, List, [], ◌∷◌, length, slice_get, All, Vec, Some, Err}
 use Rattle.std.specs.Global.{Global}
 use Rattle.std.specs.List.Sorted.{IsStrictlyIncreasing}
+use Rattle.aml_names.specs.declared.faults.CodeFault.{CodeFault}
+use Rattle.aml_code.specs.declared.rows.Position.TheVariants as positions
 use Rattle.aml_code.specs.Tree.{Trees}
 use Rattle.aml_code.specs.View.{nodes_view}
+use Rattle.aml_parse.specs.Reading.{all_at}
 use Rattle.aml_space.specs.Entries.{Entry}
 use Rattle.aml_space.specs.Known.{Known, StandsFor}
+use Rattle.aml_space.specs.Namespace.{namespace_of, arity_of}
 use Rattle.aml_load.specs.Bodies.{IsBody, IsUnread, OfMethod}
 use Rattle.aml_load.specs.declared.methods.Method.{Method}
-use Rattle.aml_load.specs.Views.{AreShort}
+use Rattle.aml_load.specs.Views.{AreShort, span_of}
 use Rattle.aml_pool.specs.Counting.{IsOnce}
 use Rattle.aml_pool.specs.Shares.{all_of}
 use Rattle.aml_text.specs.declared.blocks.Body.{Body}
@@ -34,10 +38,21 @@ has_raw [] = false
 has_raw (read ts ∷ bodies) = has_raw bodies
 has_raw (raw ∷ bodies) = true
 
--- the fault of a raw body is true of the byte at its offset in the body
+-- the first fault that is met in reading the body of a method forward
+abbrev pub IsFirstFault : Bool → List Entry → List (List ℕ) → Method → CodeFault → Type 0
+IsFirstFault z es tables m fault =
+    all_at (arity_of (namespace_of es) z m.path) (Some m.path) positions.BodyTerm (span_of tables m) ≡ Err fault
+
+-- The body of a method is raw for this fault: it reads as no terms, the fault is true of the byte at its offset in the
+-- body, and it is the first that is met.
+pub record IsRaw (unknown_zero : Bool) (es : List Entry) (tables : List (List ℕ)) (m : Method) (fault : CodeFault) : Type 0 where
+  pub unread : IsUnread unknown_zero es tables m fault
+  pub first : IsFirstFault unknown_zero es tables m fault
+
+-- the fault of a raw body is told truly
 abbrev pub IsTold : Bool → List Entry → List (List ℕ) → Method → Body → Type 0
 IsTold z es tables m (bodies.Tree nodes) = Unit {0}
-IsTold z es tables m (bodies.Raw fault) = IsUnread z es tables m fault
+IsTold z es tables m (bodies.Raw fault) = IsRaw z es tables m fault
 
 -- that of each raw body
 abbrev pub AreTold : Bool → List Entry → List (List ℕ) → List Method → List Body → Type 0
@@ -53,11 +68,11 @@ pub record AreDrawn (workers count : ℕ) (drawn : List (Vec ℕ Global)) : Type
 
 -- ---- the work of one number
 
--- a body in memory: it reads as its terms and as no others, or it reads as none, and its fault is true of it
+-- a body in memory: it reads as its terms and as no others, or it reads as none, and its fault is the first that is met
 abbrev pub Became : Bool → List Entry → List (List ℕ) → Method → Body → Type 0
 Became z es tables m (bodies.Tree nodes) =
     IsBody z es tables m (nodes_view nodes.items) × ((ts : Trees) → IsBody z es tables m ts → ts ≡ nodes_view nodes.items)
-Became z es tables m (bodies.Raw fault) = IsUnread z es tables m fault
+Became z es tables m (bodies.Raw fault) = IsRaw z es tables m fault
 
 -- the body of this number can be read
 abbrev pub CanRead : List (List ℕ) → List Method → ℕ → Type 0

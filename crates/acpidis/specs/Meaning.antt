@@ -58,7 +58,7 @@ pub record Shows (x : Listing) (dumps : List Dump) (k : Meaning) : Type 0 where
   pub holds : HoldsLoad x.loaded (codes_of dumps k) k.trees k.listed
   pub bodies : map body_view x.bodies.items ≡ k.bodies
 
--- the fault of each of its raw bodies is true of it
+-- the fault of each of its raw bodies is true of it, and the first that is met
 abbrev pub Told : Listing → List Dump → Options → Meaning → Type 0
 Told x dumps options k =
     AreTold options.unknown_zero k.listed.entries (codes_of dumps k) (methods_of k.listed.entries) x.bodies.items

@@ -1,7 +1,8 @@
 -- What a refusal says of a set of dumps.
-use Rattle.std.specs.Prelude.{◌≡◌, ℕ, Bool, List, ◌∷◌, get_or, ⊤}
+use Rattle.std.specs.Prelude.{◌≡◌, ℕ, Bool, List, ◌∷◌, get_or, ⊤, Err}
 use Rattle.aml_space.specs.Entries.{Givens}
 use Rattle.aml_load.specs.Stops.{StopsLoad}
+use Rattle.aml_load.specs.Walking.{load_at}
 use Rattle.aml_load.specs.declared.faults.LoadFault.{LoadFault}
 use Rattle.aml_load.specs.declared.faults.LoadFault.TheVariants as loads
 use Rattle.acpi_tables.specs.declared.dump.Dump.{Dump}
@@ -38,13 +39,28 @@ abbrev pub TellsTable : List Dump → Bool → Refusal → Type 0
 TellsTable dumps any_sum (refusals.Table fault) = Refuses dumps any_sum fault
 TellsTable dumps any_sum _ = ⊤
 
--- a refusal of tables in this order: their load stops for this reason, in the table of the dump that the refusal names
+-- The load of the tables of an order stops for this fault, the first that is met in loading forward. The fault names the
+-- dump of the table that it is about.
+pub record StopsInOrder (gs : Givens) (codes : List (List ℕ)) (order : List ℕ) (fault : LoadFault) : Type 0 where
+  pub met : LoadFault
+  pub named : fault ≡ in_dump order met
+  pub stops : StopsLoad gs codes met
+  pub first : load_at gs codes ≡ Err met
+
+-- The dumps have an order, and no other, and the load of its tables stops so.
+pub record StopsSet (dumps : List Dump) (options : Options) (fault : LoadFault) : Type 0 where
+  pub dsdt : ℕ
+  pub ssdts : List ℕ
+  pub order : IsOrder dumps options.any_sum dsdt ssdts
+  pub only : (d : ℕ) (s : List ℕ) → IsOrder dumps options.any_sum d s → (d ≡ dsdt) × (s ≡ ssdts)
+  pub load : StopsInOrder options.externals.items (codes_in dumps (dsdt ∷ ssdts)) (dsdt ∷ ssdts) fault
+
+-- a refusal of a load is true of the tables in this order
 abbrev pub TellsLoad : Givens → List (List ℕ) → List ℕ → Refusal → Type 0
-TellsLoad gs codes order (refusals.Load fault) = (f : LoadFault) × StopsLoad gs codes f × (fault ≡ in_dump order f)
+TellsLoad gs codes order (refusals.Load fault) = StopsInOrder gs codes order fault
 TellsLoad gs codes order _ = ⊤
 
--- the same, of the set's order
+-- it is true of the set
 abbrev pub TellsBlocks : List Dump → Options → Refusal → Type 0
-TellsBlocks dumps options e =
-    (dsdt : ℕ) (ssdts : List ℕ) → IsOrder dumps options.any_sum dsdt ssdts →
-    TellsLoad options.externals.items (codes_in dumps (dsdt ∷ ssdts)) (dsdt ∷ ssdts) e
+TellsBlocks dumps options (refusals.Load fault) = StopsSet dumps options fault
+TellsBlocks dumps options _ = ⊤

@@ -75,7 +75,7 @@ pub(crate) fn read_bodies<R: Threads + Wait + Sync, G: Gate + Sync>(
     ensures one { (es : List Entry) → StandsFor loaded.now.space es → IfOk result (λ r. (bs : List OneBody) →
         AreEntries unknown_zero es (codes_view loaded.now.tables.items) loaded.now.methods.items bs →
         bs ≡ map body_view r.items.items) }
-    // The fault of a raw body is true of it.
+    // The fault of a raw body is true of it, and the first that is met.
     ensures told { (es : List Entry) → StandsFor loaded.now.space es → IfOk result (λ r.
         AreTold unknown_zero es (codes_view loaded.now.tables.items) loaded.now.methods.items r.items.items) }
     // Each method was drawn by one worker, once.

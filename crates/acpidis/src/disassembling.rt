@@ -41,6 +41,7 @@ fn order_in(alloc: Global, dumps: &[Dump], any_sum: bool) -> Result<Order, Refus
     ensures none { IfErr result (λ e. IsWant e ⊎ ((dsdt : ℕ) (ssdts : List ℕ) →
         ¬ IsOrder dumps.now any_sum dsdt ssdts)) }
     ensures tells { IfErr result (TellsTable dumps.now any_sum) }
+    ensures of_order { IfErr result (λ e. (dumps : List Dump) (options : Options) → TellsBlocks dumps options e) }
 {
     match load_order(alloc, dumps, any_sum) {
         Ok(order) => Ok(order),
@@ -128,12 +129,13 @@ pub fn disassemble<'a, R: Threads + Wait + Sync, G: Gate + Sync>(
     // No table is longer than a table may be, and there are no more methods than there may be.
     ensures limits { IfOk result (λ x. AreShort (codes_view x.loaded.tables.items) ×
         (length x.loaded.methods.items ≤ 1048576)) }
-    // The fault of each raw body is true of it.
+    // The fault of each raw body is true of it, and the first that is met.
     ensures told { IfOk result (λ x. (k : Meaning) → Means dumps.now options k →
         Told x dumps.now options k) }
     // Each method was drawn by one worker, once.
     ensures drawn { IfOk result (λ x. AreDrawn workers (length x.loaded.methods.items) x.drawn.items) }
-    // A refusal for another cause than memory or threads comes only where the dumps mean nothing, and is true of them.
+    // A refusal for another cause than memory or threads comes only where the dumps mean nothing, and is true of them:
+    // of the dumps themselves, or of the load of their order.
     ensures complete { IfErr result (λ e. IsWant e ⊎ ((k : Meaning) →
         ¬ Means dumps.now options k)) }
     ensures true_table { IfErr result (TellsTable dumps.now options.any_sum) }
