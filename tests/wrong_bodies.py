@@ -228,9 +228,9 @@ def check(rtlib, crate, batch, kept, only_these):
 # What an answer is refused with that was tried at its goal. All else that is said of an answer, as that a name is not in scope
 # or that a value has no such field, says that it wasn't.
 TRIED = re.compile(
-    r"the two types|expected type|expected .*, but|no occurrence|no proof of|did not|does not|found no|list the missing equation"
+    r"the two types|expected type|expected .*, but|no occurrence|no proof of|did not|does not|found no|list the missing equation|components but its type"
 )
-STALE = re.compile(r"has no |is not in scope|not admitted|is no name|cannot be named|unknown|ambiguous|no module")
+STALE = re.compile(r"has no (?:field|`)|not in scope|not admitted|is no name|cannot be named|unknown (?:name|module|field)|ambiguous|no module")
 
 
 def owner_of(goal, path, names):

@@ -7,9 +7,8 @@ use Rattle.aml_space.specs.Rows.{AreRows}
 use Rattle.aml_space.proofs.Stands.{known_stands}
 use Rattle.aml_space.proofs.Ordered.{entries_rows}
 use Rattle.aml_load.specs.Loading.{Listed, IsLoad}
-use Rattle.aml_load.specs.Progresses.{Fails}
 use Rattle.aml_load.specs.Stops.{StopsLoad}
-use Rattle.aml_load.specs.Walking.{load_at}
+use Rattle.aml_load.specs.Walking.{load_at, Fails}
 use Rattle.aml_load.specs.Views.{codes_view, HoldsLoad}
 use Rattle.aml_load.specs.declared.faults.LoadFault.{LoadFault}
 use Rattle.aml_load.specs.declared.faults.LoadFault.TheVariants as loads

@@ -1,18 +1,15 @@
 -- What became of the bodies of methods: terms, or bytes where a body reads as none.
-use Rattle.std.specs.Prelude.{◌≡◌, ℕ, ◌<◌, Bool, true, false, List, [], ◌∷◌, length, slice_get, All, Vec, Some, Err}
+use Rattle.std.specs.Prelude.{◌≡◌, ℕ, ◌<◌, Bool, true, false, List, [], ◌∷◌, length, slice_get, All, Vec, Err}
 use Rattle.std.specs.Global.{Global}
 use Rattle.std.specs.List.Sorted.{IsStrictlyIncreasing}
 use Rattle.aml_names.specs.declared.faults.CodeFault.{CodeFault}
-use Rattle.aml_code.specs.declared.rows.Position.TheVariants as positions
 use Rattle.aml_code.specs.Tree.{Trees}
 use Rattle.aml_code.specs.View.{nodes_view}
-use Rattle.aml_parse.specs.Reading.{all_at}
 use Rattle.aml_space.specs.Entries.{Entry}
 use Rattle.aml_space.specs.Known.{Known, StandsFor}
-use Rattle.aml_space.specs.Namespace.{namespace_of, arity_of}
-use Rattle.aml_load.specs.Bodies.{IsBody, IsUnread, OfMethod}
+use Rattle.aml_load.specs.Bodies.{IsBody, IsUnread, body_at, OfMethod}
 use Rattle.aml_load.specs.declared.methods.Method.{Method}
-use Rattle.aml_load.specs.Views.{AreShort, span_of}
+use Rattle.aml_load.specs.Views.{AreShort}
 use Rattle.aml_pool.specs.Counting.{IsOnce}
 use Rattle.aml_pool.specs.Shares.{all_of}
 use Rattle.aml_text.specs.declared.blocks.Body.{Body}
@@ -40,8 +37,7 @@ has_raw (raw ∷ bodies) = true
 
 -- the first fault that is met in reading the body of a method forward
 abbrev pub IsFirstFault : Bool → List Entry → List (List ℕ) → Method → CodeFault → Type 0
-IsFirstFault z es tables m fault =
-    all_at (arity_of (namespace_of es) z m.path) (Some m.path) positions.BodyTerm (span_of tables m) ≡ Err fault
+IsFirstFault z es tables m fault = body_at z es tables m ≡ Err fault
 
 -- The body of a method is raw for this fault: it reads as no terms, the fault is true of the byte at its offset in the
 -- body, and it is the first that is met.

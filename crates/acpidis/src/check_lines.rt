@@ -53,8 +53,10 @@ fn print_checks<W: Write>(out: &mut Out<'_, W>, listing: &Listing<'_>, checks: &
     }
 }
 
-/// Writes a line for each table of a listing: what `check` says of it.
-pub(crate) fn write_checks<W: Write>(
+/// Writes a line for each table of a listing: what `check` says of it, and whether it is `Same` or `Differs`.
+///
+/// Where the writer takes no more, it has the first bytes of that text, and the fault says how many.
+pub fn write_checks<W: Write>(
     out: &mut W,
     listing: &Listing<'_>,
     checks: &[Checked],

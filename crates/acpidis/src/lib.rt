@@ -13,6 +13,7 @@ mod running;
 mod tables;
 
 pub use acpi_folder::{MapFault, parse_map};
+pub use check_lines::write_checks;
 pub use checking::{Checked, check};
 pub use disassembling::disassemble;
 pub use options::Options;
