@@ -17,13 +17,16 @@ use Rattle.aml_load.specs.declared.methods.Method.{Method}
 use Rattle.acpidis.specs.declared.options.Options.{Options}
 use Rattle.acpidis.specs.declared.refusal.Refusal.{Refusal}
 use Rattle.acpidis.specs.declared.refusal.Refusal.TheVariants as refusals
+use Rattle.aml_text.specs.Lines.{OneBody}
 use Rattle.aml_text.specs.Views.{body_view}
 use Rattle.acpi_tables.specs.declared.dump.Dump.{Dump}
+use Rattle.acpi_tables.specs.declared.order.Order.{Order}
 use Rattle.acpi_tables.specs.Order.{IsOrder, AreTaken}
 use Rattle.aml_text.specs.declared.listing.Listing.{Listing}
 use Rattle.acpidis.specs.Tables.{codes_in}
-use Rattle.acpidis.specs.Bodies.{AreEntries}
-use Rattle.acpidis.specs.Meaning.{Meaning, Means, Shows, rows_of}
+use Rattle.acpidis.specs.Sets.{LoadsSet, HoldsSet}
+use Rattle.acpidis.specs.Bodies.{AreEntries, AreTold}
+use Rattle.acpidis.specs.Meaning.{Meaning, Means, Shows, Told, codes_of, rows_of}
 use Rattle.acpidis.specs.Refusals.{IsWant, in_dump, load_refusal, TellsTable, StopsInOrder, TellsLoad, TellsBlocks}
 
 -- a loaded set has few methods
@@ -72,19 +75,49 @@ want_tells dumps options refusals.NoThread w = tt
 want_tells dumps options refusals.NoMemory w = tt
 want_tells dumps options (refusals.Load fault) w = absurd w
 
+-- the dumps have the order and load to what was loaded
+pub loads_so : (dumps : List Dump) (options : Options) (gs : Givens) (order : Order) (x : Loaded) (indexes : List ℕ) (codes : List (List ℕ)) → IsOrder dumps options.any_sum order.dsdt order.ssdts.items → indexes ≡ order.dsdt ∷ order.ssdts.items
+    → codes ≡ codes_in dumps indexes → gs ≡ options.externals.items → (trees : List Trees) × (m : Listed) × IsLoad gs codes trees m × HoldsLoad x codes trees m
+    → (dsdt : ℕ) × (ssdts : List ℕ) × (trees : List Trees) × (m : Listed) × LoadsSet dumps options dsdt ssdts trees m × HoldsSet order x dumps dsdt ssdts trees m
+loads_so dumps options gs order x indexes codes there is cs given l =
+    let all : codes ≡ codes_in dumps (order.dsdt ∷ order.ssdts.items) = cs ∙ ap (codes_in dumps) is in
+    let h = subst (λ (c : List (List ℕ)). (trees : List Trees) × (m : Listed) × IsLoad options.externals.items c trees m × HoldsLoad x c trees m) all (subst (λ (g : Givens). (trees : List Trees) × (m : Listed) × IsLoad g codes trees m × HoldsLoad x codes trees m) given l) in
+    (order.dsdt, order.ssdts.items, h.0, h.1, record { order = there; loads = h.2 }, record { dsdt_is = refl; ssdts_is = refl; holds = h.3 })
+
 -- the dumps mean what was loaded and read of them
-pub means_so : (dumps : List Dump) (options : Options) (gs : Givens) (x : Listing) (indexes : List ℕ) (codes : List (List ℕ)) → x.dumps.now ≡ dumps → IsOrder dumps options.any_sum x.order.dsdt x.order.ssdts.items
-    → indexes ≡ x.order.dsdt ∷ x.order.ssdts.items → codes ≡ codes_in dumps indexes → gs ≡ options.externals.items → (trees : List Trees) × (m : Listed) × IsLoad gs codes trees m × HoldsLoad x.loaded codes trees m
+pub means_so : (dumps : List Dump) (options : Options) (x : Listing) → x.dumps.now ≡ dumps
+    → (dsdt : ℕ) × (ssdts : List ℕ) × (trees : List Trees) × (m : Listed) × LoadsSet dumps options dsdt ssdts trees m × HoldsSet x.order x.loaded dumps dsdt ssdts trees m
     → ((es : List Entry) → StandsFor x.loaded.space es → AreEntries options.unknown_zero es (codes_view x.loaded.tables.items) x.loaded.methods.items (map body_view x.bodies.items)) → (k : Meaning) × Means dumps options k × Shows x dumps k
-means_so dumps options gs x indexes codes same o is cs given l e =
-    let all : codes ≡ codes_in dumps (x.order.dsdt ∷ x.order.ssdts.items) = cs ∙ ap (codes_in dumps) is in
-    let h = subst (λ (c : List (List ℕ)). (trees : List Trees) × (m : Listed) × IsLoad options.externals.items c trees m × HoldsLoad x.loaded c trees m) all (subst (λ (g : Givens). (trees : List Trees) × (m : Listed) × IsLoad g codes trees m × HoldsLoad x.loaded codes trees m) given l) in
-    let here = subst (λ (c : List (List ℕ)). AreEntries options.unknown_zero h.1.entries c x.loaded.methods.items (map body_view x.bodies.items)) h.3.tables (e h.1.entries h.3.space) in
-    let there = subst (λ (ms : List Method). AreEntries options.unknown_zero h.1.entries (codes_in dumps (x.order.dsdt ∷ x.order.ssdts.items)) ms (map body_view x.bodies.items)) h.3.methods here in (
-      record { dsdt = x.order.dsdt; ssdts = x.order.ssdts.items; trees = h.0; listed = h.1; bodies = map body_view x.bodies.items },
-      record { order = o; loads = h.2; entries = there },
-      record { same_dumps = same; dsdt = refl; ssdts = refl; holds = h.3; bodies = refl },
+means_so dumps options x same h e =
+    let there = h.4 in
+    let it = h.5.holds in
+    let here = subst (λ (c : List (List ℕ)). AreEntries options.unknown_zero h.3.entries c x.loaded.methods.items (map body_view x.bodies.items)) it.tables (e h.3.entries it.space) in
+    let whole = subst (λ (ms : List Method). AreEntries options.unknown_zero h.3.entries (codes_in dumps (h.0 ∷ h.1)) ms (map body_view x.bodies.items)) it.methods here in (
+      record { dsdt = h.0; ssdts = h.1; trees = h.2; listed = h.3; bodies = map body_view x.bodies.items },
+      record { order = there.order; loads = there.loads; entries = whole },
+      record { same_dumps = same; dsdt = h.5.dsdt_is; ssdts = h.5.ssdts_is; holds = it; bodies = refl },
     )
+
+-- whatever they mean is that
+pub means_only : (dumps : List Dump) (options : Options) (x : Listing) → x.dumps.now ≡ dumps
+    → ((dsdt : ℕ) (ssdts : List ℕ) (trees : List Trees) (m : Listed) → LoadsSet dumps options dsdt ssdts trees m → HoldsSet x.order x.loaded dumps dsdt ssdts trees m)
+    → ((es : List Entry) → StandsFor x.loaded.space es → (bs : List OneBody) → AreEntries options.unknown_zero es (codes_view x.loaded.tables.items) x.loaded.methods.items bs → bs ≡ map body_view x.bodies.items)
+    → (k : Meaning) → Means dumps options k → Shows x dumps k
+means_only dumps options x same one each k h =
+    let it = one k.dsdt k.ssdts k.trees k.listed record { order = h.order; loads = h.loads } in
+    let whole = subst (λ (ms : List Method). AreEntries options.unknown_zero k.listed.entries (codes_of dumps k) ms k.bodies) (sym it.holds.methods) h.entries in
+    let here = subst (λ (c : List (List ℕ)). AreEntries options.unknown_zero k.listed.entries c x.loaded.methods.items k.bodies) (sym it.holds.tables) whole in
+    record { same_dumps = same; dsdt = it.dsdt_is; ssdts = it.ssdts_is; holds = it.holds; bodies = sym (each k.listed.entries it.holds.space k.bodies here) }
+
+-- and what is told of its raw bodies is told of that
+pub told_so : (dumps : List Dump) (options : Options) (x : Listing)
+    → ((dsdt : ℕ) (ssdts : List ℕ) (trees : List Trees) (m : Listed) → LoadsSet dumps options dsdt ssdts trees m → HoldsSet x.order x.loaded dumps dsdt ssdts trees m)
+    → ((es : List Entry) → StandsFor x.loaded.space es → AreTold options.unknown_zero es (codes_view x.loaded.tables.items) x.loaded.methods.items x.bodies.items)
+    → (k : Meaning) → Means dumps options k → Told x dumps options k
+told_so dumps options x one told k h =
+    let it = one k.dsdt k.ssdts k.trees k.listed record { order = h.order; loads = h.loads } in
+    let here = subst (λ (c : List (List ℕ)). AreTold options.unknown_zero k.listed.entries c x.loaded.methods.items x.bodies.items) it.holds.tables (told k.listed.entries it.holds.space) in
+    subst (λ (ms : List Method). AreTold options.unknown_zero k.listed.entries (codes_of dumps k) ms x.bodies.items) it.holds.methods here
 
 -- dumps that are taken are taken with any checksum
 pub taken_so : (dumps : List Dump) (any_sum : Bool) (dsdt : ℕ) (ssdts : List ℕ) → IsOrder dumps any_sum dsdt ssdts → AreTaken dumps true

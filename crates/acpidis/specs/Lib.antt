@@ -2,6 +2,7 @@ pub mod Tables
 pub mod Bodies
 pub mod Meaning
 pub mod Refusals
+pub mod Sets
 pub mod Runs
 pub mod Endings
 pub mod Checks

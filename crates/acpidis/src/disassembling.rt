@@ -6,6 +6,7 @@ ghost use Rattle.aml_load.specs.Views.{codes_view, AreShort, HoldsLoad};
 ghost use Rattle.acpi_tables.specs.Order.{AreTables, AreTaken, IsOrder};
 ghost use Rattle.acpidis.specs.Bodies.{AreDrawn};
 ghost use Rattle.acpidis.specs.Meaning.{Meaning, Means, Shows, Told};
+ghost use Rattle.acpidis.specs.Sets.{LoadsSet, HoldsSet};
 ghost use Rattle.acpidis.specs.Refusals.{IsWant, load_refusal, TellsTable, TellsLoad, TellsBlocks};
 
 use crate::bodies::read_bodies;
@@ -105,6 +106,38 @@ fn load_in<'a>(
     }
 }
 
+/// The order of the tables of a set, and what they load to.
+fn load_set<'a>(
+    alloc: Global,
+    dumps: &'a [Dump],
+    options: &Options,
+) -> Result<(Order, Loaded<'a>), Refusal>
+    ensures sound { IfOk result (λ x. (dsdt : ℕ) × (ssdts : List ℕ) × (trees : List Trees) × (m : Listed) ×
+        LoadsSet dumps.now options.now dsdt ssdts trees m × HoldsSet x.0 x.1 dumps.now dsdt ssdts trees m) }
+    ensures one { IfOk result (λ x. (dsdt : ℕ) (ssdts : List ℕ) (trees : List Trees) (m : Listed) →
+        LoadsSet dumps.now options.now dsdt ssdts trees m → HoldsSet x.0 x.1 dumps.now dsdt ssdts trees m) }
+    ensures few { IfOk result (λ x. length x.1.methods.items ≤ 1048576) }
+    ensures short { IfOk result (λ x. AreShort (codes_view x.1.tables.items)) }
+    ensures complete { IfErr result (λ e. IsWant e ⊎ ((dsdt : ℕ) (ssdts : List ℕ) (trees : List Trees) (m : Listed) →
+        ¬ LoadsSet dumps.now options.now dsdt ssdts trees m)) }
+    ensures true_table { IfErr result (TellsTable dumps.now options.now.any_sum) }
+    ensures true_load { IfErr result (TellsBlocks dumps.now options.now) }
+{
+    let order = order_in(alloc, dumps, options.any_sum)?;
+    let indexes = indexes_of(alloc, &order)?;
+    let codes = codes_of(alloc, dumps, indexes.as_slice())?;
+    let loaded = match load_in(
+        alloc,
+        codes.as_slice(),
+        options.externals.as_slice(),
+        indexes.as_slice(),
+    ) {
+        Ok(loaded) => loaded,
+        Err(refusal) => return Err(refusal),
+    };
+    Ok((order, loaded))
+}
+
 /// Disassembles a set of dumps by so many workers, 1 to 64, each on a thread of its own.
 ///
 /// A body that can't be read is raw, and refuses nothing.
@@ -141,16 +174,8 @@ pub fn disassemble<'a, R: Threads + Wait + Sync, G: Gate + Sync>(
     ensures true_table { IfErr result (TellsTable dumps.now options.any_sum) }
     ensures true_load { IfErr result (TellsBlocks dumps.now options) }
 {
-    let order = order_in(alloc, dumps, options.any_sum)?;
-    let indexes = indexes_of(alloc, &order)?;
-    let codes = codes_of(alloc, dumps, indexes.as_slice())?;
-    let loaded = match load_in(
-        alloc,
-        codes.as_slice(),
-        options.externals.as_slice(),
-        indexes.as_slice(),
-    ) {
-        Ok(loaded) => loaded,
+    let (order, loaded) = match load_set(alloc, dumps, &options) {
+        Ok(set) => set,
         Err(refusal) => return Err(refusal),
     };
     let found = read_bodies(rt, alloc, &loaded, options.unknown_zero, workers, gate)?;
