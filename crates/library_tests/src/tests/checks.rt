@@ -4,14 +4,16 @@ ghost use Rattle.aml_load.specs.Views.{codes_view, AreShort};
 
 use super::fixtures::{Bare, any_sum, push_table};
 use acpi_tables::Dump;
-use acpidis::{Checked, check, disassemble};
+use acpidis::{Checked, Refusal, check, disassemble};
 use aml_code::CodeFault;
 use aml_names::Path;
 use aml_parse::parse_body;
 use aml_pool::FreeGate;
 use aml_text::{Body, Listing};
 use std::alloc::{AllocError, Global};
+use std::sync::Wait;
 use std::test::Fail;
+use std::thread::Threads;
 
 /// The DSDT of a method that returns its first argument.
 fn one_method(alloc: Global) -> Result<Vec<Dump>, AllocError> {
@@ -27,36 +29,50 @@ fn one_method(alloc: Global) -> Result<Vec<Dump>, AllocError> {
 }
 
 /// A body that returns the second argument.
-fn other_body(alloc: Global) -> Result<Body, CodeFault> {
+fn other_bodies(alloc: Global) -> Result<Vec<Body>, CodeFault> {
     let terms = parse_body(alloc, b"\xA4\x69", &Bare, &Path::root(alloc))?;
-    Ok(Body::Tree(terms))
+    let mut bodies = Vec::new(alloc);
+    bodies.push(Body::Tree(terms))?;
+    Ok(bodies)
 }
 
-/// Whether one table of nine bytes and one method is checked, and whether it is the same.
-fn is_one_check(checks: &[Checked], is_same: bool) -> bool {
+/// Whether one table of nine bytes and one method is checked, and isn't the same.
+fn differs(checks: &[Checked]) -> bool {
     let [checked] = checks else {
         return false;
     };
-    (checked.bytes, checked.methods, checked.raw, checked.same) == (9, 1, 0, is_same)
+    (checked.bytes, checked.methods, checked.raw, checked.same) == (9, 1, 0, false)
 }
 
-/// Whether the table is the same with its own body, and isn't with another one.
-fn tells_exchange(alloc: Global, mut listing: Listing<'_>, body: Body) -> Result<bool, AllocError>
-    requires { AreShort (codes_view listing.loaded.tables.items)
-        × (length listing.loaded.methods.items ≤ 1048576) }
+/// Whether the table of a listing differs from what was read, once these are its bodies.
+fn differs_with(
+    alloc: Global,
+    listing: &mut Listing<'_>,
+    bodies: Vec<Body>,
+) -> Result<bool, AllocError>
+    requires { AreShort (codes_view listing.old.loaded.tables.items)
+        × (length listing.old.loaded.methods.items ≤ 1048576) }
 {
-    let own = check(alloc, &listing)?;
-    listing.bodies.clear();
-    listing.bodies.push(body)?;
-    let other = check(alloc, &listing)?;
-    Ok(is_one_check(&own, true) && is_one_check(&other, false))
+    listing.bodies = bodies;
+    let checks = check(alloc, listing)?;
+    Ok(differs(&checks))
+}
+
+/// Whether it does in a listing of these dumps.
+fn tells_exchange<T: Threads + Wait + Sync>(
+    threads: &T,
+    alloc: Global,
+    dumps: &[Dump],
+    bodies: Vec<Body>,
+) -> Result<bool, Refusal> {
+    let mut listing = disassemble(threads, alloc, dumps, any_sum(alloc), 1, &FreeGate)?;
+    Ok(differs_with(alloc, &mut listing, bodies)?)
 }
 
 #[test]
 fn a_body_that_is_exchanged_differs(rt: HostRuntime) -> Result<(), Fail> {
-    let alloc = rt.alloc();
-    let dumps = one_method(alloc)?;
-    let listing = disassemble(&rt, alloc, &dumps, any_sum(alloc), 1, &FreeGate)?;
-    assert!(rt; tells_exchange(alloc, listing, other_body(alloc)?)?);
+    let dumps = one_method(rt.alloc())?;
+    let bodies = other_bodies(rt.alloc())?;
+    assert!(rt; tells_exchange(&rt, rt.alloc(), &dumps, bodies)?);
     Ok(())
 }

@@ -1,7 +1,7 @@
 //! Answers where a growth is refused, a thread's start included: the whole answer, or the want of memory or a thread.
 //!
-//! `tests/refusals.sh` runs each of these tests again and again, with each growth refused in turn. Where none is refused
-//! the answer has to be whole.
+//! `tests/refusals.sh` runs each of these tests again and again, with each growth refused in turn. Where none is
+//! refused the answer has to be whole.
 ghost use Rattle.std.specs.Prelude.{◌≤◌, length};
 ghost use Rattle.aml_load.specs.Views.{codes_view, AreShort};
 
@@ -138,7 +138,12 @@ fn are_trees(bodies: &[Body]) -> bool {
     bodies.iter().all(|body| matches!(body, Body::Tree(_)))
 }
 
-/// Whether a table by itself is listed, each body as terms, and has its bytes.
+/// Whether each body of a listing is read as terms, and its only table has its bytes.
+fn has_terms(alloc: Global, listing: &Listing<'_>, code: &[u8]) -> Result<bool, Want> {
+    Ok(are_trees(&listing.bodies) && has_bytes(alloc, &listing.loaded, code)?)
+}
+
+/// Whether a table by itself is listed so.
 fn is_listed<T: Threads + Wait + Sync>(
     threads: &T,
     alloc: Global,
@@ -147,9 +152,7 @@ fn is_listed<T: Threads + Wait + Sync>(
     let mut dumps = Vec::new(alloc);
     push_table(alloc, &mut dumps, None, b"DSDT", code)?;
     match disassemble(threads, alloc, &dumps, any_sum(alloc), 1, &FreeGate) {
-        Ok(listing) => {
-            Ok(are_trees(&listing.bodies) && has_bytes(alloc, &listing.loaded, code)?)
-        }
+        Ok(listing) => has_terms(alloc, &listing, code),
         Err(Refusal::NoMemory) => Err(Want),
         Err(_) => Ok(false),
     }

@@ -1,12 +1,16 @@
 //! Answers where the start of a thread is refused: the whole answer, or the want of a thread, and never that of memory.
 //!
-//! `tests/refusals.sh` runs each of these tests again and again, with each start refused in turn. Where none is refused
-//! the answer has to be whole.
-use super::fixtures::{Square, any_sum, is_refused};
+//! `tests/refusals.sh` runs each of these tests again and again, with each start refused in turn. Where none is
+//! refused the answer has to be whole.
+use super::fixtures::{Square, Want, any_sum, is_refused, is_whole_or_want};
 use super::listings::{has_three_bodies, three_methods};
+use acpi_tables::Dump;
 use acpidis::{Refusal, disassemble};
 use aml_pool::{Board, FreeGate, PoolFault, crew, harvest};
+use std::alloc::Global;
+use std::sync::Wait;
 use std::test::Fail;
+use std::thread::Threads;
 
 #[test]
 fn whole_harvest_or_no_thread(rt: HostRuntime) -> Result<(), Fail> {
@@ -31,13 +35,22 @@ fn whole_crew_or_no_thread(rt: HostRuntime) -> Result<(), Fail> {
     Ok(())
 }
 
+/// Whether four workers answer all three bodies.
+fn has_bodies<T: Threads + Wait + Sync>(
+    threads: &T,
+    alloc: Global,
+    dumps: &[Dump],
+) -> Result<bool, Want> {
+    match disassemble(threads, alloc, dumps, any_sum(alloc), 4, &FreeGate) {
+        Ok(listing) => Ok(has_three_bodies(&listing)),
+        Err(Refusal::NoThread) => Err(Want),
+        Err(_) => Ok(false),
+    }
+}
+
 #[test]
 fn whole_listing_or_no_thread(rt: HostRuntime) -> Result<(), Fail> {
-    let alloc = rt.alloc();
-    let dumps = three_methods(alloc)?;
-    match disassemble(&rt, alloc, &dumps, any_sum(alloc), 4, &FreeGate) {
-        Ok(listing) => assert!(rt; has_three_bodies(&listing)),
-        Err(refusal) => assert!(rt; matches!(refusal, Refusal::NoThread) && is_refused(&rt)),
-    }
+    let dumps = three_methods(rt.alloc())?;
+    assert!(rt; is_whole_or_want(&rt, has_bodies(&rt, rt.alloc(), &dumps)));
     Ok(())
 }
