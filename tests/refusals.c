@@ -1,9 +1,9 @@
 /* Loaded into a program ahead of the C library, this refuses some of its growths, or one start of a thread.
  *
- * REFUSE_GROWTH=N refuses the Nth call of malloc, calloc and realloc, be it the program's own or the C library's, as at the
- * start of a thread; REFUSE_FROM=N that call and all later ones; REFUSE_START=N the Nth start. Once something is refused
- * the variable REFUSED, where there is one, is 1. At the program's end file 3 gets a line: how many growths there were, how
- * many starts, how many of these were refused, and how many joins. */
+ * REFUSE_GROWTH=N refuses the Nth call of malloc, calloc and realloc, be it the program's own or the C library's, as at
+ * the start of a thread; REFUSE_FROM=N that call and all later ones; REFUSE_START=N the Nth start. Once something is
+ * refused the variable REFUSED, where there is one, is 1. At the program's end file 3 gets a line: how many growths
+ * there were, how many starts, how many of these were refused, and how many joins. */
 #define _GNU_SOURCE
 #include <dlfcn.h>
 #include <errno.h>

@@ -1,12 +1,14 @@
 #!/bin/sh
-# What is answered where a growth or the start of a thread is refused: the whole answer, or the want of memory or a thread.
+# What is answered where a growth or the start of a thread is refused: the whole answer, or the want of memory or of a
+# thread.
 #
 # usage: tests/refusals.sh [program]
 #
-# The tests of library_tests in `memory` run with each growth refused in turn, by itself and with all later ones, those in
-# `starts` with each start. So does the program, over a set whose first method can't be read. Each thread that was started
-# has to be joined, and a want is an answer only where something was refused. With the word program only the program runs so,
-# as in ./test, in some seconds; the tests are proved and built first. It needs a C compiler, for refusals.c.
+# The tests of library_tests in `memory` run with each growth refused in turn, by itself and with all later ones, those
+# in `starts` with each start. So does the program, over a set whose first method can't be read. Each thread that was
+# started has to be joined, and a want is an answer only where something was refused. With the word program only the
+# program runs so, as in ./test, in some seconds; the tests are proved and built first. It needs a C compiler, for
+# refusals.c.
 top=$(CDPATH='' cd -- "$(dirname -- "$0")/.." && pwd) || exit 1
 parts=${1-all}
 work=$(mktemp -d) || exit 1
@@ -38,8 +40,8 @@ run_refused() {
     read -r growths starts refused joins <counts || status="$status, and no counts"
 }
 
-# run_sweep RIGHT HOW COMMAND..: the command has a right answer whichever of its calls is refused. The last run is the first
-# in which there is none to refuse: one that is refused counts.
+# run_sweep RIGHT HOW COMMAND..: the command has a right answer whichever of its calls is refused. The last run is the
+# first in which there is none to refuse: one that is refused counts.
 run_sweep() {
     right=$1 how=$2 n=0
     shift 2
