@@ -34,7 +34,8 @@ body_at unknown_zero es tables m =
     all_at (arity_of (namespace_of es) unknown_zero m.path) (Some m.path) positions.BodyTerm (span_of tables m)
 
 -- What was answered of a method's body, seen by a view, is what reading it forward gives, unless memory was refused.
-abbrev pub GivesBody : {X : Type 0} → (X → Trees) → Bool → List Entry → List (List ℕ) → Method → Result X CodeFault → Type 0
+abbrev pub GivesBody : {X : Type 0} → (X → Trees) → Bool → List Entry → List (List ℕ) → Method → Result X CodeFault
+    → Type 0
 GivesBody view unknown_zero es tables m answer = Gives view answer (body_at unknown_zero es tables m)
 
 -- a fact of the method with this number, if there is one

@@ -1,7 +1,7 @@
 -- Loading tables forward, and the first fault that is met (ACPI 6.5, 5.2.11, 5.3 and 20.2.5): the tables in load order,
--- each read whole, and then its terms in the order of the text, each by what it does to the entries so far. What it means
--- that tables load is said without this, by `IsLoad` in `Loading`; what a fault says of its place, by `StopsLoad` in
--- `Stops`. This says which of several faults a load answers.
+-- each read whole, and then its terms in the order of the text, each by what it does to the entries so far. This says
+-- which of several faults a load answers. What it means that tables load is said without it, by `IsLoad` in `Loading`,
+-- and what a fault says of its place by `StopsLoad` in `Stops`.
 use Rattle.std.specs.Prelude.{◌≡◌, ◌⊎◌, ℕ, suc, List, [], ◌∷◌, ◌++◌, length, nat_le, nat_lt, is_some, Option, Some, None, Result, Ok, Err, if◌then◌else◌}
 use Rattle.std.specs.Option.{unwrap_or}
 use Rattle.aml_names.specs.declared.segments.Seg.{Seg}
@@ -123,11 +123,13 @@ fields_at t l scope (n ∷ ns) = do
 
 -- What a term of table t does by its role, in a scope, after l. `inside` does the terms inside it, after what is listed
 -- then and under a path.
-unfoldable pub do_as : Role → ℕ → Listed → List Seg → Parts → Tail → (Listed → List Seg → Result Listed LoadFault) → Result Listed LoadFault
+unfoldable pub do_as : Role → ℕ → Listed → List Seg → Parts → Tail → (Listed → List Seg → Result Listed LoadFault)
+    → Result Listed LoadFault
 do_as (roles.Declares o) t l scope ps r inside = do
   made ← new_at t l scope (last_label None ps) (kind_of o)
   inside made.0 made.1
-do_as roles.Method t l scope ps r inside = method_at t l scope (last_label None ps) (byte_of ps) (body_start r) (body_len r)
+do_as roles.Method t l scope ps r inside =
+    method_at t l scope (last_label None ps) (byte_of ps) (body_start r) (body_len r)
 do_as roles.Scope t l scope ps r inside = do
   p ← scope_at t l.entries scope (last_label None ps)
   inside l p
@@ -176,7 +178,7 @@ tables_at t front l (c ∷ cs) = do
   one ← table_at t l c
   tables_at (suc t) (front ++ one.0 ∷ []) one.1 cs
 
--- none of these names, which stand as TermArgs outside the methods, takes arguments; or the fault of the first that does
+-- none of the names that stand as TermArgs outside the methods takes arguments, or the fault of the first that does
 unfoldable pub uses_at : List Entry → List Use → Result (Unit {0}) LoadFault
 uses_at es [] = Ok tt
 uses_at es (u ∷ us) = if nat_lt 0 (unwrap_or (use_count es u) 0) then Err (loads.ModuleCall u.table) else uses_at es us
@@ -189,7 +191,7 @@ load_at gs codes = do
   _ ← uses_at x.1.entries x.1.uses
   Ok x
 
--- a load that was refused by this fault: memory was refused, or loading forward meets this fault first
+-- what was refused by this fault: memory was refused, or loading forward meets this fault first
 abbrev pub Fails : {Y : Type 0} → LoadFault → Result Y LoadFault → Type 0
 Fails e walk = (e ≡ loads.NoMemory) ⊎ (walk ≡ Err e)
 

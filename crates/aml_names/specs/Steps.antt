@@ -1,5 +1,5 @@
--- Reading bytes forward, one step after the other. A step is handed where the innermost span ends, as an offset in
--- the code, and what is left of that span. It answers what it read and what it left, or the first fault.
+-- Reading bytes forward, one step after the other (ACPI 6.5, 20.2). A step is handed where the innermost span ends, as
+-- an offset in the code, and what is left of that span. It answers what it read and what it left, or the first fault.
 use Rattle.std.specs.Prelude.{◌≡◌, ℕ, List, [], ◌∷◌, Result, Ok, Err, ◌⊎◌}
 use Rattle.aml_names.specs.declared.faults.CodeFault.{CodeFault}
 use Rattle.aml_names.specs.declared.faults.CodeFault.TheVariants as faults

@@ -1,5 +1,7 @@
--- Reading terms forward, with the first fault that is met. A stepping stone: what it means that code reads as terms is
--- said without it, by the definitions of aml_code.
+-- Reading terms forward, and the first fault that is met (ACPI 6.5, 20.2): term after term, and of each its opcode, its
+-- package length, its parts and its tail, in the order of their bytes. This says which of several faults a reader
+-- answers. What it means that code reads as terms is said without it, by `ReadsModule` and `ReadsBody` of aml_code, and
+-- what a fault says of the byte at its offset by `StandsAt`.
 use Rattle.std.specs.Prelude.{◌≡◌, ℕ, zero, suc, ◌+◌, ◌-◌, Bool, true, false, ◌==◌, if◌then◌else◌, nat_lt, List, [], ◌∷◌, length, take, drop, position, Option, Some, None, Result, Ok, Err}
 use Rattle.std.specs.FinSet as set
 use Rattle.aml_names.specs.declared.faults.CodeFault.{CodeFault}
@@ -368,6 +370,7 @@ read_at arity scope (suc levels) p end ls bytes = term_at arity scope (read_at a
 
 -- ---- all of the code
 
+-- Reading all of the code as terms of a position, with at most 512 levels: the terms, or the first fault that is met.
 unfoldable pub all_at : Arities → Option (List Seg) → Position → List ℕ → Result Trees CodeFault
 all_at arity scope p code = do
   ts ← terms_at (read_at arity scope 512) (length code) p (length code) set.empty code
