@@ -233,10 +233,10 @@ TRIED = re.compile(
 STALE = re.compile(r"has no (?:field|`)|not in scope|not admitted|is no name|cannot be named|unknown (?:name|module|field)|ambiguous|no module")
 
 
-def owner_of(goal, path, names):
-    """Whether a goal is one of these functions: in a cycle its name begins with that of its function."""
-    is_cycle = path.rpartition("/")[2].startswith("+")
-    return not is_cycle or any(goal.startswith(f"{name}-") for name in names)
+def is_of(goal, path, names):
+    """Whether a goal is one of these functions: in a cycle of several its name begins with that of its function."""
+    cycle = path.rpartition("/")[2].partition("+")[2]
+    return cycle in {"", *names} or any(goal.startswith(f"{name}-") for name in names)
 
 
 def stands_at(place, path):
@@ -297,7 +297,7 @@ def verdict_of(wrong, goals, others, printed):
     """
     names = {place.name.rpartition("::")[2] for place in wrong.places if place.name}
     is_own = lambda path: any(stands_at(place, path) for place in wrong.places) or not names
-    own = [(path, goal) for path in goals if is_own(path) for goal in goals[path] if owner_of(goal, path, names)]
+    own = [(path, goal) for path in goals if is_own(path) for goal in goals[path] if is_of(goal, path, names)]
     if own:
         return Verdict("refused", "; ".join(dict.fromkeys(f"{goal} of {path}" for path, goal in own)))
     told = [f"{path}: {it}" for path in others if is_own(path) for it in others[path]]
