@@ -1,4 +1,4 @@
--- A stepping stone of the proofs: places, each free or taken.
+-- Places for results, each free or taken: what a shelf is seen as.
 use Rattle.std.specs.Prelude.{◌≡◌, ℕ, zero, suc, Option, Some, None, List, [], ◌∷◌, slice_get}
 
 -- how many places are free
