@@ -14,7 +14,7 @@ const DIGITS: [u8; 16] = *b"0123456789ABCDEF";
 pub fn print_hex2<W: Write>(out: &mut Out<'_, W>, n: u8)
     ensures { Prints W.contents out.old out.new (hex2 n) }
 {
-    out.put(&[DIGITS[(n / 16) as usize], DIGITS[(n % 16) as usize]]);
+    out.put_two(DIGITS[(n / 16) as usize], DIGITS[(n % 16) as usize]);
 }
 
 #[tactic(auto, using(crate::proofs::PrintLaws::straight), unfolding(crate::specs::Numbers::hex4))]

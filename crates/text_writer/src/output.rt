@@ -1,5 +1,5 @@
 //! A writer that collects what it is given, counts what went out, and stops at the first fault.
-ghost use Rattle.std.specs.Prelude.{◌≡◌, ◌≤◌, length, take, [], true, false, OnOk, IfErr};
+ghost use Rattle.std.specs.Prelude.{◌≡◌, ◌≤◌, ◌∷◌, length, take, [], true, false, OnOk, IfErr};
 ghost use Rattle.std.specs.Io.KnownBytes.{Appends};
 ghost use Rattle.text_writer.specs.Waiting.{waiting};
 ghost use Rattle.text_writer.specs.Prints.{Prints};
@@ -67,6 +67,21 @@ impl<'w, W: Write> Out<'w, W> {
             self.pending.add(bytes);
         } else {
             self.spill(bytes);
+        }
+    }
+
+    /// Prints two bytes. They go to their places one by one: a copy of a pair that was only just put together waits for
+    /// its parts.
+    pub(crate) fn put_two(&mut self, first: u8, second: u8)
+        ensures { Prints W.contents self.old self.new (first ∷ second ∷ []) }
+    {
+        if self.failed {
+            return;
+        }
+        if 2 <= self.pending.room() {
+            self.pending.add_two(first, second);
+        } else {
+            self.spill(&[first, second]);
         }
     }
 

@@ -13,7 +13,7 @@ pub struct Pending {
 }
 
 impl Pending {
-    ghost use Rattle.std.specs.Prelude.{◌≡◌, ◌+◌, ◌++◌, [], length};
+    ghost use Rattle.std.specs.Prelude.{◌≡◌, ◌+◌, ◌++◌, ◌∷◌, [], length};
     ghost use Rattle.text_writer.specs.Waiting.{waiting};
 
     /// No bytes.
@@ -55,5 +55,15 @@ impl Pending {
         let end = self.len + more.len();
         self.bytes[self.len..end].copy_from_slice(more);
         self.len = end;
+    }
+
+    /// Puts two more bytes behind the others.
+    pub fn add_two(&mut self, first: u8, second: u8)
+        requires { length (waiting self.old) + 2 ≤ 4096 }
+        ensures { waiting self.new ≡ waiting self.old ++ first ∷ second ∷ [] }
+    {
+        self.bytes[self.len] = first;
+        self.bytes[self.len + 1] = second;
+        self.len += 2;
     }
 }
