@@ -3,4 +3,5 @@ mod LengthLaws
 pub mod StepLaws
 mod NameLoops
 pub mod NameFaults
+mod SegmentOrder
 pub mod NameLaws

@@ -1,9 +1,10 @@
 -- Paths as lists of segments from the root on, and their order (ACPI 6.5, 5.3).
-use Rattle.std.specs.Prelude.{ℕ, List, refl}
-use Rattle.std.proofs.Common.{ap}
+use Rattle.std.specs.Prelude.{ℕ, Bool, List, Some, bytes_eq, refl}
+use Rattle.std.proofs.Common.{ap, subst}
+use Rattle.std.proofs.lemmas.Map.Text.{is_eq-slice_cmp}
 use Rattle.std.specs.declared.cmp.Ordering.{Ordering}
 use Rattle.std.specs.Ordering.{nat_cmp}
-use Rattle.std.specs.Cmp.{IsTotalOrder, on_total}
+use Rattle.std.specs.Cmp.{IsTotalOrder, IsPartialOrder, partial_order_from_total, on_total}
 use Rattle.std.specs.Cmp.Lexicographic.{slice_cmp, nat_list_cmp_total, lists_total}
 use Rattle.std.specs.FinMap.{IsAntisymmetric, slice_cmp-IsAntisymmetric, nat_cmp-IsAntisymmetric}
 use Rattle.std.specs.FinSet.{FinSet}
@@ -30,6 +31,10 @@ coded_path = coded_list coded_seg
 
 pub segs_total : IsTotalOrder seg_cmp
 segs_total = on_total (λ s. s.0) nat_list_cmp_total
+
+-- beside the test of all bytes
+pub segs_partial : IsPartialOrder (λ (a b : Seg). bytes_eq a.0 b.0) (λ a b. Some (seg_cmp a b))
+segs_partial = subst (λ (same : Seg → Seg → Bool). IsPartialOrder same (λ a b. Some (seg_cmp a b))) (λ i a b. is_eq-slice_cmp a.0 b.0 i) (partial_order_from_total segs_total)
 
 pub paths_total : IsTotalOrder path_cmp
 paths_total = lists_total segs_total

@@ -1,14 +1,58 @@
 //! Segments of names.
-ghost use Rattle.std.specs.Prelude.{◌≡◌, ◌∷◌, ◌++◌, [], length, Some, OnOk, OnErr};
+ghost use Rattle.std.specs.Prelude.{◌≡◌, ◌∷◌, ◌++◌, [], length, Some, OnOk, OnErr, refl};
+ghost use Rattle.std.specs.Cmp.Rules.{comparing};
+ghost use Rattle.std.specs.Int.{w32, from_be_bytes};
+ghost use Rattle.aml_names.specs.Paths.{seg_cmp, segs_total, segs_partial};
 
 use smallvec::SmallVec;
 use std::alloc::{AllocError, Global};
+use std::cmp::Ordering;
 use std::fmt;
 use std::marker::Model;
 
 /// A NameSeg: four characters of a name, as its bytes (ACPI 6.5, 20.2.2).
-#[derive(Clone, Copy, Debug, Default, PartialEq, Eq, PartialOrd, Ord)]
+#[derive(Clone, Copy, Debug, Default, PartialEq, Eq)]
 pub struct Seg(pub [u8; 4]);
+
+impl Seg {
+    /// The bytes as one number, the first the highest, so that numbers are ordered as their segments.
+    pub fn number(self) -> u32
+        ensures { result ≡ from_be_bytes w32 self.0 }
+    {
+        u32::from_be_bytes(self.0)
+    }
+}
+
+impl PartialOrd for Seg {
+    ghost partial_cmp = { λ a b. Some (seg_cmp a b) };
+
+    ghost laws = { segs_partial };
+
+    fn partial_cmp(&self, other: &Seg) -> Option<Ordering> {
+        Some(self.cmp(other))
+    }
+}
+
+/// By the bytes, as two numbers.
+impl Ord for Seg {
+    ghost cmp = { seg_cmp };
+
+    ghost total = { segs_total };
+
+    ghost matches_partial_cmp = { λ a b. refl };
+
+    ghost matches_eq = { λ a b. Prim.search comparing };
+
+    fn cmp(&self, other: &Seg) -> Ordering {
+        in_order(*self, *other)
+    }
+}
+
+fn in_order(a: Seg, b: Seg) -> Ordering
+    ensures { result ≡ seg_cmp a b }
+{
+    a.number().cmp(&b.number())
+}
 
 /// Each byte as the character of that number.
 impl fmt::Display for Seg {
