@@ -55,7 +55,19 @@ impl Children {
         Children { kept: Kept::Nobody }
     }
 
-    /// The node of a segment, and the comparisons made.
+    /// The node of a segment.
+    pub fn node(&self, seg: Seg) -> Option<usize>
+        requires { Rise (bare self.now) }
+        ensures { result ≡ child_in (bare self.now) seg }
+    {
+        match &self.kept {
+            Kept::Nobody => None,
+            Kept::Only { child, .. } => child.node_of(seg),
+            Kept::Many(tree) => tree.node(seg),
+        }
+    }
+
+    /// What `node` answers, and the comparisons made.
     pub fn find(&self, seg: Seg) -> (Option<usize>, u128)
         requires { Rise (bare self.now) }
         ensures node { result.0 ≡ child_in (bare self.now) seg }

@@ -102,7 +102,25 @@ impl Tree {
         Tree { top: Some(top) }
     }
 
-    /// The node of a segment, and the comparisons made.
+    /// The node of a segment.
+    pub fn node(&self, seg: Seg) -> Option<usize>
+        requires { Rise (bare self.now.0) }
+        ensures { result ≡ child_in (bare self.now.0) seg }
+    {
+        let mut tree = self;
+        'forks: loop {
+            match &tree.top {
+                None => return None,
+                Some(fork) => match seg.cmp(&fork.child.seg) {
+                    Ordering::Less => tree = &fork.left,
+                    Ordering::Equal => return Some(fork.child.node),
+                    Ordering::Greater => tree = &fork.right,
+                },
+            }
+        }
+    }
+
+    /// What `node` answers, and the comparisons made.
     pub fn find(&self, seg: Seg) -> (Option<usize>, u128)
         requires low { self.now.1 ≤ 64 }
         requires rise { Rise (bare self.now.0) }
