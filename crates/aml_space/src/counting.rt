@@ -8,7 +8,7 @@ ghost use Rattle.aml_space.specs.Nodes.{kinds_of, outs_of, known_by, IsShape};
 use crate::kinds::Kind;
 use crate::nodes::Node;
 use crate::predefined::Predefined;
-use crate::walking::{kind_at, out_at, walk_counted};
+use crate::walking::{kind_at, node_of, out_at};
 use aml_names::Path;
 
 /// The kind of a path: the declared one of its node, else the predefined one.
@@ -55,7 +55,7 @@ fn count_target(nodes: &[Node], predefined: &Predefined, target: &Path) -> u8
     ensures { let known = namespace_in (known_by nodes.now) in result
         ≡ target_count (kind_of_path known target.now) (known.outs target.now) }
 {
-    let (node, _) = walk_counted(nodes, target.segs());
+    let node = node_of(nodes, target.segs());
     let kind = kind_met(nodes, node, predefined.kind(target.segs()));
     count_of_target(kind, out_at(nodes, node))
 }
@@ -77,6 +77,6 @@ pub fn count_of(nodes: &[Node], predefined: &Predefined, path: &Path) -> Option<
     requires { IsShape nodes.now }
     ensures { result ≡ count_at (namespace_in (known_by nodes.now)) path.now }
 {
-    let (node, _) = walk_counted(nodes, path.segs());
+    let node = node_of(nodes, path.segs());
     count_met(nodes, predefined, node, predefined.kind(path.segs()))
 }

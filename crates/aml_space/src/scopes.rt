@@ -214,7 +214,7 @@ fn nodes_along(alloc: Global, nodes: &[Node], scope: &[Seg]) -> Result<Vec<usize
     let mut at: usize = 0;
     chain.push(at)?;
     for seg in scope {
-        match child(nodes, at, *seg).0 {
+        match child(nodes, at, *seg) {
             None => return Ok(chain),
             Some(next) => {
                 at = next;
@@ -234,7 +234,7 @@ fn child_along(nodes: &[Node], chain: &[usize], depth: usize, seg: Seg) -> Optio
 {
     match chain.get(depth) {
         None => None,
-        Some(at) => child(nodes, *at, seg).0,
+        Some(at) => child(nodes, *at, seg),
     }
 }
 

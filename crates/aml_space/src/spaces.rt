@@ -17,7 +17,7 @@ use crate::kinds::Kind;
 use crate::listing::list_rows;
 use crate::nodes::{Node, Row};
 use crate::predefined::Predefined;
-use crate::walking::{children_at, kind_at, out_at, row_here, row_under, walk_counted};
+use crate::walking::{children_at, kind_at, node_of, out_at, row_here, row_under, walk_counted};
 use aml_names::{NoMemory, Path};
 use std::alloc::Global;
 use std::marker::Model;
@@ -133,7 +133,8 @@ impl Space {
     fn declared(&self, path: &Path) -> Option<&Kind>
         ensures { option_copied result ≡ map.get self.now.kinds path.now }
     {
-        self.declared_counted(path).0
+        let nodes = self.nodes.as_slice();
+        kind_at(nodes, node_of(nodes, path.segs()))
     }
 
     /// The greatest count of a path's Externals.
@@ -141,7 +142,7 @@ impl Space {
         ensures { result ≡ map.get self.now.outs path.now }
     {
         let nodes = self.nodes.as_slice();
-        let (at, _) = walk_counted(nodes, path.segs());
+        let at = node_of(nodes, path.segs());
         out_at(nodes, at)
     }
 

@@ -8,14 +8,14 @@ use Rattle.aml_space.proofs.scopes.nodes_along.Goals as goal
 
 pub returns-in-None-clause-along : goal.returns-in-None-clause-along
 returns-in-None-clause-along c =
-    along_end c.args.nodes.now c.args.scope.now c.loop-seg.seg-index c.loop-seg.chain.items (record { 0 = [] }) c.loop-seg.at c.loop-seg-test.true c.loop-seg.invariant.along c.loop-seg.invariant.long c.loop-seg.invariant.led (sym c.child.ensures.child ∙ c.in-None.is)
+    along_end c.args.nodes.now c.args.scope.now c.loop-seg.seg-index c.loop-seg.chain.items (record { 0 = [] }) c.loop-seg.at c.loop-seg-test.true c.loop-seg.invariant.along c.loop-seg.invariant.long c.loop-seg.invariant.led (sym c.child.ensures ∙ c.in-None.is)
 
 pub loop-seg-preserved : goal.loop-seg-preserved
 loop-seg-preserved c =
     let inv = c.loop-seg.invariant in
     let ns = c.args.nodes.now in
     let e : Seg = record { 0 = [] } in
-    let found : child_in (kids_of ns c.loop-seg.at) (get_or c.args.scope.now c.loop-seg.seg-index e) ≡ Some c.in-Some.next = sym c.child.ensures.child ∙ c.in-Some.is in
+    let found : child_in (kids_of ns c.loop-seg.at) (get_or c.args.scope.now c.loop-seg.seg-index e) ≡ Some c.in-Some.next = sym c.child.ensures ∙ c.in-Some.is in
     let is = c.in_ok-push-in-Some.ensures.items in
     let more = along_more ns c.args.scope.now c.loop-seg.seg-index c.loop-seg.chain.items _ e c.loop-seg.at c.in-Some.next c.loop-seg-test.true inv.along inv.long inv.led found is in
     record {

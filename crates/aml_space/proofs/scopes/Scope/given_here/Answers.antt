@@ -8,6 +8,6 @@ use Rattle.aml_space.proofs.scopes.Scope.given_here.Goals as goal
 pub returns : goal.returns
 returns c =
     let ns = c.args.self.now.nodes.now in
-    c.given_at.ensures ∙ ap (option_and_then (givens_of ns)) c.walk_counted-node.ensures.node
+    c.given_at.ensures ∙ ap (option_and_then (givens_of ns)) c.node_of-node.ensures.node
     ∙ ap (λ p. option_and_then (givens_of ns) (walk (kids_of ns) 0 p)) c.segs.ensures
     ∙ known_given ns c.requires.shape c.args.path.now

@@ -1,0 +1,10 @@
+use Rattle.std.proofs.Common.{◌≡◌, ◌<◌, length, drop}
+use Rattle.aml_space.specs.Graph.{walk}
+use Rattle.aml_space.specs.Nodes.{kids_of}
+use Rattle.aml_space.proofs.walking.node_of.Given as goal
+
+abbrev pub invariant-loop-seg : goal.invariant-loop-seg
+invariant-loop-seg l = record {
+  led : walk (kids_of l.nodes) 0 l.path ≡ walk (kids_of l.nodes) l.at (drop l.seg-index l.path);
+  within : l.at < length l.nodes;
+}
