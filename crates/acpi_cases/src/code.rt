@@ -8,7 +8,7 @@ use aml_code::{
 };
 use aml_names::read_name;
 use aml_parse::{parse_body, parse_module};
-use aml_text::{Body, print_block, term_text};
+use aml_text::{Bodies, Body, print_block, term_text};
 use std::alloc::{AllocError, Global};
 use std::fmt::Write;
 use text_writer::Out;
@@ -123,7 +123,7 @@ fn push_terms(
     let bodies = raw_bodies(alloc, code)?;
     let mut text = Vec::new(alloc);
     let mut sink = Out::new(&mut text);
-    print_block(&mut sink, b"", code, nodes, &bodies);
+    print_block(&mut sink, b"", code, nodes, Bodies::Read(&bodies));
     match sink.finish() {
         Err(_) => Err(AllocError),
         Ok(()) => out.push_str(inner_text(&text)),

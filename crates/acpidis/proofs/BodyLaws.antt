@@ -1,17 +1,25 @@
 -- Bodies that were read are the entries of a listing.
-use Rattle.std.proofs.Common.{◌≡◌, ℕ, suc, Bool, List, [], ◌∷◌, map, length, Some, refl, ap, subst, ◌∙◌, arith, slice_get}
+use Rattle.std.specs.Global.{Global}
+use Rattle.std.proofs.Common.{◌≡◌, ℕ, zero, suc, Bool, false, List, [], ◌∷◌, map, length, get_or, Some, Result, Ok, Err, Vec, refl, sym, ap, subst, ◌∙◌, arith, slice_get}
 use denote.Ref.{Bor}
 use Rattle.aml_space.specs.Entries.{Entry}
 use Rattle.aml_load.specs.Bodies.{OfMethod}
 use Rattle.aml_load.specs.declared.methods.Method.{Method}
-use Rattle.aml_text.specs.declared.blocks.Body.{Body}
-use Rattle.aml_text.specs.declared.blocks.Body.TheVariants as bodies
-use Rattle.aml_text.specs.Lines.{OneBody, read, raw}
-use Rattle.aml_text.specs.Views.{body_view}
-use Rattle.aml_space.specs.Known.{StandsFor}
+use Rattle.aml_text.specs.declared.bodies.Body.{Body}
+use Rattle.aml_text.specs.declared.bodies.Body.TheVariants as bodies
+use Rattle.aml_names.specs.declared.faults.CodeFault.{CodeFault}
+use Rattle.aml_code.specs.Tree.{Trees}
+use Rattle.aml_text.specs.Levels.{levels_of, AgreeAt}
+use Rattle.aml_text.specs.Lines.{OneBody, read, raw, body_lines}
+use Rattle.aml_text.specs.Views.{body_view, printed_lines}
+use Rattle.aml_space.specs.Known.{Known, StandsFor}
 use Rattle.aml_load.specs.declared.loading.Loaded.{Loaded}
-use Rattle.aml_load.specs.Views.{codes_view}
-use Rattle.acpidis.specs.Bodies.{IsEntry, AreEntries, Became, BecameOf, IsTold, AreTold}
+use Rattle.aml_load.specs.Views.{codes_view, trees_view, span_of, body_in}
+use Rattle.acpidis.specs.declared.bodies.Bodies.{Bodies}
+use Rattle.acpidis.specs.Bodies.{IsEntry, AreEntries, Became, BecameOf, IsTold, AreTold, IsReading, has_raw}
+use Rattle.acpidis.specs.Checks.{is_raw, body_same}
+use Rattle.acpidis.specs.Kept.{IsKept, KeptOf, AreKept, AreKeptOf, AreBodies, AreTexts, AreTrials, IsText, IsSame, has_fault}
+use Rattle.acpidis.specs.Tallies.{mark_of, AreTried}
 
 -- what became of each body
 abbrev pub EachBecame : Bool → List Entry → List (List ℕ) → List Method → List Body → Type 0
@@ -62,10 +70,123 @@ are_told z es cs [] (d ∷ ds) h = tt
 are_told z es cs (m ∷ ms) [] h = absurd h
 are_told z es cs (m ∷ ms) (d ∷ ds) h = (is_told z es cs m d h.0, are_told z es cs ms ds h.1)
 
--- the answers of a harvest
-pub harvested : (z : Bool) (loaded : Loaded) (tables : List (Bor (List ℕ))) (ms : List Method) (ds : List Body) (es : List Entry) → tables ≡ loaded.tables.items → ms ≡ loaded.methods.items
-    → StandsFor loaded.space es → length ds ≡ length loaded.methods.items → ((n : ℕ) (d : Body) → slice_get ds n ≡ Some d → BecameOf z loaded.space (codes_view tables) ms n d)
-    → EachBecame z es (codes_view loaded.tables.items) loaded.methods.items ds
-harvested z loaded tables ms ds es same alike s l h = by_number z es (codes_view loaded.tables.items) loaded.methods.items ds l (λ n d e.
-    subst (λ (l : List Method). OfMethod (slice_get l n) (λ m. Became z es (codes_view loaded.tables.items) m d)) alike
-    (subst (λ (ts : List (Bor (List ℕ))). OfMethod (slice_get ms n) (λ m. Became z es (codes_view ts) m d)) same (h n d e es s)))
+-- ---- of a loaded set
+
+became_in : (z : Bool) (loaded : Loaded) (w : Bodies) (n : ℕ) (b : Body) → IsReading z loaded w → BecameOf w.unknown_zero w.space.now (codes_view w.tables.now) w.methods.now n b
+    → BecameOf z loaded.space (codes_view loaded.tables.items) loaded.methods.items n b
+became_in z loaded w n b r h =
+    subst (λ (y : Bool). BecameOf y loaded.space (codes_view loaded.tables.items) loaded.methods.items n b) r.zero_is
+    (subst (λ (k : Known). BecameOf w.unknown_zero k (codes_view loaded.tables.items) loaded.methods.items n b) r.space
+    (subst (λ (ts : List (Bor (List ℕ))). BecameOf w.unknown_zero w.space.now (codes_view ts) loaded.methods.items n b) r.tables
+    (subst (λ (ms : List Method). BecameOf w.unknown_zero w.space.now (codes_view w.tables.now) ms n b) r.methods h)))
+
+are_bodies : (z : Bool) (loaded : Loaded) (bs : List Body) → length bs ≡ length loaded.methods.items
+    → ((n : ℕ) (b : Body) → slice_get bs n ≡ Some b → BecameOf z loaded.space (codes_view loaded.tables.items) loaded.methods.items n b) → AreBodies z loaded bs
+are_bodies z loaded bs l h =
+    let cs = codes_view loaded.tables.items in
+    let ms = loaded.methods.items in
+    record {
+      sound = λ es s. are_entries z es cs ms bs (by_number z es cs ms bs l (λ n b e. h n b e es s));
+      one = λ es s others e. the_entries z es cs ms bs others (by_number z es cs ms bs l (λ n b e. h n b e es s)) e;
+      told = λ es s. are_told z es cs ms bs (by_number z es cs ms bs l (λ n b e. h n b e es s));
+    }
+
+-- bodies that were harvested are its bodies
+pub harvested : (z : Bool) (loaded : Loaded) (w : Bodies) (bs : List Body) → IsReading z loaded w → length bs ≡ length loaded.methods.items
+    → ((n : ℕ) (b : Body) → slice_get bs n ≡ Some b → BecameOf w.unknown_zero w.space.now (codes_view w.tables.now) w.methods.now n b) → AreBodies z loaded bs
+harvested z loaded w bs r l h = are_bodies z loaded bs l (λ n b e. became_in z loaded w n b r (h n b e))
+
+-- ---- what is kept of them
+
+each_more : (z : Bool) (space : Known) (cs : List (List ℕ)) (m : Method) (ms : List Method) (first : Body) (bs : List Body) → BecameOf z space cs (m ∷ ms) 0 first
+    → ((n : ℕ) (b : Body) → slice_get bs n ≡ Some b → BecameOf z space cs ms n b) → (n : ℕ) (b : Body) → slice_get (first ∷ bs) n ≡ Some b → BecameOf z space cs (m ∷ ms) n b
+each_more z space cs m ms first bs here others zero b e =
+    let is : first ≡ b = cc in
+    subst (λ (x : Body). BecameOf z space cs (m ∷ ms) 0 x) is here
+each_more z space cs m ms first bs here others (suc n) b e = others n b e
+
+-- the bodies of which it is kept, by number
+chosen : {X : Type 0} (Gives : ℕ → Trees → X → Type 0) (z : Bool) (space : Known) (cs : List (List ℕ)) (ms : List Method) (ds : List (Result X CodeFault)) → length ds ≡ length ms
+    → ((n : ℕ) (d : Result X CodeFault) → slice_get ds n ≡ Some d → KeptOf (Gives n) z space cs ms n d)
+    → (bs : List Body) × (length bs ≡ length ms) × ((n : ℕ) (b : Body) → slice_get bs n ≡ Some b → BecameOf z space cs ms n b) × AreKept Gives bs ds
+chosen Gives z space cs [] [] l h = ([], refl, λ n b e. absurd cc, tt)
+chosen Gives z space cs [] (d ∷ ds) l h = absurd (omega (arith, l))
+chosen Gives z space cs (m ∷ ms) [] l h = absurd (omega (arith, l))
+chosen Gives z space cs (m ∷ ms) (d ∷ ds) l h =
+    let first = h 0 d refl in
+    let rest = chosen (λ n. Gives (suc n)) z space cs ms ds (omega (arith, l)) (λ n x e. h (suc n) x e) in
+    (first.0 ∷ rest.0, ap suc rest.1, each_more z space cs m ms first.0 rest.0 first.1 rest.2, (first.2, rest.3))
+
+-- what was kept of the bodies of a set
+pub kept_of : {X : Type 0} (Gives : ℕ → Trees → X → Type 0) (z : Bool) (loaded : Loaded) (w : Bodies) (ds : List (Result X CodeFault)) → IsReading z loaded w → length ds ≡ length loaded.methods.items
+    → ((n : ℕ) (d : Result X CodeFault) → slice_get ds n ≡ Some d → KeptOf (Gives n) w.unknown_zero w.space.now (codes_view w.tables.now) w.methods.now n d) → AreKeptOf Gives z loaded ds
+kept_of Gives z loaded w ds r l h =
+    let c = chosen Gives z loaded.space (codes_view loaded.tables.items) loaded.methods.items ds l (λ n d e. (
+    let k = h n d e in
+    (k.0, became_in z loaded w n k.0 r k.1, k.2)
+    )) in
+    record { bodies = c.0; are = are_bodies z loaded c.0 c.1 c.2; kept = c.3 }
+
+-- by the levels of its tables
+pub texts_kept : (z : Bool) (loaded : Loaded) (w : Bodies) (levels : List ℕ) (ds : List (Result (Vec ℕ Global) CodeFault)) → IsReading z loaded w → levels ≡ levels_of (trees_view loaded.trees.items)
+    → length ds ≡ length loaded.methods.items
+    → ((n : ℕ) (d : Result (Vec ℕ Global) CodeFault) → slice_get ds n ≡ Some d → KeptOf (IsText (get_or levels n 0)) w.unknown_zero w.space.now (codes_view w.tables.now) w.methods.now n d) → AreTexts z loaded ds
+texts_kept z loaded w levels ds r same l h =
+    kept_of (λ n. IsText (get_or (levels_of (trees_view loaded.trees.items)) n 0)) z loaded w ds r l
+    (subst (λ (ls : List ℕ). (n : ℕ) (d : Result (Vec ℕ Global) CodeFault) → slice_get ds n ≡ Some d → KeptOf (IsText (get_or ls n 0)) w.unknown_zero w.space.now (codes_view w.tables.now) w.methods.now n d) same h)
+
+-- by the bytes of its bodies
+pub trials_kept : (z : Bool) (loaded : Loaded) (w : Bodies) (ds : List (Result Bool CodeFault)) → IsReading z loaded w → length ds ≡ length loaded.methods.items
+    → ((n : ℕ) (d : Result Bool CodeFault) → slice_get ds n ≡ Some d → KeptOf (IsSame (body_in (codes_view w.tables.now) (slice_get w.methods.now n))) w.unknown_zero w.space.now (codes_view w.tables.now) w.methods.now n d)
+    → AreTrials z loaded ds
+trials_kept z loaded w ds r l h =
+    kept_of (λ n. IsSame (body_in (codes_view loaded.tables.items) (slice_get loaded.methods.items n))) z loaded w ds r l (λ n d e. (
+    let k = h n d e in
+    let bytes = ap (λ ts. body_in (codes_view ts) (slice_get w.methods.now n)) r.tables ∙ ap (λ ms. body_in (codes_view loaded.tables.items) (slice_get ms n)) r.methods in
+    (k.0, k.1, subst (λ (xs : List ℕ). IsKept (IsSame xs) k.0 d) bytes k.2)
+    ))
+
+-- ---- what it says of them
+
+same_lines : (level : ℕ) (b : Body) (d : Result (Vec ℕ Global) CodeFault) → IsKept (IsText level) b d → (bytes : List ℕ) → body_lines (body_view b) level bytes ≡ printed_lines d level bytes
+same_lines level (bodies.Tree nodes) (Ok text) k bytes = sym k
+same_lines level (bodies.Tree nodes) (Err fault) k bytes = absurd k
+same_lines level (bodies.Raw fault) (Ok text) k bytes = absurd k
+same_lines level (bodies.Raw fault) (Err kept) k bytes = refl
+
+-- texts at their levels print as the bodies do
+pub texts_agree : (ls : List ℕ) (bs : List Body) (ds : List (Result (Vec ℕ Global) CodeFault)) → AreKept (λ n. IsText (get_or ls n 0)) bs ds
+    → AgreeAt ls (map body_lines (map body_view bs)) (map printed_lines ds)
+texts_agree [] bs ds k = tt
+texts_agree (l ∷ ls) [] [] k = texts_agree ls [] [] tt
+texts_agree (l ∷ ls) [] (d ∷ ds) k = absurd k
+texts_agree (l ∷ ls) (b ∷ bs) [] k = absurd k
+texts_agree (l ∷ ls) (b ∷ bs) (d ∷ ds) k = (same_lines l b d k.0, texts_agree ls bs ds k.1)
+
+-- a fault is kept where a body is raw
+pub faults_are : {X : Type 0} (Gives : ℕ → Trees → X → Type 0) (bs : List Body) (ds : List (Result X CodeFault)) → AreKept Gives bs ds → has_fault ds ≡ has_raw (map body_view bs)
+faults_are Gives [] [] k = refl
+faults_are Gives [] (d ∷ ds) k = absurd k
+faults_are Gives (b ∷ bs) [] k = absurd k
+faults_are Gives (bodies.Tree nodes ∷ bs) (Ok x ∷ ds) k = faults_are (λ n. Gives (suc n)) bs ds k.1
+faults_are Gives (bodies.Tree nodes ∷ bs) (Err fault ∷ ds) k = absurd k.0
+faults_are Gives (bodies.Raw fault ∷ bs) (Ok x ∷ ds) k = absurd k.0
+faults_are Gives (bodies.Raw fault ∷ bs) (Err kept ∷ ds) k = refl
+
+mark_is : (bytes : List ℕ) (b : Body) (d : Result Bool CodeFault) → IsKept (IsSame bytes) b d → mark_of (Some d) ≡ (is_raw (body_view b), body_same bytes (body_view b))
+mark_is bytes (bodies.Tree nodes) (Ok same) k = ap (λ (s : Bool). (false, s)) k
+mark_is bytes (bodies.Tree nodes) (Err fault) k = absurd k
+mark_is bytes (bodies.Raw fault) (Ok same) k = absurd k
+mark_is bytes (bodies.Raw fault) (Err kept) k = refl
+
+pub tried_mark : (cs : List (List ℕ)) (m : Method) (bytes : List ℕ) (b : Body) (d : Result Bool CodeFault) → bytes ≡ span_of cs m → IsKept (IsSame bytes) b d
+    → mark_of (Some d) ≡ (is_raw (body_view b), body_same (span_of cs m) (body_view b))
+tried_mark cs m bytes b d is k = mark_is (span_of cs m) b d (subst (λ (xs : List ℕ). IsKept (IsSame xs) b d) is k)
+
+-- trials are marks of the bodies
+pub trials_are : (cs : List (List ℕ)) (ms : List Method) (bs : List Body) (ds : List (Result Bool CodeFault)) → AreKept (λ n. IsSame (body_in cs (slice_get ms n))) bs ds → AreTried cs ms (map body_view bs) ds
+trials_are cs [] bs ds k = tt
+trials_are cs (m ∷ ms) [] [] k = tt
+trials_are cs (m ∷ ms) [] (d ∷ ds) k = absurd k
+trials_are cs (m ∷ ms) (b ∷ bs) [] k = absurd k
+trials_are cs (m ∷ ms) (b ∷ bs) (d ∷ ds) k = (mark_is (span_of cs m) b d k.0, trials_are cs ms bs ds k.1)

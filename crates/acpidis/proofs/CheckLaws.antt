@@ -1,19 +1,18 @@
 -- The methods of each table are counted, whatever their order.
 use Rattle.std.specs.Prelude.{cond, ◌&&◌}
 use Rattle.std.proofs.lemmas.Bool.Decides.{nat_tests}
-use Rattle.std.proofs.lemmas.List.{take_all}
+use Rattle.std.proofs.lemmas.List.{take_all, drop-drop}
 use Rattle.std.proofs.lemmas.Option.{slice_get-get_or}
-use Rattle.std.proofs.Common.{◌≡◌, ℕ, zero, suc, ◌+◌, ◌<◌, ◌≤◌, nat_eq, Bool, true, false, List, [], ◌∷◌, ◌++◌, map, take, drop, length, get_or, Some, None, slice_get, slice_index_or, slice_set, refl, sym, ap, subst, ◌∙◌, arith, append_assoc, append-nil}
+use Rattle.std.proofs.Common.{◌≡◌, ℕ, zero, suc, ◌+◌, ◌<◌, ◌≤◌, nat_eq, Bool, true, false, List, [], ◌∷◌, ◌++◌, map, take, drop, length, get_or, Some, None, Result, slice_get, slice_index_or, slice_set, refl, sym, ap, subst, ◌∙◌, arith, append_assoc, append-nil}
 use Rattle.aml_code.specs.Tree.{Trees}
 use Rattle.aml_load.specs.Views.{AreShort, span_of}
 use Rattle.aml_load.specs.declared.methods.Method.{Method}
-use Rattle.aml_text.specs.declared.blocks.Body.{Body}
 use Rattle.aml_text.specs.Lines.{OneBody, OneBlock}
-use Rattle.aml_text.specs.Views.{body_view}
+use Rattle.aml_names.specs.declared.faults.CodeFault.{CodeFault}
 use Rattle.aml_text.specs.Listing.{blocks_of}
 use Rattle.aml_text.proofs.ListingLaws.{next_is}
 use Rattle.acpidis.specs.Checks.{body_same, is_raw, one_if, methods_in, raws_in, bodies_same, checked, checks_from, check_line, check_lines}
-use Rattle.acpidis.specs.Tallies.{Under, added, added_at, uncounted, tally, tallied}
+use Rattle.acpidis.specs.Tallies.{Under, added, added_at, uncounted, tally, tallied, mark_of, AreTried}
 use Rattle.acpidis.specs.declared.checking.Checked.{Checked}
 
 -- ---- one table
@@ -200,40 +199,72 @@ blocks_more all more blocks i b c there is m was =
     ∙ ap (λ left. all ++ map uncounted left) (sym (next_is blocks i b there))
     ∙ was
 
--- one method more, with its body, and where there are no more bodies
-pub turn_some : (codes : List (List ℕ)) (ms : List Method) (ds : List Body) (n : ℕ) (m : Method) (d : Body) (raw same : Bool) (all more total : List Checked) → n < length ms → m ≡ get_or ms n m → n < length ds → d ≡ get_or ds n d
-    → raw ≡ is_raw (body_view d) → same ≡ body_same (span_of codes m) (body_view d) → more ≡ added_at m.table raw same all → (tallied codes (drop n ms) (map body_view (drop n ds)) 0 all ≡ total) × Under (n + 1) all
-    → (tallied codes (drop (n + 1) ms) (map body_view (drop (n + 1) ds)) 0 more ≡ total) × Under (n + 1 + 1) more
-turn_some codes ms ds n m d raw same all more total h here k there r s grown was =
-    let rest = drop (n + 1) ms in
-    let others = map body_view (drop (n + 1) ds) in
-    let added_is : more ≡ added_at m.table (is_raw (body_view d)) (body_same (span_of codes m) (body_view d)) all = grown ∙ ap (λ x. added_at m.table x same all) r ∙ ap (λ x. added_at m.table (is_raw (body_view d)) x all) s in (
-      ap (tallied codes rest others 0) added_is
-          ∙ sym (counted_more (with_body codes m rest (body_view d) others) 0 m.table all (omega arith))
-          ∙ ap (λ bs. tallied codes (m ∷ rest) (map body_view bs) 0 all) (sym (one_more ds n d k there))
-          ∙ ap (λ xs. tallied codes xs (map body_view (drop n ds)) 0 all) (sym (one_more ms n m h here))
-          ∙ was.0,
-      subst (Under (n + 1 + 1)) (sym grown) (under_added (n + 1) m.table raw same all was.1),
-    )
+pub none_tried : (codes : List (List ℕ)) (ms : List Method) → AreTried codes ms [] []
+none_tried codes [] = tt
+none_tried codes (m ∷ ms) = tt
 
-pub turn_none : (codes : List (List ℕ)) (ms : List Method) (ds : List Body) (n : ℕ) (m : Method) (all more total : List Checked) → n < length ms → m ≡ get_or ms n m → length ds ≤ n
-    → more ≡ added_at m.table false true all → (tallied codes (drop n ms) (map body_view (drop n ds)) 0 all ≡ total) × Under (n + 1) all
-    → (tallied codes (drop (n + 1) ms) (map body_view (drop (n + 1) ds)) 0 more ≡ total) × Under (n + 1 + 1) more
-turn_none codes ms ds n m all more total h here past grown was =
-    let rest = drop (n + 1) ms in (
-      ap (λ bs. tallied codes rest (map body_view bs) 0 more) (no_more ds (n + 1) (omega (arith, past)))
-          ∙ ap (tallied codes rest [] 0) grown
-          ∙ sym (counted_more (without_body codes m rest) 0 m.table all (omega arith))
-          ∙ ap (λ bs. tallied codes (m ∷ rest) (map body_view bs) 0 all) (sym (no_more ds n past))
-          ∙ ap (λ xs. tallied codes xs (map body_view (drop n ds)) 0 all) (sym (one_more ms n m h here))
-          ∙ was.0,
-      subst (Under (n + 1 + 1)) (sym grown) (under_added (n + 1) m.table false true all was.1),
+-- one method more, by what was tried of its body
+turn : (codes : List (List ℕ)) (m : Method) (ms : List Method) (bs : List OneBody) (ds : List (Result Bool CodeFault)) (raw same : Bool) (all more : List Checked) → (raw, same) ≡ mark_of (slice_get ds 0)
+    → more ≡ added_at m.table raw same all → AreTried codes (m ∷ ms) bs ds → (tallied codes (m ∷ ms) bs 0 all ≡ tallied codes ms (drop 1 bs) 0 more) × AreTried codes ms (drop 1 bs) (drop 1 ds)
+turn codes m ms [] [] raw same all more mark grown tried = (
+  counted_more (without_body codes m ms) 0 m.table all (omega arith) ∙ sym (ap (tallied codes ms [] 0) (grown ∙ ap (λ (p : Bool × Bool). added_at m.table p.0 p.1 all) mark)),
+  none_tried codes ms,
+)
+turn codes m ms [] (d ∷ ds) raw same all more mark grown tried = absurd tried
+turn codes m ms (b ∷ bs) [] raw same all more mark grown tried = absurd tried
+turn codes m ms (b ∷ bs) (d ∷ ds) raw same all more mark grown tried = (
+  counted_more (with_body codes m ms b bs) 0 m.table all (omega arith) ∙ sym (ap (tallied codes ms bs 0) (grown ∙ ap (λ (p : Bool × Bool). added_at m.table p.0 p.1 all) (mark ∙ tried.0))),
+  tried.1,
+)
+
+first_left : {X : Type 0} (xs : List X) (n : ℕ) → slice_get xs n ≡ slice_get (drop n xs) 0
+first_left [] zero = refl
+first_left [] (suc n) = refl
+first_left (x ∷ xs) zero = refl
+first_left (x ∷ xs) (suc n) = first_left xs n
+
+pub turned : (codes : List (List ℕ)) (ms : List Method) (bs : List OneBody) (ds : List (Result Bool CodeFault)) (n : ℕ) (m : Method) (raw same : Bool) (all more total : List Checked) → n < length ms → m ≡ get_or ms n m
+    → (raw, same) ≡ mark_of (slice_get ds n) → more ≡ added_at m.table raw same all
+    → (tallied codes (drop n ms) (drop n bs) 0 all ≡ total) × AreTried codes (drop n ms) (drop n bs) (drop n ds)
+    → (tallied codes (drop (n + 1) ms) (drop (n + 1) bs) 0 more ≡ total) × AreTried codes (drop (n + 1) ms) (drop (n + 1) bs) (drop (n + 1) ds)
+turned codes ms bs ds n m raw same all more total h here mark grown was =
+    let rest = drop (n + 1) ms in
+    let cut = one_more ms n m h here in
+    let step = turn codes m rest (drop n bs) (drop n ds) raw same all more (mark ∙ ap mark_of (first_left ds n)) grown (subst (λ (xs : List Method). AreTried codes xs (drop n bs) (drop n ds)) cut was.1) in (
+      ap (λ (l : List OneBody). tallied codes rest l 0 more) (sym (drop-drop 1 n bs)) ∙ sym step.0 ∙ ap (λ (xs : List Method). tallied codes xs (drop n bs) 0 all) (sym cut) ∙ was.0,
+      subst (λ (l : List OneBody). AreTried codes rest l (drop (n + 1) ds)) (drop-drop 1 n bs) (subst (λ (l : List (Result Bool CodeFault)). AreTried codes rest (drop 1 (drop n bs)) l) (drop-drop 1 n ds) step.1),
     )
 
 -- the last one
-pub turned_all : (codes : List (List ℕ)) (ms : List Method) (ds : List Body) (n : ℕ) (all total : List Checked) → length ms ≤ n → (tallied codes (drop n ms) (map body_view (drop n ds)) 0 all ≡ total) × Under (n + 1) all → all ≡ total
-turned_all codes ms ds n all total past was =
-    sym (counted_all codes (map body_view (drop n ds)) 0 all) ∙ ap (λ xs. tallied codes xs (map body_view (drop n ds)) 0 all) (sym (no_more ms n past)) ∙ was.0
+pub turned_all : (codes : List (List ℕ)) (ms : List Method) (bs : List OneBody) (n : ℕ) (all total : List Checked) → length ms ≤ n → tallied codes (drop n ms) bs 0 all ≡ total → all ≡ total
+turned_all codes ms bs n all total past was = sym (counted_all codes bs 0 all) ∙ ap (λ xs. tallied codes xs bs 0 all) (sym (no_more ms n past)) ∙ was
+
+-- ---- what is tried of a listing's bodies
+
+pub method_there : (ms : List Method) (n : ℕ) → n < length ms → (m : Method) × (slice_get ms n ≡ Some m)
+method_there [] n h = absurd (omega (arith, h))
+method_there (m ∷ ms) zero h = (m, refl)
+method_there (m ∷ ms) (suc n) h = method_there ms n (omega (arith, h))
+
+-- what was tried so far, and what is still to be
+abbrev pub Trying : List (List ℕ) → List Method → List OneBody → ℕ → List (Result Bool CodeFault) → Type 0
+Trying codes ms bs n tried = (rest : List (Result Bool CodeFault)) → AreTried codes (drop n ms) (drop n bs) rest → AreTried codes ms bs (tried ++ rest)
+
+pub trying_more : (codes : List (List ℕ)) (ms : List Method) (bs : List OneBody) (n : ℕ) (m : Method) (b : OneBody) (d : Result Bool CodeFault) (tried more : List (Result Bool CodeFault)) → slice_get ms n ≡ Some m → slice_get bs n ≡ Some b
+    → mark_of (Some d) ≡ (is_raw b, body_same (span_of codes m) b) → more ≡ tried ++ d ∷ [] → Trying codes ms bs n tried → Trying codes ms bs (n + 1) more
+trying_more codes ms bs n m b d tried more here there mark grown was = λ rest left.
+    let both : AreTried codes (m ∷ drop (n + 1) ms) (b ∷ drop (n + 1) bs) (d ∷ rest) = (mark, left) in
+    let whole = was (d ∷ rest) (subst (λ (xs : List Method). AreTried codes xs (drop n bs) (d ∷ rest)) (sym (next_is ms n m here)) (subst (λ (l : List OneBody). AreTried codes (m ∷ drop (n + 1) ms) l (d ∷ rest)) (sym (next_is bs n b there)) both)) in
+    subst (AreTried codes ms bs) (sym (ap (λ (l : List (Result Bool CodeFault)). l ++ rest) grown ∙ append_assoc tried (d ∷ []) rest)) whole
+
+pub tried_all : (codes : List (List ℕ)) (ms : List Method) (bs : List OneBody) (n : ℕ) (tried : List (Result Bool CodeFault)) → AreTried codes (drop n ms) (drop n bs) [] → Trying codes ms bs n tried → AreTried codes ms bs tried
+tried_all codes ms bs n tried left was = subst (AreTried codes ms bs) (append-nil tried) (was [] left)
+
+pub none_left_to_try : (codes : List (List ℕ)) (ms : List Method) (bs : List OneBody) (n : ℕ) → slice_get bs n ≡ None → AreTried codes (drop n ms) (drop n bs) []
+none_left_to_try codes ms bs n none = subst (λ (l : List OneBody). AreTried codes (drop n ms) l []) (sym (none_here bs n none)) (none_tried codes (drop n ms))
+
+pub past_all : (codes : List (List ℕ)) (ms : List Method) (bs : List OneBody) (n : ℕ) → length ms ≤ n → AreTried codes (drop n ms) (drop n bs) []
+past_all codes ms bs n past = subst (λ (xs : List Method). AreTried codes xs (drop n bs) []) (sym (no_more ms n past)) tt
 
 tallied_length : (codes : List (List ℕ)) (ms : List Method) (bs : List OneBody) (t : ℕ) (cs : List Checked) → length (tallied codes ms bs t cs) ≡ length cs
 tallied_length codes ms bs t [] = refl

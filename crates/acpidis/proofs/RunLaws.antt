@@ -1,23 +1,39 @@
 -- A run prints the text of the one listing that the dumps mean.
 use Rattle.std.specs.Prelude.{cond}
+use Rattle.std.specs.Global.{Global}
 use Rattle.std.specs.FinMap as finite
 use Rattle.std.specs.Io.KnownBytes.{Appends}
-use Rattle.std.proofs.Common.{◌≡◌, ℕ, inl, Bool, true, false, List, ◌∷◌, map, Option, Err, refl, sym, ap, subst, ◌∙◌}
+use Rattle.std.proofs.Common.{◌≡◌, ℕ, suc, Bool, true, false, List, [], ◌∷◌, ◌++◌, map, length, get_or, slice_get, Option, Result, Ok, Vec, refl, sym, ap, subst, ◌∙◌}
 use Rattle.text_writer.specs.Prints.{Cut}
 use Rattle.aml_space.proofs.Stands.{known_alone}
 use Rattle.aml_space.specs.Known.{Known}
-use Rattle.aml_load.specs.Views.{codes_view, trees_view}
+use Rattle.aml_load.specs.Views.{codes_view, trees_view, body_in}
+use Rattle.aml_names.specs.declared.faults.CodeFault.{CodeFault}
+use Rattle.aml_code.specs.Tree.{Trees}
+use Rattle.aml_pool.specs.declared.results.Results.{Results}
+use Rattle.acpi_text.specs.Dumps.{dumps_text}
+use Rattle.aml_text.specs.declared.bodies.Body.{Body}
+use Rattle.aml_text.specs.declared.listing.Tables.{Tables}
+use Rattle.aml_text.specs.Levels.{levels_of}
+use Rattle.aml_text.specs.Lines.{OneBody, body_lines}
+use Rattle.aml_text.specs.Rows.{namespace_text}
+use Rattle.aml_text.proofs.LevelLaws.{same_blocks}
 use Rattle.aml_text.specs.declared.listing.Listing.{Listing}
-use Rattle.aml_text.specs.Listing.{listing_text, shown_text}
-use Rattle.aml_text.specs.Views.{body_view}
+use Rattle.aml_text.specs.Listing.{names_in, listing_text, indexes_in, shown_text, blocks_at, set_text}
+use Rattle.aml_text.specs.Views.{body_view, printed_lines}
 use Rattle.acpi_tables.specs.declared.dump.Dump.{Dump}
 use Rattle.acpidis.specs.Bodies.{has_raw}
 use Rattle.acpidis.specs.Meaning.{Meaning, Means, Shows, order_of, codes_of, rows_of, text_of}
 use Rattle.acpidis.specs.Runs.{output_of, Lists, IsCut}
-use Rattle.acpidis.specs.Endings.{shown_of, IsOnly, Printed, Ends}
+use Rattle.acpidis.specs.Endings.{shown_of, IsOnly, Ends}
 use Rattle.acpidis.specs.declared.options.Options.{Options}
-use Rattle.acpidis.specs.declared.faults.RunFault.{RunFault}
-use Rattle.acpidis.specs.declared.faults.RunFault.TheVariants as faults
+use Rattle.acpidis.specs.declared.checking.Checked.{Checked}
+use Rattle.acpidis.specs.Checks.{checks_from, check_lines, all_same}
+use Rattle.acpidis.specs.Kept.{AreKept, AreBodies, AreTexts, AreTrials, IsText, IsSame, has_fault}
+use Rattle.acpidis.specs.Sets.{IsSet}
+use Rattle.acpidis.specs.Tallies.{AreTried}
+use Rattle.acpidis.proofs.BodyLaws.{texts_agree, trials_are, faults_are}
+use Rattle.acpidis.proofs.MeaningLaws.{means_so, means_only}
 use Rattle.acpidis.proofs.SameLaws.{checks_are, shown_same}
 
 -- the text of a listing in memory is that of the listing that it is
@@ -82,11 +98,93 @@ pub cut_so : (dumps : List Dump) (options : Options) (check : Bool) (x : Listing
 cut_so dumps options check x before after wrote only cut =
     record { status = cond (has_raw (map body_view x.bodies.items)) 3 0; text = shown_of check x; wrote = wrote; lists = lists_so dumps options check x _ only refl; cut = cut }
 
--- how a listing is printed is how the run ends, but for its bodies
-pub ends_so : (dumps : List Dump) (options : Options) (check : Bool) (x : Listing) (before after : Option (List ℕ)) (fault : RunFault) → IsOnly dumps options x → Printed check x before after (Err fault)
-    → Ends dumps options check before after (Err fault)
-ends_so dumps options check x before after (faults.Write fault) only p = cut_so dumps options check x before after fault.wrote only p
-ends_so dumps options check x before after (faults.Refused fault) only p = (p.0, inl p.1)
-ends_so dumps options check x before after faults.Differs only p =
-    let same = shown_same x dumps options only.sound.0 only.sound.1 only.sound.2 in
-    absurd (mathlib.Core.Bool.true≢false (sym same ∙ p))
+-- ---- a set whose bodies were let go
+
+kept_long : {X : Type 0} (Gives : ℕ → Trees → X → Type 0) (bs : List Body) (ds : List (Result X CodeFault)) → AreKept Gives bs ds → length bs ≡ length ds
+kept_long Gives [] [] k = refl
+kept_long Gives [] (d ∷ ds) k = absurd k
+kept_long Gives (b ∷ bs) [] k = absurd k
+kept_long Gives (b ∷ bs) (d ∷ ds) k = ap suc (kept_long (λ n. Gives (suc n)) bs ds k.1)
+
+-- the listing of a set with these bodies, of which so many things are kept
+abbrev pub listing_of : {X : Type 0} (set : Tables) (found : Results (Result X CodeFault)) (bs : List Body) → length bs ≡ length found.items.items → Listing
+listing_of set found bs l =
+    let kept = found.items in
+    let held : Vec Body Global =
+    record { ptr = kept.ptr; len = kept.len; cap = kept.cap; alloc = kept.alloc; items = bs; ok = (kept.ok.0 ∙ sym l, kept.ok.1); small = kept.small } in
+    record { dumps = set.dumps; order = set.order.now; loaded = set.loaded.now; bodies = held; drawn = found.drawn }
+
+only_so : {X : Type 0} (options : Options) (set : Tables) (found : Results (Result X CodeFault)) (bs : List Body) (l : length bs ≡ length found.items.items) → IsSet options set
+    → AreBodies options.unknown_zero set.loaded.now bs → IsOnly set.dumps.now options (listing_of set found bs l)
+only_so options set found bs l is are =
+    record { sound = means_so set.dumps.now options (listing_of set found bs l) refl is.sound are.sound; one = means_only set.dumps.now options (listing_of set found bs l) refl is.one are.one }
+
+-- the texts of bodies at their levels, in their places, are the text of the listing
+texts_shown : (set : Tables) (bs : List Body) (ds : List (Result (Vec ℕ Global) CodeFault)) → AreKept (λ n. IsText (get_or (levels_of (trees_view set.loaded.now.trees.items)) n 0)) bs ds
+    → set_text set (map printed_lines ds) ≡ set_text set (map body_lines (map body_view bs))
+texts_shown set bs ds k =
+    let trees = trees_view set.loaded.now.trees.items in
+    let front : List ℕ = dumps_text set.dumps.now ++ namespace_text (finite.entries set.loaded.now.space.kinds) in
+    let fs = map body_lines (map body_view bs) in
+    ap (λ (l : List ℕ). front ++ l)
+    (sym (same_blocks (names_in set.dumps.now (indexes_in set.order.now)) (codes_view set.loaded.now.tables.items) trees fs (map printed_lines ds) (texts_agree (levels_of trees) bs ds k)))
+
+-- all texts went out
+pub texts_done : (options : Options) (set : Tables) (found : Results (Result (Vec ℕ Global) CodeFault)) (before after : Option (List ℕ)) (status : ℕ) → IsSet options set
+    → AreTexts options.unknown_zero set.loaded.now found.items.items → Appends before after (set_text set (map printed_lines found.items.items)) → status ≡ cond (has_fault found.items.items) 3 0
+    → Ends set.dumps.now options false before after (Ok status)
+texts_done options set found before after status is kept gained s =
+    let l = kept_long (λ n. IsText (get_or (levels_of (trees_view set.loaded.now.trees.items)) n 0)) kept.bodies found.items.items kept.kept in (
+      listing_of set found kept.bodies l,
+      only_so options set found kept.bodies l is kept.are,
+      subst (Appends before after) (texts_shown set kept.bodies found.items.items kept.kept) gained,
+      s ∙ ap (λ (b : Bool). cond b 3 0) (faults_are (λ n. IsText (get_or (levels_of (trees_view set.loaded.now.trees.items)) n 0)) kept.bodies found.items.items kept.kept),
+    )
+
+-- the first bytes of them did
+pub texts_cut : (options : Options) (set : Tables) (found : Results (Result (Vec ℕ Global) CodeFault)) (before after : Option (List ℕ)) (wrote : ℕ) → IsSet options set
+    → AreTexts options.unknown_zero set.loaded.now found.items.items → Cut before after (set_text set (map printed_lines found.items.items)) wrote → IsCut set.dumps.now options false before after
+texts_cut options set found before after wrote is kept cut =
+    let l = kept_long (λ n. IsText (get_or (levels_of (trees_view set.loaded.now.trees.items)) n 0)) kept.bodies found.items.items kept.kept in
+    cut_so set.dumps.now options false (listing_of set found kept.bodies l) before after wrote (only_so options set found kept.bodies l is kept.are)
+    (subst (λ (text : List ℕ). Cut before after text wrote) (texts_shown set kept.bodies found.items.items kept.kept) cut)
+
+-- ---- its checks
+
+-- what check_tables says by trials
+abbrev pub SaidOf : Tables → List (Result Bool CodeFault) → List Checked → Type 0
+SaidOf set ds cs =
+    (bs : List OneBody) → AreTried (codes_view set.loaded.now.tables.items) set.loaded.now.methods.items bs ds
+    → cs ≡ checks_from (codes_view set.loaded.now.tables.items) set.loaded.now.methods.items bs 0 (blocks_at set)
+
+trials_shown : (options : Options) (set : Tables) (found : Results (Result Bool CodeFault)) (cs : List Checked) (kept : AreTrials options.unknown_zero set.loaded.now found.items.items) → SaidOf set found.items.items cs
+    → cs ≡ checks_from (codes_view set.loaded.now.tables.items) set.loaded.now.methods.items (map body_view kept.bodies) 0 (blocks_at set)
+trials_shown options set found cs kept said =
+    said (map body_view kept.bodies) (trials_are (codes_view set.loaded.now.tables.items) set.loaded.now.methods.items kept.bodies found.items.items kept.kept)
+
+pub trials_done : (options : Options) (set : Tables) (found : Results (Result Bool CodeFault)) (cs : List Checked) (before after : Option (List ℕ)) (status : ℕ) → IsSet options set
+    → AreTrials options.unknown_zero set.loaded.now found.items.items → SaidOf set found.items.items cs → Appends before after (check_lines (blocks_at set) cs) → status ≡ cond (has_fault found.items.items) 3 0
+    → Ends set.dumps.now options true before after (Ok status)
+trials_done options set found cs before after status is kept said gained s =
+    let Gives : ℕ → Trees → Bool → Type 0 = λ n. IsSame (body_in (codes_view set.loaded.now.tables.items) (slice_get set.loaded.now.methods.items n)) in
+    let l = kept_long Gives kept.bodies found.items.items kept.kept in (
+      listing_of set found kept.bodies l,
+      only_so options set found kept.bodies l is kept.are,
+      subst (λ (c : List Checked). Appends before after (check_lines (blocks_at set) c)) (trials_shown options set found cs kept said) gained,
+      s ∙ ap (λ (b : Bool). cond b 3 0) (faults_are Gives kept.bodies found.items.items kept.kept),
+    )
+
+pub trials_cut : (options : Options) (set : Tables) (found : Results (Result Bool CodeFault)) (cs : List Checked) (before after : Option (List ℕ)) (wrote : ℕ) → IsSet options set
+    → AreTrials options.unknown_zero set.loaded.now found.items.items → SaidOf set found.items.items cs → Cut before after (check_lines (blocks_at set) cs) wrote → IsCut set.dumps.now options true before after
+trials_cut options set found cs before after wrote is kept said cut =
+    let l = kept_long (λ n. IsSame (body_in (codes_view set.loaded.now.tables.items) (slice_get set.loaded.now.methods.items n))) kept.bodies found.items.items kept.kept in
+    cut_so set.dumps.now options true (listing_of set found kept.bodies l) before after wrote (only_so options set found kept.bodies l is kept.are)
+    (subst (λ (c : List Checked). Cut before after (check_lines (blocks_at set) c) wrote) (trials_shown options set found cs kept said) cut)
+
+-- no table differs
+pub trials_same : (options : Options) (set : Tables) (found : Results (Result Bool CodeFault)) (cs : List Checked) → IsSet options set
+    → AreTrials options.unknown_zero set.loaded.now found.items.items → SaidOf set found.items.items cs → all_same cs ≡ true
+trials_same options set found cs is kept said =
+    let l = kept_long (λ n. IsSame (body_in (codes_view set.loaded.now.tables.items) (slice_get set.loaded.now.methods.items n))) kept.bodies found.items.items kept.kept in
+    let only = only_so options set found kept.bodies l is kept.are in
+    ap all_same (trials_shown options set found cs kept said) ∙ shown_same (listing_of set found kept.bodies l) set.dumps.now options only.sound.0 only.sound.1 only.sound.2

@@ -8,13 +8,15 @@ use Rattle.aml_code.specs.View.{nodes_view}
 use Rattle.aml_space.specs.Entries.{Entry}
 use Rattle.aml_space.specs.Known.{Known, StandsFor}
 use Rattle.aml_load.specs.Bodies.{IsBody, IsUnread, body_at, OfMethod}
+use Rattle.aml_load.specs.declared.loading.Loaded.{Loaded}
 use Rattle.aml_load.specs.declared.methods.Method.{Method}
 use Rattle.aml_load.specs.Views.{AreShort}
 use Rattle.aml_pool.specs.Counting.{IsOnce}
 use Rattle.aml_pool.specs.Shares.{all_of}
-use Rattle.aml_text.specs.declared.blocks.Body.{Body}
-use Rattle.aml_text.specs.declared.blocks.Body.TheVariants as bodies
+use Rattle.aml_text.specs.declared.bodies.Body.{Body}
+use Rattle.aml_text.specs.declared.bodies.Body.TheVariants as bodies
 use Rattle.aml_text.specs.Lines.{OneBody, read, raw}
+use Rattle.acpidis.specs.declared.bodies.Bodies.{Bodies}
 
 -- what a listing has of a method: the terms that its body reads as, or its bytes, where the body reads as no terms
 abbrev pub IsEntry : Bool → List Entry → List (List ℕ) → Method → OneBody → Type 0
@@ -63,6 +65,13 @@ pub record AreDrawn (workers count : ℕ) (drawn : List (Vec ℕ Global)) : Type
   pub once : IsOnce (all_of drawn) count
 
 -- ---- the work of one number
+
+-- the bodies of this set are to be read so
+pub record IsReading (unknown_zero : Bool) (x : Loaded) (w : Bodies) : Type 0 where
+  pub tables : w.tables.now ≡ x.tables.items
+  pub methods : w.methods.now ≡ x.methods.items
+  pub space : w.space.now ≡ x.space
+  pub zero_is : w.unknown_zero ≡ unknown_zero
 
 -- a body in memory: it reads as its terms and as no others, or it reads as none, and its fault is the first that is met
 abbrev pub Became : Bool → List Entry → List (List ℕ) → Method → Body → Type 0

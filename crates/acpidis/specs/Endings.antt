@@ -1,14 +1,15 @@
--- A stepping stone of the proofs: how the printing of a listing ends, and how a whole run does before its status is made.
-use Rattle.std.specs.Prelude.{◌≡◌, ◌⊎◌, ℕ, Bool, true, false, List, Option, Result, Ok, Err}
+-- A stepping stone of the proofs: how a whole run ends before its status is made.
+use Rattle.std.specs.Prelude.{◌≡◌, ◌⊎◌, ℕ, Bool, true, false, cond, List, map, Option, Result, Ok, Err}
 use Rattle.std.specs.Io.KnownBytes.{Appends}
-use Rattle.text_writer.specs.Prints.{Cut}
 use Rattle.aml_text.specs.declared.listing.Listing.{Listing}
 use Rattle.aml_text.specs.Listing.{blocks_in, shown_text}
+use Rattle.aml_text.specs.Views.{body_view}
 use Rattle.acpi_tables.specs.declared.dump.Dump.{Dump}
 use Rattle.acpidis.specs.declared.faults.RunFault.{RunFault}
 use Rattle.acpidis.specs.declared.faults.RunFault.TheVariants as faults
 use Rattle.acpidis.specs.declared.options.Options.{Options}
-use Rattle.acpidis.specs.Checks.{checks_of, all_same, check_lines}
+use Rattle.acpidis.specs.Bodies.{has_raw}
+use Rattle.acpidis.specs.Checks.{checks_of, check_lines}
 use Rattle.acpidis.specs.Meaning.{Meaning, Means, Shows}
 use Rattle.acpidis.specs.Refusals.{IsWant}
 use Rattle.acpidis.specs.Runs.{IsCut}
@@ -23,18 +24,12 @@ abbrev pub shown_of : Bool → Listing → List ℕ
 shown_of false x = shown_text x
 shown_of true x = check_lines (blocks_in x) (checks_of x)
 
--- How the printing of a listing in memory ends: all went out, or the first bytes did, or nothing, for want of memory; or all went
--- out, and a table differs.
-abbrev pub Printed : Bool → Listing → Option (List ℕ) → Option (List ℕ) → Result (Unit {0}) RunFault → Type 0
-Printed check x before after (Ok u) = Appends before after (shown_of check x)
-Printed check x before after (Err (faults.Write fault)) = Cut before after (shown_of check x) fault.wrote
-Printed check x before after (Err (faults.Refused fault)) = (after ≡ before) × IsWant fault
-Printed check x before after (Err faults.Differs) = all_same (checks_of x) ≡ false
-
--- How a run ends before its status is made: the text of the one listing went out, or its first bytes did, or nothing, and then
--- the set means no listing, unless memory or a thread was refused. No table of a listing that the dumps mean differs.
-abbrev pub Ends : List Dump → Options → Bool → Option (List ℕ) → Option (List ℕ) → Result Listing RunFault → Type 0
-Ends dumps options check before after (Ok x) = IsOnly dumps options x × Appends before after (shown_of check x)
+-- How a run ends before its status is made: the text of the one listing went out, and the status is that of its bodies; or the
+-- first bytes of the text did; or nothing, and then the set means no listing, unless memory or a thread was refused. No table of
+-- a listing that the dumps mean differs.
+abbrev pub Ends : List Dump → Options → Bool → Option (List ℕ) → Option (List ℕ) → Result ℕ RunFault → Type 0
+Ends dumps options check before after (Ok status) =
+    (x : Listing) × IsOnly dumps options x × Appends before after (shown_of check x) × (status ≡ cond (has_raw (map body_view x.bodies.items)) 3 0)
 Ends dumps options check before after (Err (faults.Write fault)) = IsCut dumps options check before after
 Ends dumps options check before after (Err (faults.Refused fault)) =
     (after ≡ before) × (IsWant fault ⊎ ((k : Meaning) → ¬ Means dumps options k))

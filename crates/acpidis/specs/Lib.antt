@@ -7,3 +7,4 @@ pub mod Runs
 pub mod Endings
 pub mod Checks
 pub mod Tallies
+pub mod Kept

@@ -1,16 +1,16 @@
 //! The bodies of all methods, read by workers.
-ghost use Rattle.std.specs.Prelude.{◌≡◌, ◌≤◌, List, IfOk, IfErr, length, map};
+ghost use Rattle.std.specs.Prelude.{◌≡◌, ◌≤◌, List, IfOk, IfErr, length, map, slice_get};
 ghost use Rattle.aml_space.specs.Entries.{Entry};
 ghost use Rattle.aml_space.specs.Known.{StandsFor};
-ghost use Rattle.aml_load.specs.Views.{codes_view, AreShort};
+ghost use Rattle.aml_load.specs.Views.{codes_view, AreShort, body_in};
 ghost use Rattle.aml_text.specs.Lines.{OneBody};
 ghost use Rattle.aml_text.specs.Views.{body_view};
 ghost use Rattle.acpidis.specs.Refusals.{IsWant};
-ghost use Rattle.acpidis.specs.Bodies.{AreEntries, AreTold, CanRead, BecameOf, AreDrawn};
+ghost use Rattle.acpidis.specs.Bodies.{AreEntries, AreTold, CanRead, BecameOf, AreDrawn, IsReading};
 
 use crate::refusal::Refusal;
 use aml_code::CodeFault;
-use aml_load::{Loaded, Method, read_body};
+use aml_load::{Loaded, Method, read_body, span_of};
 use aml_pool::{Gate, NoMemory, PoolFault, Results, Work, harvest};
 use aml_space::Space;
 use aml_text::Body;
@@ -20,8 +20,8 @@ use std::thread::Threads;
 
 /// The bodies of a loaded set, each to be read by its method's number.
 #[derive(Clone, Copy)]
-struct Bodies<'a, 'b> {
-    alloc: Global,
+pub(crate) struct Bodies<'a, 'b> {
+    pub(crate) alloc: Global,
     /// The AML of each table, in load order.
     tables: &'a [&'b [u8]],
     space: &'a Space,
@@ -29,14 +29,26 @@ struct Bodies<'a, 'b> {
     unknown_zero: bool,
 }
 
-impl<'a, 'b> Work for Bodies<'a, 'b> {
-    type Done = Body;
+impl<'a, 'b> Bodies<'a, 'b> {
+    /// Those of a loaded set. With `unknown_zero` a name that leads nowhere counts as one without arguments.
+    pub(crate) fn new(alloc: Global, loaded: &'a Loaded<'b>, unknown_zero: bool) -> Bodies<'a, 'b>
+        ensures { IsReading unknown_zero loaded.now result }
+    {
+        Bodies {
+            alloc,
+            tables: loaded.tables.as_slice(),
+            space: &loaded.space,
+            methods: loaded.methods.as_slice(),
+            unknown_zero,
+        }
+    }
 
-    ghost can_work = { λ w n. CanRead (codes_view w.tables.now) w.methods.now n };
-
-    ghost gives = { λ w n d. BecameOf w.unknown_zero w.space.now (codes_view w.tables.now) w.methods.now n d };
-
-    fn work(&self, number: u32) -> Result<Body, NoMemory> {
+    /// What the body of a method becomes: its terms, or why it can't be read.
+    pub(crate) fn read(&self, number: u32) -> Result<Body, NoMemory>
+        requires { CanRead (codes_view self.now.tables.now) self.now.methods.now number }
+        ensures { IfOk result (λ body.
+            BecameOf self.now.unknown_zero self.now.space.now (codes_view self.now.tables.now) self.now.methods.now number body) }
+    {
         let method = &self.methods[number as usize];
         match read_body(
             self.alloc,
@@ -49,6 +61,37 @@ impl<'a, 'b> Work for Bodies<'a, 'b> {
             Err(CodeFault::NoMemory) => Err(NoMemory),
             Err(fault) => Ok(Body::Raw(fault)),
         }
+    }
+
+    /// The bytes of the body of a method.
+    pub(crate) fn bytes(&self, number: u32) -> &'b [u8]
+        requires { CanRead (codes_view self.now.tables.now) self.now.methods.now number }
+        ensures { result.now ≡ body_in (codes_view self.now.tables.now) (slice_get self.now.methods.now number) }
+    {
+        span_of(self.tables, &self.methods[number as usize])
+    }
+}
+
+impl<'a, 'b> Work for Bodies<'a, 'b> {
+    type Done = Body;
+
+    ghost can_work = { λ w n. CanRead (codes_view w.tables.now) w.methods.now n };
+
+    ghost gives = { λ w n d. BecameOf w.unknown_zero w.space.now (codes_view w.tables.now) w.methods.now n d };
+
+    fn work(&self, number: u32) -> Result<Body, NoMemory> {
+        self.read(number)
+    }
+}
+
+/// Why a harvest is refused.
+pub(crate) fn refused_harvest(fault: PoolFault) -> Refusal
+    ensures want { IsWant result }
+    ensures memory { fault ≡ PoolFault.NoMemory → result ≡ Refusal.NoMemory }
+{
+    match fault {
+        PoolFault::NoThread => Refusal::NoThread,
+        PoolFault::NoMemory => Refusal::NoMemory,
     }
 }
 
@@ -84,16 +127,9 @@ pub(crate) fn read_bodies<R: Threads + Wait + Sync, G: Gate + Sync>(
     ensures want { IfErr result IsWant }
     ensures one_needs_no_thread { workers ≡ 1 → IfErr result (λ e. e ≡ Refusal.NoMemory) }
 {
-    let work = Bodies {
-        alloc,
-        tables: loaded.tables.as_slice(),
-        space: &loaded.space,
-        methods: loaded.methods.as_slice(),
-        unknown_zero,
-    };
+    let work = Bodies::new(alloc, loaded, unknown_zero);
     match harvest(rt, alloc, workers, loaded.methods.len() as u32, &work, gate) {
         Ok(found) => Ok(found),
-        Err(PoolFault::NoThread) => Err(Refusal::NoThread),
-        Err(PoolFault::NoMemory) => Err(Refusal::NoMemory),
+        Err(fault) => Err(refused_harvest(fault)),
     }
 }

@@ -1,12 +1,12 @@
 //! The lines that `--check` prints.
 ghost use Rattle.std.specs.Prelude.{◌≡◌};
 ghost use Rattle.text_writer.specs.Prints.{Prints, Writes};
-ghost use Rattle.aml_text.specs.Listing.{blocks_in};
+ghost use Rattle.aml_text.specs.Listing.{blocks_at, blocks_in};
 ghost use Rattle.acpidis.specs.Checks.{same_word, check_head, check_line, check_lines, all_same};
 
 use crate::checking::Checked;
 use acpi_text::{put_decimal, put_quoted};
-use aml_text::{Listing, block_at};
+use aml_text::{Listing, Tables, block_at};
 use std::io::Write;
 use text_writer::{Out, WriteFault};
 
@@ -41,16 +41,29 @@ fn print_check<W: Write>(out: &mut Out<'_, W>, name: &[u8], checked: Checked)
     print_same(out, checked.same);
 }
 
-/// The lines of the tables of a listing.
-fn print_checks<W: Write>(out: &mut Out<'_, W>, listing: &Listing<'_>, checks: &[Checked])
-    ensures { Prints W.contents out.old out.new (check_lines (blocks_in listing.now) checks.now) }
+/// The lines of the tables of a set.
+fn print_checks<W: Write>(out: &mut Out<'_, W>, tables: Tables<'_, '_>, checks: &[Checked])
+    ensures { Prints W.contents out.old out.new (check_lines (blocks_at tables.entry) checks.now) }
 {
     for table in 0..checks.len() {
-        let Some(block) = block_at(listing, table) else {
+        let Some(block) = block_at(tables, table) else {
             return;
         };
         print_check(out, block.name, checks[table]);
     }
+}
+
+/// Writes a line for each table of a set.
+pub(crate) fn write_tables<W: Write>(
+    out: &mut W,
+    tables: Tables<'_, '_>,
+    checks: &[Checked],
+) -> Result<(), WriteFault>
+    ensures { Writes (W.contents out.old) (W.contents out.new) (check_lines (blocks_at tables.entry) checks.now) result }
+{
+    let mut sink = Out::new(out);
+    print_checks(&mut sink, tables, checks);
+    sink.finish()
 }
 
 /// Writes a line for each table of a listing: what `check` says of it, and whether it is `Same` or `Differs`.
@@ -63,9 +76,7 @@ pub fn write_checks<W: Write>(
 ) -> Result<(), WriteFault>
     ensures { Writes (W.contents out.old) (W.contents out.new) (check_lines (blocks_in listing.now) checks.now) result }
 {
-    let mut sink = Out::new(out);
-    print_checks(&mut sink, listing, checks);
-    sink.finish()
+    write_tables(out, listing.tables(), checks)
 }
 
 /// Whether all tables are the same.

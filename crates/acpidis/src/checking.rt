@@ -1,15 +1,16 @@
 //! Whether what was read encodes to the same bytes again.
-ghost use Rattle.std.specs.Prelude.{◌≡◌, ◌≤◌, ◌<◌, ◌+◌, ◌&&◌, Bool, All, IfOk, OnOk, length, map};
-ghost use Rattle.aml_code.specs.View.{nodes_view};
-ghost use Rattle.aml_code.specs.Encoding.{encodings};
-ghost use Rattle.aml_load.specs.Views.{codes_view, AreShort, body_of};
-ghost use Rattle.aml_text.specs.Listing.{blocks_in};
+ghost use Rattle.std.specs.Prelude.{◌≡◌, ℕ, ◌≤◌, ◌<◌, List, IfOk, length, map, slice_get};
+ghost use Rattle.aml_load.specs.Views.{codes_view, AreShort};
+ghost use Rattle.aml_text.specs.Lines.{OneBody};
+ghost use Rattle.aml_text.specs.Listing.{blocks_at};
 ghost use Rattle.aml_text.specs.Views.{body_view, block_view};
-ghost use Rattle.acpidis.specs.Checks.{same_bytes, body_same, is_raw, checks_of};
-ghost use Rattle.acpidis.specs.Tallies.{Under, added, added_at, uncounted, tallied};
+ghost use Rattle.acpidis.specs.Checks.{checks_from, checks_of};
+ghost use Rattle.acpidis.specs.Tallies.{Under, added, added_at, uncounted, tallied, mark_of, AreTried};
 
-use aml_code::{NoMemory, Node, encode_terms};
-use aml_text::{Block, Body, Listing, block_at};
+use crate::trials::{is_encoding, try_body};
+use aml_code::{CodeFault, NoMemory};
+use aml_load::Method;
+use aml_text::{Block, Listing, Tables, block_at};
 use std::alloc::Global;
 
 /// What `check` says of a loaded table.
@@ -40,33 +41,6 @@ impl Checked {
     }
 }
 
-/// Whether terms encode to these bytes.
-fn is_encoding(alloc: Global, bytes: &[u8], nodes: &[Node]) -> Result<bool, NoMemory>
-    ensures { IfOk result (λ same. same ≡ same_bytes (encodings bytes.now (nodes_view nodes.now)) bytes.now) }
-{
-    let encoded = encode_terms(alloc, bytes, nodes)?;
-    Ok(encoded.as_slice() == bytes)
-}
-
-/// Whether a body's terms encode to its bytes. A raw body is its bytes.
-fn is_same_body(alloc: Global, bytes: &[u8], body: &Body) -> Result<bool, NoMemory>
-    ensures { IfOk result (λ same. same ≡ body_same bytes.now (body_view body.now)) }
-{
-    match body {
-        Body::Tree(nodes) => is_encoding(alloc, bytes, nodes.as_slice()),
-        Body::Raw(_) => Ok(true),
-    }
-}
-
-fn is_raw_body(body: &Body) -> bool
-    ensures { result ≡ is_raw (body_view body.now) }
-{
-    match body {
-        Body::Tree(_) => false,
-        Body::Raw(_) => true,
-    }
-}
-
 /// What is said of a table before its methods are counted.
 fn check_block(alloc: Global, block: &Block<'_>) -> Result<Checked, NoMemory>
     requires { length block.now.code.now ≤ 16777216 }
@@ -82,13 +56,13 @@ fn check_block(alloc: Global, block: &Block<'_>) -> Result<Checked, NoMemory>
 }
 
 /// What is said of the tables before their methods are counted.
-fn check_blocks(alloc: Global, listing: &Listing<'_>) -> Result<Vec<Checked>, NoMemory>
-    requires short { AreShort (codes_view listing.now.loaded.tables.items) }
-    ensures { IfOk result (λ all. all.items ≡ map uncounted (blocks_in listing.now)) }
+fn check_blocks(alloc: Global, tables: Tables<'_, '_>) -> Result<Vec<Checked>, NoMemory>
+    requires short { AreShort (codes_view tables.loaded.now.tables.items) }
+    ensures { IfOk result (λ all. all.items ≡ map uncounted (blocks_at tables.entry)) }
 {
     let mut all = Vec::new(alloc);
-    for table in 0..listing.loaded.tables.len() {
-        let Some(block) = block_at(listing, table) else {
+    for table in 0..tables.loaded.tables.len() {
+        let Some(block) = block_at(tables, table) else {
             return Ok(all);
         };
         all.push(check_block(alloc, &block)?)?;
@@ -106,25 +80,65 @@ fn count_method(all: &mut [Checked], table: usize, raw: bool, same: bool)
     }
 }
 
-/// Counts the methods of each table.
-fn count_methods(alloc: Global, listing: &Listing<'_>, all: &mut [Checked]) -> Result<(), NoMemory>
-    requires few { length listing.now.loaded.methods.items ≤ 1048576 }
-    requires new { Under 1 all.old }
-    ensures { OnOk result (all.new ≡ tallied (codes_view listing.now.loaded.tables.items)
-        listing.now.loaded.methods.items (map body_view listing.now.bodies.items) 0 all.old) }
+/// Whether a body is raw, and whether its terms are the same, by what was tried.
+fn mark_at(tried: &[Result<bool, CodeFault>], number: usize) -> (bool, bool)
+    ensures { result ≡ mark_of (slice_get tried.now number) }
 {
-    for number in 0..listing.loaded.methods.len() {
-        let table = listing.loaded.methods[number].table;
-        match listing.bodies.get(number) {
-            None => count_method(all, table, false, true),
-            Some(body) => {
-                let bytes = listing.loaded.body(number as u32);
-                let same = is_same_body(alloc, bytes, body)?;
-                count_method(all, table, is_raw_body(body), same);
-            }
-        }
+    match tried.get(number) {
+        None => (false, true),
+        Some(Ok(same)) => (false, *same),
+        Some(Err(_)) => (true, true),
     }
-    Ok(())
+}
+
+/// Counts the methods of each table, by what was tried of their bodies.
+fn count_methods(methods: &[Method], tried: &[Result<bool, CodeFault>], all: &mut [Checked])
+    requires few { length methods.now ≤ 1048576 }
+    requires new { Under 1 all.old }
+    ensures { (codes : List (List ℕ)) (bs : List OneBody) → AreTried codes methods.now bs tried.now →
+        all.new ≡ tallied codes methods.now bs 0 all.old }
+{
+    for number in 0..methods.len() {
+        let (raw, same) = mark_at(tried, number);
+        count_method(all, methods[number].table, raw, same);
+    }
+}
+
+/// What is said of the tables, by what was tried of the bodies of their methods.
+pub(crate) fn check_tables(
+    alloc: Global,
+    tables: Tables<'_, '_>,
+    tried: &[Result<bool, CodeFault>],
+) -> Result<Vec<Checked>, NoMemory>
+    requires short { AreShort (codes_view tables.loaded.now.tables.items) }
+    requires few { length tables.loaded.now.methods.items ≤ 1048576 }
+    ensures { IfOk result (λ all. (bs : List OneBody) →
+        AreTried (codes_view tables.entry.loaded.now.tables.items) tables.entry.loaded.now.methods.items bs tried.now →
+        all.items ≡ checks_from (codes_view tables.entry.loaded.now.tables.items) tables.entry.loaded.now.methods.items bs 0
+        (blocks_at tables.entry)) }
+{
+    let mut all = check_blocks(alloc, tables)?;
+    count_methods(tables.loaded.methods.as_slice(), tried, all.as_mut_slice());
+    Ok(all)
+}
+
+/// What is tried of the bodies of a listing.
+fn try_listed(
+    alloc: Global,
+    listing: &Listing<'_>,
+) -> Result<Vec<Result<bool, CodeFault>>, NoMemory>
+    requires few { length listing.now.loaded.methods.items ≤ 1048576 }
+    ensures { IfOk result (λ tried. AreTried (codes_view listing.now.loaded.tables.items)
+        listing.now.loaded.methods.items (map body_view listing.now.bodies.items) tried.items) }
+{
+    let mut tried = Vec::new(alloc);
+    for number in 0..listing.loaded.methods.len() {
+        let Some(body) = listing.bodies.get(number) else {
+            return Ok(tried);
+        };
+        tried.push(try_body(alloc, listing.loaded.body(number as u32), body)?)?;
+    }
+    Ok(tried)
 }
 
 /// Whether each loaded table is the same when it is made anew from what was read: its terms, and those of its methods'
@@ -135,7 +149,6 @@ pub fn check(alloc: Global, listing: &Listing<'_>) -> Result<Vec<Checked>, NoMem
     requires few { length listing.now.loaded.methods.items ≤ 1048576 }
     ensures { IfOk result (λ all. all.items ≡ checks_of listing.now) }
 {
-    let mut all = check_blocks(alloc, listing)?;
-    count_methods(alloc, listing, all.as_mut_slice())?;
-    Ok(all)
+    let tried = try_listed(alloc, listing)?;
+    check_tables(alloc, listing.tables(), tried.as_slice())
 }

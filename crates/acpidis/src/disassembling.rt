@@ -107,7 +107,7 @@ fn load_in<'a>(
 }
 
 /// The order of the tables of a set, and what they load to.
-fn load_set<'a>(
+pub(crate) fn load_set<'a>(
     alloc: Global,
     dumps: &'a [Dump],
     options: &Options,

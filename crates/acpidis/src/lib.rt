@@ -11,6 +11,8 @@ mod options;
 mod refusal;
 mod running;
 mod tables;
+mod texts;
+mod trials;
 
 pub use acpi_folder::{MapFault, parse_map};
 pub use check_lines::write_checks;

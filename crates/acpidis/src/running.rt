@@ -1,28 +1,28 @@
 //! A whole run over the dumps of a folder.
-ghost use Rattle.std.specs.Prelude.{◌≡◌, ◌⊎◌, ◌≤◌, ℕ, List, true, cond, map, length};
+ghost use Rattle.std.specs.Prelude.{◌≡◌, ◌⊎◌, ◌≤◌, ℕ, List, true, false, cond};
 ghost use Rattle.std.specs.Io.KnownBytes.{Appends};
-ghost use Rattle.acpi_tables.specs.Order.{AreTaken};
-ghost use Rattle.aml_load.specs.Views.{codes_view, AreShort};
-ghost use Rattle.aml_text.specs.Views.{body_view};
-ghost use Rattle.acpidis.specs.Bodies.{has_raw};
 ghost use Rattle.acpidis.specs.Runs.{Lists, IsCut};
-ghost use Rattle.acpidis.specs.Endings.{Printed, Ends, status_of};
+ghost use Rattle.acpidis.specs.Endings.{Ends, status_of};
+ghost use Rattle.acpidis.specs.Kept.{has_fault};
+ghost use Rattle.acpidis.specs.Sets.{IsSet};
 
-use crate::check_lines::{are_same, write_checks};
-use crate::checking::check;
-use crate::disassembling::disassemble;
+use crate::check_lines::{are_same, write_tables};
+use crate::checking::check_tables;
+use crate::disassembling::load_set;
 use crate::faults::RunFault;
 use crate::options::Options;
 use crate::refusal::Refusal;
+use crate::texts::print_bodies;
+use crate::trials::try_bodies;
 use acpi_folder::Quoted;
 use acpi_tables::Dump;
-use aml_load::LoadFault;
+use aml_code::CodeFault;
+use aml_load::{LoadFault, Method};
 use aml_pool::Gate;
-use aml_text::{Body, Listing, write_listing};
+use aml_text::{Tables, write_printed};
 use std::alloc::Global;
 use std::fmt::Display;
 use std::io::Write;
-use std::mem;
 use std::sync::Wait;
 use std::thread::Threads;
 
@@ -44,7 +44,7 @@ const UNWRITTEN: u8 = 4;
 ///
 /// Returns the exit status: 0 where all is written, 1 where the set is refused, and nothing is written, 3 where all is
 /// written and the body of a method can't be read, so that it stands there as its bytes, and 4 where the writer took no
-/// more. What was read isn't freed where all was written: this is the last call of a program.
+/// more. The terms of a body are let go once its text is made.
 pub fn run<R: Threads + Wait + Sync, G: Gate + Sync, O: Write, E: Write>(
     rt: &R,
     alloc: Global,
@@ -73,86 +73,96 @@ pub fn run<R: Threads + Wait + Sync, G: Gate + Sync, O: Write, E: Write>(
     ensures cut { result ≡ 4 →
         IsCut dumps.now options check (O.contents out.old) (O.contents out.new) }
 {
-    match list(rt, alloc, dumps, options, workers, check, gate, out) {
-        Ok(listing) => {
-            print_raw_bodies(&listing, err);
-            let status = status_of_bodies(listing.bodies.as_slice());
-            // A program ends here. To give millions of terms back one by one would take a third of its time.
-            mem::forget(listing);
-            status
-        }
+    match run_set(rt, alloc, dumps, &options, workers, check, gate, out, err) {
+        Ok(status) => status,
         Err(fault) => print_fault(dumps, fault, err),
     }
 }
 
-/// Writes what is printed of the listing of these dumps, and answers the listing.
-fn list<'a, R: Threads + Wait + Sync, G: Gate + Sync, O: Write>(
+/// Loads the tables of these dumps, and writes what is printed of them. Answers the status.
+fn run_set<R: Threads + Wait + Sync, G: Gate + Sync, O: Write, E: Write>(
     rt: &R,
     alloc: Global,
-    dumps: &'a [Dump],
-    options: Options,
+    dumps: &[Dump],
+    options: &Options,
     workers: u32,
     check: bool,
     gate: &G,
     out: &mut O,
-) -> Result<Listing<'a>, RunFault>
+    err: &mut E,
+) -> Result<u8, RunFault>
     requires workers { (1 ≤ workers) × (workers ≤ 64) }
-    ensures { Ends dumps.now options check
-        (O.contents out.old) (O.contents out.new) result }
+    ensures { Ends dumps.now options.now check (O.contents out.old) (O.contents out.new) result }
 {
-    let listing = match disassemble(rt, alloc, dumps, options, workers, gate) {
-        Ok(listing) => listing,
-        Err(refusal) => return Err(RunFault::Refused(refusal)),
+    let (order, loaded) = load_set(alloc, dumps, options)?;
+    let set = Tables {
+        dumps,
+        order: &order,
+        loaded: &loaded,
     };
-    match print(alloc, &listing, check, out) {
-        Ok(()) => Ok(listing),
-        Err(fault) => Err(fault),
-    }
-}
-
-/// Writes a listing, or with `check` a line for each table.
-fn print<O: Write>(
-    alloc: Global,
-    listing: &Listing<'_>,
-    check: bool,
-    out: &mut O,
-) -> Result<(), RunFault>
-    requires taken { AreTaken listing.now.dumps.now true }
-    requires limits { AreShort (codes_view listing.now.loaded.tables.items)
-        × (length listing.now.loaded.methods.items ≤ 1048576) }
-    ensures { Printed check listing.now (O.contents out.old) (O.contents out.new) result }
-{
     if check {
-        return print_checks(alloc, listing, out);
-    }
-    match write_listing(out, listing) {
-        Ok(()) => Ok(()),
-        Err(fault) => Err(RunFault::Write(fault)),
+        run_checks(rt, alloc, set, options, workers, gate, out, err)
+    } else {
+        run_listing(rt, alloc, set, options, workers, gate, out, err)
     }
 }
 
-/// Writes a line for each table of a listing.
-fn print_checks<O: Write>(alloc: Global, listing: &Listing<'_>, out: &mut O) -> Result<(), RunFault>
-    requires limits { AreShort (codes_view listing.now.loaded.tables.items)
-        × (length listing.now.loaded.methods.items ≤ 1048576) }
-    ensures { Printed true listing.now (O.contents out.old) (O.contents out.new) result }
+/// Writes the listing of a loaded set, and a line on `err` for each body that can't be read. Each body is read and
+/// printed by a worker, which lets its terms go. Answers the status.
+fn run_listing<R: Threads + Wait + Sync, G: Gate + Sync, O: Write, E: Write>(
+    rt: &R,
+    alloc: Global,
+    set: Tables<'_, '_>,
+    options: &Options,
+    workers: u32,
+    gate: &G,
+    out: &mut O,
+    err: &mut E,
+) -> Result<u8, RunFault>
+    requires workers { (1 ≤ workers) × (workers ≤ 64) }
+    requires set { IsSet options.now set }
+    ensures { Ends set.entry.dumps.now options.now false (O.contents out.old) (O.contents out.new) result }
 {
-    let Ok(checks) = check(alloc, listing) else {
-        return Err(RunFault::Refused(Refusal::NoMemory));
-    };
-    match write_checks(out, listing, checks.as_slice()) {
-        Err(fault) => Err(RunFault::Write(fault)),
-        Ok(()) if are_same(checks.as_slice()) => Ok(()),
-        Ok(()) => Err(RunFault::Differs),
-    }
+    let found = print_bodies(rt, alloc, set.loaded, options.unknown_zero, workers, gate)?;
+    let texts = found.items.as_slice();
+    write_printed(out, set, texts)?;
+    print_raw_bodies(set.loaded.methods.as_slice(), texts, err);
+    Ok(status_of_bodies(texts))
 }
 
-/// The status of a listing with these bodies.
-fn status_of_bodies(bodies: &[Body]) -> u8
-    ensures { result ≡ cond (has_raw (map body_view bodies.now)) 3 0 }
+/// Writes a line for each table of a loaded set, and a line on `err` for each body that can't be read. Each body is read
+/// and tried by a worker, which lets its terms go. Answers the status.
+fn run_checks<R: Threads + Wait + Sync, G: Gate + Sync, O: Write, E: Write>(
+    rt: &R,
+    alloc: Global,
+    set: Tables<'_, '_>,
+    options: &Options,
+    workers: u32,
+    gate: &G,
+    out: &mut O,
+    err: &mut E,
+) -> Result<u8, RunFault>
+    requires workers { (1 ≤ workers) × (workers ≤ 64) }
+    requires set { IsSet options.now set }
+    ensures { Ends set.entry.dumps.now options.now true (O.contents out.old) (O.contents out.new) result }
+{
+    let found = try_bodies(rt, alloc, set.loaded, options.unknown_zero, workers, gate)?;
+    let tried = found.items.as_slice();
+    let checks = check_tables(alloc, set, tried)?;
+    write_tables(out, set, checks.as_slice())?;
+    if !are_same(checks.as_slice()) {
+        return Err(RunFault::Differs);
+    }
+    print_raw_bodies(set.loaded.methods.as_slice(), tried, err);
+    Ok(status_of_bodies(tried))
+}
+
+/// The status of a run with these bodies.
+fn status_of_bodies<T>(bodies: &[Result<T, CodeFault>]) -> u8
+    ensures { result ≡ cond (has_fault bodies.now) 3 0 }
 {
     for body in bodies {
-        if let Body::Raw(_) = body {
+        if let Err(_) = body {
             return RAW;
         }
     }
@@ -218,9 +228,9 @@ fn print_table_fault<F: Display, E: Write>(name: Option<&str>, fault: &F, err: &
 }
 
 /// Prints each body that can't be read, by its method's path, and why.
-fn print_raw_bodies<E: Write>(listing: &Listing<'_>, err: &mut E) {
-    for (method, body) in listing.loaded.methods.iter().zip(listing.bodies.iter()) {
-        if let Body::Raw(fault) = body {
+fn print_raw_bodies<T, E: Write>(methods: &[Method], bodies: &[Result<T, CodeFault>], err: &mut E) {
+    for (method, body) in methods.iter().zip(bodies.iter()) {
+        if let Err(fault) = body {
             let _ = writeln!(err, "acpidis: body {}: {fault}", method.path);
         }
     }

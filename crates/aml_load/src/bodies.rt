@@ -12,8 +12,8 @@ use aml_parse::parse_body;
 use aml_space::{BodyScope, Space};
 use std::alloc::Global;
 
-/// The bytes of a method's body.
-fn span_of<'a>(tables: &[&'a [u8]], method: &Method) -> &'a [u8]
+/// The bytes of the body of a method, by the AML of each table in load order.
+pub fn span_of<'a>(tables: &[&'a [u8]], method: &Method) -> &'a [u8]
     ensures { result.now ≡ span_of (codes_view tables.now) method.now }
 {
     match tables.get(method.table) {

@@ -13,7 +13,7 @@ mod scopes;
 mod uses;
 mod walking;
 
-pub use bodies::read_body;
+pub use bodies::{read_body, span_of};
 pub use faults::LoadFault;
 pub use loading::{Loaded, load, rebuild};
 pub use methods::Method;

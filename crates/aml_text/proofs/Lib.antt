@@ -2,6 +2,8 @@ pub mod TextLaws
 pub mod NodeLaws
 pub mod LineLaws
 pub mod BlockLaws
+pub mod BodyLaws
+pub mod LevelLaws
 pub mod ListingLaws
 mod EndLaws
 pub mod Taking

@@ -12,7 +12,7 @@ use Rattle.aml_code.specs.Tree.{Trees}
 use Rattle.aml_space.specs.declared.kinds.Kind.{Kind}
 use Rattle.aml_load.specs.Views.{codes_view, trees_view}
 use Rattle.aml_text.specs.declared.listing.Listing.{Listing}
-use Rattle.aml_text.specs.Lines.{OneBlock, OneBody, blocks_text}
+use Rattle.aml_text.specs.Lines.{OneBlock, OneBody, BodyLines, blocks_text}
 use Rattle.aml_text.specs.Listing.{names_in, blocks_of, listing_text, indexes_in, shown_text}
 use Rattle.aml_text.specs.Views.{body_view}
 
@@ -81,7 +81,7 @@ none_left (x ∷ xs) zero none = absurd cc
 none_left (x ∷ xs) (suc i) none = none_left xs i none
 
 -- what was printed is all, where no block is left
-pub blocks_end : (blocks : List OneBlock) (i : ℕ) (bs : List OneBody) (done total : List ℕ) → slice_get blocks i ≡ None → done ++ blocks_text (drop i blocks) bs ≡ total → done ≡ total
+pub blocks_end : (blocks : List OneBlock) (i : ℕ) (bs : List BodyLines) (done total : List ℕ) → slice_get blocks i ≡ None → done ++ blocks_text (drop i blocks) bs ≡ total → done ≡ total
 blocks_end blocks i bs done total none so_far = sym (append-nil done) ∙ ap (λ left. done ++ blocks_text left bs) (sym (none_left blocks i none)) ∙ so_far
 
 -- ---- the whole text

@@ -4,3 +4,4 @@ pub mod Lines
 pub mod Views
 pub mod Rows
 pub mod Listing
+pub mod Levels

@@ -111,22 +111,30 @@ method_head None flags other = other
 unfoldable pub raw_text : List ℕ → List ℕ
 raw_text bs = word "Raw {" ++ separated_by (word ", ") hex2 bs ++ word "}"
 
--- the lines of a body with these bytes
-abbrev pub body_lines : ℕ → List ℕ → List OneBody → List ℕ
-body_lines level bs [] = []
-body_lines level bs (read ts ∷ others) = all_lines level ts
-body_lines level bs (raw ∷ others) = line level (raw_text bs)
+-- the lines of a body: by the level at which they stand, and by the body's bytes
+abbrev pub BodyLines : Type 0
+BodyLines = ℕ → List ℕ → List ℕ
+
+-- its terms, or its bytes where it can't be read
+abbrev pub body_lines : OneBody → BodyLines
+body_lines (read ts) level bs = all_lines level ts
+body_lines raw level bs = line level (raw_text bs)
+
+-- the lines of the first of some bodies
+abbrev pub first_lines : List BodyLines → BodyLines
+first_lines [] level bs = []
+first_lines (b ∷ others) level bs = b level bs
 
 -- ---- definition blocks
 
 -- the bodies that are left after those of a term, each method taking one in the order of the text
 abbrev mutual
-  pub left : Tree → List OneBody → List OneBody
+  pub left : Tree → List BodyLines → List BodyLines
   left nothing bs = bs
   left (named n ts) bs = bs
   left (op o w ps t) bs = left_rest t bs
 
-  pub left_rest : Tail → List OneBody → List OneBody
+  pub left_rest : Tail → List BodyLines → List BodyLines
   left_rest empty bs = bs
   left_rest (terms ts) bs = left_all ts bs
   left_rest (bytes xs) bs = bs
@@ -134,26 +142,26 @@ abbrev mutual
   left_rest (fields us) bs = bs
   left_rest (body start len) bs = drop 1 bs
 
-  pub left_all : Trees → List OneBody → List OneBody
+  pub left_all : Trees → List BodyLines → List BodyLines
   left_all no_trees bs = bs
   left_all (tree_more t ts) bs = left_all ts (left t bs)
 
 -- the lines of a term of a table: those of a term, but for a method's body
 abbrev mutual
-  pub table_lines : List ℕ → ℕ → Tree → List OneBody → List ℕ
+  pub table_lines : List ℕ → ℕ → Tree → List BodyLines → List ℕ
   table_lines code level nothing bs = line level []
   table_lines code level (named n ts) bs = line level (inline (named n ts))
   table_lines code level (op o w ps t) bs = table_op_lines code level o ps t bs
 
-  pub table_op_lines : List ℕ → ℕ → ℕ → Parts → Tail → List OneBody → List ℕ
+  pub table_op_lines : List ℕ → ℕ → ℕ → Parts → Tail → List BodyLines → List ℕ
   table_op_lines code level o ps empty bs = op_lines level (head_text (row_of o) (part_texts ps)) empty
   table_op_lines code level o ps (terms ts) bs = block level (head_text (row_of o) (part_texts ps)) (all_table_lines code (deeper level) ts bs)
   table_op_lines code level o ps (bytes xs) bs = op_lines level (head_text (row_of o) (part_texts ps)) (bytes xs)
   table_op_lines code level o ps (elements ts) bs = op_lines level (head_text (row_of o) (part_texts ps)) (elements ts)
   table_op_lines code level o ps (fields us) bs = op_lines level (head_text (row_of o) (part_texts ps)) (fields us)
-  table_op_lines code level o ps (body start len) bs = block level (method_head (last_label None ps) (last_byte None ps) (head_text (row_of o) (part_texts ps))) (body_lines (deeper level) (slice_of code start len) bs)
+  table_op_lines code level o ps (body start len) bs = block level (method_head (last_label None ps) (last_byte None ps) (head_text (row_of o) (part_texts ps))) (first_lines bs (deeper level) (slice_of code start len))
 
-  pub all_table_lines : List ℕ → ℕ → Trees → List OneBody → List ℕ
+  pub all_table_lines : List ℕ → ℕ → Trees → List BodyLines → List ℕ
   all_table_lines code level no_trees bs = []
   all_table_lines code level (tree_more t ts) bs = table_lines code level t bs ++ all_table_lines code level ts (left t bs)
 
@@ -161,7 +169,7 @@ unfoldable pub block_opening : List ℕ → List ℕ
 block_opening name = word "DefinitionBlock (" ++ quoted name ++ word ") {\n"
 
 -- a definition block, by its table's file name
-unfoldable pub block_text : List ℕ → List ℕ → Trees → List OneBody → List ℕ
+unfoldable pub block_text : List ℕ → List ℕ → Trees → List BodyLines → List ℕ
 block_text name code ts bs = block_opening name ++ all_table_lines code 1 ts bs ++ word "}\n"
 
 -- a table that is printed as a definition block
@@ -171,6 +179,6 @@ pub record OneBlock : Type 0 where
   pub terms : Trees
 
 -- definition blocks, one after the other: each takes the bodies of its own methods, and the next one those that are left
-abbrev pub blocks_text : List OneBlock → List OneBody → List ℕ
+abbrev pub blocks_text : List OneBlock → List BodyLines → List ℕ
 blocks_text [] bs = []
 blocks_text (b ∷ others) bs = block_text b.name b.code b.terms bs ++ blocks_text others (left_all b.terms bs)

@@ -1,5 +1,7 @@
 -- The texts of nodes in memory.
-use Rattle.std.specs.Prelude.{ℕ, List, None}
+use Rattle.std.specs.Prelude.{ℕ, List, map, None, Result, Ok, Err, Vec}
+use Rattle.std.specs.Global.{Global}
+use Rattle.aml_names.specs.declared.faults.CodeFault.{CodeFault}
 use Rattle.aml_code.specs.declared.tree.Field.{Field}
 use Rattle.aml_code.specs.declared.tree.Link.{Link}
 use Rattle.aml_code.specs.declared.tree.Node.{Node}
@@ -8,10 +10,12 @@ use Rattle.aml_code.specs.Declaring.{last_label, last_byte}
 use Rattle.aml_code.specs.Rows.{row_of}
 use Rattle.aml_code.specs.View.{node_view, nodes_view, part_view, parts_view, field_view, link_view}
 use Rattle.aml_text.specs.declared.blocks.Block.{Block}
-use Rattle.aml_text.specs.declared.blocks.Body.{Body}
-use Rattle.aml_text.specs.declared.blocks.Body.TheVariants as bodies
+use Rattle.aml_text.specs.declared.bodies.Body.{Body}
+use Rattle.aml_text.specs.declared.bodies.Body.TheVariants as bodies
+use Rattle.aml_text.specs.declared.bodies.Bodies.{Bodies}
+use Rattle.aml_text.specs.declared.bodies.Bodies.TheVariants as all_bodies
 use Rattle.aml_text.specs.Texts.{inline, head_text, part_text, part_texts}
-use Rattle.aml_text.specs.Lines.{line, lines, method_head, field_text, link_text, OneBody, read, raw, OneBlock}
+use Rattle.aml_text.specs.Lines.{line, lines, method_head, field_text, link_text, raw_text, OneBody, read, raw, OneBlock, BodyLines, body_lines}
 
 unfoldable pub node_inline : Node → List ℕ
 node_inline node = inline (node_view node)
@@ -42,6 +46,16 @@ method_head_of opcode ps = method_head (last_label None (parts_view ps)) (last_b
 abbrev pub body_view : Body → OneBody
 body_view (bodies.Tree nodes) = read (nodes_view nodes.items)
 body_view (bodies.Raw fault) = raw
+
+-- the lines of a body that were printed before, or of one that can't be read
+abbrev pub printed_lines : Result (Vec ℕ Global) CodeFault → BodyLines
+printed_lines (Ok text) level bs = text.items
+printed_lines (Err fault) level bs = line level (raw_text bs)
+
+-- the lines of bodies, whatever is kept of them
+abbrev pub bodies_lines : Bodies → List BodyLines
+bodies_lines (all_bodies.Read bodies) = map body_lines (map body_view bodies.now)
+bodies_lines (all_bodies.Printed texts) = map printed_lines texts.now
 
 -- a block as its bytes and terms, wherever they lie
 abbrev pub block_view : Block → OneBlock

@@ -1,27 +1,17 @@
 //! Definition blocks: the terms of a table, with the bodies of its methods in their places.
-ghost use Rattle.std.specs.Prelude.{◌≡◌, [], ◌∷◌, ◌++◌, drop, map};
+ghost use Rattle.std.specs.Prelude.{◌≡◌, ◌++◌};
 ghost use Rattle.aml_code.specs.View.{node_view, nodes_view, parts_view, tail_view};
-ghost use Rattle.aml_text.specs.Views.{body_view, head_of, method_head_of};
+ghost use Rattle.aml_text.specs.Views.{bodies_lines, head_of, method_head_of};
 ghost use Rattle.text_writer.specs.Prints.{Prints};
-ghost use Rattle.aml_text.specs.Lines.{deeper, line, opening, closing, serialized_text, comma_decimal, flags_text, method_text, raw_text, body_lines, left, left_rest, left_all, table_lines, table_op_lines, all_table_lines, block_opening, block_text};
+ghost use Rattle.aml_text.specs.Lines.{deeper, opening, closing, serialized_text, comma_decimal, flags_text, method_text, first_lines, left, left_rest, left_all, table_lines, table_op_lines, all_table_lines, block_opening, block_text};
 
-use crate::lines::{
-    print_closing, print_indent, print_lines, print_op_lines, print_opening, print_terms,
-};
-use crate::texts::{print_bytes, print_head};
+use crate::bodies::{Bodies, print_first};
+use crate::lines::{print_closing, print_indent, print_lines, print_op_lines, print_opening};
+use crate::texts::print_head;
 use crate::words::print_name;
-use aml_code::{CodeFault, Name, Node, Part, Tail, last_byte, last_name, slice};
+use aml_code::{Name, Node, Part, Tail, last_byte, last_name, slice};
 use std::io::Write;
 use text_writer::{Out, print_decimal, print_quoted};
-
-/// What became of a method's body.
-#[derive(Drop)]
-pub enum Body {
-    /// Its terms.
-    Tree(Vec<Node>),
-    /// It can't be read: why. It is printed as its bytes.
-    Raw(CodeFault),
-}
 
 /// A table that is printed as a definition block.
 #[derive(Drop)]
@@ -100,47 +90,6 @@ fn print_method_opening<W: Write>(out: &mut Out<'_, W>, level: u32, opcode: u16,
     out.put(b" {\n");
 }
 
-/// The bytes of a body that can't be read.
-#[tactic(auto, using(text_writer::proofs::PrintLaws::straight), unfolding(crate::specs::Lines::raw_text))]
-fn print_raw<W: Write>(out: &mut Out<'_, W>, bytes: &[u8])
-    ensures { Prints W.contents out.old out.new (raw_text bytes.now) }
-{
-    out.put(b"Raw {");
-    print_bytes(out, bytes);
-    out.put(b"}");
-}
-
-/// The same, on a line of its own.
-#[tactic(auto, using(text_writer::proofs::PrintLaws::straight), unfolding(crate::specs::Lines::line))]
-fn print_raw_line<W: Write>(out: &mut Out<'_, W>, level: u32, bytes: &[u8])
-    ensures { Prints W.contents out.old out.new (line level (raw_text bytes.now)) }
-{
-    print_indent(out, level);
-    print_raw(out, bytes);
-    out.put(b"\n");
-}
-
-/// The first of the bodies, or nothing where there is none.
-#[tactic(auto, using(text_writer::proofs::PrintLaws::straight, crate::proofs::BlockLaws::bodies_of))]
-fn print_body<W: Write>(out: &mut Out<'_, W>, level: u32, bytes: &[u8], bodies: &[Body])
-    ensures { Prints W.contents out.old out.new (body_lines level bytes.now (map body_view bodies.now)) }
-{
-    if let Some((body, _)) = bodies.split_first() {
-        print_one_body(out, level, bytes, body);
-    }
-}
-
-/// The lines of a body with these bytes.
-#[tactic(auto, using(text_writer::proofs::PrintLaws::straight, crate::proofs::BlockLaws::one_body))]
-fn print_one_body<W: Write>(out: &mut Out<'_, W>, level: u32, bytes: &[u8], body: &Body)
-    ensures { Prints W.contents out.old out.new (body_lines level bytes.now (body_view body.now ∷ [])) }
-{
-    match body {
-        Body::Tree(nodes) => print_terms(out, level, nodes.as_slice()),
-        Body::Raw(_) => print_raw_line(out, level, bytes),
-    }
-}
-
 /// A method, with the first of the bodies.
 #[tactic(auto, using(text_writer::proofs::PrintLaws::straight))]
 fn print_method_block<W: Write>(
@@ -149,25 +98,15 @@ fn print_method_block<W: Write>(
     opcode: u16,
     parts: &[Part],
     bytes: &[u8],
-    bodies: &[Body],
+    bodies: Bodies<'_>,
 )
     ensures { Prints W.contents out.old out.new
         (opening level (method_head_of opcode parts.now) ++
-        body_lines (deeper level) bytes.now (map body_view bodies.now) ++ closing level) }
+        first_lines (bodies_lines bodies.entry) (deeper level) bytes.now ++ closing level) }
 {
     print_method_opening(out, level, opcode, parts);
-    print_body(out, level.saturating_add(1), bytes, bodies);
+    print_first(out, level.saturating_add(1), bytes, bodies);
     print_closing(out, level);
-}
-
-/// The bodies but for the first.
-fn others(bodies: &[Body]) -> &[Body]
-    ensures { map body_view result.now ≡ drop 1 (map body_view bodies.now) }
-{
-    match bodies {
-        [] => bodies,
-        [_, rest @ ..] => rest,
-    }
 }
 
 /// The lines of a term of a table. Each method takes the first of the bodies; the others are answered.
@@ -178,11 +117,11 @@ fn print_table_term<'b, W: Write>(
     code: &[u8],
     level: u32,
     node: &Node,
-    bodies: &'b [Body],
-) -> &'b [Body]
+    bodies: Bodies<'b>,
+) -> Bodies<'b>
     ensures prints { Prints W.contents out.old out.new
-        (table_lines code.now level (node_view node.now) (map body_view bodies.now)) }
-    ensures others { map body_view result.now ≡ left (node_view node.now) (map body_view bodies.now) }
+        (table_lines code.now level (node_view node.now) (bodies_lines bodies.entry)) }
+    ensures others { bodies_lines result ≡ left (node_view node.now) (bodies_lines bodies.entry) }
 {
     match node {
         Node::Op {
@@ -208,12 +147,12 @@ fn print_table_op<'b, W: Write>(
     tail: &Tail,
     opcode: u16,
     parts: &[Part],
-    bodies: &'b [Body],
-) -> &'b [Body]
+    bodies: Bodies<'b>,
+) -> Bodies<'b>
     ensures prints { Prints W.contents out.old out.new
         (table_op_lines code.now level opcode (parts_view parts.now) (tail_view tail.now)
-        (map body_view bodies.now)) }
-    ensures others { map body_view result.now ≡ left_rest (tail_view tail.now) (map body_view bodies.now) }
+        (bodies_lines bodies.entry)) }
+    ensures others { bodies_lines result ≡ left_rest (tail_view tail.now) (bodies_lines bodies.entry) }
 {
     match tail {
         Tail::Terms(nodes) => print_table_block(
@@ -227,7 +166,7 @@ fn print_table_op<'b, W: Write>(
         ),
         Tail::Body { start, len } => {
             print_method_block(out, level, opcode, parts, slice(code, *start, *len), bodies);
-            others(bodies)
+            bodies.others()
         }
         _ => {
             print_op_lines(out, level, tail, opcode, parts);
@@ -246,12 +185,12 @@ fn print_table_block<'b, W: Write>(
     nodes: &[Node],
     opcode: u16,
     parts: &[Part],
-    bodies: &'b [Body],
-) -> &'b [Body]
+    bodies: Bodies<'b>,
+) -> Bodies<'b>
     ensures prints { Prints W.contents out.old out.new
         (opening level (head_of opcode parts.now) ++
-        all_table_lines code.now (deeper level) (nodes_view nodes.now) (map body_view bodies.now) ++ closing level) }
-    ensures others { map body_view result.now ≡ left_all (nodes_view nodes.now) (map body_view bodies.now) }
+        all_table_lines code.now (deeper level) (nodes_view nodes.now) (bodies_lines bodies.entry) ++ closing level) }
+    ensures others { bodies_lines result ≡ left_all (nodes_view nodes.now) (bodies_lines bodies.entry) }
 {
     print_opening(out, level, opcode, parts);
     let others = print_table_terms(out, code, level.saturating_add(1), nodes, bodies);
@@ -267,11 +206,11 @@ fn print_table_terms<'b, W: Write>(
     code: &[u8],
     level: u32,
     nodes: &[Node],
-    bodies: &'b [Body],
-) -> &'b [Body]
+    bodies: Bodies<'b>,
+) -> Bodies<'b>
     ensures prints { Prints W.contents out.old out.new
-        (all_table_lines code.now level (nodes_view nodes.now) (map body_view bodies.now)) }
-    ensures others { map body_view result.now ≡ left_all (nodes_view nodes.now) (map body_view bodies.now) }
+        (all_table_lines code.now level (nodes_view nodes.now) (bodies_lines bodies.entry)) }
+    ensures others { bodies_lines result ≡ left_all (nodes_view nodes.now) (bodies_lines bodies.entry) }
 {
     let mut rest = bodies;
     for node in nodes {
@@ -288,11 +227,11 @@ pub fn print_block<'b, W: Write>(
     name: &[u8],
     code: &[u8],
     nodes: &[Node],
-    bodies: &'b [Body],
-) -> &'b [Body]
+    bodies: Bodies<'b>,
+) -> Bodies<'b>
     ensures prints { Prints W.contents out.old out.new
-        (block_text name.now code.now (nodes_view nodes.now) (map body_view bodies.now)) }
-    ensures others { map body_view result.now ≡ left_all (nodes_view nodes.now) (map body_view bodies.now) }
+        (block_text name.now code.now (nodes_view nodes.now) (bodies_lines bodies.entry)) }
+    ensures others { bodies_lines result ≡ left_all (nodes_view nodes.now) (bodies_lines bodies.entry) }
 {
     print_block_opening(out, name);
     let others = print_table_terms(out, code, 1, nodes, bodies);

@@ -5,6 +5,8 @@
 #![tactic(auto)]
 
 mod blocks;
+mod bodies;
+mod levels;
 mod lines;
 mod listing;
 mod rows;
@@ -13,8 +15,10 @@ mod texts;
 mod words;
 mod writing;
 
-pub use blocks::{Block, Body, print_block};
-pub use listing::Listing;
+pub use blocks::{Block, print_block};
+pub use bodies::{Bodies, Body};
+pub use levels::body_levels;
+pub use listing::{Listing, Tables};
 pub use rows::print_rows;
 pub use tables::block_at;
-pub use writing::{term_text, write_listing};
+pub use writing::{body_text, term_text, write_listing, write_printed};

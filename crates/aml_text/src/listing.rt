@@ -1,5 +1,7 @@
 //! What is known of a set of tables.
-use crate::blocks::Body;
+ghost use Rattle.aml_text.specs.Listing.{IsOf};
+
+use crate::bodies::Body;
 use acpi_tables::{Dump, Order};
 use aml_load::Loaded;
 
@@ -14,4 +16,26 @@ pub struct Listing<'a> {
     pub bodies: Vec<Body>,
     /// For each worker, the numbers of the bodies that it read, ascending.
     pub drawn: Vec<Vec<u32>>,
+}
+
+/// The tables of a set, without the bodies of their methods.
+#[derive(Clone, Copy)]
+pub struct Tables<'s, 'a> {
+    pub dumps: &'s [Dump],
+    /// The dumps with the definition blocks, in load order.
+    pub order: &'s Order,
+    pub loaded: &'s Loaded<'a>,
+}
+
+impl<'a> Listing<'a> {
+    /// Its tables.
+    pub fn tables(&self) -> Tables<'_, 'a>
+        ensures { IsOf result self.now }
+    {
+        Tables {
+            dumps: self.dumps,
+            order: &self.order,
+            loaded: &self.loaded,
+        }
+    }
 }

@@ -3,7 +3,7 @@ use Rattle.std.proofs.Common.{false, slice_index_or, ◌++◌, [], refl, sym, ap
 use Rattle.std.proofs.lemmas.Option.{slice_get-get_or}
 use Rattle.text_writer.specs.Prints.{Prints}
 use Rattle.text_writer.proofs.PrintLaws.{prints_then, prints_none}
-use Rattle.aml_text.specs.Listing.{blocks_in}
+use Rattle.aml_text.specs.Listing.{blocks_at}
 use Rattle.aml_text.specs.Views.{block_view}
 use Rattle.acpidis.specs.Checks.{check_line, check_lines}
 use Rattle.acpidis.proofs.CheckLaws.{a_check, lines_end, lines_past, lines_turn}
@@ -14,14 +14,14 @@ loop-table-init g c = ([], prints_none g.W.Write.contents c.args.out.now, refl)
 
 pub returns-in_default : goal.returns-in_default
 returns-in_default g c =
-    let blocks = blocks_in c.args.listing.now in
+    let blocks = blocks_at c.args.tables in
     let none = sym c.block_at.ensures ∙ ap (option_map block_view) c.in_default.is in
     subst (Prints g.W.Write.contents c.args.out.now c.loop-table.out)
     (lines_end blocks c.args.checks.now c.loop-table.table c.loop-table.invariant.0 (check_lines blocks c.args.checks.now) none c.loop-table.invariant.2) c.loop-table.invariant.1
 
 pub loop-table-preserved : goal.loop-table-preserved
 loop-table-preserved g c =
-    let blocks = blocks_in c.args.listing.now in
+    let blocks = blocks_at c.args.tables in
     let b = block_view c.in-Some.block in
     let done = c.loop-table.invariant.0 in
     let checked = slice_index_or c.args.checks.now c.loop-table.table (a_check 0 0 0 false) in
@@ -33,6 +33,6 @@ loop-table-preserved g c =
 
 pub returns : goal.returns
 returns g c =
-    let blocks = blocks_in c.args.listing.now in
+    let blocks = blocks_at c.args.tables in
     subst (Prints g.W.Write.contents c.args.out.now c.loop-table.out)
     (lines_past blocks c.args.checks.now c.loop-table.table c.loop-table.invariant.0 (check_lines blocks c.args.checks.now) (omega (arith, c.loop-table-test.false)) c.loop-table.invariant.2) c.loop-table.invariant.1

@@ -1,9 +1,9 @@
-use Rattle.std.proofs.Common.{◌≡◌, ◌+◌, List, ◌∷◌, ◌++◌, drop, map, sym, ap, ◌∙◌, add-one}
+use Rattle.std.proofs.Common.{◌≡◌, ◌+◌, List, ◌∷◌, ◌++◌, drop, sym, ap, ◌∙◌, add-one}
 use Rattle.std.proofs.Math.Seq.{drop-cons}
 use Rattle.aml_code.specs.declared.tree.Node.{Node}
 use Rattle.aml_code.specs.View.{node_view, nodes_view}
-use Rattle.aml_text.specs.Lines.{OneBody, left_all, table_lines, all_table_lines}
-use Rattle.aml_text.specs.Views.{body_view}
+use Rattle.aml_text.specs.Lines.{BodyLines, left_all, table_lines, all_table_lines}
+use Rattle.aml_text.specs.Views.{bodies_lines}
 use Rattle.text_writer.proofs.PrintLaws.{prints_then}
 use Rattle.aml_text.proofs.BlockLaws.{table_turn}
 use Rattle.aml_text.proofs.blocks.+blocks.Goals as goal
@@ -16,12 +16,12 @@ print_table_terms-loop-node-preserved g t c =
     let k = c.node-item.result in
     let code = c.args.code.now in
     let level = c.args.level in
-    let bs = map body_view c.loop-node.rest.now in
+    let bs = bodies_lines c.loop-node.rest in
     let cut : drop i ns ≡ k ∷ drop (i + 1) ns = rw add-one (drop-cons ns i k c.loop-node-test.true) ∙ ap (λ (n : Node). n ∷ drop (i + 1) ns) (sym c.node-item.is) in
     let done = c.loop-node.invariant.0 in
     let so_far = ap (λ (xs : List Node). done ++ all_table_lines code level (nodes_view xs) bs) (sym cut) ∙ c.loop-node.invariant.2 in (
       done ++ table_lines code level (node_view k) bs,
       prints_then f _ _ _ _ _ c.loop-node.invariant.1 c.print_table_term-rest.ensures.prints,
       table_turn code level k (drop (i + 1) ns) bs _ done _ c.print_table_term-rest.ensures.others so_far,
-      ap (λ (r : List OneBody). left_all (nodes_view (drop (i + 1) ns)) r) c.print_table_term-rest.ensures.others ∙ ap (λ (xs : List Node). left_all (nodes_view xs) bs) (sym cut) ∙ c.loop-node.invariant.3,
+      ap (λ (r : List BodyLines). left_all (nodes_view (drop (i + 1) ns)) r) c.print_table_term-rest.ensures.others ∙ ap (λ (xs : List Node). left_all (nodes_view xs) bs) (sym cut) ∙ c.loop-node.invariant.3,
     )

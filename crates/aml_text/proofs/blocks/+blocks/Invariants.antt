@@ -1,12 +1,12 @@
-use Rattle.std.proofs.Common.{◌≡◌, ℕ, List, ◌++◌, drop, map}
+use Rattle.std.proofs.Common.{◌≡◌, ℕ, List, ◌++◌, drop}
 use Rattle.aml_code.specs.View.{nodes_view}
 use Rattle.text_writer.specs.Prints.{Prints}
 use Rattle.aml_text.specs.Lines.{left_all, all_table_lines}
-use Rattle.aml_text.specs.Views.{body_view}
+use Rattle.aml_text.specs.Views.{bodies_lines}
 use Rattle.aml_text.proofs.blocks.+blocks.Given as goal
 
 abbrev pub invariant-print_table_terms-loop-node : goal.invariant-print_table_terms-loop-node
 invariant-print_table_terms-loop-node g l =
     (done : List ℕ) × Prints g.W.Write.contents l.initial.out l.out done
-    × (done ++ all_table_lines l.code l.level (nodes_view (drop l.node-index l.nodes)) (map body_view l.rest) ≡ all_table_lines l.code l.level (nodes_view l.nodes) (map body_view l.bodies))
-    × (left_all (nodes_view (drop l.node-index l.nodes)) (map body_view l.rest) ≡ left_all (nodes_view l.nodes) (map body_view l.bodies))
+    × (done ++ all_table_lines l.code l.level (nodes_view (drop l.node-index l.nodes)) (bodies_lines l.rest) ≡ all_table_lines l.code l.level (nodes_view l.nodes) (bodies_lines l.bodies))
+    × (left_all (nodes_view (drop l.node-index l.nodes)) (bodies_lines l.rest) ≡ left_all (nodes_view l.nodes) (bodies_lines l.bodies))

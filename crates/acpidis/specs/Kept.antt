@@ -1,0 +1,71 @@
+-- A stepping stone of the proofs: what a run keeps of each body, whose terms it lets go.
+use Rattle.std.specs.Prelude.{◌≡◌, ℕ, zero, suc, Bool, true, false, List, [], ◌∷◌, map, get_or, slice_get, Result, Ok, Err, Vec}
+use Rattle.std.specs.Global.{Global}
+use Rattle.aml_names.specs.declared.faults.CodeFault.{CodeFault}
+use Rattle.aml_code.specs.Encoding.{encodings}
+use Rattle.aml_code.specs.Tree.{Trees}
+use Rattle.aml_code.specs.View.{nodes_view}
+use Rattle.aml_space.specs.Entries.{Entry}
+use Rattle.aml_space.specs.Known.{Known, StandsFor}
+use Rattle.aml_load.specs.declared.loading.Loaded.{Loaded}
+use Rattle.aml_load.specs.declared.methods.Method.{Method}
+use Rattle.aml_load.specs.Views.{codes_view, trees_view, body_in}
+use Rattle.aml_text.specs.declared.bodies.Body.{Body}
+use Rattle.aml_text.specs.declared.bodies.Body.TheVariants as bodies
+use Rattle.aml_text.specs.Levels.{levels_of}
+use Rattle.aml_text.specs.Lines.{OneBody, all_lines}
+use Rattle.aml_text.specs.Views.{body_view}
+use Rattle.acpidis.specs.Bodies.{AreEntries, AreTold, BecameOf}
+use Rattle.acpidis.specs.Checks.{same_bytes}
+
+-- of a body that reads as terms what they give, of a raw one its fault
+abbrev pub IsKept : {X : Type 0} → (Trees → X → Type 0) → Body → Result X CodeFault → Type 0
+IsKept Gives (bodies.Tree nodes) (Ok x) = Gives (nodes_view nodes.items) x
+IsKept Gives (bodies.Tree nodes) (Err fault) = ⊥
+IsKept Gives (bodies.Raw fault) (Ok x) = ⊥
+IsKept Gives (bodies.Raw fault) (Err kept) = kept ≡ fault
+
+-- the lines of terms at a level
+abbrev pub IsText : ℕ → Trees → Vec ℕ Global → Type 0
+IsText level ts text = text.items ≡ all_lines level ts
+
+-- whether terms encode to these bytes
+abbrev pub IsSame : List ℕ → Trees → Bool → Type 0
+IsSame bytes ts same = same ≡ same_bytes (encodings bytes ts) bytes
+
+-- what is kept of the body of this number
+abbrev pub KeptOf : {X : Type 0} → (Trees → X → Type 0) → Bool → Known → List (List ℕ) → List Method → ℕ → Result X CodeFault → Type 0
+KeptOf Gives z space tables ms number d = (body : Body) × BecameOf z space tables ms number body × IsKept Gives body d
+
+-- of each body, by its number
+abbrev pub AreKept : {X : Type 0} → (ℕ → Trees → X → Type 0) → List Body → List (Result X CodeFault) → Type 0
+AreKept Gives [] [] = Unit {0}
+AreKept Gives [] (d ∷ ds) = ⊥
+AreKept Gives (b ∷ bs) [] = ⊥
+AreKept Gives (b ∷ bs) (d ∷ ds) = IsKept (Gives 0) b d × AreKept (λ n. Gives (suc n)) bs ds
+
+-- these are the bodies of a loaded set, and there are no others
+pub record AreBodies (z : Bool) (x : Loaded) (bs : List Body) : Type 0 where
+  pub sound : (es : List Entry) → StandsFor x.space es → AreEntries z es (codes_view x.tables.items) x.methods.items (map body_view bs)
+  pub one : (es : List Entry) → StandsFor x.space es → (cs : List OneBody) → AreEntries z es (codes_view x.tables.items) x.methods.items cs → cs ≡ map body_view bs
+  pub told : (es : List Entry) → StandsFor x.space es → AreTold z es (codes_view x.tables.items) x.methods.items bs
+
+-- what is kept of the bodies of a loaded set
+pub record AreKeptOf {X : Type 0} (Gives : ℕ → Trees → X → Type 0) (z : Bool) (x : Loaded) (ds : List (Result X CodeFault)) : Type 0 where
+  pub bodies : List Body
+  pub are : AreBodies z x bodies
+  pub kept : AreKept Gives bodies ds
+
+-- their lines at their levels
+abbrev pub AreTexts : Bool → Loaded → List (Result (Vec ℕ Global) CodeFault) → Type 0
+AreTexts z x = AreKeptOf (λ n. IsText (get_or (levels_of (trees_view x.trees.items)) n 0)) z x
+
+-- whether they encode to their bytes
+abbrev pub AreTrials : Bool → Loaded → List (Result Bool CodeFault) → Type 0
+AreTrials z x = AreKeptOf (λ n. IsSame (body_in (codes_view x.tables.items) (slice_get x.methods.items n))) z x
+
+-- whether a fault is kept
+abbrev pub has_fault : {X : Type 0} → List (Result X CodeFault) → Bool
+has_fault [] = false
+has_fault (Ok x ∷ ds) = has_fault ds
+has_fault (Err fault ∷ ds) = true

@@ -1,0 +1,7 @@
+use Rattle.std.proofs.Common.{◌≡◌, ◌++◌, drop}
+use Rattle.aml_load.specs.Views.{trees_view}
+use Rattle.aml_text.specs.Levels.{levels_of}
+use Rattle.aml_text.proofs.levels.body_levels.Given as goal
+
+abbrev pub invariant-loop-nodes : goal.invariant-loop-nodes
+invariant-loop-nodes l = l.levels.items ++ levels_of (trees_view (drop l.nodes-index l.trees)) ≡ levels_of (trees_view l.trees)

@@ -1,0 +1,125 @@
+//! The bodies of methods, as blocks take them.
+ghost use Rattle.std.specs.Prelude.{◌≡◌, drop, map};
+ghost use Rattle.text_writer.specs.Prints.{Prints};
+ghost use Rattle.aml_text.specs.Lines.{line, raw_text, body_lines, first_lines};
+ghost use Rattle.aml_text.specs.Views.{body_view, printed_lines, bodies_lines};
+
+use crate::lines::{print_indent, print_terms};
+use crate::texts::print_bytes;
+use aml_code::{CodeFault, Node};
+use std::io::Write;
+use text_writer::Out;
+
+/// What became of a method's body.
+#[derive(Drop)]
+pub enum Body {
+    /// Its terms.
+    Tree(Vec<Node>),
+    /// It can't be read: why. It is printed as its bytes.
+    Raw(CodeFault),
+}
+
+/// The bodies of methods in the order of the text, each method taking one.
+#[derive(Clone, Copy)]
+pub enum Bodies<'b> {
+    /// As what they read as.
+    Read(&'b [Body]),
+    /// As the lines that were printed of their terms, or as the fault of one that can't be read.
+    Printed(&'b [Result<Vec<u8>, CodeFault>]),
+}
+
+impl<'b> Bodies<'b> {
+    /// The bodies but for the first.
+    pub fn others(self) -> Bodies<'b>
+        ensures { bodies_lines result ≡ drop 1 (bodies_lines self.entry) }
+    {
+        match self {
+            Bodies::Read([_, rest @ ..]) => Bodies::Read(rest),
+            Bodies::Printed([_, rest @ ..]) => Bodies::Printed(rest),
+            _ => self,
+        }
+    }
+}
+
+/// The lines of the first of the bodies, which has these bytes; nothing where there is none.
+#[tactic(auto, using(text_writer::proofs::PrintLaws::straight))]
+pub fn print_first<W: Write>(out: &mut Out<'_, W>, level: u32, bytes: &[u8], bodies: Bodies<'_>)
+    ensures { Prints W.contents out.old out.new (first_lines (bodies_lines bodies.entry) level bytes.now) }
+{
+    match bodies {
+        Bodies::Read(bodies) => print_first_read(out, level, bytes, bodies),
+        Bodies::Printed(texts) => print_first_printed(out, level, bytes, texts),
+    }
+}
+
+#[tactic(auto, using(text_writer::proofs::PrintLaws::straight, crate::proofs::BodyLaws::first_of))]
+fn print_first_read<W: Write>(out: &mut Out<'_, W>, level: u32, bytes: &[u8], bodies: &[Body])
+    ensures { Prints W.contents out.old out.new
+        (first_lines (map body_lines (map body_view bodies.now)) level bytes.now) }
+{
+    if let Some((body, _)) = bodies.split_first() {
+        print_read(out, level, bytes, body);
+    }
+}
+
+#[tactic(auto, using(text_writer::proofs::PrintLaws::straight, crate::proofs::BodyLaws::first_of))]
+fn print_first_printed<W: Write>(
+    out: &mut Out<'_, W>,
+    level: u32,
+    bytes: &[u8],
+    texts: &[Result<Vec<u8>, CodeFault>],
+)
+    ensures { Prints W.contents out.old out.new
+        (first_lines (map printed_lines texts.now) level bytes.now) }
+{
+    if let Some((text, _)) = texts.split_first() {
+        print_printed(out, level, bytes, text);
+    }
+}
+
+/// The lines of a body with these bytes.
+#[tactic(auto, using(text_writer::proofs::PrintLaws::straight, crate::proofs::BodyLaws::read_lines))]
+fn print_read<W: Write>(out: &mut Out<'_, W>, level: u32, bytes: &[u8], body: &Body)
+    ensures { Prints W.contents out.old out.new (body_lines (body_view body.now) level bytes.now) }
+{
+    match body {
+        Body::Tree(nodes) => print_terms(out, level, nodes.as_slice()),
+        Body::Raw(_) => print_raw_line(out, level, bytes),
+    }
+}
+
+/// The lines of a body with these bytes, whose terms were printed before.
+#[tactic(auto, using(text_writer::proofs::PrintLaws::straight, crate::proofs::BodyLaws::printed))]
+fn print_printed<W: Write>(
+    out: &mut Out<'_, W>,
+    level: u32,
+    bytes: &[u8],
+    text: &Result<Vec<u8>, CodeFault>,
+)
+    ensures { Prints W.contents out.old out.new (printed_lines text.now level bytes.now) }
+{
+    match text {
+        Ok(text) => out.put(text.as_slice()),
+        Err(_) => print_raw_line(out, level, bytes),
+    }
+}
+
+/// The bytes of a body that can't be read.
+#[tactic(auto, using(text_writer::proofs::PrintLaws::straight), unfolding(crate::specs::Lines::raw_text))]
+fn print_raw<W: Write>(out: &mut Out<'_, W>, bytes: &[u8])
+    ensures { Prints W.contents out.old out.new (raw_text bytes.now) }
+{
+    out.put(b"Raw {");
+    print_bytes(out, bytes);
+    out.put(b"}");
+}
+
+/// The same, on a line of its own.
+#[tactic(auto, using(text_writer::proofs::PrintLaws::straight), unfolding(crate::specs::Lines::line))]
+fn print_raw_line<W: Write>(out: &mut Out<'_, W>, level: u32, bytes: &[u8])
+    ensures { Prints W.contents out.old out.new (line level (raw_text bytes.now)) }
+{
+    print_indent(out, level);
+    print_raw(out, bytes);
+    out.put(b"\n");
+}
