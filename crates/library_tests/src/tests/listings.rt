@@ -1,7 +1,7 @@
 //! Listings by several workers.
 use super::fixtures::{Watch, any_sum, push_table};
 use acpi_tables::Dump;
-use acpidis::{Refusal, disassemble};
+use acpidis::{Refusal, disassemble, run};
 use aml_code::CodeFault;
 use aml_pool::FreeGate;
 use aml_text::{Body, Listing};
@@ -102,6 +102,49 @@ fn two_workers_meet_in_the_gate(rt: HostRuntime) -> Result<(), Fail> {
 fn a_held_worker_holds_up_no_other(rt: HostRuntime) -> Result<(), Fail> {
     let gate = Watch::new(rt.alloc(), 8, 8)?;
     assert!(rt; lists_are_calls(&rt, rt.alloc(), &gate)?);
+    assert!(rt; !gate.is_stuck());
+    Ok(())
+}
+
+/// The numbers with which two workers entered.
+fn numbers_entered(alloc: Global, gate: &Watch) -> Result<Vec<u32>, AllocError> {
+    let mut numbers = gate.numbers_of(alloc, 0)?;
+    let others = gate.numbers_of(alloc, 1)?;
+    numbers.extend_from_slice(&others)?;
+    Ok(numbers)
+}
+
+/// The status of a run over the eight methods by two workers behind this gate.
+fn status_behind<T: Threads + Wait + Sync>(
+    threads: &T,
+    alloc: Global,
+    gate: &Watch,
+) -> Result<u8, AllocError> {
+    let dumps = eight_methods(alloc)?;
+    let mut out = Vec::new(alloc);
+    let mut error = Vec::new(alloc);
+    Ok(run(
+        threads,
+        alloc,
+        &dumps,
+        any_sum(alloc),
+        2,
+        false,
+        gate,
+        &mut out,
+        &mut error,
+    ))
+}
+
+/// In a run too the first of two calls waits for the second, which comes from another thread, and each number enters
+/// once.
+#[test]
+fn two_workers_meet_in_a_run(rt: HostRuntime) -> Result<(), Fail> {
+    let gate = Watch::new(rt.alloc(), 2, 8)?;
+    let status = status_behind(&rt, rt.alloc(), &gate)?;
+    let entered = numbers_entered(rt.alloc(), &gate)?;
+    assert_eq!(rt; (status, entered.len()), (0, 8));
+    assert!(rt; (0..8).all(|number| entered.contains(&number)));
     assert!(rt; !gate.is_stuck());
     Ok(())
 }
