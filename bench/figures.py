@@ -26,6 +26,7 @@ import shutil
 import subprocess
 import sys
 import tempfile
+import threading
 import time
 from dataclasses import dataclass
 
@@ -135,9 +136,11 @@ SETS = (
 
 @dataclass
 class Answer:
-    """The shortest time of some runs, peak memory in bytes, and the status; no seconds where a run took too long."""
+    """The shortest time of some runs, the processor time of that run, peak memory in bytes, and the status; no seconds where
+    a run took too long."""
 
     seconds: float | None
+    processor: float
     peak: int
     status: int
 
@@ -154,17 +157,21 @@ class Figures:
 
 
 def run(command, folder, limit):
-    """Seconds, or None where it takes too long, and the status."""
+    """Seconds, or None where it takes too long, processor seconds, and the status."""
     with open(folder / "text", "wb") as text, open(folder / "errors", "wb") as errors:
         started = time.monotonic()
         child = subprocess.Popen(command, cwd=folder, stdout=text, stderr=errors)
-        try:
-            status = child.wait(limit)
-        except subprocess.TimeoutExpired:
-            child.kill()
-            child.wait()
-            return None, None
-        return time.monotonic() - started, status
+        stop = threading.Timer(math.inf if limit is None else limit, child.kill)
+        stop.daemon = True
+        if limit is not None:
+            stop.start()
+        _, status, usage = os.wait4(child.pid, 0)
+        seconds = time.monotonic() - started
+        stop.cancel()
+        child.returncode = os.waitstatus_to_exitcode(status)
+        if limit is not None and seconds >= limit:
+            return None, None, None
+        return seconds, usage.ru_utime + usage.ru_stime, child.returncode
 
 
 def peak_of(command, folder):
@@ -174,14 +181,13 @@ def peak_of(command, folder):
 
 
 def best(command, folder, runs, limit):
-    shortest, its_status = math.inf, 0
+    answers = []
     for _ in range(runs):
-        seconds, status = run(command, folder, limit)
-        if seconds is None:
-            return Answer(None, 0, 0)
-        if seconds < shortest:
-            shortest, its_status = seconds, status
-    return Answer(shortest, peak_of(command, folder), its_status)
+        answers.append(run(command, folder, limit))
+        if answers[-1][0] is None:
+            return Answer(None, 0, 0, 0)
+    seconds, processor, status = min(answers)
+    return Answer(seconds, processor, peak_of(command, folder), status)
 
 
 def figures_of(name, make, program, asked):
@@ -214,17 +220,25 @@ def size_text(size):
     return f"{size / 1e6:.1f} MB" if size >= 1e5 else f"{size / 1e3:.1f} KB"
 
 
+def times_text(figures):
+    """How many times as fast as `iasl -d`: one worker by processor time, several by the clock."""
+    alone = figures.iasl.processor / max(figures.alone.processor, 0.001)
+    return f"{alone:.1f}, {figures.iasl.seconds / figures.together.seconds:.1f}"
+
+
 def row(figures, limit):
     iasl = figures.iasl
     cells = [
         figures.name,
         size_text(figures.size),
         seconds_text(figures.alone, limit),
+        f"{figures.alone.processor:.3f} s",
         seconds_text(figures.together, limit),
         memory_text(figures.together),
         seconds_text(iasl, limit),
         "" if iasl.seconds is None else memory_text(iasl),
         "" if iasl.seconds is None else str(iasl.status),
+        "" if iasl.seconds is None else times_text(figures),
     ]
     return "| " + " | ".join(cells) + " |\n"
 
@@ -235,20 +249,15 @@ def versions():
     return f"iasl {found[1]}" if found else "iasl"
 
 
-def processor_time():
-    """The ticks of all processors since the start, and how many of them a virtual machine's host gave to others."""
-    times = [int(word) for word in pathlib.Path("/proc/stat").read_text().split("\n")[0].split()[1:9]]
-    return sum(times), times[7]
-
-
 def section(all_figures, asked, loads, stolen):
     processors = len(os.sched_getaffinity(0))
     text = f"![Seconds by set: acpidis with 1 and {MOST_WORKERS} workers, and iasl -d](docs/figures.svg)\n\n"
-    text += f"| Set | Bytes | `acpidis`, 1 worker | {MOST_WORKERS} workers | Peak memory |"
-    text += " `iasl -d` | Its peak memory | Its status |\n"
-    text += "|---|---|---|---|---|---|---|---|\n"
+    text += f"| Set | Bytes | `acpidis`, 1 worker | Of processors | {MOST_WORKERS} workers | Peak memory |"
+    text += " `iasl -d` | Its peak memory | Its status | Times as fast |\n"
+    text += "|---|---|---|---|---|---|---|---|---|---|\n"
     text += "".join(row(figures, asked.seconds) for figures in all_figures)
-    text += f"\nMeasured on {datetime.date.today()} beside {versions()}, the best of {asked.runs} runs,"
+    text += f"\nThe last column has one worker by processor time, and {MOST_WORKERS} by the clock."
+    text += f" Measured on {datetime.date.today()} beside {versions()}, the best of {asked.runs} runs,"
     text += f" on {processors} processors with a load of {min(loads):.1f} to {max(loads):.1f}."
     if stolen >= STOLEN_SHARE:
         text += f" Other machines took {stolen:.0%} of the processors' time meanwhile, so the times are too high."
@@ -278,14 +287,13 @@ def main():
         sys.exit(f"{asked.acpidis} isn't built: ./acpidis demo builds it")
     if shutil.which("iasl") is None or not os.access(TIME, os.X_OK):
         sys.exit("iasl or GNU time isn't installed: apt-get install acpica-tools time")
-    all_figures, loads, begun = [], [], processor_time()
+    all_figures, loads, begun = [], [], bodies.processor_time()
     for name, make in SETS:
         if asked.only in name:
             loads.append(os.getloadavg()[0])
             all_figures.append(figures_of(name, make, program, asked))
             print(row(all_figures[-1], asked.seconds), end="", file=sys.stderr, flush=True)
-    (first_all, first_stolen), (last_all, last_stolen) = begun, processor_time()
-    stolen = (last_stolen - first_stolen) / max(last_all - first_all, 1)
+    stolen = bodies.stolen_since(begun)
     text = section(all_figures, asked, loads, stolen)
     if asked.print or asked.only:
         print(text, end="")

@@ -6,7 +6,9 @@ usage: bench/runs.py [ACPIDIS] [--only WORD] [--keep FOLDER] [--runs N] [--secon
 ACPIDIS is the built program, crates/acpidis_program/out/acpidis_program if left out. Each set is written to a folder of its
 own. For each number of workers, 1, 2 and 4 if left out, and for `iasl -d` where it is installed (Debian: apt-get install
 acpica-tools), the script prints of N runs, 5 if left out, the shortest time, with the processor time of that run, how many
-times as fast that is as one worker, and the most memory. What is printed is thrown away. A run is stopped after so many
+times as fast that is as one worker, and the most memory; then how many times as fast as `iasl -d` one worker is by processor
+time and each number of workers by the clock, and the share of the processors' time that a virtual machine's host gave to others
+meanwhile. What is printed is thrown away. A run is stopped after so many
 seconds, 60 if left out; the larger sets may take iasl far longer. The load of the machine stands before each set: with other
 work on it, several workers gain less. The script is no part of the gate.
 
@@ -74,6 +76,15 @@ def best(command, folder, runs, limit):
     return seconds, processor, max(answer[2] for answer in answers), status
 
 
+def ratios(name, answers, compiled, stolen):
+    """How many times as fast as `iasl -d` the program is."""
+    text = f"{name:8} against iasl -d:"
+    if "1" in answers:
+        text += f" {compiled[1] / answers['1'][1]:.1f} times by the processor time of one worker;"
+    clock = ", ".join(f"{compiled[0] / answer[0]:.1f} with {workers}" for workers, answer in answers.items())
+    return f"{text} by the clock {clock}; {stolen:.0%} of the processors went to others"
+
+
 def line(name, tool, answer, alone, limit):
     if answer is None:
         return f"{name:8} {tool:10} no answer in {limit:g} s"
@@ -109,15 +120,19 @@ def main():
         size = bodies.write(folder, make)
         load, processors = os.getloadavg()[0], len(os.sched_getaffinity(0))
         print(f"{name:8} {size} bytes; a load of {load:.1f} on {processors} processors", flush=True)
-        alone = None
+        alone, answers, begun = None, {}, bodies.processor_time()
         for workers in asked.workers.split(",") if program else ():
             answer = best([program, "--workers", workers, str(folder)], folder, asked.runs, asked.seconds)
             print(line(name, f"{workers} workers" if workers != "1" else "1 worker", answer, alone, asked.seconds), flush=True)
+            if answer:
+                answers[workers] = answer
             if answer and workers == "1":
                 alone = answer[0]
         if compiler:
             answer = best([compiler, "-d", "dsdt.dat"], folder, asked.runs, asked.seconds)
             print(line(name, "iasl -d", answer, alone, asked.seconds), flush=True)
+            if answer and answers:
+                print(ratios(name, answers, answer, bodies.stolen_since(begun)), flush=True)
             for listing in folder.glob("*.dsl"):
                 listing.unlink()
     if not asked.keep:
