@@ -1,0 +1,195 @@
+"""Reads a listing of acpidis, after docs/listing.md: the lines of the dumps, the namespace, and the lines of the definition
+blocks as words, each with its depth and the line that closes what it opens."""
+
+import re
+from dataclasses import dataclass, field
+
+SEGMENT = r"[A-Z_][A-Z0-9_]{3}"
+NAME = rf"(?:\\|\^+)?{SEGMENT}(?:\.{SEGMENT})*(?!\w)|\\|\^+"
+TEXT = r'"[^"]*"'
+# A name has no small letter, and the word of each opcode has one.
+WORD = re.compile(rf"({TEXT}|0x[0-9A-F]+|{NAME}|[A-Z][A-Za-z]*[a-z][A-Za-z]*[0-9]?)")
+BETWEEN = re.compile(r"(?:[ (){},]|[0-9A-F]+)*")
+PATH = rf"\\(?:{SEGMENT}(?:\.{SEGMENT})*)?"
+ROW = re.compile(rf"  ({PATH}) ([A-Z][A-Za-z]+(?: [0-7]| {PATH})?)")
+DUMP = re.compile(rf'(?:Table|Root) ({TEXT})(?: ({TEXT}) Length| Oem) .*')
+BLOCK = re.compile(rf"DefinitionBlock \(({TEXT})\) {{")
+DEFINITION_BLOCKS = ('"DSDT"', '"SSDT"')
+
+Path = tuple[str, ...]
+ROOT: Path = ()
+
+
+class NoListing(Exception):
+    """Why a text is no whole listing."""
+
+
+def path_of(text: str) -> Path:
+    """The path that a listing prints so."""
+    return tuple(text[1:].split(".")) if len(text) > 1 else ROOT
+
+
+def path_text(path: Path) -> str:
+    return "\\" + ".".join(path)
+
+
+@dataclass(slots=True)
+class Line:
+    """A line of a definition block: every second of its pieces is a word. It may open a block, up to the line `end`.
+
+    `scope` is where its names are read, `method` the path of the method in whose body it stands, `declared` the place among
+    its words of the name that it declares."""
+
+    number: int
+    depth: int
+    pieces: list[str]
+    end: int = 0
+    scope: Path = ROOT
+    method: Path | None = None
+    declared: int | None = None
+
+    @property
+    def words(self) -> list[str]:
+        return self.pieces[1::2]
+
+    @property
+    def term(self) -> str:
+        """The opcode's word or the name that the line begins with, and nothing for the end of a block."""
+        return self.pieces[1] if len(self.pieces) > 1 else ""
+
+    @property
+    def text(self) -> str:
+        return "  " * self.depth + "".join(self.pieces)
+
+
+@dataclass
+class Dump:
+    """The line of a dump, and those below it, with their numbers."""
+
+    number: int
+    text: str
+    file: str
+    signature: str
+    notes: list[tuple[int, str]] = field(default_factory=list)
+
+
+@dataclass
+class Row:
+    number: int
+    path: Path
+    kind: str
+
+
+@dataclass
+class Block:
+    """A definition block: its lines are those from its head to the line that closes it."""
+
+    file: str
+    lines: list[Line]
+
+
+@dataclass
+class Listing:
+    dumps: list[Dump]
+    rows: list[Row]
+    blocks: list[Block]
+    line_count: int
+
+    @property
+    def lines(self) -> list[Line]:
+        return [line for block in self.blocks for line in block.lines]
+
+
+class Reader:
+    """Goes over the lines of a text, which are counted from 1."""
+
+    def __init__(self, lines: list[str]):
+        self.lines, self.at = lines, 0
+
+    def peek(self) -> str:
+        return self.lines[self.at] if self.at < len(self.lines) else ""
+
+    def refuse(self) -> NoListing:
+        if self.at >= len(self.lines):
+            return NoListing(f"it is cut behind line {len(self.lines)}")
+        return NoListing(f"line {self.at + 1} isn't one of a listing of acpidis")
+
+    def dumps(self) -> list[Dump]:
+        dumps: list[Dump] = []
+        while not self.peek().startswith("Namespace "):
+            line, form = self.peek(), DUMP.fullmatch(self.peek())
+            if form:
+                dumps.append(Dump(self.at + 1, line, form[1], form[2] or ""))
+            elif dumps and line.startswith("  ") and line.strip():
+                dumps[-1].notes.append((self.at + 1, line))
+            else:
+                raise self.refuse()
+            self.at += 1
+        return dumps
+
+    def rows(self) -> list[Row]:
+        head = re.fullmatch(r"Namespace ([0-9]{1,9})", self.peek())
+        if not head:
+            raise self.refuse()
+        rows = []
+        for _ in range(int(head[1])):
+            self.at += 1
+            form = ROW.fullmatch(self.peek())
+            if not form:
+                raise self.refuse()
+            rows.append(Row(self.at + 1, path_of(form[1]), form[2]))
+        self.at += 1
+        return rows
+
+    def block(self) -> Block:
+        head = BLOCK.fullmatch(self.peek())
+        if not head:
+            raise self.refuse()
+        lines = [self.line(0)]
+        opened = [lines[0]]
+        while opened:
+            line = self.line(len(opened))
+            lines.append(line)
+            if line.pieces == ["}"]:
+                opened.pop().end = line.number
+            elif line.pieces[-1].endswith("{"):
+                opened.append(line)
+        return Block(head[1], lines)
+
+    def line(self, depth: int) -> Line:
+        """The next line, inside so many blocks: what closes the innermost stands one level above."""
+        text = self.peek()
+        bare = text.lstrip(" ")
+        if bare == "}":
+            depth -= 1
+        pieces = WORD.split(bare)
+        if len(text) - len(bare) != 2 * depth or not all(map(BETWEEN.fullmatch, pieces[::2])) or not bare:
+            raise self.refuse()
+        self.at += 1
+        return Line(self.at, depth, pieces)
+
+
+def read_listing(text: bytes) -> Listing:
+    if not text:
+        raise NoListing("it is empty")
+    if not text.isascii():
+        raise NoListing("it isn't ASCII, as a listing of acpidis is")
+    lines = text.decode().split("\n")
+    reader = Reader(lines[:-1])
+    if not DUMP.fullmatch(lines[0]):
+        raise NoListing("it doesn't begin as a listing of acpidis does, with a line Table or Root")
+    if lines[-1]:
+        raise NoListing(f"it is cut in line {len(lines)}")
+    dumps, rows, blocks = reader.dumps(), reader.rows(), []
+    while reader.at < len(reader.lines):
+        blocks.append(reader.block())
+    check_blocks(dumps, blocks, len(reader.lines))
+    return Listing(dumps, rows, blocks, len(reader.lines))
+
+
+def check_blocks(dumps: list[Dump], blocks: list[Block], line_count: int) -> None:
+    """There is a block of each table, but where addresses say which tables are loaded: there is one at least."""
+    tables = sum(dump.signature in DEFINITION_BLOCKS for dump in dumps)
+    has_addresses = any(re.search(r" At [0-9A-F]{16}(?: BadSum)?$", dump.text) for dump in dumps)
+    if len(blocks) < (1 if has_addresses else tables):
+        raise NoListing(f"it is cut behind line {line_count}: a definition block is missing")
