@@ -124,7 +124,7 @@ def raw_html(line: Line, fault: Fault | None) -> str:
             shown = f"{shown[:at]}<mark>{shown[at:at + 2]}</mark>{shown[at + 2:]}"
             name = spelled_name(code[fault.at:]) if fault.word == "UnknownName" else ""
             said += f", {name}" if name else ""
-    return f"{'  ' * line.depth}<b>Raw</b>{shown} <em class=note>{said}</em>"
+    return f"{'  ' * line.depth}<b>Raw</b>{shown}<em class=note>{said}</em>"
 
 
 class BlockWriter:
@@ -157,11 +157,11 @@ class BlockWriter:
             if meaning.sort in (Sort.DECLARES, Sort.LOCAL):
                 uses = self.sheet.names.uses.get(meaning.anchor)
                 if uses:
-                    text += f" <a class=note href=#u{line.number}>{counted(sum(map(len, uses.values())), 'use')}</a>"
+                    text += f"<a class=note href=#u{line.number}>{counted(sum(map(len, uses.values())), 'use')}</a>"
                 if meaning.sort is Sort.DECLARES:
                     mark = self.sheet.mark(meaning.path)
         if mark == "changed":
-            text += f" <a class=note href=#c{line.number}>changed</a>"
+            text += f"<a class=note href=#c{line.number}>changed</a>"
         return text, mark
 
 
@@ -284,7 +284,7 @@ class TreeWriter:
         return f"{self.head_html(path, node, mark)}{kind}{below}"
 
     def head_html(self, path: Path, node: Node, mark: str) -> str:
-        if node.kind or path in PREDEFINED:
+        if node.kind or path in PREDEFINED or path in self.sheet.names.externals:
             return f"<a{classed(mark)} href=#{path_text(path)}>{path[-1]}</a>"
         return f"<span id={path_text(path)}>{path[-1]}</span>"
 
