@@ -21,7 +21,8 @@ from listing import Listing, NoListing, read_listing  # noqa: E402
 from markup import Sheet, page  # noqa: E402
 from names import Names  # noqa: E402
 
-MOST_BYTES = 8_000_000
+# A page has some four times the bytes of its listing, and a browser takes some seconds for each 10 MB.
+MOST_BYTES = 4_000_000
 
 
 def read(file: str, most: int = MOST_BYTES) -> bytes:

@@ -101,8 +101,9 @@ class Browser:
 
     def click(self, element: str) -> None:
         """Clicks in the middle of what the expression gives, by the mouse."""
-        self.value(f"{element}.scrollIntoView({{block: 'center'}})")
-        self.settle()
+        for _ in range(2):  # what comes into view for the first time may move it
+            self.value(f"{element}.scrollIntoView({{block: 'center'}})")
+            self.settle()
         box = json.loads(str(self.value(f"JSON.stringify({element}.getBoundingClientRect())")))
         place = {"x": box["x"] + box["width"] / 2, "y": box["y"] + box["height"] / 2}
         for kind in ("mousePressed", "mouseReleased"):
@@ -134,8 +135,11 @@ class Checks:
 
 
 IS_SEEN = "(() => { const box = document.querySelector(%s).getBoundingClientRect(); return box.top >= 0 && box.bottom <= innerHeight; })()"
-FIRST_USED = "document.querySelector('.block dfn[id] ~ .note[href^=\"#u\"]')"
-FIRST_NAME = "[...document.querySelectorAll('.block p > a:not(.note)')].at(-1)"
+# The method that is used most often, but not too often to be shown whole.
+USED = "[...document.querySelectorAll('.block summary > .note')].filter((note) => parseInt(note.textContent) < 9)" \
+    ".sort((one, other) => parseInt(other.textContent) - parseInt(one.textContent))[0]"
+# The last name that leads to a path below the root.
+NAME = "[...document.querySelectorAll('.block p > a:not(.note)')].filter((link) => link.hash.length > 2).at(-1)"
 
 
 def seen(path: object) -> str:
@@ -156,18 +160,18 @@ def look(browser: Browser, url: str, picture: pathlib.Path, checks: Checks) -> N
     checks.is_so("it is seen", browser.value(seen(wanted)))
     browser.press("Escape")
     checks.is_so("Escape leaves the field", browser.value("document.activeElement.id + find.value") == "")
-    aim = browser.value(f"{FIRST_NAME}.hash.slice(1)")
-    browser.click(FIRST_NAME)
+    aim = browser.value(f"{NAME}.hash.slice(1)")
+    browser.click(NAME)
     checks.is_so("a name is followed", browser.value("decodeURIComponent(location.hash)") == f"#{aim}")
     checks.is_so("what it means is seen", browser.value(seen(aim)))
-    checks.is_so("the tree shows it", not aim.startswith("\\") or browser.value("!!document.querySelector('[aria-current]') || 'none'"))
+    checks.is_so("the tree shows where that is", browser.value("!!tree.querySelector('[aria-current]')"))
     browser.click("document.querySelector('#where button')")
     checks.is_so("methods are folded", browser.value("!!document.querySelector('.block details:not([open])')"))
     browser.value(f"location.hash = {json.dumps(f'#{wanted}')}")
     browser.settle()
     checks.is_so("what hides a path opens", browser.value(seen(wanted)))
     browser.click("document.querySelectorAll('#where button')[1]")
-    browser.click(FIRST_USED)
+    browser.click(USED)
     checks.is_so("uses are shown", browser.value("document.querySelectorAll('#pop code').length"))
     browser.picture(picture)
     browser.press("Escape")

@@ -23,12 +23,14 @@ DEEPEST_FOLD = 60
 # A block of so many lines isn't laid out before it is seen. Its height is known beforehand by its lines.
 LONG_BLOCK = 12
 HARDWARE_NAMES = ("_HID", "_CID")
+NUMBERS = ("Zero", "One", "Ones")
+PLAIN = re.compile("Local[0-7]|Arg[0-6]|(Not)?Serialized")
 EISA_NUMBER = re.compile(r"0x[0-9A-F]{8}")
 ADDRESS_OF_ENTRY = re.compile(rf"(  Entry [0-9A-F]+) ({TEXT})")
 DUMP_FORM = re.compile(
     rf'(?P<root>Root|Table) (?P<file>{TEXT})(?: (?P<signature>{TEXT}) Length (?P<length>\d+))?'
     rf'(?: Revision (?P<before>\d+))?(?: Oem (?P<oem>{TEXT}(?: {TEXT} [0-9A-F]{{8}})?))?(?: Revision (?P<behind>\d+))?'
-    rf'(?: Creator (?P<creator>{TEXT} [0-9A-F]{{8}}))?(?P<rest>.*)'
+    rf'(?: Creator (?P<creator>{TEXT} [0-9A-F]{{8}}))?(?: (?P<leads>Rsdt [0-9A-F]+(?: Length \d+ Xsdt [0-9A-F]+)?))?(?P<rest>.*)'
 )
 
 
@@ -103,11 +105,11 @@ def line_html(line: Line, meanings: list[Meaning]) -> str:
         word = pieces[place]
         if word[0] == '"':
             pieces[place] = f"<q>{escape(word)}</q>"
-        elif word[0] == "0":
+        elif word[0] == "0" or word in NUMBERS:
             pieces[place] = number_html(word, is_hardware)
         elif is_name(word):
             pieces[place] = name_html(word, next(next_meaning))
-        else:
+        elif not PLAIN.fullmatch(word):
             pieces[place] = f"<b>{word}</b>"
     return "  " * line.depth + "".join(pieces)
 
@@ -137,7 +139,7 @@ class BlockWriter:
         written, folds = [], []
         for line in block.lines:
             text, mark = self.content(line)
-            if line.end and len(folds) < DEEPEST_FOLD:
+            if folds_here(line) and len(folds) < DEEPEST_FOLD:
                 folds.append(line.end)
                 written.append(f"{fold_html(line)}<summary id={line.number}{classed(mark)}>{text}</summary>\n")
                 continue
@@ -165,6 +167,11 @@ class BlockWriter:
         return text, mark
 
 
+def folds_here(line: Line) -> bool:
+    """Whether the block of a line folds: one of a single line is a method's, or doesn't. Each fold costs the browser."""
+    return line.end > line.number + 2 or bool(line.end) and line.term == "Method"
+
+
 def fold_html(line: Line) -> str:
     count = line.end - line.number + 1
     height = f";--n:{count}" if count >= LONG_BLOCK else ""
@@ -188,7 +195,8 @@ def dump_cells(dump: Dump) -> list[str]:
         return [dump.text]
     signature = (form["signature"] or '"RSD PTR "')[1:-1]
     revision = form["before"] or form["behind"] or ""
-    return [form["file"][1:-1], signature, form["length"] or "", revision, form["oem"] or "", form["creator"] or "", form["rest"].strip()]
+    last = form["creator"] or form["leads"] or ""
+    return [form["file"][1:-1], signature, form["length"] or "", revision, form["oem"] or "", last, form["rest"].strip()]
 
 
 def note_html(number: int, text: str, files: dict[str, int]) -> str:
@@ -309,7 +317,7 @@ def use_list_html(sheet: Sheet) -> list[str]:
             if uses and meaning.sort in (Sort.DECLARES, Sort.LOCAL) and meaning.path is not None:
                 head = f"<a href=#{meaning.anchor}>{path_text(meaning.path)}</a>"
                 written.append(f"<div id=u{line.number}>{head}{uses_html(uses)}</div>\n")
-    return ["<section id=uses><h2>Uses</h2>\n", *written, "</section>\n"] if written else []
+    return [f"<section id=uses style=--n:{len(written)}><h2>Uses</h2>\n", *written, "</section>\n"] if written else []
 
 
 def undeclared_html(sheet: Sheet) -> list[str]:
