@@ -3,9 +3,10 @@
 
     examples/page.py [--errors FILE] [--compare OTHER] LISTING >page.html
 
-LISTING is what acpidis wrote to standard output, FILE what it wrote to standard error, OTHER the listing of a second machine.
-The page has the namespace as a tree, the tables, and the definition blocks, where each name leads to what it means. It stands
-alone: it asks no network for anything. Each path is an anchor, as in page.html#\\_SB_.PCI0, and so is each line's number.
+LISTING is what acpidis wrote to standard output, FILE what it wrote to standard error, OTHER the listing of a second
+machine. The page has the namespace as a tree, the tables, and the definition blocks, where each name leads to what it
+means. It stands alone: it asks no network for anything. Each path is an anchor, as in page.html#\\_SB_.PCI0, and so is
+each line's number.
 """
 
 import argparse

@@ -31,14 +31,16 @@ class Browser:
         self.input, its_output = os.pipe()
         ends = [fcntl.fcntl(end, fcntl.F_DUPFD, 10) for end in (its_input, its_output)]
         words = ["chromium", "--headless", "--disable-gpu", "--hide-scrollbars", "--remote-debugging-pipe"]
-        words += [f"--user-data-dir={room}", f"--window-size={WIDTH},{HEIGHT}", *(["--no-sandbox"] if os.getuid() == 0 else [])]
+        words += [f"--user-data-dir={room}", f"--window-size={WIDTH},{HEIGHT}"]
+        words += ["--no-sandbox"] if os.getuid() == 0 else []
 
         def take_ends() -> None:
             os.dup2(ends[0], ITS_INPUT)
             os.dup2(ends[1], ITS_OUTPUT)
 
         self.child = subprocess.Popen(
-            words, preexec_fn=take_ends, pass_fds=(ITS_INPUT, ITS_OUTPUT), stderr=subprocess.DEVNULL, stdout=subprocess.DEVNULL,
+            words, preexec_fn=take_ends, pass_fds=(ITS_INPUT, ITS_OUTPUT),
+            stdout=subprocess.DEVNULL, stderr=subprocess.DEVNULL,
         )
         for end in (*ends, its_input, its_output):
             os.close(end)
@@ -137,7 +139,8 @@ class Checks:
             print(f"FAILED: {what}")
 
 
-IS_SEEN = "(() => { const box = document.querySelector(%s).getBoundingClientRect(); return box.top >= 0 && box.bottom <= innerHeight; })()"
+IS_SEEN = "(({ top, bottom }) => top >= 0 && bottom <= innerHeight)" \
+    "(document.getElementById(%s).getBoundingClientRect())"
 # The method that is used most often, but not too often to be shown whole.
 USED = "[...document.querySelectorAll('.block summary > .note')].filter((note) => parseInt(note.textContent) < 9)" \
     ".sort((one, other) => parseInt(other.textContent) - parseInt(one.textContent))[0]"
@@ -146,7 +149,7 @@ NAME = "[...document.querySelectorAll('.block p > a:not(.note)')].filter((link) 
 
 
 def seen(path: object) -> str:
-    return IS_SEEN % json.dumps(f'[id="{str(path)[0:1].replace(chr(92), chr(92) * 2)}{str(path)[1:]}"]')
+    return IS_SEEN % json.dumps(path)
 
 
 def look(browser: Browser, url: str, picture: pathlib.Path, checks: Checks) -> None:
@@ -178,6 +181,7 @@ def look(browser: Browser, url: str, picture: pathlib.Path, checks: Checks) -> N
     browser.settle()
     browser.click(USED)
     checks.is_so("uses are shown", browser.value("document.querySelectorAll('#pop code').length"))
+    browser.value("scrollBy(0, 190)")
     browser.picture(picture)
     browser.press("Escape")
     checks.is_so("Escape closes them", browser.value("!document.querySelector('#pop')"))

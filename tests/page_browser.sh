@@ -1,6 +1,6 @@
 #!/bin/sh
-# Looks at a page of examples/page.py in Debian's chromium: loads it, finds a path, follows a name, opens the uses of another,
-# and takes a picture. The page may ask for nothing but itself, and keep no cookie.
+# Looks at a page of examples/page.py in Debian's chromium: loads it, finds a path, follows a name, opens the uses of
+# another, and takes a picture. The page may ask for nothing but itself, and keep no cookie.
 #
 #     tests/page_browser.sh [LISTING [PICTURE [ERRORS]]]
 #

@@ -12,8 +12,8 @@ Text = tuple[str, ...]
 
 @dataclass
 class Comparison:
-    """What another listing says: the texts of the paths that it adds and of those that it changes, and the paths that it
-    lacks."""
+    """What another listing says: the texts of the paths that it adds and of those that it changes, and the paths that
+    it lacks."""
 
     other: str
     adds: dict[Path, Text]

@@ -47,4 +47,5 @@ def spelled_name(code: bytes) -> str:
     count, skipped = forms.get(rest[0] if rest else 0, (1, 0))
     path = rest[skipped:skipped + 4 * count].decode("latin-1")
     segments = [path[at:at + 4] for at in range(0, 4 * count, 4)]
-    return prefix.decode() + ".".join(segments) if segments and all(re.fullmatch(SEGMENT, one) for one in segments) else ""
+    is_name = segments and all(re.fullmatch(SEGMENT, segment) for segment in segments)
+    return prefix.decode() + ".".join(segments) if is_name else ""

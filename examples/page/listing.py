@@ -1,5 +1,5 @@
-"""Reads a listing of acpidis, after docs/listing.md: the lines of the dumps, the namespace, and the lines of the definition
-blocks as words, each with its depth and the line that closes what it opens."""
+"""Reads a listing of acpidis, after docs/listing.md: the lines of the dumps, the namespace, and the lines of the
+definition blocks as words, each with its depth and the line that closes what it opens."""
 
 import re
 from dataclasses import dataclass, field
@@ -37,8 +37,8 @@ def path_text(path: Path) -> str:
 class Line:
     """A line of a definition block: every second of its pieces is a word. It may open a block, up to the line `end`.
 
-    `scope` is where its names are read, `method` the path of the method in whose body it stands, `declared` the place among
-    its words of the name that it declares."""
+    `scope` is where its names are read, `method` the path of the method in whose body it stands, `declared` the place
+    among its words of the name that it declares."""
 
     number: int
     depth: int

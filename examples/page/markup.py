@@ -1,7 +1,7 @@
 """Writes a listing as one HTML page.
 
-The anchor of a path is the path itself, and that of a line its number. In a block each line is an element with its number as
-`id`, whose text is the line, but for elements of the class `note`.
+The anchor of a path is the path itself, and that of a line its number. In a block each line is an element with its
+number as `id`, whose text is the line, but for elements of the class `note`.
 """
 
 import base64
@@ -30,7 +30,8 @@ ADDRESS_OF_ENTRY = re.compile(rf"(  Entry [0-9A-F]+) ({TEXT})")
 DUMP_FORM = re.compile(
     rf'(?P<root>Root|Table) (?P<file>{TEXT})(?: (?P<signature>{TEXT}) Length (?P<length>\d+))?'
     rf'(?: Revision (?P<before>\d+))?(?: Oem (?P<oem>{TEXT}(?: {TEXT} [0-9A-F]{{8}})?))?(?: Revision (?P<behind>\d+))?'
-    rf'(?: Creator (?P<creator>{TEXT} [0-9A-F]{{8}}))?(?: (?P<leads>Rsdt [0-9A-F]+(?: Length \d+ Xsdt [0-9A-F]+)?))?(?P<rest>.*)'
+    rf'(?: Creator (?P<creator>{TEXT} [0-9A-F]{{8}}))?'
+    rf'(?: (?P<leads>Rsdt [0-9A-F]+(?: Length \d+ Xsdt [0-9A-F]+)?))?(?P<rest>.*)'
 )
 
 
@@ -168,7 +169,7 @@ class BlockWriter:
 
 
 def folds_here(line: Line) -> bool:
-    """Whether the block of a line folds: one of a single line is a method's, or doesn't. Each fold costs the browser."""
+    """Whether the block of a line folds: a single line does in a method alone, since each fold costs the browser."""
     return line.end > line.number + 2 or bool(line.end) and line.term == "Method"
 
 
@@ -195,8 +196,8 @@ def dump_cells(dump: Dump) -> list[str]:
         return [dump.text]
     signature = (form["signature"] or '"RSD PTR "')[1:-1]
     revision = form["before"] or form["behind"] or ""
-    last = form["creator"] or form["leads"] or ""
-    return [form["file"][1:-1], signature, form["length"] or "", revision, form["oem"] or "", last, form["rest"].strip()]
+    texts = [form["length"], revision, form["oem"], form["creator"] or form["leads"], form["rest"].strip()]
+    return [form["file"][1:-1], signature, *(text or "" for text in texts)]
 
 
 def note_html(number: int, text: str, files: dict[str, int]) -> str:
@@ -214,7 +215,8 @@ def dump_html(dump: Dump, files: dict[str, int], blocks: dict[str, int]) -> str:
     html = f"<tr id={dump.number}><th>{dump.number}</th>{columns}</tr>\n"
     if dump.notes:
         notes = "".join(note_html(number, text, files) for number, text in dump.notes)
-        html += f"<tr><td></td><td colspan=7><details><summary>{counted(len(dump.notes), 'line')}</summary>\n{notes}</details></td></tr>\n"
+        head = f"<summary>{counted(len(dump.notes), 'line')}</summary>"
+        html += f"<tr><td></td><td colspan=7><details>{head}\n{notes}</details></td></tr>\n"
     return html
 
 
@@ -280,7 +282,8 @@ class TreeWriter:
                 written.append("</details>\n")
             if node.has_children and len(opened) < DEEPEST_FOLD:
                 opened.append(path)
-                written.append(f"<details{' open' if len(path) == 1 else ''}><summary>{self.node_html(path, node)}</summary>\n")
+                state = " open" if len(path) == 1 else ""
+                written.append(f"<details{state}><summary>{self.node_html(path, node)}</summary>\n")
             else:
                 written.append(f"<p>{self.node_html(path, node)}</p>\n")
         return written + ["</details>\n"] * len(opened)
@@ -329,9 +332,9 @@ def undeclared_html(sheet: Sheet) -> list[str]:
         f"{uses_html(names.uses[path_text(path)])}</div>\n" for path in open_paths
     ]
     strays = [f"<div><u>{word}</u>{uses_html(uses)}</div>\n" for word, uses in sorted(names.strays.items())]
-    heads = ["<section id=predefined><h2>Predefined names</h2>\n", "<section id=strays><h2>Names that nothing declares</h2>\n"]
     end = "</section>\n"
-    return [heads[0], *predefined, end, *([heads[1], *strays, end] if strays else [])]
+    written = ["<section id=predefined><h2>Predefined names</h2>\n", *predefined, end]
+    return written + ["<section id=strays><h2>Names that nothing declares</h2>\n", *strays, end] if strays else written
 
 
 # ---- the comparison
@@ -348,11 +351,13 @@ def comparison_html(sheet: Sheet) -> list[str]:
     lines = sheet.names.lines
     lacks = [f"<li class=lacking>{link(path)}</li>\n" for path in sorted(found.lacks)]
     adds = [
-        f"<li class=added><details id={path_text(path)}><summary>{path_text(path)}</summary>{text_html(text)}</details></li>\n"
+        f"<li class=added><details id={path_text(path)}><summary>{path_text(path)}</summary>"
+        f"{text_html(text)}</details></li>\n"
         for path, text in found.adds.items()
     ]
     changes = [
-        f"<li class=changed><details id=c{lines[path].number}><summary>{link(path)}</summary>{text_html(text)}</details></li>\n"
+        f"<li class=changed><details id=c{lines[path].number}><summary>{link(path)}</summary>"
+        f"{text_html(text)}</details></li>\n"
         for path, text in found.changes.items()
     ]
     written = [f"<section id=comparison><h2>Beside {escape(found.other)}</h2>\n"]
@@ -373,7 +378,7 @@ def title_of(listing: Listing) -> str:
 
 def head_html(sheet: Sheet, style: str, script: str) -> str:
     digest = base64.b64encode(hashlib.sha256(script.encode()).digest()).decode()
-    policy = f"default-src 'none'; style-src 'unsafe-inline'; script-src 'sha256-{digest}'; base-uri 'none'; form-action 'none'"
+    policy = f"default-src 'none'; style-src 'unsafe-inline'; script-src 'sha256-{digest}'; base-uri 'none'"
     return (
         '<!DOCTYPE html>\n<html lang="en">\n<head>\n<meta charset="utf-8">\n'
         f'<meta http-equiv="Content-Security-Policy" content="{policy}">\n'
@@ -386,10 +391,11 @@ def navigation_html(sheet: Sheet) -> list[str]:
     tree = TreeWriter(sheet)
     listing = sheet.listing
     kinds = " ".join(f"<span>{kind} <small>{count:,}</small></span>" for kind, count in tree.counts.most_common())
-    facts = [counted(listing.line_count, "line"), counted(len(listing.dumps), "table"), counted(len(listing.rows), "path")]
+    counts = {"line": listing.line_count, "table": len(listing.dumps), "path": len(listing.rows)}
+    facts = [counted(count, word) for word, count in counts.items()]
     return [
         f"<nav>\n<header>\n<h1>{escape(title_of(listing))}</h1>\n<p>{', '.join(facts)}</p>\n",
-        '<input id=find type=search placeholder="Find a path" aria-label="Find a path" autocomplete=off spellcheck=false hidden>\n',
+        '<input id=find type=search aria-label="Find a path" autocomplete=off spellcheck=false hidden>\n',
         f"</header>\n<p class=kinds>{kinds}</p>\n<div id=found hidden></div>\n<div id=tree>\n",
         *tree.write(),
         "</div>\n</nav>\n",

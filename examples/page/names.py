@@ -34,8 +34,8 @@ class Sort(Enum):
 
 @dataclass(frozen=True, slots=True)
 class Meaning:
-    """What a name does, with the path, and the anchor at which that stands: the path itself, or a line's number for a name
-    that a body declares."""
+    """What a name does, with the path, and the anchor at which that stands: the path itself, or a line's number for a
+    name that a body declares."""
 
     sort: Sort
     path: Path | None = None
@@ -89,8 +89,8 @@ class Names:
     """The paths of a listing, and the meanings of its names.
 
     `lines` has the line at which each path is declared, `externals` the first that names it where none declares it,
-    `meanings` the meanings of each line's names in their order, `uses` the lines from which names lead to an anchor, by the
-    method, or the scope, that they stand in, and `strays` the same of names that lead nowhere, by the name."""
+    `meanings` the meanings of each line's names in their order, `uses` the lines from which names lead to an anchor, by
+    the method, or the scope, that they stand in, and `strays` the same of names that lead nowhere, by the name."""
 
     def __init__(self, listing: Listing):
         self.lines: dict[Path, Line] = {}
@@ -119,7 +119,7 @@ class Names:
         rows = {row.path for row in listing.rows}
         for path in rows ^ self.lines.keys():
             if path in rows:
-                raise NoListing(f"it is cut, or changed: {path_text(path)} is declared in none of its definition blocks")
+                raise NoListing(f"it is cut, or changed: none of its definition blocks declares {path_text(path)}")
             raise NoListing(f"line {self.lines[path].number}: {path_text(path)} isn't in its namespace")
 
     # ---- the load pass

@@ -164,13 +164,14 @@ function step(by) {
 }
 
 function onKey(event) {
+  const first = found.querySelector("a");
   const isInFind = document.activeElement === find || found.contains(document.activeElement);
   if (event.key === "/" && document.activeElement !== find && !event.ctrlKey && !event.metaKey) find.select();
   else if (event.key === "Escape" && pop) closePop();
   else if (event.key === "Escape") leaveFind();
   else if (isInFind && event.key === "ArrowDown") step(1);
   else if (isInFind && event.key === "ArrowUp") step(-1);
-  else if (document.activeElement === find && event.key === "Enter" && found.querySelector("a")) found.querySelector("a").click();
+  else if (document.activeElement === find && event.key === "Enter" && first) first.click();
   else return;
   event.preventDefault();
 }
