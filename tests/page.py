@@ -283,8 +283,8 @@ class Read(HTMLParser):
 
     def told(self) -> list[Told]:
         """The names of the blocks as the independent reading tells them."""
-        own = ((place, line) for place, (tag, found, _, line) in enumerate(self.names) if tag == "dfn" and "id" not in found)
-        own_lines = {str(line): place for place, line in own}
+        names = enumerate(self.names)
+        own_lines = {str(line): place for place, (tag, found, _, line) in names if tag == "dfn" and "id" not in found}
         return [(text, *self.meaning(tag, found, own_lines)) for tag, found, text, _ in self.names]
 
     def meaning(self, tag: str, found: dict, own_lines: dict) -> tuple[str, object]:
