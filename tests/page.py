@@ -68,7 +68,7 @@ HOSTILE_TEXT = b"<script>alert(1)</script>&amp;'\"\x01 -->"
 # Names of a body before and behind their declarations, in a block and in a field list, and one that is searched upward.
 CALL = (
     b"\x70INIT\x60" + b"\\INIT\x01" + packed(b"\xA0", b"\x60" + b"\x08INIT\x01") + b"\x70INIT\x61"
-    + field_list(b"REGN", b"FLD0\x08\0\x04FLD1\x04") + b"\x70FLD0INIT" + b"\x8CINIT\0BYTE" + b"\x70BYTE\x62"
+    + field_list(b"REGN", b"FLD0\x08\0\x04\2FLD0FLD1\x04") + b"\x70FLD0INIT" + b"\x8CINIT\0BYTE" + b"\x70BYTE\x62"
     + b"\x86^^\0\x0A\x80" + b"\x70\x01QQQQ" + b"\x06INITLOCA" + b"\x08INIT\0" + b"\x70LOCAINIT" + b"\xA4_OSI\x0DLinux\0"
 )
 DEVICE = (
