@@ -22,6 +22,8 @@ HERE = pathlib.Path(__file__).resolve().parent
 DEEPEST_FOLD = 60
 # A block of so many lines isn't laid out before it is seen. Its height is known beforehand by its lines.
 LONG_BLOCK = 12
+# Longer lists of a comparison are folded.
+MOST_OPEN = 20
 HARDWARE_NAMES = ("_HID", "_CID")
 NUMBERS = ("Zero", "One", "Ones")
 PLAIN = re.compile("Local[0-7]|Arg[0-6]|(Not)?Serialized")
@@ -344,6 +346,11 @@ def text_html(text: Text) -> str:
     return f"<pre>{escape(chr(10).join(text))}</pre>"
 
 
+def anchor_of_added(sheet: Sheet, path: Path) -> str:
+    """A path that only the other listing declares may be predefined here, or an External's, and then has its anchor."""
+    return "" if path in PREDEFINED or path in sheet.names.externals else f" id={path_text(path)}"
+
+
 def comparison_html(sheet: Sheet) -> list[str]:
     found = sheet.comparison
     if not found:
@@ -351,7 +358,7 @@ def comparison_html(sheet: Sheet) -> list[str]:
     lines = sheet.names.lines
     lacks = [f"<li class=lacking>{link(path)}</li>\n" for path in sorted(found.lacks)]
     adds = [
-        f"<li class=added><details id={path_text(path)}><summary>{path_text(path)}</summary>"
+        f"<li class=added><details{anchor_of_added(sheet, path)}><summary>{path_text(path)}</summary>"
         f"{text_html(text)}</details></li>\n"
         for path, text in found.adds.items()
     ]
@@ -362,7 +369,9 @@ def comparison_html(sheet: Sheet) -> list[str]:
     ]
     written = [f"<section id=comparison><h2>Beside {escape(found.other)}</h2>\n"]
     for items, word in ((adds, "that it adds"), (lacks, "that it lacks"), (changes, "that it changes")):
-        written += [f"<h3>{counted(len(items), 'path')} {word}</h3><ul>\n", *items, "</ul>\n"]
+        state = " open" if len(items) <= MOST_OPEN else ""
+        head = f"<summary>{counted(len(items), 'path')} {word}</summary>"
+        written += [f"<details{state}>{head}<ul>\n", *items, "</ul></details>\n"]
     return [*written, "</section>\n"]
 
 
