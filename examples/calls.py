@@ -1,0 +1,124 @@
+#!/usr/bin/env python3
+"""Lists the names of methods with arguments that stand where this reader gives a name none.
+
+    python3 examples/calls.py [--any-sum] [--unknown-zero] [--externals FILE] FOLDER
+
+Where an operator wants a target or an object, as SizeOf, Notify, Acquire and the last operand of Add do, the grammar of
+docs/grammar.md has no call with arguments. If a compiler wrote one, the arguments stand behind the operator as terms of
+their own, or the body is raw. Each line says where to look: the method or scope, the name, how many arguments its method
+has, the operator, and the line of the text. CondRefOf, ObjectType and RefOf take the method itself as well as what it returns.
+
+Raw bodies aren't looked through. ACPIDIS names another program. Status 0 is no such name, 3 one at least, 1 a folder that
+is refused, and 2 a command line or a program that is at fault.
+"""
+
+import argparse
+import re
+import sys
+
+import listing
+
+SHOWN = 100
+COUNT = re.compile(r"(\\\S*) ([0-7])\n?")
+EXTERNAL = re.compile(r"External \((\S+), \S+, (\S+)\)")
+NUMBERS = {"Zero": 0, "One": 1}
+TARGETS = {
+    (0,): "RefOf Increment Decrement SizeOf ObjectType Wait Acquire Signal Reset Release Unload Notify",
+    (0, 1): "CondRefOf",
+    (1,): "Store Not FindSetLeftBit FindSetRightBit ToBuffer ToDecimalString ToHexString ToInteger CopyObject FromBCD ToBCD Load",
+    (2,): "Add Concatenate Subtract Multiply ShiftLeft ShiftRight And NAnd Or NOr XOr ConcatenateResTemplate Mod Index ToString",
+    (2, 3): "Divide",
+    (3,): "Mid",
+}
+# The positions of each operator that take a target or an object.
+PLACES = {word: places for places, words in TARGETS.items() for word in words.split()}
+# The positions of the names that terms of a body declare, the last of the names of a term.
+DECLARED = re.compile(
+    r"(?:Name|Mutex|Event|OperationRegion|DataTableRegion) \(([^\s,)]+)|(?:Create\w*Field|Alias) \(.*, ([^\s,)]+)\)"
+    r"|([A-Z_][A-Z0-9_]{3}), \d+"
+)
+
+
+def targets(line):
+    """The names in a line that stand as targets or objects, each with its operator."""
+    stack, word = [("", 0)], ""
+    for token in listing.TOKEN.findall(line):
+        operator, place = stack[-1]
+        if token in "({":
+            stack.append((word if token == "(" else "", 0))
+        elif token in ")}" and len(stack) > 1:
+            stack.pop()
+        elif token == ",":
+            stack[-1] = operator, place + 1
+        elif place in PLACES.get(operator, ()) and listing.NAME.fullmatch(token):
+            yield operator, token
+        word = token
+
+
+def add_counts(namespace, path, count):
+    namespace.counts[path] = max(count, namespace.counts.get(path, 0))
+
+
+def add_externals(lines, namespace):
+    for line, scope, _ in lines:
+        form = EXTERNAL.fullmatch(line)
+        if form:
+            number = NUMBERS[form[2]] if form[2] in NUMBERS else int(form[2], 0)
+            add_counts(namespace, listing.placed(scope, form[1])[0], number)
+
+
+def calls(text):
+    """The method or scope, the name, its count, the operator and the line of each such name."""
+    own, own_of = set(), None
+    for line, scope, method in text.lines:
+        if method is not own_of:
+            own, own_of = set(), method
+        for operator, name in targets(line):
+            kind = text.namespace.kind(scope, name, own)
+            if isinstance(kind, int) and kind > 0:
+                yield scope, name, kind, operator, line
+        declared = DECLARED.match(line) if method else None
+        if declared:
+            own.add(listing.placed(scope, next(filter(None, declared.groups())))[0])
+
+
+def listing_of(asked):
+    words = [listing.program()]
+    words += ["--any-sum"] * asked.any_sum + ["--unknown-zero"] * asked.unknown_zero
+    words += ["--externals", asked.externals] if asked.externals else []
+    run = listing.run([*words, "--", asked.folder])
+    if run.refused:
+        raise listing.Refused(run.refused)
+    add_externals(run.listing.lines, run.listing.namespace)
+    if asked.externals:
+        with open(asked.externals, encoding="ascii") as file:
+            for path, count in (COUNT.fullmatch(line).groups() for line in file):
+                # What a table's External names has the External's count.
+                run.listing.namespace.counts.setdefault(path, int(count))
+    return run
+
+
+def main():
+    words = argparse.ArgumentParser(description=__doc__, formatter_class=argparse.RawDescriptionHelpFormatter)
+    words.add_argument("folder", metavar="FOLDER")
+    words.add_argument("--any-sum", action="store_true", help="as the option of acpidis")
+    words.add_argument("--unknown-zero", action="store_true", help="as the option of acpidis")
+    words.add_argument("--externals", metavar="FILE", help="as the option of acpidis")
+    try:
+        run = listing_of(words.parse_args())
+    except listing.Refused as fault:
+        print(f"calls: the set is refused: {fault}", file=sys.stderr)
+        sys.exit(1)
+    except (listing.Unusable, OSError, UnicodeError) as fault:
+        print(f"calls: {fault}", file=sys.stderr)
+        sys.exit(2)
+    found = list(calls(run.listing))
+    for scope, name, count, operator, line in found:
+        print(f"{scope}: {name} takes {count}, in {operator}: {line[:SHOWN]}")
+    if run.faults:
+        print(f"calls: {len(run.faults)} raw bodies aren't looked through", file=sys.stderr)
+    sys.exit(3 if found else 0)
+
+
+if __name__ == "__main__":
+    main()

@@ -1,0 +1,259 @@
+#!/usr/bin/env python3
+"""Names what the bodies of a set wait for: the names that no table declares, each as a line for --externals.
+
+    python3 examples/missing.py [--try] [--any-sum] [--externals FILE] FOLDER >counts
+
+Standard output has a line for each name, `PATH ?`, where the digit is for you to set. Standard error says of each, in
+lines with #, how many bodies wait for it and with which counts from 0 to 7 they read. With --try the name has its line
+only where just one count reads, and this count on it, so that the lines are a file for --externals as they stand.
+
+A body shows its first such name alone. So the set is read in rounds, each with the counts that fit best so far, until no
+body waits. --externals names counts that you know already. ACPIDIS names another program. Status 1 is a folder that is
+refused, 2 a command line or a program that is at fault.
+"""
+
+import argparse
+import concurrent.futures
+import re
+import sys
+import tempfile
+
+import listing
+
+COUNTS = range(8)
+MOST_NAMES = 1000
+MOST_PASSES = 3
+NAME = re.compile(rb"(\\|\^*)(?:\x2e(.{8})|\x2f(.)|([A-Z_][A-Z0-9_]{3})|\x00)", re.DOTALL)
+
+
+class Body:
+    """A raw body: its method's number in the text and its path, the word of its fault, its offset, its bytes."""
+
+    def __init__(self, number, path, fault, raw):
+        self.number, self.path, self.fault, self.raw = number, path, fault, raw
+        self.word, _, at = fault.partition(" at ")
+        self.at = int(at) if at.isdigit() else 0
+
+    def name(self):
+        """The path of the name at the fault, as a line for --externals wants it; None where it leads above the root."""
+        prefix, segments = name_at(self.raw, self.at)
+        if prefix == "" and len(segments) == 1:
+            return listing.joined(segments)  # looked for in every scope above: the root's is found from each
+        scope = [] if prefix == "\\" else listing.parts(self.path)
+        left = len(scope) - prefix.count("^")
+        return listing.joined(scope[:left] + segments) if left >= 0 else None
+
+
+def name_at(raw, at):
+    """The prefix and the segments of the name that stands there."""
+    form = NAME.match(raw, at)
+    if not form:
+        raise listing.Unusable(f"no name stands at {at} of a body that wants one: is this another version of acpidis?")
+    path = form[2] or form[4] or b""
+    if form[3]:
+        path = raw[form.end() : form.end() + 4 * form[3][0]]
+    text = path.decode("ascii")
+    return form[1].decode(), [text[i : i + 4] for i in range(0, len(text), 4)]
+
+
+def bodies_of(run):
+    """The raw bodies of a run: each line of standard error belongs to the next raw body of the text."""
+    raws = [(number, method.raw) for number, method in enumerate(run.listing.methods) if method.raw is not None]
+    return [Body(number, path, fault, raw) for (number, raw), (path, fault) in zip(raws, run.faults)]
+
+
+class Trial:
+    """What comes of the bodies that wait for a name, where it has a count."""
+
+    def __init__(self, run, bodies):
+        self.refused = run.refused
+        self.read = self.loose = self.values = 0
+        self.faults = []
+        if run.refused:
+            return
+        raw = {body.number: body for body in bodies_of(run)}
+        for body in bodies:
+            if body.number in raw:
+                self.faults.append(raw[body.number].fault)
+                continue
+            values = run.listing.methods[body.number].lone_values(run.listing.namespace)
+            self.values += values
+            if values:
+                self.loose += 1
+            else:
+                self.read += 1
+
+    def rank(self):
+        """The less, the better."""
+        return bool(self.refused), len(self.faults), self.values
+
+
+class Search:
+    """The names in the order of the rounds, each with the count that fits best so far."""
+
+    def __init__(self, program, folder, options, given):
+        self.program, self.folder, self.options, self.given = program, folder, options, given
+        self.counts = {}
+        self.waiting = {}  # the bodies that wait for each name
+        self.rounds = []
+
+    def run(self, counts, more=()):
+        with tempfile.NamedTemporaryFile("w", prefix="counts") as file:
+            file.write(self.given)
+            file.writelines(f"{path} {count}\n" for path, count in counts.items())
+            file.flush()
+            return listing.run([self.program, *self.options, *more, "--externals", file.name, "--", self.folder])
+
+    def trials(self, name, more=()):
+        """What comes of each count of a name, with the others as they are."""
+
+        def trial(count):
+            return Trial(self.run({**self.counts, name: count}, more), self.waiting[name])
+
+        with concurrent.futures.ThreadPoolExecutor(4) as pool:
+            return list(pool.map(trial, COUNTS))
+
+    def go(self):
+        """Goes round until no body waits, and answers the bodies that are raw all the same."""
+        while True:
+            run = self.run(self.counts)
+            if run.refused:
+                raise listing.Refused(run.refused)
+            bodies = bodies_of(run)
+            found = {}
+            for body in bodies:
+                name = body.name() if body.word == "UnknownName" else None
+                if name and name not in self.counts:
+                    found.setdefault(name, []).append(body)
+            if not found:
+                return bodies
+            if len(self.counts) + len(found) > MOST_NAMES:
+                raise listing.Unusable(f"more than {MOST_NAMES} names are missing: a table is, more likely")
+            self.waiting.update(found)
+            self.rounds.append(sorted(found, key=lambda name: -len(found[name])))
+            for name in self.rounds[-1]:
+                # What stands behind may be unknown still, and is taken to have no arguments meanwhile.
+                self.choose(name, self.trials(name, ["--unknown-zero"]))
+
+    def choose(self, name, trials):
+        """Keeps the count that fits best, and says whether it is another one."""
+        before = self.counts.get(name, 0)
+        self.counts[name] = min(COUNTS, key=lambda count: (*trials[count].rank(), count != before))
+        return self.counts[name] != before
+
+    def settle(self):
+        """The trials of each name beside the best counts of the others."""
+        for _ in range(MOST_PASSES):
+            trials, changed = {}, False
+            for name in self.counts:
+                trials[name] = self.trials(name)
+                changed |= self.choose(name, trials[name])
+            if not changed:
+                break
+        return trials
+
+
+def spans(counts):
+    """Counts in words: 0, 1 or 3 to 7."""
+    runs = []
+    for count in counts:
+        if runs and runs[-1][-1] == count - 1:
+            runs[-1].append(count)
+        else:
+            runs.append([count])
+    words = [word for run in runs for word in ([f"{run[0]} to {run[-1]}"] if len(run) > 2 else map(str, run))]
+    return " or ".join(filter(None, [", ".join(words[:-1]), words[-1]]))
+
+
+def number_of(count, verb):
+    return f"{count} {verb}{'s' if count == 1 else ''}"
+
+
+def outcome(trial):
+    """A trial in words."""
+    if trial.refused:
+        return f"the set is refused: {trial.refused}"
+    words = []
+    if trial.read:
+        words.append(number_of(trial.read, "read"))
+    if trial.loose:
+        words.append(number_of(trial.loose, "read") + " with values that stand alone as terms")
+    if trial.faults:
+        words.append(number_of(len(trial.faults), "stay") + f" raw, {trial.faults[0]}")
+    return ", ".join(words)
+
+
+def say(text):
+    print(f"# {text}", file=sys.stderr, flush=True)
+
+
+def report(name, bodies, trials):
+    waiting = "1 body waits" if len(bodies) == 1 else f"{len(bodies)} bodies wait"
+    say(f"{name}: {waiting}, the first {bodies[0].path} at {bodies[0].at}")
+    said = {}
+    for count in COUNTS:
+        said.setdefault(outcome(trials[count]), []).append(count)
+    for words, counts in said.items():
+        say(f"  with {spans(counts)}: {words}")
+    if trials[0].read:
+        say("  0 is also the count of what is no method")
+
+
+def show(search, must_be_one):
+    all_trials = search.settle()
+    for number, names in enumerate(search.rounds, 1):
+        say(f"Round {number}")
+        for name in names:
+            trials = all_trials[name]
+            report(name, search.waiting[name], trials)
+            if number < len(search.rounds):
+                say(f"  taken with {search.counts[name]} in the next rounds")
+            reading = [count for count in COUNTS if trials[count].read]
+            if not must_be_one:
+                print(f"{name} ?", flush=True)
+            elif len(reading) == 1:
+                print(f"{name} {reading[0]}", flush=True)
+            else:
+                say("  no line, since not just one count reads")
+    if not search.rounds:
+        say("no body waits for a name")
+
+
+def say_left(bodies):
+    """The bodies that no count mends."""
+    for body in bodies:
+        say(f"{body.path} stays raw: {body.fault}")
+
+
+def search_of(asked):
+    given = ""
+    if asked.externals:
+        with open(asked.externals, encoding="ascii") as file:
+            given = file.read()
+    if given and not given.endswith("\n"):
+        given += "\n"
+    return Search(listing.program(), asked.folder, ["--any-sum"] * asked.any_sum, given)
+
+
+def main():
+    words = argparse.ArgumentParser(description=__doc__, formatter_class=argparse.RawDescriptionHelpFormatter)
+    words.add_argument("folder", metavar="FOLDER")
+    words.add_argument("--try", action="store_true", dest="must_be_one", help="lines only where just one count reads")
+    words.add_argument("--any-sum", action="store_true", help="as the option of acpidis")
+    words.add_argument("--externals", metavar="FILE", help="counts that are known already")
+    asked = words.parse_args()
+    try:
+        search = search_of(asked)
+        left = search.go()
+        show(search, asked.must_be_one)
+        say_left(left)
+    except listing.Refused as fault:
+        print(f"missing: the set is refused: {fault}", file=sys.stderr)
+        sys.exit(1)
+    except (listing.Unusable, OSError, UnicodeError) as fault:
+        print(f"missing: {fault}", file=sys.stderr)
+        sys.exit(2)
+
+
+if __name__ == "__main__":
+    main()

@@ -1,0 +1,169 @@
+#!/usr/bin/env python3
+"""Tries examples/missing.py and examples/calls.py on sets made here.
+
+    python3 tests/examples.py
+
+They run the program as they find it: ACPIDIS names another. The last line is 'N passed, N failed'.
+"""
+
+import os
+import pathlib
+import subprocess
+import sys
+import tempfile
+
+from pages import TOP, table
+
+
+def block(opcode, content):
+    """An opcode with a package length of two bytes around its content."""
+    length = 2 + len(content)
+    return opcode + bytes([0x40 | length & 15, length >> 4]) + content
+
+
+def method(name, body, flags=0):
+    return block(b"\x14", name + bytes([flags]) + body)
+
+
+def device(name, *terms):
+    return block(b"\x5b\x82", name + b"".join(terms))
+
+
+SUN = b"\x08_SUN\x01"
+EJECT = b"\\\x2f\x03_SB_PHPRPCEJ_SUN\x0a\x07"
+EJECTS = block(b"\x10", b"\\_SB_" + b"".join(device(b"S00%d" % n, SUN, method(b"_EJ0", EJECT, 1)) for n in range(3)))
+# DVNT (\_SB_.PCIU, One) DVNT (\_SB_.PCID, 0x03) Reset (EVNT)
+ROUNDS = (
+    method(b"DVNT", b"", 2)
+    + b"\x5b\x02EVNT"
+    + method(b"PCNT", b"DVNT\\\x2e_SB_PCIU\x01DVNT\\\x2e_SB_PCID\x0a\x03\x5b\x26EVNT")
+)
+PLACES = device(b"DEV0", method(b"AAAA", b"\xa4ZZZZ\x01"), method(b"BBBB", b"\xa4^YYYY"), method(b"CCCC", b"\xa4^^^XXXX"))
+OUTSIDE = b"\x08VALU\x11\x07VVVV\0\0" + method(b"MAIN", b"\xa4VVVV")
+TARGETS = (
+    method(b"FOO_", b"\xa4\x68", 1)
+    + b"\x08BAR_\x01"
+    + block(b"\x14", b"MAIN\0" + block(b"\xa0", b"\x94\x87FOO_\x0a\x05\x0a\x04") + b"\x86FOO_\x01\x0a\x80\x5b\x23FOO_\x62\xff\xff")
+    + method(b"GOOD", b"\x70FOO_BAR_BAR_\x71BAR_\x08FOO_\x01\x75FOO_")
+    + b"\x06FOO_ALIA"
+    + method(b"LAST", b"\x72\x01\x01ALIA")
+    + b"\x15EXTM\x08\x02"
+    + method(b"MORE", b"\x87EXTM")
+)
+BAD_NAME = "a\" {\n      Raw {5A}\n$(touch bad)`touch bad`.dat"
+
+
+class Tries:
+    def __init__(self, room):
+        self.room, self.passed, self.failed = room, 0, 0
+
+    def folder(self, name, code, file="dsdt.dat"):
+        (self.room / name).mkdir()
+        (self.room / name / file).write_bytes(table(b"DSDT", code))
+        return name
+
+    def run(self, script, *words, **variables):
+        return subprocess.run(
+            [sys.executable, TOP / "examples" / script, *words],
+            cwd=self.room,
+            env={**os.environ, **variables},
+            capture_output=True,
+            text=True,
+            check=False,
+        )
+
+    def row(self, name, run, status, out, *said):
+        """This status and standard output, and these lines among those of standard error."""
+        missing = [line for line in said if line not in run.stderr.splitlines()]
+        if run.returncode == status and run.stdout == out and not missing:
+            self.passed += 1
+        else:
+            self.failed += 1
+            print(f"FAILED {name}: status {run.returncode}, not {status}\n{run.stdout}{run.stderr}wanted\n{out}{missing}")
+
+    def is_true(self, name, holds):
+        self.passed += bool(holds)
+        self.failed += not holds
+        if not holds:
+            print(f"FAILED {name}")
+
+
+def try_missing(tries):
+    ejects = tries.folder("ejects", EJECTS)
+    found = tries.run("missing.py", ejects)
+    first = "# \\_SB_.PHPR.PCEJ: 3 bodies wait, the first \\_SB_.S000._EJ0 at 0"
+    reads = ["#   with 0 or 1: 3 read with values that stand alone as terms", "#   with 2: 3 read"]
+    tries.row("names", found, 0, "\\_SB_.PHPR.PCEJ ?\n", first, *reads, "#   with 3 to 7: 3 stay raw, Truncated at 21")
+    found = tries.run("missing.py", "--try", ejects)
+    tries.row("the only count", found, 0, "\\_SB_.PHPR.PCEJ 2\n", first)
+    (tries.room / "counts").write_text(found.stdout)
+    found = tries.run("missing.py", "--externals", "counts", ejects)
+    tries.row("counts that are known", found, 0, "", "# no body waits for a name")
+    rounds = tries.folder("rounds", ROUNDS)
+    found = tries.run("missing.py", rounds)
+    second = ["# Round 2", "# \\_SB_.PCID: 1 body waits, the first \\PCNT at 19", "#   with 0: 1 reads"]
+    tries.row("rounds", found, 0, "\\_SB_.PCIU ?\n\\_SB_.PCID ?\n", *second)
+    found = tries.run("missing.py", "--try", rounds)
+    doubt = "#   no line, since not just one count reads"
+    tries.row("no guess", found, 0, "\\_SB_.PCID 0\n", "#   with 0 or 1: 1 reads", doubt)
+    found = tries.run("missing.py", tries.folder("places", PLACES))
+    above = "# \\DEV0.CCCC stays raw: UnknownName at 1"
+    tries.row("places", found, 0, "\\ZZZZ ?\n\\DEV0.YYYY ?\n", "#   0 is also the count of what is no method", above)
+    found = tries.run("missing.py", "--try", tries.folder("outside", OUTSIDE))
+    refused = '#   with 1 to 7: the set is refused: table "dsdt.dat": ModuleCall'
+    tries.row("a value outside the methods", found, 0, "\\VVVV 0\n", refused)
+
+
+def try_calls(tries):
+    targets = tries.folder("targets", TARGETS)
+    wanted = (
+        "\\MAIN: FOO_ takes 1, in SizeOf: If (LGreater (SizeOf (FOO_), 0x05)) {\n"
+        "\\MAIN: FOO_ takes 1, in Notify: Notify (FOO_, One)\n"
+        "\\MAIN: FOO_ takes 1, in Acquire: Acquire (FOO_, 0xFF62)\n"
+        "\\LAST: ALIA takes 1, in Add: Add (One, One, ALIA)\n"
+        "\\MORE: EXTM takes 2, in SizeOf: SizeOf (EXTM)\n"
+    )
+    tries.row("calls", tries.run("calls.py", targets), 3, wanted)
+    tries.row("no calls", tries.run("calls.py", "rounds"), 0, "", "calls: 1 raw bodies aren't looked through")
+    (tries.room / "counts").write_text("\\PCIU 0\n\\_SB_.PCIU 0\n\\_SB_.PCID 0\n")
+    tries.row("given counts", tries.run("calls.py", "--externals", "counts", "rounds"), 0, "")
+
+
+def try_hostile(tries):
+    named = tries.folder("named", EJECTS, BAD_NAME)
+    text = tries.folder("text", b'\x08TEXT\x0d"\n      Raw {5A}\nMethod (AAAA, 7, \0' + EJECTS)
+    words = "$(touch bad)"
+    os.rename(tries.room / named, tries.room / words)
+    for script, status, out in [("missing.py", 0, "\\_SB_.PHPR.PCEJ 2\n"), ("calls.py", 0, "")]:
+        more = ["--try"] if script == "missing.py" else []
+        name = script.partition(".")[0]
+        tries.row(f"{script}: a file's name", tries.run(script, *more, words), status, out)
+        tries.row(f"{script}: a text", tries.run(script, *more, text), status, out)
+        refused = f"{name}: the set is refused: cannot read folder"
+        tries.row(f"{script}: no folder", tries.run(script, "nowhere"), 1, "", refused)
+        tries.row(f"{script}: a folder like an option", tries.run(script, "--", "--try"), 1, "", refused)
+        none = f"{name}: no program acpidis: install it, or name it in ACPIDIS"
+        tries.row(f"{script}: no program", tries.run(script, text, ACPIDIS="/none/acpidis"), 2, "", none)
+        for number, line in enumerate(("acpidis: body \\A: UnknownName at 0", "Raw {5A}", "")):
+            fake = tries.room / f"{name}{number}"
+            fake.write_text(f"#!/bin/sh\necho 'DefinitionBlock (\"a\") {{'\necho '{line}'\necho '{line}' >&2\nexit 3\n")
+            fake.chmod(0o755)
+            misfit = f"{name}: the lines of standard error don't fit the raw bodies of the text"
+            tries.row(f"{script}: another program", tries.run(script, text, ACPIDIS=str(fake)), 2, "", misfit)
+        tries.is_true(f"{script}: no option", tries.run(script, "--none", text).returncode == 2)
+        tries.is_true(f"{script}: no folder named", tries.run(script).returncode == 2)
+    tries.is_true("nothing is executed", not list(tries.room.glob("**/bad")))
+
+
+def main():
+    with tempfile.TemporaryDirectory() as room:
+        tries = Tries(pathlib.Path(room))
+        try_missing(tries)
+        try_calls(tries)
+        try_hostile(tries)
+    print(f"{tries.passed} passed, {tries.failed} failed")
+    sys.exit(tries.failed > 0)
+
+
+if __name__ == "__main__":
+    main()
