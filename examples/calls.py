@@ -3,13 +3,13 @@
 
     python3 examples/calls.py [--any-sum] [--unknown-zero] [--externals FILE] FOLDER
 
-Where an operator wants a target or an object, as SizeOf, Notify, Acquire and the last operand of Add do, the grammar of
-docs/grammar.md has no call with arguments. If a compiler wrote one, the arguments stand behind the operator as terms of
-their own, or the body is raw. Each line says where to look: the method or scope, the name, how many arguments its method
-has, the operator, and the line of the text. CondRefOf, ObjectType and RefOf take the method itself as well as what it returns.
+Where an operator wants a target or an object, as SizeOf, Notify, Acquire and the last operand of Add do, the grammar
+of docs/grammar.md has no call with arguments. If a compiler wrote one, the arguments stand behind the operator as terms
+of their own, or the body is raw. Each line says where to look: the method or scope, the name, how many arguments its
+method takes, the operator, and the line of the text. CondRefOf, ObjectType and RefOf may name the method itself.
 
-Raw bodies aren't looked through. ACPIDIS names another program. Status 0 is no such name, 3 one at least, 1 a folder that
-is refused, and 2 a command line or a program that is at fault.
+Raw bodies aren't looked through. ACPIDIS names another program. Status 0 is no such name, 3 one at least, 1 a folder
+that is refused, and 2 a command line or a program that is at fault.
 """
 
 import argparse
@@ -25,14 +25,16 @@ NUMBERS = {"Zero": 0, "One": 1}
 TARGETS = {
     (0,): "RefOf Increment Decrement SizeOf ObjectType Wait Acquire Signal Reset Release Unload Notify",
     (0, 1): "CondRefOf",
-    (1,): "Store Not FindSetLeftBit FindSetRightBit ToBuffer ToDecimalString ToHexString ToInteger CopyObject FromBCD ToBCD Load",
-    (2,): "Add Concatenate Subtract Multiply ShiftLeft ShiftRight And NAnd Or NOr XOr ConcatenateResTemplate Mod Index ToString",
+    (1,): "Store Not FindSetLeftBit FindSetRightBit ToBuffer ToDecimalString ToHexString ToInteger CopyObject FromBCD"
+    " ToBCD Load",
+    (2,): "Add Concatenate Subtract Multiply ShiftLeft ShiftRight And NAnd Or NOr XOr ConcatenateResTemplate Mod Index"
+    " ToString",
     (2, 3): "Divide",
     (3,): "Mid",
 }
 # The positions of each operator that take a target or an object.
 PLACES = {word: places for places, words in TARGETS.items() for word in words.split()}
-# The positions of the names that terms of a body declare, the last of the names of a term.
+# The name that a term of a body declares, a field's unit among them.
 DECLARED = re.compile(
     r"(?:Name|Mutex|Event|OperationRegion|DataTableRegion) \(([^\s,)]+)|(?:Create\w*Field|Alias) \(.*, ([^\s,)]+)\)"
     r"|([A-Z_][A-Z0-9_]{3}), \d+"
@@ -116,7 +118,8 @@ def main():
     for scope, name, count, operator, line in found:
         print(f"{scope}: {name} takes {count}, in {operator}: {line[:SHOWN]}")
     if run.faults:
-        print(f"calls: {len(run.faults)} raw bodies aren't looked through", file=sys.stderr)
+        bodies = "1 raw body isn't" if len(run.faults) == 1 else f"{len(run.faults)} raw bodies aren't"
+        print(f"calls: {bodies} looked through", file=sys.stderr)
     sys.exit(3 if found else 0)
 
 

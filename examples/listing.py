@@ -1,7 +1,7 @@
 """Runs acpidis, and reads what it printed: for the scripts beside this file.
 
-A line of the text begins with spaces and a word of its own. What tables can write freely, names of files among it, stands
-in double quotes without a double quote inside, so no line but a raw body's begins with `Raw {`.
+A line of the text begins with spaces and a word of its own. What tables can write freely, names of files among it,
+stands in double quotes without a double quote inside, so no line but a raw body's begins with `Raw {`.
 """
 
 import os

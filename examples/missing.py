@@ -7,9 +7,9 @@ Standard output has a line for each name, `PATH ?`, where the digit is for you t
 lines with #, how many bodies wait for it and with which counts from 0 to 7 they read. With --try the name has its line
 only where just one count reads, and this count on it, so that the lines are a file for --externals as they stand.
 
-A body shows its first such name alone. So the set is read in rounds, each with the counts that fit best so far, until no
-body waits. --externals names counts that you know already. ACPIDIS names another program. Status 1 is a folder that is
-refused, 2 a command line or a program that is at fault.
+A body shows its first such name alone. So the set is read in rounds, each with the counts that fit best so far, until
+no body waits. --externals names counts that you know already. ACPIDIS names another program. Status 1 is a folder that
+is refused, 2 a command line or a program that is at fault.
 """
 
 import argparse

@@ -38,12 +38,15 @@ ROUNDS = (
     + b"\x5b\x02EVNT"
     + method(b"PCNT", b"DVNT\\\x2e_SB_PCIU\x01DVNT\\\x2e_SB_PCID\x0a\x03\x5b\x26EVNT")
 )
-PLACES = device(b"DEV0", method(b"AAAA", b"\xa4ZZZZ\x01"), method(b"BBBB", b"\xa4^YYYY"), method(b"CCCC", b"\xa4^^^XXXX"))
+PLACES = device(
+    b"DEV0", method(b"AAAA", b"\xa4ZZZZ\x01"), method(b"BBBB", b"\xa4^YYYY"), method(b"CCCC", b"\xa4^^^XXXX")
+)
 OUTSIDE = b"\x08VALU\x11\x07VVVV\0\0" + method(b"MAIN", b"\xa4VVVV")
+SIZE = b"\x94\x87FOO_\x0a\x05\x0a\x04"  # LGreater (SizeOf (FOO_ (0x05)), 0x04)
 TARGETS = (
     method(b"FOO_", b"\xa4\x68", 1)
     + b"\x08BAR_\x01"
-    + block(b"\x14", b"MAIN\0" + block(b"\xa0", b"\x94\x87FOO_\x0a\x05\x0a\x04") + b"\x86FOO_\x01\x0a\x80\x5b\x23FOO_\x62\xff\xff")
+    + method(b"MAIN", block(b"\xa0", SIZE) + b"\x86FOO_\x01\x0a\x80\x5b\x23FOO_\x62\xff\xff")
     + method(b"GOOD", b"\x70FOO_BAR_BAR_\x71BAR_\x08FOO_\x01\x75FOO_")
     + b"\x06FOO_ALIA"
     + method(b"LAST", b"\x72\x01\x01ALIA")
@@ -79,7 +82,8 @@ class Tries:
             self.passed += 1
         else:
             self.failed += 1
-            print(f"FAILED {name}: status {run.returncode}, not {status}\n{run.stdout}{run.stderr}wanted\n{out}{missing}")
+            print(f"FAILED {name}: status {run.returncode}, not {status}\n{run.stdout}{run.stderr}", end="")
+            print(f"wanted\n{out}{missing}")
 
     def is_true(self, name, holds):
         self.passed += bool(holds)
@@ -124,7 +128,7 @@ def try_calls(tries):
         "\\MORE: EXTM takes 2, in SizeOf: SizeOf (EXTM)\n"
     )
     tries.row("calls", tries.run("calls.py", targets), 3, wanted)
-    tries.row("no calls", tries.run("calls.py", "rounds"), 0, "", "calls: 1 raw bodies aren't looked through")
+    tries.row("no calls", tries.run("calls.py", "rounds"), 0, "", "calls: 1 raw body isn't looked through")
     (tries.room / "counts").write_text("\\PCIU 0\n\\_SB_.PCIU 0\n\\_SB_.PCID 0\n")
     tries.row("given counts", tries.run("calls.py", "--externals", "counts", "rounds"), 0, "")
 
