@@ -24,8 +24,7 @@ top=${script%/*/*}
 # installed one.
 find_program() {
     if [ -z "${ACPIDIS-}" ] && [ -x "$top/acpidis" ]; then
-        "$top/acpidis" --version >/dev/null || exit
-        ACPIDIS=$top/out/acpidis
+        ACPIDIS=$("$top/acpidis" --program) || exit
     fi
     ACPIDIS=$(command -v -- "${ACPIDIS:-acpidis}") || fail 'no program acpidis: install it, or name it in ACPIDIS'
     export ACPIDIS

@@ -3,7 +3,7 @@
 # text. It runs ./acpidis, which builds the program first. Some rows are skipped where the system can't make the folder.
 
 here=$(CDPATH='' cd -- "$(dirname -- "$0")" && pwd) || exit 1
-"$here/../acpidis" >/dev/null 2>&1
+"$here/../acpidis" --program >/dev/null 2>&1
 work=$(mktemp -d) || exit 1
 trap 'chmod -R u+rwx "$work"; rm -rf "$work"' EXIT
 chmod 755 "$work"

@@ -1,6 +1,7 @@
 #!/bin/sh
-# The launcher ./acpidis: the demo, help without a build, and what it says where it can't build. It builds the program first
-# where that is wanted; the other rows use a copy of the launcher beside a command rt that only pretends.
+# The launcher ./acpidis and the script ./build: the demo, what is answered without a build, crates side by side, and what
+# they say where they can't build. With the word `copy` only the rows that need no built program are tried: they use a copy of
+# the launcher beside a command rt that only pretends. Else the program is built first where that is wanted.
 
 here=$(CDPATH='' cd -- "$(dirname -- "$0")" && pwd) || exit 1
 top=$(dirname -- "$here")
@@ -35,51 +36,190 @@ same() {
     fi
 }
 
-"$top/acpidis" demo >/dev/null 2>&1
-row 'the demo' 0 '    Return (Arg0)' "$top/acpidis" demo
-same 'the demo and nothing else'
-row 'a check of the demo' 0 'Check "dsdt.dat" Bytes 9 Methods 1 Raw 0 Same' "$top/acpidis" --check demo
-row 'the demo between options' 0 '    Return (Arg0)' "$top/acpidis" --workers 2 demo --any-sum
-same 'the demo between options, and nothing else'
-row 'two folders' 2 "For more information, try '--help'." "$top/acpidis" demo demo
-
-# the launcher's own help has the options of the program
-options() {
-    grep -o -- '--[a-z][a-z-]*' | sort -u
+# is NAME GOT WANTED
+is() {
+    if [ "$2" = "$3" ]; then
+        passed=$((passed + 1))
+    else
+        failed=$((failed + 1))
+        printf 'FAILED %s: got\n%s\nnot\n%s\n' "$1" "$2" "$3"
+    fi
 }
-"$top/acpidis" --help | options >own
-"$top/out/acpidis" --help 2>&1 | options >program
-if [ -s own ] && cmp -s own program; then
-    passed=$((passed + 1))
-else
-    failed=$((failed + 1))
-    echo 'FAILED the options of the help: the own ones, those of the program'
-    sed 's/^/  /' own program
-fi
 
-mkdir copy empty commands
-cp "$top/acpidis" "$top/crates.txt" copy
-mkdir -p copy/crates/acpidis_program/src copy/crates/acpidis_program/out copy/crates/acpidis/src
+mkdir copy empty commands folder
+cp "$top/acpidis" "$top/build" "$top/crates.txt" copy
+mkdir -p copy/crates/acpidis_program/data/demo
+cp -r "$top/crates/acpidis_program/src" copy/crates/acpidis_program
+for crate in $(sed -n 's/^\([a-z_]*\)[ :].*/\1/p' copy/crates.txt); do mkdir -p "copy/crates/$crate/src"; done
 path=$work/commands:/usr/bin:/bin
+
+# what needs the built program
+real_rows() {
+    "$top/acpidis" --program >/dev/null 2>&1
+    ln -s "$top/acpidis" link
+    row 'the demo' 0 '    Return (Arg0)' "$top/acpidis" demo
+    same 'the demo and nothing else'
+    row 'a check of the demo' 0 'Check "dsdt.dat" Bytes 9 Methods 1 Raw 0 Same' "$top/acpidis" --check demo
+    row 'the demo between options' 0 '    Return (Arg0)' "$top/acpidis" --workers 2 demo --any-sum
+    same 'the demo between options, and nothing else'
+    row 'a link' 0 '    Return (Arg0)' ./link demo
+    same 'a link, and nothing else'
+    row 'a file that is named demo' 1 'acpidis: cannot read "demo"' "$top/acpidis" --externals demo demo
+    row 'two folders' 2 "For more information, try '--help'." "$top/acpidis" demo demo
+
+    # the launcher's own help has the options of the program
+    options() {
+        grep -o -- '--[a-z][a-z-]*' | sort -u
+    }
+    "$top/acpidis" --help | sed '/^Of this launcher alone/,/^$/d' | options >own
+    "$top/out/acpidis" --help 2>&1 | options >program
+    if [ -s own ] && cmp -s own program; then
+        passed=$((passed + 1))
+    else
+        failed=$((failed + 1))
+        echo 'FAILED the options of the help: the own ones, those of the program'
+        sed 's/^/  /' own program
+    fi
+
+
+    # what the launcher answers without the program is what the program answers
+    rm -rf copy/out copy/crates/acpidis_program/out
+    for words in --version '' --wrong '--workers 0 .' '--workers 65 .' --workers '. .' nowhere; do
+        # shellcheck disable=SC2086
+        "$top/out/acpidis" $words >printed 2>&1
+        echo "$?" >program
+        # shellcheck disable=SC2086
+        copy/acpidis $words >own.printed 2>&1
+        echo "$?" >own
+        head -n 1 printed >>program
+        head -n 1 own.printed >>own
+        if cmp -s own program; then
+            passed=$((passed + 1))
+        else
+            failed=$((failed + 1))
+            echo "FAILED the words $words without the program, and with it"
+            cat own program
+        fi
+    done
+}
+
+# with nothing built, and no kit
+none=$work/empty:/usr/bin:/bin
 for word in --help -h; do
-    row "$word, with nothing built" 0 'Usage: acpidis [OPTIONS] <FOLDER>' env PATH="$work/empty:/usr/bin:/bin" copy/acpidis "$word"
+    row "$word, with nothing built" 0 'Usage: acpidis [OPTIONS] <FOLDER>' env PATH="$none" copy/acpidis "$word"
 done
-row 'no kit' 127 "acpidis: the Rattle kit isn't there: its command rt proves and builds this program" env PATH="$work/empty:/usr/bin:/bin" copy/acpidis demo
+row 'help behind an option' 0 'Usage: acpidis [OPTIONS] <FOLDER>' env PATH="$none" copy/acpidis --check --help
+for word in --version -V; do
+    row "$word, with nothing built" 0 'acpidis 0.1.0' env PATH="$none" copy/acpidis "$word"
+done
+row 'no words' 2 "For more information, try '--help'." env PATH="$none" copy/acpidis
+row 'a wrong option' 2 "error: unexpected argument '--wrong' found" env PATH="$none" copy/acpidis --wrong folder
+row 'a wrong short option' 2 "error: unexpected argument '-x' found" env PATH="$none" copy/acpidis folder -x
+row 'two folders' 2 "error: unexpected argument 'other' found" env PATH="$none" copy/acpidis folder other
+row 'no value' 2 "error: a value is required for '--externals' but none was supplied" \
+    env PATH="$none" copy/acpidis folder --externals
+for number in 0 65 08 x ''; do
+    fault="error: invalid value '$number' for '--workers <N>'"
+    row "workers $number" 2 "$fault" env PATH="$none" copy/acpidis --workers "$number" folder
+    row "workers=$number" 2 "$fault" env PATH="$none" copy/acpidis --workers="$number" folder
+done
+row 'a folder that is not there' 1 'acpidis: cannot read folder' env PATH="$none" copy/acpidis --check nowhere
+row 'a folder like an option' 1 'acpidis: cannot read folder' env PATH="$none" copy/acpidis -- --check
+nokit="acpidis: the Rattle kit isn't there: its command rt proves and builds this program"
+row 'no kit' 127 "$nokit" env PATH="$none" copy/acpidis demo
+row 'all options, and no kit' 127 "$nokit" env PATH="$none" \
+    copy/acpidis --any-sum --workers 64 --workers=1 --externals e --externals=e --unknown-zero --check folder
 
 # a build that fails, with an older program in place
-printf '#!/bin/sh\necho stale\n' >copy/crates/acpidis_program/out/acpidis_program
-chmod +x copy/crates/acpidis_program/out/acpidis_program
-touch -d '2001-01-01' copy/crates/acpidis_program/out/acpidis_program
+mkdir copy/crates/acpidis_program/out
+stub=copy/crates/acpidis_program/out/acpidis_program
+printf '#!/bin/sh\necho stale\n' >$stub
+chmod +x $stub
+touch -d '2001-01-01' $stub
 printf '#!/bin/sh\necho no proof\nexit 1\n' >commands/rt
 chmod +x commands/rt
-for crate in $(sed -n 's/^\([a-z_]*\)[ :].*/\1/p' copy/crates.txt); do mkdir -p "copy/crates/$crate"; done
-row 'a build that fails' 126 'acpidis: the build failed at the crate acpi_tables' env PATH="$path" copy/acpidis demo
+row 'a build that fails' 126 'acpidis: the build failed at the crate aml_names' env RT_JOBS=1 PATH="$path" copy/acpidis demo
 row 'what the build said' 126 'no proof' env PATH="$path" copy/acpidis demo
+is 'half an hour is announced only where nothing is built' "$(grep -c 'half an hour' printed)" 0
+rm -r copy/crates/acpidis_program/out
+row 'half an hour' 126 'acpidis: building, which takes half an hour or more the first time, since every crate is proved' \
+    env PATH="$path" copy/acpidis demo
+is 'a failed build leaves no program' "$(find copy -name 'acpidis.*')" ''
 
-# a build that works, in silence but for what it is at
-printf '#!/bin/sh\n[ "$1" = run ] || exit 0\nprintf "#!/bin/sh\\necho built\\n" >out/acpidis_program\n' >commands/rt
-row 'a build that works' 0 'acpidis: building, which takes half an hour of processor time or more the first time, since every crate is proved' env PATH="$path" copy/acpidis demo
-row 'a built program' 0 'built' env PATH="$work/empty:/usr/bin:/bin" copy/acpidis demo
+# a build that works; rt keeps a log of what begins and ends, and of how many jobs
+cat >commands/rt <<S
+#!/bin/sh
+name=\${PWD##*/}
+echo "begin \$name \$*" >>'$work/log'
+sleep 0.2
+if [ "\$1" = run ]; then
+    mkdir -p out
+    printf '#!/bin/sh\\nprintf "%%s|" built "\$@"\\necho\\n' >out/new
+    chmod +x out/new
+    mv out/new out/acpidis_program
+fi
+echo "end \$name" >>'$work/log'
+S
+# most: how many crates were built at the same time at most; order: a crate that began before one below it had ended
+most() {
+    awk '/^begin/ { if (++now > most) most = now } /^end/ { now-- } END { print most }' log
+}
+order() {
+    awk 'FNR == NR { if (/^[^#]*:/) { split($0, half, ":"); split(half[1], words, " "); below[words[1]] = half[2] } next }
+        { all[$2] = 1 } $1 == "end" { ended[$2] = 1 }
+        $1 == "begin" {
+            n = split(below[$2], low, " ")
+            for (i = 1; i <= n; i++) if (low[i] in below && !(low[i] in ended)) print $2, low[i]
+        }
+        END { for (name in all) if (!(name in ended)) print name " has no end" }' copy/crates.txt log
+}
+for width in 1 2 4; do
+    : >log
+    rm -rf copy/crates/acpidis_program/out copy/out
+    row "a build, $width at a time" 0 'built|folder|' env PATH="$path" RT_JOBS=$width copy/acpidis folder
+    is "crates at a time of $width" "$(most)" "$width"
+    is "crates below first, $width at a time" "$(order)" ''
+    is "each crate once, $width at a time" "$(grep -c '^begin' log) $(grep -c 'acpidis: built ' printed)" '14 14'
+done
+is 'the longest chain first' "$(grep -m 1 'acpidis: building' printed)" 'acpidis: building aml_names (1 of 14)'
+is 'four crates, a processor each' "$(grep 'begin aml_names' log)" 'begin aml_names lib --jobs 1'
+is 'one crate, four processors' "$(grep 'begin acpidis_program' log | cut -d ' ' -f 3-5)" 'run --jobs 4'
+row 'a built program, without a kit' 0 'built|folder|' env PATH="$none" copy/acpidis folder
+row 'words go to the program' 0 'built|--wrong|a b||' env PATH="$none" copy/acpidis --wrong 'a b' ''
+where=$(cd copy && pwd -P)
+row 'where the program lies' 0 "$where/out/acpidis" env PATH="$none" copy/acpidis --program
+demo=$where/crates/acpidis_program/data/demo
+row 'the word demo' 0 "built|--check|$demo|" env PATH="$none" copy/acpidis --check demo
+row 'demo behind an option' 0 "built|--externals|demo|--workers|demo|$demo|" \
+    env PATH="$none" copy/acpidis --externals demo --workers demo demo
+mkdir links
+ln -s ../copy/acpidis links/first
+ln -s first links/second
+row 'a link to a link' 0 'built|folder|' env PATH="$none:$work/links" links/second folder
+row 'a link on the PATH' 0 'built|folder|' env PATH="$none:$work/links" second folder
+(cd copy && row 'its own folder' 0 'built|crates|' env PATH="$none" sh acpidis crates; echo "$passed $failed" >../counts)
+read -r passed failed <counts
 
+# several at once, each of which has to put the program in its place
+times=${TIMES-20}
+wrong=0
+while [ "$times" -gt 0 ]; do
+    times=$((times - 1))
+    rm -rf copy/out
+    for number in 1 2 3 4; do copy/acpidis folder >"at$number" 2>&1 & done
+    wait
+    for number in 1 2 3 4; do [ "$(cat "at$number")" = 'built|folder|' ] || wrong=$((wrong + 1)); done
+done
+is 'four at once' "$wrong" 0
+is 'no other file is left' "$(ls copy/out)" 'acpidis'
+
+# a changed source
+sleep 0.01
+touch copy/crates/aml_load/src
+: >log
+row 'a changed source' 0 'built|folder|' env PATH="$path" RT_JOBS=4 copy/acpidis folder
+is 'a changed source is built' "$(grep -c '^begin' log)" 14
+
+if [ "${1-}" != copy ]; then real_rows; fi
 echo "$passed passed, $failed failed"
 [ "$failed" = 0 ]

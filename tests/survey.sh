@@ -3,7 +3,7 @@
 # which builds the program first. The last line is 'N passed, N failed'.
 
 here=$(CDPATH='' cd -- "$(dirname -- "$0")" && pwd) || exit 1
-"$here/../acpidis" --version >/dev/null 2>&1
+"$here/../acpidis" --program >/dev/null 2>&1
 work=$(mktemp -d) || exit 1
 trap 'chmod -R u+rwx "$work"; rm -rf "$work"' EXIT
 program=$here/../out/acpidis
