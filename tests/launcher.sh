@@ -1,7 +1,7 @@
 #!/bin/sh
-# The launcher ./acpidis and the script ./build: the demo, what is answered without a build, crates side by side, and what
-# they say where they can't build. With the word `copy` only the rows that need no built program are tried: they use a copy of
-# the launcher beside a command rt that only pretends. Else the program is built first where that is wanted.
+# The launcher ./acpidis and the script ./build: the demo, what is answered without a build, crates side by side, and
+# what they say where they can't build. With the word `copy` only the rows that need no built program are tried: they use
+# a copy of the launcher beside a command rt that only pretends. Else the program is built first where that is wanted.
 
 here=$(CDPATH='' cd -- "$(dirname -- "$0")" && pwd) || exit 1
 top=$(dirname -- "$here")
@@ -138,12 +138,13 @@ chmod +x $stub
 touch -d '2001-01-01' $stub
 printf '#!/bin/sh\necho no proof\nexit 1\n' >commands/rt
 chmod +x commands/rt
-row 'a build that fails' 126 'acpidis: the build failed at the crate aml_names' env RT_JOBS=1 PATH="$path" copy/acpidis demo
+row 'a build that fails' 126 'acpidis: the build failed at the crate aml_names' \
+    env RT_JOBS=1 PATH="$path" copy/acpidis demo
 row 'what the build said' 126 'no proof' env PATH="$path" copy/acpidis demo
 is 'half an hour is announced only where nothing is built' "$(grep -c 'half an hour' printed)" 0
 rm -r copy/crates/acpidis_program/out
-row 'half an hour' 126 'acpidis: building, which takes half an hour or more the first time, since every crate is proved' \
-    env PATH="$path" copy/acpidis demo
+hour='acpidis: building, which takes half an hour or more the first time, since every crate is proved'
+row 'half an hour' 126 "$hour" env PATH="$path" copy/acpidis demo
 is 'a failed build leaves no program' "$(find copy -name 'acpidis.*')" ''
 
 # a build that works; rt keeps a log of what begins and ends, and of how many jobs
@@ -165,7 +166,10 @@ most() {
     awk '/^begin/ { if (++now > most) most = now } /^end/ { now-- } END { print most }' log
 }
 order() {
-    awk 'FNR == NR { if (/^[^#]*:/) { split($0, half, ":"); split(half[1], words, " "); below[words[1]] = half[2] } next }
+    awk 'FNR == NR {
+            if (/^[^#]*:/) { split($0, half, ":"); split(half[1], words, " "); below[words[1]] = half[2] }
+            next
+        }
         { all[$2] = 1 } $1 == "end" { ended[$2] = 1 }
         $1 == "begin" {
             n = split(below[$2], low, " ")
@@ -181,7 +185,7 @@ for width in 1 2 4; do
     is "crates below first, $width at a time" "$(order)" ''
     is "each crate once, $width at a time" "$(grep -c '^begin' log) $(grep -c 'acpidis: built ' printed)" '14 14'
 done
-is 'the longest chain first' "$(grep -m 1 'acpidis: building' printed)" 'acpidis: building aml_names (1 of 14)'
+is 'the longest chain first' "$(grep -m 1 'acpidis: building [a-z_]* ' printed)" 'acpidis: building aml_names (1 of 14)'
 is 'four crates, a processor each' "$(grep 'begin aml_names' log)" 'begin aml_names lib --jobs 1'
 is 'one crate, four processors' "$(grep 'begin acpidis_program' log | cut -d ' ' -f 3-5)" 'run --jobs 4'
 row 'a built program, without a kit' 0 'built|folder|' env PATH="$none" copy/acpidis folder
@@ -197,8 +201,10 @@ ln -s ../copy/acpidis links/first
 ln -s first links/second
 row 'a link to a link' 0 'built|folder|' env PATH="$none:$work/links" links/second folder
 row 'a link on the PATH' 0 'built|folder|' env PATH="$none:$work/links" second folder
-(cd copy && row 'its own folder' 0 'built|crates|' env PATH="$none" sh acpidis crates; echo "$passed $failed" >../counts)
-read -r passed failed <counts
+cd copy || exit 1
+row 'its own folder' 0 'built|crates|' env PATH="$none" sh acpidis crates
+rm printed
+cd ..
 
 # several at once, each of which has to put the program in its place
 times=${TIMES-20}
