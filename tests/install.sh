@@ -1,5 +1,5 @@
 #!/bin/sh
-# ./install and ./install --remove, in a prefix of their own. The last line is 'N passed, N failed'.
+# ./install and ./install --remove, in a prefix of their own, and the completion. The last line is 'N passed, N failed'.
 
 here=$(CDPATH='' cd -- "$(dirname -- "$0")" && pwd) || exit 1
 top=${here%/*}
@@ -24,28 +24,81 @@ files() {
     find "$1" -type f | LC_ALL=C sort
 }
 
+modes() {
+    find "$1" -printf '%m %y\n' | sort | uniq -c | awk '{ print $2 $3 }' | tr '\n' ' '
+}
+
+# sorted COMMAND..: what it prints, in order
+sorted() {
+    "$@" 2>&1 | LC_ALL=C sort
+}
+
 prefix="$work/a prefix"
-wanted="$prefix/bin/acpidis
-$prefix/share/man/man1/acpidis.1"
-is 'what is said' "$(PREFIX=$prefix "$top/install")" "$wanted"
-is 'what is there' "$(files "$prefix")" "$wanted"
+said=$(umask 077 && PREFIX=$prefix sorted "$top/install")
+is 'what is said' "$said" "$(files "$prefix")"
+page=$prefix/share/man/man1/acpidis.1
+completion=$prefix/share/bash-completion/completions/acpidis
+for file in "$prefix/bin/acpidis" "$page" "$completion" "$prefix/share/doc/acpidis/refusals.md"; do
+    is "$file" "$(printf '%s\n' "$said" | grep -cxF -- "$file")" 1
+done
 program=$top/crates/acpidis_program
 is 'it runs' "$("$prefix/bin/acpidis" "$program/data/demo")" "$(cat "$program/stdout")"
-is 'modes' "$(stat -c %a "$prefix/bin/acpidis" "$prefix/share/man/man1/acpidis.1" | tr '\n' ' ')" '755 644 '
+is 'it is what the launcher runs' "$(cksum <"$prefix/bin/acpidis")" "$(cksum <"$("$top/acpidis" --program)")"
+is 'modes, whatever the umask' "$(modes "$prefix/share")" '644f 755d 755f '
+is 'the mode of the program' "$(stat -c %a "$prefix/bin/acpidis")" 755
 if command -v man >/dev/null; then
-    is 'the page is found' "$(man -M "$prefix/share/man" -w acpidis 2>&1)" "$prefix/share/man/man1/acpidis.1"
+    is 'the page is found' "$(man -M "$prefix/share/man" -w acpidis 2>&1)" "$page"
 fi
-is 'a second time' "$(PREFIX=$prefix "$top/install")" "$wanted"
+docs=$prefix/share/doc/acpidis
+is 'the examples find the program' \
+    "$(ACPIDIS=$prefix/bin/acpidis "$docs/examples/missing.py" "$program/data/demo" 2>&1)" '# no body waits for a name'
+is 'pages that the manual names' "$(sed -n 's|.*doc/acpidis/\([a-z]*\.md\).*|\1|p' "$page" | sort -u |
+    while read -r name; do [ -f "$docs/$name" ] || echo "$name"; done)" ''
+is 'links of the pages' "$(cd "$docs" && grep -oh '([a-z]*\.md[)#]' ./*.md | tr -d '(#)' | sort -u |
+    while read -r name; do [ -f "$name" ] || echo "$name"; done)" ''
+is 'a second time' "$(PREFIX=$prefix sorted "$top/install")" "$said"
 touch "$prefix/bin/other"
-is 'what is taken away' "$(PREFIX=$prefix "$top/install" --remove)" "$wanted"
+is 'what is taken away' "$(PREFIX=$prefix sorted "$top/install" --remove)" "$said"
 is 'what is left' "$(files "$prefix")" "$prefix/bin/other"
 is 'taken away twice' "$(PREFIX=$prefix "$top/install" --remove)" ''
 
-is 'a package' "$(DESTDIR=$work/package "$top/install")" "$work/package/usr/local/bin/acpidis
-$work/package/usr/local/share/man/man1/acpidis.1"
+# completion, as bash calls it
+completed() {
+    bash -c '. "$1"; COMP_WORDS=("${@:2}"); COMP_CWORD=$(($# - 2)); compopt() { :; }
+        _acpidis; echo "${COMPREPLY[*]}"' - "$top/examples/acpidis.bash" "$@"
+}
+options=$("$("$top/acpidis" --program)" --help 2>&1 | grep -o -- '--[a-z][a-z-]*' | sort -u | tr '\n' ' ')
+is 'completion has the options' "$(completed acpidis -- | tr ' ' '\n' | sort | tr '\n' ' ')" "$options"
+is 'a part of an option' "$(completed acpidis --a)" '--any-sum'
+mkdir folder && : >file
+is 'a folder' "$(completed acpidis f)" folder
+is 'a file' "$(completed acpidis --externals f | tr ' ' '\n' | sort | tr '\n' ' ')" 'file folder '
+is 'a number' "$(completed acpidis --workers 3)" 32
+rm -r folder file
+
+# links and folders in the way
+prefix=$work/links
+mkdir -p "$prefix/bin" aside
+: >aside/file
+ln -s "$work/aside/file" "$prefix/bin/acpidis"
+ln -s "$work/aside/file" "$prefix/bin/acpidis.new"
+PREFIX=$prefix "$top/install" >/dev/null
+is 'no link is followed' "$(cat aside/file)$(stat -c %F "$prefix/bin/acpidis")" 'regular file'
+is 'no other file is left' "$(cd "$prefix/bin" && echo *)" 'acpidis acpidis.new'
+prefix=$work/taken
+mkdir -p "$prefix/bin/acpidis"
+is 'a folder is refused' "$(PREFIX=$prefix "$top/install" 2>&1)" "install: $prefix/bin/acpidis is a folder"
+is 'nothing goes into it' "$(files "$prefix")" ''
+ln -s "$top/install" install
+is 'through a link' "$(PREFIX=$work/linked sorted ./install | head -n 1)" "$work/linked/bin/acpidis"
+
+is 'a package' "$(DESTDIR=$work/package "$top/install" | head -n 1)" "$work/package/usr/local/bin/acpidis"
 DESTDIR=$work/package "$top/install" --remove >/dev/null
 is 'a package that is taken away' "$(files package)" ''
-is 'another word' "$(PREFIX=$prefix "$top/install" --delete 2>&1 | cut -c 1-15)" 'install: usage:'
+is 'help' "$("$top/install" --help | head -n 1)" 'Usage: [PREFIX=..] [DESTDIR=..] ./install [--remove]'
+is 'another word' "$("$top/install" --delete 2>&1 | head -n 1 | cut -c 1-6)" 'Usage:'
+"$top/install" --remove more >/dev/null 2>&1
+is 'two words' "$?" 2
 is 'a prefix that is no whole path' "$(PREFIX=usr "$top/install" 2>&1)" 'install: PREFIX has to begin with /: usr'
 mkdir shut
 : >shut/bin

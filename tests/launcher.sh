@@ -1,7 +1,7 @@
 #!/bin/sh
 # The launcher ./acpidis and the script ./build: the demo, what is answered without a build, crates side by side, and
-# what they say where they can't build. With the word `copy` only the rows that need no built program are tried: they use
-# a copy of the launcher beside a command rt that only pretends. Else the program is built first where that is wanted.
+# what they say where they can't build. With the word copy only the rows that need no built program are tried: they use a
+# copy of the launcher beside a command rt that only pretends. Else the program is built first where that is wanted.
 
 here=$(CDPATH='' cd -- "$(dirname -- "$0")" && pwd) || exit 1
 top=$(dirname -- "$here")

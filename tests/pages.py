@@ -5,8 +5,9 @@
 
 A block that begins with ```console has commands behind `$ `, and below each what it prints. They run in a folder with
 `mine`, the set of docs/listing.md, whose text is the first block of that page, and with `examples`. `./acpidis` is the
-launcher. Then the manual page is looked through by mandoc and groff, each where it is installed, and the scripts that
-the pages speak of are tried. The last line is 'N passed, N failed'.
+launcher. Then the manual page is looked through by mandoc and groff, each where it is installed, and its options are
+compared with the program's, its words and those of docs/refusals.md with the sources'. Last, the scripts that the pages
+speak of are tried. The last line is 'N passed, N failed'.
 """
 
 import pathlib
@@ -21,7 +22,8 @@ LISTING = "docs/listing.md"
 PAGES = ["docs/folders.md", "docs/refusals.md", "docs/externals.md", "docs/reading.md", "docs/many.md"]
 MANUAL = "docs/acpidis.1"
 LINTS = [["mandoc", "-T", "lint"], ["groff", "-ww", "-man", "-z"]]
-SCRIPTS = ["tests/survey.sh", "tests/install.sh"]
+REFUSALS = "docs/refusals.md"
+SCRIPTS = ["tests/survey.sh", "tests/install.sh", "tests/examples.py"]
 DSDT = b"\x08BAR_\x0A\x05" + b"\x14\x0BFOO_\x02\xA4\x72\x68\x69\x00" + b"\x14\x0BCALL\x00\xA4ZZZZ"
 SSDT = b"\x10\x17\\_SB_\x5B\x82\x0FDEV0\x14\x09_STA\x08\xA4\x0A\x0F" + b"\x06FOO_ALIA"
 
@@ -88,6 +90,47 @@ def fails_of_manual():
             yield bool(run.stdout)
 
 
+def options_in(text):
+    return set(re.findall(r"--[a-z][a-z-]*", text))
+
+
+def words_of_program():
+    """The words of standard error: the first of each message in the sources, where it is one."""
+    messages = [
+        message
+        for source in (TOP / "crates").glob("*/src/**/*.rt")
+        for message in re.findall(r'(?:#\[error\("|"acpidis: )([^"{]+)', source.read_text())
+    ]
+    return {word for message in messages for word in re.findall(r"^[A-Z][A-Za-z]+", message)}
+
+
+def words_of_refusals():
+    """The words of the first column of the tables."""
+    cells = re.findall(r"^\| `([^`]*)`", (TOP / REFUSALS).read_text(), re.MULTILINE)
+    return {word for cell in cells for word in re.findall(r"[A-Z][A-Za-z]+[a-z]", cell)}
+
+
+def section(manual, name):
+    return re.search(rf"^\.SH {name}\n(.*?)^\.SH", manual, re.MULTILINE | re.DOTALL)[1]
+
+
+def fails_of_words():
+    """Whether the manual has other options than the program, or the manual or refusals.md other words."""
+    manual = (TOP / MANUAL).read_text().replace("\\-", "-")
+    options, diagnostics = section(manual, "OPTIONS"), section(manual, "DIAGNOSTICS")
+    headings = "\n".join(re.findall(r"^(?:\.BR? |acpidis: )(.*)$", diagnostics, re.MULTILINE))
+    run = subprocess.run([TOP / "acpidis", "--any-sum", "--help"], stdout=subprocess.PIPE, check=False)
+    printed = run.stdout.decode()
+    for name, got, wanted in [
+        ("options of the manual", options_in(options), options_in(printed)),
+        ("words of the manual", set(re.findall(r"\b[A-Z][a-z]+[A-Za-z]*\b", headings)), words_of_program()),
+        ("words of refusals.md", words_of_refusals(), words_of_program()),
+    ]:
+        if got != wanted:
+            print(f"FAILED {name}: {sorted(got ^ wanted)}")
+        yield got != wanted
+
+
 def fails_of_scripts():
     """Whether each check of a script fails, by its last line."""
     for script in SCRIPTS:
@@ -100,7 +143,7 @@ def fails_of_scripts():
 
 def main():
     fails = [fail for page in [LISTING, *PAGES] for fail in fails_of(page)]
-    fails += [*fails_of_manual(), *fails_of_scripts()]
+    fails += [*fails_of_manual(), *fails_of_words(), *fails_of_scripts()]
     print(f"{fails.count(False)} passed, {fails.count(True)} failed")
     sys.exit(any(fails))
 
