@@ -168,6 +168,10 @@ survey() {
 
 jobs=$(nproc 2>/dev/null) || jobs=1
 case ${1-} in
+-h | --help)
+    sed -n '2,/^set/s/^# \{0,1\}//p' -- "$script"
+    exit
+    ;;
 --left | --one)
     mode=$1
     shift

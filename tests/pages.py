@@ -3,13 +3,14 @@
 
     python3 tests/pages.py
 
-A block that begins with ```console has commands behind `$ `, and below each what it prints. They run in a folder with
-`mine`, the set of docs/listing.md, whose text is the first block of that page, and with `examples`. `./acpidis` is the
-launcher. Then the manual page is looked through by mandoc and groff, each where it is installed, and its options are
-compared with the program's, its words and those of docs/refusals.md with the sources'. Last, the scripts that the pages
-speak of are tried. The last line is 'N passed, N failed'.
+A block that begins with ```console has commands behind `$ `, more lines of theirs behind `> `, and below what they
+print. They run in a folder with `mine`, the set of docs/listing.md, whose text is the first block of that page, and with
+`examples`. `./acpidis` is the launcher. Then the manual page is looked through by mandoc and groff, each where it is
+installed, and its options are compared with the program's, its words and those of docs/refusals.md with the sources'.
+Last, the scripts that the pages speak of are tried. The last line is 'N passed, N failed'.
 """
 
+import os
 import pathlib
 import re
 import shutil
@@ -27,6 +28,16 @@ SCRIPTS = ["tests/survey.sh", "tests/install.sh", "tests/examples.py"]
 DSDT = b"\x08BAR_\x0A\x05" + b"\x14\x0BFOO_\x02\xA4\x72\x68\x69\x00" + b"\x14\x0BCALL\x00\xA4ZZZZ"
 SSDT = b"\x10\x17\\_SB_\x5B\x82\x0FDEV0\x14\x09_STA\x08\xA4\x0A\x0F" + b"\x06FOO_ALIA"
 
+# In place of ssh: each host has the tables of `mine`, but for one that doesn't answer.
+SSH = """#!/bin/sh
+while [ "$1" != -- ]; do shift; done
+if [ "$2" = dead ]; then
+    echo "ssh: connect to host $2 port 22: Connection timed out" >&2
+    exit 255
+fi
+exec tar -C mine -cf - .
+"""
+
 
 def table(signature, code):
     """A table with this AML and a right checksum."""
@@ -43,10 +54,20 @@ def make_room(room):
     (room / "examples").symlink_to(TOP / "examples")
     (room / "acpidis").write_text(f"#!/bin/sh\nexec '{TOP}/acpidis' \"$@\"\n")
     (room / "acpidis").chmod(0o755)
+    (room / "bin").mkdir()
+    (room / "bin/ssh").write_text(SSH)
+    (room / "bin/ssh").chmod(0o755)
 
 
 def printed_by(command, room):
-    run = subprocess.run(["sh", "-c", command], cwd=room, stdout=subprocess.PIPE, stderr=subprocess.STDOUT, check=False)
+    run = subprocess.run(
+        ["sh", "-c", command],
+        cwd=room,
+        env={**os.environ, "PATH": f"{room}/bin:{os.environ['PATH']}"},
+        stdout=subprocess.PIPE,
+        stderr=subprocess.STDOUT,
+        check=False,
+    )
     return run.stdout.decode()
 
 
@@ -58,8 +79,8 @@ def commands_of(page):
     """Each command of a page with what stands below it."""
     for block in blocks_of(page, "console"):
         for part in re.split(r"^\$ ", block, flags=re.MULTILINE)[1:]:
-            command, _, wanted = part.partition("\n")
-            yield command, wanted
+            command, more, wanted = re.fullmatch(r"([^\n]*\n)((?:> [^\n]*\n)*)(.*)", part, re.DOTALL).groups()
+            yield command + re.sub(r"^> ", "", more, flags=re.MULTILINE), wanted
 
 
 def checks_of(page):

@@ -1,0 +1,54 @@
+#!/bin/sh
+# Brings the ACPI tables of many machines by ssh, several at a time.
+#
+#   collect.sh HOSTS SETS [JOBS]
+#
+# HOSTS is a file with a host a line. The tables of each come into the folder SETS/HOST, whole or not at all. JOBS machines
+# are asked at a time, 16 if left out, each for COLLECT_SECONDS at most (60). sudo must ask for no password there. SETS/log
+# gets a line for each that was asked: host, status, seconds. What went wrong is said with the host in front, and then the
+# status is 1. Start it again to ask those hosts again that have no folder yet.
+
+# one HOST: its tables
+one() {
+    part=$(mktemp -d -- "$SETS/.part.XXXXXX") || exit 1
+    trap 'rm -rf -- "$part"' EXIT
+    start=$(date +%s)
+    said=$(timeout "${COLLECT_SECONDS:-60}" ssh -n -o BatchMode=yes -o ConnectTimeout=10 -- "$1" \
+        sudo -n tar -C /sys/firmware/acpi/tables -cf - . 2>&1 >"$part/tar")
+    status=$?
+    if [ "$status" = 0 ]; then
+        mkdir -- "$part/set" && said=$(tar -C "$part/set" -xf "$part/tar" 2>&1) && chmod 755 -- "$part/set" &&
+            mv -T -- "$part/set" "$SETS/$1" || status=1
+    fi
+    printf '%s\t%s\t%s\n' "$1" "$status" $(($(date +%s) - start)) >>"$SETS/log"
+    if [ "$status" = 0 ]; then return; fi
+    if [ "$status" = 124 ]; then said="no answer in ${COLLECT_SECONDS:-60} seconds"; fi
+    printf '%s\n' "$1: $(printf '%s' "${said:-status $status}" | tail -n 1)" >&2
+    exit 1
+}
+
+case ${1-} in
+--one)
+    one "$2"
+    exit
+    ;;
+-h | --help)
+    sed -n '2,/^$/s/^# \{0,1\}//p' "$0"
+    exit
+    ;;
+esac
+if [ $# -lt 2 ] || [ $# -gt 3 ]; then
+    echo 'usage: collect.sh HOSTS SETS [JOBS]' >&2
+    exit 2
+fi
+mkdir -p -- "$2" || exit 1
+SETS=$2
+export SETS
+# A host is a word that may be a folder's name, and no option of ssh.
+while read -r host; do
+    case $host in
+    '' | '#'*) ;;
+    -* | .* | */* | *[!A-Za-z0-9._@:-]*) echo "$host: no name of a host" >&2 ;;
+    *) [ -d "$SETS/$host" ] || printf '%s\0' "$host" ;;
+    esac
+done <"$1" | xargs -0 -r -n 1 -P "${3:-16}" "$0" --one || exit 1
