@@ -36,7 +36,7 @@ TARGETS = {
 PLACES = {word: places for places, words in TARGETS.items() for word in words.split()}
 # The name that a term of a body declares, a field's unit among them.
 DECLARED = re.compile(
-    r"(?:Name|Mutex|Event|OperationRegion|DataTableRegion) \(([^\s,)]+)|(?:Create\w*Field|Alias) \(.*, ([^\s,)]+)\)"
+    r"(?:Name|Mutex|Event|OperationRegion|DataRegion) \(([^\s,)]+)|(?:Create\w*Field|Alias) \(.*, ([^\s,)]+)\)"
     r"|([A-Z_][A-Z0-9_]{3}), \d+"
 )
 

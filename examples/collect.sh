@@ -10,6 +10,7 @@
 
 # one HOST: its tables
 one() {
+    : "${SETS:?is to name the folder of the sets}"
     part=$(mktemp -d -- "$SETS/.part.XXXXXX") || exit 1
     trap 'rm -rf -- "$part"' EXIT
     start=$(date +%s)

@@ -87,19 +87,17 @@ real_rows() {
     for words in --version '' --wrong '--workers 0 .' '--workers 65 .' --workers '. .' nowhere; do
         # shellcheck disable=SC2086
         "$top/out/acpidis" $words >printed 2>&1
-        echo "$?" >program
+        status=$?
         # shellcheck disable=SC2086
-        copy/acpidis $words >own.printed 2>&1
-        echo "$?" >own
-        head -n 1 printed >>program
-        head -n 1 own.printed >>own
-        if cmp -s own program; then
-            passed=$((passed + 1))
-        else
+        copy/acpidis $words >own 2>&1
+        case $?$(head -n 1 printed) in
+        "$status$(head -n 1 own)"*) passed=$((passed + 1)) ;;
+        *)
             failed=$((failed + 1))
-            echo "FAILED the words $words without the program, and with it"
-            cat own program
-        fi
+            echo "FAILED the words $words: without the program, with it"
+            cat own printed
+            ;;
+        esac
     done
 }
 
@@ -116,7 +114,7 @@ row 'no words' 2 "For more information, try '--help'." env PATH="$none" copy/acp
 row 'a wrong option' 2 "error: unexpected argument '--wrong' found" env PATH="$none" copy/acpidis --wrong folder
 row 'a wrong short option' 2 "error: unexpected argument '-x' found" env PATH="$none" copy/acpidis folder -x
 row 'two folders' 2 "error: unexpected argument 'other' found" env PATH="$none" copy/acpidis folder other
-row 'no value' 2 "error: a value is required for '--externals' but none was supplied" \
+row 'no value' 2 "error: a value is required for '--externals <FILE>' but none was supplied" \
     env PATH="$none" copy/acpidis folder --externals
 for number in 0 65 08 x ''; do
     fault="error: invalid value '$number' for '--workers <N>'"

@@ -151,5 +151,40 @@ if [ "$(id -u)" = 0 ] && command -v setpriv >/dev/null && "${nobody[@]}" test -x
     is 'a folder that may not be read' "$(lines shut)" $'open\t0\t-\t1\t1\t0\nshut\t1\tcannot read folder\t-\t-\t-'
 fi
 
+is 'help' "$("$survey" --help | head -n 1 | cut -c 1-12)" 'Runs acpidis'
+
+# collect.sh, with another ssh: a host that sends tables, one that sends half of them, one that fails, one that is silent
+collect=$here/../examples/collect.sh
+mkdir commands
+cat >commands/ssh <<S
+#!/bin/sh
+while [ "\$1" != -- ]; do shift; done
+echo "\$2" >>'$work/asked'
+case \$2 in
+good*) exec tar -C '$demo' -cf - . ;;
+half) tar -C '$demo' -cf - . | head -c 1040 ;;
+late) sleep 9 ;;
+*) echo first >&2; echo "no way to \$2" >&2; exit 255 ;;
+esac
+S
+chmod +x commands/ssh
+# shellcheck disable=SC2016
+printf '%s\n' good1 dead '# a line' '' late half '-oProxyCommand=touch bad' '../out' 'a b' '$(touch bad)' good2 >hosts
+collected() {
+    PATH=$work/commands:$PATH COLLECT_SECONDS=1 "$collect" hosts collected 2>errors
+}
+collected
+is 'the status of a collection' "$?" 1
+is 'what came' "$(cd collected && find . -type f ! -name log | LC_ALL=C sort | tr '\n' ' ')" './good1/dsdt.dat ./good2/dsdt.dat '
+is 'hosts in the errors' "$(cut -d : -f 1 errors | LC_ALL=C sort | tr '\n' '|')" '$(touch bad)|-oProxyCommand=touch bad|../out|a b|dead|half|late|'
+is 'the last line of an error' "$(grep dead errors)" 'dead: no way to dead'
+is 'no answer' "$(grep late errors)" 'late: no answer in 1 seconds'
+is 'the log' "$(cut -f 1-2 collected/log | LC_ALL=C sort | tr '\t\n' ' |')" 'dead 255|good1 0|good2 0|half 1|late 124|'
+is 'no part is left' "$(ls -A collected | tr '\n' ' ')" 'good1 good2 log '
+: >asked
+collected
+is 'only those are asked again that have none' "$(sort asked | tr '\n' ' ')" 'dead half late '
+is 'nothing ran' "$(find . -name 'bad*')" ''
+
 echo "$passed passed, $failed failed"
 [ "$failed" = 0 ]
