@@ -111,7 +111,7 @@ def main():
     except listing.Refused as fault:
         print(f"calls: the set is refused: {fault}", file=sys.stderr)
         sys.exit(1)
-    except (listing.Unusable, OSError, UnicodeError) as fault:
+    except (listing.Unusable, OSError, ValueError) as fault:
         print(f"calls: {fault}", file=sys.stderr)
         sys.exit(2)
     found = list(calls(run.listing))

@@ -250,7 +250,7 @@ def main():
     except listing.Refused as fault:
         print(f"missing: the set is refused: {fault}", file=sys.stderr)
         sys.exit(1)
-    except (listing.Unusable, OSError, UnicodeError) as fault:
+    except (listing.Unusable, OSError, ValueError) as fault:
         print(f"missing: {fault}", file=sys.stderr)
         sys.exit(2)
 

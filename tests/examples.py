@@ -154,6 +154,10 @@ def try_hostile(tries):
             fake.chmod(0o755)
             misfit = f"{name}: the lines of standard error don't fit the raw bodies of the text"
             tries.row(f"{script}: another program", tries.run(script, text, ACPIDIS=str(fake)), 2, "", misfit)
+        fake.write_text("#!/bin/sh\necho 'Raw {A}'\nexit 3\n")
+        tries.is_true(f"{script}: no bytes", tries.run(script, text, ACPIDIS=str(fake)).returncode in (0, 2))
+        fake.write_text("#!/bin/sh\nkill -9 $$\n")
+        tries.is_true(f"{script}: a signal", tries.run(script, text, ACPIDIS=str(fake)).returncode == 2)
         tries.is_true(f"{script}: no option", tries.run(script, "--none", text).returncode == 2)
         tries.is_true(f"{script}: no folder named", tries.run(script).returncode == 2)
     tries.is_true("nothing is executed", not list(tries.room.glob("**/bad")))
