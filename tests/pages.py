@@ -4,10 +4,10 @@
     python3 tests/pages.py
 
 A block that begins with ```console has commands behind `$ `, more lines of theirs behind `> `, and below what they
-print. They run in a folder with `mine`, the set of docs/listing.md, whose text is the first block of that page, and with
-`examples`. `./acpidis` is the launcher. Then the manual page is looked through by mandoc and groff, each where it is
-installed, and its options are compared with the program's, its words and those of docs/refusals.md with the sources'.
-Last, the scripts that the pages speak of are tried. The last line is 'N passed, N failed'.
+print. They run in a folder with `mine`, the set of docs/listing.md, whose text is the first block of that page, and
+with `examples`. `./acpidis` is the launcher. Then the manual page is looked through by mandoc and groff, each where it
+is installed, and its options are compared with the program's, its words and docs/refusals.md's with the sources'. Last,
+the scripts that the pages speak of are tried. The last line is 'N passed, N failed'.
 """
 
 import os
