@@ -47,7 +47,8 @@ impl<'a, 'b> Bodies<'a, 'b> {
     pub(crate) fn read(&self, number: u32) -> Result<Body, NoMemory>
         requires { CanRead (codes_view self.now.tables.now) self.now.methods.now number }
         ensures { IfOk result (λ body.
-            BecameOf self.now.unknown_zero self.now.space.now (codes_view self.now.tables.now) self.now.methods.now number body) }
+            BecameOf self.now.unknown_zero self.now.space.now (codes_view self.now.tables.now)
+            self.now.methods.now number body) }
     {
         let method = &self.methods[number as usize];
         match read_body(

@@ -59,7 +59,8 @@ pub(crate) fn write_tables<W: Write>(
     tables: Tables<'_, '_>,
     checks: &[Checked],
 ) -> Result<(), WriteFault>
-    ensures { Writes (W.contents out.old) (W.contents out.new) (check_lines (blocks_at tables.entry) checks.now) result }
+    ensures { Writes (W.contents out.old) (W.contents out.new)
+        (check_lines (blocks_at tables.entry) checks.now) result }
 {
     let mut sink = Out::new(out);
     print_checks(&mut sink, tables, checks);

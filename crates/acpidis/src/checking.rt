@@ -113,9 +113,10 @@ pub(crate) fn check_tables(
     requires short { AreShort (codes_view tables.loaded.now.tables.items) }
     requires few { length tables.loaded.now.methods.items ≤ 1048576 }
     ensures { IfOk result (λ all. (bs : List OneBody) →
-        AreTried (codes_view tables.entry.loaded.now.tables.items) tables.entry.loaded.now.methods.items bs tried.now →
-        all.items ≡ checks_from (codes_view tables.entry.loaded.now.tables.items) tables.entry.loaded.now.methods.items bs 0
-        (blocks_at tables.entry)) }
+        AreTried (codes_view tables.entry.loaded.now.tables.items)
+        tables.entry.loaded.now.methods.items bs tried.now →
+        all.items ≡ checks_from (codes_view tables.entry.loaded.now.tables.items)
+        tables.entry.loaded.now.methods.items bs 0 (blocks_at tables.entry)) }
 {
     let mut all = check_blocks(alloc, tables)?;
     count_methods(tables.loaded.methods.as_slice(), tried, all.as_mut_slice());
