@@ -1,6 +1,5 @@
 -- Bodies that were read are the entries of a listing.
-use Rattle.std.specs.Global.{Global}
-use Rattle.std.proofs.Common.{◌≡◌, ℕ, zero, suc, Bool, false, List, [], ◌∷◌, map, length, get_or, Some, Result, Ok, Err, Vec, refl, sym, ap, subst, ◌∙◌, arith, slice_get}
+use Rattle.std.proofs.Common.{◌≡◌, ℕ, zero, suc, Bool, false, List, [], ◌∷◌, map, length, get_or, Some, Result, Ok, Err, refl, sym, ap, subst, ◌∙◌, arith, slice_get}
 use denote.Ref.{Bor}
 use Rattle.aml_space.specs.Entries.{Entry}
 use Rattle.aml_load.specs.Bodies.{OfMethod}
@@ -10,15 +9,17 @@ use Rattle.aml_text.specs.declared.bodies.Body.TheVariants as bodies
 use Rattle.aml_names.specs.declared.faults.CodeFault.{CodeFault}
 use Rattle.aml_code.specs.Tree.{Trees}
 use Rattle.aml_text.specs.Levels.{levels_of, AgreeAt}
-use Rattle.aml_text.specs.Lines.{OneBody, read, raw, body_lines}
-use Rattle.aml_text.specs.Views.{body_view, printed_lines}
-use Rattle.aml_space.specs.Known.{Known, StandsFor}
+use Rattle.aml_text.specs.Lines.{OneBody, read, raw, all_lines, body_lines}
+use Rattle.aml_text.specs.declared.bodies.BodyText.{BodyText}
+use Rattle.aml_text.specs.declared.bodies.BodyText.TheVariants as kept_texts
+use Rattle.aml_text.specs.Views.{IsText, body_view, printed_lines}
+use Rattle.aml_space.specs.Known.{Known}
 use Rattle.aml_load.specs.declared.loading.Loaded.{Loaded}
 use Rattle.aml_load.specs.Views.{codes_view, trees_view, span_of, body_in}
 use Rattle.acpidis.specs.declared.bodies.Bodies.{Bodies}
 use Rattle.acpidis.specs.Bodies.{IsEntry, AreEntries, Became, BecameOf, IsTold, AreTold, IsReading, has_raw}
 use Rattle.acpidis.specs.Checks.{is_raw, body_same}
-use Rattle.acpidis.specs.Kept.{IsKept, KeptOf, AreKept, AreKeptOf, AreBodies, AreTexts, AreTrials, IsText, IsSame, has_fault}
+use Rattle.acpidis.specs.Kept.{IsKept, KeptOf, AreKept, AreKeptOf, AreBodies, AreTexts, AreTrials, IsSame, has_fault}
 use Rattle.acpidis.specs.Tallies.{mark_of, AreTried}
 
 -- what became of each body
@@ -128,12 +129,12 @@ kept_of Gives z loaded w ds r l h =
     record { bodies = c.0; are = are_bodies z loaded c.0 c.1 c.2; kept = c.3 }
 
 -- by the levels of its tables
-pub texts_kept : (z : Bool) (loaded : Loaded) (w : Bodies) (levels : List ℕ) (ds : List (Result (Vec ℕ Global) CodeFault)) → IsReading z loaded w → levels ≡ levels_of (trees_view loaded.trees.items)
+pub texts_kept : (z : Bool) (loaded : Loaded) (w : Bodies) (levels : List ℕ) (ds : List (Result BodyText CodeFault)) → IsReading z loaded w → levels ≡ levels_of (trees_view loaded.trees.items)
     → length ds ≡ length loaded.methods.items
-    → ((n : ℕ) (d : Result (Vec ℕ Global) CodeFault) → slice_get ds n ≡ Some d → KeptOf (IsText (get_or levels n 0)) w.unknown_zero w.space.now (codes_view w.tables.now) w.methods.now n d) → AreTexts z loaded ds
+    → ((n : ℕ) (d : Result BodyText CodeFault) → slice_get ds n ≡ Some d → KeptOf (IsText (get_or levels n 0)) w.unknown_zero w.space.now (codes_view w.tables.now) w.methods.now n d) → AreTexts z loaded ds
 texts_kept z loaded w levels ds r same l h =
     kept_of (λ n. IsText (get_or (levels_of (trees_view loaded.trees.items)) n 0)) z loaded w ds r l
-    (subst (λ (ls : List ℕ). (n : ℕ) (d : Result (Vec ℕ Global) CodeFault) → slice_get ds n ≡ Some d → KeptOf (IsText (get_or ls n 0)) w.unknown_zero w.space.now (codes_view w.tables.now) w.methods.now n d) same h)
+    (subst (λ (ls : List ℕ). (n : ℕ) (d : Result BodyText CodeFault) → slice_get ds n ≡ Some d → KeptOf (IsText (get_or ls n 0)) w.unknown_zero w.space.now (codes_view w.tables.now) w.methods.now n d) same h)
 
 -- by the bytes of its bodies
 pub trials_kept : (z : Bool) (loaded : Loaded) (w : Bodies) (ds : List (Result Bool CodeFault)) → IsReading z loaded w → length ds ≡ length loaded.methods.items
@@ -148,14 +149,15 @@ trials_kept z loaded w ds r l h =
 
 -- ---- what it says of them
 
-same_lines : (level : ℕ) (b : Body) (d : Result (Vec ℕ Global) CodeFault) → IsKept (IsText level) b d → (bytes : List ℕ) → body_lines (body_view b) level bytes ≡ printed_lines d level bytes
-same_lines level (bodies.Tree nodes) (Ok text) k bytes = sym k
+same_lines : (level : ℕ) (b : Body) (d : Result BodyText CodeFault) → IsKept (IsText level) b d → (bytes : List ℕ) → body_lines (body_view b) level bytes ≡ printed_lines d level bytes
+same_lines level (bodies.Tree nodes) (Ok (kept_texts.Lines text)) k bytes = sym k
+same_lines level (bodies.Tree nodes) (Ok (kept_texts.Terms kept)) k bytes = sym (ap (λ ts. all_lines level ts) k)
 same_lines level (bodies.Tree nodes) (Err fault) k bytes = absurd k
 same_lines level (bodies.Raw fault) (Ok text) k bytes = absurd k
 same_lines level (bodies.Raw fault) (Err kept) k bytes = refl
 
 -- texts at their levels print as the bodies do
-pub texts_agree : (ls : List ℕ) (bs : List Body) (ds : List (Result (Vec ℕ Global) CodeFault)) → AreKept (λ n. IsText (get_or ls n 0)) bs ds
+pub texts_agree : (ls : List ℕ) (bs : List Body) (ds : List (Result BodyText CodeFault)) → AreKept (λ n. IsText (get_or ls n 0)) bs ds
     → AgreeAt ls (map body_lines (map body_view bs)) (map printed_lines ds)
 texts_agree [] bs ds k = tt
 texts_agree (l ∷ ls) [] [] k = texts_agree ls [] [] tt

@@ -20,7 +20,8 @@ use Rattle.aml_text.specs.Rows.{namespace_text}
 use Rattle.aml_text.proofs.LevelLaws.{same_blocks}
 use Rattle.aml_text.specs.declared.listing.Listing.{Listing}
 use Rattle.aml_text.specs.Listing.{names_in, listing_text, indexes_in, shown_text, blocks_at, set_text}
-use Rattle.aml_text.specs.Views.{body_view, printed_lines}
+use Rattle.aml_text.specs.declared.bodies.BodyText.{BodyText}
+use Rattle.aml_text.specs.Views.{IsText, body_view, printed_lines}
 use Rattle.acpi_tables.specs.declared.dump.Dump.{Dump}
 use Rattle.acpidis.specs.Bodies.{has_raw}
 use Rattle.acpidis.specs.Meaning.{Meaning, Means, Shows, order_of, codes_of, rows_of, text_of}
@@ -29,7 +30,7 @@ use Rattle.acpidis.specs.Endings.{shown_of, IsOnly, Ends}
 use Rattle.acpidis.specs.declared.options.Options.{Options}
 use Rattle.acpidis.specs.declared.checking.Checked.{Checked}
 use Rattle.acpidis.specs.Checks.{checks_from, check_lines, all_same}
-use Rattle.acpidis.specs.Kept.{AreKept, AreBodies, AreTexts, AreTrials, IsText, IsSame, has_fault}
+use Rattle.acpidis.specs.Kept.{AreKept, AreBodies, AreTexts, AreTrials, IsSame, has_fault}
 use Rattle.acpidis.specs.Sets.{IsSet}
 use Rattle.acpidis.specs.Tallies.{AreTried}
 use Rattle.acpidis.proofs.BodyLaws.{texts_agree, trials_are, faults_are}
@@ -120,7 +121,7 @@ only_so options set found bs l is are =
     record { sound = means_so set.dumps.now options (listing_of set found bs l) refl is.sound are.sound; one = means_only set.dumps.now options (listing_of set found bs l) refl is.one are.one }
 
 -- the texts of bodies at their levels, in their places, are the text of the listing
-texts_shown : (set : Tables) (bs : List Body) (ds : List (Result (Vec ℕ Global) CodeFault)) → AreKept (λ n. IsText (get_or (levels_of (trees_view set.loaded.now.trees.items)) n 0)) bs ds
+texts_shown : (set : Tables) (bs : List Body) (ds : List (Result BodyText CodeFault)) → AreKept (λ n. IsText (get_or (levels_of (trees_view set.loaded.now.trees.items)) n 0)) bs ds
     → set_text set (map printed_lines ds) ≡ set_text set (map body_lines (map body_view bs))
 texts_shown set bs ds k =
     let trees = trees_view set.loaded.now.trees.items in
@@ -130,7 +131,7 @@ texts_shown set bs ds k =
     (sym (same_blocks (names_in set.dumps.now (indexes_in set.order.now)) (codes_view set.loaded.now.tables.items) trees fs (map printed_lines ds) (texts_agree (levels_of trees) bs ds k)))
 
 -- all texts went out
-pub texts_done : (options : Options) (set : Tables) (found : Results (Result (Vec ℕ Global) CodeFault)) (before after : Option (List ℕ)) (status : ℕ) → IsSet options set
+pub texts_done : (options : Options) (set : Tables) (found : Results (Result BodyText CodeFault)) (before after : Option (List ℕ)) (status : ℕ) → IsSet options set
     → AreTexts options.unknown_zero set.loaded.now found.items.items → Appends before after (set_text set (map printed_lines found.items.items)) → status ≡ cond (has_fault found.items.items) 3 0
     → Ends set.dumps.now options false before after (Ok status)
 texts_done options set found before after status is kept gained s =
@@ -142,7 +143,7 @@ texts_done options set found before after status is kept gained s =
     )
 
 -- the first bytes of them did
-pub texts_cut : (options : Options) (set : Tables) (found : Results (Result (Vec ℕ Global) CodeFault)) (before after : Option (List ℕ)) (wrote : ℕ) → IsSet options set
+pub texts_cut : (options : Options) (set : Tables) (found : Results (Result BodyText CodeFault)) (before after : Option (List ℕ)) (wrote : ℕ) → IsSet options set
     → AreTexts options.unknown_zero set.loaded.now found.items.items → Cut before after (set_text set (map printed_lines found.items.items)) wrote → IsCut set.dumps.now options false before after
 texts_cut options set found before after wrote is kept cut =
     let l = kept_long (λ n. IsText (get_or (levels_of (trees_view set.loaded.now.trees.items)) n 0)) kept.bodies found.items.items kept.kept in

@@ -1,6 +1,5 @@
 -- A stepping stone of the proofs: what a run keeps of each body, whose terms it lets go.
-use Rattle.std.specs.Prelude.{◌≡◌, ℕ, zero, suc, Bool, true, false, List, [], ◌∷◌, map, get_or, slice_get, Result, Ok, Err, Vec}
-use Rattle.std.specs.Global.{Global}
+use Rattle.std.specs.Prelude.{◌≡◌, ℕ, suc, Bool, true, false, List, [], ◌∷◌, map, get_or, slice_get, Result, Ok, Err}
 use Rattle.aml_names.specs.declared.faults.CodeFault.{CodeFault}
 use Rattle.aml_code.specs.Encoding.{encodings}
 use Rattle.aml_code.specs.Tree.{Trees}
@@ -13,8 +12,9 @@ use Rattle.aml_load.specs.Views.{codes_view, trees_view, body_in}
 use Rattle.aml_text.specs.declared.bodies.Body.{Body}
 use Rattle.aml_text.specs.declared.bodies.Body.TheVariants as bodies
 use Rattle.aml_text.specs.Levels.{levels_of}
-use Rattle.aml_text.specs.Lines.{OneBody, all_lines}
-use Rattle.aml_text.specs.Views.{body_view}
+use Rattle.aml_text.specs.declared.bodies.BodyText.{BodyText}
+use Rattle.aml_text.specs.Lines.{OneBody}
+use Rattle.aml_text.specs.Views.{IsText, body_view}
 use Rattle.acpidis.specs.Bodies.{AreEntries, AreTold, BecameOf}
 use Rattle.acpidis.specs.Checks.{same_bytes}
 
@@ -24,10 +24,6 @@ IsKept Gives (bodies.Tree nodes) (Ok x) = Gives (nodes_view nodes.items) x
 IsKept Gives (bodies.Tree nodes) (Err fault) = ⊥
 IsKept Gives (bodies.Raw fault) (Ok x) = ⊥
 IsKept Gives (bodies.Raw fault) (Err kept) = kept ≡ fault
-
--- the lines of terms at a level
-abbrev pub IsText : ℕ → Trees → Vec ℕ Global → Type 0
-IsText level ts text = text.items ≡ all_lines level ts
 
 -- whether terms encode to these bytes
 abbrev pub IsSame : List ℕ → Trees → Bool → Type 0
@@ -56,8 +52,8 @@ pub record AreKeptOf {X : Type 0} (Gives : ℕ → Trees → X → Type 0) (z : 
   pub are : AreBodies z x bodies
   pub kept : AreKept Gives bodies ds
 
--- their lines at their levels
-abbrev pub AreTexts : Bool → Loaded → List (Result (Vec ℕ Global) CodeFault) → Type 0
+-- their lines at their levels, or their terms
+abbrev pub AreTexts : Bool → Loaded → List (Result BodyText CodeFault) → Type 0
 AreTexts z x = AreKeptOf (λ n. IsText (get_or (levels_of (trees_view x.trees.items)) n 0)) z x
 
 -- whether they encode to their bytes

@@ -1,17 +1,18 @@
-//! The texts of all bodies: a worker reads each, prints it at its level, and lets its terms go.
+//! The texts of all bodies: a worker reads each, prints it at its level, and lets its terms go, if that takes less memory.
 ghost use Rattle.std.specs.Prelude.{◌≡◌, ◌≤◌, IfOk, IfErr, length, get_or};
 ghost use Rattle.aml_load.specs.Views.{codes_view, trees_view, AreShort};
 ghost use Rattle.aml_text.specs.Levels.{levels_of};
 ghost use Rattle.acpidis.specs.Refusals.{IsWant};
 ghost use Rattle.acpidis.specs.Bodies.{CanRead, AreDrawn};
-ghost use Rattle.acpidis.specs.Kept.{KeptOf, IsText, AreTexts};
+ghost use Rattle.aml_text.specs.Views.{IsText};
+ghost use Rattle.acpidis.specs.Kept.{KeptOf, AreTexts};
 
 use crate::bodies::{Bodies, refused_harvest};
 use crate::refusal::Refusal;
 use aml_code::CodeFault;
 use aml_load::Loaded;
 use aml_pool::{Gate, NoMemory, Results, Work, harvest};
-use aml_text::{Body, body_levels, body_text};
+use aml_text::{Body, BodyText, body_levels, body_text};
 use std::alloc::Global;
 use std::sync::Wait;
 use std::thread::Threads;
@@ -34,21 +35,26 @@ fn level_of(levels: &[u32], number: u32) -> u32
     }
 }
 
+/// How many bytes of text are kept of a body: more than 32 for each of its bytes would take as much memory as its terms.
+fn most_of(body: &[u8]) -> usize {
+    body.len().saturating_mul(32)
+}
+
 impl<'a, 'b> Work for Texts<'a, 'b> {
-    type Done = Result<Vec<u8>, CodeFault>;
+    type Done = Result<BodyText, CodeFault>;
 
     ghost can_work = { λ w n. CanRead (codes_view w.bodies.tables.now) w.bodies.methods.now n };
 
     ghost gives = { λ w n d. KeptOf (IsText (get_or w.levels.now n 0)) w.bodies.unknown_zero w.bodies.space.now
         (codes_view w.bodies.tables.now) w.bodies.methods.now n d };
 
-    fn work(&self, number: u32) -> Result<Result<Vec<u8>, CodeFault>, NoMemory> {
+    fn work(&self, number: u32) -> Result<Result<BodyText, CodeFault>, NoMemory> {
         match self.bodies.read(number)? {
             Body::Raw(fault) => Ok(Err(fault)),
             Body::Tree(nodes) => {
                 let level = level_of(self.levels, number);
-                let text = body_text(self.bodies.alloc, level, nodes.as_slice())?;
-                Ok(Ok(text))
+                let most = most_of(self.bodies.bytes(number));
+                Ok(Ok(body_text(self.bodies.alloc, level, most, nodes)))
             }
         }
     }
@@ -63,13 +69,13 @@ pub(crate) fn print_bodies<R: Threads + Wait + Sync, G: Gate + Sync>(
     unknown_zero: bool,
     workers: u32,
     gate: &G,
-) -> Result<Results<Result<Vec<u8>, CodeFault>>, Refusal>
+) -> Result<Results<Result<BodyText, CodeFault>>, Refusal>
     requires workers { (1 ≤ workers) × (workers ≤ 64) }
     // The limits of a table and of the methods.
     requires short { AreShort (codes_view loaded.now.tables.items) }
     requires few { length loaded.now.methods.items ≤ 1048576 }
 
-    // There is one for each method: the lines of its terms at its level, or why it reads as none.
+    // There is one for each method: the lines of its terms at its level, or the terms, or why it reads as none.
     ensures texts { IfOk result (λ r. AreTexts unknown_zero loaded.now r.items.items) }
     // Each method was drawn by one worker, once.
     ensures drawn { IfOk result (λ r. AreDrawn workers (length loaded.now.methods.items) r.drawn.items) }

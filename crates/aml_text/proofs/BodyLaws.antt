@@ -5,8 +5,10 @@ use Rattle.aml_names.specs.declared.faults.CodeFault.{CodeFault}
 use Rattle.aml_code.specs.declared.tree.Node.{Node}
 use Rattle.aml_text.specs.declared.bodies.Body.{Body}
 use Rattle.aml_text.specs.declared.bodies.Body.TheVariants as bodies
-use Rattle.aml_text.specs.Lines.{line, raw_text, OneBody, BodyLines, body_lines, first_lines}
-use Rattle.aml_text.specs.Views.{node_lines, body_view, printed_lines}
+use Rattle.aml_text.specs.declared.bodies.BodyText.{BodyText}
+use Rattle.aml_text.specs.declared.bodies.BodyText.TheVariants as texts
+use Rattle.aml_text.specs.Lines.{line, raw_text, BodyLines, body_lines, first_lines}
+use Rattle.aml_text.specs.Views.{node_lines, body_view, kept_lines, printed_lines}
 use Rattle.aml_text.proofs.LineLaws.{all_lines-map}
 
 pub first_none : {X : Type 0} (f : X → BodyLines) (xs : List X) (level : ℕ) (bs : List ℕ) → length xs ≡ 0 → first_lines (map f xs) level bs ≡ []
@@ -33,10 +35,18 @@ of_raw level bs body fault e = ap (λ (b : Body). body_lines (body_view b) level
 
 pub ruleset read_lines = (of_tree, of_raw)
 
-pub of_text : (level : ℕ) (bs : List ℕ) (kept : Result (Vec ℕ Global) CodeFault) (text : Vec ℕ Global) → kept ≡ Ok text → printed_lines kept level bs ≡ text.items
-of_text level bs kept text e = ap (λ (k : Result (Vec ℕ Global) CodeFault). printed_lines k level bs) e
+pub of_lines : (level : ℕ) (kept : BodyText) (text : Vec ℕ Global) → kept ≡ texts.Lines text → kept_lines kept level ≡ text.items
+of_lines level kept text e = ap (λ (k : BodyText). kept_lines k level) e
 
-pub of_fault : (level : ℕ) (bs : List ℕ) (kept : Result (Vec ℕ Global) CodeFault) (fault : CodeFault) → kept ≡ Err fault → printed_lines kept level bs ≡ line level (raw_text bs)
-of_fault level bs kept fault e = ap (λ (k : Result (Vec ℕ Global) CodeFault). printed_lines k level bs) e
+pub of_terms : (level : ℕ) (kept : BodyText) (nodes : Vec Node Global) → kept ≡ texts.Terms nodes → kept_lines kept level ≡ flat_map (node_lines level) nodes.items
+of_terms level kept nodes e = ap (λ (k : BodyText). kept_lines k level) e ∙ all_lines-map level nodes.items
 
-pub ruleset printed = (of_text, of_fault)
+pub ruleset kept = (of_lines, of_terms)
+
+pub of_kept : (level : ℕ) (bs : List ℕ) (kept : Result BodyText CodeFault) (text : BodyText) → kept ≡ Ok text → printed_lines kept level bs ≡ kept_lines text level
+of_kept level bs kept text e = ap (λ (k : Result BodyText CodeFault). printed_lines k level bs) e
+
+pub of_fault : (level : ℕ) (bs : List ℕ) (kept : Result BodyText CodeFault) (fault : CodeFault) → kept ≡ Err fault → printed_lines kept level bs ≡ line level (raw_text bs)
+of_fault level bs kept fault e = ap (λ (k : Result BodyText CodeFault). printed_lines k level bs) e
+
+pub ruleset printed = (of_kept, of_fault)

@@ -1,11 +1,11 @@
 -- Bodies that print the same lines at their levels give the same blocks.
-use Rattle.std.proofs.Common.{◌≡◌, ℕ, None, List, [], ◌∷◌, ◌++◌, drop, append_assoc, refl, sym, ap, subst, ◌∙◌}
+use Rattle.std.proofs.Common.{◌≡◌, ℕ, None, List, [], ◌∷◌, ◌++◌, drop, append_assoc, refl, ap, subst, ◌∙◌}
 use Rattle.aml_code.specs.Encoding.{slice_of}
 use Rattle.aml_code.specs.Rows.{row_of}
 use Rattle.aml_code.specs.Declaring.{last_label, last_byte}
 use Rattle.aml_code.specs.Tree.{Tree, nothing, named, op, Trees, no_trees, tree_more, Parts, Tail, empty, terms, bytes, elements, fields, body}
 use Rattle.aml_text.specs.Texts.{head_text, part_texts}
-use Rattle.aml_text.specs.Lines.{deeper, opening, closing, block, method_head, OneBlock, BodyLines, first_lines, left, left_rest, left_all, table_lines, table_op_lines, all_table_lines, block_text, block_opening, blocks_text}
+use Rattle.aml_text.specs.Lines.{deeper, opening, closing, method_head, BodyLines, first_lines, left, left_rest, left_all, table_lines, table_op_lines, all_table_lines, block_text, block_opening, blocks_text}
 use Rattle.aml_text.specs.Listing.{blocks_of}
 use Rattle.aml_text.specs.Levels.{levels_in, tail_levels, all_levels, levels_of, AgreeAt}
 use Rattle.text_writer.specs.Words.{word}

@@ -1,5 +1,5 @@
 -- Terms take as many bodies as stand in them.
-use Rattle.std.proofs.Common.{◌≡◌, ℕ, zero, suc, ◌+◌, List, [], ◌∷◌, ◌++◌, length, drop, refl, sym, ap, ◌∙◌}
+use Rattle.std.proofs.Common.{◌≡◌, ℕ, zero, suc, List, [], ◌++◌, length, drop, refl, sym, ap, ◌∙◌}
 use Rattle.std.proofs.lemmas.List.{drop-drop, length-append}
 use Rattle.aml_names.specs.Paths.{PathSet}
 use Rattle.aml_code.specs.declared.rows.Position.{Position}
@@ -7,7 +7,7 @@ use Rattle.aml_code.specs.declared.rows.TailKind.{TailKind}
 use Rattle.aml_code.specs.Tree.{Tree, nothing, named, op, Trees, no_trees, tree_more, Tail, empty, terms, bytes, elements, fields, body}
 use Rattle.aml_code.specs.Declaring.{after, after_parts}
 use Rattle.aml_code.specs.Lawful.{Setting, IsLawful, AreTerms, IsTail, terms_in, next_position}
-use Rattle.aml_load.specs.Spans.{Span, tree_spans, all_spans, parts_spans, tail_spans, fields_spans}
+use Rattle.aml_load.specs.Spans.{Span, tree_spans, all_spans, tail_spans, fields_spans}
 use Rattle.aml_load.proofs.NoSpans.{terms_tail, parts_none, arguments_none, elements_none, fields_tail_none}
 use Rattle.aml_text.specs.Lines.{BodyLines, left, left_rest, left_all}
 

@@ -1,6 +1,5 @@
 -- The texts of nodes in memory.
-use Rattle.std.specs.Prelude.{ℕ, List, map, None, Result, Ok, Err, Vec}
-use Rattle.std.specs.Global.{Global}
+use Rattle.std.specs.Prelude.{◌≡◌, ℕ, List, map, None, Result, Ok, Err}
 use Rattle.aml_names.specs.declared.faults.CodeFault.{CodeFault}
 use Rattle.aml_code.specs.declared.tree.Field.{Field}
 use Rattle.aml_code.specs.declared.tree.Link.{Link}
@@ -8,14 +7,17 @@ use Rattle.aml_code.specs.declared.tree.Node.{Node}
 use Rattle.aml_code.specs.declared.tree.Part.{Part}
 use Rattle.aml_code.specs.Declaring.{last_label, last_byte}
 use Rattle.aml_code.specs.Rows.{row_of}
+use Rattle.aml_code.specs.Tree.{Trees}
 use Rattle.aml_code.specs.View.{node_view, nodes_view, part_view, parts_view, field_view, link_view}
 use Rattle.aml_text.specs.declared.blocks.Block.{Block}
 use Rattle.aml_text.specs.declared.bodies.Body.{Body}
 use Rattle.aml_text.specs.declared.bodies.Body.TheVariants as bodies
+use Rattle.aml_text.specs.declared.bodies.BodyText.{BodyText}
+use Rattle.aml_text.specs.declared.bodies.BodyText.TheVariants as texts
 use Rattle.aml_text.specs.declared.bodies.Bodies.{Bodies}
 use Rattle.aml_text.specs.declared.bodies.Bodies.TheVariants as all_bodies
 use Rattle.aml_text.specs.Texts.{inline, head_text, part_text, part_texts}
-use Rattle.aml_text.specs.Lines.{line, lines, method_head, field_text, link_text, raw_text, OneBody, read, raw, OneBlock, BodyLines, body_lines}
+use Rattle.aml_text.specs.Lines.{line, lines, all_lines, method_head, field_text, link_text, raw_text, OneBody, read, raw, OneBlock, BodyLines, body_lines}
 
 unfoldable pub node_inline : Node → List ℕ
 node_inline node = inline (node_view node)
@@ -47,10 +49,20 @@ abbrev pub body_view : Body → OneBody
 body_view (bodies.Tree nodes) = read (nodes_view nodes.items)
 body_view (bodies.Raw fault) = raw
 
--- the lines of a body that were printed before, or of one that can't be read
-abbrev pub printed_lines : Result (Vec ℕ Global) CodeFault → BodyLines
-printed_lines (Ok text) level bs = text.items
+-- the lines that were printed of a body before, or those of the terms that are kept in their place
+abbrev pub kept_lines : BodyText → ℕ → List ℕ
+kept_lines (texts.Lines text) level = text.items
+kept_lines (texts.Terms nodes) level = all_lines level (nodes_view nodes.items)
+
+-- the lines of a body of which this is kept, or of one that can't be read
+abbrev pub printed_lines : Result BodyText CodeFault → BodyLines
+printed_lines (Ok text) level bs = kept_lines text level
 printed_lines (Err fault) level bs = line level (raw_text bs)
+
+-- these lines at a level are kept of terms, or the terms
+abbrev pub IsText : ℕ → Trees → BodyText → Type 0
+IsText level ts (texts.Lines text) = text.items ≡ all_lines level ts
+IsText level ts (texts.Terms nodes) = nodes_view nodes.items ≡ ts
 
 -- the lines of bodies, whatever is kept of them
 abbrev pub bodies_lines : Bodies → List BodyLines

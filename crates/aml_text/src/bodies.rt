@@ -2,7 +2,7 @@
 ghost use Rattle.std.specs.Prelude.{◌≡◌, drop, map};
 ghost use Rattle.text_writer.specs.Prints.{Prints};
 ghost use Rattle.aml_text.specs.Lines.{line, raw_text, body_lines, first_lines};
-ghost use Rattle.aml_text.specs.Views.{body_view, printed_lines, bodies_lines};
+ghost use Rattle.aml_text.specs.Views.{body_view, kept_lines, printed_lines, bodies_lines};
 
 use crate::lines::{print_indent, print_terms};
 use crate::texts::print_bytes;
@@ -19,13 +19,22 @@ pub enum Body {
     Raw(CodeFault),
 }
 
+/// What is kept of a body that reads as terms, to be printed at one level.
+#[derive(Drop)]
+pub enum BodyText {
+    /// The lines of its terms at that level.
+    Lines(Vec<u8>),
+    /// Its terms, which take less memory where their lines are long.
+    Terms(Vec<Node>),
+}
+
 /// The bodies of methods in the order of the text, each method taking one.
 #[derive(Clone, Copy)]
 pub enum Bodies<'b> {
     /// As what they read as.
     Read(&'b [Body]),
-    /// As the lines that were printed of their terms, or as the fault of one that can't be read.
-    Printed(&'b [Result<Vec<u8>, CodeFault>]),
+    /// As what is kept of their terms, each at its level, or as the fault of one that can't be read.
+    Printed(&'b [Result<BodyText, CodeFault>]),
 }
 
 impl<'b> Bodies<'b> {
@@ -67,7 +76,7 @@ fn print_first_printed<W: Write>(
     out: &mut Out<'_, W>,
     level: u32,
     bytes: &[u8],
-    texts: &[Result<Vec<u8>, CodeFault>],
+    texts: &[Result<BodyText, CodeFault>],
 )
     ensures { Prints W.contents out.old out.new
         (first_lines (map printed_lines texts.now) level bytes.now) }
@@ -88,19 +97,30 @@ fn print_read<W: Write>(out: &mut Out<'_, W>, level: u32, bytes: &[u8], body: &B
     }
 }
 
-/// The lines of a body with these bytes, whose terms were printed before.
+/// The lines of a body with these bytes, of whose terms this is kept.
 #[tactic(auto, using(text_writer::proofs::PrintLaws::straight, crate::proofs::BodyLaws::printed))]
 fn print_printed<W: Write>(
     out: &mut Out<'_, W>,
     level: u32,
     bytes: &[u8],
-    text: &Result<Vec<u8>, CodeFault>,
+    text: &Result<BodyText, CodeFault>,
 )
     ensures { Prints W.contents out.old out.new (printed_lines text.now level bytes.now) }
 {
     match text {
-        Ok(text) => out.put(text.as_slice()),
+        Ok(text) => print_kept(out, level, text),
         Err(_) => print_raw_line(out, level, bytes),
+    }
+}
+
+/// The lines of a body of whose terms this is kept.
+#[tactic(auto, using(text_writer::proofs::PrintLaws::straight, crate::proofs::BodyLaws::kept))]
+fn print_kept<W: Write>(out: &mut Out<'_, W>, level: u32, text: &BodyText)
+    ensures { Prints W.contents out.old out.new (kept_lines text.now level) }
+{
+    match text {
+        BodyText::Lines(lines) => out.put(lines.as_slice()),
+        BodyText::Terms(nodes) => print_terms(out, level, nodes.as_slice()),
     }
 }
 

@@ -1,11 +1,12 @@
 //! The text of a listing: the dumps, the namespace, and ASL-like lines of AML, exactly as the definitions of `specs/`
 //! say.
 //!
-//! Nothing here takes memory, but for `term_text`. Each printing function's contract gives the text that it prints.
+//! Nothing here takes memory, but for `body_levels`, `body_text` and `term_text`. Each printing function's contract gives the text that it prints.
 #![tactic(auto)]
 
 mod blocks;
 mod bodies;
+mod bounded;
 mod levels;
 mod lines;
 mod listing;
@@ -16,7 +17,7 @@ mod words;
 mod writing;
 
 pub use blocks::{Block, print_block};
-pub use bodies::{Bodies, Body};
+pub use bodies::{Bodies, Body, BodyText};
 pub use levels::body_levels;
 pub use listing::{Listing, Tables};
 pub use rows::print_rows;

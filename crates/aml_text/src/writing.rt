@@ -1,14 +1,15 @@
 //! A listing, and a term by itself, written whole.
-ghost use Rattle.std.specs.Prelude.{◌≡◌, ◌++◌, true, map, flat_map, IfOk};
+ghost use Rattle.std.specs.Prelude.{◌≡◌, ◌++◌, true, map, flat_map, IfOk, IfSome};
 ghost use Rattle.acpi_tables.specs.Order.{AreTaken};
 ghost use Rattle.aml_code.specs.View.{node_view, nodes_view};
 ghost use Rattle.text_writer.specs.Prints.{Prints, Writes};
 ghost use Rattle.text_writer.specs.Words.{word};
 ghost use Rattle.aml_text.specs.Lines.{lines, all_lines};
 ghost use Rattle.aml_text.specs.Listing.{set_text, shown_text};
-ghost use Rattle.aml_text.specs.Views.{node_lines, printed_lines, bodies_lines};
+ghost use Rattle.aml_text.specs.Views.{IsText, node_lines, printed_lines, bodies_lines};
 
-use crate::bodies::Bodies;
+use crate::bodies::{Bodies, BodyText};
+use crate::bounded::Bounded;
 use crate::lines::{print_lines, print_terms};
 use crate::listing::{Listing, Tables};
 use crate::rows::print_rows;
@@ -59,13 +60,13 @@ pub fn write_listing<W: Write>(out: &mut W, listing: &Listing<'_>) -> Result<(),
     )
 }
 
-/// Writes the same of tables whose bodies were printed before, each at its level (`body_levels`), or can't be read.
+/// Writes the same of tables of whose bodies this is kept, each at its level (`body_levels`), or which can't be read.
 ///
 /// Where the writer takes no more, it has the first bytes of that text, and the fault says how many.
 pub fn write_printed<W: Write>(
     out: &mut W,
     tables: Tables<'_, '_>,
-    bodies: &[Result<Vec<u8>, CodeFault>],
+    bodies: &[Result<BodyText, CodeFault>],
 ) -> Result<(), WriteFault>
     // Each dump is one that `load_order` takes with any checksum.
     requires taken { AreTaken tables.dumps.now true }
@@ -84,17 +85,25 @@ fn write_lines<W: Write>(out: &mut W, level: u32, nodes: &[Node]) -> Result<(), 
     sink.finish()
 }
 
-/// The lines of a body's terms at a level.
-pub fn body_text(alloc: Global, level: u32, nodes: &[Node]) -> Result<Vec<u8>, NoMemory>
-    ensures { IfOk result (λ text. text.items ≡ all_lines level (nodes_view nodes.now)) }
+/// The lines of terms at a level, if there are at most so many bytes of them and memory for these.
+fn text_within(alloc: Global, level: u32, most: usize, nodes: &[Node]) -> Option<Vec<u8>>
+    ensures { IfSome result (λ text. text.items ≡ all_lines level (nodes_view nodes.now)) }
 {
-    let mut text = Vec::new(alloc);
-    match write_lines(&mut text, level, nodes) {
-        Err(_) => Err(AllocError),
-        Ok(()) => {
-            text.shrink_to_fit();
-            Ok(text)
-        }
+    let mut lines = Bounded::new(alloc, most);
+    match write_lines(&mut lines, level, nodes) {
+        Err(_) => None,
+        Ok(()) => Some(lines.into_text()),
+    }
+}
+
+/// What is to be kept of a body's terms that are printed at this level: their lines, if there are at most so many bytes
+/// of them and memory for these, and else the terms themselves.
+pub fn body_text(alloc: Global, level: u32, most: usize, nodes: Vec<Node>) -> BodyText
+    ensures { IsText level (nodes_view nodes.items) result }
+{
+    match text_within(alloc, level, most, nodes.as_slice()) {
+        Some(text) => BodyText::Lines(text),
+        None => BodyText::Terms(nodes),
     }
 }
 

@@ -3,7 +3,6 @@ use denote.Param.Send.{sendable}
 use Rattle.std.proofs.Crossing.{crosses}
 use Rattle.aml_names.proofs.paths.Path.TheSendSync as Path
 use Rattle.aml_load.below.aml_children.proofs.trees.Tree.TheLaws.TheKnot as Tree
-use Rattle.acpidis.specs.Kept.{AreBodies}
 use Rattle.acpidis.proofs.BodyLaws.{harvested}
 use Rattle.acpidis.proofs.bodies.read_bodies.Goals as goal
 

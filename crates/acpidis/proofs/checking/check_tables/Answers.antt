@@ -1,7 +1,7 @@
-use Rattle.std.proofs.Common.{subst, sym, ap, ◌∙◌}
+use Rattle.std.proofs.Common.{subst, sym, ◌∙◌}
 use Rattle.aml_load.specs.Views.{codes_view}
 use Rattle.aml_text.specs.Listing.{blocks_at}
-use Rattle.acpidis.specs.Tallies.{Under, AreTried}
+use Rattle.acpidis.specs.Tallies.{Under}
 use Rattle.acpidis.proofs.CheckLaws.{under_new, all_checked}
 use Rattle.acpidis.proofs.checking.check_tables.Goals as goal
 

@@ -1,10 +1,7 @@
-use Rattle.std.proofs.Common.{◌≡◌, Some, length, map, sym, ap, ◌∙◌, arith}
-use Rattle.std.proofs.lemmas.Option.{slice_get-get_or}
+use Rattle.std.proofs.Common.{map, ap, ◌∙◌, arith}
 use Rattle.aml_load.specs.Views.{codes_view, body_in}
 use Rattle.aml_text.specs.Views.{body_view}
 use Rattle.aml_text.proofs.ListingLaws.{seen_there, seen_past}
-use Rattle.acpidis.specs.Checks.{is_raw, body_same}
-use Rattle.acpidis.specs.Tallies.{mark_of}
 use Rattle.acpidis.proofs.BodyLaws.{tried_mark}
 use Rattle.acpidis.proofs.CheckLaws.{method_there, trying_more, tried_all, none_left_to_try, past_all}
 use Rattle.acpidis.proofs.checking.try_listed.Goals as goal

@@ -1,4 +1,4 @@
-use Rattle.std.proofs.Common.{◌≡◌, true, false, sym, ap, ◌∙◌}
+use Rattle.std.proofs.Common.{sym, ap, ◌∙◌}
 use Rattle.std.proofs.lemmas.Result.{err_from_is_err_and}
 use Rattle.acpidis.specs.Checks.{all_same}
 use Rattle.acpidis.proofs.RunLaws.{SaidOf, trials_done, trials_cut, trials_same}
