@@ -1,5 +1,5 @@
 -- Bodies that were read are the entries of a listing.
-use Rattle.std.proofs.Common.{◌≡◌, ℕ, zero, suc, Bool, false, List, [], ◌∷◌, map, length, get_or, Some, Result, Ok, Err, refl, sym, ap, subst, ◌∙◌, arith, slice_get}
+use Rattle.std.proofs.Common.{◌≡◌, ℕ, zero, suc, Bool, false, List, [], ◌∷◌, map, length, Some, Result, Ok, Err, refl, sym, ap, subst, ◌∙◌, arith, slice_get}
 use denote.Ref.{Bor}
 use Rattle.aml_space.specs.Entries.{Entry}
 use Rattle.aml_load.specs.Bodies.{OfMethod}
@@ -19,7 +19,7 @@ use Rattle.aml_load.specs.Views.{codes_view, trees_view, span_of, body_in}
 use Rattle.acpidis.specs.declared.bodies.Bodies.{Bodies}
 use Rattle.acpidis.specs.Bodies.{IsEntry, AreEntries, Became, BecameOf, IsTold, AreTold, IsReading, has_raw}
 use Rattle.acpidis.specs.Checks.{is_raw, body_same}
-use Rattle.acpidis.specs.Kept.{IsKept, KeptOf, AreKept, AreKeptOf, AreBodies, AreTexts, AreTrials, IsSame, has_fault}
+use Rattle.acpidis.specs.Kept.{IsKept, KeptOf, AreKept, AreKeptOf, AreBodies, HasTexts, AreTexts, HasTrials, IsSame, has_fault}
 use Rattle.acpidis.specs.Tallies.{mark_of, AreTried}
 
 -- what became of each body
@@ -92,11 +92,6 @@ are_bodies z loaded bs l h =
       told = λ es s. are_told z es cs ms bs (by_number z es cs ms bs l (λ n b e. h n b e es s));
     }
 
--- bodies that were harvested are its bodies
-pub harvested : (z : Bool) (loaded : Loaded) (w : Bodies) (bs : List Body) → IsReading z loaded w → length bs ≡ length loaded.methods.items
-    → ((n : ℕ) (b : Body) → slice_get bs n ≡ Some b → BecameOf w.unknown_zero w.space.now (codes_view w.tables.now) w.methods.now n b) → AreBodies z loaded bs
-harvested z loaded w bs r l h = are_bodies z loaded bs l (λ n b e. became_in z loaded w n b r (h n b e))
-
 -- ---- what is kept of them
 
 each_more : (z : Bool) (space : Known) (cs : List (List ℕ)) (m : Method) (ms : List Method) (first : Body) (bs : List Body) → BecameOf z space cs (m ∷ ms) 0 first
@@ -107,45 +102,42 @@ each_more z space cs m ms first bs here others zero b e =
 each_more z space cs m ms first bs here others (suc n) b e = others n b e
 
 -- the bodies of which it is kept, by number
-chosen : {X : Type 0} (Gives : ℕ → Trees → X → Type 0) (z : Bool) (space : Known) (cs : List (List ℕ)) (ms : List Method) (ds : List (Result X CodeFault)) → length ds ≡ length ms
-    → ((n : ℕ) (d : Result X CodeFault) → slice_get ds n ≡ Some d → KeptOf (Gives n) z space cs ms n d)
-    → (bs : List Body) × (length bs ≡ length ms) × ((n : ℕ) (b : Body) → slice_get bs n ≡ Some b → BecameOf z space cs ms n b) × AreKept Gives bs ds
-chosen Gives z space cs [] [] l h = ([], refl, λ n b e. absurd cc, tt)
-chosen Gives z space cs [] (d ∷ ds) l h = absurd (omega (arith, l))
-chosen Gives z space cs (m ∷ ms) [] l h = absurd (omega (arith, l))
-chosen Gives z space cs (m ∷ ms) (d ∷ ds) l h =
+chosen : {X : Type 0} (Keeps : ℕ → Body → X → Type 0) (z : Bool) (space : Known) (cs : List (List ℕ)) (ms : List Method) (ds : List X) → length ds ≡ length ms
+    → ((n : ℕ) (d : X) → slice_get ds n ≡ Some d → KeptOf (Keeps n) z space cs ms n d)
+    → (bs : List Body) × (length bs ≡ length ms) × ((n : ℕ) (b : Body) → slice_get bs n ≡ Some b → BecameOf z space cs ms n b) × AreKept Keeps bs ds
+chosen Keeps z space cs [] [] l h = ([], refl, λ n b e. absurd cc, tt)
+chosen Keeps z space cs [] (d ∷ ds) l h = absurd (omega (arith, l))
+chosen Keeps z space cs (m ∷ ms) [] l h = absurd (omega (arith, l))
+chosen Keeps z space cs (m ∷ ms) (d ∷ ds) l h =
     let first = h 0 d refl in
-    let rest = chosen (λ n. Gives (suc n)) z space cs ms ds (omega (arith, l)) (λ n x e. h (suc n) x e) in
+    let rest = chosen (λ n. Keeps (suc n)) z space cs ms ds (omega (arith, l)) (λ n x e. h (suc n) x e) in
     (first.0 ∷ rest.0, ap suc rest.1, each_more z space cs m ms first.0 rest.0 first.1 rest.2, (first.2, rest.3))
 
--- what was kept of the bodies of a set
-pub kept_of : {X : Type 0} (Gives : ℕ → Trees → X → Type 0) (z : Bool) (loaded : Loaded) (w : Bodies) (ds : List (Result X CodeFault)) → IsReading z loaded w → length ds ≡ length loaded.methods.items
-    → ((n : ℕ) (d : Result X CodeFault) → slice_get ds n ≡ Some d → KeptOf (Gives n) w.unknown_zero w.space.now (codes_view w.tables.now) w.methods.now n d) → AreKeptOf Gives z loaded ds
-kept_of Gives z loaded w ds r l h =
-    let c = chosen Gives z loaded.space (codes_view loaded.tables.items) loaded.methods.items ds l (λ n d e. (
-    let k = h n d e in
-    (k.0, became_in z loaded w n k.0 r k.1, k.2)
-    )) in
-    record { bodies = c.0; are = are_bodies z loaded c.0 c.1 c.2; kept = c.3 }
-
--- by the levels of its tables
-pub texts_kept : (z : Bool) (loaded : Loaded) (w : Bodies) (levels : List ℕ) (ds : List (Result BodyText CodeFault)) → IsReading z loaded w → levels ≡ levels_of (trees_view loaded.trees.items)
-    → length ds ≡ length loaded.methods.items
-    → ((n : ℕ) (d : Result BodyText CodeFault) → slice_get ds n ≡ Some d → KeptOf (IsText (get_or levels n 0)) w.unknown_zero w.space.now (codes_view w.tables.now) w.methods.now n d) → AreTexts z loaded ds
-texts_kept z loaded w levels ds r same l h =
-    kept_of (λ n. IsText (get_or (levels_of (trees_view loaded.trees.items)) n 0)) z loaded w ds r l
-    (subst (λ (ls : List ℕ). (n : ℕ) (d : Result BodyText CodeFault) → slice_get ds n ≡ Some d → KeptOf (IsText (get_or ls n 0)) w.unknown_zero w.space.now (codes_view w.tables.now) w.methods.now n d) same h)
-
--- by the bytes of its bodies
-pub trials_kept : (z : Bool) (loaded : Loaded) (w : Bodies) (ds : List (Result Bool CodeFault)) → IsReading z loaded w → length ds ≡ length loaded.methods.items
-    → ((n : ℕ) (d : Result Bool CodeFault) → slice_get ds n ≡ Some d → KeptOf (IsSame (body_in (codes_view w.tables.now) (slice_get w.methods.now n))) w.unknown_zero w.space.now (codes_view w.tables.now) w.methods.now n d)
-    → AreTrials z loaded ds
-trials_kept z loaded w ds r l h =
-    kept_of (λ n. IsSame (body_in (codes_view loaded.tables.items) (slice_get loaded.methods.items n))) z loaded w ds r l (λ n d e. (
+-- what was kept of the bodies of a set, by their bytes
+pub kept_of : {X : Type 0} (Keeps : ℕ → List ℕ → Body → X → Type 0) (z : Bool) (loaded : Loaded) (w : Bodies) (ds : List X) → IsReading z loaded w → length ds ≡ length loaded.methods.items
+    → ((n : ℕ) (d : X) → slice_get ds n ≡ Some d → KeptOf (Keeps n (body_in (codes_view w.tables.now) (slice_get w.methods.now n))) w.unknown_zero w.space.now (codes_view w.tables.now) w.methods.now n d)
+    → AreKeptOf (λ n. Keeps n (body_in (codes_view loaded.tables.items) (slice_get loaded.methods.items n))) z loaded ds
+kept_of Keeps z loaded w ds r l h =
+    let c = chosen (λ n. Keeps n (body_in (codes_view loaded.tables.items) (slice_get loaded.methods.items n))) z loaded.space (codes_view loaded.tables.items) loaded.methods.items ds l (λ n d e.
     let k = h n d e in
     let bytes = ap (λ ts. body_in (codes_view ts) (slice_get w.methods.now n)) r.tables ∙ ap (λ ms. body_in (codes_view loaded.tables.items) (slice_get ms n)) r.methods in
-    (k.0, k.1, subst (λ (xs : List ℕ). IsKept (IsSame xs) k.0 d) bytes k.2)
-    ))
+    (k.0, became_in z loaded w n k.0 r k.1, subst (λ (xs : List ℕ). Keeps n xs k.0 d) bytes k.2)
+    ) in
+    record { bodies = c.0; are = are_bodies z loaded c.0 c.1 c.2; kept = c.3 }
+
+-- the bodies themselves
+kept_whole : (bs ds : List Body) → AreKept (λ n body kept. kept ≡ body) bs ds → ds ≡ bs
+kept_whole [] [] k = refl
+kept_whole [] (d ∷ ds) k = absurd k
+kept_whole (b ∷ bs) [] k = absurd k
+kept_whole (b ∷ bs) (d ∷ ds) k = ap (λ x. x ∷ ds) k.0 ∙ ap (λ xs. b ∷ xs) (kept_whole bs ds k.1)
+
+pub whole_kept : (z : Bool) (x : Loaded) (ds : List Body) → AreKeptOf (λ n body kept. kept ≡ body) z x ds → AreBodies z x ds
+whole_kept z x ds k = subst (AreBodies z x) (sym (kept_whole k.bodies ds k.kept)) k.are
+
+-- their texts, by the levels of the tables
+pub texts_kept : (z : Bool) (x : Loaded) (levels : List ℕ) (ds : List (Result BodyText CodeFault)) → levels ≡ levels_of (trees_view x.trees.items) → AreKeptOf (HasTexts levels) z x ds → AreTexts z x ds
+texts_kept z x levels ds same k = subst (λ (ls : List ℕ). AreKeptOf (HasTexts ls) z x ds) same k
 
 -- ---- what it says of them
 
@@ -157,7 +149,7 @@ same_lines level (bodies.Raw fault) (Ok text) k bytes = absurd k
 same_lines level (bodies.Raw fault) (Err kept) k bytes = refl
 
 -- texts at their levels print as the bodies do
-pub texts_agree : (ls : List ℕ) (bs : List Body) (ds : List (Result BodyText CodeFault)) → AreKept (λ n. IsText (get_or ls n 0)) bs ds
+pub texts_agree : (ls : List ℕ) (bs : List Body) (ds : List (Result BodyText CodeFault)) → AreKept (HasTexts ls) bs ds
     → AgreeAt ls (map body_lines (map body_view bs)) (map printed_lines ds)
 texts_agree [] bs ds k = tt
 texts_agree (l ∷ ls) [] [] k = texts_agree ls [] [] tt
@@ -166,7 +158,7 @@ texts_agree (l ∷ ls) (b ∷ bs) [] k = absurd k
 texts_agree (l ∷ ls) (b ∷ bs) (d ∷ ds) k = (same_lines l b d k.0, texts_agree ls bs ds k.1)
 
 -- a fault is kept where a body is raw
-pub faults_are : {X : Type 0} (Gives : ℕ → Trees → X → Type 0) (bs : List Body) (ds : List (Result X CodeFault)) → AreKept Gives bs ds → has_fault ds ≡ has_raw (map body_view bs)
+pub faults_are : {X : Type 0} (Gives : ℕ → Trees → X → Type 0) (bs : List Body) (ds : List (Result X CodeFault)) → AreKept (λ n. IsKept (Gives n)) bs ds → has_fault ds ≡ has_raw (map body_view bs)
 faults_are Gives [] [] k = refl
 faults_are Gives [] (d ∷ ds) k = absurd k
 faults_are Gives (b ∷ bs) [] k = absurd k
@@ -186,7 +178,7 @@ pub tried_mark : (cs : List (List ℕ)) (m : Method) (bytes : List ℕ) (b : Bod
 tried_mark cs m bytes b d is k = mark_is (span_of cs m) b d (subst (λ (xs : List ℕ). IsKept (IsSame xs) b d) is k)
 
 -- trials are marks of the bodies
-pub trials_are : (cs : List (List ℕ)) (ms : List Method) (bs : List Body) (ds : List (Result Bool CodeFault)) → AreKept (λ n. IsSame (body_in cs (slice_get ms n))) bs ds → AreTried cs ms (map body_view bs) ds
+pub trials_are : (cs : List (List ℕ)) (ms : List Method) (bs : List Body) (ds : List (Result Bool CodeFault)) → AreKept (HasTrials cs ms) bs ds → AreTried cs ms (map body_view bs) ds
 trials_are cs [] bs ds k = tt
 trials_are cs (m ∷ ms) [] [] k = tt
 trials_are cs (m ∷ ms) [] (d ∷ ds) k = absurd k

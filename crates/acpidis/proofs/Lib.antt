@@ -1,4 +1,5 @@
 pub mod TableLaws
+pub mod Sharing
 pub mod BodyLaws
 pub mod MeaningLaws
 pub mod RunLaws

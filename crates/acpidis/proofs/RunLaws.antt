@@ -30,7 +30,7 @@ use Rattle.acpidis.specs.Endings.{shown_of, IsOnly, Ends}
 use Rattle.acpidis.specs.declared.options.Options.{Options}
 use Rattle.acpidis.specs.declared.checking.Checked.{Checked}
 use Rattle.acpidis.specs.Checks.{checks_from, check_lines, all_same}
-use Rattle.acpidis.specs.Kept.{AreKept, AreBodies, AreTexts, AreTrials, IsSame, has_fault}
+use Rattle.acpidis.specs.Kept.{AreKept, AreBodies, HasTexts, AreTexts, HasTrials, AreTrials, IsSame, has_fault}
 use Rattle.acpidis.specs.Sets.{IsSet}
 use Rattle.acpidis.specs.Tallies.{AreTried}
 use Rattle.acpidis.proofs.BodyLaws.{texts_agree, trials_are, faults_are}
@@ -101,7 +101,7 @@ cut_so dumps options check x before after wrote only cut =
 
 -- ---- a set whose bodies were let go
 
-kept_long : {X : Type 0} (Gives : ℕ → Trees → X → Type 0) (bs : List Body) (ds : List (Result X CodeFault)) → AreKept Gives bs ds → length bs ≡ length ds
+kept_long : {X : Type 0} (Gives : ℕ → Body → X → Type 0) (bs : List Body) (ds : List X) → AreKept Gives bs ds → length bs ≡ length ds
 kept_long Gives [] [] k = refl
 kept_long Gives [] (d ∷ ds) k = absurd k
 kept_long Gives (b ∷ bs) [] k = absurd k
@@ -121,7 +121,7 @@ only_so options set found bs l is are =
     record { sound = means_so set.dumps.now options (listing_of set found bs l) refl is.sound are.sound; one = means_only set.dumps.now options (listing_of set found bs l) refl is.one are.one }
 
 -- the texts of bodies at their levels, in their places, are the text of the listing
-texts_shown : (set : Tables) (bs : List Body) (ds : List (Result BodyText CodeFault)) → AreKept (λ n. IsText (get_or (levels_of (trees_view set.loaded.now.trees.items)) n 0)) bs ds
+texts_shown : (set : Tables) (bs : List Body) (ds : List (Result BodyText CodeFault)) → AreKept (HasTexts (levels_of (trees_view set.loaded.now.trees.items))) bs ds
     → set_text set (map printed_lines ds) ≡ set_text set (map body_lines (map body_view bs))
 texts_shown set bs ds k =
     let trees = trees_view set.loaded.now.trees.items in
@@ -135,7 +135,7 @@ pub texts_done : (options : Options) (set : Tables) (found : Results (Result Bod
     → AreTexts options.unknown_zero set.loaded.now found.items.items → Appends before after (set_text set (map printed_lines found.items.items)) → status ≡ cond (has_fault found.items.items) 3 0
     → Ends set.dumps.now options false before after (Ok status)
 texts_done options set found before after status is kept gained s =
-    let l = kept_long (λ n. IsText (get_or (levels_of (trees_view set.loaded.now.trees.items)) n 0)) kept.bodies found.items.items kept.kept in (
+    let l = kept_long (HasTexts (levels_of (trees_view set.loaded.now.trees.items))) kept.bodies found.items.items kept.kept in (
       listing_of set found kept.bodies l,
       only_so options set found kept.bodies l is kept.are,
       subst (Appends before after) (texts_shown set kept.bodies found.items.items kept.kept) gained,
@@ -146,7 +146,7 @@ texts_done options set found before after status is kept gained s =
 pub texts_cut : (options : Options) (set : Tables) (found : Results (Result BodyText CodeFault)) (before after : Option (List ℕ)) (wrote : ℕ) → IsSet options set
     → AreTexts options.unknown_zero set.loaded.now found.items.items → Cut before after (set_text set (map printed_lines found.items.items)) wrote → IsCut set.dumps.now options false before after
 texts_cut options set found before after wrote is kept cut =
-    let l = kept_long (λ n. IsText (get_or (levels_of (trees_view set.loaded.now.trees.items)) n 0)) kept.bodies found.items.items kept.kept in
+    let l = kept_long (HasTexts (levels_of (trees_view set.loaded.now.trees.items))) kept.bodies found.items.items kept.kept in
     cut_so set.dumps.now options false (listing_of set found kept.bodies l) before after wrote (only_so options set found kept.bodies l is kept.are)
     (subst (λ (text : List ℕ). Cut before after text wrote) (texts_shown set kept.bodies found.items.items kept.kept) cut)
 
@@ -168,7 +168,7 @@ pub trials_done : (options : Options) (set : Tables) (found : Results (Result Bo
     → Ends set.dumps.now options true before after (Ok status)
 trials_done options set found cs before after status is kept said gained s =
     let Gives : ℕ → Trees → Bool → Type 0 = λ n. IsSame (body_in (codes_view set.loaded.now.tables.items) (slice_get set.loaded.now.methods.items n)) in
-    let l = kept_long Gives kept.bodies found.items.items kept.kept in (
+    let l = kept_long (HasTrials (codes_view set.loaded.now.tables.items) set.loaded.now.methods.items) kept.bodies found.items.items kept.kept in (
       listing_of set found kept.bodies l,
       only_so options set found kept.bodies l is kept.are,
       subst (λ (c : List Checked). Appends before after (check_lines (blocks_at set) c)) (trials_shown options set found cs kept said) gained,
@@ -178,7 +178,7 @@ trials_done options set found cs before after status is kept said gained s =
 pub trials_cut : (options : Options) (set : Tables) (found : Results (Result Bool CodeFault)) (cs : List Checked) (before after : Option (List ℕ)) (wrote : ℕ) → IsSet options set
     → AreTrials options.unknown_zero set.loaded.now found.items.items → SaidOf set found.items.items cs → Cut before after (check_lines (blocks_at set) cs) wrote → IsCut set.dumps.now options true before after
 trials_cut options set found cs before after wrote is kept said cut =
-    let l = kept_long (λ n. IsSame (body_in (codes_view set.loaded.now.tables.items) (slice_get set.loaded.now.methods.items n))) kept.bodies found.items.items kept.kept in
+    let l = kept_long (HasTrials (codes_view set.loaded.now.tables.items) set.loaded.now.methods.items) kept.bodies found.items.items kept.kept in
     cut_so set.dumps.now options true (listing_of set found kept.bodies l) before after wrote (only_so options set found kept.bodies l is kept.are)
     (subst (λ (c : List Checked). Cut before after (check_lines (blocks_at set) c) wrote) (trials_shown options set found cs kept said) cut)
 
@@ -186,6 +186,6 @@ trials_cut options set found cs before after wrote is kept said cut =
 pub trials_same : (options : Options) (set : Tables) (found : Results (Result Bool CodeFault)) (cs : List Checked) → IsSet options set
     → AreTrials options.unknown_zero set.loaded.now found.items.items → SaidOf set found.items.items cs → all_same cs ≡ true
 trials_same options set found cs is kept said =
-    let l = kept_long (λ n. IsSame (body_in (codes_view set.loaded.now.tables.items) (slice_get set.loaded.now.methods.items n))) kept.bodies found.items.items kept.kept in
+    let l = kept_long (HasTrials (codes_view set.loaded.now.tables.items) set.loaded.now.methods.items) kept.bodies found.items.items kept.kept in
     let only = only_so options set found kept.bodies l is kept.are in
     ap all_same (trials_shown options set found cs kept said) ∙ shown_same (listing_of set found kept.bodies l) set.dumps.now options only.sound.0 only.sound.1 only.sound.2

@@ -30,15 +30,15 @@ abbrev pub IsSame : List ℕ → Trees → Bool → Type 0
 IsSame bytes ts same = same ≡ same_bytes (encodings bytes ts) bytes
 
 -- what is kept of the body of this number
-abbrev pub KeptOf : {X : Type 0} → (Trees → X → Type 0) → Bool → Known → List (List ℕ) → List Method → ℕ → Result X CodeFault → Type 0
-KeptOf Gives z space tables ms number d = (body : Body) × BecameOf z space tables ms number body × IsKept Gives body d
+abbrev pub KeptOf : {X : Type 0} → (Body → X → Type 0) → Bool → Known → List (List ℕ) → List Method → ℕ → X → Type 0
+KeptOf Keeps z space tables ms number d = (body : Body) × BecameOf z space tables ms number body × Keeps body d
 
 -- of each body, by its number
-abbrev pub AreKept : {X : Type 0} → (ℕ → Trees → X → Type 0) → List Body → List (Result X CodeFault) → Type 0
-AreKept Gives [] [] = Unit {0}
-AreKept Gives [] (d ∷ ds) = ⊥
-AreKept Gives (b ∷ bs) [] = ⊥
-AreKept Gives (b ∷ bs) (d ∷ ds) = IsKept (Gives 0) b d × AreKept (λ n. Gives (suc n)) bs ds
+abbrev pub AreKept : {X : Type 0} → (ℕ → Body → X → Type 0) → List Body → List X → Type 0
+AreKept Keeps [] [] = Unit {0}
+AreKept Keeps [] (d ∷ ds) = ⊥
+AreKept Keeps (b ∷ bs) [] = ⊥
+AreKept Keeps (b ∷ bs) (d ∷ ds) = Keeps 0 b d × AreKept (λ n. Keeps (suc n)) bs ds
 
 -- these are the bodies of a loaded set, and there are no others
 pub record AreBodies (z : Bool) (x : Loaded) (bs : List Body) : Type 0 where
@@ -47,18 +47,24 @@ pub record AreBodies (z : Bool) (x : Loaded) (bs : List Body) : Type 0 where
   pub told : (es : List Entry) → StandsFor x.space es → AreTold z es (codes_view x.tables.items) x.methods.items bs
 
 -- what is kept of the bodies of a loaded set
-pub record AreKeptOf {X : Type 0} (Gives : ℕ → Trees → X → Type 0) (z : Bool) (x : Loaded) (ds : List (Result X CodeFault)) : Type 0 where
+pub record AreKeptOf {X : Type 0} (Keeps : ℕ → Body → X → Type 0) (z : Bool) (x : Loaded) (ds : List X) : Type 0 where
   pub bodies : List Body
   pub are : AreBodies z x bodies
-  pub kept : AreKept Gives bodies ds
+  pub kept : AreKept Keeps bodies ds
 
--- their lines at their levels, or their terms
+-- their lines at these levels, or their terms
+abbrev pub HasTexts : List ℕ → ℕ → Body → Result BodyText CodeFault → Type 0
+HasTexts levels n = IsKept (IsText (get_or levels n 0))
+
 abbrev pub AreTexts : Bool → Loaded → List (Result BodyText CodeFault) → Type 0
-AreTexts z x = AreKeptOf (λ n. IsText (get_or (levels_of (trees_view x.trees.items)) n 0)) z x
+AreTexts z x = AreKeptOf (HasTexts (levels_of (trees_view x.trees.items))) z x
 
 -- whether they encode to their bytes
+abbrev pub HasTrials : List (List ℕ) → List Method → ℕ → Body → Result Bool CodeFault → Type 0
+HasTrials codes ms n = IsKept (IsSame (body_in codes (slice_get ms n)))
+
 abbrev pub AreTrials : Bool → Loaded → List (Result Bool CodeFault) → Type 0
-AreTrials z x = AreKeptOf (λ n. IsSame (body_in (codes_view x.tables.items) (slice_get x.methods.items n))) z x
+AreTrials z x = AreKeptOf (HasTrials (codes_view x.tables.items) x.methods.items) z x
 
 -- whether a fault is kept
 abbrev pub has_fault : {X : Type 0} → List (Result X CodeFault) → Bool

@@ -1,12 +1,14 @@
-//! The bodies of all methods, read by workers.
-ghost use Rattle.std.specs.Prelude.{◌≡◌, ◌≤◌, List, IfOk, IfErr, length, map, slice_get};
+//! The bodies of all methods, read by workers, and what is kept of them.
+ghost use Rattle.std.specs.Prelude.{◌≡◌, ◌≤◌, ℕ, List, IfOk, IfErr, length, map, slice_get};
 ghost use Rattle.aml_space.specs.Entries.{Entry};
 ghost use Rattle.aml_space.specs.Known.{StandsFor};
 ghost use Rattle.aml_load.specs.Views.{codes_view, AreShort, body_in};
+ghost use Rattle.aml_text.specs.declared.bodies.Body.{Body};
 ghost use Rattle.aml_text.specs.Lines.{OneBody};
 ghost use Rattle.aml_text.specs.Views.{body_view};
 ghost use Rattle.acpidis.specs.Refusals.{IsWant};
 ghost use Rattle.acpidis.specs.Bodies.{AreEntries, AreTold, CanRead, BecameOf, AreDrawn, IsReading};
+ghost use Rattle.acpidis.specs.Kept.{KeptOf, AreKeptOf};
 
 use crate::refusal::Refusal;
 use aml_code::CodeFault;
@@ -73,26 +75,97 @@ impl<'a, 'b> Bodies<'a, 'b> {
     }
 }
 
-impl<'a, 'b> Work for Bodies<'a, 'b> {
-    type Done = Body;
+/// What a worker keeps of a body that it has read.
+pub(crate) trait Keep {
+    type Kept;
 
-    ghost can_work = { λ w n. CanRead (codes_view w.tables.now) w.methods.now n };
+    /// What is promised of it, by the body's number, its bytes, and what they read as.
+    ghost keeps: { Self → ℕ → List ℕ → Body → Self.Kept → Type 0 };
 
-    ghost gives = { λ w n d. BecameOf w.unknown_zero w.space.now (codes_view w.tables.now) w.methods.now n d };
+    /// What is kept of the body with this number and these bytes, or `NoMemory` where a growth was refused.
+    fn keep(
+        &self,
+        alloc: Global,
+        number: u32,
+        bytes: &[u8],
+        body: Body,
+    ) -> Result<Self::Kept, NoMemory>
+        ensures { IfOk result (λ kept. keeps self.now number bytes.now body kept) };
+}
 
-    fn work(&self, number: u32) -> Result<Body, NoMemory> {
-        self.read(number)
+/// The bodies of a loaded set, of each of which something is kept.
+#[derive(Drop)]
+struct Keeping<'a, 'b, K> {
+    bodies: Bodies<'a, 'b>,
+    keep: &'a K,
+}
+
+impl<'a, 'b, K: Keep> Work for Keeping<'a, 'b, K> {
+    type Done = K::Kept;
+
+    ghost can_work = { λ w n. CanRead (codes_view w.bodies.tables.now) w.bodies.methods.now n };
+
+    ghost gives = { λ w n d. KeptOf
+        (K.keeps w.keep.now n (body_in (codes_view w.bodies.tables.now) (slice_get w.bodies.methods.now n)))
+        w.bodies.unknown_zero w.bodies.space.now (codes_view w.bodies.tables.now) w.bodies.methods.now n d };
+
+    fn work(&self, number: u32) -> Result<K::Kept, NoMemory> {
+        let body = self.bodies.read(number)?;
+        self.keep.keep(self.bodies.alloc, number, self.bodies.bytes(number), body)
     }
 }
 
-/// Why a harvest is refused.
-pub(crate) fn refused_harvest(fault: PoolFault) -> Refusal
-    ensures want { IsWant result }
-    ensures memory { fault ≡ PoolFault.NoMemory → result ≡ Refusal.NoMemory }
+/// Reads the bodies of all methods by so many workers, 1 to 64, each of which keeps something of the bodies that it reads.
+/// With `unknown_zero` a name that leads nowhere counts as one without arguments. A body that can't be read is raw, and
+/// refuses nothing.
+pub(crate) fn keep_bodies<R: Threads + Wait + Sync, G: Gate + Sync, K: Keep + Sync>(
+    rt: &R,
+    alloc: Global,
+    loaded: &Loaded<'_>,
+    unknown_zero: bool,
+    workers: u32,
+    gate: &G,
+    keep: &K,
+) -> Result<Results<K::Kept>, Refusal>
+where
+    K::Kept: Send + Drop,
+    requires workers { (1 ≤ workers) × (workers ≤ 64) }
+    // The limits of a table and of the methods.
+    requires short { AreShort (codes_view loaded.now.tables.items) }
+    requires few { length loaded.now.methods.items ≤ 1048576 }
+
+    // It is kept of the body of each method.
+    ensures kept { IfOk result (λ r. AreKeptOf
+        (λ n. K.keeps keep.now n (body_in (codes_view loaded.now.tables.items) (slice_get loaded.now.methods.items n)))
+        unknown_zero loaded.now r.items.items) }
+    // Each method was drawn by one worker, once.
+    ensures drawn { IfOk result (λ r. AreDrawn workers (length loaded.now.methods.items) r.drawn.items) }
+    // A refusal says nothing of the set; one worker needs no thread.
+    ensures want { IfErr result IsWant }
+    ensures one_needs_no_thread { workers ≡ 1 → IfErr result (λ e. e ≡ Refusal.NoMemory) }
 {
-    match fault {
-        PoolFault::NoThread => Refusal::NoThread,
-        PoolFault::NoMemory => Refusal::NoMemory,
+    let work = Keeping {
+        bodies: Bodies::new(alloc, loaded, unknown_zero),
+        keep,
+    };
+    match harvest(rt, alloc, workers, loaded.methods.len() as u32, &work, gate) {
+        Ok(found) => Ok(found),
+        Err(PoolFault::NoThread) => Err(Refusal::NoThread),
+        Err(PoolFault::NoMemory) => Err(Refusal::NoMemory),
+    }
+}
+
+/// Each body is kept as it is.
+#[derive(Clone, Copy)]
+struct Whole;
+
+impl Keep for Whole {
+    type Kept = Body;
+
+    ghost keeps = { λ w n bytes body kept. kept ≡ body };
+
+    fn keep(&self, _alloc: Global, _number: u32, _bytes: &[u8], body: Body) -> Result<Body, NoMemory> {
+        Ok(body)
     }
 }
 
@@ -128,9 +201,5 @@ pub(crate) fn read_bodies<R: Threads + Wait + Sync, G: Gate + Sync>(
     ensures want { IfErr result IsWant }
     ensures one_needs_no_thread { workers ≡ 1 → IfErr result (λ e. e ≡ Refusal.NoMemory) }
 {
-    let work = Bodies::new(alloc, loaded, unknown_zero);
-    match harvest(rt, alloc, workers, loaded.methods.len() as u32, &work, gate) {
-        Ok(found) => Ok(found),
-        Err(fault) => Err(refused_harvest(fault)),
-    }
+    keep_bodies(rt, alloc, loaded, unknown_zero, workers, gate, &Whole)
 }

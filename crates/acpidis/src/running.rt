@@ -6,20 +6,21 @@ ghost use Rattle.acpidis.specs.Endings.{Ends, status_of};
 ghost use Rattle.acpidis.specs.Kept.{has_fault};
 ghost use Rattle.acpidis.specs.Sets.{IsSet};
 
+use crate::bodies::keep_bodies;
 use crate::check_lines::{are_same, write_tables};
 use crate::checking::check_tables;
 use crate::disassembling::load_set;
 use crate::faults::RunFault;
 use crate::options::Options;
 use crate::refusal::Refusal;
-use crate::texts::print_bodies;
-use crate::trials::try_bodies;
+use crate::texts::Texts;
+use crate::trials::Trials;
 use acpi_folder::Quoted;
 use acpi_tables::Dump;
 use aml_code::CodeFault;
 use aml_load::{LoadFault, Method};
 use aml_pool::Gate;
-use aml_text::{Tables, write_printed};
+use aml_text::{Tables, body_levels, write_printed};
 use std::alloc::Global;
 use std::fmt::Display;
 use std::io::Write;
@@ -123,7 +124,11 @@ fn run_listing<R: Threads + Wait + Sync, G: Gate + Sync, O: Write, E: Write>(
     requires set { IsSet options.now set }
     ensures { Ends set.entry.dumps.now options.now false (O.contents out.old) (O.contents out.new) result }
 {
-    let found = print_bodies(rt, alloc, set.loaded, options.unknown_zero, workers, gate)?;
+    let levels = body_levels(alloc, set.loaded.trees.as_slice())?;
+    let keep = Texts {
+        levels: levels.as_slice(),
+    };
+    let found = keep_bodies(rt, alloc, set.loaded, options.unknown_zero, workers, gate, &keep)?;
     let texts = found.items.as_slice();
     write_printed(out, set, texts)?;
     print_raw_bodies(set.loaded.methods.as_slice(), texts, err);
@@ -146,7 +151,7 @@ fn run_checks<R: Threads + Wait + Sync, G: Gate + Sync, O: Write, E: Write>(
     requires set { IsSet options.now set }
     ensures { Ends set.entry.dumps.now options.now true (O.contents out.old) (O.contents out.new) result }
 {
-    let found = try_bodies(rt, alloc, set.loaded, options.unknown_zero, workers, gate)?;
+    let found = keep_bodies(rt, alloc, set.loaded, options.unknown_zero, workers, gate, &Trials)?;
     let tried = found.items.as_slice();
     let checks = check_tables(alloc, set, tried)?;
     write_tables(out, set, checks.as_slice())?;

@@ -1,0 +1,18 @@
+-- What the workers share may be shared.
+use denote.RattleType.{RattleType}
+use denote.Ref.{NamedLft}
+use denote.Struct.Declared.{shape}
+use denote.Param.Send.{IsSync, sendable, recorded_sync, shr_sync, struct_sync}
+use Rattle.std.proofs.Crossing.{crosses}
+use Rattle.aml_names.proofs.paths.Path.TheSendSync as Path
+use Rattle.aml_load.below.aml_children.proofs.trees.Tree.TheLaws.TheKnot as Tree
+use Rattle.aml_space.specs.contracts.spaces.Space as Space
+use Rattle.acpidis.specs.contracts.bodies.Keeping as Keeping
+
+space_sync : IsSync Space.the_row
+space_sync = search (crosses, Tree.crosses, Path.the_sync, sendable) depth 80 fits 60000
+
+pub keeping_sync : (a b : NamedLft) (K : RattleType) → IsSync K → IsSync (Keeping.the_row a b K)
+keeping_sync a b K kept =
+    let T = Keeping.the_type a b K in
+    recorded_sync _ _ T.to T.to_one (struct_sync (shape T) (search (space_sync, crosses, Path.the_sync, sendable) depth 40 fits 20000, (shr_sync _ _ K kept, tt)))
