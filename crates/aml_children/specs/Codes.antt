@@ -4,13 +4,12 @@ use Rattle.std.specs.Coded.{Coded, code_by, coded×, coded_ℕ, coded_list}
 use Rattle.aml_names.specs.declared.segments.Seg.{Seg}
 use Rattle.aml_names.specs.Paths.{coded_seg}
 use Rattle.aml_children.specs.declared.children.Child.{Child}
-use Rattle.aml_children.specs.Children.{Counted}
 
 abbrev pub coded_child : Coded Child
 coded_child = code_by (Seg × ℕ) (coded× coded_seg coded_ℕ) (λ c. (c.seg, c.node)) (λ p. record { seg = p.0; node = p.1 }) (λ _. refl)
 
-abbrev pub coded_children : Coded (List Counted)
-coded_children = coded_list (coded× coded_child coded_ℕ)
+abbrev pub coded_children : Coded (List Child)
+coded_children = coded_list coded_child
 
-abbrev pub coded_tree : Coded (List Counted × ℕ)
+abbrev pub coded_tree : Coded (List Child × ℕ)
 coded_tree = coded× coded_children coded_ℕ

@@ -1,60 +1,52 @@
 -- A stepping stone of the proofs: what a fork of a tree of children is seen as, and what holds of it.
 use Rattle.std.specs.Prelude.{◌≡◌, ℕ, ◌+◌, ◌^◌, ◌<◌, ◌≤◌, max, List, [], ◌∷◌, ◌++◌, Option, Some, None}
 use Rattle.std.specs.Global.{Box}
-use Rattle.aml_children.specs.Children.{Counted, total}
 use Rattle.aml_children.specs.declared.children.Child.{Child}
 use Rattle.aml_children.specs.declared.children.Kept.{Kept}
 use Rattle.aml_children.specs.declared.children.Kept.TheVariants.{Nobody, Only, Many}
 use Rattle.aml_children.specs.declared.trees.Fork.{Fork}
 
 -- the children of a fork in order
-abbrev pub list_of : Fork → List Counted
-list_of f = f.left.0 ++ (f.child, f.rows) ∷ f.right.0
+abbrev pub list_of : Fork → List Child
+list_of f = f.left.0 ++ f.child ∷ f.right.0
 
 -- and the height that it stores
-abbrev pub seen : Fork → List Counted × ℕ
+abbrev pub seen : Fork → List Child × ℕ
 seen f = (list_of f, f.height)
 
-abbrev pub list_and_height : Option (Box Fork) → List Counted × ℕ
+abbrev pub list_and_height : Option (Box Fork) → List Child × ℕ
 list_and_height None = ([], 0)
 list_and_height (Some b) = seen b.value
-
--- the rows of the children of a fork
-abbrev pub sum_of : Fork → ℕ
-sum_of f = total f.left.0 + (f.rows + total f.right.0)
 
 abbrev pub height_of : Fork → ℕ
 height_of f = max f.left.1 f.right.1 + 1
 
--- a fork of two sides, with its height and its sum
-abbrev pub made : List Counted × ℕ → Child → ℕ → List Counted × ℕ → Fork
-made l c n r = record { left = l; child = c; rows = n; sum = total l.0 + (n + total r.0); height = max l.1 r.1 + 1; right = r }
+-- a fork of two sides, with its height
+abbrev pub made : List Child × ℕ → Child → List Child × ℕ → Fork
+made l c r = record { left = l; child = c; height = max l.1 r.1 + 1; right = r }
 
 -- a fork whose left side was taken out, below that side
 abbrev pub left_lifted : Fork → Fork → Fork
-left_lifted f l = made l.left l.child l.rows (seen (made l.right f.child f.rows f.right))
+left_lifted f l = made l.left l.child (seen (made l.right f.child f.right))
 
 abbrev pub right_lifted : Fork → Fork → Fork
-right_lifted f r = made (seen (made f.left f.child f.rows r.left)) r.child r.rows r.right
+right_lifted f r = made (seen (made f.left f.child r.left)) r.child r.right
 
 abbrev pub DifferByAtMost : ℕ → ℕ → ℕ → Type 0
 DifferByAtMost by l r = (l ≤ r + by) × (r ≤ l + by)
 
--- the stored height and sum are right, the sum fits its type, and the heights of the sides differ by at most one
+-- the stored height is right, and the heights of the sides differ by at most one
 pub record IsBalanced (f : Fork) : Type 0 where
   pub height : f.height ≡ height_of f
-  pub sum : f.sum ≡ sum_of f
-  pub fits : f.sum < 2 ^ 64
   pub even : DifferByAtMost 1 f.left.1 f.right.1
 
 abbrev pub AreBalanced : Option (Box Fork) → Type 0
 AreBalanced None = Unit {0}
 AreBalanced (Some b) = IsBalanced b.value
 
--- the height and the sum leave room, and the heights of the sides differ by at most two
+-- the height leaves room, and the heights of the sides differ by at most two
 pub record IsNearlyBalanced (f : Fork) : Type 0 where
   pub room : max f.left.1 f.right.1 ≤ 2 ^ 63
-  pub fits : sum_of f < 2 ^ 64
   pub even : DifferByAtMost 2 f.left.1 f.right.1
 
 abbrev pub AreNearlyBalanced : Option (Box Fork) → Type 0
@@ -80,13 +72,13 @@ Rebalances (Some b) None = ⊥
 Rebalances (Some b) (Some m) = IsRebalanced b.value m.value
 
 -- the children that are kept in one of three ways
-abbrev pub kept_list : Kept → List Counted
+abbrev pub kept_list : Kept → List Child
 kept_list Nobody = []
-kept_list (Only c n) = (c, n) ∷ []
+kept_list (Only c) = c ∷ []
 kept_list (Many t) = t.0
 
 -- where they are a tree, it is low
 abbrev pub IsLow : Kept → Type 0
 IsLow Nobody = Unit {0}
-IsLow (Only c n) = Unit {0}
+IsLow (Only c) = Unit {0}
 IsLow (Many t) = t.1 ≤ 64

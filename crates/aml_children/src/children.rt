@@ -1,6 +1,8 @@
 //! The children of a node, ordered by segment.
-ghost use Rattle.std.specs.Prelude.{◌≡◌, ℕ, ◌+◌, ◌≤◌, ◌<◌, ◌^◌, [], ◌∷◌, ◌++◌, Some, None, IsTrue, is_some, OnOk, OnErr};
-ghost use Rattle.aml_children.specs.Children.{bare, child_in, Rise, total, put, raised, holding, backwards};
+ghost use Rattle.std.specs.Ordering.{is_lt};
+ghost use Rattle.std.specs.Prelude.{◌≡◌, ◌≤◌, [], ◌∷◌, None, OnOk, OnErr};
+ghost use Rattle.aml_names.specs.Paths.{seg_cmp};
+ghost use Rattle.aml_children.specs.Children.{child_in, Rise, put, behind, first_node};
 
 use crate::trees::Tree;
 use aml_names::Seg;
@@ -18,7 +20,7 @@ pub struct Child {
     pub node: usize,
 }
 
-/// The children of a node, ordered by segment, each with the number of rows that are declared at its node and below.
+/// The children of a node, ordered by segment.
 #[derive(Drop)]
 pub struct Children {
     kept: Kept,
@@ -28,17 +30,17 @@ pub struct Children {
 #[derive(Drop)]
 enum Kept {
     Nobody,
-    Only { child: Child, rows: usize },
+    Only(Child),
     Many(Tree),
 }
 
 impl Model for Children {
     ghost use Rattle.std.specs.Prelude.{List};
-    ghost use Rattle.aml_children.specs.Children.{Counted};
+    ghost use Rattle.aml_children.specs.declared.children.Child.{Child};
     ghost use Rattle.aml_children.specs.Codes.{coded_children};
     ghost use Rattle.aml_children.specs.Trees.{kept_list, IsLow};
 
-    ghost Value = { List Counted };
+    ghost Value = { List Child };
 
     ghost coded = { coded_children };
 
@@ -57,40 +59,63 @@ impl Children {
 
     /// The node of a segment.
     pub fn node(&self, seg: Seg) -> Option<usize>
-        requires { Rise (bare self.now) }
-        ensures { result ≡ child_in (bare self.now) seg }
+        requires { Rise self.now }
+        ensures { result ≡ child_in self.now seg }
     {
         match &self.kept {
             Kept::Nobody => None,
-            Kept::Only { child, .. } => child.node_of(seg),
+            Kept::Only(child) => child.node_of(seg),
             Kept::Many(tree) => tree.node(seg),
+        }
+    }
+
+    /// The node of the first child.
+    pub fn first(&self) -> Option<usize>
+        ensures { result ≡ first_node self.now }
+    {
+        match &self.kept {
+            Kept::Nobody => None,
+            Kept::Only(child) => Some(child.node),
+            Kept::Many(tree) => tree.first(),
+        }
+    }
+
+    /// The node of the first child whose segment comes behind this one.
+    pub fn after(&self, seg: Seg) -> Option<usize>
+        requires { Rise self.now }
+        ensures { result ≡ first_node (behind seg self.now) }
+    {
+        match &self.kept {
+            Kept::Nobody => None,
+            Kept::Only(child) => child.node_behind(seg),
+            Kept::Many(tree) => tree.after(seg),
         }
     }
 
     /// What `node` answers, and the comparisons made.
     pub fn find(&self, seg: Seg) -> (Option<usize>, u128)
-        requires { Rise (bare self.now) }
-        ensures node { result.0 ≡ child_in (bare self.now) seg }
+        requires { Rise self.now }
+        ensures node { result.0 ≡ child_in self.now seg }
         ensures few { result.1 ≤ 64 }
     {
         match &self.kept {
             Kept::Nobody => (None, 0),
-            Kept::Only { child, .. } => (child.node_of(seg), 1),
+            Kept::Only(child) => (child.node_of(seg), 1),
             Kept::Many(tree) => tree.find(seg),
         }
     }
 
-    /// Puts a child without rows into its place. A refused one changes nothing.
+    /// Puts a child into its place. A refused one changes nothing.
     pub fn insert(&mut self, alloc: Global, child: Child) -> Result<(), AllocError>
-        requires rise { Rise (bare self.old) }
-        requires absent { child_in (bare self.old) child.seg ≡ None }
+        requires rise { Rise self.old }
+        requires absent { child_in self.old child.seg ≡ None }
         ensures ok { OnOk result (self.new ≡ put self.old child) }
         ensures err { OnErr result (self.new ≡ self.old) }
     {
         match &mut self.kept {
-            Kept::Nobody => self.kept = Kept::Only { child, rows: 0 },
-            Kept::Only { child: only, rows } => {
-                let mut tree = Tree::of(alloc, *only, *rows)?;
+            Kept::Nobody => self.kept = Kept::Only(child),
+            Kept::Only(only) => {
+                let mut tree = Tree::of(alloc, *only)?;
                 tree.insert(alloc, child)?;
                 self.kept = Kept::Many(tree);
             }
@@ -100,64 +125,6 @@ impl Children {
                 }
                 tree.insert(alloc, child)?;
             }
-        }
-        Ok(())
-    }
-
-    /// How many rows the children have together.
-    pub fn rows(&self) -> usize
-        ensures { result ≡ total self.now }
-    {
-        match &self.kept {
-            Kept::Nobody => 0,
-            Kept::Only { rows, .. } => *rows,
-            Kept::Many(tree) => tree.rows(),
-        }
-    }
-
-    /// One row more for the child of a segment. Gives the child's node.
-    pub fn add_row(&mut self, seg: Seg) -> usize
-        requires rise { Rise (bare self.old) }
-        requires there { IsTrue (is_some (child_in (bare self.old) seg)) }
-        requires room { total self.old + 1 < 2 ^ 64 }
-        ensures rows { self.new ≡ raised self.old seg }
-        ensures node { child_in (bare self.old) seg ≡ Some result }
-    {
-        match &mut self.kept {
-            Kept::Nobody => 0,
-            Kept::Only { child, rows } => {
-                *rows += 1;
-                child.node
-            }
-            Kept::Many(tree) => tree.add_row(seg),
-        }
-    }
-
-    /// The child among whose rows a row stands, and the row's place there.
-    pub fn holding(&self, index: usize) -> Option<(usize, usize)>
-        ensures { result ≡ holding self.now index }
-    {
-        match &self.kept {
-            Kept::Nobody => None,
-            Kept::Only { child, rows } => {
-                if index < *rows {
-                    Some((child.node, index))
-                } else {
-                    None
-                }
-            }
-            Kept::Many(tree) => tree.holding(index),
-        }
-    }
-
-    /// The nodes of the children, the last one first.
-    pub fn push_backwards(&self, todo: &mut Vec<usize>) -> Result<(), AllocError>
-        ensures { OnOk result (todo.new.items ≡ todo.old.items ++ backwards (bare self.now)) }
-    {
-        match &self.kept {
-            Kept::Nobody => {}
-            Kept::Only { child, .. } => todo.push(child.node)?,
-            Kept::Many(tree) => tree.push_backwards(todo)?,
         }
         Ok(())
     }
@@ -171,6 +138,26 @@ impl Child {
         match seg.cmp(&self.seg) {
             Ordering::Equal => Some(self.node),
             _ => None,
+        }
+    }
+    /// Whether the child's segment comes behind this one.
+    pub(crate) fn is_behind(&self, seg: Seg) -> bool
+        ensures { result ≡ is_lt (seg_cmp seg self.now.seg) }
+    {
+        match seg.cmp(&self.seg) {
+            Ordering::Less => true,
+            _ => false,
+        }
+    }
+
+    /// The child's node, where its segment comes behind this one.
+    fn node_behind(&self, seg: Seg) -> Option<usize>
+        ensures { result ≡ first_node (behind seg (self.now ∷ [])) }
+    {
+        if self.is_behind(seg) {
+            Some(self.node)
+        } else {
+            None
         }
     }
 }

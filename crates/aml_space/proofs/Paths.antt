@@ -1,17 +1,13 @@
 -- The nodes of a path below a node, each made below the one before it.
-use Rattle.std.proofs.Common.{◌≡◌, ℕ, ◌+◌, ◌<◌, List, [], ◌∷◌, ◌++◌, length, take, drop, get_or, Some, None, refl, sym, ap, subst, ◌∙◌, arith, append_assoc, length-append}
+use Rattle.std.proofs.Common.{◌≡◌, ℕ, ◌+◌, ◌<◌, List, [], ◌∷◌, ◌++◌, length, take, drop, get_or, Some, None, sym, ap, subst, ◌∙◌, arith, append_assoc, length-append}
 use Rattle.std.proofs.lemmas.List.{append-nil, take-append-drop}
 use Rattle.std.specs.Option.{option_and_then}
 use Rattle.aml_names.specs.declared.segments.Seg.{Seg}
 use Rattle.aml_children.specs.declared.children.Child.{Child}
-use Rattle.std.specs.Prelude.{◌==◌}
-use Rattle.std.proofs.Common.{Bool, true, false, cond}
-use Rattle.std.proofs.lemmas.Map.Views.{exact_unsigned_eq}
-use Rattle.aml_children.specs.Children.{child_in, put, total}
-use Rattle.aml_children.proofs.Sides.{total_put}
+use Rattle.aml_children.specs.Children.{child_in, put}
 use Rattle.aml_space.specs.declared.nodes.Node.{Node}
 use Rattle.aml_space.specs.Graph.{walk}
-use Rattle.aml_space.specs.Nodes.{counted_of, kids_of, known_by, HasGrown, IsIndex, empty, chain, with_child, with_path}
+use Rattle.aml_space.specs.Nodes.{kids_of, known_by, IsIndex, empty, chain, with_child, with_path}
 use Rattle.aml_space.proofs.Change.{walk_push, walk_range}
 use Rattle.aml_space.proofs.Grow.{has_grown, length_with, with_pushed, last_leaf}
 use Rattle.aml_space.proofs.Index.{grown_index, grown_known, new_child, still, seam}
@@ -20,58 +16,50 @@ use Rattle.aml_space.proofs.Index.{grown_index, grown_known, new_child, still, s
 pub record Leads (ns new : List Node) (p : List Seg) (at : ℕ) : Type 0 where
   pub index : IsIndex new
   pub known : known_by new ≡ known_by ns
-  pub rows : total (counted_of new 0) ≡ total (counted_of ns 0)
   pub led : walk (kids_of new) 0 p ≡ Some at
 
-pub long_chain : (first : ℕ) (q : List Seg) → length (chain first q) ≡ length q + 1
-long_chain first [] = omega arith
-long_chain first (s ∷ q) = omega (arith, long_chain (first + 1) q)
-
-same_rows : (ns new : List Node) (i : ℕ) (s : Seg) → IsIndex ns → HasGrown ns new i s → total (counted_of new 0) ≡ total (counted_of ns 0)
-same_rows ns new i s is has = ap total (has.counted 0 is.shape.rooted) ∙ by (0 == i) refl
-  where
-    by : (b : Bool) → (0 == i) ≡ b → total (cond b (put (counted_of ns i) (record { seg = s; node = length ns })) (counted_of ns 0)) ≡ total (counted_of ns 0)
-    by true here = total_put (counted_of ns i) (record { seg = s; node = length ns }) ∙ ap (λ m. total (counted_of ns m)) (sym (exact_unsigned_eq 0 i here))
-    by false here = refl
+pub long_chain : (p first : ℕ) (t : Seg) (q : List Seg) → length (chain p first t q) ≡ length q + 1
+long_chain p first t [] = omega arith
+long_chain p first t (s ∷ q) = omega (arith, long_chain first (first + 1) s q)
 
 -- one node more
 one_more : (ns : List Node) (p : List Seg) (i : ℕ) (s : Seg) → i < length ns → IsIndex ns → walk (kids_of ns) 0 p ≡ Some i → child_in (kids_of ns i) s ≡ None →
-    Leads ns (with_child ns i (record { seg = s; node = length ns }) ++ empty ∷ []) (p ++ s ∷ []) (length ns)
+    Leads ns (with_child ns i (record { seg = s; node = length ns }) ++ empty i s ∷ []) (p ++ s ∷ []) (length ns)
 one_more ns p i s within is led absent =
-    let new = with_child ns i (record { seg = s; node = length ns }) ++ empty ∷ [] in
+    let new = with_child ns i (record { seg = s; node = length ns }) ++ empty i s ∷ [] in
     let has = has_grown ns i s in
     record {
-      index = grown_index ns new i s is.shape within absent has is.named is.counted;
+      index = grown_index ns new i s is.shape within absent has is.named is.linked;
       known = grown_known ns new i s is.shape within absent has;
-      rows = same_rows ns new i s is has;
       led = walk_push (kids_of new) 0 p s ∙ ap (option_and_then (λ j. child_in (kids_of new j) s)) (still ns new i s is.shape within absent has p i led) ∙ new_child ns new i s is.shape within absent has;
     }
 
 -- from an empty node at the end
-rest_more : (ns xs : List Node) (p q : List Seg) → Leads ns (xs ++ empty ∷ []) p (length xs) → Leads ns (xs ++ chain (length xs) q) (p ++ q) (length xs + length q)
-rest_more ns xs p [] so = record {
+rest_more : (ns xs : List Node) (top : ℕ) (t : Seg) (p q : List Seg) → Leads ns (xs ++ empty top t ∷ []) p (length xs) → Leads ns (xs ++ chain top (length xs) t q) (p ++ q) (length xs + length q)
+rest_more ns xs top t p [] so = record {
   index = so.index;
   known = so.known;
-  rows = so.rows;
-  led = ap (walk (kids_of (xs ++ empty ∷ [])) 0) (append-nil p) ∙ so.led ∙ ap Some {x = length xs} {y = length xs + 0} (omega arith);
+  led = ap (walk (kids_of (xs ++ empty top t ∷ [])) 0) (append-nil p) ∙ so.led ∙ ap Some {x = length xs} {y = length xs + 0} (omega arith);
 }
-rest_more ns xs p (s ∷ q) so =
-    let before = xs ++ empty ∷ [] in
+rest_more ns xs top t p (s ∷ q) so =
+    let before = xs ++ empty top t ∷ [] in
     let c : Child = record { seg = s; node = length xs + 1 } in
-    let filled : Node = record { row = None; outs = None; given = None; children = Rattle.aml_children.specs.Children.put [] c } in
-    let long : length before ≡ length xs + 1 = length-append xs (empty ∷ []) in
-    let one = one_more before p (length xs) s (omega (arith, long)) so.index so.led (last_leaf xs s) in
-    let is : with_child before (length xs) (record { seg = s; node = length before }) ++ empty ∷ [] ≡ (xs ++ filled ∷ []) ++ empty ∷ [] =
-    ap (λ n. with_child before (length xs) (record { seg = s; node = n }) ++ empty ∷ []) long ∙ ap (λ ms. ms ++ empty ∷ []) (with_pushed xs [] empty c) in
+    let last : Node = empty (length xs) s in
+    let filled : Node = record { row = None; outs = None; given = None; seg = t; parent = top; children = put [] c } in
+    let long : length before ≡ length xs + 1 = length-append xs (empty top t ∷ []) in
+    let one = one_more before p (length xs) s (omega (arith, long)) so.index so.led (last_leaf xs top t s) in
+    let is : with_child before (length xs) (record { seg = s; node = length before }) ++ last ∷ [] ≡ (xs ++ filled ∷ []) ++ last ∷ [] =
+    ap (λ n. with_child before (length xs) (record { seg = s; node = n }) ++ last ∷ []) long ∙ ap (λ ms. ms ++ last ∷ []) (with_pushed xs [] (empty top t) c) in
     let long_next : length (xs ++ filled ∷ []) ≡ length xs + 1 = length-append xs (filled ∷ []) in
-    let next : Leads ns ((xs ++ filled ∷ []) ++ empty ∷ []) (p ++ s ∷ []) (length (xs ++ filled ∷ [])) =
-    subst (λ ms. Leads ns ms (p ++ s ∷ []) (length (xs ++ filled ∷ []))) is (subst (Leads ns (with_child before (length xs) (record { seg = s; node = length before }) ++ empty ∷ []) (p ++ s ∷ [])) {x = length before} {y = length (xs ++ filled ∷ [])} (omega (arith, long, long_next)) (record { index = one.index; known = one.known ∙ so.known; rows = one.rows ∙ so.rows; led = one.led })) in
-    let rest = rest_more ns (xs ++ filled ∷ []) (p ++ s ∷ []) q next in
-    let list : (xs ++ filled ∷ []) ++ chain (length (xs ++ filled ∷ [])) q ≡ xs ++ filled ∷ chain (length xs + 1) q =
-    append_assoc xs (filled ∷ []) (chain (length (xs ++ filled ∷ [])) q) ∙ ap (λ n. xs ++ filled ∷ chain n q) long_next in
+    let next : Leads ns ((xs ++ filled ∷ []) ++ last ∷ []) (p ++ s ∷ []) (length (xs ++ filled ∷ [])) =
+    subst (λ ms. Leads ns ms (p ++ s ∷ []) (length (xs ++ filled ∷ []))) is (subst (Leads ns (with_child before (length xs) (record { seg = s; node = length before }) ++ last ∷ []) (p ++ s ∷ [])) {x = length before} {y = length (xs ++ filled ∷ [])} (omega (arith, long, long_next)) (record { index = one.index; known = one.known ∙ so.known; led = one.led })) in
+    let rest = rest_more ns (xs ++ filled ∷ []) (length xs) s (p ++ s ∷ []) q next in
+    let list : (xs ++ filled ∷ []) ++ chain (length xs) (length (xs ++ filled ∷ [])) s q ≡ xs ++ filled ∷ chain (length xs) (length xs + 1) s q =
+    append_assoc xs (filled ∷ []) (chain (length xs) (length (xs ++ filled ∷ [])) s q) ∙ ap (λ n. xs ++ filled ∷ chain (length xs) n s q) long_next in
     let path : (p ++ s ∷ []) ++ q ≡ p ++ s ∷ q = append_assoc p (s ∷ []) q in
     let end : length (xs ++ filled ∷ []) + length q ≡ length xs + length (s ∷ q) = omega (arith, long_next) in
-    subst (λ ms. Leads ns ms (p ++ s ∷ q) (length xs + length (s ∷ q))) list (subst (λ l. Leads ns ((xs ++ filled ∷ []) ++ chain (length (xs ++ filled ∷ [])) q) l (length xs + length (s ∷ q))) path (subst (Leads ns ((xs ++ filled ∷ []) ++ chain (length (xs ++ filled ∷ [])) q) ((p ++ s ∷ []) ++ q)) end rest))
+    let whole = (xs ++ filled ∷ []) ++ chain (length xs) (length (xs ++ filled ∷ [])) s q in
+    subst (λ ms. Leads ns ms (p ++ s ∷ q) (length xs + length (s ∷ q))) list (subst (λ l. Leads ns whole l (length xs + length (s ∷ q))) path (subst (Leads ns whole ((p ++ s ∷ []) ++ q)) end rest))
 
 -- the nodes of a path below one
 pub path_more : (ns : List Node) (p : List Seg) (i : ℕ) (s : Seg) (q : List Seg) → i < length ns → IsIndex ns → walk (kids_of ns) 0 p ≡ Some i → child_in (kids_of ns i) s ≡ None →
@@ -80,13 +68,13 @@ path_more ns p i s q within is led absent =
     let c : Child = record { seg = s; node = length ns } in
     let long : length (with_child ns i c) ≡ length ns = length_with ns i c in
     let one = one_more ns p i s within is led absent in
-    let rest = rest_more ns (with_child ns i c) (p ++ s ∷ []) q (subst (Leads ns (with_child ns i c ++ empty ∷ []) (p ++ s ∷ [])) (sym long) one) in
-    subst (λ n. Leads ns (with_child ns i c ++ chain n q) (p ++ s ∷ q) (n + length q)) long (subst (λ l. Leads ns (with_child ns i c ++ chain (length (with_child ns i c)) q) l (length (with_child ns i c) + length q)) (append_assoc p (s ∷ []) q) rest)
+    let rest = rest_more ns (with_child ns i c) i s (p ++ s ∷ []) q (subst (Leads ns (with_child ns i c ++ empty i s ∷ []) (p ++ s ∷ [])) (sym long) one) in
+    subst (λ n. Leads ns (with_child ns i c ++ chain i n s q) (p ++ s ∷ q) (n + length q)) long (subst (λ l. Leads ns (with_child ns i c ++ chain i (length (with_child ns i c)) s q) l (length (with_child ns i c) + length q)) (append_assoc p (s ∷ []) q) rest)
 
 pub long_path : (ns : List Node) (i : ℕ) (s : Seg) (q : List Seg) → length (with_path ns i s q) ≡ length ns + length q + 1
 long_path ns i s q =
     let c : Child = record { seg = s; node = length ns } in
-    omega (arith, length-append (with_child ns i c) (chain (length ns) q), length_with ns i c, long_chain (length ns) q)
+    omega (arith, length-append (with_child ns i c) (chain i (length ns) s q), length_with ns i c, long_chain i (length ns) s q)
 
 -- the nodes of the rest of a path, below the node where it ends
 pub path_grown : (ns new : List Node) (p : List Seg) (k at : ℕ) (d : Seg) → IsIndex ns → walk (kids_of ns) 0 (take k p) ≡ Some at → k < length p → ((s : Seg) (q : List Seg) → drop k p ≡ s ∷ q → child_in (kids_of ns at) s ≡ None) →

@@ -19,4 +19,5 @@ mod walking;
 pub use bodies::{BodyNames, BodyScope};
 pub use faults::SpaceFault;
 pub use kinds::Kind;
+pub use listing::Rows;
 pub use spaces::{Space, SpaceRow};

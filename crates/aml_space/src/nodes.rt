@@ -4,7 +4,7 @@ ghost use Rattle.aml_space.specs.Nodes.{empty};
 
 use crate::kinds::Kind;
 use aml_children::Children;
-use aml_names::Path;
+use aml_names::{Path, Seg};
 
 /// What is declared at a node.
 #[derive(Drop)]
@@ -22,7 +22,11 @@ pub struct Node {
     pub outs: Option<u8>,
     /// The greatest count that the user gives it.
     pub given: Option<u8>,
-    /// The nodes below, each with the number of paths that are declared at it and below.
+    /// The segment by which it is a child of its parent.
+    pub seg: Seg,
+    /// The number of its parent; the root is its own.
+    pub parent: usize,
+    /// The nodes below.
     pub children: Children,
 }
 
@@ -30,14 +34,16 @@ pub struct Node {
 const _: () = prove!(size_of::<Node>() == 56);
 
 impl Node {
-    /// A node without content.
-    pub fn empty() -> Node
-        ensures { result ≡ empty }
+    /// A node without content, a child of its parent by a segment.
+    pub fn empty(parent: usize, seg: Seg) -> Node
+        ensures { result ≡ empty parent seg }
     {
         Node {
             row: None,
             outs: None,
             given: None,
+            seg,
+            parent,
             children: Children::new(),
         }
     }

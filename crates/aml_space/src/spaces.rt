@@ -10,15 +10,13 @@ ghost use Rattle.aml_space.specs.Rows.{AreRows};
 
 use crate::counting::count_of;
 use crate::faults::SpaceFault;
-use crate::growing::{
-    count_path, deepest, extend, is_taken, make_node, set_given, set_out, set_row,
-};
+use crate::growing::{deepest, extend, is_taken, make_node, set_given, set_out, set_row};
 use crate::kinds::Kind;
-use crate::listing::list_rows;
+use crate::listing::{Rows, list_rows};
 use crate::nodes::{Node, Row};
 use crate::predefined::Predefined;
-use crate::walking::{children_at, kind_at, node_of, out_at, row_here, row_under, walk_counted};
-use aml_names::{NoMemory, Path};
+use crate::walking::{kind_at, node_of, out_at, walk_counted};
+use aml_names::{NoMemory, Path, Seg};
 use std::alloc::Global;
 use std::marker::Model;
 
@@ -30,6 +28,8 @@ pub struct Space {
     /// The root first. A child has a greater number than its parent.
     pub(crate) nodes: Vec<Node>,
     pub(crate) predefined: Predefined,
+    /// How many paths are declared.
+    rows: usize,
 }
 
 impl Model for Space {
@@ -39,11 +39,11 @@ impl Model for Space {
 
     ghost coded = { coded_known };
 
-    ghost use Rattle.aml_space.specs.Nodes.{known_by, IsIndex};
+    ghost use Rattle.aml_space.specs.Nodes.{known_by, IsSpace};
 
     ghost view = { λ s. known_by s.nodes.items };
 
-    ghost invariant = { λ s. IsIndex s.nodes.items };
+    ghost invariant = { λ s. IsSpace s.nodes.items s.rows };
 }
 
 /// A declared path and its kind.
@@ -60,11 +60,12 @@ impl Space {
         ensures stands { IfOk result (λ space. StandsFor space []) }
     {
         let mut nodes = Vec::new(alloc);
-        nodes.push(Node::empty())?;
+        nodes.push(Node::empty(0, Seg::default()))?;
         Ok(Space {
             alloc,
             nodes,
             predefined: Predefined::new(),
+            rows: 0,
         })
     }
 
@@ -83,13 +84,13 @@ impl Space {
         if is_taken(self.nodes.as_slice(), path.segs(), reach) {
             return Err(SpaceFault::Duplicate(path));
         }
-        if children_at(self.nodes.as_slice(), 0).rows() == usize::MAX {
+        if self.rows == usize::MAX {
             return Err(SpaceFault::NoMemory);
         }
         let row = Box::new(self.alloc, Row { path, kind })?;
         let at = extend(self.alloc, &mut self.nodes, row.path.segs(), reach)?;
-        count_path(&mut self.nodes, row.path.segs());
         set_row(&mut self.nodes, at, row);
+        self.rows += 1;
         Ok(())
     }
 
@@ -188,20 +189,27 @@ impl Space {
     pub fn row_count(&self) -> usize
         ensures { result ≡ length (map.entries self.now.kinds) }
     {
-        let nodes = self.nodes.as_slice();
-        let below = children_at(nodes, 0).rows();
-        match row_here(nodes, 0) {
-            None => below,
-            Some(_) => below + 1,
-        }
+        self.rows
+    }
+
+    /// The declared paths in order, one after the other, each once, with its kind.
+    pub fn in_order(&self) -> Rows<'_>
+        ensures { result ≡ map.entries self.now.kinds }
+    {
+        Rows::new(self.nodes.as_slice())
     }
 
     /// The declared path at a place in the order of the paths, with its kind. Paths are ordered by their segments as
     /// bytes, a shorter path before those that it begins. The predefined names that nothing replaced aren't among them.
+    /// This goes through all paths before it; `in_order` gives all of them by one walk.
     pub fn row_at(&self, index: usize) -> Option<(&Path, &Kind)>
         ensures { option_map row_pair result ≡ slice_get (map.entries self.now.kinds) index }
     {
-        row_under(self.nodes.as_slice(), index)
+        let mut rows = self.in_order();
+        for _place in 0..index {
+            rows.next()?;
+        }
+        rows.next()
     }
 
     /// The declared paths in order, each once, with its kind.

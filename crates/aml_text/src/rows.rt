@@ -94,10 +94,8 @@ pub fn print_rows<W: Write>(out: &mut Out<'_, W>, space: &Space)
 {
     let count = space.row_count();
     print_count(out, count);
-    for index in 0..count {
-        match space.row_at(index) {
-            None => unreachable!(),
-            Some((path, kind)) => print_row(out, path, kind),
-        }
+    let mut rows = space.in_order();
+    'rows: while let Some((path, kind)) = rows.next() {
+        print_row(out, path, kind);
     }
 }

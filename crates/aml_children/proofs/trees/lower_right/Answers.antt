@@ -1,5 +1,5 @@
 use Rattle.std.proofs.Common.{◌≡◌, ℕ, List, sym, subst, ap, ◌∙◌, arith}
-use Rattle.aml_children.specs.Children.{Counted}
+use Rattle.aml_children.specs.declared.children.Child.{Child}
 use Rattle.aml_children.specs.Trees.{IsRebalanced, right_lifted, seen}
 use Rattle.aml_children.specs.declared.trees.Fork.{Fork}
 use Rattle.aml_children.proofs.Forks.{lowered_right}
@@ -10,7 +10,7 @@ returns-in-Some c =
     let f = c.args.fork.value in
     let l = c.lean_right.result.value in
     let was : seen c.in-Some.right.value ≡ f.right = c.in-Some.ensures.same_view ∙ c.replace.ensures.value ∙ ap (λ (h : Fork). h.right) c.deref_mut.ensures.value in
-    let high = ap (λ (d : List Counted × ℕ). d.1) was in
-    subst (IsRebalanced f) (sym (c.lift_right.ensures ∙ (λ i. right_lifted (record { left = (c.deref_mut.ensures.value i).left; child = (c.deref_mut.ensures.value i).child; rows = (c.deref_mut.ensures.value i).rows; sum = (c.deref_mut.ensures.value i).sum; height = (c.deref_mut.ensures.value i).height; right = c.replace.new.dest }) l)))
-    (lowered_right f l (c.lean_right.ensures.list ∙ ap (λ (d : List Counted × ℕ). d.0) was) (omega (arith, c.lean_right.ensures.outer, high))
-    (omega (arith, c.lean_right.ensures.inner.0, high), omega (arith, c.lean_right.ensures.inner.1, high)) c.requires.two_higher c.requires.near.fits)
+    let high = ap (λ (d : List Child × ℕ). d.1) was in
+    subst (IsRebalanced f) (sym (c.lift_right.ensures ∙ (λ i. right_lifted (record { left = (c.deref_mut.ensures.value i).left; child = (c.deref_mut.ensures.value i).child; height = (c.deref_mut.ensures.value i).height; right = c.replace.new.dest }) l)))
+    (lowered_right f l (c.lean_right.ensures.list ∙ ap (λ (d : List Child × ℕ). d.0) was) (omega (arith, c.lean_right.ensures.outer, high))
+    (omega (arith, c.lean_right.ensures.inner.0, high), omega (arith, c.lean_right.ensures.inner.1, high)) c.requires.two_higher)

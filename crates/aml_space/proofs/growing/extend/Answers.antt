@@ -35,9 +35,6 @@ returns-clause-index c = (grown c).index
 pub returns-clause-known : goal.returns-clause-known
 returns-clause-known c = (grown c).known
 
-pub returns-clause-rows : goal.returns-clause-rows
-returns-clause-rows c = (grown c).rows
-
 pub returns-clause-node : goal.returns-clause-node
 returns-clause-node c = led_there c
 

@@ -1,5 +1,6 @@
 use Rattle.std.proofs.Common.{◌≡◌, ℕ, ◌<◌, List, length, Some, sym, subst, ap, ◌∙◌, arith, rules}
-use Rattle.aml_children.specs.Children.{Counted, bare, child_in, Rise}
+use Rattle.aml_children.specs.declared.children.Child.{Child}
+use Rattle.aml_children.specs.Children.{child_in, Rise}
 use Rattle.aml_children.specs.declared.trees.Fork.{Fork}
 use Rattle.aml_children.proofs.Sides.{rise_left, rise_right, found_left, found_right, found_middle}
 use Rattle.aml_children.proofs.Forks.{listed, heighted, rising, balanced_top, left_shorter, right_shorter}
@@ -16,8 +17,8 @@ find-found-requires t c =
     let rise = rising c.args.self.now c.self.inside.top c.in-Some.fork c.self.view_is c.in-Some.is c.requires.rise in (
       search rules,
       (
-        omega (arith, ap (λ (d : List Counted × ℕ). d.1) same, high, balanced.height, c.requires.low),
-        subst (λ (d : List Counted × ℕ). Rise (bare d.0)) (sym same) (rise_left f.left.0 (f.child, f.rows) f.right.0 c.args.seg rise),
+        omega (arith, ap (λ (d : List Child × ℕ). d.1) same, high, balanced.height, c.requires.low),
+        subst (λ (d : List Child × ℕ). Rise d.0) (sym same) (rise_left f.left.0 f.child f.right.0 c.args.seg rise),
       ),
     )
 
@@ -32,8 +33,8 @@ find-found-requires-in-Greater t c =
     let rise = rising c.args.self.now c.self.inside.top c.in-Some.fork c.self.view_is c.in-Some.is c.requires.rise in (
       search rules,
       (
-        omega (arith, ap (λ (d : List Counted × ℕ). d.1) same, high, balanced.height, c.requires.low),
-        subst (λ (d : List Counted × ℕ). Rise (bare d.0)) (sym same) (rise_right f.left.0 (f.child, f.rows) f.right.0 c.args.seg rise),
+        omega (arith, ap (λ (d : List Child × ℕ). d.1) same, high, balanced.height, c.requires.low),
+        subst (λ (d : List Child × ℕ). Rise d.0) (sym same) (rise_right f.left.0 f.child f.right.0 c.args.seg rise),
       ),
     )
 
@@ -43,9 +44,9 @@ returns-in-Less-clause-node t c =
     let is = listed c.args.self.now c.self.inside.top c.in-Some.fork c.self.view_is c.in-Some.is in
     let rise = rising c.args.self.now c.self.inside.top c.in-Some.fork c.self.view_is c.in-Some.is c.requires.rise in
     let less = sym c.cmp.ensures ∙ c.in-Less.is in
-    c.find-found.ensures.node ∙ ap (λ (g : Fork). child_in (bare g.left.0) c.args.seg) c.deref-in-Less.ensures
-    ∙ sym (found_left f.left.0 (f.child, f.rows) f.right.0 c.args.seg rise (ap (λ (g : Fork). Rattle.aml_names.specs.Paths.seg_cmp c.args.seg g.child.seg) (sym c.deref.ensures) ∙ less))
-    ∙ ap (λ es. child_in (bare es) c.args.seg) (sym is)
+    c.find-found.ensures.node ∙ ap (λ (g : Fork). child_in g.left.0 c.args.seg) c.deref-in-Less.ensures
+    ∙ sym (found_left f.left.0 f.child f.right.0 c.args.seg rise (ap (λ (g : Fork). Rattle.aml_names.specs.Paths.seg_cmp c.args.seg g.child.seg) (sym c.deref.ensures) ∙ less))
+    ∙ ap (λ es. child_in es c.args.seg) (sym is)
 
 pub returns-in-Equal-clause-node : goal.returns-in-Equal-clause-node
 returns-in-Equal-clause-node t c =
@@ -54,8 +55,8 @@ returns-in-Equal-clause-node t c =
     let rise = rising c.args.self.now c.self.inside.top c.in-Some.fork c.self.view_is c.in-Some.is c.requires.rise in
     let same = sym c.cmp.ensures ∙ c.in-Equal.is in
     ap (λ (g : Fork). Some g.child.node) c.deref-in-Equal.ensures
-    ∙ sym (found_middle f.left.0 (f.child, f.rows) f.right.0 c.args.seg rise (ap (λ (g : Fork). Rattle.aml_names.specs.Paths.seg_cmp c.args.seg g.child.seg) (sym c.deref.ensures) ∙ same))
-    ∙ ap (λ es. child_in (bare es) c.args.seg) (sym is)
+    ∙ sym (found_middle f.left.0 f.child f.right.0 c.args.seg rise (ap (λ (g : Fork). Rattle.aml_names.specs.Paths.seg_cmp c.args.seg g.child.seg) (sym c.deref.ensures) ∙ same))
+    ∙ ap (λ es. child_in es c.args.seg) (sym is)
 
 pub returns-in-Greater-clause-node : goal.returns-in-Greater-clause-node
 returns-in-Greater-clause-node t c =
@@ -63,6 +64,6 @@ returns-in-Greater-clause-node t c =
     let is = listed c.args.self.now c.self.inside.top c.in-Some.fork c.self.view_is c.in-Some.is in
     let rise = rising c.args.self.now c.self.inside.top c.in-Some.fork c.self.view_is c.in-Some.is c.requires.rise in
     let more = sym c.cmp.ensures ∙ c.in-Greater.is in
-    c.find-found-in-Greater.ensures.node ∙ ap (λ (g : Fork). child_in (bare g.right.0) c.args.seg) c.deref-in-Greater.ensures
-    ∙ sym (found_right f.left.0 (f.child, f.rows) f.right.0 c.args.seg rise (ap (λ (g : Fork). Rattle.aml_names.specs.Paths.seg_cmp c.args.seg g.child.seg) (sym c.deref.ensures) ∙ more))
-    ∙ ap (λ es. child_in (bare es) c.args.seg) (sym is)
+    c.find-found-in-Greater.ensures.node ∙ ap (λ (g : Fork). child_in g.right.0 c.args.seg) c.deref-in-Greater.ensures
+    ∙ sym (found_right f.left.0 f.child f.right.0 c.args.seg rise (ap (λ (g : Fork). Rattle.aml_names.specs.Paths.seg_cmp c.args.seg g.child.seg) (sym c.deref.ensures) ∙ more))
+    ∙ ap (λ es. child_in es c.args.seg) (sym is)

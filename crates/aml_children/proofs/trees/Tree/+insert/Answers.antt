@@ -1,10 +1,11 @@
 use Rattle.std.proofs.Common.{◌≡◌, ℕ, ◌<◌, List, ◌∷◌, ◌++◌, length, Option, Some, None, sym, subst, ap, ◌∙◌, arith, rules}
 use Rattle.std.specs.Global.{Box}
 use Rattle.aml_names.specs.Paths.{seg_cmp}
-use Rattle.aml_children.specs.Children.{Counted, bare, child_in, total, put, Rise}
+use Rattle.aml_children.specs.declared.children.Child.{Child}
+use Rattle.aml_children.specs.Children.{child_in, put, Rise}
 use Rattle.aml_children.specs.Trees.{list_and_height, Rebalances}
 use Rattle.aml_children.specs.declared.trees.Fork.{Fork}
-use Rattle.aml_children.proofs.Sides.{rise_left, rise_right, absent_left, absent_right, no_middle, put_left, put_right, total_put}
+use Rattle.aml_children.proofs.Sides.{rise_left, rise_right, absent_left, absent_right, no_middle, put_left, put_right}
 use Rattle.aml_children.proofs.Forks.{listed, heighted, rising, balanced_top, left_shorter, right_shorter}
 use Rattle.aml_children.proofs.trees.Tree.+insert.Goals as goal
 use Rattle.aml_children.proofs.trees.Tree.+insert.Goals.{in-Less+in_ok-insert-in-Less, in-Equal, in-Greater+in_ok-insert-in-Greater}
@@ -25,10 +26,10 @@ insert-requires t c =
     let shorter : length c.deref_mut.result.now.left.0 < length c.args.self.now.0 = left_shorter f c.args.self.now c.deref_mut.result.now.left is same in (
       search rules,
       (
-        omega (arith, ap (λ (d : List Counted × ℕ). d.1) same, high, balanced.height, c.requires.room),
+        omega (arith, ap (λ (d : List Child × ℕ). d.1) same, high, balanced.height, c.requires.room),
         (
-          subst (λ (d : List Counted × ℕ). Rise (bare d.0)) (sym same) (rise_left f.left.0 (f.child, f.rows) f.right.0 c.args.child.seg rise),
-          ap (λ (d : List Counted × ℕ). child_in (bare d.0) c.args.child.seg) same ∙ absent_left f.left.0 (f.child, f.rows) f.right.0 c.args.child.seg (ap (λ es. child_in (bare es) c.args.child.seg) (sym is) ∙ c.requires.absent),
+          subst (λ (d : List Child × ℕ). Rise d.0) (sym same) (rise_left f.left.0 f.child f.right.0 c.args.child.seg rise),
+          ap (λ (d : List Child × ℕ). child_in d.0 c.args.child.seg) same ∙ absent_left f.left.0 f.child f.right.0 c.args.child.seg (ap (λ es. child_in es c.args.child.seg) (sym is) ∙ c.requires.absent),
         ),
       ),
     )
@@ -44,10 +45,10 @@ insert-requires-in-Greater t c =
     let shorter : length c.deref_mut-in-Greater.result.now.right.0 < length c.args.self.now.0 = right_shorter f c.args.self.now c.deref_mut-in-Greater.result.now.right is same in (
       search rules,
       (
-        omega (arith, ap (λ (d : List Counted × ℕ). d.1) same, high, balanced.height, c.requires.room),
+        omega (arith, ap (λ (d : List Child × ℕ). d.1) same, high, balanced.height, c.requires.room),
         (
-          subst (λ (d : List Counted × ℕ). Rise (bare d.0)) (sym same) (rise_right f.left.0 (f.child, f.rows) f.right.0 c.args.child.seg rise),
-          ap (λ (d : List Counted × ℕ). child_in (bare d.0) c.args.child.seg) same ∙ absent_right f.left.0 (f.child, f.rows) f.right.0 c.args.child.seg (ap (λ es. child_in (bare es) c.args.child.seg) (sym is) ∙ c.requires.absent),
+          subst (λ (d : List Child × ℕ). Rise d.0) (sym same) (rise_right f.left.0 f.child f.right.0 c.args.child.seg rise),
+          ap (λ (d : List Child × ℕ). child_in d.0 c.args.child.seg) same ∙ absent_right f.left.0 f.child f.right.0 c.args.child.seg (ap (λ es. child_in es c.args.child.seg) (sym is) ∙ c.requires.absent),
         ),
       ),
     )
@@ -68,10 +69,9 @@ rebalance-requires t c =
           let other = ap (λ (h : Fork). h.right.1) was in
           rw w.self-inside-is (record {
             room = omega (arith, high, balanced.height, c.requires.room, high_before, other, w.in_ok-insert-in-Less.ensures.at_most_one_higher, w.in_ok-insert-in-Less.ensures.not_lower);
-            fits = omega (arith, balanced.sum, balanced.fits, ap total side, total_put f.left.0 c.args.child, ap (λ (h : Fork). h.rows) was, ap (λ (h : Fork). total h.right.0) was);
             even = (omega (arith, balanced.even.0, high_before, other, w.in_ok-insert-in-Less.ensures.at_most_one_higher), omega (arith, balanced.even.1, high_before, other, w.in_ok-insert-in-Less.ensures.not_lower));
           })
-      | in-Equal w ↦ absurd (no_middle f.left.0 (f.child, f.rows) f.right.0 s rise (ap (λ es. child_in (bare es) s) (sym is) ∙ c.requires.absent) (ap (λ (h : Fork). seg_cmp s h.child.seg) (sym c.deref.ensures) ∙ sym c.cmp.ensures ∙ w.in-Equal.is))
+      | in-Equal w ↦ absurd (no_middle f.left.0 f.child f.right.0 s rise (ap (λ es. child_in es s) (sym is) ∙ c.requires.absent) (ap (λ (h : Fork). seg_cmp s h.child.seg) (sym c.deref.ensures) ∙ sym c.cmp.ensures ∙ w.in-Equal.is))
       | in-Greater+in_ok-insert-in-Greater w ↦
           let was = w.deref_mut-in-Greater.ensures.value in
           let side : w.insert-in-Greater.new.self.0 ≡ put f.right.0 c.args.child = w.in_ok-insert-in-Greater.ensures.ok ∙ ap (λ (h : Fork). put h.right.0 c.args.child) was in
@@ -79,7 +79,6 @@ rebalance-requires t c =
           let other = ap (λ (h : Fork). h.left.1) was in
           rw w.self-inside-is (record {
             room = omega (arith, high, balanced.height, c.requires.room, high_before, other, w.in_ok-insert-in-Greater.ensures.at_most_one_higher, w.in_ok-insert-in-Greater.ensures.not_lower);
-            fits = omega (arith, balanced.sum, balanced.fits, ap total side, total_put f.right.0 c.args.child, ap (λ (h : Fork). h.rows) was, ap (λ (h : Fork). total h.left.0) was);
             even = (omega (arith, balanced.even.0, high_before, other, w.in_ok-insert-in-Greater.ensures.not_lower), omega (arith, balanced.even.1, high_before, other, w.in_ok-insert-in-Greater.ensures.at_most_one_higher));
           })
     ]
@@ -95,12 +94,12 @@ returns-clause-ok t c =
       | in-Less+in_ok-insert-in-Less w ↦
           let was = w.deref_mut.ensures.value in
           let side : w.insert.new.self.0 ≡ put f.left.0 c.args.child = w.in_ok-insert-in-Less.ensures.ok ∙ ap (λ (h : Fork). put h.left.0 c.args.child) was in
-          ap (λ x. (list_and_height x.top).0) w.self-inside-is ∙ (λ i. side i ++ ((was i).child, (was i).rows) ∷ (was i).right.0)
-          ∙ sym (put_left (f.child, f.rows) f.right.0 c.args.child f.left.0 (at ∙ w.in-Less.is)) ∙ ap (λ es. put es c.args.child) (sym is)
-      | in-Equal w ↦ absurd (no_middle f.left.0 (f.child, f.rows) f.right.0 s rise (ap (λ es. child_in (bare es) s) (sym is) ∙ c.requires.absent) (at ∙ w.in-Equal.is))
+          ap (λ x. (list_and_height x.top).0) w.self-inside-is ∙ (λ i. side i ++ (was i).child ∷ (was i).right.0)
+          ∙ sym (put_left f.child f.right.0 c.args.child f.left.0 (at ∙ w.in-Less.is)) ∙ ap (λ es. put es c.args.child) (sym is)
+      | in-Equal w ↦ absurd (no_middle f.left.0 f.child f.right.0 s rise (ap (λ es. child_in es s) (sym is) ∙ c.requires.absent) (at ∙ w.in-Equal.is))
       | in-Greater+in_ok-insert-in-Greater w ↦
           let was = w.deref_mut-in-Greater.ensures.value in
           let side : w.insert-in-Greater.new.self.0 ≡ put f.right.0 c.args.child = w.in_ok-insert-in-Greater.ensures.ok ∙ ap (λ (h : Fork). put h.right.0 c.args.child) was in
-          ap (λ x. (list_and_height x.top).0) w.self-inside-is ∙ (λ i. (was i).left.0 ++ ((was i).child, (was i).rows) ∷ side i)
-          ∙ sym (put_right (f.child, f.rows) f.right.0 c.args.child f.left.0 rise (at ∙ w.in-Greater.is)) ∙ ap (λ es. put es c.args.child) (sym is)
+          ap (λ x. (list_and_height x.top).0) w.self-inside-is ∙ (λ i. (was i).left.0 ++ (was i).child ∷ side i)
+          ∙ sym (put_right f.child f.right.0 c.args.child f.left.0 rise (at ∙ w.in-Greater.is)) ∙ ap (λ es. put es c.args.child) (sym is)
     ]

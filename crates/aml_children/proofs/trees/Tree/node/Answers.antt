@@ -1,7 +1,8 @@
 use Rattle.std.proofs.Common.{◌≡◌, ℕ, List, Some, refl, sym, subst, ap, ◌∙◌}
 use Rattle.std.specs.declared.cmp.Ordering.TheVariants.{Less, Equal, Greater}
 use Rattle.aml_names.specs.Paths.{seg_cmp}
-use Rattle.aml_children.specs.Children.{Counted, bare, child_in, Rise}
+use Rattle.aml_children.specs.declared.children.Child.{Child}
+use Rattle.aml_children.specs.Children.{child_in, Rise}
 use Rattle.aml_children.specs.Trees.{list_and_height}
 use Rattle.aml_children.specs.declared.trees.Fork.{Fork}
 use Rattle.aml_children.proofs.Sides.{rise_left, rise_right, found_left, found_right, found_middle}
@@ -13,7 +14,7 @@ forks-init c = record { rise = c.requires; same = refl }
 
 pub returns-in-None : goal.returns-in-None
 returns-in-None c =
-    sym (c.forks.invariant.same ∙ ap (λ (d : List Counted × ℕ). child_in (bare d.0) c.args.seg) (sym c.tree.view_is ∙ ap list_and_height c.in-None.is))
+    sym (c.forks.invariant.same ∙ ap (λ (d : List Child × ℕ). child_in d.0 c.args.seg) (sym c.tree.view_is ∙ ap list_and_height c.in-None.is))
 
 pub forks-preserved-in-Less : goal.forks-preserved-in-Less
 forks-preserved-in-Less c =
@@ -23,9 +24,9 @@ forks-preserved-in-Less c =
     let same : c.deref-in-Less.result.now.left ≡ f.left = ap (λ (g : Fork). g.left) c.deref-in-Less.ensures in
     let less : seg_cmp c.args.seg f.child.seg ≡ Less = ap (λ (g : Fork). seg_cmp c.args.seg g.child.seg) (sym c.deref.ensures) ∙ sym c.cmp.ensures ∙ c.in-Less.is in
     record {
-      rise = subst (λ (d : List Counted × ℕ). Rise (bare d.0)) (sym same) (rise_left f.left.0 (f.child, f.rows) f.right.0 c.args.seg rise);
-      same = c.forks.invariant.same ∙ ap (λ es. child_in (bare es) c.args.seg) is ∙ found_left f.left.0 (f.child, f.rows) f.right.0 c.args.seg rise less
-          ∙ ap (λ (d : List Counted × ℕ). child_in (bare d.0) c.args.seg) (sym same);
+      rise = subst (λ (d : List Child × ℕ). Rise d.0) (sym same) (rise_left f.left.0 f.child f.right.0 c.args.seg rise);
+      same = c.forks.invariant.same ∙ ap (λ es. child_in es c.args.seg) is ∙ found_left f.left.0 f.child f.right.0 c.args.seg rise less
+          ∙ ap (λ (d : List Child × ℕ). child_in d.0 c.args.seg) (sym same);
     }
 
 pub forks-smaller-in-Less : goal.forks-smaller-in-Less
@@ -40,7 +41,7 @@ returns-in-Equal c =
     let rise = rising c.forks.tree.now c.tree.inside.top c.in-Some.fork c.tree.view_is c.in-Some.is c.forks.invariant.rise in
     let equal : seg_cmp c.args.seg f.child.seg ≡ Equal = ap (λ (g : Fork). seg_cmp c.args.seg g.child.seg) (sym c.deref.ensures) ∙ sym c.cmp.ensures ∙ c.in-Equal.is in
     ap (λ (g : Fork). Some g.child.node) c.deref-in-Equal.ensures
-    ∙ sym (c.forks.invariant.same ∙ ap (λ es. child_in (bare es) c.args.seg) is ∙ found_middle f.left.0 (f.child, f.rows) f.right.0 c.args.seg rise equal)
+    ∙ sym (c.forks.invariant.same ∙ ap (λ es. child_in es c.args.seg) is ∙ found_middle f.left.0 f.child f.right.0 c.args.seg rise equal)
 
 pub forks-preserved : goal.forks-preserved
 forks-preserved c =
@@ -50,9 +51,9 @@ forks-preserved c =
     let same : c.deref-in-Greater.result.now.right ≡ f.right = ap (λ (g : Fork). g.right) c.deref-in-Greater.ensures in
     let more : seg_cmp c.args.seg f.child.seg ≡ Greater = ap (λ (g : Fork). seg_cmp c.args.seg g.child.seg) (sym c.deref.ensures) ∙ sym c.cmp.ensures ∙ c.in-Greater.is in
     record {
-      rise = subst (λ (d : List Counted × ℕ). Rise (bare d.0)) (sym same) (rise_right f.left.0 (f.child, f.rows) f.right.0 c.args.seg rise);
-      same = c.forks.invariant.same ∙ ap (λ es. child_in (bare es) c.args.seg) is ∙ found_right f.left.0 (f.child, f.rows) f.right.0 c.args.seg rise more
-          ∙ ap (λ (d : List Counted × ℕ). child_in (bare d.0) c.args.seg) (sym same);
+      rise = subst (λ (d : List Child × ℕ). Rise d.0) (sym same) (rise_right f.left.0 f.child f.right.0 c.args.seg rise);
+      same = c.forks.invariant.same ∙ ap (λ es. child_in es c.args.seg) is ∙ found_right f.left.0 f.child f.right.0 c.args.seg rise more
+          ∙ ap (λ (d : List Child × ℕ). child_in d.0 c.args.seg) (sym same);
     }
 
 pub forks-smaller : goal.forks-smaller

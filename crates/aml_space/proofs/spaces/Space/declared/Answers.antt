@@ -12,5 +12,5 @@ returns c =
     ∙ ap (option_and_then (kinds_of c.as_slice-nodes.result.now)) c.node_of.ensures.node
     ∙ ap (λ ns. option_and_then (kinds_of ns) (walk (kids_of ns) 0 c.segs.result.now)) c.as_slice-nodes.ensures.value
     ∙ ap (λ p. option_and_then (kinds_of c.self.inside.nodes.items) (walk (kids_of c.self.inside.nodes.items) 0 p)) c.segs.ensures
-    ∙ known_kind c.self.inside.nodes.items c.self.invariant.shape c.args.path.now
+    ∙ known_kind c.self.inside.nodes.items c.self.invariant.index.shape c.args.path.now
     ∙ ap (λ k. map.get k.kinds c.args.path.now) c.self.view_is

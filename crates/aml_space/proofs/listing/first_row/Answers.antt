@@ -1,0 +1,14 @@
+use Rattle.std.proofs.Common.{◌≡◌, ◌++◌, Some, sym, ap, ◌∙◌}
+use Rattle.std.specs.Option.{option_map}
+use Rattle.aml_space.specs.Listed.{row_pair}
+use Rattle.aml_space.specs.Nodes.{pairs_of, rows_ahead, own_row}
+use Rattle.aml_space.proofs.Gathered.{rows_on}
+use Rattle.aml_space.proofs.listing.first_row.Goals as goal
+
+pub returns-clause-some : goal.returns-clause-some
+returns-clause-some c =
+    let ns = c.args.nodes.now in
+    let at = c.in_ok-at.at in
+    let here : pairs_of ns at ≡ Some (row_pair c.in_ok-row.row) = sym c.row_here.ensures ∙ ap (option_map row_pair) c.in_ok-row.was in
+    sym c.in_ok-at.ensures.same ∙ rows_on ns c.requires.index at c.in_ok-at.ensures.within
+    ∙ (λ i. own_row (here i) ++ rows_ahead ns (sym c.node_after.ensures.next i))
