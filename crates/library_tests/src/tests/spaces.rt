@@ -114,9 +114,9 @@ fn are_as_listed(alloc: Global, space: &Space, list: &[Listed]) -> Result<bool, 
     Ok(true)
 }
 
-/// Whether the method of this number stands in this row, and at this place.
-fn stands(space: &Space, index: usize, row: &SpaceRow, number: u32) -> bool {
-    let Some((path, kind)) = space.row_at(index) else {
+/// Whether the method of this number stands in this row, and where it was met.
+fn stands(met: Option<(&Path, &Kind)>, row: &SpaceRow, number: u32) -> bool {
+    let Some((path, kind)) = met else {
         return false;
     };
     path.segs() == [segment(number)].as_slice()
@@ -128,13 +128,28 @@ fn stands(space: &Space, index: usize, row: &SpaceRow, number: u32) -> bool {
 /// Whether the rows are those of all methods in the order of their names, each at its place.
 fn stand_in_order(space: &Space, rows: &[SpaceRow]) -> bool {
     let mut number: u32 = 0;
-    for (index, row) in rows.iter().enumerate() {
-        if !stands(space, index, row, number) {
+    let mut walk = space.in_order();
+    for row in rows {
+        if !stands(walk.next(), row, number) {
             return false;
         }
         number = number.saturating_add(1);
     }
-    number == METHODS && space.row_at(rows.len()).is_none()
+    number == METHODS && walk.next().is_none() && space.row_count() == rows.len()
+}
+
+/// Whether some of the rows, from the first to the one behind the last, are found by their places.
+fn are_at_their_places(space: &Space, rows: &[SpaceRow]) -> bool {
+    for number in [0_u32, 1, 9_999, 19_999] {
+        let index = number as usize;
+        let Some(row) = rows.get(index) else {
+            return false;
+        };
+        if !stands(space.row_at(index), row, number) {
+            return false;
+        }
+    }
+    space.row_at(rows.len()).is_none()
 }
 
 /// The namespace of a table.
@@ -153,6 +168,7 @@ fn many_methods_in_a_mixed_order(rt: HostRuntime) -> Result<(), Fail> {
     let space = space_of(rt.alloc(), &code)?;
     let rows = space.rows(rt.alloc())?;
     assert!(rt; stand_in_order(&space, &rows));
+    assert!(rt; are_at_their_places(&space, &rows));
     assert!(rt; are_as_listed(rt.alloc(), &space, &list)?);
     Ok(())
 }
