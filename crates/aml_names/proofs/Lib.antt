@@ -5,3 +5,4 @@ mod NameLoops
 pub mod NameFaults
 mod SegmentOrder
 pub mod NameLaws
+pub mod EndLaws

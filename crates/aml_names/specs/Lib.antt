@@ -5,3 +5,4 @@ pub mod NameReading
 pub mod Searching
 pub mod PathTexts
 pub mod Lengths
+pub mod Ends

@@ -2,11 +2,23 @@
 use Rattle.std.specs.Prelude.{ℕ, zero, suc, Bool, not, ◌&&◌, ◌==◌, cond, List, [], ◌∷◌, ◌++◌, length, take, Option, Some, None}
 use Rattle.aml_names.specs.declared.segments.Seg.{Seg}
 use Rattle.aml_names.specs.declared.names.Name.{Name}
+use Rattle.std.specs.FinSet as set
 use Rattle.aml_names.specs.Names.{placed}
+use Rattle.aml_names.specs.Paths.{PathSet}
 
 -- one segment without prefix, in any spelling: such a name is searched upward
 abbrev pub is_single : Name → Bool
 is_single name = not name.root && ((name.ups == 0) && (length name.segs == 1))
+
+-- the greatest number up to another that passes a test
+abbrev pub greatest : (ℕ → Bool) → ℕ → Option ℕ
+greatest passes zero = cond (passes 0) (Some 0) None
+greatest passes (suc n) = cond (passes (suc n)) (Some (suc n)) (greatest passes n)
+
+-- how many segments of a scope stand before a segment in the nearest of some paths that are the segment in the scope or in
+-- a parent of it
+abbrev pub nearest : PathSet → List Seg → List Seg → Option ℕ
+nearest paths scope segment = greatest (λ d. set.contains paths (take d scope ++ segment)) (length scope)
 
 -- the segment in the first n segments of a scope, and in each parent of these up to the root
 abbrev pub upward : ℕ → List Seg → List Seg → List (List Seg)

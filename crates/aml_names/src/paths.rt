@@ -1,5 +1,5 @@
 //! Absolute paths in the namespace.
-ghost use Rattle.std.specs.Prelude.{◌≡◌, [], ◌++◌, ◌≤◌, ◌-◌, length, take, drop, Some, IfOk, refl};
+ghost use Rattle.std.specs.Prelude.{◌≡◌, [], ◌++◌, ◌≤◌, ◌-◌, length, take, drop, slice_get, Some, IfOk, refl};
 ghost use Rattle.std.specs.Ordering.{eq_by_cmp};
 ghost use Rattle.std.specs.Cmp.{partial_equiv_from_equiv, partial_order_from_total, eq_by_cmp_equiv};
 ghost use Rattle.std.specs.Fmt.{WritesOnOk};
@@ -75,6 +75,13 @@ impl Path {
         self.segs.remove(above);
     }
 
+    /// The last segment; the root has none.
+    pub fn last(&self) -> Option<Seg>
+        ensures { result ≡ slice_get self.now (length self.now - 1) }
+    {
+        self.segs().last().copied()
+    }
+
     /// The segments from the root on.
     pub fn segs(&self) -> &[Seg]
         ensures { result.now ≡ self.now }
@@ -118,13 +125,20 @@ impl Clone for Path {
     }
 }
 
+/// Whether two paths are the same.
+pub fn same_segs(a: &[Seg], b: &[Seg]) -> bool
+    ensures { result ≡ eq_by_cmp path_cmp a.now b.now }
+{
+    a.len() == b.len() && a.cmp(b) == Ordering::Equal
+}
+
 impl PartialEq for Path {
     ghost eq = { eq_by_cmp path_cmp };
 
     ghost laws = { partial_equiv_from_equiv (eq_by_cmp_equiv paths_total) };
 
     fn eq(&self, other: &Path) -> bool {
-        self.segs().len() == other.segs().len() && self.cmp(other) == Ordering::Equal
+        same_segs(self.segs(), other.segs())
     }
 }
 

@@ -30,7 +30,7 @@ fn body_terms<A: Arity>(
         arity,
         scope: Some(scope),
     };
-    let mut locals = Locals::new(alloc);
+    let mut locals = Locals::of_scope(alloc, scope)?;
     let end = code.len() as u32;
     let nodes = terms(&context, 512, Position::BodyTerm, end, &mut locals, code)?;
     Ok(without_room(nodes))
