@@ -1,5 +1,5 @@
 -- What is known of a path, by its node.
-use Rattle.std.proofs.Common.{◌≡◌, ℕ, zero, suc, ◌-◌, ◌<◌, ◌≤◌, Bool, true, false, cond, List, [], ◌∷◌, ◌++◌, length, take, Option, Some, None, IfSome, is_some, refl, sym, ap, ◌∙◌, arith}
+use Rattle.std.proofs.Common.{◌≡◌, ℕ, zero, suc, ◌<◌, ◌≤◌, Bool, true, false, cond, List, [], ◌∷◌, ◌++◌, length, take, get_or, Option, Some, None, IfSome, is_some, refl, sym, ap, ◌∙◌, arith}
 use Rattle.std.specs.Prelude.{◌||◌}
 use Rattle.std.specs.Option.{option_or, option_and_then, option_map}
 use Rattle.std.specs.FinMap as map
@@ -15,10 +15,10 @@ use Rattle.aml_space.specs.Namespace.{Namespace, kind_at, count_at, count_by, ar
 use Rattle.aml_space.specs.Known.{namespace_in}
 use Rattle.aml_space.specs.Graph.{walk}
 use Rattle.aml_space.specs.Nodes.{kids_of, kinds_of, outs_of, known_by, IsShape}
-use Rattle.aml_space.specs.Candidates.{path_at, raised_path, IsCandidate, IsScratch}
+use Rattle.aml_space.specs.Candidates.{path_at, IsCandidate}
 use Rattle.aml_space.proofs.Change.{walk_range}
 use Rattle.aml_space.proofs.Index.{known_kind, known_out}
-use Rattle.aml_space.proofs.Upward.{rest_of, raised}
+use Rattle.aml_space.proofs.Upward.{rest_of}
 
 module _ (ns : List Node) (shape : IsShape ns) (p : List Seg) (node : Option ℕ) (met : node ≡ walk (kids_of ns) 0 p) where
   pub kind_of_met : (standing : Option Kind) → standing ≡ predefined p → option_or (option_and_then (kinds_of ns) node) standing ≡ kind_at (namespace_in (known_by ns)) p
@@ -91,7 +91,13 @@ ended k locals scope segment None fails c root =
     by false = refl
 ended k locals scope segment (Some d) fails c root = ap (λ b. option_or (cond b (Some segment) None) (Some (take d.depth scope ++ segment))) fails
 
--- the candidate in the parent scope, to ask the locals with
-pub scratch_raised : (locals : PathSet) (d : ℕ) (scope segment : List Seg) (o : Option (List Seg)) → IsScratch locals (take d scope ++ segment) o → d ≤ length scope → length segment ≡ 1 → 0 < d → IsScratch locals (take (d - 1) scope ++ segment) (option_map raised_path o)
-scratch_raised locals d scope segment None is within one positive = is
-scratch_raised locals d scope segment (Some q) is within one positive = raised d scope segment q is within one positive
+-- what a candidate lacks to be meant
+pub not_local : (local rest : Bool) → (local || rest) ≡ false → local ≡ false
+not_local true rest e = e
+not_local false rest e = refl
+
+-- a segment alone
+pub alone : (segment : List Seg) (e : Seg) → length segment ≡ 1 → get_or segment 0 e ∷ [] ≡ segment
+alone [] e one = absurd (omega (arith, one))
+alone (s ∷ []) e one = refl
+alone (s ∷ t ∷ rest) e one = absurd (omega (arith, one))

@@ -1,5 +1,5 @@
 -- A stepping stone of the proofs: the paths that a name of one segment may mean in a scope, by their nodes.
-use Rattle.std.specs.Prelude.{◌≡◌, ◌≤◌, ◌+◌, ◌-◌, List, ◌++◌, length, take, drop, Option, Some, None}
+use Rattle.std.specs.Prelude.{◌≡◌, ℕ, ◌≤◌, ◌+◌, Bool, false, ◌==◌, List, ◌++◌, length, take, Option, Some, None}
 use Rattle.std.specs.FinSet as set
 use Rattle.aml_names.specs.declared.segments.Seg.{Seg}
 use Rattle.aml_names.specs.Paths.{PathSet}
@@ -31,11 +31,7 @@ pub record IsCandidate (ns : List Node) (locals : PathSet) (scope segment : List
   pub node : c.node ≡ walk (kids_of ns) 0 (take c.depth scope ++ segment)
   pub local : c.local ≡ set.contains locals (take c.depth scope ++ segment)
 
--- a path to ask some locals with, which may be missing where there are none
-abbrev pub IsScratch : PathSet → List Seg → Option (List Seg) → Type 0
-IsScratch locals p None = locals ≡ set.empty
-IsScratch locals p (Some q) = q ≡ p
-
--- a path with the segment before its last one taken out
-abbrev pub raised_path : List Seg → List Seg
-raised_path p = take (length p - 2) p ++ drop (length p - 1) p
+-- whether the nearest local stands at a depth
+abbrev pub stands_at : Option ℕ → ℕ → Bool
+stands_at None d = false
+stands_at (Some n) d = n == d

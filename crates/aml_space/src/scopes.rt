@@ -1,7 +1,6 @@
 //! Scopes in the index, and what a name of one segment means in them.
 ghost use Rattle.std.specs.Prelude.{◌≡◌, ◌||◌, ℕ, ◌+◌, ◌<◌, ◌≤◌, ◌++◌, List, cond, length, take, slice_get, Some, None, is_some, IfOk, IfSome};
 ghost use Rattle.std.specs.Option.{option_or, option_and_then, option_copied, option_map};
-ghost use Rattle.std.specs.FinSet as set;
 ghost use Rattle.aml_names.specs.declared.segments.Seg.{Seg};
 ghost use Rattle.aml_names.specs.Searching.{upward};
 ghost use Rattle.aml_children.specs.Children.{child_in};
@@ -9,7 +8,7 @@ ghost use Rattle.aml_space.specs.Predefined.{predefined};
 ghost use Rattle.aml_space.specs.Namespace.{first_of, first_given, count_at};
 ghost use Rattle.aml_space.specs.Graph.{walk};
 ghost use Rattle.aml_space.specs.Nodes.{kids_of, kinds_of, outs_of, IsShape, IsAlong};
-ghost use Rattle.aml_space.specs.Candidates.{path_at, raised_path, names_of, IsScope, IsCandidate, IsScratch};
+ghost use Rattle.aml_space.specs.Candidates.{path_at, stands_at, names_of, IsScope, IsCandidate};
 
 use crate::counting::{count_met, kind_met};
 use crate::kinds::Kind;
@@ -78,12 +77,12 @@ impl<'a> Scope<'a> {
         ensures met { IfOk result
             (λ met. IfSome met (IsCandidate self.now.nodes.now locals.now self.now.path.now segment.now)) }
     {
-        let mut scratch = scratch_of(alloc, locals, self.path.segs(), segment)?;
+        let nearest = locals.nearest(alloc, self.path, segment[0])?;
         let mut outside: Option<Candidate> = None;
         let mut depth = self.path.segs().len();
         'depths: loop {
             let node = child_along(self.nodes, self.chain.as_slice(), depth, segment[0]);
-            let local = is_local(locals, &scratch);
+            let local = stands(nearest, depth);
             let here = Candidate { depth, node, local };
             if self.is_meant(segment, here) {
                 return Ok(Some(here));
@@ -93,7 +92,6 @@ impl<'a> Scope<'a> {
                 return Ok(outside);
             }
             depth -= 1;
-            raise(&mut scratch);
         }
     }
 
@@ -238,37 +236,12 @@ fn child_along(nodes: &[Node], chain: &[usize], depth: usize, seg: Seg) -> Optio
     }
 }
 
-/// The nearest candidate as a path to ask the locals with, one for all candidates; none where there are no locals.
-fn scratch_of(
-    alloc: Global,
-    locals: &Locals,
-    scope: &[Seg],
-    segment: &[Seg],
-) -> Result<Option<Path>, NoMemory>
-    ensures { IfOk result (λ scratch. IsScratch locals.now (take (length scope.now) scope.now ++ segment.now) scratch) }
+/// Whether the nearest local stands at this depth.
+fn stands(nearest: Option<usize>, depth: usize) -> bool
+    ensures { result ≡ stands_at nearest depth }
 {
-    if locals.is_empty() {
-        return Ok(None);
-    }
-    let path = Path::below(alloc, scope, segment)?;
-    Ok(Some(path))
-}
-
-fn is_local(locals: &Locals, scratch: &Option<Path>) -> bool
-    ensures { (p : List Seg) → IsScratch locals.now p scratch.now → result ≡ set.contains locals.now p }
-{
-    match scratch {
+    match nearest {
         None => false,
-        Some(path) => locals.has(path),
-    }
-}
-
-/// The candidate in the parent scope.
-fn raise(scratch: &mut Option<Path>)
-    requires { IfSome scratch.old (λ p. 2 ≤ length p) }
-    ensures { scratch.new ≡ option_map raised_path scratch.old }
-{
-    if let Some(path) = scratch {
-        path.raise();
+        Some(local) => local == depth,
     }
 }

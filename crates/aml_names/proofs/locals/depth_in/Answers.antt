@@ -1,4 +1,4 @@
-use Rattle.std.proofs.Common.{◌≡◌, ◌-◌, false, cond, length, take, arith, Some, None, sym, ap, ◌∙◌}
+use Rattle.std.proofs.Common.{◌-◌, false, cond, length, take, arith, Some, None, sym, ap, ◌∙◌}
 use Rattle.std.specs.Ordering.{eq_by_cmp}
 use Rattle.aml_names.specs.Paths.{path_cmp}
 use Rattle.aml_names.proofs.EndLaws.{longer_front}

@@ -1,10 +1,9 @@
-use Rattle.std.proofs.Common.{◌≡◌, [], ◌∷◌, Some, None, sym, ap, ◌∙◌}
+use Rattle.std.proofs.Common.{[], ◌∷◌, sym, ap, ◌∙◌}
 use Rattle.std.specs.Option.{option_copied}
 use Rattle.std.specs.BTreeMap.{get}
 use Rattle.std.specs.FinSet as set
 use Rattle.aml_names.specs.Paths.{seg_cmp}
 use Rattle.aml_names.specs.Searching.{nearest}
-use Rattle.aml_names.specs.Ends.{IsKnown}
 use Rattle.aml_names.proofs.EndLaws.{same_path, nearest_known, nearest_none}
 use Rattle.aml_names.proofs.locals.Locals.nearest.Goals as goal
 

@@ -1,4 +1,4 @@
-use Rattle.std.proofs.Common.{◌≡◌, ◌≤◌, ◌<◌, ◌-◌, [], ◌∷◌, ◌++◌, length, take, refl, arith, sym, ap, ◌∙◌}
+use Rattle.std.proofs.Common.{◌<◌, [], ◌∷◌, ◌++◌, take, refl, arith, sym, ap, ◌∙◌}
 use Rattle.std.specs.FinSet as set
 use Rattle.aml_names.proofs.EndLaws.{greatest_hit, greatest_miss, greatest_root, raised}
 use Rattle.aml_names.proofs.locals.Locals.nearest_of_all.Goals as goal

@@ -1,8 +1,3 @@
-use Rattle.std.proofs.Common.{◌≡◌, true, ap, ◌∙◌, sym, subst}
-use Rattle.std.specs.List.{list_any}
-use Rattle.std.specs.BTreeMap.{is_at}
-use Rattle.std.specs.FinSet as set
-use Rattle.aml_names.specs.Paths.{path_cmp}
 use Rattle.aml_names.proofs.EndLaws.{nothing_there}
 use Rattle.aml_names.proofs.locals.Locals.of_scope.Goals as goal
 

@@ -1,16 +1,17 @@
-use Rattle.std.proofs.Common.{◌≡◌, ℕ, ◌+◌, ◌-◌, ◌<◌, ◌≤◌, List, [], ◌++◌, Bool, true, false, cond, Some, None, is_some, take, get_or, slice_get, length, refl, sym, ap, ◌∙◌, subst, arith, IfSome}
+use Rattle.std.proofs.Common.{◌≡◌, ℕ, ◌+◌, ◌-◌, ◌<◌, ◌≤◌, List, [], ◌∷◌, ◌++◌, Bool, true, false, cond, Some, None, is_some, take, get_or, slice_get, length, refl, sym, ap, ◌∙◌, subst, arith, IfSome}
 use Rattle.std.specs.Option.{option_or, option_and_then, option_map}
 use Rattle.aml_names.specs.declared.segments.Seg.{Seg}
-use Rattle.aml_names.specs.Searching.{upward}
+use Rattle.aml_names.specs.Searching.{upward, greatest, nearest}
 use Rattle.aml_children.specs.Children.{child_in}
 use Rattle.aml_space.specs.declared.scopes.Candidate.{Candidate}
-use Rattle.aml_space.specs.Namespace.{decides, is_outside}
+use Rattle.aml_space.specs.Namespace.{first_of, decides, is_outside}
 use Rattle.aml_space.specs.Known.{namespace_in}
 use Rattle.aml_space.specs.Nodes.{kids_of, known_by}
-use Rattle.aml_space.specs.Candidates.{path_at, IsCandidate, IsScratch}
+use Rattle.aml_space.specs.Candidates.{path_at, stands_at, IsCandidate}
+use Rattle.aml_names.proofs.EndLaws.{greatest_within}
 use Rattle.aml_space.proofs.Along.{along_within, candidate_node}
-use Rattle.aml_space.proofs.Upward.{rest_of, hit, step}
-use Rattle.aml_space.proofs.Meaning.{meant_path, outside_path, outside_depth, outside_still, ended, scratch_raised}
+use Rattle.aml_space.proofs.Upward.{rest_of, hit, step, nearest_tells, nearest_above}
+use Rattle.aml_space.proofs.Meaning.{meant_path, outside_path, outside_depth, outside_still, ended, not_local, alone}
 use Rattle.aml_space.proofs.scopes.Scope.search.Goals as goal
 use Rattle.aml_space.specs.Candidates.{IsScope}
 use Rattle.aml_space.specs.declared.scopes.Scope.{Scope}
@@ -27,6 +28,13 @@ candidate s sc locals segment one d inside node local chain same found asked = r
   local = asked;
 }
 
+-- whether a local stands at a depth
+local_at : (locals : PathSet) (scope segment : List Seg) → length segment ≡ 1 → (o : Rattle.std.proofs.Common.Option ℕ) → o ≡ nearest locals scope (get_or segment 0 (record { 0 = [] }) ∷ []) → (d : ℕ) → d ≤ length scope → IfSome o (λ n. n ≤ d)
+    → (local : Bool) → local ≡ stands_at o d → local ≡ set.contains locals (take d scope ++ segment)
+local_at locals scope segment one o is d within above local asked =
+    let met : o ≡ greatest (λ d. set.contains locals (take d scope ++ segment)) (length scope) = is ∙ ap (nearest locals scope) (alone segment (record { 0 = [] }) one) in
+    asked ∙ ap (λ o. stands_at o d) met ∙ sym (nearest_tells (λ d. set.contains locals (take d scope ++ segment)) (length scope) d within (subst (λ o. IfSome o (λ n. n ≤ d)) met above))
+
 pub child_along-node-requires-clause-within : goal.child_along-node-requires-clause-within
 child_along-node-requires-clause-within c =
     let s = c.args.self.now in
@@ -42,15 +50,15 @@ returns-then-is_meant-clause-found c =
     let d = c.depths.depth in
     let inv = c.depths.invariant in
     let path : List Seg = take d s.path.now ++ segment in
-    let here : Candidate = record { depth = d; node = c.child_along-node.result; local = c.is_local-local.result } in
-    let is = candidate s c.requires.scope locals segment c.requires.one d inv.within c.child_along-node.result c.is_local-local.result c.as_slice.result.now c.as_slice.ensures.value c.child_along-node.ensures.node (c.is_local-local.ensures path inv.scratch) in
+    let here : Candidate = record { depth = d; node = c.child_along-node.result; local = c.stands-local.result } in
+    let is = candidate s c.requires.scope locals segment c.requires.one d inv.within c.child_along-node.result c.stands-local.result c.as_slice.result.now c.as_slice.ensures.value c.child_along-node.ensures.node (local_at locals s.path.now segment c.requires.one c.in_ok-nearest.nearest c.in_ok-nearest.ensures d inv.within inv.above c.stands-local.result c.stands-local.ensures) in
     let tested = sym (c.is_meant.ensures ∙ meant_path s.nodes.now locals s.path.now segment c.requires.scope.shape here is) in
     sym (inv.same ∙ hit k locals s.path.now segment d path (option_map (λ (c : Candidate). c.depth) c.depths.outside) refl (tested ∙ c.if-is_meant.true))
 
 pub returns-then-is_meant-clause-met : goal.returns-then-is_meant-clause-met
 returns-then-is_meant-clause-met c =
     let s = c.args.self.now in
-    candidate s c.requires.scope c.args.locals.now c.args.segment.now c.requires.one c.depths.depth c.depths.invariant.within c.child_along-node.result c.is_local-local.result c.as_slice.result.now c.as_slice.ensures.value c.child_along-node.ensures.node (c.is_local-local.ensures (take c.depths.depth s.path.now ++ c.args.segment.now) c.depths.invariant.scratch)
+    candidate s c.requires.scope c.args.locals.now c.args.segment.now c.requires.one c.depths.depth c.depths.invariant.within c.child_along-node.result c.stands-local.result c.as_slice.result.now c.as_slice.ensures.value c.child_along-node.ensures.node (local_at c.args.locals.now s.path.now c.args.segment.now c.requires.one c.in_ok-nearest.nearest c.in_ok-nearest.ensures c.depths.depth c.depths.invariant.within c.depths.invariant.above c.stands-local.result c.stands-local.ensures)
 
 pub returns-then-depth-eq0-clause-found : goal.returns-then-depth-eq0-clause-found
 returns-then-depth-eq0-clause-found c =
@@ -61,8 +69,8 @@ returns-then-depth-eq0-clause-found c =
     let d = c.depths.depth in
     let inv = c.depths.invariant in
     let path : List Seg = take d s.path.now ++ segment in
-    let here : Candidate = record { depth = d; node = c.child_along-node.result; local = c.is_local-local.result } in
-    let is = candidate s c.requires.scope locals segment c.requires.one d inv.within c.child_along-node.result c.is_local-local.result c.as_slice.result.now c.as_slice.ensures.value c.child_along-node.ensures.node (c.is_local-local.ensures path inv.scratch) in
+    let here : Candidate = record { depth = d; node = c.child_along-node.result; local = c.stands-local.result } in
+    let is = candidate s c.requires.scope locals segment c.requires.one d inv.within c.child_along-node.result c.stands-local.result c.as_slice.result.now c.as_slice.ensures.value c.child_along-node.ensures.node (local_at locals s.path.now segment c.requires.one c.in_ok-nearest.nearest c.in_ok-nearest.ensures d inv.within inv.above c.stands-local.result c.stands-local.ensures) in
     let tested = sym (c.is_meant.ensures ∙ meant_path s.nodes.now locals s.path.now segment c.requires.scope.shape here is) in
     let outs_is = outside_path s.nodes.now locals s.path.now segment c.requires.scope.shape here is in
     let first : c.first_outside-outside.result ≡ option_or c.depths.outside (cond (is_outside k path) (Some here) None) = c.first_outside-outside.ensures ∙ ap (λ b. option_or c.depths.outside (cond b (Some here) None)) outs_is in
@@ -81,8 +89,8 @@ depths-preserved c =
     let d = c.depths.depth in
     let inv = c.depths.invariant in
     let path : List Seg = take d s.path.now ++ segment in
-    let here : Candidate = record { depth = d; node = c.child_along-node.result; local = c.is_local-local.result } in
-    let is = candidate s c.requires.scope locals segment c.requires.one d inv.within c.child_along-node.result c.is_local-local.result c.as_slice.result.now c.as_slice.ensures.value c.child_along-node.ensures.node (c.is_local-local.ensures path inv.scratch) in
+    let here : Candidate = record { depth = d; node = c.child_along-node.result; local = c.stands-local.result } in
+    let is = candidate s c.requires.scope locals segment c.requires.one d inv.within c.child_along-node.result c.stands-local.result c.as_slice.result.now c.as_slice.ensures.value c.child_along-node.ensures.node (local_at locals s.path.now segment c.requires.one c.in_ok-nearest.nearest c.in_ok-nearest.ensures d inv.within inv.above c.stands-local.result c.stands-local.ensures) in
     let tested = sym (c.is_meant.ensures ∙ meant_path s.nodes.now locals s.path.now segment c.requires.scope.shape here is) in
     let outs_is = outside_path s.nodes.now locals s.path.now segment c.requires.scope.shape here is in
     let first : c.first_outside-outside.result ≡ option_or c.depths.outside (cond (is_outside k path) (Some here) None) = c.first_outside-outside.ensures ∙ ap (λ b. option_or c.depths.outside (cond b (Some here) None)) outs_is in
@@ -90,8 +98,38 @@ depths-preserved c =
     let positive : 0 < d = omega (arith, c.if-depth-eq0.false) in
     record {
       within = omega (arith, inv.within);
-      scratch = subst (IsScratch locals (take (d - 1) s.path.now ++ segment)) (sym c.raise.ensures) (scratch_raised locals d s.path.now segment c.depths.scratch inv.scratch inv.within c.requires.one positive);
+      above = nearest_above c.in_ok-nearest.nearest d inv.above (sym c.stands-local.ensures ∙ not_local c.stands-local.result _ (sym c.is_meant.ensures ∙ c.if-is_meant.false));
       outside = subst (λ o. IfSome o (IsCandidate s.nodes.now locals s.path.now segment)) (sym first) (outside_still (IsCandidate s.nodes.now locals s.path.now segment) c.depths.outside (is_outside k path) here inv.outside is);
       same = inv.same ∙ step k locals s.path.now segment d path (option_map (λ (c : Candidate). c.depth) c.depths.outside) refl fails positive
           ∙ ap (λ o. rest_of k locals s.path.now segment o (upward (d - 1) s.path.now segment)) (sym (ap (option_map (λ (c : Candidate). c.depth)) first ∙ outside_depth c.depths.outside (is_outside k path) here));
     }
+
+pub depths-init : goal.depths-init
+depths-init c =
+    let s = c.args.self.now in
+    let k = namespace_in (known_by s.nodes.now) in
+    let locals = c.args.locals.now in
+    let segment = c.args.segment.now in
+    let long : length c.segs-depth.result.now ≡ length s.path.now = ap length c.segs-depth.ensures in
+    record {
+      within = omega (arith, long);
+      above = subst (λ o. IfSome o (λ n. n ≤ length c.segs-depth.result.now)) (sym c.in_ok-nearest.ensures)
+          (subst (λ m. IfSome (nearest locals s.path.now (get_or segment 0 (record { 0 = [] }) ∷ [])) (λ n. n ≤ m)) (sym long) (greatest_within (λ d. set.contains locals (take d s.path.now ++ get_or segment 0 (record { 0 = [] }) ∷ [])) (length s.path.now)));
+      outside = tt;
+      same = ap (λ n. first_of k locals (upward n s.path.now segment)) (sym long);
+    }
+
+pub returns-then-depth-eq0-clause-met : goal.returns-then-depth-eq0-clause-met
+returns-then-depth-eq0-clause-met c =
+    let s = c.args.self.now in
+    let k = namespace_in (known_by s.nodes.now) in
+    let locals = c.args.locals.now in
+    let segment = c.args.segment.now in
+    let d = c.depths.depth in
+    let inv = c.depths.invariant in
+    let path : List Seg = take d s.path.now ++ segment in
+    let here : Candidate = record { depth = d; node = c.child_along-node.result; local = c.stands-local.result } in
+    let is = candidate s c.requires.scope locals segment c.requires.one d inv.within c.child_along-node.result c.stands-local.result c.as_slice.result.now c.as_slice.ensures.value c.child_along-node.ensures.node (local_at locals s.path.now segment c.requires.one c.in_ok-nearest.nearest c.in_ok-nearest.ensures d inv.within inv.above c.stands-local.result c.stands-local.ensures) in
+    let outs_is = outside_path s.nodes.now locals s.path.now segment c.requires.scope.shape here is in
+    let first : c.first_outside-outside.result ≡ option_or c.depths.outside (cond (is_outside k path) (Some here) None) = c.first_outside-outside.ensures ∙ ap (λ b. option_or c.depths.outside (cond b (Some here) None)) outs_is in
+    subst (λ o. IfSome o (IsCandidate s.nodes.now locals s.path.now segment)) (sym first) (outside_still (IsCandidate s.nodes.now locals s.path.now segment) c.depths.outside (is_outside k path) here inv.outside is)
