@@ -8,3 +8,4 @@ pub mod Endings
 pub mod Checks
 pub mod Tallies
 pub mod Kept
+pub mod Words
