@@ -5,7 +5,8 @@
 
 A block that begins with ```console has commands behind `$ `, more lines of theirs behind `> `, and below what they
 print. They run in a folder with `mine`, the set of docs/listing.md, whose text is the first block of that page, and
-with `examples`. `./acpidis` is the launcher. Then the manual page is looked through by mandoc and groff, each where it
+with `examples`. `./acpidis` is the launcher. What README quotes from a source has to stand there, and README has at
+most 2,000 words. Then the manual page is looked through by mandoc and groff, each where it
 is installed, and its options are compared with the program's, its words and docs/refusals.md's with the sources'. Last,
 the scripts that the pages speak of are tried. The last line is 'N passed, N failed'.
 """
@@ -24,6 +25,8 @@ PAGES = ["docs/folders.md", "docs/refusals.md", "docs/externals.md", "docs/readi
 MANUAL = "docs/acpidis.1"
 LINTS = [["mandoc", "-T", "lint"], ["groff", "-ww", "-man", "-z"]]
 REFUSALS = "docs/refusals.md"
+README = "README.md"
+MOST_WORDS = 2000
 SCRIPTS = ["tests/survey.sh", "tests/install.sh", "tests/examples.py"]
 DSDT = b"\x08BAR_\x0A\x05" + b"\x14\x0BFOO_\x02\xA4\x72\x68\x69\x00" + b"\x14\x0BCALL\x00\xA4ZZZZ"
 SSDT = b"\x10\x17\\_SB_\x5B\x82\x0FDEV0\x14\x09_STA\x08\xA4\x0A\x0F" + b"\x06FOO_ALIA"
@@ -111,6 +114,24 @@ def fails_of_manual():
             yield bool(run.stdout)
 
 
+def fails_of_readme():
+    """Whether README is too long, and whether each block that it quotes from a source stands otherwise there."""
+    text = (TOP / README).read_text()
+    quoted = re.findall(r"\(`(crates/[^`]*)`\):\n\n```[a-z]+\n(.*?)^```$", text, re.MULTILINE | re.DOTALL)
+    for source, block in quoted:
+        stands = block in (TOP / source).read_text()
+        if not stands:
+            print(f"FAILED {README}: {source} has not\n{block}", end="")
+        yield not stands
+    if len(quoted) < 3:
+        print(f"FAILED {README}: it quotes {len(quoted)} sources")
+    yield len(quoted) < 3
+    words = len(text.split())
+    if words > MOST_WORDS:
+        print(f"FAILED {README}: {words} words")
+    yield words > MOST_WORDS
+
+
 def options_in(text):
     return set(re.findall(r"--[a-z][a-z-]*", text))
 
@@ -164,7 +185,7 @@ def fails_of_scripts():
 
 def main():
     fails = [fail for page in [LISTING, *PAGES] for fail in fails_of(page)]
-    fails += [*fails_of_manual(), *fails_of_words(), *fails_of_scripts()]
+    fails += [*fails_of_readme(), *fails_of_manual(), *fails_of_words(), *fails_of_scripts()]
     print(f"{fails.count(False)} passed, {fails.count(True)} failed")
     sys.exit(any(fails))
 
