@@ -91,20 +91,41 @@ left() {
     folders_of "$1" | only_sets | without_line "$2"
 }
 
-# The first fault, tables, methods and raw bodies of a run, from its lines
+# The first fault, tables, methods and raw bodies of a run, from its lines, and the file of the first table, the DSDT
 count_checks() {
     awk '
+        /^Check "/ && !tables { dsdt = $0; sub(/^Check "/, "", dsdt); sub(/" Bytes .*/, "", dsdt) }
         /^Check "/ { tables++; methods += $(NF - 3); raw += $(NF - 1); next }
         fault == "" { sub(/^acpidis: /, ""); fault = $0 }
         END {
             if (fault == "") fault = "-"
-            if (tables) print fault "\t" tables "\t" methods "\t" raw; else print fault "\t-\t-\t-"
+            if (!tables) tables = methods = raw = "-"
+            print fault "\t" tables "\t" methods "\t" raw "\t" dsdt
         }'
+}
+
+# oem_of SET NAME: sets `oem` to OEM, table and revision in the header of the file of this name, as the listing has them
+oem_of() {
+    local name bytes at char texts=('' '')
+    oem=-
+    [ -n "$2" ] || return 0
+    printf -v name %b "$2" # a backslash in it is always \x and two digits
+    read -ra bytes < <(od -An -v -tu1 -w18 -j 10 -N 18 -- "$1/$name" 2>/dev/null)
+    [ ${#bytes[@]} = 18 ] || return 0
+    for at in {0..13}; do
+        printf -v char '\\x%02X' "${bytes[at]}"
+        case ${bytes[at]} in
+        34 | 92) ;;
+        3[2-9] | [4-9]? | 1[01]? | 12[0-6]) printf -v char %b "$char" ;;
+        esac
+        texts[at > 5]+=$char
+    done
+    printf -v oem '"%s" "%s" %02X%02X%02X%02X' "${texts[@]}" "${bytes[17]}" "${bytes[16]}" "${bytes[15]}" "${bytes[14]}"
 }
 
 # one SET OPTION..: the line of the set in the folder `folder`
 one() {
-    local from=$EPOCHREALTIME set=$1 until counts status micros
+    local from=$EPOCHREALTIME set=$1 until counts status micros oem
     shift
     show "$folder"
     if [ "$shown" != "$folder" ] && [ -r "$set" ]; then
@@ -119,7 +140,9 @@ one() {
     status=$? until=$EPOCHREALTIME
     case $status in 126 | 127) fail "cannot run $ACPIDIS" ;; esac
     micros=$((${until/./} - ${from/./}))
-    printf '%s\t%s\t%s\t%d.%03d\n' "$shown" "$status" "$counts" $((micros / 1000000)) $((micros / 1000 % 1000))
+    oem_of "$set" "${counts##*$'\t'}"
+    printf '%s\t%s\t%s\t%d.%03d\t%s\n' "$shown" "$status" "${counts%$'\t'*}" \
+        $((micros / 1000000)) $((micros / 1000 % 1000)) "$oem"
 }
 
 # The lines of the folders behind `--`. Status 255 makes xargs stop.

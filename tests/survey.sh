@@ -69,7 +69,8 @@ lines() {
 "$survey" -j 3 sets results 2>report
 is 'status of a survey' "$?" 0
 is 'lines' "$(lines results)" "$(cat wanted)"
-is 'seconds' "$(grep -cvP '\t[0-9]+\.[0-9]{3}$' results)" 0
+is 'seconds' "$(grep -cvP '\t[0-9]+\.[0-9]{3}\t[^\t]+$' results)" 0
+is 'OEMs' "$(cut -f 8 results | LC_ALL=C sort | uniq -c | sed 's/^ *//')" $'15 "TEST  " "EXAMPLE " 00000001\n2 -'
 is 'the report' "$(cat report)" $'survey: status 0: 15\nsurvey: status 1: 2'
 is 'no name ran' "$(ls -d bad sets/bad 2>/dev/null)" ''
 
@@ -99,6 +100,13 @@ printf '\001' | dd of=summed/one/dsdt.dat bs=1 seek=9 conv=notrunc 2>/dev/null
 "$survey" summed strict 2>/dev/null
 "$survey" summed lax --any-sum 2>/dev/null
 is 'an option' "$(cut -f 1-3 strict lax)" $'one\t1\ttable "dsdt.dat": BadSum\none\t0\t-'
+
+# the OEM of the DSDT, whatever its file is called, with bytes that aren't printable
+mkdir -p named/set
+cp "$demo/dsdt.dat" named/set/$'a "\\b\n'
+printf '"\\\t~\377 \000AaZz|}\200\001\002\003\377' | dd of=named/set/$'a "\\b\n' bs=1 seek=10 conv=notrunc 2>/dev/null
+"$survey" named oems --any-sum 2>/dev/null
+is 'bytes of an OEM' "$(cut -f 2,4,8 oems)" $'0\t1\t"\\x22\\x5C\\x09~\\xFF " "\\x00AaZz|}\\x80" FF030201'
 
 # a run that ends by a signal, or takes too long, has a line too
 mkdir -p some
