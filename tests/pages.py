@@ -27,7 +27,7 @@ LINTS = [["mandoc", "-T", "lint"], ["groff", "-ww", "-man", "-z"]]
 REFUSALS = "docs/refusals.md"
 README = "README.md"
 MOST_WORDS = 2000
-SCRIPTS = ["tests/survey.sh", "tests/install.sh", "tests/examples.py"]
+SCRIPTS = ["tests/survey.sh", "tests/install.sh", "tests/examples.py", "tests/library.sh"]
 DSDT = b"\x08BAR_\x0A\x05" + b"\x14\x0BFOO_\x02\xA4\x72\x68\x69\x00" + b"\x14\x0BCALL\x00\xA4ZZZZ"
 SSDT = b"\x10\x17\\_SB_\x5B\x82\x0FDEV0\x14\x09_STA\x08\xA4\x0A\x0F" + b"\x06FOO_ALIA"
 
