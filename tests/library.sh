@@ -1,6 +1,6 @@
 #!/bin/sh
 # Makes the repository of docs/library.md by the commands of that page, which takes a second, and compares what the page
-# shows. With --try the example is built without a proof and run there, in one to four minutes; with --prove all is
+# shows. With --try the example is built without a proof and run there, in about a minute; with --prove all is
 # proved first, in half an hour. The last line is 'N passed, N failed'.
 
 top=$(CDPATH='' cd -- "$(dirname -- "$0")/.." && pwd) || exit 1
