@@ -13,7 +13,8 @@ use externals::{FileFault, read_externals};
 use std::io::{BufWriter, Write};
 use std::process::ExitCode;
 use std::sync::Wait;
-use std::thread::Threads;
+use std::thread;
+use std::thread::{Builder, Threads};
 
 /// The status of a command line that can't be read.
 const COMMAND_LINE: u8 = 2;
@@ -21,22 +22,48 @@ const COMMAND_LINE: u8 = 2;
 /// The status where the folder can't be read, or memory is short.
 const REFUSED: u8 = 1;
 
+/// The stack on which all is read, printed and checked, whatever the system's own limit is. The deepest tables need
+/// about 1 MB of it.
+const STACK_BYTES: usize = 8 << 20;
+
 fn main(rt: HostRuntime) -> ExitCode {
-    match read(&rt) {
-        Ok(line) => ExitCode::from(match BufWriter::new(rt.alloc(), rt.stderr()) {
+    match in_thread(&rt, &rt) {
+        Some(status) => ExitCode::from(status),
+        None => {
+            let _ = eprintln!(rt; "acpidis: NoThread");
+            ExitCode::from(REFUSED)
+        }
+    }
+}
+
+/// The exit status of a run in a thread of its own, or `None` where none can be started.
+fn in_thread<T: Threads + Wait + Sync>(rt: &HostRuntime, threads: &T) -> Option<u8> {
+    thread::scope(thread::scope_env(), threads, move |scope| -> Option<u8> {
+        let builder = Builder::new().stack_size(STACK_BYTES);
+        match builder.spawn_scoped(scope, move || status_of(rt, threads)) {
+            Ok(child) => Some(child.join(threads)),
+            Err(_) => None,
+        }
+    })
+}
+
+/// Does what the command line asks for, and answers the exit status.
+fn status_of<T: Threads + Wait + Sync>(rt: &HostRuntime, threads: &T) -> u8 {
+    match read(rt) {
+        Ok(line) => match BufWriter::new(rt.alloc(), rt.stderr()) {
             // There may be a line for each of a million methods.
             Ok(mut err) => {
-                let status = run_folder(&rt, &rt, &line, &mut err);
+                let status = run_folder(rt, threads, &line, &mut err);
                 let _ = err.flush();
                 status
             }
-            Err(_) => run_folder(&rt, &rt, &line, &mut rt.stderr()),
-        }),
-        Err(Stop::Shown) => ExitCode::SUCCESS,
-        Err(Stop::Refused) => ExitCode::from(COMMAND_LINE),
+            Err(_) => run_folder(rt, threads, &line, &mut rt.stderr()),
+        },
+        Err(Stop::Shown) => 0,
+        Err(Stop::Refused) => COMMAND_LINE,
         Err(Stop::NoMemory) => {
             let _ = eprintln!(rt; "acpidis: NoMemory");
-            ExitCode::from(REFUSED)
+            REFUSED
         }
     }
 }
