@@ -10,6 +10,7 @@ SEGMENTS = 255
 OPTION, GIVEN = "--externals", "given/externals.txt"
 # Names that `segment` gives no number to, below a million.
 RUN, NOTHING = b"_RUN", b"ZZZZ"
+LEAF, NEAR, FRIEND = b"LEAF", b"NEAR", b"FRND"
 
 
 class Shape(NamedTuple):
@@ -102,6 +103,14 @@ def upward(count, depth):
 def upward_with_local(count, depth):
     """The same, in a method that has a local name."""
     return named(count) + within(depth, main_method(b"\x08LOCL\0" + uses(count)))
+
+
+def upward_with_locals(count, depth, friends=b""):
+    """Uses of a name at the root in a method that has a local name of each of 150 lengths; or of names that end as the
+    used one does, with another segment before it."""
+    name = b"\x2e" + friends + LEAF if friends else NEAR
+    locals_ = b"".join(b"\x08" + b"^" * ups + name + b"\0" for ups in range(150))
+    return b"\x08" + LEAF + b"\0" + within(depth, main_method(locals_ + LEAF * count))
 
 
 def upward_outside(count, depth):
@@ -305,6 +314,10 @@ SHAPES = (
     Shape("upward-deep", 1_000, "segments", one(lambda count: upward(100_000, count))),
     Shape("upward-local", 2_000, "names", one(lambda count: upward_with_local(count, 1000))),
     Shape("upward-local-deep", 1_000, "segments", one(lambda count: upward_with_local(2000, count))),
+    Shape("upward-locals", 5_700, "names", one(lambda count: upward_with_locals(count, 5_700))),
+    Shape("upward-locals-deep", 5_700, "segments", one(lambda count: upward_with_locals(5_700, count))),
+    Shape("upward-friends", 5_700, "names", one(lambda count: upward_with_locals(count, 5_700, FRIEND))),
+    Shape("upward-friends-deep", 5_700, "segments", one(lambda count: upward_with_locals(5_700, count, FRIEND))),
     Shape("upward-outside", 100_000, "names", one(lambda count: upward_outside(count // 2, 1000))),
     Shape("deep-names", 2_000, "names", one(lambda count: deep_names(count, 10_000))),
     Shape("deep-scope", 10_000, "segments", one(lambda count: deep_names(2000, count))),
