@@ -1,6 +1,7 @@
 //! The command line.
 ghost use Rattle.std.specs.Prelude.{◌≤◌};
 
+use clap::error::ErrorKind;
 use clap::{Arg, ArgAction, Command, Error, value_parser};
 use std::alloc::Global;
 use std::{env, io};
@@ -65,6 +66,7 @@ pub fn read(rt: &HostRuntime) -> Result<CommandLine, Stop> {
     };
     match parse(alloc, words.as_slice()) {
         Ok(line) => Ok(line),
+        Err(error) if error.kind() == ErrorKind::OutOfMemory => Err(Stop::NoMemory),
         Err(error) => {
             let _ = error.print(rt);
             if error.use_stderr() {
