@@ -167,7 +167,8 @@ impl Tree {
         }
     }
 
-    /// Puts a child into its place. The growth comes before the first change.
+    /// Puts a child into its place. The growth comes before the first change. Above a side that is as high as before
+    /// nothing is out of balance.
     pub fn insert(&mut self, alloc: Global, child: Child) -> Result<(), AllocError>
         requires room { self.old.1 < 2 ^ 63 }
         requires rise { Rise self.old.0 }
@@ -184,9 +185,21 @@ impl Tree {
                 return Ok(());
             }
             Some(fork) => match child.seg.cmp(&fork.child.seg) {
-                Ordering::Less => fork.left.insert(alloc, child)?,
+                Ordering::Less => {
+                    let before = fork.left.height();
+                    fork.left.insert(alloc, child)?;
+                    if fork.left.height() == before {
+                        return Ok(());
+                    }
+                }
                 Ordering::Equal => {}
-                Ordering::Greater => fork.right.insert(alloc, child)?,
+                Ordering::Greater => {
+                    let before = fork.right.height();
+                    fork.right.insert(alloc, child)?;
+                    if fork.right.height() == before {
+                        return Ok(());
+                    }
+                }
             },
         }
         rebalance(&mut self.top);

@@ -8,7 +8,7 @@ use Rattle.aml_children.specs.declared.trees.Fork.{Fork}
 use Rattle.aml_children.proofs.Sides.{rise_left, rise_right, absent_left, absent_right, no_middle, put_left, put_right}
 use Rattle.aml_children.proofs.Forks.{listed, heighted, rising, balanced_top, left_shorter, right_shorter}
 use Rattle.aml_children.proofs.trees.Tree.+insert.Goals as goal
-use Rattle.aml_children.proofs.trees.Tree.+insert.Goals.{in-Less+in_ok-insert-in-Less, in-Equal, in-Greater+in_ok-insert-in-Greater}
+use Rattle.aml_children.proofs.trees.Tree.+insert.Goals.{in-Less+in_ok-insert-in-Less+else-height-before, in-Equal, in-Greater+in_ok-insert-in-Greater+else-height-before-2}
 
 same_list : (old new : Option (Box Fork)) → Rebalances old new → (list_and_height new).0 ≡ (list_and_height old).0
 same_list None new is = ap (λ o. (list_and_height o).0) is
@@ -62,7 +62,7 @@ rebalance-requires t c =
     let rise = rising c.args.self.now c.self.inside.top c.in-Some.fork c.self.view_is c.in-Some.is c.requires.rise in
     let balanced = balanced_top c.self.inside.top c.in-Some.fork c.in-Some.is c.self.invariant in
     elim c.match-cmp.branch [
-      | in-Less+in_ok-insert-in-Less w ↦
+      | in-Less+in_ok-insert-in-Less+else-height-before w ↦
           let was = w.deref_mut.ensures.value in
           let side : w.insert.new.self.0 ≡ put f.left.0 c.args.child = w.in_ok-insert-in-Less.ensures.ok ∙ ap (λ (h : Fork). put h.left.0 c.args.child) was in
           let high_before = ap (λ (h : Fork). h.left.1) was in
@@ -72,7 +72,7 @@ rebalance-requires t c =
             even = (omega (arith, balanced.even.0, high_before, other, w.in_ok-insert-in-Less.ensures.at_most_one_higher), omega (arith, balanced.even.1, high_before, other, w.in_ok-insert-in-Less.ensures.not_lower));
           })
       | in-Equal w ↦ absurd (no_middle f.left.0 f.child f.right.0 s rise (ap (λ es. child_in es s) (sym is) ∙ c.requires.absent) (ap (λ (h : Fork). seg_cmp s h.child.seg) (sym c.deref.ensures) ∙ sym c.cmp.ensures ∙ w.in-Equal.is))
-      | in-Greater+in_ok-insert-in-Greater w ↦
+      | in-Greater+in_ok-insert-in-Greater+else-height-before-2 w ↦
           let was = w.deref_mut-in-Greater.ensures.value in
           let side : w.insert-in-Greater.new.self.0 ≡ put f.right.0 c.args.child = w.in_ok-insert-in-Greater.ensures.ok ∙ ap (λ (h : Fork). put h.right.0 c.args.child) was in
           let high_before = ap (λ (h : Fork). h.right.1) was in
@@ -91,15 +91,38 @@ returns-clause-ok t c =
     let rise = rising c.args.self.now c.self.inside.top c.in-Some.fork c.self.view_is c.in-Some.is c.requires.rise in
     let at = ap (λ (h : Fork). seg_cmp s h.child.seg) (sym c.deref.ensures) ∙ sym c.cmp.ensures in
     same_list c.match-cmp.self-inside.top c.rebalance.new.top c.rebalance.ensures ∙ elim c.match-cmp.branch [
-      | in-Less+in_ok-insert-in-Less w ↦
+      | in-Less+in_ok-insert-in-Less+else-height-before w ↦
           let was = w.deref_mut.ensures.value in
           let side : w.insert.new.self.0 ≡ put f.left.0 c.args.child = w.in_ok-insert-in-Less.ensures.ok ∙ ap (λ (h : Fork). put h.left.0 c.args.child) was in
           ap (λ x. (list_and_height x.top).0) w.self-inside-is ∙ (λ i. side i ++ (was i).child ∷ (was i).right.0)
           ∙ sym (put_left f.child f.right.0 c.args.child f.left.0 (at ∙ w.in-Less.is)) ∙ ap (λ es. put es c.args.child) (sym is)
       | in-Equal w ↦ absurd (no_middle f.left.0 f.child f.right.0 s rise (ap (λ es. child_in es s) (sym is) ∙ c.requires.absent) (at ∙ w.in-Equal.is))
-      | in-Greater+in_ok-insert-in-Greater w ↦
+      | in-Greater+in_ok-insert-in-Greater+else-height-before-2 w ↦
           let was = w.deref_mut-in-Greater.ensures.value in
           let side : w.insert-in-Greater.new.self.0 ≡ put f.right.0 c.args.child = w.in_ok-insert-in-Greater.ensures.ok ∙ ap (λ (h : Fork). put h.right.0 c.args.child) was in
           ap (λ x. (list_and_height x.top).0) w.self-inside-is ∙ (λ i. (was i).left.0 ++ (was i).child ∷ side i)
           ∙ sym (put_right f.child f.right.0 c.args.child f.left.0 rise (at ∙ w.in-Greater.is)) ∙ ap (λ es. put es c.args.child) (sym is)
     ]
+
+pub returns-then-height-before-clause-ok : goal.returns-then-height-before-clause-ok
+returns-then-height-before-clause-ok t c =
+    let f = c.in-Some.fork.value in
+    let s = c.args.child.seg in
+    let is = listed c.args.self.now c.self.inside.top c.in-Some.fork c.self.view_is c.in-Some.is in
+    let less = ap (λ (h : Fork). seg_cmp s h.child.seg) (sym c.deref.ensures) ∙ sym c.cmp.ensures ∙ c.in-Less.is in
+    let was = c.deref_mut.ensures.value in
+    let side : c.insert.new.self.0 ≡ put f.left.0 c.args.child = c.in_ok-insert-in-Less.ensures.ok ∙ ap (λ (h : Fork). put h.left.0 c.args.child) was in
+    (λ i. side i ++ (was i).child ∷ (was i).right.0)
+    ∙ sym (put_left f.child f.right.0 c.args.child f.left.0 less) ∙ ap (λ es. put es c.args.child) (sym is)
+
+pub returns-then-height-before-2-clause-ok : goal.returns-then-height-before-2-clause-ok
+returns-then-height-before-2-clause-ok t c =
+    let f = c.in-Some.fork.value in
+    let s = c.args.child.seg in
+    let is = listed c.args.self.now c.self.inside.top c.in-Some.fork c.self.view_is c.in-Some.is in
+    let rise = rising c.args.self.now c.self.inside.top c.in-Some.fork c.self.view_is c.in-Some.is c.requires.rise in
+    let more = ap (λ (h : Fork). seg_cmp s h.child.seg) (sym c.deref.ensures) ∙ sym c.cmp.ensures ∙ c.in-Greater.is in
+    let was = c.deref_mut-in-Greater.ensures.value in
+    let side : c.insert-in-Greater.new.self.0 ≡ put f.right.0 c.args.child = c.in_ok-insert-in-Greater.ensures.ok ∙ ap (λ (h : Fork). put h.right.0 c.args.child) was in
+    (λ i. (was i).left.0 ++ (was i).child ∷ side i)
+    ∙ sym (put_right f.child f.right.0 c.args.child f.left.0 rise more) ∙ ap (λ es. put es c.args.child) (sym is)
