@@ -27,7 +27,7 @@ block() {
 
 # The page takes what is committed; this takes what is there, so that a change is tried before it is committed.
 mkdir "$work/jigmadder" "$work/mine"
-(cd -- "$top" && tar -cf - --exclude=out HANDLES crates.txt crates examples/call_list) |
+(cd -- "$top" && tar -cf - --exclude=out HANDLES crates.txt crates) |
     tar -xf - -C "$work/jigmadder" || exit 1
 cd -- "$work/jigmadder" && git init -q . && git add -A &&
     git -c user.name=test -c user.email=test@localhost commit -qm all || exit 1
