@@ -77,7 +77,7 @@ has_passed() {
     [ "$whole" = 0 ] && [ "$status" = 0 ]
 }
 
-# Refused while the command line is read, the status is 2; else it is 1, and nothing is printed.
+# The status is 1, and nothing is printed.
 is_whole_or_want() {
     if [ "$status" = "$whole" ]; then
         [ "$whole" = 3 ] && cmp -s text whole_text && cmp -s lines whole_lines
@@ -86,7 +86,6 @@ is_whole_or_want() {
     [ "$calls" -ge "$n" ] || return
     case $status:$(cat text lines) in
     '1:acpidis: NoMemory' | '1:acpidis: NoThread') ;;
-    '2:error: out of memory'*) ;;
     *) return 1 ;;
     esac
 }
