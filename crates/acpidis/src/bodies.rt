@@ -111,7 +111,8 @@ impl<'a, 'b, K: Keep> Work for Keeping<'a, 'b, K> {
 
     fn work(&self, number: u32) -> Result<K::Kept, NoMemory> {
         let body = self.bodies.read(number)?;
-        self.keep.keep(self.bodies.alloc, number, self.bodies.bytes(number), body)
+        self.keep
+            .keep(self.bodies.alloc, number, self.bodies.bytes(number), body)
     }
 }
 
@@ -164,7 +165,13 @@ impl Keep for Whole {
 
     ghost keeps = { λ w n bytes body kept. kept ≡ body };
 
-    fn keep(&self, _alloc: Global, _number: u32, _bytes: &[u8], body: Body) -> Result<Body, NoMemory> {
+    fn keep(
+        &self,
+        _alloc: Global,
+        _number: u32,
+        _bytes: &[u8],
+        body: Body,
+    ) -> Result<Body, NoMemory> {
         Ok(body)
     }
 }

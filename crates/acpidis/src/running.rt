@@ -128,7 +128,15 @@ fn run_listing<R: Threads + Wait + Sync, G: Gate + Sync, O: Write, E: Write>(
     let keep = Texts {
         levels: levels.as_slice(),
     };
-    let found = keep_bodies(rt, alloc, set.loaded, options.unknown_zero, workers, gate, &keep)?;
+    let found = keep_bodies(
+        rt,
+        alloc,
+        set.loaded,
+        options.unknown_zero,
+        workers,
+        gate,
+        &keep,
+    )?;
     let texts = found.items.as_slice();
     write_printed(out, set, texts)?;
     print_raw_bodies(set.loaded.methods.as_slice(), texts, err);
@@ -151,7 +159,15 @@ fn run_checks<R: Threads + Wait + Sync, G: Gate + Sync, O: Write, E: Write>(
     requires set { IsSet options.now set }
     ensures { Ends set.entry.dumps.now options.now true (O.contents out.old) (O.contents out.new) result }
 {
-    let found = keep_bodies(rt, alloc, set.loaded, options.unknown_zero, workers, gate, &Trials)?;
+    let found = keep_bodies(
+        rt,
+        alloc,
+        set.loaded,
+        options.unknown_zero,
+        workers,
+        gate,
+        &Trials,
+    )?;
     let tried = found.items.as_slice();
     let checks = check_tables(alloc, set, tried)?;
     write_tables(out, set, checks.as_slice())?;
