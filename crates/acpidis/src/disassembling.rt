@@ -118,7 +118,8 @@ pub(crate) fn load_set<'a>(
         LoadsSet dumps.now options.now dsdt ssdts trees m → HoldsSet x.0 x.1 dumps.now dsdt ssdts trees m) }
     ensures few { IfOk result (λ x. length x.1.methods.items ≤ 1048576) }
     ensures short { IfOk result (λ x. AreShort (codes_view x.1.tables.items)) }
-    ensures complete { IfErr result (λ e. IsWant e ⊎ ((dsdt : ℕ) (ssdts : List ℕ) (trees : List Trees) (m : Listed) →
+    ensures complete { IfErr result (λ e. IsWant e ⊎
+        ((dsdt : ℕ) (ssdts : List ℕ) (trees : List Trees) (m : Listed) →
         ¬ LoadsSet dumps.now options.now dsdt ssdts trees m)) }
     ensures true_table { IfErr result (TellsTable dumps.now options.now.any_sum) }
     ensures true_load { IfErr result (TellsBlocks dumps.now options.now) }
