@@ -29,10 +29,9 @@ use Rattle.aml_load.specs.declared.walking.Progress.{Progress}
 use Rattle.aml_load.specs.Loading.{Listed, plus, with_uses, methods_of}
 use Rattle.aml_load.specs.Roles.{role_of}
 use Rattle.aml_load.specs.Uses.{kinds_in, parts_uses, tail_uses}
-use Rattle.aml_load.specs.Walking.{◌>>=◌, listed, space_fault, entry_at, name_at, fields_at, do_as, walk, walk_inside, Fails}
+use Rattle.aml_load.specs.Walking.{◌>>=◌, listed, or_fault, place_at, space_fault, entry_at, name_at, fields_at, do_as, walk, walk_inside, Fails}
 use Rattle.aml_load.specs.Progresses.{Holds}
-use Rattle.aml_load.proofs.Steps.{place_again}
-use Rattle.aml_load.proofs.Walks.{methods_more}
+use Rattle.aml_load.proofs.Steps.{methods_more}
 
 -- an entry without a body
 pub external_held : (old new : Progress) (l : Listed) (p : List Seg) (n : ℕ) → Holds old l → StandsFor new.space (l.entries ++ external p n ∷ []) → new.methods.items ≡ old.methods.items → new.uses.items ≡ old.uses.items
@@ -100,10 +99,10 @@ field_placed scope s =
     rw (le, all) (ap (λ front. Some (front ++ s ∷ [])) (take_all (length scope) scope (omega arith)))
 
 pub unit_is : (t : ℕ) (l : Listed) (scope p : List Seg) (s : Seg) → p ≡ scope ++ s ∷ [] → entry_at t l p (declares p kinds.Field None) ≡ fields_at t l scope (plain_name s ∷ [])
-unfolding fields_at name_at
+unfolding fields_at name_at place_at
 unit_is t l scope p s e =
     ap (λ q. entry_at t l q (declares q kinds.Field None)) e
-    ∙ sym (ap (λ r. r >>= λ q. entry_at t l q (declares q kinds.Field None)) (place_again t scope (Some (plain_name s)) (scope ++ s ∷ []) (field_placed scope s)))
+    ∙ sym (ap (λ r. r >>= λ q. entry_at t l q (declares q kinds.Field None)) (ap (or_fault (loads.Space t faults.AboveRoot)) (field_placed scope s)))
     ∙ sym (ended (name_at t l scope (Some (plain_name s)) kinds.Field))
 
 twice : (o : Option Kind) (p : List Seg) (t : ℕ) (l : Listed) → IsTrue (is_some o) → cond (is_some o) (Err (loads.Space t (faults.Duplicate p))) (listed l) ≡ Err (loads.Space t (faults.Duplicate p))

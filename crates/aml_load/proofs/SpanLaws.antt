@@ -34,7 +34,7 @@ use Rattle.aml_load.proofs.Givens.{no_methods}
 use Rattle.aml_load.specs.Loading.{Listed, plus, with_uses, byte_of, body_start, body_len, target_of, method_entry, DeclareUnits, DoesAs, Declares, DeclareInside, DeclareAll, DeclareTables, methods_of, ReadTables, IsLoad, first_listed}
 use Rattle.aml_load.specs.Spans.{Span, method_span, tree_spans, all_spans, tail_spans, fields_spans, tables_spans, InTextOrder}
 use Rattle.aml_load.proofs.NoSpans.{terms_tail, body_tail, parts_none, arguments_none, tail_none, elements_none, fields_tail_none}
-use Rattle.aml_load.proofs.Walks.{methods_more}
+use Rattle.aml_load.proofs.Steps.{methods_more}
 
 -- ---- what the rows say of the terms of tables, by a test over the whole table of opcodes
 

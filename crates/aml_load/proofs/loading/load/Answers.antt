@@ -6,10 +6,10 @@ pub returns-clause-sound : goal.returns-clause-sound
 returns-clause-sound c = given_sound c.args.givens.now c.load_whole.result (codes_view c.args.tables.now) c.are_codes.ensures c.load_whole.ensures
 
 pub returns-clause-one : goal.returns-clause-one
-returns-clause-one c = given_one c.args.givens.now c.load_whole.result (codes_view c.args.tables.now) c.load_whole.ensures
+returns-clause-one c = given_one c.args.givens.now c.load_whole.result (codes_view c.args.tables.now) c.are_codes.ensures c.load_whole.ensures
 
 pub returns-clause-complete : goal.returns-clause-complete
-returns-clause-complete c = given_complete c.args.givens.now c.load_whole.result (codes_view c.args.tables.now) c.load_whole.ensures
+returns-clause-complete c = given_complete c.args.givens.now c.load_whole.result (codes_view c.args.tables.now) c.are_codes.ensures c.load_whole.ensures
 
 pub returns-clause-true_fault : goal.returns-clause-true_fault
 returns-clause-true_fault c = given_true c.args.givens.now c.load_whole.result (codes_view c.args.tables.now) c.are_codes.ensures c.load_whole.ensures
