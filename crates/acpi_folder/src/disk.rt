@@ -46,7 +46,14 @@ impl Folder for DiskFolder<'_> {
     ghost answers = { λ _. anything };
 
     fn list(&mut self) -> Result<Vec<String>, FolderFault> {
-        Ok(self.names()?)
+        // No folder interrupts so often; the bound shows that this ends.
+        'tries: for _ in 0..u64::MAX {
+            match self.names() {
+                Err(error) if error.kind() == io::ErrorKind::Interrupted => {}
+                listed => return Ok(listed?),
+            }
+        }
+        Err(FolderFault::Failed)
     }
 
     fn read(&mut self, name: &str, limit: u64) -> Result<Vec<u8>, FolderFault> {

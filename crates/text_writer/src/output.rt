@@ -1,11 +1,12 @@
 //! A writer that collects what it is given, counts what went out, and stops at the first fault.
-ghost use Rattle.std.specs.Prelude.{◌≡◌, ◌≤◌, ◌∷◌, length, take, [], true, false, OnOk, IfErr};
+ghost use Rattle.std.specs.Prelude.{◌≡◌, ◌≤◌, ◌∷◌, length, take, [], true, false, OnOk, IfErr, IfSome};
+ghost use Rattle.std.specs.Option.{unwrap_or};
 ghost use Rattle.std.specs.Io.KnownBytes.{Appends};
 ghost use Rattle.text_writer.specs.Waiting.{waiting};
 ghost use Rattle.text_writer.specs.Prints.{Prints};
 
 use crate::pending::Pending;
-use std::io::Write;
+use std::io::{ErrorKind, Write};
 use thiserror::Error;
 
 /// The writer failed, or took nothing, after it took `wrote` bytes of the text.
@@ -24,16 +25,40 @@ pub struct Out<'w, W> {
     failed: bool,
 }
 
-/// Writes these bytes, up to the first fault, and returns how many the writer took.
+/// How many of these bytes the writer took in one call: none where the call was interrupted, and no answer where it failed or
+/// took nothing.
+fn write_some<W: Write>(to: &mut W, bytes: &[u8]) -> Option<usize>
+    ensures bound { IfSome result (λ taken. taken ≤ length bytes.now) }
+    ensures sent { Appends (W.contents to.old) (W.contents to.new) (take (unwrap_or result 0) bytes.now) }
+{
+    match to.write(bytes) {
+        Ok(0) => None,
+        Ok(taken) => Some(taken),
+        Err(fault) => {
+            if fault.kind() == ErrorKind::Interrupted {
+                Some(0)
+            } else {
+                None
+            }
+        }
+    }
+}
+
+/// Writes these bytes, up to the first fault, and returns how many the writer took. A write that was interrupted is made
+/// again.
 fn send<W: Write>(to: &mut W, bytes: &[u8]) -> usize
     ensures bound { result ≤ length bytes.now }
     ensures sent { Appends (W.contents to.old) (W.contents to.new) (take result bytes.now) }
 {
     let mut done = 0;
-    while done < bytes.len() {
-        match to.write(&bytes[done..]) {
-            Ok(0) | Err(_) => return done,
-            Ok(taken) => done += taken,
+    // No run makes so many calls; the bound shows that this ends.
+    'writes: for _ in 0..u64::MAX {
+        if done >= bytes.len() {
+            return done;
+        }
+        match write_some(to, &bytes[done..]) {
+            None => return done,
+            Some(taken) => done += taken,
         }
     }
     done

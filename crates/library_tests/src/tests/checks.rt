@@ -2,9 +2,9 @@
 ghost use Rattle.std.specs.Prelude.{◌≤◌, length};
 ghost use Rattle.aml_load.specs.Views.{codes_view, AreShort};
 
-use super::fixtures::{Bare, any_sum, push_table};
+use super::fixtures::{Bare, listing_of, push_table};
 use acpi_tables::Dump;
-use acpidis::{Checked, Refusal, check, disassemble, write_checks};
+use acpidis::{Checked, Refusal, check, write_checks};
 use aml_code::CodeFault;
 use aml_names::Path;
 use aml_parse::parse_body;
@@ -77,7 +77,7 @@ fn tells_exchange<T: Threads + Wait + Sync>(
     dumps: &[Dump],
     bodies: Vec<Body>,
 ) -> Result<bool, Refusal> {
-    let mut listing = disassemble(threads, alloc, dumps, any_sum(alloc), 1, &FreeGate)?;
+    let mut listing = listing_of(threads, alloc, dumps, 1, &FreeGate)?;
     Ok(differs_with(alloc, &mut listing, bodies)?)
 }
 

@@ -1,16 +1,20 @@
 //! Code, dumps, tables, works and gates that several tests hand in.
-ghost use Rattle.std.specs.Prelude.{◌≡◌, ◌*◌, ⊤, Some};
+ghost use Rattle.std.specs.Prelude.{◌≡◌, ◌*◌, ◌≤◌, ⊤, Some, IfOk, length};
+ghost use Rattle.aml_load.specs.Views.{codes_view, AreShort};
 
 use acpi_tables::Dump;
-use acpidis::Options;
+use acpidis::{Options, Refusal, disassemble, run};
 use aml_code::{Arity, Locals};
 use aml_names::Name;
 use aml_pool::{Gate, NoMemory, Work};
+use aml_text::Listing;
 use std::alloc::{AllocError, Global};
 use std::env::Env;
+use std::io::Write;
+use std::sync::Wait;
 use std::sync::atomic::Ordering::SeqCst;
 use std::sync::atomic::{AtomicBool, AtomicU64};
-use std::thread;
+use std::thread::{self, Threads};
 
 /// The AML of tables, of which the last five are refused.
 pub fn codes() -> [&'static [u8]; 19] {
@@ -101,6 +105,39 @@ pub fn any_sum(alloc: Global) -> Options {
         unknown_zero: false,
         externals: Vec::new(alloc),
     }
+}
+
+/// The listing of these dumps, by so many workers. Of the clauses of `disassemble` it keeps what `check` asks for.
+pub fn listing_of<'a, T: Threads + Wait + Sync, G: Gate + Sync>(
+    threads: &T,
+    alloc: Global,
+    dumps: &'a [Dump],
+    workers: u32,
+    gate: &G,
+) -> Result<Listing<'a>, Refusal>
+    requires { (1 ≤ workers) × (workers ≤ 64) }
+    ensures { IfOk result (λ x. AreShort (codes_view x.loaded.tables.items) ×
+        (length x.loaded.methods.items ≤ 1048576)) }
+{
+    disassemble(threads, alloc, dumps, any_sum(alloc), workers, gate)
+}
+
+/// The status of a run over these dumps by so many workers, with its text and its error lines to these writers.
+pub fn status_of<T: Threads + Wait + Sync, G: Gate + Sync, W: Write, E: Write>(
+    threads: &T,
+    alloc: Global,
+    dumps: &[Dump],
+    workers: u32,
+    gate: &G,
+    out: &mut W,
+    error: &mut E,
+) -> u8
+    requires { (1 ≤ workers) × (workers ≤ 64) }
+{
+    let options = any_sum(alloc);
+    run(
+        threads, alloc, dumps, options, workers, false, gate, out, error,
+    )
 }
 
 /// Adds a dump.

@@ -1,7 +1,7 @@
 //! Listings by several workers.
-use super::fixtures::{Watch, any_sum, push_table};
+use super::fixtures::{Watch, listing_of, push_table, status_of};
 use acpi_tables::Dump;
-use acpidis::{Refusal, disassemble, run};
+use acpidis::Refusal;
 use aml_code::CodeFault;
 use aml_pool::FreeGate;
 use aml_text::{Body, Listing};
@@ -43,14 +43,7 @@ fn is_shared(listing: &Listing<'_>, workers: u32) -> bool {
 fn three_bodies_by_any_number_of_workers(rt: HostRuntime) -> Result<(), Fail> {
     let dumps = three_methods(rt.alloc())?;
     for workers in [1, 2, 3, 64] {
-        let listing = disassemble(
-            &rt,
-            rt.alloc(),
-            &dumps,
-            any_sum(rt.alloc()),
-            workers,
-            &FreeGate,
-        )?;
+        let listing = listing_of(&rt, rt.alloc(), &dumps, workers, &FreeGate)?;
         assert!(rt; is_shared(&listing, workers));
     }
     Ok(())
@@ -84,7 +77,7 @@ fn lists_are_calls<T: Threads + Wait + Sync>(
     gate: &Watch,
 ) -> Result<bool, Refusal> {
     let dumps = eight_methods(alloc)?;
-    let listing = disassemble(threads, alloc, &dumps, any_sum(alloc), 2, gate)?;
+    let listing = listing_of(threads, alloc, &dumps, 2, gate)?;
     Ok(are_calls(alloc, gate, &listing)?)
 }
 
@@ -123,16 +116,8 @@ fn status_behind<T: Threads + Wait + Sync>(
     let dumps = eight_methods(alloc)?;
     let mut out = Vec::new(alloc);
     let mut error = Vec::new(alloc);
-    Ok(run(
-        threads,
-        alloc,
-        &dumps,
-        any_sum(alloc),
-        2,
-        false,
-        gate,
-        &mut out,
-        &mut error,
+    Ok(status_of(
+        threads, alloc, &dumps, 2, gate, &mut out, &mut error,
     ))
 }
 

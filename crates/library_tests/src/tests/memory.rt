@@ -6,13 +6,13 @@ ghost use Rattle.std.specs.Prelude.{◌≤◌, length};
 ghost use Rattle.aml_load.specs.Views.{codes_view, AreShort};
 
 use super::fixtures::{
-    Bare, Square, Want, any_sum, codes, is_whole_or_want, push_dump, push_table,
+    Bare, Square, Want, codes, is_whole_or_want, listing_of, push_dump, push_table,
 };
 use super::folders::{FILES, MemoryFolder, are_gathered};
 use super::listings::{has_three_bodies, three_methods};
 use acpi_folder::{ExternalsFault, FolderFault, GatherFault, gather, parse_externals};
 use acpi_tables::{Bad, Dump, load_order};
-use acpidis::{Checked, Refusal, check, disassemble};
+use acpidis::{Checked, Refusal, check};
 use aml_code::CodeFault;
 use aml_load::{LoadFault, Loaded, load, rebuild};
 use aml_names::{Path, Seg};
@@ -151,7 +151,7 @@ fn is_listed<T: Threads + Wait + Sync>(
 ) -> Result<bool, Want> {
     let mut dumps = Vec::new(alloc);
     push_table(alloc, &mut dumps, None, b"DSDT", code)?;
-    match disassemble(threads, alloc, &dumps, any_sum(alloc), 1, &FreeGate) {
+    match listing_of(threads, alloc, &dumps, 1, &FreeGate) {
         Ok(listing) => has_terms(alloc, &listing, code),
         Err(Refusal::NoMemory) => Err(Want),
         Err(_) => Ok(false),
@@ -253,7 +253,7 @@ fn has_bodies<T: Threads + Wait + Sync>(
     requires { (1 ≤ workers) × (workers ≤ 64) }
 {
     let dumps = three_methods(alloc)?;
-    match disassemble(threads, alloc, &dumps, any_sum(alloc), workers, &FreeGate) {
+    match listing_of(threads, alloc, &dumps, workers, &FreeGate) {
         Ok(listing) => Ok(has_three_bodies(&listing)),
         Err(Refusal::NoMemory | Refusal::NoThread) => Err(Want),
         Err(_) => Ok(false),
@@ -288,7 +288,7 @@ fn is_checked(alloc: Global, listing: &Listing<'_>) -> Result<bool, Want>
 /// Whether both tables are the same when they are made anew.
 fn has_checks<T: Threads + Wait + Sync>(threads: &T, alloc: Global) -> Result<bool, Want> {
     let dumps = three_methods(alloc)?;
-    match disassemble(threads, alloc, &dumps, any_sum(alloc), 1, &FreeGate) {
+    match listing_of(threads, alloc, &dumps, 1, &FreeGate) {
         Ok(listing) => is_checked(alloc, &listing),
         Err(Refusal::NoMemory) => Err(Want),
         Err(_) => Ok(false),

@@ -1,7 +1,6 @@
 //! Bodies of 512 levels, the most that are read, on each thread.
-use super::fixtures::{Watch, any_sum, push_table};
+use super::fixtures::{Watch, listing_of, push_table, status_of};
 use acpi_tables::Dump;
-use acpidis::{disassemble, run};
 use aml_text::{Body, Listing};
 use std::alloc::{AllocError, Global};
 use std::test::Fail;
@@ -111,7 +110,7 @@ fn is_whole(listing: &Listing<'_>) -> bool {
 fn the_deepest_bodies_on_each_thread(rt: HostRuntime) -> Result<(), Fail> {
     let dumps = deepest_methods(rt.alloc())?;
     let gate = Watch::new(rt.alloc(), 2, 0)?;
-    let listing = disassemble(&rt, rt.alloc(), &dumps, any_sum(rt.alloc()), 2, &gate)?;
+    let listing = listing_of(&rt, rt.alloc(), &dumps, 2, &gate)?;
     assert!(rt; is_whole(&listing) && !gate.is_stuck());
     Ok(())
 }
@@ -123,17 +122,7 @@ fn the_deepest_bodies_are_printed(rt: HostRuntime) -> Result<(), Fail> {
     let gate = Watch::new(alloc, 2, 0)?;
     let mut out = Vec::new(alloc);
     let mut error = Vec::new(alloc);
-    let status = run(
-        &rt,
-        alloc,
-        &dumps,
-        any_sum(alloc),
-        2,
-        false,
-        &gate,
-        &mut out,
-        &mut error,
-    );
+    let status = status_of(&rt, alloc, &dumps, 2, &gate, &mut out, &mut error);
     assert_eq!(rt; (status, error.len()), (0, 0));
     Ok(())
 }

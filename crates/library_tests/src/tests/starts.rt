@@ -2,10 +2,10 @@
 //!
 //! `tests/refusals.sh` runs each of these tests again and again, with each start refused in turn. Where none is
 //! refused the answer has to be whole.
-use super::fixtures::{Square, Want, any_sum, is_refused, is_whole_or_want};
+use super::fixtures::{Square, Want, is_refused, is_whole_or_want, listing_of};
 use super::listings::{has_three_bodies, three_methods};
 use acpi_tables::Dump;
-use acpidis::{Refusal, disassemble};
+use acpidis::Refusal;
 use aml_pool::{Board, FreeGate, PoolFault, crew, harvest};
 use std::alloc::Global;
 use std::sync::Wait;
@@ -41,7 +41,7 @@ fn has_bodies<T: Threads + Wait + Sync>(
     alloc: Global,
     dumps: &[Dump],
 ) -> Result<bool, Want> {
-    match disassemble(threads, alloc, dumps, any_sum(alloc), 4, &FreeGate) {
+    match listing_of(threads, alloc, dumps, 4, &FreeGate) {
         Ok(listing) => Ok(has_three_bodies(&listing)),
         Err(Refusal::NoThread) => Err(Want),
         Err(_) => Ok(false),

@@ -1,7 +1,6 @@
 //! Runs whose writer fails, or takes few bytes a call.
-use super::fixtures::{any_sum, push_table};
+use super::fixtures::{push_table, status_of};
 use acpi_tables::Dump;
-use acpidis::{Options, run};
 use aml_pool::FreeGate;
 use std::alloc::{AllocError, Global};
 use std::io;
@@ -25,20 +24,16 @@ DefinitionBlock (\"a\") {
 }
 ";
 
-fn options(alloc: Global) -> Options {
-    Options {
-        any_sum: false,
-        unknown_zero: false,
-        externals: Vec::new(alloc),
-    }
-}
-
 /// A writer that takes so many bytes, some a call, and then fails.
 #[derive(Drop)]
 struct Slow {
     taken: Vec<u8>,
     room: usize,
     a_call: usize,
+    /// Whether every other call is interrupted, the first among them.
+    interrupts: bool,
+    /// Whether the last call was.
+    interrupted: bool,
 }
 
 impl Slow {
@@ -47,6 +42,8 @@ impl Slow {
             taken: Vec::new(alloc),
             room,
             a_call,
+            interrupts: false,
+            interrupted: false,
         }
     }
 }
@@ -55,6 +52,10 @@ impl io::Write for Slow {
     fn write(&mut self, bytes: &[u8]) -> io::Result<usize> {
         if self.room == 0 {
             return Err(io::Error::from(AllocError));
+        }
+        self.interrupted = self.interrupts && !self.interrupted;
+        if self.interrupted {
+            return Err(io::Error::from(io::ErrorKind::Interrupted));
         }
         let count = self.room.min(self.a_call).min(bytes.len());
         self.room = self.room.saturating_sub(count);
@@ -83,17 +84,7 @@ fn run_to<T: Threads + Wait + Sync>(
 ) -> Result<(u8, Vec<u8>), AllocError> {
     let dumps = set(alloc, &METHOD)?;
     let mut error = Vec::new(alloc);
-    let status = run(
-        threads,
-        alloc,
-        &dumps,
-        options(alloc),
-        1,
-        false,
-        &FreeGate,
-        out,
-        &mut error,
-    );
+    let status = status_of(threads, alloc, &dumps, 1, &FreeGate, out, &mut error);
     Ok((status, error))
 }
 
@@ -115,8 +106,11 @@ fn a_writer_that_fails_has_the_first_bytes(rt: HostRuntime) -> Result<(), Fail> 
 }
 
 #[test]
-fn a_writer_that_takes_one_byte_a_call_has_all(rt: HostRuntime) -> Result<(), Fail> {
+fn a_writer_that_takes_one_byte_a_call_and_is_interrupted_has_all(
+    rt: HostRuntime,
+) -> Result<(), Fail> {
     let mut out = Slow::new(rt.alloc(), usize::MAX, 1);
+    out.interrupts = true;
     let (status, error) = run_to(&rt, rt.alloc(), &mut out)?;
     assert_eq!(rt; status, 0);
     assert_eq!(rt; error.len(), 0);
@@ -158,17 +152,7 @@ fn status_beside<T: Threads + Wait + Sync>(
     error: &mut Slow,
 ) -> u8 {
     let mut out = Slow::new(alloc, room, usize::MAX);
-    run(
-        threads,
-        alloc,
-        dumps,
-        any_sum(alloc),
-        1,
-        false,
-        &FreeGate,
-        &mut out,
-        error,
-    )
+    status_of(threads, alloc, dumps, 1, &FreeGate, &mut out, error)
 }
 
 /// Whether a run has this status wherever standard error ends, and that takes the first bytes of this line.
