@@ -1,5 +1,6 @@
 -- The body of a method, read by what the names of its body are read by.
-use Rattle.std.proofs.Common.{◌≡◌, ◌≢◌, ℕ, zero, suc, ◌≤◌, Bool, List, [], ◌∷◌, length, drop, Option, Some, None, Result, Ok, Err, refl, subst, ◌⊎◌, inl, inr, arith, slice_get}
+use Rattle.std.proofs.Common.{◌≡◌, ◌≢◌, ℕ, zero, suc, ◌≤◌, Bool, List, [], ◌∷◌, length, drop, Option, Some, None, Result, Ok, Err, refl, subst, ◌⊎◌, inl, inr}
+use Rattle.std.proofs.Common.{arith, slice_get}
 use Rattle.std.specs.Prelude.{IfOk, IfErr}
 use Rattle.std.proofs.lemmas.List.{length-take, length-drop}
 use Rattle.aml_names.specs.declared.segments.Seg.{Seg}
@@ -66,8 +67,10 @@ Says view path bytes r counts =
     IfOk r (λ x. ReadsBody counts path bytes (view x)) × IfOk r (λ x. (ts : Trees) → ReadsBody counts path bytes ts → ts ≡ view x)
     × IfErr r (λ f. (f ≡ codes.NoMemory) ⊎ ((ts : Trees) → ReadsBody counts path bytes ts → ⊥)) × IfErr r (StandsAt counts bytes)
 
-unread : {X : Type 0} (view : X → Trees) (es : List Entry) (cs : List (List ℕ)) (m : Method) (z : Bool) (f : CodeFault) → (f ≡ codes.NoMemory) ⊎ ((ts : Trees) → IsBody z es cs m ts → ⊥)
-    → StandsAt (arity_of (namespace_of es) z m.path) (span_of cs m) f → (f ≡ codes.NoMemory) ⊎ (f ≢ codes.NoMemory) → (f ≡ codes.NoMemory) ⊎ IsUnread z es cs m f
+unread : {X : Type 0} (view : X → Trees) (es : List Entry) (cs : List (List ℕ)) (m : Method) (z : Bool) (f : CodeFault) → (f ≡ codes.NoMemory)
+    ⊎ ((ts : Trees) → IsBody z es cs m ts → ⊥)
+    → StandsAt (arity_of (namespace_of es) z m.path) (span_of cs m) f → (f ≡ codes.NoMemory) ⊎ (f ≢ codes.NoMemory) → (f ≡ codes.NoMemory)
+    ⊎ IsUnread z es cs m f
 unread view es cs m z f complete there (inl w) = inl w
 unread view es cs m z f (inl w) there (inr n) = inl w
 unread view es cs m z f (inr none) there (inr n) = inr (record { reason = n; stands = there; none = none })
@@ -88,15 +91,18 @@ said_of_method P names k es cs m z bytes named s is says =
     subst (λ (b : List ℕ). P (arity_of (namespace_of es) z m.path) b) is there
 
 -- what `parse_body` answers over the names of a method's body is a reading of this body
-pub reading_is : {X : Type 0} (view : X → Trees) (names : BodyView) (k : Known) (es : List Entry) (cs : List (List ℕ)) (m : Method) (z : Bool) (bytes : List ℕ) (r : Result X CodeFault)
+pub reading_is : {X : Type 0} (view : X → Trees) (names : BodyView) (k : Known) (es : List Entry) (cs : List (List ℕ)) (m : Method) (z : Bool) (bytes : List ℕ)
+    (r : Result X CodeFault)
     → names ≡ record { known = k; method = m.path; unknown_zero = z } → StandsFor k es → bytes ≡ span_of cs m
     → Says view m.path bytes r (arity_of (namespace_in names.known) names.unknown_zero names.method) → IsReading view z es cs m r
 reading_is view names k es cs m z bytes r named s is says =
     reading_of view es cs m z r (said_of_method (λ counts b. Says view m.path b r counts) names k es cs m z bytes named s is says)
 
 -- what reading forward gives of its bytes is what it gives of the method's body
-pub forward_is : {X : Type 0} (view : X → Trees) (names : BodyView) (k : Known) (es : List Entry) (cs : List (List ℕ)) (m : Method) (z : Bool) (bytes : List ℕ) (r : Result X CodeFault)
+pub forward_is : {X : Type 0} (view : X → Trees) (names : BodyView) (k : Known) (es : List Entry) (cs : List (List ℕ)) (m : Method) (z : Bool) (bytes : List ℕ)
+    (r : Result X CodeFault)
     → names ≡ record { known = k; method = m.path; unknown_zero = z } → StandsFor k es → bytes ≡ span_of cs m
-    → Gives view r (all_at (arity_of (namespace_in names.known) names.unknown_zero names.method) (Some m.path) positions.BodyTerm bytes) → GivesBody view z es cs m r
+    → Gives view r (all_at (arity_of (namespace_in names.known) names.unknown_zero names.method) (Some m.path) positions.BodyTerm bytes)
+    → GivesBody view z es cs m r
 forward_is view names k es cs m z bytes r named s is says =
     said_of_method (λ counts b. Gives view r (all_at counts (Some m.path) positions.BodyTerm b)) names k es cs m z bytes named s is says

@@ -10,8 +10,10 @@ no_methods [] = refl
 no_methods (g ∷ gs) = no_methods gs
 
 -- the entries of one more
-pub one_more : (gs : Givens) (i : ℕ) (g : List Seg × ℕ) → i < length gs → g ≡ get_or gs i g → given_entries (take (i + 1) gs) ≡ given_entries (take i gs) ++ given g.0 g.1 ∷ []
+pub one_more : (gs : Givens) (i : ℕ) (g : List Seg × ℕ) → i < length gs → g ≡ get_or gs i g
+    → given_entries (take (i + 1) gs) ≡ given_entries (take i gs) ++ given g.0 g.1 ∷ []
 one_more [] i g within is = absurd (omega (arith, within))
 one_more (x ∷ gs) zero g within is = ap (λ (y : List Seg × ℕ). given y.0 y.1 ∷ []) (sym is)
 one_more (x ∷ gs) (suc i) g within is =
-    ap (λ n. given_entries (take n (x ∷ gs))) {x = suc i + 1} {y = suc (i + 1)} (omega arith) ∙ ap (λ es. given x.0 x.1 ∷ es) (one_more gs i g (omega (arith, within)) is)
+    ap (λ n. given_entries (take n (x ∷ gs))) {x = suc i + 1} {y = suc (i + 1)} (omega arith)
+    ∙ ap (λ es. given x.0 x.1 ∷ es) (one_more gs i g (omega (arith, within)) is)

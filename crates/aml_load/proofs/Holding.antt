@@ -1,5 +1,6 @@
 -- What the progress holds after one entry more.
-use Rattle.std.proofs.Common.{◌≡◌, ℕ, ◌-◌, nat_le, true, cond, List, [], ◌∷◌, ◌++◌, length, Vec, Option, Some, None, is_some, IsTrue, Result, Ok, Err, refl, sym, ap, subst, ◌∙◌, ◌⊎◌, inl, inr, arith}
+use Rattle.std.proofs.Common.{◌≡◌, ℕ, ◌-◌, nat_le, true, cond, List, [], ◌∷◌, ◌++◌, length, Vec, Option, Some, None, is_some, IsTrue, Result, Ok, Err, refl}
+use Rattle.std.proofs.Common.{sym, ap, subst, ◌∙◌, ◌⊎◌, inl, inr, arith}
 use Rattle.std.proofs.lemmas.Bool.Decides.{nat_tests}
 use Rattle.std.proofs.lemmas.List.{append-nil, take_all}
 use Rattle.aml_names.specs.Names.{placed}
@@ -34,7 +35,8 @@ use Rattle.aml_load.specs.Progresses.{Holds}
 use Rattle.aml_load.proofs.Steps.{methods_more}
 
 -- an entry without a body
-pub external_held : (old new : Progress) (l : Listed) (p : List Seg) (n : ℕ) → Holds old l → StandsFor new.space (l.entries ++ external p n ∷ []) → new.methods.items ≡ old.methods.items → new.uses.items ≡ old.uses.items
+pub external_held : (old new : Progress) (l : Listed) (p : List Seg) (n : ℕ) → Holds old l → StandsFor new.space (l.entries ++ external p n ∷ [])
+    → new.methods.items ≡ old.methods.items → new.uses.items ≡ old.uses.items
     → Holds new (plus l (external p n))
 external_held old new l p n h s ms us = record {
   space = s;
@@ -42,7 +44,8 @@ external_held old new l p n h s ms us = record {
   uses = us ∙ h.uses;
 }
 
-pub declared_held : (old new : Progress) (l : Listed) (p : List Seg) (k : Kind) → Holds old l → StandsFor new.space (l.entries ++ declares p k None ∷ []) → new.methods.items ≡ old.methods.items → new.uses.items ≡ old.uses.items
+pub declared_held : (old new : Progress) (l : Listed) (p : List Seg) (k : Kind) → Holds old l → StandsFor new.space (l.entries ++ declares p k None ∷ [])
+    → new.methods.items ≡ old.methods.items → new.uses.items ≡ old.uses.items
     → Holds new (plus l (declares p k None))
 declared_held old new l p k h s ms us = record {
   space = s;
@@ -50,16 +53,20 @@ declared_held old new l p k h s ms us = record {
   uses = us ∙ h.uses;
 }
 
-pub method_held : (old new : Progress) (l : Listed) (p : List Seg) (k : Kind) (b : Body) (m : Method) → Holds old l → StandsFor new.space (l.entries ++ declares p k (Some b) ∷ []) → new.methods.items ≡ old.methods.items ++ m ∷ []
-    → m ≡ record { path = p; table = b.table; start = b.start; len = b.len; flags = b.flags } → new.uses.items ≡ old.uses.items → Holds new (plus l (declares p k (Some b)))
+pub method_held : (old new : Progress) (l : Listed) (p : List Seg) (k : Kind) (b : Body) (m : Method) → Holds old l
+    → StandsFor new.space (l.entries ++ declares p k (Some b) ∷ []) → new.methods.items ≡ old.methods.items ++ m ∷ []
+    → m ≡ record { path = p; table = b.table; start = b.start; len = b.len; flags = b.flags } → new.uses.items ≡ old.uses.items
+    → Holds new (plus l (declares p k (Some b)))
 method_held old new l p k b m h s ms is us = record {
   space = s;
-  methods = ms ∙ ap (λ xs. xs ++ m ∷ []) h.methods ∙ ap (λ (x : Method). methods_of l.entries ++ x ∷ []) is ∙ sym (methods_more l.entries (declares p k (Some b)));
+  methods = ms ∙ ap (λ xs. xs ++ m ∷ []) h.methods ∙ ap (λ (x : Method). methods_of l.entries ++ x ∷ []) is
+      ∙ sym (methods_more l.entries (declares p k (Some b)));
   uses = us ∙ h.uses;
 }
 
 -- the names of a term more
-pub uses_held : (old new : Progress) (l : Listed) (t : ℕ) (scope : List Seg) (o : ℕ) (ps : Parts) (r : Tail) → Holds old l → new.space ≡ old.space → new.methods.items ≡ old.methods.items
+pub uses_held : (old new : Progress) (l : Listed) (t : ℕ) (scope : List Seg) (o : ℕ) (ps : Parts) (r : Tail) → Holds old l → new.space ≡ old.space
+    → new.methods.items ≡ old.methods.items
     → new.uses.items ≡ old.uses.items ++ (parts_uses t scope (kinds_in (row_of o)) ps ++ tail_uses t scope r) → Holds new (with_uses t l scope o ps r)
 uses_held old new l t scope o ps r h s ms us = record {
   space = subst (λ k. StandsFor k l.entries) (sym s) h.space;
@@ -68,13 +75,16 @@ uses_held old new l t scope o ps r h s ms us = record {
 }
 
 -- what the walk of an opcode is
-pub walk_op : (t : ℕ) (l : Listed) (scope : List Seg) (node : Node) (o : ℕ) (w : Option PkgWidth) (ps : Vec Part Global) (r : CodeTail) (role : Role) → node ≡ Op o w ps r → role ≡ role_of o
-    → walk t l scope (node_view node) ≡ do_as role t (with_uses t l scope o (parts_view ps.items) (tail_view r)) scope (parts_view ps.items) (tail_view r) (λ l p. walk_inside t l p (tail_view r))
+pub walk_op : (t : ℕ) (l : Listed) (scope : List Seg) (node : Node) (o : ℕ) (w : Option PkgWidth) (ps : Vec Part Global) (r : CodeTail) (role : Role)
+    → node ≡ Op o w ps r → role ≡ role_of o
+    → walk t l scope (node_view node) ≡ do_as role t (with_uses t l scope o (parts_view ps.items) (tail_view r)) scope (parts_view ps.items) (tail_view r)
+    (λ l p. walk_inside t l p (tail_view r))
 unfolding walk
 walk_op t l scope node o w ps r role e is =
     ap (λ n. walk t l scope (node_view n)) e
     ∙ ap (walk t l scope) (view-Op o w ps r)
-    ∙ ap (λ k. do_as k t (with_uses t l scope o (parts_view ps.items) (tail_view r)) scope (parts_view ps.items) (tail_view r) (λ l p. walk_inside t l p (tail_view r))) (sym is)
+    ∙ ap (λ k. do_as k t (with_uses t l scope o (parts_view ps.items) (tail_view r)) scope (parts_view ps.items) (tail_view r)
+    (λ l p. walk_inside t l p (tail_view r))) (sym is)
 
 fresh_by : (o : Option Kind) (u : Unit {0}) (e : SpaceFault) → (IsTrue (is_some o) → Ok u ≡ Err e) → o ≡ None
 fresh_by None u e h = refl
@@ -84,7 +94,8 @@ fresh_by (Some k) u e h = absurd (differ (h refl))
     differ d = cc
 
 -- a path that the space took wasn't declared
-pub fresh : (k : Known) (es : List Entry) (p : List Seg) (u : Unit {0}) → StandsFor k es → (IsTrue (is_declared k p) → Ok u ≡ Err (faults.Duplicate p)) → declared_at es p ≡ None
+pub fresh : (k : Known) (es : List Entry) (p : List Seg) (u : Unit {0}) → StandsFor k es → (IsTrue (is_declared k p) → Ok u ≡ Err (faults.Duplicate p))
+    → declared_at es p ≡ None
 fresh k es p u s h = sym (s.same_kinds p) ∙ fresh_by (map.get k.kinds p) u (faults.Duplicate p) h
 
 ended : (r : Result Listed LoadFault) → (r >>= λ k. listed k) ≡ r
@@ -98,19 +109,22 @@ field_placed scope s =
     let all : length scope - 0 ≡ length scope = omega arith in
     rw (le, all) (ap (λ front. Some (front ++ s ∷ [])) (take_all (length scope) scope (omega arith)))
 
-pub unit_is : (t : ℕ) (l : Listed) (scope p : List Seg) (s : Seg) → p ≡ scope ++ s ∷ [] → entry_at t l p (declares p kinds.Field None) ≡ fields_at t l scope (plain_name s ∷ [])
+pub unit_is : (t : ℕ) (l : Listed) (scope p : List Seg) (s : Seg) → p ≡ scope ++ s ∷ []
+    → entry_at t l p (declares p kinds.Field None) ≡ fields_at t l scope (plain_name s ∷ [])
 unfolding fields_at name_at place_at
 unit_is t l scope p s e =
     ap (λ q. entry_at t l q (declares q kinds.Field None)) e
     ∙ sym (ap (λ r. r >>= λ q. entry_at t l q (declares q kinds.Field None)) (ap (or_fault (loads.Space t faults.AboveRoot)) (field_placed scope s)))
     ∙ sym (ended (name_at t l scope (Some (plain_name s)) kinds.Field))
 
-twice : (o : Option Kind) (p : List Seg) (t : ℕ) (l : Listed) → IsTrue (is_some o) → cond (is_some o) (Err (loads.Space t (faults.Duplicate p))) (listed l) ≡ Err (loads.Space t (faults.Duplicate p))
+twice : (o : Option Kind) (p : List Seg) (t : ℕ) (l : Listed) → IsTrue (is_some o)
+    → cond (is_some o) (Err (loads.Space t (faults.Duplicate p))) (listed l) ≡ Err (loads.Space t (faults.Duplicate p))
 twice None p t l d = absurd cc
 twice (Some k) p t l d = refl
 
 -- what the space refused, loading forward refuses
-pub entry_refused : (t : ℕ) (l : Listed) (k : Known) (p : List Seg) (x : Entry) (f : SpaceFault) (e : LoadFault) → StandsFor k l.entries → (f ≡ faults.NoMemory) ⊎ ((f ≡ faults.Duplicate p) × IsTrue (is_declared k p))
+pub entry_refused : (t : ℕ) (l : Listed) (k : Known) (p : List Seg) (x : Entry) (f : SpaceFault) (e : LoadFault) → StandsFor k l.entries → (f ≡ faults.NoMemory)
+    ⊎ ((f ≡ faults.Duplicate p) × IsTrue (is_declared k p))
     → e ≡ space_fault t f → Fails e (entry_at t l p x)
 unfolding entry_at
 entry_refused t l k p x f e s (inl g) is = inl (is ∙ ap (space_fault t) g)

@@ -10,7 +10,9 @@ use Rattle.aml_code.specs.declared.rows.Position.TheVariants as positions
 use Rattle.aml_code.specs.declared.rows.TailKind.{TailKind}
 use Rattle.aml_code.specs.declared.rows.TailKind.TheVariants as tails
 use Rattle.aml_code.specs.Rows.{takes}
-use Rattle.aml_code.specs.Tree.{Tree, nothing, named, op, Trees, no_trees, tree_more, Part, child, label, byte, word, dword, qword, text, Parts, no_parts, part_more, Tail, empty, terms, bytes, elements, fields, body, Field, unit, reserved, access, connection, extended, Fields, no_fields, field_more, Link, target, buffer}
+use Rattle.aml_code.specs.Tree.{Tree, nothing, named, op, Trees, no_trees, tree_more, Part, child, label, byte, word, dword, qword, text, Parts, no_parts}
+use Rattle.aml_code.specs.Tree.{part_more, Tail, empty, terms, bytes, elements, fields, body, Field, unit, reserved, access, connection, extended, Fields}
+use Rattle.aml_code.specs.Tree.{no_fields, field_more, Link, target, buffer}
 use Rattle.aml_code.specs.Declaring.{after, after_part, after_parts, after_field}
 use Rattle.aml_code.specs.Lawful.{Setting, IsLawful, AreArguments, AreTerms, IsPart, AreParts, IsTail, AreFields, IsField, IsLink, terms_in, next_position}
 use Rattle.aml_code.proofs.RowFacts.{body_place}
@@ -20,7 +22,8 @@ use Rattle.aml_load.specs.Spans.{tree_spans, all_spans, part_spans, parts_spans,
 
 -- ---- a tail is of its kind
 
-pub terms_tail : (s : Setting) (levels : ℕ) (p : Position) (k : TailKind) (ls : PathSet) (xs : Trees) → IsTail s levels p k ls (terms xs) → (k ≡ tails.Terms) × AreTerms s levels p ls xs
+pub terms_tail : (s : Setting) (levels : ℕ) (p : Position) (k : TailKind) (ls : PathSet) (xs : Trees) → IsTail s levels p k ls (terms xs) → (k ≡ tails.Terms)
+    × AreTerms s levels p ls xs
 terms_tail s levels p tails.Empty ls xs h = absurd h
 terms_tail s levels p tails.Terms ls xs h = (refl, h)
 terms_tail s levels p tails.Bytes ls xs h = absurd h
@@ -28,7 +31,8 @@ terms_tail s levels p tails.Elements ls xs h = absurd h
 terms_tail s levels p tails.Fields ls xs h = absurd h
 terms_tail s levels p tails.Body ls xs h = absurd h
 
-elements_tail : (s : Setting) (levels : ℕ) (p : Position) (k : TailKind) (ls : PathSet) (xs : Trees) → IsTail s levels p k ls (elements xs) → AreTerms s levels positions.Data ls xs
+elements_tail : (s : Setting) (levels : ℕ) (p : Position) (k : TailKind) (ls : PathSet) (xs : Trees) → IsTail s levels p k ls (elements xs)
+    → AreTerms s levels positions.Data ls xs
 elements_tail s levels p tails.Empty ls xs h = absurd h
 elements_tail s levels p tails.Terms ls xs h = absurd h
 elements_tail s levels p tails.Bytes ls xs h = absurd h
@@ -36,7 +40,8 @@ elements_tail s levels p tails.Elements ls xs h = h
 elements_tail s levels p tails.Fields ls xs h = absurd h
 elements_tail s levels p tails.Body ls xs h = absurd h
 
-fields_tail : (s : Setting) (levels : ℕ) (p : Position) (k : TailKind) (ls : PathSet) (us : Fields) → IsTail s levels p k ls (fields us) → AreFields s levels ls us
+fields_tail : (s : Setting) (levels : ℕ) (p : Position) (k : TailKind) (ls : PathSet) (us : Fields) → IsTail s levels p k ls (fields us)
+    → AreFields s levels ls us
 fields_tail s levels p tails.Empty ls us h = absurd h
 fields_tail s levels p tails.Terms ls us h = absurd h
 fields_tail s levels p tails.Bytes ls us h = absurd h
@@ -44,7 +49,8 @@ fields_tail s levels p tails.Elements ls us h = absurd h
 fields_tail s levels p tails.Fields ls us h = h
 fields_tail s levels p tails.Body ls us h = absurd h
 
-pub body_tail : (s : Setting) (levels : ℕ) (p : Position) (k : TailKind) (ls : PathSet) (start len : ℕ) → IsTail s levels p k ls (body start len) → k ≡ tails.Body
+pub body_tail : (s : Setting) (levels : ℕ) (p : Position) (k : TailKind) (ls : PathSet) (start len : ℕ) → IsTail s levels p k ls (body start len)
+    → k ≡ tails.Body
 body_tail s levels p tails.Empty ls start len h = absurd h
 body_tail s levels p tails.Terms ls start len h = absurd h
 body_tail s levels p tails.Bytes ls start len h = absurd h
@@ -71,24 +77,29 @@ both_none : {X : Type 0} (xs ys : List X) → xs ≡ [] → ys ≡ [] → xs ++ 
 both_none xs ys h g = ap (λ zs. zs ++ ys) h ∙ g
 
 mutual
-  pub tree_none : (s : Setting) (levels : ℕ) (p : Position) (ls : PathSet) (t : ℕ) (x : Tree) → takes_names p ≡ true → IsLawful s levels p ls x → tree_spans t x ≡ []
+  pub tree_none : (s : Setting) (levels : ℕ) (p : Position) (ls : PathSet) (t : ℕ) (x : Tree) → takes_names p ≡ true → IsLawful s levels p ls x
+      → tree_spans t x ≡ []
   tree_none s levels p ls t nothing h l = refl
   tree_none s zero p ls t (named n xs) h l = absurd l
   tree_none s (suc levels) p ls t (named n xs) h l = arguments_none s levels ls t xs l.3
   tree_none s zero p ls t (op o w ps r) h l = absurd l
   tree_none s (suc levels) p ls t (op o w ps r) h l =
       both_none (parts_spans t ps) (tail_spans t r) (parts_none s levels (l.row).parts ls t ps l.parts)
-      (tail_none s levels (terms_in p (l.row).place) (l.row).tail (after_parts s.scope ls ps) t r (λ e. inner_takes p (l.row).place h) (λ e. no_method p (l.row).place h l.taken (body_place o l.row l.listed e)) l.tail)
+      (tail_none s levels (terms_in p (l.row).place) (l.row).tail (after_parts s.scope ls ps) t r (λ e. inner_takes p (l.row).place h)
+      (λ e. no_method p (l.row).place h l.taken (body_place o l.row l.listed e)) l.tail)
 
   pub arguments_none : (s : Setting) (levels : ℕ) (ls : PathSet) (t : ℕ) (xs : Trees) → AreArguments s levels ls xs → all_spans t xs ≡ []
   arguments_none s levels ls t no_trees l = refl
   arguments_none s levels ls t (tree_more x xs) l =
-      both_none (tree_spans t x) (all_spans t xs) (tree_none s levels positions.Argument ls t x refl l.0) (arguments_none s levels (after s.scope ls x) t xs l.1)
+      both_none (tree_spans t x) (all_spans t xs) (tree_none s levels positions.Argument ls t x refl l.0)
+      (arguments_none s levels (after s.scope ls x) t xs l.1)
 
-  pub all_none : (s : Setting) (levels : ℕ) (p : Position) (ls : PathSet) (t : ℕ) (xs : Trees) → takes_names p ≡ true → AreTerms s levels p ls xs → all_spans t xs ≡ []
+  pub all_none : (s : Setting) (levels : ℕ) (p : Position) (ls : PathSet) (t : ℕ) (xs : Trees) → takes_names p ≡ true → AreTerms s levels p ls xs
+      → all_spans t xs ≡ []
   all_none s levels p ls t no_trees h l = refl
   all_none s levels p ls t (tree_more x xs) h l =
-      both_none (tree_spans t x) (all_spans t xs) (tree_none s levels p ls t x h l.0) (all_none s levels (next_position p x) (after s.scope ls x) t xs (next_takes p x h) l.1)
+      both_none (tree_spans t x) (all_spans t xs) (tree_none s levels p ls t x h l.0)
+      (all_none s levels (next_position p x) (after s.scope ls x) t xs (next_takes p x h) l.1)
 
   part_none : (s : Setting) (levels : ℕ) (k : PartKind) (ls : PathSet) (t : ℕ) (p : Part) → IsPart s levels k ls p → part_spans t p ≡ []
   part_none s levels kinds.Term ls t (child x) l = tree_none s levels positions.Argument ls t x refl l
@@ -141,8 +152,10 @@ mutual
   link_none s levels ls t (target n) l = refl
   link_none s levels ls t (buffer x) l = tree_none s levels positions.Data ls t x refl l.1
 
-pub elements_none : (s : Setting) (levels : ℕ) (p : Position) (k : TailKind) (ls : PathSet) (t : ℕ) (xs : Trees) → IsTail s levels p k ls (elements xs) → all_spans t xs ≡ []
+pub elements_none : (s : Setting) (levels : ℕ) (p : Position) (k : TailKind) (ls : PathSet) (t : ℕ) (xs : Trees) → IsTail s levels p k ls (elements xs)
+    → all_spans t xs ≡ []
 elements_none s levels p k ls t xs l = all_none s levels positions.Data ls t xs refl (elements_tail s levels p k ls xs l)
 
-pub fields_tail_none : (s : Setting) (levels : ℕ) (p : Position) (k : TailKind) (ls : PathSet) (t : ℕ) (us : Fields) → IsTail s levels p k ls (fields us) → fields_spans t us ≡ []
+pub fields_tail_none : (s : Setting) (levels : ℕ) (p : Position) (k : TailKind) (ls : PathSet) (t : ℕ) (us : Fields) → IsTail s levels p k ls (fields us)
+    → fields_spans t us ≡ []
 fields_tail_none s levels p k ls t us l = fields_none s levels ls t us (fields_tail s levels p k ls us l)

@@ -4,7 +4,8 @@
 use Rattle.std.specs.Prelude.{IfOk, IfErr}
 use denote.Ref.{Bor}
 use Rattle.std.specs.Option.{unwrap_or}
-use Rattle.std.proofs.Common.{◌≡◌, ℕ, zero, suc, slice_index_or, ◌≤◌, List, [], ◌∷◌, ◌++◌, length, None, Result, Ok, Err, refl, sym, ap, subst, ◌∙◌, append_assoc, arith, nat_lt, ◌⊎◌, inl, inr}
+use Rattle.std.proofs.Common.{◌≡◌, ℕ, zero, suc, slice_index_or, ◌≤◌, List, [], ◌∷◌, ◌++◌, length, None, Result, Ok, Err, refl, sym, ap, subst, ◌∙◌}
+use Rattle.std.proofs.Common.{append_assoc, arith, nat_lt, ◌⊎◌, inl, inr}
 use Rattle.std.proofs.lemmas.List.{append-nil}
 use Rattle.std.proofs.lemmas.Bool.Decides.{nat_tests}
 use Rattle.aml_names.specs.declared.faults.CodeFault.{CodeFault}
@@ -116,12 +117,14 @@ uses_tell n es (u ∷ us) =
 -- ---- the whole load
 
 load_tells : (gs : Givens) (cs : List (List ℕ)) → AreCodes cs
-    → Tells (λ x. count x.1) (count (first_listed gs)) (load_at gs cs) (λ x. Declared 0 (first_listed gs) [] cs x × Uncalled x.1.entries x.1.uses) (λ e. StopsLoad gs cs e)
+    → Tells (λ x. count x.1) (count (first_listed gs)) (load_at gs cs) (λ x. Declared 0 (first_listed gs) [] cs x × Uncalled x.1.entries x.1.uses)
+    (λ e. StopsLoad gs cs e)
 unfolding load_at Declared
 load_tells gs cs fits =
     let l = first_listed gs in
     let size : List Trees × Listed → ℕ = λ x. count x.1 in
-    told_as (both (tables_tell 0 l [] cs fits) (λ y h. both (uses_tell (count y.1) y.1.entries y.1.uses) (λ u free. only size (count y.1) y (omega arith) (λ few. few))))
+    told_as (both (tables_tell 0 l [] cs fits) (λ y h. both (uses_tell (count y.1) y.1.entries y.1.uses)
+    (λ u free. only size (count y.1) y (omega arith) (λ few. few))))
     (λ x h. subst (λ (y : List Trees × Listed). Declared 0 l [] cs y × Uncalled y.1.entries y.1.uses) (sym h.2.2) (h.1, h.2.1))
     (λ x h few. (x, h.0, (tt, h.1, refl)))
     (λ e h. elim h [
@@ -167,7 +170,8 @@ given_sound gs (Err e) cs fits g = tt
 abbrev pub Only : Givens → List (List ℕ) → Loaded → Type 0
 Only gs cs x = (trees : List Trees) (m : Listed) → IsLoad gs cs trees m → HoldsLoad x cs trees m
 
-same : (x : Loaded) (cs : List (List ℕ)) (a b : List Trees × Listed) (r : Result (List Trees × Listed) LoadFault) → r ≡ Ok a → r ≡ Ok b → HoldsLoad x cs a.0 a.1 → HoldsLoad x cs b.0 b.1
+same : (x : Loaded) (cs : List (List ℕ)) (a b : List Trees × Listed) (r : Result (List Trees × Listed) LoadFault) → r ≡ Ok a → r ≡ Ok b → HoldsLoad x cs a.0 a.1
+    → HoldsLoad x cs b.0 b.1
 same x cs a b r p q h = subst (λ (y : List Trees × Listed). HoldsLoad x cs y.0 y.1) (ok_is a b (sym p ∙ q)) h
 
 pub given_one : (gs : Givens) (r : Result Loaded LoadFault) (cs : List (List ℕ)) → AreCodes cs → GivesLoad gs r cs → IfOk r (Only gs cs)
@@ -183,20 +187,23 @@ given_complete gs (Ok x) cs fits g = tt
 given_complete gs (Err e) cs fits (inl g) = inl g
 given_complete gs (Err e) cs fits (inr g) = inr (λ trees m h. not_both (trees, m) e (load_at gs cs) (load_again gs cs trees m fits h) g)
 
-pub given_true : (gs : Givens) (r : Result Loaded LoadFault) (cs : List (List ℕ)) → AreCodes cs → GivesLoad gs r cs → IfErr r (λ e. (e ≡ loads.NoMemory) ⊎ StopsLoad gs cs e)
+pub given_true : (gs : Givens) (r : Result Loaded LoadFault) (cs : List (List ℕ)) → AreCodes cs → GivesLoad gs r cs
+    → IfErr r (λ e. (e ≡ loads.NoMemory) ⊎ StopsLoad gs cs e)
 given_true gs (Ok x) cs fits g = tt
 given_true gs (Err e) cs fits (inl g) = inl g
 given_true gs (Err e) cs fits (inr g) = inr (load_err gs cs e fits g)
 
 -- ---- the steps of a load put together
 
-pub load_gives : (gs : Givens) (cs : List (List ℕ)) (ts : List Trees) (m : Listed) (us : List Use) (u : Unit {0}) → tables_at 0 [] (first_listed gs) cs ≡ Ok (ts, m) → us ≡ m.uses → uses_at m.entries us ≡ Ok u → load_at gs cs ≡ Ok (ts, m)
+pub load_gives : (gs : Givens) (cs : List (List ℕ)) (ts : List Trees) (m : Listed) (us : List Use) (u : Unit {0})
+    → tables_at 0 [] (first_listed gs) cs ≡ Ok (ts, m) → us ≡ m.uses → uses_at m.entries us ≡ Ok u → load_at gs cs ≡ Ok (ts, m)
 unfolding load_at
 load_gives gs cs ts m us u read is free =
     ap (λ r. r >>= λ y. uses_at y.1.entries y.1.uses >>= λ u. Ok y) read ∙ ap (λ r. r >>= λ u. Ok (ts, m)) (ap (uses_at m.entries) (sym is) ∙ free)
 
 -- a table by its number is short where all are
-pub short_code : (bs : List (Bor (List ℕ))) (i : ℕ) (other : Bor (List ℕ)) → AreShort (codes_view bs) → length other.now ≤ 16777216 → length (slice_index_or bs i other).now ≤ 16777216
+pub short_code : (bs : List (Bor (List ℕ))) (i : ℕ) (other : Bor (List ℕ)) → AreShort (codes_view bs) → length other.now ≤ 16777216
+    → length (slice_index_or bs i other).now ≤ 16777216
 short_code [] i other h o = o
 short_code (b ∷ bs) zero other h o = h.0
 short_code (b ∷ bs) (suc i) other h o = short_code bs i other h.1 o

@@ -1,6 +1,7 @@
 -- The methods of the entries stand in the order of the text, each once: where a method can't stand, there is no body, and
 -- loading goes into all terms in which one can stand.
-use Rattle.std.proofs.Common.{◌≡◌, ℕ, zero, suc, Bool, true, false, cond, not, ◌&&◌, ◌==◌, List, [], ◌∷◌, ◌++◌, length, map, Some, None, refl, sym, ap, subst, ◌∙◌, append_assoc, slice_get}
+use Rattle.std.proofs.Common.{◌≡◌, ℕ, zero, suc, Bool, true, false, cond, not, ◌&&◌, ◌==◌, List, [], ◌∷◌, ◌++◌, length, map, Some, None, refl, sym, ap, subst}
+use Rattle.std.proofs.Common.{◌∙◌, append_assoc, slice_get}
 use Rattle.std.specs.FinSet as set
 use Rattle.std.specs.List.{list_all, position_or_len}
 use Rattle.std.specs.Option.{option_map}
@@ -31,7 +32,8 @@ use Rattle.aml_space.specs.declared.kinds.Kind.TheVariants as kinds
 use Rattle.aml_space.specs.Entries.{Givens, declares, external}
 use Rattle.aml_load.specs.Roles.{role_of, role_in, kind_of}
 use Rattle.aml_load.proofs.Givens.{no_methods}
-use Rattle.aml_load.specs.Loading.{Listed, plus, with_uses, byte_of, body_start, body_len, target_of, method_entry, DeclareUnits, DoesAs, Declares, DeclareInside, DeclareAll, DeclareTables, methods_of, ReadTables, IsLoad, first_listed}
+use Rattle.aml_load.specs.Loading.{Listed, plus, with_uses, byte_of, body_start, body_len, target_of, method_entry, DeclareUnits, DoesAs, Declares}
+use Rattle.aml_load.specs.Loading.{DeclareInside, DeclareAll, DeclareTables, methods_of, ReadTables, IsLoad, first_listed}
 use Rattle.aml_load.specs.Spans.{Span, method_span, tree_spans, all_spans, tail_spans, fields_spans, tables_spans, InTextOrder}
 use Rattle.aml_load.proofs.NoSpans.{terms_tail, body_tail, parts_none, arguments_none, tail_none, elements_none, fields_tail_none}
 use Rattle.aml_load.proofs.Steps.{methods_more}
@@ -195,7 +197,8 @@ record TailSpans (k : TailKind) (t : ℕ) (x : Tail) (Inside : Listed → List S
   one : is_body k ≡ true → tail_spans t x ≡ one_span t x
   inside : not (is_body k) ≡ true → Adding Inside (tail_spans t x)
 
-role_adds : (r : Role) (k : TailKind) (t : ℕ) (l : Listed) (scope : List Seg) (ps : Parts) (x : Tail) (Inside : Listed → List Seg → Listed → Type 0) (m : Listed)
+role_adds : (r : Role) (k : TailKind) (t : ℕ) (l : Listed) (scope : List Seg) (ps : Parts) (x : Tail) (Inside : Listed → List Seg → Listed → Type 0)
+    (m : Listed)
     → fits r k ≡ true → TailSpans k t x Inside → DoesAs r t l scope ps x Inside m → Adds l m (tail_spans t x)
 unfolding fits Adding
 role_adds (roles.Declares o) k t l scope ps x Inside m fit has h =
@@ -206,12 +209,14 @@ role_adds roles.Method k t l scope ps x Inside m fit has h =
 role_adds roles.Scope k t l scope ps x Inside m fit has h = has.inside fit l h.0 m h.2
 role_adds roles.Alias k t l scope ps x Inside m fit has h =
     same_adds l m (tail_spans t x) (ap spans_so_far h.2.2 ∙ declared_same l h.2.0 (kinds.Alias (target_of l.entries h.0))) (has.flat fit)
-role_adds roles.External k t l scope ps x Inside m fit has h = same_adds l m (tail_spans t x) (ap spans_so_far h.2 ∙ external_same l h.0 (byte_of ps)) (has.flat fit)
+role_adds roles.External k t l scope ps x Inside m fit has h = same_adds l m (tail_spans t x) (ap spans_so_far h.2 ∙ external_same l h.0 (byte_of ps))
+    (has.flat fit)
 role_adds roles.Fields k t l scope ps x Inside m fit has h = same_adds l m (tail_spans t x) (fields_same l scope (field_names x) m h) (has.flat fit)
 role_adds roles.Guard k t l scope ps x Inside m fit has h = has.inside fit l scope m h
 role_adds roles.Other k t l scope ps x Inside m fit has h = same_adds l m (tail_spans t x) (ap spans_so_far h) (has.flat fit)
 
-flat_none : (s : Setting) (levels : ℕ) (p : Position) (k : TailKind) (ls : PathSet) (t : ℕ) (x : Tail) → IsTail s levels p k ls x → is_flat k ≡ true → tail_spans t x ≡ []
+flat_none : (s : Setting) (levels : ℕ) (p : Position) (k : TailKind) (ls : PathSet) (t : ℕ) (x : Tail) → IsTail s levels p k ls x → is_flat k ≡ true
+    → tail_spans t x ≡ []
 unfolding is_flat
 flat_none s levels p k ls t x l h =
     tail_none s levels p k ls t x (λ e. absurd (flat_terms k h e)) (not_body k (and_left (not (is_body k)) (not (is_terms k)) h)) l
@@ -242,7 +247,8 @@ mutual
       let here = subst (λ (x : Role). fits x k ≡ true) (sym (role_is o law.row law.listed)) fit.0 in
       let has : TailSpans k t r (λ l p m. DeclareInside t l p r m) = record {
         flat = flat_none s levels q k (after_parts s.scope ls ps) t r law.tail;
-        one = λ e. body_one s levels q (after_parts s.scope ls ps) t r (subst (λ (k : TailKind). IsTail s levels q k (after_parts s.scope ls ps) r) (the_body k e) law.tail);
+        one = λ e. body_one s levels q (after_parts s.scope ls ps) t r (subst (λ (k : TailKind). IsTail s levels q k (after_parts s.scope ls ps) r)
+            (the_body k e) law.tail);
         inside = λ e l scope m d. inside_adds s levels q k (after_parts s.scope ls ps) t l scope r m fit.1 (not_body k e) law.tail d;
       } in
       role_adds (role_of o) k t (with_uses t l scope o ps r) scope ps r (λ l p m. DeclareInside t l p r m) m here has d
@@ -251,10 +257,13 @@ mutual
   inside_adds : (s : Setting) (levels : ℕ) (p : Position) (k : TailKind) (ls : PathSet) (t : ℕ) (l : Listed) (scope : List Seg) (r : Tail) (m : Listed)
       → (k ≡ tails.Terms → takes_names p ≡ false) → (k ≡ tails.Body → ⊥) → IsTail s levels p k ls r → DeclareInside t l scope r m → Adds l m (tail_spans t r)
   inside_adds s levels p k ls t l scope empty m h other law d = same_adds l m [] (ap spans_so_far d) refl
-  inside_adds s levels p k ls t l scope (terms xs) m h other law d = let e = terms_tail s levels p k ls xs law in all_add s levels p ls t l scope xs m (h e.0) e.1 d
+  inside_adds s levels p k ls t l scope (terms xs) m h other law d = let e = terms_tail s levels p k ls xs law in
+      all_add s levels p ls t l scope xs m (h e.0) e.1 d
   inside_adds s levels p k ls t l scope (bytes bs) m h other law d = same_adds l m [] (ap spans_so_far d) refl
-  inside_adds s levels p k ls t l scope (elements xs) m h other law d = same_adds l m (all_spans t xs) (ap spans_so_far d) (elements_none s levels p k ls t xs law)
-  inside_adds s levels p k ls t l scope (fields us) m h other law d = same_adds l m (fields_spans t us) (ap spans_so_far d) (fields_tail_none s levels p k ls t us law)
+  inside_adds s levels p k ls t l scope (elements xs) m h other law d = same_adds l m (all_spans t xs) (ap spans_so_far d)
+      (elements_none s levels p k ls t xs law)
+  inside_adds s levels p k ls t l scope (fields us) m h other law d = same_adds l m (fields_spans t us) (ap spans_so_far d)
+      (fields_tail_none s levels p k ls t us law)
   inside_adds s levels p k ls t l scope (body start len) m h other law d = absurd (other (body_tail s levels p k ls start len law))
 
   pub all_add : (s : Setting) (levels : ℕ) (p : Position) (ls : PathSet) (t : ℕ) (l : Listed) (scope : List Seg) (xs : Trees) (m : Listed)
@@ -266,7 +275,8 @@ mutual
 
 -- ---- the tables, from any list on
 
-pub tables_add : (t : ℕ) (l : Listed) (codes : List (List ℕ)) (trees : List Trees) (m : Listed) → ReadTables codes trees → DeclareTables t l trees m → Adds l m (tables_spans t trees)
+pub tables_add : (t : ℕ) (l : Listed) (codes : List (List ℕ)) (trees : List Trees) (m : Listed) → ReadTables codes trees → DeclareTables t l trees m
+    → Adds l m (tables_spans t trees)
 tables_add t l [] [] m read d = same_adds l m [] (ap spans_so_far d) refl
 tables_add t l (c ∷ codes) [] m read d = absurd read
 tables_add t l [] (xs ∷ trees) m read d = absurd read
@@ -282,10 +292,12 @@ in_text_order gs tables trees m h =
     ∙ ap (λ ms. map method_span ms ++ tables_spans 0 trees) (no_methods gs)
 
 -- there are as many methods as bodies
-pub as_many : (gs : Givens) (tables : List (List ℕ)) (trees : List Trees) (m : Listed) → IsLoad gs tables trees m → length (methods_of m.entries) ≡ length (tables_spans 0 trees)
+pub as_many : (gs : Givens) (tables : List (List ℕ)) (trees : List Trees) (m : Listed) → IsLoad gs tables trees m
+    → length (methods_of m.entries) ≡ length (tables_spans 0 trees)
 as_many gs tables trees m h = sym (length-map (methods_of m.entries) method_span) ∙ ap length (in_text_order gs tables trees m h)
 
 -- the method with a number is that of the body with this number
 pub body_of_number : (gs : Givens) (tables : List (List ℕ)) (trees : List Trees) (m : Listed) (i : ℕ)
     → IsLoad gs tables trees m → slice_get (tables_spans 0 trees) i ≡ option_map method_span (slice_get (methods_of m.entries) i)
-body_of_number gs tables trees m i h = ap (λ spans. slice_get spans i) (sym (in_text_order gs tables trees m h)) ∙ slice_get-map method_span (methods_of m.entries) i
+body_of_number gs tables trees m i h = ap (λ spans. slice_get spans i) (sym (in_text_order gs tables trees m h))
+    ∙ slice_get-map method_span (methods_of m.entries) i

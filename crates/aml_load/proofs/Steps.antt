@@ -2,7 +2,8 @@
 -- in `Loading` allow, and the other way round as long as there aren't too many methods, and its fault is one that `Stops`
 -- allows. A step and another over what it gave tell of both (`both`). So the laws of loading are put together along
 -- the definition of `Walking`: names here, terms in `Walks`, tables in `Outcome`.
-use Rattle.std.proofs.Common.{◌≡◌, ◌≢◌, ℕ, ◌≤◌, ◌+◌, Bool, true, false, cond, not, ◌&&◌, ◌==◌, List, [], ◌∷◌, ◌++◌, length, Option, Some, None, is_some, Result, Ok, Err}
+use Rattle.std.proofs.Common.{◌≡◌, ◌≢◌, ℕ, ◌≤◌, ◌+◌, Bool, true, false, cond, not, ◌&&◌, ◌==◌, List, [], ◌∷◌, ◌++◌, length, Option, Some, None, is_some, Result}
+use Rattle.std.proofs.Common.{Ok, Err}
 use Rattle.std.proofs.Common.{refl, sym, ap, subst, ◌∙◌, ◌⊎◌, inl, inr, arith, nat_le, append_assoc}
 use Rattle.std.proofs.lemmas.Bool.{eqb-true}
 use Rattle.std.proofs.lemmas.Bool.Decides.{nat_tests}
@@ -50,7 +51,8 @@ told_as one to from fault = record {
 }
 
 -- one step, and another over what it gave
-pub both : {A B : Type 0} {size : A → ℕ} {sizes : B → ℕ} {before : ℕ} {r : Result A LoadFault} {f : A → Result B LoadFault} {G : A → Type 0} {S : LoadFault → Type 0} {H : A → B → Type 0}
+pub both : {A B : Type 0} {size : A → ℕ} {sizes : B → ℕ} {before : ℕ} {r : Result A LoadFault} {f : A → Result B LoadFault} {G : A → Type 0}
+    {S : LoadFault → Type 0} {H : A → B → Type 0}
     {T : A → LoadFault → Type 0} → Tells size before r G S → ((x : A) → G x → Tells sizes (size x) (f x) (H x) (T x))
     → Tells sizes before (r >>= f) (λ y. (x : A) × G x × H x y) (λ e. S e ⊎ ((x : A) × G x × T x e))
 both {r = Ok x} {f = f} one more =
@@ -75,7 +77,8 @@ both {r = Err d} {f = f} one more = record {
 }
 
 -- this and nothing else
-pub only : {A : Type 0} (size : A → ℕ) (before : ℕ) (y : A) → before ≤ size y → (before ≤ 1048576 → size y ≤ 1048576) → Tells size before (the_ok y) (λ x. x ≡ y) (λ e. ⊥)
+pub only : {A : Type 0} (size : A → ℕ) (before : ℕ) (y : A) → before ≤ size y → (before ≤ 1048576 → size y ≤ 1048576)
+    → Tells size before (the_ok y) (λ x. x ≡ y) (λ e. ⊥)
 only size before y grows room = record {
   gives = λ x is. sym (ok_is y x is);
   few = λ x is fits. subst (λ z. size z ≤ 1048576) (ok_is y x is) (room fits);
@@ -99,7 +102,8 @@ from_option n d (Some y) = record {
 }
 
 -- a fault where a test holds, else a step
-pub guarded : {A : Type 0} {size : A → ℕ} {before : ℕ} {r : Result A LoadFault} {G : A → Type 0} {S : LoadFault → Type 0} (b : Bool) (d : LoadFault) → (b ≡ false → Tells size before r G S)
+pub guarded : {A : Type 0} {size : A → ℕ} {before : ℕ} {r : Result A LoadFault} {G : A → Type 0} {S : LoadFault → Type 0} (b : Bool) (d : LoadFault)
+    → (b ≡ false → Tells size before r G S)
     → Tells size before (cond b (Err d) r) (λ x. (b ≡ false) × G x) (λ e. ((b ≡ true) × (e ≡ d)) ⊎ S e)
 guarded true d one = record {
   gives = λ x is. absurd cc;
@@ -165,7 +169,8 @@ single_placed a x k false ups c h = at (ups == 0) refl h
 none_found : (n : Namespace) (p q : List Seg) → first_of n set.empty [] ≡ Some q → ⊥
 none_found n p q e = absurd cc
 
-found_placed : (es : List Entry) (scope : List Seg) (n : Name) (q : List Seg) → found (namespace_of es) set.empty scope n ≡ Some q → (p : List Seg) × (placed scope n ≡ Some p)
+found_placed : (es : List Entry) (scope : List Seg) (n : Name) (q : List Seg) → found (namespace_of es) set.empty scope n ≡ Some q → (p : List Seg)
+    × (placed scope n ≡ Some p)
 found_placed es scope n q e = by_single (is_single n) refl e
   where
     by_place : (o : Option (List Seg)) → first_of (namespace_of es) set.empty (the_one o) ≡ Some q → (p : List Seg) × (o ≡ Some p)
@@ -173,7 +178,8 @@ found_placed es scope n q e = by_single (is_single n) refl e
     by_place (Some p) h = (p, refl)
 
     by_single : (b : Bool) → is_single n ≡ b
-        → first_of (namespace_of es) set.empty (cond b (upward (length scope) scope n.segs) (the_one (placed scope n))) ≡ Some q → (p : List Seg) × (placed scope n ≡ Some p)
+        → first_of (namespace_of es) set.empty (cond b (upward (length scope) scope n.segs) (the_one (placed scope n))) ≡ Some q → (p : List Seg)
+        × (placed scope n ≡ Some p)
     by_single true s h = single_placed n.segs _ (length scope) n.root n.ups _ s
     by_single false s h = by_place (placed scope n) h
 
@@ -212,7 +218,8 @@ module _ (t : ℕ) (l : Listed) (scope : List Seg) where
 
   -- what a name leads to, or that it leads nowhere
   pub lead_tells : (n : Option Name) (missing : List Seg → SpaceFault)
-      → Tells (λ p. count l) (count l) (place_at t scope n >>= λ p. led_at t l.entries scope n (missing p)) (λ q. Leads l scope n q) (λ e. Nowhere t l scope n (λ p. loads.Space t (missing p)) e)
+      → Tells (λ p. count l) (count l) (place_at t scope n >>= λ p. led_at t l.entries scope n (missing p)) (λ q. Leads l scope n q)
+      (λ e. Nowhere t l scope n (λ p. loads.Space t (missing p)) e)
   lead_tells n missing =
       told_as (both (place_tells n) (λ p h. from_option (count l) (loads.Space t (missing p)) (lead_of l.entries scope n)))
       (λ q h. h.2) (λ q h fits. let p = lead_placed l.entries scope n q h in (p.0, p.1, h)) (λ e h. elim h [
@@ -222,7 +229,8 @@ module _ (t : ℕ) (l : Listed) (scope : List Seg) where
 
   -- an entry of a name that nothing has declared
   pub name_tells : (n : Option Name) (x : List Seg → Entry) → ((p : List Seg) → Room l (x p))
-      → Tells count (count l) (place_at t scope n >>= λ p. entry_at t l p (x p)) (λ m. (p : List Seg) × IsNew l scope n p × (m ≡ plus l (x p))) (λ e. NotNew t l scope n e)
+      → Tells count (count l) (place_at t scope n >>= λ p. entry_at t l p (x p)) (λ m. (p : List Seg) × IsNew l scope n p × (m ≡ plus l (x p)))
+      (λ e. NotNew t l scope n e)
   name_tells n x room =
       told_as (both (place_tells n) (λ p h. entry_tells t l p (x p) (room p)))
       (λ m h. (h.0, (h.1, h.2.0), h.2.1)) (λ m h fits. (h.0, h.1.0, (h.1.1, h.2))) (λ e h. h)
@@ -234,7 +242,8 @@ module _ (t : ℕ) (l : Listed) (scope : List Seg) where
   new_tells n k =
       let given : List Seg → Entry = λ p. declares p k None in
       let size : Listed × List Seg → ℕ = λ x. count x.0 in
-      told_as (both (place_tells n) (λ p h. both (entry_tells t l p (given p) (plain_room l (given p) refl)) (λ m d. only size (count m) (m, p) (omega arith) (λ fits. fits))))
+      told_as (both (place_tells n) (λ p h. both (entry_tells t l p (given p) (plain_room l (given p) refl))
+      (λ m d. only size (count m) (m, p) (omega arith) (λ fits. fits))))
       (λ x h. subst (λ (y : Listed × List Seg). IsNew l scope n y.1 × (y.0 ≡ plus l (given y.1))) (sym h.2.2) ((h.1, h.2.1.0), h.2.1.1))
       (λ x h fits. (x.1, h.0.0, (x.0, (h.0.1, h.1), refl)))
       (λ e h. elim h [

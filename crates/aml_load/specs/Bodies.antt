@@ -15,17 +15,21 @@ use Rattle.aml_load.specs.Views.{span_of}
 
 -- the body of a method reads as these terms
 abbrev pub IsBody : Bool → List Entry → List (List ℕ) → Method → Trees → Type 0
-IsBody unknown_zero es tables m ts = ReadsBody (arity_of (namespace_of es) unknown_zero m.path) m.path (span_of tables m) ts
+IsBody unknown_zero es tables m ts = ReadsBody (arity_of (namespace_of es) unknown_zero m.path) m.path
+    (span_of tables m) ts
 
 -- the body of a method reads as no terms, for this reason, which is true of the byte at its offset in the body
-pub record IsUnread (unknown_zero : Bool) (es : List Entry) (tables : List (List ℕ)) (m : Method) (f : CodeFault) : Type 0 where
+pub record IsUnread (unknown_zero : Bool) (es : List Entry) (tables : List (List ℕ)) (m : Method)
+    (f : CodeFault) : Type 0 where
   pub reason : f ≢ codes.NoMemory
   pub stands : StandsAt (arity_of (namespace_of es) unknown_zero m.path) (span_of tables m) f
   pub none : (ts : Trees) → IsBody unknown_zero es tables m ts → ⊥
 
 -- the body of a method reads as these terms and as no others, or it reads as none
-abbrev pub IsReading : {X : Type 0} → (X → Trees) → Bool → List Entry → List (List ℕ) → Method → Result X CodeFault → Type 0
-IsReading view z es tables m (Ok x) = IsBody z es tables m (view x) × ((ts : Trees) → IsBody z es tables m ts → ts ≡ view x)
+abbrev pub IsReading : {X : Type 0} → (X → Trees) → Bool → List Entry → List (List ℕ) → Method → Result X CodeFault
+    → Type 0
+IsReading view z es tables m (Ok x) = IsBody z es tables m (view x)
+    × ((ts : Trees) → IsBody z es tables m ts → ts ≡ view x)
 IsReading view z es tables m (Err f) = (f ≡ codes.NoMemory) ⊎ IsUnread z es tables m f
 
 -- Reading the body of a method forward, in the namespace of the entries: its terms, or the first fault that is met.

@@ -1,4 +1,5 @@
--- What tables declare (ACPI 6.5, 5.2.11, 5.3 and 20.2.5): one list of entries, in load order and in the order of the text,
+-- What tables declare (ACPI 6.5, 5.2.11, 5.3 and 20.2.5): one list of entries, in load order and in the order of the
+-- text,
 -- behind the counts that the user gives.
 use Rattle.std.specs.Prelude.{◌≡◌, ℕ, suc, ◌%◌, ◌≤◌, false, List, [], ◌∷◌, ◌++◌, length, Option, Some, None}
 use Rattle.std.specs.Option.{unwrap_or}
@@ -36,7 +37,11 @@ plus l e = record { entries = l.entries ++ e ∷ []; uses = l.uses }
 
 -- the names that stand as TermArgs in a term of table t, in this scope
 abbrev pub with_uses : ℕ → Listed → List Seg → ℕ → Parts → Tail → Listed
-with_uses t l scope o ps r = record { entries = l.entries; uses = l.uses ++ (parts_uses t scope (kinds_in (row_of o)) ps ++ tail_uses t scope r) }
+with_uses t l scope o ps r = record {
+  entries = l.entries;
+  uses =
+      l.uses ++ (parts_uses t scope (kinds_in (row_of o)) ps ++ tail_uses t scope r);
+}
 
 -- the first part, if it is a name: of an Alias, its source
 abbrev pub first_label : Parts → Option Name
@@ -85,22 +90,30 @@ body_len _ = 0
 
 -- the entry of a method of table t: bits 0 to 2 of its flags are its number of arguments
 abbrev pub method_entry : ℕ → List Seg → ℕ → ℕ → ℕ → Entry
-method_entry t p flags start len = declares p (kinds.Method (flags % 8)) (Some (record { table = t; start = start; len = len; flags = flags }))
+method_entry t p flags start len = declares p (kinds.Method (flags % 8))
+    (Some (record { table = t; start = start; len = len; flags = flags }))
 
 -- the named units of a field list, each under its segment in the scope
 abbrev pub DeclareUnits : Listed → List Seg → List Name → Listed → Type 0
 DeclareUnits l scope [] m = m ≡ l
-DeclareUnits l scope (n ∷ ns) m = (p : List Seg) × IsNew l scope (Some n) p × DeclareUnits (plus l (declares p kinds.Field None)) scope ns m
+DeclareUnits l scope (n ∷ ns) m = (p : List Seg) × IsNew l scope (Some n) p
+    × DeclareUnits (plus l (declares p kinds.Field None)) scope ns m
 
--- What a term of table t does by its role, in a scope, from l to m. `Inside` are the terms inside it, from one list to the
+-- What a term of table t does by its role, in a scope, from l to m. `Inside` are the terms inside it, from one list to
+-- the
 -- next, under a path.
-abbrev pub DoesAs : Role → ℕ → Listed → List Seg → Parts → Tail → (Listed → List Seg → Listed → Type 0) → Listed → Type 0
-DoesAs (roles.Declares o) t l scope ps r Inside m = (p : List Seg) × IsNew l scope (last_label None ps) p × Inside (plus l (declares p (kind_of o) None)) p m
-DoesAs roles.Method t l scope ps r Inside m = (p : List Seg) × IsNew l scope (last_label None ps) p × (m ≡ plus l (method_entry t p (byte_of ps) (body_start r) (body_len r)))
+abbrev pub DoesAs : Role → ℕ → Listed → List Seg → Parts → Tail → (Listed → List Seg → Listed → Type 0) → Listed
+    → Type 0
+DoesAs (roles.Declares o) t l scope ps r Inside m = (p : List Seg) × IsNew l scope (last_label None ps) p
+    × Inside (plus l (declares p (kind_of o) None)) p m
+DoesAs roles.Method t l scope ps r Inside m = (p : List Seg) × IsNew l scope (last_label None ps) p
+    × (m ≡ plus l (method_entry t p (byte_of ps) (body_start r) (body_len r)))
 DoesAs roles.Scope t l scope ps r Inside m = (p : List Seg) × Leads l scope (last_label None ps) p × Inside l p m
 DoesAs roles.Alias t l scope ps r Inside m =
-    (q : List Seg) × Leads l scope (first_label ps) q × ((p : List Seg) × IsNew l scope (last_label None ps) p × (m ≡ plus l (declares p (kinds.Alias (target_of l.entries q)) None)))
-DoesAs roles.External t l scope ps r Inside m = (p : List Seg) × (place_of scope (last_label None ps) ≡ Some p) × (m ≡ plus l (external p (byte_of ps)))
+    (q : List Seg) × Leads l scope (first_label ps) q × ((p : List Seg) × IsNew l scope (last_label None ps) p
+    × (m ≡ plus l (declares p (kinds.Alias (target_of l.entries q)) None)))
+DoesAs roles.External t l scope ps r Inside m = (p : List Seg) × (place_of scope (last_label None ps) ≡ Some p)
+    × (m ≡ plus l (external p (byte_of ps)))
 DoesAs roles.Fields t l scope ps r Inside m = DeclareUnits l scope (field_names r) m
 DoesAs roles.Guard t l scope ps r Inside m = Inside l scope m
 DoesAs roles.Other t l scope ps r Inside m = m ≡ l

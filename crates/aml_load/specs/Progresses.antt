@@ -39,7 +39,8 @@ WalkedTo view new (Err e) walk = Fails e walk
 abbrev pub Walks : {X : Type 0} → Progress → Progress → Result X LoadFault → (Listed → Result Listed LoadFault) → Type 0
 Walks old new answer walk = (l : Listed) → Holds old l → Walked new answer (walk l)
 
-abbrev pub WalksTo : {X Y : Type 0} → (X → Y) → Progress → Progress → Result X LoadFault → (Listed → Result (Listed × Y) LoadFault) → Type 0
+abbrev pub WalksTo : {X Y : Type 0} → (X → Y) → Progress → Progress → Result X LoadFault
+    → (Listed → Result (Listed × Y) LoadFault) → Type 0
 WalksTo view old new answer walk = (l : Listed) → Holds old l → WalkedTo view new answer (walk l)
 
 -- what a function answers of the namespace, whatever that stands for
@@ -47,6 +48,7 @@ abbrev pub GivesIn : {X Y : Type 0} → (X → Y) → Known → Result X LoadFau
 GivesIn view space answer walk = (l : Listed) → StandsFor space l.entries → Gives view answer (walk l)
 
 -- the same, with the trees before what is listed
-abbrev pub TableWalked : {X Y : Type 0} → (X → Y) → Progress → Result X LoadFault → Result (Y × Listed) LoadFault → Type 0
+abbrev pub TableWalked : {X Y : Type 0} → (X → Y) → Progress → Result X LoadFault → Result (Y × Listed) LoadFault
+    → Type 0
 TableWalked view new (Ok x) walk = (m : Listed) × Holds new m × (walk ≡ Ok (view x, m))
 TableWalked view new (Err e) walk = Fails e walk

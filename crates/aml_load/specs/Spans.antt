@@ -1,6 +1,8 @@
 -- Where the methods' bodies stand in the terms of tables, in the order of the text (ACPI 6.5, 20.2.5.2).
 use Rattle.std.specs.Prelude.{◌≡◌, ℕ, suc, List, [], ◌∷◌, ◌++◌, map}
-use Rattle.aml_code.specs.Tree.{Tree, nothing, named, op, Trees, no_trees, tree_more, Part, child, Parts, no_parts, part_more, Tail, terms, elements, fields, body, Field, connection, Fields, no_fields, field_more, Link, target, buffer}
+use Rattle.aml_code.specs.Tree.{Tree, nothing, named, op, Trees, no_trees, tree_more, Part, child, Parts, no_parts}
+use Rattle.aml_code.specs.Tree.{part_more, Tail, terms, elements, fields, body, Field, connection, Fields, no_fields}
+use Rattle.aml_code.specs.Tree.{field_more, Link, target, buffer}
 use Rattle.aml_load.specs.declared.methods.Method.{Method}
 use Rattle.aml_load.specs.Loading.{Listed, methods_of}
 

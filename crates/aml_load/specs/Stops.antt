@@ -6,7 +6,8 @@ use Rattle.aml_names.specs.declared.names.Name.{Name}
 use Rattle.aml_names.specs.declared.faults.CodeFault.{CodeFault}
 use Rattle.aml_code.specs.Faults.{StandsAt}
 use Rattle.aml_code.specs.Meaning.{ReadsModule, no_arguments}
-use Rattle.aml_code.specs.Tree.{Tree, nothing, named, op, Trees, no_trees, tree_more, Parts, Tail, empty, terms, bytes, elements, fields, body}
+use Rattle.aml_code.specs.Tree.{Tree, nothing, named, op, Trees, no_trees, tree_more, Parts, Tail, empty, terms, bytes}
+use Rattle.aml_code.specs.Tree.{elements, fields, body}
 use Rattle.aml_code.specs.Declaring.{last_label, field_names}
 use Rattle.aml_space.specs.declared.faults.SpaceFault.TheVariants as faults
 use Rattle.aml_space.specs.declared.kinds.Kind.TheVariants as kinds
@@ -17,7 +18,8 @@ use Rattle.aml_load.specs.declared.methods.Use.{Use}
 use Rattle.aml_code.specs.declared.rows.Role.{Role}
 use Rattle.aml_code.specs.declared.rows.Role.TheVariants as roles
 use Rattle.aml_load.specs.Roles.{role_of, kind_of}
-use Rattle.aml_load.specs.Loading.{Listed, first_listed, plus, with_uses, first_label, place_of, lead_of, IsNew, Leads, Declares, DeclareAll, DeclareTables, ReadTables, methods_of, use_count}
+use Rattle.aml_load.specs.Loading.{Listed, first_listed, plus, with_uses, first_label, place_of, lead_of, IsNew, Leads}
+use Rattle.aml_load.specs.Loading.{Declares, DeclareAll, DeclareTables, ReadTables, methods_of, use_count}
 use Rattle.aml_load.specs.Walking.{code_fault}
 
 -- a name has no path in a scope: its prefixes lead above the root
@@ -33,7 +35,8 @@ NotNew t l scope n e = Unplaced t scope n e ⊎ ((p : List Seg) × (place_of sco
 
 -- a name leads nowhere
 abbrev pub Nowhere : ℕ → Listed → List Seg → Option Name → (List Seg → LoadFault) → LoadFault → Type 0
-Nowhere t l scope n missing e = Unplaced t scope n e ⊎ ((p : List Seg) × (place_of scope n ≡ Some p) × (lead_of l.entries scope n ≡ None) × (e ≡ missing p))
+Nowhere t l scope n missing e = Unplaced t scope n e ⊎ ((p : List Seg) × (place_of scope n ≡ Some p)
+    × (lead_of l.entries scope n ≡ None) × (e ≡ missing p))
 
 -- as many methods as there may be are there
 abbrev pub TooMany : Listed → LoadFault → Type 0
@@ -42,17 +45,21 @@ TooMany l e = (1048576 ≤ length (methods_of l.entries)) × (e ≡ loads.TooMan
 abbrev pub StopUnits : ℕ → Listed → List Seg → List Name → LoadFault → Type 0
 StopUnits t l scope [] e = ⊥
 StopUnits t l scope (n ∷ ns) e =
-    NotNew t l scope (Some n) e ⊎ ((p : List Seg) × IsNew l scope (Some n) p × StopUnits t (plus l (declares p kinds.Field None)) scope ns e)
+    NotNew t l scope (Some n) e ⊎ ((p : List Seg) × IsNew l scope (Some n) p
+    × StopUnits t (plus l (declares p kinds.Field None)) scope ns e)
 
 -- a term stops by its role
 abbrev pub StopsAs : Role → ℕ → Listed → List Seg → Parts → Tail → (Listed → List Seg → Type 0) → LoadFault → Type 0
 StopsAs (roles.Declares o) t l scope ps r Inside e =
-    NotNew t l scope (last_label None ps) e ⊎ ((p : List Seg) × IsNew l scope (last_label None ps) p × Inside (plus l (declares p (kind_of o) None)) p)
+    NotNew t l scope (last_label None ps) e ⊎ ((p : List Seg) × IsNew l scope (last_label None ps) p
+    × Inside (plus l (declares p (kind_of o) None)) p)
 StopsAs roles.Method t l scope ps r Inside e = TooMany l e ⊎ NotNew t l scope (last_label None ps) e
 StopsAs roles.Scope t l scope ps r Inside e =
-    Nowhere t l scope (last_label None ps) (λ p. loads.Space t (faults.ScopeMissing p)) e ⊎ ((p : List Seg) × Leads l scope (last_label None ps) p × Inside l p)
+    Nowhere t l scope (last_label None ps) (λ p. loads.Space t (faults.ScopeMissing p)) e
+    ⊎ ((p : List Seg) × Leads l scope (last_label None ps) p × Inside l p)
 StopsAs roles.Alias t l scope ps r Inside e =
-    Nowhere t l scope (first_label ps) (λ p. loads.Space t (faults.AliasMissing p)) e ⊎ NotNew t l scope (last_label None ps) e
+    Nowhere t l scope (first_label ps) (λ p. loads.Space t (faults.AliasMissing p)) e
+    ⊎ NotNew t l scope (last_label None ps) e
 StopsAs roles.External t l scope ps r Inside e = Unplaced t scope (last_label None ps) e
 StopsAs roles.Fields t l scope ps r Inside e = StopUnits t l scope (field_names r) e
 StopsAs roles.Guard t l scope ps r Inside e = Inside l scope
@@ -76,18 +83,21 @@ abbrev mutual
 
   pub StopAll : ℕ → Listed → List Seg → Trees → LoadFault → Type 0
   StopAll t l scope no_trees e = ⊥
-  StopAll t l scope (tree_more x xs) e = Stops t l scope x e ⊎ ((k : Listed) × Declares t l scope x k × StopAll t k scope xs e)
+  StopAll t l scope (tree_more x xs) e = Stops t l scope x e
+      ⊎ ((k : Listed) × Declares t l scope x k × StopAll t k scope xs e)
 
 -- the AML of table t can't be read, and the fault is true of the byte at its offset
 abbrev pub Unread : ℕ → List ℕ → LoadFault → Type 0
-Unread t code e = (f : CodeFault) × StandsAt no_arguments code f × ((ts : Trees) → ReadsModule code ts → ⊥) × (e ≡ code_fault t f)
+Unread t code e = (f : CodeFault) × StandsAt no_arguments code f × ((ts : Trees) → ReadsModule code ts → ⊥)
+    × (e ≡ code_fault t f)
 
 abbrev pub StopTable : ℕ → Listed → List ℕ → LoadFault → Type 0
 StopTable t l code e = Unread t code e ⊎ ((ts : Trees) × ReadsModule code ts × StopAll t l [] ts e)
 
 abbrev pub StopTables : ℕ → Listed → List (List ℕ) → LoadFault → Type 0
 StopTables t l [] e = ⊥
-StopTables t l (c ∷ cs) e = StopTable t l c e ⊎ ((ts : Trees) × ReadsModule c ts × ((k : Listed) × DeclareAll t l [] ts k × StopTables (suc t) k cs e))
+StopTables t l (c ∷ cs) e = StopTable t l c e ⊎ ((ts : Trees) × ReadsModule c ts
+    × ((k : Listed) × DeclareAll t l [] ts k × StopTables (suc t) k cs e))
 
 -- a name that takes arguments stands as a TermArg
 abbrev pub Called : List Entry → List Use → LoadFault → Type 0
@@ -98,4 +108,5 @@ Called es (u ∷ us) e = ((0 < unwrap_or (use_count es u) 0) × (e ≡ loads.Mod
 abbrev pub StopsLoad : Givens → List (List ℕ) → LoadFault → Type 0
 StopsLoad gs codes e =
     StopTables 0 (first_listed gs) codes e
-    ⊎ ((ts : List Trees) × ReadTables codes ts × ((m : Listed) × DeclareTables 0 (first_listed gs) ts m × Called m.entries m.uses e))
+    ⊎ ((ts : List Trees) × ReadTables codes ts × ((m : Listed) × DeclareTables 0 (first_listed gs) ts m
+    × Called m.entries m.uses e))

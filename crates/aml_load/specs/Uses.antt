@@ -7,7 +7,9 @@ use Rattle.aml_code.specs.Opcodes.{Row}
 use Rattle.aml_code.specs.declared.rows.PartKind.{PartKind}
 use Rattle.aml_code.specs.declared.rows.PartKind.TheVariants as kinds
 use Rattle.aml_code.specs.Rows.{row_of}
-use Rattle.aml_code.specs.Tree.{Tree, nothing, named, op, Trees, no_trees, tree_more, Part, child, Parts, no_parts, part_more, Tail, elements, fields, Field, connection, Fields, no_fields, field_more, Link, target, buffer}
+use Rattle.aml_code.specs.Tree.{Tree, nothing, named, op, Trees, no_trees, tree_more, Part, child, Parts, no_parts}
+use Rattle.aml_code.specs.Tree.{part_more, Tail, elements, fields, Field, connection, Fields, no_fields, field_more}
+use Rattle.aml_code.specs.Tree.{Link, target, buffer}
 
 -- whether a part of this kind is a TermArg
 abbrev pub is_argument : PartKind → Bool

@@ -2,7 +2,8 @@
 -- each read whole, and then its terms in the order of the text, each by what it does to the entries so far. This says
 -- which of several faults a load answers. What it means that tables load is said without it, by `IsLoad` in `Loading`,
 -- and what a fault says of its place by `StopsLoad` in `Stops`.
-use Rattle.std.specs.Prelude.{◌≡◌, ◌⊎◌, ℕ, suc, List, [], ◌∷◌, ◌++◌, length, nat_le, nat_lt, is_some, Option, Some, None, Result, Ok, Err, if◌then◌else◌}
+use Rattle.std.specs.Prelude.{◌≡◌, ◌⊎◌, ℕ, suc, List, [], ◌∷◌, ◌++◌, length, nat_le, nat_lt, is_some, Option, Some}
+use Rattle.std.specs.Prelude.{None, Result, Ok, Err, if◌then◌else◌}
 use Rattle.std.specs.Option.{unwrap_or}
 use Rattle.aml_names.specs.declared.segments.Seg.{Seg}
 use Rattle.aml_names.specs.declared.names.Name.{Name}
@@ -25,7 +26,8 @@ use Rattle.aml_load.specs.declared.methods.Use.{Use}
 use Rattle.aml_code.specs.declared.rows.Role.{Role}
 use Rattle.aml_code.specs.declared.rows.Role.TheVariants as roles
 use Rattle.aml_load.specs.Roles.{role_of, kind_of}
-use Rattle.aml_load.specs.Loading.{Listed, first_listed, plus, with_uses, first_label, byte_of, place_of, lead_of, target_of, body_start, body_len, method_entry, methods_of, use_count}
+use Rattle.aml_load.specs.Loading.{Listed, first_listed, plus, with_uses, first_label, byte_of, place_of, lead_of}
+use Rattle.aml_load.specs.Loading.{target_of, body_start, body_len, method_entry, methods_of, use_count}
 use Rattle.aml_load.specs.Views.{HoldsLoad}
 
 -- one step, and another over what it answered: the first fault is the fault of both

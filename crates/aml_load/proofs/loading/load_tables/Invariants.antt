@@ -7,4 +7,5 @@ use Rattle.aml_load.proofs.loading.load_tables.Given as goal
 
 abbrev pub invariant-loop-table : goal.invariant-loop-table
 invariant-loop-table x =
-    (l : Listed) → Holds x.initial.progress l → (m : Listed) × Holds x.progress m × (tables_at x.table (trees_view x.trees.items) m (codes_view (drop x.table x.tables)) ≡ tables_at 0 [] l (codes_view x.tables))
+    (l : Listed) → Holds x.initial.progress l → (m : Listed) × Holds x.progress m
+    × (tables_at x.table (trees_view x.trees.items) m (codes_view (drop x.table x.tables)) ≡ tables_at 0 [] l (codes_view x.tables))

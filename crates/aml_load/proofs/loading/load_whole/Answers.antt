@@ -17,5 +17,6 @@ returns c =
         space = w.1.space;
         methods = w.1.methods;
       },
-      load_gives gs (codes_view c.args.tables.now) (trees_view c.in_ok-trees.trees.items) w.0 c.as_slice.result.now c.in_ok-check_uses.field-0 w.2 (c.as_slice.ensures.value ∙ w.1.uses) free,
+      load_gives gs (codes_view c.args.tables.now) (trees_view c.in_ok-trees.trees.items) w.0 c.as_slice.result.now c.in_ok-check_uses.field-0 w.2
+          (c.as_slice.ensures.value ∙ w.1.uses) free,
     )

@@ -5,12 +5,15 @@ use Rattle.aml_load.proofs.uses.+uses.Given as goal
 
 abbrev pub invariant-add_parts-loop-part : goal.invariant-add_parts-loop-part
 invariant-add_parts-loop-part l =
-    l.uses.items ++ parts_uses l.site.table l.site.scope.now l.left (parts_view (drop l.part-index l.parts)) ≡ l.initial.uses.items ++ parts_uses l.site.table l.site.scope.now l.initial.left (parts_view l.parts)
+    l.uses.items ++ parts_uses l.site.table l.site.scope.now l.left (parts_view (drop l.part-index l.parts)) ≡ l.initial.uses.items
+    ++ parts_uses l.site.table l.site.scope.now l.initial.left (parts_view l.parts)
 
 abbrev pub invariant-add_elements-loop-node : goal.invariant-add_elements-loop-node
 invariant-add_elements-loop-node l =
-    l.uses.items ++ elements_uses l.site.table l.site.scope.now (nodes_view (drop l.node-index l.nodes)) ≡ l.initial.uses.items ++ elements_uses l.site.table l.site.scope.now (nodes_view l.nodes)
+    l.uses.items ++ elements_uses l.site.table l.site.scope.now (nodes_view (drop l.node-index l.nodes)) ≡ l.initial.uses.items
+    ++ elements_uses l.site.table l.site.scope.now (nodes_view l.nodes)
 
 abbrev pub invariant-add_fields-loop-field : goal.invariant-add_fields-loop-field
 invariant-add_fields-loop-field l =
-    l.uses.items ++ fields_uses l.site.table l.site.scope.now (fields_view (drop l.field-index l.fields)) ≡ l.initial.uses.items ++ fields_uses l.site.table l.site.scope.now (fields_view l.fields)
+    l.uses.items ++ fields_uses l.site.table l.site.scope.now (fields_view (drop l.field-index l.fields)) ≡ l.initial.uses.items
+    ++ fields_uses l.site.table l.site.scope.now (fields_view l.fields)

@@ -5,4 +5,9 @@ use Rattle.aml_load.proofs.Holding.{external_held}
 use Rattle.aml_load.proofs.walking.Progress.add_count.Goals as goal
 
 pub returns : goal.returns
-returns c l h = (plus l (external c.args.path c.args.count), external_held c.args.self.now _ l c.args.path c.args.count h (c.in_ok-external.ensures.stands l.entries h.space) refl refl, refl)
+returns c l h = (
+  plus l (external c.args.path c.args.count),
+  external_held c.args.self.now _ l c.args.path c.args.count h
+      (c.in_ok-external.ensures.stands l.entries h.space) refl refl,
+  refl,
+)

@@ -8,4 +8,6 @@ use Rattle.aml_load.proofs.walking.Progress.add_fields.Given as goal
 
 abbrev pub invariant-loop-field : goal.invariant-loop-field
 invariant-loop-field x =
-    (l : Listed) → Holds x.initial.self l → (m : Listed) × Holds x.self m × (fields_at x.site.table m x.site.scope.now (unit_names (fields_view (drop x.field-index x.fields))) ≡ fields_at x.site.table l x.site.scope.now (unit_names (fields_view x.fields)))
+    (l : Listed) → Holds x.initial.self l → (m : Listed) × Holds x.self m
+    × (fields_at x.site.table m x.site.scope.now (unit_names (fields_view (drop x.field-index x.fields)))
+    ≡ fields_at x.site.table l x.site.scope.now (unit_names (fields_view x.fields)))

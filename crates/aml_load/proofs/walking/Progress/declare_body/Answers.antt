@@ -26,4 +26,5 @@ returns-in-Err c l h =
     let m = c.args.method in
     let same = c.in_ok-path.ensures.cases in
     let only_then = c.in-Err.ensures.only_then in
-    entry_refused m.table l c.args.self.now.space m.path (method_entry m.table m.path m.flags m.start m.len) c.in-Err.fault _ h.space (rw same at only_then) c.in_space.ensures
+    entry_refused m.table l c.args.self.now.space m.path (method_entry m.table m.path m.flags m.start m.len) c.in-Err.fault _ h.space (rw same at only_then)
+    c.in_space.ensures
