@@ -12,7 +12,7 @@ ghost use Rattle.aml_names.specs.Ends.{deeper, depth_known};
 use crate::faults::NoMemory;
 use crate::paths::{Path, same_segs};
 use crate::segments::Seg;
-use std::alloc::Global;
+use std::alloc::{AllocError, Global};
 use std::collections::{BTreeMap, BTreeSet};
 use std::marker::Model;
 
@@ -85,11 +85,15 @@ impl Locals {
             return Ok(());
         };
         let depth = depth_in(self.scope.segs(), path.segs());
-        // What could be refused comes before the path.
-        deepen(&mut self.ends, end, None)?;
-        self.paths.insert(path)?;
-        let _ = deepen(&mut self.ends, end, depth);
-        Ok(())
+        let known = deepen(&mut self.ends, end, depth)?;
+        match self.paths.insert(path) {
+            Ok(_) => Ok(()),
+            Err(_) => {
+                // The segment is known by now, so this isn't refused.
+                let _ = self.ends.insert(end, known);
+                Err(AllocError)
+            }
+        }
     }
 
     /// Whether no path is there.
@@ -183,24 +187,22 @@ fn depth_in(scope: &[Seg], path: &[Seg]) -> Option<usize>
     }
 }
 
-/// Makes a segment known, and the depth in its place if it is greater.
+/// Makes a segment known, and the depth in its place if it is greater. The result is the depth that was known before.
 fn deepen(
     ends: &mut BTreeMap<Seg, Option<usize>>,
     end: Seg,
     depth: Option<usize>,
-) -> Result<(), NoMemory>
+) -> Result<Option<usize>, NoMemory>
     ensures ok { OnOk result ((q : Seg) → get seg_cmp ends.new q
         ≡ cond (is_at (seg_cmp end) q) (Some (deeper depth (depth_known (get seg_cmp ends.old end))))
         (get seg_cmp ends.old q)) }
+    ensures known { IfOk result (λ known. known ≡ depth_known (get seg_cmp ends.old end)) }
     ensures err { OnErr result (IsUnchanged ends.old ends.new) }
-    ensures absent { OnErr result (get seg_cmp ends.old end ≡ None) }
 {
-    let known = match ends.get(&end) {
-        None => None,
-        Some(known) => *known,
-    };
-    ends.insert(end, deeper_of(depth, known))?;
-    Ok(())
+    let slot = ends.entry(end)?.or_insert(None);
+    let known = *slot;
+    *slot = deeper_of(depth, known);
+    Ok(known)
 }
 
 /// The greater of two depths.
