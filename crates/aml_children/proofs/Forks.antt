@@ -1,13 +1,10 @@
 -- What is seen of a tree, by its fork.
 use Rattle.std.proofs.Common.{◌≡◌, ℕ, ◌+◌, ◌^◌, ◌<◌, ◌≤◌, List, ◌∷◌, ◌++◌, length, Option, Some, sym, ap, subst, ◌∙◌, arith, length-append}
 use Rattle.std.specs.Global.{Box}
-use Rattle.std.proofs.Common.{true, suc, is_some, refl, append_assoc}
-use Rattle.std.specs.declared.cmp.Ordering.TheVariants.{Less, Equal, Greater}
-use Rattle.aml_names.specs.declared.segments.Seg.{Seg}
-use Rattle.aml_names.specs.Paths.{seg_cmp}
+use Rattle.std.proofs.Common.{refl, append_assoc}
 use Rattle.aml_children.specs.Children.{Rise}
 use Rattle.aml_children.specs.declared.children.Child.{Child}
-use Rattle.aml_children.specs.Trees.{list_of, list_and_height, seen, made, left_lifted, right_lifted, IsBalanced, AreBalanced, CanLean, IsRebalanced}
+use Rattle.aml_children.specs.Trees.{list_of, list_and_height, left_lifted, right_lifted, IsBalanced, AreBalanced, CanLean, IsRebalanced}
 use Rattle.aml_children.specs.declared.trees.Fork.{Fork}
 
 module _ (d : List Child × ℕ) (o : Option (Box Fork)) (b : Box Fork) (view : list_and_height o ≡ d) (is : o ≡ Some b) where

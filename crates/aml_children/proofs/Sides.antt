@@ -2,7 +2,7 @@
 use mathlib.Core.Bool.{true≢false}
 use Rattle.std.specs.Option.{option_or}
 use Rattle.std.specs.declared.cmp.Ordering.{Ordering}
-use Rattle.std.proofs.Common.{◌≡◌, ℕ, suc, ◌+◌, ◌-◌, ◌<◌, ◌≤◌, Bool, true, false, cond, List, [], ◌∷◌, ◌++◌, Some, None, is_some, inl, inr, refl, sym, ap, subst, ◌∙◌, arith, append_assoc}
+use Rattle.std.proofs.Common.{◌≡◌, ◌+◌, Bool, true, false, cond, List, [], ◌∷◌, ◌++◌, length, Some, None, is_some, refl, sym, ap, ◌∙◌, arith}
 use Rattle.std.specs.Ordering.{eq_by_cmp, is_eq, is_lt, ordering_reverse}
 use Rattle.std.specs.declared.cmp.Ordering.TheVariants.{Less, Equal, Greater}
 use Rattle.aml_names.specs.declared.segments.Seg.{Seg}
@@ -125,6 +125,14 @@ module _ (e : Child) (r : List Child) (c : Child) where
 
   pub put_right : (l : List Child) → Rise (l ++ e ∷ r) → seg_cmp c.seg e.seg ≡ Greater → put (l ++ e ∷ r) c ≡ l ++ e ∷ put r c
   put_right l rise more = past l rise (turned c.seg e.seg more)
+
+pub length_put : (cs : List Child) (c : Child) → length (put cs c) ≡ length cs + 1
+length_put [] c = refl
+length_put (d ∷ cs) c = by (is_lt (seg_cmp d.seg c.seg)) (length_put cs c)
+  where
+    by : (b : Bool) → length (put cs c) ≡ length cs + 1 → length (cond b (d ∷ put cs c) (c ∷ d ∷ cs)) ≡ length (d ∷ cs) + 1
+    by true longer = omega (arith, longer)
+    by false longer = omega arith
 
 -- ---- the first child, and the first one behind a segment
 

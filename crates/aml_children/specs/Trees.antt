@@ -1,5 +1,5 @@
 -- A stepping stone of the proofs: what a fork of a tree of children is seen as, and what holds of it.
-use Rattle.std.specs.Prelude.{◌≡◌, ℕ, ◌+◌, ◌^◌, ◌<◌, ◌≤◌, max, List, [], ◌∷◌, ◌++◌, Option, Some, None}
+use Rattle.std.specs.Prelude.{◌≡◌, ℕ, ◌+◌, ◌^◌, ◌<◌, ◌≤◌, max, List, [], ◌∷◌, ◌++◌, length, Option, Some, None}
 use Rattle.std.specs.Global.{Box}
 use Rattle.aml_children.specs.declared.children.Child.{Child}
 use Rattle.aml_children.specs.declared.children.Kept.{Kept}
@@ -77,8 +77,8 @@ kept_list Nobody = []
 kept_list (Only c) = c ∷ []
 kept_list (Many t) = t.0
 
--- where they are a tree, it is low
-abbrev pub IsLow : Kept → Type 0
-IsLow Nobody = Unit {0}
-IsLow (Only c) = Unit {0}
-IsLow (Many t) = t.1 ≤ 64
+-- where they are a tree, it is low, and there are two of them or more
+abbrev pub IsFit : Kept → Type 0
+IsFit Nobody = Unit {0}
+IsFit (Only c) = Unit {0}
+IsFit (Many t) = (t.1 ≤ 64) × (1 < length t.0)

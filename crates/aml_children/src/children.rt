@@ -1,6 +1,6 @@
 //! The children of a node, ordered by segment.
 ghost use Rattle.std.specs.Ordering.{is_lt};
-ghost use Rattle.std.specs.Prelude.{◌≡◌, ◌≤◌, [], ◌∷◌, None, OnOk, OnErr};
+ghost use Rattle.std.specs.Prelude.{◌≡◌, ◌↔◌, ◌≤◌, ◌<◌, [], ◌∷◌, length, None, IsTrue, OnOk, OnErr};
 ghost use Rattle.aml_names.specs.Paths.{seg_cmp};
 ghost use Rattle.aml_children.specs.Children.{child_in, Rise, put, behind, first_node};
 
@@ -38,7 +38,7 @@ impl Model for Children {
     ghost use Rattle.std.specs.Prelude.{List};
     ghost use Rattle.aml_children.specs.declared.children.Child.{Child};
     ghost use Rattle.aml_children.specs.Codes.{coded_children};
-    ghost use Rattle.aml_children.specs.Trees.{kept_list, IsLow};
+    ghost use Rattle.aml_children.specs.Trees.{kept_list, IsFit};
 
     ghost Value = { List Child };
 
@@ -46,7 +46,7 @@ impl Model for Children {
 
     ghost view = { λ s. kept_list s.kept };
 
-    ghost invariant = { λ s. IsLow s.kept };
+    ghost invariant = { λ s. IsFit s.kept };
 }
 
 impl Children {
@@ -80,6 +80,17 @@ impl Children {
         }
     }
 
+    /// Whether there are two or more, without a look at any.
+    pub fn are_several(&self) -> bool
+        ensures { IsTrue result ↔ 1 < length self.now }
+    {
+        match &self.kept {
+            Kept::Nobody => false,
+            Kept::Only(_) => false,
+            Kept::Many(_) => true,
+        }
+    }
+
     /// The node of the first child whose segment comes behind this one.
     pub fn after(&self, seg: Seg) -> Option<usize>
         requires { Rise self.now }
@@ -106,6 +117,7 @@ impl Children {
     }
 
     /// Puts a child into its place. A refused one changes nothing.
+    #[tactic(auto, using(crate::proofs::Sides::length_put))]
     pub fn insert(&mut self, alloc: Global, child: Child) -> Result<(), AllocError>
         requires rise { Rise self.old }
         requires absent { child_in self.old child.seg ≡ None }
