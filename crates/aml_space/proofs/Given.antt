@@ -1,5 +1,6 @@
 -- The given counts of a scope.
-use Rattle.std.proofs.Common.{◌≡◌, ℕ, ◌-◌, ◌<◌, List, [], ◌∷◌, ◌++◌, Option, Some, None, take, refl, sym, ap, ◌∙◌}
+use Rattle.std.proofs.Common.{◌≡◌, ℕ, zero, suc, ◌-◌, ◌<◌, ◌≤◌, List, [], ◌∷◌, ◌++◌, Option, Some, None, take, inl, inr, refl, sym, ap, ◌∙◌, arith}
+use Rattle.std.proofs.lemmas.Bool.{cases_lt}
 use Rattle.std.specs.Option.{option_or}
 use Rattle.aml_names.specs.declared.segments.Seg.{Seg}
 use Rattle.aml_names.specs.Paths.{PathSet}
@@ -21,6 +22,17 @@ module _ (n : Namespace) (locals : PathSet) (scope tail : List Seg) where
   above_given d p is none positive =
       ap (first_given n) (candidate n locals scope tail d) ∙ ap (λ q. option_or (n.givens q) (first_given n (later n locals scope tail d))) (sym is) ∙ ap (λ o. option_or o (first_given n (later n locals scope tail d))) none
       ∙ ap (first_given n) (later_above n locals scope tail d positive)
+
+  -- depths to which nothing is given may be left out
+  pub skip_given : (m d : ℕ) → m ≤ d → ((e : ℕ) → m < e → e ≤ d → n.givens (take e scope ++ tail) ≡ None) → first_given n (upward d scope tail) ≡ first_given n (upward m scope tail)
+  skip_given m zero less mute = ap (λ e. first_given n (upward e scope tail)) {x = 0} {y = m} (omega (arith, less))
+  skip_given m (suc d) less mute = elim (cases_lt m (suc d)) [
+    | inl below ↦
+        above_given (suc d) (take (suc d) scope ++ tail) refl (mute (suc d) below (omega arith)) (omega arith)
+        ∙ ap (λ e. first_given n (upward e scope tail)) {x = suc d - 1} {y = d} (omega arith)
+        ∙ skip_given m d (omega (arith, below)) (λ e more to. mute e more (omega (arith, to)))
+    | inr same ↦ ap (λ e. first_given n (upward e scope tail)) {x = suc d} {y = m} (omega (arith, same, less))
+  ]
 
   pub root_given : (p : List Seg) → p ≡ take 0 scope ++ tail → n.givens p ≡ None → first_given n (upward 0 scope tail) ≡ None
   root_given p is none = ap (λ q. option_or (n.givens q) None) (sym is) ∙ ap (λ o. option_or o None) none

@@ -1,20 +1,21 @@
 //! Scopes in the index, and what a name of one segment means in them.
-ghost use Rattle.std.specs.Prelude.{◌≡◌, ◌||◌, ℕ, ◌+◌, ◌<◌, ◌≤◌, ◌++◌, List, cond, length, take, slice_get, Some, None, is_some, IfOk, IfSome};
+ghost use Rattle.std.specs.Prelude.{◌≡◌, ◌||◌, ℕ, ◌+◌, ◌<◌, ◌≤◌, ◌++◌, List, cond, length, take, Some, None, is_some, IfOk, IfSome};
+ghost use Rattle.std.specs.Bool.{OnFalse};
 ghost use Rattle.std.specs.Option.{option_or, option_and_then, option_copied, option_map};
 ghost use Rattle.aml_names.specs.declared.segments.Seg.{Seg};
 ghost use Rattle.aml_names.specs.Searching.{upward};
-ghost use Rattle.aml_children.specs.Children.{child_in};
 ghost use Rattle.aml_space.specs.Predefined.{predefined};
 ghost use Rattle.aml_space.specs.Namespace.{first_of, first_given, count_at};
 ghost use Rattle.aml_space.specs.Graph.{walk};
-ghost use Rattle.aml_space.specs.Nodes.{kids_of, kinds_of, outs_of, IsShape, IsAlong};
-ghost use Rattle.aml_space.specs.Candidates.{path_at, stands_at, names_of, IsScope, IsCandidate};
+ghost use Rattle.aml_space.specs.Known.{namespace_in};
+ghost use Rattle.aml_space.specs.Nodes.{kids_of, kinds_of, outs_of, known_by, IsShape};
+ghost use Rattle.aml_space.specs.Candidates.{path_at, stands_at, names_of, IsAlong, IsBare, HasBareChildren, IsNext, AreAsked, IsScope, IsCandidate};
 
 use crate::counting::{count_met, kind_met};
 use crate::kinds::Kind;
 use crate::nodes::Node;
 use crate::predefined::Predefined;
-use crate::walking::{child, given_at, out_at};
+use crate::walking::{child, children_at, given_at, kind_at, out_at};
 use aml_names::{Locals, NoMemory, Path, Seg};
 use std::alloc::Global;
 
@@ -24,8 +25,17 @@ pub struct Scope<'a> {
     pub nodes: &'a [Node],
     pub predefined: &'a Predefined,
     pub path: &'a Path,
-    /// The node of the first `n` segments of the path at `n`, as far as they stand in the index.
-    pub chain: Vec<usize>,
+    /// The level of the first `n` segments of the path at `n`, as far as they stand in the index.
+    pub levels: Vec<Level>,
+}
+
+/// The scope's path or a parent of it.
+#[derive(Clone, Copy)]
+pub struct Level {
+    pub node: usize,
+    /// The nearest depth from its own up whose segments have to be asked for: the others have no content. The root's is
+    /// always asked, since it has the predefined names.
+    pub asked: usize,
 }
 
 /// A path that a name of one segment may mean in a scope.
@@ -52,12 +62,12 @@ impl<'a> Scope<'a> {
         ensures nodes { IfOk result (λ scope. scope.nodes.now ≡ nodes.now) }
         ensures path { IfOk result (λ scope. scope.path.now ≡ path.now) }
     {
-        let chain = nodes_along(alloc, nodes, path.segs())?;
+        let levels = levels_along(alloc, nodes, path.segs())?;
         Ok(Scope {
             nodes,
             predefined,
             path,
-            chain,
+            levels,
         })
     }
 
@@ -79,9 +89,9 @@ impl<'a> Scope<'a> {
     {
         let nearest = locals.nearest(alloc, self.path, segment[0])?;
         let mut outside: Option<Candidate> = None;
-        let mut depth = self.path.segs().len();
+        let mut depth = self.next_depth(nearest, self.path.segs().len());
         'depths: loop {
-            let node = child_along(self.nodes, self.chain.as_slice(), depth, segment[0]);
+            let node = self.node_at(depth, segment);
             let local = stands(nearest, depth);
             let here = Candidate { depth, node, local };
             if self.is_meant(segment, here) {
@@ -91,7 +101,46 @@ impl<'a> Scope<'a> {
             if depth == 0 {
                 return Ok(outside);
             }
-            depth -= 1;
+            depth = self.next_depth(nearest, depth - 1);
+        }
+    }
+
+    /// The node of a segment at a depth.
+    fn node_at(&self, depth: usize, segment: &[Seg]) -> Option<usize>
+        requires scope { IsScope self.now }
+        requires one { length segment.now ≡ 1 }
+        requires within { depth ≤ length self.now.path.now }
+        ensures node { result ≡ walk (kids_of self.now.nodes.now) 0 (take depth self.now.path.now ++ segment.now) }
+        ensures inside { IfSome result (λ at. at < length self.now.nodes.now) }
+    {
+        let level = self.levels.get(depth)?;
+        child(self.nodes, level.node, segment[0])
+    }
+
+    /// The nearest depth from this one up that has to be asked.
+    fn next_asked(&self, depth: usize) -> usize
+        requires scope { IsScope self.now }
+        requires within { depth ≤ length self.now.path.now }
+        ensures { IsNext (names_of self.now) self.now.path.now depth result }
+    {
+        let last = self.levels.len() - 1;
+        // Behind the last level the index has no nodes.
+        let level = self.levels[depth.min(last)];
+        level.asked
+    }
+
+    /// The same, or that of the nearest local where this is nearer.
+    fn next_depth(&self, nearest: Option<usize>, depth: usize) -> usize
+        requires scope { IsScope self.now }
+        requires within { depth ≤ length self.now.path.now }
+        requires above { IfSome nearest (λ local. local ≤ depth) }
+        ensures next { IsNext (names_of self.now) self.now.path.now depth result }
+        ensures above { IfSome nearest (λ local. local ≤ result) }
+    {
+        let next = self.next_asked(depth);
+        match nearest {
+            None => next,
+            Some(local) => local.max(next),
         }
     }
 
@@ -169,16 +218,16 @@ impl<'a> Scope<'a> {
         ensures { result ≡ first_given (names_of self.now)
             (upward (length self.now.path.now) self.now.path.now segment.now) }
     {
-        let mut depth = self.path.segs().len();
+        let mut depth = self.next_asked(self.path.segs().len());
         'depths: loop {
-            let node = child_along(self.nodes, self.chain.as_slice(), depth, segment[0]);
+            let node = self.node_at(depth, segment);
             if let Some(count) = given_at(self.nodes, node) {
                 return Some(count);
             }
             if depth == 0 {
                 return None;
             }
-            depth -= 1;
+            depth = self.next_asked(depth - 1);
         }
     }
 
@@ -202,38 +251,48 @@ impl<'a> Scope<'a> {
     }
 }
 
-/// The nodes of a scope and of its parents.
-fn nodes_along(alloc: Global, nodes: &[Node], scope: &[Seg]) -> Result<Vec<usize>, NoMemory>
+/// The levels of a scope.
+fn levels_along(alloc: Global, nodes: &[Node], scope: &[Seg]) -> Result<Vec<Level>, NoMemory>
     requires { IsShape nodes.now }
-    ensures along { IfOk result (λ chain. IsAlong nodes.now scope.now chain.items) }
-    ensures long { IfOk result (λ chain. length chain.items ≤ length scope.now + 1) }
+    ensures along { IfOk result (λ levels. IsAlong nodes.now scope.now levels.items) }
+    ensures long { IfOk result (λ levels. length levels.items ≤ length scope.now + 1) }
+    ensures asked { IfOk result (λ levels. AreAsked (namespace_in (known_by nodes.now)) scope.now levels.items) }
 {
-    let mut chain = Vec::new(alloc);
-    let mut at: usize = 0;
-    chain.push(at)?;
+    let mut levels = Vec::new(alloc);
+    let mut node: usize = 0;
+    let mut asked: usize = 0;
+    levels.push(Level { node, asked })?;
     for seg in scope {
-        match child(nodes, at, *seg) {
-            None => return Ok(chain),
+        match child(nodes, node, *seg) {
+            None => return Ok(levels),
             Some(next) => {
-                at = next;
-                chain.push(at)?;
+                node = next;
+                if has_to_be_asked(nodes, node) {
+                    asked = levels.len();
+                }
+                levels.push(Level { node, asked })?;
             }
         }
     }
-    Ok(chain)
+    Ok(levels)
 }
 
-/// The node of a segment below one of the nodes of a scope.
-fn child_along(nodes: &[Node], chain: &[usize], depth: usize, seg: Seg) -> Option<usize>
+/// Whether a child of a node may have content. An only child, as each segment of a long path is one, is looked at.
+fn has_to_be_asked(nodes: &[Node], at: usize) -> bool
+    requires within { at < length nodes.now }
     requires shape { IsShape nodes.now }
-    requires within { (d j : ℕ) → slice_get chain.now d ≡ Some j → j < length nodes.now }
-    ensures node { result ≡ option_and_then (λ j. child_in (kids_of nodes.now j) seg) (slice_get chain.now depth) }
-    ensures within { IfSome result (λ at. at < length nodes.now) }
+    ensures { OnFalse result (HasBareChildren nodes.now at) }
 {
-    match chain.get(depth) {
-        None => None,
-        Some(at) => child(nodes, *at, seg),
-    }
+    let children = children_at(nodes, at);
+    children.are_several() || has_content(nodes, children.first())
+}
+
+/// Whether a node has a kind, an External or a given count.
+fn has_content(nodes: &[Node], at: Option<usize>) -> bool
+    requires { IfSome at (λ i. i < length nodes.now) }
+    ensures { OnFalse result (IfSome at (IsBare nodes.now)) }
+{
+    kind_at(nodes, at).is_some() || out_at(nodes, at).is_some() || given_at(nodes, at).is_some()
 }
 
 /// Whether the nearest local stands at this depth.

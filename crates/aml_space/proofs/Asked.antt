@@ -1,0 +1,134 @@
+-- Which depths of a scope have to be asked.
+use Rattle.std.specs.Prelude.{slice_get, ◌||◌}
+use Rattle.std.proofs.Common.{◌≡◌, ℕ, zero, suc, ◌+◌, ◌<◌, ◌≤◌, Bool, true, false, List, [], ◌∷◌, ◌++◌, length, take, get_or, Option, Some, None, IfSome, is_some, inl, inr, refl, sym, ap, subst, ◌∙◌, arith, length-append}
+use Rattle.std.specs.FinSet as set
+use Rattle.std.specs.Bool.{OnFalse}
+use Rattle.std.proofs.lemmas.Bool.{cases_lt, false≢true}
+use Rattle.std.proofs.lemmas.Option.{slice_get_past}
+use Rattle.std.specs.Option.{option_and_then, option_or}
+use Rattle.aml_names.specs.declared.segments.Seg.{Seg}
+use Rattle.aml_names.specs.Paths.{PathSet}
+use Rattle.aml_children.specs.Children.{child_in}
+use Rattle.aml_space.specs.declared.nodes.Node.{Node}
+use Rattle.aml_space.specs.declared.scopes.Level.{Level}
+use Rattle.aml_space.specs.Graph.{walk}
+use Rattle.aml_space.specs.Known.{namespace_in}
+use Rattle.aml_space.specs.Namespace.{Namespace, decides, is_outside}
+use Rattle.aml_space.specs.Predefined.{predefined}
+use Rattle.aml_space.specs.Nodes.{kids_of, kinds_of, outs_of, givens_of, known_by, IsShape}
+use Rattle.aml_space.specs.Candidates.{IsAlong, IsBare, HasBareChildren, IsSilent, IsNext, AreAsked}
+use Rattle.aml_space.proofs.Along.{get_front, get_end, along_past}
+use Rattle.aml_space.proofs.Change.{walk_push}
+use Rattle.aml_space.proofs.Index.{known_kind, known_out, known_given}
+use Rattle.aml_space.proofs.Meaning.{predefined_deep, alone}
+
+pub of_false : (b : Bool) (P : Type 0) → OnFalse b P → b ≡ false → P
+of_false true P gives is = absurd (false≢true (sym is))
+of_false false P gives is = gives
+
+module _ (ns : List Node) where
+  bare_kind : (o : Option ℕ) → IfSome o (IsBare ns) → option_and_then (kinds_of ns) o ≡ None
+  bare_kind None bare = refl
+  bare_kind (Some j) bare = bare.kind
+
+  bare_out : (o : Option ℕ) → IfSome o (IsBare ns) → option_and_then (outs_of ns) o ≡ None
+  bare_out None bare = refl
+  bare_out (Some j) bare = bare.out
+
+  bare_given : (o : Option ℕ) → IfSome o (IsBare ns) → option_and_then (givens_of ns) o ≡ None
+  bare_given None bare = refl
+  bare_given (Some j) bare = bare.given
+
+  module _ (shape : IsShape ns) (p : List Seg) where
+    -- a path below which there are no nodes but bare ones
+    silent : ((s : Seg) → IfSome (walk (kids_of ns) 0 (p ++ s ∷ [])) (IsBare ns)) → IsSilent (namespace_in (known_by ns)) p
+    silent bare = record {
+      declared = λ s. sym (known_kind ns shape (p ++ s ∷ [])) ∙ bare_kind (walk (kids_of ns) 0 (p ++ s ∷ [])) (bare s);
+      out = λ s. sym (known_out ns shape (p ++ s ∷ [])) ∙ bare_out (walk (kids_of ns) 0 (p ++ s ∷ [])) (bare s);
+      given = λ s. sym (known_given ns shape (p ++ s ∷ [])) ∙ bare_given (walk (kids_of ns) 0 (p ++ s ∷ [])) (bare s);
+    }
+
+    led_by : (o : Option ℕ) → walk (kids_of ns) 0 p ≡ o → (s : Seg) → walk (kids_of ns) 0 (p ++ s ∷ []) ≡ option_and_then (λ j. child_in (kids_of ns j) s) o
+    led_by o led s = walk_push (kids_of ns) 0 p s ∙ ap (option_and_then (λ j. child_in (kids_of ns j) s)) led
+
+    pub silent_at : (at : ℕ) → walk (kids_of ns) 0 p ≡ Some at → HasBareChildren ns at → IsSilent (namespace_in (known_by ns)) p
+    silent_at at led bare = silent (λ s. subst (λ o. IfSome o (IsBare ns)) (sym (led_by (Some at) led s)) (bare s))
+
+    pub silent_past : walk (kids_of ns) 0 p ≡ None → IsSilent (namespace_in (known_by ns)) p
+    silent_past none = silent (λ s. subst (λ o. IfSome o (IsBare ns)) (sym (led_by None none s)) tt)
+
+module _ (n : Namespace) (path : List Seg) where
+  pub next_itself : (d asked : ℕ) → asked ≡ d → IsNext n path d asked
+  next_itself d asked same = record {
+    within = omega (arith, same);
+    silent = λ e more less. absurd (omega (arith, same, more, less));
+  }
+
+  -- a level further down that is silent
+  pub next_further : (d asked : ℕ) → IsNext n path d asked → IsSilent n (take (d + 1) path) → IsNext n path (d + 1) asked
+  next_further d asked is here = record {
+    within = omega (arith, is.within);
+    silent = λ e more less. elim (cases_lt e (d + 1)) [
+      | inl below ↦ is.silent e more (omega (arith, below))
+      | inr past ↦ subst (λ m. IsSilent n (take m path)) {x = d + 1} {y = e} (omega (arith, past, less)) here
+    ];
+  }
+
+  -- behind a level nothing but silence
+  pub next_past : (last d asked : ℕ) → last ≤ d → IsNext n path last asked → ((e : ℕ) → last < e → e ≤ d → IsSilent n (take e path)) → IsNext n path d asked
+  next_past last d asked less is past = record {
+    within = omega (arith, is.within, less);
+    silent = λ e more to. elim (cases_lt last e) [
+      | inl behind ↦ past e behind to
+      | inr up ↦ is.silent e more (omega (arith, up))
+    ];
+  }
+
+  -- and one that is nearer than the next
+  pub next_nearer : (d asked nearer : ℕ) → IsNext n path d asked → asked ≤ nearer → nearer ≤ d → IsNext n path d nearer
+  next_nearer d asked nearer is less within = record {
+    within = within;
+    silent = λ e more to. is.silent e (omega (arith, less, more)) to;
+  }
+
+  pub asked_first : (levels : List Level) (l : Level) → l.asked ≡ 0 → levels ≡ l ∷ [] → AreAsked n path levels
+  asked_first levels l root is d = subst (λ ls. IfSome (slice_get ls d) (λ (m : Level). IsNext n path d m.asked)) (sym is) (by d)
+    where
+      by : (d : ℕ) → IfSome (slice_get (l ∷ []) d) (λ (m : Level). IsNext n path d m.asked)
+      by zero = next_itself 0 l.asked root
+      by (suc zero) = tt
+      by (suc (suc d)) = tt
+
+  pub asked_more : (levels new : List Level) (l : Level) → AreAsked n path levels → IsNext n path (length levels) l.asked → new ≡ levels ++ l ∷ [] → AreAsked n path new
+  asked_more levels new l so_far next is d = subst (λ ls. IfSome (slice_get ls d) (λ (m : Level). IsNext n path d m.asked)) (sym is) (elim (cases_lt d (length levels)) [
+    | inl below ↦ subst (λ o. IfSome o (λ (m : Level). IsNext n path d m.asked)) (sym (get_front levels l d below)) (so_far d)
+    | inr past ↦ elim (cases_lt (length levels) d) [
+      | inl far ↦ subst (λ o. IfSome o (λ (m : Level). IsNext n path d m.asked)) (sym (slice_get_past (levels ++ l ∷ []) d (omega (arith, far, length-append levels (l ∷ []))))) tt
+      | inr near ↦
+          let here : d ≡ length levels = omega (arith, past, near) in
+          subst (λ o. IfSome o (λ (m : Level). IsNext n path d m.asked)) (sym (ap (slice_get (levels ++ l ∷ [])) here ∙ get_end levels l)) (subst (λ e. IsNext n path e l.asked) (sym here) next)
+    ]
+  ])
+
+-- from any depth of a scope up, the next is that of its level, else that of the last one
+pub next_of_level : (ns : List Node) (path : List Seg) (levels : List Level) → IsShape ns → IsAlong ns path levels → AreAsked (namespace_in (known_by ns)) path levels → (d m : ℕ) → d ≤ length path → m ≤ d → (m < d → length levels ≤ m + 1) → (l : Level) → slice_get levels m ≡ Some l →
+    IsNext (namespace_in (known_by ns)) path d l.asked
+next_of_level ns path levels shape along asked d m within less last l at =
+    let is : IsNext (namespace_in (known_by ns)) path m l.asked = subst (λ o. IfSome o (λ (l : Level). IsNext (namespace_in (known_by ns)) path m l.asked)) at (asked m) in
+    next_past (namespace_in (known_by ns)) path m d l.asked less is (λ e behind to. silent_past ns shape (take e path) (along_past ns path levels e along (omega (arith, to, within)) (omega (arith, behind, last (omega (arith, behind, to))))))
+
+-- what silence says of a segment
+module _ (n : Namespace) (path : List Seg) where
+  pub none_given_below : (segment : List Seg) → length segment ≡ 1 → (d asked : ℕ) → IsNext n path d asked → (e : ℕ) → asked < e → e ≤ d → n.givens (take e path ++ segment) ≡ None
+  none_given_below segment one d asked next e more less =
+      subst (λ t. n.givens (take e path ++ t) ≡ None) (alone segment (record { 0 = [] }) one) ((next.silent e more less).given (get_or segment 0 (record { 0 = [] })))
+
+  pub none_met_below : (locals : PathSet) (segment : List Seg) → length segment ≡ 1 → (d asked : ℕ) → d ≤ length path → IsNext n path d asked → ((e : ℕ) → asked < e → e ≤ d → set.contains locals (take e path ++ segment) ≡ false) →
+      (e : ℕ) → asked < e → e ≤ d → (decides n locals (take e path ++ segment) ≡ false) × (is_outside n (take e path ++ segment) ≡ false)
+  none_met_below locals segment one d asked within next no_local e more less =
+      let silent = next.silent e more less in
+      let s = get_or segment 0 (record { 0 = [] }) in
+      let undeclared : n.declared (take e path ++ segment) ≡ None = subst (λ t. n.declared (take e path ++ t) ≡ None) (alone segment (record { 0 = [] }) one) (silent.declared s) in
+      let no_out : n.outs (take e path ++ segment) ≡ None = subst (λ t. n.outs (take e path ++ t) ≡ None) (alone segment (record { 0 = [] }) one) (silent.out s) in
+      let no_name : predefined (take e path ++ segment) ≡ None = predefined_deep e path segment (λ root. omega (arith, root, more)) (omega (arith, less, within)) one in
+      (λ i. no_local e more less i || is_some (option_or (undeclared i) (no_name i)), ap is_some no_out)
