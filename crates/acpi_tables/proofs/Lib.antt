@@ -1,8 +1,7 @@
 pub mod Numbers
 pub mod FadtFields
 pub mod Rows
-pub mod Entries
-pub mod RsdtEntries
+pub mod Cells
 pub mod Meanings
 pub mod Cuts
 pub mod Places

@@ -11,11 +11,10 @@ use Rattle.acpi_tables.specs.declared.dump.Kind.TheVariants.{Root, Facs, Standar
 use Rattle.acpi_tables.specs.Bytes.{begins_with, number_at}
 use Rattle.acpi_tables.specs.Header.{HoldsTable, table_of}
 use Rattle.acpi_tables.specs.Rsdp.{HoldsRoot}
-use Rattle.acpi_tables.specs.Rsdt.{HoldsRsdt}
-use Rattle.acpi_tables.specs.Xsdt.{HoldsEntries}
+use Rattle.acpi_tables.specs.Addresses.{HoldsAddresses}
 use Rattle.acpi_tables.specs.Fadt.{HoldsFadt}
 use Rattle.acpi_tables.specs.Dumps.{kind_of, HoldsShape, HoldsContent, HoldsTables, HoldsDump}
-use Rattle.acpi_tables.specs.Order.{bytes_of, has_signature, dump_at, signed_at, root_of, gives_xsdt, list_of}
+use Rattle.acpi_tables.specs.Order.{bytes_of, has_signature, dump_at, signed_at, root_of, gives_xsdt, list_of, width_of}
 use Rattle.acpi_tables.proofs.Places.{bytes_of-past}
 
 begins : (bytes word : List ℕ) → begins_with bytes word ≡ true → bytes ≡ word ++ drop (length word) bytes
@@ -98,44 +97,30 @@ module _ (dumps : List Dump) (each : (index : ℕ) → index < length dumps → 
   pub root_holds : (index : ℕ) → has_signature dumps (codes "RSD PTR ") index ≡ true → HoldsRoot (bytes_of dumps index)
   root_holds index is = subst (λ kind. HoldsShape kind (bytes_of dumps index)) (root_is_root _ is) (held _ index (omega arith) is).shape
 
-  pub xsdt_holds : (index : ℕ) → has_signature dumps (codes "XSDT") index ≡ true → HoldsTable (bytes_of dumps index)
-  xsdt_holds index is = subst (λ kind. HoldsShape kind (bytes_of dumps index)) (xsdt_is_standard _ is) (held _ index (omega arith) is).shape
-
-  pub entries_hold : (index : ℕ) → has_signature dumps (codes "XSDT") index ≡ true → HoldsEntries (table_of (bytes_of dumps index))
-  entries_hold index is =
-      let tables : HoldsTables (bytes_of dumps index) = subst (λ kind. HoldsContent kind (bytes_of dumps index)) (xsdt_is_standard _ is) (held _ index (omega arith) is).content in
-      tables.xsdt is
-
-  pub rsdt_holds : (index : ℕ) → has_signature dumps (codes "RSDT") index ≡ true → HoldsTable (bytes_of dumps index)
-  rsdt_holds index is = subst (λ kind. HoldsShape kind (bytes_of dumps index)) (rsdt_is_standard _ is) (held _ index (omega arith) is).shape
-
-  pub addresses_hold : (index : ℕ) → has_signature dumps (codes "RSDT") index ≡ true → HoldsRsdt (table_of (bytes_of dumps index))
-  addresses_hold index is =
-      let tables : HoldsTables (bytes_of dumps index) = subst (λ kind. HoldsContent kind (bytes_of dumps index)) (rsdt_is_standard _ is) (held _ index (omega arith) is).content in
-      tables.rsdt is
+  table_holds : (word : List ℕ) (index : ℕ) → 0 < length word → ((bytes : List ℕ) → begins_with bytes word ≡ true → kind_of bytes ≡ Standard)
+      → has_signature dumps word index ≡ true → HoldsTable (bytes_of dumps index) × HoldsTables (bytes_of dumps index)
+  table_holds word index some standard is =
+      let holds = held word index some is in
+      let kind = standard (bytes_of dumps index) is in
+      (subst (λ kind. HoldsShape kind (bytes_of dumps index)) kind holds.shape, subst (λ kind. HoldsContent kind (bytes_of dumps index)) kind holds.content)
 
   -- the list that a root leads to
-  pub list_holds : (root : List ℕ) (index : ℕ) → list_of dumps root ≡ Some index → HoldsTable (bytes_of dumps index)
+  pub list_holds : (root : List ℕ) (index : ℕ) → list_of dumps root ≡ Some index
+      → HoldsTable (bytes_of dumps index) × HoldsAddresses (width_of (bytes_of dumps index)) (table_of (bytes_of dumps index))
   list_holds root index e = by_list (list_signed dumps root index e)
     where
-      by_list : (has_signature dumps (codes "XSDT") index ≡ true) ⊎ (has_signature dumps (codes "RSDT") index ≡ true) → HoldsTable (bytes_of dumps index)
-      by_list (inl is) = xsdt_holds index is
-      by_list (inr is) = rsdt_holds index is
+      by_list : (has_signature dumps (codes "XSDT") index ≡ true) ⊎ (has_signature dumps (codes "RSDT") index ≡ true)
+          → HoldsTable (bytes_of dumps index) × HoldsAddresses (width_of (bytes_of dumps index)) (table_of (bytes_of dumps index))
+      by_list (inl is) =
+          let holds = table_holds (codes "XSDT") index (omega arith) xsdt_is_standard is in
+          (holds.0, subst (λ b. HoldsAddresses (cond b 8 4) (table_of (bytes_of dumps index))) (sym is) (holds.1.xsdt is))
+      by_list (inr is) =
+          let holds = table_holds (codes "RSDT") index (omega arith) rsdt_is_standard is in
+          let other = begins_only (bytes_of dumps index) (codes "RSDT") (codes "XSDT") 0 (omega arith) (omega arith) (omega arith) is in
+          (holds.0, subst (λ b. HoldsAddresses (cond b 8 4) (table_of (bytes_of dumps index))) (sym other) (holds.1.rsdt is))
 
-  pub list_addresses_hold : (root : List ℕ) (index : ℕ) → list_of dumps root ≡ Some index → has_signature dumps (codes "XSDT") index ≡ false → HoldsRsdt (table_of (bytes_of dumps index))
-  list_addresses_hold root index e other = by_list (list_signed dumps root index e)
-    where
-      by_list : (has_signature dumps (codes "XSDT") index ≡ true) ⊎ (has_signature dumps (codes "RSDT") index ≡ true) → HoldsRsdt (table_of (bytes_of dumps index))
-      by_list (inl is) = absurd (true≢false (sym is ∙ other))
-      by_list (inr is) = addresses_hold index is
-
-  pub fadt_holds : (index : ℕ) → has_signature dumps (codes "FACP") index ≡ true → HoldsTable (bytes_of dumps index)
-  fadt_holds index is = subst (λ kind. HoldsShape kind (bytes_of dumps index)) (fadt_is_standard _ is) (held _ index (omega arith) is).shape
-
-  pub fields_hold : (index : ℕ) → has_signature dumps (codes "FACP") index ≡ true → HoldsFadt (table_of (bytes_of dumps index))
-  fields_hold index is =
-      let tables : HoldsTables (bytes_of dumps index) = subst (λ kind. HoldsContent kind (bytes_of dumps index)) (fadt_is_standard _ is) (held _ index (omega arith) is).content in
-      tables.fadt is
+  pub fadt_holds : (index : ℕ) → has_signature dumps (codes "FACP") index ≡ true → HoldsTable (bytes_of dumps index) × HoldsFadt (table_of (bytes_of dumps index))
+  fadt_holds index is = let holds = table_holds (codes "FACP") index (omega arith) fadt_is_standard is in (holds.0, holds.1.fadt is)
 
 -- what a search for a dump has found
 first_of : (dumps : List Dump) (test : List ℕ → Bool) (index : ℕ) → position (λ dump. test dump.bytes.items) dumps ≡ Some index → test (bytes_of dumps index) ≡ true

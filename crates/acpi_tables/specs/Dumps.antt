@@ -3,8 +3,7 @@ use Rattle.std.specs.Prelude.{◌≡◌, ◌≢◌, ℕ, ◌<◌, ◌≤◌, ◌
 use Rattle.acpi_tables.specs.Bytes.{begins_with, checksum, HasLength}
 use Rattle.acpi_tables.specs.Header.{HoldsTable, table_of}
 use Rattle.acpi_tables.specs.Rsdp.{HoldsRoot, RootSums}
-use Rattle.acpi_tables.specs.Rsdt.{HoldsRsdt}
-use Rattle.acpi_tables.specs.Xsdt.{HoldsEntries}
+use Rattle.acpi_tables.specs.Addresses.{HoldsAddresses}
 use Rattle.acpi_tables.specs.Fadt.{HoldsFadt}
 use Rattle.acpi_tables.specs.Madt.{HoldsMadt, RefusesMadt}
 use Rattle.acpi_tables.specs.declared.dump.Kind.{Kind}
@@ -34,8 +33,8 @@ HasSums Standard bytes = checksum (table_of bytes) ≡ 0
 pub record HoldsTables (bytes : List ℕ) : Type 0 where
   pub fadt : begins_with bytes (codes "FACP") ≡ true → HoldsFadt (table_of bytes)
   pub madt : begins_with bytes (codes "APIC") ≡ true → HoldsMadt (table_of bytes)
-  pub xsdt : begins_with bytes (codes "XSDT") ≡ true → HoldsEntries (table_of bytes)
-  pub rsdt : begins_with bytes (codes "RSDT") ≡ true → HoldsRsdt (table_of bytes)
+  pub xsdt : begins_with bytes (codes "XSDT") ≡ true → HoldsAddresses 8 (table_of bytes)
+  pub rsdt : begins_with bytes (codes "RSDT") ≡ true → HoldsAddresses 4 (table_of bytes)
 
 abbrev pub HoldsContent : Kind → List ℕ → Type 0
 HoldsContent Root bytes = ⊤
@@ -62,8 +61,8 @@ RefusesFacs bytes _ = ⊥
 
 abbrev pub RefusesContent : List ℕ → Bad → Type 0
 RefusesContent bytes BadRoot =
-    ((begins_with bytes (codes "XSDT") ≡ true) × (¬ HoldsEntries (table_of bytes)))
-    ⊎ ((begins_with bytes (codes "RSDT") ≡ true) × (¬ HoldsRsdt (table_of bytes)))
+    ((begins_with bytes (codes "XSDT") ≡ true) × (¬ HoldsAddresses 8 (table_of bytes)))
+    ⊎ ((begins_with bytes (codes "RSDT") ≡ true) × (¬ HoldsAddresses 4 (table_of bytes)))
 RefusesContent bytes FadtShort = (begins_with bytes (codes "FACP") ≡ true) × (¬ HoldsFadt (table_of bytes))
 RefusesContent bytes Short = (begins_with bytes (codes "APIC") ≡ true) × RefusesMadt (table_of bytes) Short
 RefusesContent bytes (MadtRecord at) =

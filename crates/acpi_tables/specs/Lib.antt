@@ -2,8 +2,7 @@ pub mod Bytes
 pub mod Fields
 pub mod Header
 pub mod Rsdp
-pub mod Rsdt
-pub mod Xsdt
+pub mod Addresses
 pub mod Fadt
 pub mod Records
 pub mod Madt

@@ -10,8 +10,7 @@ use Rattle.std.specs.Cmp.Lexicographic.{slice_cmp}
 use Rattle.acpi_tables.specs.Bytes.{begins_with, number_at}
 use Rattle.acpi_tables.specs.Header.{HoldsTable, table_of}
 use Rattle.acpi_tables.specs.Rsdp.{revision_of}
-use Rattle.acpi_tables.specs.Rsdt.{rsdt_entries}
-use Rattle.acpi_tables.specs.Xsdt.{entries_of}
+use Rattle.acpi_tables.specs.Addresses.{addresses_of}
 use Rattle.acpi_tables.specs.Dumps.{HoldsDump, RefusesDump}
 use Rattle.acpi_tables.specs.declared.dump.Dump.{Dump}
 use Rattle.acpi_tables.specs.declared.faults.Bad.{Bad}
@@ -111,13 +110,14 @@ pub record LeadsToList (dumps : List Dump) (root list : ℕ) : Type 0 where
   pub first : root_of dumps ≡ Some root
   pub there : list_of dumps (bytes_of dumps root) ≡ Some list
 
--- the addresses in such a list
-abbrev pub addresses_in : List ℕ → List ℕ
-addresses_in list = if begins_with list (codes "XSDT") then entries_of (table_of list) else rsdt_entries (table_of list)
+-- how many bytes an address has in such a list
+abbrev pub width_of : List ℕ → ℕ
+width_of list = if begins_with list (codes "XSDT") then 8 else 4
 
 -- the dumps that it lists, in its order; an entry with no dump is skipped
 abbrev pub listed_by : List Dump → ℕ → List ℕ
-listed_by dumps list = filter_map (dump_at dumps) (addresses_in (bytes_of dumps list))
+listed_by dumps list =
+    filter_map (dump_at dumps) (addresses_of (width_of (bytes_of dumps list)) (table_of (bytes_of dumps list)))
 
 -- The first of these that is a FADT.
 pub record LeadsToFadt (dumps : List Dump) (root list fadt : ℕ) : Type 0 where

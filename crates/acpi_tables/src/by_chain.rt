@@ -1,26 +1,23 @@
 //! The order of the definition blocks where addresses lead from the RSDP over the XSDT or RSDT and the FADT to a DSDT.
-ghost use Rattle.std.specs.Prelude.{◌≡◌, ◌⊎◌, ℕ, List, None, true, false, length};
+ghost use Rattle.std.specs.Prelude.{◌≡◌, ◌⊎◌, ◌<◌, ◌≤◌, ℕ, List, None, true, false, length};
 ghost use Rattle.std.specs.Prelude.{filter, filter_map, find, codes, IfOk, IfErr};
 ghost use Rattle.acpi_tables.specs.Bytes.{begins_with as has_front};
 ghost use Rattle.acpi_tables.specs.Header.{HoldsTable, table_of};
 ghost use Rattle.acpi_tables.specs.Rsdp.{HoldsRoot};
-ghost use Rattle.acpi_tables.specs.Rsdt.{HoldsRsdt, rsdt_entries};
-ghost use Rattle.acpi_tables.specs.Xsdt.{HoldsEntries, entries_of};
+ghost use Rattle.acpi_tables.specs.Addresses.{HoldsAddresses, addresses_of};
 ghost use Rattle.acpi_tables.specs.Fadt.{HoldsFadt};
 ghost use Rattle.acpi_tables.specs.Order.{AreTaken, IsChained, RefusesOrder, bytes_of, dump_at};
-ghost use Rattle.acpi_tables.specs.Order.{signed_at, root_of, gives_xsdt, list_of, listed_by};
+ghost use Rattle.acpi_tables.specs.Order.{signed_at, root_of, gives_xsdt, list_of, width_of, listed_by};
 ghost use Rattle.acpi_tables.specs.Order.{dsdt_address, each_once, has_signature, is_addressed};
 ghost use Rattle.acpi_tables.specs.declared.faults.Bad.TheVariants.{NoMemory};
 
+use crate::addresses::{RSDT_WIDTH, XSDT_WIDTH, address_at, address_count};
 use crate::bytes::{begins_with, u8_at, u32_at, u64_at};
 use crate::dump::{Dump, table_of};
 use crate::fadt::X_DSDT_END;
 use crate::faults::{Bad, TableFault};
-use crate::header::HEADER_LENGTH;
 use crate::order::Order;
 use crate::rsdp::RSDP_SIGNATURE;
-use crate::rsdt::Rsdt;
-use crate::xsdt::Xsdt;
 use std::alloc::{AllocError, Global};
 
 /// The order that the chain gives.
@@ -117,43 +114,39 @@ fn signed_at(dumps: &[Dump], signature: &[u8], address: u64) -> Option<usize>
 /// The dumps that an XSDT or an RSDT lists, in its order.
 fn listed_by(alloc: Global, dumps: &[Dump], list: usize) -> Result<Vec<usize>, AllocError>
     requires table { HoldsTable (bytes_of dumps.now list) }
-    requires xsdt { has_front (bytes_of dumps.now list) (codes "XSDT") ≡ true
-        → HoldsEntries (table_of (bytes_of dumps.now list)) }
-    requires rsdt { has_front (bytes_of dumps.now list) (codes "XSDT") ≡ false
-        → HoldsRsdt (table_of (bytes_of dumps.now list)) }
+    requires holds { HoldsAddresses (width_of (bytes_of dumps.now list)) (table_of (bytes_of dumps.now list)) }
     ensures { IfOk result (λ listed. listed.items ≡ listed_by dumps.now list) }
 {
     let bytes = bytes_of(dumps, list);
-    let table = table_of(bytes);
-    if begins_with(bytes, b"XSDT") {
-        listed_by_xsdt(alloc, dumps, table)
+    listed_in(alloc, dumps, table_of(bytes), width_of(bytes))
+}
+
+/// How many bytes an address has in a list with this signature.
+fn width_of(list: &[u8]) -> usize
+    ensures { result ≡ width_of list.now }
+{
+    if begins_with(list, b"XSDT") {
+        XSDT_WIDTH
     } else {
-        listed_by_rsdt(alloc, dumps, table)
+        RSDT_WIDTH
     }
 }
 
-/// Those that this XSDT lists.
-fn listed_by_xsdt(alloc: Global, dumps: &[Dump], table: &[u8]) -> Result<Vec<usize>, AllocError>
-    requires { HoldsEntries table.now }
-    ensures { IfOk result (λ listed. listed.items ≡ filter_map (dump_at dumps.now) (entries_of table.now)) }
+/// Those that a table with addresses of this width lists.
+fn listed_in(
+    alloc: Global,
+    dumps: &[Dump],
+    table: &[u8],
+    width: usize,
+) -> Result<Vec<usize>, AllocError>
+    requires some { 0 < width }
+    requires narrow { width ≤ 8 }
+    requires holds { HoldsAddresses width table.now }
+    ensures { IfOk result (λ listed. listed.items ≡ filter_map (dump_at dumps.now) (addresses_of width table.now)) }
 {
     let mut listed = Vec::new(alloc);
-    for index in 0..Xsdt::entry_count(table) {
-        if let Some(dump) = dump_at(dumps, u64_at(table, HEADER_LENGTH + 8 * index)) {
-            listed.push(dump)?;
-        }
-    }
-    Ok(listed)
-}
-
-/// Those that this RSDT lists.
-fn listed_by_rsdt(alloc: Global, dumps: &[Dump], table: &[u8]) -> Result<Vec<usize>, AllocError>
-    requires { HoldsRsdt table.now }
-    ensures { IfOk result (λ listed. listed.items ≡ filter_map (dump_at dumps.now) (rsdt_entries table.now)) }
-{
-    let mut listed = Vec::new(alloc);
-    for index in 0..Rsdt::entry_count(table) {
-        if let Some(dump) = dump_at(dumps, u64::from(u32_at(table, HEADER_LENGTH + 4 * index))) {
+    for index in 0..address_count(table, width) {
+        if let Some(dump) = dump_at(dumps, address_at(table, width, index)) {
             listed.push(dump)?;
         }
     }

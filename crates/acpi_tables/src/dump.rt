@@ -6,14 +6,13 @@ ghost use Rattle.acpi_tables.specs.Rsdp.{HoldsRoot, RootSums};
 ghost use Rattle.acpi_tables.specs.Dumps.{kind_of, HoldsDump, HoldsTables, RefusesDump};
 ghost use Rattle.acpi_tables.specs.Dumps.{RefusesRoot, RefusesFacs, RefusesContent, RefusesTable};
 
+use crate::addresses::{RSDT_WIDTH, XSDT_WIDTH, holds_addresses};
 use crate::bytes::{begins_with, sum, u32_at};
 use crate::fadt::Fadt;
 use crate::faults::Bad;
 use crate::header::Header;
 use crate::madt::Madt;
 use crate::rsdp::{RSDP_SIGNATURE, Rsdp};
-use crate::rsdt::Rsdt;
-use crate::xsdt::Xsdt;
 
 /// The greatest number of bytes of a dump.
 pub const MAX_DUMP_BYTES: usize = 16_777_216;
@@ -148,10 +147,10 @@ fn check_content(bytes: &[u8]) -> Result<(), Bad>
     if begins_with(bytes, b"APIC") {
         Madt::check(table)?;
     }
-    if begins_with(bytes, b"XSDT") && !Xsdt::holds_entries(table) {
+    if begins_with(bytes, b"XSDT") && !holds_addresses(table, XSDT_WIDTH) {
         return Err(Bad::BadRoot);
     }
-    if begins_with(bytes, b"RSDT") && !Rsdt::holds_entries(table) {
+    if begins_with(bytes, b"RSDT") && !holds_addresses(table, RSDT_WIDTH) {
         return Err(Bad::BadRoot);
     }
     Ok(())

@@ -1,6 +1,7 @@
 //! The system description tables of ACPI, and the order in which their definition blocks are loaded.
 #![tactic(auto)]
 
+mod addresses;
 mod by_chain;
 mod by_name;
 mod bytes;
@@ -12,9 +13,8 @@ mod header;
 mod madt;
 mod order;
 mod rsdp;
-mod rsdt;
-mod xsdt;
 
+pub use addresses::{RSDT_WIDTH, Rsdt, XSDT_WIDTH, Xsdt, address_bytes, address_count};
 pub use by_chain::dump_at;
 pub use by_name::name_of;
 pub use bytes::{begins_with, little_endian, sum, u8_at, u32_at};
@@ -26,5 +26,3 @@ pub use header::{HEADER_LENGTH, Header};
 pub use madt::{MADT_RECORDS, Madt, MadtRecord, MadtView};
 pub use order::{MAX_DUMPS, Order, load_order};
 pub use rsdp::{RSDP_SIGNATURE, Rsdp, Wide};
-pub use rsdt::Rsdt;
-pub use xsdt::Xsdt;

@@ -1,7 +1,8 @@
 -- The first part of a listing: what it says of each dump. The fields are those of ACPI 6.5, sections 5.2.5 to 5.2.12.
 use Rattle.std.specs.Prelude.{ℕ, Bool, true, false, ◌&&◌, ◌||◌, not, nat_eq, nat_le, if◌then◌else◌}
 use Rattle.std.specs.Prelude.{decimal, codes, List, [], ◌++◌, flat_map, take, drop, reverse}
-use Rattle.std.specs.Prelude.{length, Option, Some, None, option_map, string_bytes}
+use Rattle.std.specs.Prelude.{length, map, Option, Some, None, option_map, string_bytes}
+use Rattle.std.specs.List.{range_with_len}
 use Rattle.acpi_tables.specs.Bytes.{little_endian, number_at, checksum, begins_with}
 use Rattle.acpi_tables.specs.Fields.{Field, field_bytes}
 use Rattle.acpi_tables.specs.Header.{table_of, header_of}
@@ -9,8 +10,7 @@ use Rattle.acpi_tables.specs.Rsdp.{revision_of, rsdp_of}
 use Rattle.acpi_tables.specs.Fadt.{fadt_fields}
 use Rattle.acpi_tables.specs.Records.{Row, row_of, kind_of as record_kind}
 use Rattle.acpi_tables.specs.Madt.{records_of}
-use Rattle.acpi_tables.specs.Rsdt.{rsdt_entries}
-use Rattle.acpi_tables.specs.Xsdt.{entries_of}
+use Rattle.acpi_tables.specs.Addresses.{address_bytes, address_count}
 use Rattle.acpi_tables.specs.Dumps.{kind_of}
 use Rattle.acpi_tables.specs.Order.{dump_at, name_of}
 use Rattle.acpi_tables.specs.declared.dump.Dump.{Dump}
@@ -104,25 +104,17 @@ owner_text (Some name) = word " " ++ quoted name
 abbrev pub owner_of : List Dump → ℕ → Option (List ℕ)
 owner_of dumps address = option_map (name_of dumps) (dump_at dumps address)
 
--- an address that an XSDT lists
-unfoldable pub entry_text : List Dump → ℕ → List ℕ
-entry_text dumps address = (word "Entry " ++ hex16 address) ++ owner_text (owner_of dumps address)
+-- an address of an XSDT or an RSDT: its bytes, in hexadecimal the highest first, and the name of the first dump there
+unfoldable pub entry_text : List Dump → List ℕ → List ℕ
+entry_text dumps bytes =
+    word "Entry " ++ flat_map hex2 (reverse bytes) ++ owner_text (owner_of dumps (little_endian bytes))
 
-unfoldable pub entry_line : List Dump → ℕ → List ℕ
-entry_line dumps address = below (entry_text dumps address)
+unfoldable pub entry_line : List Dump → List ℕ → List ℕ
+entry_line dumps bytes = below (entry_text dumps bytes)
 
-unfoldable pub entry_lines : List Dump → List ℕ → List ℕ
-entry_lines dumps table = flat_map (entry_line dumps) (entries_of table)
-
--- an address that an RSDT lists
-unfoldable pub rsdt_entry_text : List Dump → ℕ → List ℕ
-rsdt_entry_text dumps address = (word "Entry " ++ hex8 address) ++ owner_text (owner_of dumps address)
-
-unfoldable pub rsdt_entry_line : List Dump → ℕ → List ℕ
-rsdt_entry_line dumps address = below (rsdt_entry_text dumps address)
-
-unfoldable pub rsdt_entry_lines : List Dump → List ℕ → List ℕ
-rsdt_entry_lines dumps table = flat_map (rsdt_entry_line dumps) (rsdt_entries table)
+unfoldable pub entry_lines : List Dump → ℕ → List ℕ → List ℕ
+entry_lines dumps width table =
+    flat_map (entry_line dumps) (map (address_bytes width table) (range_with_len 0 (address_count width table)))
 
 -- a field: its label, if it has one, and its value in the digits of its base, in hexadecimal the highest byte first
 unfoldable pub label_text : List ℕ → List ℕ
@@ -192,8 +184,8 @@ lines_if false lines = []
 
 unfoldable pub list_lines : List Dump → List ℕ → List ℕ
 list_lines dumps bytes =
-    lines_if (begins_with bytes (codes "XSDT")) (entry_lines dumps (table_of bytes))
-    ++ lines_if (begins_with bytes (codes "RSDT")) (rsdt_entry_lines dumps (table_of bytes))
+    lines_if (begins_with bytes (codes "XSDT")) (entry_lines dumps 8 (table_of bytes))
+    ++ lines_if (begins_with bytes (codes "RSDT")) (entry_lines dumps 4 (table_of bytes))
 
 unfoldable pub table_lines : List Dump → List ℕ → List ℕ
 table_lines dumps bytes =

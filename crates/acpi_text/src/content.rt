@@ -1,15 +1,18 @@
 //! The lines below a table: the addresses of an XSDT or an RSDT, and the fields of a FADT.
-ghost use Rattle.std.specs.Prelude.{◌≡◌, ◌≤◌, length, option_map};
-ghost use Rattle.text_writer.specs.Prints.{Prints};
-ghost use Rattle.acpi_tables.specs.Fields.{field_view, IsNarrow};
-ghost use Rattle.acpi_tables.specs.Rsdt.{HoldsRsdt};
-ghost use Rattle.acpi_tables.specs.Xsdt.{HoldsEntries};
-ghost use Rattle.acpi_text.specs.Dumps.{owner_text, owner_of, entry_text, entry_line, entry_lines, rsdt_entry_text};
-ghost use Rattle.acpi_text.specs.Dumps.{rsdt_entry_line, rsdt_entry_lines, below, labelled, field_line, fadt_lines};
+#![tactic(auto, using(text_writer::proofs::PrintLaws::straight))]
 
-use crate::fields::print_labelled;
-use crate::labels::{put_hex8, put_hex16, put_quoted};
-use acpi_tables::{Dump, Rsdt, TableField, Xsdt, dump_at, name_of};
+ghost use Rattle.std.specs.Prelude.{◌≡◌, ◌<◌, ◌≤◌, length, option_map};
+ghost use Rattle.text_writer.specs.Prints.{Prints};
+ghost use Rattle.acpi_tables.specs.Addresses.{HoldsAddresses};
+ghost use Rattle.acpi_tables.specs.Fields.{field_view, IsNarrow};
+ghost use Rattle.acpi_text.specs.Dumps.{owner_text, owner_of, entry_text, entry_line, entry_lines};
+ghost use Rattle.acpi_text.specs.Dumps.{below, labelled, field_line, fadt_lines};
+
+use crate::fields::{print_labelled, print_reversed};
+use crate::labels::put_quoted;
+use acpi_tables::{
+    Dump, TableField, address_bytes, address_count, dump_at, little_endian, name_of,
+};
 use std::io::Write;
 use text_writer::Out;
 
@@ -23,7 +26,6 @@ fn owner_of(dumps: &[Dump], address: u64) -> Option<&[u8]>
     }
 }
 
-#[tactic(auto, using(text_writer::proofs::PrintLaws::straight))]
 fn print_owner<W: Write>(out: &mut Out<'_, W>, dumps: &[Dump], address: u64)
     ensures { Prints W.contents out.old out.new (owner_text (owner_of dumps.now address)) }
 {
@@ -32,61 +34,39 @@ fn print_owner<W: Write>(out: &mut Out<'_, W>, dumps: &[Dump], address: u64)
     }
 }
 
+/// The bytes of an address, and the name of the dump there.
 #[tactic(auto, using(text_writer::proofs::PrintLaws::straight), unfolding(crate::specs::Dumps::entry_text))]
-fn print_entry_text<W: Write>(out: &mut Out<'_, W>, dumps: &[Dump], address: u64)
-    ensures { Prints W.contents out.old out.new (entry_text dumps.now address) }
+fn print_entry_text<W: Write>(out: &mut Out<'_, W>, dumps: &[Dump], bytes: &[u8])
+    requires narrow { length bytes.now ≤ 8 }
+    ensures { Prints W.contents out.old out.new (entry_text dumps.now bytes.now) }
 {
-    put_hex16(out, b"Entry ", address);
-    print_owner(out, dumps, address);
+    out.put(b"Entry ");
+    print_reversed(out, bytes);
+    print_owner(out, dumps, little_endian(bytes));
 }
 
 #[tactic(auto, using(text_writer::proofs::PrintLaws::straight), unfolding(crate::specs::Dumps::entry_line))]
-fn print_entry<W: Write>(out: &mut Out<'_, W>, dumps: &[Dump], address: u64)
-    ensures { Prints W.contents out.old out.new (entry_line dumps.now address) }
+fn print_entry<W: Write>(out: &mut Out<'_, W>, dumps: &[Dump], bytes: &[u8])
+    requires narrow { length bytes.now ≤ 8 }
+    ensures { Prints W.contents out.old out.new (entry_line dumps.now bytes.now) }
 {
     out.put(b"  ");
-    print_entry_text(out, dumps, address);
+    print_entry_text(out, dumps, bytes);
     out.put(b"\n");
 }
 
-/// The addresses that an XSDT lists, each with the name of the dump there.
-pub fn print_entries<W: Write>(out: &mut Out<'_, W>, dumps: &[Dump], table: &[u8])
-    requires entries { HoldsEntries table.now }
-    ensures { Prints W.contents out.old out.new (entry_lines dumps.now table.now) }
+/// The addresses of this width that a table lists, each with the name of the dump there.
+pub fn print_entries<W: Write>(out: &mut Out<'_, W>, dumps: &[Dump], width: usize, table: &[u8])
+    requires some { 0 < width }
+    requires narrow { width ≤ 8 }
+    requires holds { HoldsAddresses width table.now }
+    ensures { Prints W.contents out.old out.new (entry_lines dumps.now width table.now) }
 {
-    for index in 0..Xsdt::entry_count(table) {
-        print_entry(out, dumps, Xsdt::entry_at(table, index));
+    for index in 0..address_count(table, width) {
+        print_entry(out, dumps, address_bytes(table, width, index));
     }
 }
 
-#[tactic(auto, using(text_writer::proofs::PrintLaws::straight), unfolding(crate::specs::Dumps::rsdt_entry_text))]
-fn print_rsdt_entry_text<W: Write>(out: &mut Out<'_, W>, dumps: &[Dump], address: u32)
-    ensures { Prints W.contents out.old out.new (rsdt_entry_text dumps.now address) }
-{
-    put_hex8(out, b"Entry ", address);
-    print_owner(out, dumps, u64::from(address));
-}
-
-#[tactic(auto, using(text_writer::proofs::PrintLaws::straight), unfolding(crate::specs::Dumps::rsdt_entry_line))]
-fn print_rsdt_entry<W: Write>(out: &mut Out<'_, W>, dumps: &[Dump], address: u32)
-    ensures { Prints W.contents out.old out.new (rsdt_entry_line dumps.now address) }
-{
-    out.put(b"  ");
-    print_rsdt_entry_text(out, dumps, address);
-    out.put(b"\n");
-}
-
-/// The addresses that an RSDT lists, each with the name of the dump there.
-pub fn print_rsdt_entries<W: Write>(out: &mut Out<'_, W>, dumps: &[Dump], table: &[u8])
-    requires entries { HoldsRsdt table.now }
-    ensures { Prints W.contents out.old out.new (rsdt_entry_lines dumps.now table.now) }
-{
-    for index in 0..Rsdt::entry_count(table) {
-        print_rsdt_entry(out, dumps, Rsdt::entry_at(table, index));
-    }
-}
-
-#[tactic(auto, using(text_writer::proofs::PrintLaws::straight))]
 fn print_field_line<W: Write>(out: &mut Out<'_, W>, field: &TableField, bytes: &[u8])
     requires narrow { length bytes.now ≤ 8 }
     ensures { Prints W.contents out.old out.new (below (labelled (field_view field.now) bytes.now)) }
@@ -108,7 +88,6 @@ fn print_field<W: Write>(out: &mut Out<'_, W>, table: &[u8], field: &TableField)
 }
 
 /// The fields of a FADT that it reaches to.
-#[tactic(auto, using(text_writer::proofs::PrintLaws::straight))]
 pub fn print_fadt<W: Write>(out: &mut Out<'_, W>, table: &[u8])
     ensures { Prints W.contents out.old out.new (fadt_lines table.now) }
 {

@@ -5,13 +5,13 @@ ghost use Rattle.acpi_tables.specs.Bytes.{begins_with as has_front};
 ghost use Rattle.acpi_tables.specs.Header.{HoldsTable, table_of as front_table};
 ghost use Rattle.acpi_tables.specs.Dumps.{HoldsDump, HoldsShape, HoldsTables, HoldsContent};
 ghost use Rattle.acpi_tables.specs.Order.{AreTaken};
-ghost use Rattle.acpi_text.specs.Dumps.{lines_if, entry_lines, rsdt_entry_lines, list_lines, fadt_lines};
+ghost use Rattle.acpi_text.specs.Dumps.{lines_if, entry_lines, list_lines, fadt_lines};
 ghost use Rattle.acpi_text.specs.Dumps.{madt_lines, table_lines, lines_by, dump_lines, dumps_text};
 
-use crate::content::{print_entries, print_fadt, print_rsdt_entries};
+use crate::content::{print_entries, print_fadt};
 use crate::heads::print_line;
 use crate::records::print_madt;
-use acpi_tables::{Dump, Kind, begins_with, table_of};
+use acpi_tables::{Dump, Kind, RSDT_WIDTH, XSDT_WIDTH, begins_with, table_of};
 use std::io::Write;
 use text_writer::Out;
 
@@ -21,10 +21,10 @@ fn print_if_xsdt<W: Write>(out: &mut Out<'_, W>, dumps: &[Dump], bytes: &[u8])
     requires table { HoldsTable bytes.now }
     requires content { HoldsTables bytes.now }
     ensures { Prints W.contents out.old out.new
-        (lines_if (has_front bytes.now (codes "XSDT")) (entry_lines dumps.now (front_table bytes.now))) }
+        (lines_if (has_front bytes.now (codes "XSDT")) (entry_lines dumps.now 8 (front_table bytes.now))) }
 {
     if begins_with(bytes, b"XSDT") {
-        print_entries(out, dumps, table_of(bytes));
+        print_entries(out, dumps, XSDT_WIDTH, table_of(bytes));
     }
 }
 
@@ -34,10 +34,10 @@ fn print_if_rsdt<W: Write>(out: &mut Out<'_, W>, dumps: &[Dump], bytes: &[u8])
     requires table { HoldsTable bytes.now }
     requires content { HoldsTables bytes.now }
     ensures { Prints W.contents out.old out.new
-        (lines_if (has_front bytes.now (codes "RSDT")) (rsdt_entry_lines dumps.now (front_table bytes.now))) }
+        (lines_if (has_front bytes.now (codes "RSDT")) (entry_lines dumps.now 4 (front_table bytes.now))) }
 {
     if begins_with(bytes, b"RSDT") {
-        print_rsdt_entries(out, dumps, table_of(bytes));
+        print_entries(out, dumps, RSDT_WIDTH, table_of(bytes));
     }
 }
 

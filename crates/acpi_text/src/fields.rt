@@ -22,7 +22,7 @@ fn print_label<W: Write>(out: &mut Out<'_, W>, label: &[u8])
 
 /// The bytes in hexadecimal digits, the last first.
 #[tactic(auto, using(text_writer::proofs::PrintLaws::straight))]
-fn print_reversed<W: Write>(out: &mut Out<'_, W>, bytes: &[u8])
+pub fn print_reversed<W: Write>(out: &mut Out<'_, W>, bytes: &[u8])
     ensures { Prints W.contents out.old out.new (flat_map hex2 (reverse bytes.now)) }
 {
     for done in 0..bytes.len() {

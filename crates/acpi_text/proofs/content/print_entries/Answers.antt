@@ -1,22 +1,26 @@
-use Rattle.std.proofs.Common.{sym, arith}
-use Rattle.std.proofs.lemmas.Option.{slice_get_within, get_or_from_slice_get}
-use Rattle.acpi_tables.specs.Xsdt.{entries_of}
-use Rattle.acpi_tables.proofs.Entries.{length-entries_of}
-use Rattle.text_writer.proofs.PrintLaws.{prints_none, prints_turn, prints_end}
+use Rattle.std.proofs.Common.{◌≡◌, flat_map, map, ap, sym, subst, ◌∙◌, zero-add, arith}
+use Rattle.std.specs.List.{range_with_len}
+use Rattle.std.proofs.lemmas.List.FromFn.{map-range_with_len_more}
+use Rattle.text_writer.specs.Prints.{Prints}
+use Rattle.text_writer.proofs.PrintLaws.{prints_then}
+use Rattle.acpi_tables.specs.Addresses.{address_bytes, address_count}
 use Rattle.acpi_text.specs.Dumps.{entry_line, entry_lines}
+use Rattle.acpi_text.proofs.Views.{flat_map-push}
 use Rattle.acpi_text.proofs.content.print_entries.Goals as goal
-
-pub loop-index-init : goal.loop-index-init
-loop-index-init g c = prints_none g.W.Write.contents c.args.out.now
 
 pub loop-index-preserved : goal.loop-index-preserved
 loop-index-preserved g c =
-    let there = c.entry_at.ensures in
-    prints_turn g.W.Write.contents c.args.out.now c.loop-index.out c.print_entry.new.out (entry_line c.args.dumps.now) (entries_of c.args.table.now) c.loop-index.index c.entry_at.result
-    (slice_get_within (entries_of c.args.table.now) c.loop-index.index c.entry_at.result there)
-    (sym (get_or_from_slice_get (entries_of c.args.table.now) c.loop-index.index c.entry_at.result c.entry_at.result there)) c.loop-index.invariant c.print_entry.ensures
+    let bytes = address_bytes c.args.width c.args.table.now in
+    let line = entry_line c.args.dumps.now in
+    let index = c.loop-index.index in
+    let more = flat_map-push line (map bytes (range_with_len 0 index)) (bytes index)
+    ∙ ap (flat_map line) (sym (map-range_with_len_more bytes 0 index index (zero-add index))) in
+    subst (Prints g.W.Write.contents c.args.out.now c.print_entry.new.out) more
+    (prints_then _ _ _ _ _ _ c.loop-index.invariant (rw c.address_bytes.ensures.bytes at c.print_entry.ensures))
 
 pub returns : goal.returns
 unfolding entry_lines
-returns g c = prints_end g.W.Write.contents c.args.out.now c.loop-index.out (entry_line c.args.dumps.now) (entries_of c.args.table.now) c.loop-index.index
-    (omega (arith, length-entries_of c.args.table.now)) c.loop-index.invariant
+returns g c =
+    let all : c.loop-index.index ≡ address_count c.args.width c.args.table.now = omega arith in
+    subst (λ n. Prints g.W.Write.contents c.args.out.now c.loop-index.out
+    (flat_map (entry_line c.args.dumps.now) (map (address_bytes c.args.width c.args.table.now) (range_with_len 0 n)))) all c.loop-index.invariant

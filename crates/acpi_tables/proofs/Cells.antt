@@ -1,0 +1,42 @@
+-- The addresses that an XSDT or an RSDT lists.
+use Rattle.std.proofs.Common.{◌≡◌, ℕ, ◌+◌, ◌-◌, ◌*◌, ◌/◌, ◌%◌, ◌≤◌, ◌<◌, List, length, Some, None, refl, rules, tests, arith, Bool, true, false, ◌&&◌, nat_le, nat_eq, zero-add, ◌∙◌}
+use Rattle.std.specs.Prelude.{slice_get, if◌then◌else◌}
+use Rattle.std.proofs.Math.Nat.{le-div_iff_mul-le}
+use Rattle.std.proofs.lemmas.Bool.Decides.{nat_tests}
+use Rattle.std.proofs.lemmas.Option.{slice_get-get_or, slice_get_past}
+use Rattle.std.proofs.lemmas.List.FromFn.{get_or-map-range_with_len, length-map-range_with_len}
+use Rattle.acpi_tables.specs.Addresses.{HoldsAddresses, addresses_of, address_at, address_in, address_count}
+
+-- an address lies within its table
+pub address_inside : (width : ℕ) (table : List ℕ) (index : ℕ) → 0 < width → 36 ≤ length table → index < (length table - 36) / width
+    → 36 + index * width + width ≤ length table
+address_inside width table index some header inside =
+    let whole : (index + 1) * width ≤ length table - 36 = (le-div_iff_mul-le some).0 (omega (arith, inside)) in
+    omega (arith, whole, header)
+
+module _ (width : ℕ) (table : List ℕ) (index : ℕ) where
+  pub address_in-inside : HoldsAddresses width table → index < address_count width table → address_in width table index ≡ Some (address_at width table index)
+  unfolding addresses_of
+  address_in-inside holds inside =
+      let long = length-map-range_with_len (address_at width table) 0 (address_count width table) in
+      let there = get_or-map-range_with_len (address_at width table) 0 (address_count width table) index index 0 inside (zero-add index) in
+      let e = slice_get-get_or (addresses_of width table) index 0 (omega (arith, long, inside)) in
+      let front = holds.header in
+      let whole = holds.whole in
+      grind (arith, nat_tests)
+
+  pub address_in-refused : ¬ HoldsAddresses width table → address_in width table index ≡ None
+  address_in-refused refused = by_tests _ _ refl refl
+    where
+      by_tests : (long whole : Bool) → long ≡ nat_le 36 (length table) → whole ≡ nat_eq ((length table - 36) % width) 0
+          → (if long && whole then slice_get (addresses_of width table) index else None) ≡ None
+      by_tests true true e f = absurd (refused (record { header = search (rules, tests); whole = search (rules, tests) }))
+      by_tests true false e f = refl
+      by_tests false whole e f = refl
+
+  pub address_in-past : address_count width table ≤ index → address_in width table index ≡ None
+  unfolding addresses_of
+  address_in-past past =
+      let long = length-map-range_with_len (address_at width table) 0 (address_count width table) in
+      let e = slice_get_past (addresses_of width table) index (omega (arith, long, past)) in
+      grind (arith, nat_tests)
