@@ -84,51 +84,51 @@ module _ (n : Namespace) (path : List Seg) where
     ];
   }
 
-  -- and one that is nearer than the next
-  pub next_nearer : (d asked nearer : ℕ) → IsNext n path d asked → asked ≤ nearer → nearer ≤ d → IsNext n path d nearer
-  next_nearer d asked nearer is less within = record {
-    within = within;
-    silent = λ e more to. is.silent e (omega (arith, less, more)) to;
-  }
-
-  pub asked_first : (levels : List Level) (l : Level) → l.asked ≡ 0 → levels ≡ l ∷ [] → AreAsked n path levels
-  asked_first levels l root is d = subst (λ ls. IfSome (slice_get ls d) (λ (m : Level). IsNext n path d m.asked)) (sym is) (by d)
-    where
-      by : (d : ℕ) → IfSome (slice_get (l ∷ []) d) (λ (m : Level). IsNext n path d m.asked)
-      by zero = next_itself 0 l.asked root
-      by (suc zero) = tt
-      by (suc (suc d)) = tt
-
-  pub asked_more : (levels new : List Level) (l : Level) → AreAsked n path levels → IsNext n path (length levels) l.asked → new ≡ levels ++ l ∷ [] → AreAsked n path new
-  asked_more levels new l so_far next is d = subst (λ ls. IfSome (slice_get ls d) (λ (m : Level). IsNext n path d m.asked)) (sym is) (elim (cases_lt d (length levels)) [
-    | inl below ↦ subst (λ o. IfSome o (λ (m : Level). IsNext n path d m.asked)) (sym (get_front levels l d below)) (so_far d)
-    | inr past ↦ elim (cases_lt (length levels) d) [
-      | inl far ↦ subst (λ o. IfSome o (λ (m : Level). IsNext n path d m.asked)) (sym (slice_get_past (levels ++ l ∷ []) d (omega (arith, far, length-append levels (l ∷ []))))) tt
-      | inr near ↦
-          let here : d ≡ length levels = omega (arith, past, near) in
-          subst (λ o. IfSome o (λ (m : Level). IsNext n path d m.asked)) (sym (ap (slice_get (levels ++ l ∷ [])) here ∙ get_end levels l)) (subst (λ e. IsNext n path e l.asked) (sym here) next)
-    ]
-  ])
+  pub asked_more : (levels new : List Level) (l : Level) → AreAsked n path levels → IsNext n path (length levels) l.asked → new ≡ levels ++ l ∷ [] →
+      AreAsked n path new
+  asked_more levels new l so_far next is d = subst (λ ls. IfSome (slice_get ls d) (λ (m : Level). IsNext n path d m.asked)) (sym is)
+      (elim (cases_lt d (length levels)) [
+        | inl below ↦ subst (λ o. IfSome o (λ (m : Level). IsNext n path d m.asked)) (sym (get_front levels l d below)) (so_far d)
+        | inr past ↦ elim (cases_lt (length levels) d) [
+          | inl far ↦ subst (λ o. IfSome o (λ (m : Level). IsNext n path d m.asked))
+              (sym (slice_get_past (levels ++ l ∷ []) d (omega (arith, far, length-append levels (l ∷ []))))) tt
+          | inr near ↦
+              let here : d ≡ length levels = omega (arith, past, near) in
+              subst (λ o. IfSome o (λ (m : Level). IsNext n path d m.asked)) (sym (ap (slice_get (levels ++ l ∷ [])) here ∙ get_end levels l))
+              (subst (λ e. IsNext n path e l.asked) (sym here) next)
+        ]
+      ])
 
 -- from any depth of a scope up, the next is that of its level, else that of the last one
-pub next_of_level : (ns : List Node) (path : List Seg) (levels : List Level) → IsShape ns → IsAlong ns path levels → AreAsked (namespace_in (known_by ns)) path levels → (d m : ℕ) → d ≤ length path → m ≤ d → (m < d → length levels ≤ m + 1) → (l : Level) → slice_get levels m ≡ Some l →
+pub next_of_level : (ns : List Node) (path : List Seg) (levels : List Level) → IsShape ns → IsAlong ns path levels →
+    AreAsked (namespace_in (known_by ns)) path levels → (d m : ℕ) → d ≤ length path → m ≤ d → (m < d → length levels ≤ m + 1) → (l : Level) →
+    slice_get levels m ≡ Some l →
     IsNext (namespace_in (known_by ns)) path d l.asked
 next_of_level ns path levels shape along asked d m within less last l at =
-    let is : IsNext (namespace_in (known_by ns)) path m l.asked = subst (λ o. IfSome o (λ (l : Level). IsNext (namespace_in (known_by ns)) path m l.asked)) at (asked m) in
-    next_past (namespace_in (known_by ns)) path m d l.asked less is (λ e behind to. silent_past ns shape (take e path) (along_past ns path levels e along (omega (arith, to, within)) (omega (arith, behind, last (omega (arith, behind, to))))))
+    let is : IsNext (namespace_in (known_by ns)) path m l.asked =
+    subst (λ o. IfSome o (λ (l : Level). IsNext (namespace_in (known_by ns)) path m l.asked)) at (asked m) in
+    next_past (namespace_in (known_by ns)) path m d l.asked less is
+    (λ e behind to. silent_past ns shape (take e path) (along_past ns path levels e along (omega (arith, to, within))
+    (omega (arith, behind, last (omega (arith, behind, to))))))
 
 -- what silence says of a segment
 module _ (n : Namespace) (path : List Seg) where
-  pub none_given_below : (segment : List Seg) → length segment ≡ 1 → (d asked : ℕ) → IsNext n path d asked → (e : ℕ) → asked < e → e ≤ d → n.givens (take e path ++ segment) ≡ None
+  pub none_given_below : (segment : List Seg) → length segment ≡ 1 → (d asked : ℕ) → IsNext n path d asked → (e : ℕ) → asked < e → e ≤ d →
+      n.givens (take e path ++ segment) ≡ None
   none_given_below segment one d asked next e more less =
-      subst (λ t. n.givens (take e path ++ t) ≡ None) (alone segment (record { 0 = [] }) one) ((next.silent e more less).given (get_or segment 0 (record { 0 = [] })))
+      subst (λ t. n.givens (take e path ++ t) ≡ None) (alone segment (record { 0 = [] }) one)
+      ((next.silent e more less).given (get_or segment 0 (record { 0 = [] })))
 
-  pub none_met_below : (locals : PathSet) (segment : List Seg) → length segment ≡ 1 → (d asked : ℕ) → d ≤ length path → IsNext n path d asked → ((e : ℕ) → asked < e → e ≤ d → set.contains locals (take e path ++ segment) ≡ false) →
+  pub none_met_below : (locals : PathSet) (segment : List Seg) → length segment ≡ 1 → (d asked : ℕ) → d ≤ length path → IsNext n path d asked →
+      ((e : ℕ) → asked < e → e ≤ d → set.contains locals (take e path ++ segment) ≡ false) →
       (e : ℕ) → asked < e → e ≤ d → (decides n locals (take e path ++ segment) ≡ false) × (is_outside n (take e path ++ segment) ≡ false)
   none_met_below locals segment one d asked within next no_local e more less =
       let silent = next.silent e more less in
       let s = get_or segment 0 (record { 0 = [] }) in
-      let undeclared : n.declared (take e path ++ segment) ≡ None = subst (λ t. n.declared (take e path ++ t) ≡ None) (alone segment (record { 0 = [] }) one) (silent.declared s) in
-      let no_out : n.outs (take e path ++ segment) ≡ None = subst (λ t. n.outs (take e path ++ t) ≡ None) (alone segment (record { 0 = [] }) one) (silent.out s) in
-      let no_name : predefined (take e path ++ segment) ≡ None = predefined_deep e path segment (λ root. omega (arith, root, more)) (omega (arith, less, within)) one in
+      let undeclared : n.declared (take e path ++ segment) ≡ None =
+      subst (λ t. n.declared (take e path ++ t) ≡ None) (alone segment (record { 0 = [] }) one) (silent.declared s) in
+      let no_out : n.outs (take e path ++ segment) ≡ None = subst (λ t. n.outs (take e path ++ t) ≡ None) (alone segment (record { 0 = [] }) one)
+      (silent.out s) in
+      let no_name : predefined (take e path ++ segment) ≡ None =
+      predefined_deep e path segment (λ root. omega (arith, root, more)) (omega (arith, less, within)) one in
       (λ i. no_local e more less i || is_some (option_or (undeclared i) (no_name i)), ap is_some no_out)

@@ -24,7 +24,8 @@ module _ (n : Namespace) (locals : PathSet) (scope tail : List Seg) where
       ∙ ap (first_given n) (later_above n locals scope tail d positive)
 
   -- depths to which nothing is given may be left out
-  pub skip_given : (m d : ℕ) → m ≤ d → ((e : ℕ) → m < e → e ≤ d → n.givens (take e scope ++ tail) ≡ None) → first_given n (upward d scope tail) ≡ first_given n (upward m scope tail)
+  pub skip_given : (m d : ℕ) → m ≤ d → ((e : ℕ) → m < e → e ≤ d → n.givens (take e scope ++ tail) ≡ None) →
+      first_given n (upward d scope tail) ≡ first_given n (upward m scope tail)
   skip_given m zero less mute = ap (λ e. first_given n (upward e scope tail)) {x = 0} {y = m} (omega (arith, less))
   skip_given m (suc d) less mute = elim (cases_lt m (suc d)) [
     | inl below ↦

@@ -21,7 +21,8 @@ names_of s = namespace_in (known_by s.nodes.now)
 -- the levels of a path have the nodes of its fronts
 abbrev pub IsAlong : List Node → List Seg → List Level → Type 0
 IsAlong ns path levels =
-    (d : ℕ) → d ≤ length path → option_map (λ (l : Level). l.node) (slice_get levels d) ≡ walk (kids_of ns) 0 (take d path)
+    (d : ℕ) → d ≤ length path →
+    option_map (λ (l : Level). l.node) (slice_get levels d) ≡ walk (kids_of ns) 0 (take d path)
 
 -- a node has no kind, no External and no given count
 pub record IsBare (ns : List Node) (i : ℕ) : Type 0 where

@@ -12,12 +12,15 @@ use Rattle.aml_space.proofs.scopes.levels_along.Goals.{then-has_to_be_asked, els
 
 pub returns-in-None-clause-along : goal.returns-in-None-clause-along
 returns-in-None-clause-along c =
-    along_end c.args.nodes.now c.args.scope.now c.loop-seg.seg-index c.loop-seg.levels.items (record { 0 = [] }) c.loop-seg.node c.loop-seg-test.true c.loop-seg.invariant.along c.loop-seg.invariant.long c.loop-seg.invariant.led (sym c.child.ensures ∙ c.in-None.is)
+    along_end c.args.nodes.now c.args.scope.now c.loop-seg.seg-index c.loop-seg.levels.items
+    (record { 0 = [] }) c.loop-seg.node c.loop-seg-test.true c.loop-seg.invariant.along c.loop-seg.invariant.long c.loop-seg.invariant.led
+    (sym c.child.ensures ∙ c.in-None.is)
 
 pub has_to_be_asked-requires-clause-within : goal.has_to_be_asked-requires-clause-within
 has_to_be_asked-requires-clause-within c =
     let ns = c.args.nodes.now in
-    (child_range c.loop-seg.node (length ns) (kids_of ns c.loop-seg.node) (get_or c.args.scope.now c.loop-seg.seg-index (record { 0 = [] })) c.in-Some.next (c.requires.families c.loop-seg.node) (sym c.child.ensures ∙ c.in-Some.is)).1
+    (child_range c.loop-seg.node (length ns) (kids_of ns c.loop-seg.node) (get_or c.args.scope.now c.loop-seg.seg-index (record { 0 = [] })) c.in-Some.next
+    (c.requires.families c.loop-seg.node) (sym c.child.ensures ∙ c.in-Some.is)).1
 
 pub loop-seg-preserved : goal.loop-seg-preserved
 loop-seg-preserved c =
@@ -30,11 +33,13 @@ loop-seg-preserved c =
     let at = c.in-Some.next in
     let found : child_in (kids_of ns c.loop-seg.node) (get_or path k e) ≡ Some at = sym c.child.ensures ∙ c.in-Some.is in
     let is = c.in_ok-push-in-Some.ensures.items in
-    let more = along_more ns path k c.loop-seg.levels.items _ e c.loop-seg.node (record { node = at; asked = c.if-has_to_be_asked.asked }) c.loop-seg-test.true inv.along inv.long inv.led found is in
+    let more = along_more ns path k c.loop-seg.levels.items _ e c.loop-seg.node
+    (record { node = at; asked = c.if-has_to_be_asked.asked }) c.loop-seg-test.true inv.along inv.long inv.led found is in
     let next : IsNext n path (k + 1) c.if-has_to_be_asked.asked = elim c.if-has_to_be_asked.branch [
       | then-has_to_be_asked w ↦ next_itself n path (k + 1) c.if-has_to_be_asked.asked (w.asked-is ∙ w.len-asked.ensures ∙ c.loop-seg.levels.ok.0 ∙ inv.long)
       | else-has_to_be_asked w ↦ subst (IsNext n path (k + 1)) (sym w.asked-is)
-          (next_further n path k c.loop-seg.asked inv.next (silent_at ns c.requires (take (k + 1) path) at more.1 (of_false c.has_to_be_asked.result (HasBareChildren ns at) c.has_to_be_asked.ensures w.if-has_to_be_asked.false)))
+          (next_further n path k c.loop-seg.asked inv.next (silent_at ns c.requires (take (k + 1) path) at more.1
+          (of_false c.has_to_be_asked.result (HasBareChildren ns at) c.has_to_be_asked.ensures w.if-has_to_be_asked.false)))
     ] in
     record {
       along = more.0;
@@ -42,5 +47,6 @@ loop-seg-preserved c =
       led = more.1;
       within = (child_range c.loop-seg.node (length ns) (kids_of ns c.loop-seg.node) (get_or path k e) at (c.requires.families c.loop-seg.node) found).1;
       next = next;
-      asked = asked_more n path c.loop-seg.levels.items _ (record { node = at; asked = c.if-has_to_be_asked.asked }) inv.asked (subst (λ d. IsNext n path d c.if-has_to_be_asked.asked) (sym inv.long) next) is;
+      asked = asked_more n path c.loop-seg.levels.items _ (record { node = at; asked = c.if-has_to_be_asked.asked }) inv.asked
+          (subst (λ d. IsNext n path d c.if-has_to_be_asked.asked) (sym inv.long) next) is;
     }

@@ -1,5 +1,5 @@
 use Rattle.std.specs.Prelude.{slice_get}
-use Rattle.std.proofs.Common.{◌≡◌, ◌+◌, ◌-◌, true, cond, List, length, take, Option, Some, None, OnOk, refl, arith, sym, ap, subst, ◌∙◌}
+use Rattle.std.proofs.Common.{◌≡◌, ℕ, ◌+◌, ◌-◌, true, cond, List, length, take, Option, Some, None, OnOk, refl, arith, sym, ap, subst, ◌∙◌}
 use Rattle.std.proofs.lemmas.Option.{slice_get_within}
 use Rattle.std.specs.FinSet as set
 use Rattle.std.specs.Ordering.{nat_cmp, eq_by_cmp}
@@ -7,6 +7,7 @@ use Rattle.std.specs.List.{list_any}
 use Rattle.std.specs.BTreeMap.{is_at, get}
 use Rattle.aml_names.specs.declared.segments.Seg.{Seg}
 use Rattle.aml_names.specs.Paths.{seg_cmp, path_cmp}
+use Rattle.aml_names.specs.Lengths.{HaveLengths}
 use Rattle.aml_names.specs.Ends.{KnowEnds, deeper, depth_known}
 use Rattle.aml_names.proofs.Sets.{one_added}
 use Rattle.aml_names.proofs.LengthLaws.{one_length, longer_still}
@@ -18,8 +19,13 @@ none_by : (o : Option Seg) → ((x : Seg) → o ≡ Some x → ⊥) → o ≡ No
 none_by None h = refl
 none_by (Some x) h = absurd (h x refl)
 
+abbrev in_front : List Seg → List Seg → Option ℕ
+in_front scope p = cond (eq_by_cmp path_cmp (take (length p - 1) scope) (take (length p - 1) p)) (Some (length p - 1)) None
+
 pub returns-in_default-clause-ok : goal.returns-in_default-clause-ok
-returns-in_default-clause-ok c = one_added c.self.inside.paths.keys c.insert-in_default.new.self.keys c.args.path c.in_ok-insert-2.ensures.updates.0 ∙ ap (λ s. set.insert s c.args.path) c.self.view_is
+returns-in_default-clause-ok c =
+    one_added c.self.inside.paths.keys c.insert-in_default.new.self.keys c.args.path c.in_ok-insert-2.ensures.updates.0
+    ∙ ap (λ s. set.insert s c.args.path) c.self.view_is
 
 pub invariant_of-self-in_default : goal.invariant_of-self-in_default
 invariant_of-self-in_default c =
@@ -29,14 +35,16 @@ invariant_of-self-in_default c =
     let none : slice_get p (length p - 1) ≡ None = sym c.last.ensures ∙ none_by c.last.result c.in_default.not-Some in (
       one_length own.paths.keys c.insert-in_default.new.self.keys lengths c.insert.new.self.keys p c.self.invariant.0 c.in_ok-insert-2.ensures.updates.0
           (λ n. c.in_ok-insert.ensures.updates.0 n ∙ ap (λ q. cond (is_at (nat_cmp (length q)) n) true (list_any (is_at (nat_cmp n)) lengths)) c.segs.ensures),
-      subst (λ s. KnowEnds s own.scope (get seg_cmp own.ends)) (sym (one_added own.paths.keys c.insert-in_default.new.self.keys p c.in_ok-insert-2.ensures.updates.0))
+      subst (λ s. KnowEnds s own.scope (get seg_cmp own.ends))
+          (sym (one_added own.paths.keys c.insert-in_default.new.self.keys p c.in_ok-insert-2.ensures.updates.0))
           (known_root (set.from_list own.paths.keys) own.scope p (get seg_cmp own.ends) c.self.invariant.1 none),
     )
 
 pub returns-clause-ok : goal.returns-clause-ok
 returns-clause-ok c = elim c.match-insert.branch [
   | in-Ok w ↦ subst (λ r. OnOk r (c.match-insert.self ≡ set.insert c.args.self.now c.args.path)) (sym w.result-is)
-      (w.self-is ∙ one_added c.self.inside.paths.keys c.insert-2.new.self.keys c.args.path w.in-Ok.ensures.updates.0 ∙ ap (λ s. set.insert s c.args.path) c.self.view_is)
+      (w.self-is ∙ one_added c.self.inside.paths.keys c.insert-2.new.self.keys c.args.path w.in-Ok.ensures.updates.0
+      ∙ ap (λ s. set.insert s c.args.path) c.self.view_is)
   | in-Err w ↦ subst (λ r. OnOk r (c.match-insert.self ≡ set.insert c.args.self.now c.args.path)) (sym w.result-is) tt
 ]
 
@@ -50,12 +58,15 @@ invariant_of-self-in-Err c =
     let old = get seg_cmp own.ends in
     let met = get seg_cmp c.deepen.new.ends in
     let deepened = c.in_ok-known.ensures.ok in
-    let back = not_refused c.insert-in-Err.result c.insert-in-Err.ensures.updates c.insert-in-Err.ensures.absent (there_is paths met e (deeper c.depth_in-depth.result (depth_known (old e))) (old e) (deepened e)) in (
-      subst (λ ks. (q : List Seg) → list_any (is_at (path_cmp q)) ks ≡ true → list_any (is_at (nat_cmp (length q))) c.insert.new.self.keys ≡ true) (sym c.in-Err.ensures.err)
+    let depth = deeper c.depth_in-depth.result (depth_known (old e)) in
+    let known = there_is paths met e depth (old e) (deepened e) in
+    let back = not_refused c.insert-in-Err.result c.insert-in-Err.ensures.updates c.insert-in-Err.ensures.absent known in (
+      subst (λ ks. HaveLengths ks c.insert.new.self.keys) (sym c.in-Err.ensures.err)
           (longer_still own.paths.keys lengths c.insert.new.self.keys (length p) c.self.invariant.0
           (λ n. c.in_ok-insert.ensures.updates.0 n ∙ ap (λ q. cond (is_at (nat_cmp (length q)) n) true (list_any (is_at (nat_cmp n)) lengths)) c.segs.ensures)),
       subst (λ ks. KnowEnds (set.from_list ks) own.scope (get seg_cmp c.insert-in-Err.new.self)) (sym c.in-Err.ensures.err)
-          (known_back paths own.scope old met (get seg_cmp c.insert-in-Err.new.self) e (deeper c.depth_in-depth.result (depth_known (old e))) c.in_ok-known.known c.self.invariant.1 c.in_ok-known.ensures.known deepened back.0),
+          (known_back paths own.scope old met (get seg_cmp c.insert-in-Err.new.self) e depth c.in_ok-known.known c.self.invariant.1
+          c.in_ok-known.ensures.known deepened back.0),
     )
 
 pub invariant_of-self-in-Ok : goal.invariant_of-self-in-Ok
@@ -71,7 +82,7 @@ invariant_of-self-in-Ok c =
     let is : slice_get p (length p - 1) ≡ Some e = sym c.last.ensures ∙ c.in-Some.is in
     let long : k + 1 ≡ length p = omega (arith, slice_get_within p (length p - 1) e is) in
     let met : c.depth_in-depth.result ≡ cond (eq_by_cmp path_cmp (take k own.scope) (take k p)) (Some k) None =
-    c.depth_in-depth.ensures ∙ (λ i. cond (eq_by_cmp path_cmp (take (length (c.segs-3.ensures i) - 1) (c.segs-2.ensures i)) (take (length (c.segs-3.ensures i) - 1) (c.segs-3.ensures i))) (Some (length (c.segs-3.ensures i) - 1)) None) in (
+    c.depth_in-depth.ensures ∙ (λ i. in_front (c.segs-2.ensures i) (c.segs-3.ensures i)) in (
       one_length own.paths.keys c.insert-2.new.self.keys lengths c.insert.new.self.keys p c.self.invariant.0 c.in-Ok.ensures.updates.0
           (λ n. c.in_ok-insert.ensures.updates.0 n ∙ ap (λ q. cond (is_at (nat_cmp (length q)) n) true (list_any (is_at (nat_cmp n)) lengths)) c.segs.ensures),
       subst (λ s. KnowEnds s own.scope new) (sym (one_added own.paths.keys c.insert-2.new.self.keys p c.in-Ok.ensures.updates.0))

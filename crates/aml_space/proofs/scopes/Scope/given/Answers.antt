@@ -14,12 +14,15 @@ use Rattle.aml_space.proofs.Index.{known_given}
 use Rattle.aml_space.proofs.scopes.Scope.given.Goals as goal
 
 -- the count that is kept at a candidate's node is the one that is given to its path
-kept : (s : Scope) → IsScope s → (p : List Seg) (at : Option ℕ) → at ≡ walk (kids_of s.nodes.now) 0 p → (found : Option ℕ) → found ≡ option_and_then (givens_of s.nodes.now) at → found ≡ (names_of s).givens p
+kept : (s : Scope) → IsScope s → (p : List Seg) (at : Option ℕ) → at ≡ walk (kids_of s.nodes.now) 0 p → (found : Option ℕ) →
+    found ≡ option_and_then (givens_of s.nodes.now) at → found ≡ (names_of s).givens p
 kept s sc p at here found is = is ∙ ap (option_and_then (givens_of s.nodes.now)) here ∙ known_given s.nodes.now sc.shape p
 
 -- from a depth up to the next one that is asked
-further : (s : Scope) (segment : List Seg) → length segment ≡ 1 → (d asked : ℕ) → IsNext (names_of s) s.path.now d asked → first_given (names_of s) (upward d s.path.now segment) ≡ first_given (names_of s) (upward asked s.path.now segment)
-further s segment one d asked next = skip_given (names_of s) set.empty s.path.now segment asked d next.within (none_given_below (names_of s) s.path.now segment one d asked next)
+further : (s : Scope) (segment : List Seg) → length segment ≡ 1 → (d asked : ℕ) → IsNext (names_of s) s.path.now d asked →
+    first_given (names_of s) (upward d s.path.now segment) ≡ first_given (names_of s) (upward asked s.path.now segment)
+further s segment one d asked next = skip_given (names_of s) set.empty s.path.now segment asked d next.within
+    (none_given_below (names_of s) s.path.now segment one d asked next)
 
 none_by : (o : Option ℕ) → ((x : ℕ) → o ≡ Some x → ⊥) → o ≡ None
 none_by None h = refl
@@ -31,7 +34,8 @@ depths-init c =
     let long : length c.segs.result.now ≡ length s.path.now = ap length c.segs.ensures in
     record {
       within = omega (arith, long, c.next_asked-depth.ensures.within);
-      same = ap (λ n. first_given (names_of s) (upward n s.path.now c.args.segment.now)) (sym long) ∙ further s c.args.segment.now c.requires.one (length c.segs.result.now) c.next_asked-depth.result c.next_asked-depth.ensures;
+      same = ap (λ n. first_given (names_of s) (upward n s.path.now c.args.segment.now)) (sym long)
+          ∙ further s c.args.segment.now c.requires.one (length c.segs.result.now) c.next_asked-depth.result c.next_asked-depth.ensures;
     }
 
 pub returns-in-Some : goal.returns-in-Some
@@ -40,7 +44,8 @@ returns-in-Some c =
     let segment = c.args.segment.now in
     let d = c.depths.depth in
     let here = kept s c.requires.scope (take d s.path.now ++ segment) c.node_at-node.result c.node_at-node.ensures.node c.given_at.result c.given_at.ensures in
-    sym (c.depths.invariant.same ∙ here_given (names_of s) set.empty s.path.now segment d (take d s.path.now ++ segment) c.in-Some.count refl (sym here ∙ c.in-Some.is))
+    sym (c.depths.invariant.same ∙ here_given (names_of s) set.empty s.path.now segment d (take d s.path.now ++ segment) c.in-Some.count refl
+    (sym here ∙ c.in-Some.is))
 
 pub returns-then-depth-eq0 : goal.returns-then-depth-eq0
 returns-then-depth-eq0 c =
@@ -50,7 +55,8 @@ returns-then-depth-eq0 c =
     let here = kept s c.requires.scope (take d s.path.now ++ segment) c.node_at-node.result c.node_at-node.ensures.node c.given_at.result c.given_at.ensures in
     let none = sym here ∙ none_by c.given_at.result c.in_default.not-Some in
     sym (c.depths.invariant.same ∙ ap (λ d. first_given (names_of s) (upward d s.path.now segment)) {x = d} {y = 0} c.if-depth-eq0.true
-    ∙ root_given (names_of s) set.empty s.path.now segment (take 0 s.path.now ++ segment) refl (ap (λ d. (names_of s).givens (take d s.path.now ++ segment)) {x = 0} {y = d} (sym c.if-depth-eq0.true) ∙ none))
+    ∙ root_given (names_of s) set.empty s.path.now segment (take 0 s.path.now ++ segment) refl
+    (ap (λ d. (names_of s).givens (take d s.path.now ++ segment)) {x = 0} {y = d} (sym c.if-depth-eq0.true) ∙ none))
 
 pub depths-preserved : goal.depths-preserved
 depths-preserved c =
