@@ -10,7 +10,9 @@ SEGMENTS = 255
 OPTION, GIVEN = "--externals", "given/externals.txt"
 # Names that `segment` gives no number to, below a million.
 RUN, NOTHING = b"_RUN", b"ZZZZ"
-LEAF, NEAR, FRIEND = b"LEAF", b"NEAR", b"FRND"
+LEAF, NEAR, FRIEND, OTHER = b"LEAF", b"NEAR", b"FRND", b"OTHR"
+NAMED_FROM_ONE = 16
+DEEPEST = 510 * SEGMENTS
 
 
 class Shape(NamedTuple):
@@ -111,6 +113,26 @@ def upward_with_locals(count, depth, friends=b""):
     name = b"\x2e" + friends + LEAF if friends else NEAR
     locals_ = b"".join(b"\x08" + b"^" * ups + name + b"\0" for ups in range(150))
     return b"\x08" + LEAF + b"\0" + within(depth, main_method(locals_ + LEAF * count))
+
+
+def others(count):
+    """Externals in so many parents, one in each. Sixteen at a time are named from one scope."""
+    code = b""
+    for start in range(0, count, NAMED_FROM_ONE):
+        ups = range(1, min(NAMED_FROM_ONE, count - start) + 1)
+        externals = b"".join(b"\x15" + b"^" * up + OTHER + b"\0\0" for up in ups)
+        code += package(b"\x10", b"^" * start + b"\0" + externals) if start else externals
+    return code
+
+
+def upward_crowded(count, depth):
+    """Names at the root, used in a method of a scope of so many segments, each of whose parents has another child."""
+    code = main_method(uses(count))
+    while depth:
+        segments = depth % SEGMENTS or SEGMENTS
+        depth -= segments
+        code = within(segments, others(segments) + code)
+    return named(count) + code
 
 
 def upward_outside(count, depth):
@@ -312,6 +334,9 @@ SHAPES = (
     Shape("nested-long", 254, "segments", one(lambda count: nested(510, count))),
     Shape("upward", 100_000, "names", one(lambda count: upward(count, 1000))),
     Shape("upward-deep", 1_000, "segments", one(lambda count: upward(100_000, count))),
+    Shape("upward-deepest", 100_000, "names", one(lambda count: upward(count, DEEPEST))),
+    Shape("upward-crowded", 100_000, "names", one(lambda count: upward_crowded(count, 1000))),
+    Shape("upward-crowded-deep", 1_000, "segments", one(lambda count: upward_crowded(100_000, count))),
     Shape("upward-local", 2_000, "names", one(lambda count: upward_with_local(count, 1000))),
     Shape("upward-local-deep", 1_000, "segments", one(lambda count: upward_with_local(2000, count))),
     Shape("upward-locals", 5_700, "names", one(lambda count: upward_with_locals(count, 5_700))),
