@@ -8,7 +8,7 @@ use Rattle.acpi_tables.specs.declared.dump.Dump.{Dump}
 use Rattle.acpi_tables.specs.declared.dump.Kind.TheVariants.{Standard}
 use Rattle.acpi_tables.specs.Bytes.{begins_with}
 use Rattle.acpi_tables.specs.Header.{HoldsTable}
-use Rattle.acpi_tables.specs.Dumps.{kind_of, HoldsShape, HoldsDump}
+use Rattle.acpi_tables.specs.Dumps.{content_of, kind_of, HoldsShape, HoldsDump, most_bytes}
 use Rattle.acpi_tables.specs.Order.{bytes_of, has_signature, places, indexes_with, is_addressed, each_once, IsNamed, IsChained, IsOrder, AreTaken, AreTables}
 use Rattle.acpi_tables.proofs.Signatures.{signed_inside, signed_at-signed, dsdt_is_standard, ssdt_is_standard}
 
@@ -75,8 +75,8 @@ indexes_pass dumps word = places_pass word dumps 0 (has_signature dumps word) (�
 
 -- ---- the tables
 
-table_there : (dumps : List Dump) (any_sum : Bool) (word : List ℕ) (index : ℕ) → 0 < length word → AreTaken dumps any_sum → ((bytes : List ℕ) → begins_with bytes word ≡ true → kind_of bytes ≡ Standard)
-    → has_signature dumps word index ≡ true → HoldsTable (bytes_of dumps index) × (length (bytes_of dumps index) ≤ 16777216)
+table_there : (dumps : List Dump) (any_sum : Bool) (word : List ℕ) (index : ℕ) → 0 < length word → AreTaken dumps any_sum → ((bytes : List ℕ) → begins_with bytes word ≡ true → kind_of bytes ≡ Standard (content_of bytes))
+    → has_signature dumps word index ≡ true → HoldsTable (bytes_of dumps index) × (length (bytes_of dumps index) ≤ most_bytes)
 table_there dumps any_sum word index some each standard is =
     let held : HoldsDump any_sum (bytes_of dumps index) = each index (signed_inside dumps word index some is) in
     (subst (λ kind. HoldsShape kind (bytes_of dumps index)) (standard (bytes_of dumps index) is) held.shape, held.small)

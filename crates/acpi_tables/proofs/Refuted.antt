@@ -1,53 +1,38 @@
 -- Where a refusal stands there is no order.
 use Rattle.std.proofs.Common.{◌≡◌, ℕ, ◌<◌, ◌≤◌, inl, inr, Bool, true, false, List, ◌∷◌, length, codes, Option, Some, None, Result, Ok, Err, IfOk, OnOk, MatchBool, slice_get, find, sym, ap, subst, ◌∙◌, arith}
+use Rattle.std.proofs.lemmas.Bool.{true≢false}
 use Rattle.std.proofs.lemmas.Option.{same_Some}
 use Rattle.acpi_tables.specs.declared.dump.Dump.{Dump}
+use Rattle.acpi_tables.specs.declared.dump.Content.TheVariants.{Xsdt, Rsdt, Fadt, Madt, Other}
 use Rattle.acpi_tables.specs.declared.dump.Kind.{Kind}
 use Rattle.acpi_tables.specs.declared.dump.Kind.TheVariants.{Root, Facs, Standard}
 use Rattle.acpi_tables.specs.declared.faults.Bad.{Bad}
-use Rattle.acpi_tables.specs.declared.faults.Bad.TheVariants.{Short, BadSum, BadRoot, RootMissing, FadtMissing, FadtShort, MadtRecord, NoDsdt, TwoDsdts}
+use Rattle.acpi_tables.specs.declared.faults.Bad.TheVariants.{RootMissing, FadtMissing, NoDsdt, TwoDsdts}
 use Rattle.acpi_tables.specs.declared.faults.TableFault.{TableFault}
 use Rattle.acpi_tables.specs.Header.{table_of}
-use Rattle.acpi_tables.specs.Dumps.{kind_of, HoldsShape, HasSums, HoldsContent, HoldsDump, RefusesRoot, RefusesFacs, RefusesContent, RefusesTable, RefusesBy, RefusesDump}
+use Rattle.acpi_tables.specs.Rsdp.{rsdp_of}
+use Rattle.acpi_tables.specs.Dumps.{kind_of, HoldsContent, HoldsDump, RefusesContent, RefusesDump}
 use Rattle.acpi_tables.specs.Order.{AreTables, bytes_of, has_signature, signed_at, list_of, listed_by, dsdt_address, is_addressed, IsNamed, IsChained, IsOrder, RefusesAll, RefusesPlace, RefusesOrder, RefusesBytes, Refuses}
 use Rattle.acpi_tables.proofs.Cuts.{whole_not_refused}
 use Rattle.acpi_tables.specs.declared.order.Order.{Order}
 use Rattle.acpi_tables.proofs.Blocks.{are_tables}
 use Rattle.acpi_tables.proofs.Unique.{list_unique, fadt_unique, order_unique}
 
-root_taken : (any_sum : Bool) (bytes : List ℕ) (bad : Bad) → HoldsShape Root bytes → (any_sum ≡ false → HasSums Root bytes) → ¬ RefusesRoot any_sum bytes bad
-root_taken any_sum bytes BadRoot shape sums refused = refused shape
-root_taken any_sum bytes BadSum shape sums refused = refused.2 (sums refused.1)
-root_taken any_sum bytes _ shape sums refused = refused
-
-facs_taken : (bytes : List ℕ) (bad : Bad) → HoldsShape Facs bytes → ¬ RefusesFacs bytes bad
-facs_taken bytes Short shape refused = refused shape
-facs_taken bytes _ shape refused = refused
-
-content_taken : (bytes : List ℕ) (bad : Bad) → HoldsContent Standard bytes → ¬ RefusesContent bytes bad
-content_taken bytes BadRoot content (inl refused) = refused.1 (content.xsdt refused.0)
-content_taken bytes BadRoot content (inr refused) = refused.1 (content.rsdt refused.0)
-content_taken bytes FadtShort content refused = refused.1 (content.fadt refused.0)
-content_taken bytes Short content refused = whole_not_refused _ (content.madt refused.0) Short refused.1
-content_taken bytes (MadtRecord at) content refused = whole_not_refused _ (content.madt refused.0) (MadtRecord at) refused.1
-content_taken bytes _ content refused = refused
-
-table_taken : (any_sum : Bool) (bytes : List ℕ) (bad : Bad) → HoldsShape Standard bytes → (any_sum ≡ false → HasSums Standard bytes) → HoldsContent Standard bytes
-    → ¬ RefusesTable any_sum bytes bad
-table_taken any_sum bytes bad shape sums content (inl refused) = refused.1 shape
-table_taken any_sum bytes bad shape sums content (inr (inl refused)) = refused.3 (sums refused.2)
-table_taken any_sum bytes bad shape sums content (inr (inr refused)) = content_taken bytes bad content refused.2
-
-taken_by : (kind : Kind) (any_sum : Bool) (bytes : List ℕ) (bad : Bad) → HoldsShape kind bytes → (any_sum ≡ false → HasSums kind bytes) → HoldsContent kind bytes
-    → ¬ RefusesBy kind any_sum bytes bad
-taken_by Root any_sum bytes bad shape sums content refused = root_taken any_sum bytes bad shape sums refused
-taken_by Facs any_sum bytes bad shape sums content refused = facs_taken bytes bad shape refused
-taken_by Standard any_sum bytes bad shape sums content refused = table_taken any_sum bytes bad shape sums content refused
+content_taken : (kind : Kind) (bytes : List ℕ) (bad : Bad) → HoldsContent kind bytes → ¬ RefusesContent kind bytes bad
+content_taken Root bytes bad content refused = refused
+content_taken Facs bytes bad content refused = refused
+content_taken (Standard Xsdt) bytes bad content refused = refused.1 content
+content_taken (Standard Rsdt) bytes bad content refused = refused.1 content
+content_taken (Standard Fadt) bytes bad content refused = refused.1 content
+content_taken (Standard Madt) bytes bad content refused = whole_not_refused (table_of bytes) content bad refused
+content_taken (Standard Other) bytes bad content refused = refused
 
 -- a dump that is taken is refused for nothing
 dump_taken : (any_sum : Bool) (bytes : List ℕ) (bad : Bad) → HoldsDump any_sum bytes → ¬ RefusesDump any_sum bytes bad
 dump_taken any_sum bytes bad holds (inl refused) = absurd (omega (arith, holds.small, refused.1))
-dump_taken any_sum bytes bad holds (inr refused) = taken_by (kind_of bytes) any_sum bytes bad holds.shape holds.sums holds.content refused.1
+dump_taken any_sum bytes bad holds (inr (small, inl refused)) = refused.1 holds.shape
+dump_taken any_sum bytes bad holds (inr (small, inr (inl refused))) = true≢false (sym (holds.sums refused.2) ∙ refused.3)
+dump_taken any_sum bytes bad holds (inr (small, inr (inr refused))) = content_taken (kind_of bytes) bytes bad holds.content refused.2
 
 module _ (dumps : List Dump) (any_sum : Bool) (dsdt : ℕ) (ssdts : List ℕ) (order : IsOrder dumps any_sum dsdt ssdts) where
   bytes_taken : (fault : TableFault) → ¬ RefusesBytes dumps any_sum fault
@@ -76,7 +61,7 @@ module _ (dumps : List Dump) (any_sum : Bool) (dsdt : ℕ) (ssdts : List ℕ) (o
   place_taken index RootMissing refused =
       let to_list = (chained refused.0).to_fadt.to_list in
       let root = same_Some index _ (sym refused.1 ∙ to_list.first) in
-      cc (refused.2, ap (λ n. list_of dumps (bytes_of dumps n)) root, to_list.there)
+      cc (refused.2, ap (λ n. list_of dumps (rsdp_of (bytes_of dumps n))) root, to_list.there)
   place_taken index FadtMissing refused =
       let to_fadt = (chained refused.0).to_fadt in
       let lacks = refused.1 in

@@ -13,6 +13,7 @@ use Rattle.std.proofs.lemmas.List.Sums.{sum_by-cons}
 use Rattle.std.proofs.lemmas.Option.{same_Some}
 use Rattle.acpi_tables.specs.declared.dump.Dump.{Dump}
 use Rattle.acpi_tables.specs.Header.{table_of}
+use Rattle.acpi_tables.specs.Rsdp.{rsdp_of}
 use Rattle.acpi_tables.specs.Order.{rank_cmp, bytes_of, has_signature, signed_at, list_of, listed_by, dsdt_address, each_once, is_addressed, IsNamed, IsChained, IsOrder, LeadsToList, LeadsToFadt}
 use Rattle.acpi_tables.proofs.Ranks.{ranks_below, rank_order, rank_total}
 
@@ -92,7 +93,7 @@ named_unique dumps d d' s s' a b = (
 pub list_unique : (dumps : List Dump) (r r' x x' : ℕ) → LeadsToList dumps r x → LeadsToList dumps r' x' → (r ≡ r') × (x ≡ x')
 list_unique dumps r r' x x' a b =
     let root = same_Some r r' (sym a.first ∙ b.first) in
-    (root, same_Some x x' (sym a.there ∙ ap (λ n. list_of dumps (bytes_of dumps n)) root ∙ b.there))
+    (root, same_Some x x' (sym a.there ∙ ap (λ n. list_of dumps (rsdp_of (bytes_of dumps n))) root ∙ b.there))
 
 pub fadt_unique : (dumps : List Dump) (r r' x x' f f' : ℕ) → LeadsToFadt dumps r x f → LeadsToFadt dumps r' x' f' → (x ≡ x') × (f ≡ f')
 fadt_unique dumps r r' x x' f f' a b =

@@ -9,13 +9,15 @@ use Rattle.std.specs.Ordering.{then_cmp, on, nat_cmp}
 use Rattle.std.specs.Cmp.Lexicographic.{slice_cmp}
 use Rattle.acpi_tables.specs.Bytes.{begins_with, number_at}
 use Rattle.acpi_tables.specs.Header.{HoldsTable, table_of}
-use Rattle.acpi_tables.specs.Rsdp.{revision_of}
+use Rattle.acpi_tables.specs.Rsdp.{rsdp_of}
 use Rattle.acpi_tables.specs.Addresses.{addresses_of}
-use Rattle.acpi_tables.specs.Dumps.{HoldsDump, RefusesDump}
+use Rattle.acpi_tables.specs.Dumps.{HoldsDump, RefusesDump, most_bytes}
 use Rattle.acpi_tables.specs.declared.dump.Dump.{Dump}
 use Rattle.acpi_tables.specs.declared.faults.Bad.{Bad}
 use Rattle.acpi_tables.specs.declared.faults.Bad.TheVariants.{TooManyTables, RootMissing, FadtMissing, NoDsdt, TwoDsdts}
 use Rattle.acpi_tables.specs.declared.faults.TableFault.{TableFault}
+use Rattle.acpi_tables.specs.declared.rsdp.Rsdp.{Rsdp}
+use Rattle.acpi_tables.specs.declared.rsdp.Wide.{Wide}
 
 -- the bytes of the dump at an index, and its name
 unfoldable pub bytes_of : List Dump → ℕ → List ℕ
@@ -95,20 +97,21 @@ signed_at dumps signature address =
 unfoldable pub root_of : List Dump → Option ℕ
 root_of dumps = position (λ dump. begins_with dump.bytes.items (codes "RSD PTR ")) dumps
 
--- whether an RSDP (section 5.2.5.3) gives the address of an XSDT: from revision 2 on, where it isn't 0
-abbrev pub gives_xsdt : List ℕ → Bool
-gives_xsdt root = nat_le 2 (revision_of root) && not (nat_eq (number_at root 24 8) 0)
+-- the XSDT's address that an RSDP gives (section 5.2.5.3), from revision 2 on, and 0 where it gives none
+abbrev pub xsdt_address : Option Wide → ℕ
+xsdt_address None = 0
+xsdt_address (Some wide) = wide.xsdt
 
 -- the list of the tables that an RSDP leads to: the XSDT where it gives that address, else the RSDT
-abbrev pub list_of : List Dump → List ℕ → Option ℕ
+abbrev pub list_of : List Dump → Rsdp → Option ℕ
 list_of dumps root =
-    if gives_xsdt root then signed_at dumps (codes "XSDT") (number_at root 24 8)
-    else signed_at dumps (codes "RSDT") (number_at root 16 4)
+    if nat_eq (xsdt_address root.wide) 0 then signed_at dumps (codes "RSDT") root.rsdt
+    else signed_at dumps (codes "XSDT") (xsdt_address root.wide)
 
 -- The first RSDP leads to the list.
 pub record LeadsToList (dumps : List Dump) (root list : ℕ) : Type 0 where
   pub first : root_of dumps ≡ Some root
-  pub there : list_of dumps (bytes_of dumps root) ≡ Some list
+  pub there : list_of dumps (rsdp_of (bytes_of dumps root)) ≡ Some list
 
 -- how many bytes an address has in such a list
 abbrev pub width_of : List ℕ → ℕ
@@ -148,9 +151,13 @@ pub record IsChained (dumps : List Dump) (dsdt : ℕ) (ssdts : List ℕ) : Type 
 abbrev pub AreTaken : List Dump → Bool → Type 0
 AreTaken dumps any_sum = (index : ℕ) → index < length dumps → HoldsDump any_sum (bytes_of dumps index)
 
+-- the greatest number of dumps
+abbrev pub most_dumps : ℕ
+most_dumps = 512
+
 -- The order of the definition blocks. There is at most one, and none where a refusal stands.
 pub record IsOrder (dumps : List Dump) (any_sum : Bool) (dsdt : ℕ) (ssdts : List ℕ) : Type 0 where
-  pub few : length dumps ≤ 512
+  pub few : length dumps ≤ most_dumps
   pub each : AreTaken dumps any_sum
   pub blocks : MatchBool (is_addressed dumps) (IsChained dumps dsdt ssdts) (IsNamed dumps dsdt ssdts)
 
@@ -158,7 +165,7 @@ pub record IsOrder (dumps : List Dump) (any_sum : Bool) (dsdt : ℕ) (ssdts : Li
 abbrev pub AreTables : List Dump → List ℕ → Type 0
 AreTables dumps [] = ⊤
 AreTables dumps (index ∷ indexes) =
-    HoldsTable (bytes_of dumps index) × (length (bytes_of dumps index) ≤ 16777216) × AreTables dumps indexes
+    HoldsTable (bytes_of dumps index) × (length (bytes_of dumps index) ≤ most_bytes) × AreTables dumps indexes
 
 -- The chain ends at a list without a FADT, or at a FADT whose address leads to no DSDT.
 pub record LacksFadt (dumps : List Dump) (list : ℕ) : Type 0 where
@@ -184,7 +191,7 @@ RefusesAll dumps _ = ⊥
 
 abbrev pub RefusesPlace : List Dump → ℕ → Bad → Type 0
 RefusesPlace dumps index RootMissing =
-    (is_addressed dumps ≡ true) × (root_of dumps ≡ Some index) × (list_of dumps (bytes_of dumps index) ≡ None)
+    (is_addressed dumps ≡ true) × (root_of dumps ≡ Some index) × (list_of dumps (rsdp_of (bytes_of dumps index)) ≡ None)
 RefusesPlace dumps index FadtMissing = (is_addressed dumps ≡ true) × LacksFadt dumps index
 RefusesPlace dumps index TwoDsdts =
     (is_addressed dumps ≡ false) × (slice_get (indexes_with dumps (codes "DSDT")) 1 ≡ Some index)
@@ -205,6 +212,6 @@ pub record RefusesBytes (dumps : List Dump) (any_sum : Bool) (fault : TableFault
 -- What a refusal says, the first that is met: there are too many dumps, or one isn't taken, or they have no order.
 abbrev pub Refuses : List Dump → Bool → TableFault → Type 0
 Refuses dumps any_sum fault =
-    ((fault.dump ≡ None) × (fault.bad ≡ TooManyTables) × (512 < length dumps))
-    ⊎ ((length dumps ≤ 512)
+    ((fault.dump ≡ None) × (fault.bad ≡ TooManyTables) × (most_dumps < length dumps))
+    ⊎ ((length dumps ≤ most_dumps)
     × (RefusesBytes dumps any_sum fault ⊎ (AreTaken dumps any_sum × RefusesOrder dumps fault.dump fault.bad)))

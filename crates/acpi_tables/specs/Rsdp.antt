@@ -1,5 +1,6 @@
 -- The Root System Description Pointer (ACPI 6.5, section 5.2.5.3, table 5.3).
-use Rattle.std.specs.Prelude.{◌≡◌, ℕ, ◌≤◌, true, List, codes, length, take, nat_le, Some, None, if◌then◌else◌}
+use Rattle.std.specs.Prelude.{◌≡◌, ℕ, ◌≤◌, ◌&&◌, ◌||◌, not, Bool, true, List, codes, length, take, nat_eq, nat_le}
+use Rattle.std.specs.Prelude.{Some, None, if◌then◌else◌}
 use Rattle.acpi_tables.specs.Bytes.{bytes_at, number_at, checksum, begins_with, HasLength}
 use Rattle.acpi_tables.specs.declared.rsdp.Rsdp.{Rsdp}
 use Rattle.acpi_tables.specs.declared.rsdp.Wide.{Wide}
@@ -25,7 +26,8 @@ rsdp_of bytes = record {
   wide = if nat_le 2 (revision_of bytes) then Some (wide_of bytes) else None;
 }
 
--- both checksums are right: that of the first 20 bytes, and from revision 2 on that of the first Length bytes
-pub record RootSums (bytes : List ℕ) : Type 0 where
-  pub first : checksum (take 20 bytes) ≡ 0
-  pub extended : 2 ≤ revision_of bytes → checksum (take (number_at bytes 20 4) bytes) ≡ 0
+-- whether its checksums are right: that of the first 20 bytes, and from revision 2 on that of the first Length bytes
+abbrev pub root_sums : List ℕ → Bool
+root_sums bytes =
+    nat_eq (checksum (take 20 bytes)) 0
+    && (not (nat_le 2 (revision_of bytes)) || nat_eq (checksum (take (number_at bytes 20 4) bytes)) 0)

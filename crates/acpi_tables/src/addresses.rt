@@ -75,9 +75,7 @@ fn addresses_of(alloc: Global, table: &[u8], width: usize) -> Result<Vec<u64>, B
     ensures bad_root { IfErr result (λ bad. (bad ≡ NoMemory) ⊎
         ((bad ≡ BadRoot) × ¬ HoldsAddresses width table.now)) }
 {
-    if !holds_addresses(table, width) {
-        return Err(Bad::BadRoot);
-    }
+    check_addresses(table, width)?;
     let count = address_count(table, width);
     let mut addresses = Vec::with_capacity(alloc, count)?;
     for index in 0..count {
@@ -98,8 +96,19 @@ fn address_in(table: &[u8], width: usize, index: usize) -> Option<u64>
     Some(address_at(table, width, index))
 }
 
-/// Whether a table is cut into addresses of this width.
-pub(crate) fn holds_addresses(table: &[u8], width: usize) -> bool
+/// Whether a table is cut into addresses of this width, and else what is wrong with it.
+pub(crate) fn check_addresses(table: &[u8], width: usize) -> Result<(), Bad>
+    requires some { 0 < width }
+    ensures holds { OnOk result (HoldsAddresses width table.now) }
+    ensures bad_root { IfErr result (λ bad. (bad ≡ BadRoot) × (¬ HoldsAddresses width table.now)) }
+{
+    if !holds_addresses(table, width) {
+        return Err(Bad::BadRoot);
+    }
+    Ok(())
+}
+
+fn holds_addresses(table: &[u8], width: usize) -> bool
     requires some { 0 < width }
     ensures { IsTrue result ↔ HoldsAddresses width table.now }
 {

@@ -3,21 +3,20 @@ ghost use Rattle.std.specs.Prelude.{◌≡◌, ◌⊎◌, ◌<◌, ◌≤◌, �
 ghost use Rattle.std.specs.Prelude.{filter, filter_map, find, codes, IfOk, IfErr};
 ghost use Rattle.acpi_tables.specs.Bytes.{begins_with as has_front};
 ghost use Rattle.acpi_tables.specs.Header.{HoldsTable, table_of};
-ghost use Rattle.acpi_tables.specs.Rsdp.{HoldsRoot};
 ghost use Rattle.acpi_tables.specs.Addresses.{HoldsAddresses, addresses_of};
 ghost use Rattle.acpi_tables.specs.Fadt.{HoldsFadt};
 ghost use Rattle.acpi_tables.specs.Order.{AreTaken, IsChained, RefusesOrder, bytes_of, dump_at};
-ghost use Rattle.acpi_tables.specs.Order.{signed_at, root_of, gives_xsdt, list_of, width_of, listed_by};
+ghost use Rattle.acpi_tables.specs.Order.{signed_at, root_of, xsdt_address, list_of, width_of, listed_by};
 ghost use Rattle.acpi_tables.specs.Order.{dsdt_address, each_once, has_signature, is_addressed};
 ghost use Rattle.acpi_tables.specs.declared.faults.Bad.TheVariants.{NoMemory};
 
 use crate::addresses::{RSDT_WIDTH, XSDT_WIDTH, address_at, address_count};
-use crate::bytes::{begins_with, u8_at, u32_at, u64_at};
+use crate::bytes::{begins_with, u32_at, u64_at};
 use crate::dump::{Dump, table_of};
-use crate::fadt::X_DSDT_END;
+use crate::fadt::{DSDT_AT, X_DSDT_AT, X_DSDT_END};
 use crate::faults::{Bad, TableFault};
 use crate::order::Order;
-use crate::rsdp::RSDP_SIGNATURE;
+use crate::rsdp::{RSDP_SIGNATURE, Rsdp, Wide};
 use std::alloc::{AllocError, Global};
 
 /// The order that the chain gives.
@@ -31,7 +30,7 @@ pub(crate) fn order_by_chain(alloc: Global, dumps: &[Dump]) -> Result<Order, Tab
     let Some(root) = root_of(dumps) else {
         return Err(TableFault::of_set(Bad::RootMissing));
     };
-    let Some(list) = list_of(dumps, bytes_of(dumps, root)) else {
+    let Some(list) = list_of(dumps, &Rsdp::of(bytes_of(dumps, root))) else {
         return Err(TableFault::of_dump(root, Bad::RootMissing));
     };
     let listed = listed_by(alloc, dumps, list)?;
@@ -52,7 +51,7 @@ pub(crate) fn order_by_chain(alloc: Global, dumps: &[Dump]) -> Result<Order, Tab
 }
 
 /// The bytes of the dump at this index, and none past the last.
-fn bytes_of(dumps: &[Dump], index: usize) -> &[u8]
+pub fn bytes_of(dumps: &[Dump], index: usize) -> &[u8]
     ensures { result.now ≡ bytes_of dumps.now index }
 {
     match dumps.get(index) {
@@ -71,23 +70,25 @@ fn root_of(dumps: &[Dump]) -> Option<usize>
         .position(|dump| dump.has_signature(&RSDP_SIGNATURE))
 }
 
-/// Whether an RSDP gives the address of an XSDT.
-fn gives_xsdt(root: &[u8]) -> bool
-    requires { HoldsRoot root.now }
-    ensures { result ≡ gives_xsdt root.now }
-{
-    u8_at(root, 15) >= 2 && u64_at(root, 24) != 0
-}
-
 /// The XSDT that an RSDP leads to, or else the RSDT.
-fn list_of(dumps: &[Dump], root: &[u8]) -> Option<usize>
-    requires { HoldsRoot root.now }
+fn list_of(dumps: &[Dump], root: &Rsdp) -> Option<usize>
     ensures { result ≡ list_of dumps.now root.now }
 {
-    if gives_xsdt(root) {
-        signed_at(dumps, b"XSDT", u64_at(root, 24))
+    let xsdt = xsdt_address(root.wide);
+    if xsdt == 0 {
+        signed_at(dumps, b"RSDT", u64::from(root.rsdt))
     } else {
-        signed_at(dumps, b"RSDT", u64::from(u32_at(root, 16)))
+        signed_at(dumps, b"XSDT", xsdt)
+    }
+}
+
+/// The address of the XSDT that an RSDP gives, and 0 where it gives none.
+fn xsdt_address(wide: Option<Wide>) -> u64
+    ensures { result ≡ xsdt_address wide }
+{
+    match wide {
+        Some(wide) => wide.xsdt,
+        None => 0,
     }
 }
 
@@ -169,12 +170,12 @@ fn dsdt_address(table: &[u8]) -> u64
     ensures { result ≡ dsdt_address table.now }
 {
     if table.len() >= X_DSDT_END {
-        let address = u64_at(table, 140);
+        let address = u64_at(table, X_DSDT_AT);
         if address != 0 {
             return address;
         }
     }
-    u64::from(u32_at(table, 40))
+    u64::from(u32_at(table, DSDT_AT))
 }
 
 /// Those of these dumps that have this signature, each where it stands first.

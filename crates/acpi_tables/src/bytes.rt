@@ -1,6 +1,6 @@
 //! Numbers at an offset of a table, and the sum of its bytes.
-ghost use Rattle.std.specs.Prelude.{◌≡◌, ◌+◌, ◌<◌, ◌≤◌, length};
-ghost use Rattle.acpi_tables.specs.Bytes.{little_endian, bytes_at, number_at, begins_with, checksum};
+ghost use Rattle.std.specs.Prelude.{◌≡◌, ◌↔◌, ◌+◌, ◌<◌, ◌≤◌, length, IsTrue};
+ghost use Rattle.acpi_tables.specs.Bytes.{little_endian, bytes_at, number_at, begins_with, checksum, HasLength};
 
 /// The sum of the bytes modulo 256. It is 0 for a table whose checksum is right (ACPI 6.5, section 5.2.6).
 pub fn sum(bytes: &[u8]) -> u8
@@ -69,4 +69,16 @@ pub fn begins_with(bytes: &[u8], word: &[u8]) -> bool
     ensures { result ≡ begins_with bytes.now word.now }
 {
     bytes.starts_with(word)
+}
+
+/// Whether the u32 at this offset is a length of at least so many bytes, which the bytes have.
+pub(crate) fn has_length(bytes: &[u8], at: usize, least: usize) -> bool
+    requires { at + 4 ≤ least }
+    ensures { IsTrue result ↔ HasLength bytes.now at least }
+{
+    if bytes.len() < least {
+        return false;
+    }
+    let length = u32_at(bytes, at) as usize;
+    least <= length && length <= bytes.len()
 }

@@ -1,18 +1,19 @@
 //! Dumps of tables, and what one dump is refused for by itself.
-ghost use Rattle.std.specs.Prelude.{◌≡◌, false, OnOk, IfErr};
-ghost use Rattle.acpi_tables.specs.Bytes.{HasLength, checksum};
+ghost use Rattle.std.specs.Prelude.{◌≡◌, ◌↔◌, IsTrue, OnOk, IfErr};
 ghost use Rattle.acpi_tables.specs.Header.{HoldsTable, table_of};
-ghost use Rattle.acpi_tables.specs.Rsdp.{HoldsRoot, RootSums};
-ghost use Rattle.acpi_tables.specs.Dumps.{kind_of, HoldsDump, HoldsTables, RefusesDump};
-ghost use Rattle.acpi_tables.specs.Dumps.{RefusesRoot, RefusesFacs, RefusesContent, RefusesTable};
+ghost use Rattle.acpi_tables.specs.Dumps.{content_of, kind_of, HoldsShape, sums_hold, HoldsContent, HoldsDump};
+ghost use Rattle.acpi_tables.specs.Dumps.{shape_fault, RefusesContent, RefusesDump};
 
-use crate::addresses::{RSDT_WIDTH, XSDT_WIDTH, holds_addresses};
-use crate::bytes::{begins_with, sum, u32_at};
+use crate::addresses::{RSDT_WIDTH, XSDT_WIDTH, check_addresses};
+use crate::bytes::{begins_with, has_length, sum, u32_at};
 use crate::fadt::Fadt;
 use crate::faults::Bad;
-use crate::header::Header;
+use crate::header::{Header, LENGTH_AT};
 use crate::madt::Madt;
 use crate::rsdp::{RSDP_SIGNATURE, Rsdp};
+
+/// The bytes that every FACS has, at least: its signature and its Length.
+const FACS_FRONT: usize = 8;
 
 /// The greatest number of bytes of a dump.
 pub const MAX_DUMP_BYTES: usize = 16_777_216;
@@ -54,7 +55,41 @@ pub enum Kind {
     /// A Firmware ACPI Control Structure, which has neither the standard header nor a checksum.
     Facs,
     /// Any other table, with the standard header.
-    Standard,
+    Standard(Content),
+}
+
+/// What is read of a table behind its standard header.
+#[derive(Clone, Copy)]
+pub enum Content {
+    /// The addresses of an XSDT.
+    Xsdt,
+    /// The addresses of an RSDT.
+    Rsdt,
+    /// The fields of a FADT.
+    Fadt,
+    /// The fields and records of a MADT.
+    Madt,
+    /// Nothing.
+    Other,
+}
+
+impl Content {
+    /// By the signature of the table that these bytes begin with.
+    fn of(bytes: &[u8]) -> Content
+        ensures { result ≡ content_of bytes.now }
+    {
+        if begins_with(bytes, b"XSDT") {
+            Content::Xsdt
+        } else if begins_with(bytes, b"RSDT") {
+            Content::Rsdt
+        } else if begins_with(bytes, b"FACP") {
+            Content::Fadt
+        } else if begins_with(bytes, b"APIC") {
+            Content::Madt
+        } else {
+            Content::Other
+        }
+    }
 }
 
 impl Kind {
@@ -67,7 +102,58 @@ impl Kind {
         } else if begins_with(bytes, b"FACS") {
             Kind::Facs
         } else {
-            Kind::Standard
+            Kind::Standard(Content::of(bytes))
+        }
+    }
+
+    /// Whether the fields that say how long such a dump is are there, and agree with its bytes.
+    fn holds_shape(self, bytes: &[u8]) -> bool
+        ensures { IsTrue result ↔ HoldsShape self bytes.now }
+    {
+        match self {
+            Kind::Root => Rsdp::holds(bytes),
+            Kind::Facs => has_length(bytes, LENGTH_AT, FACS_FRONT),
+            Kind::Standard(_) => Header::holds(bytes),
+        }
+    }
+
+    /// What is wrong with such a dump where they aren't.
+    fn shape_fault(self) -> Bad
+        ensures { result ≡ shape_fault self }
+    {
+        match self {
+            Kind::Root => Bad::BadRoot,
+            Kind::Facs | Kind::Standard(_) => Bad::Short,
+        }
+    }
+
+    /// Whether the checksums of such a dump are right.
+    pub fn sums_hold(self, bytes: &[u8]) -> bool
+        requires shape { HoldsShape self bytes.now }
+        ensures { result ≡ sums_hold self bytes.now }
+    {
+        match self {
+            Kind::Root => Rsdp::sums(bytes),
+            Kind::Facs => true,
+            Kind::Standard(_) => sum(table_of(bytes)) == 0,
+        }
+    }
+
+    /// Whether what is read of such a dump can be read, and else what is wrong with it.
+    fn check_content(self, bytes: &[u8]) -> Result<(), Bad>
+        requires shape { HoldsShape self bytes.now }
+        ensures holds { OnOk result (HoldsContent self bytes.now) }
+        ensures refused { IfErr result (RefusesContent self bytes.now) }
+    {
+        match self {
+            Kind::Root | Kind::Facs => Ok(()),
+            Kind::Standard(content) => match content {
+                Content::Xsdt => check_addresses(table_of(bytes), XSDT_WIDTH),
+                Content::Rsdt => check_addresses(table_of(bytes), RSDT_WIDTH),
+                Content::Fadt => Fadt::check(table_of(bytes)),
+                Content::Madt => Madt::check(table_of(bytes)),
+                Content::Other => Ok(()),
+            },
         }
     }
 }
@@ -77,7 +163,7 @@ pub fn table_of(bytes: &[u8]) -> &[u8]
     requires { HoldsTable bytes.now }
     ensures { result.now ≡ table_of bytes.now }
 {
-    &bytes[..u32_at(bytes, 4) as usize]
+    &bytes[..u32_at(bytes, LENGTH_AT) as usize]
 }
 
 /// Whether a dump is taken by itself, and else what is wrong with it.
@@ -88,70 +174,12 @@ pub(crate) fn check_dump(bytes: &[u8], any_sum: bool) -> Result<(), Bad>
     if bytes.len() > MAX_DUMP_BYTES {
         return Err(Bad::TooLarge);
     }
-    match Kind::of(bytes) {
-        Kind::Root => check_root(bytes, any_sum),
-        Kind::Facs => check_facs(bytes),
-        Kind::Standard => check_table(bytes, any_sum),
+    let kind = Kind::of(bytes);
+    if !kind.holds_shape(bytes) {
+        return Err(kind.shape_fault());
     }
-}
-
-fn check_root(bytes: &[u8], any_sum: bool) -> Result<(), Bad>
-    ensures holds { OnOk result (HoldsRoot bytes.now) }
-    ensures sums { OnOk result (any_sum ≡ false → RootSums bytes.now) }
-    ensures refused { IfErr result (RefusesRoot any_sum bytes.now) }
-{
-    Rsdp::read(bytes)?;
-    if !any_sum && !Rsdp::sums(bytes) {
+    if !any_sum && !kind.sums_hold(bytes) {
         return Err(Bad::BadSum);
     }
-    Ok(())
-}
-
-fn check_facs(bytes: &[u8]) -> Result<(), Bad>
-    ensures holds { OnOk result (HasLength bytes.now 4 8) }
-    ensures refused { IfErr result (RefusesFacs bytes.now) }
-{
-    if bytes.len() < 8 {
-        return Err(Bad::Short);
-    }
-    let length = u32_at(bytes, 4);
-    if length < 8 || bytes.len() < length as usize {
-        return Err(Bad::Short);
-    }
-    Ok(())
-}
-
-fn check_table(bytes: &[u8], any_sum: bool) -> Result<(), Bad>
-    ensures holds { OnOk result (HoldsTable bytes.now) }
-    ensures sums { OnOk result (any_sum ≡ false → checksum (table_of bytes.now) ≡ 0) }
-    ensures content { OnOk result (HoldsTables bytes.now) }
-    ensures refused { IfErr result (RefusesTable any_sum bytes.now) }
-{
-    Header::read(bytes)?;
-    if !any_sum && sum(table_of(bytes)) != 0 {
-        return Err(Bad::BadSum);
-    }
-    check_content(bytes)
-}
-
-/// Whether the tables that are read here can be read.
-fn check_content(bytes: &[u8]) -> Result<(), Bad>
-    requires { HoldsTable bytes.now }
-    ensures holds { OnOk result (HoldsTables bytes.now) }
-    ensures refused { IfErr result (RefusesContent bytes.now) }
-{
-    let table = table_of(bytes);
-    if begins_with(bytes, b"FACP") {
-        Fadt::read(table)?;
-    }
-    if begins_with(bytes, b"APIC") {
-        Madt::check(table)?;
-    }
-    if begins_with(bytes, b"XSDT") && !holds_addresses(table, XSDT_WIDTH) {
-        return Err(Bad::BadRoot);
-    }
-    if begins_with(bytes, b"RSDT") && !holds_addresses(table, RSDT_WIDTH) {
-        return Err(Bad::BadRoot);
-    }
-    Ok(())
+    kind.check_content(bytes)
 }

@@ -1,5 +1,5 @@
 //! The table that names the DSDT (ACPI 6.5, section 5.2.9).
-ghost use Rattle.std.specs.Prelude.{◌≡◌, ◌↔◌, ◌≤◌, map, IsOk, IfOk, IfErr};
+ghost use Rattle.std.specs.Prelude.{◌≡◌, ◌↔◌, ◌≤◌, map, IsOk, IfOk, IfErr, OnOk};
 ghost use Rattle.acpi_tables.specs.declared.faults.Bad.TheVariants.{FadtShort};
 
 use crate::bytes::{u8_at, u16_at, u32_at, u64_at};
@@ -8,7 +8,12 @@ use crate::faults::Bad;
 /// Where Flags ends, the last field of the FADT of ACPI 1.0.
 const FLAGS_END: usize = 116;
 
-/// Where X_DSDT ends.
+/// Where DSDT stands.
+pub(crate) const DSDT_AT: usize = 40;
+
+/// Where X_DSDT stands, and where it ends.
+pub(crate) const X_DSDT_AT: usize = 140;
+
 pub(crate) const X_DSDT_END: usize = 148;
 
 /// Fields of a Fixed ACPI Description Table, each named as in the standard, shortened.
@@ -61,12 +66,10 @@ impl Fadt {
         ensures short { IfErr result (λ bad. bad ≡ FadtShort) }
         ensures fields { IfOk result (λ fadt. fadt_values fadt ≡ map (value_in table.now) fadt_fields) }
     {
-        if table.len() < FLAGS_END {
-            return Err(Bad::FadtShort);
-        }
+        Fadt::check(table)?;
         Ok(Fadt {
             firmware_ctrl: u32_at(table, 36),
-            dsdt: u32_at(table, 40),
+            dsdt: u32_at(table, DSDT_AT),
             profile: u8_at(table, 45),
             sci_int: u16_at(table, 46),
             smi_cmd: u32_at(table, 48),
@@ -80,8 +83,19 @@ impl Fadt {
             boot_arch: u16_at(table, 109),
             flags: u32_at(table, 112),
             x_firmware_ctrl: address_at(table, 132),
-            x_dsdt: address_at(table, 140),
+            x_dsdt: address_at(table, X_DSDT_AT),
         })
+    }
+
+    /// Whether `read` takes this table, and else what is wrong with it.
+    pub(crate) fn check(table: &[u8]) -> Result<(), Bad>
+        ensures holds { OnOk result (HoldsFadt table.now) }
+        ensures short { IfErr result (λ bad. (bad ≡ FadtShort) × (¬ HoldsFadt table.now)) }
+    {
+        if table.len() < FLAGS_END {
+            return Err(Bad::FadtShort);
+        }
+        Ok(())
     }
 }
 

@@ -1,12 +1,15 @@
 //! The header that the tables share (ACPI 6.5, section 5.2.6).
-ghost use Rattle.std.specs.Prelude.{◌≡◌, ◌↔◌, IsOk, IfOk, IfErr};
+ghost use Rattle.std.specs.Prelude.{◌≡◌, ◌↔◌, IsTrue, IsOk, IfOk, IfErr};
 ghost use Rattle.acpi_tables.specs.declared.faults.Bad.TheVariants.{Short};
 
-use crate::bytes::{array_at, u8_at, u32_at};
+use crate::bytes::{array_at, has_length, u8_at, u32_at};
 use crate::faults::Bad;
 
 /// The bytes of a System Description Table Header.
 pub const HEADER_LENGTH: usize = 36;
+
+/// Where Length stands, in a FACS too.
+pub const LENGTH_AT: usize = 4;
 
 /// The fields of a System Description Table Header.
 #[derive(Clone, Copy)]
@@ -43,16 +46,27 @@ impl Header {
         ensures short { IfErr result (λ bad. bad ≡ Short) }
         ensures fields { IfOk result (λ header. header ≡ header_of bytes.now) }
     {
-        if bytes.len() < HEADER_LENGTH {
+        if !Header::holds(bytes) {
             return Err(Bad::Short);
         }
-        let length = u32_at(bytes, 4);
-        if (length as usize) < HEADER_LENGTH || bytes.len() < length as usize {
-            return Err(Bad::Short);
-        }
-        Ok(Header {
+        Ok(Header::of(bytes))
+    }
+
+    /// Whether `read` takes these bytes.
+    pub(crate) fn holds(bytes: &[u8]) -> bool
+        ensures { IsTrue result ↔ HoldsTable bytes.now }
+    {
+        has_length(bytes, LENGTH_AT, HEADER_LENGTH)
+    }
+
+    /// The header of a table that `read` takes.
+    pub fn of(bytes: &[u8]) -> Header
+        requires { HoldsTable bytes.now }
+        ensures { result ≡ header_of bytes.now }
+    {
+        Header {
             signature: array_at(bytes, 0),
-            length,
+            length: u32_at(bytes, LENGTH_AT),
             revision: u8_at(bytes, 8),
             checksum: u8_at(bytes, 9),
             oem_id: array_at(bytes, 10),
@@ -60,6 +74,6 @@ impl Header {
             oem_revision: u32_at(bytes, 24),
             creator_id: array_at(bytes, 28),
             creator_revision: u32_at(bytes, 32),
-        })
+        }
     }
 }

@@ -10,6 +10,12 @@ use crate::bytes::{u8_at, u16_at, u32_at, u64_at};
 use crate::faults::Bad;
 use std::alloc::{AllocError, Global};
 
+/// Where the address of the local interrupt controllers stands.
+pub const MADT_CONTROLLER: usize = 36;
+
+/// Where the flags stand.
+pub const MADT_FLAGS: usize = 40;
+
 /// Where the records begin, behind the header and two fields.
 pub const MADT_RECORDS: usize = 44;
 
@@ -201,8 +207,8 @@ impl Madt {
             at = end;
         }
         Ok(Madt {
-            controller: u32_at(table, 36),
-            flags: u32_at(table, 40),
+            controller: u32_at(table, MADT_CONTROLLER),
+            flags: u32_at(table, MADT_FLAGS),
             records,
         })
     }

@@ -2,17 +2,26 @@
 ghost use Rattle.std.specs.Prelude.{◌≡◌, ◌↔◌, IsOk, IfOk, IfErr, IsTrue};
 ghost use Rattle.acpi_tables.specs.declared.faults.Bad.TheVariants.{BadRoot};
 
-use crate::bytes::{array_at, begins_with, sum, u8_at, u32_at, u64_at};
+use crate::bytes::{array_at, begins_with, has_length, sum, u8_at, u32_at, u64_at};
 use crate::faults::Bad;
 
 /// The bytes that every RSDP begins with.
-pub const RSDP_SIGNATURE: [u8; 8] = *b"RSD PTR ";
+pub(crate) const RSDP_SIGNATURE: [u8; 8] = *b"RSD PTR ";
 
 /// The bytes of an RSDP before revision 2.
 const FIRST_LENGTH: usize = 20;
 
 /// The bytes of an RSDP from revision 2 on, at least.
 const EXTENDED_LENGTH: usize = 36;
+
+/// The first revision with the fields that follow.
+const EXTENDED: u8 = 2;
+
+/// Where the revision stands.
+const REVISION_AT: usize = 15;
+
+/// Where Length stands, from revision 2 on.
+const LENGTH_AT: usize = 20;
 
 /// The fields of a Root System Description Pointer, but for its signature and its checksums.
 #[derive(Clone, Copy)]
@@ -37,7 +46,7 @@ pub struct Wide {
 }
 
 impl Rsdp {
-    ghost use Rattle.acpi_tables.specs.Rsdp.{HoldsRoot, RootSums, rsdp_of};
+    ghost use Rattle.acpi_tables.specs.Rsdp.{HoldsRoot, root_sums, rsdp_of};
 
     /// The RSDP that these bytes begin with.
     ///
@@ -49,53 +58,52 @@ impl Rsdp {
         ensures bad_root { IfErr result (λ bad. bad ≡ BadRoot) }
         ensures fields { IfOk result (λ rsdp. rsdp ≡ rsdp_of bytes.now) }
     {
-        if !begins_with(bytes, &RSDP_SIGNATURE) || bytes.len() < FIRST_LENGTH {
+        if !Rsdp::holds(bytes) {
             return Err(Bad::BadRoot);
         }
-        let revision = u8_at(bytes, 15);
-        let wide = if revision < 2 {
+        Ok(Rsdp::of(bytes))
+    }
+
+    /// Whether `read` takes these bytes.
+    pub(crate) fn holds(bytes: &[u8]) -> bool
+        ensures { IsTrue result ↔ HoldsRoot bytes.now }
+    {
+        if !begins_with(bytes, &RSDP_SIGNATURE) || bytes.len() < FIRST_LENGTH {
+            return false;
+        }
+        u8_at(bytes, REVISION_AT) < EXTENDED || has_length(bytes, LENGTH_AT, EXTENDED_LENGTH)
+    }
+
+    /// The RSDP of bytes that `read` takes.
+    pub fn of(bytes: &[u8]) -> Rsdp
+        requires { HoldsRoot bytes.now }
+        ensures { result ≡ rsdp_of bytes.now }
+    {
+        let revision = u8_at(bytes, REVISION_AT);
+        let wide = if revision < EXTENDED {
             None
         } else {
-            Some(Wide::read(bytes)?)
+            Some(Wide {
+                length: u32_at(bytes, LENGTH_AT),
+                xsdt: u64_at(bytes, 24),
+            })
         };
-        Ok(Rsdp {
+        Rsdp {
             oem: array_at(bytes, 9),
             revision,
             rsdt: u32_at(bytes, 16),
             wide,
-        })
+        }
     }
 
     /// Whether the checksums of these bytes are right: that of the first 20 bytes, and from revision 2 on that of the
     /// first Length bytes too.
     pub fn sums(bytes: &[u8]) -> bool
         requires { HoldsRoot bytes.now }
-        ensures { IsTrue result ↔ RootSums bytes.now }
+        ensures { result ≡ root_sums bytes.now }
     {
         sum(&bytes[..FIRST_LENGTH]) == 0
-            && (u8_at(bytes, 15) < 2 || sum(&bytes[..u32_at(bytes, 20) as usize]) == 0)
-    }
-}
-
-impl Wide {
-    ghost use Rattle.acpi_tables.specs.Bytes.{HasLength};
-    ghost use Rattle.acpi_tables.specs.Rsdp.{wide_of};
-
-    fn read(bytes: &[u8]) -> Result<Wide, Bad>
-        ensures holds { IsOk result ↔ HasLength bytes.now 20 36 }
-        ensures bad_root { IfErr result (λ bad. bad ≡ BadRoot) }
-        ensures fields { IfOk result (λ wide. wide ≡ wide_of bytes.now) }
-    {
-        if bytes.len() < EXTENDED_LENGTH {
-            return Err(Bad::BadRoot);
-        }
-        let length = u32_at(bytes, 20);
-        if (length as usize) < EXTENDED_LENGTH || bytes.len() < length as usize {
-            return Err(Bad::BadRoot);
-        }
-        Ok(Wide {
-            length,
-            xsdt: u64_at(bytes, 24),
-        })
+            && (u8_at(bytes, REVISION_AT) < EXTENDED
+                || sum(&bytes[..u32_at(bytes, LENGTH_AT) as usize]) == 0)
     }
 }

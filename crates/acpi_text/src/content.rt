@@ -45,7 +45,6 @@ fn print_entry_text<W: Write>(out: &mut Out<'_, W>, dumps: &[Dump], bytes: &[u8]
     print_owner(out, dumps, little_endian(bytes));
 }
 
-#[tactic(auto, using(text_writer::proofs::PrintLaws::straight), unfolding(crate::specs::Dumps::entry_line))]
 fn print_entry<W: Write>(out: &mut Out<'_, W>, dumps: &[Dump], bytes: &[u8])
     requires narrow { length bytes.now ≤ 8 }
     ensures { Prints W.contents out.old out.new (entry_line dumps.now bytes.now) }

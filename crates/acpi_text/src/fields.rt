@@ -1,4 +1,6 @@
 //! A field of a table: its label, and its value in the digits of its base.
+#![tactic(auto, using(text_writer::proofs::PrintLaws::straight))]
+
 ghost use Rattle.std.specs.Prelude.{◌≤◌, flat_map, length, reverse};
 ghost use Rattle.text_writer.specs.Prints.{Prints};
 ghost use Rattle.text_writer.specs.Numbers.{hex2};
@@ -21,7 +23,6 @@ fn print_label<W: Write>(out: &mut Out<'_, W>, label: &[u8])
 }
 
 /// The bytes in hexadecimal digits, the last first.
-#[tactic(auto, using(text_writer::proofs::PrintLaws::straight))]
 pub fn print_reversed<W: Write>(out: &mut Out<'_, W>, bytes: &[u8])
     ensures { Prints W.contents out.old out.new (flat_map hex2 (reverse bytes.now)) }
 {
@@ -31,7 +32,6 @@ pub fn print_reversed<W: Write>(out: &mut Out<'_, W>, bytes: &[u8])
 }
 
 /// The number that these bytes spell.
-#[tactic(auto, using(text_writer::proofs::PrintLaws::straight))]
 fn print_value<W: Write>(out: &mut Out<'_, W>, base: Base, bytes: &[u8])
     requires narrow { length bytes.now ≤ 8 }
     ensures { Prints W.contents out.old out.new (value_text base bytes.now) }

@@ -1,4 +1,6 @@
 //! A label, and a value behind it.
+#![tactic(auto, using(text_writer::proofs::PrintLaws::straight))]
+
 ghost use Rattle.std.specs.Prelude.{◌++◌, decimal};
 ghost use Rattle.text_writer.specs.Prints.{Prints};
 ghost use Rattle.text_writer.specs.Numbers.{hex8, hex16, quoted};
@@ -7,7 +9,6 @@ use std::io::Write;
 use text_writer::{Out, print_decimal, print_hex8, print_hex16, print_quoted};
 
 /// A label, and a number in decimal digits.
-#[tactic(auto, using(text_writer::proofs::PrintLaws::straight))]
 pub fn put_decimal<W: Write>(out: &mut Out<'_, W>, label: &[u8], value: u64)
     ensures { Prints W.contents out.old out.new (label.now ++ decimal value) }
 {
@@ -15,7 +16,6 @@ pub fn put_decimal<W: Write>(out: &mut Out<'_, W>, label: &[u8], value: u64)
     print_decimal(out, value);
 }
 
-#[tactic(auto, using(text_writer::proofs::PrintLaws::straight))]
 pub fn put_hex8<W: Write>(out: &mut Out<'_, W>, label: &[u8], value: u32)
     ensures { Prints W.contents out.old out.new (label.now ++ hex8 value) }
 {
@@ -23,7 +23,6 @@ pub fn put_hex8<W: Write>(out: &mut Out<'_, W>, label: &[u8], value: u32)
     print_hex8(out, value);
 }
 
-#[tactic(auto, using(text_writer::proofs::PrintLaws::straight))]
 pub fn put_hex16<W: Write>(out: &mut Out<'_, W>, label: &[u8], value: u64)
     ensures { Prints W.contents out.old out.new (label.now ++ hex16 value) }
 {
@@ -32,7 +31,6 @@ pub fn put_hex16<W: Write>(out: &mut Out<'_, W>, label: &[u8], value: u64)
 }
 
 /// A label, and bytes between quotes.
-#[tactic(auto, using(text_writer::proofs::PrintLaws::straight))]
 pub fn put_quoted<W: Write>(out: &mut Out<'_, W>, label: &[u8], bytes: &[u8])
     ensures { Prints W.contents out.old out.new (label.now ++ quoted bytes.now) }
 {

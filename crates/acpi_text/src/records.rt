@@ -1,22 +1,25 @@
 //! The lines below a MADT: its two fields, and its records.
+#![tactic(auto, using(text_writer::proofs::PrintLaws::straight))]
+
 ghost use Rattle.std.specs.Prelude.{◌≤◌, ◌++◌, Some, flat_map, length, map};
 ghost use Rattle.std.specs.List.{All};
 ghost use Rattle.text_writer.specs.Prints.{Prints};
 ghost use Rattle.text_writer.specs.Words.{word};
 ghost use Rattle.acpi_tables.specs.Fields.{field_view, IsNarrow};
-ghost use Rattle.acpi_tables.specs.Madt.{HoldsMadt};
+ghost use Rattle.acpi_tables.specs.Madt.{HoldsMadt, records_of};
 ghost use Rattle.acpi_tables.specs.Records.{row_of, row_view};
 ghost use Rattle.acpi_text.specs.Dumps.{labelled, record_field, spaced_byte, other_text, record_text_by};
-ghost use Rattle.acpi_text.specs.Dumps.{record_line, record_lines, controller_text, controller_line, madt_lines};
+ghost use Rattle.acpi_text.specs.Dumps.{below, record_line, controller_text, madt_lines};
 
 use crate::fields::print_labelled;
 use crate::labels::{put_decimal, put_hex8};
-use acpi_tables::{MADT_RECORDS, Madt, RecordRow, TableField, u8_at, u32_at};
+use acpi_tables::{
+    MADT_CONTROLLER, MADT_FLAGS, MADT_RECORDS, Madt, RecordRow, TableField, u8_at, u32_at,
+};
 use std::io::Write;
 use text_writer::{Out, print_hex2};
 
 /// A field of a record, behind a space.
-#[tactic(auto, using(text_writer::proofs::PrintLaws::straight))]
 fn print_spaced_field<W: Write>(out: &mut Out<'_, W>, field: &TableField, value: &[u8])
     requires narrow { length value.now ≤ 8 }
     ensures { Prints W.contents out.old out.new (word " " ++ labelled (field_view field.now) value.now) }
@@ -35,7 +38,6 @@ fn print_record_field<W: Write>(out: &mut Out<'_, W>, bytes: &[u8], field: &Tabl
     }
 }
 
-#[tactic(auto, using(text_writer::proofs::PrintLaws::straight))]
 fn print_record_fields<W: Write>(out: &mut Out<'_, W>, bytes: &[u8], fields: &[TableField])
     requires narrow { All IsNarrow fields.now }
     ensures { Prints W.contents out.old out.new (flat_map (record_field bytes.now) (map field_view fields.now)) }
@@ -46,7 +48,6 @@ fn print_record_fields<W: Write>(out: &mut Out<'_, W>, bytes: &[u8], fields: &[T
 }
 
 /// A record of this kind.
-#[tactic(auto, using(text_writer::proofs::PrintLaws::straight))]
 fn print_known<W: Write>(out: &mut Out<'_, W>, bytes: &[u8], row: &RecordRow)
     requires narrow { All IsNarrow row.now.fields.now }
     ensures { Prints W.contents out.old out.new (record_text_by (Some (row_view row.now)) bytes.now) }
@@ -63,7 +64,6 @@ fn print_spaced<W: Write>(out: &mut Out<'_, W>, byte: u8)
     print_hex2(out, byte);
 }
 
-#[tactic(auto, using(text_writer::proofs::PrintLaws::straight))]
 fn print_content<W: Write>(out: &mut Out<'_, W>, content: &[u8])
     ensures { Prints W.contents out.old out.new (flat_map spaced_byte content.now) }
 {
@@ -83,7 +83,6 @@ fn print_other<W: Write>(out: &mut Out<'_, W>, bytes: &[u8])
 }
 
 /// A record by the table of kinds.
-#[tactic(auto, using(text_writer::proofs::PrintLaws::straight))]
 fn print_record<W: Write>(out: &mut Out<'_, W>, bytes: &[u8])
     requires header { 2 ≤ length bytes.now }
     ensures { Prints W.contents out.old out.new (record_text_by (row_of bytes.now) bytes.now) }
@@ -94,7 +93,6 @@ fn print_record<W: Write>(out: &mut Out<'_, W>, bytes: &[u8])
     }
 }
 
-#[tactic(auto, using(text_writer::proofs::PrintLaws::straight), unfolding(crate::specs::Dumps::record_line))]
 fn print_record_line<W: Write>(out: &mut Out<'_, W>, bytes: &[u8])
     requires header { 2 ≤ length bytes.now }
     ensures { Prints W.contents out.old out.new (record_line bytes.now) }
@@ -108,14 +106,13 @@ fn print_controller<W: Write>(out: &mut Out<'_, W>, table: &[u8])
     requires fields { 44 ≤ length table.now }
     ensures { Prints W.contents out.old out.new (controller_text table.now) }
 {
-    put_hex8(out, b"Controller ", u32_at(table, 36));
-    put_hex8(out, b" Flags ", u32_at(table, 40));
+    put_hex8(out, b"Controller ", u32_at(table, MADT_CONTROLLER));
+    put_hex8(out, b" Flags ", u32_at(table, MADT_FLAGS));
 }
 
-#[tactic(auto, using(text_writer::proofs::PrintLaws::straight), unfolding(crate::specs::Dumps::controller_line))]
 fn print_controller_line<W: Write>(out: &mut Out<'_, W>, table: &[u8])
     requires fields { 44 ≤ length table.now }
-    ensures { Prints W.contents out.old out.new (controller_line table.now) }
+    ensures { Prints W.contents out.old out.new (below (controller_text table.now)) }
 {
     out.put(b"  ");
     print_controller(out, table);
@@ -125,7 +122,7 @@ fn print_controller_line<W: Write>(out: &mut Out<'_, W>, table: &[u8])
 /// The records of a MADT.
 fn print_records<W: Write>(out: &mut Out<'_, W>, table: &[u8])
     requires holds { HoldsMadt table.now }
-    ensures { Prints W.contents out.old out.new (record_lines table.now) }
+    ensures { Prints W.contents out.old out.new (flat_map record_line (records_of table.now)) }
 {
     let mut at = MADT_RECORDS;
     while at < table.len() {

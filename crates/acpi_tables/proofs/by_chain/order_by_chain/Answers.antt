@@ -6,13 +6,13 @@ use Rattle.acpi_tables.specs.Order.{has_signature}
 use Rattle.acpi_tables.proofs.Signatures.{root_holds, list_holds, fadt_holds, root_of-signed, find-passes}
 use Rattle.acpi_tables.proofs.by_chain.order_by_chain.Goals as goal
 
-pub list_of-requires : goal.list_of-requires
-list_of-requires c =
+pub of-requires : goal.of-requires
+of-requires c =
     subst HoldsRoot (sym c.bytes_of.ensures) (root_holds c.args.dumps.now c.requires.each c.in-Some.root (root_of-signed _ _ (sym c.in-Some.ensures)))
 
 pub listed_by-requires : goal.listed_by-requires
 listed_by-requires c =
-    let holds = list_holds c.args.dumps.now c.requires.each c.bytes_of.result.now c.in-Some-list_of.list (sym c.in-Some-list_of.ensures) in
+    let holds = list_holds c.args.dumps.now c.requires.each c.of.result c.in-Some-list_of.list (sym c.in-Some-list_of.ensures) in
     record { table = holds.0; holds = holds.1 }
 
 pub table_of-requires : goal.table_of-requires

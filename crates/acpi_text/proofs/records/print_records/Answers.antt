@@ -4,7 +4,7 @@ use Rattle.text_writer.specs.Prints.{Prints}
 use Rattle.text_writer.proofs.PrintLaws.{prints_none, prints_then}
 use Rattle.acpi_tables.specs.Madt.{record_bytes_at}
 use Rattle.acpi_tables.proofs.Cuts.{walk_start, walk_more, records-walk_start, records-walk_more, records_of-walk, whole_not_broken, BreaksAt-walk}
-use Rattle.acpi_text.specs.Dumps.{record_line, record_lines}
+use Rattle.acpi_text.specs.Dumps.{record_line}
 use Rattle.acpi_text.proofs.Views.{flat_map-push}
 use Rattle.acpi_text.proofs.records.print_records.Goals as goal
 
@@ -28,7 +28,6 @@ loop-at-preserved g c =
     )
 
 pub returns : goal.returns
-unfolding record_lines
 returns g c =
     let walk = c.loop-at.invariant.0 in
     subst (Prints g.W.Write.contents c.args.out.now c.loop-at.out)
