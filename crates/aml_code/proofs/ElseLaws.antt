@@ -1,5 +1,4 @@
 -- In lawful terms each Else stands right behind an If.
-use mathlib.Core.Bool.{true≢false}
 use Rattle.std.specs.Prelude.{◌==◌}
 use Rattle.std.proofs.Common.{◌≡◌, ℕ, zero, suc, Bool, List, [], ◌∷◌, true, false, cond, Option, Some, None, refl, sym, ap, subst, ◌∙◌}
 use Rattle.std.specs.List.{list_all}
@@ -14,14 +13,16 @@ use Rattle.aml_code.specs.declared.rows.PartKind.{PartKind}
 use Rattle.aml_code.specs.declared.rows.PartKind.TheVariants as kinds
 use Rattle.aml_code.specs.declared.rows.TailKind.{TailKind}
 use Rattle.aml_code.specs.declared.rows.TailKind.TheVariants as tails
-use Rattle.aml_code.specs.Declaring.{after, after_part, after_parts, after_field}
-use Rattle.aml_code.specs.Elses.{has_opcode, ElsesFollow, ElseFollows, NoElses, FollowInPart, FollowInParts, FollowInTail, FollowInFields, FollowInField, FollowInLink}
+use Rattle.aml_code.specs.Declaring.{after}
+use Rattle.aml_code.specs.Elses.{has_opcode, ElsesFollow, ElseFollows, NoElses, FollowInPart, FollowInParts, FollowInTail, FollowInFields, FollowInField}
 use Rattle.aml_code.specs.Faults.{Arities}
-use Rattle.aml_code.specs.Lawful.{Setting, IsLawful, AreArguments, AreTerms, IsPart, AreParts, IsTail, AreFields, IsField, IsLink, is_if, is_if_row, is_if_place, terms_in, next_position}
+use Rattle.aml_code.specs.Lawful.{Setting, IsLawful, AreTerms, IsPart, AreParts, IsTail, AreFields, IsField, is_if, is_if_row, is_if_place, terms_in, next_position}
 use Rattle.aml_code.specs.Meaning.{ReadsBody, ReadsModule}
 use Rattle.aml_code.specs.Rows.{row_of, takes}
 use Rattle.aml_code.proofs.RowFacts.{row_opcode, row_passes}
-use Rattle.aml_code.specs.Tree.{Tree, nothing, named, op, Trees, no_trees, tree_more, Part, child, Parts, no_parts, part_more, Tail, terms, elements, fields, Field, connection, Fields, no_fields, field_more, Link, target, buffer}
+use Rattle.aml_code.proofs.InnerLaws.{is_inner, inner_next}
+use Rattle.aml_code.specs.Tree.{Tree, nothing, named, op, Trees, no_trees, tree_more, Part, child, Parts, no_parts, part_more}
+use Rattle.aml_code.specs.Tree.{Tail, terms, elements, fields, Field, connection, Fields, no_fields, field_more, target, buffer}
 
 abbrev pub is_after_if : Position → Bool
 is_after_if positions.AfterIf = true
@@ -29,13 +30,13 @@ is_after_if _ = false
 
 -- only the position behind an If takes an Else
 taken_else : (p : Position) → takes p places.Else ≡ true → is_after_if p ≡ true
-taken_else positions.ModuleTerm e = absurd (true≢false (sym e))
-taken_else positions.GuardTerm e = absurd (true≢false (sym e))
-taken_else positions.BodyTerm e = absurd (true≢false (sym e))
+taken_else positions.ModuleTerm e = absurd cc
+taken_else positions.GuardTerm e = absurd cc
+taken_else positions.BodyTerm e = absurd cc
 taken_else positions.AfterIf e = refl
-taken_else positions.Argument e = absurd (true≢false (sym e))
-taken_else positions.Target e = absurd (true≢false (sym e))
-taken_else positions.Data e = absurd (true≢false (sym e))
+taken_else positions.Argument e = absurd cc
+taken_else positions.Target e = absurd cc
+taken_else positions.Data e = absurd cc
 
 -- ---- the rows of If and Else
 
@@ -45,15 +46,15 @@ is_else_place _ = false
 
 only_else : (p : Place) → is_else_place p ≡ true → p ≡ places.Else
 only_else places.Else e = refl
-only_else places.Data e = absurd (true≢false (sym e))
-only_else places.Target e = absurd (true≢false (sym e))
-only_else places.Argument e = absurd (true≢false (sym e))
-only_else places.Statement e = absurd (true≢false (sym e))
-only_else places.If e = absurd (true≢false (sym e))
-only_else places.Declaration e = absurd (true≢false (sym e))
-only_else places.External e = absurd (true≢false (sym e))
-only_else places.Scope e = absurd (true≢false (sym e))
-only_else places.Method e = absurd (true≢false (sym e))
+only_else places.Data e = absurd cc
+only_else places.Target e = absurd cc
+only_else places.Argument e = absurd cc
+only_else places.Statement e = absurd cc
+only_else places.If e = absurd cc
+only_else places.Declaration e = absurd cc
+only_else places.External e = absurd cc
+only_else places.Scope e = absurd cc
+only_else places.Method e = absurd cc
 
 if_row : Row → Bool
 if_row r = cond (is_if_place r.place) (r.opcode == 0xA0) true
@@ -75,38 +76,44 @@ if_opcode o r e is = subst (λ n. (n == 0xA0) ≡ true) (row_opcode o r e) (sym 
 
 else_place : (o : ℕ) (r : Row) → row_of o ≡ Some r → (o == 0xA1) ≡ true → r.place ≡ places.Else
 unfolding else_row
-else_place o r e is = only_else r.place (sym (ap (λ b. cond b (is_else_place r.place) true) (ap (λ n. n == 0xA1) (row_opcode o r e) ∙ is)) ∙ row_passes else_row all_elses o r e)
+else_place o r e is =
+    only_else r.place (sym (ap (λ b. cond b (is_else_place r.place) true) (ap (λ n. n == 0xA1) (row_opcode o r e) ∙ is)) ∙ row_passes else_row all_elses o r e)
 
 -- ---- what stands behind an If
 
 if_is : (t : Tree) → is_if t ≡ true → has_opcode 0xA0 t ≡ true
-if_is nothing e = absurd (true≢false (sym e))
-if_is (named n ts) e = absurd (true≢false (sym e))
+if_is nothing e = absurd cc
+if_is (named n ts) e = absurd cc
 if_is (op o w ps r) e = by (row_of o) refl e
   where
     by : (x : Option Row) → row_of o ≡ x → is_if_row x ≡ true → (o == 0xA0) ≡ true
-    by None is never = absurd (true≢false (sym never))
+    by None is never = absurd cc
     by (Some row) is it = if_opcode o row is it
 
 behind_by : (t : Tree) (b : Bool) → is_if t ≡ b → is_after_if (cond b positions.AfterIf positions.BodyTerm) ≡ true → has_opcode 0xA0 t ≡ true
 behind_by t true is e = if_is t is
-behind_by t false is e = absurd (true≢false (sym e))
+behind_by t false is e = absurd cc
 
 behind : (p : Position) (t : Tree) → is_after_if (next_position p t) ≡ true → has_opcode 0xA0 t ≡ true
-behind positions.ModuleTerm t e = absurd (true≢false (sym e))
-behind positions.GuardTerm t e = absurd (true≢false (sym e))
+behind positions.ModuleTerm t e = absurd cc
+behind positions.GuardTerm t e = absurd cc
 behind positions.BodyTerm t e = behind_by t (is_if t) refl e
 behind positions.AfterIf t e = behind_by t (is_if t) refl e
-behind positions.Argument t e = absurd (true≢false (sym e))
-behind positions.Target t e = absurd (true≢false (sym e))
-behind positions.Data t e = absurd (true≢false (sym e))
+behind positions.Argument t e = absurd cc
+behind positions.Target t e = absurd cc
+behind positions.Data t e = absurd cc
 
 -- ---- the terms of a list, and all that is inside them
 
 -- an Else is taken only where an If may stand before it
-may_follow : (p : Position) (before : Bool) (o : ℕ) (r : Row) → (is_after_if p ≡ true → before ≡ true) → row_of o ≡ Some r → takes p r.place ≡ true → o ≡ 0xA1 → before ≡ true
+may_follow : (p : Position) (before : Bool) (o : ℕ) (r : Row) → (is_after_if p ≡ true → before ≡ true) → row_of o ≡ Some r → takes p r.place ≡ true
+    → o ≡ 0xA1 → before ≡ true
 may_follow p before o r k listed taken e =
     k (taken_else p (subst (λ x. takes p x ≡ true) (else_place o r listed (ap (λ n. n == 0xA1) e)) taken))
+
+none_after : (p : Position) → is_inner p ≡ true → is_after_if p ≡ true → false ≡ true
+none_after positions.AfterIf i e = i
+none_after _ i e = e
 
 -- a list of terms inside a term begins behind nothing
 inner : (p : Position) (place : Place) → is_after_if (terms_in p place) ≡ true → false ≡ true
@@ -114,66 +121,61 @@ inner positions.ModuleTerm places.If e = e
 inner positions.ModuleTerm _ e = e
 inner _ place e = e
 
-mutual
-  -- a list whose first term stands in a position
-  pub elses_follow : (s : Setting) (levels : ℕ) (p : Position) (ls : PathSet) (ts : Trees) (before : Bool) → (is_after_if p ≡ true → before ≡ true) → AreTerms s levels p ls ts → ElsesFollow before ts
-  elses_follow s levels p ls no_trees before k l = tt
-  elses_follow s levels p ls (tree_more t ts) before k l =
-      (else_follows s levels p ls t before k l.0, elses_follow s levels (next_position p t) (after s.scope ls t) ts (has_opcode 0xA0 t) (behind p t) l.1)
+module _ (s : Setting) where
+  mutual
+    -- a list whose first term stands in a position
+    pub elses_follow : (levels : ℕ) (p : Position) (ls : PathSet) (ts : Trees) (before : Bool) → (is_after_if p ≡ true → before ≡ true) → AreTerms s levels p ls ts
+        → ElsesFollow before ts
+    elses_follow levels p ls no_trees before k l = tt
+    elses_follow levels p ls (tree_more t ts) before k l =
+        (else_follows levels p ls t before k l.0, elses_follow levels (next_position p t) (after s.scope ls t) ts (has_opcode 0xA0 t) (behind p t) l.1)
 
-  else_follows : (s : Setting) (levels : ℕ) (p : Position) (ls : PathSet) (t : Tree) (before : Bool) → (is_after_if p ≡ true → before ≡ true) → IsLawful s levels p ls t → ElseFollows before t
-  else_follows s levels p ls nothing before k l = tt
-  else_follows s zero p ls (named n ts) before k l = absurd l
-  else_follows s (suc levels) p ls (named n ts) before k l = arguments_apart s levels ls ts l.3
-  else_follows s zero p ls (op o w ps t) before k l = absurd l
-  else_follows s (suc levels) p ls (op o w ps t) before k l = (
-    may_follow p before o l.row k l.listed l.taken,
-    parts_follow s levels (l.row).parts ls ps l.parts,
-    tail_follows s levels (terms_in p (l.row).place) (l.row).tail (after_parts s.scope ls ps) t (inner p (l.row).place) l.tail,
-  )
+    else_follows : (levels : ℕ) (p : Position) (ls : PathSet) (t : Tree) (before : Bool) → (is_after_if p ≡ true → before ≡ true) → IsLawful s levels p ls t
+        → ElseFollows before t
+    else_follows zero p ls t before k l = absurd l
+    else_follows (suc levels) p ls nothing before k l = tt
+    else_follows (suc levels) p ls (named n ts) before k l = none_follow levels positions.Argument ls ts refl l.3
+    else_follows (suc levels) p ls (op o w ps t) before k l = (
+      may_follow p before o l.row k l.listed l.taken,
+      parts_follow levels (l.row).parts ls ps l.parts,
+      tail_follows levels (terms_in p (l.row).place) (l.row).tail ls t (inner p (l.row).place) l.tail,
+    )
 
-  arguments_apart : (s : Setting) (levels : ℕ) (ls : PathSet) (ts : Trees) → AreArguments s levels ls ts → NoElses ts
-  arguments_apart s levels ls no_trees l = tt
-  arguments_apart s levels ls (tree_more t ts) l =
-      (else_follows s levels positions.Argument ls t false (λ e. e) l.0, arguments_apart s levels (after s.scope ls t) ts l.1)
+    -- arguments, or elements
+    none_follow : (levels : ℕ) (p : Position) (ls : PathSet) (ts : Trees) → is_inner p ≡ true → AreTerms s levels p ls ts → NoElses ts
+    none_follow levels p ls no_trees i l = tt
+    none_follow levels p ls (tree_more t ts) i l =
+        (else_follows levels p ls t false (none_after p i) l.0, none_follow levels (next_position p t) (after s.scope ls t) ts (inner_next p t i) l.1)
 
-  elements_apart : (s : Setting) (levels : ℕ) (ls : PathSet) (ts : Trees) → AreTerms s levels positions.Data ls ts → NoElses ts
-  elements_apart s levels ls no_trees l = tt
-  elements_apart s levels ls (tree_more t ts) l =
-      (else_follows s levels positions.Data ls t false (λ e. e) l.0, elements_apart s levels (after s.scope ls t) ts l.1)
+    part_follows : (levels : ℕ) (k : PartKind) (ls : PathSet) (x : Part) → IsPart s levels k ls x → FollowInPart x
+    part_follows levels kinds.Term ls (child t) l = else_follows levels positions.Argument ls t false (λ e. e) l
+    part_follows levels kinds.Target ls (child t) l = else_follows levels positions.Target ls t false (λ e. e) l
+    part_follows levels kinds.Data ls (child t) l = else_follows levels positions.Data ls t false (λ e. e) l
+    part_follows levels _ ls (child t) l = absurd l
+    part_follows levels k ls _ l = tt
 
-  part_follows : (s : Setting) (levels : ℕ) (k : PartKind) (ls : PathSet) (x : Part) → IsPart s levels k ls x → FollowInPart x
-  part_follows s levels kinds.Term ls (child t) l = else_follows s levels positions.Argument ls t false (λ e. e) l
-  part_follows s levels kinds.Target ls (child t) l = else_follows s levels positions.Target ls t false (λ e. e) l
-  part_follows s levels kinds.Data ls (child t) l = else_follows s levels positions.Data ls t false (λ e. e) l
-  part_follows s levels _ ls (child t) l = absurd l
-  part_follows s levels k ls _ l = tt
+    parts_follow : (levels : ℕ) (ks : List PartKind) (ls : PathSet) (xs : Parts) → AreParts s levels ks ls xs → FollowInParts xs
+    parts_follow levels ks ls no_parts l = tt
+    parts_follow levels [] ls (part_more x xs) l = absurd l
+    parts_follow levels (k ∷ ks) ls (part_more x xs) l = (part_follows levels k ls x l.0, parts_follow levels ks ls xs l.1)
 
-  parts_follow : (s : Setting) (levels : ℕ) (ks : List PartKind) (ls : PathSet) (xs : Parts) → AreParts s levels ks ls xs → FollowInParts xs
-  parts_follow s levels ks ls no_parts l = tt
-  parts_follow s levels [] ls (part_more x xs) l = absurd l
-  parts_follow s levels (k ∷ ks) ls (part_more x xs) l = (part_follows s levels k ls x l.0, parts_follow s levels ks (after_part s.scope ls x) xs l.1)
+    tail_follows : (levels : ℕ) (p : Position) (k : TailKind) (ls : PathSet) (t : Tail) → (is_after_if p ≡ true → false ≡ true) → IsTail s levels p k ls t → FollowInTail t
+    tail_follows levels p tails.Terms ls (terms ts) apart l = elses_follow levels p ls ts false apart l
+    tail_follows levels p _ ls (terms ts) apart l = absurd l
+    tail_follows levels p tails.Elements ls (elements ts) apart l = none_follow levels positions.Data ls ts refl l
+    tail_follows levels p _ ls (elements ts) apart l = absurd l
+    tail_follows levels p tails.Fields ls (fields us) apart l = fields_follow levels ls us l
+    tail_follows levels p _ ls (fields us) apart l = absurd l
+    tail_follows levels p k ls _ apart l = tt
 
-  tail_follows : (s : Setting) (levels : ℕ) (p : Position) (k : TailKind) (ls : PathSet) (t : Tail) → (is_after_if p ≡ true → false ≡ true) → IsTail s levels p k ls t → FollowInTail t
-  tail_follows s levels p tails.Terms ls (terms ts) apart l = elses_follow s levels p ls ts false apart l
-  tail_follows s levels p _ ls (terms ts) apart l = absurd l
-  tail_follows s levels p tails.Elements ls (elements ts) apart l = elements_apart s levels ls ts l
-  tail_follows s levels p _ ls (elements ts) apart l = absurd l
-  tail_follows s levels p tails.Fields ls (fields us) apart l = fields_follow s levels ls us l
-  tail_follows s levels p _ ls (fields us) apart l = absurd l
-  tail_follows s levels p k ls _ apart l = tt
+    fields_follow : (levels : ℕ) (ls : PathSet) (us : Fields) → AreFields s levels ls us → FollowInFields us
+    fields_follow levels ls no_fields l = tt
+    fields_follow levels ls (field_more u us) l = (field_follows levels ls u l.0, fields_follow levels ls us l.1)
 
-  fields_follow : (s : Setting) (levels : ℕ) (ls : PathSet) (us : Fields) → AreFields s levels ls us → FollowInFields us
-  fields_follow s levels ls no_fields l = tt
-  fields_follow s levels ls (field_more u us) l = (field_follows s levels ls u l.0, fields_follow s levels (after_field s.scope ls u) us l.1)
-
-  field_follows : (s : Setting) (levels : ℕ) (ls : PathSet) (u : Field) → IsField s levels ls u → FollowInField u
-  field_follows s levels ls (connection l) h = link_follows s levels ls l h
-  field_follows s levels ls _ h = tt
-
-  link_follows : (s : Setting) (levels : ℕ) (ls : PathSet) (l : Link) → IsLink s levels ls l → FollowInLink l
-  link_follows s levels ls (target n) h = tt
-  link_follows s levels ls (buffer t) h = else_follows s levels positions.Data ls t false (λ e. e) h.1
+    field_follows : (levels : ℕ) (ls : PathSet) (u : Field) → IsField s levels ls u → FollowInField u
+    field_follows levels ls (connection (target n)) h = tt
+    field_follows levels ls (connection (buffer t)) h = else_follows levels positions.Data ls t false (λ e. e) h.1
+    field_follows levels ls _ h = tt
 
 -- in the body of a method, and in a table
 pub else_behind_if : (arity : Arities) (method : List Seg) (code : List ℕ) (ts : Trees) → ReadsBody arity method code ts → ElsesFollow false ts

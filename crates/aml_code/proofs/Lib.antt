@@ -2,6 +2,8 @@ pub mod LengthLaws
 pub mod Views
 pub mod Within
 pub mod RowFacts
+pub mod InnerLaws
+pub mod Answered
 pub mod ElseLaws
 pub mod LevelLaws
 mod Encodes

@@ -10,7 +10,8 @@ use Rattle.aml_code.specs.declared.rows.Role.{Role}
 use Rattle.aml_code.specs.declared.rows.Role.TheVariants as roles
 use Rattle.aml_code.specs.Opcodes.{Row}
 use Rattle.aml_code.specs.Rows.{row_of}
-use Rattle.aml_code.specs.Tree.{Tree, nothing, named, op, Trees, no_trees, tree_more, Part, child, label, byte, Parts, no_parts, part_more, Tail, terms, elements, fields, Field, unit, connection, Fields, no_fields, field_more, Link, target, buffer}
+use Rattle.aml_code.specs.Tree.{Tree, nothing, named, op, Trees, no_trees, tree_more, label, byte, Parts, no_parts, part_more, Tail, terms}
+use Rattle.aml_code.specs.Tree.{fields, unit, Fields, no_fields, field_more}
 
 -- the last part that is a name, or else this
 abbrev pub last_label : Option Name → Parts → Option Name
@@ -70,39 +71,18 @@ abbrev pub declared_by : Option (List Seg) → Option Row → PathSet → Parts 
 declared_by scope None ls ps t = ls
 declared_by scope (Some row) ls ps t = with_declared scope ls (names_declared row.role ps t)
 
--- the paths that are declared after a term: those of the terms inside it, and then its own
+-- The paths that are declared after a term: those of the terms in its tail, and then its own. What else is inside it, as
+-- arguments, elements and connections, declares nothing.
 abbrev mutual
   pub after : Option (List Seg) → PathSet → Tree → PathSet
   after scope ls nothing = ls
-  after scope ls (named n ts) = after_all scope ls ts
-  after scope ls (op o w ps t) = declared_by scope (row_of o) (after_tail scope (after_parts scope ls ps) t) ps t
+  after scope ls (named n ts) = ls
+  after scope ls (op o w ps t) = declared_by scope (row_of o) (after_tail scope ls t) ps t
 
   pub after_all : Option (List Seg) → PathSet → Trees → PathSet
   after_all scope ls no_trees = ls
   after_all scope ls (tree_more t ts) = after_all scope (after scope ls t) ts
 
-  pub after_part : Option (List Seg) → PathSet → Part → PathSet
-  after_part scope ls (child t) = after scope ls t
-  after_part scope ls _ = ls
-
-  pub after_parts : Option (List Seg) → PathSet → Parts → PathSet
-  after_parts scope ls no_parts = ls
-  after_parts scope ls (part_more p ps) = after_parts scope (after_part scope ls p) ps
-
   pub after_tail : Option (List Seg) → PathSet → Tail → PathSet
   after_tail scope ls (terms ts) = after_all scope ls ts
-  after_tail scope ls (elements ts) = after_all scope ls ts
-  after_tail scope ls (fields us) = after_fields scope ls us
   after_tail scope ls _ = ls
-
-  pub after_fields : Option (List Seg) → PathSet → Fields → PathSet
-  after_fields scope ls no_fields = ls
-  after_fields scope ls (field_more u us) = after_fields scope (after_field scope ls u) us
-
-  pub after_field : Option (List Seg) → PathSet → Field → PathSet
-  after_field scope ls (connection l) = after_link scope ls l
-  after_field scope ls _ = ls
-
-  pub after_link : Option (List Seg) → PathSet → Link → PathSet
-  after_link scope ls (target n) = ls
-  after_link scope ls (buffer t) = after scope ls t

@@ -19,36 +19,26 @@ use Rattle.aml_code.specs.Packages.{width_len, FitsWidth}
 use Rattle.aml_code.specs.Rows.{row_of, has_length, takes}
 use Rattle.aml_code.specs.Tree.{Tree, nothing, named, op, Trees, no_trees, tree_more, Part, child, label, byte, word, dword, qword, text, Parts, no_parts, part_more, Tail, empty, terms, bytes, elements, fields, body, Field, unit, reserved, access, connection, extended, Fields, no_fields, field_more, Link, target, buffer, tree_count}
 use Rattle.aml_code.specs.Encoding.{parts_encoding, tail_encoding}
-use Rattle.aml_code.specs.Declaring.{after, after_part, after_parts, after_field}
+use Rattle.aml_code.specs.Declaring.{after}
+use Rattle.aml_code.specs.Faults.{Arities}
 
--- how many arguments a name may have
-pub data Count : Type 0 where
-  any_number : Count
-  exactly : ℕ → Count
-  unknown : Count
-
-abbrev pub HasCount : Count → ℕ → Type 0
-HasCount any_number n = Unit {0}
-HasCount (exactly m) n = n ≡ m
-HasCount unknown n = ⊥
-
--- What the grammar leaves to where the terms stand: the code that spans point into, the number of a name's arguments by
--- the paths declared so far, and the scope from which a body's declarations are placed (none in a table).
+-- What the grammar leaves to where the terms stand: the code that spans point into, how many arguments a name takes by the
+-- paths declared so far, and the scope from which a body's declarations are placed (none in a table).
 pub record Setting : Type 0 where
   pub code : List ℕ
-  pub counts : PathSet → Name → Count
+  pub arity : Arities
   pub scope : Option (List Seg)
 
--- A name takes its own number of arguments as a TermArg or as a term of a body, none as a target or in data, and
--- doesn't stand as a term of a table.
-abbrev pub count_in : Setting → Position → PathSet → Name → Count
-count_in s positions.ModuleTerm ls n = unknown
-count_in s positions.GuardTerm ls n = unknown
-count_in s positions.BodyTerm ls n = s.counts ls n
-count_in s positions.AfterIf ls n = s.counts ls n
-count_in s positions.Argument ls n = s.counts ls n
-count_in s positions.Target ls n = exactly 0
-count_in s positions.Data ls n = exactly 0
+-- How many arguments follow a name in a position: its own number where it is a TermArg or a term of a body, none where it
+-- is a target or stands in data. As a term of a table no name stands.
+abbrev pub count_in : Arities → Position → PathSet → Name → Option ℕ
+count_in arity positions.ModuleTerm ls n = None
+count_in arity positions.GuardTerm ls n = None
+count_in arity positions.BodyTerm ls n = arity ls n
+count_in arity positions.AfterIf ls n = arity ls n
+count_in arity positions.Argument ls n = arity ls n
+count_in arity positions.Target ls n = Some 0
+count_in arity positions.Data ls n = Some 0
 
 -- a package length stands where the row has one, and has room for its own bytes and the content
 abbrev pub HasWidth : Bool → Option PkgWidth → ℕ → Type 0
@@ -116,27 +106,23 @@ pub record IsOperation (p : Position) (o : ℕ) (w : Option PkgWidth) (len : ℕ
   pub tail : IsItsTail row
 
 -- IsLawful s levels p ls t: the tree t may stand in the position p, with at most so many levels of nesting, where the
--- paths ls are declared.
+-- paths ls are declared. What stands inside a term and not in a list of terms declares nothing, so all of it has one ls.
 abbrev mutual
   pub IsLawful : Setting → ℕ → Position → PathSet → Tree → Type 0
-  IsLawful s zero p ls nothing = ⊥
+  IsLawful s zero p ls t = ⊥
   IsLawful s (suc levels) p ls nothing = p ≡ positions.Target
-  IsLawful s zero p ls (named n ts) = ⊥
-  IsLawful s (suc levels) p ls (named n ts) = IsName n × (is_bare n ≡ false) × HasCount (count_in s p ls n) (tree_count ts) × AreArguments s levels ls ts
-  IsLawful s zero p ls (op o w ps t) = ⊥
+  IsLawful s (suc levels) p ls (named n ts) =
+      IsName n × (is_bare n ≡ false) × (count_in s.arity p ls n ≡ Some (tree_count ts)) × AreTerms s levels positions.Argument ls ts
   IsLawful s (suc levels) p ls (op o w ps t) =
       IsOperation p o w (length (parts_encoding s.code ps ++ tail_encoding s.code t)) ps
       (λ row. AreParts s levels row.parts ls ps)
-      (λ row. IsTail s levels (terms_in p row.place) row.tail (after_parts s.scope ls ps) t)
+      (λ row. IsTail s levels (terms_in p row.place) row.tail ls t)
 
-  pub AreArguments : Setting → ℕ → PathSet → Trees → Type 0
-  AreArguments s levels ls no_trees = Unit {0}
-  AreArguments s levels ls (tree_more t ts) = IsLawful s levels positions.Argument ls t × AreArguments s levels (after s.scope ls t) ts
-
-  -- a list of terms, or of elements
+  -- a list of terms, of arguments or of elements
   pub AreTerms : Setting → ℕ → Position → PathSet → Trees → Type 0
   AreTerms s levels p ls no_trees = Unit {0}
-  AreTerms s levels p ls (tree_more t ts) = IsLawful s levels p ls t × AreTerms s levels (next_position p t) (after s.scope ls t) ts
+  AreTerms s levels p ls (tree_more t ts) =
+      IsLawful s levels p ls t × AreTerms s levels (next_position p t) (after s.scope ls t) ts
 
   pub IsPart : Setting → ℕ → PartKind → PathSet → Part → Type 0
   IsPart s levels kinds.Term ls (child t) = IsLawful s levels positions.Argument ls t
@@ -155,7 +141,7 @@ abbrev mutual
   -- one part of each kind
   pub AreParts : Setting → ℕ → List PartKind → PathSet → Parts → Type 0
   AreParts s levels [] ls no_parts = Unit {0}
-  AreParts s levels (k ∷ ks) ls (part_more x xs) = IsPart s levels k ls x × AreParts s levels ks (after_part s.scope ls x) xs
+  AreParts s levels (k ∷ ks) ls (part_more x xs) = IsPart s levels k ls x × AreParts s levels ks ls xs
   AreParts s levels _ ls _ = ⊥
 
   pub IsTail : Setting → ℕ → Position → TailKind → PathSet → Tail → Type 0
@@ -169,7 +155,7 @@ abbrev mutual
 
   pub AreFields : Setting → ℕ → PathSet → Fields → Type 0
   AreFields s levels ls no_fields = Unit {0}
-  AreFields s levels ls (field_more u us) = IsField s levels ls u × AreFields s levels (after_field s.scope ls u) us
+  AreFields s levels ls (field_more u us) = IsField s levels ls u × AreFields s levels ls us
 
   pub IsField : Setting → ℕ → PathSet → Field → Type 0
   IsField s levels ls (unit g w n) = IsNameSeg g.0 × FitsWidth w n

@@ -8,16 +8,11 @@ use Rattle.aml_code.specs.Packages.{width_len}
 use Rattle.aml_code.specs.Tree.{Tree, op, Trees, no_trees, tree_more, Tail, terms, body}
 use Rattle.aml_code.specs.Encoding.{opcode_bytes, encoding, encodings, parts_encoding}
 use Rattle.aml_code.specs.Faults.{Arities}
-use Rattle.aml_code.specs.Lawful.{Count, exactly, unknown, Setting, AreTerms}
-
--- a name whose number of arguments nobody knows can't be read
-abbrev pub count_from : Option ℕ → Count
-count_from None = unknown
-count_from (Some n) = exactly n
+use Rattle.aml_code.specs.Lawful.{Setting, AreTerms}
 
 -- inside some code, by how many arguments each name takes
 abbrev pub setting_of : Arities → Option (List Seg) → List ℕ → Setting
-setting_of arity scope code = record { code = code; counts = λ ls n. count_from (arity ls n); scope = scope }
+setting_of arity scope code = record { code = code; arity = arity; scope = scope }
 
 -- The bytes of a method's body read as these terms: they are lawful from no declared path on, with at most 512 levels, and
 -- they are spelled by the bytes. Declarations are placed from the method's path.

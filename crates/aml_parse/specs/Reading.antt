@@ -27,7 +27,7 @@ use Rattle.aml_code.specs.Tree.{Tree, nothing, named, op, Trees, no_trees, tree_
 use Rattle.aml_code.specs.Tree as trees
 use Rattle.aml_code.specs.Declaring.{names_declared, with_declared}
 use Rattle.aml_code.specs.Faults.{Arities}
-use Rattle.aml_code.specs.Lawful.{is_guard, terms_in, next_position}
+use Rattle.aml_code.specs.Lawful.{count_in, is_guard, terms_in, next_position}
 use Rattle.aml_parse.specs.declared.positions.Lead.{Lead}
 use Rattle.aml_parse.specs.declared.positions.Lead.TheVariants as leads
 
@@ -227,16 +227,6 @@ fields_at read (suc n) end ls (b ∷ bytes) = do
 
 -- ---- names
 
--- how many arguments follow a name in a position
-abbrev pub wanted : Arities → Position → PathSet → Name → Option ℕ
-wanted arity positions.ModuleTerm ls n = None
-wanted arity positions.GuardTerm ls n = None
-wanted arity positions.BodyTerm ls n = arity ls n
-wanted arity positions.AfterIf ls n = arity ls n
-wanted arity positions.Argument ls n = arity ls n
-wanted arity positions.Target ls n = Some 0
-wanted arity positions.Data ls n = Some 0
-
 abbrev pub known : ℕ → Option ℕ → Result ℕ CodeFault
 known at None = Err (faults.UnknownName at)
 known at (Some n) = Ok n
@@ -244,7 +234,7 @@ known at (Some n) = Ok n
 unfoldable pub call_at : Arities → (Position → Reader Tree) → Position → Reader Tree
 call_at arity read p end ls bytes = do
   name ← name_at end bytes
-  n ← known (end - length bytes) (wanted arity p ls name.0)
+  n ← known (end - length bytes) (count_in arity p ls name.0)
   args ← arguments_at read n end ls name.1
   Ok (named name.0 args.0, args.1, args.2)
 

@@ -4,8 +4,9 @@ ghost use Rattle.aml_names.specs.Steps.{Gives};
 ghost use Rattle.aml_names.specs.Names.{placed};
 ghost use Rattle.aml_code.specs.Tree.{no_fields, field_more};
 ghost use Rattle.aml_code.specs.Declaring.{field_names, last_label, listed, names_declared, unit_names, with_declared, with_names, with_path};
+ghost use Rattle.aml_code.specs.Lawful.{count_in};
 ghost use Rattle.aml_code.specs.View.{field_view, fields_view, parts_view, tail_view};
-ghost use Rattle.aml_parse.specs.Reading.{wanted, known};
+ghost use Rattle.aml_parse.specs.Reading.{known};
 ghost use Rattle.aml_parse.specs.Contexts.{scope_of};
 
 use aml_code::{
@@ -33,7 +34,7 @@ impl<'a, A: Arity> Context<'a, A> {
         name: &Name,
     ) -> Result<u8, CodeFault>
         ensures { Gives (λ n. n) result (known at
-            (wanted (A.arity self.now.arity.now) position locals.now name.now)) }
+            (count_in (A.arity self.now.arity.now) position locals.now name.now)) }
     {
         match position {
             Position::Target | Position::Data => Ok(0),

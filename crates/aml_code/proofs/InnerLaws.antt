@@ -1,0 +1,89 @@
+-- What stands inside a term and not in a list of terms declares nothing: an argument, a target, data.
+use Rattle.std.proofs.Common.{◌≡◌, ℕ, zero, suc, Bool, true, false, cond, not, ◌&&◌, List, Option, Some, None, refl, ap, ◌∙◌}
+use Rattle.std.specs.List.{list_all}
+use Rattle.aml_names.specs.declared.segments.Seg.{Seg}
+use Rattle.aml_names.specs.Paths.{PathSet}
+use Rattle.aml_code.specs.declared.rows.Place.{Place}
+use Rattle.aml_code.specs.declared.rows.Place.TheVariants as places
+use Rattle.aml_code.specs.declared.rows.Position.{Position}
+use Rattle.aml_code.specs.declared.rows.Position.TheVariants as positions
+use Rattle.aml_code.specs.declared.rows.Role.{Role}
+use Rattle.aml_code.specs.declared.rows.Role.TheVariants as roles
+use Rattle.aml_code.specs.declared.rows.TailKind.{TailKind}
+use Rattle.aml_code.specs.declared.rows.TailKind.TheVariants as tails
+use Rattle.aml_code.specs.Opcodes.{Row, rows}
+use Rattle.aml_code.specs.Rows.{row_of, takes, taken_as_argument}
+use Rattle.aml_code.specs.Tree.{Tree, nothing, named, op, Trees, no_trees, tree_more, Parts, Tail, terms}
+use Rattle.aml_code.specs.Declaring.{names_declared, with_declared, declared_by, after, after_all, after_tail}
+use Rattle.aml_code.specs.Lawful.{Setting, IsLawful, AreTerms, IsTail, next_position}
+use Rattle.aml_code.proofs.RowFacts.{and_left, and_right, row_passes}
+
+abbrev pub is_inner : Position → Bool
+is_inner positions.Argument = true
+is_inner positions.Target = true
+is_inner positions.Data = true
+is_inner _ = false
+
+pub inner_next : (p : Position) (t : Tree) → is_inner p ≡ true → is_inner (next_position p t) ≡ true
+inner_next positions.BodyTerm t i = absurd cc
+inner_next positions.AfterIf t i = absurd cc
+inner_next _ t i = i
+
+-- ---- by the table: no row that may stand there declares, or has a list of terms
+
+is_other : Role → Bool
+is_other roles.Other = true
+is_other _ = false
+
+has_terms : TailKind → Bool
+has_terms tails.Terms = true
+has_terms _ = false
+
+quiet_row : Row → Bool
+quiet_row r = cond (taken_as_argument r.place) (is_other r.role && not (has_terms r.tail)) true
+
+all_quiet : list_all quiet_row rows ≡ true
+unfolding rows quiet_row is_other has_terms
+all_quiet = refl
+
+as_argument : (p : Position) (place : Place) → is_inner p ≡ true → takes p place ≡ true → taken_as_argument place ≡ true
+as_argument positions.Argument place i e = e
+as_argument positions.Target places.Target i e = refl
+as_argument positions.Target _ i e = absurd cc
+as_argument positions.Data places.Data i e = refl
+as_argument positions.Data _ i e = absurd cc
+as_argument _ place i e = absurd cc
+
+quiet : (o : ℕ) (r : Row) → row_of o ≡ Some r → taken_as_argument r.place ≡ true → (is_other r.role && not (has_terms r.tail)) ≡ true
+unfolding quiet_row
+quiet o r e taken = ap (λ b. cond b (is_other r.role && not (has_terms r.tail)) true) {x = true} {y = taken_as_argument r.place} (cc taken) ∙ row_passes quiet_row all_quiet o r e
+
+-- ---- nothing is declared
+
+none_declared : (scope : Option (List Seg)) (ls : PathSet) (role : Role) (ps : Parts) (t : Tail) → is_other role ≡ true → with_declared scope ls (names_declared role ps t) ≡ ls
+unfolding is_other
+none_declared None ls role ps t e = refl
+none_declared (Some path) ls roles.Other ps t e = refl
+none_declared (Some path) ls _ ps t e = absurd cc
+
+tail_unchanged : (s : Setting) (levels : ℕ) (p : Position) (k : TailKind) (ls : PathSet) (t : Tail) → not (has_terms k) ≡ true → IsTail s levels p k ls t → after_tail s.scope ls t ≡ ls
+unfolding has_terms
+tail_unchanged s levels p tails.Terms ls (terms ts) e h = absurd cc
+tail_unchanged s levels p _ ls (terms ts) e h = absurd h
+tail_unchanged s levels p k ls _ e h = refl
+
+pub unchanged : (s : Setting) (levels : ℕ) (p : Position) (ls : PathSet) (t : Tree) → is_inner p ≡ true → IsLawful s levels p ls t → after s.scope ls t ≡ ls
+unchanged s zero p ls t i h = absurd h
+unchanged s (suc levels) p ls nothing i h = refl
+unchanged s (suc levels) p ls (named n ts) i h = refl
+unchanged s (suc levels) p ls (op o w ps t) i h =
+    let row = h.row in
+    let q = quiet o row h.listed (as_argument p row.place i h.taken) in
+    ap (λ (f : Option Row). declared_by s.scope f (after_tail s.scope ls t) ps t) h.listed
+    ∙ none_declared s.scope (after_tail s.scope ls t) row.role ps t (and_left (is_other row.role) (not (has_terms row.tail)) q)
+    ∙ tail_unchanged s levels _ row.tail ls t (and_right (is_other row.role) (not (has_terms row.tail)) q) h.tail
+
+pub all_unchanged : (s : Setting) (levels : ℕ) (p : Position) (ls : PathSet) (ts : Trees) → is_inner p ≡ true → AreTerms s levels p ls ts → after_all s.scope ls ts ≡ ls
+all_unchanged s levels p ls no_trees i h = refl
+all_unchanged s levels p ls (tree_more t ts) i h =
+    all_unchanged s levels (next_position p t) (after s.scope ls t) ts (inner_next p t i) h.1 ∙ unchanged s levels p ls t i h.0
