@@ -30,7 +30,8 @@ use Rattle.acpidis.specs.Meaning.{Meaning, Means, Shows, Told, codes_of, rows_of
 use Rattle.acpidis.specs.Refusals.{IsWant, in_dump, load_refusal, TellsTable, StopsInOrder, TellsLoad, TellsBlocks}
 
 -- a loaded set has few methods
-pub few_methods : (gs : Givens) (x : Loaded) (codes : List (List ℕ)) → (trees : List Trees) × (m : Listed) × IsLoad gs codes trees m × HoldsLoad x codes trees m → length x.methods.items ≤ 1048576
+pub few_methods : (gs : Givens) (x : Loaded) (codes : List (List ℕ)) → (trees : List Trees) × (m : Listed) × IsLoad gs codes trees m × HoldsLoad x codes trees m
+    → length x.methods.items ≤ 1048576
 few_methods gs x codes h = omega (arith, ap length h.3.methods, h.2.loads.few)
 
 pub want_or : {A : Type 0} (order : List ℕ) (e : LoadFault) → (e ≡ loads.NoMemory) ⊎ A → IsWant (load_refusal order e) ⊎ A
@@ -38,12 +39,14 @@ want_or order e (inl h) = inl (subst (λ f. IsWant (load_refusal order f)) (sym 
 want_or order e (inr a) = inr a
 
 -- a fault that isn't want of memory is the one that stops the load, and the first that is met
-stops_so : (gs : Givens) (codes : List (List ℕ)) (order : List ℕ) (e : LoadFault) → (e ≡ loads.NoMemory → ⊥) → (e ≡ loads.NoMemory) ⊎ StopsLoad gs codes e → Fails e (load_at gs codes) → StopsInOrder gs codes order (in_dump order e)
+stops_so : (gs : Givens) (codes : List (List ℕ)) (order : List ℕ) (e : LoadFault) → (e ≡ loads.NoMemory → ⊥) → (e ≡ loads.NoMemory) ⊎ StopsLoad gs codes e
+    → Fails e (load_at gs codes) → StopsInOrder gs codes order (in_dump order e)
 stops_so gs codes order e other (inl h) m = absurd (other h)
 stops_so gs codes order e other (inr s) (inl h) = absurd (other h)
 stops_so gs codes order e other (inr s) (inr m) = record { met = e; named = refl; stops = s; first = m }
 
-pub tells_load : (gs : Givens) (codes : List (List ℕ)) (order : List ℕ) (e : LoadFault) → (e ≡ loads.NoMemory) ⊎ StopsLoad gs codes e → Fails e (load_at gs codes) → TellsLoad gs codes order (load_refusal order e)
+pub tells_load : (gs : Givens) (codes : List (List ℕ)) (order : List ℕ) (e : LoadFault) → (e ≡ loads.NoMemory) ⊎ StopsLoad gs codes e
+    → Fails e (load_at gs codes) → TellsLoad gs codes order (load_refusal order e)
 tells_load gs codes order (loads.Code t f) s m = stops_so gs codes order (loads.Code t f) (λ h. absurd cc) s m
 tells_load gs codes order (loads.Space t f) s m = stops_so gs codes order (loads.Space t f) (λ h. absurd cc) s m
 tells_load gs codes order (loads.ModuleCall t) s m = stops_so gs codes order (loads.ModuleCall t) (λ h. absurd cc) s m
@@ -58,14 +61,17 @@ of_load order loads.TooManyMethods dumps any_sum = tt
 of_load order loads.NoMemory dumps any_sum = tt
 
 -- what a load refuses is told of the one order
-pub tells_blocks : (dumps : List Dump) (options : Options) (gs : Givens) (dsdt : ℕ) (ssdts indexes order : List ℕ) (codes : List (List ℕ)) (e : Refusal) → IsOrder dumps options.any_sum dsdt ssdts
-    → ((d : ℕ) (s : List ℕ) → IsOrder dumps options.any_sum d s → (d ≡ dsdt) × (s ≡ ssdts)) → indexes ≡ dsdt ∷ ssdts → order ≡ dsdt ∷ ssdts → codes ≡ codes_in dumps indexes → gs ≡ options.externals.items → TellsLoad gs codes order e → TellsBlocks dumps options e
+pub tells_blocks : (dumps : List Dump) (options : Options) (gs : Givens) (dsdt : ℕ) (ssdts indexes order : List ℕ) (codes : List (List ℕ)) (e : Refusal)
+    → IsOrder dumps options.any_sum dsdt ssdts
+    → ((d : ℕ) (s : List ℕ) → IsOrder dumps options.any_sum d s → (d ≡ dsdt) × (s ≡ ssdts)) → indexes ≡ dsdt ∷ ssdts → order ≡ dsdt ∷ ssdts
+    → codes ≡ codes_in dumps indexes → gs ≡ options.externals.items → TellsLoad gs codes order e → TellsBlocks dumps options e
 tells_blocks dumps options gs dsdt ssdts indexes order codes (refusals.Table fault) there only is same cs given t = tt
 tells_blocks dumps options gs dsdt ssdts indexes order codes refusals.NoThread there only is same cs given t = tt
 tells_blocks dumps options gs dsdt ssdts indexes order codes refusals.NoMemory there only is same cs given t = tt
 tells_blocks dumps options gs dsdt ssdts indexes order codes (refusals.Load fault) there only is same cs given t =
     let all : codes ≡ codes_in dumps (dsdt ∷ ssdts) = cs ∙ ap (codes_in dumps) is in
-    let load = subst (λ (c : List (List ℕ)). StopsInOrder options.externals.items c (dsdt ∷ ssdts) fault) all (subst (λ (w : List ℕ). StopsInOrder options.externals.items codes w fault) same (subst (λ (g : Givens). StopsInOrder g codes order fault) given t)) in
+    let load = subst (λ (c : List (List ℕ)). StopsInOrder options.externals.items c (dsdt ∷ ssdts) fault) all
+    (subst (λ (w : List ℕ). StopsInOrder options.externals.items codes w fault) same (subst (λ (g : Givens). StopsInOrder g codes order fault) given t)) in
     record { dsdt = dsdt; ssdts = ssdts; order = there; only = only; load = load }
 
 -- want of memory or of a thread tells nothing of it
@@ -76,23 +82,30 @@ want_tells dumps options refusals.NoMemory w = tt
 want_tells dumps options (refusals.Load fault) w = absurd w
 
 -- the dumps have the order and load to what was loaded
-pub loads_so : (dumps : List Dump) (options : Options) (gs : Givens) (order : Order) (x : Loaded) (indexes : List ℕ) (codes : List (List ℕ)) → IsOrder dumps options.any_sum order.dsdt order.ssdts.items → indexes ≡ order.dsdt ∷ order.ssdts.items
+pub loads_so : (dumps : List Dump) (options : Options) (gs : Givens) (order : Order) (x : Loaded) (indexes : List ℕ) (codes : List (List ℕ))
+    → IsOrder dumps options.any_sum order.dsdt order.ssdts.items → indexes ≡ order.dsdt ∷ order.ssdts.items
     → codes ≡ codes_in dumps indexes → gs ≡ options.externals.items → (trees : List Trees) × (m : Listed) × IsLoad gs codes trees m × HoldsLoad x codes trees m
-    → (dsdt : ℕ) × (ssdts : List ℕ) × (trees : List Trees) × (m : Listed) × LoadsSet dumps options dsdt ssdts trees m × HoldsSet order x dumps dsdt ssdts trees m
+    → (dsdt : ℕ) × (ssdts : List ℕ) × (trees : List Trees) × (m : Listed) × LoadsSet dumps options dsdt ssdts trees m
+    × HoldsSet order x dumps dsdt ssdts trees m
 loads_so dumps options gs order x indexes codes there is cs given l =
     let all : codes ≡ codes_in dumps (order.dsdt ∷ order.ssdts.items) = cs ∙ ap (codes_in dumps) is in
-    let h = subst (λ (c : List (List ℕ)). (trees : List Trees) × (m : Listed) × IsLoad options.externals.items c trees m × HoldsLoad x c trees m) all (subst (λ (g : Givens). (trees : List Trees) × (m : Listed) × IsLoad g codes trees m × HoldsLoad x codes trees m) given l) in
+    let h = subst (λ (c : List (List ℕ)). (trees : List Trees) × (m : Listed) × IsLoad options.externals.items c trees m × HoldsLoad x c trees m) all
+    (subst (λ (g : Givens). (trees : List Trees) × (m : Listed) × IsLoad g codes trees m × HoldsLoad x codes trees m) given l) in
     (order.dsdt, order.ssdts.items, h.0, h.1, record { order = there; loads = h.2 }, record { dsdt_is = refl; ssdts_is = refl; holds = h.3 })
 
 -- the dumps mean what was loaded and read of them
 pub means_so : (dumps : List Dump) (options : Options) (x : Listing) → x.dumps.now ≡ dumps
-    → (dsdt : ℕ) × (ssdts : List ℕ) × (trees : List Trees) × (m : Listed) × LoadsSet dumps options dsdt ssdts trees m × HoldsSet x.order x.loaded dumps dsdt ssdts trees m
-    → ((es : List Entry) → StandsFor x.loaded.space es → AreEntries options.unknown_zero es (codes_view x.loaded.tables.items) x.loaded.methods.items (map body_view x.bodies.items)) → (k : Meaning) × Means dumps options k × Shows x dumps k
+    → (dsdt : ℕ) × (ssdts : List ℕ) × (trees : List Trees) × (m : Listed) × LoadsSet dumps options dsdt ssdts trees m
+    × HoldsSet x.order x.loaded dumps dsdt ssdts trees m
+    → ((es : List Entry) → StandsFor x.loaded.space es → AreEntries options.unknown_zero es (codes_view x.loaded.tables.items) x.loaded.methods.items
+    (map body_view x.bodies.items)) → (k : Meaning) × Means dumps options k × Shows x dumps k
 means_so dumps options x same h e =
     let there = h.4 in
     let it = h.5.holds in
-    let here = subst (λ (c : List (List ℕ)). AreEntries options.unknown_zero h.3.entries c x.loaded.methods.items (map body_view x.bodies.items)) it.tables (e h.3.entries it.space) in
-    let whole = subst (λ (ms : List Method). AreEntries options.unknown_zero h.3.entries (codes_in dumps (h.0 ∷ h.1)) ms (map body_view x.bodies.items)) it.methods here in (
+    let here = subst (λ (c : List (List ℕ)). AreEntries options.unknown_zero h.3.entries c x.loaded.methods.items (map body_view x.bodies.items)) it.tables
+    (e h.3.entries it.space) in
+    let whole = subst (λ (ms : List Method). AreEntries options.unknown_zero h.3.entries (codes_in dumps (h.0 ∷ h.1)) ms (map body_view x.bodies.items))
+    it.methods here in (
       record { dsdt = h.0; ssdts = h.1; trees = h.2; listed = h.3; bodies = map body_view x.bodies.items },
       record { order = there.order; loads = there.loads; entries = whole },
       record { same_dumps = same; dsdt = h.5.dsdt_is; ssdts = h.5.ssdts_is; holds = it; bodies = refl },
@@ -100,23 +113,29 @@ means_so dumps options x same h e =
 
 -- whatever they mean is that
 pub means_only : (dumps : List Dump) (options : Options) (x : Listing) → x.dumps.now ≡ dumps
-    → ((dsdt : ℕ) (ssdts : List ℕ) (trees : List Trees) (m : Listed) → LoadsSet dumps options dsdt ssdts trees m → HoldsSet x.order x.loaded dumps dsdt ssdts trees m)
-    → ((es : List Entry) → StandsFor x.loaded.space es → (bs : List OneBody) → AreEntries options.unknown_zero es (codes_view x.loaded.tables.items) x.loaded.methods.items bs → bs ≡ map body_view x.bodies.items)
+    → ((dsdt : ℕ) (ssdts : List ℕ) (trees : List Trees) (m : Listed) → LoadsSet dumps options dsdt ssdts trees m
+    → HoldsSet x.order x.loaded dumps dsdt ssdts trees m)
+    → ((es : List Entry) → StandsFor x.loaded.space es → (bs : List OneBody)
+    → AreEntries options.unknown_zero es (codes_view x.loaded.tables.items) x.loaded.methods.items bs → bs ≡ map body_view x.bodies.items)
     → (k : Meaning) → Means dumps options k → Shows x dumps k
 means_only dumps options x same one each k h =
     let it = one k.dsdt k.ssdts k.trees k.listed record { order = h.order; loads = h.loads } in
-    let whole = subst (λ (ms : List Method). AreEntries options.unknown_zero k.listed.entries (codes_of dumps k) ms k.bodies) (sym it.holds.methods) h.entries in
+    let whole = subst (λ (ms : List Method). AreEntries options.unknown_zero k.listed.entries (codes_of dumps k) ms k.bodies) (sym it.holds.methods)
+    h.entries in
     let here = subst (λ (c : List (List ℕ)). AreEntries options.unknown_zero k.listed.entries c x.loaded.methods.items k.bodies) (sym it.holds.tables) whole in
     record { same_dumps = same; dsdt = it.dsdt_is; ssdts = it.ssdts_is; holds = it.holds; bodies = sym (each k.listed.entries it.holds.space k.bodies here) }
 
 -- and what is told of its raw bodies is told of that
 pub told_so : (dumps : List Dump) (options : Options) (x : Listing)
-    → ((dsdt : ℕ) (ssdts : List ℕ) (trees : List Trees) (m : Listed) → LoadsSet dumps options dsdt ssdts trees m → HoldsSet x.order x.loaded dumps dsdt ssdts trees m)
-    → ((es : List Entry) → StandsFor x.loaded.space es → AreTold options.unknown_zero es (codes_view x.loaded.tables.items) x.loaded.methods.items x.bodies.items)
+    → ((dsdt : ℕ) (ssdts : List ℕ) (trees : List Trees) (m : Listed) → LoadsSet dumps options dsdt ssdts trees m
+    → HoldsSet x.order x.loaded dumps dsdt ssdts trees m)
+    → ((es : List Entry) → StandsFor x.loaded.space es → AreTold options.unknown_zero es (codes_view x.loaded.tables.items)
+    x.loaded.methods.items x.bodies.items)
     → (k : Meaning) → Means dumps options k → Told x dumps options k
 told_so dumps options x one told k h =
     let it = one k.dsdt k.ssdts k.trees k.listed record { order = h.order; loads = h.loads } in
-    let here = subst (λ (c : List (List ℕ)). AreTold options.unknown_zero k.listed.entries c x.loaded.methods.items x.bodies.items) it.holds.tables (told k.listed.entries it.holds.space) in
+    let here = subst (λ (c : List (List ℕ)). AreTold options.unknown_zero k.listed.entries c x.loaded.methods.items x.bodies.items) it.holds.tables
+    (told k.listed.entries it.holds.space) in
     subst (λ (ms : List Method). AreTold options.unknown_zero k.listed.entries (codes_of dumps k) ms x.bodies.items) it.holds.methods here
 
 -- dumps that are taken are taken with any checksum

@@ -35,21 +35,24 @@ if_either : (b x : Bool) → x ≡ true → cond b x true ≡ true
 if_either true x h = h
 if_either false x h = refl
 
-entries_same : (z : Bool) (es : List Entry) (codes : List (List ℕ)) (t : ℕ) (ms : List Method) (bs : List OneBody) → AreEntries z es codes ms bs → bodies_same codes t ms bs ≡ true
+entries_same : (z : Bool) (es : List Entry) (codes : List (List ℕ)) (t : ℕ) (ms : List Method) (bs : List OneBody) → AreEntries z es codes ms bs
+    → bodies_same codes t ms bs ≡ true
 entries_same z es codes t [] [] h = refl
 entries_same z es codes t [] (b ∷ bs) h = refl
 entries_same z es codes t (m ∷ ms) [] h = refl
 entries_same z es codes t (m ∷ ms) (b ∷ bs) h =
     ap (λ x. x && bodies_same codes t ms bs) (if_either (nat_eq m.table t) _ (entry_same z es codes m b h.0)) ∙ entries_same z es codes t ms bs h.1
 
-sames : (z : Bool) (es : List Entry) (codes all : List (List ℕ)) (trees : List Trees) (names : List (List ℕ)) (ms : List Method) (bs : List OneBody) (t : ℕ) → ReadTables codes trees → AreEntries z es all ms bs
+sames : (z : Bool) (es : List Entry) (codes all : List (List ℕ)) (trees : List Trees) (names : List (List ℕ)) (ms : List Method) (bs : List OneBody) (t : ℕ)
+    → ReadTables codes trees → AreEntries z es all ms bs
     → all_same (checks_from all ms bs t (blocks_of names codes trees)) ≡ true
 sames z es codes all trees [] ms bs t r h = refl
 sames z es [] all trees (n ∷ names) ms bs t r h = refl
 sames z es (c ∷ codes) all [] (n ∷ names) ms bs t r h = refl
 sames z es (c ∷ codes) all (ts ∷ trees) (n ∷ names) ms bs t r h =
     let rest = all_same (checks_from all ms bs (suc t) (blocks_of names codes trees)) in
-    ap (λ x. (x && bodies_same all t ms bs) && rest) (same_if _ _ r.0.spelled) ∙ ap (λ x. x && rest) (entries_same z es all t ms bs h) ∙ sames z es codes all trees names ms bs (suc t) r.1 h
+    ap (λ x. (x && bodies_same all t ms bs) && rest) (same_if _ _ r.0.spelled) ∙ ap (λ x. x && rest) (entries_same z es all t ms bs h)
+    ∙ sames z es codes all trees names ms bs (suc t) r.1 h
 
 -- what is said of tables by their files' names, AML, terms, methods and bodies
 abbrev said : List (List ℕ) → List (List ℕ) → List Trees → List Method → List OneBody → List ℕ
@@ -59,7 +62,8 @@ said names codes trees ms bs = check_lines (blocks_of names codes trees) (checks
 pub checks_are : (x : Listing) (dumps : List Dump) (k : Meaning) → Shows x dumps k → check_lines (blocks_in x) (checks_of x) ≡ checks_text dumps k
 checks_are x dumps k s =
     let order : indexes_in x.order ≡ order_of k = ap (λ n. n ∷ x.order.ssdts.items) s.dsdt ∙ ap (λ ns. k.dsdt ∷ ns) s.ssdts in
-    let names : names_in x.dumps.now (indexes_in x.order) ≡ names_in dumps (order_of k) = ap (λ ds. names_in ds (indexes_in x.order)) s.same_dumps ∙ ap (names_in dumps) order in
+    let names : names_in x.dumps.now (indexes_in x.order) ≡ names_in dumps (order_of k) = ap (λ ds. names_in ds (indexes_in x.order)) s.same_dumps
+    ∙ ap (names_in dumps) order in
     let ms = x.loaded.methods.items in
     let bs = map body_view x.bodies.items in
     ap (λ ns. said ns (codes_view x.loaded.tables.items) (trees_view x.loaded.trees.items) ms bs) names
@@ -81,4 +85,5 @@ shown_same x dumps options k means s =
     ∙ ap (λ ts. sound_in names (codes_of dumps k) ts ms bs) s.holds.trees
     ∙ ap (λ l. sound_in names (codes_of dumps k) k.trees l bs) s.holds.methods
     ∙ ap (λ l. sound_in names (codes_of dumps k) k.trees (methods_of k.listed.entries) l) s.bodies
-    ∙ sames options.unknown_zero k.listed.entries (codes_of dumps k) (codes_of dumps k) k.trees names (methods_of k.listed.entries) k.bodies 0 means.loads.read means.entries
+    ∙ sames options.unknown_zero k.listed.entries (codes_of dumps k) (codes_of dumps k) k.trees names (methods_of k.listed.entries)
+    k.bodies 0 means.loads.read means.entries

@@ -15,4 +15,7 @@ space_sync = search (crosses, Tree.crosses, Path.the_sync, sendable) depth 80 fi
 pub keeping_sync : (a b : NamedLft) (K : RattleType) → IsSync K → IsSync (Keeping.the_row a b K)
 keeping_sync a b K kept =
     let T = Keeping.the_type a b K in
-    recorded_sync _ _ T.to T.to_one (struct_sync (shape T) (search (space_sync, crosses, Path.the_sync, sendable) depth 40 fits 20000, (shr_sync _ _ K kept, tt)))
+    recorded_sync _ _ T.to T.to_one (struct_sync (shape T) (
+      search (space_sync, crosses, Path.the_sync, sendable) depth 40 fits 20000,
+      (shr_sync _ _ K kept, tt),
+    ))

@@ -22,7 +22,8 @@ next_one : (order : List ℕ) (i : ℕ) → i < length order → drop i order �
 next_one order i h = next_index order i h ∙ ap (λ n. get_or order i 0 ∷ drop n order) {x = suc i} {y = i + 1} (omega arith)
 
 -- a table of an order has a header, and no more AML than a table may have
-pub table_at : (dumps : List Dump) (order : List ℕ) (i : ℕ) → i < length order → AreTables dumps order → HoldsTable (bytes_of dumps (get_or order i 0)) × (length (bytes_of dumps (get_or order i 0)) ≤ 16777216)
+pub table_at : (dumps : List Dump) (order : List ℕ) (i : ℕ) → i < length order → AreTables dumps order → HoldsTable (bytes_of dumps (get_or order i 0))
+    × (length (bytes_of dumps (get_or order i 0)) ≤ 16777216)
 table_at dumps [] i h t = absurd (omega (arith, h))
 table_at dumps (x ∷ order) zero h t = (t.0, t.1)
 table_at dumps (x ∷ order) (suc i) h t = table_at dumps order i (omega (arith, h)) t.2
@@ -33,8 +34,10 @@ aml_within bytes =
     let whole = sym (length-append (take n bytes) (drop n bytes)) ∙ ap length (take-append-drop n bytes) in
     omega (arith, whole, length-drop 36 (table_of bytes))
 
-pub codes_turn : (dumps : List Dump) (order : List ℕ) (i : ℕ) (found more : List (Bor (List ℕ))) (c : Bor (List ℕ)) → i < length order → AreTables dumps order → more ≡ found ++ c ∷ []
-    → c.now ≡ aml_of (bytes_of dumps (get_or order i 0)) → (codes_view found ++ codes_in dumps (drop i order) ≡ codes_in dumps order) × AreShort (codes_view found)
+pub codes_turn : (dumps : List Dump) (order : List ℕ) (i : ℕ) (found more : List (Bor (List ℕ))) (c : Bor (List ℕ)) → i < length order → AreTables dumps order
+    → more ≡ found ++ c ∷ []
+    → c.now ≡ aml_of (bytes_of dumps (get_or order i 0)) → (codes_view found ++ codes_in dumps (drop i order) ≡ codes_in dumps order)
+    × AreShort (codes_view found)
     → (codes_view more ++ codes_in dumps (drop (i + 1) order) ≡ codes_in dumps order) × AreShort (codes_view more)
 codes_turn dumps order i found more c h tables m code was =
     let table = table_at dumps order i h tables in

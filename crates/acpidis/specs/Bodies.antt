@@ -43,7 +43,8 @@ IsFirstFault z es tables m fault = body_at z es tables m ≡ Err fault
 
 -- The body of a method is raw for this fault: it reads as no terms, the fault is true of the byte at its offset in the
 -- body, and it is the first that is met.
-pub record IsRaw (unknown_zero : Bool) (es : List Entry) (tables : List (List ℕ)) (m : Method) (fault : CodeFault) : Type 0 where
+pub record IsRaw (unknown_zero : Bool) (es : List Entry) (tables : List (List ℕ)) (m : Method)
+    (fault : CodeFault) : Type 0 where
   pub unread : IsUnread unknown_zero es tables m fault
   pub first : IsFirstFault unknown_zero es tables m fault
 
@@ -76,7 +77,8 @@ pub record IsReading (unknown_zero : Bool) (x : Loaded) (w : Bodies) : Type 0 wh
 -- a body in memory: it reads as its terms and as no others, or it reads as none, and its fault is the first that is met
 abbrev pub Became : Bool → List Entry → List (List ℕ) → Method → Body → Type 0
 Became z es tables m (bodies.Tree nodes) =
-    IsBody z es tables m (nodes_view nodes.items) × ((ts : Trees) → IsBody z es tables m ts → ts ≡ nodes_view nodes.items)
+    IsBody z es tables m (nodes_view nodes.items) × ((ts : Trees) → IsBody z es tables m ts
+    → ts ≡ nodes_view nodes.items)
 Became z es tables m (bodies.Raw fault) = IsRaw z es tables m fault
 
 -- the body of this number can be read

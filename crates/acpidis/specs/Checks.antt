@@ -1,6 +1,7 @@
--- What `check` says of each loaded table: its length, its methods, its raw bodies, and whether what was read encodes to the same
--- bytes again.
-use Rattle.std.specs.Prelude.{ℕ, suc, ◌+◌, ◌==◌, nat_eq, Bool, true, false, cond, ◌&&◌, List, [], ◌∷◌, ◌++◌, map, length, decimal}
+-- What `check` says of each loaded table: its length, its methods, its raw bodies, and whether what was read encodes
+-- to the same bytes again.
+use Rattle.std.specs.Prelude.{ℕ, suc, ◌+◌, ◌==◌, nat_eq, Bool, true, false, cond, ◌&&◌, List, [], ◌∷◌, ◌++◌, map}
+use Rattle.std.specs.Prelude.{length, decimal}
 use lib.Pointwise.{pointwise}
 use Rattle.aml_code.specs.Encoding.{encodings}
 use Rattle.aml_load.specs.Loading.{methods_of}
@@ -47,7 +48,8 @@ raws_in t (m ∷ ms) (b ∷ bs) = one_if (nat_eq m.table t && is_raw b) + raws_i
 abbrev pub bodies_same : List (List ℕ) → ℕ → List Method → List OneBody → Bool
 bodies_same codes t [] bs = true
 bodies_same codes t (m ∷ ms) [] = true
-bodies_same codes t (m ∷ ms) (b ∷ bs) = cond (nat_eq m.table t) (body_same (span_of codes m) b) true && bodies_same codes t ms bs
+bodies_same codes t (m ∷ ms) (b ∷ bs) =
+    cond (nat_eq m.table t) (body_same (span_of codes m) b) true && bodies_same codes t ms bs
 
 -- what is said of table t, of which this is the block
 abbrev pub checked : List (List ℕ) → List Method → List OneBody → ℕ → OneBlock → Checked
@@ -66,7 +68,8 @@ checks_from codes ms bs t (b ∷ blocks) = checked codes ms bs t b ∷ checks_fr
 
 -- what is said of a listing in memory
 abbrev pub checks_of : Listing → List Checked
-checks_of x = checks_from (codes_view x.loaded.tables.items) x.loaded.methods.items (map body_view x.bodies.items) 0 (blocks_in x)
+checks_of x = checks_from (codes_view x.loaded.tables.items) x.loaded.methods.items (map body_view x.bodies.items) 0
+    (blocks_in x)
 
 -- whether all tables are the same
 abbrev pub all_same : List Checked → Bool
@@ -80,7 +83,8 @@ same_word true = word " Same\n"
 same_word false = word " Differs\n"
 
 unfoldable pub check_head : List ℕ → Checked → List ℕ
-check_head name c = (word "Check " ++ quoted name) ++ (word " Bytes " ++ decimal c.bytes) ++ (word " Methods " ++ decimal c.methods)
+check_head name c = (word "Check " ++ quoted name) ++ (word " Bytes " ++ decimal c.bytes)
+    ++ (word " Methods " ++ decimal c.methods)
 
 -- the line of a table, by its file's name
 unfoldable pub check_line : List ℕ → Checked → List ℕ

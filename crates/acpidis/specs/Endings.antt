@@ -24,12 +24,13 @@ abbrev pub shown_of : Bool → Listing → List ℕ
 shown_of false x = shown_text x
 shown_of true x = check_lines (blocks_in x) (checks_of x)
 
--- How a run ends before its status is made: the text of the one listing went out, and the status is that of its bodies; or the
--- first bytes of the text did; or nothing, and then the set means no listing, unless memory or a thread was refused. No table of
--- a listing that the dumps mean differs.
+-- How a run ends before its status is made: the text of the one listing went out, and the status is that of its
+-- bodies; or the first bytes of the text did; or nothing, and then the set means no listing, unless memory or a thread
+-- was refused. No table of a listing that the dumps mean differs.
 abbrev pub Ends : List Dump → Options → Bool → Option (List ℕ) → Option (List ℕ) → Result ℕ RunFault → Type 0
 Ends dumps options check before after (Ok status) =
-    (x : Listing) × IsOnly dumps options x × Appends before after (shown_of check x) × (status ≡ cond (has_raw (map body_view x.bodies.items)) 3 0)
+    (x : Listing) × IsOnly dumps options x × Appends before after (shown_of check x)
+    × (status ≡ cond (has_raw (map body_view x.bodies.items)) 3 0)
 Ends dumps options check before after (Err (faults.Write fault)) = IsCut dumps options check before after
 Ends dumps options check before after (Err (faults.Refused fault)) =
     (after ≡ before) × (IsWant fault ⊎ ((k : Meaning) → ¬ Means dumps options k))

@@ -42,8 +42,10 @@ AreKept Keeps (b ∷ bs) (d ∷ ds) = Keeps 0 b d × AreKept (λ n. Keeps (suc n
 
 -- these are the bodies of a loaded set, and there are no others
 pub record AreBodies (z : Bool) (x : Loaded) (bs : List Body) : Type 0 where
-  pub sound : (es : List Entry) → StandsFor x.space es → AreEntries z es (codes_view x.tables.items) x.methods.items (map body_view bs)
-  pub one : (es : List Entry) → StandsFor x.space es → (cs : List OneBody) → AreEntries z es (codes_view x.tables.items) x.methods.items cs → cs ≡ map body_view bs
+  pub sound : (es : List Entry) → StandsFor x.space es
+      → AreEntries z es (codes_view x.tables.items) x.methods.items (map body_view bs)
+  pub one : (es : List Entry) → StandsFor x.space es → (cs : List OneBody)
+      → AreEntries z es (codes_view x.tables.items) x.methods.items cs → cs ≡ map body_view bs
   pub told : (es : List Entry) → StandsFor x.space es → AreTold z es (codes_view x.tables.items) x.methods.items bs
 
 -- what is kept of the bodies of a loaded set

@@ -18,7 +18,8 @@ use Rattle.acpidis.specs.declared.options.Options.{Options}
 use Rattle.acpidis.specs.Tables.{codes_in}
 use Rattle.acpidis.specs.Bodies.{AreEntries, AreTold}
 
--- a listing: the indexes of the definition blocks in load order, their terms, what these declare, and a body for each method
+-- a listing: the indexes of the definition blocks in load order, their terms, what these declare, and a body for each
+-- method
 pub record Meaning : Type 0 where
   pub dsdt : ℕ
   pub ssdts : List ℕ
@@ -33,12 +34,14 @@ order_of k = k.dsdt ∷ k.ssdts
 abbrev pub codes_of : List Dump → Meaning → List (List ℕ)
 codes_of dumps k = codes_in dumps (order_of k)
 
--- The dumps mean this listing, with these options: its order is theirs, its trees are what the tables' AML reads as, and load to its entries, and
--- each body is the terms that it reads as in the namespace of all entries, or raw, where it reads as no terms.
+-- The dumps mean this listing, with these options: its order is theirs, its trees are what the tables' AML reads as,
+-- and load to its entries, and each body is the terms that it reads as in the namespace of all entries, or raw, where
+-- it reads as no terms.
 pub record Means (dumps : List Dump) (options : Options) (k : Meaning) : Type 0 where
   pub order : IsOrder dumps options.any_sum k.dsdt k.ssdts
   pub loads : IsLoad options.externals.items (codes_of dumps k) k.trees k.listed
-  pub entries : AreEntries options.unknown_zero k.listed.entries (codes_of dumps k) (methods_of k.listed.entries) k.bodies
+  pub entries : AreEntries options.unknown_zero k.listed.entries (codes_of dumps k) (methods_of k.listed.entries)
+      k.bodies
 
 -- the rows of the namespace: the declared paths in order, each once, with its kind
 abbrev pub rows_of : List Entry → List (List Seg × Kind)

@@ -39,8 +39,8 @@ abbrev pub TellsTable : List Dump → Bool → Refusal → Type 0
 TellsTable dumps any_sum (refusals.Table fault) = Refuses dumps any_sum fault
 TellsTable dumps any_sum _ = ⊤
 
--- The load of the tables of an order stops for this fault, the first that is met in loading forward. The fault names the
--- dump of the table that it is about.
+-- The load of the tables of an order stops for this fault, the first that is met in loading forward. The fault names
+-- the dump of the table that it is about.
 pub record StopsInOrder (gs : Givens) (codes : List (List ℕ)) (order : List ℕ) (fault : LoadFault) : Type 0 where
   pub met : LoadFault
   pub named : fault ≡ in_dump order met

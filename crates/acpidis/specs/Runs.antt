@@ -12,7 +12,8 @@ abbrev pub output_of : Bool → List Dump → Meaning → List ℕ
 output_of false dumps k = text_of dumps k
 output_of true dumps k = checks_text dumps k
 
--- The dumps have this text: that of a listing that they mean. The status that goes with it is 3 where a body is raw, else 0.
+-- The dumps have this text: that of a listing that they mean. The status that goes with it is 3 where a body is raw,
+-- else 0.
 pub record Lists (dumps : List Dump) (options : Options) (check : Bool) (status : ℕ) (text : List ℕ) : Type 0 where
   pub listing : Meaning
   pub means : Means dumps options listing

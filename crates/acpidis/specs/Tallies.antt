@@ -1,5 +1,6 @@
 -- A stepping stone of the proofs of `check`: the methods of tables, counted one after the other.
-use Rattle.std.specs.Prelude.{◌≡◌, ℕ, zero, suc, ◌+◌, ◌<◌, Bool, true, false, ◌&&◌, List, [], ◌∷◌, length, Option, Some, None, Result, Ok, Err}
+use Rattle.std.specs.Prelude.{◌≡◌, ℕ, zero, suc, ◌+◌, ◌<◌, Bool, true, false, ◌&&◌, List, [], ◌∷◌, length, Option, Some}
+use Rattle.std.specs.Prelude.{None, Result, Ok, Err}
 use Rattle.aml_names.specs.declared.faults.CodeFault.{CodeFault}
 use Rattle.aml_code.specs.Encoding.{encodings}
 use Rattle.aml_load.specs.declared.methods.Method.{Method}
@@ -25,7 +26,12 @@ added_at (suc n) raw same (c ∷ cs) = c ∷ added_at n raw same cs
 
 -- what is said of a table before its methods are counted
 abbrev pub uncounted : OneBlock → Checked
-uncounted b = record { bytes = length b.code; methods = 0; raw = 0; same = same_bytes (encodings b.code b.terms) b.code }
+uncounted b = record {
+  bytes = length b.code;
+  methods = 0;
+  raw = 0;
+  same = same_bytes (encodings b.code b.terms) b.code;
+}
 
 -- what is said of table t when these methods are counted too
 abbrev pub tally : List (List ℕ) → List Method → List OneBody → ℕ → Checked → Checked
@@ -56,4 +62,5 @@ AreTried codes [] bs ds = Unit {0}
 AreTried codes (m ∷ ms) [] [] = Unit {0}
 AreTried codes (m ∷ ms) [] (d ∷ ds) = ⊥
 AreTried codes (m ∷ ms) (b ∷ bs) [] = ⊥
-AreTried codes (m ∷ ms) (b ∷ bs) (d ∷ ds) = (mark_of (Some d) ≡ (is_raw b, body_same (span_of codes m) b)) × AreTried codes ms bs ds
+AreTried codes (m ∷ ms) (b ∷ bs) (d ∷ ds) = (mark_of (Some d) ≡ (is_raw b, body_same (span_of codes m) b))
+    × AreTried codes ms bs ds

@@ -45,7 +45,8 @@ module _ {A : Type 0} where
   total_none f g (x ∷ xs) z h = let a = h 0 x refl (omega arith) in let b = total_none f g xs (omega arith) (λ i a e. h (suc i) a e) in omega arith
 
   -- who has all of g has all of f
-  pub total_only : (f g : A → ℕ) (xs : List A) (i : ℕ) (a : A) → get_elem? xs i ≡ some a → g a ≡ total g xs → ((i : ℕ) (a : A) → get_elem? xs i ≡ some a → g a ≡ 0 → f a ≡ 0) → total f xs ≡ f a
+  pub total_only : (f g : A → ℕ) (xs : List A) (i : ℕ) (a : A) → get_elem? xs i ≡ some a → g a ≡ total g xs
+      → ((i : ℕ) (a : A) → get_elem? xs i ≡ some a → g a ≡ 0 → f a ≡ 0) → total f xs ≡ f a
   total_only f g [] i a e all h = absurd (some-ne-none a (sym e))
   total_only f g (x ∷ xs) zero a e all h =
       let is : f x ≡ f a = ap f (some-injective x a e) in

@@ -42,5 +42,6 @@ increasing_more n (x ∷ y ∷ ys) inc low zero l = inc 0 (omega arith)
 increasing_more n (x ∷ y ∷ ys) inc low (suc k) l =
     let e : (j : ℕ) → suc j + 1 ≡ suc (j + 1) = λ j. omega arith in
     let all : List ℕ = x ∷ y ∷ ys in
-    let tail = increasing_more n (y ∷ ys) (λ j m. subst (λ i. slice_index all (suc j) < slice_index all i) (e j) (inc (suc j) (omega arith))) (λ j d m. low (suc j) d (omega arith)) k (omega arith) in
+    let tail = increasing_more n (y ∷ ys) (λ j m. subst (λ i. slice_index all (suc j) < slice_index all i) (e j) (inc (suc j) (omega arith)))
+    (λ j d m. low (suc j) d (omega arith)) k (omega arith) in
     subst (λ i. slice_index (all ++ n ∷ []) (suc k) < slice_index (all ++ n ∷ []) i) (sym (e k)) tail

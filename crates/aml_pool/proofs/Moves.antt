@@ -1,5 +1,6 @@
 -- Each kind of step is a change of the claim machine, and keeps the board's rule.
-use Rattle.std.proofs.Common.{◌≡◌, ◌≢◌, ℕ, zero, suc, ◌+◌, ◌%◌, ◌<◌, ◌≤◌, List, [], ◌∷◌, ◌++◌, length, map, set, true, refl, sym, ap, ap₂, ◌∙◌, subst, ⊎_elim, arith, get_or, length-set, get_or-set_same, min}
+use Rattle.std.proofs.Common.{◌≡◌, ◌≢◌, ℕ, zero, suc, ◌+◌, ◌%◌, ◌<◌, ◌≤◌, List, [], ◌∷◌, ◌++◌, length, map, set, true, refl, sym, ap, ap₂, ◌∙◌, subst, ⊎_elim}
+use Rattle.std.proofs.Common.{arith, get_or, length-set, get_or-set_same, min}
 use Rattle.std.specs.Prelude.{nat_lt, ◌||◌, Option, Some, None}
 use Rattle.std.proofs.lemmas.List.{map-set, map-append}
 use Rattle.std.proofs.lemmas.Bool.{lt-ltb}
@@ -65,8 +66,10 @@ module _ (count id : ℕ) (v : View) (s : State (Unit {0}) View) (h : IsRuled co
   taken c few =
       let w : View = view count v.weight (v.numbers ++ word ∷ []) v.nones in
       let next : shown.next ≡ word = min_below word count few in
-      let next_then : min (get_or (set s.words 0 (word + 1)) 0 0) count ≡ shown.next + 1 = ap (λ n. min n count) word_then ∙ (let l : min (word + 1) count ≡ word + 1 = grind arith in l ∙ ap (λ n. n + 1) (sym next)) in
-      let seats : map claimant (set s.views id w) ≡ set shown.seats id record { numbers = v.numbers ++ shown.next ∷ []; ended = nat_lt 0 v.nones } = map-set claimant s.views id w ∙ ap (λ n. set shown.seats id record { numbers = v.numbers ++ n ∷ []; ended = nat_lt 0 v.nones }) (sym next) in
+      let next_then : min (get_or (set s.words 0 (word + 1)) 0 0) count ≡ shown.next + 1 = ap (λ n. min n count) word_then
+      ∙ (let l : min (word + 1) count ≡ word + 1 = grind arith in l ∙ ap (λ n. n + 1) (sym next)) in
+      let seats : map claimant (set s.views id w) ≡ set shown.seats id record { numbers = v.numbers ++ shown.next ∷ []; ended = nat_lt 0 v.nones } =
+      map-set claimant s.views id w ∙ ap (λ n. set shown.seats id record { numbers = v.numbers ++ n ∷ []; ended = nat_lt 0 v.nones }) (sym next) in
       λ i. record { next = next_then i; seats = seats i }
 
   -- a draw when none is left
@@ -74,13 +77,16 @@ module _ (count id : ℕ) (v : View) (s : State (Unit {0}) View) (h : IsRuled co
       ≡ record { next = shown.next; seats = set shown.seats id record { numbers = v.numbers; ended = true } }
   missed c all =
       let w : View = view count v.weight v.numbers (v.nones + 1) in
-      let next_then : min (get_or (set s.words 0 (word + 1)) 0 0) count ≡ shown.next = ap (λ n. min n count) word_then ∙ (min_above (word + 1) count (omega arith) ∙ sym (min_above word count all)) in
+      let next_then : min (get_or (set s.words 0 (word + 1)) 0 0) count ≡ shown.next = ap (λ n. min n count) word_then
+      ∙ (min_above (word + 1) count (omega arith) ∙ sym (min_above word count all)) in
       let ends : nat_lt 0 (v.nones + 1) ≡ true = lt-ltb 0 (v.nones + 1) (omega arith) in
-      let seats : map claimant (set s.views id w) ≡ set shown.seats id record { numbers = v.numbers; ended = true } = map-set claimant s.views id w ∙ ap (λ e. set shown.seats id record { numbers = v.numbers; ended = e }) ends in
+      let seats : map claimant (set s.views id w) ≡ set shown.seats id record { numbers = v.numbers; ended = true } = map-set claimant s.views id w
+      ∙ ap (λ e. set shown.seats id record { numbers = v.numbers; ended = e }) ends in
       λ i. record { next = next_then i; seats = seats i }
 
   -- so each draw is one draw of the machine
-  draws_few : (c : List (ℕ × Unit {0})) → word < count → Draws count id shown (Some word) (claims_shown count (then (view count v.weight (v.numbers ++ word ∷ []) v.nones) c))
+  draws_few : (c : List (ℕ × Unit {0})) → word < count → Draws count id shown (Some word)
+      (claims_shown count (then (view count v.weight (v.numbers ++ word ∷ []) v.nones) c))
   draws_few c few = let next : shown.next ≡ word = min_below word count few in (
     claimant v,
     stands,
@@ -100,7 +106,8 @@ module _ (count id : ℕ) (v : View) (s : State (Unit {0}) View) (h : IsRuled co
   stands_then : (w : View) (c : List (ℕ × Unit {0})) → get_elem? (claims_shown count (then w c)).seats id ≡ some (claimant w)
   stands_then w c = at_map claimant (set s.views id w) id w (set_here s.views id w (is_place s.views id v at))
 
-  is_draw : (w : View) (c : List (ℕ × Unit {0})) (answer : Option ℕ) → Draws count id shown answer (claims_shown count (then w c)) → IsDraw count (claimant v) answer (claimant w)
+  is_draw : (w : View) (c : List (ℕ × Unit {0})) (answer : Option ℕ) → Draws count id shown answer (claims_shown count (then w c))
+      → IsDraw count (claimant v) answer (claimant w)
   is_draw w c answer d = record {
     past = h.past;
     from = shown;
@@ -170,7 +177,8 @@ draws count slots id me mine some_weight going s h none_there at fits =
         (
           (λ _. (
             ap (λ c. view c me.0.weight (me.0.numbers ++ word ∷ []) me.0.nones) (sym mine),
-            subst (λ c. IsDraw c (claimant me.0) (Some word) (claimant w)) (sym mine) (is_draw count id me.0 s h at w me.1 (Some word) (draws_few count id me.0 s h at me.1 few)),
+            subst (λ c. IsDraw c (claimant me.0) (Some word) (claimant w)) (sym mine)
+                (is_draw count id me.0 s h at w me.1 (Some word) (draws_few count id me.0 s h at me.1 few)),
           )),
           (λ many. absurd (omega arith)),
         ),
@@ -189,7 +197,8 @@ draws count slots id me mine some_weight going s h none_there at fits =
           (λ few. absurd (omega arith)),
           (λ _. (
             ap (λ c. view c me.0.weight me.0.numbers (me.0.nones + 1)) (sym mine),
-            subst (λ c. IsDraw c (claimant me.0) None (claimant w)) (sym mine) (is_draw count id me.0 s h at w me.1 None (draws_none count id me.0 s h at me.1 all)),
+            subst (λ c. IsDraw c (claimant me.0) None (claimant w)) (sym mine)
+                (is_draw count id me.0 s h at w me.1 None (draws_none count id me.0 s h at me.1 all)),
           )),
         ),
         refl,
@@ -205,7 +214,8 @@ draw_low count n before after d x here =
     (λ all. let none : Some n ≡ None = (d.draws.3 (omega arith)).0 in absurd (cc))
 
 -- a look at the word changes nothing
-looked : (s : State (Unit {0}) View) (id : ℕ) (v : View) (c : List (ℕ × Unit {0})) → get_elem? s.views id ≡ some v → stepped s 0 (get_or s.words 0 0) id c v keeps ≡ s
+looked : (s : State (Unit {0}) View) (id : ℕ) (v : View) (c : List (ℕ × Unit {0})) → get_elem? s.views id ≡ some v
+    → stepped s 0 (get_or s.words 0 0) id c v keeps ≡ s
 looked s id v c at = λ i. record { words = set-get_or s.words 0 0 i; homes = s.homes; views = set_again s.views id v at i }
 
 pub looks : (count slots id : ℕ) (me : Me (Unit {0}) View) → Allows (IsRuled count) slots id me 0 (λ n. n) (TellsLook (step slots 0 0 0 none) me)
@@ -225,7 +235,8 @@ looks count slots id me s h none_there at fits = (
 opens : (count id part : ℕ) (v : View) (s : State (Unit {0}) View) → get_elem? s.views id ≡ some v
     → Opens (claims_shown count s) (claims_shown count record { words = s.words; homes = s.homes; views = set s.views id (kept part v) ++ given part v ∷ [] })
 opens count id part v s at =
-    let same : set (map claimant s.views) id (claimant v) ≡ map claimant s.views = set_again (map claimant s.views) id (claimant v) (at_map claimant s.views id v at) in
+    let same : set (map claimant s.views) id (claimant v) ≡ map claimant s.views =
+    set_again (map claimant s.views) id (claimant v) (at_map claimant s.views id v at) in
     let seats : map claimant (set s.views id (kept part v) ++ given part v ∷ []) ≡ map claimant s.views ++ newcomer ∷ [] =
     map-append claimant (set s.views id (kept part v)) (given part v ∷ []) ∙ ap (λ l. l ++ newcomer ∷ []) (map-set claimant s.views id (kept part v) ∙ same) in
     ap (claims (claims_shown count s).next) seats
@@ -233,7 +244,8 @@ opens count id part v s at =
 pub splits : (count id part : ℕ) (v : View) → 0 < part → part < v.weight → v.nones ≡ 0 → Splits (IsRuled count) id v (kept part v) (given part v)
 splits count id part v some_part less going s h at =
     let views = set s.views id (kept part v) in
-    let sum : (f : View → ℕ) → f (kept part v) + f (given part v) ≡ f v → total f (views ++ given part v ∷ []) ≡ total f s.views = λ f same. let a = total_set f s.views id v (kept part v) at in let b = total_more f views (given part v) in omega arith in
+    let sum : (f : View → ℕ) → f (kept part v) + f (given part v) ≡ f v → total f (views ++ given part v ∷ []) ≡ total f s.views = λ f same. let a =
+    total_set f s.views id v (kept part v) at in let b = total_more f views (given part v) in omega arith in
     let fits = h.fits id v at in
     let nones = sum (λ u. u.nones) (omega (arith, going)) in record {
       past = by_split ∷ h.past;
@@ -254,11 +266,19 @@ either_none (suc m) n = lt-ltb 0 (suc m + n) (omega arith) ∙ sym (ap (λ b. b 
 
 -- a join makes two lists of the machine one
 two_in_one : (count id other : ℕ) (v w : View) (s : State (Unit {0}) View) → id ≢ other → get_elem? s.views id ≡ some v → get_elem? s.views other ≡ some w
-    → Joins id other (claims_shown count s) (claims_shown count record { words = s.words; homes = s.homes; views = set (set s.views id (joined v w)) other spent })
+    → Joins id other (claims_shown count s) (claims_shown count record {
+      words = s.words;
+      homes = s.homes;
+      views =
+          set (set s.views id (joined v w)) other spent;
+    })
 two_in_one count id other v w s apart at there =
-    let both : claimant (joined v w) ≡ together (claimant v) (claimant w) = λ i. record { numbers = v.numbers ++ w.numbers; ended = either_none v.nones w.nones i } in
-    let seats : map claimant (set (set s.views id (joined v w)) other spent) ≡ set (set (map claimant s.views) id (together (claimant v) (claimant w))) other newcomer =
-    map-set claimant (set s.views id (joined v w)) other spent ∙ ap (λ l. set l other newcomer) (map-set claimant s.views id (joined v w) ∙ ap (set (map claimant s.views) id) both) in (
+    let both : claimant (joined v w) ≡ together (claimant v) (claimant w) =
+    λ i. record { numbers = v.numbers ++ w.numbers; ended = either_none v.nones w.nones i } in
+    let seats : map claimant (set (set s.views id (joined v w)) other spent)
+    ≡ set (set (map claimant s.views) id (together (claimant v) (claimant w))) other newcomer =
+    map-set claimant (set s.views id (joined v w)) other spent ∙ ap (λ l. set l other newcomer)
+    (map-set claimant s.views id (joined v w) ∙ ap (set (map claimant s.views) id) both) in (
       claimant v,
       claimant w,
       apart,
@@ -270,7 +290,8 @@ two_in_one count id other v w s apart at there =
 pub joins : (count id other : ℕ) (v w : View) → 0 < v.weight → TableJoins (IsRuled count) id v other w (joined v w) spent
 joins count id other v w some_weight s h at apart there =
     let views = set s.views id (joined v w) in
-    let sum : (f : View → ℕ) → f (joined v w) ≡ f v + f w → f spent ≡ 0 → total f (set views other spent) ≡ total f s.views = λ f both none_left. let a = total_set f s.views id v (joined v w) at in let b = total_set f views other w spent there in omega arith in
+    let sum : (f : View → ℕ) → f (joined v w) ≡ f v + f w → f spent ≡ 0 → total f (set views other spent) ≡ total f s.views = λ f both none_left. let a =
+    total_set f s.views id v (joined v w) at in let b = total_set f views other w spent there in omega arith in
     let was_there : get_elem? s.views other ≡ some w = sym (set_else s.views id other (joined v w) apart) ∙ there in
     let mine = h.fits id v at in
     let theirs = h.fits other w was_there in
@@ -296,13 +317,15 @@ has_all : (count id : ℕ) (v : View) (s : State (Unit {0}) View) → IsRuled co
     → (x : ℕ) → total (λ c. times x c.numbers) (claims_shown count s).seats ≡ times x v.numbers
 has_all count id v s h at whole x =
     let heavy : v.weight ≡ total (λ u. u.weight) s.views = let all = h.weights in omega arith in
-    total-map (λ c. times x c.numbers) claimant s.views ∙ total_only (λ u. times x u.numbers) (λ u. u.weight) s.views id v at heavy (λ j u e z. ap (times x) ((h.fits j u e).1 z))
+    total-map (λ c. times x c.numbers) claimant s.views ∙ total_only (λ u. times x u.numbers) (λ u. u.weight) s.views id v at heavy
+    (λ j u e z. ap (times x) ((h.fits j u e).1 z))
 
 first_word : (ws : List ℕ) (word : ℕ) → get_elem? ws 0 ≡ some word → get_or ws 0 0 ≡ word
 first_word [] word e = absurd (some-ne-none word (sym e))
 first_word (x ∷ xs) word e = some-injective x word e
 
-pub closes : (count id : ℕ) (v : View) (ws : List ℕ) (ss : List (Unit {0})) (word : ℕ) → Final (Seen (IsRuled count) id v) ws ss → v.weight ≡ 64 → get_elem? ws 0 ≡ some word
+pub closes : (count id : ℕ) (v : View) (ws : List ℕ) (ss : List (Unit {0})) (word : ℕ) → Final (Seen (IsRuled count) id v) ws ss → v.weight ≡ 64
+    → get_elem? ws 0 ≡ some word
     → IsOnce v.numbers (min word count) × (0 < v.nones → min word count ≡ count)
 closes count id v ws ss word f whole there =
     let s = f.0 in let h : IsRuled count s = f.1.0 in let at : get_elem? s.views id ≡ some v = f.1.1 in
@@ -325,8 +348,12 @@ follows_machine count = record {
       let drawn : View → Claims = λ w. claims_shown count (stepped s 0 (get_or s.words 0 0 + 1) id [] w keeps) in
       dite (dec_lt (get_or s.words 0 0) count)
       (λ few.
-      let is : after ≡ view count v.weight (v.numbers ++ get_or s.words 0 0 ∷ []) v.nones = (drew.0 (omega arith)).0 ∙ ap (λ c. view c v.weight (v.numbers ++ get_or s.words 0 0 ∷ []) v.nones) mine in
-      (Some (get_or s.words 0 0), subst (λ w. Draws count id (claims_shown count s) (Some (get_or s.words 0 0)) (drawn w)) (sym is) (draws_few count id v s h at [] few)))
+      let is : after ≡ view count v.weight (v.numbers ++ get_or s.words 0 0 ∷ []) v.nones = (drew.0 (omega arith)).0
+      ∙ ap (λ c. view c v.weight (v.numbers ++ get_or s.words 0 0 ∷ []) v.nones) mine in (
+        Some (get_or s.words 0 0),
+        subst (λ w. Draws count id (claims_shown count s) (Some (get_or s.words 0 0)) (drawn w)) (sym is)
+            (draws_few count id v s h at [] few),
+      ))
       (λ many.
       let is : after ≡ view count v.weight v.numbers (v.nones + 1) = (drew.1 (omega arith)).0 ∙ ap (λ c. view c v.weight v.numbers (v.nones + 1)) mine in
       (None, subst (λ w. Draws count id (claims_shown count s) None (drawn w)) (sym is) (draws_none count id v s h at [] (omega arith))));

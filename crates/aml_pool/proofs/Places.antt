@@ -1,5 +1,6 @@
 -- Places of a shelf, free and taken.
-use Rattle.std.proofs.Common.{◌≡◌, ℕ, zero, suc, ◌+◌, ◌<◌, Option, Some, None, List, [], ◌∷◌, ◌++◌, map, length, set, replicate, length-append, sym, refl, subst, ◌∙◌, ap, arith}
+use Rattle.std.proofs.Common.{◌≡◌, ℕ, zero, suc, ◌+◌, ◌<◌, Option, Some, None, List, [], ◌∷◌, ◌++◌, map, length, set, replicate, length-append, sym, refl}
+use Rattle.std.proofs.Common.{subst, ◌∙◌, ap, arith}
 use Rattle.std.specs.Prelude.{slice_get, All}
 use Rattle.std.proofs.lemmas.List.{map-append, get_or_append_left}
 use Rattle.std.proofs.Math.Seq.{get_or-append_seam}
@@ -13,10 +14,12 @@ use Rattle.aml_pool.specs.Shelves.{Refuses}
 use Rattle.aml_pool.proofs.Counts.{yes_one, not_one, below_one, above_one, times-append}
 
 same_suc : (m n : ℕ) → same (suc m) (suc n) ≡ same m n
-same_suc m n = dite (ℕ_discrete m n) (λ e. yes_one (suc m) (suc n) (ap suc e) ∙ sym (yes_one m n e)) (λ ne. not_one (suc m) (suc n) (λ h. ne (omega arith)) ∙ sym (not_one m n ne))
+same_suc m n = dite (ℕ_discrete m n) (λ e. yes_one (suc m) (suc n) (ap suc e) ∙ sym (yes_one m n e))
+    (λ ne. not_one (suc m) (suc n) (λ h. ne (omega arith)) ∙ sym (not_one m n ne))
 
 below_suc : (n count : ℕ) → once_below n count ≡ once_below (suc n) (suc count)
-below_suc n count = dite (dec_lt n count) (λ l. below_one n count l ∙ sym (below_one (suc n) (suc count) (omega arith))) (λ l. above_one n count (omega arith) ∙ sym (above_one (suc n) (suc count) (omega arith)))
+below_suc n count = dite (dec_lt n count) (λ l. below_one n count l ∙ sym (below_one (suc n) (suc count) (omega arith)))
+    (λ l. above_one n count (omega arith) ∙ sym (above_one (suc n) (suc count) (omega arith)))
 
 pub vacant-replicate : (D : Type 0) (n : ℕ) → vacant {D = D} (replicate n None) ≡ n
 vacant-replicate D zero = refl
@@ -87,7 +90,8 @@ module _ {D : Type 0} where
 
   pub refuses-taken : (slots : List (Option D)) (n : ℕ) (value : D) (e : ShelfFault D) → Refuses slots n value e → free n slots ≡ 0
   refuses-taken slots n value (Double d) r = free-taken slots n r.1 r.2
-  refuses-taken slots n value (Stranger d) r = dite (ℕ_discrete (free n slots) 0) (λ z. z) (λ ne. let h = free-place slots n (free-one slots n ne) in let past = r.1 in absurd (omega arith))
+  refuses-taken slots n value (Stranger d) r = dite (ℕ_discrete (free n slots) 0) (λ z. z)
+      (λ ne. let h = free-place slots n (free-one slots n ne) in let past = r.1 in absurd (omega arith))
     where
       free-one : (slots : List (Option D)) (n : ℕ) → ¬ (free n slots ≡ 0) → free n slots ≡ 1
       free-one [] n ne = absurd (ne refl)

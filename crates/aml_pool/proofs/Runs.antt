@@ -7,7 +7,8 @@ use mathlib.Core.Option.{some, some-ne-none}
 use lib.ListN.{get_elem?}
 use Rattle.atomic_table.proofs.Lists.{at_set, at_snoc, set_else}
 use Rattle.aml_pool.specs.Counting.{times, once_below, total}
-use Rattle.aml_pool.specs.Machine.{Claimant, Claims, Change, by_draw, by_split, by_join, Draws, Opens, Joins, IsRun, IsSound, newcomer, together, opening_claims}
+use Rattle.aml_pool.specs.Machine.{Claimant, Claims, Change, by_draw, by_split, by_join, Draws, Opens, Joins, IsRun, IsSound, newcomer, together}
+use Rattle.aml_pool.specs.Machine.{opening_claims}
 use Rattle.aml_pool.proofs.Counts.{times-append, times-flat_map, total_set, total_more, total_at, above_one, once_below-le, once_below-more}
 
 -- how often x stands in the lists of all seats
@@ -23,7 +24,8 @@ pub record IsCounted (count : ℕ) (claims : Claims) : Type 0 where
 abbrev AllEnd : ℕ → ℕ → List Claimant → Type 0
 AllEnd count next seats = (seat : ℕ) (c : Claimant) → get_elem? seats seat ≡ some c → IsTrue c.ended → next ≡ count
 
-end_set : (count next : ℕ) (seats : List Claimant) (by : ℕ) (a : Claimant) → AllEnd count next seats → (IsTrue a.ended → next ≡ count) → AllEnd count next (set seats by a)
+end_set : (count next : ℕ) (seats : List Claimant) (by : ℕ) (a : Claimant) → AllEnd count next seats → (IsTrue a.ended → next ≡ count)
+    → AllEnd count next (set seats by a)
 end_set count next seats by a others mine seat c at ended =
     ⊎_elim
     (λ (t : (seat ≡ by) × (a ≡ c)). mine (subst (λ (d : Claimant). IsTrue d.ended) (sym t.1) ended))
@@ -40,7 +42,8 @@ end_more count next seats others seat c at ended =
     false_true : IsTrue false → ⊥
     false_true h = cc
 
-draw_keeps : (count seat : ℕ) (before after : Claims) (answer : Option ℕ) → IsCounted count before → Draws count seat before answer after → IsCounted count after
+draw_keeps : (count seat : ℕ) (before after : Claims) (answer : Option ℕ) → IsCounted count before → Draws count seat before answer after
+    → IsCounted count after
 draw_keeps count seat before after answer h d =
     let me : Claimant = d.0 in
     dite (dec_lt before.next count)
@@ -54,7 +57,8 @@ draw_keeps count seat before after answer h d =
           let each = total_set (λ c. times x c.numbers) before.seats seat me mine d.1 in
           let split = times-append x me.numbers (before.next ∷ []) in
           let one = once_below-more x before.next in omega arith;
-      drawn = λ other c at ended. absurd (let all = end_set count before.next before.seats seat mine h.drawn (λ e. h.drawn seat me d.1 e) other c at ended in omega arith);
+      drawn = λ other c at ended. absurd (let all = end_set count before.next before.seats seat mine h.drawn (λ e. h.drawn seat me d.1 e) other c at ended in
+          omega arith);
     } in kept))
     (λ all.
     let many : count ≤ before.next = omega arith in
@@ -85,7 +89,8 @@ join_keeps count seat other before after h j =
           let two = total_set (λ c. times x c.numbers) seats other b newcomer there in
           let both = times-append x a.numbers b.numbers in omega arith;
       drawn = end_set count before.next seats other newcomer
-          (end_set count before.next before.seats seat (together a b) h.drawn (either_ended a.ended b.ended (before.next ≡ count) (h.drawn seat a j.3) (h.drawn other b j.4)))
+          (end_set count before.next before.seats seat (together a b) h.drawn
+          (either_ended a.ended b.ended (before.next ≡ count) (h.drawn seat a j.3) (h.drawn other b j.4)))
           (λ e. absurd (cc));
     } in kept)
 
@@ -120,13 +125,15 @@ sound count past claims run =
     }
 
 -- a number of a seat's list is below the next one, and stands there once
-pub stands_below : (count : ℕ) (past : List Change) (claims : Claims) (seat : ℕ) (c : Claimant) → IsRun count past claims → get_elem? claims.seats seat ≡ some c → (x : ℕ) → 0 < times x c.numbers → x < claims.next
+pub stands_below : (count : ℕ) (past : List Change) (claims : Claims) (seat : ℕ) (c : Claimant) → IsRun count past claims → get_elem? claims.seats seat ≡ some c
+    → (x : ℕ) → 0 < times x c.numbers → x < claims.next
 stands_below count past claims seat c run at x here =
     let all = (counted count past claims run).once x in
     let part = total_at (λ c. times x c.numbers) claims.seats seat c at in
     dite (dec_lt x claims.next) (λ l. l) (λ l. let none = above_one x claims.next (omega arith) in absurd (omega arith))
 
-pub stands_once : (count : ℕ) (past : List Change) (claims : Claims) (seat : ℕ) (c : Claimant) → IsRun count past claims → get_elem? claims.seats seat ≡ some c → (x : ℕ) → times x c.numbers ≤ 1
+pub stands_once : (count : ℕ) (past : List Change) (claims : Claims) (seat : ℕ) (c : Claimant) → IsRun count past claims → get_elem? claims.seats seat ≡ some c
+    → (x : ℕ) → times x c.numbers ≤ 1
 stands_once count past claims seat c run at x =
     let all = (counted count past claims run).once x in
     let part = total_at (λ c. times x c.numbers) claims.seats seat c at in

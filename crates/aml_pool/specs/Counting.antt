@@ -14,7 +14,8 @@ times x (y ∷ ys) = same x y + times x ys
 abbrev pub once_below : ℕ → ℕ → ℕ
 once_below x n = if nat_lt x n then 1 else 0
 
--- Each number below n stands once in the list, and nothing else stands there. Of several lists, joined to one: each number stands in exactly one of them
+-- Each number below n stands once in the list, and nothing else stands there. Of several lists, joined to one: each
+-- number stands in exactly one of them
 abbrev pub IsOnce : List ℕ → ℕ → Type 0
 IsOnce numbers n = (x : ℕ) → times x numbers ≡ once_below x n
 

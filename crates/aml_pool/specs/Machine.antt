@@ -1,10 +1,13 @@
--- The claim machine: seats draw the numbers below a count, one draw at a time. It knows of no word, no weight and no thread.
-use Rattle.std.specs.Prelude.{◌≡◌, ◌≢◌, ℕ, ◌+◌, ◌<◌, ◌≤◌, List, [], ◌∷◌, ◌++◌, Bool, true, false, ◌||◌, Option, Some, None, IsTrue, flat_map, slice_set}
+-- The claim machine: seats draw the numbers below a count, one draw at a time. It knows of no word, no weight and no
+-- thread.
+use Rattle.std.specs.Prelude.{◌≡◌, ◌≢◌, ℕ, ◌+◌, ◌<◌, ◌≤◌, List, [], ◌∷◌, ◌++◌, Bool, true, false, ◌||◌, Option, Some}
+use Rattle.std.specs.Prelude.{None, IsTrue, flat_map, slice_set}
 use mathlib.Core.Option.{some}
 use lib.ListN.{get_elem?}
 use Rattle.aml_pool.specs.Counting.{IsOnce}
 
--- what a seat shows: the numbers that it drew, in the order of its draws, and whether it has ended, which is that a draw answered it None
+-- what a seat shows: the numbers that it drew, in the order of its draws, and whether it has ended, which is that a
+-- draw answered it None
 pub record Claimant : Type 0 where
   pub numbers : List ℕ
   pub ended : Bool
@@ -33,13 +36,16 @@ with_number me n = record { numbers = me.numbers ++ n ∷ []; ended = me.ended }
 abbrev pub at_its_end : Claimant → Claimant
 at_its_end me = record { numbers = me.numbers; ended = true }
 
--- The one event, a draw of the seat at this place: while a number is left, the least goes to the end of the seat's list; else the seat ends
+-- The one event, a draw of the seat at this place: while a number is left, the least goes to the end of the seat's
+-- list; else the seat ends
 abbrev pub Draws : ℕ → ℕ → Claims → Option ℕ → Claims → Type 0
 Draws count seat before answer after =
     (me : Claimant)
     × (get_elem? before.seats seat ≡ some me)
-    × (before.next < count → (answer ≡ Some before.next) × (after ≡ claims (before.next + 1) (slice_set before.seats seat (with_number me before.next))))
-    × (count ≤ before.next → (answer ≡ None) × (after ≡ claims before.next (slice_set before.seats seat (at_its_end me))))
+    × (before.next < count → (answer ≡ Some before.next)
+    × (after ≡ claims (before.next + 1) (slice_set before.seats seat (with_number me before.next))))
+    × (count ≤ before.next → (answer ≡ None) × (after ≡ claims before.next
+    (slice_set before.seats seat (at_its_end me))))
 
 -- no event: one more seat, which has drawn nothing
 abbrev pub Opens : Claims → Claims → Type 0
@@ -82,7 +88,8 @@ events (by_draw seat ∷ past) = events past + 1
 events (by_split ∷ past) = events past
 events (by_join seat other ∷ past) = events past
 
--- what every run leads to: no number past the count is drawn, each number below `next` stands in the list of one seat, once, and nothing else stands in any, and a seat has ended only where all numbers are drawn
+-- what every run leads to: no number past the count is drawn, each number below `next` stands in the list of one seat,
+-- once, and nothing else stands in any, and a seat has ended only where all numbers are drawn
 pub record IsSound (count : ℕ) (now : Claims) : Type 0 where
   pub within : now.next ≤ count
   pub once : IsOnce (flat_map (λ c. c.numbers) now.seats) now.next

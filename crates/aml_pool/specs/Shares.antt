@@ -21,13 +21,15 @@ abbrev pub all_of : List (Vec ℕ Global) → List ℕ
 all_of drawn = flat_map (λ v. v.items) drawn
 
 -- There is one ascending list for each worker. The results are those of the numbers drawn, each with its number
-pub record AreParts {D : Type 0} (gives : ℕ → D → Type 0) (workers : ℕ) (done : List (ℕ × D)) (drawn : List (Vec ℕ Global)) : Type 0 where
+pub record AreParts {D : Type 0} (gives : ℕ → D → Type 0) (workers : ℕ) (done : List (ℕ × D))
+    (drawn : List (Vec ℕ Global)) : Type 0 where
   pub lists : length drawn ≡ workers
   pub ascending : All (λ v. IsStrictlyIncreasing v.items) drawn
   pub numbers : map (λ p. p.0) done ≡ all_of drawn
   pub results : All (λ p. gives p.0 p.1) done
 
--- The seat that comes back is of the same board, has the weight of the one that was handed in, and has ended. Its numbers are those of the workers' lists, and none of them stands twice
+-- The seat that comes back is of the same board, has the weight of the one that was handed in, and has ended. Its
+-- numbers are those of the workers' lists, and none of them stands twice
 pub record IsShare {D : Type 0} (gives : ℕ → D → Type 0) (fresh : Seat) (workers : ℕ) (share : Share D) : Type 0 where
   pub board : AreBoardMates fresh share.seat
   pub weight : weight_of share.seat ≡ weight_of fresh

@@ -5,7 +5,8 @@ use Rattle.aml_code.specs.Rows.{row_of}
 use Rattle.aml_code.specs.Declaring.{last_label, last_byte}
 use Rattle.aml_code.specs.Tree.{Tree, nothing, named, op, Trees, no_trees, tree_more, Parts, Tail, empty, terms, bytes, elements, fields, body}
 use Rattle.aml_text.specs.Texts.{head_text, part_texts}
-use Rattle.aml_text.specs.Lines.{deeper, opening, closing, method_head, BodyLines, first_lines, left, left_rest, left_all, table_lines, table_op_lines, all_table_lines, block_text, block_opening, blocks_text}
+use Rattle.aml_text.specs.Lines.{deeper, opening, closing, method_head, BodyLines, first_lines, left, left_rest, left_all, table_lines, table_op_lines}
+use Rattle.aml_text.specs.Lines.{all_table_lines, block_text, block_opening, blocks_text}
 use Rattle.aml_text.specs.Listing.{blocks_of}
 use Rattle.aml_text.specs.Levels.{levels_in, tail_levels, all_levels, levels_of, AgreeAt}
 use Rattle.text_writer.specs.Words.{word}
@@ -33,7 +34,8 @@ mutual
   same_term code level (named n ts) more fs gs a = (refl, a)
   same_term code level (op o w ps r) more fs gs a = same_tail code level o ps r more fs gs a
 
-  same_tail : (code : List ℕ) (level o : ℕ) (ps : Parts) (r : Tail) (more : List ℕ) (fs gs : List BodyLines) → AgreeAt (tail_levels (deeper level) r ++ more) fs gs
+  same_tail : (code : List ℕ) (level o : ℕ) (ps : Parts) (r : Tail) (more : List ℕ) (fs gs : List BodyLines)
+      → AgreeAt (tail_levels (deeper level) r ++ more) fs gs
       → Same (table_op_lines code level o ps r fs) (table_op_lines code level o ps r gs) more (left_rest r fs) (left_rest r gs)
   same_tail code level o ps empty more fs gs a = (refl, a)
   same_tail code level o ps (terms ts) more fs gs a =
@@ -52,16 +54,19 @@ mutual
       → Same (all_table_lines code level ts fs) (all_table_lines code level ts gs) more (left_all ts fs) (left_all ts gs)
   same_all code level no_trees more fs gs a = (refl, a)
   same_all code level (tree_more t ts) more fs gs a =
-      let first = same_term code level t (all_levels level ts ++ more) fs gs (subst (λ (ls : List ℕ). AgreeAt ls fs gs) (append_assoc (levels_in level t) (all_levels level ts) more) a) in
+      let first = same_term code level t (all_levels level ts ++ more) fs gs
+      (subst (λ (ls : List ℕ). AgreeAt ls fs gs) (append_assoc (levels_in level t) (all_levels level ts) more) a) in
       let rest = same_all code level ts more (left t fs) (left t gs) first.1 in
       (ap (λ (l : List ℕ). l ++ all_table_lines code level ts (left t fs)) first.0 ∙ ap (λ (l : List ℕ). table_lines code level t gs ++ l) rest.0, rest.1)
 
-same_block : (name code : List ℕ) (ts : Trees) (fs gs : List BodyLines) → all_table_lines code 1 ts fs ≡ all_table_lines code 1 ts gs → block_text name code ts fs ≡ block_text name code ts gs
+same_block : (name code : List ℕ) (ts : Trees) (fs gs : List BodyLines) → all_table_lines code 1 ts fs ≡ all_table_lines code 1 ts gs
+    → block_text name code ts fs ≡ block_text name code ts gs
 unfolding block_text
 same_block name code ts fs gs e = ap (λ (l : List ℕ). block_opening name ++ l ++ word "}\n") e
 
 -- the blocks of tables are the same with both
-pub same_blocks : (names codes : List (List ℕ)) (trees : List Trees) (fs gs : List BodyLines) → AgreeAt (levels_of trees) fs gs → blocks_text (blocks_of names codes trees) fs ≡ blocks_text (blocks_of names codes trees) gs
+pub same_blocks : (names codes : List (List ℕ)) (trees : List Trees) (fs gs : List BodyLines) → AgreeAt (levels_of trees) fs gs
+    → blocks_text (blocks_of names codes trees) fs ≡ blocks_text (blocks_of names codes trees) gs
 same_blocks [] codes trees fs gs a = refl
 same_blocks (n ∷ names) [] trees fs gs a = refl
 same_blocks (n ∷ names) (c ∷ codes) [] fs gs a = refl

@@ -16,7 +16,9 @@ use Rattle.aml_code.specs.declared.tree.Tail as tails
 use Rattle.aml_code.specs.Rows.{row_of}
 use Rattle.aml_code.specs.Tree as trees
 use Rattle.aml_code.specs.View.{node_view, nodes_view, parts_view, tail_view, field_view, fields_view, link_view}
-use Rattle.aml_code.proofs.Views.{view-Nothing, view-Named, view-Op, view-tail-Empty, view-tail-Terms, view-tail-Bytes, view-tail-Elements, view-tail-Fields, view-tail-Body, view-field-NamedUnit, view-field-Reserved, view-field-Access, view-field-Connection, view-field-Extended, view-link-Target, view-link-Buffer}
+use Rattle.aml_code.proofs.Views.{view-Nothing, view-Named, view-Op, view-tail-Empty, view-tail-Terms, view-tail-Bytes, view-tail-Elements, view-tail-Fields}
+use Rattle.aml_code.proofs.Views.{view-tail-Body, view-field-NamedUnit, view-field-Reserved, view-field-Access, view-field-Connection, view-field-Extended}
+use Rattle.aml_code.proofs.Views.{view-link-Target, view-link-Buffer}
 use Rattle.text_writer.specs.Words.{word}
 use Rattle.aml_text.specs.Texts.{name_text, head_text, part_texts, tail_text, inline}
 use Rattle.aml_text.specs.Lines.{byte_pair, byte_end, deeper, line, opening, closing, field_text, field_lines, link_text, lines, op_lines, all_lines}
@@ -82,7 +84,8 @@ lines_named level node n args e =
     let is : node_view node ≡ trees.named n (nodes_view args.items) = ap node_view e ∙ view-Named n args in
     ap (lines level) is ∙ ap (λ t. line level (inline t)) (sym is)
 
-pub lines_op : (level : ℕ) (node : Node) (o : ℕ) (w : Option PkgWidth) (ps : Vec Part Global) (t : Tail) → node ≡ Op o w ps t → node_lines level node ≡ op_lines level (head_text (row_of o) (part_texts (parts_view ps.items))) (tail_view t)
+pub lines_op : (level : ℕ) (node : Node) (o : ℕ) (w : Option PkgWidth) (ps : Vec Part Global) (t : Tail) → node ≡ Op o w ps t
+    → node_lines level node ≡ op_lines level (head_text (row_of o) (part_texts (parts_view ps.items))) (tail_view t)
 unfolding node_lines
 lines_op level node o w ps t e = ap (λ n. lines level (node_view n)) e ∙ ap (lines level) (view-Op o w ps t)
 
@@ -90,32 +93,38 @@ pub ruleset node_variants = (lines_nothing, lines_named, lines_op)
 
 -- ---- tails
 
-pub tail_empty : (level : ℕ) (head : List ℕ) (tail : Tail) → tail ≡ tails.Empty → op_lines level head (tail_view tail) ≡ line level (head ++ tail_text (tail_view tail))
+pub tail_empty : (level : ℕ) (head : List ℕ) (tail : Tail) → tail ≡ tails.Empty
+    → op_lines level head (tail_view tail) ≡ line level (head ++ tail_text (tail_view tail))
 tail_empty level head tail e =
     let is : tail_view tail ≡ trees.empty = ap tail_view e ∙ view-tail-Empty in
     ap (op_lines level head) is ∙ ap (λ t. line level (head ++ tail_text t)) (sym is)
 
-pub tail_bytes : (level : ℕ) (head : List ℕ) (tail : Tail) (bs : List ℕ) → tail ≡ tails.Bytes bs → op_lines level head (tail_view tail) ≡ line level (head ++ tail_text (tail_view tail))
+pub tail_bytes : (level : ℕ) (head : List ℕ) (tail : Tail) (bs : List ℕ) → tail ≡ tails.Bytes bs
+    → op_lines level head (tail_view tail) ≡ line level (head ++ tail_text (tail_view tail))
 tail_bytes level head tail bs e =
     let is : tail_view tail ≡ trees.bytes bs = ap tail_view e ∙ view-tail-Bytes bs in
     ap (op_lines level head) is ∙ ap (λ t. line level (head ++ tail_text t)) (sym is)
 
-pub tail_elements : (level : ℕ) (head : List ℕ) (tail : Tail) (ns : Vec Node Global) → tail ≡ tails.Elements ns → op_lines level head (tail_view tail) ≡ line level (head ++ tail_text (tail_view tail))
+pub tail_elements : (level : ℕ) (head : List ℕ) (tail : Tail) (ns : Vec Node Global) → tail ≡ tails.Elements ns
+    → op_lines level head (tail_view tail) ≡ line level (head ++ tail_text (tail_view tail))
 tail_elements level head tail ns e =
     let is : tail_view tail ≡ trees.elements (nodes_view ns.items) = ap tail_view e ∙ view-tail-Elements ns in
     ap (op_lines level head) is ∙ ap (λ t. line level (head ++ tail_text t)) (sym is)
 
-pub tail_body : (level : ℕ) (head : List ℕ) (tail : Tail) (a n : ℕ) → tail ≡ tails.Body a n → op_lines level head (tail_view tail) ≡ line level (head ++ tail_text (tail_view tail))
+pub tail_body : (level : ℕ) (head : List ℕ) (tail : Tail) (a n : ℕ) → tail ≡ tails.Body a n
+    → op_lines level head (tail_view tail) ≡ line level (head ++ tail_text (tail_view tail))
 tail_body level head tail a n e =
     let is : tail_view tail ≡ trees.body a n = ap tail_view e ∙ view-tail-Body a n in
     ap (op_lines level head) is ∙ ap (λ t. line level (head ++ tail_text t)) (sym is)
 
-pub tail_terms : (level : ℕ) (head : List ℕ) (tail : Tail) (ns : Vec Node Global) → tail ≡ tails.Terms ns → op_lines level head (tail_view tail) ≡ opening level head ++ flat_map (node_lines (deeper level)) ns.items ++ closing level
+pub tail_terms : (level : ℕ) (head : List ℕ) (tail : Tail) (ns : Vec Node Global) → tail ≡ tails.Terms ns
+    → op_lines level head (tail_view tail) ≡ opening level head ++ flat_map (node_lines (deeper level)) ns.items ++ closing level
 tail_terms level head tail ns e =
     let is : tail_view tail ≡ trees.terms (nodes_view ns.items) = ap tail_view e ∙ view-tail-Terms ns in
     ap (op_lines level head) is ∙ ap (λ (l : List ℕ). opening level head ++ l ++ closing level) (all_lines-map (deeper level) ns.items)
 
-pub tail_fields : (level : ℕ) (head : List ℕ) (tail : Tail) (us : Vec Field Global) → tail ≡ tails.Fields us → op_lines level head (tail_view tail) ≡ opening level head ++ flat_map (field_line (deeper level)) us.items ++ closing level
+pub tail_fields : (level : ℕ) (head : List ℕ) (tail : Tail) (us : Vec Field Global) → tail ≡ tails.Fields us
+    → op_lines level head (tail_view tail) ≡ opening level head ++ flat_map (field_line (deeper level)) us.items ++ closing level
 tail_fields level head tail us e =
     let is : tail_view tail ≡ trees.fields (fields_view us.items) = ap tail_view e ∙ view-tail-Fields us in
     ap (op_lines level head) is ∙ ap (λ (l : List ℕ). opening level head ++ l ++ closing level) (field_lines-map (deeper level) us.items)

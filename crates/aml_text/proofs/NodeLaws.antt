@@ -12,9 +12,12 @@ use Rattle.aml_code.specs.declared.tree.Tail.{Tail}
 use Rattle.aml_code.specs.declared.tree.Tail as tails
 use Rattle.aml_code.specs.Rows.{row_of}
 use Rattle.aml_code.specs.View.{node_view, nodes_view, part_view, parts_view, tail_view}
-use Rattle.aml_code.proofs.Views.{view-Nothing, view-Named, view-Op, view-part-Child, view-part-Label, view-part-Byte, view-part-Word, view-part-Dword, view-part-Qword, view-part-Text, view-tail-Empty, view-tail-Terms, view-tail-Bytes, view-tail-Elements, view-tail-Fields, view-tail-Body}
+use Rattle.aml_code.proofs.Views.{view-Nothing, view-Named, view-Op, view-part-Child, view-part-Label, view-part-Byte, view-part-Word, view-part-Dword}
+use Rattle.aml_code.proofs.Views.{view-part-Qword, view-part-Text, view-tail-Empty, view-tail-Terms, view-tail-Bytes, view-tail-Elements, view-tail-Fields}
+use Rattle.aml_code.proofs.Views.{view-tail-Body}
 use Rattle.text_writer.specs.Words.{word}
-use Rattle.aml_text.specs.Texts.{name_text, separated_by, joined, arguments_text, braced, is_constant, head_text, inline, inlines, part_text, part_texts, tail_text}
+use Rattle.aml_text.specs.Texts.{name_text, separated_by, joined, arguments_text, braced, is_constant, head_text, inline, inlines, part_text, part_texts}
+use Rattle.aml_text.specs.Texts.{tail_text}
 use Rattle.text_writer.specs.Numbers.{hex2, hex4, hex8, hex16, quoted}
 use Rattle.aml_text.specs.Views.{node_inline, part_inline}
 use Rattle.aml_text.proofs.TextLaws.{joined-map, braced-map}
@@ -36,7 +39,8 @@ unfolding arguments_text
 no_arguments g [] e = refl
 no_arguments g (x ∷ xs) e = cc
 
-some_arguments : {X : Type 0} (g : X → List ℕ) (xs : List X) → (length xs ≡ 0 → ⊥) → arguments_text (map g xs) ≡ word " (" ++ separated_by (word ", ") g xs ++ word ")"
+some_arguments : {X : Type 0} (g : X → List ℕ) (xs : List X) → (length xs ≡ 0 → ⊥)
+    → arguments_text (map g xs) ≡ word " (" ++ separated_by (word ", ") g xs ++ word ")"
 unfolding arguments_text
 some_arguments g [] e = absurd (e refl)
 some_arguments g (x ∷ xs) e = ap (λ (l : List ℕ). word " (" ++ l ++ word ")") (joined-map g (x ∷ xs))
@@ -44,7 +48,8 @@ some_arguments g (x ∷ xs) e = ap (λ (l : List ℕ). word " (" ++ l ++ word ")
 pub node_arguments_none : (nodes : List Node) → length nodes ≡ 0 → arguments_text (inlines (nodes_view nodes)) ≡ []
 node_arguments_none nodes e = ap arguments_text (inlines-map nodes) ∙ no_arguments node_inline nodes e
 
-pub node_arguments_some : (nodes : List Node) → (length nodes ≡ 0 → ⊥) → arguments_text (inlines (nodes_view nodes)) ≡ word " (" ++ separated_by (word ", ") node_inline nodes ++ word ")"
+pub node_arguments_some : (nodes : List Node) → (length nodes ≡ 0 → ⊥) → arguments_text (inlines (nodes_view nodes)) ≡ word " ("
+    ++ separated_by (word ", ") node_inline nodes ++ word ")"
 node_arguments_some nodes e = ap arguments_text (inlines-map nodes) ∙ some_arguments node_inline nodes e
 
 pub ruleset arguments = (node_arguments_none, node_arguments_some)
@@ -52,7 +57,8 @@ pub ruleset arguments = (node_arguments_none, node_arguments_some)
 pub part_arguments_none : (ps : List Part) → length ps ≡ 0 → arguments_text (part_texts (parts_view ps)) ≡ []
 part_arguments_none ps e = ap arguments_text (part_texts-map ps) ∙ no_arguments part_inline ps e
 
-pub part_arguments_some : (ps : List Part) → (length ps ≡ 0 → ⊥) → arguments_text (part_texts (parts_view ps)) ≡ word " (" ++ separated_by (word ", ") part_inline ps ++ word ")"
+pub part_arguments_some : (ps : List Part) → (length ps ≡ 0 → ⊥) → arguments_text (part_texts (parts_view ps)) ≡ word " ("
+    ++ separated_by (word ", ") part_inline ps ++ word ")"
 part_arguments_some ps e = ap arguments_text (part_texts-map ps) ∙ some_arguments part_inline ps e
 
 pub ruleset part_arguments = (part_arguments_none, part_arguments_some)
@@ -68,15 +74,19 @@ pub head_none : (o : Option Row) (ps : List Part) → o ≡ None → head_text o
 unfolding head_text
 head_none o ps e = ap (λ (r : Option Row). head_text r (part_texts (parts_view ps))) e ∙ ap joined (part_texts-map ps) ∙ joined-map part_inline ps
 
-pub head_some : (o : Option Row) (r : Row) (ps : List Part) → o ≡ Some r → head_text o (part_texts (parts_view ps)) ≡ head_text (Some r) (part_texts (parts_view ps))
+pub head_some : (o : Option Row) (r : Row) (ps : List Part) → o ≡ Some r
+    → head_text o (part_texts (parts_view ps)) ≡ head_text (Some r) (part_texts (parts_view ps))
 head_some o r ps e = ap (λ (q : Option Row). head_text q (part_texts (parts_view ps))) e
 
-pub head_constant : (r : Row) (ps : List Part) → is_constant r ≡ true → head_text (Some r) (part_texts (parts_view ps)) ≡ separated_by (word ", ") part_inline ps
+pub head_constant : (r : Row) (ps : List Part) → is_constant r ≡ true → head_text (Some r) (part_texts (parts_view ps))
+    ≡ separated_by (word ", ") part_inline ps
 unfolding head_text
 head_constant r ps e =
-    ap (λ (b : Bool). cond b (joined (part_texts (parts_view ps))) (r.mnemonic ++ arguments_text (part_texts (parts_view ps)))) e ∙ ap joined (part_texts-map ps) ∙ joined-map part_inline ps
+    ap (λ (b : Bool). cond b (joined (part_texts (parts_view ps))) (r.mnemonic ++ arguments_text (part_texts (parts_view ps)))) e
+    ∙ ap joined (part_texts-map ps) ∙ joined-map part_inline ps
 
-pub head_other : (r : Row) (ps : List Part) → is_constant r ≡ false → head_text (Some r) (part_texts (parts_view ps)) ≡ r.mnemonic ++ arguments_text (part_texts (parts_view ps))
+pub head_other : (r : Row) (ps : List Part) → is_constant r ≡ false → head_text (Some r) (part_texts (parts_view ps)) ≡ r.mnemonic
+    ++ arguments_text (part_texts (parts_view ps))
 unfolding head_text
 head_other r ps e = ap (λ (b : Bool). cond b (joined (part_texts (parts_view ps))) (r.mnemonic ++ arguments_text (part_texts (parts_view ps)))) e
 
@@ -88,11 +98,13 @@ pub at_nothing : (node : Node) → node ≡ Nothing → node_inline node ≡ []
 unfolding node_inline
 at_nothing node e = ap (λ n. inline (node_view n)) e ∙ ap inline view-Nothing
 
-pub at_named : (node : Node) (n : Name) (args : Vec Node Global) → node ≡ Named n args → node_inline node ≡ name_text n ++ arguments_text (inlines (nodes_view args.items))
+pub at_named : (node : Node) (n : Name) (args : Vec Node Global) → node ≡ Named n args
+    → node_inline node ≡ name_text n ++ arguments_text (inlines (nodes_view args.items))
 unfolding node_inline
 at_named node n args e = ap (λ m. inline (node_view m)) e ∙ ap inline (view-Named n args)
 
-pub at_op : (node : Node) (o : ℕ) (w : Option PkgWidth) (ps : Vec Part Global) (t : Tail) → node ≡ Op o w ps t → node_inline node ≡ head_text (row_of o) (part_texts (parts_view ps.items)) ++ tail_text (tail_view t)
+pub at_op : (node : Node) (o : ℕ) (w : Option PkgWidth) (ps : Vec Part Global) (t : Tail) → node ≡ Op o w ps t
+    → node_inline node ≡ head_text (row_of o) (part_texts (parts_view ps.items)) ++ tail_text (tail_view t)
 unfolding node_inline
 at_op node o w ps t e = ap (λ m. inline (node_view m)) e ∙ ap inline (view-Op o w ps t)
 

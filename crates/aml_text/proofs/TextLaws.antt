@@ -9,13 +9,15 @@ unfolding separated_by
 separated-nil separator g [] e = refl
 separated-nil separator g (x ∷ xs) e = cc
 
-pub separated-cons : {X : Type 0} (separator : List ℕ) (g : X → List ℕ) (xs : List X) (x : X) (rest : List X) → xs ≡ x ∷ rest → separated_by separator g xs ≡ g x ++ flat_map (after_separator separator g) rest
+pub separated-cons : {X : Type 0} (separator : List ℕ) (g : X → List ℕ) (xs : List X) (x : X) (rest : List X) → xs ≡ x ∷ rest
+    → separated_by separator g xs ≡ g x ++ flat_map (after_separator separator g) rest
 unfolding separated_by
 separated-cons separator g xs x rest e = ap (separated_by separator g) e
 
 pub ruleset separations = (separated-nil, separated-cons)
 
-after_map : {X : Type 0} (separator : List ℕ) (g : X → List ℕ) (xs : List X) → flat_map (after_separator separator (λ t. t)) (map g xs) ≡ flat_map (after_separator separator g) xs
+after_map : {X : Type 0} (separator : List ℕ) (g : X → List ℕ) (xs : List X)
+    → flat_map (after_separator separator (λ t. t)) (map g xs) ≡ flat_map (after_separator separator g) xs
 unfolding after_separator
 after_map separator g [] = refl
 after_map separator g (x ∷ xs) = ap (λ (l : List ℕ). separator ++ g x ++ l) (after_map separator g xs)

@@ -1,6 +1,7 @@
 -- A stepping stone of the proofs: the levels at which the bodies of tables are printed, in the order of the text.
 use Rattle.std.specs.Prelude.{◌≡◌, ℕ, List, [], ◌∷◌, ◌++◌}
-use Rattle.aml_code.specs.Tree.{Tree, nothing, named, op, Trees, no_trees, tree_more, Tail, empty, terms, bytes, elements, fields, body}
+use Rattle.aml_code.specs.Tree.{Tree, nothing, named, op, Trees, no_trees, tree_more, Tail, empty, terms, bytes}
+use Rattle.aml_code.specs.Tree.{elements, fields, body}
 use Rattle.aml_text.specs.Lines.{deeper, BodyLines}
 
 abbrev mutual

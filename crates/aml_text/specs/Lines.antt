@@ -1,8 +1,11 @@
 -- The lines of terms, of field lists, of methods and of definition blocks.
-use Rattle.std.specs.Prelude.{ℕ, zero, suc, min, decimal, cond, ◌+◌, ◌/◌, ◌%◌, ◌==◌, List, [], ◌∷◌, ◌++◌, drop, Option, Some, None}
+use Rattle.std.specs.Prelude.{ℕ, zero, suc, min, decimal, cond, ◌+◌, ◌/◌, ◌%◌, ◌==◌, List, [], ◌∷◌, ◌++◌, drop, Option}
+use Rattle.std.specs.Prelude.{Some, None}
 use Rattle.aml_names.specs.declared.names.Name.{Name}
 use Rattle.aml_code.specs.Rows.{row_of}
-use Rattle.aml_code.specs.Tree.{Tree, nothing, named, op, Trees, no_trees, tree_more, Parts, Tail, empty, terms, bytes, elements, fields, body, Field, unit, reserved, access, connection, extended, Fields, no_fields, field_more, Link, target, buffer}
+use Rattle.aml_code.specs.Tree.{Tree, nothing, named, op, Trees, no_trees, tree_more, Parts, Tail, empty, terms, bytes}
+use Rattle.aml_code.specs.Tree.{elements, fields, body, Field, unit, reserved, access, connection, extended, Fields}
+use Rattle.aml_code.specs.Tree.{no_fields, field_more, Link, target, buffer}
 use Rattle.aml_code.specs.Declaring.{last_label, last_byte}
 use Rattle.aml_code.specs.Encoding.{slice_of}
 use Rattle.text_writer.specs.Words.{word}
@@ -155,15 +158,19 @@ abbrev mutual
 
   pub table_op_lines : List ℕ → ℕ → ℕ → Parts → Tail → List BodyLines → List ℕ
   table_op_lines code level o ps empty bs = op_lines level (head_text (row_of o) (part_texts ps)) empty
-  table_op_lines code level o ps (terms ts) bs = block level (head_text (row_of o) (part_texts ps)) (all_table_lines code (deeper level) ts bs)
+  table_op_lines code level o ps (terms ts) bs = block level (head_text (row_of o) (part_texts ps))
+      (all_table_lines code (deeper level) ts bs)
   table_op_lines code level o ps (bytes xs) bs = op_lines level (head_text (row_of o) (part_texts ps)) (bytes xs)
   table_op_lines code level o ps (elements ts) bs = op_lines level (head_text (row_of o) (part_texts ps)) (elements ts)
   table_op_lines code level o ps (fields us) bs = op_lines level (head_text (row_of o) (part_texts ps)) (fields us)
-  table_op_lines code level o ps (body start len) bs = block level (method_head (last_label None ps) (last_byte None ps) (head_text (row_of o) (part_texts ps))) (first_lines bs (deeper level) (slice_of code start len))
+  table_op_lines code level o ps (body start len) bs =
+      block level (method_head (last_label None ps) (last_byte None ps) (head_text (row_of o) (part_texts ps)))
+      (first_lines bs (deeper level) (slice_of code start len))
 
   pub all_table_lines : List ℕ → ℕ → Trees → List BodyLines → List ℕ
   all_table_lines code level no_trees bs = []
-  all_table_lines code level (tree_more t ts) bs = table_lines code level t bs ++ all_table_lines code level ts (left t bs)
+  all_table_lines code level (tree_more t ts) bs = table_lines code level t bs
+      ++ all_table_lines code level ts (left t bs)
 
 unfoldable pub block_opening : List ℕ → List ℕ
 block_opening name = word "DefinitionBlock (" ++ quoted name ++ word ") {\n"
@@ -178,7 +185,8 @@ pub record OneBlock : Type 0 where
   pub code : List ℕ
   pub terms : Trees
 
--- definition blocks, one after the other: each takes the bodies of its own methods, and the next one those that are left
+-- definition blocks, one after the other: each takes the bodies of its own methods, and the next one those that are
+-- left
 abbrev pub blocks_text : List OneBlock → List BodyLines → List ℕ
 blocks_text [] bs = []
 blocks_text (b ∷ others) bs = block_text b.name b.code b.terms bs ++ blocks_text others (left_all b.terms bs)

@@ -26,14 +26,16 @@ blocks_of (n ∷ names) [] terms = []
 blocks_of (n ∷ names) (c ∷ codes) [] = []
 blocks_of (n ∷ names) (c ∷ codes) (t ∷ terms) = record { name = n; code = c; terms = t } ∷ blocks_of names codes terms
 
--- The text of dumps whose definition blocks are loaded in this order, by the rows of their namespace, the tables' AML and
--- terms, and the lines of the bodies of their methods in the order of the text.
-abbrev pub whole_text : List Dump → List ℕ → List (List Seg × Kind) → List (List ℕ) → List Trees → List BodyLines → List ℕ
+-- The text of dumps whose definition blocks are loaded in this order, by the rows of their namespace, the tables' AML
+-- and terms, and the lines of the bodies of their methods in the order of the text.
+abbrev pub whole_text : List Dump → List ℕ → List (List Seg × Kind) → List (List ℕ) → List Trees → List BodyLines
+    → List ℕ
 whole_text dumps order rows codes terms bodies =
     dumps_text dumps ++ namespace_text rows ++ blocks_text (blocks_of (names_in dumps order) codes terms) bodies
 
 -- the text of a listing with these bodies
-abbrev pub listing_text : List Dump → List ℕ → List (List Seg × Kind) → List (List ℕ) → List Trees → List OneBody → List ℕ
+abbrev pub listing_text : List Dump → List ℕ → List (List Seg × Kind) → List (List ℕ) → List Trees → List OneBody
+    → List ℕ
 listing_text dumps order rows codes terms bodies =
     whole_text dumps order rows codes terms (map_list body_lines bodies)
 
@@ -45,22 +47,26 @@ indexes_in order = order.dsdt ∷ order.ssdts.items
 
 -- the definition blocks of a listing
 abbrev pub blocks_in : Listing → List OneBlock
-blocks_in x = blocks_of (names_in x.dumps.now (indexes_in x.order)) (codes_view x.loaded.tables.items) (trees_view x.loaded.trees.items)
+blocks_in x = blocks_of (names_in x.dumps.now (indexes_in x.order)) (codes_view x.loaded.tables.items)
+    (trees_view x.loaded.trees.items)
 
 -- the text of a listing
 abbrev pub shown_text : Listing → List ℕ
-shown_text x = listing_text x.dumps.now (indexes_in x.order) (map.entries x.loaded.space.kinds) (codes_view x.loaded.tables.items) (trees_view x.loaded.trees.items) (map_list body_view x.bodies.items)
+shown_text x = listing_text x.dumps.now (indexes_in x.order) (map.entries x.loaded.space.kinds)
+    (codes_view x.loaded.tables.items) (trees_view x.loaded.trees.items) (map_list body_view x.bodies.items)
 
 -- ---- tables in memory, without the bodies of their methods
 
 -- their definition blocks
 abbrev pub blocks_at : Tables → List OneBlock
-blocks_at t = blocks_of (names_in t.dumps.now (indexes_in t.order.now)) (codes_view t.loaded.now.tables.items) (trees_view t.loaded.now.trees.items)
+blocks_at t = blocks_of (names_in t.dumps.now (indexes_in t.order.now)) (codes_view t.loaded.now.tables.items)
+    (trees_view t.loaded.now.trees.items)
 
 -- the text of a set of them with these bodies
 abbrev pub set_text : Tables → List BodyLines → List ℕ
 set_text t bodies =
-    whole_text t.dumps.now (indexes_in t.order.now) (map.entries t.loaded.now.space.kinds) (codes_view t.loaded.now.tables.items) (trees_view t.loaded.now.trees.items) bodies
+    whole_text t.dumps.now (indexes_in t.order.now) (map.entries t.loaded.now.space.kinds)
+    (codes_view t.loaded.now.tables.items) (trees_view t.loaded.now.trees.items) bodies
 
 -- they are those of a listing
 pub record IsOf (t : Tables) (x : Listing) : Type 0 where

@@ -2,7 +2,9 @@
 use Rattle.std.specs.Prelude.{ℕ, decimal, List, ◌++◌, flat_map, length}
 use Rattle.aml_names.specs.declared.segments.Seg.{Seg}
 use Rattle.aml_space.specs.declared.kinds.Kind.{Kind}
-use Rattle.aml_space.specs.declared.kinds.Kind.TheVariants.{Scope, Name, Method, Alias, Device, Processor, PowerResource, ThermalZone, Mutex, Event, Region, DataRegion, Field, BufferField}
+use Rattle.aml_space.specs.declared.kinds.Kind.TheVariants.{Scope, Name, Method, Alias, Device, Processor}
+use Rattle.aml_space.specs.declared.kinds.Kind.TheVariants.{PowerResource, ThermalZone, Mutex, Event, Region}
+use Rattle.aml_space.specs.declared.kinds.Kind.TheVariants.{DataRegion, Field, BufferField}
 use Rattle.text_writer.specs.Words.{word}
 use Rattle.aml_text.specs.Texts.{separated_by, segment_text}
 use Rattle.aml_text.specs.Lines.{line}

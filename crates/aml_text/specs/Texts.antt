@@ -1,5 +1,6 @@
 -- The text of names and of terms on one line.
-use Rattle.std.specs.Prelude.{ℕ, Bool, true, false, cond, List, [], ◌∷◌, ◌++◌, map, flat_map, replicate, ◌&&◌, not, Option, Some, None}
+use Rattle.std.specs.Prelude.{ℕ, Bool, true, false, cond, List, [], ◌∷◌, ◌++◌, map, flat_map, replicate, ◌&&◌, not}
+use Rattle.std.specs.Prelude.{Option, Some, None}
 use Rattle.aml_names.specs.declared.segments.Seg.{Seg}
 use Rattle.aml_names.specs.declared.names.Name.{Name}
 use Rattle.aml_code.specs.declared.rows.Group.{Group}
@@ -7,7 +8,9 @@ use Rattle.aml_code.specs.declared.rows.Group.TheVariants as groups
 use Rattle.aml_code.specs.Opcodes.{Row}
 use Rattle.aml_code.specs.declared.rows.PartKind.{PartKind}
 use Rattle.aml_code.specs.Rows.{row_of, has_length}
-use Rattle.aml_code.specs.Tree.{Tree, nothing, named, op, Trees, no_trees, tree_more, Part, child, label, byte, word as word_part, dword, qword, text as text_part, Parts, no_parts, part_more, Tail, empty, terms, bytes, elements, fields, body}
+use Rattle.aml_code.specs.Tree.{Tree, nothing, named, op, Trees, no_trees, tree_more, Part, child, label, byte}
+use Rattle.aml_code.specs.Tree.{word as word_part, dword, qword, text as text_part, Parts, no_parts, part_more, Tail}
+use Rattle.aml_code.specs.Tree.{empty, terms, bytes, elements, fields, body}
 use Rattle.text_writer.specs.Words.{word}
 use Rattle.text_writer.specs.Numbers.{hex2, hex4, hex8, hex16, quoted}
 

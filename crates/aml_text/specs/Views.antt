@@ -17,7 +17,8 @@ use Rattle.aml_text.specs.declared.bodies.BodyText.TheVariants as texts
 use Rattle.aml_text.specs.declared.bodies.Bodies.{Bodies}
 use Rattle.aml_text.specs.declared.bodies.Bodies.TheVariants as all_bodies
 use Rattle.aml_text.specs.Texts.{inline, head_text, part_text, part_texts}
-use Rattle.aml_text.specs.Lines.{line, lines, all_lines, method_head, field_text, link_text, raw_text, OneBody, read, raw, OneBlock, BodyLines, body_lines}
+use Rattle.aml_text.specs.Lines.{line, lines, all_lines, method_head, field_text, link_text, raw_text, OneBody, read}
+use Rattle.aml_text.specs.Lines.{raw, OneBlock, BodyLines, body_lines}
 
 unfoldable pub node_inline : Node → List ℕ
 node_inline node = inline (node_view node)
@@ -42,7 +43,8 @@ abbrev pub head_of : ℕ → List Part → List ℕ
 head_of opcode ps = head_text (row_of opcode) (part_texts (parts_view ps))
 
 abbrev pub method_head_of : ℕ → List Part → List ℕ
-method_head_of opcode ps = method_head (last_label None (parts_view ps)) (last_byte None (parts_view ps)) (head_of opcode ps)
+method_head_of opcode ps = method_head (last_label None (parts_view ps)) (last_byte None (parts_view ps))
+    (head_of opcode ps)
 
 -- what a body stands for: the fault of a raw one isn't printed
 abbrev pub body_view : Body → OneBody

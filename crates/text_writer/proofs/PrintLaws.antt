@@ -1,6 +1,8 @@
 -- Printing one text and then another prints both.
 use Prim.Native.String.{String}
-use Rattle.std.proofs.Common.{codes, flat_map, get_or, subst, ◌≡◌, ℕ, ◌+◌, ◌-◌, ◌^◌, ◌<◌, ◌≤◌, min, length-take, List, [], ◌∷◌, ◌++◌, length, take, drop, Bool, true, false, nat_lt, Result, Ok, Err, OnOk, IfErr, Option, append-nil, refl, sym, ap, ◌∙◌, append_assoc, length-append, length-drop, take-append-drop, arith}
+use Rattle.std.proofs.Common.{codes, flat_map, get_or, subst, ◌≡◌, ℕ, ◌+◌, ◌-◌, ◌^◌, ◌<◌, ◌≤◌, min, length-take, List, [], ◌∷◌, ◌++◌, length, take, drop, Bool}
+use Rattle.std.proofs.Common.{true, false, nat_lt, Result, Ok, Err, OnOk, IfErr, Option, append-nil, refl, sym, ap, ◌∙◌, append_assoc, length-append}
+use Rattle.std.proofs.Common.{length-drop, take-append-drop, arith}
 use Rattle.std.specs.Io.KnownBytes.{Appends}
 use Rattle.std.proofs.KnownBytes.{Appends-nil, Appends-trans}
 use Rattle.std.proofs.Math.Seq.{take-add}
@@ -75,9 +77,11 @@ pub prints_word : {W : Type 0} (f : W → Option (List ℕ)) (s t : Out W) (w : 
 unfolding word
 prints_word f s t w p = p
 
-flat_map_turn : {X : Type 0} (g : X → List ℕ) (xs : List X) (i : ℕ) (x : X) → i < length xs → x ≡ get_or xs i x → flat_map g (take i xs) ++ g x ≡ flat_map g (take (i + 1) xs)
+flat_map_turn : {X : Type 0} (g : X → List ℕ) (xs : List X) (i : ℕ) (x : X) → i < length xs → x ≡ get_or xs i x
+    → flat_map g (take i xs) ++ g x ≡ flat_map g (take (i + 1) xs)
 flat_map_turn g xs i x h e =
-    sym (ap (flat_map g) (take_more xs i x h) ∙ flat_map-append g (take i xs) (get_or xs i x ∷ []) ∙ ap (λ l. flat_map g (take i xs) ++ l) (append-nil (g (get_or xs i x)) ∙ ap g (sym e)))
+    sym (ap (flat_map g) (take_more xs i x h) ∙ flat_map-append g (take i xs) (get_or xs i x ∷ [])
+    ∙ ap (λ l. flat_map g (take i xs) ++ l) (append-nil (g (get_or xs i x)) ∙ ap g (sym e)))
 
 -- one more item of a list
 pub prints_turn : {W X : Type 0} (f : W → Option (List ℕ)) (s t u : Out W) (g : X → List ℕ) (xs : List X) (i : ℕ) (x : X)
@@ -93,7 +97,8 @@ pub word_is : (w : String) → word w ≡ codes w
 unfolding word
 word_is w = refl
 
-pub turned : {X : Type 0} (g : X → List ℕ) (xs : List X) (i j : ℕ) (d : X) → j ≡ i + 1 → i < length xs → flat_map g (take j xs) ≡ flat_map g (take i xs) ++ g (get_or xs i d)
+pub turned : {X : Type 0} (g : X → List ℕ) (xs : List X) (i j : ℕ) (d : X) → j ≡ i + 1 → i < length xs
+    → flat_map g (take j xs) ≡ flat_map g (take i xs) ++ g (get_or xs i d)
 turned g xs i j d e h = ap (λ k. flat_map g (take k xs)) e ∙ sym (flat_map_turn g xs i (get_or xs i d) h (get_or_default xs i d (get_or xs i d) h))
 
 pub ruleset straight = (prints_then, word_is, prints_none, take_all, turned)
@@ -117,7 +122,12 @@ by_added true b f s t xs d e n i w p = cc
 by_added false true f s t xs d e n i w p = cc
 by_added false false f s t xs d e n i w p = record {
   bytes = [];
-  sent = record { same = n; grew = subst (λ (c : Option (List ℕ)). Appends (f s.inner.now) c []) (sym i) (Appends-nil (f s.inner.now)); counted = omega (arith, w) };
+  sent = record {
+    same = n;
+    grew = subst (λ (c : Option (List ℕ)). Appends (f s.inner.now) c []) (sym i) (Appends-nil (f s.inner.now));
+    counted =
+        omega (arith, w);
+  };
   whole = sym p;
 }
 
@@ -189,7 +199,8 @@ pub writes_listing : {W : Type 0} (f : W → Option (List ℕ)) (s t u : Out W) 
     → Writes (f s.inner.now) (f u.inner.now) text r
 unfolding Prints
 writes_listing f s t u text r d z e p q o h =
-    finished s.failed u.failed f s u text r d z e (subst (PrintsBy s.failed u.failed f s u) (append-nil text) (by_then s.failed t.failed u.failed f s t u text [] p q)) o h
+    finished s.failed u.failed f s u text r d z e (subst (PrintsBy s.failed u.failed f s u) (append-nil text)
+    (by_then s.failed t.failed u.failed f s t u text [] p q)) o h
 
 by_same : (a b : Bool) {W : Type 0} (f : W → Option (List ℕ)) (s t : Out W) (text : List ℕ) → PrintsBy a b f s t text → t.inner.ghost_name ≡ s.inner.ghost_name
 by_same false false f s t text p = p.sent.same

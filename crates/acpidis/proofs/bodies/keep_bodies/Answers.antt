@@ -10,5 +10,7 @@ harvest-requires-sync-W g c κs within = param_sync 1 _ (arg_sync _ no _ (keepin
 
 pub returns-in-Ok-clause-kept : goal.returns-in-Ok-clause-kept
 returns-in-Ok-clause-kept g c =
-    let len : length c.in-Ok.found.items.items ≡ length c.args.loaded.now.methods.items = omega (arith, c.in-Ok.ensures.results.items_len, c.len.ensures, c.requires.few) in
-    kept_of (g.K.Keep.keeps c.args.keep.now) c.args.unknown_zero c.args.loaded.now c.new.result c.in-Ok.found.items.items c.new.ensures len c.in-Ok.ensures.results.results
+    let len : length c.in-Ok.found.items.items ≡ length c.args.loaded.now.methods.items =
+    omega (arith, c.in-Ok.ensures.results.items_len, c.len.ensures, c.requires.few) in
+    kept_of (g.K.Keep.keeps c.args.keep.now) c.args.unknown_zero c.args.loaded.now c.new.result c.in-Ok.found.items.items c.new.ensures len
+    c.in-Ok.ensures.results.results

@@ -17,7 +17,8 @@ returns-in_default g c =
     let blocks = blocks_at c.args.tables in
     let none = sym c.block_at.ensures ∙ ap (option_map block_view) c.in_default.is in
     subst (Prints g.W.Write.contents c.args.out.now c.loop-table.out)
-    (lines_end blocks c.args.checks.now c.loop-table.table c.loop-table.invariant.0 (check_lines blocks c.args.checks.now) none c.loop-table.invariant.2) c.loop-table.invariant.1
+    (lines_end blocks c.args.checks.now c.loop-table.table c.loop-table.invariant.0 (check_lines blocks c.args.checks.now) none c.loop-table.invariant.2)
+    c.loop-table.invariant.1
 
 pub loop-table-preserved : goal.loop-table-preserved
 loop-table-preserved g c =
@@ -28,11 +29,14 @@ loop-table-preserved g c =
     let line = check_line b.name checked in (
       done ++ line,
       prints_then g.W.Write.contents c.args.out.now c.loop-table.out c.print_check.new.out done line c.loop-table.invariant.1 c.print_check.ensures,
-      lines_turn blocks c.args.checks.now c.loop-table.table b checked done (check_lines blocks c.args.checks.now) (sym c.block_at.ensures ∙ ap (option_map block_view) c.in-Some.is) (slice_get-get_or c.args.checks.now c.loop-table.table (a_check 0 0 0 false) (omega (arith, c.loop-table-test.true))) c.loop-table.invariant.2,
+      lines_turn blocks c.args.checks.now c.loop-table.table b checked done (check_lines blocks c.args.checks.now)
+          (sym c.block_at.ensures ∙ ap (option_map block_view) c.in-Some.is)
+          (slice_get-get_or c.args.checks.now c.loop-table.table (a_check 0 0 0 false) (omega (arith, c.loop-table-test.true))) c.loop-table.invariant.2,
     )
 
 pub returns : goal.returns
 returns g c =
     let blocks = blocks_at c.args.tables in
     subst (Prints g.W.Write.contents c.args.out.now c.loop-table.out)
-    (lines_past blocks c.args.checks.now c.loop-table.table c.loop-table.invariant.0 (check_lines blocks c.args.checks.now) (omega (arith, c.loop-table-test.false)) c.loop-table.invariant.2) c.loop-table.invariant.1
+    (lines_past blocks c.args.checks.now c.loop-table.table c.loop-table.invariant.0 (check_lines blocks c.args.checks.now)
+    (omega (arith, c.loop-table-test.false)) c.loop-table.invariant.2) c.loop-table.invariant.1

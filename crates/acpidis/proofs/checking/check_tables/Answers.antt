@@ -13,5 +13,6 @@ returns c = λ bs tried.
     let t = c.args.tables in
     let ms = t.loaded.now.methods.items in
     let counted = c.count_methods.ensures (codes_view t.loaded.now.tables.items) bs (rw c.as_slice.ensures.value tried) in
-    all_checked (codes_view t.loaded.now.tables.items) ms bs (blocks_at t) c.in_ok-all.all.len c.in_ok-all.all.items c.as_mut_slice.result.now c.count_methods.new.all
+    all_checked (codes_view t.loaded.now.tables.items) ms bs (blocks_at t)
+    c.in_ok-all.all.len c.in_ok-all.all.items c.as_mut_slice.result.now c.count_methods.new.all
     c.in_ok-all.all.ok.0 c.as_mut_slice.ensures.value c.in_ok-all.ensures (rw (← c.as_slice.ensures.value) counted)

@@ -14,10 +14,14 @@ returns-in-Err-clause-true_table c = c.in-Err.ensures.of_load c.args.dumps.now c
 
 pub returns-in-Err-clause-true_load : goal.returns-in-Err-clause-true_load
 returns-in-Err-clause-true_load c =
-    tells_blocks c.args.dumps.now c.args.options.now c.as_slice-3.result.now c.in_ok-order.order.dsdt c.in_ok-order.order.ssdts.items c.as_slice.result.now c.as_slice-4.result.now (codes_view c.as_slice-2.result.now) c.in-Err.refusal c.in_ok-order.ensures.order c.in_ok-order.ensures.only
-    (c.as_slice.ensures.value ∙ c.in_ok-indexes.ensures) (c.as_slice-4.ensures.value ∙ c.in_ok-indexes.ensures) (ap codes_view c.as_slice-2.ensures.value ∙ c.in_ok-codes.ensures.codes) c.as_slice-3.ensures.value c.in-Err.ensures.tells
+    tells_blocks c.args.dumps.now c.args.options.now c.as_slice-3.result.now c.in_ok-order.order.dsdt c.in_ok-order.order.ssdts.items c.as_slice.result.now
+    c.as_slice-4.result.now (codes_view c.as_slice-2.result.now) c.in-Err.refusal c.in_ok-order.ensures.order c.in_ok-order.ensures.only
+    (c.as_slice.ensures.value ∙ c.in_ok-indexes.ensures) (c.as_slice-4.ensures.value ∙ c.in_ok-indexes.ensures)
+    (ap codes_view c.as_slice-2.ensures.value ∙ c.in_ok-codes.ensures.codes) c.as_slice-3.ensures.value c.in-Err.ensures.tells
 
 pub returns-clause-sound : goal.returns-clause-sound
 returns-clause-sound c =
-    loads_so c.args.dumps.now c.args.options.now c.as_slice-3.result.now c.in_ok-order.order c.in-Ok.loaded c.as_slice.result.now (codes_view c.as_slice-2.result.now) c.in_ok-order.ensures.order
-    (c.as_slice.ensures.value ∙ c.in_ok-indexes.ensures) (ap codes_view c.as_slice-2.ensures.value ∙ c.in_ok-codes.ensures.codes) c.as_slice-3.ensures.value c.in-Ok.ensures.sound
+    loads_so c.args.dumps.now c.args.options.now c.as_slice-3.result.now c.in_ok-order.order c.in-Ok.loaded c.as_slice.result.now
+    (codes_view c.as_slice-2.result.now) c.in_ok-order.ensures.order
+    (c.as_slice.ensures.value ∙ c.in_ok-indexes.ensures) (ap codes_view c.as_slice-2.ensures.value ∙ c.in_ok-codes.ensures.codes)
+    c.as_slice-3.ensures.value c.in-Ok.ensures.sound

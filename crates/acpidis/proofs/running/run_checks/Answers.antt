@@ -9,7 +9,8 @@ returns-in_err-write_tables g c =
     let gave = err_from_is_err_and c.from_residual-in_err-write_tables.result c.from_residual-in_err-write_tables.ensures.1 in
     let said : SaidOf c.args.set c.in_ok-found.found.items.items c.in_ok-checks.checks.items = rw (← c.as_slice-tried.ensures.value) c.in_ok-checks.ensures in
     rw (gave.1, gave.2)
-    (trials_cut c.args.options.now c.args.set c.in_ok-found.found c.in_ok-checks.checks.items (g.O.Write.contents c.args.out.now) (g.O.Write.contents c.write_tables.new.out) c.in_err-write_tables.field-0.0.wrote c.requires.set c.in_ok-found.ensures.kept said
+    (trials_cut c.args.options.now c.args.set c.in_ok-found.found c.in_ok-checks.checks.items (g.O.Write.contents c.args.out.now)
+    (g.O.Write.contents c.write_tables.new.out) c.in_err-write_tables.field-0.0.wrote c.requires.set c.in_ok-found.ensures.kept said
     (rw (← c.as_slice.ensures.value) c.in_err-write_tables.ensures))
 
 pub returns-then-not-are_same : goal.returns-then-not-are_same
@@ -21,5 +22,6 @@ returns-then-not-are_same g c =
 pub returns : goal.returns
 returns g c =
     let said : SaidOf c.args.set c.in_ok-found.found.items.items c.in_ok-checks.checks.items = rw (← c.as_slice-tried.ensures.value) c.in_ok-checks.ensures in
-    trials_done c.args.options.now c.args.set c.in_ok-found.found c.in_ok-checks.checks.items (g.O.Write.contents c.args.out.now) (g.O.Write.contents c.write_tables.new.out) c.status_of_bodies.result c.requires.set c.in_ok-found.ensures.kept said
+    trials_done c.args.options.now c.args.set c.in_ok-found.found c.in_ok-checks.checks.items (g.O.Write.contents c.args.out.now)
+    (g.O.Write.contents c.write_tables.new.out) c.status_of_bodies.result c.requires.set c.in_ok-found.ensures.kept said
     (rw (← c.as_slice.ensures.value) c.in_ok-write_tables.ensures) (rw (← c.as_slice-tried.ensures.value) c.status_of_bodies.ensures)

@@ -6,4 +6,5 @@ code_at-requires c = record { table = (table_at c.args.dumps.now c.args.order.no
 
 pub loop-index-preserved : goal.loop-index-preserved
 loop-index-preserved c =
-    codes_turn c.args.dumps.now c.args.order.now c.loop-index.index-index c.loop-index.codes.items c.push.new.self.items c.code_at.result c.loop-index-test.true c.requires.tables c.in_ok-push.ensures.items c.code_at.ensures c.loop-index.invariant
+    codes_turn c.args.dumps.now c.args.order.now c.loop-index.index-index c.loop-index.codes.items c.push.new.self.items c.code_at.result c.loop-index-test.true
+    c.requires.tables c.in_ok-push.ensures.items c.code_at.ensures c.loop-index.invariant

@@ -13,7 +13,8 @@ pub filed-requires-clause-places : goal.filed-requires-clause-places
 filed-requires-clause-places g c =
     let share = c.in_ok-seat.ensures.share in
     let whole : c.close-drawn.result.numbers ≡ c.args.count = c.close-drawn.ensures.ended share.ended ∙ c.in_ok-board.ensures.board.0 in
-    λ x. ap (times x) (share.parts.numbers ∙ sym share.numbers) ∙ (c.close-drawn.ensures.each x ∙ (ap (once_below x) whole ∙ (sym (free-new _ c.args.count x) ∙ ap (free x) (sym c.in_ok-shelf.ensures))))
+    λ x. ap (times x) (share.parts.numbers ∙ sym share.numbers) ∙ (c.close-drawn.ensures.each x
+    ∙ (ap (once_below x) whole ∙ (sym (free-new _ c.args.count x) ∙ ap (free x) (sym c.in_ok-shelf.ensures))))
 
 pub filed-requires-clause-gives : goal.filed-requires-clause-gives
 filed-requires-clause-gives g c =
@@ -26,8 +27,10 @@ returns-clause-results g c =
     let whole : c.close-drawn.result.numbers ≡ c.args.count = c.close-drawn.ensures.ended share.ended ∙ c.in_ok-board.ensures.board.0 in
     let items = c.finish-items.result.items in
     let places : map (λ d. Some d) items ≡ c.filed.result.slots.items = c.finish-items.ensures in record {
-      items_len = sym (length-map items (λ d. Some d)) ∙ (ap length places ∙ (c.filed.ensures.len ∙ (ap length c.in_ok-shelf.ensures ∙ length-replicate c.args.count None)));
-      results = λ n d e. c.filed.ensures.gives n d (ap (λ l. slice_get l n) (sym places) ∙ (slice_get-map (λ x. Some x) items n ∙ ap (option_map (λ x. Some x)) e));
+      items_len = sym (length-map items (λ d. Some d)) ∙ (ap length places
+          ∙ (c.filed.ensures.len ∙ (ap length c.in_ok-shelf.ensures ∙ length-replicate c.args.count None)));
+      results = λ n d e. c.filed.ensures.gives n d (ap (λ l. slice_get l n) (sym places)
+          ∙ (slice_get-map (λ x. Some x) items n ∙ ap (option_map (λ x. Some x)) e));
       lists = share.parts.lists;
       ascending = share.parts.ascending;
       once = λ x. ap (times x) (sym share.numbers) ∙ (c.close-drawn.ensures.each x ∙ ap (once_below x) whole);

@@ -17,11 +17,13 @@ print_table_terms-loop-node-preserved g t c =
     let code = c.args.code.now in
     let level = c.args.level in
     let bs = bodies_lines c.loop-node.rest in
-    let cut : drop i ns ≡ k ∷ drop (i + 1) ns = rw add-one (drop-cons ns i k c.loop-node-test.true) ∙ ap (λ (n : Node). n ∷ drop (i + 1) ns) (sym c.node-item.is) in
+    let cut : drop i ns ≡ k ∷ drop (i + 1) ns = rw add-one (drop-cons ns i k c.loop-node-test.true)
+    ∙ ap (λ (n : Node). n ∷ drop (i + 1) ns) (sym c.node-item.is) in
     let done = c.loop-node.invariant.0 in
     let so_far = ap (λ (xs : List Node). done ++ all_table_lines code level (nodes_view xs) bs) (sym cut) ∙ c.loop-node.invariant.2 in (
       done ++ table_lines code level (node_view k) bs,
       prints_then f _ _ _ _ _ c.loop-node.invariant.1 c.print_table_term-rest.ensures.prints,
       table_turn code level k (drop (i + 1) ns) bs _ done _ c.print_table_term-rest.ensures.others so_far,
-      ap (λ (r : List BodyLines). left_all (nodes_view (drop (i + 1) ns)) r) c.print_table_term-rest.ensures.others ∙ ap (λ (xs : List Node). left_all (nodes_view xs) bs) (sym cut) ∙ c.loop-node.invariant.3,
+      ap (λ (r : List BodyLines). left_all (nodes_view (drop (i + 1) ns)) r) c.print_table_term-rest.ensures.others
+          ∙ ap (λ (xs : List Node). left_all (nodes_view xs) bs) (sym cut) ∙ c.loop-node.invariant.3,
     )

@@ -6,4 +6,5 @@ pub returns : goal.returns
 unfolding method_text
 returns g c =
     let f = g.W.Write.contents in
-    prints_then f _ _ _ _ _ (prints_then f _ _ _ _ _ (prints_then f _ _ _ _ _ (prints_word f _ _ "Method (" c.put.ensures) c.print_name.ensures) c.print_flags.ensures) (prints_word f _ _ ")" c.put-2.ensures)
+    prints_then f _ _ _ _ _ (prints_then f _ _ _ _ _ (prints_then f _ _ _ _ _ (prints_word f _ _ "Method (" c.put.ensures) c.print_name.ensures)
+    c.print_flags.ensures) (prints_word f _ _ ")" c.put-2.ensures)

@@ -35,7 +35,8 @@ rows-preserved g c =
       (
         c.rows.invariant.1.0 ∙ ap (λ es. done ++ es) split ∙ sym (append_assoc done (row ∷ []) rest),
         subst (Prints g.W.Write.contents c.print_count.new.out c.print_row.new.out) (one_line done row)
-            (prints_then g.W.Write.contents c.print_count.new.out c.rows.out c.print_row.new.out (flat_map row_line done) (row_line row) c.rows.invariant.1.1 c.print_row.ensures),
+            (prints_then g.W.Write.contents c.print_count.new.out c.rows.out c.print_row.new.out (flat_map row_line done) (row_line row)
+            c.rows.invariant.1.1 c.print_row.ensures),
       ),
     )
 

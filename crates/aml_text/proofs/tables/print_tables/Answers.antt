@@ -20,7 +20,8 @@ returns-in_default g c =
     let bodies = bodies_lines c.args.bodies in
     let none = sym c.block_at.ensures ∙ ap (option_map block_view) c.in_default.is in
     subst (Prints g.W.Write.contents c.args.out.now c.loop-table.out)
-    (blocks_end blocks c.loop-table.table (bodies_lines c.loop-table.rest) c.loop-table.invariant.0 (blocks_text blocks bodies) none c.loop-table.invariant.2) c.loop-table.invariant.1
+    (blocks_end blocks c.loop-table.table (bodies_lines c.loop-table.rest) c.loop-table.invariant.0 (blocks_text blocks bodies) none c.loop-table.invariant.2)
+    c.loop-table.invariant.1
 
 pub loop-table-preserved : goal.loop-table-preserved
 loop-table-preserved g c =
@@ -33,8 +34,10 @@ loop-table-preserved g c =
     let here = next_is blocks c.loop-table.table b (sym c.block_at.ensures ∙ ap (option_map block_view) c.in-Some.is) in
     let so_far = ap (λ (left : List OneBlock). done ++ blocks_text left bs) (sym here) ∙ c.loop-table.invariant.2 in (
       done ++ text,
-      prints_then g.W.Write.contents c.args.out.now c.loop-table.out c.print_block-rest.new.out done text c.loop-table.invariant.1 c.print_block-rest.ensures.prints,
-      blocks_turn b others bs (bodies_lines c.print_block-rest.result) done (blocks_text blocks (bodies_lines c.args.bodies)) c.print_block-rest.ensures.others so_far,
+      prints_then g.W.Write.contents c.args.out.now c.loop-table.out c.print_block-rest.new.out done text c.loop-table.invariant.1
+          c.print_block-rest.ensures.prints,
+      blocks_turn b others bs (bodies_lines c.print_block-rest.result) done (blocks_text blocks (bodies_lines c.args.bodies))
+          c.print_block-rest.ensures.others so_far,
     )
 
 pub returns : goal.returns
@@ -42,7 +45,10 @@ returns g c =
     let x = c.args.tables in
     let blocks = blocks_at x in
     let bodies = bodies_lines c.args.bodies in
-    let none = uncoded_block (names_in x.dumps.now (indexes_in x.order.now)) (codes_view x.loaded.now.tables.items) (trees_view x.loaded.now.trees.items) c.loop-table.table
-    (seen_past (λ b. b.now) x.loaded.now.tables.items x.loaded.now.tables.items c.loop-table.table refl (omega (arith, c.loop-table-test.false, c.len-table-end.ensures, x.loaded.now.tables.ok.0))) in
+    let none = uncoded_block (names_in x.dumps.now (indexes_in x.order.now)) (codes_view x.loaded.now.tables.items) (trees_view x.loaded.now.trees.items)
+    c.loop-table.table
+    (seen_past (λ b. b.now) x.loaded.now.tables.items x.loaded.now.tables.items c.loop-table.table refl
+    (omega (arith, c.loop-table-test.false, c.len-table-end.ensures, x.loaded.now.tables.ok.0))) in
     subst (Prints g.W.Write.contents c.args.out.now c.loop-table.out)
-    (blocks_end blocks c.loop-table.table (bodies_lines c.loop-table.rest) c.loop-table.invariant.0 (blocks_text blocks bodies) none c.loop-table.invariant.2) c.loop-table.invariant.1
+    (blocks_end blocks c.loop-table.table (bodies_lines c.loop-table.rest) c.loop-table.invariant.0 (blocks_text blocks bodies) none c.loop-table.invariant.2)
+    c.loop-table.invariant.1

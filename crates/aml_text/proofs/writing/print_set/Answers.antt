@@ -15,4 +15,5 @@ returns g c =
     let rows = namespace_text (map.entries t.loaded.now.space.kinds) in
     let blocks = blocks_text (blocks_at t) (bodies_lines c.args.bodies) in
     prints_then g.W.Write.contents c.args.out.now c.print_rows.new.out c.print_tables.new.out (dumps ++ rows) blocks
-    (prints_then g.W.Write.contents c.args.out.now c.print_dumps.new.out c.print_rows.new.out dumps rows c.print_dumps.ensures c.print_rows.ensures) c.print_tables.ensures
+    (prints_then g.W.Write.contents c.args.out.now c.print_dumps.new.out c.print_rows.new.out dumps rows c.print_dumps.ensures c.print_rows.ensures)
+    c.print_tables.ensures

@@ -8,6 +8,7 @@ returns g c =
     let text = node_lines 0 c.args.node.now in
     let same = prints_same _ _ _ _ c.finish.ensures.prints ∙ prints_same _ _ _ _ c.print_lines.ensures in
     let done = writes_listing _ c.new-sink.result c.print_lines.new.out c.finish.new.self text c.finish.result
-    c.new-sink.ensures.well c.new-sink.ensures.none c.new-sink.ensures.empty c.print_lines.ensures c.finish.ensures.prints c.finish.ensures.ok c.finish.ensures.err in
+    c.new-sink.ensures.well c.new-sink.ensures.none c.new-sink.ensures.empty c.print_lines.ensures c.finish.ensures.prints c.finish.ensures.ok
+    c.finish.ensures.err in
     let ends = c.out-1.given.1 (sym c.new-sink.ensures.same ∙ sym same) in
     rw ends (rw (← c.new-sink.ensures.now) done)

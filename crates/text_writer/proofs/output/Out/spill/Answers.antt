@@ -7,10 +7,12 @@ returns-then-self g c = prints_fault g.W.Write.contents _ _ [] c.args.bytes.now 
 
 pub returns-then-bytes-room : goal.returns-then-bytes-room
 returns-then-bytes-room g c =
-    prints_then g.W.Write.contents _ c.write_pending.new.self _ [] c.args.bytes.now c.write_pending.ensures.prints (prints_added g.W.Write.contents _ _ _ c.if-self.false c.if-self.false refl refl refl c.add.ensures)
+    prints_then g.W.Write.contents _ c.write_pending.new.self _ [] c.args.bytes.now c.write_pending.ensures.prints
+    (prints_added g.W.Write.contents _ _ _ c.if-self.false c.if-self.false refl refl refl c.add.ensures)
 
 pub returns : goal.returns
 returns g c =
     let none = c.write_pending.ensures.empty c.if-self.false in
     prints_then g.W.Write.contents _ c.write_pending.new.self _ [] c.args.bytes.now c.write_pending.ensures.prints
-    (prints_sent g.W.Write.contents _ _ c.args.bytes.now c.args.bytes.now c.send-taken.result c.if-self.false (ap (λ l. l ++ c.args.bytes.now) none) refl c.send-taken.ensures.sent c.send-taken.ensures.bound c.saturating_add-self.ensures refl none)
+    (prints_sent g.W.Write.contents _ _ c.args.bytes.now c.args.bytes.now c.send-taken.result c.if-self.false (ap (λ l. l ++ c.args.bytes.now) none)
+    refl c.send-taken.ensures.sent c.send-taken.ensures.bound c.saturating_add-self.ensures refl none)
