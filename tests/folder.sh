@@ -99,7 +99,7 @@ P
 map() {
     rm -rf folder
     cp -r "$demo" folder
-    printf "$3" >folder/tables.map
+    printf '%b' "$3" >folder/tables.map
     row "$1" "$4" "$2" ./program folder
 }
 
@@ -313,7 +313,7 @@ map 'an empty line' 'acpidis: tables.map line 2: BadLine' '0000000000001000 dsdt
 map 'another name' 'acpidis: tables.map line 1: NoSuchFile' '0000000000001000 ssdt.dat\n' 1
 map 'the map itself' 'acpidis: tables.map line 1: NoSuchFile' '0000000000001000 tables.map\n' 1
 map 'no name' 'acpidis: tables.map line 1: NoSuchFile' '0000000000001000 \n' 1
-map 'a name that is no text' 'acpidis: tables.map line 1: NoSuchFile' '0000000000001000 \377\n' 1
+map 'a name that is no text' 'acpidis: tables.map line 1: NoSuchFile' '0000000000001000 \0377\n' 1
 map 'a line twice' 'acpidis: tables.map line 2: Again' '0000000000001000 dsdt.dat\n0000000000001000 dsdt.dat\n' 1
 
 cp folder/dsdt.dat folder/ssdt.dat

@@ -50,7 +50,7 @@ mkdir copy empty commands folder
 cp "$top/acpidis" "$top/build" "$top/crates.txt" copy
 mkdir -p copy/crates/acpidis_program/data/demo
 cp -r "$top/crates/acpidis_program/src" copy/crates/acpidis_program
-for crate in $(sed -n 's/^\([a-z_]*\)[ :].*/\1/p' copy/crates.txt); do mkdir -p "copy/crates/$crate/src"; done
+sed -n 's/^\([a-z_]*\)[ :].*/\1/p' copy/crates.txt | while read -r crate; do mkdir -p "copy/crates/$crate/src"; done
 path=$work/commands:/usr/bin:/bin
 
 # what needs the built program
@@ -146,11 +146,13 @@ row 'half an hour' 126 "$hour" env PATH="$path" copy/acpidis demo
 is 'a failed build leaves no program' "$(find copy -name 'acpidis.*')" ''
 
 # where one crate fails, the others are ended
+# shellcheck disable=SC2016 # the command expands them
 printf '#!/bin/sh\ncase $PWD in *aml_names) sleep 1; exit 1 ;; esac\necho $$ >>"%s/begun"\nsleep 30\n' "$work" >commands/rt
 start=$(date +%s)
 row 'a crate that fails beside others' 126 'acpidis: the build failed at the crate aml_names' \
     env RT_JOBS=4 PATH="$path" copy/acpidis demo
 is 'the others are begun' "$(wc -l <begun)" 3
+# shellcheck disable=SC2009 # pgrep shows no states
 is 'the others are ended' "$(while read -r pid; do ps -o stat= -g "$pid" | grep -v '^Z'; done <begun)" ''
 is 'at once' "$(($(date +%s) - start < 20))" 1
 

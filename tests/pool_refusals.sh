@@ -26,7 +26,8 @@ is_answer() {
 # The first start is refused from 3,000 KB on, the second, which 2 workers don't need, from 12,000 KB on.
 for limit in 3000 6000 10000 12000 14000 18000 24000 32000; do
     for words in '1 7' '2 7' '3 0' '3 7'; do
-        # shellcheck disable=SC2086
+        # dash and bash have ulimit -v, though POSIX doesn't name it
+        # shellcheck disable=SC2086,SC3045
         is_answer "$words, $limit KB" "$( (ulimit -v "$limit"; ./out/pool_bench answer $words) 2>&1 | head -n 1)"
     done
 done

@@ -184,10 +184,12 @@ collected() {
 collected
 is 'the status of a collection' "$?" 1
 is 'what came' "$(cd collected && find . -type f ! -name log | LC_ALL=C sort | tr '\n' ' ')" './good1/dsdt.dat ./good2/dsdt.dat '
+# shellcheck disable=SC2016 # a host's name, not a command
 is 'hosts in the errors' "$(cut -d : -f 1 errors | LC_ALL=C sort | tr '\n' '|')" '$(touch bad)|-oProxyCommand=touch bad|../out|a b|dead|half|late|'
 is 'the last line of an error' "$(grep dead errors)" 'dead: no way to dead'
 is 'no answer' "$(grep late errors)" 'late: no answer in 1 seconds'
 is 'the log' "$(cut -f 1-2 collected/log | LC_ALL=C sort | tr '\t\n' ' |')" 'dead 255|good1 0|good2 0|half 1|late 124|'
+# shellcheck disable=SC2012 # the names are known
 is 'no part is left' "$(ls -A collected | tr '\n' ' ')" 'good1 good2 log '
 : >asked
 collected
