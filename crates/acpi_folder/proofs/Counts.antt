@@ -1,5 +1,6 @@
 -- Paths as they are printed, and what gives them back.
-use Rattle.std.proofs.Common.{◌≡◌, ℕ, ◌-◌, ◌<◌, ◌≤◌, true, List, [], ◌∷◌, ◌++◌, length, take, drop, Ok, Err, refl, sym, ap, subst, ◌∙◌, append_assoc, inl, inr, arith, get_or}
+use Rattle.std.proofs.Common.{◌≡◌, ℕ, ◌-◌, ◌<◌, ◌≤◌, true, List, [], ◌∷◌, ◌++◌, length, take, drop, Ok, Err, refl, sym, ap, subst, ◌∙◌, append_assoc, inl, inr}
+use Rattle.std.proofs.Common.{arith, get_or}
 use Rattle.std.specs.List.{flat_map}
 use Rattle.std.specs.Char.{encode_utf8}
 use Rattle.std.proofs.lemmas.Str.{encode_ascii}
@@ -52,14 +53,19 @@ begins : (lead : ℕ) (others : List ℕ) (segment : Seg) (rest : List ℕ) → 
     → BeginsWith lead (lead ∷ others) segment rest
 begins lead others segment rest fits read =
     let taken : Takes others segment.0 rest × IsNameSeg segment.0 = segment_takes 0 others segment rest fits read in
-    record { named = taken.1; parts = ap (λ (bytes : List ℕ). lead ∷ bytes) (taken.0.parts ∙ ap (λ (bytes : List ℕ). bytes ++ rest) (sym (segment_is segment taken.1))) }
+    record {
+      named = taken.1;
+      parts = ap (λ (bytes : List ℕ). lead ∷ bytes)
+          (taken.0.parts ∙ ap (λ (bytes : List ℕ). bytes ++ rest) (sym (segment_is segment taken.1)));
+    }
 
 tail_is : (x y : ℕ) (xs ys : List ℕ) → x ∷ xs ≡ y ∷ ys → xs ≡ ys
 tail_is x y xs ys same = cc
 
 begins_none : (lead : ℕ) (others : List ℕ) (fault : CodeFault) → segment_at 0 others ≡ Err fault → BeginsWithNone lead (lead ∷ others)
 begins_none lead others fault failed segment rest begun =
-    let text : others ≡ segment.0 ++ rest = tail_is lead lead others (segment_text segment ++ rest) begun.parts ∙ ap (λ (bytes : List ℕ). bytes ++ rest) (segment_is segment begun.named) in
+    let text : others ≡ segment.0 ++ rest = tail_is lead lead others (segment_text segment ++ rest) begun.parts
+    ∙ ap (λ (bytes : List ℕ). bytes ++ rest) (segment_is segment begun.named) in
     let read : segment_at 0 others ≡ Ok (segment, rest) = ap (segment_at 0) text ∙ segment_again 0 segment rest begun.named in
     cc
 

@@ -1,5 +1,6 @@
 -- Numbers in hexadecimal digits.
-use Rattle.std.proofs.Common.{◌≡◌, ℕ, suc, ◌+◌, ◌*◌, ◌^◌, ◌<◌, List, [], ◌∷◌, ◌++◌, length, refl, ap, arith, lit<, length-append, add-one, ◌≤◌, true, ◌&&◌, take, get_or, ◌∙◌}
+use Rattle.std.proofs.Common.{◌≡◌, ℕ, suc, ◌+◌, ◌*◌, ◌^◌, ◌<◌, List, [], ◌∷◌, ◌++◌, length, refl, ap, arith, lit<, length-append, add-one, ◌≤◌, true, ◌&&◌}
+use Rattle.std.proofs.Common.{take, get_or, ◌∙◌}
 use Rattle.std.proofs.lemmas.List.{take_more}
 use Rattle.std.proofs.Math.Nat.{pow-le-pow_right, pow-succ'}
 use Rattle.acpi_folder.specs.Map.{hex_number, hex_value, is_hex_digit}
@@ -23,7 +24,8 @@ pub hex_number-snoc : (digits : List ℕ) (digit : ℕ) → hex_number (digits +
 unfolding hex_number
 hex_number-snoc [] digit = alone (hex_value digit)
 hex_number-snoc (first ∷ digits) digit =
-    rw (longer digits digit) (shifted (hex_value first) (16 ^ length digits) (hex_number digits) (hex_value digit) (hex_number (digits ++ digit ∷ [])) (hex_number-snoc digits digit))
+    rw (longer digits digit) (shifted (hex_value first) (16 ^ length digits) (hex_number digits) (hex_value digit) (hex_number (digits ++ digit ∷ []))
+    (hex_number-snoc digits digit))
 
 -- fifteen digits leave room for one more in 64 bits
 pub room : (number count value : ℕ) → number < 16 ^ count → count < 16 → value < 16 → number * 16 + value < 2 ^ 64
@@ -44,7 +46,9 @@ pub one_more : (digits : List ℕ) (i number value : ℕ) → i < length digits 
     → (number * 16 + value ≡ hex_number (take (i + 1) digits)) × (list_all is_hex_digit (take (i + 1) digits) ≡ true) × (number * 16 + value < 16 ^ (i + 1))
 one_more digits i number value inside is all below digit valued small =
     let more : take (i + 1) digits ≡ take i digits ++ get_or digits i 0 ∷ [] = take_more digits i 0 inside in
-    let spelled : hex_number (take (i + 1) digits) ≡ hex_number (take i digits) * 16 + hex_value (get_or digits i 0) = ap hex_number more ∙ hex_number-snoc (take i digits) (get_or digits i 0) in
-    let tested : list_all is_hex_digit (take (i + 1) digits) ≡ (list_all is_hex_digit (take i digits) && is_hex_digit (get_or digits i 0)) = list_all_more is_hex_digit digits i 0 inside in
+    let spelled : hex_number (take (i + 1) digits) ≡ hex_number (take i digits) * 16 + hex_value (get_or digits i 0) = ap hex_number more
+    ∙ hex_number-snoc (take i digits) (get_or digits i 0) in
+    let tested : list_all is_hex_digit (take (i + 1) digits) ≡ (list_all is_hex_digit (take i digits) && is_hex_digit (get_or digits i 0)) =
+    list_all_more is_hex_digit digits i 0 inside in
     let both : (list_all is_hex_digit (take i digits) && is_hex_digit (get_or digits i 0)) ≡ true = rw (all, digit) refl in
     (cc, tested ∙ both, below_more_digits number i value below small)

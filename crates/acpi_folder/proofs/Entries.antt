@@ -15,7 +15,8 @@ pub address_in-shown : (lines : List Line) (name : List ℕ)
 unfolding address_in
 address_in-shown [] name = refl
 address_in-shown (line ∷ lines) name =
-    elim (bytes_eq line.name.now name) as (λ test. option_map (λ entry. entry.address) (cond test (Some (shown_by line)) (find (λ entry. bytes_eq entry.name name) (map shown_by lines)))
+    elim (bytes_eq line.name.now name) as (λ test. option_map (λ entry. entry.address)
+    (cond test (Some (shown_by line)) (find (λ entry. bytes_eq entry.name name) (map shown_by lines)))
     ≡ option_map (λ line. line.address) (cond test (Some line) (find (λ line. bytes_eq line.name.now name) lines))) [
       | true ↦ refl
       | false ↦ address_in-shown lines name

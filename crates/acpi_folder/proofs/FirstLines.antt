@@ -1,5 +1,6 @@
 -- The first line of a text.
-use Rattle.std.proofs.Common.{◌≤◌, subst, Some, None, ltb, ◌≡◌, ℕ, suc, ◌+◌, ◌<◌, Bool, true, false, not, List, [], ◌∷◌, length, take, drop, refl, ap, ◌∙◌, arith, cond, eqb}
+use Rattle.std.proofs.Common.{◌≤◌, subst, Some, None, ltb, ◌≡◌, ℕ, suc, ◌+◌, ◌<◌, Bool, true, false, not, List, [], ◌∷◌, length, take, drop, refl, ap, ◌∙◌}
+use Rattle.std.proofs.Common.{arith, cond, eqb}
 use Rattle.std.specs.List.{before_first, after_first, position, position_or_len}
 use Rattle.std.proofs.lemmas.List.{take_all, drop_all}
 use Rattle.std.proofs.lemmas.Bool.{ltb-false}
@@ -45,7 +46,8 @@ pub lines_of-ended : (text : List ℕ) (end : ℕ) → position is_line_end text
     → lines_of text ≡ take end text ∷ lines_of (drop (end + 1) text)
 lines_of-ended [] end is = cc
 lines_of-ended (byte ∷ bytes) end is =
-    let at : position_or_len is_line_end (byte ∷ bytes) ≡ end = found (ltb (position_or_len is_line_end (byte ∷ bytes)) (length (byte ∷ bytes))) (position_or_len is_line_end (byte ∷ bytes)) end is in
+    let at : position_or_len is_line_end (byte ∷ bytes) ≡ end = found (ltb (position_or_len is_line_end (byte ∷ bytes)) (length (byte ∷ bytes)))
+    (position_or_len is_line_end (byte ∷ bytes)) end is in
     let P : ℕ → Type 0 = λ n. lines_of (byte ∷ bytes) ≡ take n (byte ∷ bytes) ∷ lines_of (drop (n + 1) (byte ∷ bytes)) in
     subst P at (lines_of-first byte bytes)
 
@@ -55,8 +57,10 @@ lines_of-unended (byte ∷ bytes) some is =
     let test : ltb (position_or_len is_line_end (byte ∷ bytes)) (length (byte ∷ bytes)) ≡ false =
     missing (ltb (position_or_len is_line_end (byte ∷ bytes)) (length (byte ∷ bytes))) (position_or_len is_line_end (byte ∷ bytes)) is in
     let past : length (byte ∷ bytes) ≤ position_or_len is_line_end (byte ∷ bytes) = ltb-false _ _ test in
-    let front : take (position_or_len is_line_end (byte ∷ bytes)) (byte ∷ bytes) ≡ byte ∷ bytes = take_all (position_or_len is_line_end (byte ∷ bytes)) (byte ∷ bytes) past in
-    let back : drop (position_or_len is_line_end (byte ∷ bytes) + 1) (byte ∷ bytes) ≡ [] = drop_all (position_or_len is_line_end (byte ∷ bytes) + 1) (byte ∷ bytes) (omega arith) in
+    let front : take (position_or_len is_line_end (byte ∷ bytes)) (byte ∷ bytes) ≡ byte ∷ bytes =
+    take_all (position_or_len is_line_end (byte ∷ bytes)) (byte ∷ bytes) past in
+    let back : drop (position_or_len is_line_end (byte ∷ bytes) + 1) (byte ∷ bytes) ≡ [] =
+    drop_all (position_or_len is_line_end (byte ∷ bytes) + 1) (byte ∷ bytes) (omega arith) in
     lines_of-first byte bytes
     ∙ ap (λ first. first ∷ lines_of (drop (position_or_len is_line_end (byte ∷ bytes) + 1) (byte ∷ bytes))) front
     ∙ ap (λ rest. (byte ∷ bytes) ∷ lines_of rest) back

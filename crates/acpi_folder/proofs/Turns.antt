@@ -1,5 +1,6 @@
 -- The lines of a map, one after another.
-use Rattle.std.proofs.Common.{◌≡◌, ℕ, suc, ◌+◌, ◌-◌, ◌<◌, ◌≤◌, true, false, List, [], ◌∷◌, ◌++◌, length, take, drop, map, get_or, refl, ap, sym, ◌∙◌, subst, arith, Some, length-drop, drop-cons, below_more}
+use Rattle.std.proofs.Common.{◌≡◌, ℕ, suc, ◌+◌, ◌-◌, ◌<◌, ◌≤◌, true, false, List, [], ◌∷◌, ◌++◌, length, take, drop, map, get_or, refl, ap, sym, ◌∙◌, subst}
+use Rattle.std.proofs.Common.{arith, Some, length-drop, drop-cons, below_more}
 use Rattle.std.specs.Prelude.{option_map}
 use Rattle.std.specs.List.{list_any, find}
 use Rattle.std.specs.Str.{bytes_eq}
@@ -7,7 +8,8 @@ use Rattle.std.proofs.lemmas.List.{take_more, map-append}
 use Rattle.acpi_folder.specs.declared.map.Line.{Line}
 use Rattle.acpi_folder.specs.declared.map.MapFault.{MapFault}
 use Rattle.acpi_folder.specs.declared.map.MapFault.TheVariants.{BadLine, NoSuchFile, Again, NoMemory}
-use Rattle.acpi_folder.specs.Map.{Entry, entry_of, shown_by, lines_of, repeats, is_listed, IsLine, IsMapped, HoldsTo, HoldsMap, HasFault, RefusesMap, numbered_by, address_in}
+use Rattle.acpi_folder.specs.Map.{Entry, entry_of, shown_by, lines_of, repeats, is_listed, IsLine, IsMapped, HoldsTo, HoldsMap, HasFault, RefusesMap}
+use Rattle.acpi_folder.specs.Map.{numbered_by, address_in}
 use Rattle.acpi_folder.proofs.Entries.{address_in-shown}
 
 -- what stands at an index, where the lines from there on are known
@@ -57,12 +59,14 @@ mapped_by names earlier entries line same form listed fresh =
 -- a turn of the loop over lines
 pub turn : (names lines : List (List ℕ)) (n m : ℕ) (line : List ℕ) (others : List (List ℕ)) (read now : List Line) (earlier : List Line) (entry : Line)
     → drop n lines ≡ line ∷ others → map shown_by read ≡ map entry_of (take n lines) → HoldsTo names lines n → earlier ≡ read
-    → IsLine line → is_listed names (entry_of line).name ≡ true → list_any (repeats (entry_of line)) (map shown_by earlier) ≡ false → shown_by entry ≡ entry_of line
+    → IsLine line → is_listed names (entry_of line).name ≡ true → list_any (repeats (entry_of line)) (map shown_by earlier) ≡ false
+    → shown_by entry ≡ entry_of line
     → m ≡ n + 1 → now ≡ read ++ entry ∷ []
     → (drop m lines ≡ others) × (map shown_by now ≡ map entry_of (take m lines)) × HoldsTo names lines m
 turn names lines n m line others read now earlier entry is same held all form listed fresh says next grown =
     let P : ℕ → Type 0 = λ k. (drop k lines ≡ others) × (map shown_by now ≡ map entry_of (take k lines)) × HoldsTo names lines k in
-    let mapped : IsMapped names (take n lines) line = mapped_by names (take n lines) (map shown_by earlier) line (ap (map shown_by) all ∙ same) form listed fresh in
+    let mapped : IsMapped names (take n lines) line = mapped_by names (take n lines) (map shown_by earlier) line (ap (map shown_by) all ∙ same)
+    form listed fresh in
     subst P (sym next) (
       back lines n line others is,
       ap (map shown_by) grown ∙ entries_more lines n line others read entry is same says,
@@ -96,7 +100,8 @@ refuses names text n line others read earlier fault is same held all numbered th
     }
 
 -- a map is never refused
-at_fault : (names earlier : List (List ℕ)) (line : List ℕ) (fault : MapFault) → IsMapped names earlier line → HasFault names (map entry_of earlier) line fault → ⊥
+at_fault : (names earlier : List (List ℕ)) (line : List ℕ) (fault : MapFault) → IsMapped names earlier line → HasFault names (map entry_of earlier) line fault
+    → ⊥
 at_fault names earlier line (BadLine number) mapped there = there mapped.form
 at_fault names earlier line (NoSuchFile number) mapped there =
     let listed : is_listed names (entry_of line).name ≡ true = mapped.listed in
@@ -109,11 +114,13 @@ at_fault names earlier line NoMemory mapped there = there
 pub not_map : (names : List (List ℕ)) (text : List ℕ) (fault : MapFault) → RefusesMap names text fault → ¬ HoldsMap names text
 not_map names text fault refused held =
     let within : refused.number - 1 < length (lines_of text) = omega (arith, refused.first.counted, refused.first.inside) in
-    at_fault names (take (refused.number - 1) (lines_of text)) (get_or (lines_of text) (refused.number - 1) []) fault (held (refused.number - 1) within) refused.there
+    at_fault names (take (refused.number - 1) (lines_of text)) (get_or (lines_of text) (refused.number - 1) []) fault (held (refused.number - 1) within)
+    refused.there
 
 -- the addresses of the files
 pub addresses_shown : {X : Type 0} (bytes_of : X → List ℕ) (names : List X) (lines : List Line) (entries : List Entry) → map shown_by lines ≡ entries
-    → map (λ name. option_map (λ line. line.address) (find (λ line. bytes_eq line.name.now (bytes_of name)) lines)) names ≡ map (address_in entries) (map bytes_of names)
+    → map (λ name. option_map (λ line. line.address) (find (λ line. bytes_eq line.name.now (bytes_of name)) lines)) names
+    ≡ map (address_in entries) (map bytes_of names)
 addresses_shown bytes_of [] lines entries same = refl
 addresses_shown bytes_of (name ∷ names) lines entries same =
     let first : option_map (λ line. line.address) (find (λ line. bytes_eq line.name.now (bytes_of name)) lines) ≡ address_in entries (bytes_of name) =

@@ -1,5 +1,6 @@
 -- The cut of a MADT into its records: how a walk extends it, that it is the only one, and that it leaves no broken record.
-use Rattle.std.proofs.Common.{◌≡◌, ℕ, zero, suc, ◌+◌, ◌-◌, ◌<◌, ◌≤◌, true, List, [], ◌∷◌, ◌++◌, length, take, drop, map, refl, sym, ap, ◌∙◌, subst, arith, append_assoc, length-append, length-drop, cond}
+use Rattle.std.proofs.Common.{◌≡◌, ℕ, zero, suc, ◌+◌, ◌-◌, ◌<◌, ◌≤◌, true, List, [], ◌∷◌, ◌++◌, length, take, drop, map, refl, sym, ap, ◌∙◌, subst, arith}
+use Rattle.std.proofs.Common.{append_assoc, length-append, length-drop, cond}
 use Rattle.std.proofs.lemmas.Bool.Decides.{nat_tests}
 use Rattle.std.proofs.lemmas.List.{append-nil, drop-drop, take-append-drop}
 use Rattle.std.proofs.lemmas.List.Folds.{concat-append}
@@ -7,10 +8,12 @@ use Rattle.std.proofs.lemmas.List.{map-append}
 use Rattle.std.proofs.Math.Seq.{take-add, take-append_seam, drop-append_seam, take-length}
 use Rattle.std.specs.List.{AllByRecursion, concat}
 use Rattle.acpi_tables.specs.Bytes.{bytes_at, number_at}
-use Rattle.acpi_tables.specs.Madt.{HoldsRecord, HoldsMadt, BreaksAt, IsRecord, IsCut, begins_whole, record_bytes_at, record_end, records_within, records_of, meaning_of, seen_by, RefusesMadt}
+use Rattle.acpi_tables.specs.Madt.{HoldsRecord, HoldsMadt, BreaksAt, IsRecord, IsCut, begins_whole, record_bytes_at, record_end, records_within, records_of}
+use Rattle.acpi_tables.specs.Madt.{meaning_of, seen_by, RefusesMadt}
 use Rattle.acpi_tables.specs.declared.madt.MadtRecord.{MadtRecord}
 use Rattle.acpi_tables.specs.declared.faults.Bad.{Bad}
-use Rattle.acpi_tables.specs.declared.faults.Bad.TheVariants.{TooManyTables, TooLarge, Short, BadSum, BadRoot, RootMissing, FadtMissing, FadtShort, MadtRecord as BadRecord, NoDsdt, TwoDsdts, NoMemory}
+use Rattle.acpi_tables.specs.declared.faults.Bad.TheVariants.{TooManyTables, TooLarge, Short, BadSum, BadRoot, RootMissing, FadtMissing, FadtShort}
+use Rattle.acpi_tables.specs.declared.faults.Bad.TheVariants.{MadtRecord as BadRecord, NoDsdt, TwoDsdts, NoMemory}
 use Rattle.acpi_tables.proofs.Numbers.{number_at-one, length-bytes_at, get_or-bytes_at}
 
 -- whole records up to an offset
@@ -95,7 +98,8 @@ begins_whole-append one rest is =
     grind (arith, nat_tests)
 
 -- the function finds the cut
-records_within-concat : (records : List (List ℕ)) (n : ℕ) → AllByRecursion IsRecord records → length (concat records) ≤ n → records_within n (concat records) ≡ records
+records_within-concat : (records : List (List ℕ)) (n : ℕ) → AllByRecursion IsRecord records → length (concat records) ≤ n
+    → records_within n (concat records) ≡ records
 unfolding records_within
 records_within-concat [] zero all h = refl
 records_within-concat [] (suc n) all h = refl
@@ -103,7 +107,8 @@ records_within-concat (one ∷ records) zero all h = absurd (omega (arith, lengt
 records_within-concat (one ∷ records) (suc n) all h =
     let bytes = one ++ concat records in
     let more = records_within-concat records n all.1 (omega (arith, length-append one (concat records), all.0.header)) in
-    ap (λ b. cond b (take (number_at bytes 1 1) bytes ∷ records_within n (drop (number_at bytes 1 1) bytes)) []) (begins_whole-append one (concat records) all.0)
+    ap (λ b. cond b (take (number_at bytes 1 1) bytes ∷ records_within n (drop (number_at bytes 1 1) bytes)) [])
+    (begins_whole-append one (concat records) all.0)
     ∙ ap (λ k. take k bytes ∷ records_within n (drop k bytes)) (second-append one (concat records) all.0)
     ∙ ap (λ xs. xs ∷ records_within n (drop (length one) bytes)) (take-append_seam one (concat records))
     ∙ ap (λ xs. one ∷ records_within n xs) (drop-append_seam one (concat records))
@@ -155,14 +160,16 @@ after_records [] (one ∷ before) rest all whole some e = absurd (omega (arith, 
 after_records (one ∷ records) (two ∷ before) rest all whole some e =
     let joined = e ∙ append_assoc two (concat before) rest in
     let long = sym (second-append one (concat records) all.0) ∙ ap (λ xs. number_at xs 1 1) joined ∙ second-append two (concat before ++ rest) whole.0 in
-    let tails = sym (drop-append_seam one (concat records)) ∙ ap (drop (length one)) joined ∙ ap (λ k. drop k (two ++ (concat before ++ rest))) long ∙ drop-append_seam two (concat before ++ rest) in
+    let tails = sym (drop-append_seam one (concat records)) ∙ ap (drop (length one)) joined ∙ ap (λ k. drop k (two ++ (concat before ++ rest))) long
+    ∙ drop-append_seam two (concat before ++ rest) in
     after_records records before rest all.1 whole.1 some tails
 
 HoldsRecord-first : (table : List ℕ) (at : ℕ) → 44 ≤ at → at ≤ length table → FirstOf (drop at table) → HoldsRecord table at
 unfolding number_at bytes_at
 HoldsRecord-first table at behind inside first =
     let long = ap length first.joined ∙ length-append first.one first.more in
-    let second : number_at table (at + 1) 1 ≡ length first.one = ap (λ xs. number_at xs 0 1) (sym (drop-drop 1 at table)) ∙ ap (λ xs. number_at xs 1 1) first.joined ∙ second-append first.one first.more first.is in
+    let second : number_at table (at + 1) 1 ≡ length first.one = ap (λ xs. number_at xs 0 1) (sym (drop-drop 1 at table))
+    ∙ ap (λ xs. number_at xs 1 1) first.joined ∙ second-append first.one first.more first.is in
     record {
       behind_fields = behind;
       header = omega (arith, long, length-drop at table, first.is.header);

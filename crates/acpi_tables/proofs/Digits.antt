@@ -1,5 +1,6 @@
 -- The digits that end a name's stem, and the stem itself.
-use Rattle.std.proofs.Common.{◌≡◌, ℕ, zero, suc, ◌+◌, ◌-◌, ◌*◌, ◌^◌, ◌<◌, ◌≤◌, ◌≢◌, ◌⊎◌, inl, inr, Bool, true, false, not, List, [], ◌∷◌, length, take, reverse, take_while, get_or, nat_eq, cond, refl, sym, ap, ◌∙◌, arith}
+use Rattle.std.proofs.Common.{◌≡◌, ℕ, zero, suc, ◌+◌, ◌-◌, ◌*◌, ◌^◌, ◌<◌, ◌≤◌, ◌≢◌, ◌⊎◌, inl, inr, Bool, true, false, not, List, [], ◌∷◌, length, take, reverse}
+use Rattle.std.proofs.Common.{take_while, get_or, nat_eq, cond, refl, sym, ap, ◌∙◌, arith}
 use Rattle.std.proofs.Math.Nat.{pow-suc, pow-le-pow_right, one-le-pow, eq-or-lt_of_le}
 use Rattle.std.proofs.lemmas.List.{reverse-append, take_more, length-take-le}
 use Rattle.std.proofs.Math.Seq.{take-length}
@@ -27,7 +28,8 @@ reverse_last bytes some =
     ∙ reverse-append (take n bytes) (get_or bytes n 0 ∷ [])
 
 -- one more digit at the end
-pub decimal_of-digit : (bytes : List ℕ) (count : ℕ) → 0 < count → 0 < length bytes → 48 ≤ get_or bytes (length bytes - 1) 0 → get_or bytes (length bytes - 1) 0 < 58
+pub decimal_of-digit : (bytes : List ℕ) (count : ℕ) → 0 < count → 0 < length bytes → 48 ≤ get_or bytes (length bytes - 1) 0
+    → get_or bytes (length bytes - 1) 0 < 58
     → decimal_of (take count (take_while is_digit (reverse bytes)))
     ≡ (get_or bytes (length bytes - 1) 0 - 48) + 10 * decimal_of (take (count - 1) (take_while is_digit (reverse (take (length bytes - 1) bytes))))
 decimal_of-digit bytes zero more some low high = absurd (omega arith)
@@ -54,7 +56,8 @@ stem_of-dot name n behind inside here after =
     (λ _. let same : n + 1 - 1 ≡ n = omega arith in a_dot _ (ap (λ k. get_or name k 0) same ∙ here)) in
     let before : before_last is_dot name ≡ take n name =
     ap (λ k. take (length name - k - 1) name) all ∙ (let same : length name - (length name - (n + 1)) - 1 ≡ n = omega arith in ap (λ k. take k name) same) in
-    let long : nat_eq (length (before_last is_dot name)) 0 ≡ false = (let e = ap length before ∙ length-take-le n name (omega arith) in grind (arith, nat_tests)) in
+    let long : nat_eq (length (before_last is_dot name)) 0 ≡ false = (let e = ap length before
+    ∙ length-take-le n name (omega arith) in grind (arith, nat_tests)) in
     sym (ap (λ b. cond b name (before_last is_dot name)) long ∙ before)
 
 -- no dot behind the first place
@@ -65,7 +68,8 @@ stem_of-none (c ∷ name) after = by_first (nat_eq c 46) refl
     whole : (n : ℕ) → n ≤ 1 → suffix_len (λ x. not (is_dot x)) (c ∷ name) ≡ length (c ∷ name) - n → c ∷ name ≡ stem_of (c ∷ name)
     whole n few all =
         let none : before_last is_dot (c ∷ name) ≡ take 0 (c ∷ name) =
-        ap (λ k. take (length (c ∷ name) - k - 1) (c ∷ name)) all ∙ (let same : length (c ∷ name) - (length (c ∷ name) - n) - 1 ≡ 0 = omega arith in ap (λ k. take k (c ∷ name)) same) in
+        ap (λ k. take (length (c ∷ name) - k - 1) (c ∷ name)) all ∙ (let same : length (c ∷ name) - (length (c ∷ name) - n) - 1 ≡ 0 = omega arith in
+        ap (λ k. take k (c ∷ name)) same) in
         sym (ap (λ l. cond (nat_eq (length l) 0) (c ∷ name) l) none)
 
     by_first : (b : Bool) → nat_eq c 46 ≡ b → c ∷ name ≡ stem_of (c ∷ name)

@@ -6,7 +6,8 @@ use Rattle.acpi_tables.specs.declared.madt.MadtRecord.TheVariants.{Other}
 use Rattle.acpi_tables.specs.Madt.{meaning_by, meaning_of}
 use Rattle.acpi_tables.proofs.Numbers.{number_at-one}
 
-pub meaning_of-at : (bytes : List ℕ) (kind long : ℕ) → 2 ≤ length bytes → slice_index bytes 0 ≡ kind → length bytes ≡ long → meaning_of bytes ≡ meaning_by kind long bytes
+pub meaning_of-at : (bytes : List ℕ) (kind long : ℕ) → 2 ≤ length bytes → slice_index bytes 0 ≡ kind → length bytes ≡ long
+    → meaning_of bytes ≡ meaning_by kind long bytes
 unfolding meaning_of
 meaning_of-at bytes kind long header is_kind is_long =
     ap (λ k. meaning_by k (length bytes) bytes) (number_at-one bytes 0 (omega arith) ∙ is_kind) ∙ ap (λ n. meaning_by kind n bytes) is_long

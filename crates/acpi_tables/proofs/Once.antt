@@ -1,5 +1,6 @@
 -- The lists that a walk over other numbers makes: each where it stands first, and those that a function gives.
-use Rattle.std.proofs.Common.{◌≡◌, ℕ, ◌+◌, ◌<◌, Bool, true, false, not, ◌&&◌, ◌||◌, List, [], ◌∷◌, ◌++◌, length, take, map, get_or, cond, nat_eq, filter, filter_map, Option, refl, sym, ap, ◌∙◌, arith, rules, tests, zero-add}
+use Rattle.std.proofs.Common.{◌≡◌, ℕ, ◌+◌, ◌<◌, Bool, true, false, not, ◌&&◌, ◌||◌, List, [], ◌∷◌, ◌++◌, length, take, map, get_or, cond, nat_eq, filter}
+use Rattle.std.proofs.Common.{filter_map, Option, refl, sym, ap, ◌∙◌, arith, rules, tests, zero-add}
 use Rattle.std.specs.List.{list_any, cons_option, range_with_len}
 use Rattle.std.proofs.lemmas.List.{append-nil}
 use Rattle.std.proofs.lemmas.List.Elements.{filter-append, filter_more, filter_map-append}
@@ -21,7 +22,8 @@ push_cases : (x y : ℕ) (kept : List ℕ) (a e : Bool) → nat_eq y x ≡ e
 push_cases x y kept true true is = refl
 push_cases x y kept true false is = refl
 push_cases x y kept false true is =
-    ap (λ l. x ∷ l) (filter-append (λ z. not (nat_eq z x)) kept (y ∷ []) ∙ ap (λ b. filter (λ z. not (nat_eq z x)) kept ++ cond (not b) (y ∷ []) []) is ∙ append-nil _)
+    ap (λ l. x ∷ l) (filter-append (λ z. not (nat_eq z x)) kept (y ∷ []) ∙ ap (λ b. filter (λ z. not (nat_eq z x)) kept ++ cond (not b) (y ∷ []) []) is
+    ∙ append-nil _)
 push_cases x y kept false false is =
     ap (λ l. x ∷ l) (filter-append (λ z. not (nat_eq z x)) kept (y ∷ []) ∙ ap (λ b. filter (λ z. not (nat_eq z x)) kept ++ cond (not b) (y ∷ []) []) is)
 
@@ -46,8 +48,10 @@ pub once_taken : (test : ℕ → Bool) (xs : List ℕ) (i : ℕ) (old new : List
 once_taken test xs i old new inside kept passes absent is =
     let more = filter_more test xs i 0 inside in
     let push = each_once-push (filter test (take i xs)) (get_or xs i 0) in
-    let here : filter test (take (i + 1) xs) ≡ filter test (take i xs) ++ get_or xs i 0 ∷ [] = more ∙ ap (λ b. filter test (take i xs) ++ cond b (get_or xs i 0 ∷ []) []) passes in
-    let there : list_any (λ z. nat_eq z (get_or xs i 0)) (each_once (filter test (take i xs))) ≡ false = ap (list_any (λ z. nat_eq z (get_or xs i 0))) (sym kept) ∙ absent in
+    let here : filter test (take (i + 1) xs) ≡ filter test (take i xs) ++ get_or xs i 0 ∷ [] = more
+    ∙ ap (λ b. filter test (take i xs) ++ cond b (get_or xs i 0 ∷ []) []) passes in
+    let there : list_any (λ z. nat_eq z (get_or xs i 0)) (each_once (filter test (take i xs))) ≡ false =
+    ap (list_any (λ z. nat_eq z (get_or xs i 0))) (sym kept) ∙ absent in
     is ∙ ap (λ l. l ++ get_or xs i 0 ∷ []) kept
     ∙ ap (λ b. cond b (each_once (filter test (take i xs))) (each_once (filter test (take i xs)) ++ get_or xs i 0 ∷ [])) (sym there)
     ∙ sym push ∙ ap each_once (sym here)
@@ -58,8 +62,10 @@ pub once_there : (test : ℕ → Bool) (xs : List ℕ) (i : ℕ) (old : List ℕ
 once_there test xs i old inside kept passes present =
     let more = filter_more test xs i 0 inside in
     let push = each_once-push (filter test (take i xs)) (get_or xs i 0) in
-    let here : filter test (take (i + 1) xs) ≡ filter test (take i xs) ++ get_or xs i 0 ∷ [] = more ∙ ap (λ b. filter test (take i xs) ++ cond b (get_or xs i 0 ∷ []) []) passes in
-    let there : list_any (λ z. nat_eq z (get_or xs i 0)) (each_once (filter test (take i xs))) ≡ true = ap (list_any (λ z. nat_eq z (get_or xs i 0))) (sym kept) ∙ present in
+    let here : filter test (take (i + 1) xs) ≡ filter test (take i xs) ++ get_or xs i 0 ∷ [] = more
+    ∙ ap (λ b. filter test (take i xs) ++ cond b (get_or xs i 0 ∷ []) []) passes in
+    let there : list_any (λ z. nat_eq z (get_or xs i 0)) (each_once (filter test (take i xs))) ≡ true = ap (list_any (λ z. nat_eq z (get_or xs i 0))) (sym kept)
+    ∙ present in
     kept
     ∙ ap (λ b. cond b (each_once (filter test (take i xs))) (each_once (filter test (take i xs)) ++ get_or xs i 0 ∷ [])) (sym there)
     ∙ sym push ∙ ap each_once (sym here)
@@ -68,7 +74,8 @@ pub once_skipped : (test : ℕ → Bool) (xs : List ℕ) (i : ℕ) (old : List �
     → test (get_or xs i 0) ≡ false → old ≡ each_once (filter test (take (i + 1) xs))
 once_skipped test xs i old inside kept fails =
     let more = filter_more test xs i 0 inside in
-    kept ∙ ap each_once (sym (append-nil (filter test (take i xs))) ∙ ap (λ b. filter test (take i xs) ++ cond b (get_or xs i 0 ∷ []) []) (sym fails) ∙ sym more)
+    kept ∙ ap each_once (sym (append-nil (filter test (take i xs))) ∙ ap (λ b. filter test (take i xs) ++ cond b (get_or xs i 0 ∷ []) []) (sym fails)
+    ∙ sym more)
 
 -- The walk over the values of a function, with those that another gives of them.
 pub given_more : (given : ℕ → Option ℕ) (f : ℕ → ℕ) (i : ℕ) (old : List ℕ) → old ≡ filter_map given (map f (range_with_len 0 i))

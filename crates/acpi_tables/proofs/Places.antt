@@ -1,11 +1,13 @@
 -- Dumps by their index, and the indexes of those that pass a test.
-use Rattle.std.proofs.Common.{◌≡◌, ℕ, suc, ◌+◌, ◌<◌, ◌≤◌, Bool, true, false, List, [], ◌∷◌, ◌++◌, length, take, map, get_or, cond, string_bytes, sym, ap, ◌∙◌, arith}
+use Rattle.std.proofs.Common.{◌≡◌, ℕ, suc, ◌+◌, ◌<◌, ◌≤◌, Bool, true, false, List, [], ◌∷◌, ◌++◌, length, take, map, get_or, cond, string_bytes, sym, ap, ◌∙◌}
+use Rattle.std.proofs.Common.{arith}
 use Rattle.std.proofs.lemmas.List.{get_or-map, get_or_past, length-map, take_more, length-take-le, append-nil}
 use Rattle.std.proofs.Math.Seq.{take-length}
 use Rattle.acpi_tables.specs.declared.dump.Dump.{Dump}
 use Rattle.acpi_tables.specs.Order.{bytes_of, name_of, places}
 
-pub bytes_of-inside : (dumps : List Dump) (index : ℕ) (dump : Dump) → index < length dumps → dump ≡ get_or dumps index dump → bytes_of dumps index ≡ dump.bytes.items
+pub bytes_of-inside : (dumps : List Dump) (index : ℕ) (dump : Dump) → index < length dumps → dump ≡ get_or dumps index dump
+    → bytes_of dumps index ≡ dump.bytes.items
 unfolding bytes_of
 bytes_of-inside dumps index dump inside e = get_or-map (λ d. d.bytes.items) dumps index dump [] inside ∙ ap (λ d. d.bytes.items) (sym e)
 
@@ -13,7 +15,8 @@ pub bytes_of-past : (dumps : List Dump) (index : ℕ) → length dumps ≤ index
 unfolding bytes_of
 bytes_of-past dumps index past = get_or_past (map (λ d. d.bytes.items) dumps) index [] (omega (arith, length-map dumps (λ d. d.bytes.items)))
 
-pub name_of-inside : (dumps : List Dump) (index : ℕ) (dump : Dump) → index < length dumps → dump ≡ get_or dumps index dump → name_of dumps index ≡ string_bytes dump.name
+pub name_of-inside : (dumps : List Dump) (index : ℕ) (dump : Dump) → index < length dumps → dump ≡ get_or dumps index dump
+    → name_of dumps index ≡ string_bytes dump.name
 unfolding name_of
 name_of-inside dumps index dump inside e = get_or-map (λ d. string_bytes d.name) dumps index dump [] inside ∙ ap (λ d. string_bytes d.name) (sym e)
 
@@ -21,7 +24,8 @@ pub name_of-past : (dumps : List Dump) (index : ℕ) → length dumps ≤ index 
 unfolding name_of
 name_of-past dumps index past = get_or_past (map (λ d. string_bytes d.name) dumps) index [] (omega (arith, length-map dumps (λ d. string_bytes d.name)))
 
-places-push : {X : Type 0} (test : X → Bool) (first : ℕ) (xs : List X) (x : X) → places test first (xs ++ x ∷ []) ≡ places test first xs ++ cond (test x) ((first + length xs) ∷ []) []
+places-push : {X : Type 0} (test : X → Bool) (first : ℕ) (xs : List X) (x : X)
+    → places test first (xs ++ x ∷ []) ≡ places test first xs ++ cond (test x) ((first + length xs) ∷ []) []
 unfolding places
 places-push test first [] x = ap (λ n. cond (test x) (n ∷ []) []) (omega arith)
 places-push test first (y ∷ xs) x = by_test (test y) (places-push test (first + 1) xs x) (omega arith)
@@ -47,7 +51,8 @@ places_taken test xs i x old new inside e kept passes is = cc (places-more test 
 
 pub places_skipped : {X : Type 0} (test : X → Bool) (xs : List X) (i : ℕ) (x : X) (old : List ℕ) → i < length xs → x ≡ get_or xs i x
     → old ≡ places test 0 (take i xs) → test x ≡ false → old ≡ places test 0 (take (i + 1) xs)
-places_skipped test xs i x old inside e kept fails = kept ∙ sym (append-nil (places test 0 (take i xs))) ∙ ap (λ b. places test 0 (take i xs) ++ cond b (i ∷ []) []) (sym fails) ∙ sym (places-more test xs i x inside e)
+places_skipped test xs i x old inside e kept fails = kept ∙ sym (append-nil (places test 0 (take i xs)))
+    ∙ ap (λ b. places test 0 (take i xs) ++ cond b (i ∷ []) []) (sym fails) ∙ sym (places-more test xs i x inside e)
 
 -- a list up to its end
 pub take_to_end : {X : Type 0} (xs : List X) (i : ℕ) → i ≤ length xs → length xs ≤ i → take i xs ≡ xs

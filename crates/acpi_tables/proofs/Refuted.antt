@@ -1,5 +1,6 @@
 -- Where a refusal stands there is no order.
-use Rattle.std.proofs.Common.{◌≡◌, ℕ, ◌<◌, ◌≤◌, inl, inr, Bool, true, false, List, ◌∷◌, length, codes, Option, Some, None, Result, Ok, Err, IfOk, OnOk, MatchBool, slice_get, find, sym, ap, subst, ◌∙◌, arith}
+use Rattle.std.proofs.Common.{◌≡◌, ℕ, ◌<◌, ◌≤◌, inl, inr, Bool, true, false, List, ◌∷◌, length, codes, Option, Some, None, Result, Ok, Err, IfOk, OnOk}
+use Rattle.std.proofs.Common.{MatchBool, slice_get, find, sym, ap, subst, ◌∙◌, arith}
 use Rattle.std.proofs.lemmas.Bool.{true≢false}
 use Rattle.std.proofs.lemmas.Option.{same_Some}
 use Rattle.acpi_tables.specs.declared.dump.Dump.{Dump}
@@ -12,7 +13,8 @@ use Rattle.acpi_tables.specs.declared.faults.TableFault.{TableFault}
 use Rattle.acpi_tables.specs.Header.{table_of}
 use Rattle.acpi_tables.specs.Rsdp.{rsdp_of}
 use Rattle.acpi_tables.specs.Dumps.{kind_of, HoldsContent, HoldsDump, RefusesContent, RefusesDump}
-use Rattle.acpi_tables.specs.Order.{AreTables, bytes_of, has_signature, signed_at, list_of, listed_by, dsdt_address, is_addressed, IsNamed, IsChained, IsOrder, RefusesAll, RefusesPlace, RefusesOrder, RefusesBytes, Refuses}
+use Rattle.acpi_tables.specs.Order.{AreTables, bytes_of, has_signature, signed_at, list_of, listed_by, dsdt_address, is_addressed, IsNamed, IsChained, IsOrder}
+use Rattle.acpi_tables.specs.Order.{RefusesAll, RefusesPlace, RefusesOrder, RefusesBytes, Refuses}
 use Rattle.acpi_tables.proofs.Cuts.{whole_not_refused}
 use Rattle.acpi_tables.specs.declared.order.Order.{Order}
 use Rattle.acpi_tables.proofs.Blocks.{are_tables}
@@ -110,5 +112,6 @@ module _ (dumps : List Dump) (any_sum b : Bool) (few : length dumps ≤ 512)
   found_tables (Err fault) blocks = tt
 
 -- a refusal leaves no order
-pub none_where_refused : (dumps : List Dump) (any_sum : Bool) (fault : TableFault) → Refuses dumps any_sum fault → (dsdt : ℕ) (ssdts : List ℕ) → ¬ IsOrder dumps any_sum dsdt ssdts
+pub none_where_refused : (dumps : List Dump) (any_sum : Bool) (fault : TableFault) → Refuses dumps any_sum fault → (dsdt : ℕ) (ssdts : List ℕ)
+    → ¬ IsOrder dumps any_sum dsdt ssdts
 none_where_refused dumps any_sum fault refused dsdt ssdts order = nothing_refused dumps any_sum dsdt ssdts order fault refused

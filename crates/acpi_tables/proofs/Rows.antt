@@ -1,5 +1,6 @@
 -- The kinds of records, as the code keeps them and as they are defined, and what was read of each.
-use Rattle.std.proofs.Common.{◌≡◌, ℕ, ◌+◌, ◌≤◌, Bool, true, false, List, [], ◌∷◌, length, map, find, option_map, Option, Some, None, nat_eq, ◌&&◌, refl, sym, ap, ◌∙◌, subst, arith, cond, nat_le}
+use Rattle.std.proofs.Common.{◌≡◌, ℕ, ◌+◌, ◌≤◌, Bool, true, false, List, [], ◌∷◌, length, map, find, option_map, Option, Some, None, nat_eq, ◌&&◌, refl, sym}
+use Rattle.std.proofs.Common.{ap, ◌∙◌, subst, arith, cond, nat_le}
 use Rattle.std.specs.List.{list_all}
 use Rattle.std.proofs.lemmas.Bool.Decides.{nat_tests}
 use Rattle.std.proofs.lemmas.Simd.{map-map}

@@ -1,5 +1,6 @@
 -- What a signature tells of a dump.
-use Rattle.std.proofs.Common.{◌≡◌, ◌≢◌, ℕ, ◌<◌, ◌⊎◌, inl, inr, Bool, true, false, List, [], ◌∷◌, ◌++◌, length, drop, get_or, codes, cond, Some, None, position, find, ltb, nat_eq, refl, sym, ap, ◌∙◌, subst, arith, rules, tests, length-append}
+use Rattle.std.proofs.Common.{◌≡◌, ◌≢◌, ℕ, ◌<◌, ◌⊎◌, inl, inr, Bool, true, false, List, [], ◌∷◌, ◌++◌, length, drop, get_or, codes, cond, Some, None, position}
+use Rattle.std.proofs.Common.{find, ltb, nat_eq, refl, sym, ap, ◌∙◌, subst, arith, rules, tests, length-append}
 use Rattle.std.proofs.lemmas.Bool.{true≢false}
 use Rattle.std.proofs.lemmas.Slice.Eq.{starts_is}
 use Rattle.std.proofs.lemmas.Bool.Decides.{Decides-eqb}
@@ -25,7 +26,8 @@ unfolding begins_with
 begins bytes word e = (starts_is Decides-eqb bytes word (begins_with bytes word) refl).0 e
 
 -- bytes that begin with one word don't begin with another
-pub begins_only : (bytes one two : List ℕ) (k : ℕ) → k < length one → k < length two → get_or one k 0 ≢ get_or two k 0 → begins_with bytes one ≡ true → begins_with bytes two ≡ false
+pub begins_only : (bytes one two : List ℕ) (k : ℕ) → k < length one → k < length two → get_or one k 0 ≢ get_or two k 0 → begins_with bytes one ≡ true
+    → begins_with bytes two ≡ false
 begins_only bytes one two k in_one in_two differ is = by_test (begins_with bytes two) refl
   where
     by_test : (b : Bool) → begins_with bytes two ≡ b → b ≡ false
@@ -89,7 +91,8 @@ if_signed : (b : Bool) (i index : ℕ) → cond b (Some i) None ≡ Some index �
 if_signed true i index e = (refl, same_Some i index e)
 if_signed false i index e = cc
 
-pub signed_at-signed : (dumps : List Dump) (word : List ℕ) (address index : ℕ) → signed_at dumps word address ≡ Some index → has_signature dumps word index ≡ true
+pub signed_at-signed : (dumps : List Dump) (word : List ℕ) (address index : ℕ) → signed_at dumps word address ≡ Some index
+    → has_signature dumps word index ≡ true
 signed_at-signed dumps word address index e =
     option_and_then_some (λ i. cond (has_signature dumps word i) (Some i) None) (dump_at dumps address) index e
     (λ i there some. let h = if_signed (has_signature dumps word i) i index some in ap (has_signature dumps word) (sym h.1) ∙ h.0)
@@ -127,11 +130,13 @@ module _ (dumps : List Dump) (each : AreTaken dumps true) where
           let other = begins_only (bytes_of dumps index) (codes "RSDT") (codes "XSDT") 0 (omega arith) (omega arith) (omega arith) is in
           (holds.0, subst (λ b. HoldsAddresses (cond b 8 4) (table_of (bytes_of dumps index))) (sym other) holds.1)
 
-  pub fadt_holds : (index : ℕ) → has_signature dumps (codes "FACP") index ≡ true → HoldsTable (bytes_of dumps index) × HoldsFadt (table_of (bytes_of dumps index))
+  pub fadt_holds : (index : ℕ) → has_signature dumps (codes "FACP") index ≡ true → HoldsTable (bytes_of dumps index)
+      × HoldsFadt (table_of (bytes_of dumps index))
   fadt_holds index is = held (codes "FACP") (Standard Fadt) index (omega arith) fadt_is_fadt is
 
 -- what a search for a dump has found
-first_of : (dumps : List Dump) (test : List ℕ → Bool) (index : ℕ) → position (λ dump. test dump.bytes.items) dumps ≡ Some index → test (bytes_of dumps index) ≡ true
+first_of : (dumps : List Dump) (test : List ℕ → Bool) (index : ℕ) → position (λ dump. test dump.bytes.items) dumps ≡ Some index
+    → test (bytes_of dumps index) ≡ true
 unfolding bytes_of
 first_of [] test index e = cc
 first_of (dump ∷ dumps) test index e =
@@ -142,7 +147,8 @@ pub root_of-signed : (dumps : List Dump) (index : ℕ) → root_of dumps ≡ Som
 unfolding root_of
 root_of-signed dumps index e = first_of dumps (λ bytes. begins_with bytes (codes "RSD PTR ")) index e
 
-found_or_later : (test : ℕ → Bool) (xs : List ℕ) (y x : ℕ) (b : Bool) → test y ≡ b → (find test xs ≡ Some x → test x ≡ true) → cond b (Some y) (find test xs) ≡ Some x → test x ≡ true
+found_or_later : (test : ℕ → Bool) (xs : List ℕ) (y x : ℕ) (b : Bool) → test y ≡ b → (find test xs ≡ Some x → test x ≡ true)
+    → cond b (Some y) (find test xs) ≡ Some x → test x ≡ true
 found_or_later test xs y x true is later e = ap test (sym (same_Some y x e)) ∙ is
 found_or_later test xs y x false is later e = later e
 

@@ -1,5 +1,6 @@
 -- There is at most one order: what a list holds and a total order fix it, and each step of the chain has one end.
-use Rattle.std.proofs.Common.{◌≡◌, ℕ, suc, ◌+◌, ◌<◌, Bool, true, false, List, [], ◌∷◌, length, get_or, nat_eq, cond, codes, find, filter, MatchBool, refl, sym, ap, ◌∙◌, arith, rules, tests, sum_by}
+use Rattle.std.proofs.Common.{◌≡◌, ℕ, suc, ◌+◌, ◌<◌, Bool, true, false, List, [], ◌∷◌, length, get_or, nat_eq, cond, codes, find, filter, MatchBool, refl, sym}
+use Rattle.std.proofs.Common.{ap, ◌∙◌, arith, rules, tests, sum_by}
 use Rattle.std.specs.Cmp.{IsStrictWeakOrder}
 use Rattle.std.specs.List.Sorted.{IsSortedBy}
 use Rattle.std.specs.Ordering.{ordering_then, ordering_reverse, is_lt, nat_cmp}
@@ -14,7 +15,8 @@ use Rattle.std.proofs.lemmas.Option.{same_Some}
 use Rattle.acpi_tables.specs.declared.dump.Dump.{Dump}
 use Rattle.acpi_tables.specs.Header.{table_of}
 use Rattle.acpi_tables.specs.Rsdp.{rsdp_of}
-use Rattle.acpi_tables.specs.Order.{rank_cmp, bytes_of, has_signature, signed_at, list_of, listed_by, dsdt_address, each_once, is_addressed, IsNamed, IsChained, IsOrder, LeadsToList, LeadsToFadt}
+use Rattle.acpi_tables.specs.Order.{rank_cmp, bytes_of, has_signature, signed_at, list_of, listed_by, dsdt_address, each_once, is_addressed, IsNamed, IsChained}
+use Rattle.acpi_tables.specs.Order.{IsOrder, LeadsToList, LeadsToFadt}
 use Rattle.acpi_tables.proofs.Ranks.{ranks_below, rank_order, rank_total}
 
 -- how often a number stands in a list
@@ -34,7 +36,8 @@ record StandsIn (xs : List ℕ) (x : ℕ) : Type 0 where
 
 stands_here : (b : Bool) (x y : ℕ) (xs : List ℕ) → nat_eq y x ≡ b → (0 < times x xs → StandsIn xs x) → 0 < cond b 1 0 + times x xs → StandsIn (y ∷ xs) x
 stands_here true x y xs e later some = record { place = 0; inside = omega arith; there = search (rules, tests) }
-stands_here false x y xs e later some = let found = later (omega arith) in record { place = suc found.place; inside = omega (arith, found.inside); there = found.there }
+stands_here false x y xs e later some =
+    let found = later (omega arith) in record { place = suc found.place; inside = omega (arith, found.inside); there = found.there }
 
 stands_in : (xs : List ℕ) (x : ℕ) → 0 < times x xs → StandsIn xs x
 stands_in [] x some = absurd (omega arith)
@@ -63,7 +66,8 @@ module _ (lt : ℕ → ℕ → Bool) (order : IsStrictWeakOrder lt) (tied : (x y
       let below = first_below x y ys down (stands_in (y ∷ ys) x (omega (arith, same x, times_first x xs))) in
       let above = first_below y x xs up (stands_in (x ∷ xs) y (omega (arith, same y, times_first y ys))) in
       let first = tied x y below above in
-      let others = sorted_unique xs ys (sorted_behind lt x xs up) (sorted_behind lt y ys down) (λ z. omega (arith, same z, times-cons z x xs, times-cons z y ys, ap (is_one z) first)) in
+      let others = sorted_unique xs ys (sorted_behind lt x xs up) (sorted_behind lt y ys down)
+      (λ z. omega (arith, same z, times-cons z x xs, times-cons z y ys, ap (is_one z) first)) in
       ap (λ n. n ∷ xs) first ∙ ap (λ l. y ∷ l) others
 
 -- two indexes of which neither ranks below the other are one
@@ -112,5 +116,6 @@ blocks_unique : (b : Bool) (dumps : List Dump) (d d' : ℕ) (s s' : List ℕ)
 blocks_unique true dumps d d' s s' p q = chained_unique dumps d d' s s' p q
 blocks_unique false dumps d d' s s' p q = named_unique dumps d d' s s' p q
 
-pub order_unique : (dumps : List Dump) (any_sum : Bool) (d d' : ℕ) (s s' : List ℕ) → IsOrder dumps any_sum d s → IsOrder dumps any_sum d' s' → (d ≡ d') × (s ≡ s')
+pub order_unique : (dumps : List Dump) (any_sum : Bool) (d d' : ℕ) (s s' : List ℕ) → IsOrder dumps any_sum d s → IsOrder dumps any_sum d' s' → (d ≡ d')
+    × (s ≡ s')
 order_unique dumps any_sum d d' s s' a b = blocks_unique (is_addressed dumps) dumps d d' s s' a.blocks b.blocks

@@ -30,7 +30,8 @@ pub can_lean : (o : Option (Box Fork)) (b : Box Fork) (d : List Child × ℕ) �
 can_lean o b d view all is room = record { balanced = balanced_top o b is all; room = omega (arith, heighted d o b view is, room) }
 
 -- a side that was too high, leant outward and lifted
-module _ (f l : Fork) (list : list_of l ≡ f.left.0) (outer : l.left.1 + 1 ≡ f.left.1) (inner : (f.left.1 ≤ l.right.1 + 3) × (l.right.1 + 1 ≤ f.left.1)) (two : f.left.1 ≡ f.right.1 + 2) where
+module _ (f l : Fork) (list : list_of l ≡ f.left.0) (outer : l.left.1 + 1 ≡ f.left.1) (inner : (f.left.1 ≤ l.right.1 + 3) × (l.right.1 + 1 ≤ f.left.1))
+    (two : f.left.1 ≡ f.right.1 + 2) where
   pub lowered_left : IsRebalanced f (left_lifted f l)
   lowered_left = record {
     balanced = record {
@@ -43,7 +44,8 @@ module _ (f l : Fork) (list : list_of l ≡ f.left.0) (outer : l.left.1 + 1 ≡ 
     settled = λ even. absurd (omega (arith, even.0, two));
   }
 
-module _ (f r : Fork) (list : list_of r ≡ f.right.0) (outer : r.right.1 + 1 ≡ f.right.1) (inner : (f.right.1 ≤ r.left.1 + 3) × (r.left.1 + 1 ≤ f.right.1)) (two : f.right.1 ≡ f.left.1 + 2) where
+module _ (f r : Fork) (list : list_of r ≡ f.right.0) (outer : r.right.1 + 1 ≡ f.right.1) (inner : (f.right.1 ≤ r.left.1 + 3) × (r.left.1 + 1 ≤ f.right.1))
+    (two : f.right.1 ≡ f.left.1 + 2) where
   pub lowered_right : IsRebalanced f (right_lifted f r)
   lowered_right = record {
     balanced = record {

@@ -54,7 +54,8 @@ absent_front : (l m : List Child) (s : Seg) → child_in (l ++ m) s ≡ None →
 absent_front [] m s none = refl
 absent_front (c ∷ l) m s none = by (eq_by_cmp seg_cmp s c.seg) none (absent_front l m s)
   where
-    by : (b : Bool) → cond b (Some c.node) (child_in (l ++ m) s) ≡ None → (child_in (l ++ m) s ≡ None → child_in l s ≡ None) → cond b (Some c.node) (child_in l s) ≡ None
+    by : (b : Bool) → cond b (Some c.node) (child_in (l ++ m) s) ≡ None → (child_in (l ++ m) s ≡ None → child_in l s ≡ None)
+        → cond b (Some c.node) (child_in l s) ≡ None
     by true none rest = absurd (true≢false (ap is_some none))
     by false none rest = rest none
 
@@ -88,14 +89,16 @@ module _ (l : List Child) (e : Child) (r : List Child) (s : Seg) where
     where
       by : (cs : List Child) → Rise (cs ++ e ∷ r) → child_in (cs ++ e ∷ r) s ≡ child_in r s
       by [] rise = ap (λ b. cond b (Some e.node) (child_in r s)) (ap is_eq more)
-      by (c ∷ cs) rise = ap (λ b. cond b (Some c.node) (child_in (cs ++ e ∷ r) s)) (apart s c.seg (segs_total.trans c.seg e.seg s (before_middle c.seg cs e r rise.0) (turned s e.seg more))) ∙ by cs rise.1
+      by (c ∷ cs) rise = ap (λ b. cond b (Some c.node) (child_in (cs ++ e ∷ r) s))
+          (apart s c.seg (segs_total.trans c.seg e.seg s (before_middle c.seg cs e r rise.0) (turned s e.seg more))) ∙ by cs rise.1
 
   pub found_middle : Rise (l ++ e ∷ r) → seg_cmp s e.seg ≡ Equal → child_in (l ++ e ∷ r) s ≡ Some e.node
   found_middle rise same = by l rise
     where
       by : (cs : List Child) → Rise (cs ++ e ∷ r) → child_in (cs ++ e ∷ r) s ≡ Some e.node
       by [] rise = ap (λ b. cond b (Some e.node) (child_in r s)) (ap is_eq same)
-      by (c ∷ cs) rise = ap (λ b. cond b (Some c.node) (child_in (cs ++ e ∷ r) s)) (apart s c.seg (ap (seg_cmp c.seg) (exact_segs s e.seg same) ∙ before_middle c.seg cs e r rise.0)) ∙ by cs rise.1
+      by (c ∷ cs) rise = ap (λ b. cond b (Some c.node) (child_in (cs ++ e ∷ r) s))
+          (apart s c.seg (ap (seg_cmp c.seg) (exact_segs s e.seg same) ∙ before_middle c.seg cs e r rise.0)) ∙ by cs rise.1
 
   pub absent_left : child_in (l ++ e ∷ r) s ≡ None → child_in l s ≡ None
   absent_left none = absent_front l (e ∷ r) s none
@@ -113,7 +116,8 @@ module _ (e : Child) (r : List Child) (c : Child) where
   put_left [] less = ap (λ b. cond b (e ∷ put r c) (c ∷ e ∷ r)) (ap is_lt (turned_less c.seg e.seg less))
   put_left (d ∷ l) less = by (is_lt (seg_cmp d.seg c.seg)) (put_left l less)
     where
-      by : (b : Bool) → put (l ++ e ∷ r) c ≡ put l c ++ e ∷ r → cond b (d ∷ put (l ++ e ∷ r) c) (c ∷ d ∷ (l ++ e ∷ r)) ≡ cond b (d ∷ put l c) (c ∷ d ∷ l) ++ e ∷ r
+      by : (b : Bool) → put (l ++ e ∷ r) c ≡ put l c ++ e ∷ r → cond b (d ∷ put (l ++ e ∷ r) c) (c ∷ d ∷ (l ++ e ∷ r)) ≡ cond b (d ∷ put l c) (c ∷ d ∷ l) ++ e
+          ∷ r
       by true same = ap (λ (es : List Child). d ∷ es) same
       by false same = refl
 
@@ -140,11 +144,13 @@ pub first_left : (l : List Child) (k : Child) (r : List Child) → first_node (l
 first_left [] k r = refl
 first_left (c ∷ l) k r = refl
 
-pub behind_left : (l : List Child) (k : Child) (r : List Child) (s : Seg) → is_lt (seg_cmp s k.seg) ≡ true → first_node (behind s (l ++ k ∷ r)) ≡ option_or (first_node (behind s l)) (Some k.node)
+pub behind_left : (l : List Child) (k : Child) (r : List Child) (s : Seg) → is_lt (seg_cmp s k.seg) ≡ true
+    → first_node (behind s (l ++ k ∷ r)) ≡ option_or (first_node (behind s l)) (Some k.node)
 behind_left [] k r s less = ap (λ b. first_node (cond b (k ∷ r) (behind s r))) less
 behind_left (c ∷ l) k r s less = by (is_lt (seg_cmp s c.seg)) (behind_left l k r s less)
   where
-    by : (b : Bool) → first_node (behind s (l ++ k ∷ r)) ≡ option_or (first_node (behind s l)) (Some k.node) → first_node (cond b (c ∷ (l ++ k ∷ r)) (behind s (l ++ k ∷ r))) ≡ option_or (first_node (cond b (c ∷ l) (behind s l))) (Some k.node)
+    by : (b : Bool) → first_node (behind s (l ++ k ∷ r)) ≡ option_or (first_node (behind s l)) (Some k.node)
+        → first_node (cond b (c ∷ (l ++ k ∷ r)) (behind s (l ++ k ∷ r))) ≡ option_or (first_node (cond b (c ∷ l) (behind s l))) (Some k.node)
     by true same = refl
     by false same = same
 
@@ -156,7 +162,8 @@ not_before s t u less not = by (seg_cmp s t) refl
     by Equal is = ap is_lt is
     by Greater is = ap is_lt is
 
-pub behind_right : (l : List Child) (k : Child) (r : List Child) (s : Seg) → Rise (l ++ k ∷ r) → is_lt (seg_cmp s k.seg) ≡ false → behind s (l ++ k ∷ r) ≡ behind s r
+pub behind_right : (l : List Child) (k : Child) (r : List Child) (s : Seg) → Rise (l ++ k ∷ r) → is_lt (seg_cmp s k.seg) ≡ false
+    → behind s (l ++ k ∷ r) ≡ behind s r
 behind_right [] k r s rise not = ap (λ b. cond b (k ∷ r) (behind s r)) not
 behind_right (c ∷ l) k r s rise not =
     ap (λ b. cond b (c ∷ (l ++ k ∷ r)) (behind s (l ++ k ∷ r))) (not_before s c.seg k.seg (before_middle c.seg l k r rise.0) not)

@@ -6,7 +6,8 @@ use Rattle.aml_names.specs.Paths.{coded_seg}
 use Rattle.aml_children.specs.declared.children.Child.{Child}
 
 abbrev pub coded_child : Coded Child
-coded_child = code_by (Seg × ℕ) (coded× coded_seg coded_ℕ) (λ c. (c.seg, c.node)) (λ p. record { seg = p.0; node = p.1 }) (λ _. refl)
+coded_child = code_by (Seg × ℕ) (coded× coded_seg coded_ℕ) (λ c. (c.seg, c.node))
+    (λ p. record { seg = p.0; node = p.1 }) (λ _. refl)
 
 abbrev pub coded_children : Coded (List Child)
 coded_children = coded_list coded_child

@@ -5,7 +5,8 @@ use Rattle.aml_names.specs.Steps.{◌>>=◌}
 use Rattle.aml_names.proofs.StepLaws.{ok_is}
 
 -- it answered: what holds of the answers made of all that may have been read holds of this answer
-pub answered : {A B : Type 0} (P : B → Type 0) (r : Result A CodeFault) (f : A → B) (y : B) → (r >>= λ x. Ok (f x)) ≡ Ok y → ((x : A) → r ≡ Ok x → P (f x)) → P y
+pub answered : {A B : Type 0} (P : B → Type 0) (r : Result A CodeFault) (f : A → B) (y : B) → (r >>= λ x. Ok (f x)) ≡ Ok y → ((x : A) → r ≡ Ok x → P (f x))
+    → P y
 answered P (Ok x) f y e k = subst P (ok_is (f x) y e) (k x refl)
 answered P (Err d) f y e k = absurd cc
 

@@ -16,7 +16,8 @@ use Rattle.aml_code.specs.declared.rows.TailKind.TheVariants as tails
 use Rattle.aml_code.specs.Declaring.{after}
 use Rattle.aml_code.specs.Elses.{has_opcode, ElsesFollow, ElseFollows, NoElses, FollowInPart, FollowInParts, FollowInTail, FollowInFields, FollowInField}
 use Rattle.aml_code.specs.Faults.{Arities}
-use Rattle.aml_code.specs.Lawful.{Setting, IsLawful, AreTerms, IsPart, AreParts, IsTail, AreFields, IsField, is_if, is_if_row, is_if_place, terms_in, next_position}
+use Rattle.aml_code.specs.Lawful.{Setting, IsLawful, AreTerms, IsPart, AreParts, IsTail, AreFields, IsField, is_if, is_if_row, is_if_place, terms_in}
+use Rattle.aml_code.specs.Lawful.{next_position}
 use Rattle.aml_code.specs.Meaning.{ReadsBody, ReadsModule}
 use Rattle.aml_code.specs.Rows.{row_of, takes}
 use Rattle.aml_code.proofs.RowFacts.{row_opcode, row_passes}
@@ -124,7 +125,8 @@ inner _ place e = e
 module _ (s : Setting) where
   mutual
     -- a list whose first term stands in a position
-    pub elses_follow : (levels : ℕ) (p : Position) (ls : PathSet) (ts : Trees) (before : Bool) → (is_after_if p ≡ true → before ≡ true) → AreTerms s levels p ls ts
+    pub elses_follow : (levels : ℕ) (p : Position) (ls : PathSet) (ts : Trees) (before : Bool) → (is_after_if p ≡ true → before ≡ true)
+        → AreTerms s levels p ls ts
         → ElsesFollow before ts
     elses_follow levels p ls no_trees before k l = tt
     elses_follow levels p ls (tree_more t ts) before k l =
@@ -159,7 +161,8 @@ module _ (s : Setting) where
     parts_follow levels [] ls (part_more x xs) l = absurd l
     parts_follow levels (k ∷ ks) ls (part_more x xs) l = (part_follows levels k ls x l.0, parts_follow levels ks ls xs l.1)
 
-    tail_follows : (levels : ℕ) (p : Position) (k : TailKind) (ls : PathSet) (t : Tail) → (is_after_if p ≡ true → false ≡ true) → IsTail s levels p k ls t → FollowInTail t
+    tail_follows : (levels : ℕ) (p : Position) (k : TailKind) (ls : PathSet) (t : Tail) → (is_after_if p ≡ true → false ≡ true) → IsTail s levels p k ls t
+        → FollowInTail t
     tail_follows levels p tails.Terms ls (terms ts) apart l = elses_follow levels p ls ts false apart l
     tail_follows levels p _ ls (terms ts) apart l = absurd l
     tail_follows levels p tails.Elements ls (elements ts) apart l = none_follow levels positions.Data ls ts refl l

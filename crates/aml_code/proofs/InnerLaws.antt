@@ -56,17 +56,20 @@ as_argument _ place i e = absurd cc
 
 quiet : (o : ℕ) (r : Row) → row_of o ≡ Some r → taken_as_argument r.place ≡ true → (is_other r.role && not (has_terms r.tail)) ≡ true
 unfolding quiet_row
-quiet o r e taken = ap (λ b. cond b (is_other r.role && not (has_terms r.tail)) true) {x = true} {y = taken_as_argument r.place} (cc taken) ∙ row_passes quiet_row all_quiet o r e
+quiet o r e taken = ap (λ b. cond b (is_other r.role && not (has_terms r.tail)) true) {x = true} {y = taken_as_argument r.place} (cc taken)
+    ∙ row_passes quiet_row all_quiet o r e
 
 -- ---- nothing is declared
 
-none_declared : (scope : Option (List Seg)) (ls : PathSet) (role : Role) (ps : Parts) (t : Tail) → is_other role ≡ true → with_declared scope ls (names_declared role ps t) ≡ ls
+none_declared : (scope : Option (List Seg)) (ls : PathSet) (role : Role) (ps : Parts) (t : Tail) → is_other role ≡ true
+    → with_declared scope ls (names_declared role ps t) ≡ ls
 unfolding is_other
 none_declared None ls role ps t e = refl
 none_declared (Some path) ls roles.Other ps t e = refl
 none_declared (Some path) ls _ ps t e = absurd cc
 
-tail_unchanged : (s : Setting) (levels : ℕ) (p : Position) (k : TailKind) (ls : PathSet) (t : Tail) → not (has_terms k) ≡ true → IsTail s levels p k ls t → after_tail s.scope ls t ≡ ls
+tail_unchanged : (s : Setting) (levels : ℕ) (p : Position) (k : TailKind) (ls : PathSet) (t : Tail) → not (has_terms k) ≡ true → IsTail s levels p k ls t
+    → after_tail s.scope ls t ≡ ls
 unfolding has_terms
 tail_unchanged s levels p tails.Terms ls (terms ts) e h = absurd cc
 tail_unchanged s levels p _ ls (terms ts) e h = absurd h
@@ -83,7 +86,8 @@ unchanged s (suc levels) p ls (op o w ps t) i h =
     ∙ none_declared s.scope (after_tail s.scope ls t) row.role ps t (and_left (is_other row.role) (not (has_terms row.tail)) q)
     ∙ tail_unchanged s levels _ row.tail ls t (and_right (is_other row.role) (not (has_terms row.tail)) q) h.tail
 
-pub all_unchanged : (s : Setting) (levels : ℕ) (p : Position) (ls : PathSet) (ts : Trees) → is_inner p ≡ true → AreTerms s levels p ls ts → after_all s.scope ls ts ≡ ls
+pub all_unchanged : (s : Setting) (levels : ℕ) (p : Position) (ls : PathSet) (ts : Trees) → is_inner p ≡ true → AreTerms s levels p ls ts
+    → after_all s.scope ls ts ≡ ls
 all_unchanged s levels p ls no_trees i h = refl
 all_unchanged s levels p ls (tree_more t ts) i h =
     all_unchanged s levels (next_position p t) (after s.scope ls t) ts (inner_next p t i) h.1 ∙ unchanged s levels p ls t i h.0

@@ -1,13 +1,15 @@
 -- A package length that is read is the one that is spelled, and one that is spelled is read again.
 use Rattle.std.specs.Prelude.{slice_get, IfOk, IfErr, ◌≢◌}
-use Rattle.std.proofs.Common.{◌≡◌, ℕ, zero, suc, ◌+◌, ◌-◌, ◌*◌, ◌/◌, ◌%◌, ◌^◌, ◌<◌, ◌≤◌, true, false, cond, eqb, ltb, List, [], ◌∷◌, ◌++◌, length, take, drop, Result, Ok, Err, refl, sym, ap, subst, ◌∙◌, ◌⊎◌, arith, inl, inr}
+use Rattle.std.proofs.Common.{◌≡◌, ℕ, zero, suc, ◌+◌, ◌-◌, ◌*◌, ◌/◌, ◌%◌, ◌^◌, ◌<◌, ◌≤◌, true, false, cond, eqb, ltb, List, [], ◌∷◌, ◌++◌, length, take, drop}
+use Rattle.std.proofs.Common.{Result, Ok, Err, refl, sym, ap, subst, ◌∙◌, ◌⊎◌, arith, inl, inr}
 use Rattle.std.proofs.lemmas.Bool.{ltb-false, le-ltb, ltb-true, eqb-true, eqb-false, eq-eqb, ne_eqb}
 use Rattle.std.proofs.lemmas.List.{take_at, drop_at, take-append-drop, length-append, length-take}
 use Rattle.std.proofs.Math.Nat.{pow-succ'}
 use Rattle.aml_names.specs.declared.faults.CodeFault.{CodeFault}
 use Rattle.aml_names.specs.declared.faults.CodeFault.TheVariants as faults
 use Rattle.aml_names.specs.Steps.{◌>>=◌, Gives, byte_at}
-use Rattle.aml_names.proofs.StepLaws.{ok_is, err_is, bind_then, err_then, cond_then, guard_ok, IsBytes, IsBytes-drop, IsBytes-take, Takes, Takes-then, byte_takes, byte_fault}
+use Rattle.aml_names.proofs.StepLaws.{ok_is, err_is, bind_then, err_then, cond_then, guard_ok, IsBytes, IsBytes-drop, IsBytes-take, Takes, Takes-then}
+use Rattle.aml_names.proofs.StepLaws.{byte_takes, byte_fault}
 use Rattle.aml_code.specs.declared.packages.PkgWidth.{PkgWidth}
 use Rattle.aml_code.specs.declared.packages.PkgWidth.TheVariants as width
 use Rattle.aml_code.specs.Packages.{following_bytes, width_of, width_len, little, spelled, package_bytes, FitsFollowing, FitsWidth}
@@ -19,7 +21,8 @@ use Rattle.aml_code.specs.Faults.{HasPkgBits, IsLengthFault}
 pub power : (k : ℕ) → 256 ^ suc k ≡ 256 * 256 ^ k
 power k = pow-succ' 256 k
 
-pub little_takes : (k end : ℕ) (bytes : List ℕ) (n : ℕ) (rest : List ℕ) → IsBytes bytes → little_at k end bytes ≡ Ok (n, rest) → Takes bytes (little k n) rest × (n < 256 ^ k)
+pub little_takes : (k end : ℕ) (bytes : List ℕ) (n : ℕ) (rest : List ℕ) → IsBytes bytes → little_at k end bytes ≡ Ok (n, rest) → Takes bytes (little k n) rest
+    × (n < 256 ^ k)
 unfolding little_at
 little_takes zero end bytes n rest fits e =
     subst (λ (p : ℕ × List ℕ). Takes bytes [] p.1 × (p.0 < 1)) (ok_is (0, bytes) (n, rest) e) (record { parts = refl; rest_fits = fits }, omega arith)
@@ -55,7 +58,8 @@ little_fault (suc k) end bytes d e =
 
 pub little_below : (k low high : ℕ) → 0 < k → low < 256 → high < 256 ^ (k - 1) → low + 256 * high < 256 ^ k
 little_below zero low high p l h = absurd (omega arith)
-little_below (suc k) low high p l h = let same : suc k - 1 ≡ k = omega arith in let less : high < 256 ^ k = subst (λ (m : ℕ). high < 256 ^ m) same h in omega (arith, power k, less)
+little_below (suc k) low high p l h =
+    let same : suc k - 1 ≡ k = omega arith in let less : high < 256 ^ k = subst (λ (m : ℕ). high < 256 ^ m) same h in omega (arith, power k, less)
 
 -- ---- widths
 
@@ -104,7 +108,8 @@ one_byte lead bytes p fits =
     let low : lead % 64 ≡ lead = omega arith in
     (record { parts = rw low refl; rest_fits = fits }, omega arith)
 
-more_bytes : (k lead : ℕ) (bytes : List ℕ) (high : ℕ) (rest : List ℕ) → lead / 64 ≡ k → (k ≡ 0 → ⊥) → lead < 256 → lead / 16 % 4 ≡ 0 → Takes bytes (little k high) rest → high < 256 ^ k
+more_bytes : (k lead : ℕ) (bytes : List ℕ) (high : ℕ) (rest : List ℕ) → lead / 64 ≡ k → (k ≡ 0 → ⊥) → lead < 256 → lead / 16 % 4 ≡ 0
+    → Takes bytes (little k high) rest → high < 256 ^ k
     → Takes (lead ∷ bytes) (spelled k (lead % 16 + 16 * high)) rest × FitsFollowing k (lead % 16 + 16 * high)
 more_bytes zero lead bytes high rest p q l zeros takes below = absurd (q refl)
 more_bytes (suc k) lead bytes high rest p q l zeros takes below =
@@ -114,7 +119,8 @@ more_bytes (suc k) lead bytes high rest p q l zeros takes below =
     let small : value < 16 * 256 ^ suc k = omega arith in
     (record { parts = rw (low, up) (ap (λ (t : List ℕ). lead ∷ t) takes.parts); rest_fits = takes.rest_fits }, (omega arith, small))
 
-value_takes : (at lead end : ℕ) (bytes : List ℕ) (x : (PkgWidth × ℕ) × List ℕ) → lead < 256 → IsBytes bytes → value_at at lead end bytes ≡ Ok x → IsLength (lead ∷ bytes) x.0.0 x.0.1 x.1
+value_takes : (at lead end : ℕ) (bytes : List ℕ) (x : (PkgWidth × ℕ) × List ℕ) → lead < 256 → IsBytes bytes → value_at at lead end bytes ≡ Ok x
+    → IsLength (lead ∷ bytes) x.0.0 x.0.1 x.1
 unfolding value_at
 value_takes at lead end bytes x small fits e =
     let P : Type 0 = IsLength (lead ∷ bytes) x.0.0 x.0.1 x.1 in
@@ -173,16 +179,19 @@ pub length_again : (end : ℕ) (w : PkgWidth) (v : ℕ) (rest : List ℕ) → Fi
 unfolding length_at
 length_again end w v rest fits =
     let h = headed (end - length (package_bytes w v ++ rest)) (following_bytes w) v end rest fits in
-    let goal : List ℕ → Result ((PkgWidth × ℕ) × List ℕ) CodeFault = λ b. byte_at end b >>= λ lead. value_at (end - length (package_bytes w v ++ rest)) lead.0 end lead.1 in
+    let goal : List ℕ → Result ((PkgWidth × ℕ) × List ℕ) CodeFault = λ b. byte_at end b >>= λ lead. value_at (end - length (package_bytes w v ++ rest))
+    lead.0 end lead.1 in
     ap goal h.text ∙ h.reads ∙ ap (λ (u : PkgWidth). Ok ((u, v), rest)) (width_again w)
 
 -- ---- faults
 
 -- a fault in a length: the end comes too early, or the lead byte has a bit set that has to be clear
 abbrev pub LengthFault : ℕ → List ℕ → CodeFault → Type 0
-LengthFault end bytes d = (d ≡ faults.Truncated end) ⊎ ((lead : ℕ) × (rest : List ℕ) × (bytes ≡ lead ∷ rest) × HasPkgBits lead × (d ≡ faults.PkgBits (end - length bytes)))
+LengthFault end bytes d =
+    (d ≡ faults.Truncated end) ⊎ ((lead : ℕ) × (rest : List ℕ) × (bytes ≡ lead ∷ rest) × HasPkgBits lead × (d ≡ faults.PkgBits (end - length bytes)))
 
-value_fault : (at lead end : ℕ) (bytes : List ℕ) (d : CodeFault) → value_at at lead end bytes ≡ Err d → (d ≡ faults.Truncated end) ⊎ (HasPkgBits lead × (d ≡ faults.PkgBits at))
+value_fault : (at lead end : ℕ) (bytes : List ℕ) (d : CodeFault) → value_at at lead end bytes ≡ Err d → (d ≡ faults.Truncated end)
+    ⊎ (HasPkgBits lead × (d ≡ faults.PkgBits at))
 unfolding value_at
 value_fault at lead end bytes d e =
     let P : Type 0 = (d ≡ faults.Truncated end) ⊎ (HasPkgBits lead × (d ≡ faults.PkgBits at)) in
@@ -192,8 +201,10 @@ value_fault at lead end bytes d e =
     let short : (PkgWidth × ℕ) × List ℕ = ((width.One, lead), bytes) in
     cond_then P (eqb (lead / 64) 0) (Ok short) (cond (ltb 0 (lead / 16 % 4)) bits read) (Err d) e (λ h p. absurd cc) (λ h p.
     cond_then P (ltb 0 (lead / 16 % 4)) bits read (Err d) p
-    (λ g q. let long = eqb-false _ _ h in let set = ltb-true _ _ g in inr ((omega (arith, not_zero (lead / 64) long), set), sym (err_is {A = (PkgWidth × ℕ) × List ℕ} (faults.PkgBits at) d q)))
-    (λ g q. err_then P (little_at (lead / 64) end bytes) (λ high. Ok (got high)) d q (λ r. inl (little_fault (lead / 64) end bytes d r)) (λ high h1 e1. absurd cc)))
+    (λ g q. let long = eqb-false _ _ h in let set = ltb-true _ _ g in inr
+    ((omega (arith, not_zero (lead / 64) long), set), sym (err_is {A = (PkgWidth × ℕ) × List ℕ} (faults.PkgBits at) d q)))
+    (λ g q. err_then P (little_at (lead / 64) end bytes) (λ high. Ok (got high)) d q (λ r. inl (little_fault (lead / 64) end bytes d r))
+    (λ high h1 e1. absurd cc)))
   where
     not_zero : (n : ℕ) → (n ≡ 0 → ⊥) → 0 < n
     not_zero zero h = absurd (h refl)
@@ -215,7 +226,8 @@ abbrev pub IsSpan : List ℕ → PkgWidth × List ℕ × List ℕ → Type 0
 IsSpan bytes x = Takes bytes (package_bytes x.0 (width_len x.0 + length x.1) ++ x.1) x.2 × FitsWidth x.0 (width_len x.0 + length x.1) × IsBytes x.1
 
 span_parts : (bytes : List ℕ) (at : ℕ) (w : PkgWidth) (value : ℕ) (rest : List ℕ) (x : PkgWidth × List ℕ × List ℕ) → IsLength bytes w value rest
-    → cond (ltb value (width_len w)) (Err (faults.PkgPast at)) (cond (ltb (length rest) (value - width_len w)) (Err (faults.PkgPast at)) (Ok (w, take (value - width_len w) rest, drop (value - width_len w) rest))) ≡ Ok x
+    → cond (ltb value (width_len w)) (Err (faults.PkgPast at)) (cond (ltb (length rest) (value - width_len w)) (Err (faults.PkgPast at))
+    (Ok (w, take (value - width_len w) rest, drop (value - width_len w) rest))) ≡ Ok x
     → IsSpan bytes x
 span_parts bytes at w value rest x t e =
     let n = value - width_len w in
@@ -235,7 +247,8 @@ unfolding span_at
 span_takes end bytes x fits e =
     let at = end - length bytes in
     let cut : (PkgWidth × ℕ) × List ℕ → Result (PkgWidth × List ℕ × List ℕ) CodeFault = λ l.
-    cond (ltb l.0.1 (width_len l.0.0)) (Err (faults.PkgPast at)) (cond (ltb (length l.1) (l.0.1 - width_len l.0.0)) (Err (faults.PkgPast at)) (Ok (l.0.0, take (l.0.1 - width_len l.0.0) l.1, drop (l.0.1 - width_len l.0.0) l.1))) in
+    cond (ltb l.0.1 (width_len l.0.0)) (Err (faults.PkgPast at)) (cond (ltb (length l.1) (l.0.1 - width_len l.0.0)) (Err (faults.PkgPast at))
+    (Ok (l.0.0, take (l.0.1 - width_len l.0.0) l.1, drop (l.0.1 - width_len l.0.0) l.1))) in
     bind_then (IsSpan bytes x) (length_at end bytes) cut x e (λ l h1 e1. span_parts bytes at l.0.0 l.0.1 l.1 x (length_takes end bytes l fits h1) e1)
 
 pub span_again : (end : ℕ) (w : PkgWidth) (inside behind : List ℕ) → FitsWidth w (width_len w + length inside)
@@ -262,15 +275,31 @@ unfolding span_at
 span_fault end bytes d fits e =
     let at = end - length bytes in
     let past : Result (PkgWidth × List ℕ × List ℕ) CodeFault = Err (faults.PkgPast at) in
-    let done : (PkgWidth × ℕ) × List ℕ → Result (PkgWidth × List ℕ × List ℕ) CodeFault = λ l. Ok (l.0.0, take (l.0.1 - width_len l.0.0) l.1, drop (l.0.1 - width_len l.0.0) l.1) in
-    let fits_in : (PkgWidth × ℕ) × List ℕ → Result (PkgWidth × List ℕ × List ℕ) CodeFault = λ l. cond (ltb (length l.1) (l.0.1 - width_len l.0.0)) past (done l) in
+    let done : (PkgWidth × ℕ) × List ℕ → Result (PkgWidth × List ℕ × List ℕ) CodeFault =
+    λ l. Ok (l.0.0, take (l.0.1 - width_len l.0.0) l.1, drop (l.0.1 - width_len l.0.0) l.1) in
+    let fits_in : (PkgWidth × ℕ) × List ℕ → Result (PkgWidth × List ℕ × List ℕ) CodeFault =
+    λ l. cond (ltb (length l.1) (l.0.1 - width_len l.0.0)) past (done l) in
     let P : Type 0 = LengthFault end bytes d ⊎ PastFault end bytes d in
     err_then P (length_at end bytes) (λ l. cond (ltb l.0.1 (width_len l.0.0)) past (fits_in l)) d e (λ h. inl (length_fault end bytes d h)) (λ l h1 e1.
     let t = length_takes end bytes l fits h1 in
     cond_then P (ltb l.0.1 (width_len l.0.0)) past (fits_in l) (Err d) e1
-    (λ g q. inr (record { width = l.0.0; value = l.0.1; rest = l.1; is_length = t; past = inl (ltb-true _ _ g); fault = sym (err_is {A = PkgWidth × List ℕ × List ℕ} (faults.PkgPast at) d q) }))
+    (λ g q. inr (record {
+      width = l.0.0;
+      value = l.0.1;
+      rest = l.1;
+      is_length = t;
+      past = inl (ltb-true _ _ g);
+      fault = sym (err_is {A = PkgWidth × List ℕ × List ℕ} (faults.PkgPast at) d q);
+    }))
     (λ g q. cond_then P (ltb (length l.1) (l.0.1 - width_len l.0.0)) past (done l) (Err d) q
-    (λ g2 q2. inr (record { width = l.0.0; value = l.0.1; rest = l.1; is_length = t; past = inr (ltb-true _ _ g2); fault = sym (err_is {A = PkgWidth × List ℕ × List ℕ} (faults.PkgPast at) d q2) }))
+    (λ g2 q2. inr (record {
+      width = l.0.0;
+      value = l.0.1;
+      rest = l.1;
+      is_length = t;
+      past = inr (ltb-true _ _ g2);
+      fault = sym (err_is {A = PkgWidth × List ℕ × List ℕ} (faults.PkgPast at) d q2);
+    }))
     (λ g2 q2. absurd cc)))
 
 -- ---- machine numbers
@@ -301,7 +330,8 @@ unfolding front_at
 front_again bytes w v rest fits text =
     ap (λ r. r >>= λ l. Ok l.0) (ap (length_at (length bytes)) text ∙ length_again (length bytes) w v rest fits)
 
-front_takes : (bytes : List ℕ) (x : PkgWidth × ℕ) → IsBytes bytes → front_at bytes ≡ Ok x → FitsWidth x.0 x.1 × ((rest : List ℕ) × (bytes ≡ package_bytes x.0 x.1 ++ rest))
+front_takes : (bytes : List ℕ) (x : PkgWidth × ℕ) → IsBytes bytes → front_at bytes ≡ Ok x → FitsWidth x.0 x.1
+    × ((rest : List ℕ) × (bytes ≡ package_bytes x.0 x.1 ++ rest))
 unfolding front_at
 front_takes bytes x fits e =
     bind_then (FitsWidth x.0 x.1 × ((rest : List ℕ) × (bytes ≡ package_bytes x.0 x.1 ++ rest))) (length_at (length bytes) bytes) (λ l. Ok l.0) x e (λ l h1 e1.
@@ -322,20 +352,25 @@ front_fault bytes d e =
 abbrev pub Fronts : Result (PkgWidth × ℕ) CodeFault → List ℕ → Type 0
 Fronts result bytes = Gives (λ x. x) result (front_at bytes)
 
-pub given_sound : (result : Result (PkgWidth × ℕ) CodeFault) (bytes : List ℕ) → IsBytes bytes → Fronts result bytes → IfOk result (λ x. FitsWidth x.0 x.1 × ((rest : List ℕ) × (bytes ≡ package_bytes x.0 x.1 ++ rest)))
+pub given_sound : (result : Result (PkgWidth × ℕ) CodeFault) (bytes : List ℕ) → IsBytes bytes → Fronts result bytes
+    → IfOk result (λ x. FitsWidth x.0 x.1 × ((rest : List ℕ) × (bytes ≡ package_bytes x.0 x.1 ++ rest)))
 given_sound (Ok x) bytes fits e = front_takes bytes x fits e
 given_sound (Err d) bytes fits e = tt
 
-pub given_one : (result : Result (PkgWidth × ℕ) CodeFault) (bytes : List ℕ) → Fronts result bytes → IfOk result (λ x. (w : PkgWidth) (v : ℕ) (rest : List ℕ) → FitsWidth w v → bytes ≡ package_bytes w v ++ rest → (w ≡ x.0) × (v ≡ x.1))
-given_one (Ok x) bytes e = λ w v rest fits text. let same = ok_is (w, v) x (sym (front_again bytes w v rest fits text) ∙ e) in (ap (λ (y : PkgWidth × ℕ). y.0) same, ap (λ (y : PkgWidth × ℕ). y.1) same)
+pub given_one : (result : Result (PkgWidth × ℕ) CodeFault) (bytes : List ℕ) → Fronts result bytes
+    → IfOk result (λ x. (w : PkgWidth) (v : ℕ) (rest : List ℕ) → FitsWidth w v → bytes ≡ package_bytes w v ++ rest → (w ≡ x.0) × (v ≡ x.1))
+given_one (Ok x) bytes e = λ w v rest fits text. let same = ok_is (w, v) x (sym (front_again bytes w v rest fits text) ∙ e) in
+    (ap (λ (y : PkgWidth × ℕ). y.0) same, ap (λ (y : PkgWidth × ℕ). y.1) same)
 given_one (Err d) bytes e = tt
 
-pub given_complete : (result : Result (PkgWidth × ℕ) CodeFault) (bytes : List ℕ) → IfErr result (λ e. e ≢ faults.NoMemory) → Fronts result bytes → IfErr result (λ e. (w : PkgWidth) (v : ℕ) (rest : List ℕ) → FitsWidth w v → bytes ≡ package_bytes w v ++ rest → ⊥)
+pub given_complete : (result : Result (PkgWidth × ℕ) CodeFault) (bytes : List ℕ) → IfErr result (λ e. e ≢ faults.NoMemory) → Fronts result bytes
+    → IfErr result (λ e. (w : PkgWidth) (v : ℕ) (rest : List ℕ) → FitsWidth w v → bytes ≡ package_bytes w v ++ rest → ⊥)
 given_complete (Ok x) bytes free e = tt
 given_complete (Err d) bytes free (inl e) = absurd (free e)
 given_complete (Err d) bytes free (inr e) = λ w v rest fits text. absurd (cc (front_again bytes w v rest fits text, e))
 
-pub given_placed : (result : Result (PkgWidth × ℕ) CodeFault) (bytes : List ℕ) → IfErr result (λ e. e ≢ faults.NoMemory) → Fronts result bytes → IfErr result (IsLengthFault bytes)
+pub given_placed : (result : Result (PkgWidth × ℕ) CodeFault) (bytes : List ℕ) → IfErr result (λ e. e ≢ faults.NoMemory) → Fronts result bytes
+    → IfErr result (IsLengthFault bytes)
 given_placed (Ok x) bytes free e = tt
 given_placed (Err d) bytes free (inl e) = absurd (free e)
 given_placed (Err d) bytes free (inr e) = front_fault bytes d e

@@ -9,7 +9,8 @@ use Rattle.aml_code.specs.declared.rows.TailKind.{TailKind}
 use Rattle.aml_code.specs.declared.rows.TailKind.TheVariants as tails
 use Rattle.aml_code.specs.Declaring.{after}
 use Rattle.aml_code.specs.Lawful.{Setting, IsLawful, AreTerms, IsPart, AreParts, IsTail, AreFields, IsField, terms_in, next_position}
-use Rattle.aml_code.specs.Tree.{Tree, nothing, named, op, Trees, no_trees, tree_more, Part, child, label, byte, word, dword, qword, text, Parts, no_parts, part_more}
+use Rattle.aml_code.specs.Tree.{Tree, nothing, named, op, Trees, no_trees, tree_more, Part, child, label, byte, word, dword, qword, text, Parts, no_parts}
+use Rattle.aml_code.specs.Tree.{part_more}
 use Rattle.aml_code.specs.Tree.{Tail, empty, terms, bytes, elements, fields, body, Field, connection, Fields, no_fields, field_more, target, buffer}
 
 module _ (s : Setting) where
@@ -74,6 +75,7 @@ module _ (s : Setting) where
   deeper_by zero levels all p ls t e h = subst (λ (n : ℕ). IsLawful s n p ls t) (omega (arith, e)) h
   deeper_by (suc more) levels all p ls t e h = deeper_by more (suc levels) all p ls t (omega (arith, e)) (deeper levels p ls t h)
 
-  pub terms_deeper_by : (more levels all : ℕ) (p : Position) (ls : PathSet) (ts : Trees) → more + levels ≡ all → AreTerms s levels p ls ts → AreTerms s all p ls ts
+  pub terms_deeper_by : (more levels all : ℕ) (p : Position) (ls : PathSet) (ts : Trees) → more + levels ≡ all → AreTerms s levels p ls ts
+      → AreTerms s all p ls ts
   terms_deeper_by zero levels all p ls ts e h = subst (λ (n : ℕ). AreTerms s n p ls ts) (omega (arith, e)) h
   terms_deeper_by (suc more) levels all p ls ts e h = terms_deeper_by more (suc levels) all p ls ts (omega (arith, e)) (terms_deeper levels p ls ts h)

@@ -1,5 +1,6 @@
 -- What holds of each row of the table of opcodes, by tests that compute over the whole table; and opcodes as they are read.
-use Rattle.std.proofs.Common.{◌≡◌, ℕ, ◌/◌, ◌%◌, ◌<◌, Bool, true, false, cond, ltb, not, ◌&&◌, ◌==◌, List, [], ◌∷◌, ◌++◌, length, find, Option, Some, refl, sym, ap, subst, ◌∙◌, arith, inl, inr}
+use Rattle.std.proofs.Common.{◌≡◌, ℕ, ◌/◌, ◌%◌, ◌<◌, Bool, true, false, cond, ltb, not, ◌&&◌, ◌==◌, List, [], ◌∷◌, ◌++◌, length, find, Option, Some, refl, sym}
+use Rattle.std.proofs.Common.{ap, subst, ◌∙◌, arith, inl, inr}
 use Rattle.std.specs.Prelude.{nat_le}
 use Rattle.std.specs.List.{list_all}
 use Rattle.std.proofs.lemmas.Bool.{eqb-true, eqb-false, eq-eqb, ltb-true, lt-ltb, le-ltb}
@@ -70,7 +71,11 @@ not_true false e = refl
 
 opcode_by : (o : ℕ) (b : Bool) → ltb o 256 ≡ b → cond b (not (o == 0x5B)) (nat_le 0x5B00 o && ltb o 0x5C00) ≡ true → IsOpcode o
 opcode_by o true small e = inl (ltb-true _ _ small, eqb-false _ _ (not_true _ e))
-opcode_by o false small e = inr (let low : nat_le 0x5B00 o ≡ true = and_left (nat_le 0x5B00 o) (ltb o 0x5C00) e in grind (arith, nat_tests, low), ltb-true _ _ (and_right (nat_le 0x5B00 o) (ltb o 0x5C00) e))
+opcode_by o false small e = inr (
+  let low : nat_le 0x5B00 o ≡ true = and_left (nat_le 0x5B00 o) (ltb o 0x5C00) e in
+      grind (arith, nat_tests, low),
+  ltb-true _ _ (and_right (nat_le 0x5B00 o) (ltb o 0x5C00) e),
+)
 
 pub row_is_opcode : (o : ℕ) (r : Row) → row_of o ≡ Some r → IsOpcode o
 unfolding opcode_row is_opcode
@@ -106,7 +111,8 @@ by_target false c h e = absurd cc
 
 pub target_opcode : (o : ℕ) (r : Row) → row_of o ≡ Some r → taken_as_target r.place ≡ true → (lead_of o == 0x00) ≡ false
 unfolding target_row
-target_opcode o r e h = subst (λ (n : ℕ). (lead_of n == 0x00) ≡ false) (row_opcode o r e) (by_target (taken_as_target r.place) (lead_of r.opcode == 0x00) h (row_passes target_row all_targets o r e))
+target_opcode o r e h = subst (λ (n : ℕ). (lead_of n == 0x00) ≡ false) (row_opcode o r e)
+    (by_target (taken_as_target r.place) (lead_of r.opcode == 0x00) h (row_passes target_row all_targets o r e))
 
 -- ---- only a Method has a body
 
@@ -238,8 +244,10 @@ pub zero_bare : (r : Row) → row_of 0x00 ≡ Some r → (r.parts ≡ []) × (ha
 unfolding zero_row
 zero_bare r e =
     let is : (r.opcode == 0x00) ≡ true = eq-eqb _ _ (row_opcode 0x00 r e) in
-    let both = where_true (r.opcode == 0x00) (no_parts_kind r.parts && not (has_length r.tail)) is (row_passes zero_row all_zeros 0x00 r e) in
-    (no_parts_is r.parts (and_left (no_parts_kind r.parts) (not (has_length r.tail)) both), not_true (has_length r.tail) (and_right (no_parts_kind r.parts) (not (has_length r.tail)) both))
+    let both = where_true (r.opcode == 0x00) (no_parts_kind r.parts && not (has_length r.tail)) is (row_passes zero_row all_zeros 0x00 r e) in (
+      no_parts_is r.parts (and_left (no_parts_kind r.parts) (not (has_length r.tail)) both),
+      not_true (has_length r.tail) (and_right (no_parts_kind r.parts) (not (has_length r.tail)) both),
+    )
 
 -- ---- the bytes of an opcode
 

@@ -1,7 +1,8 @@
 -- The row of an opcode is the one that the index names, if that has the opcode.
 use Rattle.std.specs.Prelude.{slice_get}
 use Rattle.std.specs.Option.{option_map}
-use Rattle.std.proofs.Common.{◌≡◌, ℕ, zero, suc, ◌+◌, ◌%◌, Bool, true, false, cond, ltb, ◌&&◌, ◌==◌, List, [], ◌∷◌, map, get_or, find, Option, Some, None, refl, sym, ap, subst, ◌∙◌, arith}
+use Rattle.std.proofs.Common.{◌≡◌, ℕ, zero, suc, ◌+◌, ◌%◌, Bool, true, false, cond, ltb, ◌&&◌, ◌==◌, List, [], ◌∷◌, map, get_or, find, Option, Some, None, refl}
+use Rattle.std.proofs.Common.{sym, ap, subst, ◌∙◌, arith}
 use Rattle.std.proofs.lemmas.Bool.{eqb-true, eq-eqb}
 use Rattle.aml_code.specs.declared.rows.OpRow.{OpRow}
 use Rattle.aml_code.specs.Opcodes.{Row, rows}
@@ -25,18 +26,21 @@ all_placed : are_placed 0 rows ≡ true
 unfolding are_placed place_of rows
 all_placed = refl
 
-found_step : (o : ℕ) (r x : Row) (rs : List Row) (k : ℕ) (b : Bool) → (r.opcode == o) ≡ b → place_of r.opcode ≡ k → (find (λ y. y.opcode == o) rs ≡ Some x → (i : ℕ) × (slice_get rs i ≡ Some x) × (place_of o ≡ suc k + i))
+found_step : (o : ℕ) (r x : Row) (rs : List Row) (k : ℕ) (b : Bool) → (r.opcode == o) ≡ b → place_of r.opcode ≡ k
+    → (find (λ y. y.opcode == o) rs ≡ Some x → (i : ℕ) × (slice_get rs i ≡ Some x) × (place_of o ≡ suc k + i))
     → cond b (Some r) (find (λ y. y.opcode == o) rs) ≡ Some x → (i : ℕ) × (slice_get (r ∷ rs) i ≡ Some x) × (place_of o ≡ k + i)
 found_step o r x rs k true is here later e =
     let same : r.opcode ≡ o = eqb-true _ _ is in
     (0, e, subst (λ (n : ℕ). place_of n ≡ k + 0) same (omega (arith, here)))
 found_step o r x rs k false is here later e = let l = later e in (suc l.0, l.1, omega (arith, l.2))
 
-found_place : (o : ℕ) (x : Row) (rs : List Row) (k : ℕ) → are_placed k rs ≡ true → find (λ y. y.opcode == o) rs ≡ Some x → (i : ℕ) × (slice_get rs i ≡ Some x) × (place_of o ≡ k + i)
+found_place : (o : ℕ) (x : Row) (rs : List Row) (k : ℕ) → are_placed k rs ≡ true → find (λ y. y.opcode == o) rs ≡ Some x → (i : ℕ) × (slice_get rs i ≡ Some x)
+    × (place_of o ≡ k + i)
 unfolding are_placed
 found_place o x [] k all e = absurd cc
 found_place o x (r ∷ rs) k all e =
-    found_step o r x rs k (r.opcode == o) refl (eqb-true _ _ (and_left (place_of r.opcode == k) (are_placed (suc k) rs) all)) (found_place o x rs (suc k) (and_right (place_of r.opcode == k) (are_placed (suc k) rs) all)) e
+    found_step o r x rs k (r.opcode == o) refl (eqb-true _ _ (and_left (place_of r.opcode == k) (are_placed (suc k) rs) all))
+    (found_place o x rs (suc k) (and_right (place_of r.opcode == k) (are_placed (suc k) rs) all)) e
 
 -- the row of an opcode stands where the index says
 row_place : (o : ℕ) (x : Row) → row_of o ≡ Some x → slice_get rows (place_of o) ≡ Some x
@@ -72,7 +76,8 @@ viewed_at f [] i = refl
 viewed_at f (x ∷ xs) zero = refl
 viewed_at f (x ∷ xs) (suc i) = viewed_at f xs i
 
-pub looked_up : (o slot place : ℕ) (table : List OpRow) (f : Option OpRow) → slot ≡ slot_of o → place ≡ get_or INDEX slot 0 → map row_view table ≡ rows → f ≡ slice_get table place → slice_get rows (place_of o) ≡ option_map row_view f
+pub looked_up : (o slot place : ℕ) (table : List OpRow) (f : Option OpRow) → slot ≡ slot_of o → place ≡ get_or INDEX slot 0 → map row_view table ≡ rows
+    → f ≡ slice_get table place → slice_get rows (place_of o) ≡ option_map row_view f
 unfolding place_of
 looked_up o slot place table f a b are c =
     let here : place ≡ get_or INDEX (slot_of o) 0 = b ∙ ap (λ (s : ℕ). get_or INDEX s 0) a in

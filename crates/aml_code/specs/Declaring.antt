@@ -10,7 +10,8 @@ use Rattle.aml_code.specs.declared.rows.Role.{Role}
 use Rattle.aml_code.specs.declared.rows.Role.TheVariants as roles
 use Rattle.aml_code.specs.Opcodes.{Row}
 use Rattle.aml_code.specs.Rows.{row_of}
-use Rattle.aml_code.specs.Tree.{Tree, nothing, named, op, Trees, no_trees, tree_more, label, byte, Parts, no_parts, part_more, Tail, terms}
+use Rattle.aml_code.specs.Tree.{Tree, nothing, named, op, Trees, no_trees, tree_more, label, byte, Parts, no_parts}
+use Rattle.aml_code.specs.Tree.{part_more, Tail, terms}
 use Rattle.aml_code.specs.Tree.{fields, unit, Fields, no_fields, field_more}
 
 -- the last part that is a name, or else this
@@ -43,8 +44,8 @@ abbrev pub field_names : Tail → List Name
 field_names (fields us) = unit_names us
 field_names _ = []
 
--- The names that a term declares itself, by the role of its row, in the order of the text. An External declares none: what
--- it names is declared elsewhere.
+-- The names that a term declares itself, by the role of its row, in the order of the text. An External declares none:
+-- what it names is declared elsewhere.
 abbrev pub names_declared : Role → Parts → Tail → List Name
 names_declared (roles.Declares o) ps t = listed (last_label None ps)
 names_declared roles.Method ps t = listed (last_label None ps)
@@ -71,8 +72,8 @@ abbrev pub declared_by : Option (List Seg) → Option Row → PathSet → Parts 
 declared_by scope None ls ps t = ls
 declared_by scope (Some row) ls ps t = with_declared scope ls (names_declared row.role ps t)
 
--- The paths that are declared after a term: those of the terms in its tail, and then its own. What else is inside it, as
--- arguments, elements and connections, declares nothing.
+-- The paths that are declared after a term: those of the terms in its tail, and then its own. What else is inside it,
+-- as arguments, elements and connections, declares nothing.
 abbrev mutual
   pub after : Option (List Seg) → PathSet → Tree → PathSet
   after scope ls nothing = ls

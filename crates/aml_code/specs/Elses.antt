@@ -1,7 +1,9 @@
 -- Where an Else stands (ACPI 6.5, 20.2.5.3): DefIfElse is an If and perhaps one Else, and nothing comes between them.
 -- So an Else, at whatever depth, is a term of a list of terms, and the term before it is an If.
 use Rattle.std.specs.Prelude.{◌≡◌, ℕ, ◌==◌, Bool, true, false}
-use Rattle.aml_code.specs.Tree.{Tree, nothing, named, op, Trees, no_trees, tree_more, Part, child, Parts, no_parts, part_more, Tail, terms, elements, fields, Field, connection, Fields, no_fields, field_more, Link, target, buffer}
+use Rattle.aml_code.specs.Tree.{Tree, nothing, named, op, Trees, no_trees, tree_more, Part, child, Parts, no_parts}
+use Rattle.aml_code.specs.Tree.{part_more, Tail, terms, elements, fields, Field, connection, Fields, no_fields}
+use Rattle.aml_code.specs.Tree.{field_more, Link, target, buffer}
 
 -- a term with this opcode
 abbrev pub has_opcode : ℕ → Tree → Bool

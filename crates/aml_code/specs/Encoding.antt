@@ -3,7 +3,10 @@ use Rattle.std.specs.Prelude.{ℕ, ◌+◌, ◌/◌, ◌%◌, ltb, cond, List, [
 use Rattle.aml_names.specs.Names.{spelling}
 use Rattle.aml_code.specs.declared.packages.PkgWidth.{PkgWidth}
 use Rattle.aml_code.specs.Packages.{little, width_len, package_bytes}
-use Rattle.aml_code.specs.Tree.{Tree, nothing, named, op, Trees, no_trees, tree_more, Part, child, label, byte, word, dword, qword, text, Parts, no_parts, part_more, Tail, empty, terms, bytes, elements, fields, body, Field, unit, reserved, access, connection, extended, Fields, no_fields, field_more, Link, target, buffer}
+use Rattle.aml_code.specs.Tree.{Tree, nothing, named, op, Trees, no_trees, tree_more, Part, child, label, byte, word}
+use Rattle.aml_code.specs.Tree.{dword, qword, text, Parts, no_parts, part_more, Tail, empty, terms, bytes, elements}
+use Rattle.aml_code.specs.Tree.{fields, body, Field, unit, reserved, access, connection, extended, Fields, no_fields}
+use Rattle.aml_code.specs.Tree.{field_more, Link, target, buffer}
 
 -- an opcode is one byte, or 5B and one more
 abbrev pub opcode_bytes : ℕ → List ℕ

@@ -1,5 +1,6 @@
 -- What a fault says of the byte at its offset.
-use Rattle.std.specs.Prelude.{◌≡◌, ◌≢◌, ℕ, ◌+◌, ◌/◌, ◌%◌, ◌<◌, ◌≤◌, true, false, List, [], ◌++◌, length, Option, Some, None, slice_get, ◌⊎◌}
+use Rattle.std.specs.Prelude.{◌≡◌, ◌≢◌, ℕ, ◌+◌, ◌/◌, ◌%◌, ◌<◌, ◌≤◌, true, false, List, [], ◌++◌, length, Option, Some}
+use Rattle.std.specs.Prelude.{None, slice_get, ◌⊎◌}
 use Rattle.aml_names.specs.declared.faults.CodeFault.{CodeFault}
 use Rattle.aml_names.specs.declared.faults.CodeFault.TheVariants as faults
 use Rattle.aml_names.specs.declared.names.Name.{Name}
@@ -55,10 +56,11 @@ HasPkgBits b = (64 ≤ b) × (0 < b / 16 % 4)
 
 -- the end of the code, or of a package whose length is spelled before an offset
 abbrev pub IsEndBefore : List ℕ → ℕ → ℕ → Type 0
-IsEndBefore code at end = (end ≡ length code) ⊎ ((p : ℕ) × (w : PkgWidth) × (v : ℕ) × LengthThere code p w v × (end ≡ p + v) × (p < at))
+IsEndBefore code at end =
+    (end ≡ length code) ⊎ ((p : ℕ) × (w : PkgWidth) × (v : ℕ) × LengthThere code p w v × (end ≡ p + v) × (p < at))
 
--- a length that is smaller than its own bytes, or leads past the end of the code or of a package that begins before it and
--- ends behind it
+-- a length that is smaller than its own bytes, or leads past the end of the code or of a package that begins before it
+-- and ends behind it
 abbrev pub IsPast : List ℕ → ℕ → Type 0
 IsPast code at = (w : PkgWidth) × (v : ℕ) × LengthThere code at w v
     × ((v < width_len w) ⊎ ((end : ℕ) × IsEndBefore code at end × (at < end) × (end < at + v)))

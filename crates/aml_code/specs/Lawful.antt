@@ -1,5 +1,7 @@
--- Which trees are AML (ACPI 6.5, 20.2): what each position takes, what each row is made of, how many arguments a name has.
-use Rattle.std.specs.Prelude.{◌≡◌, ℕ, zero, suc, ◌+◌, ◌^◌, ◌<◌, ◌≤◌, Bool, true, false, cond, List, [], ◌∷◌, ◌++◌, length, Option, Some, None}
+-- Which trees are AML (ACPI 6.5, 20.2): what each position takes, what each row is made of, how many arguments a name
+-- has.
+use Rattle.std.specs.Prelude.{◌≡◌, ℕ, zero, suc, ◌+◌, ◌^◌, ◌<◌, ◌≤◌, Bool, true, false, cond, List, [], ◌∷◌, ◌++◌}
+use Rattle.std.specs.Prelude.{length, Option, Some, None}
 use Rattle.aml_names.specs.declared.segments.Seg.{Seg}
 use Rattle.aml_names.specs.declared.names.Name.{Name}
 use Rattle.aml_names.specs.Paths.{PathSet}
@@ -17,20 +19,23 @@ use Rattle.aml_code.specs.declared.rows.TailKind.{TailKind}
 use Rattle.aml_code.specs.declared.rows.TailKind.TheVariants as tails
 use Rattle.aml_code.specs.Packages.{width_len, FitsWidth}
 use Rattle.aml_code.specs.Rows.{row_of, has_length, takes}
-use Rattle.aml_code.specs.Tree.{Tree, nothing, named, op, Trees, no_trees, tree_more, Part, child, label, byte, word, dword, qword, text, Parts, no_parts, part_more, Tail, empty, terms, bytes, elements, fields, body, Field, unit, reserved, access, connection, extended, Fields, no_fields, field_more, Link, target, buffer, tree_count}
+use Rattle.aml_code.specs.Tree.{Tree, nothing, named, op, Trees, no_trees, tree_more, Part, child, label, byte, word}
+use Rattle.aml_code.specs.Tree.{dword, qword, text, Parts, no_parts, part_more, Tail, empty, terms, bytes, elements}
+use Rattle.aml_code.specs.Tree.{fields, body, Field, unit, reserved, access, connection, extended, Fields, no_fields}
+use Rattle.aml_code.specs.Tree.{field_more, Link, target, buffer, tree_count}
 use Rattle.aml_code.specs.Encoding.{parts_encoding, tail_encoding}
 use Rattle.aml_code.specs.Declaring.{after}
 use Rattle.aml_code.specs.Faults.{Arities}
 
--- What the grammar leaves to where the terms stand: the code that spans point into, how many arguments a name takes by the
--- paths declared so far, and the scope from which a body's declarations are placed (none in a table).
+-- What the grammar leaves to where the terms stand: the code that spans point into, how many arguments a name takes by
+-- the paths declared so far, and the scope from which a body's declarations are placed (none in a table).
 pub record Setting : Type 0 where
   pub code : List ℕ
   pub arity : Arities
   pub scope : Option (List Seg)
 
--- How many arguments follow a name in a position: its own number where it is a TermArg or a term of a body, none where it
--- is a target or stands in data. As a term of a table no name stands.
+-- How many arguments follow a name in a position: its own number where it is a TermArg or a term of a body, none where
+-- it is a target or stands in data. As a term of a table no name stands.
 abbrev pub count_in : Arities → Position → PathSet → Name → Option ℕ
 count_in arity positions.ModuleTerm ls n = None
 count_in arity positions.GuardTerm ls n = None
@@ -96,7 +101,8 @@ IsBuffer (op o w ps t) = o ≡ 0x11
 IsBuffer _ = ⊥
 
 -- An operation: its opcode has a row that the position takes, with a package length, parts and a tail as the row says.
-pub record IsOperation (p : Position) (o : ℕ) (w : Option PkgWidth) (len : ℕ) (ps : Parts) (AreItsParts IsItsTail : Row → Type 0) : Type 0 where
+pub record IsOperation (p : Position) (o : ℕ) (w : Option PkgWidth) (len : ℕ) (ps : Parts)
+    (AreItsParts IsItsTail : Row → Type 0) : Type 0 where
   pub row : Row
   pub listed : row_of o ≡ Some row
   pub taken : takes p row.place ≡ true
@@ -106,13 +112,15 @@ pub record IsOperation (p : Position) (o : ℕ) (w : Option PkgWidth) (len : ℕ
   pub tail : IsItsTail row
 
 -- IsLawful s levels p ls t: the tree t may stand in the position p, with at most so many levels of nesting, where the
--- paths ls are declared. What stands inside a term and not in a list of terms declares nothing, so all of it has one ls.
+-- paths ls are declared. What stands inside a term and not in a list of terms declares nothing, so all of it has one
+-- ls.
 abbrev mutual
   pub IsLawful : Setting → ℕ → Position → PathSet → Tree → Type 0
   IsLawful s zero p ls t = ⊥
   IsLawful s (suc levels) p ls nothing = p ≡ positions.Target
   IsLawful s (suc levels) p ls (named n ts) =
-      IsName n × (is_bare n ≡ false) × (count_in s.arity p ls n ≡ Some (tree_count ts)) × AreTerms s levels positions.Argument ls ts
+      IsName n × (is_bare n ≡ false) × (count_in s.arity p ls n ≡ Some (tree_count ts))
+      × AreTerms s levels positions.Argument ls ts
   IsLawful s (suc levels) p ls (op o w ps t) =
       IsOperation p o w (length (parts_encoding s.code ps ++ tail_encoding s.code t)) ps
       (λ row. AreParts s levels row.parts ls ps)

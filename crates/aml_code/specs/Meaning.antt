@@ -14,8 +14,8 @@ use Rattle.aml_code.specs.Lawful.{Setting, AreTerms}
 abbrev pub setting_of : Arities → Option (List Seg) → List ℕ → Setting
 setting_of arity scope code = record { code = code; arity = arity; scope = scope }
 
--- The bytes of a method's body read as these terms: they are lawful from no declared path on, with at most 512 levels, and
--- they are spelled by the bytes. Declarations are placed from the method's path.
+-- The bytes of a method's body read as these terms: they are lawful from no declared path on, with at most 512 levels,
+-- and they are spelled by the bytes. Declarations are placed from the method's path.
 pub record ReadsBody (arity : Arities) (method : List Seg) (code : List ℕ) (ts : Trees) : Type 0 where
   pub lawful : AreTerms (setting_of arity (Some method) code) 512 positions.BodyTerm set.empty ts
   pub spelled : encodings code ts ≡ code
@@ -35,7 +35,8 @@ abbrev mutual
   BodiesStand code at (tree_more t ts) = BodyStands code at t × BodiesStand code (at + length (encoding code t)) ts
 
   pub BodyStands : List ℕ → ℕ → Tree → Type 0
-  BodyStands code at (op o w ps t) = TailStands code (at + (length (opcode_bytes o) + (length_bytes w + length (parts_encoding code ps)))) t
+  BodyStands code at (op o w ps t) =
+      TailStands code (at + (length (opcode_bytes o) + (length_bytes w + length (parts_encoding code ps)))) t
   BodyStands code at _ = Unit {0}
 
   pub TailStands : List ℕ → ℕ → Tail → Type 0

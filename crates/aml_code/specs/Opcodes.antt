@@ -1,6 +1,6 @@
--- The opcodes of AML, a line each, in the order of the standard's sections (ACPI 6.5, 20.2.3 to 20.2.6): the opcode, the
--- mnemonic, its class, what stands behind it in fixed places, what follows up to the end of its package, and what it does to
--- the namespace. A two-byte opcode `5B xx` is 0x5Bxx.
+-- The opcodes of AML, a line each, in the order of the standard's sections (ACPI 6.5, 20.2.3 to 20.2.6): the opcode,
+-- the mnemonic, its class, what stands behind it in fixed places, what follows up to the end of its package, and what
+-- it does to the namespace. A two-byte opcode `5B xx` is 0x5Bxx.
 use Prim.Native.String.{String}
 use Rattle.std.specs.Prelude.{ℕ, List, [], ◌∷◌, ◌++◌, codes}
 use Rattle.aml_code.specs.declared.rows.Group.{Group}
@@ -8,7 +8,8 @@ use Rattle.aml_code.specs.declared.rows.Group.TheVariants as groups
 use Rattle.aml_code.specs.declared.rows.Object.{Object}
 use Rattle.aml_code.specs.declared.rows.Object.TheVariants as objects
 use Rattle.aml_code.specs.declared.rows.PartKind.{PartKind}
-use Rattle.aml_code.specs.declared.rows.PartKind.TheVariants.{Term, Target, Name, ScopeName, Data, Byte, Count, Word, Dword, Qword, Text}
+use Rattle.aml_code.specs.declared.rows.PartKind.TheVariants.{Term, Target, Name, ScopeName, Data, Byte, Count, Word}
+use Rattle.aml_code.specs.declared.rows.PartKind.TheVariants.{Dword, Qword, Text}
 use Rattle.aml_code.specs.declared.rows.Place.{Place}
 use Rattle.aml_code.specs.declared.rows.Place.TheVariants as places
 use Rattle.aml_code.specs.declared.rows.Role.{Role}
@@ -72,7 +73,8 @@ method = record { group = groups.Declaration; place = places.Method }
 
 -- a row; one that has no package and does nothing to the namespace; one that has no package and declares an object
 abbrev row : ℕ → String → Class → List PartKind → TailKind → Role → Row
-row o m c ps t r = record { opcode = o; mnemonic = codes m; group = c.group; place = c.place; parts = ps; tail = t; role = r }
+row o m c ps t r =
+    record { opcode = o; mnemonic = codes m; group = c.group; place = c.place; parts = ps; tail = t; role = r }
 
 abbrev plain : ℕ → String → Class → List PartKind → Row
 plain o m c ps = row o m c ps Empty roles.Other

@@ -15,7 +15,15 @@ row_of opcode = find (λ r. r.opcode == opcode) rows
 
 -- what a row of the code's table says
 abbrev pub row_view : OpRow → Row
-row_view r = record { opcode = r.opcode; mnemonic = r.mnemonic.now; group = r.group; place = r.place; parts = r.parts.now; tail = r.tail; role = r.role }
+row_view r = record {
+  opcode = r.opcode;
+  mnemonic = r.mnemonic.now;
+  group = r.group;
+  place = r.place;
+  parts = r.parts.now;
+  tail = r.tail;
+  role = r.role;
+}
 
 -- a row with a tail has a package length before its parts
 abbrev pub has_length : TailKind → Bool

@@ -6,7 +6,10 @@ use Rattle.aml_code.specs.declared.tree.Link.{Link as CodeLink, fold-Link}
 use Rattle.aml_code.specs.declared.tree.Node.{Node, fold-Node}
 use Rattle.aml_code.specs.declared.tree.Part.{Part as CodePart, fold-Part}
 use Rattle.aml_code.specs.declared.tree.Tail.{Tail as CodeTail, fold-Tail}
-use Rattle.aml_code.specs.Tree.{Tree, nothing, named, op, Trees, no_trees, tree_more, Part, child, label, byte, word, dword, qword, text, Parts, no_parts, part_more, Tail, empty, terms, bytes, elements, fields, body, Field, unit, reserved, access, connection, extended, Fields, no_fields, field_more, Link, target, buffer}
+use Rattle.aml_code.specs.Tree.{Tree, nothing, named, op, Trees, no_trees, tree_more, Part, child, label, byte, word}
+use Rattle.aml_code.specs.Tree.{dword, qword, text, Parts, no_parts, part_more, Tail, empty, terms, bytes, elements}
+use Rattle.aml_code.specs.Tree.{fields, body, Field, unit, reserved, access, connection, extended, Fields, no_fields}
+use Rattle.aml_code.specs.Tree.{field_more, Link, target, buffer}
 
 abbrev pub trees_of : List Tree → Trees
 trees_of [] = no_trees

@@ -13,8 +13,8 @@ use Rattle.aml_code.specs.Rows.{takes}
 use Rattle.aml_code.specs.Tree.{Tree, nothing, named, op, Trees, no_trees, tree_more, Part, child, label, byte, word, dword, qword, text, Parts, no_parts}
 use Rattle.aml_code.specs.Tree.{part_more, Tail, empty, terms, bytes, elements, fields, body, Field, unit, reserved, access, connection, extended, Fields}
 use Rattle.aml_code.specs.Tree.{no_fields, field_more, Link, target, buffer}
-use Rattle.aml_code.specs.Declaring.{after, after_part, after_parts, after_field}
-use Rattle.aml_code.specs.Lawful.{Setting, IsLawful, AreArguments, AreTerms, IsPart, AreParts, IsTail, AreFields, IsField, IsLink, terms_in, next_position}
+use Rattle.aml_code.specs.Declaring.{after}
+use Rattle.aml_code.specs.Lawful.{Setting, IsLawful, AreTerms, IsPart, AreParts, IsTail, AreFields, IsField, IsLink, terms_in, next_position}
 use Rattle.aml_code.proofs.RowFacts.{body_place}
 use Rattle.aml_parse.specs.Reading.{takes_names}
 use Rattle.aml_parse.proofs.Bodiless.{next_takes, inner_takes}
@@ -81,18 +81,12 @@ mutual
       → tree_spans t x ≡ []
   tree_none s levels p ls t nothing h l = refl
   tree_none s zero p ls t (named n xs) h l = absurd l
-  tree_none s (suc levels) p ls t (named n xs) h l = arguments_none s levels ls t xs l.3
+  tree_none s (suc levels) p ls t (named n xs) h l = all_none s levels positions.Argument ls t xs refl l.3
   tree_none s zero p ls t (op o w ps r) h l = absurd l
   tree_none s (suc levels) p ls t (op o w ps r) h l =
       both_none (parts_spans t ps) (tail_spans t r) (parts_none s levels (l.row).parts ls t ps l.parts)
-      (tail_none s levels (terms_in p (l.row).place) (l.row).tail (after_parts s.scope ls ps) t r (λ e. inner_takes p (l.row).place h)
+      (tail_none s levels (terms_in p (l.row).place) (l.row).tail ls t r (λ e. inner_takes p (l.row).place h)
       (λ e. no_method p (l.row).place h l.taken (body_place o l.row l.listed e)) l.tail)
-
-  pub arguments_none : (s : Setting) (levels : ℕ) (ls : PathSet) (t : ℕ) (xs : Trees) → AreArguments s levels ls xs → all_spans t xs ≡ []
-  arguments_none s levels ls t no_trees l = refl
-  arguments_none s levels ls t (tree_more x xs) l =
-      both_none (tree_spans t x) (all_spans t xs) (tree_none s levels positions.Argument ls t x refl l.0)
-      (arguments_none s levels (after s.scope ls x) t xs l.1)
 
   pub all_none : (s : Setting) (levels : ℕ) (p : Position) (ls : PathSet) (t : ℕ) (xs : Trees) → takes_names p ≡ true → AreTerms s levels p ls xs
       → all_spans t xs ≡ []
@@ -124,7 +118,7 @@ mutual
   parts_none s levels ks ls t no_parts l = refl
   parts_none s levels [] ls t (part_more p ps) l = absurd l
   parts_none s levels (k ∷ ks) ls t (part_more p ps) l =
-      both_none (part_spans t p) (parts_spans t ps) (part_none s levels k ls t p l.0) (parts_none s levels ks (after_part s.scope ls p) t ps l.1)
+      both_none (part_spans t p) (parts_spans t ps) (part_none s levels k ls t p l.0) (parts_none s levels ks ls t ps l.1)
 
   -- a tail that is no body, and whose terms aren't those of a table
   pub tail_none : (s : Setting) (levels : ℕ) (p : Position) (k : TailKind) (ls : PathSet) (t : ℕ) (r : Tail)
@@ -146,7 +140,7 @@ mutual
   fields_none : (s : Setting) (levels : ℕ) (ls : PathSet) (t : ℕ) (us : Fields) → AreFields s levels ls us → fields_spans t us ≡ []
   fields_none s levels ls t no_fields l = refl
   fields_none s levels ls t (field_more u us) l =
-      both_none (field_spans t u) (fields_spans t us) (field_none s levels ls t u l.0) (fields_none s levels (after_field s.scope ls u) t us l.1)
+      both_none (field_spans t u) (fields_spans t us) (field_none s levels ls t u l.0) (fields_none s levels ls t us l.1)
 
   link_none : (s : Setting) (levels : ℕ) (ls : PathSet) (t : ℕ) (j : Link) → IsLink s levels ls j → link_spans t j ≡ []
   link_none s levels ls t (target n) l = refl

@@ -22,7 +22,7 @@ use Rattle.aml_code.specs.declared.rows.TailKind.TheVariants as tails
 use Rattle.aml_code.specs.Opcodes.{Row, rows}
 use Rattle.aml_code.specs.Rows.{row_of, takes, taken_in_module, taken_in_guard}
 use Rattle.aml_code.specs.Tree.{Tree, nothing, named, op, Trees, no_trees, tree_more, Parts, Tail, empty, terms, bytes, elements, fields, body}
-use Rattle.aml_code.specs.Declaring.{after, after_parts, field_names}
+use Rattle.aml_code.specs.Declaring.{after, field_names}
 use Rattle.aml_code.specs.Lawful.{Setting, IsLawful, AreTerms, IsTail, terms_in, next_position}
 use Rattle.aml_code.specs.Meaning.{setting_of, no_arguments}
 use Rattle.aml_code.proofs.RowFacts.{and_left, and_right}
@@ -35,7 +35,7 @@ use Rattle.aml_load.proofs.Givens.{no_methods}
 use Rattle.aml_load.specs.Loading.{Listed, plus, with_uses, byte_of, body_start, body_len, target_of, method_entry, DeclareUnits, DoesAs, Declares}
 use Rattle.aml_load.specs.Loading.{DeclareInside, DeclareAll, DeclareTables, methods_of, ReadTables, IsLoad, first_listed}
 use Rattle.aml_load.specs.Spans.{Span, method_span, tree_spans, all_spans, tail_spans, fields_spans, tables_spans, InTextOrder}
-use Rattle.aml_load.proofs.NoSpans.{terms_tail, body_tail, parts_none, arguments_none, tail_none, elements_none, fields_tail_none}
+use Rattle.aml_load.proofs.NoSpans.{terms_tail, body_tail, parts_none, all_none, tail_none, elements_none, fields_tail_none}
 use Rattle.aml_load.proofs.Steps.{methods_more}
 
 -- ---- what the rows say of the terms of tables, by a test over the whole table of opcodes
@@ -238,7 +238,8 @@ mutual
       → takes_names p ≡ false → IsLawful s levels p ls x → Declares t l scope x m → Adds l m (tree_spans t x)
   tree_adds s levels p ls t l scope nothing m h law d = same_adds l m [] (ap spans_so_far d) refl
   tree_adds s zero p ls t l scope (named n xs) m h law d = absurd law
-  tree_adds s (suc levels) p ls t l scope (named n xs) m h law d = same_adds l m (all_spans t xs) (ap spans_so_far d) (arguments_none s levels ls t xs law.3)
+  tree_adds s (suc levels) p ls t l scope (named n xs) m h law d = same_adds l m (all_spans t xs) (ap spans_so_far d)
+      (all_none s levels positions.Argument ls t xs refl law.3)
   tree_adds s zero p ls t l scope (op o w ps r) m h law d = absurd law
   tree_adds s (suc levels) p ls t l scope (op o w ps r) m h law d =
       let k = (law.row).tail in
@@ -246,10 +247,9 @@ mutual
       let fit = row_fits p o law.row h law.listed law.taken in
       let here = subst (λ (x : Role). fits x k ≡ true) (sym (role_is o law.row law.listed)) fit.0 in
       let has : TailSpans k t r (λ l p m. DeclareInside t l p r m) = record {
-        flat = flat_none s levels q k (after_parts s.scope ls ps) t r law.tail;
-        one = λ e. body_one s levels q (after_parts s.scope ls ps) t r (subst (λ (k : TailKind). IsTail s levels q k (after_parts s.scope ls ps) r)
-            (the_body k e) law.tail);
-        inside = λ e l scope m d. inside_adds s levels q k (after_parts s.scope ls ps) t l scope r m fit.1 (not_body k e) law.tail d;
+        flat = flat_none s levels q k ls t r law.tail;
+        one = λ e. body_one s levels q ls t r (subst (λ (k : TailKind). IsTail s levels q k ls r) (the_body k e) law.tail);
+        inside = λ e l scope m d. inside_adds s levels q k ls t l scope r m fit.1 (not_body k e) law.tail d;
       } in
       role_adds (role_of o) k t (with_uses t l scope o ps r) scope ps r (λ l p m. DeclareInside t l p r m) m here has d
       ∙ ap (λ zs. spans_so_far l ++ (zs ++ tail_spans t r)) (sym (parts_none s levels (law.row).parts ls t ps law.parts))

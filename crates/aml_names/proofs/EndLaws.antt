@@ -1,6 +1,7 @@
 -- The last segments of the paths in a set, and the nearest of them in a scope.
 use Rattle.std.specs.Prelude.{slice_get}
-use Rattle.std.proofs.Common.{◌≡◌, ℕ, zero, suc, ◌+◌, ◌-◌, ◌<◌, ◌≤◌, ◌==◌, nat_le, Bool, true, false, ◌||◌, cond, get_or, List, [], ◌∷◌, ◌++◌, length, take, drop, Option, Some, None, IfSome, is_some, Result, Ok, Err, OnOk, OnErr, refl, sym, ap, subst, ◌∙◌, arith, length-append}
+use Rattle.std.proofs.Common.{◌≡◌, ℕ, zero, suc, ◌+◌, ◌-◌, ◌<◌, ◌≤◌, ◌==◌, nat_le, Bool, true, false, ◌||◌, cond, get_or, List, [], ◌∷◌, ◌++◌, length, take}
+use Rattle.std.proofs.Common.{drop, Option, Some, None, IfSome, is_some, Result, Ok, Err, OnOk, OnErr, refl, sym, ap, subst, ◌∙◌, arith, length-append}
 use Rattle.std.proofs.lemmas.Bool.{false≢true, leb-false, leb-true, eqb-true, eqb-false, eq-eqb}
 use Rattle.std.proofs.lemmas.List.{take-take, take-append-le, length-take-le}
 use Rattle.std.proofs.Math.Seq.{drop-append_seam}
@@ -27,7 +28,8 @@ module _ (a b : ℕ → Bool) where
 module _ (a : ℕ → Bool) where
   pub greatest_none : (n : ℕ) → ((d : ℕ) → d ≤ n → a d ≡ false) → greatest a n ≡ None
   greatest_none zero none = ap (λ t. cond t (Some 0) None) (none 0 (omega arith))
-  greatest_none (suc n) none = ap (λ t. cond t (Some (suc n)) (greatest a n)) (none (suc n) (omega arith)) ∙ greatest_none n (λ d less. none d (omega (arith, less)))
+  greatest_none (suc n) none =
+      ap (λ t. cond t (Some (suc n)) (greatest a n)) (none (suc n) (omega arith)) ∙ greatest_none n (λ d less. none d (omega (arith, less)))
 
   pub greatest_within : (n : ℕ) → IfSome (greatest a n) (λ d. d ≤ n)
   greatest_within n = by n
@@ -73,7 +75,8 @@ greatest_cond k m more = by (nat_le k m) refl
 
 -- a number more that passes
 greatest_raised : (a b : ℕ → Bool) (k n : ℕ) → k ≤ n → ((d : ℕ) → d ≤ n → b d ≡ ((d == k) || a d)) → greatest b n ≡ deeper (Some k) (greatest a n)
-greatest_raised a b k zero within raised = greatest_hit b 0 (raised 0 (omega arith) ∙ ap (λ t. t || a 0) {x = 0 == k} {y = true} (eq-eqb 0 k (omega (arith, within)))) ∙ sym (by (a 0))
+greatest_raised a b k zero within raised =
+    greatest_hit b 0 (raised 0 (omega arith) ∙ ap (λ t. t || a 0) {x = 0 == k} {y = true} (eq-eqb 0 k (omega (arith, within)))) ∙ sym (by (a 0))
   where
     by : (t : Bool) → deeper (Some k) (cond t (Some 0) None) ≡ Some 0
     by true = ap (λ m. Some m) (least_cond k 0 within)
@@ -96,7 +99,8 @@ greatest_raised a b k (suc n) within raised = by (suc n == k) refl (λ less. gre
         let here : b (suc n) ≡ a (suc n) = raised (suc n) (omega arith) ∙ ap (λ t. t || a (suc n)) e in
         ap (λ t. cond t (Some (suc n)) (greatest b n)) here ∙ both (a (suc n)) (rest (omega (arith, within, eqb-false (suc n) k e)))
       where
-        both : (t : Bool) → greatest b n ≡ deeper (Some k) (greatest a n) → cond t (Some (suc n)) (greatest b n) ≡ deeper (Some k) (cond t (Some (suc n)) (greatest a n))
+        both : (t : Bool) → greatest b n ≡ deeper (Some k) (greatest a n)
+            → cond t (Some (suc n)) (greatest b n) ≡ deeper (Some k) (cond t (Some (suc n)) (greatest a n))
         both true rest = ap (λ m. Some m) (sym (least_cond k (suc n) within))
         both false rest = rest
 
@@ -131,7 +135,8 @@ module _ (paths : PathSet) (scope : List Seg) where
   known_depth end (Some depth) is = is
 
   -- the segment that a path ends in is known
-  pub known_end : (known : Seg → Option (Option ℕ)) (p : List Seg) (e : Seg) → KnowEnds paths scope known → slice_get p (length p - 1) ≡ Some e → known e ≡ None → set.contains paths p ≡ false
+  pub known_end : (known : Seg → Option (Option ℕ)) (p : List Seg) (e : Seg) → KnowEnds paths scope known → slice_get p (length p - 1) ≡ Some e → known e ≡ None
+      → set.contains paths p ≡ false
   known_end known p e know is none = by (length p) refl
     where
       by : (n : ℕ) → length p ≡ n → set.contains paths p ≡ false
@@ -141,7 +146,8 @@ module _ (paths : PathSet) (scope : List Seg) where
           none_of [] long is = cc
           none_of (x ∷ p) long is = omega (arith, long)
       by (suc n) long =
-          let split : p ≡ take n p ++ e ∷ [] = last_split n p e (omega (arith, long)) (ap (slice_get p) {x = n} {y = length p - 1} (omega (arith, long)) ∙ is) in
+          let split : p ≡ take n p ++ e ∷ [] = last_split n p e (omega (arith, long))
+          (ap (slice_get p) {x = n} {y = length p - 1} (omega (arith, long)) ∙ is) in
           ap (set.contains paths) split ∙ unknown (known e) (know e) none (take n p)
         where
           unknown : (o : Option (Option ℕ)) → IsKnown paths scope e o → o ≡ None → (front : List Seg) → set.contains paths (front ++ e ∷ []) ≡ false
@@ -149,7 +155,8 @@ module _ (paths : PathSet) (scope : List Seg) where
           unknown (Some d) is none front = cc
 
   -- a segment more that is known
-  pub known_room : (known new : Seg → Option (Option ℕ)) (e : Seg) → KnowEnds paths scope known → ((q : Seg) → new q ≡ cond (is_at (seg_cmp e) q) (Some (deeper None (depth_known (known e)))) (known q)) → KnowEnds paths scope new
+  pub known_room : (known new : Seg → Option (Option ℕ)) (e : Seg) → KnowEnds paths scope known
+      → ((q : Seg) → new q ≡ cond (is_at (seg_cmp e) q) (Some (deeper None (depth_known (known e)))) (known q)) → KnowEnds paths scope new
   known_room known new e know grown s = subst (IsKnown paths scope s) (sym (grown s)) (by (is_at (seg_cmp e) s) refl)
     where
       by : (t : Bool) → is_at (seg_cmp e) s ≡ t → IsKnown paths scope s (cond t (Some (depth_known (known e))) (known s))
@@ -163,7 +170,8 @@ module _ (paths : PathSet) (scope : List Seg) where
   known_back known changed new e depth back know was change set =
       known_room known new e know (λ q. set q ∙ by q (is_at (seg_cmp e) q) (changed q) (change q))
     where
-      by : (q : Seg) (t : Bool) (c : Option (Option ℕ)) → c ≡ cond t (Some depth) (known q) → cond t (Some back) c ≡ cond t (Some (depth_known (known e))) (known q)
+      by : (q : Seg) (t : Bool) (c : Option (Option ℕ)) → c ≡ cond t (Some depth) (known q)
+          → cond t (Some back) c ≡ cond t (Some (depth_known (known e))) (known q)
       by q true c is = ap (λ d. Some d) was
       by q false c is = is
 
@@ -186,7 +194,8 @@ module _ (paths : PathSet) (scope p : List Seg) (e : Seg) (is : slice_get p (len
   apart : (s : Seg) → is_at (seg_cmp e) s ≡ false → (front : List Seg) → eq_by_cmp path_cmp (front ++ s ∷ []) p ≡ false
   apart s differ front = other_path (front ++ s ∷ []) p (λ same.
       let deep : length front ≡ k = omega (arith, long, sym (length-append front (s ∷ [])) ∙ ap length same) in
-      let met : ◌≡◌ {A = Option Seg} (Some s) (Some e) = sym (last_of front s) ∙ (λ i. slice_get (same i) (deep i)) ∙ ap (slice_get p) {x = k} {y = length p - 1} (omega (arith, long)) ∙ is in
+      let met : ◌≡◌ {A = Option Seg} (Some s) (Some e) = sym (last_of front s) ∙ (λ i. slice_get (same i) (deep i))
+      ∙ ap (slice_get p) {x = k} {y = length p - 1} (omega (arith, long)) ∙ is in
       let one : s ≡ e = (cc) in
       false≢true (sym differ ∙ ap (λ (x : Seg). is_at (seg_cmp e) x) one ∙ (eq_by_cmp_equiv segs_total).refl e))
 
@@ -202,35 +211,51 @@ module _ (paths : PathSet) (scope p : List Seg) (e : Seg) (is : slice_get p (len
 
       by : (t : Bool) → (d == k) ≡ t → eq_by_cmp path_cmp (take d scope ++ e ∷ []) p ≡ t
       by true at =
-          let same : take d scope ++ e ∷ [] ≡ p = ap (λ n. take n scope ++ e ∷ []) {x = d} {y = k} (eqb-true d k at) ∙ ap (λ l. l ++ e ∷ []) front ∙ sym split in
+          let same : take d scope ++ e ∷ [] ≡ p = ap (λ n. take n scope ++ e ∷ []) {x = d} {y = k} (eqb-true d k at) ∙ ap (λ l. l ++ e ∷ []) front
+          ∙ sym split in
           ap (λ q. eq_by_cmp path_cmp q p) same ∙ (eq_by_cmp_equiv paths_total).refl p
-      by false at = other_path (take d scope ++ e ∷ []) p (λ same. omega (arith, eqb-false d k at, long, sym (ap length same) ∙ length-append (take d scope) (e ∷ []), length-take-le d scope within))
+      by false at = other_path (take d scope ++ e ∷ []) p (λ same. omega (
+        arith,
+        eqb-false d k at,
+        long,
+        sym (ap length same)
+            ∙ length-append (take d scope) (e ∷ []),
+        length-take-le d scope within,
+      ))
 
   elsewhere : eq_by_cmp path_cmp (take k scope) (take k p) ≡ false → (d : ℕ) → d ≤ length scope → eq_by_cmp path_cmp (take d scope ++ e ∷ []) p ≡ false
   elsewhere differs d within = other_path (take d scope ++ e ∷ []) p (λ same.
       let at : d ≡ k = omega (arith, long, sym (ap length same) ∙ length-append (take d scope) (e ∷ []), length-take-le d scope within) in
-      let front : take k scope ≡ take k p = ap (λ n. take n scope) {x = k} {y = d} (sym at) ∙ sym (front_of (take d scope) e) ∙ (λ i. take (length-take-le d scope within i) (same i)) ∙ ap (λ n. take n p) at in
+      let front : take k scope ≡ take k p = ap (λ n. take n scope) {x = k} {y = d} (sym at) ∙ sym (front_of (take d scope) e)
+      ∙ (λ i. take (length-take-le d scope within i) (same i)) ∙ ap (λ n. take n p) at in
       false≢true (sym differs ∙ ap (eq_by_cmp path_cmp (take k scope)) (sym front) ∙ (eq_by_cmp_equiv paths_total).refl (take k scope)))
 
   begins_within : eq_by_cmp path_cmp (take k scope) (take k p) ≡ true → k ≤ length scope
-  begins_within begins = omega (arith, long, ap length (same_path (take k scope) (take k p) begins), length-take-le k p (omega (arith, long)), take_short k scope)
+  begins_within begins =
+      omega (arith, long, ap length (same_path (take k scope) (take k p) begins), length-take-le k p (omega (arith, long)), take_short k scope)
 
-  raised_depth : (depth : Option ℕ) → depth ≡ cond (eq_by_cmp path_cmp (take k scope) (take k p)) (Some k) None → nearest (set.insert paths p) scope (e ∷ []) ≡ deeper depth (nearest paths scope (e ∷ []))
+  raised_depth : (depth : Option ℕ) → depth ≡ cond (eq_by_cmp path_cmp (take k scope) (take k p)) (Some k) None
+      → nearest (set.insert paths p) scope (e ∷ []) ≡ deeper depth (nearest paths scope (e ∷ []))
   raised_depth depth met = by (eq_by_cmp path_cmp (take k scope) (take k p)) refl ∙ ap (λ o. deeper o (nearest paths scope (e ∷ []))) (sym met)
     where
-      by : (t : Bool) → eq_by_cmp path_cmp (take k scope) (take k p) ≡ t → nearest (set.insert paths p) scope (e ∷ []) ≡ deeper (cond t (Some k) None) (nearest paths scope (e ∷ []))
-      by true begins = greatest_raised (λ d. set.contains paths (take d scope ++ e ∷ [])) (λ d. set.contains (set.insert paths p) (take d scope ++ e ∷ [])) k (length scope) (begins_within begins)
+      by : (t : Bool) → eq_by_cmp path_cmp (take k scope) (take k p) ≡ t
+          → nearest (set.insert paths p) scope (e ∷ []) ≡ deeper (cond t (Some k) None) (nearest paths scope (e ∷ []))
+      by true begins = greatest_raised (λ d. set.contains paths (take d scope ++ e ∷ [])) (λ d. set.contains (set.insert paths p) (take d scope ++ e ∷ [])) k
+          (length scope) (begins_within begins)
           (λ d less. with_one (take d scope ++ e ∷ []) ∙ ap (λ t. t || set.contains paths (take d scope ++ e ∷ [])) (here begins d less))
-      by false differs = greatest_same (λ d. set.contains (set.insert paths p) (take d scope ++ e ∷ [])) (λ d. set.contains paths (take d scope ++ e ∷ [])) (length scope)
+      by false differs =
+          greatest_same (λ d. set.contains (set.insert paths p) (take d scope ++ e ∷ [])) (λ d. set.contains paths (take d scope ++ e ∷ [])) (length scope)
           (λ d less. with_one (take d scope ++ e ∷ []) ∙ ap (λ t. t || set.contains paths (take d scope ++ e ∷ [])) (elsewhere differs d less))
 
-  pub known_pushed : (known new : Seg → Option (Option ℕ)) (depth : Option ℕ) → KnowEnds paths scope known → depth ≡ cond (eq_by_cmp path_cmp (take k scope) (take k p)) (Some k) None
+  pub known_pushed : (known new : Seg → Option (Option ℕ)) (depth : Option ℕ) → KnowEnds paths scope known
+      → depth ≡ cond (eq_by_cmp path_cmp (take k scope) (take k p)) (Some k) None
       → ((q : Seg) → new q ≡ cond (is_at (seg_cmp e) q) (Some (deeper depth (depth_known (known e)))) (known q)) → KnowEnds (set.insert paths p) scope new
   known_pushed known new depth know met grown s = subst (IsKnown (set.insert paths p) scope s) (sym (grown s)) (by (is_at (seg_cmp e) s) refl)
     where
       other : is_at (seg_cmp e) s ≡ false → (o : Option (Option ℕ)) → IsKnown paths scope s o → IsKnown (set.insert paths p) scope s o
       other differ None none = λ front. with_one (front ++ s ∷ []) ∙ ap (λ t. t || set.contains paths (front ++ s ∷ [])) (apart s differ front) ∙ none front
-      other differ (Some d) near = near ∙ sym (greatest_same (λ d. set.contains (set.insert paths p) (take d scope ++ s ∷ [])) (λ d. set.contains paths (take d scope ++ s ∷ [])) (length scope)
+      other differ (Some d) near = near ∙ sym (greatest_same (λ d. set.contains (set.insert paths p) (take d scope ++ s ∷ []))
+          (λ d. set.contains paths (take d scope ++ s ∷ [])) (length scope)
           (λ d less. with_one (take d scope ++ s ∷ []) ∙ ap (λ t. t || set.contains paths (take d scope ++ s ∷ [])) (apart s differ (take d scope))))
 
       by : (t : Bool) → is_at (seg_cmp e) s ≡ t → IsKnown (set.insert paths p) scope s (cond t (Some (deeper depth (depth_known (known e)))) (known s))
@@ -240,7 +265,8 @@ module _ (paths : PathSet) (scope p : List Seg) (e : Seg) (is : slice_get p (len
       by false differ = other differ (known s) (know s)
 
 -- the root more
-pub known_root : (paths : PathSet) (scope p : List Seg) (known : Seg → Option (Option ℕ)) → KnowEnds paths scope known → slice_get p (length p - 1) ≡ None → KnowEnds (set.insert paths p) scope known
+pub known_root : (paths : PathSet) (scope p : List Seg) (known : Seg → Option (Option ℕ)) → KnowEnds paths scope known → slice_get p (length p - 1) ≡ None
+    → KnowEnds (set.insert paths p) scope known
 known_root paths scope p known know none s = by (known s) (know s)
   where
     root : (p : List Seg) → slice_get p (length p - 1) ≡ None → length p ≡ 0
@@ -254,21 +280,26 @@ known_root paths scope p known know none s = by (known s) (know s)
     apart front = other_path (front ++ s ∷ []) p (λ same. omega (arith, root p none, sym (ap length same) ∙ length-append front (s ∷ [])))
 
     by : (o : Option (Option ℕ)) → IsKnown paths scope s o → IsKnown (set.insert paths p) scope s o
-    by None is = λ front. set.contains-insert paths_total paths p (front ++ s ∷ []) ∙ ap (λ t. t || set.contains paths (front ++ s ∷ [])) (apart front) ∙ is front
-    by (Some d) near = near ∙ sym (greatest_same (λ d. set.contains (set.insert paths p) (take d scope ++ s ∷ [])) (λ d. set.contains paths (take d scope ++ s ∷ [])) (length scope)
-        (λ d less. set.contains-insert paths_total paths p (take d scope ++ s ∷ []) ∙ ap (λ t. t || set.contains paths (take d scope ++ s ∷ [])) (apart (take d scope))))
+    by None is =
+        λ front. set.contains-insert paths_total paths p (front ++ s ∷ []) ∙ ap (λ t. t || set.contains paths (front ++ s ∷ [])) (apart front) ∙ is front
+    by (Some d) near = near ∙ sym (greatest_same (λ d. set.contains (set.insert paths p) (take d scope ++ s ∷ []))
+        (λ d. set.contains paths (take d scope ++ s ∷ [])) (length scope)
+        (λ d less. set.contains-insert paths_total paths p (take d scope ++ s ∷ [])
+        ∙ ap (λ t. t || set.contains paths (take d scope ++ s ∷ [])) (apart (take d scope))))
 
 -- nothing is known of no path
 pub known_nothing : (scope : List Seg) (known : Seg → Option (Option ℕ)) → ((q : Seg) → known q ≡ None) → KnowEnds set.empty scope known
 known_nothing scope known none s = subst (IsKnown set.empty scope s) (sym (none s)) (λ front. set.contains-empty path_cmp (front ++ s ∷ []))
 
 -- a path with the segment above its last one taken out
-pub raised : (d : ℕ) (scope tail p : List Seg) → p ≡ take d scope ++ tail → d ≤ length scope → length tail ≡ 1 → 0 < d → take (length p - 2) p ++ drop (length p - 1) p ≡ take (d - 1) scope ++ tail
+pub raised : (d : ℕ) (scope tail p : List Seg) → p ≡ take d scope ++ tail → d ≤ length scope → length tail ≡ 1 → 0 < d
+    → take (length p - 2) p ++ drop (length p - 1) p ≡ take (d - 1) scope ++ tail
 raised d scope tail p is within one positive =
     let long : length (take d scope) ≡ d = length-take-le d scope within in
     let all : length p ≡ d + 1 = ap length is ∙ length-append (take d scope) tail ∙ omega (arith, long, one) in
     let front : take (length p - 2) p ≡ take (d - 1) scope =
-    ap (λ n. take n p) {y = d - 1} (omega (arith, all)) ∙ ap (take (d - 1)) is ∙ take-append-le (d - 1) (take d scope) tail (omega (arith, long)) ∙ take-take (d - 1) d scope (omega arith) in
+    ap (λ n. take n p) {y = d - 1} (omega (arith, all)) ∙ ap (take (d - 1)) is ∙ take-append-le (d - 1) (take d scope) tail (omega (arith, long))
+    ∙ take-take (d - 1) d scope (omega arith) in
     let back : drop (length p - 1) p ≡ tail =
     ap (λ n. drop n p) {y = length (take d scope)} (omega (arith, all, long)) ∙ ap (drop (length (take d scope))) is ∙ drop-append_seam (take d scope) tail in
     λ i. front i ++ back i
@@ -286,7 +317,8 @@ pub not_refused : {X E P Q : Type 0} → (r : Result X E) → OnOk r P → OnErr
 not_refused (Ok x) p q never = p
 not_refused (Err e) p q never = absurd (never q)
 
-pub there_is : (paths : PathSet) (new : Seg → Option (Option ℕ)) (e : Seg) (d : Option ℕ) (known : Option (Option ℕ)) → new e ≡ cond (is_at (seg_cmp e) e) (Some d) known → new e ≡ None → ⊥
+pub there_is : (paths : PathSet) (new : Seg → Option (Option ℕ)) (e : Seg) (d : Option ℕ) (known : Option (Option ℕ))
+    → new e ≡ cond (is_at (seg_cmp e) e) (Some d) known → new e ≡ None → ⊥
 there_is paths new e d known is none = some_none d (sym (is ∙ ap (λ b. cond b (Some d) known) ((eq_by_cmp_equiv segs_total).refl e)) ∙ none)
   where
     some_none : (d : Option ℕ) → ◌≡◌ {A = Option (Option ℕ)} (Some d) None → ⊥
@@ -297,10 +329,12 @@ of_false true P gives is = absurd (false≢true (sym is))
 of_false false P gives is = gives
 
 -- no path, and nothing known
-pub nothing_there : (paths : List (List Seg)) (lengths : List ℕ) (ends : BTreeMap Seg (Option ℕ)) (scope : List Seg) → paths ≡ [] → ends.entries ≡ [] → HaveLengths paths lengths × KnowEnds (set.from_list paths) scope (get seg_cmp ends)
+pub nothing_there : (paths : List (List Seg)) (lengths : List ℕ) (ends : BTreeMap Seg (Option ℕ)) (scope : List Seg) → paths ≡ [] → ends.entries ≡ []
+    → HaveLengths paths lengths × KnowEnds (set.from_list paths) scope (get seg_cmp ends)
 nothing_there paths lengths ends scope no_path no_end = (
   λ q there. absurd (false≢true (sym (ap (list_any (is_at (path_cmp q))) no_path) ∙ there)),
-  subst (λ ps. KnowEnds (set.from_list ps) scope (get seg_cmp ends)) (sym no_path) (known_nothing scope (get seg_cmp ends) (λ q. ap (λ es. lookup (is_at (seg_cmp q)) es) no_end)),
+  subst (λ ps. KnowEnds (set.from_list ps) scope (get seg_cmp ends)) (sym no_path)
+      (known_nothing scope (get seg_cmp ends) (λ q. ap (λ es. lookup (is_at (seg_cmp q)) es) no_end)),
 )
 
 module _ (paths : PathSet) (own scope : List Seg) (e : Seg) where
@@ -308,7 +342,8 @@ module _ (paths : PathSet) (own scope : List Seg) (e : Seg) where
   nearest_none None none is = greatest_none (λ d. set.contains paths (take d scope ++ e ∷ [])) (length scope) (λ d less. none (take d scope))
   nearest_none (Some d) near is = cc
 
-pub nearest_known : (paths : PathSet) (own : List Seg) (e : Seg) (known : Option (Option ℕ)) (depth : Option ℕ) → IsKnown paths own e known → known ≡ Some depth → depth ≡ nearest paths own (e ∷ [])
+pub nearest_known : (paths : PathSet) (own : List Seg) (e : Seg) (known : Option (Option ℕ)) (depth : Option ℕ) → IsKnown paths own e known → known ≡ Some depth
+    → depth ≡ nearest paths own (e ∷ [])
 nearest_known paths own e None depth none is = cc
 nearest_known paths own e (Some d) depth near is = some_same d depth is ∙ near
   where
@@ -317,4 +352,5 @@ nearest_known paths own e (Some d) depth near is = some_same d depth is ∙ near
 
 -- a front that is longer than a scope doesn't begin it
 pub longer_front : (k : ℕ) (scope p : List Seg) → k ≤ length p → length scope < k → eq_by_cmp path_cmp (take k scope) (take k p) ≡ false
-longer_front k scope p within long = other_path (take k scope) (take k p) (λ same. omega (arith, long, ap length same, length-take-le k p within, take_short k scope))
+longer_front k scope p within long =
+    other_path (take k scope) (take k p) (λ same. omega (arith, long, ap length same, length-take-le k p within, take_short k scope))

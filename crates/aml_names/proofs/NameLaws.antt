@@ -1,5 +1,6 @@
 -- A name that is read is spelled so, what spells a name is read as that name, and a fault stands where it says.
-use Rattle.std.proofs.Common.{◌≡◌, ℕ, zero, suc, ◌+◌, ◌-◌, ◌%◌, ◌<◌, ◌≤◌, Bool, true, false, cond, ltb, eqb, List, [], ◌∷◌, ◌++◌, length, take, drop, replicate, Ok, Err, refl, sym, ap, subst, ◌∙◌, append_assoc, ◌⊎◌, inl, inr, arith}
+use Rattle.std.proofs.Common.{◌≡◌, ℕ, zero, suc, ◌+◌, ◌-◌, ◌%◌, ◌<◌, ◌≤◌, Bool, true, false, cond, ltb, eqb, List, [], ◌∷◌, ◌++◌, length, take, drop, replicate}
+use Rattle.std.proofs.Common.{Ok, Err, refl, sym, ap, subst, ◌∙◌, append_assoc, ◌⊎◌, inl, inr, arith}
 use Rattle.std.specs.Prelude.{◌||◌, ◌&&◌, not}
 use Rattle.std.proofs.lemmas.Bool.{ltb-true, eqb-true, ne_eqb, lt-ltb}
 use Rattle.std.proofs.lemmas.List.{take-append-drop, take_at, drop_at, length-append, append-nil as append_nil}
@@ -9,28 +10,35 @@ use Rattle.aml_names.specs.declared.segments.Seg.{Seg}
 use Rattle.aml_names.specs.declared.names.Name.{Name}
 use Rattle.aml_names.specs.declared.names.NameForm.{NameForm}
 use Rattle.aml_names.specs.declared.names.NameForm.TheVariants.{Null, One, Dual, Multi}
-use Rattle.aml_names.specs.Names.{is_lead_char, is_name_char, IsNameSeg, AreNameSegs, FitsForm, FitsPrefix, IsName, segment_bytes, form_bytes, spelling, is_name_lead}
+use Rattle.aml_names.specs.Names.{is_lead_char, is_name_char, IsNameSeg, AreNameSegs, FitsForm, FitsPrefix, IsName, segment_bytes, form_bytes, spelling}
+use Rattle.aml_names.specs.Names.{is_name_lead}
 use Rattle.aml_names.specs.Steps.{◌>>=◌, Fails, Left, byte_at}
-use Rattle.aml_names.specs.NameReading.{passing_at, segment_at, segments_at, is_count, Heads, form_by, form_at, parents, is_rooted, path_at, name_at, NameFault, has_segment, is_null, is_bare, bare_name, Begins, Spelled, SpellsNone}
+use Rattle.aml_names.specs.NameReading.{passing_at, segment_at, segments_at, is_count, Heads, form_by, form_at, parents, is_rooted, path_at, name_at, NameFault}
+use Rattle.aml_names.specs.NameReading.{has_segment, is_null, is_bare, bare_name, Begins, Spelled, SpellsNone}
 use Rattle.aml_names.proofs.NameFaults.{fault_behind, path_fault}
 use Rattle.aml_names.proofs.StepLaws.{ok_is, bind_then, cond_then, chosen_ok, IsBytes, IsBytes-rest, IsBytes-drop, Takes, Takes-none, Takes-then, byte_takes}
 
 -- ---- what is read is spelled so
 
-pub passing_takes : (passes : ℕ → Bool) (end : ℕ) (bytes : List ℕ) (b : ℕ) (rest : List ℕ) → IsBytes bytes → passing_at passes end bytes ≡ Ok (b, rest) → Takes bytes (b ∷ []) rest × (passes b ≡ true) × (b < 256)
+pub passing_takes : (passes : ℕ → Bool) (end : ℕ) (bytes : List ℕ) (b : ℕ) (rest : List ℕ) → IsBytes bytes → passing_at passes end bytes ≡ Ok (b, rest)
+    → Takes bytes (b ∷ []) rest × (passes b ≡ true) × (b < 256)
 passing_takes passes end [] b rest fits e = absurd cc
 passing_takes passes end (c ∷ bytes) b rest fits e =
     let g = chosen_ok (passes c) (faults.BadName (end - length (c ∷ bytes))) (Ok (c, bytes)) (b, rest) e in
-    subst (λ (p : ℕ × List ℕ). Takes (c ∷ bytes) (p.0 ∷ []) p.1 × (passes p.0 ≡ true) × (p.0 < 256)) (ok_is (c, bytes) (b, rest) g.1) (record { parts = refl; rest_fits = IsBytes-rest c bytes fits }, g.0, fits 0)
+    subst (λ (p : ℕ × List ℕ). Takes (c ∷ bytes) (p.0 ∷ []) p.1 × (passes p.0 ≡ true) × (p.0 < 256)) (ok_is (c, bytes) (b, rest) g.1)
+    (record { parts = refl; rest_fits = IsBytes-rest c bytes fits }, g.0, fits 0)
 
-pub segment_takes : (end : ℕ) (bytes : List ℕ) (s : Seg) (rest : List ℕ) → IsBytes bytes → segment_at end bytes ≡ Ok (s, rest) → Takes bytes s.0 rest × IsNameSeg s.0
+pub segment_takes : (end : ℕ) (bytes : List ℕ) (s : Seg) (rest : List ℕ) → IsBytes bytes → segment_at end bytes ≡ Ok (s, rest) → Takes bytes s.0 rest
+    × IsNameSeg s.0
 unfolding segment_at
 segment_takes end bytes s rest fits e =
     let P : Type 0 = Takes bytes s.0 rest × IsNameSeg s.0 in
     let name_char = passing_at is_name_char end in
-    bind_then P (passing_at is_lead_char end bytes) (λ a. name_char a.1 >>= λ b. name_char b.1 >>= λ c. name_char c.1 >>= λ d. Ok (record { 0 = a.0 ∷ b.0 ∷ c.0 ∷ d.0 ∷ [] }, d.1)) (s, rest) e (λ a h1 e1.
+    bind_then P (passing_at is_lead_char end bytes) (λ a. name_char a.1 >>= λ b. name_char b.1 >>= λ c. name_char c.1 >>= λ d. Ok
+    (record { 0 = a.0 ∷ b.0 ∷ c.0 ∷ d.0 ∷ [] }, d.1)) (s, rest) e (λ a h1 e1.
     let ta = passing_takes is_lead_char end bytes a.0 a.1 fits h1 in
-    bind_then P (name_char a.1) (λ b. name_char b.1 >>= λ c. name_char c.1 >>= λ d. Ok (record { 0 = a.0 ∷ b.0 ∷ c.0 ∷ d.0 ∷ [] }, d.1)) (s, rest) e1 (λ b h2 e2.
+    bind_then P (name_char a.1) (λ b. name_char b.1 >>= λ c. name_char c.1 >>= λ d. Ok (record { 0 = a.0 ∷ b.0 ∷ c.0 ∷ d.0 ∷ [] }, d.1)) (s, rest) e1
+    (λ b h2 e2.
     let tb = passing_takes is_name_char end a.1 b.0 b.1 ta.0.rest_fits h2 in
     bind_then P (name_char b.1) (λ c. name_char c.1 >>= λ d. Ok (record { 0 = a.0 ∷ b.0 ∷ c.0 ∷ d.0 ∷ [] }, d.1)) (s, rest) e2 (λ c h3 e3.
     let tc = passing_takes is_name_char end b.1 c.0 c.1 tb.0.rest_fits h3 in
@@ -39,12 +47,15 @@ segment_takes end bytes s rest fits e =
     let cd = Takes-then b.1 (c.0 ∷ []) c.1 (d.0 ∷ []) d.1 tc.0 td.0 in
     let bd = Takes-then a.1 (b.0 ∷ []) b.1 (c.0 ∷ d.0 ∷ []) d.1 tb.0 cd in
     let ad = Takes-then bytes (a.0 ∷ []) a.1 (b.0 ∷ c.0 ∷ d.0 ∷ []) d.1 ta.0 bd in
-    subst (λ (p : Seg × List ℕ). Takes bytes p.0.0 p.1 × IsNameSeg p.0.0) (ok_is {A = Seg × List ℕ} (record { 0 = a.0 ∷ b.0 ∷ c.0 ∷ d.0 ∷ [] }, d.1) (s, rest) e4) (ad, (ta.1, tb.1, tc.1, td.1))))))
+    subst (λ (p : Seg × List ℕ). Takes bytes p.0.0 p.1 × IsNameSeg p.0.0)
+    (ok_is {A = Seg × List ℕ} (record { 0 = a.0 ∷ b.0 ∷ c.0 ∷ d.0 ∷ [] }, d.1) (s, rest) e4) (ad, (ta.1, tb.1, tc.1, td.1))))))
 
-pub segments_takes : (n end : ℕ) (bytes : List ℕ) (ss : List Seg) (rest : List ℕ) → IsBytes bytes → segments_at n end bytes ≡ Ok (ss, rest) → Takes bytes (segment_bytes ss) rest × AreNameSegs ss × (length ss ≡ n)
+pub segments_takes : (n end : ℕ) (bytes : List ℕ) (ss : List Seg) (rest : List ℕ) → IsBytes bytes → segments_at n end bytes ≡ Ok (ss, rest)
+    → Takes bytes (segment_bytes ss) rest × AreNameSegs ss × (length ss ≡ n)
 unfolding segments_at
 segments_takes zero end bytes ss rest fits e =
-    subst (λ (p : List Seg × List ℕ). Takes bytes (segment_bytes p.0) p.1 × AreNameSegs p.0 × (length p.0 ≡ 0)) (ok_is {A = List Seg × List ℕ} ([], bytes) (ss, rest) e) (Takes-none bytes fits, tt, refl)
+    subst (λ (p : List Seg × List ℕ). Takes bytes (segment_bytes p.0) p.1 × AreNameSegs p.0 × (length p.0 ≡ 0))
+    (ok_is {A = List Seg × List ℕ} ([], bytes) (ss, rest) e) (Takes-none bytes fits, tt, refl)
 segments_takes (suc n) end bytes ss rest fits e =
     let P : Type 0 = Takes bytes (segment_bytes ss) rest × AreNameSegs ss × (length ss ≡ suc n) in
     bind_then P (segment_at end bytes) (λ first. segments_at n end first.1 >>= λ others. Ok (first.0 ∷ others.0, others.1)) (ss, rest) e (λ first h1 e1.
@@ -52,17 +63,20 @@ segments_takes (suc n) end bytes ss rest fits e =
     bind_then P (segments_at n end first.1) (λ others. Ok (first.0 ∷ others.0, others.1)) (ss, rest) e1 (λ others h2 e2.
     let t2 = segments_takes n end first.1 others.0 others.1 t1.0.rest_fits h2 in
     let both = Takes-then bytes first.0.0 first.1 (segment_bytes others.0) others.1 t1.0 t2.0 in
-    subst (λ (p : List Seg × List ℕ). Takes bytes (segment_bytes p.0) p.1 × AreNameSegs p.0 × (length p.0 ≡ suc n)) (ok_is {A = List Seg × List ℕ} (first.0 ∷ others.0, others.1) (ss, rest) e2) (both, (t1.1, t2.1), ap suc t2.2)))
+    subst (λ (p : List Seg × List ℕ). Takes bytes (segment_bytes p.0) p.1 × AreNameSegs p.0 × (length p.0 ≡ suc n))
+    (ok_is {A = List Seg × List ℕ} (first.0 ∷ others.0, others.1) (ss, rest) e2) (both, (t1.1, t2.1), ap suc t2.2)))
 
 -- what the front of a path says
 Headed : List ℕ → (NameForm × ℕ) × List ℕ → Type 0
 Headed bytes x = Takes bytes (form_bytes x.0.0 x.0.1) x.1 × FitsForm x.0.0 x.0.1
 
-pub form_takes : (end : ℕ) (bytes : List ℕ) (f : NameForm) (n : ℕ) (rest : List ℕ) → IsBytes bytes → form_at end bytes ≡ Ok ((f, n), rest) → Takes bytes (form_bytes f n) rest × FitsForm f n
+pub form_takes : (end : ℕ) (bytes : List ℕ) (f : NameForm) (n : ℕ) (rest : List ℕ) → IsBytes bytes → form_at end bytes ≡ Ok ((f, n), rest)
+    → Takes bytes (form_bytes f n) rest × FitsForm f n
 unfolding form_at Headed
 form_takes end bytes f n rest fits e =
     let P : Type 0 = Headed bytes ((f, n), rest) in
-    let is : (x : (NameForm × ℕ) × List ℕ) → (let r : Heads = Ok x in r) ≡ Ok ((f, n), rest) → Headed bytes x → P = λ x h t. subst (Headed bytes) (ok_is {A = (NameForm × ℕ) × List ℕ} x ((f, n), rest) h) t in
+    let is : (x : (NameForm × ℕ) × List ℕ) → (let r : Heads = Ok x in r) ≡ Ok ((f, n), rest) → Headed bytes x → P =
+    λ x h t. subst (Headed bytes) (ok_is {A = (NameForm × ℕ) × List ℕ} x ((f, n), rest) h) t in
     bind_then P (byte_at end bytes) (λ lead. form_by lead.0 end bytes lead.1) ((f, n), rest) e (λ lead h1 e1.
     let t1 = byte_takes end bytes lead.0 lead.1 fits h1 in
     let spelled : (c : ℕ) → eqb lead.0 c ≡ true → Takes bytes (c ∷ []) lead.1 = λ c h. subst (λ b. Takes bytes (b ∷ []) lead.1) (eqb-true _ _ h) t1.0 in
@@ -76,7 +90,10 @@ form_takes end bytes f n rest fits e =
     let t3 = passing_takes is_count end lead.1 count.0 count.1 t1.0.rest_fits h3 in
     let below : count.0 % 256 ≡ count.0 = omega (arith, t3.2) in
     let number : Takes lead.1 (count.0 % 256 ∷ []) count.1 = rw below t3.0 in
-    is ((Multi, count.0), count.1) e3 (Takes-then bytes (0x2F ∷ []) lead.1 (count.0 % 256 ∷ []) count.1 (spelled 0x2F q2) number, (ltb-true 0 count.0 t3.1, t3.2))))
+    is ((Multi, count.0), count.1) e3 (
+      Takes-then bytes (0x2F ∷ []) lead.1 (count.0 % 256 ∷ []) count.1 (spelled 0x2F q2) number,
+      (ltb-true 0 count.0 t3.1, t3.2),
+    )))
     (λ q2 f2. is ((One, 1), bytes) f2 (Takes-none bytes fits, refl)))))
 
 -- what a path says behind its prefixes
@@ -87,14 +104,17 @@ record Pathed (root : Bool) (ups : ℕ) (bytes : List ℕ) (n : Name) (rest : Li
   form : FitsForm n.form (length n.segs)
   segments : AreNameSegs n.segs
 
-path_takes : (root : Bool) (ups end : ℕ) (bytes : List ℕ) (n : Name) (rest : List ℕ) → IsBytes bytes → path_at root ups end bytes ≡ Ok (n, rest) → Pathed root ups bytes n rest
+path_takes : (root : Bool) (ups end : ℕ) (bytes : List ℕ) (n : Name) (rest : List ℕ) → IsBytes bytes → path_at root ups end bytes ≡ Ok (n, rest)
+    → Pathed root ups bytes n rest
 unfolding path_at
 path_takes root ups end bytes n rest fits e =
     let P : Type 0 = Pathed root ups bytes n rest in
     let name : NameForm → List Seg → Name = λ f ss. record { root = root; ups = ups; form = f; segs = ss } in
-    bind_then P (form_at end bytes) (λ form. segments_at form.0.1 end form.1 >>= λ segs. Ok (record { root = root; ups = ups; form = form.0.0; segs = segs.0 }, segs.1)) (n, rest) e (λ form h1 e1.
+    bind_then P (form_at end bytes) (λ form. segments_at form.0.1 end form.1 >>= λ segs. Ok
+    (record { root = root; ups = ups; form = form.0.0; segs = segs.0 }, segs.1)) (n, rest) e (λ form h1 e1.
     let t1 = form_takes end bytes form.0.0 form.0.1 form.1 fits h1 in
-    bind_then P (segments_at form.0.1 end form.1) (λ segs. Ok (record { root = root; ups = ups; form = form.0.0; segs = segs.0 }, segs.1)) (n, rest) e1 (λ segs h2 e2.
+    bind_then P (segments_at form.0.1 end form.1) (λ segs. Ok (record { root = root; ups = ups; form = form.0.0; segs = segs.0 }, segs.1)) (n, rest) e1
+    (λ segs h2 e2.
     let t2 = segments_takes form.0.1 end form.1 segs.0 segs.1 t1.0.rest_fits h2 in
     let head = subst (λ k. Takes bytes (form_bytes form.0.0 k) form.1 × FitsForm form.0.0 k) (sym t2.2) t1 in
     let both = Takes-then bytes (form_bytes form.0.0 (length segs.0)) form.1 (segment_bytes segs.0) segs.1 head.0 t2.0 in
@@ -120,31 +140,39 @@ root_taken [] h = absurd cc
 root_taken (b ∷ bytes) h = ap (λ c. c ∷ bytes) (eqb-true _ _ h)
 
 -- a path behind its prefixes
-whole : (root : Bool) (ups : ℕ) (bytes rest : List ℕ) (n : Name) (left : List ℕ) → FitsPrefix root ups → bytes ≡ (cond root (0x5C ∷ []) [] ++ replicate ups 0x5E) ++ rest → Pathed root ups rest n left
+whole : (root : Bool) (ups : ℕ) (bytes rest : List ℕ) (n : Name) (left : List ℕ) → FitsPrefix root ups
+    → bytes ≡ (cond root (0x5C ∷ []) [] ++ replicate ups 0x5E) ++ rest → Pathed root ups rest n left
     → Takes bytes (spelling n) left × IsName n
 whole root ups bytes rest n left fits split p =
     let prefix = cond root (0x5C ∷ []) [] ++ replicate ups 0x5E in
     let path = form_bytes n.form (length n.segs) ++ segment_bytes n.segs in
     let text : bytes ≡ (prefix ++ path) ++ left = split ∙ ap (λ (bs : List ℕ). prefix ++ bs) p.takes.parts ∙ sym (append_assoc prefix path left) in
-    let again : (prefix ++ path) ++ left ≡ (cond root (0x5C ∷ []) [] ++ (replicate ups 0x5E ++ path)) ++ left = ap (λ (bs : List ℕ). bs ++ left) (append_assoc (cond root (0x5C ∷ []) []) (replicate ups 0x5E) path) in
+    let again : (prefix ++ path) ++ left ≡ (cond root (0x5C ∷ []) [] ++ (replicate ups 0x5E ++ path)) ++ left =
+    ap (λ (bs : List ℕ). bs ++ left) (append_assoc (cond root (0x5C ∷ []) []) (replicate ups 0x5E) path) in
     let own : (cond root (0x5C ∷ []) [] ++ (replicate ups 0x5E ++ path)) ++ left ≡ spelling n ++ left =
-    ap (λ (r : Bool). (cond r (0x5C ∷ []) [] ++ (replicate ups 0x5E ++ path)) ++ left) (sym p.same_root) ∙ ap (λ (u : ℕ). (cond n.root (0x5C ∷ []) [] ++ (replicate u 0x5E ++ path)) ++ left) (sym p.same_ups) in
-    (record { parts = text ∙ again ∙ own; rest_fits = p.takes.rest_fits }, record { prefix = rw (p.same_root, p.same_ups) fits; form = p.form; segments = p.segments })
+    ap (λ (r : Bool). (cond r (0x5C ∷ []) [] ++ (replicate ups 0x5E ++ path)) ++ left) (sym p.same_root)
+    ∙ ap (λ (u : ℕ). (cond n.root (0x5C ∷ []) [] ++ (replicate u 0x5E ++ path)) ++ left) (sym p.same_ups) in (
+      record { parts = text ∙ again ∙ own; rest_fits = p.takes.rest_fits },
+      record { prefix = rw (p.same_root, p.same_ups) fits; form = p.form; segments = p.segments },
+    )
 
-pub name_takes : (end : ℕ) (bytes : List ℕ) (n : Name) (rest : List ℕ) → IsBytes bytes → name_at end bytes ≡ Ok (n, rest) → Takes bytes (spelling n) rest × IsName n
+pub name_takes : (end : ℕ) (bytes : List ℕ) (n : Name) (rest : List ℕ) → IsBytes bytes → name_at end bytes ≡ Ok (n, rest) → Takes bytes (spelling n) rest
+    × IsName n
 unfolding name_at
 name_takes end bytes n rest fits e =
     let P : Type 0 = Takes bytes (spelling n) rest × IsName n in
     let ups = parents bytes in
     cond_then P (is_rooted bytes) (path_at true 0 end (drop 1 bytes)) (path_at false ups end (drop ups bytes)) (Ok (n, rest)) e
     (λ q f. whole true 0 bytes (drop 1 bytes) n rest refl (root_taken bytes q) (path_takes true 0 end (drop 1 bytes) n rest (IsBytes-drop 1 bytes fits) f))
-    (λ q f. whole false ups bytes (drop ups bytes) n rest tt (parents_taken bytes) (path_takes false ups end (drop ups bytes) n rest (IsBytes-drop ups bytes fits) f))
+    (λ q f. whole false ups bytes (drop ups bytes) n rest tt (parents_taken bytes)
+    (path_takes false ups end (drop ups bytes) n rest (IsBytes-drop ups bytes fits) f))
 
 -- ---- what spells a name is read as that name
 
 -- a byte that begins a segment is none that doesn't
 apart : (a c : ℕ) → is_lead_char a ≡ true → is_lead_char c ≡ false → eqb a c ≡ false
-apart a c h n = ne_eqb a c (λ e. let same : is_lead_char a ≡ is_lead_char c = ap (λ (b : ℕ). is_lead_char b) e in let clash : true ≡ false = sym h ∙ same ∙ n in absurd cc)
+apart a c h n =
+    ne_eqb a c (λ e. let same : is_lead_char a ≡ is_lead_char c = ap (λ (b : ℕ). is_lead_char b) e in let clash : true ≡ false = sym h ∙ same ∙ n in absurd cc)
 
 first_leads : (a : ℕ) (text : List ℕ) → IsNameSeg (a ∷ text) → is_lead_char a ≡ true
 first_leads a [] h = absurd h
@@ -168,7 +196,8 @@ segment_again end s rest h = segment_again_of end s.0 rest h
 pub segments_again : (end : ℕ) (ss : List Seg) (rest : List ℕ) → AreNameSegs ss → segments_at (length ss) end (segment_bytes ss ++ rest) ≡ Ok (ss, rest)
 unfolding segments_at
 segments_again end [] rest h = refl
-segments_again end (s ∷ ss) rest h = rw (append_assoc s.0 (segment_bytes ss) rest, segment_again end s (segment_bytes ss ++ rest) h.0, segments_again end ss rest h.1) refl
+segments_again end (s ∷ ss) rest h =
+    rw (append_assoc s.0 (segment_bytes ss) rest, segment_again end s (segment_bytes ss ++ rest) h.0, segments_again end ss rest h.1) refl
 
 -- a lead byte of a segment is none of a path's others
 lead_by : (a end : ℕ) (bytes rest : List ℕ) → is_lead_char a ≡ true → form_by a end bytes rest ≡ Ok ((One, 1), bytes)
@@ -180,7 +209,8 @@ unfolding form_at
 one_again end [] rest h = absurd h
 one_again end (a ∷ text) rest h = lead_by a end (a ∷ (text ++ rest)) (text ++ rest) (first_leads a text h)
 
-single_again : (end : ℕ) (ss : List Seg) (rest : List ℕ) → length ss ≡ 1 → AreNameSegs ss → form_at end (segment_bytes ss ++ rest) ≡ Ok ((One, length ss), segment_bytes ss ++ rest)
+single_again : (end : ℕ) (ss : List Seg) (rest : List ℕ) → length ss ≡ 1 → AreNameSegs ss
+    → form_at end (segment_bytes ss ++ rest) ≡ Ok ((One, length ss), segment_bytes ss ++ rest)
 single_again end [] rest one are = absurd (omega arith)
 single_again end (s ∷ []) rest one are = rw (append_nil s.0) (one_again end s.0 rest are.0)
 single_again end (s ∷ t ∷ ss) rest one are = absurd (omega arith)
@@ -206,7 +236,8 @@ segment_first (a ∷ text) rest h =
     let lead = first_leads a text h in
     (apart a 0x5C lead refl, rw (apart a 0x5E lead refl) refl)
 
-no_prefix : (f : NameForm) (ss : List Seg) (rest : List ℕ) → FitsForm f (length ss) → AreNameSegs ss → let path = form_bytes f (length ss) ++ (segment_bytes ss ++ rest) in (is_rooted path ≡ false) × (parents path ≡ 0)
+no_prefix : (f : NameForm) (ss : List Seg) (rest : List ℕ) → FitsForm f (length ss) → AreNameSegs ss → let path =
+    form_bytes f (length ss) ++ (segment_bytes ss ++ rest) in (is_rooted path ≡ false) × (parents path ≡ 0)
 unfolding parents
 no_prefix Null ss rest fits are = (refl, refl)
 no_prefix One [] rest fits are = absurd (omega arith)
@@ -239,7 +270,8 @@ name_again end n rest is =
     let segs = segment_bytes n.segs in
     let text : spelling n ++ rest ≡ root ++ (ups ++ (form ++ (segs ++ rest))) = simp append_assoc in
     let bare = no_prefix n.form n.segs rest is.form is.segments in
-    ap (name_at end) text ∙ behind_prefixes n.root n.ups end (form ++ (segs ++ rest)) is.prefix bare.0 bare.1 ∙ path_again n.root n.ups end n.form n.segs rest is.form is.segments
+    ap (name_at end) text ∙ behind_prefixes n.root n.ups end (form ++ (segs ++ rest)) is.prefix bare.0 bare.1
+    ∙ path_again n.root n.ups end n.form n.segs rest is.form is.segments
 
 -- ---- a fault stands where it says
 
@@ -268,8 +300,10 @@ segment_lead : (text rest : List ℕ) → IsNameSeg text → (b : ℕ) × (behin
 segment_lead [] rest h = absurd h
 segment_lead (a ∷ text) rest h = (a, text ++ rest, refl, or_true _ _ (first_leads a text h))
 
-lead_of : (root : Bool) (ups : ℕ) (f : NameForm) (ss : List Seg) → (let n : Name = record { root = root; ups = ups; form = f; segs = ss } in IsName n → NameLead n)
-lead_of true ups f ss is = record { lead = 0x5C; behind = replicate ups 0x5E ++ (form_bytes f (length ss) ++ segment_bytes ss); text = refl; kind = inl (refl, refl) }
+lead_of : (root : Bool) (ups : ℕ) (f : NameForm) (ss : List Seg) → (let n : Name = record { root = root; ups = ups; form = f; segs = ss } in IsName n
+    → NameLead n)
+lead_of true ups f ss is =
+    record { lead = 0x5C; behind = replicate ups 0x5E ++ (form_bytes f (length ss) ++ segment_bytes ss); text = refl; kind = inl (refl, refl) }
 lead_of false (suc ups) f ss is =
     let raised : eqb (suc ups) 0 ≡ false = ne_eqb _ _ (omega arith) in
     record { lead = 0x5E; behind = replicate ups 0x5E ++ (form_bytes f (length ss) ++ segment_bytes ss); text = refl; kind = inl (refl, rw raised refl) }
@@ -297,7 +331,8 @@ first_same : (a b : ℕ) (x y : List ℕ) → a ∷ x ≡ b ∷ y → a ≡ b
 first_same a b x y e = cc
 
 -- a name that was read where a lead byte stands has a prefix or a segment
-pub lead_reads : (end b : ℕ) (bytes : List ℕ) (n : Name) (rest : List ℕ) → IsBytes (b ∷ bytes) → is_name_lead b ≡ true → name_at end (b ∷ bytes) ≡ Ok (n, rest) → is_bare n ≡ false
+pub lead_reads : (end b : ℕ) (bytes : List ℕ) (n : Name) (rest : List ℕ) → IsBytes (b ∷ bytes) → is_name_lead b ≡ true → name_at end (b ∷ bytes) ≡ Ok (n, rest)
+    → is_bare n ≡ false
 lead_reads end b bytes n rest fits h e =
     let t = name_takes end (b ∷ bytes) n rest fits e in
     let l = name_lead n t.1 in
@@ -308,7 +343,8 @@ lead_reads end b bytes n rest fits h e =
     ]
 
 -- a name that was read where no lead byte stands is the bare NullName
-pub null_reads : (end b : ℕ) (bytes : List ℕ) (n : Name) (rest : List ℕ) → IsBytes (b ∷ bytes) → is_name_lead b ≡ false → name_at end (b ∷ bytes) ≡ Ok (n, rest) → (is_bare n ≡ true) × (b ≡ 0) × (rest ≡ bytes)
+pub null_reads : (end b : ℕ) (bytes : List ℕ) (n : Name) (rest : List ℕ) → IsBytes (b ∷ bytes) → is_name_lead b ≡ false → name_at end (b ∷ bytes) ≡ Ok (n, rest)
+    → (is_bare n ≡ true) × (b ≡ 0) × (rest ≡ bytes)
 null_reads end b bytes n rest fits h e =
     let t = name_takes end (b ∷ bytes) n rest fits e in
     let l = name_lead n t.1 in
@@ -320,7 +356,8 @@ null_reads end b bytes n rest fits h e =
     ]
 
 -- there is one bare NullName
-bare_of : (root : Bool) (ups : ℕ) (f : NameForm) (ss : List Seg) → (let n : Name = record { root = root; ups = ups; form = f; segs = ss } in IsName n → is_bare n ≡ true → n ≡ bare_name)
+bare_of : (root : Bool) (ups : ℕ) (f : NameForm) (ss : List Seg) → (let n : Name = record { root = root; ups = ups; form = f; segs = ss } in IsName n
+    → is_bare n ≡ true → n ≡ bare_name)
 bare_of true ups f ss is h = absurd cc
 bare_of false ups One ss is h = absurd (never (eqb ups 0) h)
 bare_of false ups Dual ss is h = absurd (never (eqb ups 0) h)
@@ -346,7 +383,8 @@ segmented n is = segmented_of n.form (length n.segs) is.form
 pub begins_takes : (bytes text rest : List ℕ) → Takes bytes text rest → Begins bytes text
 begins_takes bytes text rest t = (rest, t.parts)
 
-pub one_name : (end : ℕ) (bytes : List ℕ) (n : Name) (rest : List ℕ) → name_at end bytes ≡ Ok (n, rest) → (m : Name) → IsName m → Begins bytes (spelling m) → m ≡ n
+pub one_name : (end : ℕ) (bytes : List ℕ) (n : Name) (rest : List ℕ) → name_at end bytes ≡ Ok (n, rest) → (m : Name) → IsName m → Begins bytes (spelling m)
+    → m ≡ n
 one_name end bytes n rest e m is begins =
     let again : name_at end bytes ≡ Ok (m, begins.0) = ap (name_at end) begins.1 ∙ name_again end m begins.0 is in
     ap (λ (p : Name × List ℕ). p.0) (ok_is {A = Name × List ℕ} (m, begins.0) (n, rest) (sym again ∙ e))
@@ -374,6 +412,8 @@ name_front end bytes n rest fits e =
     let t = name_takes end bytes n rest fits e in
     let long : length bytes ≡ length (spelling n) + length rest = ap length t.0.parts ∙ length-append (spelling n) rest in
     let k : length bytes - length rest ≡ length (spelling n) = omega arith in
-    let text : take (length bytes - length rest) bytes ≡ spelling n = rw k (ap (take (length (spelling n))) t.0.parts ∙ take_at (spelling n) rest (length (spelling n)) refl) in
-    let left : drop (length bytes - length rest) bytes ≡ rest = rw k (ap (drop (length (spelling n))) t.0.parts ∙ drop_at (spelling n) rest (length (spelling n)) refl) in
+    let text : take (length bytes - length rest) bytes ≡ spelling n = rw k
+    (ap (take (length (spelling n))) t.0.parts ∙ take_at (spelling n) rest (length (spelling n)) refl) in
+    let left : drop (length bytes - length rest) bytes ≡ rest = rw k (ap (drop (length (spelling n))) t.0.parts
+    ∙ drop_at (spelling n) rest (length (spelling n)) refl) in
     record { room = omega arith; spelled = record { name = t.1; room = omega arith; text = text }; left = left }

@@ -1,5 +1,6 @@
 -- Reading one segment, or one prefix, after the other, as a loop does.
-use Rattle.std.proofs.Common.{◌≡◌, ℕ, zero, suc, ◌+◌, ◌-◌, ◌<◌, ◌≤◌, Bool, true, false, cond, List, [], ◌∷◌, ◌++◌, length, drop, get_or, Ok, Err, refl, sym, ap, ◌∙◌, append_assoc, arith, add-one}
+use Rattle.std.proofs.Common.{◌≡◌, ℕ, zero, suc, ◌+◌, ◌-◌, ◌<◌, ◌≤◌, Bool, true, false, cond, List, [], ◌∷◌, ◌++◌, length, drop, get_or, Ok, Err, refl, sym, ap}
+use Rattle.std.proofs.Common.{◌∙◌, append_assoc, arith, add-one}
 use Rattle.std.specs.Prelude.{◌==◌}
 use Rattle.std.proofs.lemmas.List.{append-nil, drop_all}
 use Rattle.std.proofs.Math.Seq.{drop-cons}
@@ -21,7 +22,8 @@ pub segments_go_on : (front : List Seg) (s : Seg) (n end : ℕ) (bytes rest : Li
 unfolding segments_at
 segments_go_on front s zero end bytes rest total some h so_far = absurd (omega arith)
 segments_go_on front s (suc n) end bytes rest total some h so_far =
-    let one : with_front front (segments_at (suc n) end bytes) ≡ with_front (front ++ s ∷ []) (segments_at n end rest) = rw h (regroup front s (segments_at n end rest)) in
+    let one : with_front front (segments_at (suc n) end bytes) ≡ with_front (front ++ s ∷ []) (segments_at n end rest) =
+    rw h (regroup front s (segments_at n end rest)) in
     let less : suc n - 1 ≡ n = omega arith in
     rw less (sym one ∙ so_far)
 
@@ -33,7 +35,8 @@ segments_fail e front (suc n) end bytes total some h so_far =
     let one : with_front front (segments_at (suc n) end bytes) ≡ Err e = rw h refl in
     sym so_far ∙ one
 
-pub segments_end : (front : List Seg) (n end : ℕ) (bytes : List ℕ) (total : Left (List Seg)) → n ≡ 0 → with_front front (segments_at n end bytes) ≡ total → total ≡ Ok (front, bytes)
+pub segments_end : (front : List Seg) (n end : ℕ) (bytes : List ℕ) (total : Left (List Seg)) → n ≡ 0 → with_front front (segments_at n end bytes) ≡ total
+    → total ≡ Ok (front, bytes)
 unfolding segments_at
 segments_end front n end bytes total none so_far =
     let one : with_front front (segments_at 0 end bytes) ≡ Ok (front, bytes) = ap (λ (ss : List Seg). Ok (ss, bytes)) (append-nil front) in
@@ -63,7 +66,8 @@ parents_end bytes i h = rw (drop_all i bytes (omega arith)) refl
 pub parents_fit : (bytes : List ℕ) → parents bytes ≤ length bytes
 unfolding parents
 parents_fit [] = omega arith
-parents_fit (b ∷ rest) = elim (b == 0x5E) as (λ t. cond t (suc (parents rest)) 0 ≤ length (b ∷ rest)) [ true ↦ omega (arith, parents_fit rest) | false ↦ omega arith ]
+parents_fit (b ∷ rest) =
+    elim (b == 0x5E) as (λ t. cond t (suc (parents rest)) 0 ≤ length (b ∷ rest)) [ true ↦ omega (arith, parents_fit rest) | false ↦ omega arith ]
 
 pub rooted_some : (bytes : List ℕ) → is_rooted bytes ≡ true → 1 ≤ length bytes
 rooted_some [] h = absurd cc

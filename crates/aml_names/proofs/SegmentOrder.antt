@@ -10,7 +10,8 @@ use Rattle.std.specs.Ordering.{nat_cmp, ordering_then, MatchOrdering}
 
 -- one more byte behind two numbers
 digit : (p q x y : ℕ) → x < 256 → y < 256 → ordering_then (nat_cmp p q) (nat_cmp x y) ≡ nat_cmp (p * 256 + x) (q * 256 + y)
-digit p q x y low high = nat_cmp_is (p * 256 + x) (q * 256 + y) (ordering_then (nat_cmp p q) (nat_cmp x y)) (by (nat_cmp p q) (nat_cmp x y) (ranks p q) (ranks x y))
+digit p q x y low high =
+    nat_cmp_is (p * 256 + x) (q * 256 + y) (ordering_then (nat_cmp p q) (nat_cmp x y)) (by (nat_cmp p q) (nat_cmp x y) (ranks p q) (ranks x y))
   where
     by : (r s : Ordering) → MatchOrdering r (p < q) (p ≡ q) (q < p) → MatchOrdering s (x < y) (x ≡ y) (y < x)
         → MatchOrdering (ordering_then r s) (p * 256 + x < q * 256 + y) (p * 256 + x ≡ q * 256 + y) (q * 256 + y < p * 256 + x)

@@ -16,9 +16,12 @@ or_by_cond : (a b : Bool) → cond a true b ≡ (a || b)
 or_by_cond true b = refl
 or_by_cond false b = refl
 
-pub one_added : (ks ms : List (List Seg)) (p : List Seg) → ((q : List Seg) → list_any (is_at (path_cmp q)) ms ≡ cond (is_at (path_cmp p) q) true (list_any (is_at (path_cmp q)) ks)) → set.from_list {R = path_cmp} ms ≡ set.insert (set.from_list ks) p
+pub one_added : (ks ms : List (List Seg)) (p : List Seg) → ((q : List Seg)
+    → list_any (is_at (path_cmp q)) ms ≡ cond (is_at (path_cmp p) q) true (list_any (is_at (path_cmp q)) ks))
+    → set.from_list {R = path_cmp} ms ≡ set.insert (set.from_list ks) p
 one_added ks ms p h = set.same_set paths_total exact_paths _ _ (λ q.
-    any_path ms q ∙ h q ∙ or_by_cond (eq_by_cmp path_cmp p q) (list_any (is_at (path_cmp q)) ks) ∙ ap (λ b. b || list_any (is_at (path_cmp q)) ks) ((eq_by_cmp_equiv paths_total).symm p q)
+    any_path ms q ∙ h q ∙ or_by_cond (eq_by_cmp path_cmp p q) (list_any (is_at (path_cmp q)) ks)
+    ∙ ap (λ b. b || list_any (is_at (path_cmp q)) ks) ((eq_by_cmp_equiv paths_total).symm p q)
     ∙ sym (set.contains-insert paths_total (set.from_list ks) p q ∙ ap (λ b. eq_by_cmp path_cmp q p || b) (any_path ks q)))
 
 -- keys that make the empty set are none

@@ -1,5 +1,6 @@
 -- What holds of a step that was taken, and of one that failed.
-use Rattle.std.proofs.Common.{◌≡◌, ℕ, suc, ◌+◌, ◌<◌, Bool, true, false, cond, List, [], ◌∷◌, ◌++◌, get_or, take, drop, Result, Ok, Err, refl, sym, ap, subst, ◌∙◌, append_assoc, arith, inl, inr}
+use Rattle.std.proofs.Common.{◌≡◌, ℕ, suc, ◌+◌, ◌<◌, Bool, true, false, cond, List, [], ◌∷◌, ◌++◌, get_or, take, drop, Result, Ok, Err, refl, sym, ap, subst}
+use Rattle.std.proofs.Common.{◌∙◌, append_assoc, arith, inl, inr}
 use Rattle.std.proofs.lemmas.Bool.{cases_lt}
 use Rattle.std.proofs.lemmas.List.{length-take, get_or-drop, get_or-take, get_or_past}
 use Rattle.aml_names.specs.declared.faults.CodeFault.{CodeFault}
@@ -19,12 +20,14 @@ pub err_is : {A : Type 0} (d e : CodeFault) → failed {A = A} d ≡ failed e �
 err_is d e h = cc
 
 -- a step that was taken, for what is wanted of all
-pub bind_then : {A B : Type 0} (P : Type 0) (r : Result A CodeFault) (f : A → Result B CodeFault) (y : B) → (r >>= f) ≡ Ok y → ((x : A) → r ≡ Ok x → f x ≡ Ok y → P) → P
+pub bind_then : {A B : Type 0} (P : Type 0) (r : Result A CodeFault) (f : A → Result B CodeFault) (y : B) → (r >>= f) ≡ Ok y
+    → ((x : A) → r ≡ Ok x → f x ≡ Ok y → P) → P
 bind_then P (Ok x) f y e k = k x refl e
 bind_then P (Err d) f y e k = absurd cc
 
 -- a fault of two steps: of the first, or of the second
-pub err_then : {A B : Type 0} (P : Type 0) (r : Result A CodeFault) (f : A → Result B CodeFault) (d : CodeFault) → (r >>= f) ≡ Err d → (r ≡ Err d → P) → ((x : A) → r ≡ Ok x → f x ≡ Err d → P) → P
+pub err_then : {A B : Type 0} (P : Type 0) (r : Result A CodeFault) (f : A → Result B CodeFault) (d : CodeFault) → (r >>= f) ≡ Err d → (r ≡ Err d → P)
+    → ((x : A) → r ≡ Ok x → f x ≡ Err d → P) → P
 err_then P (Ok x) f d e first second = second x refl e
 err_then P (Err c) f d e first second = first cc
 
@@ -74,7 +77,8 @@ Takes-then a x b y c p q = record { parts = p.parts ∙ ap (λ (t : List ℕ). x
 pub byte_takes : (end : ℕ) (bytes : List ℕ) (b : ℕ) (rest : List ℕ) → IsBytes bytes → byte_at end bytes ≡ Ok (b, rest) → Takes bytes (b ∷ []) rest × (b < 256)
 byte_takes end [] b rest fits e = absurd cc
 byte_takes end (c ∷ bytes) b rest fits e =
-    subst (λ (p : ℕ × List ℕ). Takes (c ∷ bytes) (p.0 ∷ []) p.1 × (p.0 < 256)) (ok_is (c, bytes) (b, rest) e) (record { parts = refl; rest_fits = IsBytes-rest c bytes fits }, fits 0)
+    subst (λ (p : ℕ × List ℕ). Takes (c ∷ bytes) (p.0 ∷ []) p.1 × (p.0 < 256)) (ok_is (c, bytes) (b, rest) e)
+    (record { parts = refl; rest_fits = IsBytes-rest c bytes fits }, fits 0)
 
 pub byte_fault : (end : ℕ) (bytes : List ℕ) (d : CodeFault) → byte_at end bytes ≡ Err d → d ≡ faults.Truncated end
 byte_fault end [] d e = sym (err_is {A = ℕ × List ℕ} (faults.Truncated end) d e)

@@ -8,4 +8,5 @@ use Rattle.aml_names.specs.Paths.{path_cmp}
 
 -- each of the paths has one of these lengths
 abbrev pub HaveLengths : List (List Seg) → List ℕ → Type 0
-HaveLengths paths lengths = (q : List Seg) → list_any (is_at (path_cmp q)) paths ≡ true → list_any (is_at (nat_cmp (length q))) lengths ≡ true
+HaveLengths paths lengths =
+    (q : List Seg) → list_any (is_at (path_cmp q)) paths ≡ true → list_any (is_at (nat_cmp (length q))) lengths ≡ true

@@ -1,5 +1,6 @@
 -- Reading a name from left to right (ACPI 6.5, 20.2.2).
-use Rattle.std.specs.Prelude.{◌≡◌, ℕ, zero, suc, ◌-◌, ◌≤◌, Bool, true, false, ◌&&◌, ◌==◌, nat_lt, if◌then◌else◌, List, [], ◌∷◌, ◌++◌, length, take, drop, Ok, Err, ◌⊎◌}
+use Rattle.std.specs.Prelude.{◌≡◌, ℕ, zero, suc, ◌-◌, ◌≤◌, Bool, true, false, ◌&&◌, ◌==◌, nat_lt, if◌then◌else◌, List}
+use Rattle.std.specs.Prelude.{[], ◌∷◌, ◌++◌, length, take, drop, Ok, Err, ◌⊎◌}
 use Rattle.aml_names.specs.declared.faults.CodeFault.{CodeFault}
 use Rattle.aml_names.specs.declared.faults.CodeFault.TheVariants as faults
 use Rattle.aml_names.specs.declared.segments.Seg.{Seg}
@@ -71,12 +72,15 @@ path_at root ups end bytes = do
 
 -- a NameString: a RootChar and a NamePath, or ParentPrefixChars and a NamePath
 unfoldable pub name_at : ℕ → List ℕ → Left Name
-name_at end bytes = if is_rooted bytes then path_at true 0 end (drop 1 bytes) else path_at false (parents bytes) end (drop (parents bytes) bytes)
+name_at end bytes =
+    if is_rooted bytes then path_at true 0 end (drop 1 bytes)
+    else path_at false (parents bytes) end (drop (parents bytes) bytes)
 
 -- A fault of a name: the bytes end, or a byte that begins no segment can't stand in its place.
 abbrev pub NameFault : ℕ → List ℕ → CodeFault → Type 0
 NameFault end bytes d =
-    (d ≡ faults.Truncated end) ⊎ ((front : List ℕ) × (b : ℕ) × (behind : List ℕ) × (bytes ≡ front ++ (b ∷ behind)) × (is_lead_char b ≡ false) × (d ≡ faults.BadName (end - length (b ∷ behind))))
+    (d ≡ faults.Truncated end) ⊎ ((front : List ℕ) × (b : ℕ) × (behind : List ℕ) × (bytes ≡ front ++ (b ∷ behind))
+    × (is_lead_char b ≡ false) × (d ≡ faults.BadName (end - length (b ∷ behind))))
 
 -- whether a name has a segment
 abbrev pub has_segment : Name → Bool

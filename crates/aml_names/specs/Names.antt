@@ -1,5 +1,6 @@
 -- Names as they are spelled, and where they lead (ACPI 6.5, 5.3 and 20.2.2).
-use Rattle.std.specs.Prelude.{◌≡◌, ℕ, ◌-◌, ◌%◌, ◌<◌, nat_le, Bool, true, false, ◌&&◌, ◌||◌, ◌==◌, cond, List, [], ◌∷◌, ◌++◌, length, take, replicate, Option, Some, None}
+use Rattle.std.specs.Prelude.{◌≡◌, ℕ, ◌-◌, ◌%◌, ◌<◌, nat_le, Bool, true, false, ◌&&◌, ◌||◌, ◌==◌, cond, List, [], ◌∷◌}
+use Rattle.std.specs.Prelude.{◌++◌, length, take, replicate, Option, Some, None}
 use Rattle.aml_names.specs.declared.segments.Seg.{Seg}
 use Rattle.aml_names.specs.declared.names.Name.{Name}
 use Rattle.aml_names.specs.declared.names.NameForm.{NameForm}
@@ -15,7 +16,8 @@ is_name_char c = is_lead_char c || (nat_le 48 c && nat_le c 57)
 
 -- four bytes that make a NameSeg
 abbrev pub IsNameSeg : List ℕ → Type 0
-IsNameSeg (a ∷ b ∷ c ∷ d ∷ []) = (is_lead_char a ≡ true) × (is_name_char b ≡ true) × (is_name_char c ≡ true) × (is_name_char d ≡ true)
+IsNameSeg (a ∷ b ∷ c ∷ d ∷ []) =
+    (is_lead_char a ≡ true) × (is_name_char b ≡ true) × (is_name_char c ≡ true) × (is_name_char d ≡ true)
 IsNameSeg _ = ⊥
 
 abbrev pub AreNameSegs : List Seg → Type 0
@@ -55,7 +57,8 @@ form_bytes Multi n = 0x2F ∷ n % 256 ∷ []
 
 -- the spelling of a name: RootChar or ParentPrefixChars, and a NamePath
 abbrev pub spelling : Name → List ℕ
-spelling n = cond n.root (0x5C ∷ []) [] ++ (replicate n.ups 0x5E ++ (form_bytes n.form (length n.segs) ++ segment_bytes n.segs))
+spelling n =
+    cond n.root (0x5C ∷ []) [] ++ (replicate n.ups 0x5E ++ (form_bytes n.form (length n.segs) ++ segment_bytes n.segs))
 
 -- a byte that can begin a name in any position: a LeadNameChar or a prefix (the NullName, 00, is none)
 abbrev pub is_name_lead : ℕ → Bool
@@ -64,4 +67,5 @@ is_name_lead b = is_lead_char b || ((b == 0x5C) || ((b == 0x5E) || ((b == 0x2E) 
 -- where a name leads from a scope, without a search
 abbrev pub placed : List Seg → Name → Option (List Seg)
 placed scope name =
-    cond name.root (Some name.segs) (cond (nat_le name.ups (length scope)) (Some (take (length scope - name.ups) scope ++ name.segs)) None)
+    cond name.root (Some name.segs)
+    (cond (nat_le name.ups (length scope)) (Some (take (length scope - name.ups) scope ++ name.segs)) None)

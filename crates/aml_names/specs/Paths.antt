@@ -34,13 +34,15 @@ segs_total = on_total (λ s. s.0) nat_list_cmp_total
 
 -- beside the test of all bytes
 pub segs_partial : IsPartialOrder (λ (a b : Seg). bytes_eq a.0 b.0) (λ a b. Some (seg_cmp a b))
-segs_partial = subst (λ (same : Seg → Seg → Bool). IsPartialOrder same (λ a b. Some (seg_cmp a b))) (λ i a b. is_eq-slice_cmp a.0 b.0 i) (partial_order_from_total segs_total)
+segs_partial = subst (λ (same : Seg → Seg → Bool). IsPartialOrder same (λ a b. Some (seg_cmp a b)))
+    (λ i a b. is_eq-slice_cmp a.0 b.0 i) (partial_order_from_total segs_total)
 
 pub paths_total : IsTotalOrder path_cmp
 paths_total = lists_total segs_total
 
 pub exact_segs : IsAntisymmetric seg_cmp
-exact_segs a b e = ap (λ (bytes : List ℕ). record { 0 = bytes }) (slice_cmp-IsAntisymmetric nat_cmp-IsAntisymmetric a.0 b.0 e)
+exact_segs a b e =
+    ap (λ (bytes : List ℕ). record { 0 = bytes }) (slice_cmp-IsAntisymmetric nat_cmp-IsAntisymmetric a.0 b.0 e)
 
 pub exact_paths : IsAntisymmetric path_cmp
 exact_paths = slice_cmp-IsAntisymmetric exact_segs

@@ -1,5 +1,6 @@
 -- Which paths a name may mean in a scope (ACPI 6.5, 5.3).
-use Rattle.std.specs.Prelude.{ℕ, zero, suc, Bool, not, ◌&&◌, ◌==◌, cond, List, [], ◌∷◌, ◌++◌, length, take, Option, Some, None}
+use Rattle.std.specs.Prelude.{ℕ, zero, suc, Bool, not, ◌&&◌, ◌==◌, cond, List, [], ◌∷◌, ◌++◌, length, take, Option}
+use Rattle.std.specs.Prelude.{Some, None}
 use Rattle.aml_names.specs.declared.segments.Seg.{Seg}
 use Rattle.aml_names.specs.declared.names.Name.{Name}
 use Rattle.std.specs.FinSet as set
@@ -15,8 +16,8 @@ abbrev pub greatest : (ℕ → Bool) → ℕ → Option ℕ
 greatest passes zero = cond (passes 0) (Some 0) None
 greatest passes (suc n) = cond (passes (suc n)) (Some (suc n)) (greatest passes n)
 
--- how many segments of a scope stand before a segment in the nearest of some paths that are the segment in the scope or in
--- a parent of it
+-- how many segments of a scope stand before a segment in the nearest of some paths that are the segment in the scope
+-- or in a parent of it
 abbrev pub nearest : PathSet → List Seg → List Seg → Option ℕ
 nearest paths scope segment = greatest (λ d. set.contains paths (take d scope ++ segment)) (length scope)
 
@@ -29,6 +30,7 @@ abbrev pub the_one : Option (List Seg) → List (List Seg)
 the_one None = []
 the_one (Some p) = p ∷ []
 
--- the paths that a name may mean in a scope, the nearest first: any name but a single segment has one, or none above the root
+-- the paths that a name may mean in a scope, the nearest first: any name but a single segment has one, or none above
+-- the root
 abbrev pub candidates : List Seg → Name → List (List Seg)
 candidates scope name = cond (is_single name) (upward (length scope) scope name.segs) (the_one (placed scope name))

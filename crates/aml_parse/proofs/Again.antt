@@ -1,7 +1,8 @@
 -- A lawful term is read again from its bytes, whatever follows them. Each reader has a law here, beginning with parts and
 -- ending with terms, that follows its steps over the bytes of what is lawful: each step reads what is spelled in front
 -- (`read_on`), and the next one goes on behind it. The reader of the terms inside is any with that law (`IsReader`).
-use Rattle.std.proofs.Common.{◌≡◌, ℕ, zero, suc, ◌+◌, ◌-◌, ◌<◌, ◌≤◌, Bool, true, false, cond, ◌==◌, List, [], ◌∷◌, ◌++◌, length, drop, Option, Some, None, Result, Ok, Err, refl, sym, ap, subst, ◌∙◌, append_assoc, arith, inl, inr}
+use Rattle.std.proofs.Common.{◌≡◌, ℕ, zero, suc, ◌+◌, ◌-◌, ◌<◌, ◌≤◌, Bool, true, false, cond, ◌==◌, List, [], ◌∷◌, ◌++◌, length, drop, Option, Some, None}
+use Rattle.std.proofs.Common.{Result, Ok, Err, refl, sym, ap, subst, ◌∙◌, append_assoc, arith, inl, inr}
 use Rattle.std.proofs.lemmas.Bool.{ne_eqb}
 use Rattle.std.proofs.lemmas.List.{length-append, append-nil, length-take, length-drop}
 use Rattle.aml_names.specs.declared.faults.CodeFault.{CodeFault}
@@ -21,18 +22,24 @@ use Rattle.aml_code.specs.declared.rows.TailKind.TheVariants as tails
 use Rattle.aml_code.specs.Opcodes.{Row}
 use Rattle.aml_code.specs.Packages.{width_len, package_bytes, FitsWidth}
 use Rattle.aml_code.specs.Rows.{row_of, has_length, takes}
-use Rattle.aml_code.specs.Tree.{Tree, nothing, named, op, Trees, no_trees, tree_more, Part, child, label, byte, word, dword, qword, text, Parts, no_parts, part_more, tree_count}
-use Rattle.aml_code.specs.Tree.{Tail, empty, terms, elements, fields, body, Field, unit, reserved, access, connection, extended, Fields, no_fields, field_more, Link, target, buffer}
+use Rattle.aml_code.specs.Tree.{Tree, nothing, named, op, Trees, no_trees, tree_more, Part, child, label, byte, word, dword, qword, text, Parts, no_parts}
+use Rattle.aml_code.specs.Tree.{part_more, tree_count}
+use Rattle.aml_code.specs.Tree.{Tail, empty, terms, elements, fields, body, Field, unit, reserved, access, connection, extended, Fields, no_fields, field_more}
+use Rattle.aml_code.specs.Tree.{Link, target, buffer}
 use Rattle.aml_code.specs.Tree as trees
-use Rattle.aml_code.specs.Encoding.{opcode_bytes, packed, slice_of, encoding, encodings, part_encoding, parts_encoding, tail_encoding, field_encoding, fields_encoding, link_encoding}
+use Rattle.aml_code.specs.Encoding.{opcode_bytes, packed, slice_of, encoding, encodings, part_encoding, parts_encoding, tail_encoding, field_encoding}
+use Rattle.aml_code.specs.Encoding.{fields_encoding, link_encoding}
 use Rattle.aml_code.specs.Declaring.{names_declared, with_declared, declared_by, after, after_all, after_tail}
-use Rattle.aml_code.specs.Lawful.{HasWidth, IsGuarded, is_guard, terms_in, next_position, Setting, IsLawful, AreTerms, IsPart, AreParts, IsTail, IsLink, IsField, AreFields}
+use Rattle.aml_code.specs.Lawful.{HasWidth, IsGuarded, is_guard, terms_in, next_position, Setting, IsLawful, AreTerms, IsPart, AreParts, IsTail, IsLink}
+use Rattle.aml_code.specs.Lawful.{IsField, AreFields}
 use Rattle.aml_code.specs.Meaning.{BodyStands, BodiesStand, TailStands}
 use Rattle.aml_code.proofs.Answered.{read_on}
 use Rattle.aml_code.proofs.InnerLaws.{is_inner, unchanged, all_unchanged}
 use Rattle.aml_code.proofs.LengthLaws.{span_again, length-package_bytes}
 use Rattle.aml_code.proofs.RowFacts.{row_opcode, row_is_opcode, lead_of, row_apart, target_opcode, opcode_lead}
-use Rattle.aml_parse.specs.Reading.{Reader, flat, part_at, parts_at, arguments_at, terms_at, named_unit, named_link, buffer_at, link_at, field_at, fields_at, known, call_at, takes_names, name_term_at, refusal, body_to, tail_at, plain_at, packed_at, row_at, by_row, operation_at, is_absent_target, term_at}
+use Rattle.aml_parse.specs.Reading.{Reader, flat, part_at, parts_at, arguments_at, terms_at, named_unit, named_link, buffer_at, link_at, field_at, fields_at}
+use Rattle.aml_parse.specs.Reading.{known, call_at, takes_names, name_term_at, refusal, body_to, tail_at, plain_at, packed_at, row_at, by_row, operation_at}
+use Rattle.aml_parse.specs.Reading.{is_absent_target, term_at}
 use Rattle.aml_parse.proofs.FlatLaws.{number_again, count_again, text_again, segmented_again, opcode_again}
 use Rattle.aml_parse.proofs.FieldLaws.{apart, named_unit_again, reserved_again, access_again, extended_again}
 use Rattle.aml_parse.proofs.Leads.{tail_is_empty, guard_again}
@@ -46,7 +53,13 @@ name_apart : (n : Name) → IsName n → (lead : ℕ) × (behind : List ℕ) × 
 name_apart n is =
     let l = name_lead n is in
     elim l.kind [
-      | inl k ↦ (l.lead, l.behind, l.text, ne_eqb l.lead 0x11 (λ e. let x : is_name_lead 0x11 ≡ true = subst (λ (c : ℕ). is_name_lead c ≡ true) e k.0 in absurd cc))
+      | inl k ↦ (
+        l.lead,
+        l.behind,
+        l.text,
+        ne_eqb l.lead 0x11 (λ e. let x : is_name_lead 0x11 ≡ true = subst (λ (c : ℕ). is_name_lead c ≡ true) e k.0 in
+            absurd cc),
+      )
       | inr k ↦ (l.lead, l.behind, l.text, ne_eqb l.lead 0x11 (λ e. absurd (omega (arith, e, k.1))))
     ]
 
@@ -116,7 +129,8 @@ module _ (s : Setting) (levels : ℕ) (read : Position → Reader Tree) (law : I
   inner_again p at end ls t rest i inner h place =
       law.again p at end ls t rest h (bodiless s levels p ls at t inner h) place ∙ ap (λ (m : PathSet). Ok (t, m, rest)) (unchanged s levels p ls t i h)
 
-  part_again : (k : PartKind) (at end : ℕ) (ls : PathSet) (x : Part) (rest : List ℕ) → IsPart s levels k ls x → at + length (part_encoding s.code x ++ rest) ≡ end
+  part_again : (k : PartKind) (at end : ℕ) (ls : PathSet) (x : Part) (rest : List ℕ) → IsPart s levels k ls x
+      → at + length (part_encoding s.code x ++ rest) ≡ end
       → part_at read k end ls (part_encoding s.code x ++ rest) ≡ Ok (x, ls, rest)
   part_again kinds.Term at end ls (child t) rest h place = read_on _ _ _ _ (inner_again positions.Argument at end ls t rest refl refl h place) refl
   part_again kinds.Target at end ls (child t) rest h place = read_on _ _ _ _ (inner_again positions.Target at end ls t rest refl refl h place) refl
@@ -147,7 +161,8 @@ module _ (s : Setting) (levels : ℕ) (read : Position → Reader Tree) (law : I
 
   -- ---- lists of terms
 
-  arguments_again : (at end : ℕ) (ls : PathSet) (ts : Trees) (rest : List ℕ) → AreTerms s levels positions.Argument ls ts → at + length (encodings s.code ts ++ rest) ≡ end
+  arguments_again : (at end : ℕ) (ls : PathSet) (ts : Trees) (rest : List ℕ) → AreTerms s levels positions.Argument ls ts
+      → at + length (encodings s.code ts ++ rest) ≡ end
       → arguments_at read (tree_count ts) end ls (encodings s.code ts ++ rest) ≡ Ok (ts, after_all s.scope ls ts, rest)
   unfolding arguments_at
   arguments_again at end ls no_trees rest h place = refl
@@ -160,7 +175,8 @@ module _ (s : Setting) (levels : ℕ) (read : Position → Reader Tree) (law : I
       (read_on _ _ _ _ (arguments_again (at + length front) end (after s.scope ls t) ts rest h.1 (place_behind at end front (back ++ rest) here)) refl)
 
   terms_step : (n : ℕ) (p : Position) (end : ℕ) (ls : PathSet) (bs : List ℕ) → 0 < length bs
-      → terms_at read (suc n) p end ls bs ≡ (read p end ls bs >>= λ first. terms_at read n (next_position p first.0) end first.1 first.2 >>= λ others. Ok (tree_more first.0 others.0, others.1))
+      → terms_at read (suc n) p end ls bs ≡ (read p end ls bs >>= λ first. terms_at read n (next_position p first.0) end first.1 first.2 >>= λ others. Ok
+      (tree_more first.0 others.0, others.1))
   unfolding terms_at
   terms_step n p end ls [] h = absurd (omega arith)
   terms_step n p end ls (b ∷ bs) h = refl
@@ -178,7 +194,8 @@ module _ (s : Setting) (levels : ℕ) (read : Position → Reader Tree) (law : I
       let long = length-append front back in
       terms_step n p end ls (front ++ back) (omega (arith, some, long))
       ∙ read_on _ _ _ _ (law.again p at end ls t back h.0 stands.0 place) (read_on _ _ _ _
-      (terms_again n (next_position p t) (at + length front) end (after s.scope ls t) ts (omega (arith, some, long)) h.1 stands.1 (place_behind at end front back place)) refl)
+      (terms_again n (next_position p t) (at + length front) end (after s.scope ls t) ts (omega (arith, some, long)) h.1 stands.1
+      (place_behind at end front back place)) refl)
 
   -- ---- field lists
 
@@ -211,7 +228,8 @@ module _ (s : Setting) (levels : ℕ) (read : Position → Reader Tree) (law : I
   field_again at end ls (extended a b c) rest h place = read_on _ _ _ _ (extended_again end a b c rest) refl
 
   fields_step : (n end : ℕ) (ls : PathSet) (bs : List ℕ) → 0 < length bs
-      → fields_at read (suc n) end ls bs ≡ (field_at read end ls bs >>= λ first. fields_at read n end first.1 first.2 >>= λ others. Ok (field_more first.0 others.0, others.1))
+      → fields_at read (suc n) end ls bs ≡ (field_at read end ls bs >>= λ first. fields_at read n end first.1 first.2 >>= λ others. Ok
+      (field_more first.0 others.0, others.1))
   unfolding fields_at
   fields_step n end ls [] h = absurd (omega arith)
   fields_step n end ls (b ∷ bs) h = refl
@@ -256,8 +274,10 @@ module _ (s : Setting) (levels : ℕ) (read : Position → Reader Tree) (law : I
   tail_again : (p : Position) (k : TailKind) (at end : ℕ) (ls : PathSet) (t : Tail) → IsTail s levels p k ls t → (k ≡ tails.Empty → ⊥) → TailStands s.code at t
       → at + length (tail_encoding s.code t) ≡ end → tail_at read p k end ls (tail_encoding s.code t) ≡ Ok (t, after_tail s.scope ls t)
   tail_again p tails.Empty at end ls t h some stands place = absurd (some refl)
-  tail_again p tails.Fields at end ls (fields us) h some stands place = read_on _ _ _ _ (fields_again (length (fields_encoding s.code us)) at end ls us (omega arith) h place) refl
-  tail_again p tails.Terms at end ls (terms ts) h some stands place = read_on _ _ _ _ (terms_again (length (encodings s.code ts)) p at end ls ts (omega arith) h stands place) refl
+  tail_again p tails.Fields at end ls (fields us) h some stands place =
+      read_on _ _ _ _ (fields_again (length (fields_encoding s.code us)) at end ls us (omega arith) h place) refl
+  tail_again p tails.Terms at end ls (terms ts) h some stands place =
+      read_on _ _ _ _ (terms_again (length (encodings s.code ts)) p at end ls ts (omega arith) h stands place) refl
   tail_again p tails.Bytes at end ls (trees.bytes bs) h some stands place = refl
   tail_again p tails.Elements at end ls (elements ts) h some stands place =
       let bodies = terms_bodiless s levels positions.Data ls at ts refl h in
@@ -275,7 +295,8 @@ module _ (s : Setting) (levels : ℕ) (read : Position → Reader Tree) (law : I
   module _ (p : Position) (o : ℕ) (row : Row) (end : ℕ) (ls : PathSet) (ps : Parts) (rest : List ℕ) (listed : row_of o ≡ Some row) where
     -- the operation that was read by its row is the one by its opcode
     by_opcode : (w : Option PkgWidth) (t : Tail) (m : PathSet)
-        → read_as (op row.opcode w ps t, with_declared s.scope m (names_declared row.role ps t), rest) ≡ read_as (op o w ps t, declared_by s.scope (row_of o) m ps t, rest)
+        → read_as (op row.opcode w ps t, with_declared s.scope m (names_declared row.role ps t), rest)
+        ≡ read_as (op o w ps t, declared_by s.scope (row_of o) m ps t, rest)
     by_opcode w t m =
         ap (λ (n : ℕ). Ok (op n w ps t, with_declared s.scope m (names_declared row.role ps t), rest)) (row_opcode o row listed)
         ∙ ap (λ (f : Option Row). Ok (op o w ps t, declared_by s.scope f m ps t, rest)) (sym listed)
@@ -287,7 +308,8 @@ module _ (s : Setting) (levels : ℕ) (read : Position → Reader Tree) (law : I
 
     packed_again : (w : PkgWidth) (there at : ℕ) (t : Tail) → IsGuarded (is_guard p row.place) ps
         → FitsWidth w (width_len w + length (parts_encoding s.code ps ++ tail_encoding s.code t)) → AreParts s levels row.parts ls ps
-        → IsTail s levels (terms_in p row.place) row.tail ls t → (row.tail ≡ tails.Empty → ⊥) → TailStands s.code (at + (width_len w + length (parts_encoding s.code ps))) t
+        → IsTail s levels (terms_in p row.place) row.tail ls t → (row.tail ≡ tails.Empty → ⊥)
+        → TailStands s.code (at + (width_len w + length (parts_encoding s.code ps))) t
         → at + length (packed (Some w) (parts_encoding s.code ps ++ tail_encoding s.code t) ++ rest) ≡ end
         → packed_at s.scope read p there row end ls (packed (Some w) (parts_encoding s.code ps ++ tail_encoding s.code t) ++ rest)
         ≡ Ok (op o (Some w) ps t, declared_by s.scope (row_of o) (after_tail s.scope ls t) ps t, rest)
@@ -322,16 +344,19 @@ module _ (s : Setting) (levels : ℕ) (read : Position → Reader Tree) (law : I
       ap (λ (y : Tail). opcode_bytes o ++ (front ++ tail_encoding s.code y) ++ rest) is_empty
       ∙ ap (λ (b : List ℕ). (opcode_bytes o ++ b) ++ rest) (append-nil front) ∙ append_assoc (opcode_bytes o) front rest in
       let there = end - length (opcode_bytes o ++ (front ++ rest)) in
-      let inner_place : (at + length (opcode_bytes o)) + length (front ++ rest) ≡ end = omega (arith, place, ap length spelled, length-append (opcode_bytes o) (front ++ rest)) in
+      let inner_place : (at + length (opcode_bytes o)) + length (front ++ rest) ≡ end =
+      omega (arith, place, ap length spelled, length-append (opcode_bytes o) (front ++ rest)) in
       ap (term_at s.arity s.scope read p end ls) spelled
       ∙ reach_row s read p end ls o row (front ++ rest) h.listed h.taken
       ∙ ap (λ (c : Bool). cond c (packed_at s.scope read p there row end ls (front ++ rest)) (plain_at s.scope read row end ls (front ++ rest))) short
       ∙ plain_again p o row end ls ps rest h.listed (at + length (opcode_bytes o)) h.parts inner_place
       ∙ ap (λ (y : Tail). Ok (op o None ps y, declared_by s.scope (row_of o) (after_tail s.scope ls y) ps y, rest)) (sym is_empty)
   op_again p o None at end ls ps t rest h true long stands place =
-      let width : HasWidth true None 0 = subst (λ (b : Bool). HasWidth b None (length (parts_encoding s.code ps ++ tail_encoding s.code t))) long h.width in absurd width
+      let width : HasWidth true None 0 = subst (λ (b : Bool). HasWidth b None (length (parts_encoding s.code ps ++ tail_encoding s.code t))) long h.width in
+      absurd width
   op_again p o (Some w) at end ls ps t rest h false short stands place =
-      let width : HasWidth false (Some w) 0 = subst (λ (b : Bool). HasWidth b (Some w) (length (parts_encoding s.code ps ++ tail_encoding s.code t))) short h.width in absurd width
+      let width : HasWidth false (Some w) 0 = subst (λ (b : Bool). HasWidth b (Some w) (length (parts_encoding s.code ps ++ tail_encoding s.code t)))
+      short h.width in absurd width
   op_again p o (Some w) at end ls ps t rest h true long stands place =
       let row = h.row in
       let inside = parts_encoding s.code ps ++ tail_encoding s.code t in

@@ -31,10 +31,14 @@ bare_names roles.Fields = refl
 bare_names roles.Guard = refl
 bare_names roles.Other = refl
 
-pub plain_bare : (scope : Option (List Seg)) (read : Position → Reader Tree) (row : Row) (end : ℕ) (ls : PathSet) (bytes : List ℕ) → length row.parts ≡ 0 → plain_at scope read row end ls bytes ≡ Ok (op row.opcode None no_parts empty, ls, bytes)
+pub plain_bare : (scope : Option (List Seg)) (read : Position → Reader Tree) (row : Row) (end : ℕ) (ls : PathSet) (bytes : List ℕ) → length row.parts ≡ 0
+    → plain_at scope read row end ls bytes ≡ Ok (op row.opcode None no_parts empty, ls, bytes)
 unfolding plain_at parts_at
 plain_bare scope read row end ls bytes bare =
-    let read_none : parts_at read row.parts end ls bytes ≡ Ok (no_parts, ls, bytes) = ap (λ (ks : List PartKind). parts_at read ks end ls bytes) (empty_is row.parts bare) in
-    let same : with_declared scope ls (names_declared row.role no_parts empty) ≡ ls = ap (with_declared scope ls) (bare_names row.role) ∙ none_declared scope ls in
-    ap (λ (r : Result (Parts × PathSet × List ℕ) CodeFault). r >>= λ ps. Ok (op row.opcode None ps.0 empty, with_declared scope ps.1 (names_declared row.role ps.0 empty), ps.2)) read_none
+    let read_none : parts_at read row.parts end ls bytes ≡ Ok (no_parts, ls, bytes) =
+    ap (λ (ks : List PartKind). parts_at read ks end ls bytes) (empty_is row.parts bare) in
+    let same : with_declared scope ls (names_declared row.role no_parts empty) ≡ ls = ap (with_declared scope ls) (bare_names row.role)
+    ∙ none_declared scope ls in
+    ap (λ (r : Result (Parts × PathSet × List ℕ) CodeFault). r >>= λ ps. Ok
+    (op row.opcode None ps.0 empty, with_declared scope ps.1 (names_declared row.role ps.0 empty), ps.2)) read_none
     ∙ ap (λ (m : PathSet). Ok (op row.opcode None no_parts empty, m, bytes)) same

@@ -63,7 +63,8 @@ module _ (s : Setting) (levels : ℕ) (ls : PathSet) (end : ℕ) (bs : List ℕ)
 pub named_unit_again : (end : ℕ) (g : Seg) (w : PkgWidth) (n : ℕ) (rest : List ℕ) → IsNameSeg g.0 → FitsWidth w n
     → named_unit end (g.0 ++ (package_bytes w n ++ rest)) ≡ Ok (unit g w n, rest)
 unfolding named_unit
-named_unit_again end g w n rest is fits = read_on _ _ _ _ (segment_again end g (package_bytes w n ++ rest) is) (read_on _ _ _ _ (length_again end w n rest fits) refl)
+named_unit_again end g w n rest is fits =
+    read_on _ _ _ _ (segment_again end g (package_bytes w n ++ rest) is) (read_on _ _ _ _ (length_again end w n rest fits) refl)
 
 pub reserved_again : (end : ℕ) (w : PkgWidth) (n : ℕ) (rest : List ℕ) → FitsWidth w n → reserved_unit end (package_bytes w n ++ rest) ≡ Ok (reserved w n, rest)
 unfolding reserved_unit

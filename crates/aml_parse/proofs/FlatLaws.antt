@@ -1,5 +1,6 @@
 -- A part without terms that is read is the part that is spelled, and one that is spelled is read again.
-use Rattle.std.proofs.Common.{◌≡◌, ℕ, zero, suc, ◌+◌, ◌-◌, ◌/◌, ◌%◌, ◌^◌, ◌<◌, ◌≤◌, true, false, cond, eqb, ltb, ◌==◌, List, [], ◌∷◌, ◌++◌, length, get_or, take, drop, Option, Some, None, Ok, Err, refl, sym, ap, subst, ◌∙◌, append_assoc, ◌⊎◌, arith, inl, inr}
+use Rattle.std.proofs.Common.{◌≡◌, ℕ, zero, suc, ◌+◌, ◌-◌, ◌/◌, ◌%◌, ◌^◌, ◌<◌, ◌≤◌, true, false, cond, eqb, ltb, ◌==◌, List, [], ◌∷◌, ◌++◌, length, get_or}
+use Rattle.std.proofs.Common.{take, drop, Option, Some, None, Ok, Err, refl, sym, ap, subst, ◌∙◌, append_assoc, ◌⊎◌, arith, inl, inr}
 use Rattle.std.specs.Prelude.{position}
 use Rattle.std.specs.List.{position_or_len}
 use Rattle.std.proofs.Math.Seq.{drop-cons}
@@ -14,7 +15,8 @@ use Rattle.aml_names.specs.Names.{IsName, spelling}
 use Rattle.aml_names.specs.NameReading.{name_at, has_segment, NameFault}
 use Rattle.aml_names.specs.Steps.{◌>>=◌, Left}
 use Rattle.aml_names.proofs.NameLaws.{name_takes, name_again, name_fault}
-use Rattle.aml_names.proofs.StepLaws.{ok_is, err_is, bind_then, err_then, cond_then, guard_ok, chosen_ok, IsBytes, IsBytes-drop, Takes, Takes-then, byte_takes, byte_fault}
+use Rattle.aml_names.proofs.StepLaws.{ok_is, err_is, bind_then, err_then, cond_then, guard_ok, chosen_ok, IsBytes, IsBytes-drop, Takes, Takes-then, byte_takes}
+use Rattle.aml_names.proofs.StepLaws.{byte_fault}
 use Rattle.aml_code.specs.Packages.{little}
 use Rattle.aml_code.specs.Lengths.{little_at}
 use Rattle.aml_code.specs.Tree.{Part, byte, text}
@@ -52,7 +54,10 @@ count_took spelled Is so fits end bs x bytes e = bind_then (TookFlat spelled Is 
     let t = little_takes 1 end bs n.0 n.1 bytes h1 in
     let g = guard_ok (ltb 7 n.0) (faults.BadCount (end - length bs)) (Ok (byte n.0, n.1)) x e1 in
     let few : n.0 ≤ 7 = ltb-false _ _ g.0 in
-    subst (TookFlat spelled Is bs) (ok_is _ x g.1) (record { takes = subst (λ (r : List ℕ). Takes bs r n.1) (sym (so n.0)) t.0; is = fits n.0 (omega (arith, few)) }))
+    subst (TookFlat spelled Is bs) (ok_is _ x g.1) (record {
+      takes = subst (λ (r : List ℕ). Takes bs r n.1) (sym (so n.0)) t.0;
+      is = fits n.0 (omega (arith, few));
+    }))
 
 pub count_again : (end n : ℕ) (rest : List ℕ) → n < 8 → count_part end (little 1 n ++ rest) ≡ Ok (byte n, rest)
 unfolding count_part
@@ -85,7 +90,8 @@ text_bytes (suc n) (b ∷ bs) le h fits =
     positive zero h = absurd (h refl)
     positive (suc b) h = omega arith
 
-pub text_took : (spelled : Part → List ℕ) (Is : Part → Type 0) → ((bs : List ℕ) → spelled (text bs) ≡ bs ++ 0 ∷ []) → ((bs : List ℕ) → AreTextBytes bs → Is (text bs))
+pub text_took : (spelled : Part → List ℕ) (Is : Part → Type 0) → ((bs : List ℕ) → spelled (text bs) ≡ bs ++ 0 ∷ [])
+    → ((bs : List ℕ) → AreTextBytes bs → Is (text bs))
     → TakesFlat spelled Is text_part
 text_took spelled Is so is end bs x fits e = by_position (position (λ b. b == 0) bs) refl e
   where
@@ -117,13 +123,16 @@ text_again end bs rest h =
     let all : List ℕ = bs ++ 0 ∷ rest in
     let same : (bs ++ 0 ∷ []) ++ rest ≡ all = append_assoc bs (0 ∷ []) rest in
     let there : position_or_len (λ b. b == 0) all ≡ length bs =
-    position_or_len_is (λ b. b == 0) all (length bs) 0 (omega (arith, length-append bs (0 ∷ rest))) (no_zero bs rest h) (λ less. ap (λ m. m == 0) (zero_at bs rest)) in
+    position_or_len_is (λ b. b == 0) all (length bs) 0 (omega (arith, length-append bs (0 ∷ rest))) (no_zero bs rest h)
+    (λ less. ap (λ m. m == 0) (zero_at bs rest)) in
     let inside : ltb (length bs) (length all) ≡ true = lt-ltb _ _ (omega (arith, length-append bs (0 ∷ rest))) in
     let found : position (λ b. b == 0) all ≡ Some (length bs) =
     ap (λ n. cond (ltb n (length all)) (Some n) None) there ∙ ap (λ b. cond b (Some (length bs)) None) inside in
     let front : take (length bs) all ≡ bs = take_at bs (0 ∷ rest) (length bs) refl in
-    let back : drop (suc (length bs)) all ≡ rest = ap (drop (suc (length bs))) (sym same) ∙ drop_at (bs ++ 0 ∷ []) rest (suc (length bs)) (omega (arith, length-append bs (0 ∷ []))) in
-    ap (text_part end) same ∙ ap (λ o. text_to o end all) found ∙ ap (λ (t : List ℕ). Ok (text t, drop (suc (length bs)) all)) front ∙ ap (λ (t : List ℕ). Ok (text bs, t)) back
+    let back : drop (suc (length bs)) all ≡ rest = ap (drop (suc (length bs))) (sym same)
+    ∙ drop_at (bs ++ 0 ∷ []) rest (suc (length bs)) (omega (arith, length-append bs (0 ∷ []))) in
+    ap (text_part end) same ∙ ap (λ o. text_to o end all) found ∙ ap (λ (t : List ℕ). Ok (text t, drop (suc (length bs)) all)) front
+    ∙ ap (λ (t : List ℕ). Ok (text bs, t)) back
 
 pub text_fault : (end : ℕ) (bs : List ℕ) (d : CodeFault) → text_part end bs ≡ Err d → d ≡ faults.Truncated end
 text_fault end bs d e = by_position (position (λ b. b == 0) bs) e
@@ -134,7 +143,8 @@ text_fault end bs d e = by_position (position (λ b. b == 0) bs) e
 
 -- ---- names
 
-segmented_takes : (end : ℕ) (bs : List ℕ) (x : Name × List ℕ) → IsBytes bs → segmented_at end bs ≡ Ok x → Takes bs (spelling x.0) x.1 × IsName x.0 × (has_segment x.0 ≡ true)
+segmented_takes : (end : ℕ) (bs : List ℕ) (x : Name × List ℕ) → IsBytes bs → segmented_at end bs ≡ Ok x → Takes bs (spelling x.0) x.1 × IsName x.0
+    × (has_segment x.0 ≡ true)
 unfolding segmented_at
 segmented_takes end bs x fits e = bind_then _ _ _ x e (λ n h1 e1.
     let t = name_takes end bs n.0 n.1 fits h1 in
@@ -150,17 +160,20 @@ module _ {A : Type 0} (made : Name → A) (spelled : A → List ℕ) (Is : A →
   name_took is end bs x fits e = answered (TookFlat spelled Is bs) _ _ x e (λ n h.
       let t = name_takes end bs n.0 n.1 fits h in name_made bs n.1 n.0 t.0 (is n.0 t.1))
 
-  pub segmented_took : ((n : Name) → IsName n → has_segment n ≡ true → Is (made n)) → TakesFlat spelled Is (λ end bs. segmented_at end bs >>= λ n. Ok (made n.0, n.1))
+  pub segmented_took : ((n : Name) → IsName n → has_segment n ≡ true → Is (made n))
+      → TakesFlat spelled Is (λ end bs. segmented_at end bs >>= λ n. Ok (made n.0, n.1))
   segmented_took is end bs x fits e = answered (TookFlat spelled Is bs) _ _ x e (λ n h.
       let t = segmented_takes end bs n fits h in name_made bs n.1 n.0 t.0 (is n.0 t.1 t.2))
 
 pub segmented_again : (end : ℕ) (n : Name) (rest : List ℕ) → IsName n → has_segment n ≡ true → segmented_at end (spelling n ++ rest) ≡ Ok (n, rest)
 unfolding segmented_at
-segmented_again end n rest h some = read_on _ _ _ _ (name_again end n rest h) (ap (λ b. cond b (Ok (n, rest)) (Err (faults.EmptyName (end - length (spelling n ++ rest))))) some)
+segmented_again end n rest h some =
+    read_on _ _ _ _ (name_again end n rest h) (ap (λ b. cond b (Ok (n, rest)) (Err (faults.EmptyName (end - length (spelling n ++ rest))))) some)
 
 -- a name that has to have a segment: it isn't spelled well, or it has none
 pub segmented_fault : (end : ℕ) (bs : List ℕ) (d : CodeFault) → IsBytes bs → segmented_at end bs ≡ Err d
-    → NameFault end bs d ⊎ ((n : Name) × (rest : List ℕ) × IsName n × (bs ≡ spelling n ++ rest) × (has_segment n ≡ false) × (d ≡ faults.EmptyName (end - length bs)))
+    → NameFault end bs d ⊎ ((n : Name) × (rest : List ℕ) × IsName n × (bs ≡ spelling n ++ rest) × (has_segment n ≡ false)
+    × (d ≡ faults.EmptyName (end - length bs)))
 unfolding segmented_at
 segmented_fault end bs d fits e = err_then _ _ _ d e (λ h. inl (name_fault end bs d h)) (λ n h1 e1.
     let t = name_takes end bs n.0 n.1 fits h1 in

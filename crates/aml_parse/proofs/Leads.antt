@@ -1,5 +1,6 @@
 -- The first byte of a term, and the guard of a table.
-use Rattle.std.proofs.Common.{◌≡◌, ℕ, zero, suc, Bool, true, false, eqb, List, [], ◌∷◌, ◌++◌, length, Option, Some, None, Ok, Err, refl, sym, ap, subst, ◌∙◌, append_assoc, ◌⊎◌, arith, inl, inr}
+use Rattle.std.proofs.Common.{◌≡◌, ℕ, zero, suc, Bool, true, false, eqb, List, [], ◌∷◌, ◌++◌, length, Option, Some, None, Ok, Err, refl, sym, ap, subst, ◌∙◌}
+use Rattle.std.proofs.Common.{append_assoc, ◌⊎◌, arith, inl, inr}
 use Rattle.std.proofs.lemmas.Bool.{eqb-true}
 use Rattle.std.proofs.lemmas.List.{append-nil}
 use Rattle.aml_names.specs.declared.faults.CodeFault.{CodeFault}
@@ -98,7 +99,8 @@ module _ (s : Setting) (levels : ℕ) (ls : PathSet) where
 
   -- ---- guards
 
-  one_part : (ps : Parts) → AreParts s levels (kinds.Term ∷ []) ls ps → (t : Tree) × (ps ≡ part_more (child t) no_parts) × IsLawful s levels positions.Argument ls t
+  one_part : (ps : Parts) → AreParts s levels (kinds.Term ∷ []) ls ps → (t : Tree) × (ps ≡ part_more (child t) no_parts)
+      × IsLawful s levels positions.Argument ls t
   one_part no_parts h = absurd h
   one_part (part_more (child t) no_parts) h = (t, refl, h.0)
   one_part (part_more (child t) (part_more x xs)) h = absurd h.1
@@ -111,7 +113,8 @@ guard_first at end (b ∷ behind) x e =
     (behind, ap (λ (c : ℕ). c ∷ behind) (eqb-true b 0x00 g.0))
 
 -- the one part of a guard that was read is the opcode 00
-pub guard_holds : (s : Setting) (levels : ℕ) (guarded : Bool) (at end : ℕ) (inside : List ℕ) (x : Bool) (ks : List PartKind) (ls : PathSet) (ps : Parts) (rest : List ℕ)
+pub guard_holds : (s : Setting) (levels : ℕ) (guarded : Bool) (at end : ℕ) (inside : List ℕ) (x : Bool) (ks : List PartKind) (ls : PathSet) (ps : Parts)
+    (rest : List ℕ)
     → (guarded ≡ true → ks ≡ kinds.Term ∷ []) → guard_at guarded at end inside ≡ Ok x → AreParts s levels ks ls ps → inside ≡ parts_encoding s.code ps ++ rest
     → IsGuarded guarded ps
 guard_holds s levels false at end inside x ks ls ps rest one e h whole = tt

@@ -1,7 +1,8 @@
 -- Each fault is true of the code at its offset. Each reader has a law here, beginning with parts and ending with terms, that
 -- asks its steps one after the other which of them failed: the first is at the offset, and the next one behind what that took
 -- (by `Takes`). The reader of the terms inside is any whose faults are true (`IsPlaced`) and that takes what it has to.
-use Rattle.std.proofs.Common.{◌≡◌, ◌≢◌, ℕ, zero, suc, ◌+◌, ◌-◌, ◌≤◌, true, false, eqb, ltb, List, [], ◌∷◌, length, Option, Some, None, Err, refl, sym, ap, subst, ◌∙◌, arith, inl, inr}
+use Rattle.std.proofs.Common.{◌≡◌, ◌≢◌, ℕ, zero, suc, ◌+◌, ◌-◌, ◌≤◌, true, false, eqb, ltb, List, [], ◌∷◌, length, Option, Some, None, Err, refl, sym, ap}
+use Rattle.std.proofs.Common.{subst, ◌∙◌, arith, inl, inr}
 use Rattle.std.proofs.lemmas.Bool.{ltb-false}
 use Rattle.aml_names.specs.declared.faults.CodeFault.{CodeFault}
 use Rattle.aml_names.specs.declared.faults.CodeFault.TheVariants as faults
@@ -30,7 +31,9 @@ use Rattle.aml_code.proofs.Answered.{not_answered}
 use Rattle.aml_code.proofs.LengthLaws.{length_fault, span_takes, span_fault}
 use Rattle.aml_code.proofs.RowFacts.{guard_place, opcode_some}
 use Rattle.aml_code.proofs.Within.{Within, onward, inward, text_there, byte_there, truncated_placed, offset_is, length_placed, past_placed, name_placed}
-use Rattle.aml_parse.specs.Reading.{Reader, count_part, segmented_at, part_at, parts_at, arguments_at, terms_at, named_unit, link_at, field_at, fields_at, known, call_at, takes_names, name_term_at, refused_in_body, refusal, guard_at, tail_at, plain_at, packed_at, by_row, operation_at, is_absent_target, term_at}
+use Rattle.aml_parse.specs.Reading.{Reader, count_part, segmented_at, part_at, parts_at, arguments_at, terms_at, named_unit, link_at, field_at, fields_at}
+use Rattle.aml_parse.specs.Reading.{known, call_at, takes_names, name_term_at, refused_in_body, refusal, guard_at, tail_at, plain_at, packed_at, by_row}
+use Rattle.aml_parse.specs.Reading.{operation_at, is_absent_target, term_at}
 use Rattle.aml_parse.proofs.FlatLaws.{number_fault, count_fault, text_fault, segmented_fault, opcode_takes, opcode_fault}
 use Rattle.aml_parse.proofs.FieldLaws.{reserved_fault, access_fault, extended_fault}
 use Rattle.aml_parse.proofs.Leads.{guard_fault}
@@ -61,7 +64,8 @@ record HasFound (code : List ℕ) (at o : ℕ) (row : Row) : Type 0 where
   pub listed : row_of o ≡ Some row
 
 not_external : (p : Position) (place : Place) → takes p place ≡ false → takes p places.External ≡ true → place ≢ places.External
-not_external p place not_taken taken = λ e. let x : takes p places.External ≡ false = subst (λ (q : Place). takes p q ≡ false) e not_taken in absurd (cc (x, taken))
+not_external p place not_taken taken =
+    λ e. let x : takes p places.External ≡ false = subst (λ (q : Place). takes p q ≡ false) e not_taken in absurd (cc (x, taken))
 
 module _ (arity : Arities) (code : List ℕ) (at o : ℕ) (row : Row) (f : HasFound code at o row) where
   in_body_placed : (place : Place) → row.place ≡ place → StandsAt arity code (refused_in_body place at)
@@ -116,7 +120,8 @@ module _ (s : Setting) (levels : ℕ) (read : Position → Reader Tree) (law : I
   part_placed kinds.Target at end ls bs d w deep e = placer positions.Target at end ls bs d w deep (not_answered _ _ d e)
   part_placed kinds.Data at end ls bs d w deep e = placer positions.Data at end ls bs d w deep (not_answered _ _ d e)
   part_placed kinds.Name at end ls bs d w deep e = segmented_placed s.arity s.code at end bs d w (not_answered _ _ d (not_answered _ _ d e))
-  part_placed kinds.ScopeName at end ls bs d w deep e = name_placed s.arity s.code at end bs d w (name_fault end bs d (not_answered _ _ d (not_answered _ _ d e)))
+  part_placed kinds.ScopeName at end ls bs d w deep e =
+      name_placed s.arity s.code at end bs d w (name_fault end bs d (not_answered _ _ d (not_answered _ _ d e)))
   part_placed kinds.Byte at end ls bs d w deep e = cut_placed s.arity s.code at end bs d w (number_fault 1 byte end bs d (not_answered _ _ d e))
   part_placed kinds.Count at end ls bs d w deep e = count_placed s.arity s.code at end bs d w (not_answered _ _ d e)
   part_placed kinds.Word at end ls bs d w deep e = cut_placed s.arity s.code at end bs d w (number_fault 2 word end bs d (not_answered _ _ d e))
@@ -140,7 +145,8 @@ module _ (s : Setting) (levels : ℕ) (read : Position → Reader Tree) (law : I
   arguments_placed (suc n) at end ls bs d w deep e = err_then _ _ _ d e (placer positions.Argument at end ls bs d w deep) (λ first h1 e1.
       let a = law.take positions.Argument at end ls bs first w h1 in
       let front = encoding s.code first.0 in
-      arguments_placed n (at + length front) end first.1 first.2 d (onward s.code at end bs front first.2 w a.takes) (omega (arith, deep)) (not_answered _ _ d e1))
+      arguments_placed n (at + length front) end first.1 first.2 d (onward s.code at end bs front first.2 w a.takes) (omega (arith, deep))
+      (not_answered _ _ d e1))
 
   pub terms_placed : (n : ℕ) (p : Position) (at end : ℕ) (ls : PathSet) (bs : List ℕ) (d : CodeFault) → Within s.code at end bs → 512 ≤ levels + at
       → terms_at read n p end ls bs ≡ Err d → StandsAt s.arity s.code d
@@ -228,7 +234,8 @@ module _ (s : Setting) (levels : ℕ) (read : Position → Reader Tree) (law : I
     guard_placed at end inside d w e =
         let f = guard_fault (is_guard p row.place) there end inside d e in
         let is_if = guard_place p row.place f.0 in
-        let other : row.place ≢ places.External = λ z. let x : is_if_place places.External ≡ true = subst (λ (q : Place). is_if_place q ≡ true) z is_if in absurd cc in
+        let other : row.place ≢ places.External = λ z. let x : is_if_place places.External ≡ true = subst (λ (q : Place). is_if_place q ≡ true) z is_if in
+        absurd cc in
         elim f.1 [
           | inl t ↦ cut_placed s.arity s.code at end inside d w t
           | inr t ↦ subst (StandsAt s.arity s.code) (sym t) (inr (o, found.is, found.there, (row, found.listed, other)))
@@ -259,7 +266,8 @@ module _ (s : Setting) (levels : ℕ) (read : Position → Reader Tree) (law : I
       cond_then _ (takes p row.place) _ _ _ e
       (λ taken q. cond_then _ (has_length row.tail) _ _ _ q
       (λ long r. packed_placed p there o row found at end ls bs d w deep r) (λ short r. plain_placed row at end ls bs d w deep r))
-      (λ other q. subst (StandsAt s.arity s.code) (err_is {A = Tree × PathSet × List ℕ} (refusal p row.place there) d q) (refusal_placed s.arity s.code there o row found p other))
+      (λ other q. subst (StandsAt s.arity s.code) (err_is {A = Tree × PathSet × List ℕ} (refusal p row.place there) d q)
+      (refusal_placed s.arity s.code there o row found p other))
 
   operation_placed : (p : Position) → IsPlaced s (suc levels) (operation_at s.scope read p)
   unfolding operation_at
@@ -281,5 +289,6 @@ module _ (s : Setting) (levels : ℕ) (read : Position → Reader Tree) (law : I
       let outer_fault = err_is {A = Tree × PathSet × List ℕ} (faults.ModuleCode (end - length bs)) d in
       cond_then _ (is_name_lead lead) _ _ _ e
       (λ is_lead q. cond_then _ (takes_names p) _ _ _ q (λ inner r. call_placed p inner at end ls bs d w deep r)
-      (λ outer r. at_offset s.arity s.code at end bs d w (λ n. faults.ModuleCode n) (inl (lead, byte_there s.code at end lead behind w, is_lead)) (sym (outer_fault r))))
+      (λ outer r. at_offset s.arity s.code at end bs d w (λ n. faults.ModuleCode n) (inl (lead, byte_there s.code at end lead behind w, is_lead))
+      (sym (outer_fault r))))
       (λ other q. cond_then _ (is_absent_target p lead) _ _ _ q (λ nought r. absurd cc) (λ more r. operation_placed p at end ls bs d w deep r))

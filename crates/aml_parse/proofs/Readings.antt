@@ -1,6 +1,7 @@
 -- The laws of the whole reader.
 use Rattle.std.specs.Prelude.{IfOk, IfErr}
-use Rattle.std.proofs.Common.{◌≡◌, ℕ, zero, suc, ◌-◌, ◌<◌, List, [], ◌∷◌, length, Option, Some, None, Result, Ok, Err, refl, sym, ap, subst, ◌∙◌, ◌⊎◌, arith, inl, inr}
+use Rattle.std.proofs.Common.{◌≡◌, ℕ, zero, suc, ◌-◌, ◌<◌, List, [], ◌∷◌, length, Option, Some, None, Result, Ok, Err, refl, sym, ap, subst, ◌∙◌, ◌⊎◌, arith}
+use Rattle.std.proofs.Common.{inl, inr}
 use Rattle.std.specs.FinSet as set
 use Rattle.std.proofs.lemmas.List.{length-append}
 use Rattle.aml_names.specs.declared.faults.CodeFault.{CodeFault}
@@ -42,7 +43,8 @@ module _ (s : Setting) where
   }
 
   too_deep_placed : IsPlaced s 0 too_deep
-  too_deep_placed at end ls [] d w deep e = truncated_placed s.arity s.code at end [] d w (sym (err_is {A = Tree × PathSet × List ℕ} (faults.Truncated end) d e))
+  too_deep_placed at end ls [] d w deep e =
+      truncated_placed s.arity s.code at end [] d w (sym (err_is {A = Tree × PathSet × List ℕ} (faults.Truncated end) d e))
   too_deep_placed at end ls (b ∷ bs) d w deep e =
       let fault : faults.TooDeep (end - length (b ∷ bs)) ≡ d = err_is {A = Tree × PathSet × List ℕ} (faults.TooDeep (end - length (b ∷ bs))) d e in
       let there : d ≡ faults.TooDeep at = sym fault ∙ ap (λ n. faults.TooDeep n) (offset_is s.code at end (b ∷ bs) w) in
@@ -80,41 +82,45 @@ module _ (arity : Arities) (scope : Option (List Seg)) (p : Position) (code : Li
   all_again ts lawful spelled stands =
       let s = setting_of arity scope code in
       let size : length (encodings code ts) ≡ length code = ap length spelled in
-      let read = terms_again s 512 (read_at arity scope 512) (read_law s 512) (length code) p 0 (length code) set.empty ts (omega (arith, size)) lawful stands (omega (arith, size)) in
+      let read = terms_again s 512 (read_at arity scope 512) (read_law s 512) (length code) p 0 (length code) set.empty ts (omega (arith, size)) lawful stands
+      (omega (arith, size)) in
       read_on _ _ _ _ (ap (terms_at (read_at arity scope 512) (length code) p (length code) set.empty) (sym spelled) ∙ read) refl
 
   pub all_placed : (d : CodeFault) → IsBytes code → all_at arity scope p code ≡ Err d → StandsAt arity code d
   unfolding all_at
   all_placed d fits e =
       let s = setting_of arity scope code in
-      terms_placed s 512 (read_at arity scope 512) (read_law s 512) (read_placed s 512) (length code) p 0 (length code) set.empty code d (whole code fits) (omega arith) (not_answered _ _ d e)
+      terms_placed s 512 (read_at arity scope 512) (read_law s 512) (read_placed s 512) (length code) p 0 (length code) set.empty code d (whole code fits)
+      (omega arith) (not_answered _ _ d e)
 
 -- ---- what a function answers, seen by a view, that gives what reading gives
 
-module _ {X : Type 0} (view : X → Trees) (result : Result X CodeFault) (read : Result Trees CodeFault) (given : Gives view result read) (Reads : Trees → Type 0) where
-  given_sound : ((ts : Trees) → read ≡ Ok ts → Reads ts) → IfOk result (λ x. Reads (view x))
-  given_sound sound = by result given
-    where
-      by : (r : Result X CodeFault) → Gives view r read → IfOk r (λ x. Reads (view x))
-      by (Ok x) e = sound (view x) e
-      by (Err d) e = tt
+module _ {X : Type 0} (view : X → Trees) (result : Result X CodeFault) (read : Result Trees CodeFault) (given : Gives view result read) (Reads : Trees → Type 0)
+  where
+    given_sound : ((ts : Trees) → read ≡ Ok ts → Reads ts) → IfOk result (λ x. Reads (view x))
+    given_sound sound = by result given
+      where
+        by : (r : Result X CodeFault) → Gives view r read → IfOk r (λ x. Reads (view x))
+        by (Ok x) e = sound (view x) e
+        by (Err d) e = tt
 
-  given_one : ((ts : Trees) → Reads ts → read ≡ Ok ts) → IfOk result (λ x. (us : Trees) → Reads us → us ≡ view x)
-  given_one again = by result given
-    where
-      by : (r : Result X CodeFault) → Gives view r read → IfOk r (λ x. (us : Trees) → Reads us → us ≡ view x)
-      by (Ok x) e = λ us h. ok_is us (view x) (sym (again us h) ∙ e)
-      by (Err d) e = tt
+    given_one : ((ts : Trees) → Reads ts → read ≡ Ok ts) → IfOk result (λ x. (us : Trees) → Reads us → us ≡ view x)
+    given_one again = by result given
+      where
+        by : (r : Result X CodeFault) → Gives view r read → IfOk r (λ x. (us : Trees) → Reads us → us ≡ view x)
+        by (Ok x) e = λ us h. ok_is us (view x) (sym (again us h) ∙ e)
+        by (Err d) e = tt
 
-  given_complete : ((ts : Trees) → Reads ts → read ≡ Ok ts) → IfErr result (λ e. (e ≡ faults.NoMemory) ⊎ ((us : Trees) → Reads us → ⊥))
-  given_complete again = by result given
-    where
-      by : (r : Result X CodeFault) → Gives view r read → IfErr r (λ e. (e ≡ faults.NoMemory) ⊎ ((us : Trees) → Reads us → ⊥))
-      by (Ok x) e = tt
-      by (Err d) (inl e) = inl e
-      by (Err d) (inr e) = inr (λ us h. let ok = again us h in absurd (cc (ok, e)))
+    given_complete : ((ts : Trees) → Reads ts → read ≡ Ok ts) → IfErr result (λ e. (e ≡ faults.NoMemory) ⊎ ((us : Trees) → Reads us → ⊥))
+    given_complete again = by result given
+      where
+        by : (r : Result X CodeFault) → Gives view r read → IfErr r (λ e. (e ≡ faults.NoMemory) ⊎ ((us : Trees) → Reads us → ⊥))
+        by (Ok x) e = tt
+        by (Err d) (inl e) = inl e
+        by (Err d) (inr e) = inr (λ us h. let ok = again us h in absurd (cc (ok, e)))
 
-pub given_placed : {X : Type 0} (view : X → Trees) (result : Result X CodeFault) (arity : Arities) (scope : Option (List Seg)) (p : Position) (code : List ℕ) → IsBytes code
+pub given_placed : {X : Type 0} (view : X → Trees) (result : Result X CodeFault) (arity : Arities) (scope : Option (List Seg)) (p : Position) (code : List ℕ)
+    → IsBytes code
     → Gives view result (all_at arity scope p code) → IfErr result (λ d. StandsAt arity code d)
 given_placed view (Ok x) arity scope p code fits e = tt
 given_placed view (Err d) arity scope p code fits (inl e) = subst (StandsAt arity code) (sym e) tt
@@ -148,7 +154,8 @@ module_sound code ts fits e =
 pub module_again : (code : List ℕ) (ts : Trees) → ReadsModule code ts → all_at no_arguments None positions.ModuleTerm code ≡ Ok ts
 module_again code ts h = all_again no_arguments None positions.ModuleTerm code ts h.lawful h.spelled h.bodies
 
-module _ {X : Type 0} (view : X → Trees) (result : Result X CodeFault) (code : List ℕ) (given : Gives view result (all_at no_arguments None positions.ModuleTerm code)) where
+module _ {X : Type 0} (view : X → Trees) (result : Result X CodeFault) (code : List ℕ)
+    (given : Gives view result (all_at no_arguments None positions.ModuleTerm code)) where
   pub given_module_sound : IsBytes code → IfOk result (λ x. ReadsModule code (view x))
   given_module_sound fits = given_sound view result _ given (ReadsModule code) (λ ts e. module_sound code ts fits e)
 

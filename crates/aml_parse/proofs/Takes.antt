@@ -1,7 +1,8 @@
 -- What is read is a lawful term, spelled by the bytes that were taken, and the paths declared then are those of the
 -- definitions. Each reader has a law here, beginning with parts and ending with terms, that follows its steps: what a step
 -- took stands in front of what the next one takes. The reader of the terms inside is any with that law (`IsReader`).
-use Rattle.std.proofs.Common.{◌≡◌, ℕ, zero, suc, ◌+◌, ◌-◌, ◌≤◌, Bool, true, false, eqb, List, [], ◌∷◌, ◌++◌, length, Option, Some, None, Ok, refl, sym, ap, subst, ◌∙◌, arith}
+use Rattle.std.proofs.Common.{◌≡◌, ℕ, zero, suc, ◌+◌, ◌-◌, ◌≤◌, Bool, true, false, eqb, List, [], ◌∷◌, ◌++◌, length, Option, Some, None, Ok, refl, sym, ap}
+use Rattle.std.proofs.Common.{subst, ◌∙◌, arith}
 use Rattle.std.proofs.lemmas.Bool.{eqb-true}
 use Rattle.std.proofs.lemmas.List.{append-nil}
 use Rattle.aml_names.specs.declared.faults.CodeFault.TheVariants as faults
@@ -19,7 +20,8 @@ use Rattle.aml_code.specs.declared.rows.TailKind.TheVariants as tails
 use Rattle.aml_code.specs.Opcodes.{Row}
 use Rattle.aml_code.specs.Packages.{width_len, package_bytes, FitsWidth}
 use Rattle.aml_code.specs.Rows.{row_of, has_length, takes}
-use Rattle.aml_code.specs.Tree.{Tree, nothing, op, Trees, Part, child, label, byte, word, dword, qword, Parts, no_parts, Tail, empty, Field, Link, target, buffer}
+use Rattle.aml_code.specs.Tree.{Tree, nothing, op, Trees, Part, child, label, byte, word, dword, qword, Parts, no_parts, Tail, empty, Field, Link, target}
+use Rattle.aml_code.specs.Tree.{buffer}
 use Rattle.aml_code.specs.Encoding.{opcode_bytes, slice_of, encoding, encodings, part_encoding, parts_encoding, tail_encoding, field_encoding, link_encoding}
 use Rattle.aml_code.specs.Declaring.{names_declared, with_declared, declared_by}
 use Rattle.aml_code.specs.Lawful.{HasWidth, IsGuarded, count_in, is_guard, terms_in, next_position, AreBytes, Setting, IsLawful, AreParts, IsTail, IsLink}
@@ -29,11 +31,13 @@ use Rattle.aml_code.proofs.InnerLaws.{is_inner, unchanged, all_unchanged}
 use Rattle.aml_code.proofs.LengthLaws.{span_takes}
 use Rattle.aml_code.proofs.RowFacts.{row_opcode, if_parts, if_has_length, guard_place}
 use Rattle.aml_code.proofs.Within.{Within, onward, inward, slice_there, span_inside, offset_is}
-use Rattle.aml_parse.specs.Reading.{Reader, part_at, parts_at, arguments_at, terms_at, link_at, connection_at, field_at, fields_at, known, call_at, name_term_at, refusal, tail_at, takes_names, plain_at, packed_at, row_at, by_row, operation_at, is_absent_target, term_at}
+use Rattle.aml_parse.specs.Reading.{Reader, part_at, parts_at, arguments_at, terms_at, link_at, connection_at, field_at, fields_at, known, call_at}
+use Rattle.aml_parse.specs.Reading.{name_term_at, refusal, tail_at, takes_names, plain_at, packed_at, row_at, by_row, operation_at, is_absent_target, term_at}
 use Rattle.aml_parse.proofs.FlatLaws.{number_took, count_took, text_took, name_took, segmented_took, opcode_takes}
 use Rattle.aml_parse.proofs.FieldLaws.{behind_lead, named_took, reserved_took, access_took, extended_took}
 use Rattle.aml_parse.proofs.Leads.{led_by, is_buffer, guard_holds, not_guarded}
-use Rattle.aml_parse.proofs.Took.{TookFlat, TookInner, TookTerm, TookArguments, TookTerms, TookFields, TookTail, TookPart, TookParts, TookLink, TookField, IsReader, empty_tail}
+use Rattle.aml_parse.proofs.Took.{TookFlat, TookInner, TookTerm, TookArguments, TookTerms, TookFields, TookTail, TookPart, TookParts, TookLink, TookField}
+use Rattle.aml_parse.proofs.Took.{IsReader, empty_tail}
 
 -- ---- what holds no terms
 
@@ -63,7 +67,8 @@ module _ (s : Setting) (levels : ℕ) (read : Position → Reader Tree) (law : I
   -- ---- parts
 
   -- a term that is no term of a list
-  inner_take : {A : Type 0} (made : Tree → A) (spelled : A → List ℕ) (Is : A → Type 0) (p : Position) (at end : ℕ) (ls : PathSet) (bs : List ℕ) (x : A × PathSet × List ℕ)
+  inner_take : {A : Type 0} (made : Tree → A) (spelled : A → List ℕ) (Is : A → Type 0) (p : Position) (at end : ℕ) (ls : PathSet) (bs : List ℕ)
+      (x : A × PathSet × List ℕ)
       → is_inner p ≡ true → Within s.code at end bs → ((t : Tree) → spelled (made t) ≡ encoding s.code t)
       → ((t : Tree) (rest : List ℕ) → IsLawful s levels p ls t → bs ≡ encoding s.code t ++ rest → Is (made t))
       → (read p end ls bs >>= λ t. Ok (made t.0, t.1, t.2)) ≡ Ok x → TookInner spelled Is ls bs x
@@ -91,7 +96,8 @@ module _ (s : Setting) (levels : ℕ) (read : Position → Reader Tree) (law : I
   pub parts_take : (ks : List PartKind) (at end : ℕ) (ls : PathSet) (bs : List ℕ) (x : Parts × PathSet × List ℕ) → Within s.code at end bs
       → parts_at read ks end ls bs ≡ Ok x → TookParts s levels ks ls bs x
   unfolding parts_at
-  parts_take [] at end ls bs x w e = subst (TookParts s levels [] ls bs) (ok_is (no_parts, ls, bs) x e) (record { takes = Takes-none bs w.fits; is = tt; same = refl })
+  parts_take [] at end ls bs x w e =
+      subst (TookParts s levels [] ls bs) (ok_is (no_parts, ls, bs) x e) (record { takes = Takes-none bs w.fits; is = tt; same = refl })
   parts_take (k ∷ ks) at end ls bs x w e = bind_then _ _ _ x e (λ first h1 e1.
       let a = part_take k at end ls bs first w h1 in
       let w1 = onward s.code at end bs (part_encoding s.code first.0) first.2 w a.takes in
@@ -141,7 +147,8 @@ module _ (s : Setting) (levels : ℕ) (read : Position → Reader Tree) (law : I
 
   -- ---- field lists
 
-  link_take : (at end : ℕ) (ls : PathSet) (bs : List ℕ) (x : Link × PathSet × List ℕ) → Within s.code at end bs → link_at read end ls bs ≡ Ok x → TookLink s levels ls bs x
+  link_take : (at end : ℕ) (ls : PathSet) (bs : List ℕ) (x : Link × PathSet × List ℕ) → Within s.code at end bs → link_at read end ls bs ≡ Ok x
+      → TookLink s levels ls bs x
   unfolding link_at
   link_take at end ls bs x w e = bind_then _ _ _ x e (λ lead h1 e1.
       let l = byte_takes end bs lead.0 lead.1 w.fits h1 in
@@ -157,7 +164,8 @@ module _ (s : Setting) (levels : ℕ) (read : Position → Reader Tree) (law : I
   connection_take at end ls bs x w e = answered (TookField s levels ls (0x02 ∷ bs)) _ _ x e (λ l h.
       let a = link_take at end ls bs l w h in record { takes = behind_lead 0x02 bs (link_encoding s.code l.0) l.2 a.takes; is = a.is; same = a.same })
 
-  pub field_take : (at end : ℕ) (ls : PathSet) (bs : List ℕ) (x : Field × PathSet × List ℕ) → Within s.code at end bs → field_at read end ls bs ≡ Ok x → TookField s levels ls bs x
+  pub field_take : (at end : ℕ) (ls : PathSet) (bs : List ℕ) (x : Field × PathSet × List ℕ) → Within s.code at end bs → field_at read end ls bs ≡ Ok x
+      → TookField s levels ls bs x
   unfolding field_at
   field_take at end ls [] x w e = absurd cc
   field_take at end ls (lead ∷ bs) x w e =
@@ -232,16 +240,20 @@ module _ (s : Setting) (levels : ℕ) (read : Position → Reader Tree) (law : I
 
   -- ---- opcodes
 
-  module _ (p : Position) (o : ℕ) (row : Row) (at end : ℕ) (ls : PathSet) (bs inside : List ℕ) (w : Within s.code at end bs) (t0 : Takes bs (opcode_bytes o) inside)
+  module _ (p : Position) (o : ℕ) (row : Row) (at end : ℕ) (ls : PathSet) (bs inside : List ℕ) (w : Within s.code at end bs)
+      (t0 : Takes bs (opcode_bytes o) inside)
       (listed : row_of o ≡ Some row) (taken : takes p row.place ≡ true) where
     -- an operation by the row's own opcode is one by the opcode that was read
-    operation : (v : _) (ps : Parts) (t : Tail) (m : PathSet) (rest : List ℕ) → TookTerm s (suc levels) p ls at bs (op o v ps t, declared_by s.scope (row_of o) m ps t, rest)
+    operation : (v : _) (ps : Parts) (t : Tail) (m : PathSet) (rest : List ℕ)
+        → TookTerm s (suc levels) p ls at bs (op o v ps t, declared_by s.scope (row_of o) m ps t, rest)
         → TookTerm s (suc levels) p ls at bs (op row.opcode v ps t, with_declared s.scope m (names_declared row.role ps t), rest)
     operation v ps t m rest h =
-        subst (λ (n : ℕ). TookTerm s (suc levels) p ls at bs (op n v ps t, with_declared s.scope m (names_declared row.role ps t), rest)) (sym (row_opcode o row listed))
+        subst (λ (n : ℕ). TookTerm s (suc levels) p ls at bs (op n v ps t, with_declared s.scope m (names_declared row.role ps t), rest))
+        (sym (row_opcode o row listed))
         (subst (λ (r : Option Row). TookTerm s (suc levels) p ls at bs (op o v ps t, declared_by s.scope r m ps t, rest)) listed h)
 
-    plain_take : (x : Tree × PathSet × List ℕ) → has_length row.tail ≡ false → plain_at s.scope read row end ls inside ≡ Ok x → TookTerm s (suc levels) p ls at bs x
+    plain_take : (x : Tree × PathSet × List ℕ) → has_length row.tail ≡ false → plain_at s.scope read row end ls inside ≡ Ok x
+        → TookTerm s (suc levels) p ls at bs x
     unfolding plain_at
     plain_take x short e = answered (TookTerm s (suc levels) p ls at bs) _ _ x e (λ ps h.
         let w1 = onward s.code at end bs (opcode_bytes o) inside w t0 in
@@ -262,7 +274,8 @@ module _ (s : Setting) (levels : ℕ) (read : Position → Reader Tree) (law : I
           stands = tt;
         }))
 
-    packed_take : (x : Tree × PathSet × List ℕ) → has_length row.tail ≡ true → packed_at s.scope read p at row end ls inside ≡ Ok x → TookTerm s (suc levels) p ls at bs x
+    packed_take : (x : Tree × PathSet × List ℕ) → has_length row.tail ≡ true → packed_at s.scope read p at row end ls inside ≡ Ok x
+        → TookTerm s (suc levels) p ls at bs x
     unfolding packed_at
     packed_take x long e = bind_then _ _ _ x e (λ span h1 e1. bind_then _ _ _ x e1 (λ guarded h2 e2. bind_then _ _ _ x e2 (λ ps h3 e3.
         let at1 = at + length (opcode_bytes o) in
@@ -279,8 +292,10 @@ module _ (s : Setting) (levels : ℕ) (read : Position → Reader Tree) (law : I
         let c = subst (λ (m : PathSet). TookTail s levels q row.tail m at3 ps.2 t) b.same (tail_take q row.tail at3 inner ps.1 ps.2 t w3 h4) in
         let content = parts_encoding s.code ps.0 ++ tail_encoding s.code t.0 in
         let whole : span.1 ≡ content = b.takes.parts ∙ ap (λ (r : List ℕ). parts_encoding s.code ps.0 ++ r) c.text in
-        let spelled : Takes inside (package_bytes span.0 (width_len span.0 + length content) ++ content) span.2 × FitsWidth span.0 (width_len span.0 + length content) =
-        subst (λ (i : List ℕ). Takes inside (package_bytes span.0 (width_len span.0 + length i) ++ i) span.2 × FitsWidth span.0 (width_len span.0 + length i)) whole (sp.0, sp.1) in
+        let spelled : Takes inside (package_bytes span.0 (width_len span.0 + length content) ++ content) span.2
+        × FitsWidth span.0 (width_len span.0 + length content) =
+        subst (λ (i : List ℕ). Takes inside (package_bytes span.0 (width_len span.0 + length i) ++ i) span.2 × FitsWidth span.0 (width_len span.0 + length i))
+        whole (sp.0, sp.1) in
         let offset : at3 ≡ at + (length (opcode_bytes o) + (width_len span.0 + length (parts_encoding s.code ps.0))) = omega arith in
         operation (Some span.0) ps.0 t.0 t.1 span.2 (record {
           takes = Takes-then bs (opcode_bytes o) inside (package_bytes span.0 (width_len span.0 + length content) ++ content) span.2 t0 spelled.0;
@@ -290,7 +305,8 @@ module _ (s : Setting) (levels : ℕ) (read : Position → Reader Tree) (law : I
             taken = taken;
             width = subst (λ (v : Bool). HasWidth v (Some span.0) (length content)) (sym long) spelled.1;
             guarded =
-                guard_holds s levels (is_guard p row.place) at inner span.1 guarded row.parts ls ps.0 ps.2 (λ g. if_parts o row listed (guard_place p row.place g)) h2 b.is b.takes.parts;
+                guard_holds s levels (is_guard p row.place) at inner span.1 guarded row.parts ls ps.0 ps.2
+                (λ g. if_parts o row listed (guard_place p row.place g)) h2 b.is b.takes.parts;
             parts = b.is;
             tail = c.is_tail;
           };
@@ -298,7 +314,8 @@ module _ (s : Setting) (levels : ℕ) (read : Position → Reader Tree) (law : I
           stands = subst (λ (n : ℕ). TailStands s.code n t.0) offset c.stands;
         })))))
 
-  row_take : (p : Position) (o : ℕ) (found : Option Row) (at end : ℕ) (ls : PathSet) (bs inside : List ℕ) (x : Tree × PathSet × List ℕ) → Within s.code at end bs
+  row_take : (p : Position) (o : ℕ) (found : Option Row) (at end : ℕ) (ls : PathSet) (bs inside : List ℕ) (x : Tree × PathSet × List ℕ)
+      → Within s.code at end bs
       → Takes bs (opcode_bytes o) inside → row_of o ≡ found → by_row found s.scope read p at end ls inside ≡ Ok x → TookTerm s (suc levels) p ls at bs x
   row_take p o None at end ls bs inside x w t0 listed e = absurd cc
   row_take p o (Some row) at end ls bs inside x w t0 listed e =

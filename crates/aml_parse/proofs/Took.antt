@@ -1,5 +1,6 @@
 -- What was read from the front of the bytes, and what a reader of terms keeps.
-use Rattle.std.proofs.Common.{◌≡◌, ℕ, zero, suc, ◌+◌, ◌<◌, ◌≤◌, true, false, List, [], ◌∷◌, ◌++◌, length, Some, Ok, Err, refl, sym, ap, subst, ◌∙◌, append_assoc, arith}
+use Rattle.std.proofs.Common.{◌≡◌, ℕ, zero, suc, ◌+◌, ◌<◌, ◌≤◌, true, false, List, [], ◌∷◌, ◌++◌, length, Some, Ok, Err, refl, sym, ap, subst, ◌∙◌}
+use Rattle.std.proofs.Common.{append_assoc, arith}
 use Rattle.std.proofs.lemmas.List.{length-append}
 use Rattle.aml_names.specs.declared.faults.CodeFault.{CodeFault}
 use Rattle.aml_names.specs.declared.names.Name.{Name}
@@ -15,8 +16,10 @@ use Rattle.aml_code.specs.declared.rows.TailKind.{TailKind}
 use Rattle.aml_code.specs.declared.rows.TailKind.TheVariants as tails
 use Rattle.aml_code.specs.Packages.{package_bytes}
 use Rattle.aml_code.specs.Rows.{has_length}
-use Rattle.aml_code.specs.Tree.{Tree, nothing, named, op, Trees, Part, Parts, Tail, Field, unit, reserved, access, connection, extended, Fields, Link, tree_count}
-use Rattle.aml_code.specs.Encoding.{opcode_bytes, packed, encoding, encodings, part_encoding, parts_encoding, tail_encoding, field_encoding, fields_encoding, link_encoding}
+use Rattle.aml_code.specs.Tree.{Tree, nothing, named, op, Trees, Part, Parts, Tail, Field, unit, reserved, access, connection, extended, Fields, Link}
+use Rattle.aml_code.specs.Tree.{tree_count}
+use Rattle.aml_code.specs.Encoding.{opcode_bytes, packed, encoding, encodings, part_encoding, parts_encoding, tail_encoding, field_encoding, fields_encoding}
+use Rattle.aml_code.specs.Encoding.{link_encoding}
 use Rattle.aml_code.specs.Declaring.{after, after_all, after_tail}
 use Rattle.aml_code.specs.Faults.{Arities, StandsAt}
 use Rattle.aml_code.specs.Lawful.{count_in, Setting, IsLawful, AreTerms, IsPart, AreParts, IsTail, IsLink, IsField, AreFields}

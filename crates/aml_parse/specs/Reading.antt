@@ -2,7 +2,8 @@
 -- package length, its parts and its tail, in the order of their bytes. This says which of several faults a reader
 -- answers. What it means that code reads as terms is said without it, by `ReadsModule` and `ReadsBody` of aml_code, and
 -- what a fault says of the byte at its offset by `StandsAt`.
-use Rattle.std.specs.Prelude.{◌≡◌, ℕ, zero, suc, ◌+◌, ◌-◌, Bool, true, false, ◌==◌, if◌then◌else◌, nat_lt, List, [], ◌∷◌, length, take, drop, position, Option, Some, None, Result, Ok, Err}
+use Rattle.std.specs.Prelude.{◌≡◌, ℕ, zero, suc, ◌+◌, ◌-◌, Bool, true, false, ◌==◌, if◌then◌else◌, nat_lt, List, []}
+use Rattle.std.specs.Prelude.{◌∷◌, length, take, drop, position, Option, Some, None, Result, Ok, Err}
 use Rattle.std.specs.FinSet as set
 use Rattle.aml_names.specs.declared.faults.CodeFault.{CodeFault}
 use Rattle.aml_names.specs.declared.faults.CodeFault.TheVariants as faults
@@ -23,7 +24,10 @@ use Rattle.aml_code.specs.declared.rows.TailKind.{TailKind}
 use Rattle.aml_code.specs.declared.rows.TailKind.TheVariants as tails
 use Rattle.aml_code.specs.Lengths.{little_at, length_at, span_at}
 use Rattle.aml_code.specs.Rows.{row_of, has_length, takes}
-use Rattle.aml_code.specs.Tree.{Tree, nothing, named, op, Trees, no_trees, tree_more, Part, child, label, byte, word, dword, qword, text, Parts, no_parts, part_more, Tail, empty, terms, elements, fields, body, Field, unit, reserved, access, connection, extended, Fields, no_fields, field_more, Link, target, buffer}
+use Rattle.aml_code.specs.Tree.{Tree, nothing, named, op, Trees, no_trees, tree_more, Part, child, label, byte, word}
+use Rattle.aml_code.specs.Tree.{dword, qword, text, Parts, no_parts, part_more, Tail, empty, terms, elements, fields}
+use Rattle.aml_code.specs.Tree.{body, Field, unit, reserved, access, connection, extended, Fields, no_fields}
+use Rattle.aml_code.specs.Tree.{field_more, Link, target, buffer}
 use Rattle.aml_code.specs.Tree as trees
 use Rattle.aml_code.specs.Declaring.{names_declared, with_declared}
 use Rattle.aml_code.specs.Faults.{Arities}
@@ -145,7 +149,8 @@ arguments_at read (suc n) end ls bytes = do
   Ok (tree_more first.0 others.0, others.1, others.2)
 
 -- Terms to the end of the span. The number bounds the turns: that of the bytes is always enough.
-unfoldable pub terms_at : (Position → Reader Tree) → ℕ → Position → ℕ → PathSet → List ℕ → Result (Trees × PathSet) CodeFault
+unfoldable pub terms_at : (Position → Reader Tree) → ℕ → Position → ℕ → PathSet → List ℕ
+    → Result (Trees × PathSet) CodeFault
 terms_at read n p end ls [] = Ok (no_trees, ls)
 terms_at read zero p end ls (b ∷ bytes) = Err (faults.Truncated end)
 terms_at read (suc n) p end ls (b ∷ bytes) = do
@@ -285,7 +290,8 @@ abbrev pub body_to : ℕ → ℕ → Tail
 body_to end start = body start (end - start)
 
 -- a tail to the end of its span
-abbrev pub tail_at : (Position → Reader Tree) → Position → TailKind → ℕ → PathSet → List ℕ → Result (Tail × PathSet) CodeFault
+abbrev pub tail_at : (Position → Reader Tree) → Position → TailKind → ℕ → PathSet → List ℕ
+    → Result (Tail × PathSet) CodeFault
 tail_at read p tails.Empty end ls inside = Err (faults.Truncated end)
 tail_at read p tails.Terms end ls inside = do
   ts ← terms_at read (length inside) p end ls inside

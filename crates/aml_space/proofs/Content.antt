@@ -15,9 +15,11 @@ use Rattle.aml_space.specs.Nodes.{kids_of, links_of, pairs_of, IsShape, IsIndex,
 use Rattle.aml_space.proofs.Change.{one_path}
 
 shape_kept : (ns new : List Node) → IsShape ns → length new ≡ length ns → ((k : ℕ) → kids_of new k ≡ kids_of ns k) → IsShape new
-shape_kept ns new is long kids = subst (IsTree (length new)) {x = kids_of ns} {y = kids_of new} (λ t k. sym (kids k) t) (subst (λ n. IsTree n (kids_of ns)) (sym long) is)
+shape_kept ns new is long kids =
+    subst (IsTree (length new)) {x = kids_of ns} {y = kids_of new} (λ t k. sym (kids k) t) (subst (λ n. IsTree n (kids_of ns)) (sym long) is)
 
-links_kept : (ns new : List Node) → IsLinked ns → length new ≡ length ns → ((k : ℕ) → kids_of new k ≡ kids_of ns k) → ((k : ℕ) → links_of new k ≡ links_of ns k) → IsLinked new
+links_kept : (ns new : List Node) → IsLinked ns → length new ≡ length ns → ((k : ℕ) → kids_of new k ≡ kids_of ns k) → ((k : ℕ) → links_of new k ≡ links_of ns k)
+    → IsLinked new
 links_kept ns new is long kids links = record {
   below = λ i j s found. links j ∙ is.below i j s (ap (λ cs. child_in cs s) (sym (kids i)) ∙ found);
   lower = λ j some range. subst (λ (l : ℕ × Seg). l.0 < j) (sym (links j)) (is.lower j some (subst (λ n. j < n) long range));
@@ -41,11 +43,13 @@ index_rowed ns new p x kind is led has = record {
         led_old = sym (led_kids ns new has.kids 0 q) ∙ led_q
 
         by : (b : Bool) → (i == x) ≡ b → cond b (Some (p, kind)) (pairs_of ns i) ≡ Some e → e.0 ≡ q
-        by true here at = ap (λ (o : Option (List Seg × Kind)). (unwrap_or o e).0) (sym at) ∙ one_path (kids_of ns) is.shape.label is.shape.labelled q p i led_old (led ∙ ap Some (sym (exact_unsigned_eq i x here)))
+        by true here at = ap (λ (o : Option (List Seg × Kind)). (unwrap_or o e).0) (sym at)
+            ∙ one_path (kids_of ns) is.shape.label is.shape.labelled q p i led_old (led ∙ ap Some (sym (exact_unsigned_eq i x here)))
         by false here at = is.named q i e led_old at
 
 -- a count changes no row
-index_kept : (ns new : List Node) → IsIndex ns → length new ≡ length ns → ((k : ℕ) → kids_of new k ≡ kids_of ns k) → ((k : ℕ) → links_of new k ≡ links_of ns k) → ((k : ℕ) → pairs_of new k ≡ pairs_of ns k) → IsIndex new
+index_kept : (ns new : List Node) → IsIndex ns → length new ≡ length ns → ((k : ℕ) → kids_of new k ≡ kids_of ns k) → ((k : ℕ) → links_of new k ≡ links_of ns k)
+    → ((k : ℕ) → pairs_of new k ≡ pairs_of ns k) → IsIndex new
 index_kept ns new is long kids links names = record {
   shape = shape_kept ns new is.shape long kids;
   named = λ q i e led at. is.named q i e (sym (led_kids ns new kids 0 q) ∙ led) (sym (names i) ∙ at);
@@ -59,7 +63,8 @@ pub index_given : (ns new : List Node) (x count : ℕ) → IsIndex ns → HasGiv
 index_given ns new x count is has = index_kept ns new is has.long has.kids has.links has.names
 
 -- one path more is declared
-pub one_declared : (k : Known) (p : List Seg) (kind : Kind) → map.get k.kinds p ≡ None → length (map.entries (with_declared k p kind).kinds) ≡ length (map.entries k.kinds) + 1
+pub one_declared : (k : Known) (p : List Seg) (kind : Kind) → map.get k.kinds p ≡ None
+    → length (map.entries (with_declared k p kind).kinds) ≡ length (map.entries k.kinds) + 1
 one_declared k p kind none =
     sym (map.len-entries (map.insert k.kinds p kind)) ∙ map.len-insert paths_total k.kinds p kind
     ∙ ap (λ b. cond b (map.len k.kinds) (map.len k.kinds + 1)) (ap is_some none)

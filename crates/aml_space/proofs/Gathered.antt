@@ -24,7 +24,8 @@ pub kind_of_pair : (n : Option Node) → kind_in n ≡ option_map (λ e. e.1) (p
 kind_of_pair None = refl
 kind_of_pair (Some n) = by n.row
   where
-    by : (r : Option (Box Row)) → option_map (λ (r : Box Row). r.value.kind) r ≡ option_map (λ (e : List Seg × Kind). e.1) (option_map (λ (r : Box Row). (r.value.path, r.value.kind)) r)
+    by : (r : Option (Box Row)) → option_map (λ (r : Box Row). r.value.kind) r
+        ≡ option_map (λ (e : List Seg × Kind). e.1) (option_map (λ (r : Box Row). (r.value.path, r.value.kind)) r)
     by None = refl
     by (Some r) = refl
 
@@ -49,22 +50,26 @@ module _ (ns : List Node) (is : IsIndex ns) where
       by None e = refl
       by (Some r) e = (λ t. ((is.named q i r led e ∙ sym (append-nil q)) t, r.1) ∷ [])
 
-  below_after : (n i : ℕ) (q : List Seg) → walk (kids_of ns) 0 q ≡ Some i → ((j : ℕ) (p : List Seg) → walk (kids_of ns) 0 p ≡ Some j → rows_below ns n j ≡ map_list (after p) (gather (kids_of ns) (kinds_of ns) n j)) →
+  below_after : (n i : ℕ) (q : List Seg) → walk (kids_of ns) 0 q ≡ Some i
+      → ((j : ℕ) (p : List Seg) → walk (kids_of ns) 0 p ≡ Some j → rows_below ns n j ≡ map_list (after p) (gather (kids_of ns) (kinds_of ns) n j)) →
       (cs : List Child) → ((k : ℕ) (c : Child) → slice_get cs k ≡ Some c → child_in (kids_of ns i) c.seg ≡ Some c.node) →
       below n cs ≡ map_list (after q) (flat_map (λ (c : Child). map_list (under c.seg) (gather (kids_of ns) (kinds_of ns) n c.node)) cs)
   unfolding below
   below_after n i q led each [] found = refl
   below_after n i q led each (c ∷ cs) found =
-      let led_c : walk (kids_of ns) 0 (q ++ c.seg ∷ []) ≡ Some c.node = walk_push (kids_of ns) 0 q c.seg ∙ ap (option_and_then (λ j. child_in (kids_of ns j) c.seg)) led ∙ found 0 c refl in
+      let led_c : walk (kids_of ns) 0 (q ++ c.seg ∷ []) ≡ Some c.node = walk_push (kids_of ns) 0 q c.seg
+      ∙ ap (option_and_then (λ j. child_in (kids_of ns j) c.seg)) led ∙ found 0 c refl in
       (λ t. each c.node (q ++ c.seg ∷ []) led_c t ++ below_after n i q led each cs (λ k d at. found (suc k) d at) t)
-      ∙ (λ t. sym (after_under q c.seg (gather (kids_of ns) (kinds_of ns) n c.node)) t ++ map_list (after q) (flat_map (λ (c : Child). map_list (under c.seg) (gather (kids_of ns) (kinds_of ns) n c.node)) cs))
+      ∙ (λ t. sym (after_under q c.seg (gather (kids_of ns) (kinds_of ns) n c.node)) t
+      ++ map_list (after q) (flat_map (λ (c : Child). map_list (under c.seg) (gather (kids_of ns) (kinds_of ns) n c.node)) cs))
       ∙ sym (map-append (after q) (map_list (under c.seg) (gather (kids_of ns) (kinds_of ns) n c.node)) _)
 
   rows_after : (n i : ℕ) (q : List Seg) → walk (kids_of ns) 0 q ≡ Some i → rows_below ns n i ≡ map_list (after q) (gather (kids_of ns) (kinds_of ns) n i)
   unfolding below
   rows_after zero i q led = refl
   rows_after (suc n) i q led =
-      (λ t. own_after i q led t ++ below_after n i q led (rows_after n) (kids_of ns i) (λ k c at. at_found i (length ns) (kids_of ns i) k c (is.shape.families i) at) t)
+      (λ t. own_after i q led t ++ below_after n i q led (rows_after n) (kids_of ns i)
+      (λ k c at. at_found i (length ns) (kids_of ns i) k c (is.shape.families i) at) t)
       ∙ sym (map-append (after q) (own (kinds_of ns i)) _)
 
   at_root : (es : List (List Seg × Kind)) → map_list (after []) es ≡ es
@@ -73,7 +78,8 @@ module _ (ns : List Node) (is : IsIndex ns) where
 
   -- the rows at and below the root are those of the map
   pub all_rows : rows_below ns (length ns) 0 ≡ map.entries (known_by ns).kinds
-  all_rows = rows_after (length ns) 0 [] refl ∙ at_root _ ∙ sym (entries_of_rising _ (rises_gather (kids_of ns) (kinds_of ns) (length ns) is.shape.families (length ns) 0))
+  all_rows = rows_after (length ns) 0 [] refl ∙ at_root _ ∙ sym (entries_of_rising _
+      (rises_gather (kids_of ns) (kinds_of ns) (length ns) is.shape.families (length ns) 0))
 
   -- so are those from the root on
   pub rows_of_all : rows_ahead ns (Some 0) ≡ map.entries (known_by ns).kinds
@@ -81,7 +87,9 @@ module _ (ns : List Node) (is : IsIndex ns) where
 
   -- a row, if the node has one, and those from the next node on
   pub rows_on : (i : ℕ) → i < length ns → rows_ahead ns (Some i) ≡ own_row (pairs_of ns i) ++ rows_ahead ns (next_node ns i)
-  rows_on i within = one_on (kids_of ns) (λ k. own_row (pairs_of ns k)) (length ns) is.shape.families (links_of ns) is.linked.below is.linked.lower i within is.shape.rooted
+  rows_on i within =
+      one_on (kids_of ns) (λ k. own_row (pairs_of ns k)) (length ns) is.shape.families (links_of ns) is.linked.below is.linked.lower i within is.shape.rooted
 
-  pub nodes_on : (i : ℕ) → i < length ns → ahead (kids_of ns) (links_of ns) (λ k. k ∷ []) (length ns) (Some i) ≡ i ∷ ahead (kids_of ns) (links_of ns) (λ k. k ∷ []) (length ns) (next_node ns i)
+  pub nodes_on : (i : ℕ) → i < length ns → ahead (kids_of ns) (links_of ns) (λ k. k ∷ []) (length ns) (Some i) ≡ i
+      ∷ ahead (kids_of ns) (links_of ns) (λ k. k ∷ []) (length ns) (next_node ns i)
   nodes_on i within = one_on (kids_of ns) (λ k. k ∷ []) (length ns) is.shape.families (links_of ns) is.linked.below is.linked.lower i within is.shape.rooted

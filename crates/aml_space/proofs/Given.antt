@@ -16,11 +16,15 @@ none_given n (p ∷ paths) h = ap (λ o. option_or o (first_given n paths)) (h p
 -- the given count of the nearest candidate
 module _ (n : Namespace) (locals : PathSet) (scope tail : List Seg) where
   pub here_given : (d : ℕ) (p : List Seg) (x : ℕ) → p ≡ take d scope ++ tail → n.givens p ≡ Some x → first_given n (upward d scope tail) ≡ Some x
-  here_given d p x is got = ap (first_given n) (candidate n locals scope tail d) ∙ ap (λ q. option_or (n.givens q) (first_given n (later n locals scope tail d))) (sym is) ∙ ap (λ o. option_or o (first_given n (later n locals scope tail d))) got
+  here_given d p x is got = ap (first_given n) (candidate n locals scope tail d)
+      ∙ ap (λ q. option_or (n.givens q) (first_given n (later n locals scope tail d))) (sym is)
+      ∙ ap (λ o. option_or o (first_given n (later n locals scope tail d))) got
 
-  pub above_given : (d : ℕ) (p : List Seg) → p ≡ take d scope ++ tail → n.givens p ≡ None → 0 < d → first_given n (upward d scope tail) ≡ first_given n (upward (d - 1) scope tail)
+  pub above_given : (d : ℕ) (p : List Seg) → p ≡ take d scope ++ tail → n.givens p ≡ None → 0 < d
+      → first_given n (upward d scope tail) ≡ first_given n (upward (d - 1) scope tail)
   above_given d p is none positive =
-      ap (first_given n) (candidate n locals scope tail d) ∙ ap (λ q. option_or (n.givens q) (first_given n (later n locals scope tail d))) (sym is) ∙ ap (λ o. option_or o (first_given n (later n locals scope tail d))) none
+      ap (first_given n) (candidate n locals scope tail d) ∙ ap (λ q. option_or (n.givens q) (first_given n (later n locals scope tail d))) (sym is)
+      ∙ ap (λ o. option_or o (first_given n (later n locals scope tail d))) none
       ∙ ap (first_given n) (later_above n locals scope tail d positive)
 
   -- depths to which nothing is given may be left out

@@ -1,5 +1,6 @@
 -- What is known of a path, by its node.
-use Rattle.std.proofs.Common.{◌≡◌, ℕ, zero, suc, ◌<◌, ◌≤◌, Bool, true, false, cond, List, [], ◌∷◌, ◌++◌, length, take, get_or, Option, Some, None, IfSome, is_some, refl, sym, ap, ◌∙◌, arith}
+use Rattle.std.proofs.Common.{◌≡◌, ℕ, zero, suc, ◌<◌, ◌≤◌, Bool, true, false, cond, List, [], ◌∷◌, ◌++◌, length, take, get_or, Option, Some, None, IfSome}
+use Rattle.std.proofs.Common.{is_some, refl, sym, ap, ◌∙◌, arith}
 use Rattle.std.specs.Prelude.{◌||◌}
 use Rattle.std.specs.Option.{option_or, option_and_then, option_map}
 use Rattle.std.specs.FinMap as map
@@ -21,14 +22,16 @@ use Rattle.aml_space.proofs.Index.{known_kind, known_out}
 use Rattle.aml_space.proofs.Upward.{rest_of}
 
 module _ (ns : List Node) (shape : IsShape ns) (p : List Seg) (node : Option ℕ) (met : node ≡ walk (kids_of ns) 0 p) where
-  pub kind_of_met : (standing : Option Kind) → standing ≡ predefined p → option_or (option_and_then (kinds_of ns) node) standing ≡ kind_at (namespace_in (known_by ns)) p
+  pub kind_of_met : (standing : Option Kind) → standing ≡ predefined p → option_or (option_and_then (kinds_of ns) node) standing
+      ≡ kind_at (namespace_in (known_by ns)) p
   kind_of_met standing is = ap (λ o. option_or (option_and_then (kinds_of ns) o) standing) met ∙ (λ i. option_or (known_kind ns shape p i) (is i))
 
   pub out_of_met : option_and_then (outs_of ns) node ≡ map.get (known_by ns).outs p
   out_of_met = ap (option_and_then (outs_of ns)) met ∙ known_out ns shape p
 
   pub count_of_met : (standing : Option Kind) → standing ≡ predefined p →
-      count_by (namespace_in (known_by ns)) (option_or (option_and_then (kinds_of ns) node) standing) (option_and_then (outs_of ns) node) ≡ count_at (namespace_in (known_by ns)) p
+      count_by (namespace_in (known_by ns)) (option_or (option_and_then (kinds_of ns) node) standing) (option_and_then (outs_of ns) node)
+      ≡ count_at (namespace_in (known_by ns)) p
   count_of_met standing is = λ i. count_by (namespace_in (known_by ns)) (kind_of_met standing is i) (out_of_met i)
 
   pub within_met : IfSome node (λ i. i < length ns)
@@ -51,11 +54,13 @@ predefined_deep (suc d) (s ∷ scope) (t ∷ rest) deep within one = by (take d 
 
 -- a name that leads to one path
 pub placed : (n : Namespace) (unknown_zero : Bool) (locals : PathSet) (p : List Seg) →
-    arity_at n unknown_zero locals (p ∷ []) (first_of n locals (p ∷ [])) ≡ cond (set.contains locals p) (Some 0) (option_or (count_at n p) (unknown_count n unknown_zero (p ∷ [])))
+    arity_at n unknown_zero locals (p ∷ []) (first_of n locals (p ∷ []))
+    ≡ cond (set.contains locals p) (Some 0) (option_or (count_at n p) (unknown_count n unknown_zero (p ∷ [])))
 placed n u locals p = by (set.contains locals p) refl (kind_at n p) refl (n.outs p) refl
   where
     by : (a : Bool) → set.contains locals p ≡ a → (k : Option Kind) → kind_at n p ≡ k → (o : Option ℕ) → n.outs p ≡ o →
-        arity_at n u locals (p ∷ []) (option_or (cond (a || is_some k) (Some p) None) (cond (is_some o) (Some p) None)) ≡ cond a (Some 0) (option_or (count_by n k o) (unknown_count n u (p ∷ [])))
+        arity_at n u locals (p ∷ []) (option_or (cond (a || is_some k) (Some p) None) (cond (is_some o) (Some p) None))
+        ≡ cond a (Some 0) (option_or (count_by n k o) (unknown_count n u (p ∷ [])))
     by true a k e o f = ap (λ b. cond b (Some 0) (count_at n p)) a
     by false a (Some k) e o f = ap (λ b. cond b (Some 0) (count_at n p)) a ∙ (λ i. count_by n (e i) (n.outs p))
     by false a None e (Some x) f = ap (λ b. cond b (Some 0) (count_at n p)) a ∙ (λ i. count_by n (e i) (f i))
@@ -63,26 +68,33 @@ placed n u locals p = by (set.contains locals p) refl (kind_at n p) refl (n.outs
 
 -- the tests of a candidate are those of its path
 module _ (ns : List Node) (locals : PathSet) (scope segment : List Seg) (shape : IsShape ns) (c : Candidate) (is : IsCandidate ns locals scope segment c) where
-  pub meant_path : (c.local || is_some (option_or (option_and_then (kinds_of ns) c.node) (predefined (take c.depth scope ++ segment)))) ≡ decides (namespace_in (known_by ns)) locals (take c.depth scope ++ segment)
-  meant_path = λ i. (is.local i || is_some (kind_of_met ns shape (take c.depth scope ++ segment) c.node is.node (predefined (take c.depth scope ++ segment)) refl i))
+  pub meant_path : (c.local || is_some (option_or (option_and_then (kinds_of ns) c.node) (predefined (take c.depth scope ++ segment))))
+      ≡ decides (namespace_in (known_by ns)) locals (take c.depth scope ++ segment)
+  meant_path =
+      λ i. (is.local i || is_some (kind_of_met ns shape (take c.depth scope ++ segment) c.node is.node (predefined (take c.depth scope ++ segment)) refl i))
 
   pub outside_path : is_some (option_and_then (outs_of ns) c.node) ≡ is_outside (namespace_in (known_by ns)) (take c.depth scope ++ segment)
   outside_path = ap is_some (out_of_met ns shape (take c.depth scope ++ segment) c.node is.node)
 
 -- the depth of the first that an External names
-pub outside_depth : (outside : Option Candidate) (out : Bool) (c : Candidate) → option_map (λ (c : Candidate). c.depth) (option_or outside (cond out (Some c) None)) ≡ option_or (option_map (λ (c : Candidate). c.depth) outside) (cond out (Some c.depth) None)
+pub outside_depth : (outside : Option Candidate) (out : Bool) (c : Candidate)
+    → option_map (λ (c : Candidate). c.depth) (option_or outside (cond out (Some c) None))
+    ≡ option_or (option_map (λ (c : Candidate). c.depth) outside) (cond out (Some c.depth) None)
 outside_depth None true c = refl
 outside_depth None false c = refl
 outside_depth (Some d) out c = refl
 
-pub outside_still : (P : Candidate → Type 0) (outside : Option Candidate) (out : Bool) (c : Candidate) → IfSome outside P → P c → IfSome (option_or outside (cond out (Some c) None)) P
+pub outside_still : (P : Candidate → Type 0) (outside : Option Candidate) (out : Bool) (c : Candidate) → IfSome outside P → P c
+    → IfSome (option_or outside (cond out (Some c) None)) P
 outside_still P None true c all is = is
 outside_still P None false c all is = tt
 outside_still P (Some d) out c all is = all
 
 -- the search ends at the root
-pub ended : (k : Namespace) (locals : PathSet) (scope segment : List Seg) (outside : Option Candidate) → decides k locals segment ≡ false → (c : Candidate) → c.depth ≡ 0 →
-    rest_of k locals scope segment (option_map (λ (c : Candidate). c.depth) outside) (upward 0 scope segment) ≡ option_map (path_at scope segment) (option_or outside (cond (is_outside k segment) (Some c) None))
+pub ended : (k : Namespace) (locals : PathSet) (scope segment : List Seg) (outside : Option Candidate) → decides k locals segment ≡ false → (c : Candidate)
+    → c.depth ≡ 0 →
+    rest_of k locals scope segment (option_map (λ (c : Candidate). c.depth) outside) (upward 0 scope segment)
+    ≡ option_map (path_at scope segment) (option_or outside (cond (is_outside k segment) (Some c) None))
 ended k locals scope segment None fails c root =
     ap (λ b. option_or (cond b (Some segment) None) (cond (is_outside k segment) (Some segment) None)) fails ∙ by (is_outside k segment)
   where

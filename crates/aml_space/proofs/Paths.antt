@@ -1,5 +1,6 @@
 -- The nodes of a path below a node, each made below the one before it.
-use Rattle.std.proofs.Common.{◌≡◌, ℕ, ◌+◌, ◌<◌, List, [], ◌∷◌, ◌++◌, length, take, drop, get_or, Some, None, sym, ap, subst, ◌∙◌, arith, append_assoc, length-append}
+use Rattle.std.proofs.Common.{◌≡◌, ℕ, ◌+◌, ◌<◌, List, [], ◌∷◌, ◌++◌, length, take, drop, get_or, Some, None, sym, ap, subst, ◌∙◌, arith, append_assoc}
+use Rattle.std.proofs.Common.{length-append}
 use Rattle.std.proofs.lemmas.List.{append-nil, take-append-drop}
 use Rattle.std.specs.Option.{option_and_then}
 use Rattle.aml_names.specs.declared.segments.Seg.{Seg}
@@ -31,11 +32,13 @@ one_more ns p i s within is led absent =
     record {
       index = grown_index ns new i s is.shape within absent has is.named is.linked;
       known = grown_known ns new i s is.shape within absent has;
-      led = walk_push (kids_of new) 0 p s ∙ ap (option_and_then (λ j. child_in (kids_of new j) s)) (still ns new i s is.shape within absent has p i led) ∙ new_child ns new i s is.shape within absent has;
+      led = walk_push (kids_of new) 0 p s ∙ ap (option_and_then (λ j. child_in (kids_of new j) s)) (still ns new i s is.shape within absent has p i led)
+          ∙ new_child ns new i s is.shape within absent has;
     }
 
 -- from an empty node at the end
-rest_more : (ns xs : List Node) (top : ℕ) (t : Seg) (p q : List Seg) → Leads ns (xs ++ empty top t ∷ []) p (length xs) → Leads ns (xs ++ chain top (length xs) t q) (p ++ q) (length xs + length q)
+rest_more : (ns xs : List Node) (top : ℕ) (t : Seg) (p q : List Seg) → Leads ns (xs ++ empty top t ∷ []) p (length xs)
+    → Leads ns (xs ++ chain top (length xs) t q) (p ++ q) (length xs + length q)
 rest_more ns xs top t p [] so = record {
   index = so.index;
   known = so.known;
@@ -52,24 +55,30 @@ rest_more ns xs top t p (s ∷ q) so =
     ap (λ n. with_child before (length xs) (record { seg = s; node = n }) ++ last ∷ []) long ∙ ap (λ ms. ms ++ last ∷ []) (with_pushed xs [] (empty top t) c) in
     let long_next : length (xs ++ filled ∷ []) ≡ length xs + 1 = length-append xs (filled ∷ []) in
     let next : Leads ns ((xs ++ filled ∷ []) ++ last ∷ []) (p ++ s ∷ []) (length (xs ++ filled ∷ [])) =
-    subst (λ ms. Leads ns ms (p ++ s ∷ []) (length (xs ++ filled ∷ []))) is (subst (Leads ns (with_child before (length xs) (record { seg = s; node = length before }) ++ last ∷ []) (p ++ s ∷ [])) {x = length before} {y = length (xs ++ filled ∷ [])} (omega (arith, long, long_next)) (record { index = one.index; known = one.known ∙ so.known; led = one.led })) in
+    subst (λ ms. Leads ns ms (p ++ s ∷ []) (length (xs ++ filled ∷ []))) is
+    (subst (Leads ns (with_child before (length xs) (record { seg = s; node = length before }) ++ last ∷ []) (p ++ s ∷ [])) {x = length before}
+    {y = length (xs ++ filled ∷ [])} (omega (arith, long, long_next)) (record { index = one.index; known = one.known ∙ so.known; led = one.led })) in
     let rest = rest_more ns (xs ++ filled ∷ []) (length xs) s (p ++ s ∷ []) q next in
     let list : (xs ++ filled ∷ []) ++ chain (length xs) (length (xs ++ filled ∷ [])) s q ≡ xs ++ filled ∷ chain (length xs) (length xs + 1) s q =
     append_assoc xs (filled ∷ []) (chain (length xs) (length (xs ++ filled ∷ [])) s q) ∙ ap (λ n. xs ++ filled ∷ chain (length xs) n s q) long_next in
     let path : (p ++ s ∷ []) ++ q ≡ p ++ s ∷ q = append_assoc p (s ∷ []) q in
     let end : length (xs ++ filled ∷ []) + length q ≡ length xs + length (s ∷ q) = omega (arith, long_next) in
     let whole = (xs ++ filled ∷ []) ++ chain (length xs) (length (xs ++ filled ∷ [])) s q in
-    subst (λ ms. Leads ns ms (p ++ s ∷ q) (length xs + length (s ∷ q))) list (subst (λ l. Leads ns whole l (length xs + length (s ∷ q))) path (subst (Leads ns whole ((p ++ s ∷ []) ++ q)) end rest))
+    subst (λ ms. Leads ns ms (p ++ s ∷ q) (length xs + length (s ∷ q))) list
+    (subst (λ l. Leads ns whole l (length xs + length (s ∷ q))) path (subst (Leads ns whole ((p ++ s ∷ []) ++ q)) end rest))
 
 -- the nodes of a path below one
-pub path_more : (ns : List Node) (p : List Seg) (i : ℕ) (s : Seg) (q : List Seg) → i < length ns → IsIndex ns → walk (kids_of ns) 0 p ≡ Some i → child_in (kids_of ns i) s ≡ None →
+pub path_more : (ns : List Node) (p : List Seg) (i : ℕ) (s : Seg) (q : List Seg) → i < length ns → IsIndex ns → walk (kids_of ns) 0 p ≡ Some i
+    → child_in (kids_of ns i) s ≡ None →
     Leads ns (with_path ns i s q) (p ++ s ∷ q) (length ns + length q)
 path_more ns p i s q within is led absent =
     let c : Child = record { seg = s; node = length ns } in
     let long : length (with_child ns i c) ≡ length ns = length_with ns i c in
     let one = one_more ns p i s within is led absent in
     let rest = rest_more ns (with_child ns i c) i s (p ++ s ∷ []) q (subst (Leads ns (with_child ns i c ++ empty i s ∷ []) (p ++ s ∷ [])) (sym long) one) in
-    subst (λ n. Leads ns (with_child ns i c ++ chain i n s q) (p ++ s ∷ q) (n + length q)) long (subst (λ l. Leads ns (with_child ns i c ++ chain i (length (with_child ns i c)) s q) l (length (with_child ns i c) + length q)) (append_assoc p (s ∷ []) q) rest)
+    subst (λ n. Leads ns (with_child ns i c ++ chain i n s q) (p ++ s ∷ q) (n + length q)) long
+    (subst (λ l. Leads ns (with_child ns i c ++ chain i (length (with_child ns i c)) s q) l (length (with_child ns i c) + length q))
+    (append_assoc p (s ∷ []) q) rest)
 
 pub long_path : (ns : List Node) (i : ℕ) (s : Seg) (q : List Seg) → length (with_path ns i s q) ≡ length ns + length q + 1
 long_path ns i s q =
@@ -77,11 +86,13 @@ long_path ns i s q =
     omega (arith, length-append (with_child ns i c) (chain i (length ns) s q), length_with ns i c, long_chain i (length ns) s q)
 
 -- the nodes of the rest of a path, below the node where it ends
-pub path_grown : (ns new : List Node) (p : List Seg) (k at : ℕ) (d : Seg) → IsIndex ns → walk (kids_of ns) 0 (take k p) ≡ Some at → k < length p → ((s : Seg) (q : List Seg) → drop k p ≡ s ∷ q → child_in (kids_of ns at) s ≡ None) →
+pub path_grown : (ns new : List Node) (p : List Seg) (k at : ℕ) (d : Seg) → IsIndex ns → walk (kids_of ns) 0 (take k p) ≡ Some at → k < length p
+    → ((s : Seg) (q : List Seg) → drop k p ≡ s ∷ q → child_in (kids_of ns at) s ≡ None) →
     new ≡ with_path ns at (get_or p k d) (drop (k + 1) p) → Leads ns new p (length ns + length (drop (k + 1) p))
 path_grown ns new p k at d is led within ends same =
     let rest : drop k p ≡ get_or p k d ∷ drop (k + 1) p = seam k p d within in
     let inside = walk_range (kids_of ns) (length ns) is.shape.families 0 (take k p) at is.shape.rooted led in
     let more = path_more ns (take k p) at (get_or p k d) (drop (k + 1) p) inside is led (ends (get_or p k d) (drop (k + 1) p) rest) in
     let whole : take k p ++ get_or p k d ∷ drop (k + 1) p ≡ p = ap (λ (q : List Seg). take k p ++ q) (sym rest) ∙ take-append-drop k p in
-    subst (λ ms. Leads ns ms p (length ns + length (drop (k + 1) p))) (sym same) (subst (λ l. Leads ns (with_path ns at (get_or p k d) (drop (k + 1) p)) l (length ns + length (drop (k + 1) p))) whole more)
+    subst (λ ms. Leads ns ms p (length ns + length (drop (k + 1) p))) (sym same)
+    (subst (λ l. Leads ns (with_path ns at (get_or p k d) (drop (k + 1) p)) l (length ns + length (drop (k + 1) p))) whole more)

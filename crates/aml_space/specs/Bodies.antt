@@ -12,4 +12,6 @@ pub record BodyView : Type 0 where
   pub unknown_zero : Bool
 
 abbrev pub coded_view : Coded BodyView
-coded_view = code_by (Known × (List Seg × Bool)) (coded× coded_known (coded× coded_path coded_bool)) (λ b. (b.known, (b.method, b.unknown_zero))) (λ p. record { known = p.0; method = p.1.0; unknown_zero = p.1.1 }) (λ _. refl)
+coded_view = code_by (Known × (List Seg × Bool)) (coded× coded_known (coded× coded_path coded_bool))
+    (λ b. (b.known, (b.method, b.unknown_zero))) (λ p. record { known = p.0; method = p.1.0; unknown_zero = p.1.1 })
+    (λ _. refl)

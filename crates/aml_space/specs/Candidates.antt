@@ -1,5 +1,6 @@
 -- A stepping stone of the proofs: the paths that a name of one segment may mean in a scope, by their nodes.
-use Rattle.std.specs.Prelude.{◌≡◌, ℕ, ◌<◌, ◌≤◌, ◌+◌, Bool, false, ◌==◌, List, [], ◌∷◌, ◌++◌, length, take, slice_get, Option, Some, None, IfSome}
+use Rattle.std.specs.Prelude.{◌≡◌, ℕ, ◌<◌, ◌≤◌, ◌+◌, Bool, false, ◌==◌, List, [], ◌∷◌, ◌++◌, length, take, slice_get}
+use Rattle.std.specs.Prelude.{Option, Some, None, IfSome}
 use Rattle.std.specs.Option.{option_map}
 use Rattle.std.specs.FinSet as set
 use Rattle.aml_names.specs.declared.segments.Seg.{Seg}

@@ -10,7 +10,8 @@ use Rattle.acpi_folder.proofs.externals.parse_externals.Goals as goal
 
 refused : (c : goal.After-drop-given-in_default) → RefusesExternals c.args.text.now (BadLine (c.len.result + 1))
 refused c =
-    refuses c.args.text.now c.loop-rest.given.items (vec_len c.loop-rest.given) (lines_of c.loop-rest.rest.now) c.first_line.result.0.now (lines_of c.first_line.result.1.now) (c.len.result + 1)
+    refuses c.args.text.now c.loop-rest.given.items (vec_len c.loop-rest.given) (lines_of c.loop-rest.rest.now) c.first_line.result.0.now
+    (lines_of c.first_line.result.1.now) (c.len.result + 1)
     c.loop-rest.invariant c.first_line.ensures.lines (MatchOption-at_none _ _ c.in_default.is c.in_ok-pair.ensures.given) (ap (λ (n : ℕ). n + 1) c.len.ensures)
 
 pub returns-in_default-clause-refused : goal.returns-in_default-clause-refused
@@ -21,7 +22,8 @@ returns-in_default-clause-none c = inr (not_giving c.args.text.now (BadLine (c.l
 
 pub loop-rest-preserved : goal.loop-rest-preserved
 loop-rest-preserved c =
-    turn (lines_of c.args.text.now) c.loop-rest.given.items c.push.new.self.items (vec_len c.loop-rest.given) (vec_len c.push.new.self) (lines_of c.loop-rest.rest.now)
+    turn (lines_of c.args.text.now) c.loop-rest.given.items c.push.new.self.items (vec_len c.loop-rest.given) (vec_len c.push.new.self)
+    (lines_of c.loop-rest.rest.now)
     c.first_line.result.0.now (lines_of c.first_line.result.1.now) c.in-Some.pair c.loop-rest.invariant c.first_line.ensures.lines
     (MatchOption-at_some _ _ _ c.in-Some.is c.in_ok-pair.ensures.given) c.in_ok-push.ensures.len c.in_ok-push.ensures.items
 

@@ -11,7 +11,8 @@ loop-rest-init c = unread c.args.text.now c.new-segs.result.items c.new-segs.ens
 
 pub loop-rest-preserved : goal.loop-rest-preserved
 loop-rest-preserved c =
-    turn c.args.text.now c.loop-rest.segs.items c.push.new.self.items c.loop-rest.rest.now c.loop-rest.lead c.in-Some.seg c.in-Some.behind.now c.loop-rest.invariant
+    turn c.args.text.now c.loop-rest.segs.items c.push.new.self.items c.loop-rest.rest.now c.loop-rest.lead c.in-Some.seg c.in-Some.behind.now
+    c.loop-rest.invariant
     (MatchOption-at_some _ _ _ c.in-Some.is c.in_ok-seg.ensures.segment) c.in_ok-push.ensures.items
 
 pub returns-in_default-clause-path : goal.returns-in_default-clause-path

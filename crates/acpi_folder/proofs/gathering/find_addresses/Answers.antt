@@ -5,5 +5,6 @@ use Rattle.std.proofs.Common.{◌∙◌, ap, map, None, List, String, Global, �
 pub returns-in_ok-no_addresses-clause-addresses : goal.returns-in_ok-no_addresses-clause-addresses
 returns-in_ok-no_addresses-clause-addresses g c =
     let none : List (String Global) → List (Option ℕ) = map (λ name. None) in
-    no_map (g.F.Folder.answers c.args.folder.now) c.args.listing.now.has_map c.args.listing.now.dumps.items c.in_ok-no_addresses.field-0.items c.if-listing.false
+    no_map (g.F.Folder.answers c.args.folder.now) c.args.listing.now.has_map c.args.listing.now.dumps.items c.in_ok-no_addresses.field-0.items
+    c.if-listing.false
     (c.in_ok-no_addresses.ensures ∙ ap none c.deref-else-listing.ensures.value)

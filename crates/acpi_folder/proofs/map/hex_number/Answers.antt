@@ -11,7 +11,11 @@ overflow_mul-number c =
 
 pub overflow_add-number : goal.overflow_add-number
 overflow_add-number c =
-    omega (arith, room c.loop-digit.number c.loop-digit.digit-index c.from.result c.loop-digit.invariant.2 (omega arith) (omega (arith, c.in_ok-hex_value.ensures.2)))
+    omega (
+      arith,
+      room c.loop-digit.number c.loop-digit.digit-index c.from.result c.loop-digit.invariant.2 (omega arith)
+          (omega (arith, c.in_ok-hex_value.ensures.2)),
+    )
 
 pub loop-digit-preserved : goal.loop-digit-preserved
 loop-digit-preserved c =

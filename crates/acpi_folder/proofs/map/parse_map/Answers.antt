@@ -7,4 +7,5 @@ use Rattle.acpi_folder.proofs.map.parse_map.Goals as goal
 pub returns-clause-addresses : goal.returns-clause-addresses
 returns-clause-addresses c =
     c.in_ok-addresses.ensures
-    ∙ addresses_shown string_bytes c.args.names.now c.deref.result.now (map entry_of (lines_of c.args.text.now)) (ap (map shown_by) c.deref.ensures.value ∙ c.in_ok-lines.ensures.lines)
+    ∙ addresses_shown string_bytes c.args.names.now c.deref.result.now (map entry_of (lines_of c.args.text.now))
+    (ap (map shown_by) c.deref.ensures.value ∙ c.in_ok-lines.ensures.lines)

@@ -9,7 +9,8 @@ pub returns-in_err-line-clause-refused : goal.returns-in_err-line-clause-refused
 returns-in_err-line-clause-refused c =
     let refused : RefusesMap (map string_bytes c.args.names.now) c.args.text.now c.in_err-line.field-0.0 =
     refuses (map string_bytes c.args.names.now) c.args.text.now (vec_len c.loop-rest.lines) c.first_line.result.0.now (lines_of c.first_line.result.1.now)
-    c.loop-rest.lines.items c.deref.result.now c.in_err-line.field-0.0 (c.loop-rest.invariant.0 ∙ c.first_line.ensures.lines) c.loop-rest.invariant.1 c.loop-rest.invariant.2
+    c.loop-rest.lines.items c.deref.result.now c.in_err-line.field-0.0 (c.loop-rest.invariant.0 ∙ c.first_line.ensures.lines)
+    c.loop-rest.invariant.1 c.loop-rest.invariant.2
     c.deref.ensures.value (c.in_err-line.ensures.numbered ∙ ap (λ count. Some (count + 1)) c.len.ensures) c.in_err-line.ensures.refused in
     search rules
 

@@ -2,7 +2,8 @@ use Rattle.std.proofs.Common.{Some, sym, ap, ◌∙◌, refl, arith}
 use Rattle.std.proofs.lemmas.Bool.{false≢true}
 use Rattle.acpi_tables.proofs.Cells.{address_in-inside, address_in-refused, address_in-past}
 use Rattle.acpi_tables.proofs.addresses.address_in.Goals as goal
-use Rattle.acpi_tables.proofs.addresses.address_in.Goals.{then-not-holds_addresses-via-then-not-holds_addresses, then-not-holds_addresses-via-else-not-holds_addresses+then-index-address_count}
+use Rattle.acpi_tables.proofs.addresses.address_in.Goals.{then-not-holds_addresses-via-then-not-holds_addresses}
+use Rattle.acpi_tables.proofs.addresses.address_in.Goals.{then-not-holds_addresses-via-else-not-holds_addresses+then-index-address_count}
 
 pub returns-then-not-holds_addresses : goal.returns-then-not-holds_addresses
 returns-then-not-holds_addresses c = sym (elim c.then-not-holds_addresses.branch [

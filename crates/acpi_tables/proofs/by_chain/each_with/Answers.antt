@@ -4,7 +4,8 @@ use Rattle.acpi_tables.specs.Bytes.{begins_with}
 use Rattle.acpi_tables.specs.Order.{has_signature}
 use Rattle.acpi_tables.proofs.Once.{once_taken, once_there, once_skipped}
 use Rattle.acpi_tables.proofs.by_chain.each_with.Goals as goal
-use Rattle.acpi_tables.proofs.by_chain.each_with.Goals.{then-begins_with+then-not-contains+in_ok-push, else-begins_with, else-begins_with-via-then-begins_with+else-not-contains, else-begins_with-via-else-begins_with}
+use Rattle.acpi_tables.proofs.by_chain.each_with.Goals.{then-begins_with+then-not-contains+in_ok-push, else-begins_with}
+use Rattle.acpi_tables.proofs.by_chain.each_with.Goals.{else-begins_with-via-then-begins_with+else-not-contains, else-begins_with-via-else-begins_with}
 
 pub loop-index-preserved : goal.loop-index-preserved
 loop-index-preserved c =

@@ -18,9 +18,11 @@ listed_by-requires c =
 pub table_of-requires : goal.table_of-requires
 table_of-requires c =
     subst HoldsTable (sym c.bytes_of-2.ensures)
-    (fadt_holds c.args.dumps.now c.requires.each c.in-Some-first_with.fadt (find-passes (has_signature c.args.dumps.now (codes "FACP")) _ _ (sym c.in-Some-first_with.ensures))).0
+    (fadt_holds c.args.dumps.now c.requires.each c.in-Some-first_with.fadt
+    (find-passes (has_signature c.args.dumps.now (codes "FACP")) _ _ (sym c.in-Some-first_with.ensures))).0
 
 pub dsdt_address-requires : goal.dsdt_address-requires
 dsdt_address-requires c =
     subst HoldsFadt (sym (c.table_of.ensures ∙ ap table_of c.bytes_of-2.ensures))
-    (fadt_holds c.args.dumps.now c.requires.each c.in-Some-first_with.fadt (find-passes (has_signature c.args.dumps.now (codes "FACP")) _ _ (sym c.in-Some-first_with.ensures))).1
+    (fadt_holds c.args.dumps.now c.requires.each c.in-Some-first_with.fadt
+    (find-passes (has_signature c.args.dumps.now (codes "FACP")) _ _ (sym c.in-Some-first_with.ensures))).1

@@ -16,7 +16,8 @@ loop-index-preserved c =
     elim c.if-has_signature.branch [
       | then-has_signature+in_ok-push w ↦
           places_taken test c.args.dumps.now c.loop-index.index c.index-dumps-index.result c.loop-index.indexes.items c.if-has_signature.indexes.items
-          c.loop-index-test.true c.index-dumps-index.is c.loop-index.invariant (sym c.has_signature.ensures ∙ w.if-has_signature.true) (ap (λ v. v.items) w.indexes-is ∙ w.in_ok-push.ensures.items)
+          c.loop-index-test.true c.index-dumps-index.is c.loop-index.invariant (sym c.has_signature.ensures ∙ w.if-has_signature.true)
+          (ap (λ v. v.items) w.indexes-is ∙ w.in_ok-push.ensures.items)
       | else-has_signature w ↦
           cc (
             w.indexes-is,
@@ -29,4 +30,5 @@ pub returns : goal.returns
 unfolding indexes_with
 returns c =
     c.loop-index.invariant
-    ∙ ap (places (λ dump. begins_with dump.bytes.items c.args.signature.now) 0) (take_to_end c.args.dumps.now c.loop-index.index c.loop-index.auto.index-end c.loop-index-test.false)
+    ∙ ap (places (λ dump. begins_with dump.bytes.items c.args.signature.now) 0)
+    (take_to_end c.args.dumps.now c.loop-index.index c.loop-index.auto.index-end c.loop-index-test.false)

@@ -4,7 +4,8 @@ use Rattle.acpi_tables.proofs.Places.{name_of-inside, name_of-past}
 use Rattle.acpi_tables.proofs.by_name.name_of.Goals as goal
 
 pub returns-in-Some : goal.returns-in-Some
-returns-in-Some c = c.as_bytes.ensures.value ∙ sym (name_of-inside c.args.dumps.now c.args.index c.in-Some.dump.now (grind (arith, nat_tests)) (c.in-Some.ensures.lookup.1))
+returns-in-Some c =
+    c.as_bytes.ensures.value ∙ sym (name_of-inside c.args.dumps.now c.args.index c.in-Some.dump.now (grind (arith, nat_tests)) (c.in-Some.ensures.lookup.1))
 
 pub returns-in-None : goal.returns-in-None
 returns-in-None c = sym (name_of-past c.args.dumps.now c.args.index (grind (arith, nat_tests)))

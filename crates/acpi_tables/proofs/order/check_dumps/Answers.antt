@@ -5,7 +5,8 @@ use Rattle.acpi_tables.proofs.order.check_dumps.Goals as goal
 
 pub returns-in-Err-clause-refused : goal.returns-in-Err-clause-refused
 returns-in-Err-clause-refused c =
-    let same = c.deref.ensures.value ∙ sym (bytes_of-inside c.args.dumps.now c.loop-index.index c.index-dumps-index.result c.loop-index-test.true c.index-dumps-index.is) in
+    let same = c.deref.ensures.value ∙ sym (bytes_of-inside c.args.dumps.now c.loop-index.index c.index-dumps-index.result c.loop-index-test.true
+    c.index-dumps-index.is) in
     record {
       index = c.loop-index.index;
       named = c.of_dump.ensures.dump;
@@ -16,5 +17,6 @@ returns-in-Err-clause-refused c =
 
 pub loop-index-preserved : goal.loop-index-preserved
 loop-index-preserved c =
-    let same = c.deref.ensures.value ∙ sym (bytes_of-inside c.args.dumps.now c.loop-index.index c.index-dumps-index.result c.loop-index-test.true c.index-dumps-index.is) in
+    let same = c.deref.ensures.value ∙ sym (bytes_of-inside c.args.dumps.now c.loop-index.index c.index-dumps-index.result c.loop-index-test.true
+    c.index-dumps-index.is) in
     below_more _ _ c.loop-index.invariant (subst (HoldsDump c.args.any_sum) same c.in_default.ensures.holds)

@@ -10,20 +10,25 @@ returns-in_err-check_dumps-clause-none c =
 
 pub returns-then-is_addressed-clause-sound : goal.returns-then-is_addressed-clause-sound
 returns-then-is_addressed-clause-sound c =
-    found_sound _ _ _ c.if-dumps-gt-MAX_DUMPS.false c.in_ok-check_dumps.ensures.taken (sym c.if-is_addressed.ensures) c.order_by_chain.result c.order_by_chain.ensures.order
+    found_sound _ _ _ c.if-dumps-gt-MAX_DUMPS.false c.in_ok-check_dumps.ensures.taken (sym c.if-is_addressed.ensures)
+    c.order_by_chain.result c.order_by_chain.ensures.order
 
 pub returns-else-is_addressed-clause-only : goal.returns-else-is_addressed-clause-only
 returns-else-is_addressed-clause-only c =
-    found_only _ _ _ c.if-dumps-gt-MAX_DUMPS.false c.in_ok-check_dumps.ensures.taken (sym c.if-is_addressed.ensures) c.order_by_name.result c.order_by_name.ensures.order
+    found_only _ _ _ c.if-dumps-gt-MAX_DUMPS.false c.in_ok-check_dumps.ensures.taken (sym c.if-is_addressed.ensures)
+    c.order_by_name.result c.order_by_name.ensures.order
 
 pub returns-else-is_addressed-clause-sound : goal.returns-else-is_addressed-clause-sound
 returns-else-is_addressed-clause-sound c =
-    found_sound _ _ _ c.if-dumps-gt-MAX_DUMPS.false c.in_ok-check_dumps.ensures.taken (sym c.if-is_addressed.ensures) c.order_by_name.result c.order_by_name.ensures.order
+    found_sound _ _ _ c.if-dumps-gt-MAX_DUMPS.false c.in_ok-check_dumps.ensures.taken (sym c.if-is_addressed.ensures)
+    c.order_by_name.result c.order_by_name.ensures.order
 
 pub returns-then-is_addressed-clause-tables : goal.returns-then-is_addressed-clause-tables
 returns-then-is_addressed-clause-tables c =
-    found_tables _ _ _ c.if-dumps-gt-MAX_DUMPS.false c.in_ok-check_dumps.ensures.taken (sym c.if-is_addressed.ensures) c.order_by_chain.result c.order_by_chain.ensures.order
+    found_tables _ _ _ c.if-dumps-gt-MAX_DUMPS.false c.in_ok-check_dumps.ensures.taken (sym c.if-is_addressed.ensures)
+    c.order_by_chain.result c.order_by_chain.ensures.order
 
 pub returns-else-is_addressed-clause-tables : goal.returns-else-is_addressed-clause-tables
 returns-else-is_addressed-clause-tables c =
-    found_tables _ _ _ c.if-dumps-gt-MAX_DUMPS.false c.in_ok-check_dumps.ensures.taken (sym c.if-is_addressed.ensures) c.order_by_name.result c.order_by_name.ensures.order
+    found_tables _ _ _ c.if-dumps-gt-MAX_DUMPS.false c.in_ok-check_dumps.ensures.taken (sym c.if-is_addressed.ensures)
+    c.order_by_name.result c.order_by_name.ensures.order

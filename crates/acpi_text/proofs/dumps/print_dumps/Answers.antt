@@ -5,5 +5,6 @@ use Rattle.acpi_text.proofs.dumps.print_dumps.Goals as goal
 
 pub print_dump-requires : goal.print_dump-requires
 print_dump-requires g c = record {
-  taken = subst (HoldsDump true) (bytes_of-inside c.args.dumps.now c.loop-dump.dump-index c.dump-item.result c.loop-dump-test.true c.dump-item.is) (c.requires.taken c.loop-dump.dump-index c.loop-dump-test.true);
+  taken = subst (HoldsDump true) (bytes_of-inside c.args.dumps.now c.loop-dump.dump-index c.dump-item.result c.loop-dump-test.true c.dump-item.is)
+      (c.requires.taken c.loop-dump.dump-index c.loop-dump-test.true);
 }

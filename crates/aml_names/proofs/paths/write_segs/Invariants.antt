@@ -5,4 +5,5 @@ use Rattle.aml_names.specs.PathTexts.{segment_text}
 use Rattle.aml_names.proofs.paths.write_segs.Given as goal
 
 abbrev pub invariant-loop-seg : goal.invariant-loop-seg
-invariant-loop-seg g l = IsPlainFormatter l.initial.f → HasWritten g.W.Write.write_str_gives l.initial.f (flat_map (λ t. 46 ∷ segment_text t) (take l.seg-index l.others)) l.f
+invariant-loop-seg g l =
+    IsPlainFormatter l.initial.f → HasWritten g.W.Write.write_str_gives l.initial.f (flat_map (λ t. 46 ∷ segment_text t) (take l.seg-index l.others)) l.f

@@ -6,7 +6,8 @@ use Rattle.aml_parse.proofs.Readings.{given_module_sound, given_module_one, give
 use Rattle.aml_parse.proofs.module.parse_module.Goals as goal
 
 pub returns-clause-sound : goal.returns-clause-sound
-returns-clause-sound c = given_module_sound (λ x. nodes_view x.items) c.module_terms.result c.args.code.now c.module_terms.ensures (λ i. omega (arith, c.type_inv.code i))
+returns-clause-sound c =
+    given_module_sound (λ x. nodes_view x.items) c.module_terms.result c.args.code.now c.module_terms.ensures (λ i. omega (arith, c.type_inv.code i))
 
 pub returns-clause-one : goal.returns-clause-one
 returns-clause-one c = given_module_one (λ x. nodes_view x.items) c.module_terms.result c.args.code.now c.module_terms.ensures
@@ -16,4 +17,5 @@ returns-clause-complete c = given_module_complete (λ x. nodes_view x.items) c.m
 
 pub returns-clause-placed : goal.returns-clause-placed
 returns-clause-placed c =
-    given_placed (λ x. nodes_view x.items) c.module_terms.result no_arguments None positions.ModuleTerm c.args.code.now (λ i. omega (arith, c.type_inv.code i)) c.module_terms.ensures
+    given_placed (λ x. nodes_view x.items) c.module_terms.result no_arguments None positions.ModuleTerm c.args.code.now (λ i. omega (arith, c.type_inv.code i))
+    c.module_terms.ensures

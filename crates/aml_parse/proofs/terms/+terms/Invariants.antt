@@ -50,19 +50,23 @@ decreases-link g l = 8 * l.levels + 2
 abbrev pub invariant-arguments-loop-i : goal.invariant-arguments-loop-i
 invariant-arguments-loop-i g l =
     let read = read_at (g.A.Arity.arity l.context.arity.now) (scope_of l.context.scope) l.levels in
-    with_arguments (nodes_view l.found.items) (arguments_at read (l.count - l._i) l.end l.locals l.rest) ≡ arguments_at read l.count l.end l.initial.locals l.initial.rest
+    with_arguments (nodes_view l.found.items) (arguments_at read (l.count - l._i) l.end l.locals l.rest)
+    ≡ arguments_at read l.count l.end l.initial.locals l.initial.rest
 
 abbrev pub invariant-parts-loop-kind : goal.invariant-parts-loop-kind
 invariant-parts-loop-kind g l =
     let read = read_at (g.A.Arity.arity l.context.arity.now) (scope_of l.context.scope) l.levels in
-    with_parts (parts_view l.found.items) (parts_at read (drop l.kind-index l.kinds) l.end l.locals l.rest) ≡ parts_at read l.kinds l.end l.initial.locals l.initial.rest
+    with_parts (parts_view l.found.items) (parts_at read (drop l.kind-index l.kinds) l.end l.locals l.rest)
+    ≡ parts_at read l.kinds l.end l.initial.locals l.initial.rest
 
 abbrev pub invariant-terms-loop-turn : goal.invariant-terms-loop-turn
 invariant-terms-loop-turn g l =
     let read = read_at (g.A.Arity.arity l.context.arity.now) (scope_of l.context.scope) l.levels in
-    with_terms (nodes_view l.found.items) (terms_at read (length l.bytes - l._turn) l.here l.end l.locals l.rest) ≡ terms_at read (length l.bytes) l.initial.here l.end l.initial.locals l.bytes
+    with_terms (nodes_view l.found.items) (terms_at read (length l.bytes - l._turn) l.here l.end l.locals l.rest)
+    ≡ terms_at read (length l.bytes) l.initial.here l.end l.initial.locals l.bytes
 
 abbrev pub invariant-fields-loop-turn : goal.invariant-fields-loop-turn
 invariant-fields-loop-turn g l =
     let read = read_at (g.A.Arity.arity l.context.arity.now) (scope_of l.context.scope) l.levels in
-    with_units (fields_view l.found.items) (fields_at read (length l.bytes - l._turn) l.end l.locals l.rest) ≡ fields_at read (length l.bytes) l.end l.initial.locals l.bytes
+    with_units (fields_view l.found.items) (fields_at read (length l.bytes - l._turn) l.end l.locals l.rest)
+    ≡ fields_at read (length l.bytes) l.end l.initial.locals l.bytes

@@ -12,7 +12,8 @@ loop-seg-preserved c =
     let seg : Seg = get_or c.args.path.now c.loop-seg.seg-index (record { 0 = [] }) in
     let found : child_in (kids c.loop-seg.at) seg ≡ Some c.in-Some.next = sym c.child.ensures ∙ c.in-Some.is in
     record {
-      led = led_more kids kids c.loop-seg.seg-index c.args.path.now (record { 0 = [] }) c.loop-seg.at c.in-Some.next c.loop-seg-test.true c.loop-seg.invariant.led found;
+      led = led_more kids kids c.loop-seg.seg-index c.args.path.now (record { 0 = [] })
+          c.loop-seg.at c.in-Some.next c.loop-seg-test.true c.loop-seg.invariant.led found;
       within = (child_range c.loop-seg.at (length c.args.nodes.now) (kids c.loop-seg.at) seg c.in-Some.next (c.requires.families c.loop-seg.at) found).1;
       known = omega (arith, c.loop-seg.invariant.known);
     }

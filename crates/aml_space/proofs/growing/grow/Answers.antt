@@ -4,12 +4,14 @@ use Rattle.aml_space.proofs.growing.grow.Goals as goal
 
 pub overflow_sub-result : goal.overflow_sub-result
 overflow_sub-result c =
-    let long : length c.push_below.new.nodes.items ≡ length c.args.nodes.now.items + length c.args.path.now + 1 = ap length c.in-Ok.ensures.ok ∙ long_path c.args.nodes.now.items c.args.at c.args.seg c.args.path.now in
+    let long : length c.push_below.new.nodes.items ≡ length c.args.nodes.now.items + length c.args.path.now + 1 = ap length c.in-Ok.ensures.ok
+    ∙ long_path c.args.nodes.now.items c.args.at c.args.seg c.args.path.now in
     omega (arith, long, c.len.ensures, c.push_below.new.nodes.ok.0)
 
 pub returns-in-Ok-clause-node : goal.returns-in-Ok-clause-node
 returns-in-Ok-clause-node c =
-    let long : length c.push_below.new.nodes.items ≡ length c.args.nodes.now.items + length c.args.path.now + 1 = ap length c.in-Ok.ensures.ok ∙ long_path c.args.nodes.now.items c.args.at c.args.seg c.args.path.now in
+    let long : length c.push_below.new.nodes.items ≡ length c.args.nodes.now.items + length c.args.path.now + 1 = ap length c.in-Ok.ensures.ok
+    ∙ long_path c.args.nodes.now.items c.args.at c.args.seg c.args.path.now in
     omega (arith, long, c.len.ensures, c.push_below.new.nodes.ok.0)
 
 pub returns-in-Err-clause-err : goal.returns-in-Err-clause-err

@@ -10,7 +10,8 @@ use Rattle.aml_space.proofs.Index.{seam}
 use Rattle.aml_space.proofs.growing.is_taken.Goals as goal
 
 pub kind_at-requires : goal.kind_at-requires
-kind_at-requires c = walk_range (kids_of c.args.nodes.now) (length c.args.nodes.now) c.requires.shape.families 0 _ c.args.reach.node c.requires.shape.rooted c.requires.reach.led
+kind_at-requires c =
+    walk_range (kids_of c.args.nodes.now) (length c.args.nodes.now) c.requires.shape.families 0 _ c.args.reach.node c.requires.shape.rooted c.requires.reach.led
 
 pub returns-else-reach-path : goal.returns-else-reach-path
 returns-else-reach-path c =
@@ -19,5 +20,6 @@ returns-else-reach-path c =
     let k = c.args.reach.known in
     let e : Seg = record { 0 = [] } in
     let within : k < length p = omega (arith, c.requires.reach.within, c.if-reach-path.false) in
-    let none : walk kids 0 p ≡ None = led_no_further kids k c.args.reach.node p e within c.requires.reach.led (c.requires.reach.ends (get_or p k e) (drop (k + 1) p) (seam k p e within)) in
+    let none : walk kids 0 p ≡ None = led_no_further kids k c.args.reach.node p e within c.requires.reach.led
+    (c.requires.reach.ends (get_or p k e) (drop (k + 1) p) (seam k p e within)) in
     ne_eqb _ _ c.if-reach-path.false ∙ sym (ap (λ o. is_some (option_and_then (kinds_of c.args.nodes.now) o)) none)

@@ -21,8 +21,10 @@ insert-requires-clause-rise c =
     let tail = chain c.args.at (length ns) c.args.seg c.args.path.now in
     let is : mid ≡ ns ++ tail = c.in_ok-push_chain.ensures.ok in
     let inside = within_behind ns mid tail c.args.at is c.requires.within in
-    let was : slice_get mid c.args.at ≡ Some c.index_mut-parent.result.now = slice_get-get_or mid c.args.at c.index_mut-parent.result.now inside ∙ ap Some (sym c.index_mut-parent.ensures.value) in
-    subst Rise (ap kids_in (read_behind ns mid tail c.args.at c.index_mut-parent.result.now is c.requires.within was)) (family_rises c.args.at (length ns) (kids_of ns c.args.at) (c.requires.shape.families c.args.at))
+    let was : slice_get mid c.args.at ≡ Some c.index_mut-parent.result.now = slice_get-get_or mid c.args.at c.index_mut-parent.result.now inside
+    ∙ ap Some (sym c.index_mut-parent.ensures.value) in
+    subst Rise (ap kids_in (read_behind ns mid tail c.args.at c.index_mut-parent.result.now is c.requires.within was))
+    (family_rises c.args.at (length ns) (kids_of ns c.args.at) (c.requires.shape.families c.args.at))
 
 pub insert-requires-clause-absent : goal.insert-requires-clause-absent
 insert-requires-clause-absent c =
@@ -31,8 +33,10 @@ insert-requires-clause-absent c =
     let tail = chain c.args.at (length ns) c.args.seg c.args.path.now in
     let is : mid ≡ ns ++ tail = c.in_ok-push_chain.ensures.ok in
     let inside = within_behind ns mid tail c.args.at is c.requires.within in
-    let was : slice_get mid c.args.at ≡ Some c.index_mut-parent.result.now = slice_get-get_or mid c.args.at c.index_mut-parent.result.now inside ∙ ap Some (sym c.index_mut-parent.ensures.value) in
-    ap (λ o. child_in (kids_in o) c.args.seg) (sym (read_behind ns mid tail c.args.at c.index_mut-parent.result.now is c.requires.within was)) ∙ c.requires.absent
+    let was : slice_get mid c.args.at ≡ Some c.index_mut-parent.result.now = slice_get-get_or mid c.args.at c.index_mut-parent.result.now inside
+    ∙ ap Some (sym c.index_mut-parent.ensures.value) in
+    ap (λ o. child_in (kids_in o) c.args.seg) (sym (read_behind ns mid tail c.args.at c.index_mut-parent.result.now is c.requires.within was))
+    ∙ c.requires.absent
 
 pub returns-clause-ok : goal.returns-clause-ok
 returns-clause-ok c =

@@ -19,10 +19,12 @@ levels-preserved c =
     let some : 0 < c.levels.at = omega (arith, c.if-at-eq0.false) in
     let lower : (links_of ns c.levels.at).0 < c.levels.at = c.requires.index.linked.lower c.levels.at some c.levels.invariant.within in
     let less : p < c.levels.at = subst (λ l. l.0 < c.levels.at) (sym c.link-parent.ensures) lower in
-    let none : first_node (behind s (kids_of ns p)) ≡ None = ap (λ cs. first_node (behind s cs)) (sym c.children_at.ensures) ∙ sym c.after.ensures ∙ c.in-None.is in
+    let none : first_node (behind s (kids_of ns p)) ≡ None = ap (λ cs. first_node (behind s cs)) (sym c.children_at.ensures) ∙ sym c.after.ensures
+    ∙ c.in-None.is in
     record {
       within = omega (arith, less, c.levels.invariant.within);
       same = c.levels.invariant.same
-          ∙ up_on (kids_of ns) (length ns) c.requires.index.shape.families (links_of ns) c.requires.index.linked.lower c.levels.at p s some c.levels.invariant.within c.link-parent.ensures
+          ∙ up_on (kids_of ns) (length ns) c.requires.index.shape.families (links_of ns)
+          c.requires.index.linked.lower c.levels.at p s some c.levels.invariant.within c.link-parent.ensures
           ∙ ap (λ o. option_or o (up (kids_of ns) (links_of ns) p p)) none;
     }

@@ -12,7 +12,8 @@ nodes-preserved c =
     let ns = c.args.nodes.now in
     let at = c.in-Some.at in
     let within : at < length ns = subst (λ o. IfSome o (λ i. i < length ns)) c.in-Some.is c.nodes.invariant.within in
-    let none : pairs_of ns at ≡ None = sym c.row_here.ensures ∙ ap (option_map row_pair) (none_from_test c.row_here.result (sym c.is_some.ensures ∙ c.if-is_some.false)) in
+    let none : pairs_of ns at ≡ None = sym c.row_here.ensures ∙ ap (option_map row_pair)
+    (none_from_test c.row_here.result (sym c.is_some.ensures ∙ c.if-is_some.false)) in
     record {
       same = ap (rows_ahead ns) c.node_after-next.ensures.next ∙ ap (λ o. own_row o ++ rows_ahead ns (next_node ns at)) (sym none)
           ∙ sym (rows_on ns c.requires.index at within) ∙ ap (rows_ahead ns) (sym c.in-Some.is) ∙ c.nodes.invariant.same;

@@ -5,4 +5,5 @@ use Rattle.aml_space.proofs.Family.{family_rises}
 use Rattle.aml_space.proofs.walking.child_counted.Goals as goal
 
 pub find-requires : goal.find-requires
-find-requires c = subst Rise (sym c.children_at.ensures) (family_rises c.args.at (length c.args.nodes.now) (kids_of c.args.nodes.now c.args.at) (c.requires.shape.families c.args.at))
+find-requires c = subst Rise (sym c.children_at.ensures) (family_rises c.args.at (length c.args.nodes.now) (kids_of c.args.nodes.now c.args.at)
+    (c.requires.shape.families c.args.at))

@@ -13,6 +13,7 @@ unfolding row_of
 returns-clause-row c =
     let passes : Row → Bool = λ r. nat_eq (kind_of c.args.bytes.now) r.kind && nat_eq (length c.args.bytes.now) r.long in
     viewed c.row_among.result
-    ∙ ap (option_map row_view) (c.row_among.ensures.first ∙ ap (λ kind. find (λ r. nat_eq kind r.kind && nat_eq (length c.args.bytes.now) r.length) c.of_madt.result.now) c.u8_at.ensures)
+    ∙ ap (option_map row_view) (c.row_among.ensures.first ∙ ap (λ kind. find (λ r. nat_eq kind r.kind && nat_eq (length c.args.bytes.now) r.length)
+    c.of_madt.result.now) c.u8_at.ensures)
     ∙ find-map row_view passes c.of_madt.result.now
     ∙ ap (find passes) c.of_madt.ensures.rows

@@ -21,7 +21,8 @@ forks-preserved-then-is_behind c =
     let is = listed c.forks.tree.now c.tree.inside.top c.in-Some.fork c.tree.view_is c.in-Some.is in
     let rise = rising c.forks.tree.now c.tree.inside.top c.in-Some.fork c.tree.view_is c.in-Some.is c.forks.invariant.rise in
     let same : c.deref-then-is_behind-2.result.now.left ≡ f.left = ap (λ (g : Fork). g.left) c.deref-then-is_behind-2.ensures in
-    let less : is_lt (seg_cmp s f.child.seg) ≡ true = ap (λ (g : Fork). is_lt (seg_cmp s g.child.seg)) (sym c.deref.ensures) ∙ sym c.is_behind.ensures ∙ c.if-is_behind.true in
+    let less : is_lt (seg_cmp s f.child.seg) ≡ true = ap (λ (g : Fork). is_lt (seg_cmp s g.child.seg)) (sym c.deref.ensures) ∙ sym c.is_behind.ensures
+    ∙ c.if-is_behind.true in
     record {
       rise = subst (λ (d : List Child × ℕ). Rise d.0) (sym same) (rise_left f.left.0 f.child f.right.0 s rise);
       same = c.forks.invariant.same
@@ -38,7 +39,8 @@ forks-preserved c =
     let is = listed c.forks.tree.now c.tree.inside.top c.in-Some.fork c.tree.view_is c.in-Some.is in
     let rise = rising c.forks.tree.now c.tree.inside.top c.in-Some.fork c.tree.view_is c.in-Some.is c.forks.invariant.rise in
     let same : c.deref-else-is_behind.result.now.right ≡ f.right = ap (λ (g : Fork). g.right) c.deref-else-is_behind.ensures in
-    let not : is_lt (seg_cmp s f.child.seg) ≡ false = ap (λ (g : Fork). is_lt (seg_cmp s g.child.seg)) (sym c.deref.ensures) ∙ sym c.is_behind.ensures ∙ c.if-is_behind.false in
+    let not : is_lt (seg_cmp s f.child.seg) ≡ false = ap (λ (g : Fork). is_lt (seg_cmp s g.child.seg)) (sym c.deref.ensures) ∙ sym c.is_behind.ensures
+    ∙ c.if-is_behind.false in
     record {
       rise = subst (λ (d : List Child × ℕ). Rise d.0) (sym same) (rise_right f.left.0 f.child f.right.0 s rise);
       same = c.forks.invariant.same

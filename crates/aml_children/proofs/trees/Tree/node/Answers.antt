@@ -22,7 +22,8 @@ forks-preserved-in-Less c =
     let is = listed c.forks.tree.now c.tree.inside.top c.in-Some.fork c.tree.view_is c.in-Some.is in
     let rise = rising c.forks.tree.now c.tree.inside.top c.in-Some.fork c.tree.view_is c.in-Some.is c.forks.invariant.rise in
     let same : c.deref-in-Less.result.now.left ≡ f.left = ap (λ (g : Fork). g.left) c.deref-in-Less.ensures in
-    let less : seg_cmp c.args.seg f.child.seg ≡ Less = ap (λ (g : Fork). seg_cmp c.args.seg g.child.seg) (sym c.deref.ensures) ∙ sym c.cmp.ensures ∙ c.in-Less.is in
+    let less : seg_cmp c.args.seg f.child.seg ≡ Less = ap (λ (g : Fork). seg_cmp c.args.seg g.child.seg) (sym c.deref.ensures) ∙ sym c.cmp.ensures
+    ∙ c.in-Less.is in
     record {
       rise = subst (λ (d : List Child × ℕ). Rise d.0) (sym same) (rise_left f.left.0 f.child f.right.0 c.args.seg rise);
       same = c.forks.invariant.same ∙ ap (λ es. child_in es c.args.seg) is ∙ found_left f.left.0 f.child f.right.0 c.args.seg rise less
@@ -39,7 +40,8 @@ returns-in-Equal c =
     let f = c.in-Some.fork.value in
     let is = listed c.forks.tree.now c.tree.inside.top c.in-Some.fork c.tree.view_is c.in-Some.is in
     let rise = rising c.forks.tree.now c.tree.inside.top c.in-Some.fork c.tree.view_is c.in-Some.is c.forks.invariant.rise in
-    let equal : seg_cmp c.args.seg f.child.seg ≡ Equal = ap (λ (g : Fork). seg_cmp c.args.seg g.child.seg) (sym c.deref.ensures) ∙ sym c.cmp.ensures ∙ c.in-Equal.is in
+    let equal : seg_cmp c.args.seg f.child.seg ≡ Equal = ap (λ (g : Fork). seg_cmp c.args.seg g.child.seg) (sym c.deref.ensures) ∙ sym c.cmp.ensures
+    ∙ c.in-Equal.is in
     ap (λ (g : Fork). Some g.child.node) c.deref-in-Equal.ensures
     ∙ sym (c.forks.invariant.same ∙ ap (λ es. child_in es c.args.seg) is ∙ found_middle f.left.0 f.child f.right.0 c.args.seg rise equal)
 
@@ -49,7 +51,8 @@ forks-preserved c =
     let is = listed c.forks.tree.now c.tree.inside.top c.in-Some.fork c.tree.view_is c.in-Some.is in
     let rise = rising c.forks.tree.now c.tree.inside.top c.in-Some.fork c.tree.view_is c.in-Some.is c.forks.invariant.rise in
     let same : c.deref-in-Greater.result.now.right ≡ f.right = ap (λ (g : Fork). g.right) c.deref-in-Greater.ensures in
-    let more : seg_cmp c.args.seg f.child.seg ≡ Greater = ap (λ (g : Fork). seg_cmp c.args.seg g.child.seg) (sym c.deref.ensures) ∙ sym c.cmp.ensures ∙ c.in-Greater.is in
+    let more : seg_cmp c.args.seg f.child.seg ≡ Greater = ap (λ (g : Fork). seg_cmp c.args.seg g.child.seg) (sym c.deref.ensures) ∙ sym c.cmp.ensures
+    ∙ c.in-Greater.is in
     record {
       rise = subst (λ (d : List Child × ℕ). Rise d.0) (sym same) (rise_right f.left.0 f.child f.right.0 c.args.seg rise);
       same = c.forks.invariant.same ∙ ap (λ es. child_in es c.args.seg) is ∙ found_right f.left.0 f.child f.right.0 c.args.seg rise more

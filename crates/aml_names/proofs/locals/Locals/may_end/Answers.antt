@@ -13,4 +13,5 @@ returns-in-Some c =
     let e = c.in-Some.end in
     on_false c.contains_key.result (set.contains c.args.self.now p ≡ false) (λ none.
     ap (λ s. set.contains s p) (sym c.self.view_is)
-    ∙ known_end (set.from_list own.paths.keys) own.scope known p e c.self.invariant.1 (sym c.last.ensures ∙ c.in-Some.is) (is_none (known e) (sym c.contains_key.ensures ∙ none)))
+    ∙ known_end (set.from_list own.paths.keys) own.scope known p e c.self.invariant.1 (sym c.last.ensures ∙ c.in-Some.is)
+    (is_none (known e) (sym c.contains_key.ensures ∙ none)))

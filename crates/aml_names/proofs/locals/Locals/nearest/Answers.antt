@@ -12,7 +12,8 @@ returns-then-eq c =
     let own = c.self.inside in
     let scope = c.args.scope.now in
     let e = c.args.segment in
-    nearest_known (set.from_list own.paths.keys) own.scope e (get seg_cmp own.ends e) c.in-Some.depth.now (c.self.invariant.1 e) (sym c.get.ensures.value ∙ ap option_copied c.in-Some.is)
+    nearest_known (set.from_list own.paths.keys) own.scope e (get seg_cmp own.ends e) c.in-Some.depth.now (c.self.invariant.1 e)
+    (sym c.get.ensures.value ∙ ap option_copied c.in-Some.is)
     ∙ (λ i. nearest (c.self.view_is i) (same_path own.scope scope (sym c.eq.ensures ∙ c.if-eq.true) i) (e ∷ []))
 
 pub returns-in-None : goal.returns-in-None
@@ -20,4 +21,5 @@ returns-in-None c =
     let own = c.self.inside in
     let scope = c.args.scope.now in
     let e = c.args.segment in
-    sym (ap (λ s. nearest s scope (e ∷ [])) (sym c.self.view_is) ∙ nearest_none (set.from_list own.paths.keys) own.scope scope e (get seg_cmp own.ends e) (c.self.invariant.1 e) (sym c.get.ensures.value ∙ ap option_copied c.in-None.is))
+    sym (ap (λ s. nearest s scope (e ∷ [])) (sym c.self.view_is) ∙ nearest_none (set.from_list own.paths.keys) own.scope scope e (get seg_cmp own.ends e)
+    (c.self.invariant.1 e) (sym c.get.ensures.value ∙ ap option_copied c.in-None.is))

@@ -8,14 +8,16 @@ returns-then-has c =
     let locals = c.args.self.now in
     let tail = c.args.segment ∷ [] in
     let inv = c.depths.invariant in
-    sym (inv.same ∙ greatest_hit (λ d. set.contains locals (take d c.args.scope.now ++ tail)) c.depths.depth (ap (set.contains locals) (sym inv.asked) ∙ sym c.has.ensures ∙ c.if-has.true))
+    sym (inv.same ∙ greatest_hit (λ d. set.contains locals (take d c.args.scope.now ++ tail)) c.depths.depth
+    (ap (set.contains locals) (sym inv.asked) ∙ sym c.has.ensures ∙ c.if-has.true))
 
 pub returns-then-depth-eq0 : goal.returns-then-depth-eq0
 returns-then-depth-eq0 c =
     let locals = c.args.self.now in
     let tail = c.args.segment ∷ [] in
     let inv = c.depths.invariant in
-    sym (inv.same ∙ greatest_root (λ d. set.contains locals (take d c.args.scope.now ++ tail)) c.depths.depth (ap (set.contains locals) (sym inv.asked) ∙ sym c.has.ensures ∙ c.if-has.false) c.if-depth-eq0.true)
+    sym (inv.same ∙ greatest_root (λ d. set.contains locals (take d c.args.scope.now ++ tail)) c.depths.depth
+    (ap (set.contains locals) (sym inv.asked) ∙ sym c.has.ensures ∙ c.if-has.false) c.if-depth-eq0.true)
 
 pub depths-preserved : goal.depths-preserved
 depths-preserved c =
@@ -26,5 +28,6 @@ depths-preserved c =
     record {
       within = omega (arith, inv.within);
       asked = c.raise.ensures ∙ raised c.depths.depth c.args.scope.now tail c.depths.path inv.asked inv.within refl positive;
-      same = inv.same ∙ greatest_miss (λ d. set.contains locals (take d c.args.scope.now ++ tail)) c.depths.depth (ap (set.contains locals) (sym inv.asked) ∙ sym c.has.ensures ∙ c.if-has.false) positive;
+      same = inv.same ∙ greatest_miss (λ d. set.contains locals (take d c.args.scope.now ++ tail)) c.depths.depth
+          (ap (set.contains locals) (sym inv.asked) ∙ sym c.has.ensures ∙ c.if-has.false) positive;
     }

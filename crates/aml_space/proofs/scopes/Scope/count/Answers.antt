@@ -11,4 +11,5 @@ count_met-requires-clause-within c = within_met c.args.self.now.nodes.now c.requ
 pub returns : goal.returns
 returns c =
     c.count_met.ensures ∙ count_of_met c.args.self.now.nodes.now c.requires.scope.shape _ c.args.here.node c.requires.node _ c.standing.ensures
-    ∙ sym (ap (λ b. cond b (Some 0) (count_at (namespace_in (known_by c.args.self.now.nodes.now)) (take c.args.here.depth c.args.self.now.path.now ++ c.args.segment.now))) c.if-here.false)
+    ∙ sym (ap (λ b. cond b (Some 0) (count_at (namespace_in (known_by c.args.self.now.nodes.now))
+    (take c.args.here.depth c.args.self.now.path.now ++ c.args.segment.now))) c.if-here.false)

@@ -14,7 +14,9 @@ invariant-depths l = record {
   within : l.depth ≤ length l.self.path.now;
   above : IfSome l.nearest (λ n. n ≤ l.depth);
   outside : IfSome l.outside (IsCandidate l.self.nodes.now l.locals l.self.path.now l.segment);
-  same : first_of (namespace_in (known_by l.self.nodes.now)) l.locals (upward (length l.self.path.now) l.self.path.now l.segment) ≡ rest_of (namespace_in (known_by l.self.nodes.now)) l.locals l.self.path.now l.segment (option_map (λ (c : Candidate). c.depth) l.outside) (upward l.depth l.self.path.now l.segment);
+  same : first_of (namespace_in (known_by l.self.nodes.now)) l.locals (upward (length l.self.path.now) l.self.path.now l.segment)
+      ≡ rest_of (namespace_in (known_by l.self.nodes.now)) l.locals l.self.path.now l.segment (option_map (λ (c : Candidate). c.depth) l.outside)
+      (upward l.depth l.self.path.now l.segment);
 }
 
 abbrev pub decreases-depths : goal.decreases-depths
