@@ -1,6 +1,6 @@
 -- What a folder gives, and what is gathered from it: the dumps of its files, ordered by name, with the addresses of its
 -- map.
-use Rattle.std.specs.Prelude.{◌≡◌, ℕ, ◌<◌, ◌≤◌, Bool, true, false, not, List, [], ◌∷◌, length}
+use Rattle.std.specs.Prelude.{◌≡◌, ℕ, ◌+◌, ◌<◌, ◌≤◌, Bool, true, false, not, List, [], ◌∷◌, length}
 use Rattle.std.specs.Prelude.{take, map, slice_index_or, string_bytes, codes, Option, None, ◌⊎◌}
 use Rattle.std.specs.List.{list_any, filter}
 use Rattle.std.specs.List.Sorted.{IsPermutation, IsSorted}
@@ -8,6 +8,8 @@ use Rattle.std.specs.Ordering.{nat_cmp}
 use Rattle.std.specs.Cmp.Lexicographic.{slice_cmp}
 use Rattle.std.specs.Str.{bytes_eq}
 use Rattle.acpi_tables.specs.declared.dump.Dump.{Dump}
+use Rattle.acpi_tables.specs.Dumps.{most_bytes}
+use Rattle.acpi_tables.specs.Order.{most_dumps}
 use Rattle.acpi_folder.specs.declared.map.MapFault.{MapFault}
 use Rattle.acpi_folder.specs.declared.gathering.GatherFault.{GatherFault}
 use Rattle.acpi_folder.specs.declared.gathering.GatherFault.TheVariants as faults
@@ -44,19 +46,15 @@ pub record Reads (folder : Answers) (name : List ℕ) (limit : ℕ) (bytes : Lis
   pub held : folder.holds name content
   pub first : bytes ≡ take limit content
 
--- The map, whose name is `tables.map`, is no dump. Dumps and the map have at most so many bytes, and one byte more is
--- read.
+-- The map, whose name is `tables.map`, is no dump. It has at most as many bytes as a dump, and one byte more is read.
 abbrev pub map_name : List ℕ
 map_name = codes "tables.map"
 
 abbrev pub is_map : List ℕ → Bool
 is_map name = bytes_eq name map_name
 
-abbrev pub most_bytes : ℕ
-most_bytes = 16777216
-
 abbrev pub read_limit : ℕ
-read_limit = 16777217
+read_limit = most_bytes + 1
 
 -- The names of a folder's dumps, in the order of their bytes, and whether it has a map.
 pub record IsListing (folder : Answers) (names : List (List ℕ)) (mapped : Bool) : Type 0 where
@@ -84,31 +82,31 @@ AreAddresses folder true names addresses =
     (text : List ℕ) × IsMapText folder text × HoldsMap names text × (addresses ≡ addresses_of names text)
 AreAddresses folder false names addresses = addresses ≡ map (λ name. None) names
 
-abbrev pub name_of : Dump → List ℕ
-name_of dump = string_bytes dump.name
+abbrev pub dump_name : Dump → List ℕ
+dump_name dump = string_bytes dump.name
 
-abbrev pub bytes_of : Dump → List ℕ
-bytes_of dump = dump.bytes.items
+abbrev pub dump_bytes : Dump → List ℕ
+dump_bytes dump = dump.bytes.items
 
 -- The dumps of a folder: its files but the map, at most 512, ordered by name, each with its bytes and its address.
 pub record AreGathered (folder : Answers) (dumps : List Dump) : Type 0 where
   pub mapped : Bool
-  pub listing : IsListing folder (map name_of dumps) mapped
-  pub few : length dumps ≤ 512
-  pub files : AreRead folder (map name_of dumps) (map bytes_of dumps)
-  pub addresses : AreAddresses folder mapped (map name_of dumps) (map (λ dump. dump.address) dumps)
+  pub listing : IsListing folder (map dump_name dumps) mapped
+  pub few : length dumps ≤ most_dumps
+  pub files : AreRead folder (map dump_name dumps) (map dump_bytes dumps)
+  pub addresses : AreAddresses folder mapped (map dump_name dumps) (map (λ dump. dump.address) dumps)
 
 -- Why no dumps are gathered. Listing comes first, then the number of dumps, the files by their names, the map.
 pub record IsSmall (folder : Answers) (names : List (List ℕ)) (mapped : Bool) : Type 0 where
   pub listing : IsListing folder names mapped
-  pub few : length names ≤ 512
+  pub few : length names ≤ most_dumps
 
 -- more files than 512 are no map
 pub record IsTooLarge (folder : Answers) : Type 0 where
   pub names : List (List ℕ)
   pub mapped : Bool
   pub listing : IsListing folder names mapped
-  pub many : 512 < length names
+  pub many : most_dumps < length names
 
 -- the first file that can't be read, by name
 pub record StopsAtFile (folder : Answers) (names : List (List ℕ)) (name : List ℕ) : Type 0 where

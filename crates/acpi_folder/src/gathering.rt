@@ -6,12 +6,12 @@ ghost use Rattle.acpi_folder.specs.declared.gathering.GatherFault.TheVariants.{N
 ghost use Rattle.acpi_folder.specs.Map.{HoldsMap, addresses_of};
 ghost use Rattle.acpi_folder.specs.Folders.{Answers, IsWithin, Reads, IsListing, AreRead, AreAddresses};
 ghost use Rattle.acpi_folder.specs.Folders.{AreGathered, RefusesFolder, StopsBy, FailsAt, FailsAtMap};
-ghost use Rattle.acpi_folder.specs.Folders.{is_map as is_map_name, read_limit, name_of, bytes_of};
+ghost use Rattle.acpi_folder.specs.Folders.{is_map as is_map_name, read_limit};
 
 use crate::folder::{Folder, FolderFault};
 use crate::map::{MapFault, parse_map};
 use crate::quoted::Quoted;
-use acpi_tables::{Dump, MAX_DUMPS};
+use acpi_tables::{Dump, MAX_DUMP_BYTES, MAX_DUMPS};
 use std::alloc::{AllocError, AllocFailed, Global};
 use std::fmt;
 use thiserror::Error;
@@ -20,10 +20,10 @@ use thiserror::Error;
 const MAP_NAME: &str = "tables.map";
 
 /// The greatest number of bytes of a map.
-const MAX_MAP_BYTES: usize = 16_777_216;
+const MAX_MAP_BYTES: usize = MAX_DUMP_BYTES;
 
 /// One byte more of a file is read than a dump may have, so that a longer one is seen.
-const READ_LIMIT: u64 = 16_777_217;
+const READ_LIMIT: u64 = MAX_DUMP_BYTES as u64 + 1;
 
 /// Why the dumps of a folder can't be gathered. It displays as the program prints it.
 #[derive(Debug, Drop, Error)]
