@@ -3,21 +3,12 @@ ghost use Rattle.std.specs.Prelude.{◌≡◌};
 ghost use Rattle.acpi_tables.specs.Header.{HoldsTable};
 ghost use Rattle.acpidis.specs.Tables.{aml_of};
 
-use acpi_tables::Header;
-
-/// The length of a table's header, in bytes.
-const HEADER_LEN: usize = 36;
+use acpi_tables::{HEADER_LENGTH, table_of};
 
 /// The AML of a definition block: what follows its header, to the end of the table (ACPI 6.5, 5.2.11.1).
-pub fn aml_in(bytes: &[u8]) -> &[u8]
+pub(crate) fn aml_in(bytes: &[u8]) -> &[u8]
     requires table { HoldsTable bytes.now }
     ensures { result.now ≡ aml_of bytes.now }
 {
-    match Header::read(bytes) {
-        Err(_) => unreachable!(),
-        Ok(header) => {
-            let table = &bytes[..header.length as usize];
-            &table[HEADER_LEN..]
-        }
-    }
+    &table_of(bytes)[HEADER_LENGTH..]
 }

@@ -1,12 +1,11 @@
 //! The AML of the tables of a set.
 ghost use Rattle.std.specs.Prelude.{◌≡◌, ◌∷◌, IfOk};
 ghost use Rattle.aml_load.specs.Views.{codes_view, AreShort};
-ghost use Rattle.acpi_tables.specs.Header.{HoldsTable};
-ghost use Rattle.acpi_tables.specs.Order.{AreTables, bytes_of};
-ghost use Rattle.acpidis.specs.Tables.{aml_of, codes_in};
+ghost use Rattle.acpi_tables.specs.Order.{AreTables};
+ghost use Rattle.acpidis.specs.Tables.{codes_in};
 
 use crate::aml::aml_in;
-use acpi_tables::{Dump, Order};
+use acpi_tables::{Dump, Order, bytes_of};
 use aml_code::NoMemory;
 use std::alloc::Global;
 
@@ -18,17 +17,6 @@ pub(crate) fn indexes_of(alloc: Global, order: &Order) -> Result<Vec<usize>, NoM
     indexes.push(order.dsdt)?;
     indexes.extend_from_slice(order.ssdts.as_slice())?;
     Ok(indexes)
-}
-
-/// The AML of the dump at an index.
-fn code_at(dumps: &[Dump], index: usize) -> &[u8]
-    requires table { HoldsTable (bytes_of dumps.now index) }
-    ensures { result.now ≡ aml_of (bytes_of dumps.now index) }
-{
-    match dumps.get(index) {
-        None => unreachable!(),
-        Some(dump) => aml_in(dump.bytes.as_slice()),
-    }
 }
 
 /// The AML of each table.
@@ -43,7 +31,7 @@ pub(crate) fn codes_of<'a>(
 {
     let mut codes = Vec::new(alloc);
     for index in order {
-        codes.push(code_at(dumps, *index))?;
+        codes.push(aml_in(bytes_of(dumps, *index)))?;
     }
     Ok(codes)
 }
