@@ -1,5 +1,6 @@
 -- What is read of a folder, call by call.
-use Rattle.std.proofs.Common.{◌≡◌, ℕ, suc, ◌+◌, ◌<◌, ◌≤◌, true, false, not, List, [], ◌∷◌, ◌++◌, length, take, map, get_or, refl, ap, sym, ◌∙◌, subst, arith, cond, filter, string_bytes, string_cmp, IsPermutation, IsSorted, String, Vec, Global, Option, None, Bool, ◌⊎◌, inl, inr, zip}
+use Rattle.std.proofs.Common.{◌≡◌, ℕ, suc, ◌+◌, ◌<◌, ◌≤◌, true, false, not, List, [], ◌∷◌, ◌++◌, length, take, map, get_or, refl, ap, sym, ◌∙◌, subst, arith}
+use Rattle.std.proofs.Common.{cond, filter, string_bytes, string_cmp, IsPermutation, IsSorted, String, Vec, Global, Option, None, Bool, ◌⊎◌, inl, inr, zip}
 use Rattle.std.proofs.lemmas.List.{take_more, get_or-map, length-map, map-append}
 use Rattle.std.proofs.lemmas.List.Sorted.{IsPermutation-map}
 use Rattle.std.specs.List.{list_any}
@@ -13,7 +14,8 @@ use Rattle.acpi_folder.specs.declared.gathering.GatherFault.TheVariants as fault
 use Rattle.acpi_folder.specs.declared.map.MapFault.{MapFault}
 use Rattle.acpi_folder.specs.declared.map.MapFault.TheVariants as map_faults
 use Rattle.acpi_folder.specs.Map.{RefusesMap, address_in, entry_of, lines_of}
-use Rattle.acpi_folder.specs.Folders.{Answers, IsWithin, Reads, AreRead, IsListing, IsMapText, AreAddresses, AreGathered, IsSmall, IsTooLarge, StopsAtFile, RefusesFolder, FailsAt, StopsBy, FailsAtMap, is_map, map_name, read_limit, dump_name, dump_bytes}
+use Rattle.acpi_folder.specs.Folders.{Answers, IsWithin, Reads, AreRead, IsListing, IsMapText, AreAddresses, AreGathered, IsSmall, IsTooLarge, StopsAtFile}
+use Rattle.acpi_folder.specs.Folders.{RefusesFolder, FailsAt, StopsBy, FailsAtMap, is_map, map_name, read_limit, dump_name, dump_bytes}
 use Rattle.acpi_folder.proofs.Entries.{list_any-map}
 
 pub within_itself : (folder : Answers) → IsWithin folder folder
@@ -65,13 +67,15 @@ pub record IsReadTo (first now : Answers) (names files : List (List ℕ)) (n : �
   pub within : IsWithin now first
   pub read : AreRead first (take n names) files
 
-name_at : (names : List (String Global)) (n : ℕ) (name : String Global) → n < length names → name ≡ get_or names n name → string_bytes name ≡ get_or (names_of names) n []
+name_at : (names : List (String Global)) (n : ℕ) (name : String Global) → n < length names → name ≡ get_or names n name
+    → string_bytes name ≡ get_or (names_of names) n []
 name_at names n name inside is = ap string_bytes is ∙ sym (get_or-map string_bytes names n name [] inside)
 
 named_inside : (names : List (String Global)) (n : ℕ) → n < length names → n < length (names_of names)
 named_inside names n inside = omega (arith, length-map names string_bytes)
 
-pub turn : (first now later : Answers) (names : List (String Global)) (files grown : List (Vec ℕ Global)) (n : ℕ) (name : String Global) (text : List ℕ) (file : Vec ℕ Global)
+pub turn : (first now later : Answers) (names : List (String Global)) (files grown : List (Vec ℕ Global)) (n : ℕ) (name : String Global) (text : List ℕ)
+    (file : Vec ℕ Global)
     → IsReadTo first now (names_of names) (files_of files) n → n < length names → name ≡ get_or names n name → text ≡ string_bytes name
     → Reads now text read_limit file.items → IsWithin later now → grown ≡ files ++ file ∷ []
     → IsReadTo first later (names_of names) (files_of grown) (n + 1)
@@ -81,8 +85,10 @@ turn first now later names files grown n name text file before inside is same re
     let R : List (List ℕ) → Type 0 = λ (all : List (List ℕ)). AreRead first (take (n + 1) (names_of names)) all in
     let S : List (List ℕ) → Type 0 = λ (all : List (List ℕ)). AreRead first all (files_of files ++ file.items ∷ []) in
     let here : text ≡ get_or (names_of names) n [] = same ∙ name_at names n name inside is in
-    let one : Reads first (get_or (names_of names) n []) read_limit file.items = read_before now first (get_or (names_of names) n []) read_limit file.items before.within (subst Q here read) in
-    let more : take (n + 1) (names_of names) ≡ take n (names_of names) ++ get_or (names_of names) n [] ∷ [] = take_more (names_of names) n [] (named_inside names n inside) in
+    let one : Reads first (get_or (names_of names) n []) read_limit file.items =
+    read_before now first (get_or (names_of names) n []) read_limit file.items before.within (subst Q here read) in
+    let more : take (n + 1) (names_of names) ≡ take n (names_of names) ++ get_or (names_of names) n [] ∷ [] =
+    take_more (names_of names) n [] (named_inside names n inside) in
     let all : AreRead first (take n (names_of names) ++ get_or (names_of names) n [] ∷ []) (files_of files ++ file.items ∷ []) =
     read_more first (take n (names_of names)) (files_of files) (get_or (names_of names) n []) file.items before.read one in
     subst P (sym pushed) (record {
@@ -107,7 +113,8 @@ stops first now names files n name text faults.NoMemory before inside is same fa
 
 -- ---- the listing
 
-filter_named : {X : Type 0} (bytes_of : X → List ℕ) (test : List ℕ → Bool) (names : List X) → filter test (map bytes_of names) ≡ map bytes_of (filter (λ name. test (bytes_of name)) names)
+filter_named : {X : Type 0} (bytes_of : X → List ℕ) (test : List ℕ → Bool) (names : List X)
+    → filter test (map bytes_of names) ≡ map bytes_of (filter (λ name. test (bytes_of name)) names)
 filter_named bytes_of test [] = refl
 filter_named bytes_of test (name ∷ names) =
     elim (test (bytes_of name)) as (λ b. cond b (bytes_of name ∷ filter test (map bytes_of names)) (filter test (map bytes_of names))
@@ -140,14 +147,17 @@ listing folder listed dumps mapped given all sorted any =
 
 -- ---- what stops the gathering
 
-pub too_many : (folder : Answers) (names : List (String Global)) (mapped : Bool) → IsListing folder (names_of names) mapped → 512 < length names → IsTooLarge folder
+pub too_many : (folder : Answers) (names : List (String Global)) (mapped : Bool) → IsListing folder (names_of names) mapped → 512 < length names
+    → IsTooLarge folder
 too_many folder names mapped listing many =
     record { names = names_of names; mapped = mapped; listing = listing; many = omega (arith, length-map names string_bytes) }
 
-small : (folder : Answers) (names : List (String Global)) (mapped : Bool) → IsListing folder (names_of names) mapped → length names ≤ most_dumps → IsSmall folder (names_of names) mapped
+small : (folder : Answers) (names : List (String Global)) (mapped : Bool) → IsListing folder (names_of names) mapped → length names ≤ most_dumps
+    → IsSmall folder (names_of names) mapped
 small folder names mapped listing few = record { listing = listing; few = omega (arith, length-map names string_bytes) }
 
-stop_before : (later earlier : Answers) (names : List (List ℕ)) (name : List ℕ) → IsWithin later earlier → StopsAtFile later names name → StopsAtFile earlier names name
+stop_before : (later earlier : Answers) (names : List (List ℕ)) (name : List ℕ) → IsWithin later earlier → StopsAtFile later names name
+    → StopsAtFile earlier names name
 stop_before later earlier names name within stop = record {
   index = stop.index;
   inside = stop.inside;
@@ -169,7 +179,8 @@ file_refuses first now names mapped (faults.Map fault) listing few within stop =
 file_refuses first now names mapped faults.TooManyTables listing few within stop = absurd stop
 file_refuses first now names mapped faults.NoMemory listing few within stop = tt
 
-cause_before : (later earlier : Answers) → IsWithin later earlier → later.unread map_name ⊎ ((text : List ℕ) × Reads later map_name read_limit text × (most_bytes < length text))
+cause_before : (later earlier : Answers) → IsWithin later earlier → later.unread map_name
+    ⊎ ((text : List ℕ) × Reads later map_name read_limit text × (most_bytes < length text))
     → earlier.unread map_name ⊎ ((text : List ℕ) × Reads earlier map_name read_limit text × (most_bytes < length text))
 cause_before later earlier within (inl unread) = inl (within.unread map_name unread)
 cause_before later earlier within (inr long) = inr (long.0, read_before later earlier map_name read_limit long.0 within long.1, long.2)
@@ -202,7 +213,8 @@ nothing_named [] = refl
 nothing_named (name ∷ names) = ap (λ (rest : List (Option ℕ)). None ∷ rest) (nothing_named names)
 
 -- a map that is refused for another cause than memory
-pub map_refused : (folder : Answers) (names : List (List ℕ)) (text seen : List ℕ) (fault : MapFault) → Reads folder map_name read_limit text → length text ≤ most_bytes
+pub map_refused : (folder : Answers) (names : List (List ℕ)) (text seen : List ℕ) (fault : MapFault) → Reads folder map_name read_limit text
+    → length text ≤ most_bytes
     → seen ≡ text → (fault ≡ map_faults.NoMemory) ⊎ RefusesMap names seen fault → (fault ≡ map_faults.NoMemory → ⊥)
     → (t : List ℕ) × IsMapText folder t × RefusesMap names t fault
 map_refused folder names text seen fault read short same (inl memory) other = absurd (other memory)
@@ -211,7 +223,8 @@ map_refused folder names text seen fault read short same (inr refused) other =
     (text, record { read = read; short = short }, subst P same refused)
 
 -- no map, no address
-pub no_map : (folder : Answers) (mapped : Bool) (names : List (String Global)) (addresses : List (Option ℕ)) → mapped ≡ false → addresses ≡ map (λ name. None) names
+pub no_map : (folder : Answers) (mapped : Bool) (names : List (String Global)) (addresses : List (Option ℕ)) → mapped ≡ false
+    → addresses ≡ map (λ name. None) names
     → AreAddresses folder mapped (names_of names) addresses
 no_map folder mapped names addresses unmapped none =
     let P : Bool → Type 0 = λ (b : Bool). AreAddresses folder b (names_of names) addresses in
@@ -224,7 +237,8 @@ map_refuses first middle now names files mapped fault listing few begun read wit
     let P : GatherFault → Type 0 = λ (f : GatherFault). RefusesFolder first f in subst P (sym memory) tt
 map_refuses first middle now names files mapped fault listing few begun read within (inr failed) =
     let P : Bool → Type 0 = λ (b : Bool). IsListing first (names_of names) b in
-    map_fails first now names files fault (subst P failed.0 listing) few (reads_before middle first (names_of names) files begun read) (within_both now middle first within begun) failed.1
+    map_fails first now names files fault (subst P failed.0 listing) few (reads_before middle first (names_of names) files begun read)
+    (within_both now middle first within begun) failed.1
 
 -- ---- what is gathered
 
@@ -248,7 +262,8 @@ record AreParts (names : List (String Global)) (files : List (Vec ℕ Global)) (
   pub filed : map dump_bytes dumps ≡ files_of files
   pub placed : map (λ dump. dump.address) dumps ≡ addresses
 
-parts : (names : List (String Global)) (files : List (Vec ℕ Global)) (addresses : List (Option ℕ)) → length files ≡ length names → length addresses ≡ length names
+parts : (names : List (String Global)) (files : List (Vec ℕ Global)) (addresses : List (Option ℕ)) → length files ≡ length names
+    → length addresses ≡ length names
     → AreParts names files addresses (made_of names files addresses)
 parts [] [] [] same_files same_addresses = record { named = refl; filed = refl; placed = refl }
 parts [] [] (address ∷ addresses) same_files same_addresses = absurd (omega arith)
@@ -263,12 +278,15 @@ parts (name ∷ names) (file ∷ files) (address ∷ addresses) same_files same_
       placed = ap (λ (all : List (Option ℕ)). address ∷ all) rest.placed;
     }
 
-pub gathered : (first middle now : Answers) (names : List (String Global)) (files : List (Vec ℕ Global)) (addresses : List (Option ℕ)) (mapped : Bool) (dumps : List Dump)
-    → IsListing first (names_of names) mapped → length names ≤ most_dumps → IsWithin middle first → AreRead middle (names_of names) (files_of files) → IsWithin now middle
+pub gathered : (first middle now : Answers) (names : List (String Global)) (files : List (Vec ℕ Global)) (addresses : List (Option ℕ)) (mapped : Bool)
+    (dumps : List Dump)
+    → IsListing first (names_of names) mapped → length names ≤ most_dumps → IsWithin middle first → AreRead middle (names_of names) (files_of files)
+    → IsWithin now middle
     → AreAddresses now mapped (names_of names) addresses → dumps ≡ made_of names files addresses → AreGathered first dumps
 gathered first middle now names files addresses mapped dumps listing few begun read within found made =
     let long : length (names_of names) ≡ length names = length-map names string_bytes in
-    let same_files : length files ≡ length names = sym (length-map files (λ (v : Vec ℕ Global). v.items)) ∙ read_len middle (names_of names) (files_of files) read ∙ long in
+    let same_files : length files ≡ length names = sym (length-map files (λ (v : Vec ℕ Global). v.items))
+    ∙ read_len middle (names_of names) (files_of files) read ∙ long in
     let same_addresses : length addresses ≡ length names = addresses_len now mapped (names_of names) addresses found ∙ long in
     let all : AreParts names files addresses (made_of names files addresses) = parts names files addresses same_files same_addresses in
     let P : List Dump → Type 0 = λ (some : List Dump). AreGathered first some in

@@ -31,13 +31,8 @@ is_after_if _ = false
 
 -- only the position behind an If takes an Else
 taken_else : (p : Position) → takes p places.Else ≡ true → is_after_if p ≡ true
-taken_else positions.ModuleTerm e = absurd cc
-taken_else positions.GuardTerm e = absurd cc
-taken_else positions.BodyTerm e = absurd cc
 taken_else positions.AfterIf e = refl
-taken_else positions.Argument e = absurd cc
-taken_else positions.Target e = absurd cc
-taken_else positions.Data e = absurd cc
+taken_else _ e = absurd cc
 
 -- ---- the rows of If and Else
 
@@ -47,15 +42,7 @@ is_else_place _ = false
 
 only_else : (p : Place) → is_else_place p ≡ true → p ≡ places.Else
 only_else places.Else e = refl
-only_else places.Data e = absurd cc
-only_else places.Target e = absurd cc
-only_else places.Argument e = absurd cc
-only_else places.Statement e = absurd cc
-only_else places.If e = absurd cc
-only_else places.Declaration e = absurd cc
-only_else places.External e = absurd cc
-only_else places.Scope e = absurd cc
-only_else places.Method e = absurd cc
+only_else _ e = absurd cc
 
 if_row : Row → Bool
 if_row r = cond (is_if_place r.place) (r.opcode == 0xA0) true
@@ -96,13 +83,9 @@ behind_by t true is e = if_is t is
 behind_by t false is e = absurd cc
 
 behind : (p : Position) (t : Tree) → is_after_if (next_position p t) ≡ true → has_opcode 0xA0 t ≡ true
-behind positions.ModuleTerm t e = absurd cc
-behind positions.GuardTerm t e = absurd cc
 behind positions.BodyTerm t e = behind_by t (is_if t) refl e
 behind positions.AfterIf t e = behind_by t (is_if t) refl e
-behind positions.Argument t e = absurd cc
-behind positions.Target t e = absurd cc
-behind positions.Data t e = absurd cc
+behind _ t e = absurd cc
 
 -- ---- the terms of a list, and all that is inside them
 

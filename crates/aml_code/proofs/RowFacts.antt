@@ -71,11 +71,9 @@ not_true false e = refl
 
 opcode_by : (o : ℕ) (b : Bool) → ltb o 256 ≡ b → cond b (not (o == 0x5B)) (nat_le 0x5B00 o && ltb o 0x5C00) ≡ true → IsOpcode o
 opcode_by o true small e = inl (ltb-true _ _ small, eqb-false _ _ (not_true _ e))
-opcode_by o false small e = inr (
-  let low : nat_le 0x5B00 o ≡ true = and_left (nat_le 0x5B00 o) (ltb o 0x5C00) e in
-      grind (arith, nat_tests, low),
-  ltb-true _ _ (and_right (nat_le 0x5B00 o) (ltb o 0x5C00) e),
-)
+opcode_by o false small e =
+    let low : nat_le 0x5B00 o ≡ true = and_left (nat_le 0x5B00 o) (ltb o 0x5C00) e in
+    inr (grind (arith, nat_tests, low), ltb-true _ _ (and_right (nat_le 0x5B00 o) (ltb o 0x5C00) e))
 
 pub row_is_opcode : (o : ℕ) (r : Row) → row_of o ≡ Some r → IsOpcode o
 unfolding opcode_row is_opcode
@@ -133,16 +131,8 @@ all_bodies = refl
 
 method_is : (p : Place) → is_method p ≡ true → p ≡ places.Method
 unfolding is_method
-method_is places.Data e = absurd cc
-method_is places.Target e = absurd cc
-method_is places.Argument e = absurd cc
-method_is places.Statement e = absurd cc
-method_is places.If e = absurd cc
-method_is places.Else e = absurd cc
-method_is places.Declaration e = absurd cc
-method_is places.External e = absurd cc
-method_is places.Scope e = absurd cc
 method_is places.Method e = refl
+method_is _ e = absurd cc
 
 body_by : (t : TailKind) (b : Bool) → t ≡ tails.Body → cond (is_body t) b true ≡ true → b ≡ true
 unfolding is_body
@@ -155,35 +145,13 @@ body_place o r e h = method_is r.place (body_by r.tail (is_method r.place) h (ro
 -- ---- an If has one part, a term, and a package length; the row of 00 has neither
 
 one_term : List PartKind → Bool
-one_term [] = false
 one_term (kinds.Term ∷ []) = true
-one_term (kinds.Term ∷ k ∷ ks) = false
-one_term (kinds.Target ∷ ks) = false
-one_term (kinds.Name ∷ ks) = false
-one_term (kinds.ScopeName ∷ ks) = false
-one_term (kinds.Data ∷ ks) = false
-one_term (kinds.Byte ∷ ks) = false
-one_term (kinds.Count ∷ ks) = false
-one_term (kinds.Word ∷ ks) = false
-one_term (kinds.Dword ∷ ks) = false
-one_term (kinds.Qword ∷ ks) = false
-one_term (kinds.Text ∷ ks) = false
+one_term _ = false
 
 one_term_is : (ks : List PartKind) → one_term ks ≡ true → ks ≡ kinds.Term ∷ []
 unfolding one_term
-one_term_is [] h = absurd cc
 one_term_is (kinds.Term ∷ []) h = refl
-one_term_is (kinds.Term ∷ k ∷ ks) h = absurd cc
-one_term_is (kinds.Target ∷ ks) h = absurd cc
-one_term_is (kinds.Name ∷ ks) h = absurd cc
-one_term_is (kinds.ScopeName ∷ ks) h = absurd cc
-one_term_is (kinds.Data ∷ ks) h = absurd cc
-one_term_is (kinds.Byte ∷ ks) h = absurd cc
-one_term_is (kinds.Count ∷ ks) h = absurd cc
-one_term_is (kinds.Word ∷ ks) h = absurd cc
-one_term_is (kinds.Dword ∷ ks) h = absurd cc
-one_term_is (kinds.Qword ∷ ks) h = absurd cc
-one_term_is (kinds.Text ∷ ks) h = absurd cc
+one_term_is _ h = absurd cc
 
 if_row : Row → Bool
 if_row r = cond (is_if_place r.place) (one_term r.parts && has_length r.tail) true
@@ -208,21 +176,7 @@ if_has_length o r e h = and_right (one_term r.parts) (has_length r.tail) (if_pas
 
 pub guard_place : (p : Position) (place : Place) → is_guard p place ≡ true → is_if_place place ≡ true
 guard_place positions.ModuleTerm places.If h = refl
-guard_place positions.ModuleTerm places.Data h = absurd cc
-guard_place positions.ModuleTerm places.Target h = absurd cc
-guard_place positions.ModuleTerm places.Argument h = absurd cc
-guard_place positions.ModuleTerm places.Statement h = absurd cc
-guard_place positions.ModuleTerm places.Else h = absurd cc
-guard_place positions.ModuleTerm places.Declaration h = absurd cc
-guard_place positions.ModuleTerm places.External h = absurd cc
-guard_place positions.ModuleTerm places.Scope h = absurd cc
-guard_place positions.ModuleTerm places.Method h = absurd cc
-guard_place positions.GuardTerm place h = absurd cc
-guard_place positions.BodyTerm place h = absurd cc
-guard_place positions.AfterIf place h = absurd cc
-guard_place positions.Argument place h = absurd cc
-guard_place positions.Target place h = absurd cc
-guard_place positions.Data place h = absurd cc
+guard_place _ place h = absurd cc
 
 no_parts_kind : List PartKind → Bool
 no_parts_kind [] = true
@@ -244,10 +198,9 @@ pub zero_bare : (r : Row) → row_of 0x00 ≡ Some r → (r.parts ≡ []) × (ha
 unfolding zero_row
 zero_bare r e =
     let is : (r.opcode == 0x00) ≡ true = eq-eqb _ _ (row_opcode 0x00 r e) in
-    let both = where_true (r.opcode == 0x00) (no_parts_kind r.parts && not (has_length r.tail)) is (row_passes zero_row all_zeros 0x00 r e) in (
-      no_parts_is r.parts (and_left (no_parts_kind r.parts) (not (has_length r.tail)) both),
-      not_true (has_length r.tail) (and_right (no_parts_kind r.parts) (not (has_length r.tail)) both),
-    )
+    let both = where_true (r.opcode == 0x00) (no_parts_kind r.parts && not (has_length r.tail)) is (row_passes zero_row all_zeros 0x00 r e) in
+    let none = and_left (no_parts_kind r.parts) (not (has_length r.tail)) both in
+    (no_parts_is r.parts none, not_true (has_length r.tail) (and_right (no_parts_kind r.parts) (not (has_length r.tail)) both))
 
 -- ---- the bytes of an opcode
 

@@ -209,8 +209,8 @@ role_adds roles.Method k t l scope ps x Inside m fit has h =
 role_adds roles.Scope k t l scope ps x Inside m fit has h = has.inside fit l h.0 m h.2
 role_adds roles.Alias k t l scope ps x Inside m fit has h =
     same_adds l m (tail_spans t x) (ap spans_so_far h.2.2 ∙ declared_same l h.2.0 (kinds.Alias (target_of l.entries h.0))) (has.flat fit)
-role_adds roles.External k t l scope ps x Inside m fit has h = same_adds l m (tail_spans t x) (ap spans_so_far h.2 ∙ external_same l h.0 (byte_of ps))
-    (has.flat fit)
+role_adds roles.External k t l scope ps x Inside m fit has h =
+    same_adds l m (tail_spans t x) (ap spans_so_far h.2 ∙ external_same l h.0 (byte_of ps)) (has.flat fit)
 role_adds roles.Fields k t l scope ps x Inside m fit has h = same_adds l m (tail_spans t x) (fields_same l scope (field_names x) m h) (has.flat fit)
 role_adds roles.Guard k t l scope ps x Inside m fit has h = has.inside fit l scope m h
 role_adds roles.Other k t l scope ps x Inside m fit has h = same_adds l m (tail_spans t x) (ap spans_so_far h) (has.flat fit)
@@ -238,8 +238,8 @@ mutual
       → takes_names p ≡ false → IsLawful s levels p ls x → Declares t l scope x m → Adds l m (tree_spans t x)
   tree_adds s levels p ls t l scope nothing m h law d = same_adds l m [] (ap spans_so_far d) refl
   tree_adds s zero p ls t l scope (named n xs) m h law d = absurd law
-  tree_adds s (suc levels) p ls t l scope (named n xs) m h law d = same_adds l m (all_spans t xs) (ap spans_so_far d)
-      (all_none s levels positions.Argument ls t xs refl law.3)
+  tree_adds s (suc levels) p ls t l scope (named n xs) m h law d =
+      same_adds l m (all_spans t xs) (ap spans_so_far d) (all_none s levels positions.Argument ls t xs refl law.3)
   tree_adds s zero p ls t l scope (op o w ps r) m h law d = absurd law
   tree_adds s (suc levels) p ls t l scope (op o w ps r) m h law d =
       let k = (law.row).tail in
@@ -257,13 +257,13 @@ mutual
   inside_adds : (s : Setting) (levels : ℕ) (p : Position) (k : TailKind) (ls : PathSet) (t : ℕ) (l : Listed) (scope : List Seg) (r : Tail) (m : Listed)
       → (k ≡ tails.Terms → takes_names p ≡ false) → (k ≡ tails.Body → ⊥) → IsTail s levels p k ls r → DeclareInside t l scope r m → Adds l m (tail_spans t r)
   inside_adds s levels p k ls t l scope empty m h other law d = same_adds l m [] (ap spans_so_far d) refl
-  inside_adds s levels p k ls t l scope (terms xs) m h other law d = let e = terms_tail s levels p k ls xs law in
-      all_add s levels p ls t l scope xs m (h e.0) e.1 d
+  inside_adds s levels p k ls t l scope (terms xs) m h other law d =
+      let e = terms_tail s levels p k ls xs law in all_add s levels p ls t l scope xs m (h e.0) e.1 d
   inside_adds s levels p k ls t l scope (bytes bs) m h other law d = same_adds l m [] (ap spans_so_far d) refl
-  inside_adds s levels p k ls t l scope (elements xs) m h other law d = same_adds l m (all_spans t xs) (ap spans_so_far d)
-      (elements_none s levels p k ls t xs law)
-  inside_adds s levels p k ls t l scope (fields us) m h other law d = same_adds l m (fields_spans t us) (ap spans_so_far d)
-      (fields_tail_none s levels p k ls t us law)
+  inside_adds s levels p k ls t l scope (elements xs) m h other law d =
+      same_adds l m (all_spans t xs) (ap spans_so_far d) (elements_none s levels p k ls t xs law)
+  inside_adds s levels p k ls t l scope (fields us) m h other law d =
+      same_adds l m (fields_spans t us) (ap spans_so_far d) (fields_tail_none s levels p k ls t us law)
   inside_adds s levels p k ls t l scope (body start len) m h other law d = absurd (other (body_tail s levels p k ls start len law))
 
   pub all_add : (s : Setting) (levels : ℕ) (p : Position) (ls : PathSet) (t : ℕ) (l : Listed) (scope : List Seg) (xs : Trees) (m : Listed)
@@ -299,5 +299,5 @@ as_many gs tables trees m h = sym (length-map (methods_of m.entries) method_span
 -- the method with a number is that of the body with this number
 pub body_of_number : (gs : Givens) (tables : List (List ℕ)) (trees : List Trees) (m : Listed) (i : ℕ)
     → IsLoad gs tables trees m → slice_get (tables_spans 0 trees) i ≡ option_map method_span (slice_get (methods_of m.entries) i)
-body_of_number gs tables trees m i h = ap (λ spans. slice_get spans i) (sym (in_text_order gs tables trees m h))
-    ∙ slice_get-map method_span (methods_of m.entries) i
+body_of_number gs tables trees m i h =
+    ap (λ spans. slice_get spans i) (sym (in_text_order gs tables trees m h)) ∙ slice_get-map method_span (methods_of m.entries) i
