@@ -11,7 +11,6 @@ OPTION, GIVEN = "--externals", "given/externals.txt"
 # Names that `segment` gives no number to, below a million.
 RUN, NOTHING = b"_RUN", b"ZZZZ"
 LEAF, NEAR, FRIEND, OTHER = b"LEAF", b"NEAR", b"FRND", b"OTHR"
-NAMED_FROM_ONE = 16
 DEEPEST = 510 * SEGMENTS
 
 
@@ -116,13 +115,8 @@ def upward_with_locals(count, depth, friends=b""):
 
 
 def others(count):
-    """Externals in so many parents, one in each. Sixteen at a time are named from one scope."""
-    code = b""
-    for start in range(0, count, NAMED_FROM_ONE):
-        ups = range(1, min(NAMED_FROM_ONE, count - start) + 1)
-        externals = b"".join(b"\x15" + b"^" * up + OTHER + b"\0\0" for up in ups)
-        code += package(b"\x10", b"^" * start + b"\0" + externals) if start else externals
-    return code
+    """Externals in so many parents, one in each."""
+    return b"".join(b"\x15" + b"^" * up + OTHER + b"\0\0" for up in range(1, count + 1))
 
 
 def upward_crowded(count, depth):
