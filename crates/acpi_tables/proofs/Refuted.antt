@@ -1,8 +1,9 @@
 -- Where a refusal stands there is no order.
-use Rattle.std.proofs.Common.{◌≡◌, ℕ, ◌<◌, ◌≤◌, inl, inr, Bool, true, false, List, ◌∷◌, length, codes, Option, Some, None, Result, Ok, Err, IfOk, OnOk}
-use Rattle.std.proofs.Common.{MatchBool, slice_get, find, sym, ap, subst, ◌∙◌, arith}
+use Rattle.std.proofs.Common.{◌≡◌, ℕ, ◌<◌, ◌≤◌, inl, inr, Bool, true, false, List, ◌∷◌, length, codes, Option, Some, None, Result, IfOk, MatchBool, slice_get}
+use Rattle.std.proofs.Common.{find, sym, ap, subst, ◌∙◌, arith}
 use Rattle.std.proofs.lemmas.Bool.{true≢false}
 use Rattle.std.proofs.lemmas.Option.{same_Some}
+use Rattle.std.proofs.lemmas.Result.{IfOk-weaker}
 use Rattle.acpi_tables.specs.declared.dump.Dump.{Dump}
 use Rattle.acpi_tables.specs.declared.dump.Content.TheVariants.{Xsdt, Rsdt, Fadt, Madt, Other}
 use Rattle.acpi_tables.specs.declared.dump.Kind.{Kind}
@@ -13,8 +14,8 @@ use Rattle.acpi_tables.specs.declared.faults.TableFault.{TableFault}
 use Rattle.acpi_tables.specs.Header.{table_of}
 use Rattle.acpi_tables.specs.Rsdp.{rsdp_of}
 use Rattle.acpi_tables.specs.Dumps.{kind_of, HoldsContent, HoldsDump, RefusesContent, RefusesDump}
-use Rattle.acpi_tables.specs.Order.{AreTables, bytes_of, has_signature, signed_at, list_of, listed_by, dsdt_address, is_addressed, IsNamed, IsChained, IsOrder}
-use Rattle.acpi_tables.specs.Order.{RefusesAll, RefusesPlace, RefusesOrder, RefusesBytes, Refuses}
+use Rattle.acpi_tables.specs.Order.{AreTables, AreTaken, most_dumps, bytes_of, has_signature, signed_at, list_of, listed_by, dsdt_address, is_addressed}
+use Rattle.acpi_tables.specs.Order.{IsNamed, IsChained, IsOrder, RefusesOrder, RefusesBytes, Refuses}
 use Rattle.acpi_tables.proofs.Cuts.{whole_not_refused}
 use Rattle.acpi_tables.specs.declared.order.Order.{Order}
 use Rattle.acpi_tables.proofs.Blocks.{are_tables}
@@ -46,7 +47,7 @@ module _ (dumps : List Dump) (any_sum : Bool) (dsdt : ℕ) (ssdts : List ℕ) (o
   named : is_addressed dumps ≡ false → IsNamed dumps dsdt ssdts
   named e = subst (λ b. MatchBool b (IsChained dumps dsdt ssdts) (IsNamed dumps dsdt ssdts)) e order.blocks
 
-  no_dsdt : RefusesAll dumps NoDsdt → ⊥
+  no_dsdt : RefusesOrder dumps None NoDsdt → ⊥
   no_dsdt (inl none) = cc ((named none.0).only, none.1)
   no_dsdt (inr none) =
       let chain = chained none.0 in
@@ -54,62 +55,47 @@ module _ (dumps : List Dump) (any_sum : Bool) (dsdt : ℕ) (ssdts : List ℕ) (o
       let same = fadt_unique dumps _ _ _ _ _ _ lacks.to_fadt chain.to_fadt in
       cc (lacks.none, ap (λ n. signed_at dumps (codes "DSDT") (dsdt_address (table_of (bytes_of dumps n)))) same.1, chain.there)
 
-  all_taken : (bad : Bad) → ¬ RefusesAll dumps bad
-  all_taken RootMissing refused = cc ((chained refused.0).to_fadt.to_list.first, refused.1)
-  all_taken NoDsdt refused = no_dsdt refused
-  all_taken _ refused = refused
-
-  place_taken : (index : ℕ) (bad : Bad) → ¬ RefusesPlace dumps index bad
-  place_taken index RootMissing refused =
+  order_taken : (dump : Option ℕ) (bad : Bad) → ¬ RefusesOrder dumps dump bad
+  order_taken None RootMissing refused = cc ((chained refused.0).to_fadt.to_list.first, refused.1)
+  order_taken (Some index) RootMissing refused =
       let to_list = (chained refused.0).to_fadt.to_list in
       let root = same_Some index _ (sym refused.1 ∙ to_list.first) in
       cc (refused.2, ap (λ n. list_of dumps (rsdp_of (bytes_of dumps n))) root, to_list.there)
-  place_taken index FadtMissing refused =
+  order_taken (Some index) FadtMissing refused =
       let to_fadt = (chained refused.0).to_fadt in
       let lacks = refused.1 in
       let list = (list_unique dumps _ _ _ _ lacks.to_list to_fadt.to_list).1 in
       cc (lacks.none, ap (λ n. find (has_signature dumps (codes "FACP")) (listed_by dumps n)) list, to_fadt.first)
-  place_taken index TwoDsdts refused = cc (ap (λ l. slice_get l 1) (named refused.0).only, refused.1)
-  place_taken index _ refused = refused
-
-  order_taken : (dump : Option ℕ) (bad : Bad) → ¬ RefusesOrder dumps dump bad
-  order_taken None bad refused = all_taken bad refused
-  order_taken (Some index) bad refused = place_taken index bad refused
+  order_taken None NoDsdt refused = no_dsdt refused
+  order_taken (Some index) TwoDsdts refused = cc (ap (λ l. slice_get l 1) (named refused.0).only, refused.1)
+  order_taken _ _ refused = refused
 
   pub nothing_refused : (fault : TableFault) → ¬ Refuses dumps any_sum fault
   nothing_refused fault (inl many) = absurd (omega (arith, order.few, many.2))
   nothing_refused fault (inr (few, inl refused)) = bytes_taken fault refused
   nothing_refused fault (inr (few, inr refused)) = order_taken fault.dump fault.bad refused.1
 
--- What both ways to an order give.
-order_of : (dumps : List Dump) (any_sum b : Bool) (dsdt : ℕ) (ssdts : List ℕ) → length dumps ≤ 512
-    → ((index : ℕ) → index < length dumps → HoldsDump any_sum (bytes_of dumps index)) → is_addressed dumps ≡ b
-    → MatchBool b (IsChained dumps dsdt ssdts) (IsNamed dumps dsdt ssdts) → IsOrder dumps any_sum dsdt ssdts
-order_of dumps any_sum b dsdt ssdts few each e blocks =
-    record { few = few; each = each; blocks = subst (λ b. MatchBool b (IsChained dumps dsdt ssdts) (IsNamed dumps dsdt ssdts)) (sym e) blocks }
-
-module _ (dumps : List Dump) (any_sum b : Bool) (few : length dumps ≤ 512)
-    (each : (index : ℕ) → index < length dumps → HoldsDump any_sum (bytes_of dumps index)) (addressed : is_addressed dumps ≡ b) where
+-- What an order of taken dumps gives.
+module _ (dumps : List Dump) (any_sum : Bool) (few : length dumps ≤ most_dumps) (each : AreTaken dumps any_sum) (r : Result Order TableFault) where
   abbrev Blocks : Order → Type 0
-  Blocks order = MatchBool b (IsChained dumps order.dsdt order.ssdts.items) (IsNamed dumps order.dsdt order.ssdts.items)
+  Blocks order = MatchBool (is_addressed dumps) (IsChained dumps order.dsdt order.ssdts.items) (IsNamed dumps order.dsdt order.ssdts.items)
 
-  pub found_order : (r : Result Order TableFault) → IfOk r Blocks → IfOk r (λ order. IsOrder dumps any_sum order.dsdt order.ssdts.items)
-  found_order (Ok order) blocks = order_of dumps any_sum b _ _ few each addressed blocks
-  found_order (Err fault) blocks = tt
+  is_order : (order : Order) → Blocks order → IsOrder dumps any_sum order.dsdt order.ssdts.items
+  is_order order blocks = record { few = few; each = each; blocks = blocks }
 
-  pub found_only : (r : Result Order TableFault) → IfOk r Blocks
+  pub found_order : IfOk r Blocks → IfOk r (λ order. IsOrder dumps any_sum order.dsdt order.ssdts.items)
+  found_order = IfOk-weaker r _ _ is_order
+
+  pub found_only : IfOk r Blocks
       → IfOk r (λ order. (dsdt : ℕ) (ssdts : List ℕ) → IsOrder dumps any_sum dsdt ssdts → (dsdt ≡ order.dsdt) × (ssdts ≡ order.ssdts.items))
-  found_only (Ok order) blocks = λ dsdt ssdts other.
-      order_unique dumps any_sum dsdt order.dsdt ssdts order.ssdts.items other (order_of dumps any_sum b _ _ few each addressed blocks)
-  found_only (Err fault) blocks = tt
+  found_only =
+      IfOk-weaker r _ _ (λ order blocks dsdt ssdts other. order_unique dumps any_sum dsdt order.dsdt ssdts order.ssdts.items other (is_order order blocks))
 
-  pub found_sound : (r : Result Order TableFault) → IfOk r Blocks → OnOk r ((fault : TableFault) → ¬ Refuses dumps any_sum fault)
-  found_sound (Ok order) blocks = nothing_refused dumps any_sum order.dsdt order.ssdts.items (order_of dumps any_sum b _ _ few each addressed blocks)
-  found_sound (Err fault) blocks = tt
+  pub found_sound : IfOk r Blocks → IfOk r (λ order. (fault : TableFault) → ¬ Refuses dumps any_sum fault)
+  found_sound = IfOk-weaker r _ _ (λ order blocks. nothing_refused dumps any_sum order.dsdt order.ssdts.items (is_order order blocks))
 
-  pub found_tables : (r : Result Order TableFault) → IfOk r Blocks → IfOk r (λ order. AreTables dumps (order.dsdt ∷ order.ssdts.items))
-  found_tables (Ok order) blocks = are_tables dumps any_sum order.dsdt order.ssdts.items (order_of dumps any_sum b _ _ few each addressed blocks)
-  found_tables (Err fault) blocks = tt
+  pub found_tables : IfOk r Blocks → IfOk r (λ order. AreTables dumps (order.dsdt ∷ order.ssdts.items))
+  found_tables = IfOk-weaker r _ _ (λ order blocks. are_tables dumps any_sum order.dsdt order.ssdts.items (is_order order blocks))
 
 -- a refusal leaves no order
 pub none_where_refused : (dumps : List Dump) (any_sum : Bool) (fault : TableFault) → Refuses dumps any_sum fault → (dsdt : ℕ) (ssdts : List ℕ)

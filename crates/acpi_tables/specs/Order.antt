@@ -182,24 +182,18 @@ pub record LacksDsdt (dumps : List Dump) : Type 0 where
 
 -- Why there is no order of dumps that are all taken: what a refusal says where it names no dump, and of the place of
 -- the dump that it names.
-abbrev pub RefusesAll : List Dump → Bad → Type 0
-RefusesAll dumps RootMissing = (is_addressed dumps ≡ true) × (root_of dumps ≡ None)
-RefusesAll dumps NoDsdt =
+abbrev pub RefusesOrder : List Dump → Option ℕ → Bad → Type 0
+RefusesOrder dumps None RootMissing = (is_addressed dumps ≡ true) × (root_of dumps ≡ None)
+RefusesOrder dumps (Some index) RootMissing =
+    (is_addressed dumps ≡ true) × (root_of dumps ≡ Some index)
+    × (list_of dumps (rsdp_of (bytes_of dumps index)) ≡ None)
+RefusesOrder dumps (Some index) FadtMissing = (is_addressed dumps ≡ true) × LacksFadt dumps index
+RefusesOrder dumps None NoDsdt =
     ((is_addressed dumps ≡ false) × (indexes_with dumps (codes "DSDT") ≡ []))
     ⊎ ((is_addressed dumps ≡ true) × LacksDsdt dumps)
-RefusesAll dumps _ = ⊥
-
-abbrev pub RefusesPlace : List Dump → ℕ → Bad → Type 0
-RefusesPlace dumps index RootMissing =
-    (is_addressed dumps ≡ true) × (root_of dumps ≡ Some index) × (list_of dumps (rsdp_of (bytes_of dumps index)) ≡ None)
-RefusesPlace dumps index FadtMissing = (is_addressed dumps ≡ true) × LacksFadt dumps index
-RefusesPlace dumps index TwoDsdts =
+RefusesOrder dumps (Some index) TwoDsdts =
     (is_addressed dumps ≡ false) × (slice_get (indexes_with dumps (codes "DSDT")) 1 ≡ Some index)
-RefusesPlace dumps index _ = ⊥
-
-abbrev pub RefusesOrder : List Dump → Option ℕ → Bad → Type 0
-RefusesOrder dumps None bad = RefusesAll dumps bad
-RefusesOrder dumps (Some index) bad = RefusesPlace dumps index bad
+RefusesOrder dumps _ _ = ⊥
 
 -- It names the first dump that isn't taken, and says why.
 pub record RefusesBytes (dumps : List Dump) (any_sum : Bool) (fault : TableFault) : Type 0 where
