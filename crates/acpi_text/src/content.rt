@@ -55,7 +55,12 @@ fn print_entry<W: Write>(out: &mut Out<'_, W>, dumps: &[Dump], bytes: &[u8])
 }
 
 /// The addresses of this width that a table lists, each with the name of the dump there.
-pub fn print_entries<W: Write>(out: &mut Out<'_, W>, dumps: &[Dump], width: usize, table: &[u8])
+pub(crate) fn print_entries<W: Write>(
+    out: &mut Out<'_, W>,
+    dumps: &[Dump],
+    width: usize,
+    table: &[u8],
+)
     requires some { 0 < width }
     requires narrow { width ≤ 8 }
     requires holds { HoldsAddresses width table.now }
@@ -87,7 +92,7 @@ fn print_field<W: Write>(out: &mut Out<'_, W>, table: &[u8], field: &TableField)
 }
 
 /// The fields of a FADT that it reaches to.
-pub fn print_fadt<W: Write>(out: &mut Out<'_, W>, table: &[u8])
+pub(crate) fn print_fadt<W: Write>(out: &mut Out<'_, W>, table: &[u8])
     ensures { Prints W.contents out.old out.new (fadt_lines table.now) }
 {
     let fields = TableField::of_fadt();

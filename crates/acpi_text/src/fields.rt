@@ -23,7 +23,7 @@ fn print_label<W: Write>(out: &mut Out<'_, W>, label: &[u8])
 }
 
 /// The bytes in hexadecimal digits, the last first.
-pub fn print_reversed<W: Write>(out: &mut Out<'_, W>, bytes: &[u8])
+pub(crate) fn print_reversed<W: Write>(out: &mut Out<'_, W>, bytes: &[u8])
     ensures { Prints W.contents out.old out.new (flat_map hex2 (reverse bytes.now)) }
 {
     for done in 0..bytes.len() {
@@ -44,7 +44,7 @@ fn print_value<W: Write>(out: &mut Out<'_, W>, base: Base, bytes: &[u8])
 
 /// A field with these bytes.
 #[tactic(auto, using(text_writer::proofs::PrintLaws::straight), unfolding(crate::specs::Dumps::labelled))]
-pub fn print_labelled<W: Write>(out: &mut Out<'_, W>, field: &TableField, bytes: &[u8])
+pub(crate) fn print_labelled<W: Write>(out: &mut Out<'_, W>, field: &TableField, bytes: &[u8])
     requires narrow { length bytes.now ≤ 8 }
     ensures { Prints W.contents out.old out.new (labelled (field_view field.now) bytes.now) }
 {

@@ -99,7 +99,7 @@ fn print_end<W: Write>(out: &mut Out<'_, W>, address: Option<u64>, holds: bool)
 
 /// The line of a dump of this kind.
 #[tactic(auto, using(text_writer::proofs::PrintLaws::straight), unfolding(crate::specs::Dumps::line_by))]
-pub fn print_line<W: Write>(out: &mut Out<'_, W>, kind: Kind, dump: &Dump)
+pub(crate) fn print_line<W: Write>(out: &mut Out<'_, W>, kind: Kind, dump: &Dump)
     requires shape { HoldsShape kind dump.now.bytes.items }
     ensures { Prints W.contents out.old out.new (line_by kind dump.now) }
 {

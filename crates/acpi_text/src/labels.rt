@@ -16,14 +16,14 @@ pub fn put_decimal<W: Write>(out: &mut Out<'_, W>, label: &[u8], value: u64)
     print_decimal(out, value);
 }
 
-pub fn put_hex8<W: Write>(out: &mut Out<'_, W>, label: &[u8], value: u32)
+pub(crate) fn put_hex8<W: Write>(out: &mut Out<'_, W>, label: &[u8], value: u32)
     ensures { Prints W.contents out.old out.new (label.now ++ hex8 value) }
 {
     out.put(label);
     print_hex8(out, value);
 }
 
-pub fn put_hex16<W: Write>(out: &mut Out<'_, W>, label: &[u8], value: u64)
+pub(crate) fn put_hex16<W: Write>(out: &mut Out<'_, W>, label: &[u8], value: u64)
     ensures { Prints W.contents out.old out.new (label.now ++ hex16 value) }
 {
     out.put(label);

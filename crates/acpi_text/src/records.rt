@@ -136,7 +136,7 @@ fn print_records<W: Write>(out: &mut Out<'_, W>, table: &[u8])
 
 /// The fields and records of a MADT.
 #[tactic(auto, using(text_writer::proofs::PrintLaws::straight), unfolding(crate::specs::Dumps::madt_lines))]
-pub fn print_madt<W: Write>(out: &mut Out<'_, W>, table: &[u8])
+pub(crate) fn print_madt<W: Write>(out: &mut Out<'_, W>, table: &[u8])
     requires holds { HoldsMadt table.now }
     ensures { Prints W.contents out.old out.new (madt_lines table.now) }
 {
