@@ -31,10 +31,10 @@ pub package_written : (o : ℕ) (w : PkgWidth) (ps t out0 out1 out2 out3 out4 ou
 package_written o w ps t out0 out1 out2 out3 out4 out5 at e1 is_at e2 e3 e4 e5 whole last =
     let room = replicate (width_len w) 0 in
     let is_room : length room ≡ width_len w = length-replicate (width_len w) 0 in
-    let written : out4 ≡ (out1 ++ room) ++ (ps ++ t) = e4 ∙ ap (λ (x : List ℕ). x ++ t) (e3 ∙ ap (λ (x : List ℕ). x ++ ps) e2)
-    ∙ append_assoc (out1 ++ room) ps t in
-    let long : length out4 ≡ (length out1 + width_len w) + length (ps ++ t) = ap length written ∙ length-append (out1 ++ room) (ps ++ t)
-    ∙ ap (λ n. n + length (ps ++ t)) (length-append out1 room ∙ ap (λ n. length out1 + n) is_room) in
+    let written : out4 ≡ (out1 ++ room) ++ (ps ++ t) =
+    e4 ∙ ap (λ (x : List ℕ). x ++ t) (e3 ∙ ap (λ (x : List ℕ). x ++ ps) e2) ∙ append_assoc (out1 ++ room) ps t in
+    let long : length out4 ≡ (length out1 + width_len w) + length (ps ++ t) =
+    ap length written ∙ length-append (out1 ++ room) (ps ++ t) ∙ ap (λ n. n + length (ps ++ t)) (length-append out1 room ∙ ap (λ n. length out1 + n) is_room) in
     let n : length out4 - at ≡ width_len w + length (ps ++ t) = omega (arith, long, is_at) in
     closed out1 room (ps ++ t) (package_bytes w (length out4 - at)) at (width_len w) out4 out5 is_at is_room written e5
     ∙ ap (λ (m : ℕ). out1 ++ (package_bytes w m ++ (ps ++ t))) n

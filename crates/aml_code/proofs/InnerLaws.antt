@@ -56,7 +56,8 @@ as_argument _ place i e = absurd cc
 
 quiet : (o : ℕ) (r : Row) → row_of o ≡ Some r → taken_as_argument r.place ≡ true → (is_other r.role && not (has_terms r.tail)) ≡ true
 unfolding quiet_row
-quiet o r e taken = ap (λ b. cond b (is_other r.role && not (has_terms r.tail)) true) {x = true} {y = taken_as_argument r.place} (cc taken)
+quiet o r e taken =
+    ap (λ b. cond b (is_other r.role && not (has_terms r.tail)) true) {x = true} {y = taken_as_argument r.place} (cc taken)
     ∙ row_passes quiet_row all_quiet o r e
 
 -- ---- nothing is declared

@@ -1,35 +1,35 @@
 -- A package length that is read is the one that is spelled, and one that is spelled is read again.
 use Rattle.std.specs.Prelude.{slice_get, IfOk, IfErr, ◌≢◌}
-use Rattle.std.proofs.Common.{◌≡◌, ℕ, zero, suc, ◌+◌, ◌-◌, ◌*◌, ◌/◌, ◌%◌, ◌^◌, ◌<◌, ◌≤◌, true, false, cond, eqb, ltb, List, [], ◌∷◌, ◌++◌, length, take, drop}
+use Rattle.std.proofs.Common.{◌≡◌, ℕ, zero, suc, ◌+◌, ◌-◌, ◌*◌, ◌/◌, ◌%◌, ◌^◌, ◌<◌, ◌≤◌, true, false, eqb, ltb, List, [], ◌∷◌, ◌++◌, length, take, drop}
 use Rattle.std.proofs.Common.{Result, Ok, Err, refl, sym, ap, subst, ◌∙◌, ◌⊎◌, arith, inl, inr}
 use Rattle.std.proofs.lemmas.Bool.{ltb-false, le-ltb, ltb-true, eqb-true, eqb-false, eq-eqb, ne_eqb}
 use Rattle.std.proofs.lemmas.List.{take_at, drop_at, take-append-drop, length-append, length-take}
-use Rattle.std.proofs.Math.Nat.{pow-succ'}
+use Rattle.std.proofs.Math.Nat.{pow-succ', pow-le-pow_right}
 use Rattle.aml_names.specs.declared.faults.CodeFault.{CodeFault}
 use Rattle.aml_names.specs.declared.faults.CodeFault.TheVariants as faults
 use Rattle.aml_names.specs.Steps.{◌>>=◌, Gives, byte_at}
-use Rattle.aml_names.proofs.StepLaws.{ok_is, err_is, bind_then, err_then, cond_then, guard_ok, IsBytes, IsBytes-drop, IsBytes-take, Takes, Takes-then}
+use Rattle.aml_names.proofs.StepLaws.{ok_is, err_is, bind_then, err_then, cond_then, IsBytes, IsBytes-drop, IsBytes-take, Takes, Takes-then}
 use Rattle.aml_names.proofs.StepLaws.{byte_takes, byte_fault}
 use Rattle.aml_code.specs.declared.packages.PkgWidth.{PkgWidth}
 use Rattle.aml_code.specs.declared.packages.PkgWidth.TheVariants as width
 use Rattle.aml_code.specs.Packages.{following_bytes, width_of, width_len, little, spelled, package_bytes, FitsFollowing, FitsWidth}
 use Rattle.aml_code.specs.Lengths.{little_at, value_at, length_at, span_at, front_at}
 use Rattle.aml_code.specs.Faults.{HasPkgBits, IsLengthFault}
+use Rattle.aml_code.proofs.Answered.{answered, not_answered}
 
 -- ---- numbers, the lowest byte first
 
 pub power : (k : ℕ) → 256 ^ suc k ≡ 256 * 256 ^ k
 power k = pow-succ' 256 k
 
-pub little_takes : (k end : ℕ) (bytes : List ℕ) (n : ℕ) (rest : List ℕ) → IsBytes bytes → little_at k end bytes ≡ Ok (n, rest) → Takes bytes (little k n) rest
-    × (n < 256 ^ k)
+pub little_takes : (k end : ℕ) (bytes : List ℕ) (n : ℕ) (rest : List ℕ) → IsBytes bytes → little_at k end bytes ≡ Ok (n, rest)
+    → Takes bytes (little k n) rest × (n < 256 ^ k)
 unfolding little_at
 little_takes zero end bytes n rest fits e =
     subst (λ (p : ℕ × List ℕ). Takes bytes [] p.1 × (p.0 < 1)) (ok_is (0, bytes) (n, rest) e) (record { parts = refl; rest_fits = fits }, omega arith)
 little_takes (suc k) end bytes n rest fits e =
-    let P : Type 0 = Takes bytes (little (suc k) n) rest × (n < 256 ^ suc k) in
-    bind_then P (byte_at end bytes) (λ low. little_at k end low.1 >>= λ high. Ok (low.0 + 256 * high.0, high.1)) (n, rest) e (λ low h1 e1.
-    bind_then P (little_at k end low.1) (λ high. Ok (low.0 + 256 * high.0, high.1)) (n, rest) e1 (λ high h2 e2.
+    bind_then _ _ _ (n, rest) e (λ low h1 e1.
+    answered (λ (p : ℕ × List ℕ). Takes bytes (little (suc k) p.0) p.1 × (p.0 < 256 ^ suc k)) _ _ (n, rest) e1 (λ high h2.
     let ta = byte_takes end bytes low.0 low.1 fits h1 in
     let tb = little_takes k end low.1 high.0 high.1 ta.0.rest_fits h2 in
     let value = low.0 + 256 * high.0 in
@@ -38,7 +38,7 @@ little_takes (suc k) end bytes n rest fits e =
     let both = Takes-then bytes (low.0 ∷ []) low.1 (little k high.0) high.1 ta.0 tb.0 in
     let text : little (suc k) value ≡ low.0 ∷ little k high.0 = rw (low_is, high_is) refl in
     let below : value < 256 ^ suc k = omega (arith, power k, ta.1, tb.1) in
-    subst (λ (p : ℕ × List ℕ). Takes bytes (little (suc k) p.0) p.1 × (p.0 < 256 ^ suc k)) (ok_is (value, high.1) (n, rest) e2) (rw text both, below)))
+    (rw text both, below)))
 
 pub little_again : (k end n : ℕ) (rest : List ℕ) → n < 256 ^ k → little_at k end (little k n ++ rest) ≡ Ok (n, rest)
 unfolding little_at
@@ -51,15 +51,14 @@ little_again (suc k) end n rest h =
 pub little_fault : (k end : ℕ) (bytes : List ℕ) (d : CodeFault) → little_at k end bytes ≡ Err d → d ≡ faults.Truncated end
 unfolding little_at
 little_fault zero end bytes d e = absurd cc
-little_fault (suc k) end bytes d e =
-    let P : Type 0 = d ≡ faults.Truncated end in
-    err_then P (byte_at end bytes) (λ low. little_at k end low.1 >>= λ high. Ok (low.0 + 256 * high.0, high.1)) d e (byte_fault end bytes d) (λ low h1 e1.
-    err_then P (little_at k end low.1) (λ high. Ok (low.0 + 256 * high.0, high.1)) d e1 (little_fault k end low.1 d) (λ high h2 e2. absurd cc))
+little_fault (suc k) end bytes d e = err_then _ _ _ d e (byte_fault end bytes d) (λ low h1 e1. little_fault k end low.1 d (not_answered _ _ d e1))
 
 pub little_below : (k low high : ℕ) → 0 < k → low < 256 → high < 256 ^ (k - 1) → low + 256 * high < 256 ^ k
 little_below zero low high p l h = absurd (omega arith)
 little_below (suc k) low high p l h =
-    let same : suc k - 1 ≡ k = omega arith in let less : high < 256 ^ k = subst (λ (m : ℕ). high < 256 ^ m) same h in omega (arith, power k, less)
+    let same : suc k - 1 ≡ k = omega arith in
+    let less : high < 256 ^ k = subst (λ (m : ℕ). high < 256 ^ m) same h in
+    omega (arith, power k, less)
 
 -- ---- widths
 
@@ -123,27 +122,20 @@ value_takes : (at lead end : ℕ) (bytes : List ℕ) (x : (PkgWidth × ℕ) × L
     → IsLength (lead ∷ bytes) x.0.0 x.0.1 x.1
 unfolding value_at
 value_takes at lead end bytes x small fits e =
-    let P : Type 0 = IsLength (lead ∷ bytes) x.0.0 x.0.1 x.1 in
-    let got : ℕ × List ℕ → (PkgWidth × ℕ) × List ℕ = λ high. ((width_of (lead / 64), lead % 16 + 16 * high.0), high.1) in
-    let read : Result ((PkgWidth × ℕ) × List ℕ) CodeFault = little_at (lead / 64) end bytes >>= λ high. Ok (got high) in
-    let short : (PkgWidth × ℕ) × List ℕ = ((width.One, lead), bytes) in
-    cond_then P (eqb (lead / 64) 0) (Ok short) (cond (ltb 0 (lead / 16 % 4)) (Err (faults.PkgBits at)) read) (Ok x) e
-    (λ h p. subst (λ (y : (PkgWidth × ℕ) × List ℕ). IsLength (lead ∷ bytes) y.0.0 y.0.1 y.1) (ok_is short x p) (one_byte lead bytes (eqb-true _ _ h) fits))
-    (λ h p.
-    let g = guard_ok (ltb 0 (lead / 16 % 4)) (faults.PkgBits at) read x p in
-    let zeros = ltb-false _ _ g.0 in
-    bind_then P (little_at (lead / 64) end bytes) (λ high. Ok (got high)) x g.1 (λ high h1 h2.
+    let Q : (PkgWidth × ℕ) × List ℕ → Type 0 = λ y. IsLength (lead ∷ bytes) y.0.0 y.0.1 y.1 in
+    cond_then _ (eqb (lead / 64) 0) _ _ _ e (λ h p. subst Q (ok_is _ x p) (one_byte lead bytes (eqb-true _ _ h) fits)) (λ h p.
+    cond_then _ (ltb 0 (lead / 16 % 4)) _ _ _ p (λ g q. absurd cc) (λ g q.
+    let zeros = ltb-false _ _ g in
+    answered Q _ _ x q (λ high h1.
     let t = little_takes (lead / 64) end bytes high.0 high.1 fits h1 in
     let m = more_bytes (lead / 64) lead bytes high.0 high.1 refl (eqb-false _ _ h) small (omega arith) t.0 t.1 in
     let same : following_bytes (width_of (lead / 64)) ≡ lead / 64 = following_of (lead / 64) (omega arith) in
-    let there : IsLength (lead ∷ bytes) (width_of (lead / 64)) (lead % 16 + 16 * high.0) high.1 =
-    subst (λ (k : ℕ). Takes (lead ∷ bytes) (spelled k (lead % 16 + 16 * high.0)) high.1 × FitsFollowing k (lead % 16 + 16 * high.0)) (sym same) m in
-    subst (λ (y : (PkgWidth × ℕ) × List ℕ). IsLength (lead ∷ bytes) y.0.0 y.0.1 y.1) (ok_is (got high) x h2) there))
+    subst (λ (k : ℕ). Takes (lead ∷ bytes) (spelled k (lead % 16 + 16 * high.0)) high.1 × FitsFollowing k (lead % 16 + 16 * high.0)) (sym same) m)))
 
 pub length_takes : (end : ℕ) (bytes : List ℕ) (x : (PkgWidth × ℕ) × List ℕ) → IsBytes bytes → length_at end bytes ≡ Ok x → IsLength bytes x.0.0 x.0.1 x.1
 unfolding length_at
 length_takes end bytes x fits e =
-    bind_then (IsLength bytes x.0.0 x.0.1 x.1) (byte_at end bytes) (λ lead. value_at (end - length bytes) lead.0 end lead.1) x e (λ lead h1 e1.
+    bind_then _ _ _ x e (λ lead h1 e1.
     let t = byte_takes end bytes lead.0 lead.1 fits h1 in
     subst (λ (b : List ℕ). IsLength b x.0.0 x.0.1 x.1) (sym t.0.parts) (value_takes (end - length bytes) lead.0 end lead.1 x t.1 t.0.rest_fits e1))
 
@@ -179,8 +171,8 @@ pub length_again : (end : ℕ) (w : PkgWidth) (v : ℕ) (rest : List ℕ) → Fi
 unfolding length_at
 length_again end w v rest fits =
     let h = headed (end - length (package_bytes w v ++ rest)) (following_bytes w) v end rest fits in
-    let goal : List ℕ → Result ((PkgWidth × ℕ) × List ℕ) CodeFault = λ b. byte_at end b >>= λ lead. value_at (end - length (package_bytes w v ++ rest))
-    lead.0 end lead.1 in
+    let goal : List ℕ → Result ((PkgWidth × ℕ) × List ℕ) CodeFault =
+    λ b. byte_at end b >>= λ lead. value_at (end - length (package_bytes w v ++ rest)) lead.0 end lead.1 in
     ap goal h.text ∙ h.reads ∙ ap (λ (u : PkgWidth). Ok ((u, v), rest)) (width_again w)
 
 -- ---- faults
@@ -190,21 +182,16 @@ abbrev pub LengthFault : ℕ → List ℕ → CodeFault → Type 0
 LengthFault end bytes d =
     (d ≡ faults.Truncated end) ⊎ ((lead : ℕ) × (rest : List ℕ) × (bytes ≡ lead ∷ rest) × HasPkgBits lead × (d ≡ faults.PkgBits (end - length bytes)))
 
-value_fault : (at lead end : ℕ) (bytes : List ℕ) (d : CodeFault) → value_at at lead end bytes ≡ Err d → (d ≡ faults.Truncated end)
-    ⊎ (HasPkgBits lead × (d ≡ faults.PkgBits at))
+value_fault : (at lead end : ℕ) (bytes : List ℕ) (d : CodeFault) → value_at at lead end bytes ≡ Err d
+    → (d ≡ faults.Truncated end) ⊎ (HasPkgBits lead × (d ≡ faults.PkgBits at))
 unfolding value_at
 value_fault at lead end bytes d e =
-    let P : Type 0 = (d ≡ faults.Truncated end) ⊎ (HasPkgBits lead × (d ≡ faults.PkgBits at)) in
-    let got : ℕ × List ℕ → (PkgWidth × ℕ) × List ℕ = λ high. ((width_of (lead / 64), lead % 16 + 16 * high.0), high.1) in
-    let read : Result ((PkgWidth × ℕ) × List ℕ) CodeFault = little_at (lead / 64) end bytes >>= λ high. Ok (got high) in
-    let bits : Result ((PkgWidth × ℕ) × List ℕ) CodeFault = Err (faults.PkgBits at) in
-    let short : (PkgWidth × ℕ) × List ℕ = ((width.One, lead), bytes) in
-    cond_then P (eqb (lead / 64) 0) (Ok short) (cond (ltb 0 (lead / 16 % 4)) bits read) (Err d) e (λ h p. absurd cc) (λ h p.
-    cond_then P (ltb 0 (lead / 16 % 4)) bits read (Err d) p
-    (λ g q. let long = eqb-false _ _ h in let set = ltb-true _ _ g in inr
-    ((omega (arith, not_zero (lead / 64) long), set), sym (err_is {A = (PkgWidth × ℕ) × List ℕ} (faults.PkgBits at) d q)))
-    (λ g q. err_then P (little_at (lead / 64) end bytes) (λ high. Ok (got high)) d q (λ r. inl (little_fault (lead / 64) end bytes d r))
-    (λ high h1 e1. absurd cc)))
+    cond_then _ (eqb (lead / 64) 0) _ _ _ e (λ h p. absurd cc) (λ h p.
+    cond_then _ (ltb 0 (lead / 16 % 4)) _ _ _ p (λ g q.
+    let long = eqb-false _ _ h in
+    let set = ltb-true _ _ g in
+    inr ((omega (arith, not_zero (lead / 64) long), set), sym (err_is {A = (PkgWidth × ℕ) × List ℕ} (faults.PkgBits at) d q)))
+    (λ g q. inl (little_fault (lead / 64) end bytes d (not_answered _ _ d q))))
   where
     not_zero : (n : ℕ) → (n ≡ 0 → ⊥) → 0 < n
     not_zero zero h = absurd (h refl)
@@ -225,31 +212,24 @@ length_fault end (lead ∷ rest) d e =
 abbrev pub IsSpan : List ℕ → PkgWidth × List ℕ × List ℕ → Type 0
 IsSpan bytes x = Takes bytes (package_bytes x.0 (width_len x.0 + length x.1) ++ x.1) x.2 × FitsWidth x.0 (width_len x.0 + length x.1) × IsBytes x.1
 
-span_parts : (bytes : List ℕ) (at : ℕ) (w : PkgWidth) (value : ℕ) (rest : List ℕ) (x : PkgWidth × List ℕ × List ℕ) → IsLength bytes w value rest
-    → cond (ltb value (width_len w)) (Err (faults.PkgPast at)) (cond (ltb (length rest) (value - width_len w)) (Err (faults.PkgPast at))
-    (Ok (w, take (value - width_len w) rest, drop (value - width_len w) rest))) ≡ Ok x
-    → IsSpan bytes x
-span_parts bytes at w value rest x t e =
+pub span_takes : (end : ℕ) (bytes : List ℕ) (x : PkgWidth × List ℕ × List ℕ) → IsBytes bytes → span_at end bytes ≡ Ok x → IsSpan bytes x
+unfolding span_at
+span_takes end bytes x fits e = bind_then _ _ _ x e (λ (l : (PkgWidth × ℕ) × List ℕ) h1 e1.
+    let w = l.0.0 in
+    let value = l.0.1 in
+    let rest = l.1 in
     let n = value - width_len w in
     let made : PkgWidth × List ℕ × List ℕ = (w, take n rest, drop n rest) in
-    let g1 = guard_ok (ltb value (width_len w)) (faults.PkgPast at) (cond (ltb (length rest) n) (Err (faults.PkgPast at)) (Ok made)) x e in
-    let g2 = guard_ok (ltb (length rest) n) (faults.PkgPast at) (Ok made) x g1.1 in
-    let own : width_len w ≤ value = ltb-false _ _ g1.0 in
-    let room : n ≤ length rest = ltb-false _ _ g2.0 in
+    let t = length_takes end bytes l fits h1 in
+    cond_then _ (ltb value (width_len w)) _ _ _ e1 (λ g q. absurd cc) (λ g1 q1.
+    cond_then _ (ltb (length rest) n) _ _ _ q1 (λ g q. absurd cc) (λ g2 q2.
+    let own : width_len w ≤ value = ltb-false _ _ g1 in
+    let room : n ≤ length rest = ltb-false _ _ g2 in
     let whole : width_len w + length (take n rest) ≡ value = omega (arith, length-take n rest) in
     let second : Takes rest (take n rest) (drop n rest) = record { parts = sym (take-append-drop n rest); rest_fits = IsBytes-drop n rest t.0.rest_fits } in
     let both = Takes-then bytes (package_bytes w value) rest (take n rest) (drop n rest) t.0 second in
     let spelled_so = subst (λ (v : ℕ). Takes bytes (package_bytes w v ++ take n rest) (drop n rest) × FitsWidth w v) (sym whole) (both, t.1) in
-    subst (λ (y : PkgWidth × List ℕ × List ℕ). IsSpan bytes y) (ok_is made x g2.1) (spelled_so.0, spelled_so.1, IsBytes-take n rest t.0.rest_fits)
-
-pub span_takes : (end : ℕ) (bytes : List ℕ) (x : PkgWidth × List ℕ × List ℕ) → IsBytes bytes → span_at end bytes ≡ Ok x → IsSpan bytes x
-unfolding span_at
-span_takes end bytes x fits e =
-    let at = end - length bytes in
-    let cut : (PkgWidth × ℕ) × List ℕ → Result (PkgWidth × List ℕ × List ℕ) CodeFault = λ l.
-    cond (ltb l.0.1 (width_len l.0.0)) (Err (faults.PkgPast at)) (cond (ltb (length l.1) (l.0.1 - width_len l.0.0)) (Err (faults.PkgPast at))
-    (Ok (l.0.0, take (l.0.1 - width_len l.0.0) l.1, drop (l.0.1 - width_len l.0.0) l.1))) in
-    bind_then (IsSpan bytes x) (length_at end bytes) cut x e (λ l h1 e1. span_parts bytes at l.0.0 l.0.1 l.1 x (length_takes end bytes l fits h1) e1)
+    subst (λ (y : PkgWidth × List ℕ × List ℕ). IsSpan bytes y) (ok_is made x q2) (spelled_so.0, spelled_so.1, IsBytes-take n rest t.0.rest_fits))))
 
 pub span_again : (end : ℕ) (w : PkgWidth) (inside behind : List ℕ) → FitsWidth w (width_len w + length inside)
     → span_at end (package_bytes w (width_len w + length inside) ++ (inside ++ behind)) ≡ Ok (w, inside, behind)
@@ -272,56 +252,24 @@ pub record PastFault (end : ℕ) (bytes : List ℕ) (d : CodeFault) : Type 0 whe
 
 pub span_fault : (end : ℕ) (bytes : List ℕ) (d : CodeFault) → IsBytes bytes → span_at end bytes ≡ Err d → LengthFault end bytes d ⊎ PastFault end bytes d
 unfolding span_at
-span_fault end bytes d fits e =
+span_fault end bytes d fits e = err_then _ _ _ d e (λ h. inl (length_fault end bytes d h)) (λ l h1 e1.
     let at = end - length bytes in
-    let past : Result (PkgWidth × List ℕ × List ℕ) CodeFault = Err (faults.PkgPast at) in
-    let done : (PkgWidth × ℕ) × List ℕ → Result (PkgWidth × List ℕ × List ℕ) CodeFault =
-    λ l. Ok (l.0.0, take (l.0.1 - width_len l.0.0) l.1, drop (l.0.1 - width_len l.0.0) l.1) in
-    let fits_in : (PkgWidth × ℕ) × List ℕ → Result (PkgWidth × List ℕ × List ℕ) CodeFault =
-    λ l. cond (ltb (length l.1) (l.0.1 - width_len l.0.0)) past (done l) in
-    let P : Type 0 = LengthFault end bytes d ⊎ PastFault end bytes d in
-    err_then P (length_at end bytes) (λ l. cond (ltb l.0.1 (width_len l.0.0)) past (fits_in l)) d e (λ h. inl (length_fault end bytes d h)) (λ l h1 e1.
-    let t = length_takes end bytes l fits h1 in
-    cond_then P (ltb l.0.1 (width_len l.0.0)) past (fits_in l) (Err d) e1
-    (λ g q. inr (record {
-      width = l.0.0;
-      value = l.0.1;
-      rest = l.1;
-      is_length = t;
-      past = inl (ltb-true _ _ g);
-      fault = sym (err_is {A = PkgWidth × List ℕ × List ℕ} (faults.PkgPast at) d q);
-    }))
-    (λ g q. cond_then P (ltb (length l.1) (l.0.1 - width_len l.0.0)) past (done l) (Err d) q
-    (λ g2 q2. inr (record {
-      width = l.0.0;
-      value = l.0.1;
-      rest = l.1;
-      is_length = t;
-      past = inr (ltb-true _ _ g2);
-      fault = sym (err_is {A = PkgWidth × List ℕ × List ℕ} (faults.PkgPast at) d q2);
-    }))
-    (λ g2 q2. absurd cc)))
+    let fault = err_is {A = PkgWidth × List ℕ × List ℕ} (faults.PkgPast at) d in
+    let found : (l.0.1 < width_len l.0.0) ⊎ (length l.1 < l.0.1 - width_len l.0.0) → d ≡ faults.PkgPast at → PastFault end bytes d =
+    λ past is. record { width = l.0.0; value = l.0.1; rest = l.1; is_length = length_takes end bytes l fits h1; past = past; fault = is } in
+    cond_then _ (ltb l.0.1 (width_len l.0.0)) _ _ _ e1 (λ g q. inr (found (inl (ltb-true _ _ g)) (sym (fault q))))
+    (λ g q. cond_then _ (ltb (length l.1) (l.0.1 - width_len l.0.0)) _ _ _ q (λ h r. inr (found (inr (ltb-true _ _ h)) (sym (fault r)))) (λ h r. absurd cc)))
 
 -- ---- machine numbers
 
 pub eight_bytes : (k : ℕ) → k ≤ 8 → 256 ^ k ≤ 18446744073709551616
-eight_bytes zero h = omega arith
-eight_bytes (suc zero) h = omega arith
-eight_bytes (suc (suc zero)) h = omega arith
-eight_bytes (suc (suc (suc zero))) h = omega arith
-eight_bytes (suc (suc (suc (suc zero)))) h = omega arith
-eight_bytes (suc (suc (suc (suc (suc zero))))) h = omega arith
-eight_bytes (suc (suc (suc (suc (suc (suc zero)))))) h = omega arith
-eight_bytes (suc (suc (suc (suc (suc (suc (suc zero))))))) h = omega arith
-eight_bytes (suc (suc (suc (suc (suc (suc (suc (suc zero)))))))) h = omega arith
-eight_bytes (suc (suc (suc (suc (suc (suc (suc (suc (suc k))))))))) h = absurd (omega arith)
+eight_bytes k h = let below : 256 ^ k ≤ 256 ^ 8 = pow-le-pow_right (omega arith) h in omega (arith, below)
 
 pub three_bytes : (k : ℕ) → k < 4 → 256 ^ k ≤ 16777216
-three_bytes zero h = omega arith
-three_bytes (suc zero) h = omega arith
-three_bytes (suc (suc zero)) h = omega arith
-three_bytes (suc (suc (suc zero))) h = omega arith
-three_bytes (suc (suc (suc (suc k)))) h = absurd (omega arith)
+three_bytes k h =
+    let few : k ≤ 3 = omega (arith, h) in
+    let below : 256 ^ k ≤ 256 ^ 3 = pow-le-pow_right (omega arith) few in
+    omega (arith, below)
 
 -- ---- the length at the front of the bytes
 
@@ -330,24 +278,22 @@ unfolding front_at
 front_again bytes w v rest fits text =
     ap (λ r. r >>= λ l. Ok l.0) (ap (length_at (length bytes)) text ∙ length_again (length bytes) w v rest fits)
 
-front_takes : (bytes : List ℕ) (x : PkgWidth × ℕ) → IsBytes bytes → front_at bytes ≡ Ok x → FitsWidth x.0 x.1
-    × ((rest : List ℕ) × (bytes ≡ package_bytes x.0 x.1 ++ rest))
+front_takes : (bytes : List ℕ) (x : PkgWidth × ℕ) → IsBytes bytes → front_at bytes ≡ Ok x
+    → FitsWidth x.0 x.1 × ((rest : List ℕ) × (bytes ≡ package_bytes x.0 x.1 ++ rest))
 unfolding front_at
 front_takes bytes x fits e =
-    bind_then (FitsWidth x.0 x.1 × ((rest : List ℕ) × (bytes ≡ package_bytes x.0 x.1 ++ rest))) (length_at (length bytes) bytes) (λ l. Ok l.0) x e (λ l h1 e1.
-    let t = length_takes (length bytes) bytes l fits h1 in
-    subst (λ (y : PkgWidth × ℕ). FitsWidth y.0 y.1 × ((rest : List ℕ) × (bytes ≡ package_bytes y.0 y.1 ++ rest))) (ok_is l.0 x e1) (t.1, (l.1, t.0.parts)))
+    answered (λ (y : PkgWidth × ℕ). FitsWidth y.0 y.1 × ((rest : List ℕ) × (bytes ≡ package_bytes y.0 y.1 ++ rest))) _ _ x e (λ l h.
+    let t = length_takes (length bytes) bytes l fits h in (t.1, (l.1, t.0.parts)))
 
 front_fault : (bytes : List ℕ) (d : CodeFault) → front_at bytes ≡ Err d → IsLengthFault bytes d
 unfolding front_at
 front_fault bytes d e =
-    err_then (IsLengthFault bytes d) (length_at (length bytes) bytes) (λ l. Ok l.0) d e (λ h.
-    elim (length_fault (length bytes) bytes d h) [
+    elim (length_fault (length bytes) bytes d (not_answered _ _ d e)) [
       | inl t ↦ subst (IsLengthFault bytes) (sym t) refl
       | inr p ↦
           let none : length bytes - length bytes ≡ 0 = omega arith in
           subst (IsLengthFault bytes) (sym (p.4 ∙ ap (λ n. faults.PkgBits n) none)) (p.0, ap (λ (b : List ℕ). slice_get b 0) p.2, p.3)
-    ]) (λ l h1 e1. absurd cc)
+    ]
 
 abbrev pub Fronts : Result (PkgWidth × ℕ) CodeFault → List ℕ → Type 0
 Fronts result bytes = Gives (λ x. x) result (front_at bytes)
@@ -359,8 +305,9 @@ given_sound (Err d) bytes fits e = tt
 
 pub given_one : (result : Result (PkgWidth × ℕ) CodeFault) (bytes : List ℕ) → Fronts result bytes
     → IfOk result (λ x. (w : PkgWidth) (v : ℕ) (rest : List ℕ) → FitsWidth w v → bytes ≡ package_bytes w v ++ rest → (w ≡ x.0) × (v ≡ x.1))
-given_one (Ok x) bytes e = λ w v rest fits text. let same = ok_is (w, v) x (sym (front_again bytes w v rest fits text) ∙ e) in
-    (ap (λ (y : PkgWidth × ℕ). y.0) same, ap (λ (y : PkgWidth × ℕ). y.1) same)
+given_one (Ok x) bytes e =
+    λ w v rest fits text. let same =
+    ok_is (w, v) x (sym (front_again bytes w v rest fits text) ∙ e) in (ap (λ (y : PkgWidth × ℕ). y.0) same, ap (λ (y : PkgWidth × ℕ). y.1) same)
 given_one (Err d) bytes e = tt
 
 pub given_complete : (result : Result (PkgWidth × ℕ) CodeFault) (bytes : List ℕ) → IfErr result (λ e. e ≢ faults.NoMemory) → Fronts result bytes

@@ -34,8 +34,8 @@ found_step o r x rs k true is here later e =
     (0, e, subst (λ (n : ℕ). place_of n ≡ k + 0) same (omega (arith, here)))
 found_step o r x rs k false is here later e = let l = later e in (suc l.0, l.1, omega (arith, l.2))
 
-found_place : (o : ℕ) (x : Row) (rs : List Row) (k : ℕ) → are_placed k rs ≡ true → find (λ y. y.opcode == o) rs ≡ Some x → (i : ℕ) × (slice_get rs i ≡ Some x)
-    × (place_of o ≡ k + i)
+found_place : (o : ℕ) (x : Row) (rs : List Row) (k : ℕ) → are_placed k rs ≡ true → find (λ y. y.opcode == o) rs ≡ Some x
+    → (i : ℕ) × (slice_get rs i ≡ Some x) × (place_of o ≡ k + i)
 unfolding are_placed
 found_place o x [] k all e = absurd cc
 found_place o x (r ∷ rs) k all e =

@@ -57,16 +57,13 @@ inward code at end bytes x w s =
     let size : length spelled ≡ width_len x.0 = length-package_bytes x.0 v in
     let split : code ≡ w.before ++ ((spelled ++ x.1) ++ (x.2 ++ w.behind)) =
     w.text ∙ ap (λ (b : List ℕ). w.before ++ (b ++ w.behind)) s.0.parts ∙ ap (λ (b : List ℕ). w.before ++ b) (append_assoc (spelled ++ x.1) x.2 w.behind) in
-    let there : code ≡ w.before ++ (spelled ++ (x.1 ++ (x.2 ++ w.behind))) = split
-    ∙ ap (λ (b : List ℕ). w.before ++ b) (append_assoc spelled x.1 (x.2 ++ w.behind)) in
+    let there : code ≡ w.before ++ (spelled ++ (x.1 ++ (x.2 ++ w.behind))) =
+    split ∙ ap (λ (b : List ℕ). w.before ++ b) (append_assoc spelled x.1 (x.2 ++ w.behind)) in
     let again : code ≡ (w.before ++ spelled) ++ (x.1 ++ (x.2 ++ w.behind)) = there ∙ sym (append_assoc w.before spelled (x.1 ++ (x.2 ++ w.behind))) in
-    let long : length bytes ≡ (length spelled + length x.1) + length x.2 = ap length s.0.parts ∙ length-append (spelled ++ x.1) x.2
-    ∙ ap (λ n. n + length x.2) (length-append spelled x.1) in
-    let is : LengthThere code at x.0 v = record {
-      fits = s.1;
-      there = record
-          { before = w.before; behind = x.1 ++ (x.2 ++ w.behind); whole = there; offset = sym w.offset };
-    } in
+    let long : length bytes ≡ (length spelled + length x.1) + length x.2 =
+    ap length s.0.parts ∙ length-append (spelled ++ x.1) x.2 ∙ ap (λ n. n + length x.2) (length-append spelled x.1) in
+    let is : LengthThere code at x.0 v =
+    record { fits = s.1; there = record { before = w.before; behind = x.1 ++ (x.2 ++ w.behind); whole = there; offset = sym w.offset } } in
     record {
       before = w.before ++ spelled;
       behind = x.2 ++ w.behind;
@@ -107,8 +104,8 @@ slice_there code at end bytes w =
 
 pub span_inside : (code : List ℕ) (at end : ℕ) (bytes : List ℕ) → Within code at end bytes → end ≤ length code
 span_inside code at end bytes w =
-    let room : length code ≡ length w.before + (length bytes + length w.behind) = ap length w.text ∙ length-append w.before (bytes ++ w.behind)
-    ∙ ap (λ n. length w.before + n) (length-append bytes w.behind) in
+    let room : length code ≡ length w.before + (length bytes + length w.behind) =
+    ap length w.text ∙ length-append w.before (bytes ++ w.behind) ∙ ap (λ n. length w.before + n) (length-append bytes w.behind) in
     omega (arith, room, w.offset, w.place)
 
 -- ---- faults
@@ -139,12 +136,10 @@ pub past_placed : (arity : Arities) (code : List ℕ) (at end : ℕ) (bytes : Li
     → StandsAt arity code d
 past_placed arity code at end bytes d w f =
     let t = f.is_length in
-    let there : LengthThere code at f.width f.value = record {
-      fits = t.1;
-      there = text_there code at end bytes (package_bytes f.width f.value) f.rest w t.0.parts;
-    } in
-    let long : length bytes ≡ width_len f.width + length f.rest = ap length t.0.parts ∙ length-append (package_bytes f.width f.value) f.rest
-    ∙ ap (λ n. n + length f.rest) (length-package_bytes f.width f.value) in
+    let there : LengthThere code at f.width f.value =
+    record { fits = t.1; there = text_there code at end bytes (package_bytes f.width f.value) f.rest w t.0.parts } in
+    let long : length bytes ≡ width_len f.width + length f.rest =
+    ap length t.0.parts ∙ length-append (package_bytes f.width f.value) f.rest ∙ ap (λ n. n + length f.rest) (length-package_bytes f.width f.value) in
     let place = offset_is code at end bytes w in
     let past : (f.value < width_len f.width) ⊎ ((e : ℕ) × IsEndBefore code at e × (at < e) × (e < at + f.value)) =
     elim f.past [
@@ -158,8 +153,8 @@ pub name_placed : (arity : Arities) (code : List ℕ) (at end : ℕ) (bytes : Li
 name_placed arity code at end bytes d w (inl e) = truncated_placed arity code at end bytes d w e
 name_placed arity code at end bytes d w (inr (front, b, behind, text, is, e)) =
     let rest_fits : IsBytes (b ∷ behind) = fits_behind front (b ∷ behind) (subst IsBytes text w.fits) in
-    let here : Within code (at + length front) end (b ∷ behind) = onward code at end bytes front (b ∷ behind) w
-    (record { parts = text; rest_fits = rest_fits }) in
+    let here : Within code (at + length front) end (b ∷ behind) =
+    onward code at end bytes front (b ∷ behind) w (record { parts = text; rest_fits = rest_fits }) in
     let place = offset_is code (at + length front) end (b ∷ behind) here in
     subst (StandsAt arity code) (sym (e ∙ ap (λ n. faults.BadName n) place)) (b, byte_there code (at + length front) end b behind here, is)
   where

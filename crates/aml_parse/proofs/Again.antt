@@ -57,8 +57,8 @@ name_apart n is =
         l.lead,
         l.behind,
         l.text,
-        ne_eqb l.lead 0x11 (λ e. let x : is_name_lead 0x11 ≡ true = subst (λ (c : ℕ). is_name_lead c ≡ true) e k.0 in
-            absurd cc),
+        ne_eqb l.lead 0x11
+            (λ e. let x : is_name_lead 0x11 ≡ true = subst (λ (c : ℕ). is_name_lead c ≡ true) e k.0 in absurd cc),
       )
       | inr k ↦ (l.lead, l.behind, l.text, ne_eqb l.lead 0x11 (λ e. absurd (omega (arith, e, k.1))))
     ]
@@ -175,8 +175,8 @@ module _ (s : Setting) (levels : ℕ) (read : Position → Reader Tree) (law : I
       (read_on _ _ _ _ (arguments_again (at + length front) end (after s.scope ls t) ts rest h.1 (place_behind at end front (back ++ rest) here)) refl)
 
   terms_step : (n : ℕ) (p : Position) (end : ℕ) (ls : PathSet) (bs : List ℕ) → 0 < length bs
-      → terms_at read (suc n) p end ls bs ≡ (read p end ls bs >>= λ first. terms_at read n (next_position p first.0) end first.1 first.2 >>= λ others. Ok
-      (tree_more first.0 others.0, others.1))
+      → terms_at read (suc n) p end ls bs
+      ≡ (read p end ls bs >>= λ first. terms_at read n (next_position p first.0) end first.1 first.2 >>= λ others. Ok (tree_more first.0 others.0, others.1))
   unfolding terms_at
   terms_step n p end ls [] h = absurd (omega arith)
   terms_step n p end ls (b ∷ bs) h = refl
@@ -228,8 +228,8 @@ module _ (s : Setting) (levels : ℕ) (read : Position → Reader Tree) (law : I
   field_again at end ls (extended a b c) rest h place = read_on _ _ _ _ (extended_again end a b c rest) refl
 
   fields_step : (n end : ℕ) (ls : PathSet) (bs : List ℕ) → 0 < length bs
-      → fields_at read (suc n) end ls bs ≡ (field_at read end ls bs >>= λ first. fields_at read n end first.1 first.2 >>= λ others. Ok
-      (field_more first.0 others.0, others.1))
+      → fields_at read (suc n) end ls bs
+      ≡ (field_at read end ls bs >>= λ first. fields_at read n end first.1 first.2 >>= λ others. Ok (field_more first.0 others.0, others.1))
   unfolding fields_at
   fields_step n end ls [] h = absurd (omega arith)
   fields_step n end ls (b ∷ bs) h = refl
@@ -352,11 +352,11 @@ module _ (s : Setting) (levels : ℕ) (read : Position → Reader Tree) (law : I
       ∙ plain_again p o row end ls ps rest h.listed (at + length (opcode_bytes o)) h.parts inner_place
       ∙ ap (λ (y : Tail). Ok (op o None ps y, declared_by s.scope (row_of o) (after_tail s.scope ls y) ps y, rest)) (sym is_empty)
   op_again p o None at end ls ps t rest h true long stands place =
-      let width : HasWidth true None 0 = subst (λ (b : Bool). HasWidth b None (length (parts_encoding s.code ps ++ tail_encoding s.code t))) long h.width in
-      absurd width
+      let width : HasWidth true None 0 =
+      subst (λ (b : Bool). HasWidth b None (length (parts_encoding s.code ps ++ tail_encoding s.code t))) long h.width in absurd width
   op_again p o (Some w) at end ls ps t rest h false short stands place =
-      let width : HasWidth false (Some w) 0 = subst (λ (b : Bool). HasWidth b (Some w) (length (parts_encoding s.code ps ++ tail_encoding s.code t)))
-      short h.width in absurd width
+      let width : HasWidth false (Some w) 0 =
+      subst (λ (b : Bool). HasWidth b (Some w) (length (parts_encoding s.code ps ++ tail_encoding s.code t))) short h.width in absurd width
   op_again p o (Some w) at end ls ps t rest h true long stands place =
       let row = h.row in
       let inside = parts_encoding s.code ps ++ tail_encoding s.code t in

@@ -37,8 +37,8 @@ unfolding plain_at parts_at
 plain_bare scope read row end ls bytes bare =
     let read_none : parts_at read row.parts end ls bytes ≡ Ok (no_parts, ls, bytes) =
     ap (λ (ks : List PartKind). parts_at read ks end ls bytes) (empty_is row.parts bare) in
-    let same : with_declared scope ls (names_declared row.role no_parts empty) ≡ ls = ap (with_declared scope ls) (bare_names row.role)
-    ∙ none_declared scope ls in
+    let same : with_declared scope ls (names_declared row.role no_parts empty) ≡ ls =
+    ap (with_declared scope ls) (bare_names row.role) ∙ none_declared scope ls in
     ap (λ (r : Result (Parts × PathSet × List ℕ) CodeFault). r >>= λ ps. Ok
     (op row.opcode None ps.0 empty, with_declared scope ps.1 (names_declared row.role ps.0 empty), ps.2)) read_none
     ∙ ap (λ (m : PathSet). Ok (op row.opcode None no_parts empty, m, bytes)) same

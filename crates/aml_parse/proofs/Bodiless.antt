@@ -45,8 +45,8 @@ module _ (s : Setting) where
     bodiless levels p ls at (named n ts) h l = tt
     bodiless zero p ls at (op o w ps t) h l = absurd l
     bodiless (suc levels) p ls at (op o w ps t) h l =
-        tail_bodiless levels (terms_in p (l.row).place) (l.row).tail ls (at + (length (opcode_bytes o) + (length_bytes w + length (parts_encoding s.code ps))))
-        t
+        tail_bodiless levels (terms_in p (l.row).place) (l.row).tail ls
+        (at + (length (opcode_bytes o) + (length_bytes w + length (parts_encoding s.code ps)))) t
         (inner_takes p (l.row).place h) (λ e. no_method p (l.row).place h l.taken (body_place o l.row l.listed e)) l.tail
 
     pub terms_bodiless : (levels : ℕ) (p : Position) (ls : PathSet) (at : ℕ) (ts : Trees) → takes_names p ≡ true → AreTerms s levels p ls ts
@@ -54,8 +54,8 @@ module _ (s : Setting) where
     terms_bodiless levels p ls at no_trees h l = tt
     terms_bodiless levels p ls at (tree_more t ts) h l = (
       bodiless levels p ls at t h l.0,
-      terms_bodiless levels (next_position p t) (after s.scope ls t) (at + length (encoding s.code t)) ts (next_takes p t h)
-          l.1,
+      terms_bodiless levels (next_position p t) (after s.scope ls t) (at + length (encoding s.code t)) ts
+          (next_takes p t h) l.1,
     )
 
     tail_bodiless : (levels : ℕ) (p : Position) (k : TailKind) (ls : PathSet) (at : ℕ) (t : Tail) → takes_names p ≡ true → (k ≡ tails.Body → ⊥)

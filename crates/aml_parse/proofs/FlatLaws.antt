@@ -55,7 +55,8 @@ count_took spelled Is so fits end bs x bytes e = bind_then (TookFlat spelled Is 
     let g = guard_ok (ltb 7 n.0) (faults.BadCount (end - length bs)) (Ok (byte n.0, n.1)) x e1 in
     let few : n.0 ≤ 7 = ltb-false _ _ g.0 in
     subst (TookFlat spelled Is bs) (ok_is _ x g.1) (record {
-      takes = subst (λ (r : List ℕ). Takes bs r n.1) (sym (so n.0)) t.0;
+      takes =
+          subst (λ (r : List ℕ). Takes bs r n.1) (sym (so n.0)) t.0;
       is = fits n.0 (omega (arith, few));
     }))
 
@@ -129,8 +130,8 @@ text_again end bs rest h =
     let found : position (λ b. b == 0) all ≡ Some (length bs) =
     ap (λ n. cond (ltb n (length all)) (Some n) None) there ∙ ap (λ b. cond b (Some (length bs)) None) inside in
     let front : take (length bs) all ≡ bs = take_at bs (0 ∷ rest) (length bs) refl in
-    let back : drop (suc (length bs)) all ≡ rest = ap (drop (suc (length bs))) (sym same)
-    ∙ drop_at (bs ++ 0 ∷ []) rest (suc (length bs)) (omega (arith, length-append bs (0 ∷ []))) in
+    let back : drop (suc (length bs)) all ≡ rest =
+    ap (drop (suc (length bs))) (sym same) ∙ drop_at (bs ++ 0 ∷ []) rest (suc (length bs)) (omega (arith, length-append bs (0 ∷ []))) in
     ap (text_part end) same ∙ ap (λ o. text_to o end all) found ∙ ap (λ (t : List ℕ). Ok (text t, drop (suc (length bs)) all)) front
     ∙ ap (λ (t : List ℕ). Ok (text bs, t)) back
 
@@ -143,8 +144,8 @@ text_fault end bs d e = by_position (position (λ b. b == 0) bs) e
 
 -- ---- names
 
-segmented_takes : (end : ℕ) (bs : List ℕ) (x : Name × List ℕ) → IsBytes bs → segmented_at end bs ≡ Ok x → Takes bs (spelling x.0) x.1 × IsName x.0
-    × (has_segment x.0 ≡ true)
+segmented_takes : (end : ℕ) (bs : List ℕ) (x : Name × List ℕ) → IsBytes bs → segmented_at end bs ≡ Ok x
+    → Takes bs (spelling x.0) x.1 × IsName x.0 × (has_segment x.0 ≡ true)
 unfolding segmented_at
 segmented_takes end bs x fits e = bind_then _ _ _ x e (λ n h1 e1.
     let t = name_takes end bs n.0 n.1 fits h1 in

@@ -99,8 +99,8 @@ module _ (s : Setting) (levels : ℕ) (ls : PathSet) where
 
   -- ---- guards
 
-  one_part : (ps : Parts) → AreParts s levels (kinds.Term ∷ []) ls ps → (t : Tree) × (ps ≡ part_more (child t) no_parts)
-      × IsLawful s levels positions.Argument ls t
+  one_part : (ps : Parts) → AreParts s levels (kinds.Term ∷ []) ls ps
+      → (t : Tree) × (ps ≡ part_more (child t) no_parts) × IsLawful s levels positions.Argument ls t
   one_part no_parts h = absurd h
   one_part (part_more (child t) no_parts) h = (t, refl, h.0)
   one_part (part_more (child t) (part_more x xs)) h = absurd h.1

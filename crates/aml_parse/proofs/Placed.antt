@@ -234,8 +234,8 @@ module _ (s : Setting) (levels : ℕ) (read : Position → Reader Tree) (law : I
     guard_placed at end inside d w e =
         let f = guard_fault (is_guard p row.place) there end inside d e in
         let is_if = guard_place p row.place f.0 in
-        let other : row.place ≢ places.External = λ z. let x : is_if_place places.External ≡ true = subst (λ (q : Place). is_if_place q ≡ true) z is_if in
-        absurd cc in
+        let other : row.place ≢ places.External =
+        λ z. let x : is_if_place places.External ≡ true = subst (λ (q : Place). is_if_place q ≡ true) z is_if in absurd cc in
         elim f.1 [
           | inl t ↦ cut_placed s.arity s.code at end inside d w t
           | inr t ↦ subst (StandsAt s.arity s.code) (sym t) (inr (o, found.is, found.there, (row, found.listed, other)))

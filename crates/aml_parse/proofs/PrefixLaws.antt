@@ -46,7 +46,7 @@ module _ (arity : Arities) (scope : Option (List Seg)) (code : List ℕ) (p : Po
       let n = length (encodings code us) in
       let end = at + n in
       let as_us = terms_again s levels read (read_law s levels) n p at end ls us (omega arith) lawful_us are_us.bodies refl in
-      let as_ts = terms_again s levels read (read_law s levels) n p at end ls ts (omega (arith, ap length e)) lawful_ts are_ts.bodies
-      (omega (arith, ap length e)) in
+      let as_ts =
+      terms_again s levels read (read_law s levels) n p at end ls ts (omega (arith, ap length e)) lawful_ts are_ts.bodies (omega (arith, ap length e)) in
       let same = ok_is (us, after_all scope ls us) (ts, after_all scope ls ts) (sym as_us ∙ ap (terms_at read n p end ls) e ∙ as_ts) in
       ap (λ (x : Trees × PathSet). x.0) same

@@ -82,7 +82,8 @@ module _ (arity : Arities) (scope : Option (List Seg)) (p : Position) (code : Li
   all_again ts lawful spelled stands =
       let s = setting_of arity scope code in
       let size : length (encodings code ts) ≡ length code = ap length spelled in
-      let read = terms_again s 512 (read_at arity scope 512) (read_law s 512) (length code) p 0 (length code) set.empty ts (omega (arith, size)) lawful stands
+      let read =
+      terms_again s 512 (read_at arity scope 512) (read_law s 512) (length code) p 0 (length code) set.empty ts (omega (arith, size)) lawful stands
       (omega (arith, size)) in
       read_on _ _ _ _ (ap (terms_at (read_at arity scope 512) (length code) p (length code) set.empty) (sym spelled) ∙ read) refl
 
@@ -95,29 +96,29 @@ module _ (arity : Arities) (scope : Option (List Seg)) (p : Position) (code : Li
 
 -- ---- what a function answers, seen by a view, that gives what reading gives
 
-module _ {X : Type 0} (view : X → Trees) (result : Result X CodeFault) (read : Result Trees CodeFault) (given : Gives view result read) (Reads : Trees → Type 0)
-  where
-    given_sound : ((ts : Trees) → read ≡ Ok ts → Reads ts) → IfOk result (λ x. Reads (view x))
-    given_sound sound = by result given
-      where
-        by : (r : Result X CodeFault) → Gives view r read → IfOk r (λ x. Reads (view x))
-        by (Ok x) e = sound (view x) e
-        by (Err d) e = tt
+module _ {X : Type 0} (view : X → Trees) (result : Result X CodeFault) (read : Result Trees CodeFault) (given : Gives view result read)
+    (Reads : Trees → Type 0) where
+  given_sound : ((ts : Trees) → read ≡ Ok ts → Reads ts) → IfOk result (λ x. Reads (view x))
+  given_sound sound = by result given
+    where
+      by : (r : Result X CodeFault) → Gives view r read → IfOk r (λ x. Reads (view x))
+      by (Ok x) e = sound (view x) e
+      by (Err d) e = tt
 
-    given_one : ((ts : Trees) → Reads ts → read ≡ Ok ts) → IfOk result (λ x. (us : Trees) → Reads us → us ≡ view x)
-    given_one again = by result given
-      where
-        by : (r : Result X CodeFault) → Gives view r read → IfOk r (λ x. (us : Trees) → Reads us → us ≡ view x)
-        by (Ok x) e = λ us h. ok_is us (view x) (sym (again us h) ∙ e)
-        by (Err d) e = tt
+  given_one : ((ts : Trees) → Reads ts → read ≡ Ok ts) → IfOk result (λ x. (us : Trees) → Reads us → us ≡ view x)
+  given_one again = by result given
+    where
+      by : (r : Result X CodeFault) → Gives view r read → IfOk r (λ x. (us : Trees) → Reads us → us ≡ view x)
+      by (Ok x) e = λ us h. ok_is us (view x) (sym (again us h) ∙ e)
+      by (Err d) e = tt
 
-    given_complete : ((ts : Trees) → Reads ts → read ≡ Ok ts) → IfErr result (λ e. (e ≡ faults.NoMemory) ⊎ ((us : Trees) → Reads us → ⊥))
-    given_complete again = by result given
-      where
-        by : (r : Result X CodeFault) → Gives view r read → IfErr r (λ e. (e ≡ faults.NoMemory) ⊎ ((us : Trees) → Reads us → ⊥))
-        by (Ok x) e = tt
-        by (Err d) (inl e) = inl e
-        by (Err d) (inr e) = inr (λ us h. let ok = again us h in absurd (cc (ok, e)))
+  given_complete : ((ts : Trees) → Reads ts → read ≡ Ok ts) → IfErr result (λ e. (e ≡ faults.NoMemory) ⊎ ((us : Trees) → Reads us → ⊥))
+  given_complete again = by result given
+    where
+      by : (r : Result X CodeFault) → Gives view r read → IfErr r (λ e. (e ≡ faults.NoMemory) ⊎ ((us : Trees) → Reads us → ⊥))
+      by (Ok x) e = tt
+      by (Err d) (inl e) = inl e
+      by (Err d) (inr e) = inr (λ us h. let ok = again us h in absurd (cc (ok, e)))
 
 pub given_placed : {X : Type 0} (view : X → Trees) (result : Result X CodeFault) (arity : Arities) (scope : Option (List Seg)) (p : Position) (code : List ℕ)
     → IsBytes code

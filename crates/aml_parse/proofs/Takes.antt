@@ -292,10 +292,10 @@ module _ (s : Setting) (levels : ℕ) (read : Position → Reader Tree) (law : I
         let c = subst (λ (m : PathSet). TookTail s levels q row.tail m at3 ps.2 t) b.same (tail_take q row.tail at3 inner ps.1 ps.2 t w3 h4) in
         let content = parts_encoding s.code ps.0 ++ tail_encoding s.code t.0 in
         let whole : span.1 ≡ content = b.takes.parts ∙ ap (λ (r : List ℕ). parts_encoding s.code ps.0 ++ r) c.text in
-        let spelled : Takes inside (package_bytes span.0 (width_len span.0 + length content) ++ content) span.2
-        × FitsWidth span.0 (width_len span.0 + length content) =
-        subst (λ (i : List ℕ). Takes inside (package_bytes span.0 (width_len span.0 + length i) ++ i) span.2 × FitsWidth span.0 (width_len span.0 + length i))
-        whole (sp.0, sp.1) in
+        let spelled : Takes inside (package_bytes span.0 (width_len span.0 + length content) ++ content) span.2 × FitsWidth span.0
+        (width_len span.0 + length content) =
+        subst (λ (i : List ℕ). Takes inside (package_bytes span.0 (width_len span.0 + length i) ++ i) span.2 × FitsWidth span.0
+        (width_len span.0 + length i)) whole (sp.0, sp.1) in
         let offset : at3 ≡ at + (length (opcode_bytes o) + (width_len span.0 + length (parts_encoding s.code ps.0))) = omega arith in
         operation (Some span.0) ps.0 t.0 t.1 span.2 (record {
           takes = Takes-then bs (opcode_bytes o) inside (package_bytes span.0 (width_len span.0 + length content) ++ content) span.2 t0 spelled.0;

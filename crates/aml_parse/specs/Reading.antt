@@ -40,6 +40,10 @@ use Rattle.aml_parse.specs.declared.positions.Lead.TheVariants as leads
 abbrev pub Reader : Type 0 → Type 0
 Reader A = ℕ → PathSet → List ℕ → Result (A × PathSet × List ℕ) CodeFault
 
+-- a reader that reads to the end of the span
+abbrev pub ReaderToEnd : Type 0 → Type 0
+ReaderToEnd A = ℕ → PathSet → List ℕ → Result (A × PathSet) CodeFault
+
 -- a step that declares nothing
 abbrev pub flat : {A : Type 0} → (ℕ → List ℕ → Left A) → Reader A
 flat step end ls bytes = do
@@ -149,8 +153,7 @@ arguments_at read (suc n) end ls bytes = do
   Ok (tree_more first.0 others.0, others.1, others.2)
 
 -- Terms to the end of the span. The number bounds the turns: that of the bytes is always enough.
-unfoldable pub terms_at : (Position → Reader Tree) → ℕ → Position → ℕ → PathSet → List ℕ
-    → Result (Trees × PathSet) CodeFault
+unfoldable pub terms_at : (Position → Reader Tree) → ℕ → Position → ReaderToEnd Trees
 terms_at read n p end ls [] = Ok (no_trees, ls)
 terms_at read zero p end ls (b ∷ bytes) = Err (faults.Truncated end)
 terms_at read (suc n) p end ls (b ∷ bytes) = do
@@ -222,7 +225,7 @@ field_at read end ls bytes = do
       flat named_unit end ls bytes
 
 -- Elements to the end of the span. The number bounds the turns: that of the bytes is always enough.
-unfoldable pub fields_at : (Position → Reader Tree) → ℕ → ℕ → PathSet → List ℕ → Result (Fields × PathSet) CodeFault
+unfoldable pub fields_at : (Position → Reader Tree) → ℕ → ReaderToEnd Fields
 fields_at read n end ls [] = Ok (no_fields, ls)
 fields_at read zero end ls (b ∷ bytes) = Err (faults.Truncated end)
 fields_at read (suc n) end ls (b ∷ bytes) = do
@@ -290,8 +293,7 @@ abbrev pub body_to : ℕ → ℕ → Tail
 body_to end start = body start (end - start)
 
 -- a tail to the end of its span
-abbrev pub tail_at : (Position → Reader Tree) → Position → TailKind → ℕ → PathSet → List ℕ
-    → Result (Tail × PathSet) CodeFault
+abbrev pub tail_at : (Position → Reader Tree) → Position → TailKind → ReaderToEnd Tail
 tail_at read p tails.Empty end ls inside = Err (faults.Truncated end)
 tail_at read p tails.Terms end ls inside = do
   ts ← terms_at read (length inside) p end ls inside

@@ -7,19 +7,22 @@ use Rattle.aml_code.proofs.table.listed_row.Goals as goal
 
 pub returns-in-None : goal.returns-in-None
 returns-in-None c =
-    let at = looked_up c.args.opcode c.slot.result c.place_at.result _ (option_copied c.row_at.result)
-    c.slot.ensures.opcode c.place_at.ensures c.table.ensures c.row_at.ensures in
+    let at =
+    looked_up c.args.opcode c.slot.result c.place_at.result _
+    (option_copied c.row_at.result) c.slot.ensures.opcode c.place_at.ensures c.table.ensures c.row_at.ensures in
     row_nowhere c.args.opcode (at ∙ ap (λ r. option_map row_view (option_copied r)) c.in-None.is)
 
 pub returns-then-row-opcode : goal.returns-then-row-opcode
 returns-then-row-opcode c =
-    let at = looked_up c.args.opcode c.slot.result c.place_at.result _ (option_copied c.row_at.result)
-    c.slot.ensures.opcode c.place_at.ensures c.table.ensures c.row_at.ensures in
+    let at =
+    looked_up c.args.opcode c.slot.result c.place_at.result _
+    (option_copied c.row_at.result) c.slot.ensures.opcode c.place_at.ensures c.table.ensures c.row_at.ensures in
     row_here c.args.opcode (row_view c.in-Some.row.now) (at ∙ ap (λ r. option_map row_view (option_copied r)) c.in-Some.is) (eq-eqb _ _ c.if-row-opcode.true)
 
 pub returns-else-row-opcode : goal.returns-else-row-opcode
 returns-else-row-opcode c =
-    let at = looked_up c.args.opcode c.slot.result c.place_at.result _ (option_copied c.row_at.result)
-    c.slot.ensures.opcode c.place_at.ensures c.table.ensures c.row_at.ensures in
+    let at =
+    looked_up c.args.opcode c.slot.result c.place_at.result _
+    (option_copied c.row_at.result) c.slot.ensures.opcode c.place_at.ensures c.table.ensures c.row_at.ensures in
     row_not_here c.args.opcode (row_view c.in-Some.row.now) (at ∙ ap (λ r. option_map row_view (option_copied r)) c.in-Some.is)
     (ne_eqb _ _ c.if-row-opcode.false)

@@ -17,5 +17,5 @@ returns-clause-complete c = given_module_complete (λ x. nodes_view x.items) c.m
 
 pub returns-clause-placed : goal.returns-clause-placed
 returns-clause-placed c =
-    given_placed (λ x. nodes_view x.items) c.module_terms.result no_arguments None positions.ModuleTerm c.args.code.now (λ i. omega (arith, c.type_inv.code i))
-    c.module_terms.ensures
+    given_placed (λ x. nodes_view x.items) c.module_terms.result no_arguments None positions.ModuleTerm c.args.code.now
+    (λ i. omega (arith, c.type_inv.code i)) c.module_terms.ensures

@@ -2,34 +2,36 @@ use Rattle.std.proofs.Common.{◌≡◌, ◌+◌, ◌-◌, length, drop, get_or,
 use Rattle.std.proofs.Math.Seq.{drop-cons}
 use Rattle.std.proofs.lemmas.List.{drop_all}
 use Rattle.aml_code.specs.declared.rows.PartKind.TheVariants as kinds
+use Rattle.aml_code.specs.declared.rows.Position.TheVariants as positions
 use Rattle.aml_code.specs.Rows.{row_view}
-use Rattle.aml_code.specs.View.{nodes_view, parts_view, fields_view}
+use Rattle.aml_code.specs.View.{node_view, field_view}
 use Rattle.aml_parse.specs.Contexts.{scope_of}
-use Rattle.aml_parse.specs.Reading.{read_at, arguments_at, terms_at, fields_at}
+use Rattle.aml_parse.specs.Reading.{read_at, terms_at}
 use Rattle.aml_parse.proofs.Bare.{plain_bare}
-use Rattle.aml_parse.proofs.Loops.{parts_go_on, parts_end, arguments_go_on, arguments_fails, arguments_end, terms_go_on, terms_fails, terms_end, terms_run_out}
-use Rattle.aml_parse.proofs.Loops.{fields_go_on, fields_fails, fields_end, fields_run_out}
+use Rattle.aml_parse.proofs.Loops.{parts_go_on, parts_end, arguments_go_on, arguments_fails, arguments_end, go_on, fails, runs_out, terms_loop, terms_end}
+use Rattle.aml_parse.proofs.Loops.{fields_in, fields_loop, fields_end}
 use Rattle.aml_parse.proofs.terms.+terms.Goals as goal
 
 pub arguments-returns-in-Err : goal.arguments-returns-in-Err
 arguments-returns-in-Err g t c =
-    arguments_fails c.in-Err.fault (read_at (g.A.Arity.arity c.args.context.now.arity.now) (scope_of c.args.context.now.scope) c.args.levels)
-    (nodes_view c.loop-i.found.items) c.args.count c.loop-i._i c.args.end c.loop-i.locals c.loop-i.rest.now _
-    c.loop-i-test.true c.in-Err.ensures c.loop-i.invariant
+    let read = read_at (g.A.Arity.arity c.args.context.now.arity.now) (scope_of c.args.context.now.scope) c.args.levels in
+    arguments_fails read c.loop-i.found.items c.args.end c.loop-i.locals c.loop-i.rest.now _ c.in-Err.fault (c.args.count - c.loop-i._i)
+    (omega (arith, c.loop-i-test.true)) c.in-Err.ensures c.loop-i.invariant
 
 pub arguments-loop-i-preserved : goal.arguments-loop-i-preserved
 arguments-loop-i-preserved g t c =
     let read = read_at (g.A.Arity.arity c.args.context.now.arity.now) (scope_of c.args.context.now.scope) c.args.levels in
     let less : c.args.count - c.loop-i._i - 1 ≡ c.args.count - (c.loop-i._i + 1) = omega arith in
-    let next = arguments_go_on read c.loop-i.found.items c.in-Ok.node (c.args.count - c.loop-i._i)
-    c.args.end c.loop-i.locals c.loop-i.rest.now c.term.new.locals c.in-Ok.behind.now
-    (arguments_at read c.args.count c.args.end c.args.locals.now c.args.bytes.now) (omega (arith, c.loop-i-test.true)) c.in-Ok.ensures c.loop-i.invariant in
+    let next =
+    arguments_go_on read c.loop-i.found.items c.args.end c.loop-i.locals c.loop-i.rest.now _
+    (c.args.count - c.loop-i._i) c.in-Ok.node c.term.new.locals c.in-Ok.behind.now
+    (omega (arith, c.loop-i-test.true)) c.in-Ok.ensures c.loop-i.invariant in
     rw c.in_ok-push-in-Ok.ensures.items (rw less at next)
 
 pub arguments-returns : goal.arguments-returns
 arguments-returns g t c =
     let read = read_at (g.A.Arity.arity c.args.context.now.arity.now) (scope_of c.args.context.now.scope) c.args.levels in
-    arguments_end read (nodes_view c.loop-i.found.items) (c.args.count - c.loop-i._i) c.args.end c.loop-i.locals c.loop-i.rest.now _
+    arguments_end read c.loop-i.found.items c.args.end c.loop-i.locals c.loop-i.rest.now _ (c.args.count - c.loop-i._i)
     (omega (arith, c.loop-i-test.false)) c.loop-i.invariant
 
 pub plain-returns-then-is_empty : goal.plain-returns-then-is_empty
@@ -46,80 +48,84 @@ parts-loop-kind-preserved g t c =
     let k = get_or ks i kinds.Term in
     let cut : drop i ks ≡ k ∷ drop (i + 1) ks = rw add-one (drop-cons ks i kinds.Term c.loop-kind-test.true) in
     let before = rw cut at c.loop-kind.invariant in
-    rw c.in_ok-push.ensures.items (parts_go_on read c.loop-kind.found.items c.in_ok-part.part k (drop (i + 1) ks)
-    c.args.end c.loop-kind.locals c.loop-kind.rest.now c.part.new.locals c.in_ok-part.behind.now _ c.in_ok-part.ensures before)
+    rw c.in_ok-push.ensures.items
+    (parts_go_on read c.loop-kind.found.items c.args.end c.loop-kind.locals c.loop-kind.rest.now _ c.in_ok-part.part k (drop (i + 1) ks)
+    c.part.new.locals c.in_ok-part.behind.now c.in_ok-part.ensures before)
 
 pub parts-returns : goal.parts-returns
 parts-returns g t c =
     let read = read_at (g.A.Arity.arity c.args.context.now.arity.now) (scope_of c.args.context.now.scope) c.args.levels in
     let cut : drop c.loop-kind.kind-index c.args.kinds.now ≡ [] = drop_all _ _ c.loop-kind-test.false in
-    parts_end read (parts_view c.loop-kind.found.items) c.args.end c.loop-kind.locals c.loop-kind.rest.now _ (rw cut at c.loop-kind.invariant)
+    parts_end read c.loop-kind.found.items c.args.end c.loop-kind.locals c.loop-kind.rest.now _ (rw cut at c.loop-kind.invariant)
 
 pub terms-returns-then-is_empty : goal.terms-returns-then-is_empty
 terms-returns-then-is_empty g t c =
     let read = read_at (g.A.Arity.arity c.args.context.now.arity.now) (scope_of c.args.context.now.scope) c.args.levels in
-    terms_end read (nodes_view c.loop-turn.found.items) (length c.args.bytes.now - c.loop-turn._turn)
-    c.loop-turn.here c.args.end c.loop-turn.locals c.loop-turn.rest.now _ (grind arith) c.loop-turn.invariant
+    terms_end read c.loop-turn.found.items (length c.args.bytes.now - c.loop-turn._turn) c.loop-turn.here c.args.end c.loop-turn.locals c.loop-turn.rest.now _
+    (grind arith) c.loop-turn.invariant
 
 pub terms-returns-in-Err : goal.terms-returns-in-Err
 terms-returns-in-Err g t c =
     let read = read_at (g.A.Arity.arity c.args.context.now.arity.now) (scope_of c.args.context.now.scope) c.args.levels in
-    terms_fails c.in-Err.fault read (nodes_view c.loop-turn.found.items) (length c.args.bytes.now)
-    c.loop-turn._turn c.loop-turn.here c.args.end c.loop-turn.locals c.loop-turn.rest.now _ c.loop-turn-test.true (grind arith)
-    c.in-Err.ensures c.loop-turn.invariant
+    fails _ _ _ _ (terms_at read) node_view (terms_loop read) c.loop-turn.found.items c.loop-turn.here c.args.end c.loop-turn.locals _
+    c.in-Err.fault (length c.args.bytes.now) c.loop-turn._turn c.loop-turn.rest.now c.loop-turn-test.true (grind arith) c.in-Err.ensures c.loop-turn.invariant
 
 pub terms-loop-turn-preserved : goal.terms-loop-turn-preserved
 terms-loop-turn-preserved g t c =
     let read = read_at (g.A.Arity.arity c.args.context.now.arity.now) (scope_of c.args.context.now.scope) c.args.levels in
     let less : length c.args.bytes.now - c.loop-turn._turn - 1 ≡ length c.args.bytes.now - (c.loop-turn._turn + 1) = omega arith in
-    let next = terms_go_on read c.loop-turn.found.items c.in-Ok.node (length c.args.bytes.now - c.loop-turn._turn)
-    c.loop-turn.here c.args.end c.loop-turn.locals c.loop-turn.rest.now c.term.new.locals c.in-Ok.behind.now
-    (terms_at read (length c.args.bytes.now) c.args.position c.args.end c.args.locals.now c.args.bytes.now) (grind arith) (omega (arith, c.loop-turn-test.true))
-    c.in-Ok.ensures c.loop-turn.invariant in
+    let next =
+    go_on _ _ _ _ (terms_at read) node_view (terms_loop read) c.loop-turn.found.items c.loop-turn.here c.args.end c.loop-turn.locals _
+    (length c.args.bytes.now - c.loop-turn._turn)
+    c.loop-turn.rest.now c.in-Ok.node c.term.new.locals c.in-Ok.behind.now (grind arith)
+    (omega (arith, c.loop-turn-test.true)) c.in-Ok.ensures c.loop-turn.invariant in
     rw (c.in_ok-push-in-Ok.ensures.items, c.next_position-here.ensures) (rw less at next)
 
 pub terms-returns-then-is_empty-2 : goal.terms-returns-then-is_empty-2
 terms-returns-then-is_empty-2 g t c =
     let read = read_at (g.A.Arity.arity c.args.context.now.arity.now) (scope_of c.args.context.now.scope) c.args.levels in
-    terms_end read (nodes_view c.loop-turn.found.items) (length c.args.bytes.now - c.loop-turn._turn)
-    c.loop-turn.here c.args.end c.loop-turn.locals c.loop-turn.rest.now _ (grind arith) c.loop-turn.invariant
+    terms_end read c.loop-turn.found.items (length c.args.bytes.now - c.loop-turn._turn) c.loop-turn.here c.args.end c.loop-turn.locals c.loop-turn.rest.now _
+    (grind arith) c.loop-turn.invariant
 
 pub terms-returns-else-is_empty-2 : goal.terms-returns-else-is_empty-2
 terms-returns-else-is_empty-2 g t c =
     let read = read_at (g.A.Arity.arity c.args.context.now.arity.now) (scope_of c.args.context.now.scope) c.args.levels in
-    inr (terms_run_out read (nodes_view c.loop-turn.found.items) (length c.args.bytes.now - c.loop-turn._turn)
-    c.loop-turn.here c.args.end c.loop-turn.locals c.loop-turn.rest.now _ (omega (arith, c.loop-turn-test.false)) (grind arith) c.loop-turn.invariant)
+    inr (runs_out _ _ _ _ (terms_at read) node_view (terms_loop read) c.loop-turn.found.items c.loop-turn.here c.args.end c.loop-turn.locals _
+    (length c.args.bytes.now - c.loop-turn._turn)
+    c.loop-turn.rest.now (omega (arith, c.loop-turn-test.false)) (grind arith) c.loop-turn.invariant)
 
 pub fields-returns-then-is_empty : goal.fields-returns-then-is_empty
 fields-returns-then-is_empty g t c =
     let read = read_at (g.A.Arity.arity c.args.context.now.arity.now) (scope_of c.args.context.now.scope) c.args.levels in
-    fields_end read (fields_view c.loop-turn.found.items) (length c.args.bytes.now - c.loop-turn._turn) c.args.end c.loop-turn.locals c.loop-turn.rest.now _
+    fields_end read c.loop-turn.found.items (length c.args.bytes.now - c.loop-turn._turn) c.args.end c.loop-turn.locals c.loop-turn.rest.now _
     (grind arith) c.loop-turn.invariant
 
 pub fields-returns-in-Err : goal.fields-returns-in-Err
 fields-returns-in-Err g t c =
     let read = read_at (g.A.Arity.arity c.args.context.now.arity.now) (scope_of c.args.context.now.scope) c.args.levels in
-    fields_fails c.in-Err.fault read (fields_view c.loop-turn.found.items) (length c.args.bytes.now)
-    c.loop-turn._turn c.args.end c.loop-turn.locals c.loop-turn.rest.now _ c.loop-turn-test.true (grind arith) c.in-Err.ensures c.loop-turn.invariant
+    fails _ _ _ _ (fields_in read) field_view (fields_loop read) c.loop-turn.found.items positions.Data c.args.end c.loop-turn.locals _
+    c.in-Err.fault (length c.args.bytes.now) c.loop-turn._turn c.loop-turn.rest.now c.loop-turn-test.true (grind arith) c.in-Err.ensures c.loop-turn.invariant
 
 pub fields-loop-turn-preserved : goal.fields-loop-turn-preserved
 fields-loop-turn-preserved g t c =
     let read = read_at (g.A.Arity.arity c.args.context.now.arity.now) (scope_of c.args.context.now.scope) c.args.levels in
     let less : length c.args.bytes.now - c.loop-turn._turn - 1 ≡ length c.args.bytes.now - (c.loop-turn._turn + 1) = omega arith in
-    let next = fields_go_on read c.loop-turn.found.items c.in-Ok.field (length c.args.bytes.now - c.loop-turn._turn)
-    c.args.end c.loop-turn.locals c.loop-turn.rest.now c.field.new.locals c.in-Ok.behind.now
-    (fields_at read (length c.args.bytes.now) c.args.end c.args.locals.now c.args.bytes.now) (grind arith) (omega (arith, c.loop-turn-test.true))
-    c.in-Ok.ensures c.loop-turn.invariant in
+    let next =
+    go_on _ _ _ _ (fields_in read) field_view (fields_loop read) c.loop-turn.found.items positions.Data c.args.end c.loop-turn.locals _
+    (length c.args.bytes.now - c.loop-turn._turn)
+    c.loop-turn.rest.now c.in-Ok.field c.field.new.locals c.in-Ok.behind.now (grind arith)
+    (omega (arith, c.loop-turn-test.true)) c.in-Ok.ensures c.loop-turn.invariant in
     rw c.in_ok-push-in-Ok.ensures.items (rw less at next)
 
 pub fields-returns-then-is_empty-2 : goal.fields-returns-then-is_empty-2
 fields-returns-then-is_empty-2 g t c =
     let read = read_at (g.A.Arity.arity c.args.context.now.arity.now) (scope_of c.args.context.now.scope) c.args.levels in
-    fields_end read (fields_view c.loop-turn.found.items) (length c.args.bytes.now - c.loop-turn._turn) c.args.end c.loop-turn.locals c.loop-turn.rest.now _
+    fields_end read c.loop-turn.found.items (length c.args.bytes.now - c.loop-turn._turn) c.args.end c.loop-turn.locals c.loop-turn.rest.now _
     (grind arith) c.loop-turn.invariant
 
 pub fields-returns-else-is_empty-2 : goal.fields-returns-else-is_empty-2
 fields-returns-else-is_empty-2 g t c =
     let read = read_at (g.A.Arity.arity c.args.context.now.arity.now) (scope_of c.args.context.now.scope) c.args.levels in
-    inr (fields_run_out read (fields_view c.loop-turn.found.items) (length c.args.bytes.now - c.loop-turn._turn)
-    c.args.end c.loop-turn.locals c.loop-turn.rest.now _ (omega (arith, c.loop-turn-test.false)) (grind arith) c.loop-turn.invariant)
+    inr (runs_out _ _ _ _ (fields_in read) field_view (fields_loop read) c.loop-turn.found.items positions.Data c.args.end c.loop-turn.locals _
+    (length c.args.bytes.now - c.loop-turn._turn)
+    c.loop-turn.rest.now (omega (arith, c.loop-turn-test.false)) (grind arith) c.loop-turn.invariant)
