@@ -150,7 +150,10 @@ impl Kind {
             Kind::Standard(content) => match content {
                 Content::Xsdt => check_addresses(table_of(bytes), XSDT_WIDTH),
                 Content::Rsdt => check_addresses(table_of(bytes), RSDT_WIDTH),
-                Content::Fadt => Fadt::check(table_of(bytes)),
+                Content::Fadt => {
+                    Fadt::read(table_of(bytes))?;
+                    Ok(())
+                }
                 Content::Madt => Madt::check(table_of(bytes)),
                 Content::Other => Ok(()),
             },

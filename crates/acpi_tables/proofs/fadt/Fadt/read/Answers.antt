@@ -4,4 +4,4 @@ use Rattle.acpi_tables.proofs.fadt.Fadt.read.Goals as goal
 
 pub returns-clause-fields : goal.returns-clause-fields
 unfolding value_in
-returns-clause-fields c = cc (map-value_in-fadt_fields c.args.table.now c.in_ok-check.ensures.holds)
+returns-clause-fields c = cc (map-value_in-fadt_fields c.args.table.now c.if-table-lt-FLAGS_END.false)
