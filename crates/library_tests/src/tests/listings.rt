@@ -116,9 +116,7 @@ fn status_behind<T: Threads + Wait + Sync>(
     let dumps = eight_methods(alloc)?;
     let mut out = Vec::new(alloc);
     let mut error = Vec::new(alloc);
-    Ok(status_of(
-        threads, alloc, &dumps, 2, gate, &mut out, &mut error,
-    ))
+    Ok(status_of(threads, alloc, &dumps, 2, gate, &mut out, &mut error))
 }
 
 /// In a run too the first of two calls waits for the second, which comes from another thread, and each number enters
