@@ -296,6 +296,13 @@ def madt(size):
 ADDRESS = 0x1000
 
 
+def old_root(rsdt):
+    """A root pointer of revision 0."""
+    data = bytearray(b"RSD PTR \0BENCH \0" + rsdt.to_bytes(4, "little"))
+    data[8] = -sum(data) % 256
+    return bytes(data)
+
+
 def root(xsdt):
     data = bytearray(b"RSD PTR \0BENCH \x02" + bytes(4) + (36).to_bytes(4, "little"))
     data += xsdt.to_bytes(8, "little") + bytes(4)
@@ -318,6 +325,23 @@ def listed(entries):
         "facp.dat": any_table(b"FACP", fadt),
         "dsdt.dat": table(b""),
         **ssdts,
+        "tables.map": "".join(f"{places[name]:016X} {name}\n" for name in names).encode(),
+    }
+
+
+def named_entries(entries):
+    """An RSDT that lists a file again and again, each byte of whose long name is four in the text."""
+    long_name = "\x01" * 255
+    names = ["rsdp.dat", "rsdt.dat", "facp.dat", "dsdt.dat", long_name]
+    places = {name: ADDRESS * (number + 1) for number, name in enumerate(names)}
+    content = b"".join(places[name].to_bytes(4, "little") for name in ["facp.dat"] + [long_name] * (entries - 1))
+    fadt = bytes(4) + places["dsdt.dat"].to_bytes(4, "little") + bytes(104)
+    return {
+        "rsdp.dat": old_root(places["rsdt.dat"]),
+        "rsdt.dat": any_table(b"RSDT", content),
+        "facp.dat": any_table(b"FACP", fadt),
+        "dsdt.dat": table(b""),
+        long_name: any_table(b"SSDT", b""),
         "tables.map": "".join(f"{places[name]:016X} {name}\n" for name in names).encode(),
     }
 
@@ -372,4 +396,5 @@ SHAPES = (
     Shape("tables", 512, "files", lambda count: calling_files(count, 500)),
     Shape("madt", MOST_BYTES, "bytes", madt),
     Shape("listed", 2_000_000, "entries", listed),
+    Shape("named-entries", 262_144, "entries", named_entries),
 )
