@@ -1,10 +1,12 @@
--- Which depths of a scope have to be asked.
+-- Which depths of a scope have to be asked. Where a node has bare children alone, nothing is known of a segment there
+-- (`silent_at`, `silent_past`); such depths are passed over (`next_further`, `next_past`), and no candidate of a segment
+-- stands there (`none_given_below`, `none_met_below`).
 use Rattle.std.specs.Prelude.{slice_get, ◌||◌}
-use Rattle.std.proofs.Common.{◌≡◌, ℕ, zero, suc, ◌+◌, ◌<◌, ◌≤◌, Bool, true, false, List, [], ◌∷◌, ◌++◌, length, take, get_or, Option, Some, None, IfSome}
+use Rattle.std.proofs.Common.{◌≡◌, ℕ, ◌+◌, ◌<◌, ◌≤◌, false, List, [], ◌∷◌, ◌++◌, length, take, get_or, Option, Some, None, IfSome}
 use Rattle.std.proofs.Common.{is_some, inl, inr, refl, sym, ap, subst, ◌∙◌, arith, length-append}
+use Rattle.std.specs.FinMap as map
 use Rattle.std.specs.FinSet as set
-use Rattle.std.specs.Bool.{OnFalse}
-use Rattle.std.proofs.lemmas.Bool.{cases_lt, false≢true}
+use Rattle.std.proofs.lemmas.Bool.{cases_lt}
 use Rattle.std.proofs.lemmas.Option.{slice_get_past}
 use Rattle.std.specs.Option.{option_and_then, option_or}
 use Rattle.aml_names.specs.declared.segments.Seg.{Seg}
@@ -16,47 +18,41 @@ use Rattle.aml_space.specs.Graph.{walk}
 use Rattle.aml_space.specs.Known.{namespace_in}
 use Rattle.aml_space.specs.Namespace.{Namespace, decides, is_outside}
 use Rattle.aml_space.specs.Predefined.{predefined}
-use Rattle.aml_space.specs.Nodes.{kids_of, kinds_of, outs_of, givens_of, known_by, IsShape}
+use Rattle.aml_space.specs.Nodes.{Content, kids_of, content_of, kind_in, part_by, known_by, IsShape}
 use Rattle.aml_space.specs.Candidates.{IsAlong, IsBare, HasBareChildren, IsSilent, IsNext, AreAsked}
-use Rattle.aml_space.proofs.Along.{get_front, get_end, along_past}
-use Rattle.aml_space.proofs.Change.{walk_push}
-use Rattle.aml_space.proofs.Index.{known_kind, known_out, known_given}
-use Rattle.aml_space.proofs.Meaning.{predefined_deep, alone}
-
-pub of_false : (b : Bool) (P : Type 0) → OnFalse b P → b ≡ false → P
-of_false true P gives is = absurd (false≢true (sym is))
-of_false false P gives is = gives
+use Rattle.aml_space.proofs.Along.{along_past}
+use Rattle.aml_space.proofs.Basics.{read_front, read_last, alone}
+use Rattle.aml_space.proofs.Walks.{walk_push}
+use Rattle.aml_space.proofs.Index.{part_at}
+use Rattle.aml_space.proofs.Meaning.{predefined_deep}
 
 module _ (ns : List Node) where
-  bare_kind : (o : Option ℕ) → IfSome o (IsBare ns) → option_and_then (kinds_of ns) o ≡ None
-  bare_kind None bare = refl
-  bare_kind (Some j) bare = bare.kind
-
-  bare_out : (o : Option ℕ) → IfSome o (IsBare ns) → option_and_then (outs_of ns) o ≡ None
-  bare_out None bare = refl
-  bare_out (Some j) bare = bare.out
-
-  bare_given : (o : Option ℕ) → IfSome o (IsBare ns) → option_and_then (givens_of ns) o ≡ None
-  bare_given None bare = refl
-  bare_given (Some j) bare = bare.given
+  bare_at : {X : Type 0} (part : Content → Option X) → ((j : ℕ) → IsBare ns j → part (content_of ns j) ≡ None) → (o : Option ℕ) → IfSome o (IsBare ns)
+      → option_and_then (λ j. part (content_of ns j)) o ≡ None
+  bare_at part gives None bare = refl
+  bare_at part gives (Some j) bare = gives j bare
 
   module _ (shape : IsShape ns) (p : List Seg) where
     -- a path below which there are no nodes but bare ones
-    silent : ((s : Seg) → IfSome (walk (kids_of ns) 0 (p ++ s ∷ [])) (IsBare ns)) → IsSilent (namespace_in (known_by ns)) p
-    silent bare = record {
-      declared = λ s. sym (known_kind ns shape (p ++ s ∷ [])) ∙ bare_kind (walk (kids_of ns) 0 (p ++ s ∷ [])) (bare s);
-      out = λ s. sym (known_out ns shape (p ++ s ∷ [])) ∙ bare_out (walk (kids_of ns) 0 (p ++ s ∷ [])) (bare s);
-      given = λ s. sym (known_given ns shape (p ++ s ∷ [])) ∙ bare_given (walk (kids_of ns) 0 (p ++ s ∷ [])) (bare s);
+    silent : (o : Option ℕ) → walk (kids_of ns) 0 p ≡ o → ((s : Seg) → IfSome (option_and_then (λ j. child_in (kids_of ns j) s) o) (IsBare ns))
+        → IsSilent (namespace_in (known_by ns)) p
+    silent o led bare = record {
+      declared = by kind_in (λ j b. b.kind);
+      out = by (λ c. c.out) (λ j b. b.out);
+      given = by (λ c. c.given) (λ j b. b.given);
     }
-
-    led_by : (o : Option ℕ) → walk (kids_of ns) 0 p ≡ o → (s : Seg) → walk (kids_of ns) 0 (p ++ s ∷ []) ≡ option_and_then (λ j. child_in (kids_of ns j) s) o
-    led_by o led s = walk_push (kids_of ns) 0 p s ∙ ap (option_and_then (λ j. child_in (kids_of ns j) s)) led
+      where
+        by : {X : Type 0} (part : Content → Option X) → ((j : ℕ) → IsBare ns j → part (content_of ns j) ≡ None) → (s : Seg)
+            → map.get (part_by part ns) (p ++ s ∷ []) ≡ None
+        by part gives s = sym (part_at part ns shape (p ++ s ∷ []))
+            ∙ ap (option_and_then (λ j. part (content_of ns j))) (walk_push (kids_of ns) 0 p s ∙ ap (option_and_then (λ j. child_in (kids_of ns j) s)) led)
+            ∙ bare_at part gives _ (bare s)
 
     pub silent_at : (at : ℕ) → walk (kids_of ns) 0 p ≡ Some at → HasBareChildren ns at → IsSilent (namespace_in (known_by ns)) p
-    silent_at at led bare = silent (λ s. subst (λ o. IfSome o (IsBare ns)) (sym (led_by (Some at) led s)) (bare s))
+    silent_at at led bare = silent (Some at) led bare
 
     pub silent_past : walk (kids_of ns) 0 p ≡ None → IsSilent (namespace_in (known_by ns)) p
-    silent_past none = silent (λ s. subst (λ o. IfSome o (IsBare ns)) (sym (led_by None none s)) tt)
+    silent_past none = silent None none (λ s. tt)
 
 module _ (n : Namespace) (path : List Seg) where
   pub next_itself : (d asked : ℕ) → asked ≡ d → IsNext n path d asked
@@ -89,13 +85,13 @@ module _ (n : Namespace) (path : List Seg) where
       AreAsked n path new
   asked_more levels new l so_far next is d = subst (λ ls. IfSome (slice_get ls d) (λ (m : Level). IsNext n path d m.asked)) (sym is)
       (elim (cases_lt d (length levels)) [
-        | inl below ↦ subst (λ o. IfSome o (λ (m : Level). IsNext n path d m.asked)) (sym (get_front levels l d below)) (so_far d)
+        | inl below ↦ subst (λ o. IfSome o (λ (m : Level). IsNext n path d m.asked)) (sym (read_front levels (l ∷ []) d below)) (so_far d)
         | inr past ↦ elim (cases_lt (length levels) d) [
           | inl far ↦ subst (λ o. IfSome o (λ (m : Level). IsNext n path d m.asked))
               (sym (slice_get_past (levels ++ l ∷ []) d (omega (arith, far, length-append levels (l ∷ []))))) tt
           | inr near ↦
               let here : d ≡ length levels = omega (arith, past, near) in
-              subst (λ o. IfSome o (λ (m : Level). IsNext n path d m.asked)) (sym (ap (slice_get (levels ++ l ∷ [])) here ∙ get_end levels l))
+              subst (λ o. IfSome o (λ (m : Level). IsNext n path d m.asked)) (sym (ap (slice_get (levels ++ l ∷ [])) here ∙ read_last levels l))
               (subst (λ e. IsNext n path e l.asked) (sym here) next)
         ]
       ])
@@ -113,23 +109,19 @@ next_of_level ns path levels shape along asked d m within less last l at =
     (omega (arith, behind, last (omega (arith, behind, to))))))
 
 -- what silence says of a segment
-module _ (n : Namespace) (path : List Seg) where
-  pub none_given_below : (segment : List Seg) → length segment ≡ 1 → (d asked : ℕ) → IsNext n path d asked → (e : ℕ) → asked < e → e ≤ d →
-      n.givens (take e path ++ segment) ≡ None
-  none_given_below segment one d asked next e more less =
-      subst (λ t. n.givens (take e path ++ t) ≡ None) (alone segment (record { 0 = [] }) one)
-      ((next.silent e more less).given (get_or segment 0 (record { 0 = [] })))
+module _ (n : Namespace) (path segment : List Seg) (one : length segment ≡ 1) where
+  below : {X : Type 0} (part : List Seg → Option X) (q : List Seg) → ((s : Seg) → part (q ++ s ∷ []) ≡ None) → part (q ++ segment) ≡ None
+  below part q none = subst (λ t. part (q ++ t) ≡ None) (alone segment (record { 0 = [] }) one) (none (get_or segment 0 (record { 0 = [] })))
 
-  pub none_met_below : (locals : PathSet) (segment : List Seg) → length segment ≡ 1 → (d asked : ℕ) → d ≤ length path → IsNext n path d asked →
+  pub none_given_below : (d asked : ℕ) → IsNext n path d asked → (e : ℕ) → asked < e → e ≤ d → n.givens (take e path ++ segment) ≡ None
+  none_given_below d asked next e more less = below n.givens (take e path) (next.silent e more less).given
+
+  pub none_met_below : (locals : PathSet) (d asked : ℕ) → d ≤ length path → IsNext n path d asked →
       ((e : ℕ) → asked < e → e ≤ d → set.contains locals (take e path ++ segment) ≡ false) →
       (e : ℕ) → asked < e → e ≤ d → (decides n locals (take e path ++ segment) ≡ false) × (is_outside n (take e path ++ segment) ≡ false)
-  none_met_below locals segment one d asked within next no_local e more less =
+  none_met_below locals d asked within next no_local e more less =
       let silent = next.silent e more less in
-      let s = get_or segment 0 (record { 0 = [] }) in
-      let undeclared : n.declared (take e path ++ segment) ≡ None =
-      subst (λ t. n.declared (take e path ++ t) ≡ None) (alone segment (record { 0 = [] }) one) (silent.declared s) in
-      let no_out : n.outs (take e path ++ segment) ≡ None = subst (λ t. n.outs (take e path ++ t) ≡ None) (alone segment (record { 0 = [] }) one)
-      (silent.out s) in
+      let undeclared = below n.declared (take e path) silent.declared in
       let no_name : predefined (take e path ++ segment) ≡ None =
       predefined_deep e path segment (λ root. omega (arith, root, more)) (omega (arith, less, within)) one in
-      (λ i. no_local e more less i || is_some (option_or (undeclared i) (no_name i)), ap is_some no_out)
+      (λ i. no_local e more less i || is_some (option_or (undeclared i) (no_name i)), ap is_some (below n.outs (take e path) silent.out))

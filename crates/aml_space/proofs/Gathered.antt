@@ -1,4 +1,5 @@
--- The rows below a node are what is gathered there.
+-- The rows at and below a node are what is gathered there, with the node's path in front (`rows_after`), since a node
+-- keeps the path that leads to it. So the rows from the root on are those that are known (`rows_of_all`).
 use Rattle.std.specs.Prelude.{slice_get}
 use Rattle.std.proofs.Common.{◌≡◌, ℕ, zero, suc, ◌<◌, List, [], ◌∷◌, ◌++◌, map as map_list, Option, Some, None, length, refl, sym, ap, ◌∙◌, append_assoc}
 use Rattle.std.specs.List.{flat_map}
@@ -8,64 +9,50 @@ use Rattle.std.specs.FinMap as map
 use Rattle.aml_names.specs.declared.segments.Seg.{Seg}
 use Rattle.aml_space.specs.declared.kinds.Kind.{Kind}
 use Rattle.aml_children.specs.declared.children.Child.{Child}
-use Rattle.aml_space.specs.declared.nodes.Node.{Node}
-use Rattle.std.specs.Global.{Box}
-use Rattle.aml_space.specs.declared.nodes.Row.{Row}
-use Rattle.aml_space.specs.Graph.{walk, own, under, gather}
 use Rattle.aml_children.specs.Children.{child_in}
-use Rattle.aml_space.specs.Nodes.{kids_of, kinds_of, pairs_of, pair_in, kind_in, known_by, rows_below, ahead, rows_ahead, links_of, next_node, own_row, IsIndex}
-use Rattle.aml_space.proofs.Change.{walk_push}
+use Rattle.aml_space.specs.declared.nodes.Node.{Node}
+use Rattle.aml_space.specs.Graph.{walk, own, under, gather}
+use Rattle.aml_space.specs.Nodes.{kids_of, kinds_of, pairs_of, known_by, rows_below, ahead, rows_ahead, links_of, next_node, own_row, IsIndex}
+use Rattle.aml_space.proofs.Walks.{walk_push}
 use Rattle.aml_space.proofs.Family.{at_found}
 use Rattle.aml_space.proofs.Visiting.{one_on}
 use Rattle.aml_space.proofs.Order.{rises_gather, entries_of_rising}
 
--- the kind of a node is that of its row
-pub kind_of_pair : (n : Option Node) → kind_in n ≡ option_map (λ e. e.1) (pair_in n)
-kind_of_pair None = refl
-kind_of_pair (Some n) = by n.row
-  where
-    by : (r : Option (Box Row)) → option_map (λ (r : Box Row). r.value.kind) r
-        ≡ option_map (λ (e : List Seg × Kind). e.1) (option_map (λ (r : Box Row). (r.value.path, r.value.kind)) r)
-    by None = refl
-    by (Some r) = refl
-
 module _ (ns : List Node) (is : IsIndex ns) where
-  kids : ℕ → List Child
-  kids = kids_of ns
-
-  below : ℕ → List Child → List (List Seg × Kind)
-  below n cs = flat_map (λ (c : Child). rows_below ns n c.node) cs
-
   abbrev after : List Seg → List Seg × Kind → List Seg × Kind
   after q e = (q ++ e.0, e.1)
+
+  -- what is gathered at and below a node, and below some children
+  abbrev kinds_at : ℕ → ℕ → List (List Seg × Kind)
+  kinds_at n i = gather (kids_of ns) (kinds_of ns) n i
+
+  abbrev kinds_below : ℕ → List Child → List (List Seg × Kind)
+  kinds_below n cs = flat_map (λ (c : Child). map_list (under c.seg) (kinds_at n c.node)) cs
 
   after_under : (q : List Seg) (s : Seg) (es : List (List Seg × Kind)) → map_list (after q) (map_list (under s) es) ≡ map_list (after (q ++ s ∷ [])) es
   after_under q s [] = refl
   after_under q s (e ∷ es) = (λ t. (sym (append_assoc q (s ∷ []) e.0) t, e.1) ∷ after_under q s es t)
 
   own_after : (i : ℕ) (q : List Seg) → walk (kids_of ns) 0 q ≡ Some i → own_row (pairs_of ns i) ≡ map_list (after q) (own (kinds_of ns i))
-  own_after i q led = by (pairs_of ns i) refl ∙ sym (ap (λ o. map_list (after q) (own o)) (kind_of_pair (slice_get ns i)))
+  own_after i q led = by (pairs_of ns i) refl
     where
       by : (o : Option (List Seg × Kind)) → pairs_of ns i ≡ o → own_row o ≡ map_list (after q) (own (option_map (λ e. e.1) o))
       by None e = refl
       by (Some r) e = (λ t. ((is.named q i r led e ∙ sym (append-nil q)) t, r.1) ∷ [])
 
   below_after : (n i : ℕ) (q : List Seg) → walk (kids_of ns) 0 q ≡ Some i
-      → ((j : ℕ) (p : List Seg) → walk (kids_of ns) 0 p ≡ Some j → rows_below ns n j ≡ map_list (after p) (gather (kids_of ns) (kinds_of ns) n j)) →
+      → ((j : ℕ) (p : List Seg) → walk (kids_of ns) 0 p ≡ Some j → rows_below ns n j ≡ map_list (after p) (kinds_at n j)) →
       (cs : List Child) → ((k : ℕ) (c : Child) → slice_get cs k ≡ Some c → child_in (kids_of ns i) c.seg ≡ Some c.node) →
-      below n cs ≡ map_list (after q) (flat_map (λ (c : Child). map_list (under c.seg) (gather (kids_of ns) (kinds_of ns) n c.node)) cs)
-  unfolding below
+      flat_map (λ (c : Child). rows_below ns n c.node) cs ≡ map_list (after q) (kinds_below n cs)
   below_after n i q led each [] found = refl
   below_after n i q led each (c ∷ cs) found =
       let led_c : walk (kids_of ns) 0 (q ++ c.seg ∷ []) ≡ Some c.node = walk_push (kids_of ns) 0 q c.seg
       ∙ ap (option_and_then (λ j. child_in (kids_of ns j) c.seg)) led ∙ found 0 c refl in
-      (λ t. each c.node (q ++ c.seg ∷ []) led_c t ++ below_after n i q led each cs (λ k d at. found (suc k) d at) t)
-      ∙ (λ t. sym (after_under q c.seg (gather (kids_of ns) (kinds_of ns) n c.node)) t
-      ++ map_list (after q) (flat_map (λ (c : Child). map_list (under c.seg) (gather (kids_of ns) (kinds_of ns) n c.node)) cs))
-      ∙ sym (map-append (after q) (map_list (under c.seg) (gather (kids_of ns) (kinds_of ns) n c.node)) _)
+      (λ t. (each c.node (q ++ c.seg ∷ []) led_c ∙ sym (after_under q c.seg (kinds_at n c.node))) t
+      ++ below_after n i q led each cs (λ k d at. found (suc k) d at) t)
+      ∙ sym (map-append (after q) (map_list (under c.seg) (kinds_at n c.node)) _)
 
-  rows_after : (n i : ℕ) (q : List Seg) → walk (kids_of ns) 0 q ≡ Some i → rows_below ns n i ≡ map_list (after q) (gather (kids_of ns) (kinds_of ns) n i)
-  unfolding below
+  rows_after : (n i : ℕ) (q : List Seg) → walk (kids_of ns) 0 q ≡ Some i → rows_below ns n i ≡ map_list (after q) (kinds_at n i)
   rows_after zero i q led = refl
   rows_after (suc n) i q led =
       (λ t. own_after i q led t ++ below_after n i q led (rows_after n) (kids_of ns i)
@@ -76,20 +63,14 @@ module _ (ns : List Node) (is : IsIndex ns) where
   at_root [] = refl
   at_root (e ∷ es) = (λ t. e ∷ at_root es t)
 
-  -- the rows at and below the root are those of the map
-  pub all_rows : rows_below ns (length ns) 0 ≡ map.entries (known_by ns).kinds
-  all_rows = rows_after (length ns) 0 [] refl ∙ at_root _ ∙ sym (entries_of_rising _
-      (rises_gather (kids_of ns) (kinds_of ns) (length ns) is.shape.families (length ns) 0))
-
-  -- so are those from the root on
   pub rows_of_all : rows_ahead ns (Some 0) ≡ map.entries (known_by ns).kinds
-  rows_of_all = append-nil (rows_below ns (length ns) 0) ∙ all_rows
+  rows_of_all = append-nil (rows_below ns (length ns) 0) ∙ rows_after (length ns) 0 [] refl ∙ at_root _
+      ∙ sym (entries_of_rising _ (rises_gather is.shape (kinds_of ns) (length ns) 0))
 
-  -- a row, if the node has one, and those from the next node on
+  -- a row, if the node has one, and those from the next node on; and the nodes themselves
   pub rows_on : (i : ℕ) → i < length ns → rows_ahead ns (Some i) ≡ own_row (pairs_of ns i) ++ rows_ahead ns (next_node ns i)
-  rows_on i within =
-      one_on (kids_of ns) (λ k. own_row (pairs_of ns k)) (length ns) is.shape.families (links_of ns) is.linked.below is.linked.lower i within is.shape.rooted
+  rows_on i within = one_on is.shape (links_of ns) is.linked.lower (λ k. own_row (pairs_of ns k)) is.linked.below i within
 
   pub nodes_on : (i : ℕ) → i < length ns → ahead (kids_of ns) (links_of ns) (λ k. k ∷ []) (length ns) (Some i) ≡ i
       ∷ ahead (kids_of ns) (links_of ns) (λ k. k ∷ []) (length ns) (next_node ns i)
-  nodes_on i within = one_on (kids_of ns) (λ k. k ∷ []) (length ns) is.shape.families (links_of ns) is.linked.below is.linked.lower i within is.shape.rooted
+  nodes_on i within = one_on is.shape (links_of ns) is.linked.lower (λ k. k ∷ []) is.linked.below i within

@@ -1,5 +1,6 @@
--- What is known of a path, by its node.
-use Rattle.std.proofs.Common.{◌≡◌, ℕ, zero, suc, ◌<◌, ◌≤◌, Bool, true, false, cond, List, [], ◌∷◌, ◌++◌, length, take, get_or, Option, Some, None, IfSome}
+-- What is known of a path, by its node (`kind_of_met`, `out_of_met`, `count_of_met`), and what the tests of a candidate
+-- say of its path (`meant_path`, `outside_path`).
+use Rattle.std.proofs.Common.{◌≡◌, ℕ, zero, suc, ◌≤◌, Bool, true, false, cond, List, [], ◌∷◌, ◌++◌, length, take, Option, Some, None, IfSome}
 use Rattle.std.proofs.Common.{is_some, refl, sym, ap, ◌∙◌, arith}
 use Rattle.std.specs.Prelude.{◌||◌}
 use Rattle.std.specs.Option.{option_or, option_and_then, option_map}
@@ -9,37 +10,31 @@ use Rattle.aml_names.specs.declared.segments.Seg.{Seg}
 use Rattle.aml_names.specs.Paths.{PathSet}
 use Rattle.aml_names.specs.Searching.{upward}
 use Rattle.aml_space.specs.declared.kinds.Kind.{Kind}
+use Rattle.aml_space.specs.declared.kinds.Kind.TheVariants.{Method, Alias}
 use Rattle.aml_space.specs.declared.nodes.Node.{Node}
 use Rattle.aml_space.specs.declared.scopes.Candidate.{Candidate}
 use Rattle.aml_space.specs.Predefined.{predefined}
 use Rattle.aml_space.specs.Namespace.{Namespace, kind_at, count_at, count_by, arity_at, unknown_count, first_of, decides, is_outside}
 use Rattle.aml_space.specs.Known.{namespace_in}
 use Rattle.aml_space.specs.Graph.{walk}
-use Rattle.aml_space.specs.Nodes.{kids_of, kinds_of, outs_of, known_by, IsShape}
+use Rattle.aml_space.specs.Nodes.{kids_of, kind_in, kinds_of, outs_of, known_by, IsShape}
 use Rattle.aml_space.specs.Candidates.{path_at, IsCandidate}
-use Rattle.aml_space.proofs.Change.{walk_range}
-use Rattle.aml_space.proofs.Index.{known_kind, known_out}
+use Rattle.aml_space.proofs.Basics.{cond_of}
+use Rattle.aml_space.proofs.Index.{part_at}
 use Rattle.aml_space.proofs.Upward.{rest_of}
 
 module _ (ns : List Node) (shape : IsShape ns) (p : List Seg) (node : Option ℕ) (met : node ≡ walk (kids_of ns) 0 p) where
   pub kind_of_met : (standing : Option Kind) → standing ≡ predefined p → option_or (option_and_then (kinds_of ns) node) standing
       ≡ kind_at (namespace_in (known_by ns)) p
-  kind_of_met standing is = ap (λ o. option_or (option_and_then (kinds_of ns) o) standing) met ∙ (λ i. option_or (known_kind ns shape p i) (is i))
+  kind_of_met standing is = ap (λ o. option_or (option_and_then (kinds_of ns) o) standing) met ∙ (λ i. option_or (part_at kind_in ns shape p i) (is i))
 
   pub out_of_met : option_and_then (outs_of ns) node ≡ map.get (known_by ns).outs p
-  out_of_met = ap (option_and_then (outs_of ns)) met ∙ known_out ns shape p
+  out_of_met = ap (option_and_then (outs_of ns)) met ∙ part_at (λ c. c.out) ns shape p
 
   pub count_of_met : (standing : Option Kind) → standing ≡ predefined p →
       count_by (namespace_in (known_by ns)) (option_or (option_and_then (kinds_of ns) node) standing) (option_and_then (outs_of ns) node)
       ≡ count_at (namespace_in (known_by ns)) p
   count_of_met standing is = λ i. count_by (namespace_in (known_by ns)) (kind_of_met standing is i) (out_of_met i)
-
-  pub within_met : IfSome node (λ i. i < length ns)
-  within_met = by node met
-    where
-      by : (o : Option ℕ) → o ≡ walk (kids_of ns) 0 p → IfSome o (λ i. i < length ns)
-      by None e = tt
-      by (Some j) e = walk_range (kids_of ns) (length ns) shape.families 0 p j shape.rooted (sym e)
 
 -- no path of two segments or more is predefined
 pub predefined_deep : (d : ℕ) (scope segment : List Seg) → (d ≡ 0 → ⊥) → d ≤ length scope → length segment ≡ 1 → predefined (take d scope ++ segment) ≡ None
@@ -52,6 +47,12 @@ predefined_deep (suc d) (s ∷ scope) (t ∷ rest) deep within one = by (take d 
     by [] = refl
     by (u ∷ front) = refl
 
+-- a kind has a count
+kind_counts : (n : Namespace) (k : Kind) (o other : Option ℕ) → option_or (count_by n (Some k) o) other ≡ count_by n (Some k) o
+kind_counts n (Method args) o other = refl
+kind_counts n (Alias target) o other = refl
+kind_counts n _ o other = refl
+
 -- a name that leads to one path
 pub placed : (n : Namespace) (unknown_zero : Bool) (locals : PathSet) (p : List Seg) →
     arity_at n unknown_zero locals (p ∷ []) (first_of n locals (p ∷ []))
@@ -62,7 +63,7 @@ placed n u locals p = by (set.contains locals p) refl (kind_at n p) refl (n.outs
         arity_at n u locals (p ∷ []) (option_or (cond (a || is_some k) (Some p) None) (cond (is_some o) (Some p) None))
         ≡ cond a (Some 0) (option_or (count_by n k o) (unknown_count n u (p ∷ [])))
     by true a k e o f = ap (λ b. cond b (Some 0) (count_at n p)) a
-    by false a (Some k) e o f = ap (λ b. cond b (Some 0) (count_at n p)) a ∙ (λ i. count_by n (e i) (n.outs p))
+    by false a (Some k) e o f = ap (λ b. cond b (Some 0) (count_at n p)) a ∙ (λ i. count_by n (e i) (f i)) ∙ sym (kind_counts n k o _)
     by false a None e (Some x) f = ap (λ b. cond b (Some 0) (count_at n p)) a ∙ (λ i. count_by n (e i) (f i))
     by false a None e None f = refl
 
@@ -91,25 +92,14 @@ outside_still P None false c all is = tt
 outside_still P (Some d) out c all is = all
 
 -- the search ends at the root
-pub ended : (k : Namespace) (locals : PathSet) (scope segment : List Seg) (outside : Option Candidate) → decides k locals segment ≡ false → (c : Candidate)
-    → c.depth ≡ 0 →
-    rest_of k locals scope segment (option_map (λ (c : Candidate). c.depth) outside) (upward 0 scope segment)
-    ≡ option_map (path_at scope segment) (option_or outside (cond (is_outside k segment) (Some c) None))
-ended k locals scope segment None fails c root =
-    ap (λ b. option_or (cond b (Some segment) None) (cond (is_outside k segment) (Some segment) None)) fails ∙ by (is_outside k segment)
-  where
-    by : (b : Bool) → cond b (Some segment) None ≡ option_map (path_at scope segment) (cond b (Some c) None)
-    by true = ap (λ d. Some (take d scope ++ segment)) (sym root)
-    by false = refl
-ended k locals scope segment (Some d) fails c root = ap (λ b. option_or (cond b (Some segment) None) (Some (take d.depth scope ++ segment))) fails
-
--- what a candidate lacks to be meant
-pub not_local : (local rest : Bool) → (local || rest) ≡ false → local ≡ false
-not_local true rest e = e
-not_local false rest e = refl
-
--- a segment alone
-pub alone : (segment : List Seg) (e : Seg) → length segment ≡ 1 → get_or segment 0 e ∷ [] ≡ segment
-alone [] e one = absurd (omega (arith, one))
-alone (s ∷ []) e one = refl
-alone (s ∷ t ∷ rest) e one = absurd (omega (arith, one))
+pub ended : (k : Namespace) (locals : PathSet) (scope segment : List Seg) (outside : Option Candidate) (d : ℕ) (at : Option ℕ) (local : Bool) → d ≡ 0
+    → decides k locals (take d scope ++ segment) ≡ false →
+    rest_of k locals scope segment (option_map (λ (c : Candidate). c.depth) outside) (upward d scope segment)
+    ≡ option_map (path_at scope segment)
+    (option_or outside (cond (is_outside k (take d scope ++ segment)) (Some (record { depth = d; node = at; local = local })) None))
+ended k locals scope segment None zero at local root fails =
+    ap (λ b. option_or (cond b (Some segment) None) (cond (is_outside k segment) (Some segment) None)) fails
+    ∙ sym (cond_of (option_map (path_at scope segment)) (is_outside k segment) _ None)
+ended k locals scope segment (Some c) zero at local root fails =
+    ap (λ b. option_or (cond b (Some segment) None) (Some (take c.depth scope ++ segment))) fails
+ended k locals scope segment outside (suc d) at local root fails = absurd (omega (arith, root))

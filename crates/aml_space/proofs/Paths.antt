@@ -1,17 +1,18 @@
--- The nodes of a path below a node, each made below the one before it.
+-- The nodes of a path below a node, each made below the one before it, in a list that grows by one empty node at a time
+-- (`one_more`, `rest_more`): afterwards the path leads to the last of them, and nothing else is known (`path_grown`).
 use Rattle.std.proofs.Common.{◌≡◌, ℕ, ◌+◌, ◌<◌, List, [], ◌∷◌, ◌++◌, length, take, drop, get_or, Some, None, sym, ap, subst, ◌∙◌, arith, append_assoc}
-use Rattle.std.proofs.Common.{length-append}
-use Rattle.std.proofs.lemmas.List.{append-nil, take-append-drop}
+use Rattle.std.proofs.Common.{true, length-append}
+use Rattle.std.proofs.lemmas.List.{append-nil, take-append-drop, drop_more}
 use Rattle.std.specs.Option.{option_and_then}
 use Rattle.aml_names.specs.declared.segments.Seg.{Seg}
 use Rattle.aml_children.specs.declared.children.Child.{Child}
-use Rattle.aml_children.specs.Children.{child_in, put}
+use Rattle.aml_children.specs.Children.{child_in}
 use Rattle.aml_space.specs.declared.nodes.Node.{Node}
 use Rattle.aml_space.specs.Graph.{walk}
 use Rattle.aml_space.specs.Nodes.{kids_of, known_by, IsIndex, empty, chain, with_child, with_path}
-use Rattle.aml_space.proofs.Change.{walk_push, walk_range}
-use Rattle.aml_space.proofs.Grow.{has_grown, length_with, with_pushed, last_leaf}
-use Rattle.aml_space.proofs.Index.{grown_index, grown_known, new_child, still, seam}
+use Rattle.aml_space.proofs.Walks.{walk_push, node_range}
+use Rattle.aml_space.proofs.Grow.{more_if, has_grown, length_with, with_pushed, last_leaf}
+use Rattle.aml_space.proofs.Growth.{grown_index, grown_known, new_child, still}
 
 -- an index that knows the same, in which a path leads to a node
 pub record Leads (ns new : List Node) (p : List Seg) (at : ℕ) : Type 0 where
@@ -30,10 +31,10 @@ one_more ns p i s within is led absent =
     let new = with_child ns i (record { seg = s; node = length ns }) ++ empty i s ∷ [] in
     let has = has_grown ns i s in
     record {
-      index = grown_index ns new i s is.shape within absent has is.named is.linked;
-      known = grown_known ns new i s is.shape within absent has;
-      led = walk_push (kids_of new) 0 p s ∙ ap (option_and_then (λ j. child_in (kids_of new j) s)) (still ns new i s is.shape within absent has p i led)
-          ∙ new_child ns new i s is.shape within absent has;
+      index = grown_index ns new i s is within absent has;
+      known = grown_known ns new i s is within absent has;
+      led = walk_push (kids_of new) 0 p s ∙ ap (option_and_then (λ j. child_in (kids_of new j) s)) (still ns new i s is within absent has p i led)
+          ∙ new_child ns new i s is within absent has;
     }
 
 -- from an empty node at the end
@@ -48,11 +49,11 @@ rest_more ns xs top t p (s ∷ q) so =
     let before = xs ++ empty top t ∷ [] in
     let c : Child = record { seg = s; node = length xs + 1 } in
     let last : Node = empty (length xs) s in
-    let filled : Node = record { row = None; outs = None; given = None; seg = t; parent = top; children = put [] c } in
+    let filled = more_if c true (empty top t) in
     let long : length before ≡ length xs + 1 = length-append xs (empty top t ∷ []) in
     let one = one_more before p (length xs) s (omega (arith, long)) so.index so.led (last_leaf xs top t s) in
     let is : with_child before (length xs) (record { seg = s; node = length before }) ++ last ∷ [] ≡ (xs ++ filled ∷ []) ++ last ∷ [] =
-    ap (λ n. with_child before (length xs) (record { seg = s; node = n }) ++ last ∷ []) long ∙ ap (λ ms. ms ++ last ∷ []) (with_pushed xs [] (empty top t) c) in
+    ap (λ n. with_child before (length xs) (record { seg = s; node = n }) ++ last ∷ []) long ∙ ap (λ ms. ms ++ last ∷ []) (with_pushed xs (empty top t) c) in
     let long_next : length (xs ++ filled ∷ []) ≡ length xs + 1 = length-append xs (filled ∷ []) in
     let next : Leads ns ((xs ++ filled ∷ []) ++ last ∷ []) (p ++ s ∷ []) (length (xs ++ filled ∷ [])) =
     subst (λ ms. Leads ns ms (p ++ s ∷ []) (length (xs ++ filled ∷ []))) is
@@ -90,8 +91,8 @@ pub path_grown : (ns new : List Node) (p : List Seg) (k at : ℕ) (d : Seg) → 
     → ((s : Seg) (q : List Seg) → drop k p ≡ s ∷ q → child_in (kids_of ns at) s ≡ None) →
     new ≡ with_path ns at (get_or p k d) (drop (k + 1) p) → Leads ns new p (length ns + length (drop (k + 1) p))
 path_grown ns new p k at d is led within ends same =
-    let rest : drop k p ≡ get_or p k d ∷ drop (k + 1) p = seam k p d within in
-    let inside = walk_range (kids_of ns) (length ns) is.shape.families 0 (take k p) at is.shape.rooted led in
+    let rest : drop k p ≡ get_or p k d ∷ drop (k + 1) p = drop_more p k d within in
+    let inside = node_range is.shape (take k p) at led in
     let more = path_more ns (take k p) at (get_or p k d) (drop (k + 1) p) inside is led (ends (get_or p k d) (drop (k + 1) p) rest) in
     let whole : take k p ++ get_or p k d ∷ drop (k + 1) p ≡ p = ap (λ (q : List Seg). take k p ++ q) (sym rest) ∙ take-append-drop k p in
     subst (λ ms. Leads ns ms p (length ns + length (drop (k + 1) p))) (sym same)

@@ -1,9 +1,8 @@
-use Rattle.std.proofs.Common.{◌≡◌, [], Some, length, get_or, sym, ◌∙◌, arith}
+use Rattle.std.proofs.Common.{◌≡◌, [], Some, get_or, sym, ◌∙◌, arith}
 use Rattle.aml_names.specs.declared.segments.Seg.{Seg}
 use Rattle.aml_children.specs.Children.{child_in}
 use Rattle.aml_space.specs.Nodes.{kids_of}
-use Rattle.aml_space.proofs.Change.{child_range}
-use Rattle.aml_space.proofs.Index.{led_more}
+use Rattle.aml_space.proofs.Walks.{kid_range, led_more}
 use Rattle.aml_space.proofs.growing.deepest.Goals as goal
 
 pub loop-seg-preserved : goal.loop-seg-preserved
@@ -12,8 +11,8 @@ loop-seg-preserved c =
     let seg : Seg = get_or c.args.path.now c.loop-seg.seg-index (record { 0 = [] }) in
     let found : child_in (kids c.loop-seg.at) seg ≡ Some c.in-Some.next = sym c.child.ensures ∙ c.in-Some.is in
     record {
-      led = led_more kids kids c.loop-seg.seg-index c.args.path.now (record { 0 = [] })
-          c.loop-seg.at c.in-Some.next c.loop-seg-test.true c.loop-seg.invariant.led found;
-      within = (child_range c.loop-seg.at (length c.args.nodes.now) (kids c.loop-seg.at) seg c.in-Some.next (c.requires.families c.loop-seg.at) found).1;
+      led = led_more kids c.loop-seg.at c.loop-seg.seg-index c.args.path.now (record { 0 = [] }) (Some c.in-Some.next)
+          c.loop-seg-test.true c.loop-seg.invariant.led found;
+      within = (kid_range c.requires c.loop-seg.at seg c.in-Some.next found).1;
       known = omega (arith, c.loop-seg.invariant.known);
     }

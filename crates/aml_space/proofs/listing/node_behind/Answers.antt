@@ -24,7 +24,6 @@ levels-preserved c =
     record {
       within = omega (arith, less, c.levels.invariant.within);
       same = c.levels.invariant.same
-          ∙ up_on (kids_of ns) (length ns) c.requires.index.shape.families (links_of ns)
-          c.requires.index.linked.lower c.levels.at p s some c.levels.invariant.within c.link-parent.ensures
-          ∙ ap (λ o. option_or o (up (kids_of ns) (links_of ns) p p)) none;
+          ∙ up_on c.requires.index.shape (links_of ns) c.requires.index.linked.lower c.levels.at (p, s) some c.levels.invariant.within c.link-parent.ensures
+          ∙ ap (λ o. option_or o (up (kids_of ns) (links_of ns) p)) none;
     }

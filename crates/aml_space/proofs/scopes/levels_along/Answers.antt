@@ -1,12 +1,13 @@
 use Rattle.std.proofs.Common.{◌≡◌, ◌+◌, [], Some, get_or, length, take, subst, sym, ap, ◌∙◌, arith, length-append}
+use Rattle.std.proofs.lemmas.Bool.{OnFalse_at}
 use Rattle.aml_names.specs.declared.segments.Seg.{Seg}
 use Rattle.aml_children.specs.Children.{child_in}
 use Rattle.aml_space.specs.Known.{namespace_in}
 use Rattle.aml_space.specs.Nodes.{kids_of, known_by}
-use Rattle.aml_space.specs.Candidates.{HasBareChildren, IsNext}
-use Rattle.aml_space.proofs.Change.{child_range}
+use Rattle.aml_space.specs.Candidates.{IsNext}
+use Rattle.aml_space.proofs.Walks.{kid_range}
 use Rattle.aml_space.proofs.Along.{along_more, along_end}
-use Rattle.aml_space.proofs.Asked.{asked_more, next_itself, next_further, silent_at, of_false}
+use Rattle.aml_space.proofs.Asked.{asked_more, next_itself, next_further, silent_at}
 use Rattle.aml_space.proofs.scopes.levels_along.Goals as goal
 use Rattle.aml_space.proofs.scopes.levels_along.Goals.{then-has_to_be_asked, else-has_to_be_asked}
 
@@ -18,9 +19,8 @@ returns-in-None-clause-along c =
 
 pub has_to_be_asked-requires-clause-within : goal.has_to_be_asked-requires-clause-within
 has_to_be_asked-requires-clause-within c =
-    let ns = c.args.nodes.now in
-    (child_range c.loop-seg.node (length ns) (kids_of ns c.loop-seg.node) (get_or c.args.scope.now c.loop-seg.seg-index (record { 0 = [] })) c.in-Some.next
-    (c.requires.families c.loop-seg.node) (sym c.child.ensures ∙ c.in-Some.is)).1
+    (kid_range c.requires c.loop-seg.node (get_or c.args.scope.now c.loop-seg.seg-index (record { 0 = [] })) c.in-Some.next
+    (sym c.child.ensures ∙ c.in-Some.is)).1
 
 pub loop-seg-preserved : goal.loop-seg-preserved
 loop-seg-preserved c =
@@ -39,13 +39,13 @@ loop-seg-preserved c =
       | then-has_to_be_asked w ↦ next_itself n path (k + 1) c.if-has_to_be_asked.asked (w.asked-is ∙ w.len-asked.ensures ∙ c.loop-seg.levels.ok.0 ∙ inv.long)
       | else-has_to_be_asked w ↦ subst (IsNext n path (k + 1)) (sym w.asked-is)
           (next_further n path k c.loop-seg.asked inv.next (silent_at ns c.requires (take (k + 1) path) at more.1
-          (of_false c.has_to_be_asked.result (HasBareChildren ns at) c.has_to_be_asked.ensures w.if-has_to_be_asked.false)))
+          (OnFalse_at w.if-has_to_be_asked.false c.has_to_be_asked.ensures)))
     ] in
     record {
       along = more.0;
       long = ap length is ∙ length-append c.loop-seg.levels.items _ ∙ omega (arith, inv.long);
       led = more.1;
-      within = (child_range c.loop-seg.node (length ns) (kids_of ns c.loop-seg.node) (get_or path k e) at (c.requires.families c.loop-seg.node) found).1;
+      within = (kid_range c.requires c.loop-seg.node (get_or path k e) at found).1;
       next = next;
       asked = asked_more n path c.loop-seg.levels.items _ (record { node = at; asked = c.if-has_to_be_asked.asked }) inv.asked
           (subst (λ d. IsNext n path d c.if-has_to_be_asked.asked) (sym inv.long) next) is;

@@ -2,11 +2,12 @@ use Rattle.std.proofs.Common.{Some, cond, take, ◌++◌, ap, sym, ◌∙◌}
 use Rattle.aml_space.specs.Namespace.{count_at}
 use Rattle.aml_space.specs.Known.{namespace_in}
 use Rattle.aml_space.specs.Nodes.{known_by}
-use Rattle.aml_space.proofs.Meaning.{count_of_met, within_met}
+use Rattle.aml_space.proofs.Meaning.{count_of_met}
+use Rattle.aml_space.proofs.Walks.{node_within}
 use Rattle.aml_space.proofs.scopes.Scope.count.Goals as goal
 
 pub count_met-requires-clause-within : goal.count_met-requires-clause-within
-count_met-requires-clause-within c = within_met c.args.self.now.nodes.now c.requires.scope.shape _ c.args.here.node c.requires.node
+count_met-requires-clause-within c = node_within c.requires.scope.shape _ c.args.here.node c.requires.node
 
 pub returns : goal.returns
 returns c =

@@ -10,13 +10,13 @@ use Rattle.aml_space.specs.Graph.{walk}
 use Rattle.aml_space.specs.Nodes.{kids_of, givens_of}
 use Rattle.aml_space.proofs.Asked.{none_given_below}
 use Rattle.aml_space.proofs.Given.{here_given, above_given, root_given, skip_given}
-use Rattle.aml_space.proofs.Index.{known_given}
+use Rattle.aml_space.proofs.Index.{part_at}
 use Rattle.aml_space.proofs.scopes.Scope.given.Goals as goal
 
 -- the count that is kept at a candidate's node is the one that is given to its path
 kept : (s : Scope) → IsScope s → (p : List Seg) (at : Option ℕ) → at ≡ walk (kids_of s.nodes.now) 0 p → (found : Option ℕ) →
     found ≡ option_and_then (givens_of s.nodes.now) at → found ≡ (names_of s).givens p
-kept s sc p at here found is = is ∙ ap (option_and_then (givens_of s.nodes.now)) here ∙ known_given s.nodes.now sc.shape p
+kept s sc p at here found is = is ∙ ap (option_and_then (givens_of s.nodes.now)) here ∙ part_at (λ c. c.given) s.nodes.now sc.shape p
 
 -- from a depth up to the next one that is asked
 further : (s : Scope) (segment : List Seg) → length segment ≡ 1 → (d asked : ℕ) → IsNext (names_of s) s.path.now d asked →

@@ -1,0 +1,46 @@
+-- Steps on lists, options and tests that several proofs take.
+use Rattle.std.specs.Prelude.{◌==◌, slice_get}
+use Rattle.std.proofs.Common.{◌≡◌, ℕ, zero, suc, ◌<◌, Bool, true, false, cond, List, [], ◌∷◌, ◌++◌, length, get_or, set, Option, Some, None, refl, sym, ap, ◌∙◌, arith}
+use Rattle.std.specs.Option.{option_or, option_and_then}
+use Rattle.std.proofs.lemmas.Bool.{ne_eqb}
+use Rattle.std.proofs.lemmas.Bool.Decides.{nat_tests}
+
+pub suc_eq : (a b : ℕ) → (suc a == suc b) ≡ (a == b)
+suc_eq a b = grind (arith, nat_tests)
+
+pub cond_of : {A B : Type 0} (f : A → B) (b : Bool) (x y : A) → f (cond b x y) ≡ cond b (f x) (f y)
+cond_of f true x y = refl
+cond_of f false x y = refl
+
+pub or_none : {A : Type 0} (o : Option A) → option_or o None ≡ o
+or_none None = refl
+or_none (Some x) = refl
+
+pub and_then_twice : {A B C : Type 0} (f : A → Option B) (g : B → Option C) (o : Option A) → option_and_then g (option_and_then f o)
+    ≡ option_and_then (λ x. option_and_then g (f x)) o
+and_then_twice f g None = refl
+and_then_twice f g (Some x) = refl
+
+-- reads after a write, in front of others, and behind them
+module _ {A : Type 0} where
+  pub read_set : (xs : List A) (i : ℕ) (y : A) (k : ℕ) → i < length xs → slice_get (set xs i y) k ≡ cond (k == i) (Some y) (slice_get xs k)
+  read_set [] i y k within = absurd (omega (arith, within))
+  read_set (x ∷ xs) zero y zero within = refl
+  read_set (x ∷ xs) zero y (suc k) within = ap (λ b. cond b (Some y) (slice_get xs k)) (sym (ne_eqb (suc k) 0 (omega arith)))
+  read_set (x ∷ xs) (suc i) y zero within = ap (λ b. cond b (Some y) (Some x)) (sym (ne_eqb 0 (suc i) (omega arith)))
+  read_set (x ∷ xs) (suc i) y (suc k) within = read_set xs i y k (omega (arith, within)) ∙ ap (λ b. cond b (Some y) (slice_get xs k)) (sym (suc_eq k i))
+
+  pub read_front : (xs ys : List A) (k : ℕ) → k < length xs → slice_get (xs ++ ys) k ≡ slice_get xs k
+  read_front [] ys k within = absurd (omega (arith, within))
+  read_front (x ∷ xs) ys zero within = refl
+  read_front (x ∷ xs) ys (suc k) within = read_front xs ys k (omega (arith, within))
+
+  pub read_last : (xs : List A) (y : A) → slice_get (xs ++ y ∷ []) (length xs) ≡ Some y
+  read_last [] y = refl
+  read_last (x ∷ xs) y = read_last xs y
+
+-- a list of one
+pub alone : {A : Type 0} (xs : List A) (e : A) → length xs ≡ 1 → get_or xs 0 e ∷ [] ≡ xs
+alone [] e one = absurd (omega (arith, one))
+alone (x ∷ []) e one = refl
+alone (x ∷ y ∷ xs) e one = absurd (omega (arith, one))
