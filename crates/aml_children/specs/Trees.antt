@@ -1,5 +1,5 @@
 -- A stepping stone of the proofs: what a fork of a tree of children is seen as, and what holds of it.
-use Rattle.std.specs.Prelude.{◌≡◌, ℕ, ◌+◌, ◌^◌, ◌<◌, ◌≤◌, max, List, [], ◌∷◌, ◌++◌, length, Option, Some, None}
+use Rattle.std.specs.Prelude.{◌≡◌, ℕ, ◌+◌, ◌^◌, ◌<◌, ◌≤◌, max, List, [], ◌∷◌, ◌++◌, length, Option, Some, None, IfSome}
 use Rattle.std.specs.Global.{Box}
 use Rattle.aml_children.specs.declared.children.Child.{Child}
 use Rattle.aml_children.specs.declared.children.Kept.{Kept}
@@ -41,8 +41,7 @@ pub record IsBalanced (f : Fork) : Type 0 where
   pub even : DifferByAtMost 1 f.left.1 f.right.1
 
 abbrev pub AreBalanced : Option (Box Fork) → Type 0
-AreBalanced None = Unit {0}
-AreBalanced (Some b) = IsBalanced b.value
+AreBalanced o = IfSome o (λ b. IsBalanced b.value)
 
 -- the height leaves room, and the heights of the sides differ by at most two
 pub record IsNearlyBalanced (f : Fork) : Type 0 where
@@ -50,8 +49,7 @@ pub record IsNearlyBalanced (f : Fork) : Type 0 where
   pub even : DifferByAtMost 2 f.left.1 f.right.1
 
 abbrev pub AreNearlyBalanced : Option (Box Fork) → Type 0
-AreNearlyBalanced None = Unit {0}
-AreNearlyBalanced (Some b) = IsNearlyBalanced b.value
+AreNearlyBalanced o = IfSome o (λ b. IsNearlyBalanced b.value)
 
 -- balanced, with room for one more above it
 pub record CanLean (f : Fork) : Type 0 where
@@ -79,6 +77,5 @@ kept_list (Many t) = t.0
 
 -- where they are a tree, it is low, and there are two of them or more
 abbrev pub IsFit : Kept → Type 0
-IsFit Nobody = Unit {0}
-IsFit (Only c) = Unit {0}
 IsFit (Many t) = (t.1 ≤ 64) × (1 < length t.0)
+IsFit _ = Unit {0}

@@ -1,7 +1,8 @@
 -- An index with an empty node more is an index, and knows the same (`grown_index`, `grown_known`): each path leads where
 -- it led, or, where it led nowhere, maybe to the new node, at which nothing is kept (`grown_walk`).
 use Rattle.std.specs.Prelude.{◌==◌, ◌&&◌}
-use Rattle.std.proofs.Common.{◌≡◌, ℕ, ◌+◌, ◌<◌, ◌≤◌, Bool, true, false, cond, List, [], ◌∷◌, ◌++◌, length, Option, Some, None, ◌⊎◌, inl, inr, refl, sym, ap, subst, ◌∙◌}
+use Rattle.std.proofs.Common.{◌≡◌, ℕ, ◌+◌, ◌<◌, ◌≤◌, Bool, true, false, cond, List, [], ◌∷◌, ◌++◌, length, Option, Some, None, ◌⊎◌, inl, inr, refl, sym, ap}
+use Rattle.std.proofs.Common.{subst, ◌∙◌}
 use Rattle.std.proofs.Common.{arith}
 use Rattle.std.specs.Option.{option_and_then}
 use Rattle.std.specs.Ordering.{eq_by_cmp}
@@ -15,7 +16,8 @@ use Rattle.aml_children.specs.declared.children.Child.{Child}
 use Rattle.aml_children.specs.Children.{child_in, put}
 use Rattle.aml_space.specs.declared.nodes.Node.{Node}
 use Rattle.aml_space.specs.Graph.{walk, IsFamily}
-use Rattle.aml_space.specs.Nodes.{Content, nothing, kids_in, kids_of, links_of, content_of, kind_in, pairs_of, part_by, known_by, IsShape, IsNamed, IsLinked, IsIndex}
+use Rattle.aml_space.specs.Nodes.{Content, nothing, kids_in, kids_of, links_of, content_of, kind_in, pairs_of, part_by, known_by, IsShape, IsNamed, IsLinked}
+use Rattle.aml_space.specs.Nodes.{IsIndex}
 use Rattle.aml_space.specs.Nodes.{HasGrown}
 use Rattle.aml_space.proofs.Family.{same_itself, found_put, wider_family, family_put}
 use Rattle.aml_space.proofs.Index.{part_at}
@@ -26,7 +28,8 @@ module _ (ns new : List Node) (i : ℕ) (seg : Seg) (is : IsIndex ns) (within : 
   abbrev added : Child
   added = record { seg = seg; node = length ns }
 
-  grows : (k : ℕ) (s : Seg) → k < length ns → child_in (kids_of new k) s ≡ cond (k == i && eq_by_cmp seg_cmp s seg) (Some (length ns)) (child_in (kids_of ns k) s)
+  grows : (k : ℕ) (s : Seg) → k < length ns → child_in (kids_of new k) s
+      ≡ cond (k == i && eq_by_cmp seg_cmp s seg) (Some (length ns)) (child_in (kids_of ns k) s)
   grows k s inside = ap (λ cs. child_in cs s) (has.kids k inside) ∙ by (k == i) refl
     where
       by : (b : Bool) → (k == i) ≡ b → child_in (cond b (put (kids_of ns i) added) (kids_of ns k)) s

@@ -12,11 +12,6 @@ returns-in-Some c =
     let was : seen c.in-Some.left.value ≡ f.left = c.in-Some.ensures.same_view ∙ c.replace.ensures.value
     ∙ ap (λ (h : Fork). h.left) c.deref_mut.ensures.value in
     let high = ap (λ (d : List Child × ℕ). d.1) was in
-    subst (IsRebalanced f) (sym (c.lift_left.ensures ∙ (λ i. left_lifted (record {
-      left = c.replace.new.dest;
-      child = (c.deref_mut.ensures.value i).child;
-      height = (c.deref_mut.ensures.value i).height;
-      right = (c.deref_mut.ensures.value i).right;
-    }) l)))
+    subst (IsRebalanced f) (sym (c.lift_left.ensures ∙ (λ i. left_lifted (record (c.deref_mut.ensures.value i) { left = c.replace.new.dest }) l)))
     (lowered_left f l (c.lean_left.ensures.list ∙ ap (λ (d : List Child × ℕ). d.0) was) (omega (arith, c.lean_left.ensures.outer, high))
     (omega (arith, c.lean_left.ensures.inner.0, high), omega (arith, c.lean_left.ensures.inner.1, high)) c.requires.two_higher)

@@ -12,12 +12,6 @@ returns-in-Some c =
     let was : seen c.in-Some.right.value ≡ f.right = c.in-Some.ensures.same_view ∙ c.replace.ensures.value
     ∙ ap (λ (h : Fork). h.right) c.deref_mut.ensures.value in
     let high = ap (λ (d : List Child × ℕ). d.1) was in
-    subst (IsRebalanced f) (sym (c.lift_right.ensures ∙ (λ i. right_lifted
-    (record {
-      left = (c.deref_mut.ensures.value i).left;
-      child = (c.deref_mut.ensures.value i).child;
-      height = (c.deref_mut.ensures.value i).height;
-      right = c.replace.new.dest;
-    }) l)))
+    subst (IsRebalanced f) (sym (c.lift_right.ensures ∙ (λ i. right_lifted (record (c.deref_mut.ensures.value i) { right = c.replace.new.dest }) l)))
     (lowered_right f l (c.lean_right.ensures.list ∙ ap (λ (d : List Child × ℕ). d.0) was) (omega (arith, c.lean_right.ensures.outer, high))
     (omega (arith, c.lean_right.ensures.inner.0, high), omega (arith, c.lean_right.ensures.inner.1, high)) c.requires.two_higher)

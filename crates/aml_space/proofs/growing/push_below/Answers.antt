@@ -22,10 +22,12 @@ same_kids c = ap kids_in (sym (read_front c.args.nodes.now.items _ c.args.at c.r
 pub insert-requires-clause-rise : goal.insert-requires-clause-rise
 insert-requires-clause-rise c =
     let ns = c.args.nodes.now.items in
-    subst Rise (same_kids (goal.at.insert-requires-clause-rise c).After-index_mut-parent) (family_rises c.args.at (length ns) (kids_of ns c.args.at) (c.requires.shape.families c.args.at))
+    subst Rise (same_kids (goal.at.insert-requires-clause-rise c).After-index_mut-parent)
+    (family_rises c.args.at (length ns) (kids_of ns c.args.at) (c.requires.shape.families c.args.at))
 
 pub insert-requires-clause-absent : goal.insert-requires-clause-absent
-insert-requires-clause-absent c = ap (λ cs. child_in cs c.args.seg) (sym (same_kids (goal.at.insert-requires-clause-absent c).After-index_mut-parent)) ∙ c.requires.absent
+insert-requires-clause-absent c =
+    ap (λ cs. child_in cs c.args.seg) (sym (same_kids (goal.at.insert-requires-clause-absent c).After-index_mut-parent)) ∙ c.requires.absent
 
 pub returns-clause-ok : goal.returns-clause-ok
 returns-clause-ok c =

@@ -8,7 +8,8 @@ use Rattle.aml_space.proofs.Index.{put_given}
 use Rattle.aml_space.proofs.spaces.Space.given.Goals as goal
 
 -- the nodes are an index still, and know the count
-put_here : (c : goal.After-set_given) → IsIndex c.set_given.new.nodes.items × (known_by c.set_given.new.nodes.items ≡ with_given c.args.self.now c.args.path.now c.args.count)
+put_here : (c : goal.After-set_given)
+    → IsIndex c.set_given.new.nodes.items × (known_by c.set_given.new.nodes.items ≡ with_given c.args.self.now c.args.path.now c.args.count)
 put_here c =
     let put = put_given c.make_node.new.nodes.items c.set_given.new.nodes.items c.segs.result.now c.in_ok-at.at c.make_node.ensures.index
     c.in_ok-at.ensures.node c.args.count c.set_given.ensures in
