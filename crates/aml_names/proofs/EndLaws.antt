@@ -1,18 +1,20 @@
--- The last segments of the paths in a set, and the nearest of them in a scope.
+-- The last segments of the paths in a set, and the nearest of them in a scope. What is known of each last segment stays
+-- true where a path is added (`known_pushed`, `known_root`), where a segment alone is made known and set back
+-- (`known_room`, `known_back`), and answers what a look at the paths would (`known_end`, `known_depth`).
 use Rattle.std.specs.Prelude.{slice_get}
-use Rattle.std.proofs.Common.{◌≡◌, ℕ, zero, suc, ◌+◌, ◌-◌, ◌<◌, ◌≤◌, ◌==◌, nat_le, Bool, true, false, ◌||◌, cond, get_or, List, [], ◌∷◌, ◌++◌, length, take}
+use Rattle.std.proofs.Common.{◌≡◌, ℕ, zero, suc, ◌+◌, ◌-◌, ◌<◌, ◌≤◌, ◌==◌, Bool, true, false, ◌||◌, cond, List, [], ◌∷◌, ◌++◌, length, take}
 use Rattle.std.proofs.Common.{drop, Option, Some, None, IfSome, is_some, Result, Ok, Err, OnOk, OnErr, refl, sym, ap, subst, ◌∙◌, arith, length-append}
-use Rattle.std.proofs.lemmas.Bool.{false≢true, leb-false, leb-true, eqb-true, eqb-false, eq-eqb}
-use Rattle.std.proofs.lemmas.List.{take-take, take-append-le, length-take-le}
+use Rattle.std.proofs.lemmas.Bool.{false≢true, eqb-true, eqb-false, cond_both, false_from_ne_true}
+use Rattle.std.proofs.lemmas.Bool.Decides.{nat_tests}
+use Rattle.std.proofs.lemmas.List.{take-take, take-append-le, take_all, take_at, take_more, length-take, length-take-le}
 use Rattle.std.proofs.Math.Seq.{drop-append_seam}
-use Rattle.std.proofs.lemmas.Option.{slice_get-get_or}
+use Rattle.std.proofs.lemmas.Option.{IfSome_then, slice_get-get_or, slice_get_within, get_or_from_slice_get}
 use Rattle.std.proofs.lemmas.Map.Views.{tells_apart}
 use Rattle.std.specs.Ordering.{eq_by_cmp}
 use Rattle.std.specs.Cmp.{eq_by_cmp_equiv}
 use Rattle.std.specs.BTreeMap.{BTreeMap, is_at, get}
 use Rattle.std.specs.Map.{lookup}
 use Rattle.std.specs.List.{list_any}
-use Rattle.std.specs.Bool.{OnFalse}
 use Rattle.std.specs.FinSet as set
 use Rattle.aml_names.specs.declared.segments.Seg.{Seg}
 use Rattle.aml_names.specs.Paths.{PathSet, seg_cmp, path_cmp, segs_total, paths_total, exact_segs, exact_paths}
@@ -32,20 +34,9 @@ module _ (a : ℕ → Bool) where
       ap (λ t. cond t (Some (suc n)) (greatest a n)) (none (suc n) (omega arith)) ∙ greatest_none n (λ d less. none d (omega (arith, less)))
 
   pub greatest_within : (n : ℕ) → IfSome (greatest a n) (λ d. d ≤ n)
-  greatest_within n = by n
-    where
-      by : (n : ℕ) → IfSome (greatest a n) (λ d. d ≤ n)
-      by zero = zero_by (a 0)
-        where
-          zero_by : (t : Bool) → IfSome (cond t (Some 0) None) (λ d. d ≤ 0)
-          zero_by true = omega arith
-          zero_by false = tt
-      by (suc n) = more (a (suc n)) (greatest a n) (by n)
-        where
-          more : (t : Bool) (o : Option ℕ) → IfSome o (λ d. d ≤ n) → IfSome (cond t (Some (suc n)) o) (λ d. d ≤ suc n)
-          more true o within = omega arith
-          more false None within = tt
-          more false (Some d) within = omega (arith, within)
+  greatest_within zero = cond_both (a 0) _ _ (λ o. IfSome o (λ d. d ≤ 0)) (λ _. omega arith) (λ _. tt)
+  greatest_within (suc n) = cond_both (a (suc n)) _ _ (λ o. IfSome o (λ d. d ≤ suc n)) (λ _. omega arith)
+      (λ _. IfSome_then (greatest a n) (greatest_within n) (λ d less. omega (arith, less)))
 
   pub greatest_hit : (n : ℕ) → a n ≡ true → greatest a n ≡ Some n
   greatest_hit zero hit = ap (λ t. cond t (Some 0) None) hit
@@ -59,100 +50,50 @@ module _ (a : ℕ → Bool) where
   greatest_miss zero miss positive = absurd (omega (arith, positive))
   greatest_miss (suc n) miss positive = ap (λ t. cond t (Some (suc n)) (greatest a n)) miss ∙ ap (greatest a) {x = n} {y = suc n - 1} (omega arith)
 
-least_cond : (k m : ℕ) → k ≤ m → cond (nat_le k m) m k ≡ m
-least_cond k m less = by (nat_le k m) refl
-  where
-    by : (b : Bool) → nat_le k m ≡ b → cond b m k ≡ m
-    by true e = refl
-    by false e = absurd (omega (arith, less, leb-false k m e))
-
-greatest_cond : (k m : ℕ) → m < k → cond (nat_le k m) m k ≡ k
-greatest_cond k m more = by (nat_le k m) refl
-  where
-    by : (b : Bool) → nat_le k m ≡ b → cond b m k ≡ k
-    by true e = absurd (omega (arith, more, leb-true k m e))
-    by false e = refl
-
 -- a number more that passes
+raised_more : (n k : ℕ) (here there : Bool) (o p : Option ℕ) → k ≤ suc n → there ≡ ((suc n == k) || here) → IfSome o (λ d. d ≤ n)
+    → (k ≤ n → p ≡ deeper (Some k) o) → cond there (Some (suc n)) p ≡ deeper (Some k) (cond here (Some (suc n)) o)
+raised_more n k here there None p within is less rest = grind (arith, nat_tests)
+raised_more n k here there (Some d) p within is less rest = grind (arith, nat_tests)
+
 greatest_raised : (a b : ℕ → Bool) (k n : ℕ) → k ≤ n → ((d : ℕ) → d ≤ n → b d ≡ ((d == k) || a d)) → greatest b n ≡ deeper (Some k) (greatest a n)
-greatest_raised a b k zero within raised =
-    greatest_hit b 0 (raised 0 (omega arith) ∙ ap (λ t. t || a 0) {x = 0 == k} {y = true} (eq-eqb 0 k (omega (arith, within)))) ∙ sym (by (a 0))
+greatest_raised a b k zero within raised = first (a 0) (b 0) (raised 0 (omega arith))
   where
-    by : (t : Bool) → deeper (Some k) (cond t (Some 0) None) ≡ Some 0
-    by true = ap (λ m. Some m) (least_cond k 0 within)
-    by false = ap (λ m. Some m) {x = k} {y = 0} (omega (arith, within))
-greatest_raised a b k (suc n) within raised = by (suc n == k) refl (λ less. greatest_raised a b k n less (λ d below. raised d (omega (arith, below))))
-  where
-    by : (t : Bool) → (suc n == k) ≡ t → (k ≤ n → greatest b n ≡ deeper (Some k) (greatest a n)) → greatest b (suc n) ≡ deeper (Some k) (greatest a (suc n))
-    by true e rest =
-        let same : k ≡ suc n = sym (eqb-true (suc n) k e) in
-        greatest_hit b (suc n) (raised (suc n) (omega arith) ∙ ap (λ t. t || a (suc n)) e) ∙ sym (known (greatest a (suc n)) (greatest_within a (suc n)) same)
-      where
-        known : (o : Option ℕ) → IfSome o (λ d. d ≤ suc n) → k ≡ suc n → deeper (Some k) o ≡ Some (suc n)
-        known None less same = ap (λ m. Some m) same
-        known (Some d) less same = ap (λ m. Some m) (either (nat_le k d) refl)
-          where
-            either : (t : Bool) → nat_le k d ≡ t → cond t d k ≡ suc n
-            either true e = omega (arith, leb-true k d e, less, same)
-            either false e = same
-    by false e rest =
-        let here : b (suc n) ≡ a (suc n) = raised (suc n) (omega arith) ∙ ap (λ t. t || a (suc n)) e in
-        ap (λ t. cond t (Some (suc n)) (greatest b n)) here ∙ both (a (suc n)) (rest (omega (arith, within, eqb-false (suc n) k e)))
-      where
-        both : (t : Bool) → greatest b n ≡ deeper (Some k) (greatest a n)
-            → cond t (Some (suc n)) (greatest b n) ≡ deeper (Some k) (cond t (Some (suc n)) (greatest a n))
-        both true rest = ap (λ m. Some m) (sym (least_cond k (suc n) within))
-        both false rest = rest
+    first : (here there : Bool) → there ≡ ((0 == k) || here) → cond there (Some 0) None ≡ deeper (Some k) (cond here (Some 0) None)
+    first here there is = grind (arith, nat_tests)
+greatest_raised a b k (suc n) within raised = raised_more n k (a (suc n)) (b (suc n)) (greatest a n) (greatest b n) within (raised (suc n) (omega arith))
+    (greatest_within a n) (λ less. greatest_raised a b k n less (λ d below. raised d (omega (arith, below))))
 
 -- ---- paths by their last segment
 
 last_split : (n : ℕ) (p : List Seg) (e : Seg) → n + 1 ≡ length p → slice_get p n ≡ Some e → p ≡ take n p ++ e ∷ []
-last_split n [] e long is = absurd (omega (arith, long))
-last_split zero (x ∷ []) e long is = ap (λ (s : Seg). s ∷ []) (some_same x e is)
-  where
-    some_same : (x e : Seg) → ◌≡◌ {A = Option Seg} (Some x) (Some e) → x ≡ e
-    some_same x e is = cc
-last_split zero (x ∷ y ∷ p) e long is = absurd (omega (arith, long))
-last_split (suc n) (x ∷ p) e long is = ap (λ (l : List Seg). x ∷ l) (last_split n p e (omega (arith, long)) is)
+last_split n p e long is = sym (take_all (n + 1) p (omega (arith, long))) ∙ take_more p n e (omega (arith, long))
+    ∙ ap (λ s. take n p ++ s ∷ []) (get_or_from_slice_get p n e e is)
 
 take_short : (k : ℕ) (l : List Seg) → length (take k l) ≤ length l
-take_short zero l = omega arith
-take_short (suc k) [] = omega arith
-take_short (suc k) (x ∷ l) = omega (arith, take_short k l)
+take_short k l = omega (arith, length-take k l)
 
 last_of : (front : List Seg) (e : Seg) → slice_get (front ++ e ∷ []) (length front) ≡ Some e
 last_of [] e = refl
 last_of (x ∷ front) e = last_of front e
 
-front_of : (front : List Seg) (e : Seg) → take (length front) (front ++ e ∷ []) ≡ front
-front_of [] e = refl
-front_of (x ∷ front) e = ap (λ (l : List Seg). x ∷ l) (front_of front e)
+-- a segment in which no path ends
+pub nearest_none : (paths : PathSet) (own scope : List Seg) (e : Seg) → IsKnown paths own e None → nearest paths scope (e ∷ []) ≡ None
+nearest_none paths own scope e none = greatest_none (λ d. set.contains paths (take d scope ++ e ∷ [])) (length scope) (λ d less. none (take d scope))
 
 module _ (paths : PathSet) (scope : List Seg) where
   -- what is known says which is the nearest
   pub known_depth : (end : Seg) (known : Option (Option ℕ)) → IsKnown paths scope end known → depth_known known ≡ nearest paths scope (end ∷ [])
-  known_depth end None none = sym (greatest_none (λ d. set.contains paths (take d scope ++ end ∷ [])) (length scope) (λ d less. none (take d scope)))
+  known_depth end None none = sym (nearest_none paths scope scope end none)
   known_depth end (Some depth) is = is
 
   -- the segment that a path ends in is known
   pub known_end : (known : Seg → Option (Option ℕ)) (p : List Seg) (e : Seg) → KnowEnds paths scope known → slice_get p (length p - 1) ≡ Some e → known e ≡ None
       → set.contains paths p ≡ false
-  known_end known p e know is none = by (length p) refl
-    where
-      by : (n : ℕ) → length p ≡ n → set.contains paths p ≡ false
-      by zero long = absurd (none_of p long is)
-        where
-          none_of : (p : List Seg) → length p ≡ 0 → slice_get p (length p - 1) ≡ Some e → ⊥
-          none_of [] long is = cc
-          none_of (x ∷ p) long is = omega (arith, long)
-      by (suc n) long =
-          let split : p ≡ take n p ++ e ∷ [] = last_split n p e (omega (arith, long))
-          (ap (slice_get p) {x = n} {y = length p - 1} (omega (arith, long)) ∙ is) in
-          ap (set.contains paths) split ∙ unknown (known e) (know e) none (take n p)
-        where
-          unknown : (o : Option (Option ℕ)) → IsKnown paths scope e o → o ≡ None → (front : List Seg) → set.contains paths (front ++ e ∷ []) ≡ false
-          unknown None is none front = is front
-          unknown (Some d) is none front = cc
+  known_end known p e know is none =
+      let long = slice_get_within p (length p - 1) e is in
+      ap (set.contains paths) (last_split (length p - 1) p e (omega (arith, long)) is)
+      ∙ (subst (IsKnown paths scope e) none (know e)) (take (length p - 1) p)
 
   -- a segment more that is known
   pub known_room : (known new : Seg → Option (Option ℕ)) (e : Seg) → KnowEnds paths scope known
@@ -180,11 +121,20 @@ pub same_path : (a b : List Seg) → eq_by_cmp path_cmp a b ≡ true → a ≡ b
 same_path a b is = tells_apart exact_paths a b is
 
 other_path : (a b : List Seg) → (a ≡ b → ⊥) → eq_by_cmp path_cmp a b ≡ false
-other_path a b differ = by (eq_by_cmp path_cmp a b) refl
+other_path a b differ = false_from_ne_true (eq_by_cmp path_cmp a b) (λ is. differ (same_path a b is))
+
+-- a path more that doesn't end in a segment
+known_apart : (paths : PathSet) (scope p : List Seg) (s : Seg) → ((front : List Seg) → eq_by_cmp path_cmp (front ++ s ∷ []) p ≡ false)
+    → (o : Option (Option ℕ)) → IsKnown paths scope s o → IsKnown (set.insert paths p) scope s o
+known_apart paths scope p s apart = by
   where
-    by : (t : Bool) → eq_by_cmp path_cmp a b ≡ t → eq_by_cmp path_cmp a b ≡ false
-    by true is = absurd (differ (same_path a b is))
-    by false is = is
+    same : (front : List Seg) → set.contains (set.insert paths p) (front ++ s ∷ []) ≡ set.contains paths (front ++ s ∷ [])
+    same front = set.contains-insert paths_total paths p (front ++ s ∷ []) ∙ ap (λ t. t || set.contains paths (front ++ s ∷ [])) (apart front)
+
+    by : (o : Option (Option ℕ)) → IsKnown paths scope s o → IsKnown (set.insert paths p) scope s o
+    by None none = λ front. same front ∙ none front
+    by (Some d) near = near ∙ sym (greatest_same (λ d. set.contains (set.insert paths p) (take d scope ++ s ∷ []))
+        (λ d. set.contains paths (take d scope ++ s ∷ [])) (length scope) (λ d less. same (take d scope)))
 
 -- one path more, and what is known of its last segment
 module _ (paths : PathSet) (scope p : List Seg) (e : Seg) (is : slice_get p (length p - 1) ≡ Some e) (k : ℕ) (long : k + 1 ≡ length p) where
@@ -226,7 +176,7 @@ module _ (paths : PathSet) (scope p : List Seg) (e : Seg) (is : slice_get p (len
   elsewhere : eq_by_cmp path_cmp (take k scope) (take k p) ≡ false → (d : ℕ) → d ≤ length scope → eq_by_cmp path_cmp (take d scope ++ e ∷ []) p ≡ false
   elsewhere differs d within = other_path (take d scope ++ e ∷ []) p (λ same.
       let at : d ≡ k = omega (arith, long, sym (ap length same) ∙ length-append (take d scope) (e ∷ []), length-take-le d scope within) in
-      let front : take k scope ≡ take k p = ap (λ n. take n scope) {x = k} {y = d} (sym at) ∙ sym (front_of (take d scope) e)
+      let front : take k scope ≡ take k p = ap (λ n. take n scope) {x = k} {y = d} (sym at) ∙ sym (take_at (take d scope) (e ∷ []) (length (take d scope)) refl)
       ∙ (λ i. take (length-take-le d scope within i) (same i)) ∙ ap (λ n. take n p) at in
       false≢true (sym differs ∙ ap (eq_by_cmp path_cmp (take k scope)) (sym front) ∙ (eq_by_cmp_equiv paths_total).refl (take k scope)))
 
@@ -252,40 +202,23 @@ module _ (paths : PathSet) (scope p : List Seg) (e : Seg) (is : slice_get p (len
       → ((q : Seg) → new q ≡ cond (is_at (seg_cmp e) q) (Some (deeper depth (depth_known (known e)))) (known q)) → KnowEnds (set.insert paths p) scope new
   known_pushed known new depth know met grown s = subst (IsKnown (set.insert paths p) scope s) (sym (grown s)) (by (is_at (seg_cmp e) s) refl)
     where
-      other : is_at (seg_cmp e) s ≡ false → (o : Option (Option ℕ)) → IsKnown paths scope s o → IsKnown (set.insert paths p) scope s o
-      other differ None none = λ front. with_one (front ++ s ∷ []) ∙ ap (λ t. t || set.contains paths (front ++ s ∷ [])) (apart s differ front) ∙ none front
-      other differ (Some d) near = near ∙ sym (greatest_same (λ d. set.contains (set.insert paths p) (take d scope ++ s ∷ []))
-          (λ d. set.contains paths (take d scope ++ s ∷ [])) (length scope)
-          (λ d less. with_one (take d scope ++ s ∷ []) ∙ ap (λ t. t || set.contains paths (take d scope ++ s ∷ [])) (apart s differ (take d scope))))
-
       by : (t : Bool) → is_at (seg_cmp e) s ≡ t → IsKnown (set.insert paths p) scope s (cond t (Some (deeper depth (depth_known (known e)))) (known s))
       by true same =
           ap (deeper depth) (known_depth paths scope e (known e) (know e)) ∙ sym (raised_depth depth met)
           ∙ ap (λ (x : Seg). nearest (set.insert paths p) scope (x ∷ [])) (tells_apart exact_segs e s same)
-      by false differ = other differ (known s) (know s)
+      by false differ = known_apart paths scope p s (apart s differ) (known s) (know s)
 
 -- the root more
 pub known_root : (paths : PathSet) (scope p : List Seg) (known : Seg → Option (Option ℕ)) → KnowEnds paths scope known → slice_get p (length p - 1) ≡ None
     → KnowEnds (set.insert paths p) scope known
-known_root paths scope p known know none s = by (known s) (know s)
+known_root paths scope p known know none s = known_apart paths scope p s apart (known s) (know s)
   where
     root : (p : List Seg) → slice_get p (length p - 1) ≡ None → length p ≡ 0
     root [] none = refl
-    root (x ∷ p) none = some_none x (get_or (x ∷ p) (length (x ∷ p) - 1) x) (sym (slice_get-get_or (x ∷ p) (length (x ∷ p) - 1) x (omega arith)) ∙ none)
-      where
-        some_none : (x y : Seg) → ◌≡◌ {A = Option Seg} (Some y) None → length (x ∷ p) ≡ 0
-        some_none x y is = cc
+    root (x ∷ p) none = let some = slice_get-get_or (x ∷ p) (length (x ∷ p) - 1) x (omega arith) in absurd cc
 
     apart : (front : List Seg) → eq_by_cmp path_cmp (front ++ s ∷ []) p ≡ false
     apart front = other_path (front ++ s ∷ []) p (λ same. omega (arith, root p none, sym (ap length same) ∙ length-append front (s ∷ [])))
-
-    by : (o : Option (Option ℕ)) → IsKnown paths scope s o → IsKnown (set.insert paths p) scope s o
-    by None is =
-        λ front. set.contains-insert paths_total paths p (front ++ s ∷ []) ∙ ap (λ t. t || set.contains paths (front ++ s ∷ [])) (apart front) ∙ is front
-    by (Some d) near = near ∙ sym (greatest_same (λ d. set.contains (set.insert paths p) (take d scope ++ s ∷ []))
-        (λ d. set.contains paths (take d scope ++ s ∷ [])) (length scope)
-        (λ d less. set.contains-insert paths_total paths p (take d scope ++ s ∷ [])
-        ∙ ap (λ t. t || set.contains paths (take d scope ++ s ∷ [])) (apart (take d scope))))
 
 -- nothing is known of no path
 pub known_nothing : (scope : List Seg) (known : Seg → Option (Option ℕ)) → ((q : Seg) → known q ≡ None) → KnowEnds set.empty scope known
@@ -308,10 +241,6 @@ pub is_none : {X : Type 0} → (o : Option X) → is_some o ≡ false → o ≡ 
 is_none None e = refl
 is_none (Some x) e = absurd (false≢true (sym e))
 
-pub on_false : (b : Bool) (P : Type 0) → (b ≡ false → P) → OnFalse b P
-on_false true P gives = tt
-on_false false P gives = gives refl
-
 -- what can't be refused
 pub not_refused : {X E P Q : Type 0} → (r : Result X E) → OnOk r P → OnErr r Q → (Q → ⊥) → P
 not_refused (Ok x) p q never = p
@@ -319,14 +248,7 @@ not_refused (Err e) p q never = absurd (never q)
 
 pub there_is : (paths : PathSet) (new : Seg → Option (Option ℕ)) (e : Seg) (d : Option ℕ) (known : Option (Option ℕ))
     → new e ≡ cond (is_at (seg_cmp e) e) (Some d) known → new e ≡ None → ⊥
-there_is paths new e d known is none = some_none d (sym (is ∙ ap (λ b. cond b (Some d) known) ((eq_by_cmp_equiv segs_total).refl e)) ∙ none)
-  where
-    some_none : (d : Option ℕ) → ◌≡◌ {A = Option (Option ℕ)} (Some d) None → ⊥
-    some_none d is = cc
-
-pub of_false : (b : Bool) (P : Type 0) → OnFalse b P → b ≡ false → P
-of_false true P gives is = absurd (false≢true (sym is))
-of_false false P gives is = gives
+there_is paths new e d known is none = let some = is ∙ ap (λ b. cond b (Some d) known) ((eq_by_cmp_equiv segs_total).refl e) in cc
 
 -- no path, and nothing known
 pub nothing_there : (paths : List (List Seg)) (lengths : List ℕ) (ends : BTreeMap Seg (Option ℕ)) (scope : List Seg) → paths ≡ [] → ends.entries ≡ []
@@ -336,19 +258,6 @@ nothing_there paths lengths ends scope no_path no_end = (
   subst (λ ps. KnowEnds (set.from_list ps) scope (get seg_cmp ends)) (sym no_path)
       (known_nothing scope (get seg_cmp ends) (λ q. ap (λ es. lookup (is_at (seg_cmp q)) es) no_end)),
 )
-
-module _ (paths : PathSet) (own scope : List Seg) (e : Seg) where
-  pub nearest_none : (known : Option (Option ℕ)) → IsKnown paths own e known → known ≡ None → nearest paths scope (e ∷ []) ≡ None
-  nearest_none None none is = greatest_none (λ d. set.contains paths (take d scope ++ e ∷ [])) (length scope) (λ d less. none (take d scope))
-  nearest_none (Some d) near is = cc
-
-pub nearest_known : (paths : PathSet) (own : List Seg) (e : Seg) (known : Option (Option ℕ)) (depth : Option ℕ) → IsKnown paths own e known → known ≡ Some depth
-    → depth ≡ nearest paths own (e ∷ [])
-nearest_known paths own e None depth none is = cc
-nearest_known paths own e (Some d) depth near is = some_same d depth is ∙ near
-  where
-    some_same : (x y : Option ℕ) → ◌≡◌ {A = Option (Option ℕ)} (Some x) (Some y) → y ≡ x
-    some_same x y is = cc
 
 -- a front that is longer than a scope doesn't begin it
 pub longer_front : (k : ℕ) (scope p : List Seg) → k ≤ length p → length scope < k → eq_by_cmp path_cmp (take k scope) (take k p) ≡ false

@@ -1,130 +1,103 @@
--- A name that is read is spelled so, what spells a name is read as that name, and a fault stands where it says.
-use Rattle.std.proofs.Common.{◌≡◌, ℕ, zero, suc, ◌+◌, ◌-◌, ◌%◌, ◌<◌, ◌≤◌, Bool, true, false, cond, ltb, eqb, List, [], ◌∷◌, ◌++◌, length, take, drop, replicate}
+-- A name that is read is spelled so, and a fault stands where it says (`name_sound`, over `Sound` of each step); what
+-- spells a name is read as that name, whatever stands behind it (`name_again`). So no other name is spelled by the bytes
+-- of one that is read, and none by those that are refused (`one_name`, `no_name`).
+use Rattle.std.proofs.Common.{◌≡◌, ℕ, zero, suc, ◌+◌, ◌-◌, ◌%◌, ◌<◌, ◌≤◌, Bool, true, false, cond, eqb, List, [], ◌∷◌, ◌++◌, length, take, drop, replicate}
 use Rattle.std.proofs.Common.{Ok, Err, refl, sym, ap, subst, ◌∙◌, append_assoc, ◌⊎◌, inl, inr, arith}
-use Rattle.std.specs.Prelude.{◌||◌, ◌&&◌, not}
-use Rattle.std.proofs.lemmas.Bool.{ltb-true, eqb-true, ne_eqb, lt-ltb}
-use Rattle.std.proofs.lemmas.List.{take-append-drop, take_at, drop_at, length-append, append-nil as append_nil}
+use Rattle.std.specs.Prelude.{◌||◌}
+use Rattle.std.proofs.lemmas.Bool.{ltb-true, ltb-false, eqb-true, ne_eqb, lt-ltb, cond_both}
+use Rattle.std.proofs.lemmas.List.{take_at, drop_at, length-append, append-nil as append_nil}
 use Rattle.aml_names.specs.declared.faults.CodeFault.{CodeFault}
 use Rattle.aml_names.specs.declared.faults.CodeFault.TheVariants as faults
 use Rattle.aml_names.specs.declared.segments.Seg.{Seg}
 use Rattle.aml_names.specs.declared.names.Name.{Name}
 use Rattle.aml_names.specs.declared.names.NameForm.{NameForm}
 use Rattle.aml_names.specs.declared.names.NameForm.TheVariants.{Null, One, Dual, Multi}
-use Rattle.aml_names.specs.Names.{is_lead_char, is_name_char, IsNameSeg, AreNameSegs, FitsForm, FitsPrefix, IsName, segment_bytes, form_bytes, spelling}
+use Rattle.aml_names.specs.Names.{is_lead_char, IsNameSeg, AreNameSegs, FitsForm, FitsPrefix, IsName, segment_bytes, form_bytes, spelling}
 use Rattle.aml_names.specs.Names.{is_name_lead}
-use Rattle.aml_names.specs.Steps.{◌>>=◌, Fails, Left, byte_at}
-use Rattle.aml_names.specs.NameReading.{passing_at, segment_at, segments_at, is_count, Heads, form_by, form_at, parents, is_rooted, path_at, name_at, NameFault}
-use Rattle.aml_names.specs.NameReading.{has_segment, is_null, is_bare, bare_name, Begins, Spelled, SpellsNone}
-use Rattle.aml_names.proofs.NameFaults.{fault_behind, path_fault}
-use Rattle.aml_names.proofs.StepLaws.{ok_is, bind_then, cond_then, chosen_ok, IsBytes, IsBytes-rest, IsBytes-drop, Takes, Takes-none, Takes-then, byte_takes}
+use Rattle.aml_names.specs.Steps.{Fails, Left}
+use Rattle.aml_names.specs.NameReading.{passing_at, segment_at, segments_at, is_count, form_by, form_at, parents, is_rooted, path_at, name_at, NameFault}
+use Rattle.aml_names.specs.NameReading.{is_bare, Begins, Spelled, SpellsNone}
+use Rattle.aml_names.proofs.NameFaults.{Reads, Sound, sound_behind, sound_then, IsPassed, passed_reads, passing_sound, IsSegment, segment_sound}
+use Rattle.aml_names.proofs.StepLaws.{ok_is, IsBytes, IsBytes-drop, Takes}
 
--- ---- what is read is spelled so
+-- ---- what is read is spelled so, and a fault stands where it says
 
-pub passing_takes : (passes : ℕ → Bool) (end : ℕ) (bytes : List ℕ) (b : ℕ) (rest : List ℕ) → IsBytes bytes → passing_at passes end bytes ≡ Ok (b, rest)
-    → Takes bytes (b ∷ []) rest × (passes b ≡ true) × (b < 256)
-passing_takes passes end [] b rest fits e = absurd cc
-passing_takes passes end (c ∷ bytes) b rest fits e =
-    let g = chosen_ok (passes c) (faults.BadName (end - length (c ∷ bytes))) (Ok (c, bytes)) (b, rest) e in
-    subst (λ (p : ℕ × List ℕ). Takes (c ∷ bytes) (p.0 ∷ []) p.1 × (passes p.0 ≡ true) × (p.0 < 256)) (ok_is (c, bytes) (b, rest) g.1)
-    (record { parts = refl; rest_fits = IsBytes-rest c bytes fits }, g.0, fits 0)
+behind_fits : (bytes text rest : List ℕ) → bytes ≡ text ++ rest → IsBytes bytes → IsBytes rest
+behind_fits bytes text rest e fits =
+    subst IsBytes (ap (drop (length text)) e ∙ drop_at text rest (length text) refl) (IsBytes-drop (length text) bytes fits)
 
 pub segment_takes : (end : ℕ) (bytes : List ℕ) (s : Seg) (rest : List ℕ) → IsBytes bytes → segment_at end bytes ≡ Ok (s, rest) → Takes bytes s.0 rest
     × IsNameSeg s.0
-unfolding segment_at
 segment_takes end bytes s rest fits e =
-    let P : Type 0 = Takes bytes s.0 rest × IsNameSeg s.0 in
-    let name_char = passing_at is_name_char end in
-    bind_then P (passing_at is_lead_char end bytes) (λ a. name_char a.1 >>= λ b. name_char b.1 >>= λ c. name_char c.1 >>= λ d. Ok
-    (record { 0 = a.0 ∷ b.0 ∷ c.0 ∷ d.0 ∷ [] }, d.1)) (s, rest) e (λ a h1 e1.
-    let ta = passing_takes is_lead_char end bytes a.0 a.1 fits h1 in
-    bind_then P (name_char a.1) (λ b. name_char b.1 >>= λ c. name_char c.1 >>= λ d. Ok (record { 0 = a.0 ∷ b.0 ∷ c.0 ∷ d.0 ∷ [] }, d.1)) (s, rest) e1
-    (λ b h2 e2.
-    let tb = passing_takes is_name_char end a.1 b.0 b.1 ta.0.rest_fits h2 in
-    bind_then P (name_char b.1) (λ c. name_char c.1 >>= λ d. Ok (record { 0 = a.0 ∷ b.0 ∷ c.0 ∷ d.0 ∷ [] }, d.1)) (s, rest) e2 (λ c h3 e3.
-    let tc = passing_takes is_name_char end b.1 c.0 c.1 tb.0.rest_fits h3 in
-    bind_then P (name_char c.1) (λ d. Ok (record { 0 = a.0 ∷ b.0 ∷ c.0 ∷ d.0 ∷ [] }, d.1)) (s, rest) e3 (λ d h4 e4.
-    let td = passing_takes is_name_char end c.1 d.0 d.1 tc.0.rest_fits h4 in
-    let cd = Takes-then b.1 (c.0 ∷ []) c.1 (d.0 ∷ []) d.1 tc.0 td.0 in
-    let bd = Takes-then a.1 (b.0 ∷ []) b.1 (c.0 ∷ d.0 ∷ []) d.1 tb.0 cd in
-    let ad = Takes-then bytes (a.0 ∷ []) a.1 (b.0 ∷ c.0 ∷ d.0 ∷ []) d.1 ta.0 bd in
-    subst (λ (p : Seg × List ℕ). Takes bytes p.0.0 p.1 × IsNameSeg p.0.0)
-    (ok_is {A = Seg × List ℕ} (record { 0 = a.0 ∷ b.0 ∷ c.0 ∷ d.0 ∷ [] }, d.1) (s, rest) e4) (ad, (ta.1, tb.1, tc.1, td.1))))))
+    let read : (bytes ≡ s.0 ++ rest) × IsNameSeg s.0 = subst (Sound end bytes (IsSegment bytes)) e (segment_sound end bytes) in
+    (record { parts = read.0; rest_fits = behind_fits bytes s.0 rest read.0 fits }, read.1)
 
-pub segments_takes : (n end : ℕ) (bytes : List ℕ) (ss : List Seg) (rest : List ℕ) → IsBytes bytes → segments_at n end bytes ≡ Ok (ss, rest)
-    → Takes bytes (segment_bytes ss) rest × AreNameSegs ss × (length ss ≡ n)
-unfolding segments_at
-segments_takes zero end bytes ss rest fits e =
-    subst (λ (p : List Seg × List ℕ). Takes bytes (segment_bytes p.0) p.1 × AreNameSegs p.0 × (length p.0 ≡ 0))
-    (ok_is {A = List Seg × List ℕ} ([], bytes) (ss, rest) e) (Takes-none bytes fits, tt, refl)
-segments_takes (suc n) end bytes ss rest fits e =
-    let P : Type 0 = Takes bytes (segment_bytes ss) rest × AreNameSegs ss × (length ss ≡ suc n) in
-    bind_then P (segment_at end bytes) (λ first. segments_at n end first.1 >>= λ others. Ok (first.0 ∷ others.0, others.1)) (ss, rest) e (λ first h1 e1.
-    let t1 = segment_takes end bytes first.0 first.1 fits h1 in
-    bind_then P (segments_at n end first.1) (λ others. Ok (first.0 ∷ others.0, others.1)) (ss, rest) e1 (λ others h2 e2.
-    let t2 = segments_takes n end first.1 others.0 others.1 t1.0.rest_fits h2 in
-    let both = Takes-then bytes first.0.0 first.1 (segment_bytes others.0) others.1 t1.0 t2.0 in
-    subst (λ (p : List Seg × List ℕ). Takes bytes (segment_bytes p.0) p.1 × AreNameSegs p.0 × (length p.0 ≡ suc n))
-    (ok_is {A = List Seg × List ℕ} (first.0 ∷ others.0, others.1) (ss, rest) e2) (both, (t1.1, t2.1), ap suc t2.2)))
+AreSegments : ℕ → List ℕ → List Seg × List ℕ → Type 0
+AreSegments n bytes x = (bytes ≡ segment_bytes x.0 ++ x.1) × (AreNameSegs x.0 × (length x.0 ≡ n))
+
+segments_sound : (n end : ℕ) (bytes : List ℕ) → Sound end bytes (AreSegments n bytes) (segments_at n end bytes)
+unfolding segments_at AreSegments
+segments_sound zero end bytes = (refl, (tt, refl))
+segments_sound (suc n) end bytes =
+    sound_then end bytes (IsSegment bytes) (AreSegments (suc n) bytes) (λ x h. (x.0.0, h.0)) (segment_at end bytes) _ (segment_sound end bytes) (λ first t1.
+    sound_then end first.1 (AreSegments n first.1) (AreSegments (suc n) bytes) (λ x h. (segment_bytes x.0, h.0)) (segments_at n end first.1) _
+    (segments_sound n end first.1) (λ others t2. (
+      t1.0 ∙ ap (λ (t : List ℕ). first.0.0 ++ t) t2.0 ∙ sym (append_assoc first.0.0 (segment_bytes others.0) others.1),
+      ((t1.1, t2.1.0), ap suc t2.1.1),
+    )))
 
 -- what the front of a path says
-Headed : List ℕ → (NameForm × ℕ) × List ℕ → Type 0
-Headed bytes x = Takes bytes (form_bytes x.0.0 x.0.1) x.1 × FitsForm x.0.0 x.0.1
+record Headed (bytes : List ℕ) (x : (NameForm × ℕ) × List ℕ) : Type 0 where
+  read : Reads bytes x.1
+  form : IsBytes bytes → (read.0 ≡ form_bytes x.0.0 x.0.1) × FitsForm x.0.0 x.0.1
 
-pub form_takes : (end : ℕ) (bytes : List ℕ) (f : NameForm) (n : ℕ) (rest : List ℕ) → IsBytes bytes → form_at end bytes ≡ Ok ((f, n), rest)
-    → Takes bytes (form_bytes f n) rest × FitsForm f n
-unfolding form_at Headed
-form_takes end bytes f n rest fits e =
-    let P : Type 0 = Headed bytes ((f, n), rest) in
-    let is : (x : (NameForm × ℕ) × List ℕ) → (let r : Heads = Ok x in r) ≡ Ok ((f, n), rest) → Headed bytes x → P =
-    λ x h t. subst (Headed bytes) (ok_is {A = (NameForm × ℕ) × List ℕ} x ((f, n), rest) h) t in
-    bind_then P (byte_at end bytes) (λ lead. form_by lead.0 end bytes lead.1) ((f, n), rest) e (λ lead h1 e1.
-    let t1 = byte_takes end bytes lead.0 lead.1 fits h1 in
-    let spelled : (c : ℕ) → eqb lead.0 c ≡ true → Takes bytes (c ∷ []) lead.1 = λ c h. subst (λ b. Takes bytes (b ∷ []) lead.1) (eqb-true _ _ h) t1.0 in
-    let multi : Heads = passing_at is_count end lead.1 >>= λ count. Ok ((Multi, count.0), count.1) in
-    let third : Heads = cond (eqb lead.0 0x2F) multi (Ok ((One, 1), bytes)) in
-    let second : Heads = cond (eqb lead.0 0x2E) (Ok ((Dual, 2), lead.1)) third in
-    cond_then P (eqb lead.0 0x00) (Ok ((Null, 0), lead.1)) second (Ok ((f, n), rest)) e1 (λ q0 f0. is ((Null, 0), lead.1) f0 (spelled 0x00 q0, refl)) (λ q0 f0.
-    cond_then P (eqb lead.0 0x2E) (Ok ((Dual, 2), lead.1)) third (Ok ((f, n), rest)) f0 (λ q1 f1. is ((Dual, 2), lead.1) f1 (spelled 0x2E q1, refl)) (λ q1 f1.
-    cond_then P (eqb lead.0 0x2F) multi (Ok ((One, 1), bytes)) (Ok ((f, n), rest)) f1 (λ q2 f2.
-    bind_then P (passing_at is_count end lead.1) (λ count. Ok ((Multi, count.0), count.1)) ((f, n), rest) f2 (λ count h3 e3.
-    let t3 = passing_takes is_count end lead.1 count.0 count.1 t1.0.rest_fits h3 in
-    let below : count.0 % 256 ≡ count.0 = omega (arith, t3.2) in
-    let number : Takes lead.1 (count.0 % 256 ∷ []) count.1 = rw below t3.0 in
-    is ((Multi, count.0), count.1) e3 (
-      Takes-then bytes (0x2F ∷ []) lead.1 (count.0 % 256 ∷ []) count.1 (spelled 0x2F q2) number,
-      (ltb-true 0 count.0 t3.1, t3.2),
-    )))
-    (λ q2 f2. is ((One, 1), bytes) f2 (Takes-none bytes fits, refl)))))
+form_sound : (end : ℕ) (bytes : List ℕ) → Sound end bytes (Headed bytes) (form_at end bytes)
+unfolding form_at
+form_sound end [] = inl refl
+form_sound end (lead ∷ rest) =
+    cond_both (eqb lead 0x00) _ _ (Sound end (lead ∷ rest) (Headed (lead ∷ rest))) (λ q. record { read = (lead ∷ [], refl); form = λ fits. (ap (λ b. b ∷ []) (eqb-true lead 0x00 q), refl) }) (λ _.
+    cond_both (eqb lead 0x2E) _ _ (Sound end (lead ∷ rest) (Headed (lead ∷ rest))) (λ q. record { read = (lead ∷ [], refl); form = λ fits. (ap (λ b. b ∷ []) (eqb-true lead 0x2E q), refl) }) (λ _.
+    cond_both (eqb lead 0x2F) _ _ (Sound end (lead ∷ rest) (Headed (lead ∷ rest))) (λ q. sound_behind end (lead ∷ rest) rest (Headed (lead ∷ rest)) _ (lead ∷ [], refl)
+    (sound_then end rest (IsPassed is_count rest) (Headed (lead ∷ rest)) (passed_reads is_count rest) (passing_at is_count end rest)
+    (λ count. Ok ((Multi, count.0), count.1)) (passing_sound is_count none end rest) (λ count t. record {
+      read = (lead ∷ count.0 ∷ [], ap (λ (l : List ℕ). lead ∷ l) t.0);
+      form = λ fits.
+          let below : count.0 < 256 = subst IsBytes (ap (λ (l : List ℕ). lead ∷ l) t.0) fits 1 in
+          ((λ i. eqb-true lead 0x2F q i ∷ (let same : count.0 ≡ count.0 % 256 = omega (arith, below) in same) i ∷ []), (ltb-true 0 count.0 t.1, below));
+    })))
+    (λ _. record { read = ([], refl); form = λ fits. (refl, refl) })))
+  where
+    none : (b : ℕ) → is_count b ≡ false → is_lead_char b ≡ false
+    none b h = ap (λ (c : ℕ). is_lead_char c) {x = b} {y = 0} (omega (arith, ltb-false 0 b h))
 
 -- what a path says behind its prefixes
-record Pathed (root : Bool) (ups : ℕ) (bytes : List ℕ) (n : Name) (rest : List ℕ) : Type 0 where
-  same_root : n.root ≡ root
-  same_ups : n.ups ≡ ups
-  takes : Takes bytes (form_bytes n.form (length n.segs) ++ segment_bytes n.segs) rest
-  form : FitsForm n.form (length n.segs)
-  segments : AreNameSegs n.segs
+record Pathed (root : Bool) (ups : ℕ) (bytes : List ℕ) (x : Name × List ℕ) : Type 0 where
+  same_root : x.0.root ≡ root
+  same_ups : x.0.ups ≡ ups
+  read : Reads bytes x.1
+  form : IsBytes bytes → (read.0 ≡ form_bytes x.0.form (length x.0.segs) ++ segment_bytes x.0.segs) × FitsForm x.0.form (length x.0.segs)
+  segments : AreNameSegs x.0.segs
 
-path_takes : (root : Bool) (ups end : ℕ) (bytes : List ℕ) (n : Name) (rest : List ℕ) → IsBytes bytes → path_at root ups end bytes ≡ Ok (n, rest)
-    → Pathed root ups bytes n rest
-unfolding path_at
-path_takes root ups end bytes n rest fits e =
-    let P : Type 0 = Pathed root ups bytes n rest in
-    let name : NameForm → List Seg → Name = λ f ss. record { root = root; ups = ups; form = f; segs = ss } in
-    bind_then P (form_at end bytes) (λ form. segments_at form.0.1 end form.1 >>= λ segs. Ok
-    (record { root = root; ups = ups; form = form.0.0; segs = segs.0 }, segs.1)) (n, rest) e (λ form h1 e1.
-    let t1 = form_takes end bytes form.0.0 form.0.1 form.1 fits h1 in
-    bind_then P (segments_at form.0.1 end form.1) (λ segs. Ok (record { root = root; ups = ups; form = form.0.0; segs = segs.0 }, segs.1)) (n, rest) e1
-    (λ segs h2 e2.
-    let t2 = segments_takes form.0.1 end form.1 segs.0 segs.1 t1.0.rest_fits h2 in
-    let head = subst (λ k. Takes bytes (form_bytes form.0.0 k) form.1 × FitsForm form.0.0 k) (sym t2.2) t1 in
-    let both = Takes-then bytes (form_bytes form.0.0 (length segs.0)) form.1 (segment_bytes segs.0) segs.1 head.0 t2.0 in
-    subst (λ (p : Name × List ℕ). Pathed root ups bytes p.0 p.1) (ok_is {A = Name × List ℕ} (name form.0.0 segs.0, segs.1) (n, rest) e2)
-    (record { same_root = refl; same_ups = refl; takes = both; form = head.1; segments = t2.1 })))
+path_sound : (root : Bool) (ups end : ℕ) (bytes : List ℕ) → Sound end bytes (Pathed root ups bytes) (path_at root ups end bytes)
+unfolding path_at AreSegments
+path_sound root ups end bytes =
+    sound_then end bytes (Headed bytes) (Pathed root ups bytes) (λ x h. h.read) (form_at end bytes) _ (form_sound end bytes) (λ form t1.
+    sound_then end form.1 (AreSegments form.0.1 form.1) (Pathed root ups bytes) (λ x h. (segment_bytes x.0, h.0)) (segments_at form.0.1 end form.1) _
+    (segments_sound form.0.1 end form.1) (λ segs t2. record {
+      same_root = refl;
+      same_ups = refl;
+      read = (
+        t1.read.0 ++ segment_bytes segs.0,
+        t1.read.1 ∙ ap (λ (t : List ℕ). t1.read.0 ++ t) t2.0 ∙ sym (append_assoc t1.read.0 (segment_bytes segs.0) segs.1),
+      );
+      form = λ fits.
+          let f = t1.form fits in
+          let n : form.0.1 ≡ length segs.0 = sym t2.1.1 in
+          ((λ i. (f.0 ∙ ap (form_bytes form.0.0) n) i ++ segment_bytes segs.0), subst (FitsForm form.0.0) n f.1);
+      segments = t2.1.0;
+    }))
 
 -- what prefixes say
-abbrev prefix_bytes : Bool → ℕ → List ℕ
-prefix_bytes root ups = cond root (0x5C ∷ []) [] ++ replicate ups 0x5E
-
 parent_taken : (b : ℕ) (bytes : List ℕ) (t : Bool) → eqb b 0x5E ≡ t → bytes ≡ replicate (parents bytes) 0x5E ++ drop (parents bytes) bytes
     → b ∷ bytes ≡ replicate (cond t (suc (parents bytes)) 0) 0x5E ++ drop (cond t (suc (parents bytes)) 0) (b ∷ bytes)
 parent_taken b bytes true e h = rw (eqb-true _ _ e) (ap (λ (bs : List ℕ). 0x5E ∷ bs) h)
@@ -139,33 +112,48 @@ root_taken : (bytes : List ℕ) → is_rooted bytes ≡ true → bytes ≡ 0x5C 
 root_taken [] h = absurd cc
 root_taken (b ∷ bytes) h = ap (λ c. c ∷ bytes) (eqb-true _ _ h)
 
--- a path behind its prefixes
-whole : (root : Bool) (ups : ℕ) (bytes rest : List ℕ) (n : Name) (left : List ℕ) → FitsPrefix root ups
-    → bytes ≡ (cond root (0x5C ∷ []) [] ++ replicate ups 0x5E) ++ rest → Pathed root ups rest n left
-    → Takes bytes (spelling n) left × IsName n
-whole root ups bytes rest n left fits split p =
+-- a path behind its prefixes is a name
+Named : List ℕ → Name × List ℕ → Type 0
+Named bytes x = IsBytes bytes → Takes bytes (spelling x.0) x.1 × IsName x.0
+
+prefixed : (root : Bool) (ups : ℕ) (bytes : List ℕ) (x : Name × List ℕ) (behind : List ℕ) → FitsPrefix root ups
+    → bytes ≡ (cond root (0x5C ∷ []) [] ++ replicate ups 0x5E) ++ behind → Pathed root ups behind x → Named bytes x
+unfolding Named
+prefixed root ups bytes x behind fits split p whole =
     let prefix = cond root (0x5C ∷ []) [] ++ replicate ups 0x5E in
-    let path = form_bytes n.form (length n.segs) ++ segment_bytes n.segs in
-    let text : bytes ≡ (prefix ++ path) ++ left = split ∙ ap (λ (bs : List ℕ). prefix ++ bs) p.takes.parts ∙ sym (append_assoc prefix path left) in
-    let again : (prefix ++ path) ++ left ≡ (cond root (0x5C ∷ []) [] ++ (replicate ups 0x5E ++ path)) ++ left =
-    ap (λ (bs : List ℕ). bs ++ left) (append_assoc (cond root (0x5C ∷ []) []) (replicate ups 0x5E) path) in
-    let own : (cond root (0x5C ∷ []) [] ++ (replicate ups 0x5E ++ path)) ++ left ≡ spelling n ++ left =
-    ap (λ (r : Bool). (cond r (0x5C ∷ []) [] ++ (replicate ups 0x5E ++ path)) ++ left) (sym p.same_root)
-    ∙ ap (λ (u : ℕ). (cond n.root (0x5C ∷ []) [] ++ (replicate u 0x5E ++ path)) ++ left) (sym p.same_ups) in (
-      record { parts = text ∙ again ∙ own; rest_fits = p.takes.rest_fits },
-      record { prefix = rw (p.same_root, p.same_ups) fits; form = p.form; segments = p.segments },
+    let path = form_bytes x.0.form (length x.0.segs) ++ segment_bytes x.0.segs in
+    let f = p.form (behind_fits bytes prefix behind split whole) in
+    let parts : bytes ≡ spelling x.0 ++ x.1 = split ∙ ap (λ (t : List ℕ). prefix ++ t) (p.read.1 ∙ ap (λ (t : List ℕ). t ++ x.1) f.0)
+    ∙ sym (append_assoc prefix path x.1) ∙ ap (λ (t : List ℕ). t ++ x.1) (append_assoc (cond root (0x5C ∷ []) []) (replicate ups 0x5E) path)
+    ∙ (λ i. (cond (sym p.same_root i) (0x5C ∷ []) [] ++ (replicate (sym p.same_ups i) 0x5E ++ path)) ++ x.1) in (
+      record { parts = parts; rest_fits = behind_fits bytes (spelling x.0) x.1 parts whole },
+      record { prefix = rw (p.same_root, p.same_ups) fits; form = f.1; segments = p.segments },
     )
+
+name_sound : (end : ℕ) (bytes : List ℕ) → Sound end bytes (Named bytes) (name_at end bytes)
+unfolding name_at
+name_sound end bytes = cond_both (is_rooted bytes) _ _ (Sound end bytes (Named bytes))
+    (λ q. by true 0 (drop 1 bytes) refl (root_taken bytes q))
+    (λ q. by false (parents bytes) (drop (parents bytes) bytes) tt (parents_taken bytes))
+  where
+    by : (root : Bool) (ups : ℕ) (behind : List ℕ) → FitsPrefix root ups → bytes ≡ (cond root (0x5C ∷ []) [] ++ replicate ups 0x5E) ++ behind
+        → Sound end bytes (Named bytes) (path_at root ups end behind)
+    by root ups behind fits split = sound_behind end bytes behind (Named bytes) (path_at root ups end behind) (_, split)
+        (mapped (path_at root ups end behind) (path_sound root ups end behind))
+      where
+        mapped : (r : Left Name) → Sound end behind (Pathed root ups behind) r → Sound end behind (Named bytes) r
+        mapped (Ok x) h = prefixed root ups bytes x behind fits split h
+        mapped (Err d) h = h
 
 pub name_takes : (end : ℕ) (bytes : List ℕ) (n : Name) (rest : List ℕ) → IsBytes bytes → name_at end bytes ≡ Ok (n, rest) → Takes bytes (spelling n) rest
     × IsName n
-unfolding name_at
+unfolding Named
 name_takes end bytes n rest fits e =
-    let P : Type 0 = Takes bytes (spelling n) rest × IsName n in
-    let ups = parents bytes in
-    cond_then P (is_rooted bytes) (path_at true 0 end (drop 1 bytes)) (path_at false ups end (drop ups bytes)) (Ok (n, rest)) e
-    (λ q f. whole true 0 bytes (drop 1 bytes) n rest refl (root_taken bytes q) (path_takes true 0 end (drop 1 bytes) n rest (IsBytes-drop 1 bytes fits) f))
-    (λ q f. whole false ups bytes (drop ups bytes) n rest tt (parents_taken bytes)
-    (path_takes false ups end (drop ups bytes) n rest (IsBytes-drop ups bytes fits) f))
+    let read : Named bytes (n, rest) = subst (Sound end bytes (Named bytes)) e (name_sound end bytes) in
+    read fits
+
+pub name_fault : (end : ℕ) (bytes : List ℕ) (d : CodeFault) → name_at end bytes ≡ Err d → NameFault end bytes d
+name_fault end bytes d e = subst (Sound end bytes (Named bytes)) e (name_sound end bytes)
 
 -- ---- what spells a name is read as that name
 
@@ -273,16 +261,6 @@ name_again end n rest is =
     ap (name_at end) text ∙ behind_prefixes n.root n.ups end (form ++ (segs ++ rest)) is.prefix bare.0 bare.1
     ∙ path_again n.root n.ups end n.form n.segs rest is.form is.segments
 
--- ---- a fault stands where it says
-
-pub name_fault : (end : ℕ) (bytes : List ℕ) (d : CodeFault) → name_at end bytes ≡ Err d → NameFault end bytes d
-unfolding name_at
-name_fault end bytes d e =
-    let ups = parents bytes in
-    cond_then (NameFault end bytes d) (is_rooted bytes) (path_at true 0 end (drop 1 bytes)) (path_at false ups end (drop ups bytes)) (Err d) e
-    (λ q f. fault_behind end bytes (drop 1 bytes) d (take 1 bytes, sym (take-append-drop 1 bytes)) (path_fault true 0 end (drop 1 bytes) d f))
-    (λ q f. fault_behind end bytes (drop ups bytes) d (take ups bytes, sym (take-append-drop ups bytes)) (path_fault false ups end (drop ups bytes) d f))
-
 -- ---- the first byte of a name
 
 -- The first byte: one that can begin a name in any position, or 00, which is then the whole of a bare NullName.
@@ -319,14 +297,6 @@ lead_of false zero Multi ss is = record { lead = 0x2F; behind = length ss % 256 
 pub name_lead : (n : Name) → IsName n → NameLead n
 name_lead n is = lead_of n.root n.ups n.form n.segs is
 
-never : (a : Bool) → (a && false) ≡ true → ⊥
-never true h = absurd cc
-never false h = absurd cc
-
-and_true : (a : Bool) → (a && true) ≡ true → a ≡ true
-and_true true h = refl
-and_true false h = absurd cc
-
 first_same : (a b : ℕ) (x y : List ℕ) → a ∷ x ≡ b ∷ y → a ≡ b
 first_same a b x y e = cc
 
@@ -342,46 +312,7 @@ lead_reads end b bytes n rest fits h e =
       | inr k ↦ let clash : true ≡ false = sym h ∙ ap (λ (c : ℕ). is_name_lead c) (same ∙ k.1) in absurd cc
     ]
 
--- a name that was read where no lead byte stands is the bare NullName
-pub null_reads : (end b : ℕ) (bytes : List ℕ) (n : Name) (rest : List ℕ) → IsBytes (b ∷ bytes) → is_name_lead b ≡ false → name_at end (b ∷ bytes) ≡ Ok (n, rest)
-    → (is_bare n ≡ true) × (b ≡ 0) × (rest ≡ bytes)
-null_reads end b bytes n rest fits h e =
-    let t = name_takes end (b ∷ bytes) n rest fits e in
-    let l = name_lead n t.1 in
-    let all : b ∷ bytes ≡ l.lead ∷ (l.behind ++ rest) = t.0.parts ∙ ap (λ (x : List ℕ). x ++ rest) l.text in
-    let same : b ≡ l.lead = first_same b l.lead bytes (l.behind ++ rest) all in
-    elim l.kind [
-      | inl k ↦ let clash : true ≡ false = sym k.0 ∙ ap (λ (c : ℕ). is_name_lead c) (sym same) ∙ h in absurd cc
-      | inr k ↦ (k.0, same ∙ k.1, let left : bytes ≡ l.behind ++ rest = cc in sym (left ∙ ap (λ (x : List ℕ). x ++ rest) k.2))
-    ]
-
--- there is one bare NullName
-bare_of : (root : Bool) (ups : ℕ) (f : NameForm) (ss : List Seg) → (let n : Name = record { root = root; ups = ups; form = f; segs = ss } in IsName n
-    → is_bare n ≡ true → n ≡ bare_name)
-bare_of true ups f ss is h = absurd cc
-bare_of false ups One ss is h = absurd (never (eqb ups 0) h)
-bare_of false ups Dual ss is h = absurd (never (eqb ups 0) h)
-bare_of false ups Multi ss is h = absurd (never (eqb ups 0) h)
-bare_of false ups Null [] is h = ap (λ (u : ℕ). record { root = false; ups = u; form = Null; segs = [] }) (eqb-true ups 0 (and_true (eqb ups 0) h))
-bare_of false ups Null (s ∷ ss) is h = absurd (let none : length (s ∷ ss) ≡ 0 = is.form in omega arith)
-
-pub bare_is : (n : Name) → IsName n → is_bare n ≡ true → n ≡ bare_name
-bare_is n is h = bare_of n.root n.ups n.form n.segs is h
-
--- a name has no segment just where its form is Null
-segmented_of : (f : NameForm) (k : ℕ) → FitsForm f k → ltb 0 k ≡ not (is_null f)
-segmented_of Null k h = rw h refl
-segmented_of One k h = rw h refl
-segmented_of Dual k h = rw h refl
-segmented_of Multi k h = lt-ltb 0 k h.0
-
-pub segmented : (n : Name) → IsName n → has_segment n ≡ not (is_null n.form)
-segmented n is = segmented_of n.form (length n.segs) is.form
-
 -- ---- what the front of bytes spells
-
-pub begins_takes : (bytes text rest : List ℕ) → Takes bytes text rest → Begins bytes text
-begins_takes bytes text rest t = (rest, t.parts)
 
 pub one_name : (end : ℕ) (bytes : List ℕ) (n : Name) (rest : List ℕ) → name_at end bytes ≡ Ok (n, rest) → (m : Name) → IsName m → Begins bytes (spelling m)
     → m ≡ n

@@ -88,16 +88,11 @@ has_segment n = nat_lt 0 (length n.segs)
 
 abbrev pub is_null : NameForm → Bool
 is_null Null = true
-is_null One = false
-is_null Dual = false
-is_null Multi = false
+is_null _ = false
 
 -- the bare NullName: neither a prefix nor a segment. Its spelling is the byte 00 alone.
 abbrev pub is_bare : Name → Bool
 is_bare n = (if n.root then false else (n.ups == 0)) && is_null n.form
-
-abbrev pub bare_name : Name
-bare_name = record { root = false; ups = 0; form = Null; segs = [] }
 
 -- bytes that begin with a text
 abbrev pub Begins : List ℕ → List ℕ → Type 0

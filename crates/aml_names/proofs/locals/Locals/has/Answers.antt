@@ -1,11 +1,11 @@
-use Rattle.std.proofs.Common.{◌≡◌, false, length, sym, ap, ◌∙◌}
+use Rattle.std.proofs.Common.{length, sym, ap, ◌∙◌}
 use Rattle.std.specs.FinSet as set
 use Rattle.std.specs.Ordering.{nat_cmp}
 use Rattle.std.specs.List.{list_any}
 use Rattle.std.specs.BTreeMap.{is_at}
 use Rattle.aml_names.proofs.Sets.{any_path}
 use Rattle.aml_names.proofs.LengthLaws.{none_so_long}
-use Rattle.aml_names.proofs.EndLaws.{of_false}
+use Rattle.std.proofs.lemmas.Bool.{OnFalse_at}
 use Rattle.aml_names.proofs.locals.Locals.has.Goals as goal
 
 pub returns : goal.returns
@@ -20,4 +20,4 @@ returns-then-not-contains c =
     sym (ap (λ s. set.contains s p) (sym c.self.view_is) ∙ any_path paths p ∙ none_so_long paths lengths p c.self.invariant.0 other)
 
 pub returns-then-not-may_end : goal.returns-then-not-may_end
-returns-then-not-may_end c = sym (of_false c.may_end.result (set.contains c.args.self.now c.args.path.now ≡ false) c.may_end.ensures c.if-not-may_end.true)
+returns-then-not-may_end c = sym (OnFalse_at c.if-not-may_end.true c.may_end.ensures)

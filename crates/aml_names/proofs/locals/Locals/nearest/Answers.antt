@@ -1,10 +1,9 @@
-use Rattle.std.proofs.Common.{[], ◌∷◌, sym, ap, ◌∙◌}
+use Rattle.std.proofs.Common.{[], ◌∷◌, sym, ap, subst, ◌∙◌}
+use Rattle.aml_names.specs.Ends.{IsKnown}
 use Rattle.std.specs.Option.{option_copied}
-use Rattle.std.specs.BTreeMap.{get}
 use Rattle.std.specs.FinSet as set
-use Rattle.aml_names.specs.Paths.{seg_cmp}
 use Rattle.aml_names.specs.Searching.{nearest}
-use Rattle.aml_names.proofs.EndLaws.{same_path, nearest_known, nearest_none}
+use Rattle.aml_names.proofs.EndLaws.{same_path, nearest_none}
 use Rattle.aml_names.proofs.locals.Locals.nearest.Goals as goal
 
 pub returns-then-eq : goal.returns-then-eq
@@ -12,8 +11,7 @@ returns-then-eq c =
     let own = c.self.inside in
     let scope = c.args.scope.now in
     let e = c.args.segment in
-    nearest_known (set.from_list own.paths.keys) own.scope e (get seg_cmp own.ends e) c.in-Some.depth.now (c.self.invariant.1 e)
-    (sym c.get.ensures.value ∙ ap option_copied c.in-Some.is)
+    subst (IsKnown (set.from_list own.paths.keys) own.scope e) (sym c.get.ensures.value ∙ ap option_copied c.in-Some.is) (c.self.invariant.1 e)
     ∙ (λ i. nearest (c.self.view_is i) (same_path own.scope scope (sym c.eq.ensures ∙ c.if-eq.true) i) (e ∷ []))
 
 pub returns-in-None : goal.returns-in-None
@@ -21,5 +19,5 @@ returns-in-None c =
     let own = c.self.inside in
     let scope = c.args.scope.now in
     let e = c.args.segment in
-    sym (ap (λ s. nearest s scope (e ∷ [])) (sym c.self.view_is) ∙ nearest_none (set.from_list own.paths.keys) own.scope scope e (get seg_cmp own.ends e)
-    (c.self.invariant.1 e) (sym c.get.ensures.value ∙ ap option_copied c.in-None.is))
+    sym (ap (λ s. nearest s scope (e ∷ [])) (sym c.self.view_is) ∙ nearest_none (set.from_list own.paths.keys) own.scope scope e
+    (subst (IsKnown (set.from_list own.paths.keys) own.scope e) (sym c.get.ensures.value ∙ ap option_copied c.in-None.is) (c.self.invariant.1 e)))
