@@ -32,7 +32,7 @@ absent_before : (s : Seg) (cs : List Child) → IsBefore s cs → child_in cs s 
 absent_before s [] before = refl
 absent_before s (c ∷ cs) before = ap (λ b. cond b (Some c.node) (child_in cs s)) (ap is_eq before.0) ∙ absent_before s cs before.1
 
-earlier : (s t : Seg) (cs : List Child) → seg_cmp s t ≡ Less → IsBefore t cs → IsBefore s cs
+pub earlier : (s t : Seg) (cs : List Child) → seg_cmp s t ≡ Less → IsBefore t cs → IsBefore s cs
 earlier s t [] less before = tt
 earlier s t (c ∷ cs) less before = (segs_total.trans s t c.seg less before.0, earlier s t cs less before.1)
 
@@ -42,7 +42,7 @@ turned s t more = segs_total.antisymm t s ∙ ap ordering_reverse more
 turned_less : (s t : Seg) → seg_cmp s t ≡ Less → seg_cmp t s ≡ Greater
 turned_less s t less = segs_total.antisymm t s ∙ ap ordering_reverse less
 
-apart : (s t : Seg) → seg_cmp t s ≡ Less → eq_by_cmp seg_cmp s t ≡ false
+pub apart : (s t : Seg) → seg_cmp t s ≡ Less → eq_by_cmp seg_cmp s t ≡ false
 apart s t e = ap is_eq (segs_total.antisymm s t ∙ ap ordering_reverse e)
 
 -- what stands behind a middle has none of the segments before it
