@@ -1,6 +1,6 @@
 -- The addresses that an XSDT or an RSDT lists.
 use Rattle.std.proofs.Common.{◌≡◌, ℕ, ◌+◌, ◌-◌, ◌*◌, ◌/◌, ◌%◌, ◌≤◌, ◌<◌, List, length, Some, None, refl, rules, tests, arith, Bool, true, false, ◌&&◌, nat_le}
-use Rattle.std.proofs.Common.{nat_eq, zero-add, ◌∙◌}
+use Rattle.std.proofs.Common.{nat_eq, zero-add}
 use Rattle.std.specs.Prelude.{slice_get, if◌then◌else◌}
 use Rattle.std.proofs.Math.Nat.{le-div_iff_mul-le}
 use Rattle.std.proofs.lemmas.Bool.Decides.{nat_tests}

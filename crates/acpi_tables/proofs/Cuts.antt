@@ -1,19 +1,21 @@
--- The cut of a MADT into its records: how a walk extends it, that it is the only one, and that it leaves no broken record.
+-- The cut of a MADT into its records. A walk over whole records extends it, and at the table's end it is the cut of all
+-- bytes, the only one. Where there is one no record is broken: a cut of the first bytes is the front of it, and it goes on
+-- with a whole record. So a table that is read has no fault.
 use Rattle.std.proofs.Common.{◌≡◌, ℕ, zero, suc, ◌+◌, ◌-◌, ◌<◌, ◌≤◌, true, List, [], ◌∷◌, ◌++◌, length, take, drop, map, refl, sym, ap, ◌∙◌, subst, arith}
-use Rattle.std.proofs.Common.{append_assoc, length-append, length-drop, cond}
+use Rattle.std.proofs.Common.{append_assoc, length-append, length-drop}
 use Rattle.std.proofs.lemmas.Bool.Decides.{nat_tests}
 use Rattle.std.proofs.lemmas.List.{append-nil, drop-drop, take-append-drop}
 use Rattle.std.proofs.lemmas.List.Folds.{concat-append}
 use Rattle.std.proofs.lemmas.List.{map-append}
+use Rattle.std.proofs.lemmas.List.Elements.{All-push, All-from_recursion, recursion_from_All}
 use Rattle.std.proofs.Math.Seq.{take-add, take-append_seam, drop-append_seam, take-length}
 use Rattle.std.specs.List.{AllByRecursion, concat}
 use Rattle.acpi_tables.specs.Bytes.{bytes_at, number_at}
 use Rattle.acpi_tables.specs.Madt.{HoldsRecord, HoldsMadt, BreaksAt, IsRecord, IsCut, begins_whole, record_bytes_at, record_end, records_within, records_of}
-use Rattle.acpi_tables.specs.Madt.{meaning_of, seen_by, RefusesMadt}
+use Rattle.acpi_tables.specs.Madt.{meaning_of, said, RefusesMadt}
 use Rattle.acpi_tables.specs.declared.madt.MadtRecord.{MadtRecord}
 use Rattle.acpi_tables.specs.declared.faults.Bad.{Bad}
-use Rattle.acpi_tables.specs.declared.faults.Bad.TheVariants.{TooManyTables, TooLarge, Short, BadSum, BadRoot, RootMissing, FadtMissing, FadtShort}
-use Rattle.acpi_tables.specs.declared.faults.Bad.TheVariants.{MadtRecord as BadRecord, NoDsdt, TwoDsdts, NoMemory}
+use Rattle.acpi_tables.specs.declared.faults.Bad.TheVariants.{Short, MadtRecord as BadRecord}
 use Rattle.acpi_tables.proofs.Numbers.{number_at-one, length-bytes_at, get_or-bytes_at}
 
 -- whole records up to an offset
@@ -23,13 +25,12 @@ pub record WalksTo (table : List ℕ) (at : ℕ) : Type 0 where
   pub records : List (List ℕ)
   pub cut : IsCut (bytes_at table 44 (at - 44)) records
 
-pub walk_start : (table : List ℕ) → 44 ≤ length table → WalksTo table 44
+pub nothing_read : (table : List ℕ) → bytes_at table 44 (44 - 44) ≡ []
 unfolding bytes_at
-walk_start table h = record { behind_fields = omega arith; within = h; records = []; cut = record { joined = refl; each = tt } }
+nothing_read table = refl
 
-each_more : (records : List (List ℕ)) (one : List ℕ) → AllByRecursion IsRecord records → IsRecord one → AllByRecursion IsRecord (records ++ one ∷ [])
-each_more [] one all is = (is, tt)
-each_more (r ∷ records) one all is = (all.0, each_more records one all.1 is)
+abbrev pub walk_start : (table : List ℕ) → 44 ≤ length table → WalksTo table 44
+walk_start table h = record { behind_fields = omega arith; within = h; records = []; cut = record { joined = nothing_read table; each = tt } }
 
 -- the second byte of a whole record
 second-at : (table : List ℕ) (at : ℕ) → HoldsRecord table at → number_at (record_bytes_at table at) 1 1 ≡ number_at table (at + 1) 1
@@ -55,33 +56,21 @@ bytes_at-more table from at n h =
     ∙ take-add (at - from) n (drop from table)
     ∙ ap (λ xs. take (at - from) (drop from table) ++ take n xs) (drop-drop (at - from) from table ∙ ap (λ k. drop k table) there)
 
-concat-more : (records : List (List ℕ)) (one : List ℕ) → concat (records ++ one ∷ []) ≡ concat records ++ one
-concat-more records one = concat-append records (one ∷ []) ∙ ap (λ xs. concat records ++ xs) (append-nil one)
+pub more_cut : (table : List ℕ) (at : ℕ) → 44 ≤ at → HoldsRecord table at → (records : List (List ℕ)) → IsCut (bytes_at table 44 (at - 44)) records
+    → IsCut (bytes_at table 44 (record_end table at - 44)) (records ++ record_bytes_at table at ∷ [])
+more_cut table at behind h records cut = record {
+  joined = bytes_at-more table 44 at (number_at table (at + 1) 1) behind ∙ rw (cut.joined, concat-append, append-nil) refl;
+  each = recursion_from_All IsRecord _ (All-push IsRecord records (record_bytes_at table at) (All-from_recursion IsRecord records cut.each) (IsRecord-at table at h));
+}
 
 -- the walk goes on over a whole record
-pub walk_more : (table : List ℕ) (at : ℕ) → WalksTo table at → HoldsRecord table at → WalksTo table (record_end table at)
+abbrev pub walk_more : (table : List ℕ) (at : ℕ) → WalksTo table at → HoldsRecord table at → WalksTo table (record_end table at)
 walk_more table at walk h = record {
   behind_fields = omega (arith, walk.behind_fields);
   within = h.inside;
   records = walk.records ++ record_bytes_at table at ∷ [];
-  cut = record {
-    joined =
-        bytes_at-more table 44 at (number_at table (at + 1) 1) walk.behind_fields
-        ∙ ap (λ xs. xs ++ record_bytes_at table at) walk.cut.joined
-        ∙ sym (concat-more walk.records (record_bytes_at table at));
-    each = each_more walk.records (record_bytes_at table at) walk.cut.each (IsRecord-at table at h);
-  };
+  cut = more_cut table at walk.behind_fields h walk.records walk.cut;
 }
-
--- its records
-pub records-walk_start : (table : List ℕ) (h : 44 ≤ length table) → (walk_start table h).records ≡ []
-unfolding walk_start
-records-walk_start table h = refl
-
-pub records-walk_more : (table : List ℕ) (at : ℕ) (walk : WalksTo table at) (h : HoldsRecord table at)
-    → (walk_more table at walk h).records ≡ walk.records ++ record_bytes_at table at ∷ []
-unfolding walk_more
-records-walk_more table at walk h = refl
 
 -- What a record begins with does not depend on what follows it.
 second-append : (one rest : List ℕ) → IsRecord one → number_at (one ++ rest) 1 1 ≡ length one
@@ -105,16 +94,16 @@ records_within-concat [] zero all h = refl
 records_within-concat [] (suc n) all h = refl
 records_within-concat (one ∷ records) zero all h = absurd (omega (arith, length-append one (concat records), all.0.header))
 records_within-concat (one ∷ records) (suc n) all h =
-    let bytes = one ++ concat records in
     let more = records_within-concat records n all.1 (omega (arith, length-append one (concat records), all.0.header)) in
-    ap (λ b. cond b (take (number_at bytes 1 1) bytes ∷ records_within n (drop (number_at bytes 1 1) bytes)) [])
-    (begins_whole-append one (concat records) all.0)
-    ∙ ap (λ k. take k bytes ∷ records_within n (drop k bytes)) (second-append one (concat records) all.0)
-    ∙ ap (λ xs. xs ∷ records_within n (drop (length one) bytes)) (take-append_seam one (concat records))
-    ∙ ap (λ xs. one ∷ records_within n xs) (drop-append_seam one (concat records))
-    ∙ ap (λ xs. one ∷ xs) more
+    rw (
+      begins_whole-append one (concat records) all.0,
+      second-append one (concat records) all.0,
+      take-append_seam one (concat records),
+      drop-append_seam one (concat records),
+      more,
+    ) refl
 
-pub records_of-cut : (table : List ℕ) (records : List (List ℕ)) → IsCut (drop 44 table) records → records_of table ≡ records
+records_of-cut : (table : List ℕ) (records : List (List ℕ)) → IsCut (drop 44 table) records → records_of table ≡ records
 unfolding records_of
 records_of-cut table records cut =
     ap (records_within (length table)) cut.joined
@@ -197,40 +186,22 @@ whole_not_broken table at holds breaks =
 -- the walk with what was read of its records, seen by a function
 pub record ReadsTo {C : Type 0} (see : C → List ℕ) (table : List ℕ) (at : ℕ) (read : List (MadtRecord C)) : Type 0 where
   pub walk : WalksTo table at
-  pub same : map (seen_by see) read ≡ map meaning_of walk.records
+  pub same : map (said see) read ≡ map meaning_of walk.records
 
 pub read_start : {C : Type 0} (see : C → List ℕ) (table : List ℕ) → 44 ≤ length table → ReadsTo see table 44 []
-unfolding walk_start
 read_start see table h = record { walk = walk_start table h; same = refl }
 
 pub read_more : {C : Type 0} (see : C → List ℕ) (table : List ℕ) (at : ℕ) (read : List (MadtRecord C)) (one : MadtRecord C)
-    → ReadsTo see table at read → HoldsRecord table at → seen_by see one ≡ meaning_of (record_bytes_at table at)
+    → ReadsTo see table at read → HoldsRecord table at → said see one ≡ meaning_of (record_bytes_at table at)
     → ReadsTo see table (record_end table at) (read ++ one ∷ [])
-unfolding walk_more
-read_more see table at read one reads holds e = record {
-  walk = walk_more table at reads.walk holds;
-  same =
-      map-append (seen_by see) read (one ∷ [])
-      ∙ ap (λ xs. xs ++ seen_by see one ∷ []) reads.same
-      ∙ ap (λ x. map meaning_of reads.walk.records ++ x ∷ []) e
-      ∙ sym (map-append meaning_of reads.walk.records (record_bytes_at table at ∷ []));
-}
+read_more see table at read one reads holds e = record { walk = walk_more table at reads.walk holds; same = simp map-append (cc (reads.same, e)) }
 
 pub read_whole : {C : Type 0} (see : C → List ℕ) (table : List ℕ) (at : ℕ) (read : List (MadtRecord C)) → ReadsTo see table at read → length table ≤ at
-    → map (seen_by see) read ≡ map meaning_of (records_of table)
+    → map (said see) read ≡ map meaning_of (records_of table)
 read_whole see table at read reads h = reads.same ∙ ap (map meaning_of) (sym (records_of-walk table at reads.walk h))
 
 -- a table that is read has no fault for which it is refused
 pub whole_not_refused : (table : List ℕ) → HoldsMadt table → (bad : Bad) → ¬ RefusesMadt table bad
 whole_not_refused table holds Short short = absurd (omega (arith, holds.header))
 whole_not_refused table holds (BadRecord at) breaks = whole_not_broken table at holds breaks
-whole_not_refused table holds TooManyTables h = h
-whole_not_refused table holds TooLarge h = h
-whole_not_refused table holds BadSum h = h
-whole_not_refused table holds BadRoot h = h
-whole_not_refused table holds RootMissing h = h
-whole_not_refused table holds FadtMissing h = h
-whole_not_refused table holds FadtShort h = h
-whole_not_refused table holds NoDsdt h = h
-whole_not_refused table holds TwoDsdts h = h
-whole_not_refused table holds NoMemory h = h
+whole_not_refused table holds _ h = h

@@ -1,8 +1,6 @@
 pub mod Numbers
-pub mod FadtFields
-pub mod Rows
+pub mod Values
 pub mod Cells
-pub mod Meanings
 pub mod Cuts
 pub mod Places
 pub mod Once

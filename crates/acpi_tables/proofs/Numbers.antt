@@ -14,25 +14,19 @@ get_or-bytes_at table offset width i h = get_or-take width (drop offset table) i
 
 pub spells_two : (bytes : List ℕ) → length bytes ≡ 2 → little_endian bytes ≡ slice_index bytes 0 + slice_index bytes 1 * 256
 spells_two (a ∷ b ∷ []) h = omega arith
-spells_two [] h = absurd (omega arith)
-spells_two (a ∷ []) h = absurd (omega arith)
-spells_two (a ∷ b ∷ c ∷ bytes) h = absurd (omega arith)
+spells_two _ h = absurd (omega arith)
 
 pub spells_four : (bytes : List ℕ) → length bytes ≡ 4
     → little_endian bytes ≡ slice_index bytes 0 + slice_index bytes 1 * 256 + slice_index bytes 2 * 65536 + slice_index bytes 3 * 16777216
 spells_four (a ∷ b ∷ bytes) h = omega (arith, spells_two bytes (omega arith))
-spells_four [] h = absurd (omega arith)
-spells_four (a ∷ []) h = absurd (omega arith)
+spells_four _ h = absurd (omega arith)
 
 pub spells_eight : (bytes : List ℕ) → length bytes ≡ 8
     → little_endian bytes
     ≡ slice_index bytes 0 + slice_index bytes 1 * 256 + slice_index bytes 2 * 65536 + slice_index bytes 3 * 16777216
     + slice_index bytes 4 * 4294967296 + slice_index bytes 5 * 1099511627776 + slice_index bytes 6 * 281474976710656 + slice_index bytes 7 * 72057594037927936
 spells_eight (a ∷ b ∷ c ∷ d ∷ bytes) h = omega (arith, spells_four bytes (omega arith))
-spells_eight [] h = absurd (omega arith)
-spells_eight (a ∷ []) h = absurd (omega arith)
-spells_eight (a ∷ b ∷ []) h = absurd (omega arith)
-spells_eight (a ∷ b ∷ c ∷ []) h = absurd (omega arith)
+spells_eight _ h = absurd (omega arith)
 
 pub number_at-one : (table : List ℕ) (offset : ℕ) → offset < length table → number_at table offset 1 ≡ slice_index table offset
 unfolding number_at bytes_at

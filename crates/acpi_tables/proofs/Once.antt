@@ -1,4 +1,5 @@
--- The lists that a walk over other numbers makes: each where it stands first, and those that a function gives.
+-- The lists that a walk over other numbers makes: those that pass a test, each where it stands first, and those that a
+-- function gives. That a number is added behind the others, or not, is the law of one more number (`each_once-push`).
 use Rattle.std.proofs.Common.{◌≡◌, ℕ, ◌+◌, ◌<◌, Bool, true, false, not, ◌&&◌, ◌||◌, List, [], ◌∷◌, ◌++◌, length, take, map, get_or, cond, nat_eq, filter}
 use Rattle.std.proofs.Common.{filter_map, Option, refl, sym, ap, ◌∙◌, arith, rules, tests, zero-add}
 use Rattle.std.specs.List.{list_any, cons_option, range_with_len}
@@ -21,11 +22,8 @@ push_cases : (x y : ℕ) (kept : List ℕ) (a e : Bool) → nat_eq y x ≡ e
     ≡ cond (e || (not e && a)) (x ∷ filter (λ z. not (nat_eq z x)) kept) ((x ∷ filter (λ z. not (nat_eq z x)) kept) ++ y ∷ [])
 push_cases x y kept true true is = refl
 push_cases x y kept true false is = refl
-push_cases x y kept false true is =
-    ap (λ l. x ∷ l) (filter-append (λ z. not (nat_eq z x)) kept (y ∷ []) ∙ ap (λ b. filter (λ z. not (nat_eq z x)) kept ++ cond (not b) (y ∷ []) []) is
-    ∙ append-nil _)
-push_cases x y kept false false is =
-    ap (λ l. x ∷ l) (filter-append (λ z. not (nat_eq z x)) kept (y ∷ []) ∙ ap (λ b. filter (λ z. not (nat_eq z x)) kept ++ cond (not b) (y ∷ []) []) is)
+push_cases x y kept false true is = simp (filter-append, is, append-nil)
+push_cases x y kept false false is = simp (filter-append, is)
 
 -- whether y stands among those that aren't x, behind x
 stands : (x y : ℕ) (kept : List ℕ)
@@ -41,41 +39,12 @@ each_once-push (x ∷ xs) y =
     ∙ push_cases x y (each_once xs) (list_any (λ z. nat_eq z y) (each_once xs)) (nat_eq y x) refl
     ∙ ap (λ b. cond b (each_once (x ∷ xs)) (each_once (x ∷ xs) ++ y ∷ [])) (sym (stands x y (each_once xs)))
 
--- The walk over the numbers that pass a test: one that is taken, one that stood before, and one that doesn't pass.
-pub once_taken : (test : ℕ → Bool) (xs : List ℕ) (i : ℕ) (old new : List ℕ) → i < length xs → old ≡ each_once (filter test (take i xs))
-    → test (get_or xs i 0) ≡ true → list_any (λ z. nat_eq z (get_or xs i 0)) old ≡ false → new ≡ old ++ get_or xs i 0 ∷ []
-    → new ≡ each_once (filter test (take (i + 1) xs))
-once_taken test xs i old new inside kept passes absent is =
-    let more = filter_more test xs i 0 inside in
-    let push = each_once-push (filter test (take i xs)) (get_or xs i 0) in
-    let here : filter test (take (i + 1) xs) ≡ filter test (take i xs) ++ get_or xs i 0 ∷ [] = more
-    ∙ ap (λ b. filter test (take i xs) ++ cond b (get_or xs i 0 ∷ []) []) passes in
-    let there : list_any (λ z. nat_eq z (get_or xs i 0)) (each_once (filter test (take i xs))) ≡ false =
-    ap (list_any (λ z. nat_eq z (get_or xs i 0))) (sym kept) ∙ absent in
-    is ∙ ap (λ l. l ++ get_or xs i 0 ∷ []) kept
-    ∙ ap (λ b. cond b (each_once (filter test (take i xs))) (each_once (filter test (take i xs)) ++ get_or xs i 0 ∷ [])) (sym there)
-    ∙ sym push ∙ ap each_once (sym here)
-
-pub once_there : (test : ℕ → Bool) (xs : List ℕ) (i : ℕ) (old : List ℕ) → i < length xs → old ≡ each_once (filter test (take i xs))
-    → test (get_or xs i 0) ≡ true → list_any (λ z. nat_eq z (get_or xs i 0)) old ≡ true
-    → old ≡ each_once (filter test (take (i + 1) xs))
-once_there test xs i old inside kept passes present =
-    let more = filter_more test xs i 0 inside in
-    let push = each_once-push (filter test (take i xs)) (get_or xs i 0) in
-    let here : filter test (take (i + 1) xs) ≡ filter test (take i xs) ++ get_or xs i 0 ∷ [] = more
-    ∙ ap (λ b. filter test (take i xs) ++ cond b (get_or xs i 0 ∷ []) []) passes in
-    let there : list_any (λ z. nat_eq z (get_or xs i 0)) (each_once (filter test (take i xs))) ≡ true = ap (list_any (λ z. nat_eq z (get_or xs i 0))) (sym kept)
-    ∙ present in
-    kept
-    ∙ ap (λ b. cond b (each_once (filter test (take i xs))) (each_once (filter test (take i xs)) ++ get_or xs i 0 ∷ [])) (sym there)
-    ∙ sym push ∙ ap each_once (sym here)
-
-pub once_skipped : (test : ℕ → Bool) (xs : List ℕ) (i : ℕ) (old : List ℕ) → i < length xs → old ≡ each_once (filter test (take i xs))
-    → test (get_or xs i 0) ≡ false → old ≡ each_once (filter test (take (i + 1) xs))
-once_skipped test xs i old inside kept fails =
-    let more = filter_more test xs i 0 inside in
-    kept ∙ ap each_once (sym (append-nil (filter test (take i xs))) ∙ ap (λ b. filter test (take i xs) ++ cond b (get_or xs i 0 ∷ []) []) (sym fails)
-    ∙ sym more)
+-- The walk over the numbers that pass a test: the next is added where it passes and didn't stand before.
+pub once_more : (test : ℕ → Bool) (xs : List ℕ) (i : ℕ) (old new : List ℕ) (passes there : Bool) → i < length xs
+    → old ≡ each_once (filter test (take i xs)) → test (get_or xs i 0) ≡ passes → list_any (λ z. nat_eq z (get_or xs i 0)) old ≡ there
+    → new ≡ cond passes (cond there old (old ++ get_or xs i 0 ∷ [])) old → new ≡ each_once (filter test (take (i + 1) xs))
+once_more test xs i old new true there inside kept is any grown = rw (filter_more test xs i 0 inside, is, each_once-push, ← kept, any) grown
+once_more test xs i old new false there inside kept is any grown = rw (filter_more test xs i 0 inside, is, append-nil, ← kept) grown
 
 -- The walk over the values of a function, with those that another gives of them.
 pub given_more : (given : ℕ → Option ℕ) (f : ℕ → ℕ) (i : ℕ) (old : List ℕ) → old ≡ filter_map given (map f (range_with_len 0 i))

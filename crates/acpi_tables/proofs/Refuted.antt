@@ -1,5 +1,5 @@
 -- Where a refusal stands there is no order.
-use Rattle.std.proofs.Common.{◌≡◌, ℕ, ◌<◌, ◌≤◌, inl, inr, Bool, true, false, List, ◌∷◌, length, codes, Option, Some, None, Result, IfOk, MatchBool, slice_get}
+use Rattle.std.proofs.Common.{◌≡◌, ℕ, ◌≤◌, inl, inr, Bool, true, false, List, ◌∷◌, length, codes, Option, Some, None, Result, IfOk, MatchBool, slice_get}
 use Rattle.std.proofs.Common.{find, sym, ap, subst, ◌∙◌, arith}
 use Rattle.std.proofs.lemmas.Bool.{true≢false}
 use Rattle.std.proofs.lemmas.Option.{same_Some}

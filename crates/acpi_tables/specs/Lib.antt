@@ -4,7 +4,6 @@ pub mod Header
 pub mod Rsdp
 pub mod Addresses
 pub mod Fadt
-pub mod Records
 pub mod Madt
 pub mod Dumps
 pub mod Order

@@ -1,69 +1,84 @@
 -- The Multiple APIC Description Table (ACPI 6.5, section 5.2.12, tables 5.19 to 5.21): two fields, and then records up
--- to its end.
-use Rattle.std.specs.Prelude.{◌≡◌, ℕ, zero, suc, ◌+◌, ◌-◌, ◌<◌, ◌≤◌, ◌&&◌, Bool, List, [], ◌∷◌}
-use Rattle.std.specs.Prelude.{length, take, drop, map, nat_eq, nat_le, Option, Some, if◌then◌else◌}
+-- to its end. The kinds of records that are read here are data (sections 5.2.12.2, 5.2.12.3, 5.2.12.5 to 5.2.12.8,
+-- 5.2.12.12 and 5.2.12.13).
+use Prim.Native.String.{String}
+use Rattle.std.specs.Prelude.{◌≡◌, ℕ, zero, suc, ◌+◌, ◌-◌, ◌<◌, ◌≤◌, ◌&&◌, Bool, List, [], ◌∷◌, codes}
+use Rattle.std.specs.Prelude.{length, take, drop, map, find, nat_eq, nat_le, Option, Some, None, if◌then◌else◌}
 use Rattle.std.specs.List.{AllByRecursion, concat}
 use Rattle.acpi_tables.specs.Bytes.{bytes_at, number_at}
-use Rattle.acpi_tables.specs.Fields.{value_in}
-use Rattle.acpi_tables.specs.Records.{kind_of, row_of, fields_by}
+use Rattle.acpi_tables.specs.Fields.{Field, field, field_view}
 use Rattle.acpi_tables.specs.declared.faults.Bad.{Bad}
 use Rattle.acpi_tables.specs.declared.faults.Bad.TheVariants.{Short, MadtRecord as BadRecord}
+use Rattle.acpi_tables.specs.declared.fields.Base.TheVariants.{Decimal, Hexadecimal}
+use Rattle.acpi_tables.specs.declared.fields.RecordRow.{RecordRow}
 use Rattle.acpi_tables.specs.declared.madt.MadtRecord.{MadtRecord}
 use Rattle.acpi_tables.specs.declared.madt.MadtRecord.TheVariants.{LocalApic, IoApic, Override, NmiSource, LocalNmi}
 use Rattle.acpi_tables.specs.declared.madt.MadtRecord.TheVariants.{AddressOverride, X2Apic, X2Nmi, Other}
 
--- What a record of this type and length says: the fields of the known kinds, and of any other the bytes behind its
--- length.
-abbrev pub meaning_by : ℕ → ℕ → List ℕ → MadtRecord (List ℕ)
-meaning_by kind long bytes =
-    if nat_eq kind 0 && nat_eq long 8
-    then LocalApic (number_at bytes 2 1) (number_at bytes 3 1) (number_at bytes 4 4) else
-    if nat_eq kind 1 && nat_eq long 12
-    then IoApic (number_at bytes 2 1) (number_at bytes 4 4) (number_at bytes 8 4) else
-    if nat_eq kind 2 && nat_eq long 10
-    then Override (number_at bytes 2 1) (number_at bytes 3 1) (number_at bytes 4 4) (number_at bytes 8 2) else
-    if nat_eq kind 3 && nat_eq long 8
-    then NmiSource (number_at bytes 2 2) (number_at bytes 4 4) else
-    if nat_eq kind 4 && nat_eq long 6
-    then LocalNmi (number_at bytes 2 1) (number_at bytes 3 2) (number_at bytes 5 1) else
-    if nat_eq kind 5 && nat_eq long 12
-    then AddressOverride (number_at bytes 4 8) else
-    if nat_eq kind 9 && nat_eq long 16
-    then X2Apic (number_at bytes 4 4) (number_at bytes 8 4) (number_at bytes 12 4) else
-    if nat_eq kind 10 && nat_eq long 12
-    then X2Nmi (number_at bytes 2 2) (number_at bytes 4 4) (number_at bytes 8 1) else
-    Other kind (drop 2 bytes)
+-- a kind: its type, its length in bytes, how it is called, and its fields
+pub record Row : Type 0 where
+  pub kind : ℕ
+  pub long : ℕ
+  pub name : List ℕ
+  pub fields : List Field
 
-unfoldable pub meaning_of : List ℕ → MadtRecord (List ℕ)
-meaning_of bytes = meaning_by (kind_of bytes) (length bytes) bytes
+abbrev pub row : ℕ → ℕ → String → List Field → Row
+row kind long name fields = record { kind = kind; long = long; name = codes name; fields = fields }
 
--- what was read of each field, in their order
-abbrev pub record_values : MadtRecord (List ℕ) → List (Option ℕ)
-record_values (LocalApic uid apic flags) = Some uid ∷ Some apic ∷ Some flags ∷ []
-record_values (IoApic id address gsi) = Some id ∷ Some address ∷ Some gsi ∷ []
-record_values (Override bus source gsi flags) = Some bus ∷ Some source ∷ Some gsi ∷ Some flags ∷ []
-record_values (NmiSource flags gsi) = Some flags ∷ Some gsi ∷ []
-record_values (LocalNmi uid flags lint) = Some uid ∷ Some flags ∷ Some lint ∷ []
-record_values (AddressOverride address) = Some address ∷ []
-record_values (X2Apic id flags uid) = Some id ∷ Some flags ∷ Some uid ∷ []
-record_values (X2Nmi flags uid lint) = Some flags ∷ Some uid ∷ Some lint ∷ []
-record_values (Other kind content) = []
+-- the kinds; the field of AddressOverride has no label
+abbrev pub madt_rows : List Row
+madt_rows =
+    row 0 8 "LocalApic" (field 2 1 "Uid" Decimal ∷ field 3 1 "Apic" Decimal ∷ field 4 4 "Flags" Hexadecimal ∷ [])
+    ∷ row 1 12 "IoApic" (field 2 1 "Id" Decimal ∷ field 4 4 "Address" Hexadecimal ∷ field 8 4 "Gsi" Decimal ∷ [])
+    ∷ row 2 10 "Override"
+    (field 2 1 "Bus" Decimal ∷ field 3 1 "Source" Decimal
+    ∷ field 4 4 "Gsi" Decimal ∷ field 8 2 "Flags" Hexadecimal ∷ [])
+    ∷ row 3 8 "NmiSource" (field 2 2 "Flags" Hexadecimal ∷ field 4 4 "Gsi" Decimal ∷ [])
+    ∷ row 4 6 "LocalNmi" (field 2 1 "Uid" Decimal ∷ field 3 2 "Flags" Hexadecimal ∷ field 5 1 "Lint" Decimal ∷ [])
+    ∷ row 5 12 "AddressOverride" (field 4 8 "" Hexadecimal ∷ [])
+    ∷ row 9 16 "X2Apic" (field 4 4 "Id" Decimal ∷ field 8 4 "Flags" Hexadecimal ∷ field 12 4 "Uid" Decimal ∷ [])
+    ∷ row 10 12 "X2Nmi" (field 2 2 "Flags" Hexadecimal ∷ field 4 4 "Uid" Decimal ∷ field 8 1 "Lint" Decimal ∷ [])
+    ∷ []
 
--- the values of the fields that the table of kinds gives a record
-unfoldable pub row_values : List ℕ → List (Option ℕ)
-row_values bytes = map (value_in bytes) (fields_by (row_of bytes))
+-- a record's first byte is its type
+abbrev pub kind_of : List ℕ → ℕ
+kind_of bytes = number_at bytes 0 1
 
--- the same record with its raw content seen by a function
-abbrev pub seen_by : {A B : Type 0} → (A → B) → MadtRecord A → MadtRecord B
-seen_by f (LocalApic uid apic flags) = LocalApic uid apic flags
-seen_by f (IoApic id address gsi) = IoApic id address gsi
-seen_by f (Override bus source gsi flags) = Override bus source gsi flags
-seen_by f (NmiSource flags gsi) = NmiSource flags gsi
-seen_by f (LocalNmi uid flags lint) = LocalNmi uid flags lint
-seen_by f (AddressOverride address) = AddressOverride address
-seen_by f (X2Apic id flags uid) = X2Apic id flags uid
-seen_by f (X2Nmi flags uid lint) = X2Nmi flags uid lint
-seen_by f (Other kind content) = Other kind (f content)
+-- the kind that has a record's type and length
+unfoldable pub row_of : List ℕ → Option Row
+row_of bytes = find (λ r. nat_eq (kind_of bytes) r.kind && nat_eq (length bytes) r.long) madt_rows
+
+-- a kind as the code keeps it
+abbrev pub row_view : RecordRow → Row
+row_view r = record { kind = r.kind; long = r.length; name = r.name.now; fields = map field_view r.fields.now }
+
+-- What a record says: the name of its kind and the values of the fields, in their order, or for a record of no kind its
+-- type and the bytes behind its length.
+pub data Said : Type 0 where
+  Known : List ℕ → List ℕ → Said
+  Unknown : ℕ → List ℕ → Said
+
+abbrev pub said_by : Option Row → List ℕ → Said
+said_by (Some r) bytes = Known r.name (map (λ f. number_at bytes f.offset f.width) r.fields)
+said_by None bytes = Unknown (kind_of bytes) (drop 2 bytes)
+
+unfoldable pub meaning_of : List ℕ → Said
+meaning_of bytes = said_by (row_of bytes) bytes
+
+-- what a record in memory says, whose raw content is seen by a function
+abbrev pub known : String → List ℕ → Said
+known name values = Known (codes name) values
+
+abbrev pub said : {C : Type 0} → (C → List ℕ) → MadtRecord C → Said
+said see (LocalApic uid apic flags) = known "LocalApic" (uid ∷ apic ∷ flags ∷ [])
+said see (IoApic id address gsi) = known "IoApic" (id ∷ address ∷ gsi ∷ [])
+said see (Override bus source gsi flags) = known "Override" (bus ∷ source ∷ gsi ∷ flags ∷ [])
+said see (NmiSource flags gsi) = known "NmiSource" (flags ∷ gsi ∷ [])
+said see (LocalNmi uid flags lint) = known "LocalNmi" (uid ∷ flags ∷ lint ∷ [])
+said see (AddressOverride address) = known "AddressOverride" (address ∷ [])
+said see (X2Apic id flags uid) = known "X2Apic" (id ∷ flags ∷ uid ∷ [])
+said see (X2Nmi flags uid lint) = known "X2Nmi" (flags ∷ uid ∷ lint ∷ [])
+said see (Other kind content) = Unknown kind (see content)
 
 -- a whole record stands at this offset: its length is there and counts at least its first two bytes, and it lies within
 -- the table

@@ -3,7 +3,7 @@ use Rattle.std.specs.Prelude.{◌≡◌, ℕ, ◌+◌, ◌-◌, ◌*◌, ◌<◌
 use Rattle.std.specs.Prelude.{◌∷◌, codes, length, take, map, reverse, filter, filter_map, find, position}
 use Rattle.std.specs.Prelude.{take_while, slice_get, slice_index_or, IsPermutation, IsSorted, is_some, nat_eq}
 use Rattle.std.specs.Prelude.{nat_le, string_bytes, Option, Some, None, option_and_then, MatchBool, if◌then◌else◌}
-use Rattle.std.specs.List.{before_last, list_any}
+use Rattle.std.specs.List.{before_last, list_any, range_with_len}
 use Rattle.std.specs.declared.cmp.Ordering.{Ordering}
 use Rattle.std.specs.Ordering.{then_cmp, on, nat_cmp}
 use Rattle.std.specs.Cmp.Lexicographic.{slice_cmp}
@@ -30,14 +30,9 @@ name_of dumps index = slice_index_or (map (λ dump. string_bytes dump.name) dump
 abbrev pub has_signature : List Dump → List ℕ → ℕ → Bool
 has_signature dumps signature index = begins_with (bytes_of dumps index) signature
 
--- the places, from a first one on, of the elements that pass a test
-unfoldable pub places : {X : Type 0} → (X → Bool) → ℕ → List X → List ℕ
-places test first [] = []
-places test first (x ∷ xs) = if test x then first ∷ places test (first + 1) xs else places test (first + 1) xs
-
 -- the indexes of the dumps that have a signature
 unfoldable pub indexes_with : List Dump → List ℕ → List ℕ
-indexes_with dumps signature = places (λ dump. begins_with dump.bytes.items signature) 0 dumps
+indexes_with dumps signature = filter (has_signature dumps signature) (range_with_len 0 (length dumps))
 
 -- Where no dump has an address, the names decide.
 

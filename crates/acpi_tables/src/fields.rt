@@ -3,7 +3,7 @@ ghost use Rattle.std.specs.Prelude.{◌≡◌, ◌≤◌, ◌&&◌, nat_eq, leng
 ghost use Rattle.std.specs.List.{All};
 ghost use Rattle.acpi_tables.specs.Fields.{field_bytes, field_view, IsNarrow};
 ghost use Rattle.acpi_tables.specs.Fadt.{fadt_fields};
-ghost use Rattle.acpi_tables.specs.Records.{madt_rows, row_view, row_of};
+ghost use Rattle.acpi_tables.specs.Madt.{madt_rows, row_view, row_of};
 
 use crate::bytes::u8_at;
 

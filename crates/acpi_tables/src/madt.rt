@@ -1,8 +1,10 @@
 //! The table of interrupt controllers (ACPI 6.5, section 5.2.12).
-ghost use Rattle.std.specs.Prelude.{◌≡◌, ◌⊎◌, ◌↔◌, ◌+◌, ◌<◌, ◌≤◌, ℕ, length, map, IsSome, IfSome, IfOk, IfErr, OnOk};
+ghost use Rattle.std.specs.Prelude.{◌≡◌, ◌⊎◌, ◌↔◌, ◌+◌, ◌<◌, ◌≤◌, ◌&&◌, ℕ, length, map, nat_eq};
+ghost use Rattle.std.specs.Prelude.{IsSome, IfSome, IfOk, IfErr, OnOk};
+ghost use Rattle.std.specs.Bool.{OnTrue};
 ghost use Rattle.acpi_tables.specs.Bytes.{number_at};
-ghost use Rattle.acpi_tables.specs.Madt.{HoldsRecord, HoldsMadt, meaning_of, record_values, row_values};
-ghost use Rattle.acpi_tables.specs.Madt.{seen_by, record_bytes_at, record_end, records_of, RefusesMadt};
+ghost use Rattle.acpi_tables.specs.Madt.{HoldsRecord, HoldsMadt, kind_of, meaning_of, said};
+ghost use Rattle.acpi_tables.specs.Madt.{record_bytes_at, record_end, records_of, RefusesMadt};
 ghost use Rattle.acpi_tables.specs.declared.faults.Bad.{Bad};
 ghost use Rattle.acpi_tables.specs.declared.faults.Bad.TheVariants.{NoMemory};
 
@@ -89,62 +91,79 @@ pub enum MadtRecord<Content = Vec<u8>> {
 /// A record that borrows its raw content from the table.
 pub type MadtView<'a> = MadtRecord<&'a [u8]>;
 
+/// Whether a record has this type and so many bytes.
+fn has_kind(bytes: &[u8], kind: u8, long: usize) -> bool
+    requires { 1 ≤ length bytes.now }
+    ensures is { result ≡ (nat_eq (kind_of bytes.now) kind && nat_eq (length bytes.now) long) }
+    ensures long { OnTrue result (length bytes.now ≡ long) }
+{
+    u8_at(bytes, 0) == kind && bytes.len() == long
+}
+
 impl<'a> MadtRecord<&'a [u8]> {
     /// What a whole record says.
+    #[tactic(auto, unfolding(crate::specs::Madt::meaning_of, crate::specs::Madt::row_of))]
     fn of_record(bytes: &'a [u8]) -> MadtView<'a>
         requires { 2 ≤ length bytes.now }
-        ensures { seen_by (λ content. content.now) result ≡ meaning_of bytes.now }
+        ensures { said (λ content. content.now) result ≡ meaning_of bytes.now }
     {
-        match (bytes[0], bytes.len()) {
-            (0, 8) => MadtRecord::LocalApic {
+        if has_kind(bytes, 0, 8) {
+            MadtRecord::LocalApic {
                 uid: u8_at(bytes, 2),
                 apic: u8_at(bytes, 3),
                 flags: u32_at(bytes, 4),
-            },
-            (1, 12) => MadtRecord::IoApic {
+            }
+        } else if has_kind(bytes, 1, 12) {
+            MadtRecord::IoApic {
                 id: u8_at(bytes, 2),
                 address: u32_at(bytes, 4),
                 gsi: u32_at(bytes, 8),
-            },
-            (2, 10) => MadtRecord::Override {
+            }
+        } else if has_kind(bytes, 2, 10) {
+            MadtRecord::Override {
                 bus: u8_at(bytes, 2),
                 source: u8_at(bytes, 3),
                 gsi: u32_at(bytes, 4),
                 flags: u16_at(bytes, 8),
-            },
-            (3, 8) => MadtRecord::NmiSource {
+            }
+        } else if has_kind(bytes, 3, 8) {
+            MadtRecord::NmiSource {
                 flags: u16_at(bytes, 2),
                 gsi: u32_at(bytes, 4),
-            },
-            (4, 6) => MadtRecord::LocalNmi {
+            }
+        } else if has_kind(bytes, 4, 6) {
+            MadtRecord::LocalNmi {
                 uid: u8_at(bytes, 2),
                 flags: u16_at(bytes, 3),
                 lint: u8_at(bytes, 5),
-            },
-            (5, 12) => MadtRecord::AddressOverride {
+            }
+        } else if has_kind(bytes, 5, 12) {
+            MadtRecord::AddressOverride {
                 address: u64_at(bytes, 4),
-            },
-            (9, 16) => MadtRecord::X2Apic {
+            }
+        } else if has_kind(bytes, 9, 16) {
+            MadtRecord::X2Apic {
                 id: u32_at(bytes, 4),
                 flags: u32_at(bytes, 8),
                 uid: u32_at(bytes, 12),
-            },
-            (10, 12) => MadtRecord::X2Nmi {
+            }
+        } else if has_kind(bytes, 10, 12) {
+            MadtRecord::X2Nmi {
                 flags: u16_at(bytes, 2),
                 uid: u32_at(bytes, 4),
                 lint: u8_at(bytes, 8),
-            },
-            (kind, _) => MadtRecord::Other {
-                kind,
+            }
+        } else {
+            MadtRecord::Other {
+                kind: u8_at(bytes, 0),
                 content: &bytes[2..],
-            },
+            }
         }
     }
 
     /// The same record with a copy of its content.
     pub fn to_record(&self, alloc: Global) -> Result<MadtRecord, AllocError>
-        ensures { IfOk result (λ copy. seen_by (λ content. content.items) copy ≡ seen_by
-            (λ content. content.now) self.now) }
+        ensures { IfOk result (λ copy. said (λ content. content.items) copy ≡ said (λ content. content.now) self.now) }
     {
         Ok(match *self {
             MadtRecord::LocalApic { uid, apic, flags } => MadtRecord::LocalApic {
@@ -187,10 +206,8 @@ impl Madt {
         ensures holds { OnOk result (HoldsMadt table.now) }
         ensures controller { IfOk result (λ madt. madt.controller ≡ number_at table.now 36 4) }
         ensures flags { IfOk result (λ madt. madt.flags ≡ number_at table.now 40 4) }
-        ensures records { IfOk result (λ madt. map (seen_by (λ content. content.items)) madt.records.items
+        ensures records { IfOk result (λ madt. map (said (λ content. content.items)) madt.records.items
             ≡ map meaning_of (records_of table.now)) }
-        ensures values { IfOk result (λ madt. map (λ r. record_values (seen_by (λ content. content.items) r))
-            madt.records.items ≡ map row_values (records_of table.now)) }
         ensures refused { IfErr result (λ bad. (bad ≡ NoMemory) ⊎ RefusesMadt table.now bad) }
         ensures exact { OnOk result ((bad : Bad) → ¬ RefusesMadt table.now bad) }
     {
@@ -237,10 +254,8 @@ impl Madt {
     /// length byte, where the length is below 2, and where the record ends past the table.
     pub fn record_at(table: &[u8], at: usize) -> Option<(MadtView<'_>, usize)>
         ensures holds { IsSome result ↔ HoldsRecord table.now at }
-        ensures record { IfSome result (λ r. seen_by (λ content. content.now) r.0
+        ensures record { IfSome result (λ r. said (λ content. content.now) r.0
             ≡ meaning_of (record_bytes_at table.now at)) }
-        ensures values { IfSome result (λ r. record_values (seen_by (λ content. content.now) r.0)
-            ≡ row_values (record_bytes_at table.now at)) }
         ensures end { IfSome result (λ r. r.1 ≡ record_end table.now at) }
     {
         let bytes = Madt::record_bytes(table, at)?;

@@ -7,8 +7,7 @@ use Rattle.acpi_tables.specs.Fields.{Field, field_bytes}
 use Rattle.acpi_tables.specs.Header.{table_of, header_of}
 use Rattle.acpi_tables.specs.Rsdp.{rsdp_of}
 use Rattle.acpi_tables.specs.Fadt.{fadt_fields}
-use Rattle.acpi_tables.specs.Records.{Row, row_of, kind_of as record_kind}
-use Rattle.acpi_tables.specs.Madt.{records_of}
+use Rattle.acpi_tables.specs.Madt.{Row, row_of, records_of, kind_of as record_kind}
 use Rattle.acpi_tables.specs.Addresses.{address_bytes, address_count}
 use Rattle.acpi_tables.specs.Dumps.{kind_of, sums_hold}
 use Rattle.acpi_tables.specs.Order.{dump_at, name_of}

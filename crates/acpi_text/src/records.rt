@@ -7,7 +7,7 @@ ghost use Rattle.text_writer.specs.Prints.{Prints};
 ghost use Rattle.text_writer.specs.Words.{word};
 ghost use Rattle.acpi_tables.specs.Fields.{field_view, IsNarrow};
 ghost use Rattle.acpi_tables.specs.Madt.{HoldsMadt, records_of};
-ghost use Rattle.acpi_tables.specs.Records.{row_of, row_view};
+ghost use Rattle.acpi_tables.specs.Madt.{row_of, row_view};
 ghost use Rattle.acpi_text.specs.Dumps.{labelled, record_field, spaced_byte, other_text, record_text_by};
 ghost use Rattle.acpi_text.specs.Dumps.{below, record_line, controller_text, madt_lines};
 

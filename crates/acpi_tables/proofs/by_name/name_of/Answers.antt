@@ -1,11 +1,14 @@
-use Rattle.std.proofs.Common.{sym, ◌∙◌, arith}
+use Rattle.std.proofs.Common.{sym, ◌∙◌, arith, string_bytes}
 use Rattle.std.proofs.lemmas.Bool.Decides.{nat_tests}
-use Rattle.acpi_tables.proofs.Places.{name_of-inside, name_of-past}
+use Rattle.acpi_tables.specs.Order.{name_of}
+use Rattle.acpi_tables.proofs.Places.{part-inside, part-past}
 use Rattle.acpi_tables.proofs.by_name.name_of.Goals as goal
 
 pub returns-in-Some : goal.returns-in-Some
+unfolding name_of
 returns-in-Some c =
-    c.as_bytes.ensures.value ∙ sym (name_of-inside c.args.dumps.now c.args.index c.in-Some.dump.now (grind (arith, nat_tests)) (c.in-Some.ensures.lookup.1))
+    c.as_bytes.ensures.value ∙ sym (part-inside (λ d. string_bytes d.name) c.args.dumps.now c.args.index c.in-Some.dump.now (grind (arith, nat_tests)) c.in-Some.ensures.lookup.1)
 
 pub returns-in-None : goal.returns-in-None
-returns-in-None c = sym (name_of-past c.args.dumps.now c.args.index (grind (arith, nat_tests)))
+unfolding name_of
+returns-in-None c = sym (part-past (λ d. string_bytes d.name) c.args.dumps.now c.args.index (grind (arith, nat_tests)))

@@ -1,7 +1,7 @@
 use Rattle.std.proofs.Common.{◌≡◌, Bool, Option, Some, None, option_map, Bor, nat_eq, ◌&&◌, find, length, refl, ap, ◌∙◌}
-use Rattle.acpi_tables.specs.Records.{Row, kind_of, row_of, row_view}
+use Rattle.acpi_tables.specs.Madt.{Row, kind_of, row_of, row_view}
 use Rattle.acpi_tables.specs.declared.fields.RecordRow.{RecordRow}
-use Rattle.acpi_tables.proofs.Rows.{find-map}
+use Rattle.acpi_tables.proofs.Values.{find-map}
 use Rattle.acpi_tables.proofs.fields.RecordRow.of_record.Goals as goal
 
 viewed : (row : Option (Bor RecordRow)) → option_map (λ r. row_view r.now) row ≡ option_map row_view (option_map (λ r. r.now) row)

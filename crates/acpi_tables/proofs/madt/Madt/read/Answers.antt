@@ -1,6 +1,5 @@
 use Rattle.std.proofs.Common.{refl, ◌∙◌}
 use Rattle.acpi_tables.proofs.Cuts.{read_start, read_more, read_whole, HoldsMadt-walk, whole_not_refused}
-use Rattle.acpi_tables.proofs.Rows.{values_of_each}
 use Rattle.acpi_tables.proofs.madt.Madt.read.Goals as goal
 
 pub loop-at-init : goal.loop-at-init
@@ -15,9 +14,6 @@ returns-clause-holds c = HoldsMadt-walk _ _ c.loop-at.invariant.walk c.loop-at-t
 
 pub returns-clause-records : goal.returns-clause-records
 returns-clause-records c = read_whole _ _ _ _ c.loop-at.invariant c.loop-at-test.false
-
-pub returns-clause-values : goal.returns-clause-values
-returns-clause-values c = values_of_each _ _ _ (read_whole _ _ _ _ c.loop-at.invariant c.loop-at-test.false)
 
 pub returns-clause-exact : goal.returns-clause-exact
 returns-clause-exact c = whole_not_refused _ (HoldsMadt-walk _ _ c.loop-at.invariant.walk c.loop-at-test.false)

@@ -1,0 +1,29 @@
+-- The values of a list of fields: one that ends within the least length that the bytes have is there, so that they come
+-- out by computing, whatever fields the list has.
+use Rattle.std.proofs.Common.{◌≡◌, ℕ, ◌+◌, ◌≤◌, Bool, true, false, List, [], ◌∷◌, length, map, find, option_map, Option, Some, nat_le, refl, arith}
+use Rattle.std.specs.Prelude.{if◌then◌else◌}
+use Rattle.std.proofs.lemmas.Bool.Decides.{nat_tests}
+use Rattle.acpi_tables.specs.Bytes.{number_at}
+use Rattle.acpi_tables.specs.Fields.{Field, value_in}
+
+-- the value of a field of bytes that have at least so many
+abbrev value_by : ℕ → List ℕ → Field → Option ℕ
+value_by least bytes f = if nat_le (f.offset + f.width) least then Some (number_at bytes f.offset f.width) else value_in bytes f
+
+value_in-by : (least : ℕ) (bytes : List ℕ) (f : Field) → least ≤ length bytes → value_in bytes f ≡ value_by least bytes f
+unfolding value_in
+value_in-by least bytes f h = grind (arith, nat_tests)
+
+pub values_in-by : (least : ℕ) (bytes : List ℕ) (fields : List Field) → least ≤ length bytes → map (value_in bytes) fields ≡ map (value_by least bytes) fields
+values_in-by least bytes [] h = refl
+values_in-by least bytes (f ∷ fields) h = cc (value_in-by least bytes f h, values_in-by least bytes fields h)
+
+-- the first element whose image passes has the first image that does
+pub find-map : {X Y : Type 0} (f : X → Y) (p : Y → Bool) (xs : List X) → option_map f (find (λ x. p (f x)) xs) ≡ find p (map f xs)
+find-map f p [] = refl
+find-map f p (x ∷ xs) = by_test (p (f x)) refl (find-map f p xs)
+  where
+    by_test : (b : Bool) → p (f x) ≡ b → option_map f (find (λ y. p (f y)) xs) ≡ find p (map f xs)
+        → option_map f (find (λ y. p (f y)) (x ∷ xs)) ≡ find p (map f (x ∷ xs))
+    by_test true is rest = cc
+    by_test false is rest = cc
