@@ -1,6 +1,5 @@
--- The first line of a text.
-use Rattle.std.proofs.Common.{◌≤◌, subst, Some, None, ltb, ◌≡◌, ℕ, suc, ◌+◌, ◌<◌, Bool, true, false, not, List, [], ◌∷◌, length, take, drop, refl, ap, ◌∙◌}
-use Rattle.std.proofs.Common.{arith, cond, eqb}
+-- The first line of a text: the bytes up to the one that ends it, or all of them where none does.
+use Rattle.std.proofs.Common.{◌≤◌, Some, None, ltb, ◌≡◌, ℕ, suc, ◌+◌, ◌<◌, Bool, true, false, not, List, [], ◌∷◌, length, take, drop, refl, ap, arith, cond, eqb}
 use Rattle.std.specs.List.{before_first, after_first, position, position_or_len}
 use Rattle.std.proofs.lemmas.List.{take_all, drop_all}
 use Rattle.std.proofs.lemmas.Bool.{ltb-false}
@@ -11,12 +10,12 @@ longer : (byte : ℕ) (text : List ℕ) (n : ℕ) → lines_of text ≡ take n t
     → before_lines byte (lines_of text) ≡ take (1 + n) (byte ∷ text) ∷ lines_of (drop (1 + n + 1) (byte ∷ text))
 longer byte text n cut =
     let one : 1 + n ≡ suc n = omega arith in
-    let two : 1 + n + 1 ≡ suc (n + 1) = omega arith in
     let front : take (1 + n) (byte ∷ text) ≡ byte ∷ take n text = ap (λ k. take k (byte ∷ text)) one in
+    let two : 1 + n + 1 ≡ suc (n + 1) = omega arith in
     let back : drop (1 + n + 1) (byte ∷ text) ≡ drop (n + 1) text = ap (λ k. drop k (byte ∷ text)) two in
     rw (cut, front, back) refl
 
-pub lines_of-first : (byte : ℕ) (bytes : List ℕ)
+lines_of-first : (byte : ℕ) (bytes : List ℕ)
     → lines_of (byte ∷ bytes) ≡ before_first is_line_end (byte ∷ bytes) ∷ lines_of (after_first is_line_end (byte ∷ bytes))
 unfolding lines_of
 lines_of-first byte [] =
@@ -46,23 +45,15 @@ pub lines_of-ended : (text : List ℕ) (end : ℕ) → position is_line_end text
     → lines_of text ≡ take end text ∷ lines_of (drop (end + 1) text)
 lines_of-ended [] end is = cc
 lines_of-ended (byte ∷ bytes) end is =
-    let at : position_or_len is_line_end (byte ∷ bytes) ≡ end = found (ltb (position_or_len is_line_end (byte ∷ bytes)) (length (byte ∷ bytes)))
-    (position_or_len is_line_end (byte ∷ bytes)) end is in
-    let P : ℕ → Type 0 = λ n. lines_of (byte ∷ bytes) ≡ take n (byte ∷ bytes) ∷ lines_of (drop (n + 1) (byte ∷ bytes)) in
-    subst P at (lines_of-first byte bytes)
+    let all : List ℕ = byte ∷ bytes in
+    rw (found (ltb (position_or_len is_line_end all) (length all)) (position_or_len is_line_end all) end is) at (lines_of-first byte bytes)
 
 pub lines_of-unended : (text : List ℕ) → 0 < length text → position is_line_end text ≡ None → lines_of text ≡ text ∷ lines_of []
 lines_of-unended [] some is = absurd (omega arith)
 lines_of-unended (byte ∷ bytes) some is =
-    let test : ltb (position_or_len is_line_end (byte ∷ bytes)) (length (byte ∷ bytes)) ≡ false =
-    missing (ltb (position_or_len is_line_end (byte ∷ bytes)) (length (byte ∷ bytes))) (position_or_len is_line_end (byte ∷ bytes)) is in
-    let past : length (byte ∷ bytes) ≤ position_or_len is_line_end (byte ∷ bytes) = ltb-false _ _ test in
-    let front : take (position_or_len is_line_end (byte ∷ bytes)) (byte ∷ bytes) ≡ byte ∷ bytes =
-    take_all (position_or_len is_line_end (byte ∷ bytes)) (byte ∷ bytes) past in
-    let back : drop (position_or_len is_line_end (byte ∷ bytes) + 1) (byte ∷ bytes) ≡ [] =
-    drop_all (position_or_len is_line_end (byte ∷ bytes) + 1) (byte ∷ bytes) (omega arith) in
-    lines_of-first byte bytes
-    ∙ ap (λ first. first ∷ lines_of (drop (position_or_len is_line_end (byte ∷ bytes) + 1) (byte ∷ bytes))) front
-    ∙ ap (λ rest. (byte ∷ bytes) ∷ lines_of rest) back
+    let all : List ℕ = byte ∷ bytes in
+    let end : ℕ = position_or_len is_line_end all in
+    let past : length all ≤ end = ltb-false _ _ (missing (ltb end (length all)) end is) in
+    cc (lines_of-first byte bytes, take_all end all past, drop_all (end + 1) all (omega arith))
 
 pub ruleset ends = (lines_of-ended, lines_of-unended)

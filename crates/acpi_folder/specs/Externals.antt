@@ -2,6 +2,7 @@
 -- A line is a path as it is printed, a space and a digit from 0 to 7. The byte 0A ends a line; the last line may go
 -- without.
 use Rattle.std.specs.Prelude.{◌≡◌, ℕ, ◌+◌, ◌-◌, ◌<◌, ◌≤◌, List, [], ◌∷◌, ◌++◌, length, take}
+use Rattle.std.specs.List.{AllZip}
 use Rattle.aml_names.specs.declared.segments.Seg.{Seg}
 use Rattle.aml_names.specs.Names.{IsNameSeg, AreNameSegs}
 use Rattle.aml_names.specs.PathTexts.{segment_text, path_text}
@@ -26,10 +27,7 @@ pub record Gives (line : List ℕ) (given : Given) : Type 0 where
 
 -- each line gives what stands in its place
 abbrev pub AreGiven : List (List ℕ) → List Given → Type 0
-AreGiven [] [] = Unit {0}
-AreGiven [] (given ∷ others) = ⊥
-AreGiven (line ∷ lines) [] = ⊥
-AreGiven (line ∷ lines) (given ∷ others) = Gives line given × AreGiven lines others
+AreGiven = AllZip Gives
 
 -- a line, or each of some lines, has the form
 abbrev pub IsGiving : List ℕ → Type 0

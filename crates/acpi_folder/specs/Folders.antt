@@ -1,8 +1,8 @@
 -- What a folder gives, and what is gathered from it: the dumps of its files, ordered by name, with the addresses of its
 -- map.
-use Rattle.std.specs.Prelude.{◌≡◌, ℕ, ◌+◌, ◌<◌, ◌≤◌, Bool, true, false, not, List, [], ◌∷◌, length}
+use Rattle.std.specs.Prelude.{◌≡◌, ℕ, ◌+◌, ◌<◌, ◌≤◌, Bool, true, false, not, List, [], length}
 use Rattle.std.specs.Prelude.{take, map, slice_index_or, string_bytes, codes, Option, None, ◌⊎◌}
-use Rattle.std.specs.List.{list_any, filter}
+use Rattle.std.specs.List.{list_any, filter, AllZip}
 use Rattle.std.specs.List.Sorted.{IsPermutation, IsSorted}
 use Rattle.std.specs.Ordering.{nat_cmp}
 use Rattle.std.specs.Cmp.Lexicographic.{slice_cmp}
@@ -64,12 +64,9 @@ pub record IsListing (folder : Answers) (names : List (List ℕ)) (mapped : Bool
   pub ordered : IsSorted (slice_cmp nat_cmp) names
   pub map : mapped ≡ list_any is_map listed
 
--- the files of these names are read as these bytes
+-- the files of these names are read as these bytes, one for each name
 abbrev pub AreRead : Answers → List (List ℕ) → List (List ℕ) → Type 0
-AreRead folder [] [] = Unit {0}
-AreRead folder [] (bytes ∷ files) = ⊥
-AreRead folder (name ∷ names) [] = ⊥
-AreRead folder (name ∷ names) (bytes ∷ files) = Reads folder name read_limit bytes × AreRead folder names files
+AreRead folder = AllZip (λ name bytes. Reads folder name read_limit bytes)
 
 -- the text of the folder's map, which isn't too long
 pub record IsMapText (folder : Answers) (text : List ℕ) : Type 0 where
@@ -116,11 +113,15 @@ pub record StopsAtFile (folder : Answers) (names : List (List ℕ)) (name : List
   pub before : (files : List (List ℕ)) × AreRead folder (take index names) files
   pub unread : folder.unread name
 
--- all files are read, and the map can't be, or is too long
+-- the map can't be read, or is too long
+abbrev pub LacksMap : Answers → Type 0
+LacksMap folder =
+    folder.unread map_name ⊎ ((text : List ℕ) × Reads folder map_name read_limit text × (most_bytes < length text))
+
+-- all files are read, and the map isn't
 pub record StopsAtMap (folder : Answers) (names : List (List ℕ)) : Type 0 where
   pub before : (files : List (List ℕ)) × AreRead folder names files
-  pub cause : folder.unread map_name
-      ⊎ ((text : List ℕ) × Reads folder map_name read_limit text × (most_bytes < length text))
+  pub cause : LacksMap folder
 
 -- a file that stops the gathering
 pub record IsUnread (folder : Answers) (name : List ℕ) : Type 0 where
@@ -145,27 +146,21 @@ RefusesFolder folder (faults.Map fault) = RefusesMapOf folder fault
 RefusesFolder folder faults.TooManyTables = IsTooLarge folder
 RefusesFolder folder faults.NoMemory = Unit {0}
 
--- The steps of it. A file that can't be read, the first of several that can't, a map that gives no addresses.
+-- The steps of it: what a fault says of the file that it names, or of the map's text.
+abbrev pub TellsFile : (List ℕ → Type 0) → (MapFault → Type 0) → GatherFault → Type 0
+TellsFile file map (faults.File name) = file (string_bytes name)
+TellsFile file map (faults.Map fault) = map fault
+TellsFile file map faults.NoMemory = Unit {0}
+TellsFile file map _ = ⊥
+
+-- a file that can't be read, the first of several that can't, a map that gives no addresses
 abbrev pub FailsAt : Answers → List ℕ → GatherFault → Type 0
-FailsAt folder name faults.Folder = ⊥
-FailsAt folder name (faults.File other) = (string_bytes other ≡ name) × folder.unread name
-FailsAt folder name (faults.Map fault) = ⊥
-FailsAt folder name faults.TooManyTables = ⊥
-FailsAt folder name faults.NoMemory = Unit {0}
+FailsAt folder name = TellsFile (λ other. (other ≡ name) × folder.unread name) (λ fault. ⊥)
 
 abbrev pub StopsBy : Answers → List (List ℕ) → GatherFault → Type 0
-StopsBy folder names faults.Folder = ⊥
-StopsBy folder names (faults.File name) = StopsAtFile folder names (string_bytes name)
-StopsBy folder names (faults.Map fault) = ⊥
-StopsBy folder names faults.TooManyTables = ⊥
-StopsBy folder names faults.NoMemory = Unit {0}
+StopsBy folder names = TellsFile (StopsAtFile folder names) (λ fault. ⊥)
 
 abbrev pub FailsAtMap : Answers → List (List ℕ) → GatherFault → Type 0
-FailsAtMap folder names faults.Folder = ⊥
-FailsAtMap folder names (faults.File name) =
-    (string_bytes name ≡ map_name)
-    × (folder.unread map_name
-    ⊎ ((text : List ℕ) × Reads folder map_name read_limit text × (most_bytes < length text)))
-FailsAtMap folder names (faults.Map fault) = (text : List ℕ) × IsMapText folder text × RefusesMap names text fault
-FailsAtMap folder names faults.TooManyTables = ⊥
-FailsAtMap folder names faults.NoMemory = Unit {0}
+FailsAtMap folder names =
+    TellsFile (λ name. (name ≡ map_name) × LacksMap folder)
+    (λ fault. (text : List ℕ) × IsMapText folder text × RefusesMap names text fault)
