@@ -38,48 +38,39 @@ one_more ns p i s within is led absent =
     }
 
 -- from an empty node at the end
-rest_more : (ns xs : List Node) (top : ℕ) (t : Seg) (p q : List Seg) → Leads ns (xs ++ empty top t ∷ []) p (length xs)
-    → Leads ns (xs ++ chain top (length xs) t q) (p ++ q) (length xs + length q)
-rest_more ns xs top t p [] so = record {
-  index = so.index;
-  known = so.known;
-  led = ap (walk (kids_of (xs ++ empty top t ∷ [])) 0) (append-nil p) ∙ so.led ∙ ap Some {x = length xs} {y = length xs + 0} (omega arith);
-}
-rest_more ns xs top t p (s ∷ q) so =
+rest_more : (ns new xs : List Node) (top : ℕ) (t : Seg) (p q whole : List Seg) (at : ℕ) → Leads ns (xs ++ empty top t ∷ []) p (length xs)
+    → new ≡ xs ++ chain top (length xs) t q → whole ≡ p ++ q → at ≡ length xs + length q → Leads ns new whole at
+rest_more ns new xs top t p [] whole at so nodes path end = subst (λ ms. Leads ns ms whole at) (sym nodes)
+    (record {
+      index = so.index;
+      known = so.known;
+      led = ap (walk (kids_of (xs ++ empty top t ∷ [])) 0) (path ∙ append-nil p) ∙ so.led ∙ ap Some {x = length xs} {y = at} (omega (arith, end));
+    })
+rest_more ns new xs top t p (s ∷ q) whole at so nodes path end =
     let before = xs ++ empty top t ∷ [] in
-    let c : Child = record { seg = s; node = length xs + 1 } in
-    let last : Node = empty (length xs) s in
-    let filled = more_if c true (empty top t) in
+    let filled = more_if (record { seg = s; node = length xs + 1 }) true (empty top t) in
     let long : length before ≡ length xs + 1 = length-append xs (empty top t ∷ []) in
-    let one = one_more before p (length xs) s (omega (arith, long)) so.index so.led (last_leaf xs top t s) in
-    let is : with_child before (length xs) (record { seg = s; node = length before }) ++ last ∷ [] ≡ (xs ++ filled ∷ []) ++ last ∷ [] =
-    ap (λ n. with_child before (length xs) (record { seg = s; node = n }) ++ last ∷ []) long ∙ ap (λ ms. ms ++ last ∷ []) (with_pushed xs (empty top t) c) in
     let long_next : length (xs ++ filled ∷ []) ≡ length xs + 1 = length-append xs (filled ∷ []) in
-    let next : Leads ns ((xs ++ filled ∷ []) ++ last ∷ []) (p ++ s ∷ []) (length (xs ++ filled ∷ [])) =
-    subst (λ ms. Leads ns ms (p ++ s ∷ []) (length (xs ++ filled ∷ []))) is
-    (subst (Leads ns (with_child before (length xs) (record { seg = s; node = length before }) ++ last ∷ []) (p ++ s ∷ [])) {x = length before}
-    {y = length (xs ++ filled ∷ [])} (omega (arith, long, long_next)) (record { index = one.index; known = one.known ∙ so.known; led = one.led })) in
-    let rest = rest_more ns (xs ++ filled ∷ []) (length xs) s (p ++ s ∷ []) q next in
-    let list : (xs ++ filled ∷ []) ++ chain (length xs) (length (xs ++ filled ∷ [])) s q ≡ xs ++ filled ∷ chain (length xs) (length xs + 1) s q =
-    append_assoc xs (filled ∷ []) (chain (length xs) (length (xs ++ filled ∷ [])) s q) ∙ ap (λ n. xs ++ filled ∷ chain (length xs) n s q) long_next in
-    let path : (p ++ s ∷ []) ++ q ≡ p ++ s ∷ q = append_assoc p (s ∷ []) q in
-    let end : length (xs ++ filled ∷ []) + length q ≡ length xs + length (s ∷ q) = omega (arith, long_next) in
-    let whole = (xs ++ filled ∷ []) ++ chain (length xs) (length (xs ++ filled ∷ [])) s q in
-    subst (λ ms. Leads ns ms (p ++ s ∷ q) (length xs + length (s ∷ q))) list
-    (subst (λ l. Leads ns whole l (length xs + length (s ∷ q))) path (subst (Leads ns whole ((p ++ s ∷ []) ++ q)) end rest))
+    let one = one_more before p (length xs) s (omega (arith, long)) so.index so.led (last_leaf xs top t s) in
+    let is : with_child before (length xs) (record { seg = s; node = length before }) ≡ xs ++ filled ∷ [] =
+    ap (λ n. with_child before (length xs) (record { seg = s; node = n })) long ∙ with_pushed xs (empty top t) _ in
+    let next : Leads ns ((xs ++ filled ∷ []) ++ empty (length xs) s ∷ []) (p ++ s ∷ []) (length (xs ++ filled ∷ [])) =
+    subst (λ ms. Leads ns (ms ++ empty (length xs) s ∷ []) (p ++ s ∷ []) (length (xs ++ filled ∷ []))) is
+    (subst (Leads ns (with_child before (length xs) (record { seg = s; node = length before }) ++ empty (length xs) s ∷ []) (p ++ s ∷ []))
+    (long ∙ sym long_next) (record { index = one.index; known = one.known ∙ so.known; led = one.led })) in
+    rest_more ns new (xs ++ filled ∷ []) (length xs) s (p ++ s ∷ []) q whole at next
+    (nodes ∙ ap (λ n. xs ++ filled ∷ chain (length xs) n s q) (sym long_next) ∙ sym (append_assoc xs (filled ∷ []) _))
+    (path ∙ sym (append_assoc p (s ∷ []) q)) (omega (arith, end, long_next))
 
 -- the nodes of a path below one
-pub path_more : (ns : List Node) (p : List Seg) (i : ℕ) (s : Seg) (q : List Seg) → i < length ns → IsIndex ns → walk (kids_of ns) 0 p ≡ Some i
-    → child_in (kids_of ns i) s ≡ None →
-    Leads ns (with_path ns i s q) (p ++ s ∷ q) (length ns + length q)
+path_more : (ns : List Node) (p : List Seg) (i : ℕ) (s : Seg) (q : List Seg) → i < length ns → IsIndex ns → walk (kids_of ns) 0 p ≡ Some i
+    → child_in (kids_of ns i) s ≡ None → Leads ns (with_path ns i s q) (p ++ s ∷ q) (length ns + length q)
 path_more ns p i s q within is led absent =
     let c : Child = record { seg = s; node = length ns } in
     let long : length (with_child ns i c) ≡ length ns = length_with ns i c in
-    let one = one_more ns p i s within is led absent in
-    let rest = rest_more ns (with_child ns i c) i s (p ++ s ∷ []) q (subst (Leads ns (with_child ns i c ++ empty i s ∷ []) (p ++ s ∷ [])) (sym long) one) in
-    subst (λ n. Leads ns (with_child ns i c ++ chain i n s q) (p ++ s ∷ q) (n + length q)) long
-    (subst (λ l. Leads ns (with_child ns i c ++ chain i (length (with_child ns i c)) s q) l (length (with_child ns i c) + length q))
-    (append_assoc p (s ∷ []) q) rest)
+    rest_more ns _ (with_child ns i c) i s (p ++ s ∷ []) q _ _
+    (subst (Leads ns (with_child ns i c ++ empty i s ∷ []) (p ++ s ∷ [])) (sym long) (one_more ns p i s within is led absent))
+    (ap (λ n. with_child ns i c ++ chain i n s q) (sym long)) (sym (append_assoc p (s ∷ []) q)) (omega (arith, long))
 
 pub long_path : (ns : List Node) (i : ℕ) (s : Seg) (q : List Seg) → length (with_path ns i s q) ≡ length ns + length q + 1
 long_path ns i s q =

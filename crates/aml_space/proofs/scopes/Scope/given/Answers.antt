@@ -1,22 +1,14 @@
 use Rattle.std.proofs.Common.{◌≡◌, ℕ, ◌-◌, ◌<◌, ◌++◌, List, Option, Some, None, take, length, refl, sym, ap, ◌∙◌, arith}
-use Rattle.std.specs.Option.{option_and_then}
 use Rattle.std.specs.FinSet as set
 use Rattle.aml_names.specs.declared.segments.Seg.{Seg}
 use Rattle.aml_names.specs.Searching.{upward}
 use Rattle.aml_space.specs.declared.scopes.Scope.{Scope}
-use Rattle.aml_space.specs.Candidates.{names_of, IsScope, IsNext}
+use Rattle.aml_space.specs.Candidates.{names_of, IsNext}
 use Rattle.aml_space.specs.Namespace.{first_given}
-use Rattle.aml_space.specs.Graph.{walk}
-use Rattle.aml_space.specs.Nodes.{kids_of, givens_of}
 use Rattle.aml_space.proofs.Asked.{none_given_below}
 use Rattle.aml_space.proofs.Given.{here_given, above_given, root_given, skip_given}
-use Rattle.aml_space.proofs.Index.{part_at}
+use Rattle.aml_space.proofs.Index.{part_met}
 use Rattle.aml_space.proofs.scopes.Scope.given.Goals as goal
-
--- the count that is kept at a candidate's node is the one that is given to its path
-kept : (s : Scope) → IsScope s → (p : List Seg) (at : Option ℕ) → at ≡ walk (kids_of s.nodes.now) 0 p → (found : Option ℕ) →
-    found ≡ option_and_then (givens_of s.nodes.now) at → found ≡ (names_of s).givens p
-kept s sc p at here found is = is ∙ ap (option_and_then (givens_of s.nodes.now)) here ∙ part_at (λ c. c.given) s.nodes.now sc.shape p
 
 -- from a depth up to the next one that is asked
 further : (s : Scope) (segment : List Seg) → length segment ≡ 1 → (d asked : ℕ) → IsNext (names_of s) s.path.now d asked →
@@ -43,7 +35,7 @@ returns-in-Some c =
     let s = c.args.self.now in
     let segment = c.args.segment.now in
     let d = c.depths.depth in
-    let here = kept s c.requires.scope (take d s.path.now ++ segment) c.node_at-node.result c.node_at-node.ensures.node c.given_at.result c.given_at.ensures in
+    let here = part_met (λ c. c.given) _ _ _ _ _ _ c.given_at.ensures c.node_at-node.ensures.node refl refl c.requires.scope.shape in
     sym (c.depths.invariant.same ∙ here_given (names_of s) set.empty s.path.now segment d (take d s.path.now ++ segment) c.in-Some.count refl
     (sym here ∙ c.in-Some.is))
 
@@ -52,7 +44,7 @@ returns-then-depth-eq0 c =
     let s = c.args.self.now in
     let segment = c.args.segment.now in
     let d = c.depths.depth in
-    let here = kept s c.requires.scope (take d s.path.now ++ segment) c.node_at-node.result c.node_at-node.ensures.node c.given_at.result c.given_at.ensures in
+    let here = part_met (λ c. c.given) _ _ _ _ _ _ c.given_at.ensures c.node_at-node.ensures.node refl refl c.requires.scope.shape in
     let none = sym here ∙ none_by c.given_at.result c.in_default.not-Some in
     sym (c.depths.invariant.same ∙ ap (λ d. first_given (names_of s) (upward d s.path.now segment)) {x = d} {y = 0} c.if-depth-eq0.true
     ∙ root_given (names_of s) set.empty s.path.now segment (take 0 s.path.now ++ segment) refl
@@ -65,7 +57,7 @@ depths-preserved c =
     let d = c.depths.depth in
     let inv = c.depths.invariant in
     let next = c.next_asked-depth-in-depths.ensures in
-    let here = kept s c.requires.scope (take d s.path.now ++ segment) c.node_at-node.result c.node_at-node.ensures.node c.given_at.result c.given_at.ensures in
+    let here = part_met (λ c. c.given) _ _ _ _ _ _ c.given_at.ensures c.node_at-node.ensures.node refl refl c.requires.scope.shape in
     let none = sym here ∙ none_by c.given_at.result c.in_default.not-Some in
     let positive : 0 < d = omega (arith, c.if-depth-eq0.false) in
     record {
