@@ -16,7 +16,7 @@ use Rattle.acpi_tables.specs.Madt.{meaning_of, said, RefusesMadt}
 use Rattle.acpi_tables.specs.declared.madt.MadtRecord.{MadtRecord}
 use Rattle.acpi_tables.specs.declared.faults.Bad.{Bad}
 use Rattle.acpi_tables.specs.declared.faults.Bad.TheVariants.{Short, MadtRecord as BadRecord}
-use Rattle.acpi_tables.proofs.Numbers.{number_at-one, length-bytes_at, get_or-bytes_at}
+use Rattle.acpi_tables.proofs.Numbers.{number_at_one, length-bytes_at, get_or-bytes_at}
 
 -- whole records up to an offset
 pub record WalksTo (table : List ℕ) (at : ℕ) : Type 0 where
@@ -36,9 +36,9 @@ walk_start table h = record { behind_fields = omega arith; within = h; records =
 second-at : (table : List ℕ) (at : ℕ) → HoldsRecord table at → number_at (record_bytes_at table at) 1 1 ≡ number_at table (at + 1) 1
 second-at table at h =
     let long = length-bytes_at table at (number_at table (at + 1) 1) h.inside in
-    number_at-one (record_bytes_at table at) 1 (omega (arith, h.covers))
+    number_at_one (record_bytes_at table at) 1 (omega (arith, h.covers))
     ∙ get_or-bytes_at table at (number_at table (at + 1) 1) 1 (omega (arith, h.covers))
-    ∙ sym (number_at-one table (at + 1) (omega (arith, h.header)))
+    ∙ sym (number_at_one table (at + 1) (omega (arith, h.header)))
 
 -- the bytes of a whole record are a record
 IsRecord-at : (table : List ℕ) (at : ℕ) → HoldsRecord table at → IsRecord (record_bytes_at table at)

@@ -28,11 +28,36 @@ pub spells_eight : (bytes : List ℕ) → length bytes ≡ 8
 spells_eight (a ∷ b ∷ c ∷ d ∷ bytes) h = omega (arith, spells_four bytes (omega arith))
 spells_eight _ h = absurd (omega arith)
 
-pub number_at-one : (table : List ℕ) (offset : ℕ) → offset < length table → number_at table offset 1 ≡ slice_index table offset
+pub number_at_one : (table : List ℕ) (offset : ℕ) → offset < length table → number_at table offset 1 ≡ slice_index table offset
 unfolding number_at bytes_at
-number_at-one (byte ∷ bytes) zero h = omega arith
-number_at-one (byte ∷ bytes) (suc offset) h = number_at-one bytes offset (omega arith)
-number_at-one [] offset h = absurd (omega arith)
+number_at_one (byte ∷ bytes) zero h = omega arith
+number_at_one (byte ∷ bytes) (suc offset) h = number_at_one bytes offset (omega arith)
+number_at_one [] offset h = absurd (omega arith)
+
+-- numbers of two, four and eight bytes
+module _ (table : List ℕ) (offset : ℕ) where
+  pub number_at_two : offset + 2 ≤ length table
+      → number_at table offset 2 ≡ slice_index (bytes_at table offset 2) 0 + slice_index (bytes_at table offset 2) 1 * 256
+  unfolding number_at
+  number_at_two h = spells_two (bytes_at table offset 2) (length-bytes_at table offset 2 h)
+
+  pub number_at_four : offset + 4 ≤ length table
+      → number_at table offset 4
+      ≡ slice_index (bytes_at table offset 4) 0 + slice_index (bytes_at table offset 4) 1 * 256
+      + slice_index (bytes_at table offset 4) 2 * 65536 + slice_index (bytes_at table offset 4) 3 * 16777216
+  unfolding number_at
+  number_at_four h = spells_four (bytes_at table offset 4) (length-bytes_at table offset 4 h)
+
+  pub number_at_eight : offset + 8 ≤ length table
+      → number_at table offset 8
+      ≡ slice_index (bytes_at table offset 8) 0 + slice_index (bytes_at table offset 8) 1 * 256
+      + slice_index (bytes_at table offset 8) 2 * 65536 + slice_index (bytes_at table offset 8) 3 * 16777216
+      + slice_index (bytes_at table offset 8) 4 * 4294967296 + slice_index (bytes_at table offset 8) 5 * 1099511627776
+      + slice_index (bytes_at table offset 8) 6 * 281474976710656 + slice_index (bytes_at table offset 8) 7 * 72057594037927936
+  unfolding number_at
+  number_at_eight h = spells_eight (bytes_at table offset 8) (length-bytes_at table offset 8 h)
+
+pub ruleset numbers_at = (number_at_one, number_at_two, number_at_four, number_at_eight)
 
 little_endian-zeros : (n : ℕ) → little_endian (replicate n 0) ≡ 0
 little_endian-zeros zero = refl

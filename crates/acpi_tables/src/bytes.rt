@@ -1,4 +1,6 @@
 //! Numbers at an offset of a table, and the sum of its bytes.
+#![tactic(auto, using(crate::proofs::Numbers::numbers_at), unfolding(crate::specs::Bytes::bytes_at, crate::specs::Bytes::begins_with))]
+
 ghost use Rattle.std.specs.Prelude.{◌≡◌, ◌↔◌, ◌+◌, ◌<◌, ◌≤◌, length, IsTrue};
 ghost use Rattle.acpi_tables.specs.Bytes.{little_endian, bytes_at, number_at, begins_with, checksum, HasLength};
 
@@ -28,10 +30,9 @@ pub(crate) fn array_at<const N: usize>(bytes: &[u8], at: usize) -> [u8; N]
     requires { at + N ≤ length bytes.now }
     ensures { result ≡ bytes_at bytes.now at N }
 {
-    match bytes[at..at + N].try_into() {
-        Ok(array) => array,
-        Err(_) => unreachable!(),
-    }
+    let mut array = [0; N];
+    array.copy_from_slice(&bytes[at..at + N]);
+    array
 }
 
 pub(crate) fn u16_at(bytes: &[u8], at: usize) -> u16

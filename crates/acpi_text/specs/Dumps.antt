@@ -114,24 +114,20 @@ label_text label = if nat_eq (length label) 0 then [] else label ++ word " "
 unfoldable pub labelled : Field → List ℕ → List ℕ
 labelled f bytes = label_text f.label ++ value_text f.base bytes
 
--- `  LABEL XX`: a field of a FADT that reaches to its end
-abbrev pub field_line_by : Field → Option (List ℕ) → List ℕ
-field_line_by f None = []
-field_line_by f (Some bytes) = below (labelled f bytes)
+-- the fields that the bytes reach to, each between these words: a line of a FADT for each, `  LABEL XX`, or those of a
+-- record of a MADT behind its name, ` LABEL N LABEL XX ..`
+abbrev pub field_by : List ℕ → List ℕ → Field → Option (List ℕ) → List ℕ
+field_by before behind f None = []
+field_by before behind f (Some bytes) = before ++ labelled f bytes ++ behind
 
-unfoldable pub field_line : List ℕ → Field → List ℕ
-field_line table f = field_line_by f (field_bytes table f)
+abbrev pub field_text : List ℕ → List ℕ → List ℕ → Field → List ℕ
+field_text before behind bytes f = field_by before behind f (field_bytes bytes f)
 
-unfoldable pub fadt_lines : List ℕ → List ℕ
-fadt_lines table = flat_map (field_line table) fadt_fields
+unfoldable pub fields_text : List ℕ → List ℕ → List ℕ → List Field → List ℕ
+fields_text before behind bytes fields = flat_map (field_text before behind bytes) fields
 
--- ` LABEL N`: a field of a record of a MADT
-abbrev pub record_field_by : Field → Option (List ℕ) → List ℕ
-record_field_by f None = []
-record_field_by f (Some bytes) = word " " ++ labelled f bytes
-
-unfoldable pub record_field : List ℕ → Field → List ℕ
-record_field bytes f = record_field_by f (field_bytes bytes f)
+abbrev pub fadt_lines : List ℕ → List ℕ
+fadt_lines table = fields_text (word "  ") (word "\n") table fadt_fields
 
 -- ` XX`
 unfoldable pub spaced_byte : ℕ → List ℕ
@@ -147,7 +143,7 @@ other_text bytes =
 -- `NAME LABEL N ..`: a record of a known one
 abbrev pub record_text_by : Option Row → List ℕ → List ℕ
 record_text_by None bytes = other_text bytes
-record_text_by (Some r) bytes = r.name ++ flat_map (record_field bytes) r.fields
+record_text_by (Some r) bytes = r.name ++ fields_text (word " ") [] bytes r.fields
 
 abbrev pub record_line : List ℕ → List ℕ
 record_line bytes = below (record_text_by (row_of bytes) bytes)

@@ -1,14 +1,13 @@
 //! The lines below a table: the addresses of an XSDT or an RSDT, and the fields of a FADT.
-#![tactic(auto, using(text_writer::proofs::PrintLaws::straight))]
+#![tactic(auto, using(text_writer::proofs::PrintLaws::straight), unfolding(crate::specs::Dumps::entry_text))]
 
 ghost use Rattle.std.specs.Prelude.{◌≡◌, ◌<◌, ◌≤◌, length, option_map};
 ghost use Rattle.text_writer.specs.Prints.{Prints};
 ghost use Rattle.acpi_tables.specs.Addresses.{HoldsAddresses};
-ghost use Rattle.acpi_tables.specs.Fields.{field_view, IsNarrow};
 ghost use Rattle.acpi_text.specs.Dumps.{owner_text, owner_of, entry_text, entry_line, entry_lines};
-ghost use Rattle.acpi_text.specs.Dumps.{below, labelled, field_line, fadt_lines};
+ghost use Rattle.acpi_text.specs.Dumps.{fadt_lines};
 
-use crate::fields::{print_labelled, print_reversed};
+use crate::fields::{print_fields, print_reversed};
 use crate::labels::put_quoted;
 use acpi_tables::{
     Dump, TableField, address_bytes, address_count, dump_at, little_endian, name_of,
@@ -35,7 +34,6 @@ fn print_owner<W: Write>(out: &mut Out<'_, W>, dumps: &[Dump], address: u64)
 }
 
 /// The bytes of an address, and the name of the dump there.
-#[tactic(auto, using(text_writer::proofs::PrintLaws::straight), unfolding(crate::specs::Dumps::entry_text))]
 fn print_entry_text<W: Write>(out: &mut Out<'_, W>, dumps: &[Dump], bytes: &[u8])
     requires narrow { length bytes.now ≤ 8 }
     ensures { Prints W.contents out.old out.new (entry_text dumps.now bytes.now) }
@@ -71,32 +69,9 @@ pub(crate) fn print_entries<W: Write>(
     }
 }
 
-fn print_field_line<W: Write>(out: &mut Out<'_, W>, field: &TableField, bytes: &[u8])
-    requires narrow { length bytes.now ≤ 8 }
-    ensures { Prints W.contents out.old out.new (below (labelled (field_view field.now) bytes.now)) }
-{
-    out.put(b"  ");
-    print_labelled(out, field, bytes);
-    out.put(b"\n");
-}
-
-/// A field of a FADT, where the table reaches to its end.
-#[tactic(auto, using(text_writer::proofs::PrintLaws::straight), unfolding(crate::specs::Dumps::field_line))]
-fn print_field<W: Write>(out: &mut Out<'_, W>, table: &[u8], field: &TableField)
-    requires narrow { IsNarrow field.now }
-    ensures { Prints W.contents out.old out.new (field_line table.now (field_view field.now)) }
-{
-    if let Some(bytes) = field.bytes_in(table) {
-        print_field_line(out, field, bytes);
-    }
-}
-
 /// The fields of a FADT that it reaches to.
 pub(crate) fn print_fadt<W: Write>(out: &mut Out<'_, W>, table: &[u8])
     ensures { Prints W.contents out.old out.new (fadt_lines table.now) }
 {
-    let fields = TableField::of_fadt();
-    for field in fields {
-        print_field(out, table, field);
-    }
+    print_fields(out, b"  ", b"\n", table, TableField::of_fadt());
 }

@@ -1,18 +1,18 @@
-//! A field of a table: its label, and its value in the digits of its base.
-#![tactic(auto, using(text_writer::proofs::PrintLaws::straight))]
+//! The fields of a table or of a record: each with its label, and its value in the digits of its base.
+#![tactic(auto, using(text_writer::proofs::PrintLaws::straight), unfolding(crate::specs::Dumps::label_text, crate::specs::Dumps::labelled))]
 
-ghost use Rattle.std.specs.Prelude.{◌≤◌, flat_map, length, reverse};
+ghost use Rattle.std.specs.Prelude.{◌≤◌, ◌++◌, flat_map, length, map, reverse};
+ghost use Rattle.std.specs.List.{All};
 ghost use Rattle.text_writer.specs.Prints.{Prints};
 ghost use Rattle.text_writer.specs.Numbers.{hex2};
-ghost use Rattle.acpi_tables.specs.Fields.{field_view};
-ghost use Rattle.acpi_text.specs.Dumps.{label_text, value_text, labelled};
+ghost use Rattle.acpi_tables.specs.Fields.{field_view, IsNarrow};
+ghost use Rattle.acpi_text.specs.Dumps.{label_text, value_text, labelled, field_text, fields_text};
 
 use acpi_tables::{Base, TableField, little_endian};
 use std::io::Write;
 use text_writer::{Out, print_decimal, print_hex2};
 
 /// A label and a space; nothing where there is no label.
-#[tactic(auto, using(text_writer::proofs::PrintLaws::straight), unfolding(crate::specs::Dumps::label_text))]
 fn print_label<W: Write>(out: &mut Out<'_, W>, label: &[u8])
     ensures { Prints W.contents out.old out.new (label_text label.now) }
 {
@@ -43,11 +43,61 @@ fn print_value<W: Write>(out: &mut Out<'_, W>, base: Base, bytes: &[u8])
 }
 
 /// A field with these bytes.
-#[tactic(auto, using(text_writer::proofs::PrintLaws::straight), unfolding(crate::specs::Dumps::labelled))]
-pub(crate) fn print_labelled<W: Write>(out: &mut Out<'_, W>, field: &TableField, bytes: &[u8])
+fn print_labelled<W: Write>(out: &mut Out<'_, W>, field: &TableField, bytes: &[u8])
     requires narrow { length bytes.now ≤ 8 }
     ensures { Prints W.contents out.old out.new (labelled (field_view field.now) bytes.now) }
 {
     print_label(out, field.label.as_bytes());
     print_value(out, field.base, bytes);
+}
+
+/// A field with these bytes, between these words.
+fn print_between<W: Write>(
+    out: &mut Out<'_, W>,
+    before: &[u8],
+    behind: &[u8],
+    field: &TableField,
+    bytes: &[u8],
+)
+    requires narrow { length bytes.now ≤ 8 }
+    ensures { Prints W.contents out.old out.new
+        (before.now ++ labelled (field_view field.now) bytes.now ++ behind.now) }
+{
+    out.put(before);
+    print_labelled(out, field, bytes);
+    out.put(behind);
+}
+
+/// A field between these words, where the bytes of its table or record reach to its end.
+fn print_field<W: Write>(
+    out: &mut Out<'_, W>,
+    before: &[u8],
+    behind: &[u8],
+    bytes: &[u8],
+    field: &TableField,
+)
+    requires narrow { IsNarrow field.now }
+    ensures { Prints W.contents out.old out.new
+        (field_text before.now behind.now bytes.now (field_view field.now)) }
+{
+    if let Some(value) = field.bytes_in(bytes) {
+        print_between(out, before, behind, field, value);
+    }
+}
+
+/// The fields that the bytes of a table or of a record reach to, each between these words.
+pub(crate) fn print_fields<W: Write>(
+    out: &mut Out<'_, W>,
+    before: &[u8],
+    behind: &[u8],
+    bytes: &[u8],
+    fields: &[TableField],
+)
+    requires narrow { All IsNarrow fields.now }
+    ensures { Prints W.contents out.old out.new
+        (fields_text before.now behind.now bytes.now (map field_view fields.now)) }
+{
+    for field in fields {
+        print_field(out, before, behind, bytes, field);
+    }
 }

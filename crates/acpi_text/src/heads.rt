@@ -1,5 +1,5 @@
 //! The line of a dump.
-#![tactic(auto, using(text_writer::proofs::PrintLaws::straight))]
+#![tactic(auto, using(text_writer::proofs::PrintLaws::straight), unfolding(crate::specs::Dumps::facs_text, crate::specs::Dumps::end_text, crate::specs::Dumps::line_by))]
 
 ghost use Rattle.text_writer.specs.Prints.{Prints};
 ghost use Rattle.acpi_tables.specs.Dumps.{HoldsShape};
@@ -43,7 +43,6 @@ fn print_header<W: Write>(out: &mut Out<'_, W>, header: &Header)
     put_hex8(out, b" ", header.creator_revision);
 }
 
-#[tactic(auto, using(text_writer::proofs::PrintLaws::straight), unfolding(crate::specs::Dumps::facs_text))]
 fn print_facs<W: Write>(out: &mut Out<'_, W>, length: u32)
     ensures { Prints W.contents out.old out.new (facs_text length) }
 {
@@ -88,7 +87,6 @@ fn print_sum<W: Write>(out: &mut Out<'_, W>, holds: bool)
     }
 }
 
-#[tactic(auto, using(text_writer::proofs::PrintLaws::straight), unfolding(crate::specs::Dumps::end_text))]
 fn print_end<W: Write>(out: &mut Out<'_, W>, address: Option<u64>, holds: bool)
     ensures { Prints W.contents out.old out.new (end_text address holds) }
 {
@@ -98,7 +96,6 @@ fn print_end<W: Write>(out: &mut Out<'_, W>, address: Option<u64>, holds: bool)
 }
 
 /// The line of a dump of this kind.
-#[tactic(auto, using(text_writer::proofs::PrintLaws::straight), unfolding(crate::specs::Dumps::line_by))]
 pub(crate) fn print_line<W: Write>(out: &mut Out<'_, W>, kind: Kind, dump: &Dump)
     requires shape { HoldsShape kind dump.now.bytes.items }
     ensures { Prints W.contents out.old out.new (line_by kind dump.now) }

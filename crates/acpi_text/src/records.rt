@@ -1,51 +1,20 @@
 //! The lines below a MADT: its two fields, and its records.
-#![tactic(auto, using(text_writer::proofs::PrintLaws::straight))]
+#![tactic(auto, using(text_writer::proofs::PrintLaws::straight), unfolding(crate::specs::Dumps::madt_lines))]
 
-ghost use Rattle.std.specs.Prelude.{◌≤◌, ◌++◌, Some, flat_map, length, map};
+ghost use Rattle.std.specs.Prelude.{◌≤◌, Some, flat_map, length};
 ghost use Rattle.std.specs.List.{All};
 ghost use Rattle.text_writer.specs.Prints.{Prints};
-ghost use Rattle.text_writer.specs.Words.{word};
-ghost use Rattle.acpi_tables.specs.Fields.{field_view, IsNarrow};
+ghost use Rattle.acpi_tables.specs.Fields.{IsNarrow};
 ghost use Rattle.acpi_tables.specs.Madt.{HoldsMadt, records_of};
 ghost use Rattle.acpi_tables.specs.Madt.{row_of, row_view};
-ghost use Rattle.acpi_text.specs.Dumps.{labelled, record_field, spaced_byte, other_text, record_text_by};
+ghost use Rattle.acpi_text.specs.Dumps.{spaced_byte, other_text, record_text_by};
 ghost use Rattle.acpi_text.specs.Dumps.{below, record_line, controller_text, madt_lines};
 
-use crate::fields::print_labelled;
+use crate::fields::print_fields;
 use crate::labels::{put_decimal, put_hex8};
-use acpi_tables::{
-    MADT_CONTROLLER, MADT_FLAGS, MADT_RECORDS, Madt, RecordRow, TableField, u8_at, u32_at,
-};
+use acpi_tables::{MADT_CONTROLLER, MADT_FLAGS, MADT_RECORDS, Madt, RecordRow, u8_at, u32_at};
 use std::io::Write;
 use text_writer::{Out, print_hex2};
-
-/// A field of a record, behind a space.
-fn print_spaced_field<W: Write>(out: &mut Out<'_, W>, field: &TableField, value: &[u8])
-    requires narrow { length value.now ≤ 8 }
-    ensures { Prints W.contents out.old out.new (word " " ++ labelled (field_view field.now) value.now) }
-{
-    out.put(b" ");
-    print_labelled(out, field, value);
-}
-
-#[tactic(auto, using(text_writer::proofs::PrintLaws::straight), unfolding(crate::specs::Dumps::record_field))]
-fn print_record_field<W: Write>(out: &mut Out<'_, W>, bytes: &[u8], field: &TableField)
-    requires narrow { IsNarrow field.now }
-    ensures { Prints W.contents out.old out.new (record_field bytes.now (field_view field.now)) }
-{
-    if let Some(value) = field.bytes_in(bytes) {
-        print_spaced_field(out, field, value);
-    }
-}
-
-fn print_record_fields<W: Write>(out: &mut Out<'_, W>, bytes: &[u8], fields: &[TableField])
-    requires narrow { All IsNarrow fields.now }
-    ensures { Prints W.contents out.old out.new (flat_map (record_field bytes.now) (map field_view fields.now)) }
-{
-    for field in fields {
-        print_record_field(out, bytes, field);
-    }
-}
 
 /// A record of this kind.
 fn print_known<W: Write>(out: &mut Out<'_, W>, bytes: &[u8], row: &RecordRow)
@@ -53,7 +22,7 @@ fn print_known<W: Write>(out: &mut Out<'_, W>, bytes: &[u8], row: &RecordRow)
     ensures { Prints W.contents out.old out.new (record_text_by (Some (row_view row.now)) bytes.now) }
 {
     out.put(row.name.as_bytes());
-    print_record_fields(out, bytes, row.fields);
+    print_fields(out, b" ", b"", bytes, row.fields);
 }
 
 #[tactic(auto, using(text_writer::proofs::PrintLaws::straight), unfolding(crate::specs::Dumps::spaced_byte))]
@@ -135,7 +104,6 @@ fn print_records<W: Write>(out: &mut Out<'_, W>, table: &[u8])
 }
 
 /// The fields and records of a MADT.
-#[tactic(auto, using(text_writer::proofs::PrintLaws::straight), unfolding(crate::specs::Dumps::madt_lines))]
 pub(crate) fn print_madt<W: Write>(out: &mut Out<'_, W>, table: &[u8])
     requires holds { HoldsMadt table.now }
     ensures { Prints W.contents out.old out.new (madt_lines table.now) }

@@ -1,4 +1,5 @@
 -- What printing means, and the text of numbers.
+pub mod Room
 pub mod Waiting
 pub mod Prints
 pub mod Words

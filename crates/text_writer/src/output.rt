@@ -25,7 +25,8 @@ pub struct Out<'w, W> {
     failed: bool,
 }
 
-/// How many of these bytes the writer took in one call: none where the call was interrupted, and no answer where it failed or
+/// How many of these bytes the writer took in one call: none where the call was interrupted, and no answer where it
+/// failed or took nothing.
 /// took nothing.
 fn write_some<W: Write>(to: &mut W, bytes: &[u8]) -> Option<usize>
     ensures bound { IfSome result (λ taken. taken ≤ length bytes.now) }
@@ -44,8 +45,8 @@ fn write_some<W: Write>(to: &mut W, bytes: &[u8]) -> Option<usize>
     }
 }
 
-/// Writes these bytes, up to the first fault, and returns how many the writer took. A write that was interrupted is made
-/// again.
+/// Writes these bytes, up to the first fault, and returns how many the writer took. A write that was interrupted is
+/// made again.
 fn send<W: Write>(to: &mut W, bytes: &[u8]) -> usize
     ensures bound { result ≤ length bytes.now }
     ensures sent { Appends (W.contents to.old) (W.contents to.new) (take result bytes.now) }

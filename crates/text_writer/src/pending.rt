@@ -1,15 +1,16 @@
 //! Bytes that wait to be written, on the stack.
 ghost use Rattle.std.specs.Prelude.{◌≤◌};
+ghost use Rattle.text_writer.specs.Room.{most_waiting};
 
 /// How many bytes can wait.
-pub const ROOM: usize = 4096;
+const ROOM: usize = 4096;
 
-/// At most 4,096 bytes, in order.
+/// At most [`ROOM`] bytes, in order.
 #[derive(Drop)]
 pub struct Pending {
-    bytes: [u8; 4096],
+    bytes: [u8; ROOM],
     len: usize,
-    ghost within: { len ≤ 4096 },
+    ghost within: { len ≤ most_waiting },
 }
 
 impl Pending {
@@ -21,14 +22,14 @@ impl Pending {
         ensures { waiting result ≡ [] }
     {
         Pending {
-            bytes: [0; 4096],
+            bytes: [0; ROOM],
             len: 0,
         }
     }
 
     /// How many more bytes fit.
     pub fn room(&self) -> usize
-        ensures { result + length (waiting self.now) ≡ 4096 }
+        ensures { result + length (waiting self.now) ≡ most_waiting }
     {
         ROOM - self.len
     }
@@ -49,7 +50,7 @@ impl Pending {
 
     /// Puts more bytes behind the others.
     pub fn add(&mut self, more: &[u8])
-        requires { length (waiting self.old) + length more.now ≤ 4096 }
+        requires { length (waiting self.old) + length more.now ≤ most_waiting }
         ensures { waiting self.new ≡ waiting self.old ++ more.now }
     {
         let end = self.len + more.len();
@@ -59,7 +60,7 @@ impl Pending {
 
     /// Puts two more bytes behind the others.
     pub fn add_two(&mut self, first: u8, second: u8)
-        requires { length (waiting self.old) + 2 ≤ 4096 }
+        requires { length (waiting self.old) + 2 ≤ most_waiting }
         ensures { waiting self.new ≡ waiting self.old ++ first ∷ second ∷ [] }
     {
         self.bytes[self.len] = first;

@@ -1,8 +1,0 @@
-use Rattle.std.proofs.Common.{take, flat_map}
-use Rattle.text_writer.specs.Prints.{Prints}
-use Rattle.acpi_tables.specs.Fields.{field_view}
-use Rattle.acpi_text.specs.Dumps.{field_line}
-use Rattle.acpi_text.proofs.content.print_fadt.Given as goal
-
-abbrev pub invariant-loop-field : goal.invariant-loop-field
-invariant-loop-field g l = Prints g.W.Write.contents l.initial.out l.out (flat_map (λ f. field_line l.table (field_view f)) (take l.field-index l.fields))
