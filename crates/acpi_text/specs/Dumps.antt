@@ -43,7 +43,7 @@ root_text r =
     ++ wide_text r.wide
 
 -- ` "FACS" Length N`
-unfoldable pub facs_text : ℕ → List ℕ
+abbrev pub facs_text : ℕ → List ℕ
 facs_text length = (word " " ++ quoted (codes "FACS")) ++ (word " Length " ++ decimal length)
 
 -- ` "SIGN" Length N Revision N Oem "OEMID" "OEMTABLE" XXXXXXXX Creator "CREA" XXXXXXXX`
@@ -74,7 +74,7 @@ abbrev pub sum_text : Bool → List ℕ
 sum_text true = []
 sum_text false = word " BadSum"
 
-unfoldable pub end_text : Option ℕ → Bool → List ℕ
+abbrev pub end_text : Option ℕ → Bool → List ℕ
 end_text address holds = address_text address ++ sum_text holds ++ word "\n"
 
 unfoldable pub line_by : Kind → Dump → List ℕ
@@ -108,7 +108,7 @@ abbrev pub value_text : Base → List ℕ → List ℕ
 value_text Decimal bytes = decimal (little_endian bytes)
 value_text Hexadecimal bytes = flat_map hex2 (reverse bytes)
 
-unfoldable pub label_text : List ℕ → List ℕ
+abbrev pub label_text : List ℕ → List ℕ
 label_text label = if nat_eq (length label) 0 then [] else label ++ word " "
 
 unfoldable pub labelled : Field → List ℕ → List ℕ

@@ -1,5 +1,5 @@
 //! The fields of a table or of a record: each with its label, and its value in the digits of its base.
-#![tactic(auto, using(text_writer::proofs::PrintLaws::straight), unfolding(crate::specs::Dumps::label_text, crate::specs::Dumps::labelled))]
+#![tactic(auto, using(text_writer::proofs::PrintLaws::straight), unfolding(crate::specs::Dumps::labelled))]
 
 ghost use Rattle.std.specs.Prelude.{◌≤◌, ◌++◌, flat_map, length, map, reverse};
 ghost use Rattle.std.specs.List.{All};

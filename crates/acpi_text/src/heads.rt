@@ -1,5 +1,5 @@
 //! The line of a dump.
-#![tactic(auto, using(text_writer::proofs::PrintLaws::straight), unfolding(crate::specs::Dumps::facs_text, crate::specs::Dumps::end_text, crate::specs::Dumps::line_by))]
+#![tactic(auto, using(text_writer::proofs::PrintLaws::straight), unfolding(crate::specs::Dumps::line_by))]
 
 ghost use Rattle.text_writer.specs.Prints.{Prints};
 ghost use Rattle.acpi_tables.specs.Dumps.{HoldsShape};

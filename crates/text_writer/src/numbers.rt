@@ -1,6 +1,4 @@
 //! Numbers in hexadecimal and decimal digits, and bytes between quotes.
-#![tactic(auto, using(crate::proofs::PrintLaws::straight), unfolding(crate::specs::Numbers::hex4, crate::specs::Numbers::hex8, crate::specs::Numbers::hex16, crate::specs::Numbers::quoted))]
-
 ghost use Rattle.std.specs.Prelude.{◌≡◌, decimal};
 ghost use Rattle.text_writer.specs.Prints.{Prints};
 ghost use Rattle.text_writer.specs.Numbers.{hex2, hex4, hex8, hex16, is_plain, quoted_byte, quoted};
@@ -19,6 +17,7 @@ pub fn print_hex2<W: Write>(out: &mut Out<'_, W>, n: u8)
     out.put_two(DIGITS[(n / 16) as usize], DIGITS[(n % 16) as usize]);
 }
 
+#[tactic(auto, using(crate::proofs::PrintLaws::straight), unfolding(crate::specs::Numbers::hex4))]
 pub fn print_hex4<W: Write>(out: &mut Out<'_, W>, n: u16)
     ensures { Prints W.contents out.old out.new (hex4 n) }
 {
@@ -26,6 +25,7 @@ pub fn print_hex4<W: Write>(out: &mut Out<'_, W>, n: u16)
     print_hex2(out, (n % 256) as u8);
 }
 
+#[tactic(auto, using(crate::proofs::PrintLaws::straight), unfolding(crate::specs::Numbers::hex8))]
 pub fn print_hex8<W: Write>(out: &mut Out<'_, W>, n: u32)
     ensures { Prints W.contents out.old out.new (hex8 n) }
 {
@@ -33,6 +33,7 @@ pub fn print_hex8<W: Write>(out: &mut Out<'_, W>, n: u32)
     print_hex4(out, (n % 65536) as u16);
 }
 
+#[tactic(auto, using(crate::proofs::PrintLaws::straight), unfolding(crate::specs::Numbers::hex16))]
 pub fn print_hex16<W: Write>(out: &mut Out<'_, W>, n: u64)
     ensures { Prints W.contents out.old out.new (hex16 n) }
 {
@@ -67,6 +68,7 @@ fn print_quoted_byte<W: Write>(out: &mut Out<'_, W>, byte: u8)
 }
 
 /// Bytes between quotes; any but printable ASCII, the quote and the backslash is `\x` and two digits.
+#[tactic(auto, using(crate::proofs::PrintLaws::straight), unfolding(crate::specs::Numbers::quoted))]
 pub fn print_quoted<W: Write>(out: &mut Out<'_, W>, bytes: &[u8])
     ensures { Prints W.contents out.old out.new (quoted bytes.now) }
 {
