@@ -1,5 +1,6 @@
 -- What became of the bodies of methods: terms, or bytes where a body reads as none.
-use Rattle.std.specs.Prelude.{◌≡◌, ℕ, ◌<◌, Bool, true, false, List, [], ◌∷◌, length, slice_get, All, Vec, Err}
+use Rattle.std.specs.Prelude.{◌≡◌, ℕ, ◌<◌, Bool, true, false, List, length, slice_get, All, Vec, Err}
+use Rattle.std.specs.List.{AllZip, list_any}
 use Rattle.std.specs.Global.{Global}
 use Rattle.std.specs.List.Sorted.{IsStrictlyIncreasing}
 use Rattle.aml_names.specs.declared.faults.CodeFault.{CodeFault}
@@ -10,7 +11,7 @@ use Rattle.aml_space.specs.Known.{Known, StandsFor}
 use Rattle.aml_load.specs.Bodies.{IsBody, IsUnread, body_at, OfMethod}
 use Rattle.aml_load.specs.declared.loading.Loaded.{Loaded}
 use Rattle.aml_load.specs.declared.methods.Method.{Method}
-use Rattle.aml_load.specs.Views.{AreShort}
+use Rattle.aml_load.specs.Views.{AreShort, codes_view}
 use Rattle.aml_pool.specs.Counting.{IsOnce}
 use Rattle.aml_pool.specs.Shares.{all_of}
 use Rattle.aml_text.specs.declared.bodies.Body.{Body}
@@ -25,28 +26,22 @@ IsEntry unknown_zero es tables m raw = (ts : Trees) → IsBody unknown_zero es t
 
 -- one for each method
 abbrev pub AreEntries : Bool → List Entry → List (List ℕ) → List Method → List OneBody → Type 0
-AreEntries unknown_zero es tables [] [] = Unit {0}
-AreEntries unknown_zero es tables [] (b ∷ bodies) = ⊥
-AreEntries unknown_zero es tables (m ∷ ms) [] = ⊥
-AreEntries unknown_zero es tables (m ∷ ms) (b ∷ bodies) =
-    IsEntry unknown_zero es tables m b × AreEntries unknown_zero es tables ms bodies
+AreEntries unknown_zero es tables ms bodies = AllZip (IsEntry unknown_zero es tables) ms bodies
 
--- whether a body is raw
+-- whether a body is raw, and whether one of several is
+abbrev pub is_raw : OneBody → Bool
+is_raw (read ts) = false
+is_raw raw = true
+
 abbrev pub has_raw : List OneBody → Bool
-has_raw [] = false
-has_raw (read ts ∷ bodies) = has_raw bodies
-has_raw (raw ∷ bodies) = true
-
--- the first fault that is met in reading the body of a method forward
-abbrev pub IsFirstFault : Bool → List Entry → List (List ℕ) → Method → CodeFault → Type 0
-IsFirstFault z es tables m fault = body_at z es tables m ≡ Err fault
+has_raw bodies = list_any is_raw bodies
 
 -- The body of a method is raw for this fault: it reads as no terms, the fault is true of the byte at its offset in the
--- body, and it is the first that is met.
+-- body, and it is the first that is met in reading it forward.
 pub record IsRaw (unknown_zero : Bool) (es : List Entry) (tables : List (List ℕ)) (m : Method)
     (fault : CodeFault) : Type 0 where
   pub unread : IsUnread unknown_zero es tables m fault
-  pub first : IsFirstFault unknown_zero es tables m fault
+  pub first : body_at unknown_zero es tables m ≡ Err fault
 
 -- the fault of a raw body is told truly
 abbrev pub IsTold : Bool → List Entry → List (List ℕ) → Method → Body → Type 0
@@ -55,9 +50,7 @@ IsTold z es tables m (bodies.Raw fault) = IsRaw z es tables m fault
 
 -- that of each raw body
 abbrev pub AreTold : Bool → List Entry → List (List ℕ) → List Method → List Body → Type 0
-AreTold z es tables [] ds = Unit {0}
-AreTold z es tables (m ∷ ms) [] = Unit {0}
-AreTold z es tables (m ∷ ms) (d ∷ ds) = IsTold z es tables m d × AreTold z es tables ms ds
+AreTold z es tables ms ds = AllZip (IsTold z es tables) ms ds
 
 -- one ascending list for each worker, and each number below the count stands in exactly one of them, once
 pub record AreDrawn (workers count : ℕ) (drawn : List (Vec ℕ Global)) : Type 0 where
@@ -80,6 +73,11 @@ Became z es tables m (bodies.Tree nodes) =
     IsBody z es tables m (nodes_view nodes.items) × ((ts : Trees) → IsBody z es tables m ts
     → ts ≡ nodes_view nodes.items)
 Became z es tables m (bodies.Raw fault) = IsRaw z es tables m fault
+
+-- the bodies of a loaded set: whatever entries its namespace stands for, each became what it is
+abbrev pub AreBodies : Bool → Loaded → List Body → Type 0
+AreBodies z x ds =
+    (es : List Entry) → StandsFor x.space es → AllZip (Became z es (codes_view x.tables.items)) x.methods.items ds
 
 -- the body of this number can be read
 abbrev pub CanRead : List (List ℕ) → List Method → ℕ → Type 0

@@ -1,7 +1,8 @@
 -- What `check` says of each loaded table: its length, its methods, its raw bodies, and whether what was read encodes
 -- to the same bytes again.
-use Rattle.std.specs.Prelude.{ℕ, suc, ◌+◌, ◌==◌, nat_eq, Bool, true, false, cond, ◌&&◌, List, [], ◌∷◌, ◌++◌, map}
-use Rattle.std.specs.Prelude.{length, decimal}
+use Rattle.std.specs.Prelude.{ℕ, suc, ◌==◌, nat_eq, Bool, true, false, ◌&&◌, List, [], ◌∷◌, ◌++◌, map, filter, zip}
+use Rattle.std.specs.Prelude.{flat_map, length, decimal}
+use Rattle.std.specs.List.{list_all}
 use lib.Pointwise.{pointwise}
 use Rattle.aml_code.specs.Encoding.{encodings}
 use Rattle.aml_load.specs.Loading.{methods_of}
@@ -14,8 +15,10 @@ use Rattle.aml_text.specs.declared.listing.Listing.{Listing}
 use Rattle.text_writer.specs.Numbers.{quoted}
 use Rattle.text_writer.specs.Words.{word}
 use Rattle.acpi_tables.specs.declared.dump.Dump.{Dump}
+use Rattle.acpidis.specs.Bodies.{is_raw}
 use Rattle.acpidis.specs.Meaning.{Meaning, order_of, codes_of}
 use Rattle.acpidis.specs.declared.checking.Checked.{Checked}
+use Rattle.acpidis.specs.declared.checking.Mark.{Mark}
 
 -- two texts have the same bytes
 abbrev pub same_bytes : List ℕ → List ℕ → Bool
@@ -26,55 +29,42 @@ abbrev pub body_same : List ℕ → OneBody → Bool
 body_same bytes (read ts) = same_bytes (encodings bytes ts) bytes
 body_same bytes raw = true
 
-abbrev pub is_raw : OneBody → Bool
-is_raw (read ts) = false
-is_raw raw = true
+-- what is said of a method with its body: the number of its table, and whether the body is raw, and the same
+abbrev pub mark_of : List (List ℕ) → Method × OneBody → Mark
+mark_of codes p = record { table = p.0.table; raw = is_raw p.1; same = body_same (span_of codes p.0) p.1 }
 
-abbrev pub one_if : Bool → ℕ
-one_if b = cond b 1 0
+-- of methods with their bodies
+abbrev pub marks_of : List (List ℕ) → List Method → List OneBody → List Mark
+marks_of codes ms bs = map (mark_of codes) (zip ms bs)
 
--- how many of these methods are of table t
-abbrev pub methods_in : ℕ → List Method → ℕ
-methods_in t [] = 0
-methods_in t (m ∷ ms) = one_if (nat_eq m.table t) + methods_in t ms
-
--- how many of those have a raw body
-abbrev pub raws_in : ℕ → List Method → List OneBody → ℕ
-raws_in t [] bs = 0
-raws_in t (m ∷ ms) [] = 0
-raws_in t (m ∷ ms) (b ∷ bs) = one_if (nat_eq m.table t && is_raw b) + raws_in t ms bs
-
--- whether the bodies of those are the same
-abbrev pub bodies_same : List (List ℕ) → ℕ → List Method → List OneBody → Bool
-bodies_same codes t [] bs = true
-bodies_same codes t (m ∷ ms) [] = true
-bodies_same codes t (m ∷ ms) (b ∷ bs) =
-    cond (nat_eq m.table t) (body_same (span_of codes m) b) true && bodies_same codes t ms bs
+-- of those of table t
+abbrev pub marks_in : ℕ → List Mark → List Mark
+marks_in t marks = filter (λ m. nat_eq m.table t) marks
 
 -- what is said of table t, of which this is the block
-abbrev pub checked : List (List ℕ) → List Method → List OneBody → ℕ → OneBlock → Checked
-checked codes ms bs t b =
+abbrev pub checked : List Mark → ℕ → OneBlock → Checked
+checked marks t b =
     record {
       bytes = length b.code;
-      methods = methods_in t ms;
-      raw = raws_in t ms bs;
-      same = same_bytes (encodings b.code b.terms) b.code && bodies_same codes t ms bs;
+      methods = length (marks_in t marks);
+      raw = length (filter (λ m. m.raw) (marks_in t marks));
+      same = same_bytes (encodings b.code b.terms) b.code && list_all (λ m. m.same) (marks_in t marks);
     }
 
 -- of the tables from number t on
-abbrev pub checks_from : List (List ℕ) → List Method → List OneBody → ℕ → List OneBlock → List Checked
-checks_from codes ms bs t [] = []
-checks_from codes ms bs t (b ∷ blocks) = checked codes ms bs t b ∷ checks_from codes ms bs (suc t) blocks
+abbrev pub checks_from : List Mark → ℕ → List OneBlock → List Checked
+checks_from marks t [] = []
+checks_from marks t (b ∷ blocks) = checked marks t b ∷ checks_from marks (suc t) blocks
 
 -- what is said of a listing in memory
 abbrev pub checks_of : Listing → List Checked
-checks_of x = checks_from (codes_view x.loaded.tables.items) x.loaded.methods.items (map body_view x.bodies.items) 0
+checks_of x =
+    checks_from (marks_of (codes_view x.loaded.tables.items) x.loaded.methods.items (map body_view x.bodies.items)) 0
     (blocks_in x)
 
 -- whether all tables are the same
 abbrev pub all_same : List Checked → Bool
-all_same [] = true
-all_same (c ∷ cs) = c.same && all_same cs
+all_same cs = list_all (λ c. c.same) cs
 
 -- ---- its lines
 
@@ -92,12 +82,11 @@ check_line name c = check_head name c ++ (word " Raw " ++ decimal c.raw) ++ same
 
 -- the lines of tables
 abbrev pub check_lines : List OneBlock → List Checked → List ℕ
-check_lines [] cs = []
-check_lines (b ∷ blocks) [] = []
-check_lines (b ∷ blocks) (c ∷ cs) = check_line b.name c ++ check_lines blocks cs
+check_lines blocks cs = flat_map (λ p. check_line p.0.name p.1) (zip blocks cs)
 
 -- the lines of a listing
 abbrev pub checks_text : List Dump → Meaning → List ℕ
 checks_text dumps k =
-    let blocks = blocks_of (names_in dumps (order_of k)) (codes_of dumps k) k.trees in
-    check_lines blocks (checks_from (codes_of dumps k) (methods_of k.listed.entries) k.bodies 0 blocks)
+    let codes = codes_of dumps k in
+    let blocks = blocks_of (names_in dumps (order_of k)) codes k.trees in
+    check_lines blocks (checks_from (marks_of codes (methods_of k.listed.entries) k.bodies) 0 blocks)

@@ -1,21 +1,20 @@
 -- A stepping stone of the proofs: what a run keeps of each body, whose terms it lets go.
-use Rattle.std.specs.Prelude.{◌≡◌, ℕ, suc, Bool, true, false, List, [], ◌∷◌, map, get_or, slice_get, Result, Ok, Err}
+use Rattle.std.specs.Prelude.{◌≡◌, ℕ, suc, Bool, true, false, List, [], ◌∷◌, length, get_or, slice_get, Some, Result}
+use Rattle.std.specs.Prelude.{Ok, Err}
+use Rattle.std.specs.List.{list_any}
 use Rattle.aml_names.specs.declared.faults.CodeFault.{CodeFault}
 use Rattle.aml_code.specs.Encoding.{encodings}
 use Rattle.aml_code.specs.Tree.{Trees}
 use Rattle.aml_code.specs.View.{nodes_view}
-use Rattle.aml_space.specs.Entries.{Entry}
-use Rattle.aml_space.specs.Known.{Known, StandsFor}
+use Rattle.aml_space.specs.Known.{Known}
 use Rattle.aml_load.specs.declared.loading.Loaded.{Loaded}
 use Rattle.aml_load.specs.declared.methods.Method.{Method}
-use Rattle.aml_load.specs.Views.{codes_view, trees_view, body_in}
+use Rattle.aml_load.specs.Views.{codes_view, body_in}
 use Rattle.aml_text.specs.declared.bodies.Body.{Body}
 use Rattle.aml_text.specs.declared.bodies.Body.TheVariants as bodies
-use Rattle.aml_text.specs.Levels.{levels_of}
 use Rattle.aml_text.specs.declared.bodies.BodyText.{BodyText}
-use Rattle.aml_text.specs.Lines.{OneBody}
-use Rattle.aml_text.specs.Views.{IsText, body_view}
-use Rattle.acpidis.specs.Bodies.{AreEntries, AreTold, BecameOf}
+use Rattle.aml_text.specs.Views.{IsText}
+use Rattle.acpidis.specs.Bodies.{BecameOf}
 use Rattle.acpidis.specs.Checks.{same_bytes}
 
 -- of a body that reads as terms what they give, of a raw one its fault
@@ -40,36 +39,24 @@ AreKept Keeps [] (d ∷ ds) = ⊥
 AreKept Keeps (b ∷ bs) [] = ⊥
 AreKept Keeps (b ∷ bs) (d ∷ ds) = Keeps 0 b d × AreKept (λ n. Keeps (suc n)) bs ds
 
--- these are the bodies of a loaded set, and there are no others
-pub record AreBodies (z : Bool) (x : Loaded) (bs : List Body) : Type 0 where
-  pub sound : (es : List Entry) → StandsFor x.space es
-      → AreEntries z es (codes_view x.tables.items) x.methods.items (map body_view bs)
-  pub one : (es : List Entry) → StandsFor x.space es → (cs : List OneBody)
-      → AreEntries z es (codes_view x.tables.items) x.methods.items cs → cs ≡ map body_view bs
-  pub told : (es : List Entry) → StandsFor x.space es → AreTold z es (codes_view x.tables.items) x.methods.items bs
-
--- what is kept of the bodies of a loaded set
-pub record AreKeptOf {X : Type 0} (Keeps : ℕ → Body → X → Type 0) (z : Bool) (x : Loaded) (ds : List X) : Type 0 where
-  pub bodies : List Body
-  pub are : AreBodies z x bodies
-  pub kept : AreKept Keeps bodies ds
+-- what is kept of the bodies of a loaded set: something of each
+abbrev pub AreKeptOf : {X : Type 0} → (ℕ → Body → X → Type 0) → Bool → Loaded → List X → Type 0
+AreKeptOf {X} Keeps z x ds =
+    (length ds ≡ length x.methods.items) × ((n : ℕ) (d : X) → slice_get ds n ≡ Some d
+    → KeptOf (Keeps n) z x.space (codes_view x.tables.items) x.methods.items n d)
 
 -- their lines at these levels, or their terms
 abbrev pub HasTexts : List ℕ → ℕ → Body → Result BodyText CodeFault → Type 0
 HasTexts levels n = IsKept (IsText (get_or levels n 0))
 
-abbrev pub AreTexts : Bool → Loaded → List (Result BodyText CodeFault) → Type 0
-AreTexts z x = AreKeptOf (HasTexts (levels_of (trees_view x.trees.items))) z x
-
 -- whether they encode to their bytes
 abbrev pub HasTrials : List (List ℕ) → List Method → ℕ → Body → Result Bool CodeFault → Type 0
 HasTrials codes ms n = IsKept (IsSame (body_in codes (slice_get ms n)))
 
-abbrev pub AreTrials : Bool → Loaded → List (Result Bool CodeFault) → Type 0
-AreTrials z x = AreKeptOf (HasTrials (codes_view x.tables.items) x.methods.items) z x
-
 -- whether a fault is kept
+abbrev pub is_fault : {X : Type 0} → Result X CodeFault → Bool
+is_fault (Ok x) = false
+is_fault (Err fault) = true
+
 abbrev pub has_fault : {X : Type 0} → List (Result X CodeFault) → Bool
-has_fault [] = false
-has_fault (Ok x ∷ ds) = has_fault ds
-has_fault (Err fault ∷ ds) = true
+has_fault ds = list_any is_fault ds

@@ -8,11 +8,13 @@ use Rattle.aml_space.specs.Entries.{Entry}
 use Rattle.aml_space.specs.Known.{kinds_in}
 use Rattle.aml_load.specs.Loading.{Listed, IsLoad, methods_of}
 use Rattle.aml_load.specs.Views.{HoldsLoad}
+use Rattle.aml_load.specs.declared.loading.Loaded.{Loaded}
 use Rattle.aml_text.specs.Lines.{OneBody}
 use Rattle.aml_text.specs.Listing.{listing_text}
 use Rattle.aml_text.specs.Views.{body_view}
 use Rattle.aml_text.specs.declared.listing.Listing.{Listing}
 use Rattle.acpi_tables.specs.declared.dump.Dump.{Dump}
+use Rattle.acpi_tables.specs.declared.order.Order.{Order}
 use Rattle.acpi_tables.specs.Order.{IsOrder}
 use Rattle.acpidis.specs.declared.options.Options.{Options}
 use Rattle.acpidis.specs.Tables.{codes_in}
@@ -34,13 +36,17 @@ order_of k = k.dsdt ∷ k.ssdts
 abbrev pub codes_of : List Dump → Meaning → List (List ℕ)
 codes_of dumps k = codes_in dumps (order_of k)
 
--- The dumps mean this listing, with these options: its order is theirs, its trees are what the tables' AML reads as,
--- and load to its entries, and each body is the terms that it reads as in the namespace of all entries, or raw, where
--- it reads as no terms.
-pub record Means (dumps : List Dump) (options : Options) (k : Meaning) : Type 0 where
+-- The dumps have this order, and the tables' AML reads as these trees, which load to these entries. Nothing is said of
+-- the bodies of methods.
+pub record LoadsSet (dumps : List Dump) (options : Options) (k : Meaning) : Type 0 where
   pub order : IsOrder dumps options.any_sum k.dsdt k.ssdts
   pub loads : IsLoad options.externals.items (codes_of dumps k) k.trees k.listed
-  pub entries : AreEntries options.unknown_zero k.listed.entries (codes_of dumps k) (methods_of k.listed.entries)
+
+-- The dumps mean this listing, with these options: they load to it, and each body is the terms that it reads as in the
+-- namespace of all entries, or raw, where it reads as no terms.
+pub record Means (dumps : List Dump) (options : Options) (k : Meaning) : Type 0 where
+  pub set : LoadsSet dumps options k
+  pub bodies : AreEntries options.unknown_zero k.listed.entries (codes_of dumps k) (methods_of k.listed.entries)
       k.bodies
 
 -- the rows of the namespace: the declared paths in order, each once, with its kind
@@ -53,12 +59,16 @@ text_of dumps k = listing_text dumps (order_of k) (rows_of k.listed.entries) (co
 
 -- ---- a listing in memory
 
+-- an order and a loaded set are those of this listing
+pub record HoldsSet (order : Order) (loaded : Loaded) (dumps : List Dump) (k : Meaning) : Type 0 where
+  pub dsdt : order.dsdt ≡ k.dsdt
+  pub ssdts : order.ssdts.items ≡ k.ssdts
+  pub holds : HoldsLoad loaded (codes_of dumps k) k.trees k.listed
+
 -- it is this listing
 pub record Shows (x : Listing) (dumps : List Dump) (k : Meaning) : Type 0 where
   pub same_dumps : x.dumps.now ≡ dumps
-  pub dsdt : x.order.dsdt ≡ k.dsdt
-  pub ssdts : x.order.ssdts.items ≡ k.ssdts
-  pub holds : HoldsLoad x.loaded (codes_of dumps k) k.trees k.listed
+  pub set : HoldsSet x.order x.loaded dumps k
   pub bodies : map body_view x.bodies.items ≡ k.bodies
 
 -- the fault of each of its raw bodies is true of it, and the first that is met

@@ -12,13 +12,16 @@ abbrev pub output_of : Bool → List Dump → Meaning → List ℕ
 output_of false dumps k = text_of dumps k
 output_of true dumps k = checks_text dumps k
 
--- The dumps have this text: that of a listing that they mean. The status that goes with it is 3 where a body is raw,
--- else 0.
+-- the status that goes with it: 3 where a body is raw, else 0
+abbrev pub status_with : Meaning → ℕ
+status_with k = cond (has_raw k.bodies) 3 0
+
+-- The dumps have this text: that of a listing that they mean.
 pub record Lists (dumps : List Dump) (options : Options) (check : Bool) (status : ℕ) (text : List ℕ) : Type 0 where
   pub listing : Meaning
   pub means : Means dumps options listing
   pub text_is : text ≡ output_of check dumps listing
-  pub status_is : status ≡ cond (has_raw listing.bodies) 3 0
+  pub status_is : status ≡ status_with listing
 
 -- the first bytes of the text went out, and not all
 pub record IsCut (dumps : List Dump) (options : Options) (check : Bool) (before after : Option (List ℕ)) : Type 0 where

@@ -1,28 +1,36 @@
 -- A stepping stone of the proofs of `check`: the methods of tables, counted one after the other.
-use Rattle.std.specs.Prelude.{◌≡◌, ℕ, zero, suc, ◌+◌, ◌<◌, Bool, true, false, ◌&&◌, List, [], ◌∷◌, length, Option, Some}
-use Rattle.std.specs.Prelude.{None, Result, Ok, Err}
+use Rattle.std.specs.Prelude.{ℕ, zero, suc, ◌+◌, ◌<◌, Bool, true, false, cond, ◌&&◌, List, [], ◌∷◌, length, filter, map}
+use Rattle.std.specs.Prelude.{zip, All, Result, Ok, Err}
+use Rattle.std.specs.List.{list_all}
 use Rattle.aml_names.specs.declared.faults.CodeFault.{CodeFault}
 use Rattle.aml_code.specs.Encoding.{encodings}
 use Rattle.aml_load.specs.declared.methods.Method.{Method}
-use Rattle.aml_load.specs.Views.{span_of}
-use Rattle.aml_text.specs.Lines.{OneBody, OneBlock}
-use Rattle.acpidis.specs.Checks.{same_bytes, body_same, is_raw, one_if, methods_in, raws_in, bodies_same}
+use Rattle.aml_text.specs.Lines.{OneBlock}
+use Rattle.acpidis.specs.Checks.{same_bytes, marks_in}
 use Rattle.acpidis.specs.declared.checking.Checked.{Checked}
+use Rattle.acpidis.specs.declared.checking.Mark.{Mark}
 
--- every count is below n
+-- both counts are below n, and those of each table are
+abbrev pub IsUnder : ℕ → Checked → Type 0
+IsUnder n c = (c.methods < n) × (c.raw < n)
+
 abbrev pub Under : ℕ → List Checked → Type 0
-Under n [] = Unit {0}
-Under n (c ∷ cs) = (c.methods < n) × (c.raw < n) × Under n cs
+Under n cs = All (IsUnder n) cs
 
 -- one method more
-abbrev pub added : Bool → Bool → Checked → Checked
-added raw same c = record { bytes = c.bytes; methods = c.methods + 1; raw = c.raw + one_if raw; same = c.same && same }
+abbrev pub added : Mark → Checked → Checked
+added m c = record {
+  bytes = c.bytes;
+  methods = c.methods + 1;
+  raw = c.raw + cond m.raw 1 0;
+  same = c.same && m.same;
+}
 
 -- one method more of the table at this place
-abbrev pub added_at : ℕ → Bool → Bool → List Checked → List Checked
-added_at n raw same [] = []
-added_at zero raw same (c ∷ cs) = added raw same c ∷ cs
-added_at (suc n) raw same (c ∷ cs) = c ∷ added_at n raw same cs
+abbrev pub added_at : ℕ → Mark → List Checked → List Checked
+added_at n m [] = []
+added_at zero m (c ∷ cs) = added m c ∷ cs
+added_at (suc n) m (c ∷ cs) = c ∷ added_at n m cs
 
 -- what is said of a table before its methods are counted
 abbrev pub uncounted : OneBlock → Checked
@@ -33,34 +41,27 @@ uncounted b = record {
   same = same_bytes (encodings b.code b.terms) b.code;
 }
 
--- what is said of table t when these methods are counted too
-abbrev pub tally : List (List ℕ) → List Method → List OneBody → ℕ → Checked → Checked
-tally codes ms bs t c =
+-- and when these are counted too
+abbrev pub tally : List Mark → Checked → Checked
+tally inside c =
     record {
       bytes = c.bytes;
-      methods = c.methods + methods_in t ms;
-      raw = c.raw + raws_in t ms bs;
-      same = c.same && bodies_same codes t ms bs;
+      methods = c.methods + length inside;
+      raw = c.raw + length (filter (λ m. m.raw) inside);
+      same = c.same && list_all (λ m. m.same) inside;
     }
 
 -- of the tables from number t on
-abbrev pub tallied : List (List ℕ) → List Method → List OneBody → ℕ → List Checked → List Checked
-tallied codes ms bs t [] = []
-tallied codes ms bs t (c ∷ cs) = tally codes ms bs t c ∷ tallied codes ms bs (suc t) cs
+abbrev pub tallied : List Mark → ℕ → List Checked → List Checked
+tallied marks t [] = []
+tallied marks t (c ∷ cs) = tally (marks_in t marks) c ∷ tallied marks (suc t) cs
 
 -- ---- what was tried of bodies
 
--- whether a body is raw, and whether its terms are the same; where nothing was tried, a body that is no other's
-abbrev pub mark_of : Option (Result Bool CodeFault) → Bool × Bool
-mark_of None = (false, true)
-mark_of (Some (Ok same)) = (false, same)
-mark_of (Some (Err fault)) = (true, true)
+-- what that says of the body's method
+abbrev pub tried_mark : ℕ → Result Bool CodeFault → Mark
+tried_mark table (Ok same) = record { table = table; raw = false; same = same }
+tried_mark table (Err fault) = record { table = table; raw = true; same = true }
 
--- the bodies of these methods were tried so
-abbrev pub AreTried : List (List ℕ) → List Method → List OneBody → List (Result Bool CodeFault) → Type 0
-AreTried codes [] bs ds = Unit {0}
-AreTried codes (m ∷ ms) [] [] = Unit {0}
-AreTried codes (m ∷ ms) [] (d ∷ ds) = ⊥
-AreTried codes (m ∷ ms) (b ∷ bs) [] = ⊥
-AreTried codes (m ∷ ms) (b ∷ bs) (d ∷ ds) = (mark_of (Some d) ≡ (is_raw b, body_same (span_of codes m) b))
-    × AreTried codes ms bs ds
+abbrev pub tried_marks : List Method → List (Result Bool CodeFault) → List Mark
+tried_marks ms ds = map (λ p. tried_mark p.0.table p.1) (zip ms ds)

@@ -1,13 +1,9 @@
 //! The bodies of all methods, read by workers, and what is kept of them.
-ghost use Rattle.std.specs.Prelude.{◌≡◌, ◌≤◌, ℕ, List, IfOk, IfErr, length, map, slice_get};
-ghost use Rattle.aml_space.specs.Entries.{Entry};
-ghost use Rattle.aml_space.specs.Known.{StandsFor};
+ghost use Rattle.std.specs.Prelude.{◌≡◌, ◌≤◌, ℕ, List, IfOk, IfErr, length, slice_get};
 ghost use Rattle.aml_load.specs.Views.{codes_view, AreShort, body_in};
 ghost use Rattle.aml_text.specs.declared.bodies.Body.{Body};
-ghost use Rattle.aml_text.specs.Lines.{OneBody};
-ghost use Rattle.aml_text.specs.Views.{body_view};
 ghost use Rattle.acpidis.specs.Refusals.{IsWant};
-ghost use Rattle.acpidis.specs.Bodies.{AreEntries, AreTold, CanRead, BecameOf, AreDrawn, IsReading};
+ghost use Rattle.acpidis.specs.Bodies.{AreBodies, CanRead, BecameOf, AreDrawn, IsReading};
 ghost use Rattle.acpidis.specs.Kept.{KeptOf, AreKeptOf};
 
 use crate::refusal::Refusal;
@@ -191,17 +187,9 @@ pub(crate) fn read_bodies<R: Threads + Wait + Sync, G: Gate + Sync>(
     requires short { AreShort (codes_view loaded.now.tables.items) }
     requires few { length loaded.now.methods.items ≤ 1048576 }
 
-    // There is one for each method: its terms, or its bytes where it reads as none.
-    ensures sound { (es : List Entry) → StandsFor loaded.now.space es → IfOk result (λ r.
-        AreEntries unknown_zero es (codes_view loaded.now.tables.items) loaded.now.methods.items
-        (map body_view r.items.items)) }
-    // There are no others.
-    ensures one { (es : List Entry) → StandsFor loaded.now.space es → IfOk result (λ r. (bs : List OneBody) →
-        AreEntries unknown_zero es (codes_view loaded.now.tables.items) loaded.now.methods.items bs →
-        bs ≡ map body_view r.items.items) }
-    // The fault of a raw body is true of it, and the first that is met.
-    ensures told { (es : List Entry) → StandsFor loaded.now.space es → IfOk result (λ r.
-        AreTold unknown_zero es (codes_view loaded.now.tables.items) loaded.now.methods.items r.items.items) }
+    // Each method has what its body reads as, and no other.
+    ensures bodies { IfOk result (λ r. AreBodies unknown_zero loaded.now r.items.items) }
+    ensures each { IfOk result (λ r. length r.items.items ≡ length loaded.now.methods.items) }
     // Each method was drawn by one worker, once.
     ensures drawn { IfOk result (λ r. AreDrawn workers (length loaded.now.methods.items) r.drawn.items) }
     // A refusal says nothing of the set; one worker needs no thread.

@@ -45,11 +45,8 @@ fn print_check<W: Write>(out: &mut Out<'_, W>, name: &[u8], checked: Checked)
 fn print_checks<W: Write>(out: &mut Out<'_, W>, tables: Tables<'_, '_>, checks: &[Checked])
     ensures { Prints W.contents out.old out.new (check_lines (blocks_at tables.entry) checks.now) }
 {
-    for table in 0..checks.len() {
-        let Some(block) = block_at(tables, table) else {
-            return;
-        };
-        print_check(out, block.name, checks[table]);
+    for table in 0..tables.loaded.tables.len().min(checks.len()) {
+        print_check(out, block_at(tables, table).name, checks[table]);
     }
 }
 

@@ -1,11 +1,10 @@
 //! Whether what was read encodes to the same bytes again.
-ghost use Rattle.std.specs.Prelude.{◌≡◌, ℕ, ◌≤◌, ◌<◌, List, IfOk, length, map, slice_get};
+ghost use Rattle.std.specs.Prelude.{◌≡◌, ◌≤◌, ◌<◌, IfOk, OnOk, length, map};
 ghost use Rattle.aml_load.specs.Views.{codes_view, AreShort};
-ghost use Rattle.aml_text.specs.Lines.{OneBody};
 ghost use Rattle.aml_text.specs.Listing.{blocks_at};
 ghost use Rattle.aml_text.specs.Views.{body_view, block_view};
-ghost use Rattle.acpidis.specs.Checks.{checks_from, checks_of};
-ghost use Rattle.acpidis.specs.Tallies.{Under, added, added_at, uncounted, tallied, mark_of, AreTried};
+ghost use Rattle.acpidis.specs.Checks.{marks_of, checks_from, checks_of};
+ghost use Rattle.acpidis.specs.Tallies.{Under, added, added_at, uncounted, tallied, tried_mark, tried_marks};
 
 use crate::trials::{is_encoding, try_body};
 use aml_code::{CodeFault, NoMemory};
@@ -26,17 +25,46 @@ pub struct Checked {
     pub same: bool,
 }
 
+/// What is said of a method: the number of its table, and whether its body is raw, and the same.
+#[derive(Clone, Copy)]
+pub(crate) struct Mark {
+    table: usize,
+    raw: bool,
+    same: bool,
+}
+
+impl Mark {
+    /// By what was tried of its body.
+    fn of(method: &Method, tried: &Result<bool, CodeFault>) -> Mark
+        ensures { result ≡ tried_mark method.now.table tried.now }
+    {
+        let table = method.table;
+        match tried {
+            Ok(same) => Mark {
+                table,
+                raw: false,
+                same: *same,
+            },
+            Err(_) => Mark {
+                table,
+                raw: true,
+                same: true,
+            },
+        }
+    }
+}
+
 impl Checked {
     /// The same with one method more.
-    fn with_method(self, raw: bool, same: bool) -> Checked
+    fn with_method(self, mark: Mark) -> Checked
         requires { (self.methods < 1048576) × (self.raw < 1048576) }
-        ensures { result ≡ added raw same self }
+        ensures { result ≡ added mark self }
     {
         Checked {
             bytes: self.bytes,
             methods: self.methods + 1,
-            raw: self.raw + u32::from(raw),
-            same: self.same && same,
+            raw: self.raw + u32::from(mark.raw),
+            same: self.same && mark.same,
         }
     }
 }
@@ -62,45 +90,31 @@ fn check_blocks(alloc: Global, tables: Tables<'_, '_>) -> Result<Vec<Checked>, N
 {
     let mut all = Vec::new(alloc);
     for table in 0..tables.loaded.tables.len() {
-        let Some(block) = block_at(tables, table) else {
-            return Ok(all);
-        };
+        let block = block_at(tables, table);
         all.push(check_block(alloc, &block)?)?;
     }
     Ok(all)
 }
 
-/// Counts a method of a table.
-fn count_method(all: &mut [Checked], table: usize, raw: bool, same: bool)
-    requires { Under 1048576 all.old }
-    ensures { all.new ≡ added_at table raw same all.old }
+/// Counts a method of its table.
+fn count_method(all: &mut Vec<Checked>, mark: Mark)
+    requires { Under 1048576 all.old.items }
+    ensures { all.new.items ≡ added_at mark.table mark all.old.items }
 {
-    if table < all.len() {
-        all[table] = all[table].with_method(raw, same);
-    }
-}
-
-/// Whether a body is raw, and whether its terms are the same, by what was tried.
-fn mark_at(tried: &[Result<bool, CodeFault>], number: usize) -> (bool, bool)
-    ensures { result ≡ mark_of (slice_get tried.now number) }
-{
-    match tried.get(number) {
-        None => (false, true),
-        Some(Ok(same)) => (false, *same),
-        Some(Err(_)) => (true, true),
+    if mark.table < all.len() {
+        all[mark.table] = all[mark.table].with_method(mark);
     }
 }
 
 /// Counts the methods of each table, by what was tried of their bodies.
-fn count_methods(methods: &[Method], tried: &[Result<bool, CodeFault>], all: &mut [Checked])
+fn count_methods(methods: &[Method], tried: &[Result<bool, CodeFault>], all: &mut Vec<Checked>)
+    requires each { length tried.now ≡ length methods.now }
     requires few { length methods.now ≤ 1048576 }
-    requires new { Under 1 all.old }
-    ensures { (codes : List (List ℕ)) (bs : List OneBody) → AreTried codes methods.now bs tried.now →
-        all.new ≡ tallied codes methods.now bs 0 all.old }
+    requires new { Under 1 all.old.items }
+    ensures { all.new.items ≡ tallied (tried_marks methods.now tried.now) 0 all.old.items }
 {
     for number in 0..methods.len() {
-        let (raw, same) = mark_at(tried, number);
-        count_method(all, methods[number].table, raw, same);
+        count_method(all, Mark::of(&methods[number], &tried[number]));
     }
 }
 
@@ -112,34 +126,33 @@ pub(crate) fn check_tables(
 ) -> Result<Vec<Checked>, NoMemory>
     requires short { AreShort (codes_view tables.loaded.now.tables.items) }
     requires few { length tables.loaded.now.methods.items ≤ 1048576 }
-    ensures { IfOk result (λ all. (bs : List OneBody) →
-        AreTried (codes_view tables.entry.loaded.now.tables.items)
-        tables.entry.loaded.now.methods.items bs tried.now →
-        all.items ≡ checks_from (codes_view tables.entry.loaded.now.tables.items)
-        tables.entry.loaded.now.methods.items bs 0 (blocks_at tables.entry)) }
+    requires each { length tried.now ≡ length tables.loaded.now.methods.items }
+    ensures { IfOk result (λ all. all.items ≡
+        checks_from (tried_marks tables.entry.loaded.now.methods.items tried.now) 0 (blocks_at tables.entry)) }
 {
     let mut all = check_blocks(alloc, tables)?;
-    count_methods(tables.loaded.methods.as_slice(), tried, all.as_mut_slice());
+    count_methods(tables.loaded.methods.as_slice(), tried, &mut all);
     Ok(all)
 }
 
-/// What is tried of the bodies of a listing.
-fn try_listed(
+/// Tries the bodies of a listing, and counts the methods of each table.
+fn count_listed(
     alloc: Global,
     listing: &Listing<'_>,
-) -> Result<Vec<Result<bool, CodeFault>>, NoMemory>
+    all: &mut Vec<Checked>,
+) -> Result<(), NoMemory>
     requires few { length listing.now.loaded.methods.items ≤ 1048576 }
-    ensures { IfOk result (λ tried. AreTried (codes_view listing.now.loaded.tables.items)
-        listing.now.loaded.methods.items (map body_view listing.now.bodies.items) tried.items) }
+    requires new { Under 1 all.old.items }
+    ensures { OnOk result (all.new.items ≡ tallied
+        (marks_of (codes_view listing.now.loaded.tables.items) listing.now.loaded.methods.items
+        (map body_view listing.now.bodies.items)) 0 all.old.items) }
 {
-    let mut tried = Vec::new(alloc);
-    for number in 0..listing.loaded.methods.len() {
-        let Some(body) = listing.bodies.get(number) else {
-            return Ok(tried);
-        };
-        tried.push(try_body(alloc, listing.loaded.body(number as u32), body)?)?;
+    let loaded = &listing.loaded;
+    for number in 0..loaded.methods.len() {
+        let tried = try_body(alloc, loaded.body(number as u32), &listing.bodies[number])?;
+        count_method(all, Mark::of(&loaded.methods[number], &tried));
     }
-    Ok(tried)
+    Ok(())
 }
 
 /// Whether each loaded table is the same when it is made anew from what was read: its terms, and those of its methods'
@@ -150,6 +163,7 @@ pub fn check(alloc: Global, listing: &Listing<'_>) -> Result<Vec<Checked>, NoMem
     requires few { length listing.now.loaded.methods.items ≤ 1048576 }
     ensures { IfOk result (λ all. all.items ≡ checks_of listing.now) }
 {
-    let tried = try_listed(alloc, listing)?;
-    check_tables(alloc, listing.tables(), tried.as_slice())
+    let mut all = check_blocks(alloc, listing.tables())?;
+    count_listed(alloc, listing, &mut all)?;
+    Ok(all)
 }

@@ -1,12 +1,12 @@
 //! From the dumps of a set to its listing, the bodies read by workers.
-ghost use Rattle.std.specs.Prelude.{◌≡◌, ◌⊎◌, ◌≤◌, ℕ, Bool, true, List, ◌∷◌, map, IfOk, IfErr, get_or, length};
+ghost use Rattle.std.specs.Prelude.{◌≡◌, ◌⊎◌, ◌≤◌, ℕ, Bool, true, List, ◌∷◌, IfOk, IfErr, get_or, length};
 ghost use Rattle.aml_code.specs.Tree.{Trees};
 ghost use Rattle.aml_load.specs.Loading.{Listed, IsLoad};
 ghost use Rattle.aml_load.specs.Views.{codes_view, AreShort, HoldsLoad};
 ghost use Rattle.acpi_tables.specs.Order.{AreTables, AreTaken, IsOrder};
 ghost use Rattle.acpidis.specs.Bodies.{AreDrawn};
-ghost use Rattle.acpidis.specs.Meaning.{Meaning, Means, Shows, Told};
-ghost use Rattle.acpidis.specs.Sets.{LoadsSet, HoldsSet};
+ghost use Rattle.acpidis.specs.Meaning.{Meaning, LoadsSet, HoldsSet, Means, Shows, Told};
+ghost use Rattle.aml_text.specs.Matched.{AreMatched};
 ghost use Rattle.acpidis.specs.Refusals.{IsWant, load_refusal, TellsTable, TellsLoad, TellsBlocks};
 
 use crate::bodies::read_bodies;
@@ -112,15 +112,12 @@ pub(crate) fn load_set<'a>(
     dumps: &'a [Dump],
     options: &Options,
 ) -> Result<(Order, Loaded<'a>), Refusal>
-    ensures sound { IfOk result (λ x. (dsdt : ℕ) × (ssdts : List ℕ) × (trees : List Trees) × (m : Listed) ×
-        LoadsSet dumps.now options.now dsdt ssdts trees m × HoldsSet x.0 x.1 dumps.now dsdt ssdts trees m) }
-    ensures one { IfOk result (λ x. (dsdt : ℕ) (ssdts : List ℕ) (trees : List Trees) (m : Listed) →
-        LoadsSet dumps.now options.now dsdt ssdts trees m → HoldsSet x.0 x.1 dumps.now dsdt ssdts trees m) }
+    ensures sound { IfOk result (λ x. (k : Meaning) × LoadsSet dumps.now options.now k × HoldsSet x.0 x.1 dumps.now k) }
+    ensures one { IfOk result (λ x. (k : Meaning) → LoadsSet dumps.now options.now k → HoldsSet x.0 x.1 dumps.now k) }
+    ensures matched { IfOk result (λ x. AreMatched x.0 x.1) }
     ensures few { IfOk result (λ x. length x.1.methods.items ≤ 1048576) }
     ensures short { IfOk result (λ x. AreShort (codes_view x.1.tables.items)) }
-    ensures complete { IfErr result (λ e. IsWant e ⊎
-        ((dsdt : ℕ) (ssdts : List ℕ) (trees : List Trees) (m : Listed) →
-        ¬ LoadsSet dumps.now options.now dsdt ssdts trees m)) }
+    ensures complete { IfErr result (λ e. IsWant e ⊎ ((k : Meaning) → ¬ LoadsSet dumps.now options.now k)) }
     ensures true_table { IfErr result (TellsTable dumps.now options.now.any_sum) }
     ensures true_load { IfErr result (TellsBlocks dumps.now options.now) }
 {

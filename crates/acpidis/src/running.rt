@@ -121,7 +121,7 @@ fn run_listing<R: Threads + Wait + Sync, G: Gate + Sync, O: Write, E: Write>(
     err: &mut E,
 ) -> Result<u8, RunFault>
     requires workers { (1 ≤ workers) × (workers ≤ 64) }
-    requires set { IsSet options.now set }
+    requires set { IsSet set.dumps.now options.now set.order.now set.loaded.now }
     ensures { Ends set.entry.dumps.now options.now false (O.contents out.old) (O.contents out.new) result }
 {
     let levels = body_levels(alloc, set.loaded.trees.as_slice())?;
@@ -156,7 +156,7 @@ fn run_checks<R: Threads + Wait + Sync, G: Gate + Sync, O: Write, E: Write>(
     err: &mut E,
 ) -> Result<u8, RunFault>
     requires workers { (1 ≤ workers) × (workers ≤ 64) }
-    requires set { IsSet options.now set }
+    requires set { IsSet set.dumps.now options.now set.order.now set.loaded.now }
     ensures { Ends set.entry.dumps.now options.now true (O.contents out.old) (O.contents out.new) result }
 {
     let found = keep_bodies(

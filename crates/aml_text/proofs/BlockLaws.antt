@@ -17,8 +17,8 @@ use Rattle.aml_code.specs.View.{node_view, nodes_view, parts_view, tail_view, fi
 use Rattle.aml_code.proofs.Views.{view-Nothing, view-Named, view-Op, view-tail-Empty, view-tail-Terms, view-tail-Bytes, view-tail-Elements, view-tail-Fields}
 use Rattle.aml_code.proofs.Views.{view-tail-Body}
 use Rattle.aml_text.specs.Texts.{head_text, part_texts}
-use Rattle.aml_text.specs.Lines.{deeper, lines, op_lines, opening, closing, method_text, method_head, OneBlock, BodyLines, first_lines, left, left_rest}
-use Rattle.aml_text.specs.Lines.{left_all, table_lines, table_op_lines, all_table_lines, block_text, blocks_text}
+use Rattle.aml_text.specs.Lines.{deeper, lines, op_lines, opening, closing, method_text, method_head, BodyLines, first_lines, left, left_rest}
+use Rattle.aml_text.specs.Lines.{left_all, table_lines, table_op_lines, all_table_lines}
 use Rattle.aml_text.specs.Views.{node_lines}
 
 pub head_unnamed : (o : Option Name) (f : Option ℕ) (other : List ℕ) → o ≡ None → method_head o f other ≡ other
@@ -150,14 +150,3 @@ pub table_turn : (code : List ℕ) (level : ℕ) (n : Node) (ns : List Node) (bs
 table_turn code level n ns bs rest done total e so_far =
     ap (λ (r : List BodyLines). (done ++ table_lines code level (node_view n) bs) ++ all_table_lines code level (nodes_view ns) r) e
     ∙ append_assoc done (table_lines code level (node_view n) bs) (all_table_lines code level (nodes_view ns) (left (node_view n) bs)) ∙ so_far
-
--- ---- definition blocks
-
--- what was printed, and the blocks that are still to be
-pub blocks_turn : (b : OneBlock) (others : List OneBlock) (bs rest : List BodyLines) (done total : List ℕ)
-    → rest ≡ left_all b.terms bs → done ++ blocks_text (b ∷ others) bs ≡ total
-    → (done ++ block_text b.name b.code b.terms bs) ++ blocks_text others rest ≡ total
-blocks_turn b others bs rest done total e so_far =
-    let first = block_text b.name b.code b.terms bs in
-    ap (λ (r : List BodyLines). (done ++ first) ++ blocks_text others r) e
-    ∙ append_assoc done first (blocks_text others (left_all b.terms bs)) ∙ so_far

@@ -4,6 +4,7 @@ pub mod LineLaws
 pub mod BlockLaws
 pub mod BodyLaws
 pub mod LevelLaws
+pub mod Pairs
 pub mod ListingLaws
 mod EndLaws
 pub mod Taking

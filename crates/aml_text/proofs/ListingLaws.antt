@@ -1,101 +1,68 @@
--- The definition blocks of a listing, one by one.
-use Rattle.std.specs.Prelude.{slice_get, option_map}
-use Rattle.std.specs.FinMap as finmap
-use Rattle.std.proofs.Common.{◌≡◌, ℕ, zero, suc, ◌+◌, ◌<◌, ◌≤◌, List, [], ◌∷◌, ◌++◌, length, get_or, drop, map, Option, Some, None, refl, sym, ap, ◌∙◌, add-one}
-use Rattle.std.proofs.Common.{arith}
-use Rattle.std.proofs.lemmas.List.{append-nil, length-map}
-use Rattle.std.proofs.lemmas.Option.{slice_get-map, slice_get_past, slice_get_read, slice_get_within, get_or_from_slice_get}
-use Rattle.std.proofs.Math.Seq.{drop-cons}
+-- The definition blocks of tables that go together: as many as the tables, and at each place the block of the name, the
+-- AML and the terms there. So a loop over the places prints them all.
+use Rattle.std.specs.Prelude.{slice_index, zip}
+use Rattle.std.specs.Global.{Vec}
+use denote.Ref.{Bor}
+use Rattle.std.proofs.Common.{◌≡◌, ℕ, ◌+◌, ◌<◌, List, ◌∷◌, ◌++◌, length, get_or, drop, sym, ap, ◌∙◌, append_assoc, arith}
+use Rattle.std.proofs.lemmas.List.{length-map, get_or-map, drop_more}
+use Rattle.std.proofs.lemmas.Slice.Zip.{length-zip, get_or-zip}
+use Rattle.aml_code.specs.declared.tree.Node.{Node}
+use Rattle.aml_code.specs.View.{nodes_view}
 use Rattle.acpi_tables.specs.declared.dump.Dump.{Dump}
+use Rattle.acpi_tables.specs.declared.order.Order.{Order}
 use Rattle.acpi_tables.specs.Order.{name_of}
-use Rattle.aml_names.specs.declared.segments.Seg.{Seg}
-use Rattle.aml_code.specs.Tree.{Trees}
-use Rattle.aml_space.specs.declared.kinds.Kind.{Kind}
 use Rattle.aml_load.specs.Views.{codes_view, trees_view}
-use Rattle.aml_text.specs.declared.listing.Listing.{Listing}
-use Rattle.aml_text.specs.Lines.{OneBlock, OneBody, BodyLines, blocks_text}
-use Rattle.aml_text.specs.Listing.{names_in, blocks_of, listing_text, indexes_in, shown_text}
-use Rattle.aml_text.specs.Views.{body_view}
+use Rattle.aml_load.specs.declared.loading.Loaded.{Loaded}
+use Rattle.aml_text.specs.Lines.{OneBlock, BodyLines, left_all, block_text, blocks_text}
+use Rattle.aml_text.specs.Matched.{indexes_in, AreMatched}
+use Rattle.aml_text.specs.Listing.{names_in, a_block, blocks_with}
+use Rattle.aml_text.proofs.Pairs.{pairs_many, pair_there}
 
--- ---- the block at a place
+module _ (dumps : List Dump) (order : Order) (loaded : Loaded) (matched : AreMatched order loaded) where
+  with_terms : length (trees_view loaded.trees.items) ≡ length (codes_view loaded.tables.items)
+  with_terms = length-map loaded.trees.items (λ t. nodes_view t.items) ∙ matched.1 ∙ sym (length-map loaded.tables.items (λ c. c.now))
 
-pub unnamed_block : (names codes : List (List ℕ)) (terms : List Trees) (i : ℕ) → slice_get names i ≡ None → slice_get (blocks_of names codes terms) i ≡ None
-unnamed_block [] codes terms i none = refl
-unnamed_block (n ∷ names) [] terms i none = refl
-unnamed_block (n ∷ names) (c ∷ codes) [] i none = refl
-unnamed_block (n ∷ names) (c ∷ codes) (t ∷ terms) zero none = absurd cc
-unnamed_block (n ∷ names) (c ∷ codes) (t ∷ terms) (suc i) none = unnamed_block names codes terms i none
+  named : length (zip (codes_view loaded.tables.items) (trees_view loaded.trees.items)) ≡ length (names_in dumps (indexes_in order))
+  named =
+      omega (
+        arith,
+        length-zip (codes_view loaded.tables.items) (trees_view loaded.trees.items),
+        with_terms,
+        length-map loaded.tables.items (λ c. c.now),
+        matched.0,
+        length-map (indexes_in order) (name_of dumps),
+      )
 
-pub uncoded_block : (names codes : List (List ℕ)) (terms : List Trees) (i : ℕ) → slice_get codes i ≡ None → slice_get (blocks_of names codes terms) i ≡ None
-uncoded_block [] codes terms i none = refl
-uncoded_block (n ∷ names) [] terms i none = refl
-uncoded_block (n ∷ names) (c ∷ codes) [] i none = refl
-uncoded_block (n ∷ names) (c ∷ codes) (t ∷ terms) zero none = absurd cc
-uncoded_block (n ∷ names) (c ∷ codes) (t ∷ terms) (suc i) none = uncoded_block names codes terms i none
+  pub blocks_many : length (blocks_with dumps order loaded) ≡ length loaded.tables.items
+  blocks_many = pairs_many a_block (names_in dumps (indexes_in order)) (zip (codes_view loaded.tables.items) (trees_view loaded.trees.items)) named
+      ∙ length-map (indexes_in order) (name_of dumps) ∙ sym matched.0
 
-pub unread_block : (names codes : List (List ℕ)) (terms : List Trees) (i : ℕ) → slice_get terms i ≡ None → slice_get (blocks_of names codes terms) i ≡ None
-unread_block [] codes terms i none = refl
-unread_block (n ∷ names) [] terms i none = refl
-unread_block (n ∷ names) (c ∷ codes) [] i none = refl
-unread_block (n ∷ names) (c ∷ codes) (t ∷ terms) zero none = absurd cc
-unread_block (n ∷ names) (c ∷ codes) (t ∷ terms) (suc i) none = unread_block names codes terms i none
+  -- what a place has is the block there
+  pub block_is : (i : ℕ) (name : List ℕ) (code : Bor (List ℕ)) (tree : Vec Node) (other : OneBlock) → i < length loaded.tables.items
+      → name ≡ name_of dumps (slice_index (indexes_in order) i) → code ≡ get_or loaded.tables.items i code → tree ≡ get_or loaded.trees.items i tree
+      → record { name = name; code = code.now; terms = nodes_view tree.items } ≡ get_or (blocks_with dumps order loaded) i other
+  block_is i name code tree other inside n c t =
+      let terms = nodes_view tree.items in
+      let named_so : name ≡ get_or (names_in dumps (indexes_in order)) i name =
+      n ∙ sym (get_or-map (name_of dumps) (indexes_in order) i 0 name (omega (arith, matched.0))) in
+      let coded : code.now ≡ get_or (codes_view loaded.tables.items) i code.now =
+      ap (λ b. b.now) c ∙ sym (get_or-map (λ b. b.now) loaded.tables.items i code code.now inside) in
+      let read : terms ≡ get_or (trees_view loaded.trees.items) i terms =
+      ap (λ v. nodes_view v.items) t ∙ sym (get_or-map (λ v. nodes_view v.items) loaded.trees.items i tree terms (omega (arith, matched.1))) in
+      let pair : (code.now, terms) ≡ (get_or (codes_view loaded.tables.items) i code.now, get_or (trees_view loaded.trees.items) i terms) =
+      λ k. (coded k, read k) in
+      let rest = get_or-zip (codes_view loaded.tables.items) (trees_view loaded.trees.items) i (code.now, terms)
+      (omega (arith, length-map loaded.tables.items (λ b. b.now))) (omega (arith, with_terms, length-map loaded.tables.items (λ b. b.now))) in
+      pair_there a_block (names_in dumps (indexes_in order)) (zip (codes_view loaded.tables.items) (trees_view loaded.trees.items)) named i name
+      (code.now, terms) other (omega (arith, length-map (indexes_in order) (name_of dumps), matched.0)) named_so (pair ∙ sym rest)
 
-one_block : List ℕ → List ℕ → Trees → Option OneBlock
-one_block n c t = Some (record { name = n; code = c; terms = t })
-
-three : (m n c d : List ℕ) (t u : Trees) → Some m ≡ Some n → Some c ≡ Some d → Some t ≡ Some u → one_block m c t ≡ one_block n d u
-three m n c d t u p q r = cc
-
-pub whole_block : (names codes : List (List ℕ)) (terms : List Trees) (i : ℕ) (n c : List ℕ) (t : Trees) → slice_get names i ≡ Some n
-    → slice_get codes i ≡ Some c → slice_get terms i ≡ Some t
-    → slice_get (blocks_of names codes terms) i ≡ Some (record { name = n; code = c; terms = t })
-unfolding one_block
-whole_block [] codes terms i n c t p q r = absurd cc
-whole_block (m ∷ names) [] terms i n c t p q r = absurd cc
-whole_block (m ∷ names) (d ∷ codes) [] i n c t p q r = absurd cc
-whole_block (m ∷ names) (d ∷ codes) (u ∷ terms) zero n c t p q r = three m n d c u t p q r
-whole_block (m ∷ names) (d ∷ codes) (u ∷ terms) (suc i) n c t p q r = whole_block names codes terms i n c t p q r
-
--- the name of a table's file
-pub named : (dumps : List Dump) (order : List ℕ) (i index : ℕ) → slice_get order i ≡ Some index
-    → slice_get (names_in dumps order) i ≡ Some (name_of dumps index)
-named dumps order i index there = slice_get-map (name_of dumps) order i ∙ ap (option_map (name_of dumps)) there
-
-pub unnamed : (dumps : List Dump) (order : List ℕ) (i : ℕ) → slice_get order i ≡ None → slice_get (names_in dumps order) i ≡ None
-unnamed dumps order i none = slice_get-map (name_of dumps) order i ∙ ap (option_map (name_of dumps)) none
-
--- what is seen of an item of a slice
-pub seen_there : {X Y : Type 0} (view : X → Y) (xs slice : List X) (i : ℕ) (x : X) → slice ≡ xs → i < length slice → x ≡ get_or slice i x
-    → slice_get (map view xs) i ≡ Some (view x)
-seen_there view xs slice i x same inside is =
-    slice_get-map view xs i ∙ ap (option_map view) (ap (λ ys. slice_get ys i) (sym same) ∙ slice_get_read slice (length slice) i x refl inside is)
-
-pub seen_past : {X Y : Type 0} (view : X → Y) (xs slice : List X) (i : ℕ) → slice ≡ xs → length slice ≤ i → slice_get (map view xs) i ≡ None
-seen_past view xs slice i same past = slice_get_past (map view xs) i (omega (arith, length-map xs view, ap length same, past))
-
--- ---- one block after the other
-
-pub next_is : {X : Type 0} (xs : List X) (i : ℕ) (x : X) → slice_get xs i ≡ Some x → drop i xs ≡ x ∷ drop (i + 1) xs
-next_is xs i x there = rw add-one (drop-cons xs i x (slice_get_within xs i x there))
-    ∙ ap (λ first. first ∷ drop (i + 1) xs) (get_or_from_slice_get xs i x x there)
-
-pub none_left : {X : Type 0} (xs : List X) (i : ℕ) → slice_get xs i ≡ None → drop i xs ≡ []
-none_left [] zero none = refl
-none_left [] (suc i) none = refl
-none_left (x ∷ xs) zero none = absurd cc
-none_left (x ∷ xs) (suc i) none = none_left xs i none
-
--- what was printed is all, where no block is left
-pub blocks_end : (blocks : List OneBlock) (i : ℕ) (bs : List BodyLines) (done total : List ℕ) → slice_get blocks i ≡ None
-    → done ++ blocks_text (drop i blocks) bs ≡ total → done ≡ total
-blocks_end blocks i bs done total none so_far = sym (append-nil done) ∙ ap (λ left. done ++ blocks_text left bs) (sym (none_left blocks i none)) ∙ so_far
-
--- ---- the whole text
-
--- a listing's text is determined by its parts
-pub shown_is : (x : Listing) (dumps : List Dump) (order : List ℕ) (rows : List (List Seg × Kind)) (codes : List (List ℕ)) (terms : List Trees)
-    (bodies : List OneBody)
-    → x.dumps.now ≡ dumps → indexes_in x.order ≡ order → finmap.entries x.loaded.space.kinds ≡ rows → codes_view x.loaded.tables.items ≡ codes
-    → trees_view x.loaded.trees.items ≡ terms → map body_view x.bodies.items ≡ bodies
-    → shown_text x ≡ listing_text dumps order rows codes terms bodies
-shown_is x dumps order rows codes terms bodies d o r c t b = λ i. listing_text (d i) (o i) (r i) (c i) (t i) (b i)
+-- the block at a place is printed, and those behind it are still to be
+pub blocks_turn : (blocks : List OneBlock) (i : ℕ) (b : OneBlock) (bs rest : List BodyLines) (done total : List ℕ) → i < length blocks → b ≡ get_or blocks i b
+    → rest ≡ left_all b.terms bs → done ++ blocks_text (drop i blocks) bs ≡ total
+    → (done ++ block_text b.name b.code b.terms bs) ++ blocks_text (drop (i + 1) blocks) rest ≡ total
+blocks_turn blocks i b bs rest done total inside is e so_far =
+    let first = block_text b.name b.code b.terms bs in
+    let cut : drop i blocks ≡ b ∷ drop (i + 1) blocks = drop_more blocks i b inside ∙ ap (λ x. x ∷ drop (i + 1) blocks) (sym is) in
+    ap (λ (r : List BodyLines). (done ++ first) ++ blocks_text (drop (i + 1) blocks) r) e
+    ∙ append_assoc done first (blocks_text (drop (i + 1) blocks) (left_all b.terms bs))
+    ∙ ap (λ left. done ++ blocks_text left bs) (sym cut) ∙ so_far

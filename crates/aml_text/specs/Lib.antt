@@ -3,5 +3,6 @@ pub mod Texts
 pub mod Lines
 pub mod Views
 pub mod Rows
+pub mod Matched
 pub mod Listing
 pub mod Levels

@@ -1,5 +1,5 @@
 -- The text of a listing: the dumps, the namespace, and the definition blocks of the loaded tables.
-use Rattle.std.specs.Prelude.{◌≡◌, ℕ, List, [], ◌∷◌, ◌++◌, map as map_list}
+use Rattle.std.specs.Prelude.{◌≡◌, ℕ, List, ◌++◌, map as map_list, zip}
 use Rattle.std.specs.FinMap as map
 use Rattle.acpi_tables.specs.declared.dump.Dump.{Dump}
 use Rattle.acpi_tables.specs.declared.order.Order.{Order}
@@ -9,9 +9,11 @@ use Rattle.aml_code.specs.Tree.{Trees}
 use Rattle.aml_names.specs.declared.segments.Seg.{Seg}
 use Rattle.aml_space.specs.declared.kinds.Kind.{Kind}
 use Rattle.aml_load.specs.Views.{codes_view, trees_view}
+use Rattle.aml_load.specs.declared.loading.Loaded.{Loaded}
 use Rattle.aml_text.specs.declared.listing.Listing.{Listing}
 use Rattle.aml_text.specs.declared.listing.Tables.{Tables}
 use Rattle.aml_text.specs.Lines.{OneBody, OneBlock, BodyLines, body_lines, blocks_text}
+use Rattle.aml_text.specs.Matched.{indexes_in}
 use Rattle.aml_text.specs.Rows.{namespace_text}
 use Rattle.aml_text.specs.Views.{body_view}
 
@@ -19,12 +21,12 @@ use Rattle.aml_text.specs.Views.{body_view}
 abbrev pub names_in : List Dump → List ℕ → List (List ℕ)
 names_in dumps order = map_list (name_of dumps) order
 
--- the blocks of tables, by the names of their files, their AML and their terms
+-- a block, by the name of its table's file, its AML and its terms
+abbrev pub a_block : List ℕ × (List ℕ × Trees) → OneBlock
+a_block t = record { name = t.0; code = t.1.0; terms = t.1.1 }
+
 abbrev pub blocks_of : List (List ℕ) → List (List ℕ) → List Trees → List OneBlock
-blocks_of [] codes terms = []
-blocks_of (n ∷ names) [] terms = []
-blocks_of (n ∷ names) (c ∷ codes) [] = []
-blocks_of (n ∷ names) (c ∷ codes) (t ∷ terms) = record { name = n; code = c; terms = t } ∷ blocks_of names codes terms
+blocks_of names codes terms = map_list a_block (zip names (zip codes terms))
 
 -- The text of dumps whose definition blocks are loaded in this order, by the rows of their namespace, the tables' AML
 -- and terms, and the lines of the bodies of their methods in the order of the text.
@@ -39,34 +41,32 @@ abbrev pub listing_text : List Dump → List ℕ → List (List Seg × Kind) →
 listing_text dumps order rows codes terms bodies =
     whole_text dumps order rows codes terms (map_list body_lines bodies)
 
--- ---- a listing in memory
+-- ---- tables in memory
 
--- the indexes of the dumps of an order
-abbrev pub indexes_in : Order → List ℕ
-indexes_in order = order.dsdt ∷ order.ssdts.items
+-- the definition blocks of dumps that are loaded in this order
+abbrev pub blocks_with : List Dump → Order → Loaded → List OneBlock
+blocks_with dumps order loaded =
+    blocks_of (names_in dumps (indexes_in order)) (codes_view loaded.tables.items) (trees_view loaded.trees.items)
 
--- the definition blocks of a listing
+-- the text of them with these bodies
+abbrev pub text_with : List Dump → Order → Loaded → List BodyLines → List ℕ
+text_with dumps order loaded bodies =
+    whole_text dumps (indexes_in order) (map.entries loaded.space.kinds) (codes_view loaded.tables.items)
+    (trees_view loaded.trees.items) bodies
+
+-- the definition blocks of a listing, and its text
 abbrev pub blocks_in : Listing → List OneBlock
-blocks_in x = blocks_of (names_in x.dumps.now (indexes_in x.order)) (codes_view x.loaded.tables.items)
-    (trees_view x.loaded.trees.items)
+blocks_in x = blocks_with x.dumps.now x.order x.loaded
 
--- the text of a listing
 abbrev pub shown_text : Listing → List ℕ
-shown_text x = listing_text x.dumps.now (indexes_in x.order) (map.entries x.loaded.space.kinds)
-    (codes_view x.loaded.tables.items) (trees_view x.loaded.trees.items) (map_list body_view x.bodies.items)
+shown_text x = text_with x.dumps.now x.order x.loaded (map_list body_lines (map_list body_view x.bodies.items))
 
--- ---- tables in memory, without the bodies of their methods
-
--- their definition blocks
+-- the same of tables without the bodies of their methods
 abbrev pub blocks_at : Tables → List OneBlock
-blocks_at t = blocks_of (names_in t.dumps.now (indexes_in t.order.now)) (codes_view t.loaded.now.tables.items)
-    (trees_view t.loaded.now.trees.items)
+blocks_at t = blocks_with t.dumps.now t.order.now t.loaded.now
 
--- the text of a set of them with these bodies
 abbrev pub set_text : Tables → List BodyLines → List ℕ
-set_text t bodies =
-    whole_text t.dumps.now (indexes_in t.order.now) (map.entries t.loaded.now.space.kinds)
-    (codes_view t.loaded.now.tables.items) (trees_view t.loaded.now.trees.items) bodies
+set_text t bodies = text_with t.dumps.now t.order.now t.loaded.now bodies
 
 -- they are those of a listing
 pub record IsOf (t : Tables) (x : Listing) : Type 0 where

@@ -1,5 +1,6 @@
 //! What is known of a set of tables.
-ghost use Rattle.aml_text.specs.Listing.{IsOf};
+ghost use Rattle.std.specs.Prelude.{◌≡◌, length};
+ghost use Rattle.aml_text.specs.Matched.{AreMatched};
 
 use crate::bodies::Body;
 use acpi_tables::{Dump, Order};
@@ -16,6 +17,8 @@ pub struct Listing<'a> {
     pub bodies: Vec<Body>,
     /// For each worker, the numbers of the bodies that it read, ascending.
     pub drawn: Vec<Vec<u32>>,
+    pub ghost matched: { AreMatched order loaded },
+    pub ghost each: { length bodies.items ≡ length loaded.methods.items },
 }
 
 /// The tables of a set, without the bodies of their methods.
@@ -25,9 +28,12 @@ pub struct Tables<'s, 'a> {
     /// The dumps with the definition blocks, in load order.
     pub order: &'s Order,
     pub loaded: &'s Loaded<'a>,
+    pub ghost matched: { AreMatched order.now loaded.now },
 }
 
 impl<'a> Listing<'a> {
+    ghost use Rattle.aml_text.specs.Listing.{IsOf};
+
     /// Its tables.
     pub fn tables(&self) -> Tables<'_, 'a>
         ensures { IsOf result self.now }

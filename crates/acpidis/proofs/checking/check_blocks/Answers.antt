@@ -1,35 +1,34 @@
-use Rattle.std.specs.Prelude.{option_map}
-use Rattle.std.proofs.Common.{refl, sym, ap, ◌∙◌, arith}
+use Rattle.std.proofs.Common.{[], length, ap, ◌∙◌, arith, map}
+use Rattle.std.proofs.lemmas.List.{take_all}
+use Rattle.aml_code.specs.Tree.{no_trees}
 use Rattle.aml_load.specs.Views.{codes_view, trees_view}
-use Rattle.aml_text.specs.Listing.{indexes_in, names_in, blocks_at}
+use Rattle.aml_text.specs.Lines.{OneBlock}
+use Rattle.aml_text.specs.Matched.{indexes_in}
+use Rattle.aml_text.specs.Listing.{names_in, blocks_at}
 use Rattle.aml_text.specs.Views.{block_view}
-use Rattle.aml_text.proofs.ListingLaws.{uncoded_block, seen_past}
-use Rattle.acpidis.proofs.CheckLaws.{short_block, blocks_done, blocks_more}
+use Rattle.aml_text.proofs.ListingLaws.{blocks_many}
+use Rattle.acpidis.specs.Tallies.{uncounted}
+use Rattle.acpidis.proofs.CheckLaws.{short_block, uncounted_more}
 use Rattle.acpidis.proofs.checking.check_blocks.Goals as goal
-
-pub returns-in_default : goal.returns-in_default
-returns-in_default c =
-    blocks_done c.loop-table.all.items (blocks_at c.args.tables) c.loop-table.table (sym c.block_at.ensures ∙ ap (option_map block_view) c.in_default.is)
-    c.loop-table.invariant
 
 pub check_block-requires : goal.check_block-requires
 check_block-requires c =
-    let x = c.args.tables in
-    short_block (names_in x.dumps.now (indexes_in x.order.now)) (codes_view x.loaded.now.tables.items) (trees_view x.loaded.now.trees.items) c.loop-table.table
-    (block_view c.in-Some.block) c.requires.short
-    (sym c.block_at.ensures ∙ ap (option_map block_view) c.in-Some.is)
+    let t = c.args.tables in
+    let none : OneBlock = record { name = []; code = []; terms = no_trees } in
+    let short = short_block (names_in t.dumps.now (indexes_in t.order.now)) (codes_view t.loaded.now.tables.items) (trees_view t.loaded.now.trees.items)
+    c.loop-table.table none c.requires.short (omega arith) in
+    omega (arith, short, ap (λ (b : OneBlock). length b.code) (c.block_at-block.ensures none))
 
 pub loop-table-preserved : goal.loop-table-preserved
 loop-table-preserved c =
-    blocks_more c.loop-table.all.items c.push.new.self.items (blocks_at c.args.tables) c.loop-table.table (block_view c.in-Some.block)
-    c.in_ok-check_block.field-0
-    (sym c.block_at.ensures ∙ ap (option_map block_view) c.in-Some.is) c.in_ok-check_block.ensures c.in_ok-push.ensures.items c.loop-table.invariant
+    let t = c.args.tables in
+    uncounted_more (blocks_at t) c.loop-table.table (block_view c.block_at-block.result) c.in_ok-check_block.field-0 c.loop-table.all.items
+    c.push.new.self.items
+    (omega (arith, blocks_many t.dumps.now t.order.now t.loaded.now t.matched)) (c.block_at-block.ensures _) c.in_ok-check_block.ensures
+    c.in_ok-push.ensures.items c.loop-table.invariant
 
 pub returns : goal.returns
 returns c =
-    let x = c.args.tables in
-    let none = uncoded_block (names_in x.dumps.now (indexes_in x.order.now)) (codes_view x.loaded.now.tables.items) (trees_view x.loaded.now.trees.items)
-    c.loop-table.table
-    (seen_past (λ b. b.now) x.loaded.now.tables.items x.loaded.now.tables.items c.loop-table.table refl
-    (omega (arith, c.loop-table-test.false, c.len-table-end.ensures, x.loaded.now.tables.ok.0))) in
-    blocks_done c.loop-table.all.items (blocks_at x) c.loop-table.table none c.loop-table.invariant
+    let t = c.args.tables in
+    c.loop-table.invariant ∙ ap (map uncounted)
+    (take_all c.loop-table.table (blocks_at t) (omega (arith, blocks_many t.dumps.now t.order.now t.loaded.now t.matched)))

@@ -1,7 +1,7 @@
-use Rattle.std.proofs.Common.{◌≡◌, ◌++◌, drop, map}
+use Rattle.std.proofs.Common.{◌≡◌, map, take}
 use Rattle.aml_text.specs.Listing.{blocks_at}
 use Rattle.acpidis.specs.Tallies.{uncounted}
 use Rattle.acpidis.proofs.checking.check_blocks.Given as goal
 
 abbrev pub invariant-loop-table : goal.invariant-loop-table
-invariant-loop-table l = l.all.items ++ map uncounted (drop l.table (blocks_at l.tables)) ≡ map uncounted (blocks_at l.tables)
+invariant-loop-table l = l.all.items ≡ map uncounted (take l.table (blocks_at l.tables))

@@ -1,18 +1,14 @@
-use Rattle.std.proofs.Common.{subst, sym, ◌∙◌}
-use Rattle.aml_load.specs.Views.{codes_view}
+use Rattle.std.proofs.Common.{◌∙◌}
 use Rattle.aml_text.specs.Listing.{blocks_at}
-use Rattle.acpidis.specs.Tallies.{Under}
-use Rattle.acpidis.proofs.CheckLaws.{under_new, all_checked}
+use Rattle.acpidis.specs.Tallies.{tallied, tried_marks}
+use Rattle.acpidis.proofs.CheckLaws.{under_new, from_nothing}
 use Rattle.acpidis.proofs.checking.check_tables.Goals as goal
 
 pub count_methods-requires-clause-new : goal.count_methods-requires-clause-new
-count_methods-requires-clause-new c = subst (Under 1) (sym (c.as_mut_slice.ensures.value ∙ c.in_ok-all.ensures)) (under_new (blocks_at c.args.tables))
+count_methods-requires-clause-new c = rw c.in_ok-all.ensures (under_new (blocks_at c.args.tables))
 
 pub returns : goal.returns
-returns c = λ bs tried.
-    let t = c.args.tables in
-    let ms = t.loaded.now.methods.items in
-    let counted = c.count_methods.ensures (codes_view t.loaded.now.tables.items) bs (rw c.as_slice.ensures.value tried) in
-    all_checked (codes_view t.loaded.now.tables.items) ms bs (blocks_at t)
-    c.in_ok-all.all.len c.in_ok-all.all.items c.as_mut_slice.result.now c.count_methods.new.all
-    c.in_ok-all.all.ok.0 c.as_mut_slice.ensures.value c.in_ok-all.ensures (rw (← c.as_slice.ensures.value) counted)
+returns c =
+    let marks = tried_marks c.args.tables.loaded.now.methods.items c.args.tried.now in
+    c.count_methods.ensures ∙ (λ i. tallied (tried_marks (c.as_slice.ensures.value i) c.args.tried.now) 0 (c.in_ok-all.ensures i))
+    ∙ from_nothing marks 0 (blocks_at c.args.tables)

@@ -1,11 +1,6 @@
-use Rattle.std.proofs.Common.{◌≡◌, ℕ, ◌+◌, List, drop}
-use Rattle.aml_text.specs.Lines.{OneBody}
-use Rattle.acpidis.specs.Tallies.{Under, tallied, AreTried}
+use Rattle.acpidis.specs.Tallies.{tried_marks}
+use Rattle.acpidis.proofs.CheckLaws.{Counted}
 use Rattle.acpidis.proofs.checking.count_methods.Given as goal
 
 abbrev pub invariant-loop-number : goal.invariant-loop-number
-invariant-loop-number l =
-    Under (l.number + 1) l.all
-    × ((codes : List (List ℕ)) (bs : List OneBody) → AreTried codes l.methods bs l.tried
-    → (tallied codes (drop l.number l.methods) (drop l.number bs) 0 l.all ≡ tallied codes l.methods bs 0 l.initial.all)
-    × AreTried codes (drop l.number l.methods) (drop l.number bs) (drop l.number l.tried))
+invariant-loop-number l = Counted (tried_marks l.methods l.tried) l.number l.initial.all.items l.all.items

@@ -4,36 +4,17 @@ use Rattle.acpidis.proofs.disassembling.disassemble.Goals as goal
 
 pub returns-clause-sound : goal.returns-clause-sound
 returns-clause-sound g c =
-    means_so c.args.dumps.now c.args.options record {
-      dumps = c.args.dumps;
-      order = c.in-Ok.set.0;
-      loaded = c.in-Ok.set.1;
-      bodies =
-          c.in_ok-found.found.items;
-      drawn = c.in_ok-found.found.drawn;
-    } refl
-    c.in-Ok.ensures.sound c.in_ok-found.ensures.sound
+    let it = means_so c.args.dumps.now c.args.options c.in-Ok.set.0 c.in-Ok.set.1 _ c.in_ok-found.ensures.bodies c.in-Ok.ensures.sound in
+    (it.0, it.1, record { same_dumps = refl; set = it.2; bodies = it.3 })
 
 pub returns-clause-one : goal.returns-clause-one
-returns-clause-one g c =
-    means_only c.args.dumps.now c.args.options record {
-      dumps = c.args.dumps;
-      order = c.in-Ok.set.0;
-      loaded = c.in-Ok.set.1;
-      bodies =
-          c.in_ok-found.found.items;
-      drawn = c.in_ok-found.found.drawn;
-    } refl
-    c.in-Ok.ensures.one c.in_ok-found.ensures.one
+returns-clause-one g c = λ k means.
+    let it = c.in-Ok.ensures.one k means.set in record {
+      same_dumps = refl;
+      set = it;
+      bodies = means_only c.args.dumps.now c.args.options c.in-Ok.set.0 c.in-Ok.set.1 _ c.in_ok-found.ensures.bodies k means it;
+    }
 
 pub returns-clause-told : goal.returns-clause-told
-returns-clause-told g c =
-    told_so c.args.dumps.now c.args.options record {
-      dumps = c.args.dumps;
-      order = c.in-Ok.set.0;
-      loaded = c.in-Ok.set.1;
-      bodies =
-          c.in_ok-found.found.items;
-      drawn = c.in_ok-found.found.drawn;
-    }
-    c.in-Ok.ensures.one c.in_ok-found.ensures.told
+returns-clause-told g c = λ k means.
+    told_so c.args.dumps.now c.args.options c.in-Ok.set.0 c.in-Ok.set.1 _ c.in_ok-found.ensures.bodies k (c.in-Ok.ensures.one k means.set)

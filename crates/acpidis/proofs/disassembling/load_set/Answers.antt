@@ -1,7 +1,7 @@
 use Rattle.std.proofs.Common.{ap, ◌∙◌}
 use Rattle.std.proofs.lemmas.Result.{err_from_is_err_and}
 use Rattle.aml_load.specs.Views.{codes_view}
-use Rattle.acpidis.proofs.MeaningLaws.{loads_so, tells_blocks}
+use Rattle.acpidis.proofs.MeaningLaws.{loads_so, matched_so, tells_blocks}
 use Rattle.acpidis.proofs.disassembling.load_set.Goals as goal
 
 pub returns-in_err-order-clause-true_load : goal.returns-in_err-order-clause-true_load
@@ -25,3 +25,6 @@ returns-clause-sound c =
     (codes_view c.as_slice-2.result.now) c.in_ok-order.ensures.order
     (c.as_slice.ensures.value ∙ c.in_ok-indexes.ensures) (ap codes_view c.as_slice-2.ensures.value ∙ c.in_ok-codes.ensures.codes)
     c.as_slice-3.ensures.value c.in-Ok.ensures.sound
+
+pub returns-clause-matched : goal.returns-clause-matched
+returns-clause-matched c = matched_so c.args.dumps.now c.args.options.now c.in_ok-order.order c.in-Ok.loaded (returns-clause-sound c)

@@ -1,27 +1,46 @@
-use Rattle.std.proofs.Common.{sym, ap, ◌∙◌}
+use mathlib.Core.Bool.{true≢false}
+use Rattle.std.proofs.Common.{◌≡◌, sym, ap, ◌∙◌}
 use Rattle.std.proofs.lemmas.Result.{err_from_is_err_and}
-use Rattle.acpidis.specs.Checks.{all_same}
-use Rattle.acpidis.proofs.RunLaws.{SaidOf, trials_done, trials_cut, trials_same}
+use Rattle.aml_load.specs.Views.{codes_view}
+use Rattle.aml_text.specs.Listing.{blocks_at}
+use Rattle.acpidis.specs.Checks.{all_same, checks_from}
+use Rattle.acpidis.specs.Kept.{AreKeptOf, HasTrials}
+use Rattle.acpidis.specs.Tallies.{tried_marks}
+use Rattle.acpidis.proofs.RunLaws.{trials_output, trials_same, cut_so}
 use Rattle.acpidis.proofs.running.run_checks.Goals as goal
 
 pub returns-in_err-write_tables : goal.returns-in_err-write_tables
 returns-in_err-write_tables g c =
+    let set = c.args.set in
+    let x = set.loaded.now in
+    let kept : AreKeptOf (HasTrials (codes_view x.tables.items) x.methods.items) c.args.options.now.unknown_zero x c.as_slice-tried.result.now =
+    rw c.as_slice-tried.ensures.value c.in_ok-found.ensures.kept in
+    let checks : c.as_slice.result.now ≡ checks_from (tried_marks x.methods.items c.as_slice-tried.result.now) 0 (blocks_at set) =
+    c.as_slice.ensures.value ∙ c.in_ok-checks.ensures in
     let gave = err_from_is_err_and c.from_residual-in_err-write_tables.result c.from_residual-in_err-write_tables.ensures.1 in
-    let said : SaidOf c.args.set c.in_ok-found.found.items.items c.in_ok-checks.checks.items = rw (← c.as_slice-tried.ensures.value) c.in_ok-checks.ensures in
-    rw (gave.1, gave.2)
-    (trials_cut c.args.options.now c.args.set c.in_ok-found.found c.in_ok-checks.checks.items (g.O.Write.contents c.args.out.now)
-    (g.O.Write.contents c.write_tables.new.out) c.in_err-write_tables.field-0.0.wrote c.requires.set c.in_ok-found.ensures.kept said
-    (rw (← c.as_slice.ensures.value) c.in_err-write_tables.ensures))
+    rw (gave.1, gave.2) (cut_so _ _ _ _ _ (trials_output set.dumps.now c.args.options.now set.order.now x c.requires.set _ kept) _ _ _
+    (rw checks at c.in_err-write_tables.ensures))
 
 pub returns-then-not-are_same : goal.returns-then-not-are_same
 returns-then-not-are_same g c =
-    let said : SaidOf c.args.set c.in_ok-found.found.items.items c.in_ok-checks.checks.items = rw (← c.as_slice-tried.ensures.value) c.in_ok-checks.ensures in
-    let same = trials_same c.args.options.now c.args.set c.in_ok-found.found c.in_ok-checks.checks.items c.requires.set c.in_ok-found.ensures.kept said in
-    absurd (mathlib.Core.Bool.true≢false (sym same ∙ ap all_same (sym c.as_slice-2.ensures.value) ∙ sym c.if-not-are_same.ensures))
+    let set = c.args.set in
+    let x = set.loaded.now in
+    let kept : AreKeptOf (HasTrials (codes_view x.tables.items) x.methods.items) c.args.options.now.unknown_zero x c.as_slice-tried.result.now =
+    rw c.as_slice-tried.ensures.value c.in_ok-found.ensures.kept in
+    let checks : c.as_slice-2.result.now ≡ checks_from (tried_marks x.methods.items c.as_slice-tried.result.now) 0 (blocks_at set) =
+    c.as_slice-2.ensures.value ∙ c.in_ok-checks.ensures in
+    let same = ap all_same checks ∙ trials_same set.dumps.now c.args.options.now set.order.now x c.requires.set _ kept in
+    absurd (true≢false (sym same ∙ sym c.if-not-are_same.ensures))
 
 pub returns : goal.returns
 returns g c =
-    let said : SaidOf c.args.set c.in_ok-found.found.items.items c.in_ok-checks.checks.items = rw (← c.as_slice-tried.ensures.value) c.in_ok-checks.ensures in
-    trials_done c.args.options.now c.args.set c.in_ok-found.found c.in_ok-checks.checks.items (g.O.Write.contents c.args.out.now)
-    (g.O.Write.contents c.write_tables.new.out) c.status_of_bodies.result c.requires.set c.in_ok-found.ensures.kept said
-    (rw (← c.as_slice.ensures.value) c.in_ok-write_tables.ensures) (rw (← c.as_slice-tried.ensures.value) c.status_of_bodies.ensures)
+    let set = c.args.set in
+    let x = set.loaded.now in
+    let kept : AreKeptOf (HasTrials (codes_view x.tables.items) x.methods.items) c.args.options.now.unknown_zero x c.as_slice-tried.result.now =
+    rw c.as_slice-tried.ensures.value c.in_ok-found.ensures.kept in
+    let checks : c.as_slice.result.now ≡ checks_from (tried_marks x.methods.items c.as_slice-tried.result.now) 0 (blocks_at set) =
+    c.as_slice.ensures.value ∙ c.in_ok-checks.ensures in (
+      _,
+      rw c.status_of_bodies.ensures (trials_output set.dumps.now c.args.options.now set.order.now x c.requires.set _ kept),
+      rw checks at c.in_ok-write_tables.ensures,
+    )

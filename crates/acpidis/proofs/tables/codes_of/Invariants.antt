@@ -1,8 +1,7 @@
-use Rattle.std.proofs.Common.{◌≡◌, ◌++◌, drop}
+use Rattle.std.proofs.Common.{◌≡◌, take}
 use Rattle.aml_load.specs.Views.{codes_view, AreShort}
 use Rattle.acpidis.specs.Tables.{codes_in}
 use Rattle.acpidis.proofs.tables.codes_of.Given as goal
 
 abbrev pub invariant-loop-index : goal.invariant-loop-index
-invariant-loop-index l = (codes_view l.codes.items ++ codes_in l.dumps (drop l.index-index l.order) ≡ codes_in l.dumps l.order)
-    × AreShort (codes_view l.codes.items)
+invariant-loop-index l = (codes_view l.codes.items ≡ codes_in l.dumps (take l.index-index l.order)) × AreShort (codes_view l.codes.items)
