@@ -1,9 +1,8 @@
 -- Steps on lists, options and tests that several proofs take.
 use Rattle.std.specs.Prelude.{◌==◌, slice_get}
-use Rattle.std.proofs.Common.{◌≡◌, ℕ, zero, suc, ◌<◌, Bool, true, false, cond, List, [], ◌∷◌, ◌++◌, length, get_or, set, Option, Some, None, refl, sym, ap, ◌∙◌}
+use Rattle.std.proofs.Common.{◌≡◌, ℕ, zero, suc, ◌<◌, Bool, true, false, cond, List, [], ◌∷◌, ◌++◌, length, get_or, Option, Some, None, refl}
 use Rattle.std.proofs.Common.{arith}
 use Rattle.std.specs.Option.{option_or, option_and_then}
-use Rattle.std.proofs.lemmas.Bool.{ne_eqb}
 use Rattle.std.proofs.lemmas.Bool.Decides.{nat_tests}
 
 pub suc_eq : (a b : ℕ) → (suc a == suc b) ≡ (a == b)
@@ -22,15 +21,8 @@ pub and_then_twice : {A B C : Type 0} (f : A → Option B) (g : B → Option C) 
 and_then_twice f g None = refl
 and_then_twice f g (Some x) = refl
 
--- reads after a write, in front of others, and behind them
+-- reads in front of others, and behind them
 module _ {A : Type 0} where
-  pub read_set : (xs : List A) (i : ℕ) (y : A) (k : ℕ) → i < length xs → slice_get (set xs i y) k ≡ cond (k == i) (Some y) (slice_get xs k)
-  read_set [] i y k within = absurd (omega (arith, within))
-  read_set (x ∷ xs) zero y zero within = refl
-  read_set (x ∷ xs) zero y (suc k) within = ap (λ b. cond b (Some y) (slice_get xs k)) (sym (ne_eqb (suc k) 0 (omega arith)))
-  read_set (x ∷ xs) (suc i) y zero within = ap (λ b. cond b (Some y) (Some x)) (sym (ne_eqb 0 (suc i) (omega arith)))
-  read_set (x ∷ xs) (suc i) y (suc k) within = read_set xs i y k (omega (arith, within)) ∙ ap (λ b. cond b (Some y) (slice_get xs k)) (sym (suc_eq k i))
-
   pub read_front : (xs ys : List A) (k : ℕ) → k < length xs → slice_get (xs ++ ys) k ≡ slice_get xs k
   read_front [] ys k within = absurd (omega (arith, within))
   read_front (x ∷ xs) ys zero within = refl

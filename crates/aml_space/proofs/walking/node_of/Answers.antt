@@ -1,4 +1,4 @@
-use Rattle.std.proofs.Common.{Some, None, sym, ◌∙◌}
+use Rattle.std.proofs.Common.{Some, sym, ◌∙◌}
 use Rattle.aml_space.specs.Nodes.{kids_of}
 use Rattle.aml_space.proofs.Walks.{kid_range, led_step}
 use Rattle.aml_space.proofs.walking.node_of.Goals as goal
@@ -11,7 +11,3 @@ loop-seg-preserved c =
           c.loop-seg-test.true found;
       within = (kid_range c.requires c.loop-seg.at _ c.in-Some.next found).1;
     }
-
-pub returns-in-None-clause-node : goal.returns-in-None-clause-node
-returns-in-None-clause-node c = sym (c.loop-seg.invariant.led ∙ led_step (kids_of c.args.nodes.now) c.loop-seg.at c.loop-seg.seg-index c.args.path.now _ None
-    c.loop-seg-test.true (sym c.child.ensures ∙ c.in-None.is))

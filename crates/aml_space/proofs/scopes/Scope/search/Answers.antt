@@ -3,7 +3,7 @@ use Rattle.std.proofs.Common.{◌∙◌}
 use Rattle.std.proofs.Common.{subst, arith, IfSome}
 use Rattle.std.specs.FinSet as set
 use Rattle.std.specs.Option.{option_or, option_and_then, option_map}
-use Rattle.std.proofs.lemmas.Bool.{ne_eqb, or_parts}
+use Rattle.std.proofs.lemmas.Bool.{ne_eqb}
 use Rattle.aml_names.specs.declared.segments.Seg.{Seg}
 use Rattle.aml_names.specs.Paths.{PathSet}
 use Rattle.aml_names.specs.Searching.{upward, greatest, nearest}
@@ -14,7 +14,7 @@ use Rattle.aml_space.specs.Nodes.{outs_of}
 use Rattle.aml_space.specs.Candidates.{path_at, stands_at, names_of, IsNext, IsCandidate}
 use Rattle.aml_space.proofs.Basics.{alone}
 use Rattle.aml_space.proofs.Asked.{none_met_below}
-use Rattle.aml_space.proofs.Upward.{rest_of, hit, step, skip, nearest_tells, nearest_above}
+use Rattle.aml_space.proofs.Upward.{rest_of, hit, step, skip, nearest_tells}
 use Rattle.aml_space.proofs.Meaning.{meant_path, outside_path, outside_depth, outside_still, ended}
 use Rattle.aml_space.proofs.scopes.Scope.search.Goals as goal
 use Rattle.aml_space.proofs.scopes.Scope.search.Goals.{After-is_meant}
@@ -121,11 +121,6 @@ depths-preserved c =
           (option_map (λ (c : Candidate). c.depth) c.first_outside-outside.result) (d - 1) c.next_depth-depth-in-depths.result
           (omega (arith, inv.within)) next.next next.above;
     }
-
-pub next_depth-depth-requires-in-depths-clause-above : goal.next_depth-depth-requires-in-depths-clause-above
-next_depth-depth-requires-in-depths-clause-above c =
-    nearest_above c.in_ok-nearest.nearest c.depths.depth c.depths.invariant.above
-    (sym c.stands-local.ensures ∙ (or_parts c.stands-local.result _ (sym c.is_meant.ensures ∙ c.if-is_meant.false)).0)
 
 pub next_depth-depth-requires-clause-above : goal.next_depth-depth-requires-clause-above
 next_depth-depth-requires-clause-above c = subst (λ m. IfSome c.in_ok-nearest.nearest (λ n. n ≤ m)) (ap length (sym c.segs.ensures))
