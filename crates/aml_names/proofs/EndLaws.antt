@@ -42,10 +42,6 @@ module _ (a : ℕ → Bool) where
   greatest_hit zero hit = ap (λ t. cond t (Some 0) None) hit
   greatest_hit (suc n) hit = ap (λ t. cond t (Some (suc n)) (greatest a n)) hit
 
-  pub greatest_root : (n : ℕ) → a n ≡ false → n ≡ 0 → greatest a n ≡ None
-  greatest_root zero miss root = ap (λ t. cond t (Some 0) None) miss
-  greatest_root (suc n) miss root = absurd (omega (arith, root))
-
   pub greatest_miss : (n : ℕ) → a n ≡ false → 0 < n → greatest a n ≡ greatest a (n - 1)
   greatest_miss zero miss positive = absurd (omega (arith, positive))
   greatest_miss (suc n) miss positive = ap (λ t. cond t (Some (suc n)) (greatest a n)) miss ∙ ap (greatest a) {x = n} {y = suc n - 1} (omega arith)

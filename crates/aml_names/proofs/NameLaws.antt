@@ -3,8 +3,7 @@
 -- of one that is read, and none by those that are refused (`one_name`, `no_name`).
 use Rattle.std.proofs.Common.{◌≡◌, ℕ, zero, suc, ◌+◌, ◌-◌, ◌%◌, ◌<◌, ◌≤◌, Bool, true, false, cond, eqb, List, [], ◌∷◌, ◌++◌, length, take, drop, replicate}
 use Rattle.std.proofs.Common.{Ok, Err, refl, sym, ap, subst, ◌∙◌, append_assoc, ◌⊎◌, inl, inr, arith}
-use Rattle.std.specs.Prelude.{◌||◌}
-use Rattle.std.proofs.lemmas.Bool.{ltb-true, ltb-false, eqb-true, ne_eqb, lt-ltb, cond_both}
+use Rattle.std.proofs.lemmas.Bool.{or_left, ltb-true, ltb-false, eqb-true, ne_eqb, lt-ltb, cond_both}
 use Rattle.std.proofs.lemmas.List.{take_at, drop_at, length-append, append-nil as append_nil}
 use Rattle.aml_names.specs.declared.faults.CodeFault.{CodeFault}
 use Rattle.aml_names.specs.declared.faults.CodeFault.TheVariants as faults
@@ -163,20 +162,13 @@ apart a c h n =
     ne_eqb a c (λ e. let same : is_lead_char a ≡ is_lead_char c = ap (λ (b : ℕ). is_lead_char b) e in let clash : true ≡ false = sym h ∙ same ∙ n in absurd cc)
 
 first_leads : (a : ℕ) (text : List ℕ) → IsNameSeg (a ∷ text) → is_lead_char a ≡ true
-first_leads a [] h = absurd h
-first_leads a (b ∷ []) h = absurd h
-first_leads a (b ∷ c ∷ []) h = absurd h
 first_leads a (b ∷ c ∷ d ∷ []) h = h.0
-first_leads a (b ∷ c ∷ d ∷ f ∷ text) h = absurd h
+first_leads a text h = absurd h
 
 segment_again_of : (end : ℕ) (text rest : List ℕ) → IsNameSeg text → segment_at end (text ++ rest) ≡ Ok (record { 0 = text }, rest)
 unfolding segment_at
-segment_again_of end [] rest h = absurd h
-segment_again_of end (a ∷ []) rest h = absurd h
-segment_again_of end (a ∷ b ∷ []) rest h = absurd h
-segment_again_of end (a ∷ b ∷ c ∷ []) rest h = absurd h
 segment_again_of end (a ∷ b ∷ c ∷ d ∷ []) rest h = rw (h.0, h.1, h.2, h.3) refl
-segment_again_of end (a ∷ b ∷ c ∷ d ∷ f ∷ s) rest h = absurd h
+segment_again_of end text rest h = absurd h
 
 pub segment_again : (end : ℕ) (s : Seg) (rest : List ℕ) → IsNameSeg s.0 → segment_at end (s.0 ++ rest) ≡ Ok (s, rest)
 segment_again end s rest h = segment_again_of end s.0 rest h
@@ -270,13 +262,9 @@ pub record NameLead (n : Name) : Type 0 where
   pub text : spelling n ≡ lead ∷ behind
   pub kind : ((is_name_lead lead ≡ true) × (is_bare n ≡ false)) ⊎ ((is_bare n ≡ true) × (lead ≡ 0) × (behind ≡ []))
 
-or_true : (a b : Bool) → a ≡ true → (a || b) ≡ true
-or_true true b h = refl
-or_true false b h = absurd cc
-
 segment_lead : (text rest : List ℕ) → IsNameSeg text → (b : ℕ) × (behind : List ℕ) × (text ++ rest ≡ b ∷ behind) × (is_name_lead b ≡ true)
 segment_lead [] rest h = absurd h
-segment_lead (a ∷ text) rest h = (a, text ++ rest, refl, or_true _ _ (first_leads a text h))
+segment_lead (a ∷ text) rest h = (a, text ++ rest, refl, or_left _ _ (first_leads a text h))
 
 lead_of : (root : Bool) (ups : ℕ) (f : NameForm) (ss : List Seg) → (let n : Name = record { root = root; ups = ups; form = f; segs = ss } in IsName n
     → NameLead n)
@@ -297,16 +285,13 @@ lead_of false zero Multi ss is = record { lead = 0x2F; behind = length ss % 256 
 pub name_lead : (n : Name) → IsName n → NameLead n
 name_lead n is = lead_of n.root n.ups n.form n.segs is
 
-first_same : (a b : ℕ) (x y : List ℕ) → a ∷ x ≡ b ∷ y → a ≡ b
-first_same a b x y e = cc
-
 -- a name that was read where a lead byte stands has a prefix or a segment
 pub lead_reads : (end b : ℕ) (bytes : List ℕ) (n : Name) (rest : List ℕ) → IsBytes (b ∷ bytes) → is_name_lead b ≡ true → name_at end (b ∷ bytes) ≡ Ok (n, rest)
     → is_bare n ≡ false
 lead_reads end b bytes n rest fits h e =
     let t = name_takes end (b ∷ bytes) n rest fits e in
     let l = name_lead n t.1 in
-    let same : b ≡ l.lead = first_same b l.lead bytes (l.behind ++ rest) (t.0.parts ∙ ap (λ (x : List ℕ). x ++ rest) l.text) in
+    let same : b ≡ l.lead = let all = t.0.parts ∙ ap (λ (x : List ℕ). x ++ rest) l.text in cc in
     elim l.kind [
       | inl k ↦ k.1
       | inr k ↦ let clash : true ≡ false = sym h ∙ ap (λ (c : ℕ). is_name_lead c) (same ∙ k.1) in absurd cc

@@ -1,9 +1,8 @@
 -- Reading one segment, or one prefix, after the other, as a loop does.
-use Rattle.std.proofs.Common.{◌≡◌, ℕ, zero, suc, ◌+◌, ◌-◌, ◌<◌, ◌≤◌, Bool, true, false, cond, List, [], ◌∷◌, ◌++◌, length, drop, get_or, Ok, Err, refl, sym, ap}
-use Rattle.std.proofs.Common.{◌∙◌, append_assoc, arith, add-one}
+use Rattle.std.proofs.Common.{◌≡◌, ℕ, zero, suc, ◌+◌, ◌-◌, ◌<◌, ◌≤◌, true, false, cond, List, [], ◌∷◌, ◌++◌, length, drop, get_or, Ok, Err, refl, sym, ap}
+use Rattle.std.proofs.Common.{◌∙◌, append_assoc, arith}
 use Rattle.std.specs.Prelude.{◌==◌}
-use Rattle.std.proofs.lemmas.List.{append-nil, drop_all}
-use Rattle.std.proofs.Math.Seq.{drop-cons}
+use Rattle.std.proofs.lemmas.List.{append-nil, drop_all, drop_more}
 use Rattle.aml_names.specs.declared.faults.CodeFault.{CodeFault}
 use Rattle.aml_names.specs.declared.segments.Seg.{Seg}
 use Rattle.aml_names.specs.Steps.{◌>>=◌, Left}
@@ -46,18 +45,11 @@ segments_end front n end bytes total none so_far =
 
 pub parents_go_on : (bytes : List ℕ) (i : ℕ) → i < length bytes → get_or bytes i 0 ≡ 0x5E → parents (drop i bytes) ≡ suc (parents (drop (i + 1) bytes))
 unfolding parents
-parents_go_on bytes i h e =
-    let cut : drop i bytes ≡ get_or bytes i 0 ∷ drop (i + 1) bytes = rw (add-one, drop-cons bytes i 0) in
-    rw cut (rw e refl)
-
-parents_stopped : (b : ℕ) (rest : List ℕ) (t : Bool) → (b == 0x5E) ≡ t → t ≡ false → parents (b ∷ rest) ≡ 0
-unfolding parents
-parents_stopped b rest t e f = rw (e ∙ f) refl
+parents_go_on bytes i h e = rw (drop_more bytes i 0 h, e) refl
 
 pub parents_stop : (bytes : List ℕ) (i : ℕ) → i < length bytes → (get_or bytes i 0 == 0x5E) ≡ false → parents (drop i bytes) ≡ 0
-parents_stop bytes i h e =
-    let cut : drop i bytes ≡ get_or bytes i 0 ∷ drop (i + 1) bytes = rw (add-one, drop-cons bytes i 0) in
-    rw cut (parents_stopped (get_or bytes i 0) (drop (i + 1) bytes) _ e refl)
+unfolding parents
+parents_stop bytes i h e = rw (drop_more bytes i 0 h, e) refl
 
 pub parents_end : (bytes : List ℕ) (i : ℕ) → length bytes ≡ i → parents (drop i bytes) ≡ 0
 unfolding parents

@@ -47,12 +47,8 @@ in_order p q (x ∷ xs) (y ∷ ys) long xb yb =
     ∙ in_order (p * 256 + x) (q * 256 + y) xs ys (omega (arith, long)) (λ i. xb (suc i)) (λ i. yb (suc i))
 
 read : (xs : List ℕ) → length xs ≡ 4 → from_be_bytes w32 xs ≡ horner 0 xs
-read [] long = absurd (omega (arith, long))
-read (a ∷ []) long = absurd (omega (arith, long))
-read (a ∷ b ∷ []) long = absurd (omega (arith, long))
-read (a ∷ b ∷ c ∷ []) long = absurd (omega (arith, long))
 read (a ∷ b ∷ c ∷ d ∷ []) long = omega arith
-read (a ∷ b ∷ c ∷ d ∷ e ∷ xs) long = absurd (omega (arith, long))
+read xs long = absurd (omega (arith, long))
 
 pub by_number : (xs ys : List ℕ) → length xs ≡ 4 → length ys ≡ 4 → IsBytes xs → IsBytes ys
     → nat_cmp (from_be_bytes w32 xs) (from_be_bytes w32 ys) ≡ slice_cmp nat_cmp xs ys

@@ -5,7 +5,6 @@ use Rattle.std.specs.List.{list_any}
 use Rattle.std.specs.BTreeMap.{is_at}
 use Rattle.aml_names.proofs.Sets.{any_path}
 use Rattle.aml_names.proofs.LengthLaws.{none_so_long}
-use Rattle.std.proofs.lemmas.Bool.{OnFalse_at}
 use Rattle.aml_names.proofs.locals.Locals.has.Goals as goal
 
 pub returns : goal.returns
@@ -18,6 +17,3 @@ returns-then-not-contains c =
     let p = c.args.path.now in
     let other = ap (λ q. list_any (is_at (nat_cmp (length q))) lengths) (sym c.segs.ensures) ∙ sym c.contains.ensures ∙ c.if-not-contains.true in
     sym (ap (λ s. set.contains s p) (sym c.self.view_is) ∙ any_path paths p ∙ none_so_long paths lengths p c.self.invariant.0 other)
-
-pub returns-then-not-may_end : goal.returns-then-not-may_end
-returns-then-not-may_end c = sym (OnFalse_at c.if-not-may_end.true c.may_end.ensures)

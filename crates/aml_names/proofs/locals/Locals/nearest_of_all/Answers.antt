@@ -1,6 +1,6 @@
 use Rattle.std.proofs.Common.{◌<◌, [], ◌∷◌, ◌++◌, take, refl, arith, sym, ap, ◌∙◌}
 use Rattle.std.specs.FinSet as set
-use Rattle.aml_names.proofs.EndLaws.{greatest_hit, greatest_miss, greatest_root, raised}
+use Rattle.aml_names.proofs.EndLaws.{greatest_hit, greatest_miss, raised}
 use Rattle.aml_names.proofs.locals.Locals.nearest_of_all.Goals as goal
 
 pub returns-then-has : goal.returns-then-has
@@ -10,14 +10,6 @@ returns-then-has c =
     let inv = c.depths.invariant in
     sym (inv.same ∙ greatest_hit (λ d. set.contains locals (take d c.args.scope.now ++ tail)) c.depths.depth
     (ap (set.contains locals) (sym inv.asked) ∙ sym c.has.ensures ∙ c.if-has.true))
-
-pub returns-then-depth-eq0 : goal.returns-then-depth-eq0
-returns-then-depth-eq0 c =
-    let locals = c.args.self.now in
-    let tail = c.args.segment ∷ [] in
-    let inv = c.depths.invariant in
-    sym (inv.same ∙ greatest_root (λ d. set.contains locals (take d c.args.scope.now ++ tail)) c.depths.depth
-    (ap (set.contains locals) (sym inv.asked) ∙ sym c.has.ensures ∙ c.if-has.false) c.if-depth-eq0.true)
 
 pub depths-preserved : goal.depths-preserved
 depths-preserved c =
