@@ -1,6 +1,7 @@
 -- A stepping stone of the proofs: the last segments of some paths.
 use Rattle.std.specs.Prelude.{◌≡◌, ℕ, nat_le, cond, false, List, [], ◌∷◌, ◌++◌, Option, Some, None}
 use Rattle.std.specs.FinSet as set
+use Rattle.std.specs.Option.{option_and_then}
 use Rattle.aml_names.specs.declared.segments.Seg.{Seg}
 use Rattle.aml_names.specs.Paths.{PathSet}
 use Rattle.aml_names.specs.Searching.{nearest}
@@ -20,5 +21,4 @@ deeper (Some depth) None = Some depth
 deeper (Some depth) (Some known) = Some (cond (nat_le depth known) known depth)
 
 abbrev pub depth_known : Option (Option ℕ) → Option ℕ
-depth_known None = None
-depth_known (Some depth) = depth
+depth_known o = option_and_then (λ depth. depth) o

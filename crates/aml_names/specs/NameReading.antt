@@ -36,19 +36,16 @@ segments_at (suc n) end bytes = do
 abbrev pub is_count : ℕ → Bool
 is_count n = nat_lt 0 n
 
--- how the segments are spelled, how many there are, and what is left
-abbrev pub Heads : Type 0
-Heads = Left (NameForm × ℕ)
-
--- by the lead byte of a NamePath: NullName, DualNamePrefix, MultiNamePrefix and a number, or a segment's own
-abbrev pub form_by : ℕ → ℕ → List ℕ → List ℕ → Heads
+-- how the segments are spelled and how many there are, by the lead byte of a NamePath: NullName, DualNamePrefix,
+-- MultiNamePrefix and a number, or a segment's own
+abbrev pub form_by : ℕ → ℕ → List ℕ → List ℕ → Left (NameForm × ℕ)
 form_by lead end bytes rest =
     if lead == 0x00 then Ok ((Null, 0), rest) else
     if lead == 0x2E then Ok ((Dual, 2), rest) else
     if lead == 0x2F then (passing_at is_count end rest >>= λ count. Ok ((Multi, count.0), count.1)) else
     Ok ((One, 1), bytes)
 
-unfoldable pub form_at : ℕ → List ℕ → Heads
+unfoldable pub form_at : ℕ → List ℕ → Left (NameForm × ℕ)
 form_at end bytes = do
   lead ← byte_at end bytes
   form_by lead.0 end bytes lead.1

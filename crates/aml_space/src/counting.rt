@@ -12,7 +12,7 @@ use crate::walking::{kind_at, node_of, out_at};
 use aml_names::Path;
 
 /// The kind of a path: the declared one of its node, else the predefined one.
-pub fn kind_met<'a>(
+pub(crate) fn kind_met<'a>(
     nodes: &'a [Node],
     node: Option<usize>,
     standing: Option<&'a Kind>,
@@ -28,7 +28,7 @@ pub fn kind_met<'a>(
 }
 
 /// How many arguments a path takes, by its node and its predefined kind.
-pub fn count_met(
+pub(crate) fn count_met(
     nodes: &[Node],
     predefined: &Predefined,
     node: Option<usize>,
@@ -73,7 +73,7 @@ fn count_of_target(kind: Option<&Kind>, out: Option<u8>) -> u8
 }
 
 /// How many arguments a path takes.
-pub fn count_of(nodes: &[Node], predefined: &Predefined, path: &Path) -> Option<u8>
+pub(crate) fn count_of(nodes: &[Node], predefined: &Predefined, path: &Path) -> Option<u8>
     requires { IsShape nodes.now }
     ensures { result ≡ count_at (namespace_in (known_by nodes.now)) path.now }
 {

@@ -8,14 +8,14 @@ use aml_names::{Path, Seg};
 
 /// What is declared at a node.
 #[derive(Drop)]
-pub struct Row {
+pub(crate) struct Row {
     pub path: Path,
     pub kind: Kind,
 }
 
 /// A node of the index. It stands for one path.
 #[derive(Drop)]
-pub struct Node {
+pub(crate) struct Node {
     /// The path and its kind, where it is declared; in a box, since most nodes of a long path have none.
     pub row: Option<Box<Row>>,
     /// The greatest count of its Externals.
@@ -35,7 +35,7 @@ const _: () = prove!(size_of::<Node>() == 56);
 
 impl Node {
     /// A node without content, a child of its parent by a segment.
-    pub fn empty(parent: usize, seg: Seg) -> Node
+    pub(crate) fn empty(parent: usize, seg: Seg) -> Node
         ensures { result ≡ empty parent seg }
     {
         Node {

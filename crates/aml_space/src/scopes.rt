@@ -21,7 +21,7 @@ use std::alloc::Global;
 
 /// A scope, with the nodes of its path and of its parents.
 #[derive(Drop)]
-pub struct Scope<'a> {
+pub(crate) struct Scope<'a> {
     pub nodes: &'a [Node],
     pub predefined: &'a Predefined,
     pub path: &'a Path,
@@ -31,7 +31,7 @@ pub struct Scope<'a> {
 
 /// The scope's path or a parent of it.
 #[derive(Clone, Copy)]
-pub struct Level {
+pub(crate) struct Level {
     pub node: usize,
     /// The nearest depth from its own up whose segments have to be asked for: the others have no content. The root's is
     /// always asked, since it has the predefined names.
@@ -40,7 +40,7 @@ pub struct Level {
 
 /// A path that a name of one segment may mean in a scope.
 #[derive(Clone, Copy)]
-pub struct Candidate {
+pub(crate) struct Candidate {
     /// How many segments of the scope stand before the name's.
     pub depth: usize,
     /// The path's node, if it has one.
@@ -51,7 +51,7 @@ pub struct Candidate {
 
 impl<'a> Scope<'a> {
     /// Walks the scope once.
-    pub fn new(
+    pub(crate) fn new(
         alloc: Global,
         nodes: &'a [Node],
         predefined: &'a Predefined,
@@ -73,7 +73,7 @@ impl<'a> Scope<'a> {
 
     /// Each candidate is a child of one of the scope's nodes. The first one that decides is meant, else the first one
     /// that an External names.
-    pub fn search(
+    pub(crate) fn search(
         &self,
         alloc: Global,
         locals: &Locals,
@@ -190,7 +190,7 @@ impl<'a> Scope<'a> {
     }
 
     /// How many arguments a candidate takes: none where it is one of the locals.
-    pub fn count(&self, segment: &[Seg], here: Candidate) -> Option<u8>
+    pub(crate) fn count(&self, segment: &[Seg], here: Candidate) -> Option<u8>
         requires scope { IsScope self.now }
         requires one { length segment.now ≡ 1 }
         requires within { here.depth ≤ length self.now.path.now }
@@ -212,7 +212,7 @@ impl<'a> Scope<'a> {
     }
 
     /// The count that the user gives to the first candidate of a segment that has one.
-    pub fn given(&self, segment: &[Seg]) -> Option<u8>
+    pub(crate) fn given(&self, segment: &[Seg]) -> Option<u8>
         requires scope { IsScope self.now }
         requires one { length segment.now ≡ 1 }
         ensures { result ≡ first_given (names_of self.now)
@@ -232,7 +232,7 @@ impl<'a> Scope<'a> {
     }
 
     /// The path of a candidate.
-    pub fn path_of(
+    pub(crate) fn path_of(
         &self,
         alloc: Global,
         segment: &[Seg],
