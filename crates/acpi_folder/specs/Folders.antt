@@ -139,21 +139,19 @@ pub record RefusesMapOf (folder : Answers) (fault : MapFault) : Type 0 where
   pub map : IsMapText folder text
   pub refused : RefusesMap names text fault
 
-abbrev pub RefusesFolder : Answers → GatherFault → Type 0
-RefusesFolder folder faults.Folder = folder.unlisted
-RefusesFolder folder (faults.File name) = IsUnread folder (string_bytes name)
-RefusesFolder folder (faults.Map fault) = RefusesMapOf folder fault
-RefusesFolder folder faults.TooManyTables = IsTooLarge folder
-RefusesFolder folder faults.NoMemory = Unit {0}
-
--- The steps of it: what a fault says of the file that it names, or of the map's text.
+-- What a fault says of the file that it names, or of the map's text; want of memory says nothing.
 abbrev pub TellsFile : (List ℕ → Type 0) → (MapFault → Type 0) → GatherFault → Type 0
 TellsFile file map (faults.File name) = file (string_bytes name)
 TellsFile file map (faults.Map fault) = map fault
 TellsFile file map faults.NoMemory = Unit {0}
 TellsFile file map _ = ⊥
 
--- a file that can't be read, the first of several that can't, a map that gives no addresses
+abbrev pub RefusesFolder : Answers → GatherFault → Type 0
+RefusesFolder folder faults.Folder = folder.unlisted
+RefusesFolder folder faults.TooManyTables = IsTooLarge folder
+RefusesFolder folder fault = TellsFile (IsUnread folder) (RefusesMapOf folder) fault
+
+-- The steps of it: a file that can't be read, the first of several that can't, a map that gives no addresses.
 abbrev pub FailsAt : Answers → List ℕ → GatherFault → Type 0
 FailsAt folder name = TellsFile (λ other. (other ≡ name) × folder.unread name) (λ fault. ⊥)
 

@@ -5,9 +5,9 @@ use Rattle.std.proofs.lemmas.Bool.{true≢false}
 use Rattle.std.proofs.lemmas.Option.{same_Some}
 use Rattle.std.proofs.lemmas.Result.{IfOk-weaker}
 use Rattle.acpi_tables.specs.declared.dump.Dump.{Dump}
-use Rattle.acpi_tables.specs.declared.dump.Content.TheVariants.{Xsdt, Rsdt, Fadt, Madt, Other}
+use Rattle.acpi_tables.specs.declared.dump.Content.TheVariants.{Xsdt, Rsdt, Fadt, Madt}
 use Rattle.acpi_tables.specs.declared.dump.Kind.{Kind}
-use Rattle.acpi_tables.specs.declared.dump.Kind.TheVariants.{Root, Facs, Standard}
+use Rattle.acpi_tables.specs.declared.dump.Kind.TheVariants.{Standard}
 use Rattle.acpi_tables.specs.declared.faults.Bad.{Bad}
 use Rattle.acpi_tables.specs.declared.faults.Bad.TheVariants.{RootMissing, FadtMissing, NoDsdt, TwoDsdts}
 use Rattle.acpi_tables.specs.declared.faults.TableFault.{TableFault}
@@ -22,13 +22,11 @@ use Rattle.acpi_tables.proofs.Blocks.{are_tables}
 use Rattle.acpi_tables.proofs.Unique.{list_unique, fadt_unique, order_unique}
 
 content_taken : (kind : Kind) (bytes : List ℕ) (bad : Bad) → HoldsContent kind bytes → ¬ RefusesContent kind bytes bad
-content_taken Root bytes bad content refused = refused
-content_taken Facs bytes bad content refused = refused
 content_taken (Standard Xsdt) bytes bad content refused = refused.1 content
 content_taken (Standard Rsdt) bytes bad content refused = refused.1 content
 content_taken (Standard Fadt) bytes bad content refused = refused.1 content
 content_taken (Standard Madt) bytes bad content refused = whole_not_refused (table_of bytes) content bad refused
-content_taken (Standard Other) bytes bad content refused = refused
+content_taken _ bytes bad content refused = refused
 
 -- a dump that is taken is refused for nothing
 dump_taken : (any_sum : Bool) (bytes : List ℕ) (bad : Bad) → HoldsDump any_sum bytes → ¬ RefusesDump any_sum bytes bad

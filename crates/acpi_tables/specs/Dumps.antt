@@ -41,13 +41,11 @@ sums_hold (Standard content) bytes = nat_eq (checksum (table_of bytes)) 0
 
 -- What is read of it can be read.
 abbrev pub HoldsContent : Kind → List ℕ → Type 0
-HoldsContent Root bytes = ⊤
-HoldsContent Facs bytes = ⊤
 HoldsContent (Standard Xsdt) bytes = HoldsAddresses 8 (table_of bytes)
 HoldsContent (Standard Rsdt) bytes = HoldsAddresses 4 (table_of bytes)
 HoldsContent (Standard Fadt) bytes = HoldsFadt (table_of bytes)
 HoldsContent (Standard Madt) bytes = HoldsMadt (table_of bytes)
-HoldsContent (Standard Other) bytes = ⊤
+HoldsContent _ bytes = ⊤
 
 -- the greatest number of bytes of a dump
 abbrev pub most_bytes : ℕ
@@ -63,18 +61,15 @@ pub record HoldsDump (any_sum : Bool) (bytes : List ℕ) : Type 0 where
 -- What is wrong with a dump whose shape doesn't hold.
 abbrev pub shape_fault : Kind → Bad
 shape_fault Root = BadRoot
-shape_fault Facs = Short
-shape_fault (Standard content) = Short
+shape_fault _ = Short
 
 -- What is wrong with one of which something can't be read.
 abbrev pub RefusesContent : Kind → List ℕ → Bad → Type 0
-RefusesContent Root bytes bad = ⊥
-RefusesContent Facs bytes bad = ⊥
 RefusesContent (Standard Xsdt) bytes bad = (bad ≡ BadRoot) × (¬ HoldsAddresses 8 (table_of bytes))
 RefusesContent (Standard Rsdt) bytes bad = (bad ≡ BadRoot) × (¬ HoldsAddresses 4 (table_of bytes))
 RefusesContent (Standard Fadt) bytes bad = (bad ≡ FadtShort) × (¬ HoldsFadt (table_of bytes))
 RefusesContent (Standard Madt) bytes bad = RefusesMadt (table_of bytes) bad
-RefusesContent (Standard Other) bytes bad = ⊥
+RefusesContent _ bytes bad = ⊥
 
 -- Why a dump is refused: by the first of these that stands, its size, its shape, its checksums, and its content.
 abbrev pub RefusesBy : Kind → Bool → List ℕ → Bad → Type 0

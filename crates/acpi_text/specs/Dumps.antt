@@ -11,7 +11,7 @@ use Rattle.acpi_tables.specs.Madt.{Row, row_of, records_of, kind_of as record_ki
 use Rattle.acpi_tables.specs.Addresses.{address_bytes, address_count}
 use Rattle.acpi_tables.specs.Dumps.{kind_of, sums_hold}
 use Rattle.acpi_tables.specs.Order.{dump_at, name_of}
-use Rattle.acpi_tables.specs.declared.dump.Content.TheVariants.{Xsdt, Rsdt, Fadt, Madt, Other}
+use Rattle.acpi_tables.specs.declared.dump.Content.TheVariants.{Xsdt, Rsdt, Fadt, Madt}
 use Rattle.acpi_tables.specs.declared.dump.Dump.{Dump}
 use Rattle.acpi_tables.specs.declared.dump.Kind.{Kind}
 use Rattle.acpi_tables.specs.declared.dump.Kind.TheVariants.{Root, Facs, Standard}
@@ -159,13 +159,11 @@ madt_lines table = below (controller_text table) ++ flat_map record_line (record
 
 -- the lines below that of a dump
 abbrev pub lines_by : Kind → List Dump → List ℕ → List ℕ
-lines_by Root dumps bytes = []
-lines_by Facs dumps bytes = []
 lines_by (Standard Xsdt) dumps bytes = entry_lines dumps 8 (table_of bytes)
 lines_by (Standard Rsdt) dumps bytes = entry_lines dumps 4 (table_of bytes)
 lines_by (Standard Fadt) dumps bytes = fadt_lines (table_of bytes)
 lines_by (Standard Madt) dumps bytes = madt_lines (table_of bytes)
-lines_by (Standard Other) dumps bytes = []
+lines_by _ dumps bytes = []
 
 -- ---- a dump, and all of them
 
