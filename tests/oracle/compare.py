@@ -1,11 +1,12 @@
 #!/usr/bin/env python3
 """Compares what acpidis prints with an independent reading, over folders that are made up near the grammar and then damaged.
 
-    python3 tests/oracle/compare.py [--seconds N | --sets N] [--seed N] [--with-externals] [FOLDER ..]
+    python3 tests/oracle/compare.py [--seconds N | --sets N] [--seed N] [--with-externals] [--workers N,N..] [FOLDER ..]
 
 Standard output, standard error and the status are compared whole. A FOLDER of dumps is compared as it stands, and then damaged
 copies of it. The first sets that differ are kept, and the status is 1. With --with-externals most made-up sets come
-with a file for the option --externals. ./test compares 500 sets of seed 0.
+with a file for the option --externals. With --workers each set is run by each of these numbers of workers, in place of
+the one that was made up. ./test compares 500 sets of seed 0.
 """
 
 import argparse
@@ -56,8 +57,8 @@ def first_difference(got, wanted):
 class Comparison:
     """Compares one folder after another, and counts how they end."""
 
-    def __init__(self, program):
-        self.program = program
+    def __init__(self, program, workers=None):
+        self.program, self.workers = program, workers
         self.ends, self.faults = collections.Counter(), collections.Counter()
         self.methods = self.raw = self.differences = self.decided = 0
 
@@ -66,10 +67,12 @@ class Comparison:
         self.count(wanted)
         if options.externals is not None and wanted.status != REFUSED:
             self.decided += wanted != run_folder(folder, dataclasses.replace(options, externals=None))
-        difference = first_difference(run_program(self.program, folder, options), wanted)
-        if difference:
-            self.differences += 1
-            print(f"set {self.ends.total()} differs: acpidis {' '.join(kept_words(folder, options))}: {difference}")
+        for asked in [dataclasses.replace(options, workers=it) for it in self.workers or [options.workers]]:
+            difference = first_difference(run_program(self.program, folder, asked), wanted)
+            if difference:
+                self.differences += 1
+                print(f"set {self.ends.total()} differs: acpidis {' '.join(kept_words(folder, asked))}: {difference}")
+                return
 
     def count(self, outcome):
         self.ends[{DONE: "accepted", RAW: "with raw bodies"}.get(outcome.status, "refused")] += 1
@@ -122,11 +125,12 @@ def main():
     words.add_argument("--sets", type=int, help="compare so many made-up sets, however long it takes")
     words.add_argument("--seed", type=int, default=0)
     words.add_argument("--with-externals", action="store_true", help="make up files for the option --externals too")
+    words.add_argument("--workers", type=lambda text: [int(it) for it in text.split(",")], help="run each set by these")
     words.add_argument("--program", type=pathlib.Path, default=PROGRAM, help="another program than out/acpidis")
     asked = words.parse_args()
     if not asked.program.exists():
         sys.exit("the program isn't built: ./acpidis demo builds it")
-    comparison = Comparison(asked.program.resolve())
+    comparison = Comparison(asked.program.resolve(), asked.workers)
     for folder in asked.folders:
         comparison.compare(folder, Options())
         comparison.compare(folder, Options(check=True))
