@@ -27,14 +27,14 @@ const MULTI_NAME_PREFIX: u8 = 0x2F;
 fn is_lead_char(byte: u8) -> bool
     ensures { result ≡ leads byte }
 {
-    (65 <= byte && byte <= 90) || byte == 95
+    (b'A' <= byte && byte <= b'Z') || byte == b'_'
 }
 
 /// Whether a byte is a NameChar: a LeadNameChar or a digit.
 fn is_name_char(byte: u8) -> bool
     ensures { result ≡ follows byte }
 {
-    is_lead_char(byte) || (48 <= byte && byte <= 57)
+    is_lead_char(byte) || (b'0' <= byte && byte <= b'9')
 }
 
 /// Whether a byte can begin a name in any position: a LeadNameChar or a prefix. The NullName, 00, is none, since that
