@@ -35,7 +35,8 @@ returns-in-Some c =
     let s = c.args.self.now in
     let segment = c.args.segment.now in
     let d = c.depths.depth in
-    let here = part_met (λ c. c.given) _ _ _ _ _ _ c.given_at.ensures c.node_at-node.ensures.node refl refl c.requires.scope.shape in
+    let here = part_met (λ c. c.given) s.nodes.now s.nodes.now (take d s.path.now ++ segment) _ c.node_at-node.result c.given_at.result
+    c.given_at.ensures c.node_at-node.ensures.node refl refl c.requires.scope.shape in
     sym (c.depths.invariant.same ∙ here_given (names_of s) set.empty s.path.now segment d (take d s.path.now ++ segment) c.in-Some.count refl
     (sym here ∙ c.in-Some.is))
 
@@ -44,7 +45,8 @@ returns-then-depth-eq0 c =
     let s = c.args.self.now in
     let segment = c.args.segment.now in
     let d = c.depths.depth in
-    let here = part_met (λ c. c.given) _ _ _ _ _ _ c.given_at.ensures c.node_at-node.ensures.node refl refl c.requires.scope.shape in
+    let here = part_met (λ c. c.given) s.nodes.now s.nodes.now (take d s.path.now ++ segment) _ c.node_at-node.result c.given_at.result
+    c.given_at.ensures c.node_at-node.ensures.node refl refl c.requires.scope.shape in
     let none = sym here ∙ none_by c.given_at.result c.in_default.not-Some in
     sym (c.depths.invariant.same ∙ ap (λ d. first_given (names_of s) (upward d s.path.now segment)) {x = d} {y = 0} c.if-depth-eq0.true
     ∙ root_given (names_of s) set.empty s.path.now segment (take 0 s.path.now ++ segment) refl
@@ -57,7 +59,8 @@ depths-preserved c =
     let d = c.depths.depth in
     let inv = c.depths.invariant in
     let next = c.next_asked-depth-in-depths.ensures in
-    let here = part_met (λ c. c.given) _ _ _ _ _ _ c.given_at.ensures c.node_at-node.ensures.node refl refl c.requires.scope.shape in
+    let here = part_met (λ c. c.given) s.nodes.now s.nodes.now (take d s.path.now ++ segment) _ c.node_at-node.result c.given_at.result
+    c.given_at.ensures c.node_at-node.ensures.node refl refl c.requires.scope.shape in
     let none = sym here ∙ none_by c.given_at.result c.in_default.not-Some in
     let positive : 0 < d = omega (arith, c.if-depth-eq0.false) in
     record {

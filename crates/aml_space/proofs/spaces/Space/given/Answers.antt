@@ -6,9 +6,10 @@ use Rattle.aml_space.specs.Nodes.{known_by, IsIndex}
 use Rattle.aml_space.proofs.Stands.{stands_given}
 use Rattle.aml_space.proofs.Index.{put_given}
 use Rattle.aml_space.proofs.spaces.Space.given.Goals as goal
+use Rattle.aml_space.proofs.spaces.Space.given.Goals.{After-set_given}
 
 -- the nodes are an index still, and know the count
-put_here : (c : goal.After-set_given)
+put_here : (c : After-set_given)
     → IsIndex c.set_given.new.nodes.items × (known_by c.set_given.new.nodes.items ≡ with_given c.args.self.now c.args.path.now c.args.count)
 put_here c =
     let put = put_given c.make_node.new.nodes.items c.set_given.new.nodes.items c.segs.result.now c.in_ok-at.at c.make_node.ensures.index
@@ -17,13 +18,13 @@ put_here c =
 
 pub invariant_of-self-2 : goal.invariant_of-self-2
 invariant_of-self-2 c = record {
-  index = (put_here c).0;
+  index = (put_here (goal.at.invariant_of-self-2 c).After-set_given).0;
   rows = c.self.invariant.rows ∙ ap (λ (k : Known). length (map.entries k.kinds)) c.self.view_is
-      ∙ ap (λ (k : Known). length (map.entries k.kinds)) (sym (put_here c).1);
+      ∙ ap (λ (k : Known). length (map.entries k.kinds)) (sym (put_here (goal.at.invariant_of-self-2 c).After-set_given).1);
 }
 
 pub returns-clause-ok : goal.returns-clause-ok
-returns-clause-ok c = (put_here c).1
+returns-clause-ok c = (put_here (goal.at.returns-clause-ok c).After-set_given).1
 
 pub returns-clause-stands : goal.returns-clause-stands
 returns-clause-stands c = λ es stands. subst (λ k. StandsFor k (es ++ said c.args.path.now c.args.count ∷ [])) (sym (returns-clause-ok c))
