@@ -1,5 +1,4 @@
-use Rattle.std.proofs.Common.{rules, arith}
-use Rattle.std.proofs.lemmas.Bool.Decides.{nat_tests}
+use Rattle.std.proofs.Common.{rules, tests}
 use Rattle.std.proofs.lemmas.Option.{MatchOption-at_none, MatchOption-at_some}
 use Rattle.acpi_folder.proofs.Counts.{unread, turn, none_printed, root_printed, printed}
 use Rattle.acpi_folder.proofs.externals.read_path.Goals as goal
@@ -20,4 +19,4 @@ pub returns-then-is_empty-clause-path : goal.returns-then-is_empty-clause-path
 returns-then-is_empty-clause-path c = λ path. root_printed _ _ _ _ path c.loop-rest.invariant (search rules) (search rules)
 
 pub returns-clause-path : goal.returns-clause-path
-returns-clause-path c = rw c.from_segs.ensures (printed _ _ _ _ c.loop-rest.invariant (search rules) (grind (arith, nat_tests)))
+returns-clause-path c = rw c.from_segs.ensures (printed _ _ _ _ c.loop-rest.invariant (search rules) (search (rules, tests)))
