@@ -1,7 +1,6 @@
 -- In lawful terms each Else stands right behind an If.
 use Rattle.std.specs.Prelude.{◌==◌}
 use Rattle.std.proofs.Common.{◌≡◌, ℕ, zero, suc, Bool, List, [], ◌∷◌, true, false, cond, Option, Some, None, refl, sym, ap, subst, ◌∙◌}
-use Rattle.std.specs.List.{list_all}
 use Rattle.aml_names.specs.declared.segments.Seg.{Seg}
 use Rattle.aml_names.specs.Paths.{PathSet}
 use Rattle.aml_code.specs.Opcodes.{Row, rows}
@@ -20,7 +19,7 @@ use Rattle.aml_code.specs.Lawful.{Setting, IsLawful, AreTerms, IsPart, AreParts,
 use Rattle.aml_code.specs.Lawful.{next_position}
 use Rattle.aml_code.specs.Meaning.{ReadsBody, ReadsModule}
 use Rattle.aml_code.specs.Rows.{row_of, takes}
-use Rattle.aml_code.proofs.RowFacts.{row_opcode, row_passes}
+use Rattle.aml_code.proofs.RowFacts.{row_opcode, rows_say}
 use Rattle.aml_code.proofs.InnerLaws.{is_inner, inner_next}
 use Rattle.aml_code.specs.Tree.{Tree, nothing, named, op, Trees, no_trees, tree_more, Part, child, Parts, no_parts, part_more}
 use Rattle.aml_code.specs.Tree.{Tail, terms, elements, fields, Field, connection, Fields, no_fields, field_more, target, buffer}
@@ -44,28 +43,14 @@ only_else : (p : Place) → is_else_place p ≡ true → p ≡ places.Else
 only_else places.Else e = refl
 only_else _ e = absurd cc
 
-if_row : Row → Bool
-if_row r = cond (is_if_place r.place) (r.opcode == 0xA0) true
-
-else_row : Row → Bool
-else_row r = cond (r.opcode == 0xA1) (is_else_place r.place) true
-
-all_ifs : list_all if_row rows ≡ true
-unfolding rows if_row
-all_ifs = refl
-
-all_elses : list_all else_row rows ≡ true
-unfolding rows else_row
-all_elses = refl
-
 if_opcode : (o : ℕ) (r : Row) → row_of o ≡ Some r → is_if_place r.place ≡ true → (o == 0xA0) ≡ true
-unfolding if_row
-if_opcode o r e is = subst (λ n. (n == 0xA0) ≡ true) (row_opcode o r e) (sym (ap (λ b. cond b (r.opcode == 0xA0) true) is) ∙ row_passes if_row all_ifs o r e)
+unfolding rows
+if_opcode o r e is = subst (λ n. (n == 0xA0) ≡ true) (row_opcode o r e) (rows_say (λ r. is_if_place r.place) (λ r. r.opcode == 0xA0) refl o r e is)
 
 else_place : (o : ℕ) (r : Row) → row_of o ≡ Some r → (o == 0xA1) ≡ true → r.place ≡ places.Else
-unfolding else_row
+unfolding rows
 else_place o r e is =
-    only_else r.place (sym (ap (λ b. cond b (is_else_place r.place) true) (ap (λ n. n == 0xA1) (row_opcode o r e) ∙ is)) ∙ row_passes else_row all_elses o r e)
+    only_else r.place (rows_say (λ r. r.opcode == 0xA1) (λ r. is_else_place r.place) refl o r e (ap (λ n. n == 0xA1) (row_opcode o r e) ∙ is))
 
 -- ---- what stands behind an If
 

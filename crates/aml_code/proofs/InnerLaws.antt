@@ -1,6 +1,5 @@
 -- What stands inside a term and not in a list of terms declares nothing: an argument, a target, data.
 use Rattle.std.proofs.Common.{◌≡◌, ℕ, zero, suc, Bool, true, false, cond, not, ◌&&◌, List, Option, Some, None, refl, ap, ◌∙◌}
-use Rattle.std.specs.List.{list_all}
 use Rattle.aml_names.specs.declared.segments.Seg.{Seg}
 use Rattle.aml_names.specs.Paths.{PathSet}
 use Rattle.aml_code.specs.declared.rows.Place.{Place}
@@ -16,7 +15,7 @@ use Rattle.aml_code.specs.Rows.{row_of, takes, taken_as_argument}
 use Rattle.aml_code.specs.Tree.{Tree, nothing, named, op, Trees, no_trees, tree_more, Parts, Tail, terms}
 use Rattle.aml_code.specs.Declaring.{names_declared, with_declared, declared_by, after, after_all, after_tail}
 use Rattle.aml_code.specs.Lawful.{Setting, IsLawful, AreTerms, IsTail, next_position}
-use Rattle.aml_code.proofs.RowFacts.{and_left, and_right, row_passes}
+use Rattle.aml_code.proofs.RowFacts.{and_left, and_right, rows_say}
 
 abbrev pub is_inner : Position → Bool
 is_inner positions.Argument = true
@@ -39,13 +38,6 @@ has_terms : TailKind → Bool
 has_terms tails.Terms = true
 has_terms _ = false
 
-quiet_row : Row → Bool
-quiet_row r = cond (taken_as_argument r.place) (is_other r.role && not (has_terms r.tail)) true
-
-all_quiet : list_all quiet_row rows ≡ true
-unfolding rows quiet_row is_other has_terms
-all_quiet = refl
-
 as_argument : (p : Position) (place : Place) → is_inner p ≡ true → takes p place ≡ true → taken_as_argument place ≡ true
 as_argument positions.Argument place i e = e
 as_argument positions.Target places.Target i e = refl
@@ -55,10 +47,8 @@ as_argument positions.Data _ i e = absurd cc
 as_argument _ place i e = absurd cc
 
 quiet : (o : ℕ) (r : Row) → row_of o ≡ Some r → taken_as_argument r.place ≡ true → (is_other r.role && not (has_terms r.tail)) ≡ true
-unfolding quiet_row
-quiet o r e taken =
-    ap (λ b. cond b (is_other r.role && not (has_terms r.tail)) true) {x = true} {y = taken_as_argument r.place} (cc taken)
-    ∙ row_passes quiet_row all_quiet o r e
+unfolding rows is_other has_terms
+quiet o r e taken = rows_say (λ r. taken_as_argument r.place) (λ r. is_other r.role && not (has_terms r.tail)) refl o r e taken
 
 -- ---- nothing is declared
 
