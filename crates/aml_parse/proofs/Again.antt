@@ -40,8 +40,8 @@ use Rattle.aml_code.proofs.RowFacts.{row_opcode, row_is_opcode, lead_of, row_apa
 use Rattle.aml_parse.specs.Reading.{Reader, flat, part_at, parts_at, arguments_at, terms_at, named_unit, named_link, buffer_at, link_at, field_at, fields_at}
 use Rattle.aml_parse.specs.Reading.{known, call_at, takes_names, name_term_at, refusal, body_to, tail_at, plain_at, packed_at, row_at, by_row, operation_at}
 use Rattle.aml_parse.specs.Reading.{is_absent_target, term_at}
-use Rattle.aml_parse.proofs.FlatLaws.{number_again, count_again, text_again, segmented_again, opcode_again}
-use Rattle.aml_parse.proofs.FieldLaws.{apart, named_unit_again, reserved_again, access_again, extended_again}
+use Rattle.aml_parse.proofs.FlatLaws.{number_again, count_again, text_again, segmented_again, opcode_again, apart, named_unit_again, reserved_again}
+use Rattle.aml_parse.proofs.FlatLaws.{access_again, extended_again}
 use Rattle.aml_parse.proofs.Leads.{tail_is_empty, guard_again}
 use Rattle.aml_parse.proofs.Took.{IsReader, place_behind, place_split, nonempty, field_some, names_taken, long_tail}
 use Rattle.aml_parse.proofs.Bodiless.{bodiless, terms_bodiless}

@@ -1,11 +1,10 @@
 pub mod FlatLaws
-pub mod FieldLaws
+pub mod FlatReads
 pub mod Took
 pub mod Leads
 pub mod Bodiless
-pub mod Takes
+pub mod ReadLaws
 pub mod Again
-pub mod Placed
 pub mod Readings
 pub mod PrefixLaws
 pub mod Loops

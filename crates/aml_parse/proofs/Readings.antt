@@ -9,7 +9,7 @@ use Rattle.aml_names.specs.declared.faults.CodeFault.TheVariants as faults
 use Rattle.aml_names.specs.declared.segments.Seg.{Seg}
 use Rattle.aml_names.specs.Paths.{PathSet}
 use Rattle.aml_names.specs.Steps.{Gives}
-use Rattle.aml_names.proofs.StepLaws.{ok_is, err_is, IsBytes}
+use Rattle.aml_names.proofs.StepLaws.{ok_is, IsBytes}
 use Rattle.aml_code.specs.declared.rows.Position.{Position}
 use Rattle.aml_code.specs.declared.rows.Position.TheVariants as positions
 use Rattle.aml_code.specs.Tree.{Tree, Trees}
@@ -17,64 +17,43 @@ use Rattle.aml_code.specs.Encoding.{encoding, encodings}
 use Rattle.aml_code.specs.Faults.{Arities, StandsAt}
 use Rattle.aml_code.specs.Lawful.{Setting, AreTerms}
 use Rattle.aml_code.specs.Meaning.{setting_of, BodiesStand, ReadsBody, ReadsModule, no_arguments}
-use Rattle.aml_code.proofs.Answered.{answered, not_answered, read_on}
-use Rattle.aml_code.proofs.Within.{Within, whole, truncated_placed, offset_is, span_inside}
+use Rattle.aml_code.proofs.Answered.{read_on}
+use Rattle.aml_code.proofs.Within.{whole, end_there, span_inside}
 use Rattle.aml_parse.specs.Reading.{terms_at, too_deep, read_at, all_at}
-use Rattle.aml_parse.proofs.Took.{IsReader, IsPlaced, nonempty}
+use Rattle.aml_parse.proofs.FlatReads.{Answers, fails, made, at_offset}
+use Rattle.aml_parse.proofs.Took.{Reads, TookTerm, IsReader}
 use Rattle.aml_parse.proofs.Bodiless.{terms_bodiless}
-use Rattle.aml_parse.proofs.Takes.{terms_take, term_take}
+use Rattle.aml_parse.proofs.ReadLaws.{terms_reads, term_reads}
 use Rattle.aml_parse.proofs.Again.{terms_again, term_again}
-use Rattle.aml_parse.proofs.Placed.{terms_placed, term_placed}
-
-too_deep_fails : (end : ℕ) (ls : PathSet) (bs : List ℕ) (x : Tree × PathSet × List ℕ) → too_deep end ls bs ≡ Ok x → ⊥
-too_deep_fails end ls [] x e = absurd cc
-too_deep_fails end ls (b ∷ bs) x e = absurd cc
 
 module _ (s : Setting) where
+  too_deep_reads : (p : Position) → Reads s 0 (TookTerm s 0 p) too_deep
+  too_deep_reads p at end ls [] w deep = fails s _ (faults.Truncated end) (end_there s.code at end [] w)
+  too_deep_reads p at end ls (b ∷ bs) w deep =
+      fails s _ (faults.TooDeep (end - length (b ∷ bs))) (at_offset s at end (b ∷ bs) w (λ n. faults.TooDeep n)
+      (omega (arith, deep), omega (arith, w.place, span_inside s.code at end (b ∷ bs) w)))
+
   pub read_law : (levels : ℕ) → IsReader s levels (read_at s.arity s.scope levels)
   unfolding read_at
-  read_law zero = record {
-    take = λ p at end ls bs x w e. absurd (too_deep_fails end ls bs x e);
-    again = λ p at end ls t rest h stands place. absurd h;
-  }
+  read_law zero = record { reads = λ p at end ls bs w deep. too_deep_reads p at end ls bs w deep; again = λ p at end ls t rest h stands place. absurd h }
   read_law (suc levels) = record {
-    take = λ p at end ls bs x w e. term_take s levels (read_at s.arity s.scope levels) (read_law levels) p at end ls bs x w e;
+    reads = λ p at end ls bs w deep. term_reads s levels (read_at s.arity s.scope levels) (read_law levels) p at end ls bs w deep;
     again = λ p at end ls t rest h stands place. term_again s levels (read_at s.arity s.scope levels) (read_law levels) p at end ls t rest h stands place;
   }
-
-  too_deep_placed : IsPlaced s 0 too_deep
-  too_deep_placed at end ls [] d w deep e =
-      truncated_placed s.arity s.code at end [] d w (sym (err_is {A = Tree × PathSet × List ℕ} (faults.Truncated end) d e))
-  too_deep_placed at end ls (b ∷ bs) d w deep e =
-      let fault : faults.TooDeep (end - length (b ∷ bs)) ≡ d = err_is {A = Tree × PathSet × List ℕ} (faults.TooDeep (end - length (b ∷ bs))) d e in
-      let there : d ≡ faults.TooDeep at = sym fault ∙ ap (λ n. faults.TooDeep n) (offset_is s.code at end (b ∷ bs) w) in
-      subst (StandsAt s.arity s.code) (sym there) (omega (arith, deep), omega (arith, w.place, span_inside s.code at end (b ∷ bs) w))
-
-  pub read_placed : (levels : ℕ) (p : Position) → IsPlaced s levels (read_at s.arity s.scope levels p)
-  unfolding read_at
-  read_placed zero p at end ls bs d w deep e = too_deep_placed at end ls bs d w deep e
-  read_placed (suc levels) p at end ls bs d w deep e =
-      term_placed s levels (read_at s.arity s.scope levels) (read_law levels) (read_placed levels) p at end ls bs d w deep e
-
-  -- a term of a list takes a byte at least
-  pub read_shorter : (levels : ℕ) (p : Position) (at end : ℕ) (ls : PathSet) (bs : List ℕ) (x : Tree × PathSet × List ℕ) → Within s.code at end bs
-      → read_at s.arity s.scope levels p end ls bs ≡ Ok x → length x.2 < length bs
-  read_shorter levels p at end ls bs x w e =
-      let a = (read_law levels).take p at end ls bs x w e in
-      omega (arith, nonempty s levels p ls x.0 a.lawful, ap length a.takes.parts, length-append (encoding s.code x.0) x.2)
 
 -- ---- all of the code
 
 -- by how many arguments each name takes, from a scope, in a position
 module _ (arity : Arities) (scope : Option (List Seg)) (p : Position) (code : List ℕ) where
-  all_taken : (ts : Trees) → IsBytes code → all_at arity scope p code ≡ Ok ts
-      → AreTerms (setting_of arity scope code) 512 p set.empty ts × (encodings code ts ≡ code) × BodiesStand code 0 ts
+  all_reads : IsBytes code
+      → Answers (setting_of arity scope code)
+      (λ ts. AreTerms (setting_of arity scope code) 512 p set.empty ts × (encodings code ts ≡ code) × BodiesStand code 0 ts) (all_at arity scope p code)
   unfolding all_at
-  all_taken ts fits e =
-      answered (λ us. AreTerms (setting_of arity scope code) 512 p set.empty us × (encodings code us ≡ code) × BodiesStand code 0 us) _ _ ts e (λ x h.
+  all_reads fits =
       let s = setting_of arity scope code in
-      let a = terms_take s 512 (read_at arity scope 512) (read_law s 512) (length code) p 0 (length code) set.empty code x (whole code fits) h in
-      (a.lawful, sym a.text, a.stands))
+      made s _ _ _ _
+      (terms_reads s 512 (read_at arity scope 512) (read_law s 512) (length code) p 0 (length code) set.empty code (whole code fits) (omega arith))
+      (λ x a. (a.lawful, sym a.text, a.stands))
 
   all_again : (ts : Trees) → AreTerms (setting_of arity scope code) 512 p set.empty ts → encodings code ts ≡ code → BodiesStand code 0 ts
       → all_at arity scope p code ≡ Ok ts
@@ -88,11 +67,7 @@ module _ (arity : Arities) (scope : Option (List Seg)) (p : Position) (code : Li
       read_on _ _ _ _ (ap (terms_at (read_at arity scope 512) (length code) p (length code) set.empty) (sym spelled) ∙ read) refl
 
   pub all_placed : (d : CodeFault) → IsBytes code → all_at arity scope p code ≡ Err d → StandsAt arity code d
-  unfolding all_at
-  all_placed d fits e =
-      let s = setting_of arity scope code in
-      terms_placed s 512 (read_at arity scope 512) (read_law s 512) (read_placed s 512) (length code) p 0 (length code) set.empty code d (whole code fits)
-      (omega arith) (not_answered _ _ d e)
+  all_placed d fits e = (all_reads fits).fault d e
 
 -- ---- what a function answers, seen by a view, that gives what reading gives
 
@@ -138,7 +113,7 @@ module _ {X : Type 0} (view : X → Trees) (result : Result X CodeFault) (arity 
 
   pub given_body_sound : IsBytes code → IfOk result (λ x. ReadsBody arity method code (view x))
   given_body_sound fits = given_sound view result _ given (ReadsBody arity method code) (λ ts e.
-      let a = all_taken arity (Some method) positions.BodyTerm code ts fits e in record { lawful = a.0; spelled = a.1 })
+      let a = (all_reads arity (Some method) positions.BodyTerm code fits).ok ts e in record { lawful = a.0; spelled = a.1 })
 
   pub given_body_one : IfOk result (λ x. (us : Trees) → ReadsBody arity method code us → us ≡ view x)
   given_body_one = given_one view result _ given (ReadsBody arity method code) body_again
@@ -150,7 +125,7 @@ module _ {X : Type 0} (view : X → Trees) (result : Result X CodeFault) (arity 
 
 pub module_sound : (code : List ℕ) (ts : Trees) → IsBytes code → all_at no_arguments None positions.ModuleTerm code ≡ Ok ts → ReadsModule code ts
 module_sound code ts fits e =
-    let a = all_taken no_arguments None positions.ModuleTerm code ts fits e in record { lawful = a.0; spelled = a.1; bodies = a.2 }
+    let a = (all_reads no_arguments None positions.ModuleTerm code fits).ok ts e in record { lawful = a.0; spelled = a.1; bodies = a.2 }
 
 pub module_again : (code : List ℕ) (ts : Trees) → ReadsModule code ts → all_at no_arguments None positions.ModuleTerm code ≡ Ok ts
 module_again code ts h = all_again no_arguments None positions.ModuleTerm code ts h.lawful h.spelled h.bodies

@@ -1,14 +1,13 @@
 -- What was read from the front of the bytes, and what a reader of terms keeps.
-use Rattle.std.proofs.Common.{◌≡◌, ℕ, zero, suc, ◌+◌, ◌<◌, ◌≤◌, true, false, List, [], ◌∷◌, ◌++◌, length, Some, Ok, Err, refl, sym, ap, subst, ◌∙◌}
+use Rattle.std.proofs.Common.{◌≡◌, ℕ, zero, suc, ◌+◌, ◌<◌, ◌≤◌, true, false, List, [], ◌∷◌, ◌++◌, length, Some, Result, Ok, refl, sym, ap, subst, ◌∙◌}
 use Rattle.std.proofs.Common.{append_assoc, arith}
 use Rattle.std.proofs.lemmas.List.{length-append}
 use Rattle.aml_names.specs.declared.faults.CodeFault.{CodeFault}
 use Rattle.aml_names.specs.declared.names.Name.{Name}
 use Rattle.aml_names.specs.Names.{IsNameSeg, IsName, spelling}
 use Rattle.aml_names.specs.Paths.{PathSet}
-use Rattle.aml_names.specs.Steps.{Left}
 use Rattle.aml_names.proofs.NameLaws.{name_lead}
-use Rattle.aml_names.proofs.StepLaws.{IsBytes, Takes}
+use Rattle.aml_names.proofs.StepLaws.{Takes}
 use Rattle.aml_code.specs.declared.rows.PartKind.{PartKind}
 use Rattle.aml_code.specs.declared.rows.Position.{Position}
 use Rattle.aml_code.specs.declared.rows.Position.TheVariants as positions
@@ -21,23 +20,17 @@ use Rattle.aml_code.specs.Tree.{tree_count}
 use Rattle.aml_code.specs.Encoding.{opcode_bytes, packed, encoding, encodings, part_encoding, parts_encoding, tail_encoding, field_encoding, fields_encoding}
 use Rattle.aml_code.specs.Encoding.{link_encoding}
 use Rattle.aml_code.specs.Declaring.{after, after_all, after_tail}
-use Rattle.aml_code.specs.Faults.{Arities, StandsAt}
+use Rattle.aml_code.specs.Faults.{Arities}
 use Rattle.aml_code.specs.Lawful.{count_in, Setting, IsLawful, AreTerms, IsPart, AreParts, IsTail, IsLink, IsField, AreFields}
 use Rattle.aml_code.specs.Meaning.{BodyStands, BodiesStand, TailStands}
 use Rattle.aml_code.proofs.RowFacts.{opcode_some}
 use Rattle.aml_code.proofs.Within.{Within}
 use Rattle.aml_parse.specs.Reading.{Reader, takes_names}
+use Rattle.aml_parse.proofs.FlatReads.{Answers}
 
--- ---- what holds no terms, and what is inside a term: it is spelled so, it is so, and it declares nothing
+-- ---- what is inside a term: it is spelled so, it is so, and it declares nothing
 
 module _ {A : Type 0} (spelled : A → List ℕ) (Is : A → Type 0) where
-  pub record TookFlat (bs : List ℕ) (x : A × List ℕ) : Type 0 where
-    pub takes : Takes bs (spelled x.0) x.1
-    pub is : Is x.0
-
-  abbrev pub TakesFlat : (ℕ → List ℕ → Left A) → Type 0
-  TakesFlat step = (end : ℕ) (bs : List ℕ) (x : A × List ℕ) → IsBytes bs → step end bs ≡ Ok x → TookFlat bs x
-
   pub record TookInner (ls : PathSet) (bs : List ℕ) (x : A × PathSet × List ℕ) : Type 0 where
     pub takes : Takes bs (spelled x.0) x.2
     pub is : Is x.0
@@ -46,7 +39,7 @@ module _ {A : Type 0} (spelled : A → List ℕ) (Is : A → Type 0) where
 -- ---- terms, and what is made of them
 
 module _ (s : Setting) (levels : ℕ) where
-  pub record TookTerm (p : Position) (ls : PathSet) (at : ℕ) (bs : List ℕ) (x : Tree × PathSet × List ℕ) : Type 0 where
+  pub record TookTerm (p : Position) (at : ℕ) (ls : PathSet) (bs : List ℕ) (x : Tree × PathSet × List ℕ) : Type 0 where
     pub takes : Takes bs (encoding s.code x.0) x.2
     pub lawful : IsLawful s levels p ls x.0
     pub after_is : x.1 ≡ after s.scope ls x.0
@@ -58,7 +51,7 @@ module _ (s : Setting) (levels : ℕ) where
     pub count : tree_count x.0 ≡ n
     pub after_is : x.1 ≡ after_all s.scope ls x.0
 
-  pub record TookTerms (p : Position) (ls : PathSet) (at : ℕ) (bs : List ℕ) (x : Trees × PathSet) : Type 0 where
+  pub record TookTerms (p : Position) (at : ℕ) (ls : PathSet) (bs : List ℕ) (x : Trees × PathSet) : Type 0 where
     pub text : bs ≡ encodings s.code x.0
     pub lawful : AreTerms s levels p ls x.0
     pub after_is : x.1 ≡ after_all s.scope ls x.0
@@ -69,7 +62,7 @@ module _ (s : Setting) (levels : ℕ) where
     pub are_fields : AreFields s levels ls x.0
     pub same : x.1 ≡ ls
 
-  pub record TookTail (p : Position) (k : TailKind) (ls : PathSet) (at : ℕ) (bs : List ℕ) (x : Tail × PathSet) : Type 0 where
+  pub record TookTail (p : Position) (k : TailKind) (at : ℕ) (ls : PathSet) (bs : List ℕ) (x : Tail × PathSet) : Type 0 where
     pub text : bs ≡ tail_encoding s.code x.0
     pub is_tail : IsTail s levels p k ls x.0
     pub after_is : x.1 ≡ after_tail s.scope ls x.0
@@ -87,17 +80,16 @@ module _ (s : Setting) (levels : ℕ) where
   abbrev pub TookField : PathSet → List ℕ → Field × PathSet × List ℕ → Type 0
   TookField ls = TookInner (field_encoding s.code) (IsField s levels ls) ls
 
+  -- What a reader answers is so, or its fault is true. What is left of the levels makes up 512 with the offset: a term takes a
+  -- level and a byte at least, so where no level is left the offset is 512 or more.
+  abbrev pub Reads : {A : Type 0} → (ℕ → PathSet → List ℕ → A → Type 0) → (ℕ → PathSet → List ℕ → Result A CodeFault) → Type 0
+  Reads Took read = (at end : ℕ) (ls : PathSet) (bs : List ℕ) → Within s.code at end bs → 512 ≤ levels + at → Answers s (Took at ls bs) (read end ls bs)
+
   -- what is read is lawful and spelled so, and a lawful term is read again, whatever follows it
   pub record IsReader (read : Position → Reader Tree) : Type 0 where
-    pub take : (p : Position) (at end : ℕ) (ls : PathSet) (bs : List ℕ) (x : Tree × PathSet × List ℕ) → Within s.code at end bs
-        → read p end ls bs ≡ Ok x → TookTerm p ls at bs x
+    pub reads : (p : Position) → Reads (TookTerm p) (read p)
     pub again : (p : Position) (at end : ℕ) (ls : PathSet) (t : Tree) (rest : List ℕ) → IsLawful s levels p ls t → BodyStands s.code at t
         → at + length (encoding s.code t ++ rest) ≡ end → read p end ls (encoding s.code t ++ rest) ≡ Ok (t, after s.scope ls t, rest)
-
-  -- the faults of a reader are true, where what is left of the levels and the offset make up 512
-  abbrev pub IsPlaced : {A : Type 0} → Reader A → Type 0
-  IsPlaced read = (at end : ℕ) (ls : PathSet) (bs : List ℕ) (d : CodeFault) → Within s.code at end bs → 512 ≤ levels + at
-      → read end ls bs ≡ Err d → StandsAt s.arity s.code d
 
 -- ---- offsets
 
