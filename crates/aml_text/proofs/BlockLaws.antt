@@ -68,38 +68,35 @@ pub ruleset table_nodes = (table_nothing, left_nothing, table_named, left_named,
 
 -- ---- by tails
 
-pub table_empty : (code : List ℕ) (level o : ℕ) (ps : Parts) (tail : Tail) (bs : List BodyLines) → tail ≡ tails.Empty
-    → table_op_lines code level o ps (tail_view tail) bs ≡ op_lines level (head_text (row_of o) (part_texts ps)) (tail_view tail)
-table_empty code level o ps tail bs e =
-    let is : tail_view tail ≡ trees.empty = ap tail_view e ∙ view-tail-Empty in
-    ap (λ t. table_op_lines code level o ps t bs) is ∙ sym (ap (op_lines level (head_text (row_of o) (part_texts ps))) is)
+module _ (code : List ℕ) (level o : ℕ) (ps : Parts) (bs : List BodyLines) where
+  -- lines of a term that is no table's alone
+  abbrev AsLines : Tail → Type 0
+  AsLines tail = table_op_lines code level o ps (tail_view tail) bs ≡ op_lines level (head_text (row_of o) (part_texts ps)) (tail_view tail)
+
+  as_lines : (tail : Tail) (t : trees.Tail) → tail_view tail ≡ t
+      → table_op_lines code level o ps t bs ≡ op_lines level (head_text (row_of o) (part_texts ps)) t → AsLines tail
+  as_lines tail t is e = rw is e
+
+  pub table_empty : (tail : Tail) → tail ≡ tails.Empty → AsLines tail
+  table_empty tail e = as_lines tail trees.empty (ap tail_view e ∙ view-tail-Empty) refl
+
+  pub table_bytes : (tail : Tail) (xs : List ℕ) → tail ≡ tails.Bytes xs → AsLines tail
+  table_bytes tail xs e = as_lines tail (trees.bytes xs) (ap tail_view e ∙ view-tail-Bytes xs) refl
+
+  pub table_elements : (tail : Tail) (ns : Vec Node Global) → tail ≡ tails.Elements ns → AsLines tail
+  table_elements tail ns e = as_lines tail (trees.elements (nodes_view ns.items)) (ap tail_view e ∙ view-tail-Elements ns) refl
+
+  pub table_fields : (tail : Tail) (us : Vec Field Global) → tail ≡ tails.Fields us → AsLines tail
+  table_fields tail us e = as_lines tail (trees.fields (fields_view us.items)) (ap tail_view e ∙ view-tail-Fields us) refl
 
 pub left_empty : (tail : Tail) (bs : List BodyLines) → tail ≡ tails.Empty → left_rest (tail_view tail) bs ≡ bs
 left_empty tail bs e = ap (λ t. left_rest t bs) (ap tail_view e ∙ view-tail-Empty)
 
-pub table_bytes : (code : List ℕ) (level o : ℕ) (ps : Parts) (tail : Tail) (bs : List BodyLines) (xs : List ℕ) → tail ≡ tails.Bytes xs
-    → table_op_lines code level o ps (tail_view tail) bs ≡ op_lines level (head_text (row_of o) (part_texts ps)) (tail_view tail)
-table_bytes code level o ps tail bs xs e =
-    let is : tail_view tail ≡ trees.bytes xs = ap tail_view e ∙ view-tail-Bytes xs in
-    ap (λ t. table_op_lines code level o ps t bs) is ∙ sym (ap (op_lines level (head_text (row_of o) (part_texts ps))) is)
-
 pub left_bytes : (tail : Tail) (bs : List BodyLines) (xs : List ℕ) → tail ≡ tails.Bytes xs → left_rest (tail_view tail) bs ≡ bs
 left_bytes tail bs xs e = ap (λ t. left_rest t bs) (ap tail_view e ∙ view-tail-Bytes xs)
 
-pub table_elements : (code : List ℕ) (level o : ℕ) (ps : Parts) (tail : Tail) (bs : List BodyLines) (ns : Vec Node Global) → tail ≡ tails.Elements ns
-    → table_op_lines code level o ps (tail_view tail) bs ≡ op_lines level (head_text (row_of o) (part_texts ps)) (tail_view tail)
-table_elements code level o ps tail bs ns e =
-    let is : tail_view tail ≡ trees.elements (nodes_view ns.items) = ap tail_view e ∙ view-tail-Elements ns in
-    ap (λ t. table_op_lines code level o ps t bs) is ∙ sym (ap (op_lines level (head_text (row_of o) (part_texts ps))) is)
-
 pub left_elements : (tail : Tail) (bs : List BodyLines) (ns : Vec Node Global) → tail ≡ tails.Elements ns → left_rest (tail_view tail) bs ≡ bs
 left_elements tail bs ns e = ap (λ t. left_rest t bs) (ap tail_view e ∙ view-tail-Elements ns)
-
-pub table_fields : (code : List ℕ) (level o : ℕ) (ps : Parts) (tail : Tail) (bs : List BodyLines) (us : Vec Field Global) → tail ≡ tails.Fields us
-    → table_op_lines code level o ps (tail_view tail) bs ≡ op_lines level (head_text (row_of o) (part_texts ps)) (tail_view tail)
-table_fields code level o ps tail bs us e =
-    let is : tail_view tail ≡ trees.fields (fields_view us.items) = ap tail_view e ∙ view-tail-Fields us in
-    ap (λ t. table_op_lines code level o ps t bs) is ∙ sym (ap (op_lines level (head_text (row_of o) (part_texts ps))) is)
 
 pub left_fields : (tail : Tail) (bs : List BodyLines) (us : Vec Field Global) → tail ≡ tails.Fields us → left_rest (tail_view tail) bs ≡ bs
 left_fields tail bs us e = ap (λ t. left_rest t bs) (ap tail_view e ∙ view-tail-Fields us)
@@ -121,20 +118,9 @@ table_body code level o ps tail bs start len e = ap (λ t. table_op_lines code l
 pub left_body : (tail : Tail) (bs : List BodyLines) (start len : ℕ) → tail ≡ tails.Body start len → left_rest (tail_view tail) bs ≡ drop 1 bs
 left_body tail bs start len e = ap (λ t. left_rest t bs) (ap tail_view e ∙ view-tail-Body start len)
 
-pub ruleset table_tails = (
-  table_empty,
-  left_empty,
-  table_bytes,
-  left_bytes,
-  table_elements,
-  left_elements,
-  table_fields,
-  left_fields,
-  table_terms,
-  left_terms,
-  table_body,
-  left_body,
-)
+pub ruleset tails_as_lines = (table_empty, table_bytes, table_elements, table_fields, left_empty, left_bytes, left_elements, left_fields)
+
+pub ruleset table_tails = (tails_as_lines, table_terms, left_terms, table_body, left_body)
 
 -- ---- lists of terms of a table
 

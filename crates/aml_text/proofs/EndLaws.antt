@@ -3,7 +3,7 @@ use Rattle.std.proofs.Common.{◌≡◌, ℕ, ◌-◌, List, ◌++◌, length, t
 use Rattle.std.proofs.lemmas.List.{length-append}
 use Rattle.std.proofs.Math.Seq.{take-append_seam}
 use Rattle.aml_code.specs.Rows.{row_of}
-use Rattle.aml_code.specs.Tree.{Tree, nothing, named, op, Tail, empty, terms, bytes, elements, fields, body}
+use Rattle.aml_code.specs.Tree.{Tree, nothing, named, op, Tail, terms, fields}
 use Rattle.text_writer.specs.Words.{word}
 use Rattle.aml_text.specs.Texts.{head_text, inline, part_texts, tail_text}
 use Rattle.aml_text.specs.Lines.{deeper, indent, line, opening, closing, block, lines, op_lines, all_lines, field_lines}
@@ -24,12 +24,9 @@ ends_block level head inside = (
 )
 
 ends_op : (level : ℕ) (head : List ℕ) (r : Tail) → Ends (op_lines level head r)
-ends_op level head empty = ends_line level (head ++ tail_text empty)
 ends_op level head (terms ts) = ends_block level head (all_lines (deeper level) ts)
-ends_op level head (bytes bs) = ends_line level (head ++ tail_text (bytes bs))
-ends_op level head (elements ts) = ends_line level (head ++ tail_text (elements ts))
 ends_op level head (fields us) = ends_block level head (field_lines (deeper level) us)
-ends_op level head (body start len) = ends_line level (head ++ tail_text (body start len))
+ends_op level head r = ends_line level (head ++ tail_text r)
 
 pub ends_lines : (level : ℕ) (t : Tree) → Ends (lines level t)
 ends_lines level nothing = ends_line level (inline nothing)

@@ -3,7 +3,7 @@ use Rattle.std.proofs.Common.{◌≡◌, ℕ, None, List, [], ◌∷◌, ◌++�
 use Rattle.aml_code.specs.Encoding.{slice_of}
 use Rattle.aml_code.specs.Rows.{row_of}
 use Rattle.aml_code.specs.Declaring.{last_label, last_byte}
-use Rattle.aml_code.specs.Tree.{Tree, nothing, named, op, Trees, no_trees, tree_more, Parts, Tail, empty, terms, bytes, elements, fields, body}
+use Rattle.aml_code.specs.Tree.{Tree, op, Trees, no_trees, tree_more, Parts, Tail, terms, body}
 use Rattle.aml_text.specs.Texts.{head_text, part_texts}
 use Rattle.aml_text.specs.Lines.{deeper, opening, closing, method_head, BodyLines, first_lines, left, left_rest, left_all, table_lines, table_op_lines}
 use Rattle.aml_text.specs.Lines.{all_table_lines, block_text, block_opening, blocks_text}
@@ -30,25 +30,21 @@ Same text other more fs gs = (text ≡ other) × AgreeAt more fs gs
 mutual
   same_term : (code : List ℕ) (level : ℕ) (t : Tree) (more : List ℕ) (fs gs : List BodyLines) → AgreeAt (levels_in level t ++ more) fs gs
       → Same (table_lines code level t fs) (table_lines code level t gs) more (left t fs) (left t gs)
-  same_term code level nothing more fs gs a = (refl, a)
-  same_term code level (named n ts) more fs gs a = (refl, a)
   same_term code level (op o w ps r) more fs gs a = same_tail code level o ps r more fs gs a
+  same_term code level _ more fs gs a = (refl, a)
 
   same_tail : (code : List ℕ) (level o : ℕ) (ps : Parts) (r : Tail) (more : List ℕ) (fs gs : List BodyLines)
       → AgreeAt (tail_levels (deeper level) r ++ more) fs gs
       → Same (table_op_lines code level o ps r fs) (table_op_lines code level o ps r gs) more (left_rest r fs) (left_rest r gs)
-  same_tail code level o ps empty more fs gs a = (refl, a)
   same_tail code level o ps (terms ts) more fs gs a =
       let inside = same_all code (deeper level) ts more fs gs a in
       (ap (λ (l : List ℕ). opening level (head_text (row_of o) (part_texts ps)) ++ l ++ closing level) inside.0, inside.1)
-  same_tail code level o ps (bytes xs) more fs gs a = (refl, a)
-  same_tail code level o ps (elements ts) more fs gs a = (refl, a)
-  same_tail code level o ps (fields us) more fs gs a = (refl, a)
   same_tail code level o ps (body start len) more fs gs a =
       let head = method_head (last_label None ps) (last_byte None ps) (head_text (row_of o) (part_texts ps)) in (
         ap (λ (l : List ℕ). opening level head ++ l ++ closing level) (first_agrees (deeper level) more fs gs (slice_of code start len) a),
         others_agree (deeper level) more fs gs a,
       )
+  same_tail code level o ps _ more fs gs a = (refl, a)
 
   same_all : (code : List ℕ) (level : ℕ) (ts : Trees) (more : List ℕ) (fs gs : List BodyLines) → AgreeAt (all_levels level ts ++ more) fs gs
       → Same (all_table_lines code level ts fs) (all_table_lines code level ts gs) more (left_all ts fs) (left_all ts gs)

@@ -93,29 +93,25 @@ pub ruleset node_variants = (lines_nothing, lines_named, lines_op)
 
 -- ---- tails
 
-pub tail_empty : (level : ℕ) (head : List ℕ) (tail : Tail) → tail ≡ tails.Empty
-    → op_lines level head (tail_view tail) ≡ line level (head ++ tail_text (tail_view tail))
-tail_empty level head tail e =
-    let is : tail_view tail ≡ trees.empty = ap tail_view e ∙ view-tail-Empty in
-    ap (op_lines level head) is ∙ ap (λ t. line level (head ++ tail_text t)) (sym is)
+module _ (level : ℕ) (head : List ℕ) where
+  -- a tail that stands on the line
+  abbrev IsLine : Tail → Type 0
+  IsLine tail = op_lines level head (tail_view tail) ≡ line level (head ++ tail_text (tail_view tail))
 
-pub tail_bytes : (level : ℕ) (head : List ℕ) (tail : Tail) (bs : List ℕ) → tail ≡ tails.Bytes bs
-    → op_lines level head (tail_view tail) ≡ line level (head ++ tail_text (tail_view tail))
-tail_bytes level head tail bs e =
-    let is : tail_view tail ≡ trees.bytes bs = ap tail_view e ∙ view-tail-Bytes bs in
-    ap (op_lines level head) is ∙ ap (λ t. line level (head ++ tail_text t)) (sym is)
+  as_line : (tail : Tail) (t : trees.Tail) → tail_view tail ≡ t → op_lines level head t ≡ line level (head ++ tail_text t) → IsLine tail
+  as_line tail t is e = rw is e
 
-pub tail_elements : (level : ℕ) (head : List ℕ) (tail : Tail) (ns : Vec Node Global) → tail ≡ tails.Elements ns
-    → op_lines level head (tail_view tail) ≡ line level (head ++ tail_text (tail_view tail))
-tail_elements level head tail ns e =
-    let is : tail_view tail ≡ trees.elements (nodes_view ns.items) = ap tail_view e ∙ view-tail-Elements ns in
-    ap (op_lines level head) is ∙ ap (λ t. line level (head ++ tail_text t)) (sym is)
+  pub tail_empty : (tail : Tail) → tail ≡ tails.Empty → IsLine tail
+  tail_empty tail e = as_line tail trees.empty (ap tail_view e ∙ view-tail-Empty) refl
 
-pub tail_body : (level : ℕ) (head : List ℕ) (tail : Tail) (a n : ℕ) → tail ≡ tails.Body a n
-    → op_lines level head (tail_view tail) ≡ line level (head ++ tail_text (tail_view tail))
-tail_body level head tail a n e =
-    let is : tail_view tail ≡ trees.body a n = ap tail_view e ∙ view-tail-Body a n in
-    ap (op_lines level head) is ∙ ap (λ t. line level (head ++ tail_text t)) (sym is)
+  pub tail_bytes : (tail : Tail) (bs : List ℕ) → tail ≡ tails.Bytes bs → IsLine tail
+  tail_bytes tail bs e = as_line tail (trees.bytes bs) (ap tail_view e ∙ view-tail-Bytes bs) refl
+
+  pub tail_elements : (tail : Tail) (ns : Vec Node Global) → tail ≡ tails.Elements ns → IsLine tail
+  tail_elements tail ns e = as_line tail (trees.elements (nodes_view ns.items)) (ap tail_view e ∙ view-tail-Elements ns) refl
+
+  pub tail_body : (tail : Tail) (a n : ℕ) → tail ≡ tails.Body a n → IsLine tail
+  tail_body tail a n e = as_line tail (trees.body a n) (ap tail_view e ∙ view-tail-Body a n) refl
 
 pub tail_terms : (level : ℕ) (head : List ℕ) (tail : Tail) (ns : Vec Node Global) → tail ≡ tails.Terms ns
     → op_lines level head (tail_view tail) ≡ opening level head ++ flat_map (node_lines (deeper level)) ns.items ++ closing level

@@ -1,24 +1,19 @@
 -- A stepping stone of the proofs: the levels at which the bodies of tables are printed, in the order of the text.
 use Rattle.std.specs.Prelude.{◌≡◌, ℕ, List, [], ◌∷◌, ◌++◌}
-use Rattle.aml_code.specs.Tree.{Tree, nothing, named, op, Trees, no_trees, tree_more, Tail, empty, terms, bytes}
-use Rattle.aml_code.specs.Tree.{elements, fields, body}
+use Rattle.aml_code.specs.Tree.{Tree, op, Trees, no_trees, tree_more, Tail, terms, body}
 use Rattle.aml_text.specs.Lines.{deeper, BodyLines}
 
 abbrev mutual
   -- of the bodies in a term of a table
   pub levels_in : ℕ → Tree → List ℕ
-  levels_in level nothing = []
-  levels_in level (named n ts) = []
   levels_in level (op o w ps t) = tail_levels (deeper level) t
+  levels_in level _ = []
 
   -- of those in a tail whose terms stand at this level
   pub tail_levels : ℕ → Tail → List ℕ
-  tail_levels level empty = []
   tail_levels level (terms ts) = all_levels level ts
-  tail_levels level (bytes bs) = []
-  tail_levels level (elements ts) = []
-  tail_levels level (fields us) = []
   tail_levels level (body start len) = level ∷ []
+  tail_levels level _ = []
 
   pub all_levels : ℕ → Trees → List ℕ
   all_levels level no_trees = []

@@ -3,9 +3,9 @@ use Rattle.std.specs.Prelude.{ℕ, zero, suc, min, decimal, cond, ◌+◌, ◌/�
 use Rattle.std.specs.Prelude.{Some, None}
 use Rattle.aml_names.specs.declared.names.Name.{Name}
 use Rattle.aml_code.specs.Rows.{row_of}
-use Rattle.aml_code.specs.Tree.{Tree, nothing, named, op, Trees, no_trees, tree_more, Parts, Tail, empty, terms, bytes}
-use Rattle.aml_code.specs.Tree.{elements, fields, body, Field, unit, reserved, access, connection, extended, Fields}
-use Rattle.aml_code.specs.Tree.{no_fields, field_more, Link, target, buffer}
+use Rattle.aml_code.specs.Tree.{Tree, nothing, named, op, Trees, no_trees, tree_more, Parts, Tail, terms, fields, body}
+use Rattle.aml_code.specs.Tree.{Field, unit, reserved, access, connection, extended, Fields, no_fields, field_more}
+use Rattle.aml_code.specs.Tree.{Link, target, buffer}
 use Rattle.aml_code.specs.Declaring.{last_label, last_byte}
 use Rattle.aml_code.specs.Encoding.{slice_of}
 use Rattle.text_writer.specs.Words.{word}
@@ -32,7 +32,9 @@ opening level head = indent level ++ head ++ word " {\n"
 unfoldable pub closing : ℕ → List ℕ
 closing level = indent level ++ word "}\n"
 
--- lines between braces
+-- lines between braces: HEAD {
+--   ..
+-- }
 abbrev pub block : ℕ → List ℕ → List ℕ → List ℕ
 block level head inside = opening level head ++ inside ++ closing level
 
@@ -49,7 +51,12 @@ byte_pair a b = (word "0x" ++ hex2 a) ++ word ", " ++ (word "0x" ++ hex2 b)
 unfoldable pub byte_end : ℕ → List ℕ
 byte_end c = word ", " ++ (word "0x" ++ hex2 c) ++ word ")"
 
--- the text of an element of a field list
+-- the text of an element of a field list:
+--   FLD0, 8
+--   Reserved, 8
+--   Access (0x01, 0x00)
+--   Connection (I2C0)
+--   ExtendedAccess (0x01, 0x00, 0x04)
 abbrev pub field_text : Field → List ℕ
 field_text (unit s w n) = s.0 ++ word ", " ++ decimal n
 field_text (reserved w n) = word "Reserved, " ++ decimal n
@@ -63,7 +70,8 @@ field_lines level (field_more u us) = line level (field_text u) ++ field_lines l
 
 -- ---- terms
 
--- The lines of a term: a block where it has terms or a field list in it, else one line.
+-- The lines of a term: a block where it has terms or a field list in it, as Scope (\_SB_) { .. }, else one line, as
+-- Store (Zero, Local0).
 abbrev mutual
   pub lines : ℕ → Tree → List ℕ
   lines level nothing = line level []
@@ -71,12 +79,9 @@ abbrev mutual
   lines level (op o w ps t) = op_lines level (head_text (row_of o) (part_texts ps)) t
 
   pub op_lines : ℕ → List ℕ → Tail → List ℕ
-  op_lines level head empty = line level (head ++ tail_text empty)
   op_lines level head (terms ts) = block level head (all_lines (deeper level) ts)
-  op_lines level head (bytes bs) = line level (head ++ tail_text (bytes bs))
-  op_lines level head (elements ts) = line level (head ++ tail_text (elements ts))
   op_lines level head (fields us) = block level head (field_lines (deeper level) us)
-  op_lines level head (body start len) = line level (head ++ tail_text (body start len))
+  op_lines level head t = line level (head ++ tail_text t)
 
   pub all_lines : ℕ → Trees → List ℕ
   all_lines level no_trees = []
@@ -89,7 +94,7 @@ pub data OneBody : Type 0 where
   read : Trees → OneBody
   raw : OneBody
 
--- bit 3 of a method's flags
+-- bit 3 of a method's flags (ACPI 6.5, 20.2.5.2)
 unfoldable pub serialized_text : ℕ → List ℕ
 serialized_text flags = cond (flags / 8 % 2 == 1) (word ", Serialized") (word ", NotSerialized")
 
@@ -100,7 +105,7 @@ comma_decimal n = word ", " ++ decimal n
 unfoldable pub flags_text : ℕ → List ℕ
 flags_text flags = comma_decimal (flags % 8) ++ serialized_text flags ++ comma_decimal (flags / 16)
 
--- a method's name and flags
+-- a method's name and flags: Method (FOO_, 2, NotSerialized, 0)
 unfoldable pub method_text : Name → ℕ → List ℕ
 method_text n flags = word "Method (" ++ name_text n ++ flags_text flags ++ word ")"
 
@@ -110,7 +115,7 @@ method_head (Some n) (Some flags) other = method_text n flags
 method_head (Some n) None other = other
 method_head None flags other = other
 
--- the bytes of a body that can't be read
+-- the bytes of a body that can't be read: Raw {A4, 5A}
 unfoldable pub raw_text : List ℕ → List ℕ
 raw_text bs = word "Raw {" ++ separated_by (word ", ") hex2 bs ++ word "}"
 
@@ -133,17 +138,13 @@ first_lines (b ∷ others) level bs = b level bs
 -- the bodies that are left after those of a term, each method taking one in the order of the text
 abbrev mutual
   pub left : Tree → List BodyLines → List BodyLines
-  left nothing bs = bs
-  left (named n ts) bs = bs
   left (op o w ps t) bs = left_rest t bs
+  left _ bs = bs
 
   pub left_rest : Tail → List BodyLines → List BodyLines
-  left_rest empty bs = bs
   left_rest (terms ts) bs = left_all ts bs
-  left_rest (bytes xs) bs = bs
-  left_rest (elements ts) bs = bs
-  left_rest (fields us) bs = bs
   left_rest (body start len) bs = drop 1 bs
+  left_rest _ bs = bs
 
   pub left_all : Trees → List BodyLines → List BodyLines
   left_all no_trees bs = bs
@@ -152,26 +153,23 @@ abbrev mutual
 -- the lines of a term of a table: those of a term, but for a method's body
 abbrev mutual
   pub table_lines : List ℕ → ℕ → Tree → List BodyLines → List ℕ
-  table_lines code level nothing bs = line level []
-  table_lines code level (named n ts) bs = line level (inline (named n ts))
   table_lines code level (op o w ps t) bs = table_op_lines code level o ps t bs
+  table_lines code level t bs = lines level t
 
   pub table_op_lines : List ℕ → ℕ → ℕ → Parts → Tail → List BodyLines → List ℕ
-  table_op_lines code level o ps empty bs = op_lines level (head_text (row_of o) (part_texts ps)) empty
   table_op_lines code level o ps (terms ts) bs = block level (head_text (row_of o) (part_texts ps))
       (all_table_lines code (deeper level) ts bs)
-  table_op_lines code level o ps (bytes xs) bs = op_lines level (head_text (row_of o) (part_texts ps)) (bytes xs)
-  table_op_lines code level o ps (elements ts) bs = op_lines level (head_text (row_of o) (part_texts ps)) (elements ts)
-  table_op_lines code level o ps (fields us) bs = op_lines level (head_text (row_of o) (part_texts ps)) (fields us)
   table_op_lines code level o ps (body start len) bs =
       block level (method_head (last_label None ps) (last_byte None ps) (head_text (row_of o) (part_texts ps)))
       (first_lines bs (deeper level) (slice_of code start len))
+  table_op_lines code level o ps t bs = op_lines level (head_text (row_of o) (part_texts ps)) t
 
   pub all_table_lines : List ℕ → ℕ → Trees → List BodyLines → List ℕ
   all_table_lines code level no_trees bs = []
   all_table_lines code level (tree_more t ts) bs = table_lines code level t bs
       ++ all_table_lines code level ts (left t bs)
 
+-- DefinitionBlock ("dsdt.dat") {
 unfoldable pub block_opening : List ℕ → List ℕ
 block_opening name = word "DefinitionBlock (" ++ quoted name ++ word ") {\n"
 

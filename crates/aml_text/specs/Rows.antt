@@ -9,7 +9,7 @@ use Rattle.text_writer.specs.Words.{word}
 use Rattle.aml_text.specs.Texts.{separated_by, segment_text}
 use Rattle.aml_text.specs.Lines.{line}
 
--- a path: \ and its segments, with a dot between two
+-- a path: \ and its segments, with a dot between two: \_SB_.PCI0
 unfoldable pub path_text : List Seg → List ℕ
 path_text path = word "\\" ++ separated_by (word ".") segment_text path
 
@@ -33,11 +33,11 @@ kind_text BufferField = word "BufferField"
 unfoldable pub row_text : List Seg × Kind → List ℕ
 row_text row = path_text row.0 ++ word " " ++ kind_text row.1
 
--- the line of a path with its kind
+-- the line of a path with its kind:   \_SB_.PCI0 Device
 unfoldable pub row_line : List Seg × Kind → List ℕ
 row_line row = line 1 (row_text row)
 
--- the line above the rows
+-- the line above the rows: Namespace 2
 unfoldable pub count_line : ℕ → List ℕ
 count_line count = word "Namespace " ++ decimal count ++ word "\n"
 

@@ -10,7 +10,7 @@ use Rattle.aml_code.specs.declared.rows.PartKind.{PartKind}
 use Rattle.aml_code.specs.Rows.{row_of, has_length}
 use Rattle.aml_code.specs.Tree.{Tree, nothing, named, op, Trees, no_trees, tree_more, Part, child, label, byte}
 use Rattle.aml_code.specs.Tree.{word as word_part, dword, qword, text as text_part, Parts, no_parts, part_more, Tail}
-use Rattle.aml_code.specs.Tree.{empty, terms, bytes, elements, fields, body}
+use Rattle.aml_code.specs.Tree.{bytes, elements}
 use Rattle.text_writer.specs.Words.{word}
 use Rattle.text_writer.specs.Numbers.{hex2, hex4, hex8, hex16, quoted}
 
@@ -42,12 +42,12 @@ name_text n = prefix_text n ++ separated_by (word ".") segment_text n.segs
 
 -- ---- terms
 
--- arguments in parentheses, if there are any
+-- arguments in parentheses, if there are any: (Zero, Local0)
 unfoldable pub arguments_text : List (List ℕ) → List ℕ
 arguments_text [] = []
 arguments_text (x ∷ xs) = word " (" ++ joined (x ∷ xs) ++ word ")"
 
--- what is inside a Buffer or a package
+-- what is inside a Buffer or a package: {AA, BB}
 unfoldable pub braced : List (List ℕ) → List ℕ
 braced texts = word " {" ++ joined texts ++ word "}"
 
@@ -93,9 +93,6 @@ abbrev mutual
   part_texts (part_more p ps) = part_text p ∷ part_texts ps
 
   pub tail_text : Tail → List ℕ
-  tail_text empty = []
-  tail_text (terms ts) = []
   tail_text (bytes bs) = braced (map hex2 bs)
   tail_text (elements ts) = braced (inlines ts)
-  tail_text (fields us) = []
-  tail_text (body start len) = []
+  tail_text _ = []

@@ -1,4 +1,6 @@
 //! Definition blocks: the terms of a table, with the bodies of its methods in their places.
+#![tactic(auto, using(text_writer::proofs::PrintLaws::straight))]
+
 ghost use Rattle.std.specs.Prelude.{◌≡◌, ◌++◌};
 ghost use Rattle.aml_code.specs.View.{node_view, nodes_view, parts_view, tail_view};
 ghost use Rattle.aml_text.specs.Views.{bodies_lines, head_of, method_head_of};
@@ -91,7 +93,6 @@ fn print_method_opening<W: Write>(out: &mut Out<'_, W>, level: u32, opcode: u16,
 }
 
 /// A method, with the first of the bodies.
-#[tactic(auto, using(text_writer::proofs::PrintLaws::straight))]
 fn print_method_block<W: Write>(
     out: &mut Out<'_, W>,
     level: u32,
@@ -177,7 +178,6 @@ fn print_table_op<'b, W: Write>(
 
 /// An opcode with terms of a table as a block.
 #[cycle(blocks)]
-#[tactic(auto, using(text_writer::proofs::PrintLaws::straight))]
 fn print_table_block<'b, W: Write>(
     out: &mut Out<'_, W>,
     code: &[u8],
@@ -200,7 +200,6 @@ fn print_table_block<'b, W: Write>(
 
 /// The lines of terms of a table, one after the other.
 #[cycle(blocks)]
-#[tactic(auto, using(text_writer::proofs::PrintLaws::straight))]
 fn print_table_terms<'b, W: Write>(
     out: &mut Out<'_, W>,
     code: &[u8],

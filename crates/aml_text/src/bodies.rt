@@ -1,4 +1,6 @@
 //! The bodies of methods, as blocks take them.
+#![tactic(auto, using(text_writer::proofs::PrintLaws::straight))]
+
 ghost use Rattle.std.specs.Prelude.{◌≡◌, drop, map};
 ghost use Rattle.text_writer.specs.Prints.{Prints};
 ghost use Rattle.aml_text.specs.Lines.{line, raw_text, body_lines, first_lines};
@@ -51,7 +53,6 @@ impl<'b> Bodies<'b> {
 }
 
 /// The lines of the first of the bodies, which has these bytes; nothing where there is none.
-#[tactic(auto, using(text_writer::proofs::PrintLaws::straight))]
 pub fn print_first<W: Write>(out: &mut Out<'_, W>, level: u32, bytes: &[u8], bodies: Bodies<'_>)
     ensures { Prints W.contents out.old out.new (first_lines (bodies_lines bodies.entry) level bytes.now) }
 {

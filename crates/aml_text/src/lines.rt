@@ -1,4 +1,6 @@
 //! The lines of terms and of field lists.
+#![tactic(auto, using(text_writer::proofs::PrintLaws::straight))]
+
 ghost use Rattle.std.specs.Prelude.{◌++◌, decimal, flat_map};
 ghost use Rattle.aml_code.specs.View.{parts_view, tail_view};
 ghost use Rattle.text_writer.specs.Prints.{Prints};
@@ -53,7 +55,6 @@ fn print_node_line<W: Write>(out: &mut Out<'_, W>, level: u32, node: &Node)
 }
 
 /// An opcode with its parts and its tail, on one line.
-#[tactic(auto, using(text_writer::proofs::PrintLaws::straight))]
 fn print_op<W: Write>(out: &mut Out<'_, W>, opcode: u16, parts: &[Part], tail: &Tail)
     ensures { Prints W.contents out.old out.new (head_of opcode parts.now ++ tail_text (tail_view tail.now)) }
 {
@@ -90,7 +91,6 @@ fn print_link<W: Write>(out: &mut Out<'_, W>, link: &Link)
 }
 
 /// A named unit and its number of bits.
-#[tactic(auto, using(text_writer::proofs::PrintLaws::straight))]
 fn print_unit<W: Write>(out: &mut Out<'_, W>, seg: &Seg, bits: u32)
     ensures { Prints W.contents out.old out.new (seg.now.0 ++ word ", " ++ decimal bits) }
 {
@@ -100,7 +100,6 @@ fn print_unit<W: Write>(out: &mut Out<'_, W>, seg: &Seg, bits: u32)
 }
 
 /// A number of reserved bits.
-#[tactic(auto, using(text_writer::proofs::PrintLaws::straight))]
 fn print_reserved<W: Write>(out: &mut Out<'_, W>, bits: u32)
     ensures { Prints W.contents out.old out.new (word "Reserved, " ++ decimal bits) }
 {
@@ -119,7 +118,6 @@ fn print_byte_pair<W: Write>(out: &mut Out<'_, W>, first: u8, second: u8)
 }
 
 /// An access type and an access attribute.
-#[tactic(auto, using(text_writer::proofs::PrintLaws::straight))]
 fn print_access<W: Write>(out: &mut Out<'_, W>, access: u8, attribute: u8)
     ensures { Prints W.contents out.old out.new (word "Access (" ++ byte_pair access attribute ++ word ")") }
 {
@@ -129,7 +127,6 @@ fn print_access<W: Write>(out: &mut Out<'_, W>, access: u8, attribute: u8)
 }
 
 /// An access type, an access attribute and an access length.
-#[tactic(auto, using(text_writer::proofs::PrintLaws::straight))]
 fn print_extended<W: Write>(out: &mut Out<'_, W>, access: u8, attribute: u8, length: u8)
     ensures { Prints W.contents out.old out.new
         (word "ExtendedAccess (" ++ byte_pair access attribute ++ byte_end length) }
@@ -149,7 +146,6 @@ fn print_byte_end<W: Write>(out: &mut Out<'_, W>, last: u8)
 }
 
 /// A connection.
-#[tactic(auto, using(text_writer::proofs::PrintLaws::straight))]
 fn print_connection<W: Write>(out: &mut Out<'_, W>, link: &Link)
     ensures { Prints W.contents out.old out.new (word "Connection (" ++ link_inline link.now ++ word ")") }
 {
@@ -185,7 +181,6 @@ fn print_field_line<W: Write>(out: &mut Out<'_, W>, level: u32, field: &Field)
 }
 
 /// The elements of a field list, a line each.
-#[tactic(auto, using(text_writer::proofs::PrintLaws::straight))]
 fn print_fields<W: Write>(out: &mut Out<'_, W>, level: u32, fields: &[Field])
     ensures { Prints W.contents out.old out.new (flat_map (field_line level) fields.now) }
 {
@@ -195,7 +190,6 @@ fn print_fields<W: Write>(out: &mut Out<'_, W>, level: u32, fields: &[Field])
 }
 
 /// An opcode with a field list as a block.
-#[tactic(auto, using(text_writer::proofs::PrintLaws::straight))]
 fn print_fields_block<W: Write>(
     out: &mut Out<'_, W>,
     level: u32,
@@ -250,7 +244,6 @@ pub fn print_op_lines<W: Write>(
 
 /// An opcode with terms as a block.
 #[cycle(lines)]
-#[tactic(auto, using(text_writer::proofs::PrintLaws::straight))]
 fn print_terms_block<W: Write>(
     out: &mut Out<'_, W>,
     level: u32,
@@ -269,7 +262,6 @@ fn print_terms_block<W: Write>(
 
 /// The lines of terms, one after the other.
 #[cycle(lines)]
-#[tactic(auto, using(text_writer::proofs::PrintLaws::straight))]
 pub fn print_terms<W: Write>(out: &mut Out<'_, W>, level: u32, nodes: &[Node])
     ensures { Prints W.contents out.old out.new (flat_map (node_lines level) nodes.now) }
 {

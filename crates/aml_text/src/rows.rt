@@ -1,4 +1,6 @@
 //! The namespace: a line for each declared path.
+#![tactic(auto, using(text_writer::proofs::PrintLaws::straight))]
+
 ghost use Rattle.std.specs.FinMap as map;
 ghost use Rattle.text_writer.specs.Prints.{Prints};
 ghost use Rattle.aml_text.specs.Rows.{path_text, kind_text, row_text, row_line, count_line, namespace_text};
@@ -19,7 +21,6 @@ fn print_path<W: Write>(out: &mut Out<'_, W>, path: &Path)
     print_segments(out, path.segs());
 }
 
-#[tactic(auto, using(text_writer::proofs::PrintLaws::straight))]
 fn print_method<W: Write>(out: &mut Out<'_, W>, args: u8)
     ensures { Prints W.contents out.old out.new (kind_text (Kind.Method args)) }
 {
@@ -27,7 +28,6 @@ fn print_method<W: Write>(out: &mut Out<'_, W>, args: u8)
     print_decimal(out, args as u64);
 }
 
-#[tactic(auto, using(text_writer::proofs::PrintLaws::straight))]
 fn print_alias<W: Write>(out: &mut Out<'_, W>, target: &Path)
     ensures { Prints W.contents out.old out.new (kind_text (Kind.Alias target.now)) }
 {
@@ -36,7 +36,6 @@ fn print_alias<W: Write>(out: &mut Out<'_, W>, target: &Path)
 }
 
 /// What a path stands for.
-#[tactic(auto, using(text_writer::proofs::PrintLaws::straight))]
 fn print_kind<W: Write>(out: &mut Out<'_, W>, kind: &Kind)
     ensures { Prints W.contents out.old out.new (kind_text kind.now) }
 {

@@ -1,4 +1,6 @@
 //! The text of a term on one line.
+#![tactic(auto, using(text_writer::proofs::PrintLaws::straight))]
+
 ghost use Rattle.std.specs.Prelude.{◌≡◌, ◌++◌, Some, map};
 ghost use Rattle.aml_code.specs.Rows.{row_of, row_view};
 ghost use Rattle.aml_code.specs.View.{nodes_view, parts_view, tail_view};
@@ -45,7 +47,6 @@ fn print_braced_bytes<W: Write>(out: &mut Out<'_, W>, bytes: &[u8])
 }
 
 /// A number of one byte as a constant.
-#[tactic(auto, using(text_writer::proofs::PrintLaws::straight))]
 pub fn print_byte<W: Write>(out: &mut Out<'_, W>, n: u8)
     ensures { Prints W.contents out.old out.new (word "0x" ++ hex2 n) }
 {
@@ -54,7 +55,6 @@ pub fn print_byte<W: Write>(out: &mut Out<'_, W>, n: u8)
 }
 
 /// A number of two bytes as a constant.
-#[tactic(auto, using(text_writer::proofs::PrintLaws::straight))]
 fn print_word<W: Write>(out: &mut Out<'_, W>, n: u16)
     ensures { Prints W.contents out.old out.new (word "0x" ++ hex4 n) }
 {
@@ -63,7 +63,6 @@ fn print_word<W: Write>(out: &mut Out<'_, W>, n: u16)
 }
 
 /// A number of four bytes as a constant.
-#[tactic(auto, using(text_writer::proofs::PrintLaws::straight))]
 fn print_dword<W: Write>(out: &mut Out<'_, W>, n: u32)
     ensures { Prints W.contents out.old out.new (word "0x" ++ hex8 n) }
 {
@@ -72,7 +71,6 @@ fn print_dword<W: Write>(out: &mut Out<'_, W>, n: u32)
 }
 
 /// A number of eight bytes as a constant.
-#[tactic(auto, using(text_writer::proofs::PrintLaws::straight))]
 fn print_qword<W: Write>(out: &mut Out<'_, W>, n: u64)
     ensures { Prints W.contents out.old out.new (word "0x" ++ hex16 n) }
 {
@@ -109,7 +107,6 @@ pub fn print_inline<W: Write>(out: &mut Out<'_, W>, node: &Node)
 }
 
 #[cycle(inline)]
-#[tactic(auto, using(text_writer::proofs::PrintLaws::straight))]
 fn print_call<W: Write>(out: &mut Out<'_, W>, name: &Name, args: &[Node])
     ensures { Prints W.contents out.old out.new
         (name_text name.now ++ arguments_text (inlines (nodes_view args.now))) }

@@ -1,4 +1,6 @@
 //! The text of names.
+#![tactic(auto, using(text_writer::proofs::PrintLaws::straight))]
+
 ghost use Rattle.std.specs.Prelude.{[], cond, replicate};
 ghost use Rattle.text_writer.specs.Prints.{Prints};
 ghost use Rattle.text_writer.specs.Words.{word};
@@ -18,7 +20,6 @@ fn print_parents<W: Write>(out: &mut Out<'_, W>, ups: u32)
     }
 }
 
-#[tactic(auto, using(text_writer::proofs::PrintLaws::straight))]
 fn print_root<W: Write>(out: &mut Out<'_, W>, root: bool)
     ensures { Prints W.contents out.old out.new (cond root (word "\\") []) }
 {

@@ -41,11 +41,9 @@ fn has_line(alloc: Global, listing: &Listing<'_>, checks: &[Checked]) -> bool {
 }
 
 /// A body that returns the second argument.
-fn other_bodies(alloc: Global) -> Result<Vec<Body>, CodeFault> {
+fn other_body(alloc: Global) -> Result<Body, CodeFault> {
     let terms = parse_body(alloc, b"\xA4\x69", &Bare, &Path::root(alloc))?;
-    let mut bodies = Vec::new(alloc);
-    bodies.push(Body::Tree(terms))?;
-    Ok(bodies)
+    Ok(Body::Tree(terms))
 }
 
 /// Whether one table of nine bytes and one method is checked, and isn't the same.
@@ -56,16 +54,18 @@ fn differs(checks: &[Checked]) -> bool {
     (checked.bytes, checked.methods, checked.raw, checked.same) == (9, 1, 0, false)
 }
 
-/// Whether the table of a listing differs from what was read, once these are its bodies.
+/// Whether the table of a listing differs from what was read, once this is its first body.
 fn differs_with(
     alloc: Global,
     listing: &mut Listing<'_>,
-    bodies: Vec<Body>,
+    other: Body,
 ) -> Result<bool, AllocError>
     requires { AreShort (codes_view listing.old.loaded.tables.items)
         × (length listing.old.loaded.methods.items ≤ 1048576) }
 {
-    listing.bodies = bodies;
+    if let Some(first) = listing.bodies.first_mut() {
+        *first = other;
+    }
     let checks = check(alloc, listing)?;
     Ok(differs(&checks) && has_line(alloc, listing, &checks))
 }
@@ -75,16 +75,16 @@ fn tells_exchange<T: Threads + Wait + Sync>(
     threads: &T,
     alloc: Global,
     dumps: &[Dump],
-    bodies: Vec<Body>,
+    other: Body,
 ) -> Result<bool, Refusal> {
     let mut listing = listing_of(threads, alloc, dumps, 1, &FreeGate)?;
-    Ok(differs_with(alloc, &mut listing, bodies)?)
+    Ok(differs_with(alloc, &mut listing, other)?)
 }
 
 #[test]
 fn a_body_that_is_exchanged_differs(rt: HostRuntime) -> Result<(), Fail> {
     let dumps = one_method(rt.alloc())?;
-    let bodies = other_bodies(rt.alloc())?;
-    assert!(rt; tells_exchange(&rt, rt.alloc(), &dumps, bodies)?);
+    let other = other_body(rt.alloc())?;
+    assert!(rt; tells_exchange(&rt, rt.alloc(), &dumps, other)?);
     Ok(())
 }
