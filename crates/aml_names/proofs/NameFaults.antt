@@ -61,7 +61,8 @@ segment_sound end bytes =
     first : (passes : ℕ → Bool) → ((b : ℕ) → passes b ≡ false → is_lead_char b ≡ false) → (at : List ℕ) (f : ℕ × List ℕ → Left Seg)
         → ((x : ℕ × List ℕ) → IsPassed passes at x → Sound end x.1 (IsSegment bytes) (f x)) → Sound end at (IsSegment bytes) (passing_at passes end at >>= f)
     first passes refuses at f next =
-        sound_then end at (IsPassed passes at) (IsSegment bytes) (passed_reads passes at) (passing_at passes end at) f (passing_sound passes refuses end at) next
+        sound_then end at (IsPassed passes at) (IsSegment bytes) (passed_reads passes at) (passing_at passes end at) f
+        (passing_sound passes refuses end at) next
 
     follows : (b : ℕ) → is_name_char b ≡ false → is_lead_char b ≡ false
     follows b h = (or_parts (is_lead_char b) _ h).0

@@ -53,19 +53,27 @@ record Headed (bytes : List ℕ) (x : (NameForm × ℕ) × List ℕ) : Type 0 wh
 form_sound : (end : ℕ) (bytes : List ℕ) → Sound end bytes (Headed bytes) (form_at end bytes)
 unfolding form_at
 form_sound end [] = inl refl
-form_sound end (lead ∷ rest) =
-    cond_both (eqb lead 0x00) _ _ (Sound end (lead ∷ rest) (Headed (lead ∷ rest))) (λ q. record { read = (lead ∷ [], refl); form = λ fits. (ap (λ b. b ∷ []) (eqb-true lead 0x00 q), refl) }) (λ _.
-    cond_both (eqb lead 0x2E) _ _ (Sound end (lead ∷ rest) (Headed (lead ∷ rest))) (λ q. record { read = (lead ∷ [], refl); form = λ fits. (ap (λ b. b ∷ []) (eqb-true lead 0x2E q), refl) }) (λ _.
-    cond_both (eqb lead 0x2F) _ _ (Sound end (lead ∷ rest) (Headed (lead ∷ rest))) (λ q. sound_behind end (lead ∷ rest) rest (Headed (lead ∷ rest)) _ (lead ∷ [], refl)
+form_sound end (lead ∷ rest) = test 0x00 _ _ (λ q. record { read = (lead ∷ [], refl); form = λ fits. (alone 0x00 q, refl) }) (λ _.
+    test 0x2E _ _ (λ q. record { read = (lead ∷ [], refl); form = λ fits. (alone 0x2E q, refl) }) (λ _.
+    test 0x2F _ _ (λ q. sound_behind end (lead ∷ rest) rest (Headed (lead ∷ rest)) _ (lead ∷ [], refl)
     (sound_then end rest (IsPassed is_count rest) (Headed (lead ∷ rest)) (passed_reads is_count rest) (passing_at is_count end rest)
     (λ count. Ok ((Multi, count.0), count.1)) (passing_sound is_count none end rest) (λ count t. record {
       read = (lead ∷ count.0 ∷ [], ap (λ (l : List ℕ). lead ∷ l) t.0);
       form = λ fits.
           let below : count.0 < 256 = subst IsBytes (ap (λ (l : List ℕ). lead ∷ l) t.0) fits 1 in
-          ((λ i. eqb-true lead 0x2F q i ∷ (let same : count.0 ≡ count.0 % 256 = omega (arith, below) in same) i ∷ []), (ltb-true 0 count.0 t.1, below));
+          let same : count.0 ≡ count.0 % 256 = omega (arith, below) in
+          ((λ i. eqb-true lead 0x2F q i ∷ same i ∷ []), (ltb-true 0 count.0 t.1, below));
     })))
     (λ _. record { read = ([], refl); form = λ fits. (refl, refl) })))
   where
+    -- by the lead byte
+    test : (c : ℕ) (x y : Left (NameForm × ℕ)) → (eqb lead c ≡ true → Sound end (lead ∷ rest) (Headed (lead ∷ rest)) x)
+        → (eqb lead c ≡ false → Sound end (lead ∷ rest) (Headed (lead ∷ rest)) y) → Sound end (lead ∷ rest) (Headed (lead ∷ rest)) (cond (eqb lead c) x y)
+    test c x y = cond_both (eqb lead c) x y (Sound end (lead ∷ rest) (Headed (lead ∷ rest)))
+
+    alone : (c : ℕ) → eqb lead c ≡ true → lead ∷ [] ≡ c ∷ []
+    alone c q = ap (λ b. b ∷ []) (eqb-true lead c q)
+
     none : (b : ℕ) → is_count b ≡ false → is_lead_char b ≡ false
     none b h = ap (λ (c : ℕ). is_lead_char c) {x = b} {y = 0} (omega (arith, ltb-false 0 b h))
 

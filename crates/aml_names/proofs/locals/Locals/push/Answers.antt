@@ -59,7 +59,8 @@ invariant_of-self-in-Err c =
     let met = get seg_cmp c.deepen.new.ends in
     let deepened = c.in_ok-known.ensures.ok in
     let depth = deeper c.depth_in-depth.result (depth_known (old e)) in
-    let back = not_refused c.insert-in-Err.result c.insert-in-Err.ensures.updates c.insert-in-Err.ensures.absent (there_is paths met e depth (old e) (deepened e)) in (
+    let there = there_is paths met e depth (old e) (deepened e) in
+    let back = not_refused c.insert-in-Err.result c.insert-in-Err.ensures.updates c.insert-in-Err.ensures.absent there in (
       subst (λ ks. HaveLengths ks c.insert.new.self.keys) (sym c.in-Err.ensures.err)
           (longer_still own.paths.keys own.lengths.keys c.insert.new.self.keys (length c.args.path) c.self.invariant.0
           (lengths_grown (goal.at.invariant_of-self-in-Err c).In_ok-insert)),
