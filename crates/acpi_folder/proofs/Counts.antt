@@ -30,7 +30,7 @@ lead_small c named = grind (arith, nat_tests)
 
 text_is : (bytes : List ℕ) → IsNameSeg bytes → (flat_map encode_utf8 bytes ≡ bytes) × (length bytes ≡ 4)
 text_is (a ∷ b ∷ c ∷ d ∷ []) named =
-    (rw (encode_ascii a (lead_small a named.0), encode_ascii b (small b named.1), encode_ascii c (small c named.2), encode_ascii d (small d named.3)) refl, refl)
+    (rw (encode_ascii a (lead_small a named.0), encode_ascii b (small b named.1), encode_ascii c (small c named.2), encode_ascii d (small d named.3)), refl)
 text_is _ named = absurd named
 
 segment_is : (segment : Seg) → IsNameSeg segment.0 → segment_text segment ≡ segment.0

@@ -1,5 +1,6 @@
 -- The first line of a text: the bytes up to the one that ends it, or all of them where none does.
-use Rattle.std.proofs.Common.{◌≤◌, Some, None, ltb, ◌≡◌, ℕ, suc, ◌+◌, ◌<◌, Bool, true, false, not, List, [], ◌∷◌, length, take, drop, refl, ap, arith, cond, eqb}
+use Rattle.std.proofs.Common.{◌≤◌, Some, None, ltb, ◌≡◌, ℕ, suc, ◌+◌, ◌<◌, Bool, true, false, not, List, [], ◌∷◌}
+use Rattle.std.proofs.Common.{length, take, drop, refl, ap, arith, cond, eqb}
 use Rattle.std.specs.List.{before_first, after_first, position, position_or_len}
 use Rattle.std.proofs.lemmas.List.{take_all, drop_all}
 use Rattle.std.proofs.lemmas.Bool.{ltb-false}

@@ -60,7 +60,8 @@ pub more_cut : (table : List ℕ) (at : ℕ) → 44 ≤ at → HoldsRecord table
     → IsCut (bytes_at table 44 (record_end table at - 44)) (records ++ record_bytes_at table at ∷ [])
 more_cut table at behind h records cut = record {
   joined = bytes_at-more table 44 at (number_at table (at + 1) 1) behind ∙ rw (cut.joined, concat-append, append-nil) refl;
-  each = recursion_from_All IsRecord _ (All-push IsRecord records (record_bytes_at table at) (All-from_recursion IsRecord records cut.each) (IsRecord-at table at h));
+  each = recursion_from_All IsRecord _
+      (All-push IsRecord records (record_bytes_at table at) (All-from_recursion IsRecord records cut.each) (IsRecord-at table at h));
 }
 
 -- the walk goes on over a whole record

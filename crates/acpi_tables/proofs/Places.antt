@@ -1,5 +1,6 @@
 -- Dumps by their index, and the indexes of those that have a signature.
-use Rattle.std.proofs.Common.{◌≡◌, ℕ, ◌+◌, ◌<◌, ◌≤◌, Bool, true, false, append-nil, refl, List, [], ◌∷◌, ◌++◌, length, take, map, get_or, cond, filter, sym, ap, ◌∙◌, arith, zero-add}
+use Rattle.std.proofs.Common.{◌≡◌, ℕ, ◌+◌, ◌<◌, ◌≤◌, Bool, true, false, append-nil, refl, List, [], ◌∷◌, ◌++◌, length, take}
+use Rattle.std.proofs.Common.{map, get_or, cond, filter, sym, ap, ◌∙◌, arith, zero-add}
 use Rattle.std.specs.List.{range_with_len}
 use Rattle.std.proofs.lemmas.List.{get_or-map, get_or_past, length-map, take_all}
 use Rattle.std.proofs.lemmas.List.Elements.{filter_more}

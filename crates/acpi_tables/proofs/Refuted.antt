@@ -1,4 +1,6 @@
--- Where a refusal stands there is no order.
+-- Where a refusal stands there is no order: a dump that is taken is refused for nothing by itself, and each refusal of a
+-- set denies a step of the order, its root, its list, its FADT, its DSDT, or that the DSDT is the only one. Behind it what
+-- an order of taken dumps gives, in the words of `load_order`.
 use Rattle.std.proofs.Common.{◌≡◌, ℕ, ◌≤◌, inl, inr, Bool, true, false, List, ◌∷◌, length, codes, Option, Some, None, Result, IfOk, MatchBool, slice_get}
 use Rattle.std.proofs.Common.{find, sym, ap, subst, ◌∙◌, arith}
 use Rattle.std.proofs.lemmas.Bool.{true≢false}

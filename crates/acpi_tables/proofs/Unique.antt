@@ -1,4 +1,5 @@
--- There is at most one order: what a list holds and a total order fix it, and each step of the chain has one end.
+-- There is at most one order. By names: two sorted lists in which each number stands as often are the same, by a total
+-- order, and the SSDTs are sorted by one. By the chain: each step of it has one end.
 use Rattle.std.proofs.Common.{◌≡◌, ℕ, suc, ◌+◌, ◌<◌, Bool, true, false, List, [], ◌∷◌, length, get_or, nat_eq, cond, codes, find, filter, MatchBool, refl, sym}
 use Rattle.std.proofs.Common.{ap, ◌∙◌, arith, rules, tests, sum_by}
 use Rattle.std.specs.Cmp.{IsStrictWeakOrder}

@@ -6,8 +6,8 @@ use Rattle.acpi_tables.proofs.by_name.indexes_with.Goals.{then-has_signature+in_
 
 pub loop-index-preserved : goal.loop-index-preserved
 loop-index-preserved c =
-    let more = λ (has : Bool). indexes-more c.args.dumps.now c.args.signature.now c.loop-index.index c.loop-index.indexes.items c.if-has_signature.indexes.items has
-    c.loop-index-test.true c.loop-index.invariant in
+    let more = λ (has : Bool). indexes-more c.args.dumps.now c.args.signature.now c.loop-index.index c.loop-index.indexes.items
+    c.if-has_signature.indexes.items has c.loop-index-test.true c.loop-index.invariant in
     let there = bytes_of-inside c.args.dumps.now c.loop-index.index c.index-dumps-index.result c.loop-index-test.true c.index-dumps-index.is in
     let tested = ap (λ bytes. begins_with bytes c.args.signature.now) there ∙ sym c.has_signature.ensures in
     elim c.if-has_signature.branch [

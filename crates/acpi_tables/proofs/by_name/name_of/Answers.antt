@@ -7,7 +7,8 @@ use Rattle.acpi_tables.proofs.by_name.name_of.Goals as goal
 pub returns-in-Some : goal.returns-in-Some
 unfolding name_of
 returns-in-Some c =
-    c.as_bytes.ensures.value ∙ sym (part-inside (λ d. string_bytes d.name) c.args.dumps.now c.args.index c.in-Some.dump.now (grind (arith, nat_tests)) c.in-Some.ensures.lookup.1)
+    c.as_bytes.ensures.value
+    ∙ sym (part-inside (λ d. string_bytes d.name) c.args.dumps.now c.args.index c.in-Some.dump.now (grind (arith, nat_tests)) c.in-Some.ensures.lookup.1)
 
 pub returns-in-None : goal.returns-in-None
 unfolding name_of
