@@ -12,13 +12,13 @@ use Rattle.aml_names.specs.declared.names.Name.{Name}
 use Rattle.aml_names.specs.Names.{IsNameSeg, IsName, spelling}
 use Rattle.aml_names.specs.NameReading.{name_at, segment_at, has_segment}
 use Rattle.aml_names.specs.Paths.{PathSet}
-use Rattle.aml_names.specs.Steps.{◌>>=◌, Left, byte_at}
+use Rattle.aml_names.specs.Steps.{◌>>=◌, byte_at}
 use Rattle.aml_names.proofs.NameFaults.{segment_fault}
 use Rattle.aml_names.proofs.NameLaws.{segment_takes, name_takes, name_fault}
 use Rattle.aml_names.proofs.StepLaws.{ok_is, err_is, IsBytes, IsBytes-drop, Takes, Takes-then, byte_takes, byte_fault}
 use Rattle.aml_code.specs.Packages.{little, package_bytes, FitsWidth}
 use Rattle.aml_code.specs.Lengths.{little_at, length_at, span_at}
-use Rattle.aml_code.specs.Tree.{Part, byte, text, Field, unit, reserved, access, extended}
+use Rattle.aml_code.specs.Tree.{Part, byte, text, Field}
 use Rattle.aml_code.specs.Encoding.{opcode_bytes, part_encoding, field_encoding}
 use Rattle.aml_code.specs.Faults.{IsOpcode, StandsAt}
 use Rattle.aml_code.specs.Lawful.{AreTextBytes, Setting, IsField}

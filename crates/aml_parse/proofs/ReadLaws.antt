@@ -2,11 +2,10 @@
 -- definitions; and each fault is true of the code at its offset. Each reader has a law here, beginning with parts and ending
 -- with terms, that follows its steps (`then`): what a step took stands in front of what the next one takes. The reader of the
 -- terms inside is any with that law (`IsReader`).
-use Rattle.std.proofs.Common.{◌≡◌, ◌≢◌, ℕ, zero, suc, ◌+◌, ◌-◌, ◌≤◌, Bool, true, false, eqb, List, [], ◌∷◌, ◌++◌, length, Option, Some, None, Result, Ok, Err}
+use Rattle.std.proofs.Common.{◌≡◌, ◌≢◌, ℕ, zero, suc, ◌+◌, ◌-◌, ◌≤◌, Bool, true, false, eqb, List, [], ◌∷◌, ◌++◌, length, Option, Some, None, Ok}
 use Rattle.std.proofs.Common.{refl, sym, ap, subst, ◌∙◌, arith, inl, inr}
 use Rattle.std.proofs.lemmas.Bool.{eqb-true}
 use Rattle.std.proofs.lemmas.List.{append-nil}
-use Rattle.aml_names.specs.declared.faults.CodeFault.{CodeFault}
 use Rattle.aml_names.specs.declared.faults.CodeFault.TheVariants as faults
 use Rattle.aml_names.specs.declared.names.Name.{Name}
 use Rattle.aml_names.specs.Names.{IsName, spelling, is_name_lead}
@@ -25,8 +24,8 @@ use Rattle.aml_code.specs.declared.rows.TailKind.TheVariants as tails
 use Rattle.aml_code.specs.Opcodes.{Row}
 use Rattle.aml_code.specs.Packages.{width_len, package_bytes, FitsWidth}
 use Rattle.aml_code.specs.Rows.{row_of, has_length, takes}
-use Rattle.aml_code.specs.Tree.{Tree, nothing, named, op, Trees, tree_more, Part, child, label, byte, word, dword, qword, Parts, no_parts, part_more}
-use Rattle.aml_code.specs.Tree.{Tail, empty, Field, connection, Fields, Link, target, buffer}
+use Rattle.aml_code.specs.Tree.{Tree, op, child, label, byte, word, dword, qword, Parts}
+use Rattle.aml_code.specs.Tree.{Tail, empty, target, buffer}
 use Rattle.aml_code.specs.Encoding.{opcode_bytes, slice_of, encoding, encodings, part_encoding, parts_encoding, tail_encoding, field_encoding, link_encoding}
 use Rattle.aml_code.specs.Declaring.{names_declared, with_declared, declared_by}
 use Rattle.aml_code.specs.Faults.{Arities, StandsThere, IsOpcode, StandsAt}
@@ -37,7 +36,7 @@ use Rattle.aml_code.proofs.InnerLaws.{is_inner, unchanged, all_unchanged}
 use Rattle.aml_code.proofs.RowFacts.{row_opcode, if_parts, if_has_length, guard_place, opcode_some}
 use Rattle.aml_code.proofs.Within.{Within, onward, inward, text_there, byte_there, slice_there, span_inside, end_there, truncated_placed, offset_is}
 use Rattle.aml_parse.specs.Reading.{Reader, part_at, parts_at, arguments_at, terms_at, link_at, connection_at, field_at, fields_at, known, call_at}
-use Rattle.aml_parse.specs.Reading.{name_term_at, refused_in_body, refusal, guard_at, tail_at, takes_names, plain_at, packed_at, row_at, by_row, operation_at}
+use Rattle.aml_parse.specs.Reading.{name_term_at, refused_in_body, refusal, guard_at, tail_at, takes_names, plain_at, packed_at, by_row, operation_at}
 use Rattle.aml_parse.specs.Reading.{is_absent_target, term_at}
 use Rattle.aml_parse.proofs.FlatReads.{Answers, answers, fails, then, made, chosen, at_offset, byte_reads, span_reads, name_reads, opcode_reads, TookFlat}
 use Rattle.aml_parse.proofs.FlatReads.{number_reads, named_reads, some_name_reads, count_reads, text_reads, behind_lead, named_unit_reads, reserved_reads}

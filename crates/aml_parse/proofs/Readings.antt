@@ -1,19 +1,17 @@
 -- The laws of the whole reader.
 use Rattle.std.specs.Prelude.{IfOk, IfErr}
-use Rattle.std.proofs.Common.{◌≡◌, ℕ, zero, suc, ◌-◌, ◌<◌, List, [], ◌∷◌, length, Option, Some, None, Result, Ok, Err, refl, sym, ap, subst, ◌∙◌, ◌⊎◌, arith}
+use Rattle.std.proofs.Common.{◌≡◌, ℕ, zero, suc, ◌-◌, List, [], ◌∷◌, length, Option, Some, None, Result, Ok, Err, refl, sym, ap, subst, ◌∙◌, ◌⊎◌, arith}
 use Rattle.std.proofs.Common.{inl, inr}
 use Rattle.std.specs.FinSet as set
-use Rattle.std.proofs.lemmas.List.{length-append}
 use Rattle.aml_names.specs.declared.faults.CodeFault.{CodeFault}
 use Rattle.aml_names.specs.declared.faults.CodeFault.TheVariants as faults
 use Rattle.aml_names.specs.declared.segments.Seg.{Seg}
-use Rattle.aml_names.specs.Paths.{PathSet}
 use Rattle.aml_names.specs.Steps.{Gives}
 use Rattle.aml_names.proofs.StepLaws.{ok_is, IsBytes}
 use Rattle.aml_code.specs.declared.rows.Position.{Position}
 use Rattle.aml_code.specs.declared.rows.Position.TheVariants as positions
-use Rattle.aml_code.specs.Tree.{Tree, Trees}
-use Rattle.aml_code.specs.Encoding.{encoding, encodings}
+use Rattle.aml_code.specs.Tree.{Trees}
+use Rattle.aml_code.specs.Encoding.{encodings}
 use Rattle.aml_code.specs.Faults.{Arities, StandsAt}
 use Rattle.aml_code.specs.Lawful.{Setting, AreTerms}
 use Rattle.aml_code.specs.Meaning.{setting_of, BodiesStand, ReadsBody, ReadsModule, no_arguments}
