@@ -3,10 +3,8 @@
 use Rattle.std.proofs.Common.{◌≡◌, ℕ, zero, suc, Bool, true, false, cond, not, ◌&&◌, ◌==◌, List, [], ◌∷◌, ◌++◌, length, map, Some, None, refl, sym, ap, subst}
 use Rattle.std.proofs.Common.{◌∙◌, append_assoc, slice_get}
 use Rattle.std.specs.FinSet as set
-use Rattle.std.specs.List.{list_all, position_or_len}
 use Rattle.std.specs.Option.{option_map}
 use Rattle.std.proofs.lemmas.List.{append-nil, map-append, length-map}
-use Rattle.std.proofs.lemmas.List.Folds.{find_at}
 use Rattle.std.proofs.lemmas.Option.{slice_get-map}
 use Rattle.aml_names.specs.declared.segments.Seg.{Seg}
 use Rattle.aml_names.specs.declared.names.Name.{Name}
@@ -21,11 +19,11 @@ use Rattle.aml_code.specs.declared.rows.TailKind.{TailKind}
 use Rattle.aml_code.specs.declared.rows.TailKind.TheVariants as tails
 use Rattle.aml_code.specs.Opcodes.{Row, rows}
 use Rattle.aml_code.specs.Rows.{row_of, takes, taken_in_module, taken_in_guard}
-use Rattle.aml_code.specs.Tree.{Tree, nothing, named, op, Trees, no_trees, tree_more, Parts, Tail, empty, terms, bytes, elements, fields, body}
+use Rattle.aml_code.specs.Tree.{Tree, nothing, named, op, Trees, no_trees, tree_more, Parts, Tail, terms, elements, fields, body}
 use Rattle.aml_code.specs.Declaring.{after, field_names}
 use Rattle.aml_code.specs.Lawful.{Setting, IsLawful, AreTerms, IsTail, terms_in, next_position}
 use Rattle.aml_code.specs.Meaning.{setting_of, no_arguments}
-use Rattle.aml_code.proofs.RowFacts.{and_left, and_right}
+use Rattle.aml_code.proofs.RowFacts.{and_left, and_right, rows_say}
 use Rattle.aml_parse.specs.Reading.{takes_names}
 use Rattle.aml_space.specs.declared.kinds.Kind.{Kind}
 use Rattle.aml_space.specs.declared.kinds.Kind.TheVariants as kinds
@@ -62,33 +60,6 @@ fits roles.Fields k = is_flat k
 fits roles.Guard k = not (is_body k)
 fits roles.Other k = is_flat k
 
-module_row : Row → Bool
-module_row r = cond (taken_in_module r.place) (fits r.role r.tail) true
-
-guard_row : Row → Bool
-guard_row r = cond (taken_in_guard r.place) (fits r.role r.tail && is_flat r.tail) true
-
-all_module : list_all module_row rows ≡ true
-unfolding rows module_row fits is_flat is_body is_terms
-all_module = refl
-
-all_guard : list_all guard_row rows ≡ true
-unfolding rows guard_row fits is_flat is_body is_terms
-all_guard = refl
-
-at_index : {X : Type 0} (test : X → Bool) (xs : List X) (i : ℕ) (x : X) → list_all test xs ≡ true → slice_get xs i ≡ Some x → test x ≡ true
-at_index test [] i x h e = absurd cc
-at_index test (y ∷ ys) zero x h e = let q : y ≡ x = cc in ap test (sym q) ∙ and_left (test y) (list_all test ys) h
-at_index test (y ∷ ys) (suc i) x h e = at_index test ys i x (and_right (test y) (list_all test ys) h) e
-
-row_passes : (test : Row → Bool) → list_all test rows ≡ true → (o : ℕ) (r : Row) → row_of o ≡ Some r → test r ≡ true
-unfolding row_of
-row_passes test all o r e = at_index test rows (position_or_len (λ r. r.opcode == o) rows) r all (sym (find_at (λ r. r.opcode == o) rows) ∙ e)
-
-where_true : (b c : Bool) → b ≡ true → cond b c true ≡ true → c ≡ true
-where_true true c h e = e
-where_true false c h e = absurd cc
-
 flat_terms : (k : TailKind) → is_flat k ≡ true → k ≡ tails.Terms → ⊥
 unfolding is_flat is_body is_terms
 flat_terms k h e = let x : is_flat tails.Terms ≡ true = subst (λ (k : TailKind). is_flat k ≡ true) e h in absurd cc
@@ -99,50 +70,30 @@ not_body k h e = let x : not (is_body tails.Body) ≡ true = subst (λ (k : Tail
 
 the_body : (k : TailKind) → is_body k ≡ true → k ≡ tails.Body
 unfolding is_body
-the_body tails.Empty h = absurd cc
-the_body tails.Terms h = absurd cc
-the_body tails.Bytes h = absurd cc
-the_body tails.Elements h = absurd cc
-the_body tails.Fields h = absurd cc
 the_body tails.Body h = refl
+the_body _ h = absurd cc
 
 module_inside : (place : Place) → takes_names (terms_in positions.ModuleTerm place) ≡ false
-module_inside places.Data = refl
-module_inside places.Target = refl
-module_inside places.Argument = refl
-module_inside places.Statement = refl
 module_inside places.If = refl
-module_inside places.Else = refl
-module_inside places.Declaration = refl
-module_inside places.External = refl
-module_inside places.Scope = refl
-module_inside places.Method = refl
+module_inside _ = refl
 
 -- a row fits in a position of a table, where the terms inside it are terms of a table too
 abbrev Fits : Position → Row → Type 0
 Fits p r = (fits r.role r.tail ≡ true) × (r.tail ≡ tails.Terms → takes_names (terms_in p r.place) ≡ false)
 
 row_fits : (p : Position) (o : ℕ) (r : Row) → takes_names p ≡ false → row_of o ≡ Some r → takes p r.place ≡ true → Fits p r
-unfolding module_row guard_row
+unfolding rows fits is_flat is_body is_terms
 row_fits positions.ModuleTerm o r h listed taken =
-    (where_true (taken_in_module r.place) (fits r.role r.tail) taken (row_passes module_row all_module o r listed), λ e. module_inside r.place)
+    (rows_say (λ r. taken_in_module r.place) (λ r. fits r.role r.tail) refl o r listed taken, λ e. module_inside r.place)
 row_fits positions.GuardTerm o r h listed taken =
-    let both = where_true (taken_in_guard r.place) (fits r.role r.tail && is_flat r.tail) taken (row_passes guard_row all_guard o r listed) in
+    let both = rows_say (λ r. taken_in_guard r.place) (λ r. fits r.role r.tail && is_flat r.tail) refl o r listed taken in
     (and_left (fits r.role r.tail) (is_flat r.tail) both, λ e. absurd (flat_terms r.tail (and_right (fits r.role r.tail) (is_flat r.tail) both) e))
-row_fits positions.BodyTerm o r h listed taken = absurd cc
-row_fits positions.AfterIf o r h listed taken = absurd cc
-row_fits positions.Argument o r h listed taken = absurd cc
-row_fits positions.Target o r h listed taken = absurd cc
-row_fits positions.Data o r h listed taken = absurd cc
+row_fits _ o r h listed taken = absurd cc
 
 next_in_table : (p : Position) (x : Tree) → takes_names p ≡ false → takes_names (next_position p x) ≡ false
 next_in_table positions.ModuleTerm x h = refl
 next_in_table positions.GuardTerm x h = refl
-next_in_table positions.BodyTerm x h = absurd cc
-next_in_table positions.AfterIf x h = absurd cc
-next_in_table positions.Argument x h = absurd cc
-next_in_table positions.Target x h = absurd cc
-next_in_table positions.Data x h = absurd cc
+next_in_table _ x h = absurd cc
 
 role_is : (o : ℕ) (r : Row) → row_of o ≡ Some r → role_of o ≡ r.role
 unfolding role_of
@@ -219,59 +170,55 @@ flat_none : (s : Setting) (levels : ℕ) (p : Position) (k : TailKind) (ls : Pat
     → tail_spans t x ≡ []
 unfolding is_flat
 flat_none s levels p k ls t x l h =
-    tail_none s levels p k ls t x (λ e. absurd (flat_terms k h e)) (not_body k (and_left (not (is_body k)) (not (is_terms k)) h)) l
+    tail_none s t levels p k ls x (λ e. absurd (flat_terms k h e)) (not_body k (and_left (not (is_body k)) (not (is_terms k)) h)) l
 
 body_one : (s : Setting) (levels : ℕ) (p : Position) (ls : PathSet) (t : ℕ) (x : Tail) → IsTail s levels p tails.Body ls x → tail_spans t x ≡ one_span t x
-body_one s levels p ls t empty l = absurd l
-body_one s levels p ls t (terms xs) l = absurd l
-body_one s levels p ls t (bytes bs) l = absurd l
-body_one s levels p ls t (elements xs) l = absurd l
-body_one s levels p ls t (fields us) l = absurd l
 body_one s levels p ls t (body start len) l = refl
+body_one s levels p ls t _ l = absurd l
 
 -- ---- terms of a table add the spans of their bodies
 
-mutual
-  unfolding Adding
+module _ (s : Setting) (t : ℕ) where
+  mutual
+    unfolding Adding
 
-  tree_adds : (s : Setting) (levels : ℕ) (p : Position) (ls : PathSet) (t : ℕ) (l : Listed) (scope : List Seg) (x : Tree) (m : Listed)
-      → takes_names p ≡ false → IsLawful s levels p ls x → Declares t l scope x m → Adds l m (tree_spans t x)
-  tree_adds s levels p ls t l scope nothing m h law d = same_adds l m [] (ap spans_so_far d) refl
-  tree_adds s zero p ls t l scope (named n xs) m h law d = absurd law
-  tree_adds s (suc levels) p ls t l scope (named n xs) m h law d =
-      same_adds l m (all_spans t xs) (ap spans_so_far d) (all_none s levels positions.Argument ls t xs refl law.3)
-  tree_adds s zero p ls t l scope (op o w ps r) m h law d = absurd law
-  tree_adds s (suc levels) p ls t l scope (op o w ps r) m h law d =
-      let k = (law.row).tail in
-      let q = terms_in p (law.row).place in
-      let fit = row_fits p o law.row h law.listed law.taken in
-      let here = subst (λ (x : Role). fits x k ≡ true) (sym (role_is o law.row law.listed)) fit.0 in
-      let has : TailSpans k t r (λ l p m. DeclareInside t l p r m) = record {
-        flat = flat_none s levels q k ls t r law.tail;
-        one = λ e. body_one s levels q ls t r (subst (λ (k : TailKind). IsTail s levels q k ls r) (the_body k e) law.tail);
-        inside = λ e l scope m d. inside_adds s levels q k ls t l scope r m fit.1 (not_body k e) law.tail d;
-      } in
-      role_adds (role_of o) k t (with_uses t l scope o ps r) scope ps r (λ l p m. DeclareInside t l p r m) m here has d
-      ∙ ap (λ zs. spans_so_far l ++ (zs ++ tail_spans t r)) (sym (parts_none s levels (law.row).parts ls t ps law.parts))
+    tree_adds : (levels : ℕ) (p : Position) (ls : PathSet) (l : Listed) (scope : List Seg) (x : Tree) (m : Listed) → takes_names p ≡ false
+        → IsLawful s levels p ls x → Declares t l scope x m → Adds l m (tree_spans t x)
+    tree_adds levels p ls l scope nothing m h law d = same_adds l m [] (ap spans_so_far d) refl
+    tree_adds zero p ls l scope _ m h law d = absurd law
+    tree_adds (suc levels) p ls l scope (named n xs) m h law d =
+        same_adds l m (all_spans t xs) (ap spans_so_far d) (all_none s t levels positions.Argument ls xs refl law.3)
+    tree_adds (suc levels) p ls l scope (op o w ps r) m h law d =
+        let k = (law.row).tail in
+        let q = terms_in p (law.row).place in
+        let fit = row_fits p o law.row h law.listed law.taken in
+        let here = subst (λ (x : Role). fits x k ≡ true) (sym (role_is o law.row law.listed)) fit.0 in
+        let has : TailSpans k t r (λ l p m. DeclareInside t l p r m) = record {
+          flat = flat_none s levels q k ls t r law.tail;
+          one = λ e. body_one s levels q ls t r (subst (λ (k : TailKind). IsTail s levels q k ls r) (the_body k e) law.tail);
+          inside = λ e l scope m d. inside_adds levels q k ls l scope r m fit.1 (not_body k e) law.tail d;
+        } in
+        role_adds (role_of o) k t (with_uses t l scope o ps r) scope ps r (λ l p m. DeclareInside t l p r m) m here has d
+        ∙ ap (λ zs. spans_so_far l ++ (zs ++ tail_spans t r)) (sym (parts_none s t levels (law.row).parts ls ps law.parts))
 
-  inside_adds : (s : Setting) (levels : ℕ) (p : Position) (k : TailKind) (ls : PathSet) (t : ℕ) (l : Listed) (scope : List Seg) (r : Tail) (m : Listed)
-      → (k ≡ tails.Terms → takes_names p ≡ false) → (k ≡ tails.Body → ⊥) → IsTail s levels p k ls r → DeclareInside t l scope r m → Adds l m (tail_spans t r)
-  inside_adds s levels p k ls t l scope empty m h other law d = same_adds l m [] (ap spans_so_far d) refl
-  inside_adds s levels p k ls t l scope (terms xs) m h other law d =
-      let e = terms_tail s levels p k ls xs law in all_add s levels p ls t l scope xs m (h e.0) e.1 d
-  inside_adds s levels p k ls t l scope (bytes bs) m h other law d = same_adds l m [] (ap spans_so_far d) refl
-  inside_adds s levels p k ls t l scope (elements xs) m h other law d =
-      same_adds l m (all_spans t xs) (ap spans_so_far d) (elements_none s levels p k ls t xs law)
-  inside_adds s levels p k ls t l scope (fields us) m h other law d =
-      same_adds l m (fields_spans t us) (ap spans_so_far d) (fields_tail_none s levels p k ls t us law)
-  inside_adds s levels p k ls t l scope (body start len) m h other law d = absurd (other (body_tail s levels p k ls start len law))
+    inside_adds : (levels : ℕ) (p : Position) (k : TailKind) (ls : PathSet) (l : Listed) (scope : List Seg) (r : Tail) (m : Listed)
+        → (k ≡ tails.Terms → takes_names p ≡ false) → (k ≡ tails.Body → ⊥) → IsTail s levels p k ls r → DeclareInside t l scope r m
+        → Adds l m (tail_spans t r)
+    inside_adds levels p k ls l scope (terms xs) m h other law d =
+        let e = terms_tail s levels p ls k xs law in all_add levels p ls l scope xs m (h e.0) e.1 d
+    inside_adds levels p k ls l scope (elements xs) m h other law d =
+        same_adds l m (all_spans t xs) (ap spans_so_far d) (elements_none s t levels p k ls xs law)
+    inside_adds levels p k ls l scope (fields us) m h other law d =
+        same_adds l m (fields_spans t us) (ap spans_so_far d) (fields_tail_none s t levels p k ls us law)
+    inside_adds levels p k ls l scope (body start len) m h other law d = absurd (other (body_tail s levels p ls k start len law))
+    inside_adds levels p k ls l scope _ m h other law d = same_adds l m [] (ap spans_so_far d) refl
 
-  pub all_add : (s : Setting) (levels : ℕ) (p : Position) (ls : PathSet) (t : ℕ) (l : Listed) (scope : List Seg) (xs : Trees) (m : Listed)
-      → takes_names p ≡ false → AreTerms s levels p ls xs → DeclareAll t l scope xs m → Adds l m (all_spans t xs)
-  all_add s levels p ls t l scope no_trees m h law d = same_adds l m [] (ap spans_so_far d) refl
-  all_add s levels p ls t l scope (tree_more x xs) m h law d =
-      then_adds l d.0 m (tree_spans t x) (all_spans t xs) (tree_adds s levels p ls t l scope x d.0 h law.0 d.1)
-      (all_add s levels (next_position p x) (after s.scope ls x) t d.0 scope xs m (next_in_table p x h) law.1 d.2)
+    pub all_add : (levels : ℕ) (p : Position) (ls : PathSet) (l : Listed) (scope : List Seg) (xs : Trees) (m : Listed) → takes_names p ≡ false
+        → AreTerms s levels p ls xs → DeclareAll t l scope xs m → Adds l m (all_spans t xs)
+    all_add levels p ls l scope no_trees m h law d = same_adds l m [] (ap spans_so_far d) refl
+    all_add levels p ls l scope (tree_more x xs) m h law d =
+        then_adds l d.0 m (tree_spans t x) (all_spans t xs) (tree_adds levels p ls l scope x d.0 h law.0 d.1)
+        (all_add levels (next_position p x) (after s.scope ls x) d.0 scope xs m (next_in_table p x h) law.1 d.2)
 
 -- ---- the tables, from any list on
 
@@ -282,7 +229,7 @@ tables_add t l (c ∷ codes) [] m read d = absurd read
 tables_add t l [] (xs ∷ trees) m read d = absurd read
 tables_add t l (c ∷ codes) (xs ∷ trees) m read d =
     then_adds l d.0 m (all_spans t xs) (tables_spans (suc t) trees)
-    (all_add (setting_of no_arguments None c) 512 positions.ModuleTerm set.empty t l [] xs d.0 refl (read.0).lawful d.1)
+    (all_add (setting_of no_arguments None c) t 512 positions.ModuleTerm set.empty l [] xs d.0 refl (read.0).lawful d.1)
     (tables_add (suc t) d.0 codes trees m read.1 d.2)
 
 -- The methods that tables load to are those whose bodies stand in the trees, in load order and in the order of the text.

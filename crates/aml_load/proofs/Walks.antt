@@ -6,7 +6,7 @@ use Rattle.std.specs.Prelude.{Bool}
 use Rattle.std.proofs.lemmas.Bool.Decides.{nat_tests}
 use Rattle.aml_names.specs.declared.segments.Seg.{Seg}
 use Rattle.aml_names.specs.declared.names.Name.{Name}
-use Rattle.aml_code.specs.Tree.{Tree, nothing, named, op, Trees, no_trees, tree_more, Parts, Tail, empty, terms, bytes, elements, fields, body}
+use Rattle.aml_code.specs.Tree.{Tree, op, Trees, no_trees, tree_more, Parts, Tail, terms}
 use Rattle.aml_code.specs.Declaring.{last_label, field_names}
 use Rattle.aml_space.specs.declared.kinds.Kind.TheVariants as kinds
 use Rattle.aml_space.specs.declared.faults.SpaceFault.TheVariants as faults
@@ -132,20 +132,15 @@ mutual
 
   walk_tells : (t : ℕ) (l : Listed) (scope : List Seg) (x : Tree) → Tells count (count l) (walk t l scope x) (λ m. Declares t l scope x m)
       (λ e. Stops t l scope x e)
-  walk_tells t l scope nothing = unchanged l
-  walk_tells t l scope (named n ts) = unchanged l
   walk_tells t l scope (op o w ps r) =
       role_tells t (with_uses t l scope o ps r) scope ps r (λ k p. walk_inside t k p r) (λ k p m. DeclareInside t k p r m) (λ k p e. StopInside t k p r e)
       (λ k p. inside_tells t k p r) (role_of o)
+  walk_tells t l scope _ = unchanged l
 
   inside_tells : (t : ℕ) (l : Listed) (scope : List Seg) (r : Tail) → Tells count (count l) (walk_inside t l scope r) (λ m. DeclareInside t l scope r m)
       (λ e. StopInside t l scope r e)
-  inside_tells t l scope empty = unchanged l
   inside_tells t l scope (terms ts) = all_tell t l scope ts
-  inside_tells t l scope (bytes bs) = unchanged l
-  inside_tells t l scope (elements ts) = unchanged l
-  inside_tells t l scope (fields us) = unchanged l
-  inside_tells t l scope (body start len) = unchanged l
+  inside_tells t l scope _ = unchanged l
 
   pub all_tell : (t : ℕ) (l : Listed) (scope : List Seg) (xs : Trees) → Tells count (count l) (walk_all t l scope xs) (λ m. DeclareAll t l scope xs m)
       (λ e. StopAll t l scope xs e)

@@ -6,8 +6,7 @@ use Rattle.aml_names.specs.declared.names.Name.{Name}
 use Rattle.aml_names.specs.declared.faults.CodeFault.{CodeFault}
 use Rattle.aml_code.specs.Faults.{StandsAt}
 use Rattle.aml_code.specs.Meaning.{ReadsModule, no_arguments}
-use Rattle.aml_code.specs.Tree.{Tree, nothing, named, op, Trees, no_trees, tree_more, Parts, Tail, empty, terms, bytes}
-use Rattle.aml_code.specs.Tree.{elements, fields, body}
+use Rattle.aml_code.specs.Tree.{Tree, op, Trees, no_trees, tree_more, Parts, Tail, terms}
 use Rattle.aml_code.specs.Declaring.{last_label, field_names}
 use Rattle.aml_space.specs.declared.faults.SpaceFault.TheVariants as faults
 use Rattle.aml_space.specs.declared.kinds.Kind.TheVariants as kinds
@@ -68,18 +67,13 @@ StopsAs roles.Other t l scope ps r Inside e = ⊥
 -- Stops t l scope x e: after l, the term x of table t, in this scope, can't be declared, for the reason e.
 abbrev mutual
   pub Stops : ℕ → Listed → List Seg → Tree → LoadFault → Type 0
-  Stops t l scope nothing e = ⊥
-  Stops t l scope (named n ts) e = ⊥
   Stops t l scope (op o w ps r) e =
       StopsAs (role_of o) t (with_uses t l scope o ps r) scope ps r (λ l p. StopInside t l p r e) e
+  Stops t l scope _ e = ⊥
 
   pub StopInside : ℕ → Listed → List Seg → Tail → LoadFault → Type 0
-  StopInside t l scope empty e = ⊥
   StopInside t l scope (terms ts) e = StopAll t l scope ts e
-  StopInside t l scope (bytes bs) e = ⊥
-  StopInside t l scope (elements ts) e = ⊥
-  StopInside t l scope (fields us) e = ⊥
-  StopInside t l scope (body start len) e = ⊥
+  StopInside t l scope _ e = ⊥
 
   pub StopAll : ℕ → Listed → List Seg → Trees → LoadFault → Type 0
   StopAll t l scope no_trees e = ⊥
