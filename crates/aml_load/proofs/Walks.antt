@@ -1,6 +1,6 @@
 -- Terms, walked forward, declare what `Declares` says, and stop where `Stops` says, unless there are too many methods: by
 -- one law for all roles (`role_tells`), and one for terms inside one another (`walk_tells`, `all_tell`).
-use Rattle.std.proofs.Common.{◌≡◌, ℕ, ◌+◌, true, false, cond, ◌≤◌, ◌<◌, List, [], ◌∷◌, Option, Some, None, Result, Ok, Err, refl, sym, ap, subst, ◌∙◌, ◌⊎◌, inl}
+use Rattle.std.proofs.Common.{◌≡◌, ℕ, ◌+◌, true, false, cond, ◌≤◌, ◌<◌, List, [], ◌∷◌, Option, Some, None, Result, Err, refl, ap, subst, ◌⊎◌, inl}
 use Rattle.std.proofs.Common.{inr, arith, nat_le}
 use Rattle.std.specs.Prelude.{Bool}
 use Rattle.std.proofs.lemmas.Bool.Decides.{nat_tests}
@@ -18,7 +18,7 @@ use Rattle.aml_code.specs.declared.rows.Role.TheVariants as roles
 use Rattle.aml_load.specs.Roles.{role_of, kind_of}
 use Rattle.aml_load.specs.Loading.{Listed, plus, with_uses, first_label, byte_of, place_of, IsNew, Leads, target_of, body_start, body_len, method_entry}
 use Rattle.aml_load.specs.Loading.{DeclareUnits, DoesAs, Declares, DeclareInside, DeclareAll}
-use Rattle.aml_load.specs.Walking.{◌>>=◌, scope_at, source_at, name_at, new_method_at, method_at, alias_at, external_at, fields_at, do_as, walk, walk_inside}
+use Rattle.aml_load.specs.Walking.{scope_at, source_at, name_at, new_method_at, method_at, alias_at, external_at, fields_at, do_as, walk, walk_inside}
 use Rattle.aml_load.specs.Walking.{walk_all}
 use Rattle.aml_load.specs.Stops.{Unplaced, NotNew, Nowhere, TooMany, StopUnits, StopsAs, Stops, StopInside, StopAll}
 use Rattle.aml_load.proofs.Steps.{Tells, told_as, both, unchanged, count, count_plus, plain_room, entry_more, place_tells, lead_tells, name_tells, new_tells}
