@@ -2,29 +2,29 @@ use Rattle.std.proofs.Common.{◌≡◌, length, ◌++◌, ◌∷◌, [], sym, s
 use Rattle.std.specs.FinMap as map
 use Rattle.aml_space.specs.Entries.{given as said}
 use Rattle.aml_space.specs.Known.{Known, StandsFor, with_given}
-use Rattle.aml_space.specs.Nodes.{known_by, IsIndex}
+use Rattle.aml_space.specs.Nodes.{known_by, IsIndex, HasGiven}
 use Rattle.aml_space.proofs.Stands.{stands_given}
 use Rattle.aml_space.proofs.Index.{put_given}
 use Rattle.aml_space.proofs.spaces.Space.given.Goals as goal
 use Rattle.aml_space.proofs.spaces.Space.given.Goals.{After-set_given}
 
 -- the nodes are an index still, and know the count
-put_here : (c : After-set_given)
+put_here : (c : After-set_given) → HasGiven c.make_node.new.nodes.items c.set_given.new.nodes.items c.in_ok-at.at c.args.count
     → IsIndex c.set_given.new.nodes.items × (known_by c.set_given.new.nodes.items ≡ with_given c.args.self.now c.args.path.now c.args.count)
-put_here c =
+put_here c has =
     let put = put_given c.make_node.new.nodes.items c.set_given.new.nodes.items c.segs.result.now c.in_ok-at.at c.make_node.ensures.index
-    c.in_ok-at.ensures.node c.args.count c.set_given.ensures in
+    c.in_ok-at.ensures.node c.args.count has in
     (put.0, put.1 ∙ (λ i. with_given ((c.make_node.ensures.known ∙ c.self.view_is) i) (c.segs.ensures i) c.args.count))
 
 pub invariant_of-self-2 : goal.invariant_of-self-2
 invariant_of-self-2 c = record {
-  index = (put_here (goal.at.invariant_of-self-2 c).After-set_given).0;
+  index = (put_here (goal.at.invariant_of-self-2 c).After-set_given c.set_given.ensures).0;
   rows = c.self.invariant.rows ∙ ap (λ (k : Known). length (map.entries k.kinds)) c.self.view_is
-      ∙ ap (λ (k : Known). length (map.entries k.kinds)) (sym (put_here (goal.at.invariant_of-self-2 c).After-set_given).1);
+      ∙ ap (λ (k : Known). length (map.entries k.kinds)) (sym (put_here (goal.at.invariant_of-self-2 c).After-set_given c.set_given.ensures).1);
 }
 
 pub returns-clause-ok : goal.returns-clause-ok
-returns-clause-ok c = (put_here (goal.at.returns-clause-ok c).After-set_given).1
+returns-clause-ok c = (put_here (goal.at.returns-clause-ok c).After-set_given c.set_given.ensures).1
 
 pub returns-clause-stands : goal.returns-clause-stands
 returns-clause-stands c = λ es stands. subst (λ k. StandsFor k (es ++ said c.args.path.now c.args.count ∷ [])) (sym (returns-clause-ok c))
