@@ -23,19 +23,19 @@ mutual
       → left x bs ≡ drop (length (tree_spans t x)) bs
   left_takes s levels p ls t nothing bs law = refl
   left_takes s zero p ls t (named n xs) bs law = absurd law
-  left_takes s (suc levels) p ls t (named n xs) bs law = takes_none (all_spans t xs) bs (all_none s levels positions.Argument ls t xs refl law.3)
+  left_takes s (suc levels) p ls t (named n xs) bs law = takes_none (all_spans t xs) bs (all_none s t levels positions.Argument ls xs refl law.3)
   left_takes s zero p ls t (op o w ps r) bs law = absurd law
   left_takes s (suc levels) p ls t (op o w ps r) bs law =
       tail_takes s levels (terms_in p (law.row).place) (law.row).tail ls t r bs law.tail
-      ∙ ap (λ xs. drop (length (xs ++ tail_spans t r)) bs) (sym (parts_none s levels (law.row).parts ls t ps law.parts))
+      ∙ ap (λ xs. drop (length (xs ++ tail_spans t r)) bs) (sym (parts_none s t levels (law.row).parts ls ps law.parts))
 
   tail_takes : (s : Setting) (levels : ℕ) (p : Position) (k : TailKind) (ls : PathSet) (t : ℕ) (r : Tail) (bs : List BodyLines) → IsTail s levels p k ls r
       → left_rest r bs ≡ drop (length (tail_spans t r)) bs
   tail_takes s levels p k ls t empty bs law = refl
-  tail_takes s levels p k ls t (terms xs) bs law = let e = terms_tail s levels p k ls xs law in all_take s levels p ls t xs bs e.1
+  tail_takes s levels p k ls t (terms xs) bs law = let e = terms_tail s levels p ls k xs law in all_take s levels p ls t xs bs e.1
   tail_takes s levels p k ls t (bytes b) bs law = refl
-  tail_takes s levels p k ls t (elements xs) bs law = takes_none (all_spans t xs) bs (elements_none s levels p k ls t xs law)
-  tail_takes s levels p k ls t (fields us) bs law = takes_none (fields_spans t us) bs (fields_tail_none s levels p k ls t us law)
+  tail_takes s levels p k ls t (elements xs) bs law = takes_none (all_spans t xs) bs (elements_none s t levels p k ls xs law)
+  tail_takes s levels p k ls t (fields us) bs law = takes_none (fields_spans t us) bs (fields_tail_none s t levels p k ls us law)
   tail_takes s levels p k ls t (body start len) bs law = refl
 
   -- terms leave the bodies behind those that stand in them
