@@ -1,6 +1,7 @@
 -- Counting in lists, and totals over lists.
 use Rattle.std.proofs.Common.{◌≡◌, ◌≢◌, ℕ, zero, suc, ◌+◌, ◌<◌, ◌≤◌, List, [], ◌∷◌, ◌++◌, set, map, Bool, sym, refl, ap, ◌∙◌, arith, eq-eqb, ne_eqb}
 use Rattle.std.specs.Prelude.{All, if◌then◌else◌, flat_map}
+use Rattle.std.proofs.lemmas.List.Elements.{All-cons}
 use mathlib.Core.Logic.{dite}
 use native.Mathlib.Decide.{ℕ_discrete, dec_lt}
 use mathlib.Core.Option.{some, some-injective, some-ne-none}
@@ -83,14 +84,10 @@ once_below-more x n = dite (ℕ_discrete x n)
     (λ l. omega (arith, not_one x n ne, below_one x (n + 1) (omega arith), below_one x n l))
     (λ l. omega (arith, not_one x n ne, above_one x (n + 1) (omega arith), above_one x n (omega arith))))
 
-at_more : (P : ℕ → Type 0) (y : ℕ) (ys : List ℕ) → P y → All P ys → All P (y ∷ ys)
-at_more P y ys h hs zero d l = h
-at_more P y ys h hs (suc k) d l = hs k d (omega arith)
-
 -- what holds of each number that stands in the list holds of each member
 pub all_that_stand : (P : ℕ → Type 0) (xs : List ℕ) → ((x : ℕ) → 0 < times x xs → P x) → All P xs
 all_that_stand P [] h = λ k d l. absurd (omega arith)
-all_that_stand P (y ∷ ys) h = at_more P y ys (h y (omega (arith, yes_one y y refl))) (all_that_stand P ys (λ x s. h x (omega arith)))
+all_that_stand P (y ∷ ys) h = All-cons P y ys (h y (omega (arith, yes_one y y refl))) (all_that_stand P ys (λ x s. h x (omega arith)))
 
 -- a number above all others stands once
 pub one_more : (xs : List ℕ) (n : ℕ) → ((x : ℕ) → times x xs ≤ 1) → ((x : ℕ) → 0 < times x xs → x < n) → (x : ℕ) → times x (xs ++ n ∷ []) ≤ 1

@@ -1,4 +1,6 @@
--- Each kind of step is a change of the claim machine, and keeps the board's rule.
+-- Each kind of step is a change of the claim machine, and keeps the board's rule: a draw (`draws`), by whether a number
+-- is left; a look, which changes nothing (`looks`); a split (`splits`), a join (`joins`), and the end (`closes`). So the
+-- board follows the machine (`follows_machine`).
 use Rattle.std.proofs.Common.{◌≡◌, ◌≢◌, ℕ, zero, suc, ◌+◌, ◌%◌, ◌<◌, ◌≤◌, List, [], ◌∷◌, ◌++◌, length, map, set, true, refl, sym, ap, ap₂, ◌∙◌, subst, ⊎_elim}
 use Rattle.std.proofs.Common.{arith, get_or, length-set, get_or-set_same, min}
 use Rattle.std.specs.Prelude.{nat_lt, ◌||◌, Option, Some, None}
@@ -119,40 +121,34 @@ module _ (count id : ℕ) (v : View) (s : State (Unit {0}) View) (h : IsRuled co
     shows_then = stands_then w c;
   }
 
-  takes : (c : List (ℕ × Unit {0})) → 0 < v.weight → word < count → IsRuled count (then (view count v.weight (v.numbers ++ word ∷ []) v.nones) c)
-  takes c mine few =
-      let w : View = view count v.weight (v.numbers ++ word ∷ []) v.nones in
+  -- and keeps the rule
+  ruled : (w : View) (c : List (ℕ × Unit {0})) (answer : Option ℕ) → Draws count id shown answer (claims_shown count (then w c)) → w.weight ≡ v.weight
+      → Fits count w → min (word + 1) count + w.nones ≡ min word count + v.nones + 1 → IsRuled count (then w c)
+  ruled w c answer drew same fits one =
       let nones = total_set (λ u. u.nones) s.views id v w at in
       let weights = total_set (λ u. u.weight) s.views id v w at in
-      let fits : Fits count v = h.fits id v at in
-      let is = h.answers in let low = min_below word count few in let then_low : min (word + 1) count ≡ word + 1 = grind arith in
+      let is = h.answers in
       let more : word + 1 ≡ min (word + 1) count + total (λ u. u.nones) (set s.views id w) = omega arith in record {
         past = by_draw id ∷ h.past;
-        run = (shown, h.run, (Some word, draws_few c few));
+        run = (shown, h.run, (answer, drew));
         one_word = length-set s.words 0 (word + 1) ∙ h.one_word;
         event_each = word_then ∙ ap (λ n. n + 1) h.event_each;
         answers = subst (λ n. n ≡ min n count + total (λ u. u.nones) (set s.views id w)) (sym word_then) more;
         limit = h.limit;
         weights = let was = h.weights in omega arith;
-        fits = fits_set count s.views id w h.fits (fits.0, (λ z. absurd (omega arith)), (λ _. refl));
+        fits = fits_set count s.views id w h.fits fits;
       }
+
+  takes : (c : List (ℕ × Unit {0})) → 0 < v.weight → word < count → IsRuled count (then (view count v.weight (v.numbers ++ word ∷ []) v.nones) c)
+  takes c mine few =
+      let low = min_below word count few in let then_low : min (word + 1) count ≡ word + 1 = grind arith in
+      ruled (view count v.weight (v.numbers ++ word ∷ []) v.nones) c (Some word) (draws_few c few) refl
+      ((h.fits id v at).0, (λ z. absurd (omega arith)), (λ _. refl)) (omega arith)
 
   misses : (c : List (ℕ × Unit {0})) → 0 < v.weight → v.nones ≡ 0 → count ≤ word → IsRuled count (then (view count v.weight v.numbers (v.nones + 1)) c)
   misses c mine going all =
-      let w : View = view count v.weight v.numbers (v.nones + 1) in
-      let nones = total_set (λ u. u.nones) s.views id v w at in
-      let weights = total_set (λ u. u.weight) s.views id v w at in
-      let is = h.answers in let high = min_above word count all in let then_high = min_above (word + 1) count (omega arith) in
-      let more : word + 1 ≡ min (word + 1) count + total (λ u. u.nones) (set s.views id w) = omega arith in record {
-        past = by_draw id ∷ h.past;
-        run = (shown, h.run, (None, draws_none c all));
-        one_word = length-set s.words 0 (word + 1) ∙ h.one_word;
-        event_each = word_then ∙ ap (λ n. n + 1) h.event_each;
-        answers = subst (λ n. n ≡ min n count + total (λ u. u.nones) (set s.views id w)) (sym word_then) more;
-        limit = h.limit;
-        weights = let was = h.weights in omega arith;
-        fits = fits_set count s.views id w h.fits (omega arith, (λ z. absurd (omega arith)), (λ _. refl));
-      }
+      let high = min_above word count all in let then_high = min_above (word + 1) count (omega arith) in
+      ruled (view count v.weight v.numbers (v.nones + 1)) c None (draws_none c all) refl (omega arith, (λ z. absurd (omega arith)), (λ _. refl)) (omega arith)
 
   small : word ≤ count + 64
   small =

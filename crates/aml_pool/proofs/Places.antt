@@ -1,8 +1,10 @@
--- Places of a shelf, free and taken.
-use Rattle.std.proofs.Common.{◌≡◌, ℕ, zero, suc, ◌+◌, ◌<◌, Option, Some, None, List, [], ◌∷◌, ◌++◌, map, length, set, replicate, length-append, sym, refl}
+-- Places of a shelf, free and taken: how many are free when it is new, after a value is filed, and when all are taken.
+-- Each number was drawn once, so each value comes to a free place.
+use Rattle.std.proofs.Common.{◌≡◌, ℕ, zero, suc, ◌+◌, ◌<◌, Option, Some, None, List, [], ◌∷◌, ◌++◌, map, length, set, replicate, length-append, get_or, sym, refl}
 use Rattle.std.proofs.Common.{subst, ◌∙◌, ap, arith}
 use Rattle.std.specs.Prelude.{slice_get, All}
 use Rattle.std.proofs.lemmas.List.{map-append, get_or_append_left}
+use Rattle.std.proofs.lemmas.Option.{slice_get_read}
 use Rattle.std.proofs.Math.Seq.{get_or-append_seam}
 use mathlib.Core.Logic.{dite}
 use native.Mathlib.Decide.{ℕ_discrete, dec_lt}
@@ -56,6 +58,13 @@ module _ {D : Type 0} where
   vacant-filed (Some x ∷ slots) zero d e = absurd (omega arith)
   vacant-filed (None ∷ slots) (suc n) d e = let h = vacant-filed slots n d e in omega arith
   vacant-filed (Some x ∷ slots) (suc n) d e = vacant-filed slots n d e
+
+  -- a free place that a value comes to
+  pub place-filed : (slots : List (Option D)) (n : ℕ) (o : Option D) (d : D) → n < length slots → o ≡ get_or slots n o → o ≡ None
+      → (slice_get slots n ≡ Some None) × (vacant (set slots n (Some d)) + 1 ≡ vacant slots)
+  place-filed slots n o d inside is none =
+      let at : slice_get slots n ≡ Some None = slice_get_read slots _ _ _ refl inside is ∙ ap (λ p. Some p) none in
+      (at, vacant-filed slots n d (free-vacant slots n at))
 
   pub free-filed : (slots : List (Option D)) (n m : ℕ) (d : D) → free n slots ≡ 1 → free m (set slots n (Some d)) + same m n ≡ free m slots
   free-filed [] n m d e = absurd (omega arith)

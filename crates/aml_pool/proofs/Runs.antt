@@ -1,4 +1,5 @@
--- Every run of the claim machine leads to a sound state.
+-- Every run of the claim machine leads to a sound state: counted seat by seat (`IsCounted`), which a draw, a split and a
+-- join keep, and the opening state has.
 use Rattle.std.proofs.Common.{◌≡◌, ◌≢◌, ℕ, ◌+◌, ◌<◌, ◌≤◌, List, [], ◌∷◌, ◌++◌, set, Bool, true, false, sym, ◌∙◌, subst, ⊎_elim, arith}
 use Rattle.std.specs.Prelude.{IsTrue, ◌||◌, Option}
 use mathlib.Core.Logic.{dite}

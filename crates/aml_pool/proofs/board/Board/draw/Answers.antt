@@ -19,7 +19,7 @@ pub invariant_of-seat : goal.invariant_of-seat
 invariant_of-seat c =
     let was = c.args.seat.now in
     let count = c.requires.board.1 in
-    let few : c.fetch_add-found.result < was.seat.me.0.count = let l = c.if-found-from.true in let e = c.from.ensures in omega arith in
+    let few : c.fetch_add-found.result < was.seat.me.0.count = omega arith in
     let drew = c.fetch_add-found.ensures.2.0.0 few in
     record {
       told = (
@@ -36,10 +36,9 @@ invariant_of-seat c =
 pub returns-then-found-from-clause-some : goal.returns-then-found-from-clause-some
 returns-then-found-from-clause-some c =
     let was = c.args.seat.now in
-    let few : c.fetch_add-found.result < was.seat.me.0.count = let l = c.if-found-from.true in let e = c.from.ensures in let count = c.requires.board.1 in
-    omega arith in
+    let few : c.fetch_add-found.result < was.seat.me.0.count = omega arith in
     let drew = c.fetch_add-found.ensures.2.0.0 few in (
-      (let l = c.if-found-from.true in let e = c.from.ensures in omega arith),
+      omega arith,
       all_that_stand (λ x. x < c.fetch_add-found.result) was.seat.me.0.numbers (draw_low _ _ _ _ drew.1),
       ap (λ v. v.numbers) drew.0,
       ap (λ v. v.nones) drew.0 ∙ c.requires.drawing,
@@ -48,14 +47,12 @@ returns-then-found-from-clause-some c =
 pub returns-then-found-from-clause-event : goal.returns-then-found-from-clause-event
 returns-then-found-from-clause-event c =
     let was = c.args.seat.now in
-    let few : c.fetch_add-found.result < was.seat.me.0.count = let l = c.if-found-from.true in let e = c.from.ensures in let count = c.requires.board.1 in
-    omega arith in
+    let few : c.fetch_add-found.result < was.seat.me.0.count = omega arith in
     subst (λ n. IsDraw n (claimant was.seat.me.0) (Some c.fetch_add-found.result) (claimant c.fetch_add-found.new.seat.me.0)) c.requires.board.1
     (c.fetch_add-found.ensures.2.0.0 few).1
 
 pub returns-else-found-from-clause-event : goal.returns-else-found-from-clause-event
 returns-else-found-from-clause-event c =
     let was = c.args.seat.now in
-    let many : was.seat.me.0.count ≤ c.fetch_add-found.result = let l = c.if-found-from.false in let e = c.from.ensures in let count = c.requires.board.1 in
-    omega arith in
+    let many : was.seat.me.0.count ≤ c.fetch_add-found.result = omega arith in
     subst (λ n. IsDraw n (claimant was.seat.me.0) None (claimant c.fetch_add-found.new.seat.me.0)) c.requires.board.1 (c.fetch_add-found.ensures.2.0.1 many).1
