@@ -55,11 +55,7 @@ fn differs(checks: &[Checked]) -> bool {
 }
 
 /// Whether the table of a listing differs from what was read, once this is its first body.
-fn differs_with(
-    alloc: Global,
-    listing: &mut Listing<'_>,
-    other: Body,
-) -> Result<bool, AllocError>
+fn differs_with(alloc: Global, listing: &mut Listing<'_>, other: Body) -> Result<bool, AllocError>
     requires { AreShort (codes_view listing.old.loaded.tables.items)
         × (length listing.old.loaded.methods.items ≤ 1048576) }
 {
