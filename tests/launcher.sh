@@ -151,7 +151,7 @@ printf '#!/bin/sh\ncase $PWD in *aml_names) sleep 1; exit 1 ;; esac\necho $$ >>"
 start=$(date +%s)
 row 'a crate that fails beside others' 126 'acpidis: the build failed at the crate aml_names' \
     env RT_JOBS=4 PATH="$path" copy/acpidis demo
-is 'two others are begun' "$(wc -l <begun)" 2
+is 'the others are begun' "$(wc -l <begun)" 3
 # shellcheck disable=SC2009 # pgrep shows no states
 is 'the others are ended' "$(while read -r pid; do ps -o stat= -g "$pid" | grep -v '^Z'; done <begun)" ''
 is 'at once' "$(($(date +%s) - start < 20))" 1
@@ -195,8 +195,7 @@ for width in 1 2 4; do
     is "each crate once, $width at a time" "$(grep -c '^begin' log) $(grep -c 'acpidis: built ' printed)" '14 14'
 done
 is 'the longest chain first' "$(grep -m 1 'acpidis: building [a-z_]* ' printed)" 'acpidis: building aml_names (1 of 14)'
-is 'a crate that others wait for, four jobs' "$(grep 'begin aml_names' log)" 'begin aml_names lib --jobs 4'
-is 'another crate, one job' "$(grep 'begin aml_pool' log)" 'begin aml_pool lib --jobs 1'
+is 'a crate, four jobs' "$(grep 'begin aml_names' log)" 'begin aml_names lib --jobs 4'
 is 'one crate, four processors' "$(grep 'begin acpidis_program' log | cut -d ' ' -f 3-5)" 'run --jobs 4'
 row 'a built program, without a kit' 0 'built|folder|' env PATH="$none" copy/acpidis folder
 row 'words go to the program' 0 'built|--wrong|a b||' env PATH="$none" copy/acpidis --wrong 'a b' ''
