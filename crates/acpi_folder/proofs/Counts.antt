@@ -1,8 +1,8 @@
 -- Paths as they are printed, and what gives them back. A path is read segment by segment, each with a byte in front: the
 -- backslash, and then dots. What is read and what is left are the text, and a path that is printed so goes on with what is
 -- left; so there is none where no segment follows.
-use Rattle.std.proofs.Common.{◌≡◌, ℕ, ◌-◌, ◌<◌, ◌≤◌, true, List, [], ◌∷◌, ◌++◌, length, take, drop, Ok, refl, sym, ap, ◌∙◌, append_assoc, inl, inr}
-use Rattle.std.proofs.Common.{arith, get_or, append-nil}
+use Rattle.std.proofs.Common.{◌≡◌, ℕ, ◌-◌, ◌<◌, ◌≤◌, true, List, [], ◌∷◌, ◌++◌, length, take, drop, Ok, refl, sym, ap, ◌∙◌, append_assoc, inl, inr, arith}
+use Rattle.std.proofs.Common.{get_or, append-nil}
 use Rattle.std.specs.List.{flat_map}
 use Rattle.std.specs.Char.{encode_utf8}
 use Rattle.std.proofs.lemmas.Str.{encode_ascii}
@@ -13,9 +13,8 @@ use Rattle.aml_names.specs.declared.segments.Seg.{Seg}
 use Rattle.aml_names.specs.declared.faults.CodeFault.{CodeFault}
 use Rattle.aml_names.specs.declared.faults.CodeFault.TheVariants as faults
 use Rattle.aml_names.specs.Names.{is_lead_char, is_name_char, IsNameSeg, AreNameSegs}
-use Rattle.aml_names.specs.NameReading.{segment_at}
-use Rattle.aml_names.specs.PathTexts.{segment_text, path_text}
-use Rattle.aml_names.specs.Steps.{Fails}
+use Rattle.aml_names.specs.NameReading.{segment_at, Fails}
+use Rattle.aml_names.specs.Paths.{segment_text, path_text}
 use Rattle.aml_names.proofs.NameLaws.{segment_takes, segment_again}
 use Rattle.aml_names.proofs.StepLaws.{IsBytes, IsBytes-drop, IsBytes-take, Takes}
 use Rattle.acpi_folder.specs.Externals.{IsPrinted, BeginsWith, BeginsWithNone}

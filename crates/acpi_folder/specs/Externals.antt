@@ -5,7 +5,7 @@ use Rattle.std.specs.Prelude.{◌≡◌, ℕ, ◌+◌, ◌-◌, ◌<◌, ◌≤�
 use Rattle.std.specs.List.{AllZip}
 use Rattle.aml_names.specs.declared.segments.Seg.{Seg}
 use Rattle.aml_names.specs.Names.{IsNameSeg, AreNameSegs}
-use Rattle.aml_names.specs.PathTexts.{segment_text, path_text}
+use Rattle.aml_names.specs.Paths.{segment_text, path_text}
 use Rattle.acpi_folder.specs.declared.externals.ExternalsFault.{ExternalsFault}
 use Rattle.acpi_folder.specs.declared.externals.ExternalsFault.TheVariants.{BadLine}
 use Rattle.acpi_folder.specs.Map.{lines_of, line_at}

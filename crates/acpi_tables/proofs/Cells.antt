@@ -6,7 +6,7 @@ use Rattle.std.proofs.Math.Nat.{le-div_iff_mul-le}
 use Rattle.std.proofs.lemmas.Bool.Decides.{nat_tests}
 use Rattle.std.proofs.lemmas.Option.{slice_get-get_or, slice_get_past}
 use Rattle.std.proofs.lemmas.List.FromFn.{get_or-map-range_with_len, length-map-range_with_len}
-use Rattle.acpi_tables.specs.Addresses.{HoldsAddresses, addresses_of, address_at, address_in, address_count}
+use Rattle.acpi_tables.specs.Header.{HoldsAddresses, addresses_of, address_at, address_in, address_count}
 
 -- an address lies within its table
 pub address_inside : (width : ℕ) (table : List ℕ) (index : ℕ) → 0 < width → 36 ≤ length table → index < (length table - 36) / width

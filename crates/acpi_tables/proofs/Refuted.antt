@@ -1,8 +1,8 @@
 -- Where a refusal stands there is no order: a dump that is taken is refused for nothing by itself, and each refusal of a
 -- set denies a step of the order, its root, its list, its FADT, its DSDT, or that the DSDT is the only one. Behind it what
 -- an order of taken dumps gives, in the words of `load_order`.
-use Rattle.std.proofs.Common.{◌≡◌, ℕ, ◌≤◌, inl, inr, Bool, true, false, List, ◌∷◌, length, codes, Option, Some, None, Result, IfOk, MatchBool, slice_get}
-use Rattle.std.proofs.Common.{find, sym, ap, subst, ◌∙◌, arith}
+use Rattle.std.proofs.Common.{◌≡◌, ℕ, ◌≤◌, inl, inr, Bool, true, false, List, ◌∷◌, length, codes, Option, Some, None, Result, IfOk, MatchBool, slice_get, find}
+use Rattle.std.proofs.Common.{sym, ap, subst, ◌∙◌, arith}
 use Rattle.std.proofs.lemmas.Bool.{true≢false}
 use Rattle.std.proofs.lemmas.Option.{same_Some}
 use Rattle.std.proofs.lemmas.Result.{IfOk-weaker}
@@ -13,8 +13,7 @@ use Rattle.acpi_tables.specs.declared.dump.Kind.TheVariants.{Standard}
 use Rattle.acpi_tables.specs.declared.faults.Bad.{Bad}
 use Rattle.acpi_tables.specs.declared.faults.Bad.TheVariants.{RootMissing, FadtMissing, NoDsdt, TwoDsdts}
 use Rattle.acpi_tables.specs.declared.faults.TableFault.{TableFault}
-use Rattle.acpi_tables.specs.Header.{table_of}
-use Rattle.acpi_tables.specs.Rsdp.{rsdp_of}
+use Rattle.acpi_tables.specs.Header.{table_of, rsdp_of}
 use Rattle.acpi_tables.specs.Dumps.{kind_of, HoldsContent, HoldsDump, RefusesContent, RefusesDump}
 use Rattle.acpi_tables.specs.Order.{AreTables, AreTaken, most_dumps, bytes_of, has_signature, signed_at, list_of, listed_by, dsdt_address, is_addressed}
 use Rattle.acpi_tables.specs.Order.{IsNamed, IsChained, IsOrder, RefusesOrder, RefusesBytes, Refuses}

@@ -14,9 +14,7 @@ use Rattle.std.proofs.lemmas.List.Quantifiers.{position-Some}
 use Rattle.acpi_tables.specs.declared.dump.Dump.{Dump}
 use Rattle.acpi_tables.specs.declared.rsdp.Rsdp.{Rsdp}
 use Rattle.acpi_tables.specs.Bytes.{begins_with}
-use Rattle.acpi_tables.specs.Header.{HoldsTable, table_of}
-use Rattle.acpi_tables.specs.Rsdp.{HoldsRoot}
-use Rattle.acpi_tables.specs.Addresses.{HoldsAddresses}
+use Rattle.acpi_tables.specs.Header.{HoldsTable, table_of, HoldsRoot, HoldsAddresses}
 use Rattle.acpi_tables.specs.Fadt.{HoldsFadt}
 use Rattle.acpi_tables.specs.Dumps.{kind_of, HoldsShape, HoldsContent, most_bytes}
 use Rattle.acpi_tables.specs.Order.{AreTaken, bytes_of, has_signature, dump_at, signed_at, root_of, xsdt_address, list_of, width_of}

@@ -14,8 +14,7 @@ use Rattle.std.proofs.lemmas.List.Sorted.{sorted_far, sum_by-IsPermutation}
 use Rattle.std.proofs.lemmas.List.Sums.{sum_by-cons}
 use Rattle.std.proofs.lemmas.Option.{same_Some}
 use Rattle.acpi_tables.specs.declared.dump.Dump.{Dump}
-use Rattle.acpi_tables.specs.Header.{table_of}
-use Rattle.acpi_tables.specs.Rsdp.{rsdp_of}
+use Rattle.acpi_tables.specs.Header.{table_of, rsdp_of}
 use Rattle.acpi_tables.specs.Order.{rank_cmp, bytes_of, has_signature, signed_at, list_of, listed_by, dsdt_address, each_once, is_addressed, IsNamed, IsChained}
 use Rattle.acpi_tables.specs.Order.{IsOrder, LeadsToList, LeadsToFadt}
 use Rattle.acpi_tables.proofs.Ranks.{ranks_below, rank_order, rank_total}

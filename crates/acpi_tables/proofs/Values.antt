@@ -3,8 +3,7 @@
 use Rattle.std.proofs.Common.{◌≡◌, ℕ, ◌+◌, ◌≤◌, Bool, true, false, List, [], ◌∷◌, length, map, find, option_map, Option, Some, nat_le, refl, arith}
 use Rattle.std.specs.Prelude.{if◌then◌else◌}
 use Rattle.std.proofs.lemmas.Bool.Decides.{nat_tests}
-use Rattle.acpi_tables.specs.Bytes.{number_at}
-use Rattle.acpi_tables.specs.Fields.{Field, value_in}
+use Rattle.acpi_tables.specs.Bytes.{number_at, Field, value_in}
 
 -- the value of a field of bytes that have at least so many
 abbrev value_by : ℕ → List ℕ → Field → Option ℕ

@@ -1,9 +1,7 @@
 -- Dumps of tables, one at a time: which of them are taken, and what each refusal says of the bytes.
 use Rattle.std.specs.Prelude.{◌≡◌, ℕ, ◌<◌, ◌≤◌, ◌⊎◌, ⊤, Bool, true, false, List, codes, length, nat_eq, if◌then◌else◌}
 use Rattle.acpi_tables.specs.Bytes.{begins_with, checksum, HasLength}
-use Rattle.acpi_tables.specs.Header.{HoldsTable, table_of}
-use Rattle.acpi_tables.specs.Rsdp.{HoldsRoot, root_sums}
-use Rattle.acpi_tables.specs.Addresses.{HoldsAddresses}
+use Rattle.acpi_tables.specs.Header.{HoldsTable, table_of, HoldsRoot, root_sums, HoldsAddresses}
 use Rattle.acpi_tables.specs.Fadt.{HoldsFadt}
 use Rattle.acpi_tables.specs.Madt.{HoldsMadt, RefusesMadt}
 use Rattle.acpi_tables.specs.declared.dump.Content.{Content}

@@ -1,6 +1,6 @@
 -- The Fixed ACPI Description Table (ACPI 6.5, section 5.2.9, table 5.9), as far as it is read here.
 use Rattle.std.specs.Prelude.{ℕ, ◌≤◌, List, [], ◌∷◌, length, Option, Some}
-use Rattle.acpi_tables.specs.Fields.{Field, field}
+use Rattle.acpi_tables.specs.Bytes.{Field, field}
 use Rattle.acpi_tables.specs.declared.fadt.Fadt.{Fadt}
 use Rattle.acpi_tables.specs.declared.fields.Base.TheVariants.{Hexadecimal}
 

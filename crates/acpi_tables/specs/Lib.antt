@@ -1,8 +1,5 @@
 pub mod Bytes
-pub mod Fields
 pub mod Header
-pub mod Rsdp
-pub mod Addresses
 pub mod Fadt
 pub mod Madt
 pub mod Dumps

@@ -2,11 +2,10 @@
 -- to its end. The kinds of records that are read here are data (sections 5.2.12.2, 5.2.12.3, 5.2.12.5 to 5.2.12.8,
 -- 5.2.12.12 and 5.2.12.13).
 use Prim.Native.String.{String}
-use Rattle.std.specs.Prelude.{◌≡◌, ℕ, zero, suc, ◌+◌, ◌-◌, ◌<◌, ◌≤◌, ◌&&◌, Bool, List, [], ◌∷◌, codes}
-use Rattle.std.specs.Prelude.{length, take, drop, map, find, nat_eq, nat_le, Option, Some, None, if◌then◌else◌}
+use Rattle.std.specs.Prelude.{◌≡◌, ℕ, zero, suc, ◌+◌, ◌-◌, ◌<◌, ◌≤◌, ◌&&◌, Bool, List, [], ◌∷◌, codes, length, take}
+use Rattle.std.specs.Prelude.{drop, map, find, nat_eq, nat_le, Option, Some, None, if◌then◌else◌}
 use Rattle.std.specs.List.{AllByRecursion, concat}
-use Rattle.acpi_tables.specs.Bytes.{bytes_at, number_at}
-use Rattle.acpi_tables.specs.Fields.{Field, field, field_view}
+use Rattle.acpi_tables.specs.Bytes.{bytes_at, number_at, Field, field, field_view}
 use Rattle.acpi_tables.specs.declared.faults.Bad.{Bad}
 use Rattle.acpi_tables.specs.declared.faults.Bad.TheVariants.{Short, MadtRecord as BadRecord}
 use Rattle.acpi_tables.specs.declared.fields.Base.TheVariants.{Decimal, Hexadecimal}

@@ -1,16 +1,14 @@
 -- The order in which the definition blocks of a set of dumps are loaded, and what each refusal of a set says of it.
-use Rattle.std.specs.Prelude.{◌≡◌, ℕ, ◌+◌, ◌-◌, ◌*◌, ◌<◌, ◌≤◌, ◌⊎◌, ◌&&◌, ⊤, not, Bool, true, false, List, []}
-use Rattle.std.specs.Prelude.{◌∷◌, codes, length, take, map, reverse, filter, filter_map, find, position}
-use Rattle.std.specs.Prelude.{take_while, slice_get, slice_index_or, IsPermutation, IsSorted, is_some, nat_eq}
-use Rattle.std.specs.Prelude.{nat_le, string_bytes, Option, Some, None, option_and_then, MatchBool, if◌then◌else◌}
+use Rattle.std.specs.Prelude.{◌≡◌, ℕ, ◌+◌, ◌-◌, ◌*◌, ◌<◌, ◌≤◌, ◌⊎◌, ◌&&◌, ⊤, not, Bool, true, false, List, [], ◌∷◌}
+use Rattle.std.specs.Prelude.{codes, length, take, map, reverse, filter, filter_map, find, position, take_while}
+use Rattle.std.specs.Prelude.{slice_get, slice_index_or, IsPermutation, IsSorted, is_some, nat_eq, nat_le, string_bytes}
+use Rattle.std.specs.Prelude.{Option, Some, None, option_and_then, MatchBool, if◌then◌else◌}
 use Rattle.std.specs.List.{before_last, list_any, range_with_len}
 use Rattle.std.specs.declared.cmp.Ordering.{Ordering}
 use Rattle.std.specs.Ordering.{then_cmp, on, nat_cmp}
 use Rattle.std.specs.Cmp.Lexicographic.{slice_cmp}
 use Rattle.acpi_tables.specs.Bytes.{begins_with, number_at}
-use Rattle.acpi_tables.specs.Header.{HoldsTable, table_of}
-use Rattle.acpi_tables.specs.Rsdp.{rsdp_of}
-use Rattle.acpi_tables.specs.Addresses.{addresses_of}
+use Rattle.acpi_tables.specs.Header.{HoldsTable, table_of, rsdp_of, addresses_of}
 use Rattle.acpi_tables.specs.Dumps.{HoldsDump, RefusesDump, most_bytes}
 use Rattle.acpi_tables.specs.declared.dump.Dump.{Dump}
 use Rattle.acpi_tables.specs.declared.faults.Bad.{Bad}

@@ -1,8 +1,7 @@
 //! The tables that list the addresses of the others: the Root System Description Table, and the Extended one (ACPI 6.5,
 //! sections 5.2.7 and 5.2.8). They differ in how many bytes an address has.
 ghost use Rattle.std.specs.Prelude.{◌≡◌, ◌⊎◌, ◌↔◌, ◌<◌, ◌≤◌, length, IsTrue, IfOk, IfErr, OnOk};
-ghost use Rattle.acpi_tables.specs.Addresses.{HoldsAddresses, addresses_of, address_count};
-ghost use Rattle.acpi_tables.specs.Addresses.{address_at, address_bytes, address_in};
+ghost use Rattle.acpi_tables.specs.Header.{HoldsAddresses, addresses_of, address_count, address_at, address_bytes, address_in};
 ghost use Rattle.acpi_tables.specs.declared.faults.Bad.TheVariants.{BadRoot, NoMemory};
 
 use crate::bytes::little_endian;

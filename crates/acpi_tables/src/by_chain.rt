@@ -1,13 +1,9 @@
 //! The order of the definition blocks where addresses lead from the RSDP over the XSDT or RSDT and the FADT to a DSDT.
-ghost use Rattle.std.specs.Prelude.{◌≡◌, ◌⊎◌, ◌<◌, ◌≤◌, ℕ, List, None, true, false, length};
-ghost use Rattle.std.specs.Prelude.{filter, filter_map, find, codes, IfOk, IfErr};
+ghost use Rattle.std.specs.Prelude.{◌≡◌, ◌⊎◌, ◌<◌, ◌≤◌, ℕ, List, None, true, false, length, filter, filter_map, find, codes, IfOk, IfErr};
 ghost use Rattle.acpi_tables.specs.Bytes.{begins_with as has_front};
-ghost use Rattle.acpi_tables.specs.Header.{HoldsTable, table_of};
-ghost use Rattle.acpi_tables.specs.Addresses.{HoldsAddresses, addresses_of};
+ghost use Rattle.acpi_tables.specs.Header.{HoldsTable, table_of, HoldsAddresses, addresses_of};
 ghost use Rattle.acpi_tables.specs.Fadt.{HoldsFadt};
-ghost use Rattle.acpi_tables.specs.Order.{AreTaken, IsChained, RefusesOrder, bytes_of, dump_at};
-ghost use Rattle.acpi_tables.specs.Order.{signed_at, root_of, xsdt_address, list_of, width_of, listed_by};
-ghost use Rattle.acpi_tables.specs.Order.{dsdt_address, each_once, has_signature, is_addressed};
+ghost use Rattle.acpi_tables.specs.Order.{AreTaken, IsChained, RefusesOrder, bytes_of, dump_at, signed_at, root_of, xsdt_address, list_of, width_of, listed_by, dsdt_address, each_once, has_signature, is_addressed};
 ghost use Rattle.acpi_tables.specs.declared.faults.Bad.TheVariants.{NoMemory};
 
 use crate::addresses::{RSDT_WIDTH, XSDT_WIDTH, address_at, address_count};

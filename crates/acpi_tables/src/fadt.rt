@@ -54,7 +54,7 @@ pub struct Fadt {
 }
 
 impl Fadt {
-    ghost use Rattle.acpi_tables.specs.Fields.{value_in};
+    ghost use Rattle.acpi_tables.specs.Bytes.{value_in};
     ghost use Rattle.acpi_tables.specs.Fadt.{HoldsFadt, fadt_fields, fadt_values};
 
     /// The fields of a FADT. `table` is the first Length bytes of a dump.

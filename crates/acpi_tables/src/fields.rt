@@ -1,7 +1,7 @@
 //! The fields of tables as data: where each stands, how many bytes it has, and how a listing shows it.
 ghost use Rattle.std.specs.Prelude.{◌≡◌, ◌≤◌, ◌&&◌, nat_eq, length, map, find, option_map, IfSome};
 ghost use Rattle.std.specs.List.{All};
-ghost use Rattle.acpi_tables.specs.Fields.{field_bytes, field_view, IsNarrow};
+ghost use Rattle.acpi_tables.specs.Bytes.{field_bytes, field_view, IsNarrow};
 ghost use Rattle.acpi_tables.specs.Fadt.{fadt_fields};
 ghost use Rattle.acpi_tables.specs.Madt.{madt_rows, row_view, row_of};
 

@@ -46,7 +46,7 @@ pub struct Wide {
 }
 
 impl Rsdp {
-    ghost use Rattle.acpi_tables.specs.Rsdp.{HoldsRoot, root_sums, rsdp_of};
+    ghost use Rattle.acpi_tables.specs.Header.{HoldsRoot, root_sums, rsdp_of};
 
     /// The RSDP that these bytes begin with.
     ///

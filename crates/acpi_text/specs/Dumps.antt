@@ -1,14 +1,11 @@
 -- The first part of a listing: what it says of each dump. The fields are those of ACPI 6.5, sections 5.2.5 to 5.2.12.
-use Rattle.std.specs.Prelude.{ℕ, Bool, true, false, nat_eq, if◌then◌else◌, decimal, codes, List, [], ◌++◌}
-use Rattle.std.specs.Prelude.{flat_map, map, drop, reverse, length, Option, Some, None, option_map, string_bytes}
+use Rattle.std.specs.Prelude.{ℕ, Bool, true, false, nat_eq, if◌then◌else◌, decimal, codes, List, [], ◌++◌, flat_map}
+use Rattle.std.specs.Prelude.{map, drop, reverse, length, Option, Some, None, option_map, string_bytes}
 use Rattle.std.specs.List.{range_with_len}
-use Rattle.acpi_tables.specs.Bytes.{little_endian, number_at}
-use Rattle.acpi_tables.specs.Fields.{Field, field_bytes}
-use Rattle.acpi_tables.specs.Header.{table_of, header_of}
-use Rattle.acpi_tables.specs.Rsdp.{rsdp_of}
+use Rattle.acpi_tables.specs.Bytes.{little_endian, number_at, Field, field_bytes}
+use Rattle.acpi_tables.specs.Header.{table_of, header_of, rsdp_of, address_bytes, address_count}
 use Rattle.acpi_tables.specs.Fadt.{fadt_fields}
 use Rattle.acpi_tables.specs.Madt.{Row, row_of, records_of, kind_of as record_kind}
-use Rattle.acpi_tables.specs.Addresses.{address_bytes, address_count}
 use Rattle.acpi_tables.specs.Dumps.{kind_of, sums_hold}
 use Rattle.acpi_tables.specs.Order.{dump_at, name_of}
 use Rattle.acpi_tables.specs.declared.dump.Content.TheVariants.{Xsdt, Rsdt, Fadt, Madt}
@@ -20,8 +17,7 @@ use Rattle.acpi_tables.specs.declared.fields.Base.TheVariants.{Decimal, Hexadeci
 use Rattle.acpi_tables.specs.declared.header.Header.{Header}
 use Rattle.acpi_tables.specs.declared.rsdp.Rsdp.{Rsdp}
 use Rattle.acpi_tables.specs.declared.rsdp.Wide.{Wide}
-use Rattle.text_writer.specs.Words.{word}
-use Rattle.text_writer.specs.Numbers.{hex2, hex8, hex16, quoted}
+use Rattle.text_writer.specs.Prints.{word, hex2, hex8, hex16, quoted}
 
 -- a line one level below that of its dump
 abbrev pub below : List ℕ → List ℕ

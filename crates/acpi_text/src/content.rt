@@ -3,9 +3,8 @@
 
 ghost use Rattle.std.specs.Prelude.{◌≡◌, ◌<◌, ◌≤◌, length, option_map};
 ghost use Rattle.text_writer.specs.Prints.{Prints};
-ghost use Rattle.acpi_tables.specs.Addresses.{HoldsAddresses};
-ghost use Rattle.acpi_text.specs.Dumps.{owner_text, owner_of, entry_text, entry_line, entry_lines};
-ghost use Rattle.acpi_text.specs.Dumps.{fadt_lines};
+ghost use Rattle.acpi_tables.specs.Header.{HoldsAddresses};
+ghost use Rattle.acpi_text.specs.Dumps.{owner_text, owner_of, entry_text, entry_line, entry_lines, fadt_lines};
 
 use crate::fields::{print_fields, print_reversed};
 use crate::labels::put_quoted;

@@ -3,9 +3,8 @@
 
 ghost use Rattle.std.specs.Prelude.{◌≤◌, ◌++◌, flat_map, length, map, reverse};
 ghost use Rattle.std.specs.List.{All};
-ghost use Rattle.text_writer.specs.Prints.{Prints};
-ghost use Rattle.text_writer.specs.Numbers.{hex2};
-ghost use Rattle.acpi_tables.specs.Fields.{field_view, IsNarrow};
+ghost use Rattle.text_writer.specs.Prints.{Prints, hex2};
+ghost use Rattle.acpi_tables.specs.Bytes.{field_view, IsNarrow};
 ghost use Rattle.acpi_text.specs.Dumps.{label_text, value_text, labelled, field_text, fields_text};
 
 use acpi_tables::{Base, TableField, little_endian};

@@ -2,8 +2,7 @@
 #![tactic(auto, using(text_writer::proofs::PrintLaws::straight))]
 
 ghost use Rattle.std.specs.Prelude.{◌++◌, decimal};
-ghost use Rattle.text_writer.specs.Prints.{Prints};
-ghost use Rattle.text_writer.specs.Numbers.{hex8, hex16, quoted};
+ghost use Rattle.text_writer.specs.Prints.{Prints, hex8, hex16, quoted};
 
 use std::io::Write;
 use text_writer::{Out, print_decimal, print_hex8, print_hex16, print_quoted};

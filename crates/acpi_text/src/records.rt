@@ -4,11 +4,9 @@
 ghost use Rattle.std.specs.Prelude.{◌≤◌, Some, flat_map, length};
 ghost use Rattle.std.specs.List.{All};
 ghost use Rattle.text_writer.specs.Prints.{Prints};
-ghost use Rattle.acpi_tables.specs.Fields.{IsNarrow};
-ghost use Rattle.acpi_tables.specs.Madt.{HoldsMadt, records_of};
-ghost use Rattle.acpi_tables.specs.Madt.{row_of, row_view};
-ghost use Rattle.acpi_text.specs.Dumps.{spaced_byte, other_text, record_text_by};
-ghost use Rattle.acpi_text.specs.Dumps.{below, record_line, controller_text, madt_lines};
+ghost use Rattle.acpi_tables.specs.Bytes.{IsNarrow};
+ghost use Rattle.acpi_tables.specs.Madt.{HoldsMadt, records_of, row_of, row_view};
+ghost use Rattle.acpi_text.specs.Dumps.{spaced_byte, other_text, record_text_by, below, record_line, controller_text, madt_lines};
 
 use crate::fields::print_fields;
 use crate::labels::{put_decimal, put_hex8};

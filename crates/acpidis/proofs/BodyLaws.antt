@@ -3,26 +3,22 @@
 -- their marks.
 use Rattle.std.specs.List.{AllZip}
 use Rattle.std.proofs.Common.{◌≡◌, ℕ, suc, Bool, false, List, [], ◌∷◌, map, length, Some, Result, Ok, Err, refl, sym, ap, ap₂, subst, arith, slice_get}
-use Rattle.aml_space.specs.Entries.{Entry}
+use Rattle.aml_space.specs.Namespace.{Entry}
 use Rattle.aml_space.specs.Known.{StandsFor}
 use Rattle.aml_names.specs.declared.faults.CodeFault.{CodeFault}
 use Rattle.aml_code.specs.Tree.{Trees}
-use Rattle.aml_load.specs.Bodies.{OfMethod}
+use Rattle.aml_load.specs.Views.{OfMethod, codes_view, span_of, body_in}
 use Rattle.aml_load.specs.declared.loading.Loaded.{Loaded}
 use Rattle.aml_load.specs.declared.methods.Method.{Method}
-use Rattle.aml_load.specs.Views.{codes_view, span_of, body_in}
 use Rattle.aml_text.specs.declared.bodies.Body.{Body}
 use Rattle.aml_text.specs.declared.bodies.Body.TheVariants as bodies
-use Rattle.aml_text.specs.Levels.{AgreeAt}
-use Rattle.aml_text.specs.Lines.{OneBody, read, raw, all_lines, body_lines}
+use Rattle.aml_text.specs.Texts.{AgreeAt, OneBody, read, raw, all_lines, body_lines}
 use Rattle.aml_text.specs.declared.bodies.BodyText.{BodyText}
 use Rattle.aml_text.specs.declared.bodies.BodyText.TheVariants as kept_texts
-use Rattle.aml_text.specs.Views.{IsText, body_view, printed_lines}
+use Rattle.aml_text.specs.Listing.{IsText, body_view, printed_lines}
 use Rattle.acpidis.specs.declared.bodies.Bodies.{Bodies}
 use Rattle.acpidis.specs.Bodies.{IsEntry, AreEntries, Became, IsTold, AreTold, AreBodies, IsReading, has_raw}
-use Rattle.acpidis.specs.Checks.{mark_of, marks_of}
-use Rattle.acpidis.specs.Kept.{IsKept, KeptOf, AreKept, AreKeptOf, HasTexts, HasTrials, IsSame, has_fault}
-use Rattle.acpidis.specs.Tallies.{tried_mark, tried_marks}
+use Rattle.acpidis.specs.Checks.{mark_of, marks_of, IsKept, KeptOf, AreKept, AreKeptOf, HasTexts, HasTrials, IsSame, has_fault, tried_mark, tried_marks}
 
 module _ (z : Bool) (es : List Entry) (cs : List (List ℕ)) where
   is_entry : (m : Method) (d : Body) → Became z es cs m d → IsEntry z es cs m (body_view d)

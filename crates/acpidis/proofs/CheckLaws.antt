@@ -14,13 +14,11 @@ use Rattle.aml_code.specs.Tree.{Trees}
 use Rattle.aml_load.specs.Views.{AreShort, body_in, span_of}
 use Rattle.aml_load.specs.declared.methods.Method.{Method}
 use Rattle.aml_text.specs.declared.bodies.Body.{Body}
-use Rattle.aml_text.specs.Lines.{OneBlock}
-use Rattle.aml_text.specs.Listing.{blocks_of}
-use Rattle.aml_text.specs.Views.{body_view}
+use Rattle.aml_text.specs.Texts.{OneBlock}
+use Rattle.aml_text.specs.Listing.{blocks_of, body_view}
 use Rattle.aml_text.proofs.Pairs.{pairs_many, pair_there}
-use Rattle.acpidis.specs.Checks.{mark_of, marks_of, marks_in, checked, checks_from}
-use Rattle.acpidis.specs.Kept.{IsKept, IsSame}
-use Rattle.acpidis.specs.Tallies.{IsUnder, Under, added, added_at, uncounted, tally, tallied, tried_mark, tried_marks}
+use Rattle.acpidis.specs.Checks.{mark_of, marks_of, marks_in, checked, checks_from, IsKept, IsSame, IsUnder, Under, added, added_at, uncounted, tally, tallied}
+use Rattle.acpidis.specs.Checks.{tried_mark, tried_marks}
 use Rattle.acpidis.proofs.BodyLaws.{mark_is}
 use Rattle.acpidis.specs.declared.checking.Checked.{Checked}
 use Rattle.acpidis.specs.declared.checking.Mark.{Mark}

@@ -3,7 +3,7 @@
 use Rattle.std.proofs.Common.{◌≡◌, ℕ, suc, List, [], ◌∷◌, map, length, refl, sym, ap, ◌∙◌}
 use Rattle.std.proofs.lemmas.List.{length-map}
 use Rattle.aml_code.specs.Tree.{Trees}
-use Rattle.aml_space.specs.Entries.{Givens}
+use Rattle.aml_space.specs.Namespace.{Givens}
 use Rattle.aml_code.specs.View.{nodes_view}
 use Rattle.aml_load.specs.Loading.{Listed, IsLoad, ReadTables, methods_of}
 use Rattle.aml_load.specs.Views.{codes_view, HoldsLoad}
@@ -12,13 +12,11 @@ use Rattle.acpi_tables.specs.declared.dump.Dump.{Dump}
 use Rattle.acpi_tables.specs.declared.order.Order.{Order}
 use Rattle.acpi_tables.specs.Order.{IsOrder}
 use Rattle.aml_text.specs.declared.bodies.Body.{Body}
-use Rattle.aml_text.specs.Matched.{AreMatched}
-use Rattle.aml_text.specs.Views.{body_view}
+use Rattle.aml_text.specs.Listing.{AreMatched, body_view}
 use Rattle.acpidis.specs.declared.options.Options.{Options}
 use Rattle.acpidis.specs.declared.refusal.Refusal.{Refusal}
 use Rattle.acpidis.specs.declared.refusal.Refusal.TheVariants as refusals
-use Rattle.acpidis.specs.Tables.{codes_in}
-use Rattle.acpidis.specs.Bodies.{AreEntries, AreTold, AreBodies}
+use Rattle.acpidis.specs.Bodies.{codes_in, AreEntries, AreTold, AreBodies}
 use Rattle.acpidis.specs.Meaning.{Meaning, LoadsSet, HoldsSet, Means, codes_of}
 use Rattle.acpidis.specs.Refusals.{StopsInOrder, TellsLoad, TellsBlocks}
 use Rattle.acpidis.proofs.BodyLaws.{are_entries, the_entries, are_told}

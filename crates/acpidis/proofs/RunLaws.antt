@@ -17,21 +17,15 @@ use Rattle.acpi_tables.specs.declared.order.Order.{Order}
 use Rattle.aml_text.specs.declared.bodies.Body.{Body}
 use Rattle.aml_text.specs.declared.bodies.BodyText.{BodyText}
 use Rattle.aml_text.specs.declared.listing.Listing.{Listing}
-use Rattle.aml_text.specs.Levels.{levels_of}
-use Rattle.aml_text.specs.Lines.{body_lines}
-use Rattle.aml_text.specs.Listing.{names_in, blocks_of, blocks_with, listing_text, text_with}
-use Rattle.aml_text.specs.Matched.{indexes_in}
+use Rattle.aml_text.specs.Texts.{levels_of, body_lines}
+use Rattle.aml_text.specs.Listing.{names_in, blocks_of, blocks_with, listing_text, text_with, indexes_in, IsText, body_view, printed_lines}
 use Rattle.aml_text.specs.Rows.{namespace_text}
-use Rattle.aml_text.specs.Views.{IsText, body_view, printed_lines}
 use Rattle.aml_text.proofs.LevelLaws.{same_blocks}
 use Rattle.acpidis.specs.Bodies.{has_raw}
-use Rattle.acpidis.specs.Checks.{marks_of, checks_from, check_lines, checks_text, all_same}
-use Rattle.acpidis.specs.Endings.{shown_of, IsOnly, IsOutput}
-use Rattle.acpidis.specs.Kept.{IsKept, AreKept, AreKeptOf, HasTexts, HasTrials, IsSame, has_fault}
-use Rattle.acpidis.specs.Meaning.{Meaning, HoldsSet, Means, Shows, order_of, codes_of, text_of}
-use Rattle.acpidis.specs.Runs.{output_of, status_with, Lists, IsCut}
-use Rattle.acpidis.specs.Sets.{IsSet}
-use Rattle.acpidis.specs.Tallies.{tried_marks}
+use Rattle.acpidis.specs.Checks.{marks_of, checks_from, check_lines, checks_text, all_same, IsKept, AreKept, AreKeptOf, HasTexts, HasTrials, IsSame, has_fault}
+use Rattle.acpidis.specs.Checks.{tried_marks}
+use Rattle.acpidis.specs.Endings.{shown_of, IsOnly, IsOutput, output_of, status_with, Lists, IsCut}
+use Rattle.acpidis.specs.Meaning.{Meaning, HoldsSet, Means, Shows, order_of, codes_of, text_of, IsSet}
 use Rattle.acpidis.specs.declared.options.Options.{Options}
 use Rattle.acpidis.proofs.BodyLaws.{are_entries, the_entries, bodies_kept, texts_agree, trials_are, faults_are}
 use Rattle.acpidis.proofs.MeaningLaws.{entries_so}

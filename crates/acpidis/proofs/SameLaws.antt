@@ -7,11 +7,11 @@ use Rattle.std.proofs.lemmas.List.Elements.{All-filter}
 use Rattle.std.proofs.lemmas.List.Sums.{AllPass-from_list_all, list_all-from_AllPass}
 use Rattle.std.proofs.Common.{◌≡◌, ℕ, suc, ◌==◌, Bool, true, List, [], ◌∷◌, refl, ap₂, subst, arith}
 use Rattle.aml_code.specs.Tree.{Trees}
-use Rattle.aml_space.specs.Entries.{Entry}
+use Rattle.aml_space.specs.Namespace.{Entry}
 use Rattle.aml_load.specs.Loading.{ReadTables, methods_of}
 use Rattle.aml_load.specs.Views.{span_of}
 use Rattle.aml_load.specs.declared.methods.Method.{Method}
-use Rattle.aml_text.specs.Lines.{OneBody, read, raw}
+use Rattle.aml_text.specs.Texts.{OneBody, read, raw}
 use Rattle.aml_text.specs.Listing.{names_in, blocks_of}
 use Rattle.acpi_tables.specs.declared.dump.Dump.{Dump}
 use Rattle.acpidis.specs.declared.options.Options.{Options}

@@ -7,7 +7,7 @@ use Rattle.acpi_tables.specs.declared.dump.Dump.{Dump}
 use Rattle.acpi_tables.specs.Bytes.{number_at}
 use Rattle.acpi_tables.specs.Header.{HoldsTable, table_of}
 use Rattle.acpi_tables.specs.Order.{AreTables, bytes_of}
-use Rattle.acpidis.specs.Tables.{aml_of, codes_in}
+use Rattle.acpidis.specs.Bodies.{aml_of, codes_in}
 
 short_more : (cs : List (List ℕ)) (c : List ℕ) → AreShort cs → length c ≤ 16777216 → AreShort (cs ++ c ∷ [])
 short_more [] c h s = (s, tt)

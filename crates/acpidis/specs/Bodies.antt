@@ -1,23 +1,35 @@
--- What became of the bodies of methods: terms, or bytes where a body reads as none.
-use Rattle.std.specs.Prelude.{◌≡◌, ℕ, ◌<◌, Bool, true, false, List, length, slice_get, All, Vec, Err}
+-- The AML of definition blocks.
+use Rattle.std.specs.Prelude.{ℕ, List, drop, map, ◌≡◌, ◌<◌, Bool, true, false, length, slice_get, All, Vec, Err}
+use Rattle.acpi_tables.specs.declared.dump.Dump.{Dump}
+use Rattle.acpi_tables.specs.Header.{table_of}
+use Rattle.acpi_tables.specs.Order.{bytes_of}
 use Rattle.std.specs.List.{AllZip, list_any}
 use Rattle.std.specs.Global.{Global}
 use Rattle.std.specs.List.Sorted.{IsStrictlyIncreasing}
 use Rattle.aml_names.specs.declared.faults.CodeFault.{CodeFault}
 use Rattle.aml_code.specs.Tree.{Trees}
 use Rattle.aml_code.specs.View.{nodes_view}
-use Rattle.aml_space.specs.Entries.{Entry}
+use Rattle.aml_space.specs.Namespace.{Entry}
 use Rattle.aml_space.specs.Known.{Known, StandsFor}
-use Rattle.aml_load.specs.Bodies.{IsBody, IsUnread, body_at, OfMethod}
+use Rattle.aml_load.specs.Views.{IsBody, IsUnread, body_at, OfMethod, AreShort, codes_view}
 use Rattle.aml_load.specs.declared.loading.Loaded.{Loaded}
 use Rattle.aml_load.specs.declared.methods.Method.{Method}
-use Rattle.aml_load.specs.Views.{AreShort, codes_view}
 use Rattle.aml_pool.specs.Counting.{IsOnce}
-use Rattle.aml_pool.specs.Shares.{all_of}
+use Rattle.aml_pool.specs.Seats.{all_of}
 use Rattle.aml_text.specs.declared.bodies.Body.{Body}
 use Rattle.aml_text.specs.declared.bodies.Body.TheVariants as bodies
-use Rattle.aml_text.specs.Lines.{OneBody, read, raw}
+use Rattle.aml_text.specs.Texts.{OneBody, read, raw}
 use Rattle.acpidis.specs.declared.bodies.Bodies.{Bodies}
+
+-- the AML of a definition block: what follows the 36 bytes of its header (ACPI 6.5, 5.2.11.1)
+abbrev pub aml_of : List ℕ → List ℕ
+aml_of bytes = drop 36 (table_of bytes)
+
+-- the AML of the dumps at these indexes
+abbrev pub codes_in : List Dump → List ℕ → List (List ℕ)
+codes_in dumps order = map (λ index. aml_of (bytes_of dumps index)) order
+
+-- ---- What became of the bodies of methods: terms, or bytes where a body reads as none.
 
 -- what a listing has of a method: the terms that its body reads as, or its bytes, where the body reads as no terms
 abbrev pub IsEntry : Bool → List Entry → List (List ℕ) → Method → OneBody → Type 0

@@ -1,24 +1,30 @@
 -- What `check` says of each loaded table: its length, its methods, its raw bodies, and whether what was read encodes
 -- to the same bytes again.
 use Rattle.std.specs.Prelude.{ℕ, suc, ◌==◌, nat_eq, Bool, true, false, ◌&&◌, List, [], ◌∷◌, ◌++◌, map, filter, zip}
-use Rattle.std.specs.Prelude.{flat_map, length, decimal}
-use Rattle.std.specs.List.{list_all}
+use Rattle.std.specs.Prelude.{flat_map, length, decimal, ◌≡◌, get_or, slice_get, Some, Result, Ok, Err, zero, ◌+◌, ◌<◌}
+use Rattle.std.specs.Prelude.{cond, All}
+use Rattle.std.specs.List.{list_all, list_any}
 use lib.Pointwise.{pointwise}
-use Rattle.aml_code.specs.Encoding.{encodings}
+use Rattle.aml_code.specs.Tree.{encodings, Trees}
 use Rattle.aml_load.specs.Loading.{methods_of}
-use Rattle.aml_load.specs.Views.{codes_view, span_of}
+use Rattle.aml_load.specs.Views.{codes_view, span_of, body_in}
 use Rattle.aml_load.specs.declared.methods.Method.{Method}
-use Rattle.aml_text.specs.Lines.{OneBody, read, raw, OneBlock}
-use Rattle.aml_text.specs.Listing.{names_in, blocks_of, blocks_in}
-use Rattle.aml_text.specs.Views.{body_view}
+use Rattle.aml_text.specs.Texts.{OneBody, read, raw, OneBlock}
+use Rattle.aml_text.specs.Listing.{names_in, blocks_of, blocks_in, body_view, IsText}
 use Rattle.aml_text.specs.declared.listing.Listing.{Listing}
-use Rattle.text_writer.specs.Numbers.{quoted}
-use Rattle.text_writer.specs.Words.{word}
+use Rattle.text_writer.specs.Prints.{quoted, word}
 use Rattle.acpi_tables.specs.declared.dump.Dump.{Dump}
-use Rattle.acpidis.specs.Bodies.{is_raw}
+use Rattle.acpidis.specs.Bodies.{is_raw, BecameOf}
 use Rattle.acpidis.specs.Meaning.{Meaning, order_of, codes_of}
 use Rattle.acpidis.specs.declared.checking.Checked.{Checked}
 use Rattle.acpidis.specs.declared.checking.Mark.{Mark}
+use Rattle.aml_names.specs.declared.faults.CodeFault.{CodeFault}
+use Rattle.aml_code.specs.View.{nodes_view}
+use Rattle.aml_space.specs.Known.{Known}
+use Rattle.aml_load.specs.declared.loading.Loaded.{Loaded}
+use Rattle.aml_text.specs.declared.bodies.Body.{Body}
+use Rattle.aml_text.specs.declared.bodies.Body.TheVariants as bodies
+use Rattle.aml_text.specs.declared.bodies.BodyText.{BodyText}
 
 -- two texts have the same bytes
 abbrev pub same_bytes : List ℕ → List ℕ → Bool
@@ -90,3 +96,107 @@ checks_text dumps k =
     let codes = codes_of dumps k in
     let blocks = blocks_of (names_in dumps (order_of k)) codes k.trees in
     check_lines blocks (checks_from (marks_of codes (methods_of k.listed.entries) k.bodies) 0 blocks)
+
+-- ---- A stepping stone of the proofs: what a run keeps of each body, whose terms it lets go.
+
+-- of a body that reads as terms what they give, of a raw one its fault
+abbrev pub IsKept : {X : Type 0} → (Trees → X → Type 0) → Body → Result X CodeFault → Type 0
+IsKept Gives (bodies.Tree nodes) (Ok x) = Gives (nodes_view nodes.items) x
+IsKept Gives (bodies.Tree nodes) (Err fault) = ⊥
+IsKept Gives (bodies.Raw fault) (Ok x) = ⊥
+IsKept Gives (bodies.Raw fault) (Err kept) = kept ≡ fault
+
+-- whether terms encode to these bytes
+abbrev pub IsSame : List ℕ → Trees → Bool → Type 0
+IsSame bytes ts same = same ≡ same_bytes (encodings bytes ts) bytes
+
+-- what is kept of the body of this number
+abbrev pub KeptOf : {X : Type 0} → (Body → X → Type 0) → Bool → Known → List (List ℕ) → List Method → ℕ → X → Type 0
+KeptOf Keeps z space tables ms number d = (body : Body) × BecameOf z space tables ms number body × Keeps body d
+
+-- of each body, by its number
+abbrev pub AreKept : {X : Type 0} → (ℕ → Body → X → Type 0) → List Body → List X → Type 0
+AreKept Keeps [] [] = Unit {0}
+AreKept Keeps [] (d ∷ ds) = ⊥
+AreKept Keeps (b ∷ bs) [] = ⊥
+AreKept Keeps (b ∷ bs) (d ∷ ds) = Keeps 0 b d × AreKept (λ n. Keeps (suc n)) bs ds
+
+-- what is kept of the bodies of a loaded set: something of each
+abbrev pub AreKeptOf : {X : Type 0} → (ℕ → Body → X → Type 0) → Bool → Loaded → List X → Type 0
+AreKeptOf {X} Keeps z x ds =
+    (length ds ≡ length x.methods.items) × ((n : ℕ) (d : X) → slice_get ds n ≡ Some d
+    → KeptOf (Keeps n) z x.space (codes_view x.tables.items) x.methods.items n d)
+
+-- their lines at these levels, or their terms
+abbrev pub HasTexts : List ℕ → ℕ → Body → Result BodyText CodeFault → Type 0
+HasTexts levels n = IsKept (IsText (get_or levels n 0))
+
+-- whether they encode to their bytes
+abbrev pub HasTrials : List (List ℕ) → List Method → ℕ → Body → Result Bool CodeFault → Type 0
+HasTrials codes ms n = IsKept (IsSame (body_in codes (slice_get ms n)))
+
+-- whether a fault is kept
+abbrev pub is_fault : {X : Type 0} → Result X CodeFault → Bool
+is_fault (Ok x) = false
+is_fault (Err fault) = true
+
+abbrev pub has_fault : {X : Type 0} → List (Result X CodeFault) → Bool
+has_fault ds = list_any is_fault ds
+
+-- ---- A stepping stone of the proofs of `check`: the methods of tables, counted one after the other.
+
+-- both counts are below n, and those of each table are
+abbrev pub IsUnder : ℕ → Checked → Type 0
+IsUnder n c = (c.methods < n) × (c.raw < n)
+
+abbrev pub Under : ℕ → List Checked → Type 0
+Under n cs = All (IsUnder n) cs
+
+-- one method more
+abbrev pub added : Mark → Checked → Checked
+added m c = record {
+  bytes = c.bytes;
+  methods = c.methods + 1;
+  raw = c.raw + cond m.raw 1 0;
+  same = c.same && m.same;
+}
+
+-- one method more of the table at this place
+abbrev pub added_at : ℕ → Mark → List Checked → List Checked
+added_at n m [] = []
+added_at zero m (c ∷ cs) = added m c ∷ cs
+added_at (suc n) m (c ∷ cs) = c ∷ added_at n m cs
+
+-- what is said of a table before its methods are counted
+abbrev pub uncounted : OneBlock → Checked
+uncounted b = record {
+  bytes = length b.code;
+  methods = 0;
+  raw = 0;
+  same = same_bytes (encodings b.code b.terms) b.code;
+}
+
+-- and when these are counted too
+abbrev pub tally : List Mark → Checked → Checked
+tally inside c =
+    record {
+      bytes = c.bytes;
+      methods = c.methods + length inside;
+      raw = c.raw + length (filter (λ m. m.raw) inside);
+      same = c.same && list_all (λ m. m.same) inside;
+    }
+
+-- of the tables from number t on
+abbrev pub tallied : List Mark → ℕ → List Checked → List Checked
+tallied marks t [] = []
+tallied marks t (c ∷ cs) = tally (marks_in t marks) c ∷ tallied marks (suc t) cs
+
+-- ---- what was tried of bodies
+
+-- what that says of the body's method
+abbrev pub tried_mark : ℕ → Result Bool CodeFault → Mark
+tried_mark table (Ok same) = record { table = table; raw = false; same = same }
+tried_mark table (Err fault) = record { table = table; raw = true; same = true }
+
+abbrev pub tried_marks : List Method → List (Result Bool CodeFault) → List Mark
+tried_marks ms ds = map (λ p. tried_mark p.0.table p.1) (zip ms ds)

@@ -1,11 +1,5 @@
-pub mod Tables
 pub mod Bodies
 pub mod Meaning
-pub mod Refusals
-pub mod Sets
-pub mod Runs
 pub mod Endings
 pub mod Checks
-pub mod Tallies
-pub mod Kept
-pub mod Words
+pub mod Refusals

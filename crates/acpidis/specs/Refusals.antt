@@ -1,6 +1,6 @@
 -- What a refusal says of a set of dumps.
-use Rattle.std.specs.Prelude.{◌≡◌, ℕ, Bool, List, ◌∷◌, get_or, ⊤, Err}
-use Rattle.aml_space.specs.Entries.{Givens}
+use Rattle.std.specs.Prelude.{◌≡◌, ℕ, Bool, List, ◌∷◌, get_or, ⊤, Err, Option, None, Some, codes}
+use Rattle.aml_space.specs.Namespace.{Givens}
 use Rattle.aml_load.specs.Stops.{StopsLoad}
 use Rattle.aml_load.specs.Walking.{load_at}
 use Rattle.aml_load.specs.declared.faults.LoadFault.{LoadFault}
@@ -10,7 +10,7 @@ use Rattle.acpi_tables.specs.Order.{IsOrder, Refuses}
 use Rattle.acpidis.specs.declared.options.Options.{Options}
 use Rattle.acpidis.specs.declared.refusal.Refusal.{Refusal}
 use Rattle.acpidis.specs.declared.refusal.Refusal.TheVariants as refusals
-use Rattle.acpidis.specs.Tables.{codes_in}
+use Rattle.acpidis.specs.Bodies.{codes_in}
 
 -- memory or a thread was refused, which says nothing of the set
 abbrev pub IsWant : Refusal → Type 0
@@ -64,3 +64,12 @@ TellsLoad gs codes order _ = ⊤
 abbrev pub TellsBlocks : List Dump → Options → Refusal → Type 0
 TellsBlocks dumps options (refusals.Load fault) = StopsSet dumps options fault
 TellsBlocks dumps options _ = ⊤
+
+-- ---- How a refusal displays.
+
+-- The word of a refused growth or start. What a fault of the set displays as isn't said here.
+abbrev pub want_text : Refusal → Option (List ℕ)
+want_text (refusals.Table fault) = None
+want_text (refusals.Load fault) = None
+want_text refusals.NoThread = Some (codes "NoThread")
+want_text refusals.NoMemory = Some (codes "NoMemory")

@@ -1,7 +1,7 @@
 //! The AML of a definition block.
 ghost use Rattle.std.specs.Prelude.{◌≡◌};
 ghost use Rattle.acpi_tables.specs.Header.{HoldsTable};
-ghost use Rattle.acpidis.specs.Tables.{aml_of};
+ghost use Rattle.acpidis.specs.Bodies.{aml_of};
 
 use acpi_tables::{HEADER_LENGTH, table_of};
 

@@ -4,7 +4,7 @@ ghost use Rattle.aml_load.specs.Views.{codes_view, AreShort, body_in};
 ghost use Rattle.aml_text.specs.declared.bodies.Body.{Body};
 ghost use Rattle.acpidis.specs.Refusals.{IsWant};
 ghost use Rattle.acpidis.specs.Bodies.{AreBodies, CanRead, BecameOf, AreDrawn, IsReading};
-ghost use Rattle.acpidis.specs.Kept.{KeptOf, AreKeptOf};
+ghost use Rattle.acpidis.specs.Checks.{KeptOf, AreKeptOf};
 
 use crate::refusal::Refusal;
 use aml_code::CodeFault;

@@ -1,10 +1,8 @@
 //! Whether what was read encodes to the same bytes again.
 ghost use Rattle.std.specs.Prelude.{◌≡◌, ◌≤◌, ◌<◌, IfOk, OnOk, length, map};
 ghost use Rattle.aml_load.specs.Views.{codes_view, AreShort};
-ghost use Rattle.aml_text.specs.Listing.{blocks_at};
-ghost use Rattle.aml_text.specs.Views.{body_view, block_view};
-ghost use Rattle.acpidis.specs.Checks.{marks_of, checks_from, checks_of};
-ghost use Rattle.acpidis.specs.Tallies.{Under, added, added_at, uncounted, tallied, tried_mark, tried_marks};
+ghost use Rattle.aml_text.specs.Listing.{blocks_at, body_view, block_view};
+ghost use Rattle.acpidis.specs.Checks.{marks_of, checks_from, checks_of, Under, added, added_at, uncounted, tallied, tried_mark, tried_marks};
 
 use crate::trials::{is_encoding, try_body};
 use aml_code::{CodeFault, NoMemory};

@@ -23,7 +23,7 @@ pub enum Refusal {
 
 /// The words of the fault.
 impl fmt::Display for Refusal {
-    ghost use Rattle.acpidis.specs.Words.{want_text};
+    ghost use Rattle.acpidis.specs.Refusals.{want_text};
 
     ghost output = { want_text };
 

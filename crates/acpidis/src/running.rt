@@ -1,10 +1,9 @@
 //! A whole run over the dumps of a folder.
 ghost use Rattle.std.specs.Prelude.{◌≡◌, ◌⊎◌, ◌≤◌, ℕ, List, true, false, cond};
 ghost use Rattle.std.specs.Io.KnownBytes.{Appends};
-ghost use Rattle.acpidis.specs.Runs.{Lists, IsCut};
-ghost use Rattle.acpidis.specs.Endings.{Ends, status_of};
-ghost use Rattle.acpidis.specs.Kept.{has_fault};
-ghost use Rattle.acpidis.specs.Sets.{IsSet};
+ghost use Rattle.acpidis.specs.Endings.{Lists, IsCut, Ends, status_of};
+ghost use Rattle.acpidis.specs.Checks.{has_fault};
+ghost use Rattle.acpidis.specs.Meaning.{IsSet};
 
 use crate::bodies::keep_bodies;
 use crate::check_lines::{are_same, write_tables};

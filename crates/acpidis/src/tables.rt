@@ -2,7 +2,7 @@
 ghost use Rattle.std.specs.Prelude.{◌≡◌, ◌∷◌, IfOk};
 ghost use Rattle.aml_load.specs.Views.{codes_view, AreShort};
 ghost use Rattle.acpi_tables.specs.Order.{AreTables};
-ghost use Rattle.acpidis.specs.Tables.{codes_in};
+ghost use Rattle.acpidis.specs.Bodies.{codes_in};
 
 use crate::aml::aml_in;
 use acpi_tables::{Dump, Order, bytes_of};

@@ -1,7 +1,7 @@
 //! The texts of bodies: a worker prints each body at its level, and lets its terms go, if that takes less memory.
 ghost use Rattle.std.specs.Prelude.{◌≡◌, get_or};
-ghost use Rattle.aml_text.specs.Views.{IsText};
-ghost use Rattle.acpidis.specs.Kept.{IsKept};
+ghost use Rattle.aml_text.specs.Listing.{IsText};
+ghost use Rattle.acpidis.specs.Checks.{IsKept};
 
 use crate::bodies::Keep;
 use aml_code::CodeFault;

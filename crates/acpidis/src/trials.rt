@@ -1,9 +1,8 @@
 //! Whether the terms of bodies encode to their bytes again: a worker tries each body, and lets its terms go.
 ghost use Rattle.std.specs.Prelude.{◌≡◌, IfOk};
 ghost use Rattle.aml_code.specs.View.{nodes_view};
-ghost use Rattle.aml_code.specs.Encoding.{encodings};
-ghost use Rattle.acpidis.specs.Checks.{same_bytes};
-ghost use Rattle.acpidis.specs.Kept.{IsKept, IsSame};
+ghost use Rattle.aml_code.specs.Tree.{encodings};
+ghost use Rattle.acpidis.specs.Checks.{same_bytes, IsKept, IsSame};
 
 use crate::bodies::Keep;
 use aml_code::{CodeFault, Node, encode_terms};

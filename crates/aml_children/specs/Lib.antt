@@ -1,3 +1,1 @@
-pub mod Children
-pub mod Codes
 pub mod Trees

@@ -1,7 +1,7 @@
 -- A step that makes an answer of what another step read.
 use Rattle.std.proofs.Common.{◌≡◌, Result, Ok, Err, refl, ap, subst, ◌∙◌}
 use Rattle.aml_names.specs.declared.faults.CodeFault.{CodeFault}
-use Rattle.aml_names.specs.Steps.{◌>>=◌}
+use Rattle.aml_names.specs.NameReading.{◌>>=◌}
 use Rattle.aml_names.proofs.StepLaws.{ok_is}
 
 -- it answered: what holds of the answers made of all that may have been read holds of this answer

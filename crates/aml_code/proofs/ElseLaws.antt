@@ -3,7 +3,7 @@ use Rattle.std.specs.Prelude.{◌==◌}
 use Rattle.std.proofs.Common.{◌≡◌, ℕ, zero, suc, Bool, List, [], ◌∷◌, true, false, cond, Option, Some, None, refl, sym, ap, subst, ◌∙◌}
 use Rattle.aml_names.specs.declared.segments.Seg.{Seg}
 use Rattle.aml_names.specs.Paths.{PathSet}
-use Rattle.aml_code.specs.Opcodes.{Row, rows}
+use Rattle.aml_code.specs.Opcodes.{Row, rows, row_of, takes}
 use Rattle.aml_code.specs.declared.rows.Place.{Place}
 use Rattle.aml_code.specs.declared.rows.Place.TheVariants as places
 use Rattle.aml_code.specs.declared.rows.Position.{Position}
@@ -12,17 +12,14 @@ use Rattle.aml_code.specs.declared.rows.PartKind.{PartKind}
 use Rattle.aml_code.specs.declared.rows.PartKind.TheVariants as kinds
 use Rattle.aml_code.specs.declared.rows.TailKind.{TailKind}
 use Rattle.aml_code.specs.declared.rows.TailKind.TheVariants as tails
-use Rattle.aml_code.specs.Declaring.{after}
-use Rattle.aml_code.specs.Elses.{has_opcode, ElsesFollow, ElseFollows, NoElses, FollowInPart, FollowInParts, FollowInTail, FollowInFields, FollowInField}
+use Rattle.aml_code.specs.Lawful.{after, Setting, IsLawful, AreTerms, IsPart, AreParts, IsTail, AreFields, IsField, is_if, is_if_row, is_if_place, terms_in}
+use Rattle.aml_code.specs.Lawful.{next_position, ReadsBody, ReadsModule}
+use Rattle.aml_code.specs.Laws.{has_opcode, ElsesFollow, ElseFollows, NoElses, FollowInPart, FollowInParts, FollowInTail, FollowInFields, FollowInField}
 use Rattle.aml_code.specs.Faults.{Arities}
-use Rattle.aml_code.specs.Lawful.{Setting, IsLawful, AreTerms, IsPart, AreParts, IsTail, AreFields, IsField, is_if, is_if_row, is_if_place, terms_in}
-use Rattle.aml_code.specs.Lawful.{next_position}
-use Rattle.aml_code.specs.Meaning.{ReadsBody, ReadsModule}
-use Rattle.aml_code.specs.Rows.{row_of, takes}
 use Rattle.aml_code.proofs.RowFacts.{row_opcode, rows_say}
 use Rattle.aml_code.proofs.InnerLaws.{is_inner, inner_next}
-use Rattle.aml_code.specs.Tree.{Tree, nothing, named, op, Trees, no_trees, tree_more, Part, child, Parts, no_parts, part_more}
-use Rattle.aml_code.specs.Tree.{Tail, terms, elements, fields, Field, connection, Fields, no_fields, field_more, target, buffer}
+use Rattle.aml_code.specs.Tree.{Tree, nothing, named, op, Trees, no_trees, tree_more, Part, child, Parts, no_parts, part_more, Tail, terms, elements, fields}
+use Rattle.aml_code.specs.Tree.{Field, connection, Fields, no_fields, field_more, target, buffer}
 
 abbrev pub is_after_if : Position → Bool
 is_after_if positions.AfterIf = true

@@ -8,7 +8,7 @@ use Rattle.aml_code.specs.declared.tree.Node.{Node, Op}
 use Rattle.aml_code.specs.declared.tree.Part.{Part}
 use Rattle.aml_code.specs.declared.tree.Tail.{Tail}
 use Rattle.aml_code.specs.View.{node_view, parts_view, tail_view}
-use Rattle.aml_code.specs.Encoding.{opcode_bytes, packed, encoding, parts_encoding, tail_encoding}
+use Rattle.aml_code.specs.Tree.{opcode_bytes, packed, encoding, parts_encoding, tail_encoding}
 use Rattle.aml_code.proofs.Views.{view-Op}
 
 -- Room was left at the end of what stands, and content was written behind it: with the room filled in, what stands is

@@ -10,11 +10,9 @@ use Rattle.aml_code.specs.declared.rows.Role.{Role}
 use Rattle.aml_code.specs.declared.rows.Role.TheVariants as roles
 use Rattle.aml_code.specs.declared.rows.TailKind.{TailKind}
 use Rattle.aml_code.specs.declared.rows.TailKind.TheVariants as tails
-use Rattle.aml_code.specs.Opcodes.{Row, rows}
-use Rattle.aml_code.specs.Rows.{row_of, takes, taken_as_argument}
+use Rattle.aml_code.specs.Opcodes.{Row, rows, row_of, takes, taken_as_argument}
 use Rattle.aml_code.specs.Tree.{Tree, nothing, named, op, Trees, no_trees, tree_more, Parts, Tail, terms}
-use Rattle.aml_code.specs.Declaring.{names_declared, with_declared, declared_by, after, after_all, after_tail}
-use Rattle.aml_code.specs.Lawful.{Setting, IsLawful, AreTerms, IsTail, next_position}
+use Rattle.aml_code.specs.Lawful.{names_declared, with_declared, declared_by, after, after_all, after_tail, Setting, IsLawful, AreTerms, IsTail, next_position}
 use Rattle.aml_code.proofs.RowFacts.{and_left, and_right, rows_say}
 
 abbrev pub is_inner : Position → Bool

@@ -7,11 +7,9 @@ use Rattle.aml_code.specs.declared.rows.Position.{Position}
 use Rattle.aml_code.specs.declared.rows.Position.TheVariants as positions
 use Rattle.aml_code.specs.declared.rows.TailKind.{TailKind}
 use Rattle.aml_code.specs.declared.rows.TailKind.TheVariants as tails
-use Rattle.aml_code.specs.Declaring.{after}
-use Rattle.aml_code.specs.Lawful.{Setting, IsLawful, AreTerms, IsPart, AreParts, IsTail, AreFields, IsField, terms_in, next_position}
+use Rattle.aml_code.specs.Lawful.{after, Setting, IsLawful, AreTerms, IsPart, AreParts, IsTail, AreFields, IsField, terms_in, next_position}
 use Rattle.aml_code.specs.Tree.{Tree, nothing, named, op, Trees, no_trees, tree_more, Part, child, label, byte, word, dword, qword, text, Parts, no_parts}
-use Rattle.aml_code.specs.Tree.{part_more}
-use Rattle.aml_code.specs.Tree.{Tail, empty, terms, bytes, elements, fields, body, Field, connection, Fields, no_fields, field_more, target, buffer}
+use Rattle.aml_code.specs.Tree.{part_more, Tail, empty, terms, bytes, elements, fields, body, Field, connection, Fields, no_fields, field_more, target, buffer}
 
 module _ (s : Setting) where
   mutual

@@ -5,9 +5,8 @@ use Rattle.std.proofs.Common.{◌≡◌, ℕ, zero, suc, ◌+◌, ◌%◌, Bool,
 use Rattle.std.proofs.Common.{sym, ap, subst, ◌∙◌, arith}
 use Rattle.std.proofs.lemmas.Bool.{eqb-true, eq-eqb}
 use Rattle.aml_code.specs.declared.rows.OpRow.{OpRow}
-use Rattle.aml_code.specs.Opcodes.{Row, rows}
+use Rattle.aml_code.specs.Opcodes.{Row, rows, row_of, row_view}
 use Rattle.aml_code.specs.declared.table.TheConstants.{INDEX}
-use Rattle.aml_code.specs.Rows.{row_of, row_view}
 use Rattle.aml_code.proofs.RowFacts.{and_left, and_right, row_opcode}
 
 abbrev pub slot_of : ℕ → ℕ

@@ -9,7 +9,7 @@ use Rattle.aml_names.specs.NameReading.{NameFault}
 use Rattle.aml_names.proofs.StepLaws.{IsBytes, Takes}
 use Rattle.aml_code.specs.declared.packages.PkgWidth.{PkgWidth}
 use Rattle.aml_code.specs.Packages.{width_len, package_bytes}
-use Rattle.aml_code.specs.Encoding.{slice_of}
+use Rattle.aml_code.specs.Tree.{slice_of}
 use Rattle.aml_code.specs.Faults.{StandsThere, LengthThere, IsEnd, IsEndBefore, Arities, StandsAt}
 use Rattle.aml_code.proofs.LengthLaws.{IsSpan, LengthFault, PastFault, length-package_bytes, width_some}
 

@@ -7,12 +7,11 @@ use Rattle.aml_names.specs.declared.names.Name.{Name}
 use Rattle.aml_names.specs.Paths.{PathSet}
 use Rattle.aml_names.specs.Names.{is_lead_char, is_name_lead, IsName, spelling}
 use Rattle.aml_code.specs.declared.packages.PkgWidth.{PkgWidth}
-use Rattle.aml_code.specs.Opcodes.{Row}
+use Rattle.aml_code.specs.Opcodes.{Row, row_of}
 use Rattle.aml_code.specs.declared.rows.Place.{Place}
 use Rattle.aml_code.specs.declared.rows.Place.TheVariants as places
 use Rattle.aml_code.specs.Packages.{width_len, package_bytes, FitsWidth}
-use Rattle.aml_code.specs.Rows.{row_of}
-use Rattle.aml_code.specs.Encoding.{opcode_bytes}
+use Rattle.aml_code.specs.Tree.{opcode_bytes}
 
 -- the text stands in the code at an offset
 pub record StandsThere (code : List ℕ) (at : ℕ) (text : List ℕ) : Type 0 where

@@ -1,14 +1,22 @@
--- Which trees are AML (ACPI 6.5, 20.2): what each position takes, what each row is made of, how many arguments a name
--- has.
-use Rattle.std.specs.Prelude.{◌≡◌, ℕ, zero, suc, ◌+◌, ◌^◌, ◌<◌, ◌≤◌, Bool, true, false, cond, List, [], ◌∷◌, ◌++◌}
-use Rattle.std.specs.Prelude.{length, Option, Some, None}
+-- What a term declares (ACPI 6.5, 5.3 and 20.2.5), and which paths are declared once it was read.
+use Rattle.std.specs.Prelude.{ℕ, false, List, [], ◌∷◌, Option, Some, None, ◌≡◌, zero, suc, ◌+◌, ◌^◌, ◌<◌, ◌≤◌, Bool}
+use Rattle.std.specs.Prelude.{true, cond, ◌++◌, length}
+use Rattle.std.specs.FinSet as set
 use Rattle.aml_names.specs.declared.segments.Seg.{Seg}
 use Rattle.aml_names.specs.declared.names.Name.{Name}
+use Rattle.aml_names.specs.declared.names.NameForm.TheVariants.{One}
 use Rattle.aml_names.specs.Paths.{PathSet}
-use Rattle.aml_names.specs.Names.{IsNameSeg, IsName}
+use Rattle.aml_names.specs.Names.{placed, IsNameSeg, IsName}
+use Rattle.aml_code.specs.declared.rows.Role.{Role}
+use Rattle.aml_code.specs.declared.rows.Role.TheVariants as roles
+use Rattle.aml_code.specs.Opcodes.{Row, row_of, has_length, takes}
+use Rattle.aml_code.specs.Tree.{Tree, nothing, named, op, Trees, no_trees, tree_more, label, byte, Parts, no_parts}
+use Rattle.aml_code.specs.Tree.{part_more, Tail, terms, fields, unit, Fields, no_fields, field_more, Part, child, word}
+use Rattle.aml_code.specs.Tree.{dword, qword, text, empty, bytes, elements, body, Field, reserved, access, connection}
+use Rattle.aml_code.specs.Tree.{extended, Link, target, buffer, tree_count, parts_encoding, tail_encoding, opcode_bytes}
+use Rattle.aml_code.specs.Tree.{encoding, encodings}
 use Rattle.aml_names.specs.NameReading.{has_segment, is_bare}
 use Rattle.aml_code.specs.declared.packages.PkgWidth.{PkgWidth}
-use Rattle.aml_code.specs.Opcodes.{Row}
 use Rattle.aml_code.specs.declared.rows.PartKind.{PartKind}
 use Rattle.aml_code.specs.declared.rows.PartKind.TheVariants as kinds
 use Rattle.aml_code.specs.declared.rows.Place.{Place}
@@ -18,14 +26,84 @@ use Rattle.aml_code.specs.declared.rows.Position.TheVariants as positions
 use Rattle.aml_code.specs.declared.rows.TailKind.{TailKind}
 use Rattle.aml_code.specs.declared.rows.TailKind.TheVariants as tails
 use Rattle.aml_code.specs.Packages.{width_len, FitsWidth}
-use Rattle.aml_code.specs.Rows.{row_of, has_length, takes}
-use Rattle.aml_code.specs.Tree.{Tree, nothing, named, op, Trees, no_trees, tree_more, Part, child, label, byte, word}
-use Rattle.aml_code.specs.Tree.{dword, qword, text, Parts, no_parts, part_more, Tail, empty, terms, bytes, elements}
-use Rattle.aml_code.specs.Tree.{fields, body, Field, unit, reserved, access, connection, extended, Fields, no_fields}
-use Rattle.aml_code.specs.Tree.{field_more, Link, target, buffer, tree_count}
-use Rattle.aml_code.specs.Encoding.{parts_encoding, tail_encoding}
-use Rattle.aml_code.specs.Declaring.{after}
 use Rattle.aml_code.specs.Faults.{Arities}
+
+-- the last part that is a name, or else this
+abbrev pub last_label : Option Name → Parts → Option Name
+last_label found no_parts = found
+last_label found (part_more (label n) ps) = last_label (Some n) ps
+last_label found (part_more _ ps) = last_label found ps
+
+-- the last part that is a byte, or else this
+abbrev pub last_byte : Option ℕ → Parts → Option ℕ
+last_byte found no_parts = found
+last_byte found (part_more (byte b) ps) = last_byte (Some b) ps
+last_byte found (part_more _ ps) = last_byte found ps
+
+abbrev pub listed : Option Name → List Name
+listed None = []
+listed (Some n) = n ∷ []
+
+-- a name of one segment without prefix
+abbrev pub plain_name : Seg → Name
+plain_name s = record { root = false; ups = 0; form = One; segs = s ∷ [] }
+
+-- the named units of a field list, in order
+abbrev pub unit_names : Fields → List Name
+unit_names no_fields = []
+unit_names (field_more (unit s w n) us) = plain_name s ∷ unit_names us
+unit_names (field_more _ us) = unit_names us
+
+abbrev pub field_names : Tail → List Name
+field_names (fields us) = unit_names us
+field_names _ = []
+
+-- The names that a term declares itself, by the role of its row, in the order of the text. An External declares none:
+-- what it names is declared elsewhere.
+abbrev pub names_declared : Role → Parts → Tail → List Name
+names_declared (roles.Declares o) ps t = listed (last_label None ps)
+names_declared roles.Method ps t = listed (last_label None ps)
+names_declared roles.Alias ps t = listed (last_label None ps)
+names_declared roles.Fields ps t = field_names t
+names_declared _ ps t = []
+
+-- A path is added. A name that leads above the root adds nothing.
+abbrev pub with_path : PathSet → Option (List Seg) → PathSet
+with_path ls None = ls
+with_path ls (Some p) = set.insert ls p
+
+-- the names are placed from a scope, one after the other
+abbrev pub with_names : List Seg → PathSet → List Name → PathSet
+with_names scope ls [] = ls
+with_names scope ls (n ∷ ns) = with_names scope (with_path ls (placed scope n)) ns
+
+-- In a method's body the names are placed from the method's path. The terms of a table keep no such paths.
+abbrev pub with_declared : Option (List Seg) → PathSet → List Name → PathSet
+with_declared None ls ns = ls
+with_declared (Some scope) ls ns = with_names scope ls ns
+
+abbrev pub declared_by : Option (List Seg) → Option Row → PathSet → Parts → Tail → PathSet
+declared_by scope None ls ps t = ls
+declared_by scope (Some row) ls ps t = with_declared scope ls (names_declared row.role ps t)
+
+-- The paths that are declared after a term: those of the terms in its tail, and then its own. What else is inside it,
+-- as arguments, elements and connections, declares nothing.
+abbrev mutual
+  pub after : Option (List Seg) → PathSet → Tree → PathSet
+  after scope ls nothing = ls
+  after scope ls (named n ts) = ls
+  after scope ls (op o w ps t) = declared_by scope (row_of o) (after_tail scope ls t) ps t
+
+  pub after_all : Option (List Seg) → PathSet → Trees → PathSet
+  after_all scope ls no_trees = ls
+  after_all scope ls (tree_more t ts) = after_all scope (after scope ls t) ts
+
+  pub after_tail : Option (List Seg) → PathSet → Tail → PathSet
+  after_tail scope ls (terms ts) = after_all scope ls ts
+  after_tail scope ls _ = ls
+
+-- ---- Which trees are AML (ACPI 6.5, 20.2): what each position takes, what each row is made of, how many arguments a name
+-- has.
 
 -- What the grammar leaves to where the terms stand: the code that spans point into, how many arguments a name takes by
 -- the paths declared so far, and the scope from which a body's declarations are placed (none in a table).
@@ -175,3 +253,46 @@ abbrev mutual
   pub IsLink : Setting → ℕ → PathSet → Link → Type 0
   IsLink s levels ls (target n) = IsName n × (has_segment n ≡ true)
   IsLink s levels ls (buffer t) = IsBuffer t × IsLawful s levels positions.Data ls t
+
+-- ---- What it is that code reads as a tree (ACPI 6.5, 5.3 and 20.2): the tree is lawful, and its bytes are the code.
+
+-- inside some code, by how many arguments each name takes
+abbrev pub setting_of : Arities → Option (List Seg) → List ℕ → Setting
+setting_of arity scope code = record { code = code; arity = arity; scope = scope }
+
+-- The bytes of a method's body read as these terms: they are lawful from no declared path on, with at most 512 levels,
+-- and they are spelled by the bytes. Declarations are placed from the method's path.
+pub record ReadsBody (arity : Arities) (method : List Seg) (code : List ℕ) (ts : Trees) : Type 0 where
+  pub lawful : AreTerms (setting_of arity (Some method) code) 512 positions.BodyTerm set.empty ts
+  pub spelled : encodings code ts ≡ code
+
+-- in a table no name has arguments
+abbrev pub no_arguments : Arities
+no_arguments ls n = Some 0
+
+abbrev pub length_bytes : Option PkgWidth → ℕ
+length_bytes None = 0
+length_bytes (Some w) = width_len w
+
+-- each method's body begins where it stands in the encoding, if that begins at an offset
+abbrev mutual
+  pub BodiesStand : List ℕ → ℕ → Trees → Type 0
+  BodiesStand code at no_trees = Unit {0}
+  BodiesStand code at (tree_more t ts) = BodyStands code at t × BodiesStand code (at + length (encoding code t)) ts
+
+  pub BodyStands : List ℕ → ℕ → Tree → Type 0
+  BodyStands code at (op o w ps t) =
+      TailStands code (at + (length (opcode_bytes o) + (length_bytes w + length (parts_encoding code ps)))) t
+  BodyStands code at _ = Unit {0}
+
+  pub TailStands : List ℕ → ℕ → Tail → Type 0
+  TailStands code at (terms ts) = BodiesStand code at ts
+  TailStands code at (body start len) = start ≡ at
+  TailStands code at _ = Unit {0}
+
+-- The AML of a table reads as these terms: they are lawful as terms of a table, with at most 512 levels, no name has
+-- arguments, they are spelled by the code, and each method's body is the span where it stands.
+pub record ReadsModule (code : List ℕ) (ts : Trees) : Type 0 where
+  pub lawful : AreTerms (setting_of no_arguments None code) 512 positions.ModuleTerm set.empty ts
+  pub spelled : encodings code ts ≡ code
+  pub bodies : BodiesStand code 0 ts

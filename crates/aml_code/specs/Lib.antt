@@ -1,13 +1,7 @@
 pub mod Packages
-pub mod Lengths
 pub mod Opcodes
-pub mod Rows
-pub mod Tree
 pub mod View
-pub mod Encoding
+pub mod Tree
 pub mod Faults
-pub mod Declaring
 pub mod Lawful
-pub mod Elses
-pub mod Meaning
-pub mod Prefixes
+pub mod Laws

@@ -2,7 +2,7 @@
 ghost use Rattle.std.specs.Prelude.{◌≡◌, None};
 ghost use Rattle.std.specs.Option.{option_copied};
 ghost use Rattle.aml_code.specs.View.{parts_view};
-ghost use Rattle.aml_code.specs.Declaring.{last_label, last_byte};
+ghost use Rattle.aml_code.specs.Lawful.{last_label, last_byte};
 
 use crate::tree::Part;
 use aml_names::Name;

@@ -1,6 +1,6 @@
 //! What the table of opcodes says of an opcode, and which opcodes a position takes (ACPI 6.5, 20.2.5 and 20.3).
 ghost use Rattle.std.specs.Prelude.{◌≡◌};
-ghost use Rattle.aml_code.specs.Rows.{has_length, takes as row_taken};
+ghost use Rattle.aml_code.specs.Opcodes.{has_length, takes as row_taken};
 
 /// The four groups of opcodes.
 #[derive(Clone, Copy)]

@@ -1,8 +1,7 @@
 //! The table of opcodes.
 ghost use Rattle.std.specs.Prelude.{◌≡◌, ◌+◌, ◌%◌, ◌<◌, cond, get_or, map, nat_lt, slice_get};
 ghost use Rattle.std.specs.Option.{option_copied, option_map};
-ghost use Rattle.aml_code.specs.Opcodes.{rows};
-ghost use Rattle.aml_code.specs.Rows.{row_of, row_view};
+ghost use Rattle.aml_code.specs.Opcodes.{rows, row_of, row_view};
 ghost use Rattle.aml_code.specs.declared.table.TheConstants.{INDEX};
 
 use crate::rows::{Group, Object, OpRow, PartKind, Place, Role, TailKind};

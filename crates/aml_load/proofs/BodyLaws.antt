@@ -8,20 +8,17 @@ use Rattle.aml_names.specs.declared.names.Name.{Name}
 use Rattle.aml_names.specs.Paths.{PathSet}
 use Rattle.aml_names.specs.declared.faults.CodeFault.{CodeFault}
 use Rattle.aml_names.specs.declared.faults.CodeFault.TheVariants as codes
-use Rattle.aml_names.specs.Steps.{Gives}
+use Rattle.aml_names.specs.NameReading.{Gives}
 use Rattle.aml_code.specs.declared.rows.Position.TheVariants as positions
 use Rattle.aml_code.specs.Tree.{Trees}
 use Rattle.aml_code.specs.Faults.{StandsAt}
-use Rattle.aml_code.specs.Meaning.{ReadsBody}
+use Rattle.aml_code.specs.Lawful.{ReadsBody}
 use Rattle.aml_parse.specs.Reading.{all_at}
-use Rattle.aml_space.specs.Bodies.{BodyView}
-use Rattle.aml_space.specs.Entries.{Entry}
+use Rattle.aml_space.specs.Known.{BodyView, Known, StandsFor, namespace_in}
+use Rattle.aml_space.specs.Namespace.{Entry, Namespace, namespace_of, arity_of}
 use Rattle.aml_space.proofs.Stands.{same_namespace}
-use Rattle.aml_space.specs.Namespace.{Namespace, namespace_of, arity_of}
-use Rattle.aml_space.specs.Known.{Known, StandsFor, namespace_in}
 use Rattle.aml_load.specs.declared.methods.Method.{Method}
-use Rattle.aml_load.specs.Bodies.{IsBody, IsUnread, IsReading, GivesBody}
-use Rattle.aml_load.specs.Views.{AreShort, span_in, span_of}
+use Rattle.aml_load.specs.Views.{IsBody, IsUnread, IsReading, GivesBody, AreShort, span_in, span_of}
 
 -- a span is no longer than its table
 short_in : (o : Option (List ℕ)) (m : Method) → ((c : List ℕ) → o ≡ Some c → length c ≤ 16777216) → length (span_in o m) ≤ 16777216

@@ -5,13 +5,13 @@ use Rattle.std.proofs.lemmas.Bool.Decides.{nat_tests}
 use Rattle.std.proofs.lemmas.List.{append-nil, take_all}
 use Rattle.aml_names.specs.Names.{placed}
 use Rattle.std.specs.declared.alloc.Global.{Global}
-use Rattle.aml_code.specs.Declaring.{plain_name}
+use Rattle.aml_code.specs.Lawful.{plain_name}
 use Rattle.aml_code.specs.declared.packages.PkgWidth.{PkgWidth}
 use Rattle.aml_code.specs.declared.rows.Role.{Role}
 use Rattle.aml_code.specs.declared.tree.Node.{Node, Op}
 use Rattle.aml_code.specs.declared.tree.Part.{Part}
 use Rattle.aml_code.specs.declared.tree.Tail.{Tail as CodeTail}
-use Rattle.aml_code.specs.Rows.{row_of}
+use Rattle.aml_code.specs.Opcodes.{row_of}
 use Rattle.aml_code.specs.Tree.{Parts, Tail}
 use Rattle.aml_code.specs.View.{node_view, parts_view, tail_view}
 use Rattle.aml_code.proofs.Views.{view-Op}
@@ -21,17 +21,14 @@ use Rattle.aml_space.specs.declared.kinds.Kind.{Kind}
 use Rattle.aml_space.specs.declared.kinds.Kind.TheVariants as kinds
 use Rattle.aml_space.specs.declared.faults.SpaceFault.{SpaceFault}
 use Rattle.aml_space.specs.declared.faults.SpaceFault.TheVariants as faults
-use Rattle.aml_space.specs.Entries.{Entry, Body, declares, external, declared_at}
+use Rattle.aml_space.specs.Namespace.{Entry, Body, declares, external, declared_at}
 use Rattle.aml_space.specs.Known.{Known, StandsFor, is_declared}
 use Rattle.aml_load.specs.declared.faults.LoadFault.{LoadFault}
 use Rattle.aml_load.specs.declared.faults.LoadFault.TheVariants as loads
 use Rattle.aml_load.specs.declared.methods.Method.{Method}
 use Rattle.aml_load.specs.declared.walking.Progress.{Progress}
-use Rattle.aml_load.specs.Loading.{Listed, plus, with_uses, methods_of}
-use Rattle.aml_load.specs.Roles.{role_of}
-use Rattle.aml_load.specs.Uses.{kinds_in, parts_uses, tail_uses}
-use Rattle.aml_load.specs.Walking.{◌>>=◌, listed, or_fault, place_at, space_fault, entry_at, name_at, fields_at, do_as, walk, walk_inside, Fails}
-use Rattle.aml_load.specs.Progresses.{Holds}
+use Rattle.aml_load.specs.Loading.{Listed, plus, with_uses, methods_of, role_of, kinds_in, parts_uses, tail_uses}
+use Rattle.aml_load.specs.Walking.{◌>>=◌, listed, or_fault, place_at, space_fault, entry_at, name_at, fields_at, do_as, walk, walk_inside, Fails, Holds}
 use Rattle.aml_load.proofs.Steps.{methods_more}
 
 -- an entry without a body

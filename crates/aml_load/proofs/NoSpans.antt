@@ -7,10 +7,9 @@ use Rattle.aml_code.specs.declared.rows.Position.{Position}
 use Rattle.aml_code.specs.declared.rows.Position.TheVariants as positions
 use Rattle.aml_code.specs.declared.rows.TailKind.{TailKind}
 use Rattle.aml_code.specs.declared.rows.TailKind.TheVariants as tails
-use Rattle.aml_code.specs.Tree.{Tree, nothing, named, op, Trees, no_trees, tree_more, Part, child, Parts, no_parts}
-use Rattle.aml_code.specs.Tree.{part_more, Tail, terms, elements, fields, body, Field, connection, Fields, no_fields, field_more, target, buffer}
-use Rattle.aml_code.specs.Declaring.{after}
-use Rattle.aml_code.specs.Lawful.{Setting, IsLawful, AreTerms, IsPart, AreParts, IsTail, AreFields, IsField, terms_in, next_position}
+use Rattle.aml_code.specs.Tree.{Tree, nothing, named, op, Trees, no_trees, tree_more, Part, child, Parts, no_parts, part_more, Tail, terms, elements, fields}
+use Rattle.aml_code.specs.Tree.{body, Field, connection, Fields, no_fields, field_more, target, buffer}
+use Rattle.aml_code.specs.Lawful.{after, Setting, IsLawful, AreTerms, IsPart, AreParts, IsTail, AreFields, IsField, terms_in, next_position}
 use Rattle.aml_code.proofs.RowFacts.{body_place}
 use Rattle.aml_parse.specs.Reading.{takes_names}
 use Rattle.aml_parse.proofs.Bodiless.{next_takes, inner_takes, no_method}

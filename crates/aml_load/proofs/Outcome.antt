@@ -11,21 +11,20 @@ use Rattle.std.proofs.lemmas.Bool.Decides.{nat_tests}
 use Rattle.aml_names.specs.declared.faults.CodeFault.{CodeFault}
 use Rattle.aml_names.proofs.StepLaws.{IsBytes}
 use Rattle.aml_code.specs.declared.rows.Position.TheVariants as positions
-use Rattle.aml_code.specs.Meaning.{ReadsModule, no_arguments}
+use Rattle.aml_code.specs.Lawful.{ReadsModule, no_arguments}
 use Rattle.aml_code.specs.Tree.{Trees}
 use Rattle.aml_parse.specs.Reading.{all_at}
 use Rattle.aml_parse.proofs.Readings.{module_sound, module_again, all_placed}
-use Rattle.aml_space.specs.Entries.{Entry, Givens}
+use Rattle.aml_space.specs.Namespace.{Entry, Givens}
 use Rattle.aml_load.specs.declared.faults.LoadFault.{LoadFault}
 use Rattle.aml_load.specs.declared.faults.LoadFault.TheVariants as loads
 use Rattle.aml_load.specs.declared.loading.Loaded.{Loaded}
 use Rattle.aml_load.specs.declared.methods.Use.{Use}
 use Rattle.aml_load.proofs.Givens.{no_methods}
 use Rattle.aml_load.specs.Loading.{Listed, first_listed, DeclareAll, DeclareTables, Uncalled, use_count, ReadTables, IsLoad}
-use Rattle.aml_load.specs.Walking.{◌>>=◌, code_fault, in_code, walk_all, table_at, tables_at, uses_at, load_at, GivesLoad}
+use Rattle.aml_load.specs.Walking.{◌>>=◌, code_fault, in_code, walk_all, table_at, tables_at, uses_at, load_at, GivesLoad, AreCodes}
 use Rattle.aml_load.specs.Stops.{Unread, StopAll, StopTable, StopTables, Called, StopsLoad}
 use Rattle.aml_load.specs.Views.{AreShort, codes_view, HoldsLoad}
-use Rattle.aml_load.specs.Progresses.{AreCodes}
 use Rattle.aml_load.proofs.Steps.{Tells, told_as, both, only, guarded, ok_is, count}
 use Rattle.aml_load.proofs.Walks.{all_tell}
 

@@ -1,7 +1,7 @@
 -- The methods of the entries stand in the order of the text, each once: where a method can't stand, there is no body, and
 -- loading goes into all terms in which one can stand.
-use Rattle.std.proofs.Common.{◌≡◌, ℕ, zero, suc, Bool, true, false, not, ◌&&◌, List, [], ◌∷◌, ◌++◌, length, map, Some, None, refl, sym, ap, subst}
-use Rattle.std.proofs.Common.{◌∙◌, append_assoc, slice_get}
+use Rattle.std.proofs.Common.{◌≡◌, ℕ, zero, suc, Bool, true, false, not, ◌&&◌, List, [], ◌∷◌, ◌++◌, length, map, Some, None, refl, sym, ap, subst, ◌∙◌}
+use Rattle.std.proofs.Common.{append_assoc, slice_get}
 use Rattle.std.specs.FinSet as set
 use Rattle.std.specs.Option.{option_map}
 use Rattle.std.proofs.lemmas.List.{append-nil, map-append, length-map}
@@ -17,21 +17,17 @@ use Rattle.aml_code.specs.declared.rows.Role.{Role}
 use Rattle.aml_code.specs.declared.rows.Role.TheVariants as roles
 use Rattle.aml_code.specs.declared.rows.TailKind.{TailKind}
 use Rattle.aml_code.specs.declared.rows.TailKind.TheVariants as tails
-use Rattle.aml_code.specs.Opcodes.{Row, rows}
-use Rattle.aml_code.specs.Rows.{row_of, takes, taken_in_module, taken_in_guard}
+use Rattle.aml_code.specs.Opcodes.{Row, rows, row_of, takes, taken_in_module, taken_in_guard}
 use Rattle.aml_code.specs.Tree.{Tree, nothing, named, op, Trees, no_trees, tree_more, Parts, Tail, terms, elements, fields, body}
-use Rattle.aml_code.specs.Declaring.{after, field_names}
-use Rattle.aml_code.specs.Lawful.{Setting, IsLawful, AreTerms, IsTail, terms_in, next_position}
-use Rattle.aml_code.specs.Meaning.{setting_of, no_arguments}
+use Rattle.aml_code.specs.Lawful.{after, field_names, Setting, IsLawful, AreTerms, IsTail, terms_in, next_position, setting_of, no_arguments}
 use Rattle.aml_code.proofs.RowFacts.{and_left, and_right, rows_say}
 use Rattle.aml_parse.specs.Reading.{takes_names}
 use Rattle.aml_space.specs.declared.kinds.Kind.{Kind}
 use Rattle.aml_space.specs.declared.kinds.Kind.TheVariants as kinds
-use Rattle.aml_space.specs.Entries.{Givens, declares, external}
-use Rattle.aml_load.specs.Roles.{role_of, role_in, kind_of}
+use Rattle.aml_space.specs.Namespace.{Givens, declares, external}
+use Rattle.aml_load.specs.Loading.{role_of, role_in, kind_of, Listed, plus, with_uses, byte_of, body_start, body_len, target_of, method_entry, DeclareUnits}
+use Rattle.aml_load.specs.Loading.{DoesAs, Declares, DeclareInside, DeclareAll, DeclareTables, methods_of, ReadTables, IsLoad, first_listed}
 use Rattle.aml_load.proofs.Givens.{no_methods}
-use Rattle.aml_load.specs.Loading.{Listed, plus, with_uses, byte_of, body_start, body_len, target_of, method_entry, DeclareUnits, DoesAs, Declares}
-use Rattle.aml_load.specs.Loading.{DeclareInside, DeclareAll, DeclareTables, methods_of, ReadTables, IsLoad, first_listed}
 use Rattle.aml_load.specs.Spans.{Span, method_span, tree_spans, all_spans, tail_spans, fields_spans, tables_spans, InTextOrder}
 use Rattle.aml_load.proofs.NoSpans.{terms_tail, body_tail, parts_none, all_none, tail_none, elements_none, fields_tail_none}
 use Rattle.aml_load.proofs.Steps.{methods_more}

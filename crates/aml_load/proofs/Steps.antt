@@ -3,8 +3,7 @@
 -- allows. A step and another over what it gave tell of both (`both`). So the laws of loading are put together along
 -- the definition of `Walking`: names here, terms in `Walks`, tables in `Outcome`.
 use Rattle.std.proofs.Common.{◌≡◌, ◌≢◌, ℕ, ◌≤◌, ◌+◌, Bool, true, false, cond, not, ◌&&◌, ◌==◌, List, [], ◌∷◌, ◌++◌, length, Option, Some, None, is_some, Result}
-use Rattle.std.proofs.Common.{Ok, Err}
-use Rattle.std.proofs.Common.{refl, sym, ap, subst, ◌∙◌, ◌⊎◌, inl, inr, arith, nat_le, append_assoc}
+use Rattle.std.proofs.Common.{Ok, Err, refl, sym, ap, subst, ◌∙◌, ◌⊎◌, inl, inr, arith, nat_le, append_assoc}
 use Rattle.std.proofs.lemmas.Bool.{eqb-true}
 use Rattle.std.proofs.lemmas.Bool.Decides.{nat_tests}
 use Rattle.std.proofs.lemmas.List.{length-append, append-nil}
@@ -16,8 +15,7 @@ use Rattle.aml_names.specs.Searching.{is_single, upward, the_one}
 use Rattle.aml_space.specs.declared.kinds.Kind.{Kind}
 use Rattle.aml_space.specs.declared.faults.SpaceFault.{SpaceFault}
 use Rattle.aml_space.specs.declared.faults.SpaceFault.TheVariants as faults
-use Rattle.aml_space.specs.Entries.{Entry, declares, external, given, declared_at}
-use Rattle.aml_space.specs.Namespace.{Namespace, namespace_of, found, first_of}
+use Rattle.aml_space.specs.Namespace.{Entry, declares, external, given, declared_at, Namespace, namespace_of, found, first_of}
 use Rattle.aml_load.specs.declared.faults.LoadFault.{LoadFault}
 use Rattle.aml_load.specs.declared.faults.LoadFault.TheVariants as loads
 use Rattle.aml_load.specs.declared.methods.Method.{Method}

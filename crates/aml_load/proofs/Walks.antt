@@ -1,25 +1,23 @@
 -- Terms, walked forward, declare what `Declares` says, and stop where `Stops` says, unless there are too many methods: by
 -- one law for all roles (`role_tells`), and one for terms inside one another (`walk_tells`, `all_tell`).
-use Rattle.std.proofs.Common.{◌≡◌, ℕ, ◌+◌, true, false, cond, ◌≤◌, ◌<◌, List, [], ◌∷◌, Option, Some, None, Result, Err, refl, ap, subst, ◌⊎◌, inl}
-use Rattle.std.proofs.Common.{inr, arith, nat_le}
+use Rattle.std.proofs.Common.{◌≡◌, ℕ, ◌+◌, true, false, cond, ◌≤◌, ◌<◌, List, [], ◌∷◌, Option, Some, None, Result, Err, refl, ap, subst, ◌⊎◌, inl, inr, arith}
+use Rattle.std.proofs.Common.{nat_le}
 use Rattle.std.specs.Prelude.{Bool}
 use Rattle.std.proofs.lemmas.Bool.Decides.{nat_tests}
 use Rattle.aml_names.specs.declared.segments.Seg.{Seg}
 use Rattle.aml_names.specs.declared.names.Name.{Name}
 use Rattle.aml_code.specs.Tree.{Tree, op, Trees, no_trees, tree_more, Parts, Tail, terms}
-use Rattle.aml_code.specs.Declaring.{last_label, field_names}
+use Rattle.aml_code.specs.Lawful.{last_label, field_names}
 use Rattle.aml_space.specs.declared.kinds.Kind.TheVariants as kinds
 use Rattle.aml_space.specs.declared.faults.SpaceFault.TheVariants as faults
-use Rattle.aml_space.specs.Entries.{Entry, declares, external}
+use Rattle.aml_space.specs.Namespace.{Entry, declares, external}
 use Rattle.aml_load.specs.declared.faults.LoadFault.{LoadFault}
 use Rattle.aml_load.specs.declared.faults.LoadFault.TheVariants as loads
 use Rattle.aml_code.specs.declared.rows.Role.{Role}
 use Rattle.aml_code.specs.declared.rows.Role.TheVariants as roles
-use Rattle.aml_load.specs.Roles.{role_of, kind_of}
-use Rattle.aml_load.specs.Loading.{Listed, plus, with_uses, first_label, byte_of, place_of, IsNew, Leads, target_of, body_start, body_len, method_entry}
-use Rattle.aml_load.specs.Loading.{DeclareUnits, DoesAs, Declares, DeclareInside, DeclareAll}
-use Rattle.aml_load.specs.Walking.{scope_at, source_at, name_at, new_method_at, method_at, alias_at, external_at, fields_at, do_as, walk, walk_inside}
-use Rattle.aml_load.specs.Walking.{walk_all}
+use Rattle.aml_load.specs.Loading.{role_of, kind_of, Listed, plus, with_uses, first_label, byte_of, place_of, IsNew, Leads, target_of, body_start, body_len}
+use Rattle.aml_load.specs.Loading.{method_entry, DeclareUnits, DoesAs, Declares, DeclareInside, DeclareAll}
+use Rattle.aml_load.specs.Walking.{scope_at, source_at, name_at, new_method_at, method_at, alias_at, external_at, fields_at, do_as, walk, walk_inside, walk_all}
 use Rattle.aml_load.specs.Stops.{Unplaced, NotNew, Nowhere, TooMany, StopUnits, StopsAs, Stops, StopInside, StopAll}
 use Rattle.aml_load.proofs.Steps.{Tells, told_as, both, unchanged, count, count_plus, plain_room, entry_more, place_tells, lead_tells, name_tells, new_tells}
 

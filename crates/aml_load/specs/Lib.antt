@@ -1,9 +1,5 @@
-pub mod Roles
-pub mod Uses
 pub mod Loading
-pub mod Walking
 pub mod Stops
+pub mod Walking
 pub mod Views
-pub mod Progresses
-pub mod Bodies
 pub mod Spans

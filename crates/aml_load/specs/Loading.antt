@@ -1,26 +1,106 @@
--- What tables declare (ACPI 6.5, 5.2.11, 5.3 and 20.2.5): one list of entries, in load order and in the order of the
--- text,
--- behind the counts that the user gives.
-use Rattle.std.specs.Prelude.{◌≡◌, ℕ, suc, ◌%◌, ◌≤◌, false, List, [], ◌∷◌, ◌++◌, length, Option, Some, None}
-use Rattle.std.specs.Option.{unwrap_or}
-use Rattle.std.specs.FinSet as set
-use Rattle.aml_names.specs.declared.segments.Seg.{Seg}
-use Rattle.aml_names.specs.declared.names.Name.{Name}
-use Rattle.aml_names.specs.Names.{placed}
-use Rattle.aml_code.specs.Tree.{Tree, op, Trees, no_trees, tree_more, label, Parts, part_more, Tail, terms, body}
-use Rattle.aml_code.specs.Declaring.{last_label, last_byte, field_names}
-use Rattle.aml_code.specs.Meaning.{ReadsModule}
-use Rattle.aml_code.specs.Rows.{row_of}
+-- What the terms of a table do to the namespace, by their opcodes (ACPI 6.5, 20.2.5.1 and 20.2.5.2).
+use Rattle.std.specs.Prelude.{ℕ, Option, Some, None, Bool, true, false, List, [], ◌∷◌, ◌++◌, ◌≡◌, suc, ◌%◌, ◌≤◌, length}
 use Rattle.aml_space.specs.declared.kinds.Kind.{Kind}
 use Rattle.aml_space.specs.declared.kinds.Kind.TheVariants as kinds
-use Rattle.aml_space.specs.Entries.{Entry, Body, Givens, declares, external, given, given_entries, declared_at}
-use Rattle.aml_space.specs.Namespace.{namespace_of, kind_at, found, arity_of}
-use Rattle.aml_load.specs.declared.methods.Method.{Method}
-use Rattle.aml_load.specs.declared.methods.Use.{Use}
+use Rattle.aml_code.specs.declared.rows.Object.{Object}
+use Rattle.aml_code.specs.declared.rows.Object.TheVariants as objects
 use Rattle.aml_code.specs.declared.rows.Role.{Role}
 use Rattle.aml_code.specs.declared.rows.Role.TheVariants as roles
-use Rattle.aml_load.specs.Roles.{role_of, kind_of}
-use Rattle.aml_load.specs.Uses.{kinds_in, parts_uses, tail_uses}
+use Rattle.aml_code.specs.Opcodes.{Row, row_of}
+use Rattle.aml_names.specs.declared.segments.Seg.{Seg}
+use Rattle.aml_names.specs.declared.names.Name.{Name}
+use Rattle.aml_load.specs.declared.methods.Use.{Use}
+use Rattle.aml_code.specs.declared.rows.PartKind.{PartKind}
+use Rattle.aml_code.specs.declared.rows.PartKind.TheVariants as part_kinds
+use Rattle.aml_code.specs.Tree.{Tree, nothing, named, op, Trees, no_trees, tree_more, Part, child, Parts, no_parts}
+use Rattle.aml_code.specs.Tree.{part_more, Tail, elements, fields, Field, connection, Fields, no_fields, field_more}
+use Rattle.aml_code.specs.Tree.{Link, target, buffer, label, terms, body}
+use Rattle.std.specs.Option.{unwrap_or}
+use Rattle.std.specs.FinSet as set
+use Rattle.aml_names.specs.Names.{placed}
+use Rattle.aml_code.specs.Lawful.{last_label, last_byte, field_names, ReadsModule}
+use Rattle.aml_space.specs.Namespace.{Entry, Body, Givens, declares, external, given, given_entries, declared_at}
+use Rattle.aml_space.specs.Namespace.{namespace_of, kind_at, found, arity_of}
+use Rattle.aml_load.specs.declared.methods.Method.{Method}
+
+abbrev pub role_in : Option Row → Role
+role_in None = roles.Other
+role_in (Some r) = r.role
+
+-- the role of an opcode; an opcode that has no row does nothing
+unfoldable pub role_of : ℕ → Role
+role_of opcode = role_in (row_of opcode)
+
+abbrev pub kind_of : Object → Kind
+kind_of objects.Name = kinds.Name
+kind_of objects.Mutex = kinds.Mutex
+kind_of objects.Event = kinds.Event
+kind_of objects.Region = kinds.Region
+kind_of objects.DataRegion = kinds.DataRegion
+kind_of objects.BufferField = kinds.BufferField
+kind_of objects.Device = kinds.Device
+kind_of objects.Processor = kinds.Processor
+kind_of objects.PowerResource = kinds.PowerResource
+kind_of objects.ThermalZone = kinds.ThermalZone
+
+-- ---- The names that stand as TermArgs in a term of a table, outside the terms inside it (ACPI 6.5, 20.2.5).
+
+-- whether a part of this kind is a TermArg
+abbrev pub is_argument : PartKind → Bool
+is_argument part_kinds.Term = true
+is_argument _ = false
+
+abbrev pub kinds_in : Option Row → List PartKind
+kinds_in None = []
+kinds_in (Some r) = r.parts
+
+abbrev pub use_of : ℕ → List Seg → Name → Use
+use_of tb scope n = record { table = tb; scope = scope; name = n }
+
+abbrev pub if_argument : Bool → Use → List Use
+if_argument true u = u ∷ []
+if_argument false u = []
+
+-- the names in a tree of table tb in this scope; the tree itself is a TermArg or isn't; in the order of the text
+abbrev mutual
+  pub uses_in : ℕ → List Seg → Bool → Tree → List Use
+  uses_in tb scope argument nothing = []
+  uses_in tb scope argument (named n ts) = if_argument argument (use_of tb scope n)
+  uses_in tb scope argument (op o w ps r) = parts_uses tb scope (kinds_in (row_of o)) ps ++ tail_uses tb scope r
+
+  pub parts_uses : ℕ → List Seg → List PartKind → Parts → List Use
+  parts_uses tb scope [] ps = []
+  parts_uses tb scope (k ∷ ks) no_parts = []
+  parts_uses tb scope (k ∷ ks) (part_more p ps) = part_uses tb scope (is_argument k) p ++ parts_uses tb scope ks ps
+
+  pub part_uses : ℕ → List Seg → Bool → Part → List Use
+  part_uses tb scope argument (child t) = uses_in tb scope argument t
+  part_uses tb scope argument _ = []
+
+  pub tail_uses : ℕ → List Seg → Tail → List Use
+  tail_uses tb scope (elements ts) = elements_uses tb scope ts
+  tail_uses tb scope (fields us) = fields_uses tb scope us
+  tail_uses tb scope _ = []
+
+  pub elements_uses : ℕ → List Seg → Trees → List Use
+  elements_uses tb scope no_trees = []
+  elements_uses tb scope (tree_more t ts) = uses_in tb scope false t ++ elements_uses tb scope ts
+
+  pub fields_uses : ℕ → List Seg → Fields → List Use
+  fields_uses tb scope no_fields = []
+  fields_uses tb scope (field_more u us) = field_uses tb scope u ++ fields_uses tb scope us
+
+  pub field_uses : ℕ → List Seg → Field → List Use
+  field_uses tb scope (connection l) = link_uses tb scope l
+  field_uses tb scope _ = []
+
+  pub link_uses : ℕ → List Seg → Link → List Use
+  link_uses tb scope (target n) = []
+  link_uses tb scope (buffer t) = uses_in tb scope false t
+
+-- ---- What tables declare (ACPI 6.5, 5.2.11, 5.3 and 20.2.5): one list of entries, in load order and in the order of the
+-- text,
+-- behind the counts that the user gives.
 
 -- The entries, and the names that may not take arguments once all entries are there.
 pub record Listed : Type 0 where

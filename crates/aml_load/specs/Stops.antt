@@ -5,20 +5,19 @@ use Rattle.aml_names.specs.declared.segments.Seg.{Seg}
 use Rattle.aml_names.specs.declared.names.Name.{Name}
 use Rattle.aml_names.specs.declared.faults.CodeFault.{CodeFault}
 use Rattle.aml_code.specs.Faults.{StandsAt}
-use Rattle.aml_code.specs.Meaning.{ReadsModule, no_arguments}
+use Rattle.aml_code.specs.Lawful.{ReadsModule, no_arguments, last_label, field_names}
 use Rattle.aml_code.specs.Tree.{Tree, op, Trees, no_trees, tree_more, Parts, Tail, terms}
-use Rattle.aml_code.specs.Declaring.{last_label, field_names}
 use Rattle.aml_space.specs.declared.faults.SpaceFault.TheVariants as faults
 use Rattle.aml_space.specs.declared.kinds.Kind.TheVariants as kinds
-use Rattle.aml_space.specs.Entries.{Entry, Givens, declares, declared_at}
+use Rattle.aml_space.specs.Namespace.{Entry, Givens, declares, declared_at}
 use Rattle.aml_load.specs.declared.faults.LoadFault.{LoadFault}
 use Rattle.aml_load.specs.declared.faults.LoadFault.TheVariants as loads
 use Rattle.aml_load.specs.declared.methods.Use.{Use}
 use Rattle.aml_code.specs.declared.rows.Role.{Role}
 use Rattle.aml_code.specs.declared.rows.Role.TheVariants as roles
-use Rattle.aml_load.specs.Roles.{role_of, kind_of}
-use Rattle.aml_load.specs.Loading.{Listed, first_listed, plus, with_uses, first_label, place_of, lead_of, IsNew, Leads}
-use Rattle.aml_load.specs.Loading.{Declares, DeclareAll, DeclareTables, ReadTables, methods_of, use_count}
+use Rattle.aml_load.specs.Loading.{role_of, kind_of, Listed, first_listed, plus, with_uses, first_label, place_of}
+use Rattle.aml_load.specs.Loading.{lead_of, IsNew, Leads, Declares, DeclareAll, DeclareTables, ReadTables, methods_of}
+use Rattle.aml_load.specs.Loading.{use_count}
 use Rattle.aml_load.specs.Walking.{code_fault}
 
 -- a name has no path in a scope: its prefixes lead above the root

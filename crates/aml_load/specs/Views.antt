@@ -1,15 +1,23 @@
 -- What a loaded set of tables holds, apart from where it lies in memory.
-use Rattle.std.specs.Prelude.{◌≡◌, ℕ, List, [], ◌∷◌, map, Option, Some, None, slice_get, ◌≤◌, length}
+use Rattle.std.specs.Prelude.{◌≡◌, ℕ, List, [], ◌∷◌, map, Option, Some, None, slice_get, ◌≤◌, length, ◌≢◌, Bool, ◌⊎◌}
+use Rattle.std.specs.Prelude.{Result, Ok, Err}
 use Rattle.std.specs.Global.{Vec}
 use denote.Ref.{Bor}
 use Rattle.aml_code.specs.declared.tree.Node.{Node}
-use Rattle.aml_code.specs.Tree.{Trees}
-use Rattle.aml_code.specs.Encoding.{slice_of, encodings}
+use Rattle.aml_code.specs.Tree.{Trees, slice_of, encodings}
 use Rattle.aml_code.specs.View.{nodes_view}
 use Rattle.aml_space.specs.Known.{StandsFor}
 use Rattle.aml_load.specs.declared.loading.Loaded.{Loaded}
 use Rattle.aml_load.specs.declared.methods.Method.{Method}
 use Rattle.aml_load.specs.Loading.{Listed, methods_of}
+use Rattle.aml_names.specs.declared.faults.CodeFault.{CodeFault}
+use Rattle.aml_names.specs.declared.faults.CodeFault.TheVariants as codes
+use Rattle.aml_names.specs.NameReading.{Gives}
+use Rattle.aml_code.specs.declared.rows.Position.TheVariants as positions
+use Rattle.aml_code.specs.Faults.{StandsAt}
+use Rattle.aml_code.specs.Lawful.{ReadsBody}
+use Rattle.aml_parse.specs.Reading.{all_at}
+use Rattle.aml_space.specs.Namespace.{Entry, namespace_of, arity_of}
 
 abbrev pub codes_view : List (Bor (List ℕ)) → List (List ℕ)
 codes_view codes = map (λ c. c.now) codes
@@ -52,3 +60,39 @@ encoded_in _ _ = []
 -- the bytes of the tree of a table
 abbrev pub table_encoding : Loaded → ℕ → List ℕ
 table_encoding x t = encoded_in (slice_get (codes_view x.tables.items) t) (slice_get (trees_view x.trees.items) t)
+
+-- ---- The bodies of methods, each read in the namespace of all entries (ACPI 6.5, 5.3 and 20.2.5).
+
+-- the body of a method reads as these terms
+abbrev pub IsBody : Bool → List Entry → List (List ℕ) → Method → Trees → Type 0
+IsBody unknown_zero es tables m ts = ReadsBody (arity_of (namespace_of es) unknown_zero m.path) m.path
+    (span_of tables m) ts
+
+-- the body of a method reads as no terms, for this reason, which is true of the byte at its offset in the body
+pub record IsUnread (unknown_zero : Bool) (es : List Entry) (tables : List (List ℕ)) (m : Method)
+    (f : CodeFault) : Type 0 where
+  pub reason : f ≢ codes.NoMemory
+  pub stands : StandsAt (arity_of (namespace_of es) unknown_zero m.path) (span_of tables m) f
+  pub none : (ts : Trees) → IsBody unknown_zero es tables m ts → ⊥
+
+-- the body of a method reads as these terms and as no others, or it reads as none
+abbrev pub IsReading : {X : Type 0} → (X → Trees) → Bool → List Entry → List (List ℕ) → Method → Result X CodeFault
+    → Type 0
+IsReading view z es tables m (Ok x) = IsBody z es tables m (view x)
+    × ((ts : Trees) → IsBody z es tables m ts → ts ≡ view x)
+IsReading view z es tables m (Err f) = (f ≡ codes.NoMemory) ⊎ IsUnread z es tables m f
+
+-- Reading the body of a method forward, in the namespace of the entries: its terms, or the first fault that is met.
+abbrev pub body_at : Bool → List Entry → List (List ℕ) → Method → Result Trees CodeFault
+body_at unknown_zero es tables m =
+    all_at (arity_of (namespace_of es) unknown_zero m.path) (Some m.path) positions.BodyTerm (span_of tables m)
+
+-- What was answered of a method's body, seen by a view, is what reading it forward gives, unless memory was refused.
+abbrev pub GivesBody : {X : Type 0} → (X → Trees) → Bool → List Entry → List (List ℕ) → Method → Result X CodeFault
+    → Type 0
+GivesBody view unknown_zero es tables m answer = Gives view answer (body_at unknown_zero es tables m)
+
+-- a fact of the method with this number, if there is one
+abbrev pub OfMethod : Option Method → (Method → Type 0) → Type 0
+OfMethod None P = Unit {0}
+OfMethod (Some m) P = P m

@@ -3,32 +3,33 @@
 -- which of several faults a load answers. What it means that tables load is said without it, by `IsLoad` in `Loading`,
 -- and what a fault says of its place by `StopsLoad` in `Stops`.
 use Rattle.std.specs.Prelude.{◌≡◌, ◌⊎◌, ℕ, suc, List, [], ◌∷◌, ◌++◌, length, nat_le, nat_lt, is_some, Option, Some}
-use Rattle.std.specs.Prelude.{None, Result, Ok, Err, if◌then◌else◌}
+use Rattle.std.specs.Prelude.{None, Result, Ok, Err, if◌then◌else◌, get_or, ◌<◌}
 use Rattle.std.specs.Option.{unwrap_or}
 use Rattle.aml_names.specs.declared.segments.Seg.{Seg}
 use Rattle.aml_names.specs.declared.names.Name.{Name}
 use Rattle.aml_names.specs.declared.faults.CodeFault.{CodeFault}
 use Rattle.aml_names.specs.declared.faults.CodeFault.TheVariants as codes
 use Rattle.aml_code.specs.declared.rows.Position.TheVariants as positions
-use Rattle.aml_code.specs.Meaning.{no_arguments}
+use Rattle.aml_code.specs.Lawful.{no_arguments, last_label, field_names}
 use Rattle.aml_code.specs.Tree.{Tree, op, Trees, no_trees, tree_more, Parts, Tail, terms}
-use Rattle.aml_code.specs.Declaring.{last_label, field_names}
 use Rattle.aml_parse.specs.Reading.{all_at}
 use Rattle.aml_space.specs.declared.faults.SpaceFault.{SpaceFault}
 use Rattle.aml_space.specs.declared.faults.SpaceFault.TheVariants as faults
 use Rattle.aml_space.specs.declared.kinds.Kind.{Kind}
 use Rattle.aml_space.specs.declared.kinds.Kind.TheVariants as kinds
-use Rattle.aml_space.specs.Entries.{Entry, Givens, declares, external, declared_at}
+use Rattle.aml_space.specs.Namespace.{Entry, Givens, declares, external, declared_at}
 use Rattle.aml_load.specs.declared.faults.LoadFault.{LoadFault}
 use Rattle.aml_load.specs.declared.faults.LoadFault.TheVariants as loads
 use Rattle.aml_load.specs.declared.loading.Loaded.{Loaded}
 use Rattle.aml_load.specs.declared.methods.Use.{Use}
 use Rattle.aml_code.specs.declared.rows.Role.{Role}
 use Rattle.aml_code.specs.declared.rows.Role.TheVariants as roles
-use Rattle.aml_load.specs.Roles.{role_of, kind_of}
-use Rattle.aml_load.specs.Loading.{Listed, first_listed, plus, with_uses, first_label, byte_of, place_of, lead_of}
-use Rattle.aml_load.specs.Loading.{target_of, body_start, body_len, method_entry, methods_of, use_count}
+use Rattle.aml_load.specs.Loading.{role_of, kind_of, Listed, first_listed, plus, with_uses, first_label, byte_of}
+use Rattle.aml_load.specs.Loading.{place_of, lead_of, target_of, body_start, body_len, method_entry, methods_of}
+use Rattle.aml_load.specs.Loading.{use_count}
 use Rattle.aml_load.specs.Views.{HoldsLoad}
+use Rattle.aml_space.specs.Known.{Known, StandsFor}
+use Rattle.aml_load.specs.declared.walking.Progress.{Progress}
 
 -- one step, and another over what it answered: the first fault is the fault of both
 infixl 10 ◌>>=◌
@@ -202,3 +203,52 @@ abbrev pub GivesLoad : Givens → Result Loaded LoadFault → List (List ℕ) �
 GivesLoad gs (Ok x) codes =
     (trees : List Trees) × (m : Listed) × HoldsLoad x codes trees m × (load_at gs codes ≡ Ok (trees, m))
 GivesLoad gs (Err e) codes = Fails e (load_at gs codes)
+
+-- ---- A stepping stone: what the load holds so far, and what a step of it gives, as `Walking` says it.
+
+-- numbers that are bytes
+abbrev pub IsCode : List ℕ → Type 0
+IsCode code = (i : ℕ) → get_or code i 0 < 256
+
+abbrev pub AreCodes : List (List ℕ) → Type 0
+AreCodes [] = Unit {0}
+AreCodes (c ∷ cs) = IsCode c × AreCodes cs
+
+-- the namespace, the methods and the uses so far are those of what is listed
+pub record Holds (p : Progress) (l : Listed) : Type 0 where
+  pub space : StandsFor p.space l.entries
+  pub methods : p.methods.items ≡ methods_of l.entries
+  pub uses : p.uses.items ≡ l.uses
+
+-- what a function answered, seen by a view, is what the walk gives, unless memory was refused
+abbrev pub Gives : {X Y : Type 0} → (X → Y) → Result X LoadFault → Result Y LoadFault → Type 0
+Gives view (Ok x) walk = walk ≡ Ok (view x)
+Gives view (Err e) walk = Fails e walk
+
+-- what a function made of the progress is what the walk gives, unless memory was refused
+abbrev pub Walked : {X : Type 0} → Progress → Result X LoadFault → Result Listed LoadFault → Type 0
+Walked new (Ok x) walk = (m : Listed) × Holds new m × (walk ≡ Ok m)
+Walked new (Err e) walk = Fails e walk
+
+-- the same, with another answer besides
+abbrev pub WalkedTo : {X Y : Type 0} → (X → Y) → Progress → Result X LoadFault → Result (Listed × Y) LoadFault → Type 0
+WalkedTo view new (Ok x) walk = (m : Listed) × Holds new m × (walk ≡ Ok (m, view x))
+WalkedTo view new (Err e) walk = Fails e walk
+
+-- what a function made of the progress before it, whatever that holds
+abbrev pub Walks : {X : Type 0} → Progress → Progress → Result X LoadFault → (Listed → Result Listed LoadFault) → Type 0
+Walks old new answer walk = (l : Listed) → Holds old l → Walked new answer (walk l)
+
+abbrev pub WalksTo : {X Y : Type 0} → (X → Y) → Progress → Progress → Result X LoadFault
+    → (Listed → Result (Listed × Y) LoadFault) → Type 0
+WalksTo view old new answer walk = (l : Listed) → Holds old l → WalkedTo view new answer (walk l)
+
+-- what a function answers of the namespace, whatever that stands for
+abbrev pub GivesIn : {X Y : Type 0} → (X → Y) → Known → Result X LoadFault → (Listed → Result Y LoadFault) → Type 0
+GivesIn view space answer walk = (l : Listed) → StandsFor space l.entries → Gives view answer (walk l)
+
+-- the same, with the trees before what is listed
+abbrev pub TableWalked : {X Y : Type 0} → (X → Y) → Progress → Result X LoadFault → Result (Y × Listed) LoadFault
+    → Type 0
+TableWalked view new (Ok x) walk = (m : Listed) × Holds new m × (walk ≡ Ok (view x, m))
+TableWalked view new (Err e) walk = Fails e walk

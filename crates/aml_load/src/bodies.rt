@@ -1,10 +1,9 @@
 //! The bodies of methods.
 ghost use Rattle.std.specs.Prelude.{◌≡◌, List};
 ghost use Rattle.aml_code.specs.View.{nodes_view};
-ghost use Rattle.aml_space.specs.Entries.{Entry};
+ghost use Rattle.aml_space.specs.Namespace.{Entry};
 ghost use Rattle.aml_space.specs.Known.{StandsFor};
-ghost use Rattle.aml_load.specs.Bodies.{IsReading, GivesBody};
-ghost use Rattle.aml_load.specs.Views.{span_of, codes_view, AreShort};
+ghost use Rattle.aml_load.specs.Views.{IsReading, GivesBody, span_of, codes_view, AreShort};
 
 use crate::methods::Method;
 use aml_code::{CodeFault, Node, slice};

@@ -3,13 +3,12 @@ ghost use Rattle.std.specs.Prelude.{◌≡◌, ◌⊎◌, [], List, IfOk, IfErr,
 ghost use Rattle.std.specs.Option.{unwrap_or};
 ghost use Rattle.aml_code.specs.Tree.{Trees};
 ghost use Rattle.aml_code.specs.View.{nodes_view};
-ghost use Rattle.aml_space.specs.Entries.{given_entries};
+ghost use Rattle.aml_space.specs.Namespace.{given_entries};
 ghost use Rattle.aml_space.specs.Known.{StandsFor};
 ghost use Rattle.aml_load.specs.Loading.{Listed, first_listed, IsLoad, use_count};
-ghost use Rattle.aml_load.specs.Walking.{table_at, tables_at, uses_at, GivesLoad};
+ghost use Rattle.aml_load.specs.Walking.{table_at, tables_at, uses_at, GivesLoad, IsCode, AreCodes, Holds, Gives, TableWalked};
 ghost use Rattle.aml_load.specs.Stops.{StopsLoad};
 ghost use Rattle.aml_load.specs.Views.{codes_view, trees_view, AreShort, HoldsLoad, body_of, table_encoding};
-ghost use Rattle.aml_load.specs.Progresses.{IsCode, AreCodes, Holds, Gives, TableWalked};
 
 use crate::faults::LoadFault;
 use crate::methods::{Method, Use};

@@ -1,6 +1,6 @@
 //! What the terms of a table do to the namespace.
 ghost use Rattle.std.specs.Prelude.{◌≡◌};
-ghost use Rattle.aml_load.specs.Roles.{role_of, kind_of};
+ghost use Rattle.aml_load.specs.Loading.{role_of, kind_of};
 
 use aml_code::{Object, Role, listed_row};
 use aml_space::Kind;

@@ -1,8 +1,8 @@
 //! The names that stand as TermArgs outside the methods.
 ghost use Rattle.std.specs.Prelude.{◌≡◌, ◌++◌, ◌∷◌, [], OnOk, false};
 ghost use Rattle.aml_code.specs.View.{node_view, nodes_view, part_view, parts_view, tail_view, field_view, fields_view, link_view};
-ghost use Rattle.aml_code.specs.Rows.{row_of};
-ghost use Rattle.aml_load.specs.Uses.{is_argument, kinds_in, use_of, uses_in, part_uses, parts_uses, tail_uses, elements_uses, fields_uses, field_uses, link_uses};
+ghost use Rattle.aml_code.specs.Opcodes.{row_of};
+ghost use Rattle.aml_load.specs.Loading.{is_argument, kinds_in, use_of, uses_in, part_uses, parts_uses, tail_uses, elements_uses, fields_uses, field_uses, link_uses};
 
 use crate::methods::Use;
 use crate::scopes::SharedPath;

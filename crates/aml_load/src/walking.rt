@@ -1,14 +1,13 @@
 //! What the terms of a table declare.
 ghost use Rattle.std.specs.Prelude.{◌≡◌, ◌%◌, ◌∷◌, [], None, IfOk};
 ghost use Rattle.std.specs.Option.{option_copied};
-ghost use Rattle.aml_code.specs.Declaring.{last_label, field_names, plain_name, unit_names};
+ghost use Rattle.aml_code.specs.Lawful.{last_label, field_names, plain_name, unit_names};
 ghost use Rattle.aml_code.specs.Tree.{no_fields, field_more};
 ghost use Rattle.aml_code.specs.View.{node_view, nodes_view, parts_view, tail_view, fields_view, field_view};
-ghost use Rattle.aml_space.specs.Entries.{declares, external as outside};
+ghost use Rattle.aml_space.specs.Namespace.{declares, external as outside};
 ghost use Rattle.aml_space.specs.Known.{StandsFor};
 ghost use Rattle.aml_load.specs.Loading.{Listed, plus, method_entry, first_label, byte_of, lead_of, target_of, body_start, body_len};
-ghost use Rattle.aml_load.specs.Walking.{listed, led_at, place_at, scope_at, source_at, entry_at, new_at, name_at, new_method_at, method_at, alias_at, external_at, fields_at, do_as, walk, walk_inside, walk_all};
-ghost use Rattle.aml_load.specs.Progresses.{Gives, GivesIn, Walks, WalksTo};
+ghost use Rattle.aml_load.specs.Walking.{listed, led_at, place_at, scope_at, source_at, entry_at, new_at, name_at, new_method_at, method_at, alias_at, external_at, fields_at, do_as, walk, walk_inside, walk_all, Gives, GivesIn, Walks, WalksTo};
 
 use crate::faults::LoadFault;
 use crate::methods::{Method, Use};

@@ -2,8 +2,8 @@
 -- true where a path is added (`known_pushed`, `known_root`), where a segment alone is made known and set back
 -- (`known_room`, `known_back`), and answers what a look at the paths would (`known_end`, `known_depth`).
 use Rattle.std.specs.Prelude.{slice_get}
-use Rattle.std.proofs.Common.{◌≡◌, ℕ, zero, suc, ◌+◌, ◌-◌, ◌<◌, ◌≤◌, ◌==◌, Bool, true, false, ◌||◌, cond, List, [], ◌∷◌, ◌++◌, length, take}
-use Rattle.std.proofs.Common.{drop, Option, Some, None, IfSome, is_some, Result, Ok, Err, OnOk, OnErr, refl, sym, ap, subst, ◌∙◌, arith, length-append}
+use Rattle.std.proofs.Common.{◌≡◌, ℕ, zero, suc, ◌+◌, ◌-◌, ◌<◌, ◌≤◌, ◌==◌, Bool, true, false, ◌||◌, cond, List, [], ◌∷◌, ◌++◌, length, take, drop, Option, Some}
+use Rattle.std.proofs.Common.{None, IfSome, is_some, Result, Ok, Err, OnOk, OnErr, refl, sym, ap, subst, ◌∙◌, arith, length-append}
 use Rattle.std.proofs.lemmas.Bool.{false≢true, eqb-true, eqb-false, cond_both, false_from_ne_true}
 use Rattle.std.proofs.lemmas.Bool.Decides.{nat_tests}
 use Rattle.std.proofs.lemmas.List.{take-take, take-append-le, take_all, take_at, take_more, length-take, length-take-le}
@@ -17,10 +17,8 @@ use Rattle.std.specs.Map.{lookup}
 use Rattle.std.specs.List.{list_any}
 use Rattle.std.specs.FinSet as set
 use Rattle.aml_names.specs.declared.segments.Seg.{Seg}
-use Rattle.aml_names.specs.Paths.{PathSet, seg_cmp, path_cmp, segs_total, paths_total, exact_segs, exact_paths}
-use Rattle.aml_names.specs.Searching.{greatest, nearest}
-use Rattle.aml_names.specs.Lengths.{HaveLengths}
-use Rattle.aml_names.specs.Ends.{IsKnown, KnowEnds, deeper, depth_known}
+use Rattle.aml_names.specs.Paths.{PathSet, seg_cmp, path_cmp, segs_total, paths_total, exact_segs, exact_paths, HaveLengths}
+use Rattle.aml_names.specs.Searching.{greatest, nearest, IsKnown, KnowEnds, deeper, depth_known}
 
 module _ (a b : ℕ → Bool) where
   pub greatest_same : (n : ℕ) → ((d : ℕ) → d ≤ n → a d ≡ b d) → greatest a n ≡ greatest b n

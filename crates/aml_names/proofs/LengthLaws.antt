@@ -7,8 +7,7 @@ use Rattle.std.specs.Cmp.{eq_by_cmp_equiv, nat_cmp_total}
 use Rattle.std.specs.List.{list_any}
 use Rattle.std.specs.BTreeMap.{is_at}
 use Rattle.aml_names.specs.declared.segments.Seg.{Seg}
-use Rattle.aml_names.specs.Paths.{path_cmp, exact_paths}
-use Rattle.aml_names.specs.Lengths.{HaveLengths}
+use Rattle.aml_names.specs.Paths.{path_cmp, exact_paths, HaveLengths}
 
 abbrev has_path : List (List Seg) → List Seg → Bool
 has_path paths q = list_any (is_at (path_cmp q)) paths

@@ -6,8 +6,7 @@ use Rattle.std.proofs.lemmas.Bool.{cond_both, or_parts}
 use Rattle.aml_names.specs.declared.faults.CodeFault.{CodeFault}
 use Rattle.aml_names.specs.declared.segments.Seg.{Seg}
 use Rattle.aml_names.specs.Names.{is_lead_char, is_name_char, IsNameSeg}
-use Rattle.aml_names.specs.Steps.{◌>>=◌, Left}
-use Rattle.aml_names.specs.NameReading.{passing_at, segment_at, NameFault}
+use Rattle.aml_names.specs.NameReading.{◌>>=◌, Left, passing_at, segment_at, NameFault}
 
 -- what a step has read
 abbrev pub Reads : List ℕ → List ℕ → Type 0

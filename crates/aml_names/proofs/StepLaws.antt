@@ -5,7 +5,7 @@ use Rattle.std.proofs.lemmas.Bool.{cases_lt}
 use Rattle.std.proofs.lemmas.List.{length-take, get_or-drop, get_or-take, get_or_past}
 use Rattle.aml_names.specs.declared.faults.CodeFault.{CodeFault}
 use Rattle.aml_names.specs.declared.faults.CodeFault.TheVariants as faults
-use Rattle.aml_names.specs.Steps.{◌>>=◌, byte_at}
+use Rattle.aml_names.specs.NameReading.{◌>>=◌, byte_at}
 
 abbrev done : {A : Type 0} → A → Result A CodeFault
 done x = Ok x

@@ -1,6 +1,7 @@
--- Reading a name from left to right (ACPI 6.5, 20.2.2).
-use Rattle.std.specs.Prelude.{◌≡◌, ℕ, zero, suc, ◌-◌, ◌≤◌, Bool, true, false, ◌&&◌, ◌==◌, nat_lt, if◌then◌else◌, List}
-use Rattle.std.specs.Prelude.{[], ◌∷◌, ◌++◌, length, take, drop, Ok, Err, ◌⊎◌}
+-- Reading bytes forward, one step after the other (ACPI 6.5, 20.2). A step is handed where the innermost span ends, as
+-- an offset in the code, and what is left of that span. It answers what it read and what it left, or the first fault.
+use Rattle.std.specs.Prelude.{◌≡◌, ℕ, List, [], ◌∷◌, Result, Ok, Err, ◌⊎◌, zero, suc, ◌-◌, ◌≤◌, Bool, true, false, ◌&&◌}
+use Rattle.std.specs.Prelude.{◌==◌, nat_lt, if◌then◌else◌, ◌++◌, length, take, drop}
 use Rattle.aml_names.specs.declared.faults.CodeFault.{CodeFault}
 use Rattle.aml_names.specs.declared.faults.CodeFault.TheVariants as faults
 use Rattle.aml_names.specs.declared.segments.Seg.{Seg}
@@ -8,7 +9,32 @@ use Rattle.aml_names.specs.declared.names.Name.{Name}
 use Rattle.aml_names.specs.declared.names.NameForm.{NameForm}
 use Rattle.aml_names.specs.declared.names.NameForm.TheVariants.{Null, One, Dual, Multi}
 use Rattle.aml_names.specs.Names.{is_lead_char, is_name_char, IsName, spelling}
-use Rattle.aml_names.specs.Steps.{◌>>=◌, Left, byte_at}
+
+-- one step, and another over what it answered
+infixl 10 ◌>>=◌
+abbrev pub ◌>>=◌ : {A B : Type 0} → Result A CodeFault → (A → Result B CodeFault) → Result B CodeFault
+(Ok x) >>= f = f x
+(Err e) >>= f = Err e
+
+-- a function that refused by this fault: memory was refused, or reading gives the fault
+abbrev pub Fails : {Y : Type 0} → CodeFault → Result Y CodeFault → Type 0
+Fails e read = (e ≡ faults.NoMemory) ⊎ (read ≡ Err e)
+
+-- what a function answered, seen by a view, is what reading gives, unless memory was refused
+abbrev pub Gives : {X Y : Type 0} → (X → Y) → Result X CodeFault → Result Y CodeFault → Type 0
+Gives view (Ok x) read = read ≡ Ok (view x)
+Gives view (Err e) read = Fails e read
+
+-- what was read, and what is left
+abbrev pub Left : Type 0 → Type 0
+Left A = Result (A × List ℕ) CodeFault
+
+-- one byte
+abbrev pub byte_at : ℕ → List ℕ → Left ℕ
+byte_at end [] = Err (faults.Truncated end)
+byte_at end (b ∷ rest) = Ok (b, rest)
+
+-- ---- Reading a name from left to right (ACPI 6.5, 20.2.2).
 
 -- a byte that passes a test: one that doesn't can't stand there
 abbrev pub passing_at : (ℕ → Bool) → ℕ → List ℕ → Left ℕ

@@ -1,11 +1,12 @@
 -- Which paths a name may mean in a scope (ACPI 6.5, 5.3).
 use Rattle.std.specs.Prelude.{ℕ, zero, suc, Bool, not, ◌&&◌, ◌==◌, cond, List, [], ◌∷◌, ◌++◌, length, take, Option}
-use Rattle.std.specs.Prelude.{Some, None}
+use Rattle.std.specs.Prelude.{Some, None, ◌≡◌, nat_le, false}
 use Rattle.aml_names.specs.declared.segments.Seg.{Seg}
 use Rattle.aml_names.specs.declared.names.Name.{Name}
 use Rattle.std.specs.FinSet as set
 use Rattle.aml_names.specs.Names.{placed}
 use Rattle.aml_names.specs.Paths.{PathSet}
+use Rattle.std.specs.Option.{option_and_then}
 
 -- one segment without prefix, in any spelling: such a name is searched upward
 abbrev pub is_single : Name → Bool
@@ -34,3 +35,22 @@ the_one (Some p) = p ∷ []
 -- the root
 abbrev pub candidates : List Seg → Name → List (List Seg)
 candidates scope name = cond (is_single name) (upward (length scope) scope name.segs) (the_one (placed scope name))
+
+-- ---- A stepping stone of the proofs: the last segments of some paths.
+
+-- what is known of the paths that end in a segment: there are none, or the nearest in a scope
+abbrev pub IsKnown : PathSet → List Seg → Seg → Option (Option ℕ) → Type 0
+IsKnown paths scope end None = (front : List Seg) → set.contains paths (front ++ end ∷ []) ≡ false
+IsKnown paths scope end (Some depth) = depth ≡ nearest paths scope (end ∷ [])
+
+abbrev pub KnowEnds : PathSet → List Seg → (Seg → Option (Option ℕ)) → Type 0
+KnowEnds paths scope known = (end : Seg) → IsKnown paths scope end (known end)
+
+-- the greater of two depths
+abbrev pub deeper : Option ℕ → Option ℕ → Option ℕ
+deeper None known = known
+deeper (Some depth) None = Some depth
+deeper (Some depth) (Some known) = Some (cond (nat_le depth known) known depth)
+
+abbrev pub depth_known : Option (Option ℕ) → Option ℕ
+depth_known o = option_and_then (λ depth. depth) o

@@ -6,8 +6,7 @@ ghost use Rattle.std.specs.BTreeMap.{is_at, get, IsUnchanged};
 ghost use Rattle.std.specs.FinSet as set;
 ghost use Rattle.aml_names.specs.declared.segments.Seg.{Seg};
 ghost use Rattle.aml_names.specs.Paths.{seg_cmp, path_cmp};
-ghost use Rattle.aml_names.specs.Searching.{nearest};
-ghost use Rattle.aml_names.specs.Ends.{deeper, depth_known};
+ghost use Rattle.aml_names.specs.Searching.{nearest, deeper, depth_known};
 
 use crate::faults::NoMemory;
 use crate::paths::{Path, same_segs};
@@ -33,9 +32,8 @@ pub struct Locals {
 impl Model for Locals {
     ghost use Rattle.std.specs.FinSet as set;
     ghost use Rattle.std.specs.BTreeMap.{get};
-    ghost use Rattle.aml_names.specs.Paths.{seg_cmp, path_cmp, coded_path};
-    ghost use Rattle.aml_names.specs.Lengths.{HaveLengths};
-    ghost use Rattle.aml_names.specs.Ends.{KnowEnds};
+    ghost use Rattle.aml_names.specs.Paths.{seg_cmp, path_cmp, coded_path, HaveLengths};
+    ghost use Rattle.aml_names.specs.Searching.{KnowEnds};
 
     ghost Value = { set.FinSet path_cmp };
 

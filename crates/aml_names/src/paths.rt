@@ -3,8 +3,7 @@ ghost use Rattle.std.specs.Prelude.{◌≡◌, [], ◌++◌, ◌≤◌, ◌-◌,
 ghost use Rattle.std.specs.Ordering.{eq_by_cmp};
 ghost use Rattle.std.specs.Cmp.{partial_equiv_from_equiv, partial_order_from_total, eq_by_cmp_equiv};
 ghost use Rattle.std.specs.Fmt.{WritesOnOk};
-ghost use Rattle.aml_names.specs.Paths.{path_cmp, paths_total};
-ghost use Rattle.aml_names.specs.PathTexts.{joined_text};
+ghost use Rattle.aml_names.specs.Paths.{path_cmp, paths_total, joined_text};
 
 use crate::segments::Seg;
 use smallvec::SmallVec;
@@ -92,7 +91,7 @@ impl Path {
 
 /// `\` and the segments, joined by `.`.
 impl fmt::Display for Path {
-    ghost use Rattle.aml_names.specs.PathTexts.{path_text};
+    ghost use Rattle.aml_names.specs.Paths.{path_text};
 
     ghost output = { λ path. Some (path_text path) };
 

@@ -56,7 +56,7 @@ fn in_order(a: Seg, b: Seg) -> Ordering
 
 /// Each byte as the character of that number.
 impl fmt::Display for Seg {
-    ghost use Rattle.aml_names.specs.PathTexts.{segment_text};
+    ghost use Rattle.aml_names.specs.Paths.{segment_text};
 
     ghost output = { λ s. Some (segment_text s) };
 

@@ -1,6 +1,6 @@
 //! The first steps of reading bytes forward.
 ghost use Rattle.std.specs.Prelude.{◌≡◌, ◌≢◌, ◌-◌, length, IfErr};
-ghost use Rattle.aml_names.specs.Steps.{Gives, byte_at};
+ghost use Rattle.aml_names.specs.NameReading.{Gives, byte_at};
 
 use crate::faults::CodeFault;
 

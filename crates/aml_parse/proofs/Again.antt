@@ -8,9 +8,8 @@ use Rattle.std.proofs.lemmas.List.{length-append, append-nil, length-take, lengt
 use Rattle.aml_names.specs.declared.faults.CodeFault.{CodeFault}
 use Rattle.aml_names.specs.declared.names.Name.{Name}
 use Rattle.aml_names.specs.Names.{is_lead_char, IsNameSeg, IsName, spelling, is_name_lead}
-use Rattle.aml_names.specs.NameReading.{is_bare}
+use Rattle.aml_names.specs.NameReading.{is_bare, ◌>>=◌}
 use Rattle.aml_names.specs.Paths.{PathSet}
-use Rattle.aml_names.specs.Steps.{◌>>=◌}
 use Rattle.aml_names.proofs.NameLaws.{name_again, name_lead}
 use Rattle.aml_code.specs.declared.packages.PkgWidth.{PkgWidth}
 use Rattle.aml_code.specs.declared.rows.PartKind.{PartKind}
@@ -19,20 +18,16 @@ use Rattle.aml_code.specs.declared.rows.Position.{Position}
 use Rattle.aml_code.specs.declared.rows.Position.TheVariants as positions
 use Rattle.aml_code.specs.declared.rows.TailKind.{TailKind}
 use Rattle.aml_code.specs.declared.rows.TailKind.TheVariants as tails
-use Rattle.aml_code.specs.Opcodes.{Row}
+use Rattle.aml_code.specs.Opcodes.{Row, row_of, has_length, takes}
 use Rattle.aml_code.specs.Packages.{width_len, package_bytes, FitsWidth}
-use Rattle.aml_code.specs.Rows.{row_of, has_length, takes}
 use Rattle.aml_code.specs.Tree.{Tree, nothing, named, op, Trees, no_trees, tree_more, Part, child, label, byte, word, dword, qword, text, Parts, no_parts}
-use Rattle.aml_code.specs.Tree.{part_more, tree_count}
-use Rattle.aml_code.specs.Tree.{Tail, empty, terms, elements, fields, body, Field, unit, reserved, access, connection, extended, Fields, no_fields, field_more}
-use Rattle.aml_code.specs.Tree.{Link, target, buffer}
+use Rattle.aml_code.specs.Tree.{part_more, tree_count, Tail, empty, terms, elements, fields, body, Field, unit, reserved, access, connection, extended, Fields}
+use Rattle.aml_code.specs.Tree.{no_fields, field_more, Link, target, buffer, opcode_bytes, packed, slice_of, encoding, encodings, part_encoding, parts_encoding}
+use Rattle.aml_code.specs.Tree.{tail_encoding, field_encoding, fields_encoding, link_encoding}
 use Rattle.aml_code.specs.Tree as trees
-use Rattle.aml_code.specs.Encoding.{opcode_bytes, packed, slice_of, encoding, encodings, part_encoding, parts_encoding, tail_encoding, field_encoding}
-use Rattle.aml_code.specs.Encoding.{fields_encoding, link_encoding}
-use Rattle.aml_code.specs.Declaring.{names_declared, with_declared, declared_by, after, after_all, after_tail}
-use Rattle.aml_code.specs.Lawful.{HasWidth, IsGuarded, is_guard, terms_in, next_position, Setting, IsLawful, AreTerms, IsPart, AreParts, IsTail, IsLink}
-use Rattle.aml_code.specs.Lawful.{IsField, AreFields}
-use Rattle.aml_code.specs.Meaning.{BodyStands, BodiesStand, TailStands}
+use Rattle.aml_code.specs.Lawful.{names_declared, with_declared, declared_by, after, after_all, after_tail, HasWidth, IsGuarded, is_guard, terms_in}
+use Rattle.aml_code.specs.Lawful.{next_position, Setting, IsLawful, AreTerms, IsPart, AreParts, IsTail, IsLink, IsField, AreFields, BodyStands, BodiesStand}
+use Rattle.aml_code.specs.Lawful.{TailStands}
 use Rattle.aml_code.proofs.Answered.{read_on}
 use Rattle.aml_code.proofs.InnerLaws.{is_inner, unchanged, all_unchanged}
 use Rattle.aml_code.proofs.LengthLaws.{span_again, length-package_bytes}

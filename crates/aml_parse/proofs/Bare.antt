@@ -3,14 +3,14 @@ use Rattle.std.proofs.Common.{◌≡◌, ℕ, List, [], ◌∷◌, length, Optio
 use Rattle.aml_names.specs.declared.segments.Seg.{Seg}
 use Rattle.aml_names.specs.declared.faults.CodeFault.{CodeFault}
 use Rattle.aml_names.specs.Paths.{PathSet}
-use Rattle.aml_names.specs.Steps.{◌>>=◌}
+use Rattle.aml_names.specs.NameReading.{◌>>=◌}
 use Rattle.aml_code.specs.Opcodes.{Row}
 use Rattle.aml_code.specs.declared.rows.Position.{Position}
 use Rattle.aml_code.specs.declared.rows.PartKind.{PartKind}
 use Rattle.aml_code.specs.declared.rows.Role.{Role}
 use Rattle.aml_code.specs.declared.rows.Role.TheVariants as roles
 use Rattle.aml_code.specs.Tree.{Tree, op, Parts, no_parts, empty}
-use Rattle.aml_code.specs.Declaring.{names_declared, with_declared}
+use Rattle.aml_code.specs.Lawful.{names_declared, with_declared}
 use Rattle.aml_parse.specs.Reading.{Reader, parts_at, plain_at}
 
 none_declared : (scope : Option (List Seg)) (ls : PathSet) → with_declared scope ls [] ≡ ls

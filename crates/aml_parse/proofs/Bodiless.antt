@@ -7,12 +7,9 @@ use Rattle.aml_code.specs.declared.rows.Position.{Position}
 use Rattle.aml_code.specs.declared.rows.Position.TheVariants as positions
 use Rattle.aml_code.specs.declared.rows.TailKind.{TailKind}
 use Rattle.aml_code.specs.declared.rows.TailKind.TheVariants as tails
-use Rattle.aml_code.specs.Rows.{takes}
-use Rattle.aml_code.specs.Tree.{Tree, nothing, named, op, Trees, no_trees, tree_more, Tail, terms, body}
-use Rattle.aml_code.specs.Encoding.{opcode_bytes, encoding, parts_encoding}
-use Rattle.aml_code.specs.Declaring.{after}
-use Rattle.aml_code.specs.Lawful.{Setting, IsLawful, AreTerms, IsTail, terms_in, is_if, next_position}
-use Rattle.aml_code.specs.Meaning.{length_bytes, BodyStands, BodiesStand, TailStands}
+use Rattle.aml_code.specs.Opcodes.{takes}
+use Rattle.aml_code.specs.Tree.{Tree, nothing, named, op, Trees, no_trees, tree_more, Tail, terms, body, opcode_bytes, encoding, parts_encoding}
+use Rattle.aml_code.specs.Lawful.{after, Setting, IsLawful, AreTerms, IsTail, terms_in, is_if, next_position, length_bytes, BodyStands, BodiesStand, TailStands}
 use Rattle.aml_code.proofs.RowFacts.{body_place}
 use Rattle.aml_parse.specs.Reading.{takes_names}
 

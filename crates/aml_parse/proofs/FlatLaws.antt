@@ -1,6 +1,6 @@
 -- What holds no terms is read again from its bytes, whatever follows them.
-use Rattle.std.proofs.Common.{◌≡◌, ℕ, zero, suc, ◌+◌, ◌-◌, ◌/◌, ◌%◌, ◌^◌, ◌<◌, true, false, cond, eqb, ltb, ◌==◌, List, [], ◌∷◌, ◌++◌, length, get_or}
-use Rattle.std.proofs.Common.{take, drop, Some, None, Ok, Err, refl, sym, ap, subst, ◌∙◌, append_assoc, arith, inl, inr}
+use Rattle.std.proofs.Common.{◌≡◌, ℕ, zero, suc, ◌+◌, ◌-◌, ◌/◌, ◌%◌, ◌^◌, ◌<◌, true, false, cond, eqb, ltb, ◌==◌, List, [], ◌∷◌, ◌++◌, length, get_or, take}
+use Rattle.std.proofs.Common.{drop, Some, None, Ok, Err, refl, sym, ap, subst, ◌∙◌, append_assoc, arith, inl, inr}
 use Rattle.std.specs.Prelude.{position}
 use Rattle.std.specs.List.{position_or_len}
 use Rattle.std.proofs.lemmas.Bool.{ne_eqb, lt-ltb, le-ltb}
@@ -9,15 +9,12 @@ use Rattle.std.proofs.lemmas.List.Sums.{position_or_len_is}
 use Rattle.aml_names.specs.declared.names.Name.{Name}
 use Rattle.aml_names.specs.declared.segments.Seg.{Seg}
 use Rattle.aml_names.specs.Names.{is_lead_char, IsNameSeg, IsName, spelling}
-use Rattle.aml_names.specs.NameReading.{has_segment}
+use Rattle.aml_names.specs.NameReading.{has_segment, ◌>>=◌, Left}
 use Rattle.aml_names.specs.declared.faults.CodeFault.TheVariants as faults
-use Rattle.aml_names.specs.Steps.{◌>>=◌, Left}
 use Rattle.aml_names.proofs.NameLaws.{segment_again, name_again}
 use Rattle.aml_code.specs.declared.packages.PkgWidth.{PkgWidth}
-use Rattle.aml_code.specs.Packages.{little, package_bytes, FitsWidth}
-use Rattle.aml_code.specs.Lengths.{little_at}
-use Rattle.aml_code.specs.Tree.{byte, text, unit, reserved, access, extended}
-use Rattle.aml_code.specs.Encoding.{opcode_bytes}
+use Rattle.aml_code.specs.Packages.{little, package_bytes, FitsWidth, little_at}
+use Rattle.aml_code.specs.Tree.{byte, text, unit, reserved, access, extended, opcode_bytes}
 use Rattle.aml_code.specs.Faults.{IsOpcode}
 use Rattle.aml_code.specs.Lawful.{AreTextBytes}
 use Rattle.aml_code.proofs.Answered.{read_on}

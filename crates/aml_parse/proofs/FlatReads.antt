@@ -1,6 +1,6 @@
 -- What a step that holds no terms reads is spelled by the bytes that were taken, and its fault is true of the code.
-use Rattle.std.proofs.Common.{◌≡◌, ℕ, zero, suc, ◌+◌, ◌-◌, ◌<◌, ◌≤◌, ◌/◌, ◌%◌, ◌^◌, Bool, true, false, cond, eqb, ltb, ◌==◌, List, [], ◌∷◌, ◌++◌, length, get_or, take, drop}
-use Rattle.std.proofs.Common.{Option, Some, None, Result, Ok, Err, refl, sym, ap, subst, ◌∙◌, append_assoc, arith, inl, inr}
+use Rattle.std.proofs.Common.{◌≡◌, ℕ, zero, suc, ◌+◌, ◌-◌, ◌<◌, ◌≤◌, ◌/◌, ◌%◌, ◌^◌, Bool, true, false, cond, eqb, ltb, ◌==◌, List, [], ◌∷◌, ◌++◌, length}
+use Rattle.std.proofs.Common.{get_or, take, drop, Option, Some, None, Result, Ok, Err, refl, sym, ap, subst, ◌∙◌, append_assoc, arith, inl, inr}
 use Rattle.std.specs.Prelude.{position}
 use Rattle.std.proofs.Math.Seq.{drop-cons}
 use Rattle.std.proofs.lemmas.Bool.{eqb-true, eqb-false, ltb-true, ltb-false, lt-ltb, le-ltb}
@@ -10,16 +10,13 @@ use Rattle.aml_names.specs.declared.faults.CodeFault.{CodeFault}
 use Rattle.aml_names.specs.declared.faults.CodeFault.TheVariants as faults
 use Rattle.aml_names.specs.declared.names.Name.{Name}
 use Rattle.aml_names.specs.Names.{IsNameSeg, IsName, spelling}
-use Rattle.aml_names.specs.NameReading.{name_at, segment_at, has_segment}
+use Rattle.aml_names.specs.NameReading.{name_at, segment_at, has_segment, ◌>>=◌, byte_at}
 use Rattle.aml_names.specs.Paths.{PathSet}
-use Rattle.aml_names.specs.Steps.{◌>>=◌, byte_at}
 use Rattle.aml_names.proofs.NameFaults.{segment_fault}
 use Rattle.aml_names.proofs.NameLaws.{segment_takes, name_takes, name_fault}
 use Rattle.aml_names.proofs.StepLaws.{ok_is, err_is, IsBytes, IsBytes-drop, Takes, Takes-then, byte_takes, byte_fault}
-use Rattle.aml_code.specs.Packages.{little, package_bytes, FitsWidth}
-use Rattle.aml_code.specs.Lengths.{little_at, length_at, span_at}
-use Rattle.aml_code.specs.Tree.{Part, byte, text, Field}
-use Rattle.aml_code.specs.Encoding.{opcode_bytes, part_encoding, field_encoding}
+use Rattle.aml_code.specs.Packages.{little, package_bytes, FitsWidth, little_at, length_at, span_at}
+use Rattle.aml_code.specs.Tree.{Part, byte, text, Field, opcode_bytes, part_encoding, field_encoding}
 use Rattle.aml_code.specs.Faults.{IsOpcode, StandsAt}
 use Rattle.aml_code.specs.Lawful.{AreTextBytes, Setting, IsField}
 use Rattle.aml_code.proofs.LengthLaws.{IsSpan, little_takes, little_fault, length_takes, length_fault, span_takes, span_fault}

@@ -18,9 +18,9 @@ use Rattle.aml_code.specs.declared.rows.Position.{Position}
 use Rattle.aml_code.specs.declared.rows.Position.TheVariants as positions
 use Rattle.aml_code.specs.declared.rows.TailKind.{TailKind}
 use Rattle.aml_code.specs.declared.rows.TailKind.TheVariants as tails
-use Rattle.aml_code.specs.Rows.{row_of, has_length}
-use Rattle.aml_code.specs.Tree.{Tree, nothing, named, op, child, Parts, no_parts, part_more, Tail, empty}
-use Rattle.aml_code.specs.Encoding.{opcode_bytes, packed, encoding, encodings, parts_encoding, tail_encoding}
+use Rattle.aml_code.specs.Opcodes.{row_of, has_length}
+use Rattle.aml_code.specs.Tree.{Tree, nothing, named, op, child, Parts, no_parts, part_more, Tail, empty, opcode_bytes, packed, encoding, encodings}
+use Rattle.aml_code.specs.Tree.{parts_encoding, tail_encoding}
 use Rattle.aml_code.specs.Lawful.{HasWidth, IsGuarded, terms_in, IsBuffer, Setting, IsLawful, AreParts, IsTail}
 use Rattle.aml_code.proofs.RowFacts.{zero_bare, lead_of, opcode_lead, row_lead_is}
 use Rattle.aml_parse.specs.Reading.{guard_at}

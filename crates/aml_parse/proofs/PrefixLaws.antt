@@ -6,13 +6,10 @@ use Rattle.aml_names.specs.declared.segments.Seg.{Seg}
 use Rattle.aml_names.specs.Paths.{PathSet}
 use Rattle.aml_names.proofs.StepLaws.{ok_is}
 use Rattle.aml_code.specs.declared.rows.Position.{Position}
-use Rattle.aml_code.specs.Tree.{Tree, Trees}
-use Rattle.aml_code.specs.Encoding.{encoding, encodings}
-use Rattle.aml_code.specs.Declaring.{after, after_all}
+use Rattle.aml_code.specs.Tree.{Tree, Trees, encoding, encodings}
+use Rattle.aml_code.specs.Lawful.{after, after_all, IsLawful, AreTerms, setting_of}
 use Rattle.aml_code.specs.Faults.{Arities}
-use Rattle.aml_code.specs.Lawful.{IsLawful, AreTerms}
-use Rattle.aml_code.specs.Meaning.{setting_of}
-use Rattle.aml_code.specs.Prefixes.{IsTermAt, AreTermsAt, NoProperPrefix, SameByBytes, AllSameByBytes}
+use Rattle.aml_code.specs.Laws.{IsTermAt, AreTermsAt, NoProperPrefix, SameByBytes, AllSameByBytes}
 use Rattle.aml_code.proofs.LevelLaws.{deeper_by, terms_deeper_by}
 use Rattle.aml_parse.specs.Reading.{terms_at, read_at}
 use Rattle.aml_parse.proofs.Again.{terms_again}

@@ -2,15 +2,15 @@
 -- definitions; and each fault is true of the code at its offset. Each reader has a law here, beginning with parts and ending
 -- with terms, that follows its steps (`then`): what a step took stands in front of what the next one takes. The reader of the
 -- terms inside is any with that law (`IsReader`).
-use Rattle.std.proofs.Common.{◌≡◌, ◌≢◌, ℕ, zero, suc, ◌+◌, ◌-◌, ◌≤◌, Bool, true, false, eqb, List, [], ◌∷◌, ◌++◌, length, Option, Some, None, Ok}
-use Rattle.std.proofs.Common.{refl, sym, ap, subst, ◌∙◌, arith, inl, inr}
+use Rattle.std.proofs.Common.{◌≡◌, ◌≢◌, ℕ, zero, suc, ◌+◌, ◌-◌, ◌≤◌, Bool, true, false, eqb, List, [], ◌∷◌, ◌++◌, length, Option, Some, None, Ok, refl, sym, ap}
+use Rattle.std.proofs.Common.{subst, ◌∙◌, arith, inl, inr}
 use Rattle.std.proofs.lemmas.Bool.{eqb-true}
 use Rattle.std.proofs.lemmas.List.{append-nil}
 use Rattle.aml_names.specs.declared.faults.CodeFault.TheVariants as faults
 use Rattle.aml_names.specs.declared.names.Name.{Name}
 use Rattle.aml_names.specs.Names.{IsName, spelling, is_name_lead}
 use Rattle.aml_names.specs.Paths.{PathSet}
-use Rattle.aml_names.specs.Steps.{◌>>=◌, Left}
+use Rattle.aml_names.specs.NameReading.{◌>>=◌, Left}
 use Rattle.aml_names.proofs.NameLaws.{lead_reads}
 use Rattle.aml_names.proofs.StepLaws.{IsBytes, Takes, Takes-none, Takes-then}
 use Rattle.aml_code.specs.declared.rows.PartKind.{PartKind}
@@ -21,17 +21,13 @@ use Rattle.aml_code.specs.declared.rows.Position.{Position}
 use Rattle.aml_code.specs.declared.rows.Position.TheVariants as positions
 use Rattle.aml_code.specs.declared.rows.TailKind.{TailKind}
 use Rattle.aml_code.specs.declared.rows.TailKind.TheVariants as tails
-use Rattle.aml_code.specs.Opcodes.{Row}
+use Rattle.aml_code.specs.Opcodes.{Row, row_of, has_length, takes}
 use Rattle.aml_code.specs.Packages.{width_len, package_bytes, FitsWidth}
-use Rattle.aml_code.specs.Rows.{row_of, has_length, takes}
-use Rattle.aml_code.specs.Tree.{Tree, op, child, label, byte, word, dword, qword, Parts}
-use Rattle.aml_code.specs.Tree.{Tail, empty, target, buffer}
-use Rattle.aml_code.specs.Encoding.{opcode_bytes, slice_of, encoding, encodings, part_encoding, parts_encoding, tail_encoding, field_encoding, link_encoding}
-use Rattle.aml_code.specs.Declaring.{names_declared, with_declared, declared_by}
+use Rattle.aml_code.specs.Tree.{Tree, op, child, label, byte, word, dword, qword, Parts, Tail, empty, target, buffer, opcode_bytes, slice_of, encoding}
+use Rattle.aml_code.specs.Tree.{encodings, part_encoding, parts_encoding, tail_encoding, field_encoding, link_encoding}
+use Rattle.aml_code.specs.Lawful.{names_declared, with_declared, declared_by, HasWidth, IsGuarded, count_in, is_if_place, is_guard, terms_in, next_position}
+use Rattle.aml_code.specs.Lawful.{AreBytes, Setting, IsLawful, AreParts, IsTail, IsLink, TailStands}
 use Rattle.aml_code.specs.Faults.{Arities, StandsThere, IsOpcode, StandsAt}
-use Rattle.aml_code.specs.Lawful.{HasWidth, IsGuarded, count_in, is_if_place, is_guard, terms_in, next_position, AreBytes, Setting, IsLawful, AreParts}
-use Rattle.aml_code.specs.Lawful.{IsTail, IsLink}
-use Rattle.aml_code.specs.Meaning.{TailStands}
 use Rattle.aml_code.proofs.InnerLaws.{is_inner, unchanged, all_unchanged}
 use Rattle.aml_code.proofs.RowFacts.{row_opcode, if_parts, if_has_length, guard_place, opcode_some}
 use Rattle.aml_code.proofs.Within.{Within, onward, inward, text_there, byte_there, slice_there, span_inside, end_there, truncated_placed, offset_is}

@@ -1,20 +1,18 @@
 -- The laws of the whole reader.
 use Rattle.std.specs.Prelude.{IfOk, IfErr}
-use Rattle.std.proofs.Common.{◌≡◌, ℕ, zero, suc, ◌-◌, List, [], ◌∷◌, length, Option, Some, None, Result, Ok, Err, refl, sym, ap, subst, ◌∙◌, ◌⊎◌, arith}
-use Rattle.std.proofs.Common.{inl, inr}
+use Rattle.std.proofs.Common.{◌≡◌, ℕ, zero, suc, ◌-◌, List, [], ◌∷◌, length, Option, Some, None, Result, Ok, Err, refl, sym, ap, subst, ◌∙◌, ◌⊎◌, arith, inl}
+use Rattle.std.proofs.Common.{inr}
 use Rattle.std.specs.FinSet as set
 use Rattle.aml_names.specs.declared.faults.CodeFault.{CodeFault}
 use Rattle.aml_names.specs.declared.faults.CodeFault.TheVariants as faults
 use Rattle.aml_names.specs.declared.segments.Seg.{Seg}
-use Rattle.aml_names.specs.Steps.{Gives}
+use Rattle.aml_names.specs.NameReading.{Gives}
 use Rattle.aml_names.proofs.StepLaws.{ok_is, IsBytes}
 use Rattle.aml_code.specs.declared.rows.Position.{Position}
 use Rattle.aml_code.specs.declared.rows.Position.TheVariants as positions
-use Rattle.aml_code.specs.Tree.{Trees}
-use Rattle.aml_code.specs.Encoding.{encodings}
+use Rattle.aml_code.specs.Tree.{Trees, encodings}
 use Rattle.aml_code.specs.Faults.{Arities, StandsAt}
-use Rattle.aml_code.specs.Lawful.{Setting, AreTerms}
-use Rattle.aml_code.specs.Meaning.{setting_of, BodiesStand, ReadsBody, ReadsModule, no_arguments}
+use Rattle.aml_code.specs.Lawful.{Setting, AreTerms, setting_of, BodiesStand, ReadsBody, ReadsModule, no_arguments}
 use Rattle.aml_code.proofs.Answered.{read_on}
 use Rattle.aml_code.proofs.Within.{whole, end_there, span_inside}
 use Rattle.aml_parse.specs.Reading.{terms_at, too_deep, read_at, all_at}

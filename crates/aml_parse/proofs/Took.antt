@@ -14,15 +14,13 @@ use Rattle.aml_code.specs.declared.rows.Position.TheVariants as positions
 use Rattle.aml_code.specs.declared.rows.TailKind.{TailKind}
 use Rattle.aml_code.specs.declared.rows.TailKind.TheVariants as tails
 use Rattle.aml_code.specs.Packages.{package_bytes}
-use Rattle.aml_code.specs.Rows.{has_length}
+use Rattle.aml_code.specs.Opcodes.{has_length}
 use Rattle.aml_code.specs.Tree.{Tree, nothing, named, op, Trees, Part, Parts, Tail, Field, unit, reserved, access, connection, extended, Fields, Link}
-use Rattle.aml_code.specs.Tree.{tree_count}
-use Rattle.aml_code.specs.Encoding.{opcode_bytes, packed, encoding, encodings, part_encoding, parts_encoding, tail_encoding, field_encoding, fields_encoding}
-use Rattle.aml_code.specs.Encoding.{link_encoding}
-use Rattle.aml_code.specs.Declaring.{after, after_all, after_tail}
+use Rattle.aml_code.specs.Tree.{tree_count, opcode_bytes, packed, encoding, encodings, part_encoding, parts_encoding, tail_encoding, field_encoding}
+use Rattle.aml_code.specs.Tree.{fields_encoding, link_encoding}
+use Rattle.aml_code.specs.Lawful.{after, after_all, after_tail, count_in, Setting, IsLawful, AreTerms, IsPart, AreParts, IsTail, IsLink, IsField, AreFields}
+use Rattle.aml_code.specs.Lawful.{BodyStands, BodiesStand, TailStands}
 use Rattle.aml_code.specs.Faults.{Arities}
-use Rattle.aml_code.specs.Lawful.{count_in, Setting, IsLawful, AreTerms, IsPart, AreParts, IsTail, IsLink, IsField, AreFields}
-use Rattle.aml_code.specs.Meaning.{BodyStands, BodiesStand, TailStands}
 use Rattle.aml_code.proofs.RowFacts.{opcode_some}
 use Rattle.aml_code.proofs.Within.{Within}
 use Rattle.aml_parse.specs.Reading.{Reader, takes_names}

@@ -3,7 +3,7 @@
 -- answers. What it means that code reads as terms is said without it, by `ReadsModule` and `ReadsBody` of aml_code, and
 -- what a fault says of the byte at its offset by `StandsAt`.
 use Rattle.std.specs.Prelude.{◌≡◌, ℕ, zero, suc, ◌+◌, ◌-◌, Bool, true, false, ◌==◌, if◌then◌else◌, nat_lt, List, []}
-use Rattle.std.specs.Prelude.{◌∷◌, length, take, drop, position, Option, Some, None, Result, Ok, Err}
+use Rattle.std.specs.Prelude.{◌∷◌, length, take, drop, position, Option, Some, None, Result, Ok, Err, option_map}
 use Rattle.std.specs.FinSet as set
 use Rattle.aml_names.specs.declared.faults.CodeFault.{CodeFault}
 use Rattle.aml_names.specs.declared.faults.CodeFault.TheVariants as faults
@@ -11,9 +11,8 @@ use Rattle.aml_names.specs.declared.segments.Seg.{Seg}
 use Rattle.aml_names.specs.declared.names.Name.{Name}
 use Rattle.aml_names.specs.Paths.{PathSet}
 use Rattle.aml_names.specs.Names.{is_name_lead}
-use Rattle.aml_names.specs.NameReading.{name_at, segment_at, has_segment}
-use Rattle.aml_names.specs.Steps.{◌>>=◌, Left, byte_at}
-use Rattle.aml_code.specs.Opcodes.{Row}
+use Rattle.aml_names.specs.NameReading.{name_at, segment_at, has_segment, ◌>>=◌, Left, byte_at}
+use Rattle.aml_code.specs.Opcodes.{Row, row_of, has_length, takes}
 use Rattle.aml_code.specs.declared.rows.PartKind.{PartKind}
 use Rattle.aml_code.specs.declared.rows.PartKind.TheVariants as kinds
 use Rattle.aml_code.specs.declared.rows.Place.{Place}
@@ -22,18 +21,18 @@ use Rattle.aml_code.specs.declared.rows.Position.{Position}
 use Rattle.aml_code.specs.declared.rows.Position.TheVariants as positions
 use Rattle.aml_code.specs.declared.rows.TailKind.{TailKind}
 use Rattle.aml_code.specs.declared.rows.TailKind.TheVariants as tails
-use Rattle.aml_code.specs.Lengths.{little_at, length_at, span_at}
-use Rattle.aml_code.specs.Rows.{row_of, has_length, takes}
+use Rattle.aml_code.specs.Packages.{little_at, length_at, span_at}
 use Rattle.aml_code.specs.Tree.{Tree, nothing, named, op, Trees, no_trees, tree_more, Part, child, label, byte, word}
 use Rattle.aml_code.specs.Tree.{dword, qword, text, Parts, no_parts, part_more, Tail, empty, terms, elements, fields}
 use Rattle.aml_code.specs.Tree.{body, Field, unit, reserved, access, connection, extended, Fields, no_fields}
 use Rattle.aml_code.specs.Tree.{field_more, Link, target, buffer}
 use Rattle.aml_code.specs.Tree as trees
-use Rattle.aml_code.specs.Declaring.{names_declared, with_declared}
+use Rattle.aml_code.specs.Lawful.{names_declared, with_declared, count_in, is_guard, terms_in, next_position}
 use Rattle.aml_code.specs.Faults.{Arities}
-use Rattle.aml_code.specs.Lawful.{count_in, is_guard, terms_in, next_position}
 use Rattle.aml_parse.specs.declared.positions.Lead.{Lead}
 use Rattle.aml_parse.specs.declared.positions.Lead.TheVariants as leads
+use denote.Ref.{Bor}
+use Rattle.aml_parse.specs.declared.context.Context.{Context}
 
 -- A reader is handed where the innermost span ends, the paths declared so far and what is left of the span. It answers
 -- what it read, the paths declared then, and what is left.
@@ -373,3 +372,13 @@ unfoldable pub all_at : Arities → Option (List Seg) → Position → List ℕ 
 all_at arity scope p code = do
   ts ← terms_at (read_at arity scope 512) (length code) p (length code) set.empty code
   Ok ts.0
+
+-- ---- A stepping stone of the proofs: what stays the same while a list of terms is read, as contracts see it.
+
+-- the path that a reference points to, if there is one
+abbrev pub scope_of : Option (Bor (List Seg)) → Option (List Seg)
+scope_of scope = option_map (λ b. b.now) scope
+
+-- a term with at most so many levels, in a context
+abbrev pub read_in : {A : Type 0} → (A → Arities) → Context A → ℕ → Position → Reader Tree
+read_in arity c levels = read_at (arity c.arity.now) (scope_of c.scope) levels

@@ -1,8 +1,8 @@
 //! The bytes of a method's body.
 ghost use Rattle.std.specs.Prelude.{◌≡◌, ◌⊎◌, ◌≤◌, ◌<◌, ◌^◌, Some, length, IfOk, IfErr};
-ghost use Rattle.aml_names.specs.Steps.{Gives};
+ghost use Rattle.aml_names.specs.NameReading.{Gives};
 ghost use Rattle.aml_code.specs.Faults.{StandsAt};
-ghost use Rattle.aml_code.specs.Meaning.{ReadsBody};
+ghost use Rattle.aml_code.specs.Lawful.{ReadsBody};
 ghost use Rattle.aml_code.specs.Tree.{Trees};
 ghost use Rattle.aml_code.specs.View.{nodes_view};
 ghost use Rattle.aml_parse.specs.Reading.{all_at};

@@ -1,13 +1,11 @@
 //! What stays the same while a list of terms is read.
 ghost use Rattle.std.specs.Prelude.{◌≡◌, None, OnOk};
-ghost use Rattle.aml_names.specs.Steps.{Gives};
+ghost use Rattle.aml_names.specs.NameReading.{Gives};
 ghost use Rattle.aml_names.specs.Names.{placed};
 ghost use Rattle.aml_code.specs.Tree.{no_fields, field_more};
-ghost use Rattle.aml_code.specs.Declaring.{field_names, last_label, listed, names_declared, unit_names, with_declared, with_names, with_path};
-ghost use Rattle.aml_code.specs.Lawful.{count_in};
+ghost use Rattle.aml_code.specs.Lawful.{field_names, last_label, listed, names_declared, unit_names, with_declared, with_names, with_path, count_in};
 ghost use Rattle.aml_code.specs.View.{field_view, fields_view, parts_view, tail_view};
-ghost use Rattle.aml_parse.specs.Reading.{known};
-ghost use Rattle.aml_parse.specs.Contexts.{scope_of};
+ghost use Rattle.aml_parse.specs.Reading.{known, scope_of};
 
 use aml_code::{
     Arity, CodeFault, Field, Locals, Name, NameForm, NoMemory, Part, Path, Position, Role, Segs,

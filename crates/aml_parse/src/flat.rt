@@ -1,6 +1,6 @@
 //! Parts that hold no terms.
 ghost use Rattle.std.specs.Prelude.{◌≡◌, ◌<◌, ◌==◌, position, take, drop, suc, IfSome, length};
-ghost use Rattle.aml_names.specs.Steps.{Gives};
+ghost use Rattle.aml_names.specs.NameReading.{Gives};
 ghost use Rattle.aml_code.specs.View.{part_view};
 ghost use Rattle.aml_parse.specs.Reading.{byte_part, count_part, word_part, dword_part, qword_part, text_part, text_to, any_name_part, segmented_at, name_part, flat_part};
 

@@ -1,7 +1,7 @@
 //! Packages, apart from the terms in them.
 ghost use Rattle.std.specs.Prelude.{◌≡◌, ◌-◌, length, IfOk};
-ghost use Rattle.aml_names.specs.Steps.{Gives};
-ghost use Rattle.aml_code.specs.Lengths.{span_at};
+ghost use Rattle.aml_names.specs.NameReading.{Gives};
+ghost use Rattle.aml_code.specs.Packages.{span_at};
 ghost use Rattle.aml_code.specs.Tree.{op};
 ghost use Rattle.aml_code.specs.View.{node_view, parts_view, tail_view};
 ghost use Rattle.aml_parse.specs.Reading.{body_to};

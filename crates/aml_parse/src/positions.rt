@@ -1,6 +1,6 @@
 //! Opcodes, which of them a position takes, and which position comes next.
 ghost use Rattle.std.specs.Prelude.{◌≡◌};
-ghost use Rattle.aml_names.specs.Steps.{Gives};
+ghost use Rattle.aml_names.specs.NameReading.{Gives};
 ghost use Rattle.aml_code.specs.Lawful.{is_guard, is_if, next_position, terms_in};
 ghost use Rattle.aml_code.specs.View.{node_view};
 ghost use Rattle.aml_parse.specs.Reading.{opcode_at, refused_in_body, refusal, child_position, is_absent_target, Begins, takes_names, guard_at};

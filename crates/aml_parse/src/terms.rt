@@ -1,11 +1,10 @@
 //! Terms, and what is inside them.
 ghost use Rattle.std.specs.Prelude.{◌≡◌, None, length};
-ghost use Rattle.aml_names.specs.Steps.{Gives};
-ghost use Rattle.aml_code.specs.Rows.{row_view};
+ghost use Rattle.aml_names.specs.NameReading.{Gives};
+ghost use Rattle.aml_code.specs.Opcodes.{row_view};
 ghost use Rattle.aml_code.specs.Tree.{op, no_parts, empty};
 ghost use Rattle.aml_code.specs.View.{node_view, nodes_view, part_view, parts_view, tail_view, field_view, fields_view, link_view};
-ghost use Rattle.aml_parse.specs.Contexts.{scope_of, read_in};
-ghost use Rattle.aml_parse.specs.Reading.{part_at, parts_at, arguments_at, terms_at, fields_at, field_at, link_at, call_at, name_term_at, tail_at, plain_at, packed_at, by_row, row_at, operation_at};
+ghost use Rattle.aml_parse.specs.Reading.{scope_of, read_in, part_at, parts_at, arguments_at, terms_at, fields_at, field_at, link_at, call_at, name_term_at, tail_at, plain_at, packed_at, by_row, row_at, operation_at};
 
 use crate::context::Context;
 use crate::flat::flat_part_of;

@@ -1,5 +1,5 @@
 //! Elements of field lists that hold no terms (ACPI 6.5, 20.2.5.2).
-ghost use Rattle.aml_names.specs.Steps.{Gives};
+ghost use Rattle.aml_names.specs.NameReading.{Gives};
 ghost use Rattle.aml_code.specs.View.{field_view, link_view};
 ghost use Rattle.aml_parse.specs.Reading.{named_unit, reserved_unit, access_unit, extended_unit, named_link};
 

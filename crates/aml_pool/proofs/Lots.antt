@@ -6,7 +6,7 @@ use Rattle.std.specs.List.Sorted.{IsStrictlyIncreasing}
 use Rattle.std.proofs.lemmas.List.{map-append}
 use Rattle.std.proofs.lemmas.Grind.{flat_map-append}
 use Rattle.std.proofs.lemmas.List.Elements.{All-append}
-use Rattle.aml_pool.specs.Shares.{AreParts, all_of}
+use Rattle.aml_pool.specs.Seats.{AreParts, all_of}
 
 pub all_of-append : (drawn drawn2 : List (Vec ℕ Global)) → all_of (drawn ++ drawn2) ≡ all_of drawn ++ all_of drawn2
 all_of-append drawn drawn2 = flat_map-append (λ v. v.items) drawn drawn2

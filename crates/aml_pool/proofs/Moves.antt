@@ -15,8 +15,8 @@ use Rattle.atomic_table.proofs.Lists.{at_set, at_snoc, at_map, set_again, set_he
 use lib.Seq.{set-get_or}
 use Rattle.aml_pool.specs.declared.board.View.{View}
 use Rattle.aml_pool.specs.Counting.{times, once_below, total, IsOnce}
-use Rattle.aml_pool.specs.Machine.{Claimant, Claims, by_draw, by_split, by_join, Draws, Opens, Joins, IsDraw, newcomer, together, claims}
-use Rattle.aml_pool.specs.Rule.{view, claimant, claims_shown, spent, Fits, IsRuled, TellsDraw, TellsLook, kept, given, joined, FollowsMachine}
+use Rattle.aml_pool.specs.Machine.{Claimant, Claims, by_draw, by_split, by_join, Draws, Opens, Joins, IsDraw, newcomer, together, claims, view, claimant}
+use Rattle.aml_pool.specs.Machine.{claims_shown, spent, Fits, IsRuled, TellsDraw, TellsLook, kept, given, joined, FollowsMachine}
 use Rattle.aml_pool.proofs.Counts.{total_set, total_more, total_le, total_at, total-map, total_only}
 use Rattle.aml_pool.proofs.Runs.{counted, sound, stands_below, stands_once}
 

@@ -8,11 +8,10 @@ use Rattle.std.proofs.lemmas.Option.{slice_get_read}
 use Rattle.std.proofs.Math.Seq.{get_or-append_seam}
 use mathlib.Core.Logic.{dite}
 use native.Mathlib.Decide.{ℕ_discrete, dec_lt}
-use Rattle.aml_pool.specs.Counting.{same, times, once_below}
+use Rattle.aml_pool.specs.Counting.{same, times, once_below, vacant, free, AllGive}
 use Rattle.aml_pool.specs.declared.shelf.ShelfFault.{ShelfFault}
 use Rattle.aml_pool.specs.declared.shelf.ShelfFault.TheVariants.{Double, Stranger}
-use Rattle.aml_pool.specs.Places.{vacant, free, AllGive}
-use Rattle.aml_pool.specs.Shelves.{Refuses}
+use Rattle.aml_pool.specs.Seats.{Refuses}
 use Rattle.aml_pool.proofs.Counts.{yes_one, not_one, below_one, above_one, times-append}
 
 same_suc : (m n : ℕ) → same (suc m) (suc n) ≡ same m n

@@ -1,9 +1,3 @@
-pub mod Counting
 pub mod Machine
-pub mod Rule
+pub mod Counting
 pub mod Seats
-pub mod Shares
-pub mod Places
-pub mod Shelves
-pub mod Harvests
-pub mod Faults

@@ -6,7 +6,7 @@
 
 ghost use Rattle.std.specs.Prelude.{◌≡◌, ℕ, ◌<◌, ◌≤◌, [], ◌↔◌, IsTrue};
 ghost use Rattle.aml_pool.specs.Counting.{times};
-ghost use Rattle.aml_pool.specs.Rule.{IsRuled, view, TellsDraw, TellsLook, kept, given, joined, spent};
+ghost use Rattle.aml_pool.specs.Machine.{IsRuled, view, TellsDraw, TellsLook, kept, given, joined, spent};
 
 mod steps;
 

@@ -43,7 +43,7 @@ pub enum PoolFault {
 }
 
 impl fmt::Display for PoolFault {
-    ghost use Rattle.aml_pool.specs.Faults.{fault_text};
+    ghost use Rattle.aml_pool.specs.Seats.{fault_text};
 
     ghost output = { λ fault. Some (fault_text fault) };
 

@@ -1,10 +1,7 @@
 //! A harvest: the results of all numbers, in number order.
 ghost use Rattle.std.specs.Prelude.{◌≡◌, ℕ, ◌≤◌, All, length, map, IfOk, IfErr};
-ghost use Rattle.aml_pool.specs.Counting.{times};
-ghost use Rattle.aml_pool.specs.Places.{vacant, free, AllGive};
-ghost use Rattle.aml_pool.specs.Shares.{EachBelow};
-ghost use Rattle.aml_pool.specs.Shelves.{places_of};
-ghost use Rattle.aml_pool.specs.Harvests.{IsHarvest};
+ghost use Rattle.aml_pool.specs.Counting.{times, vacant, free, AllGive};
+ghost use Rattle.aml_pool.specs.Seats.{EachBelow, places_of, IsHarvest};
 
 use crate::board::Board;
 use crate::faults::PoolFault;

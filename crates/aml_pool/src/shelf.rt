@@ -1,6 +1,6 @@
 //! Results, filed by number.
 ghost use Rattle.std.specs.Prelude.{◌≡◌, [], ◌≤◌, length, vec_capacity};
-ghost use Rattle.aml_pool.specs.Places.{vacant};
+ghost use Rattle.aml_pool.specs.Counting.{vacant};
 
 use crate::faults::NoMemory;
 use std::alloc::Global;
@@ -26,8 +26,8 @@ pub struct Shelf<D> {
 
 impl<D: Drop> Shelf<D> {
     ghost use Rattle.std.specs.Prelude.{◌≡◌, IfOk, IfErr, None, Some, replicate, map};
-    ghost use Rattle.aml_pool.specs.Places.{vacant};
-    ghost use Rattle.aml_pool.specs.Shelves.{places_of, Files, Refuses};
+    ghost use Rattle.aml_pool.specs.Counting.{vacant};
+    ghost use Rattle.aml_pool.specs.Seats.{places_of, Files, Refuses};
 
     /// A shelf for the numbers below `count`. It makes all growths, the room that `finish` fills among them.
     pub fn new(alloc: Global, count: u32) -> Result<Shelf<D>, NoMemory>

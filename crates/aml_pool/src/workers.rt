@@ -1,8 +1,7 @@
 //! A crew of workers, in threads that halve it.
 ghost use Rattle.std.specs.Prelude.{◌≡◌, ◌+◌, ◌/◌, ◌≤◌, Err, IfOk, IfErr};
 ghost use Rattle.std.specs.Thread.{IsSync, IsSend};
-ghost use Rattle.aml_pool.specs.Seats.{count_of, IsSeatOf, IsFresh, IsCut};
-ghost use Rattle.aml_pool.specs.Shares.{EachBelow, CanBegin, IsShare};
+ghost use Rattle.aml_pool.specs.Seats.{count_of, IsSeatOf, IsFresh, IsCut, EachBelow, CanBegin, IsShare};
 
 use crate::board::{Board, Seat};
 use crate::faults::PoolFault;

@@ -2,8 +2,8 @@
 -- (`silent_at`, `silent_past`); such depths are passed over (`next_further`, `next_past`), and no candidate of a segment
 -- stands there (`none_given_below`, `none_met_below`).
 use Rattle.std.specs.Prelude.{slice_get, ◌||◌}
-use Rattle.std.proofs.Common.{◌≡◌, ℕ, ◌+◌, ◌<◌, ◌≤◌, false, List, [], ◌∷◌, ◌++◌, length, take, get_or, Option, Some, None, IfSome}
-use Rattle.std.proofs.Common.{is_some, inl, inr, refl, sym, ap, subst, ◌∙◌, arith, length-append}
+use Rattle.std.proofs.Common.{◌≡◌, ℕ, ◌+◌, ◌<◌, ◌≤◌, false, List, [], ◌∷◌, ◌++◌, length, take, get_or, Option, Some, None, IfSome, is_some, inl, inr, refl, sym}
+use Rattle.std.proofs.Common.{ap, subst, ◌∙◌, arith, length-append}
 use Rattle.std.specs.FinMap as map
 use Rattle.std.specs.FinSet as set
 use Rattle.std.proofs.lemmas.Bool.{cases_lt}
@@ -11,14 +11,13 @@ use Rattle.std.proofs.lemmas.Option.{slice_get_past}
 use Rattle.std.specs.Option.{option_and_then, option_or}
 use Rattle.aml_names.specs.declared.segments.Seg.{Seg}
 use Rattle.aml_names.specs.Paths.{PathSet}
-use Rattle.aml_children.specs.Children.{child_in}
+use Rattle.aml_children.specs.Trees.{child_in}
 use Rattle.aml_space.specs.declared.nodes.Node.{Node}
 use Rattle.aml_space.specs.declared.scopes.Level.{Level}
-use Rattle.aml_space.specs.Graph.{walk}
+use Rattle.aml_space.specs.Nodes.{walk, Content, kids_of, content_of, kind_in, part_by, known_by, IsShape}
 use Rattle.aml_space.specs.Known.{namespace_in}
 use Rattle.aml_space.specs.Namespace.{Namespace, decides, is_outside}
 use Rattle.aml_space.specs.Predefined.{predefined}
-use Rattle.aml_space.specs.Nodes.{Content, kids_of, content_of, kind_in, part_by, known_by, IsShape}
 use Rattle.aml_space.specs.Candidates.{IsAlong, IsBare, HasBareChildren, IsSilent, IsNext, AreAsked}
 use Rattle.aml_space.proofs.Along.{along_past}
 use Rattle.aml_space.proofs.Basics.{read_front, read_last, alone}

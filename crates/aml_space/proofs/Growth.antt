@@ -2,8 +2,7 @@
 -- it led, or, where it led nowhere, maybe to the new node, at which nothing is kept (`grown_walk`).
 use Rattle.std.specs.Prelude.{◌==◌, ◌&&◌}
 use Rattle.std.proofs.Common.{◌≡◌, ℕ, ◌+◌, ◌<◌, ◌≤◌, Bool, true, false, cond, List, [], ◌∷◌, ◌++◌, length, Option, Some, None, ◌⊎◌, inl, inr, refl, sym, ap}
-use Rattle.std.proofs.Common.{subst, ◌∙◌}
-use Rattle.std.proofs.Common.{arith}
+use Rattle.std.proofs.Common.{subst, ◌∙◌, arith}
 use Rattle.std.specs.Option.{option_and_then}
 use Rattle.std.specs.Ordering.{eq_by_cmp}
 use Rattle.std.specs.FinMap as map
@@ -13,12 +12,10 @@ use Rattle.std.proofs.lemmas.Map.Views.{tells_apart, exact_unsigned_eq}
 use Rattle.aml_names.specs.declared.segments.Seg.{Seg}
 use Rattle.aml_names.specs.Paths.{seg_cmp, paths_total, exact_paths, exact_segs}
 use Rattle.aml_children.specs.declared.children.Child.{Child}
-use Rattle.aml_children.specs.Children.{child_in, put}
+use Rattle.aml_children.specs.Trees.{child_in, put}
 use Rattle.aml_space.specs.declared.nodes.Node.{Node}
-use Rattle.aml_space.specs.Graph.{walk, IsFamily}
-use Rattle.aml_space.specs.Nodes.{Content, nothing, kids_in, kids_of, links_of, content_of, kind_in, pairs_of, part_by, known_by, IsShape, IsNamed, IsLinked}
-use Rattle.aml_space.specs.Nodes.{IsIndex}
-use Rattle.aml_space.specs.Nodes.{HasGrown}
+use Rattle.aml_space.specs.Nodes.{walk, IsFamily, Content, nothing, kids_in, kids_of, links_of, content_of, kind_in, pairs_of, part_by, known_by, IsShape}
+use Rattle.aml_space.specs.Nodes.{IsNamed, IsLinked, IsIndex, HasGrown}
 use Rattle.aml_space.proofs.Family.{same_itself, found_put, wider_family, family_put}
 use Rattle.aml_space.proofs.Index.{part_at}
 use Rattle.aml_space.proofs.Walks.{kid_range, node_range}

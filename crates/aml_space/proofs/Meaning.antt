@@ -1,7 +1,7 @@
 -- What is known of a path, by its node (`kind_of_met`, `out_of_met`, `count_of_met`), and what the tests of a candidate
 -- say of its path (`meant_path`, `outside_path`).
-use Rattle.std.proofs.Common.{◌≡◌, ℕ, zero, suc, ◌≤◌, Bool, true, false, cond, List, [], ◌∷◌, ◌++◌, length, take, Option, Some, None, IfSome}
-use Rattle.std.proofs.Common.{is_some, refl, sym, ap, ◌∙◌, arith}
+use Rattle.std.proofs.Common.{◌≡◌, ℕ, zero, suc, ◌≤◌, Bool, true, false, cond, List, [], ◌∷◌, ◌++◌, length, take, Option, Some, None, IfSome, is_some, refl}
+use Rattle.std.proofs.Common.{sym, ap, ◌∙◌, arith}
 use Rattle.std.specs.Prelude.{◌||◌}
 use Rattle.std.specs.Option.{option_or, option_and_then, option_map}
 use Rattle.std.specs.FinMap as map
@@ -16,8 +16,7 @@ use Rattle.aml_space.specs.declared.scopes.Candidate.{Candidate}
 use Rattle.aml_space.specs.Predefined.{predefined}
 use Rattle.aml_space.specs.Namespace.{Namespace, kind_at, count_at, count_by, arity_at, unknown_count, first_of, decides, is_outside}
 use Rattle.aml_space.specs.Known.{namespace_in}
-use Rattle.aml_space.specs.Graph.{walk}
-use Rattle.aml_space.specs.Nodes.{kids_of, kind_in, kinds_of, outs_of, known_by, IsShape}
+use Rattle.aml_space.specs.Nodes.{walk, kids_of, kind_in, kinds_of, outs_of, known_by, IsShape}
 use Rattle.aml_space.specs.Candidates.{path_at, IsCandidate}
 use Rattle.aml_space.proofs.Basics.{cond_of}
 use Rattle.aml_space.proofs.Index.{part_at}

@@ -1,15 +1,14 @@
 -- The nodes of a path below a node, each made below the one before it, in a list that grows by one empty node at a time
 -- (`one_more`, `rest_more`): afterwards the path leads to the last of them, and nothing else is known (`path_grown`).
-use Rattle.std.proofs.Common.{◌≡◌, ℕ, ◌+◌, ◌<◌, List, [], ◌∷◌, ◌++◌, length, take, drop, get_or, Some, None, sym, ap, subst, ◌∙◌, arith, append_assoc}
-use Rattle.std.proofs.Common.{true, length-append}
+use Rattle.std.proofs.Common.{◌≡◌, ℕ, ◌+◌, ◌<◌, List, [], ◌∷◌, ◌++◌, length, take, drop, get_or, Some, None, sym, ap, subst, ◌∙◌, arith, append_assoc, true}
+use Rattle.std.proofs.Common.{length-append}
 use Rattle.std.proofs.lemmas.List.{append-nil, take-append-drop, drop_more}
 use Rattle.std.specs.Option.{option_and_then}
 use Rattle.aml_names.specs.declared.segments.Seg.{Seg}
 use Rattle.aml_children.specs.declared.children.Child.{Child}
-use Rattle.aml_children.specs.Children.{child_in}
+use Rattle.aml_children.specs.Trees.{child_in}
 use Rattle.aml_space.specs.declared.nodes.Node.{Node}
-use Rattle.aml_space.specs.Graph.{walk}
-use Rattle.aml_space.specs.Nodes.{kids_of, known_by, IsIndex, empty, chain, with_child, with_path}
+use Rattle.aml_space.specs.Nodes.{walk, kids_of, known_by, IsIndex, empty, chain, with_child, with_path}
 use Rattle.aml_space.proofs.Walks.{walk_push, node_range}
 use Rattle.aml_space.proofs.Grow.{more_if, has_grown, length_with, with_pushed, last_leaf}
 use Rattle.aml_space.proofs.Growth.{grown_index, grown_known, new_child, still}

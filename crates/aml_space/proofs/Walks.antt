@@ -2,8 +2,7 @@
 -- (`node_range`). No two paths lead to one node (`one_path`), so new content of a node is that of one path (`put_path`).
 use Rattle.std.specs.Prelude.{◌==◌}
 use Rattle.std.proofs.Common.{◌≡◌, ℕ, ◌+◌, ◌<◌, Bool, true, false, cond, List, [], ◌∷◌, ◌++◌, length, take, drop, get_or, Option, Some, None, IfSome, inl, inr}
-use Rattle.std.proofs.Common.{refl, sym}
-use Rattle.std.proofs.Common.{ap, ◌∙◌, arith, append_assoc}
+use Rattle.std.proofs.Common.{refl, sym, ap, ◌∙◌, arith, append_assoc}
 use Rattle.std.specs.Option.{option_and_then}
 use Rattle.std.specs.Ordering.{eq_by_cmp, is_eq}
 use Rattle.std.specs.Cmp.{tied_itself}
@@ -14,9 +13,9 @@ use Rattle.std.proofs.lemmas.Bool.{eq-eqb, ne_eqb, cases_Bool, false≢true, fal
 use Rattle.aml_names.specs.declared.segments.Seg.{Seg}
 use Rattle.aml_names.specs.Paths.{seg_cmp, exact_paths, paths_total}
 use Rattle.aml_children.specs.declared.children.Child.{Child}
-use Rattle.aml_children.specs.Children.{child_in}
-use Rattle.aml_space.specs.Entries.{same_path}
-use Rattle.aml_space.specs.Graph.{walk, IsFamily, IsTree}
+use Rattle.aml_children.specs.Trees.{child_in}
+use Rattle.aml_space.specs.Namespace.{same_path}
+use Rattle.aml_space.specs.Nodes.{walk, IsFamily, IsTree}
 use Rattle.aml_space.proofs.Basics.{and_then_twice}
 
 module _ (kids : ℕ → List Child) where

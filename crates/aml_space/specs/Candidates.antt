@@ -5,15 +5,14 @@ use Rattle.std.specs.Option.{option_map}
 use Rattle.std.specs.FinSet as set
 use Rattle.aml_names.specs.declared.segments.Seg.{Seg}
 use Rattle.aml_names.specs.Paths.{PathSet}
-use Rattle.aml_children.specs.Children.{child_in}
+use Rattle.aml_children.specs.Trees.{child_in}
 use Rattle.aml_space.specs.declared.nodes.Node.{Node}
 use Rattle.aml_space.specs.declared.scopes.Scope.{Scope}
 use Rattle.aml_space.specs.declared.scopes.Level.{Level}
 use Rattle.aml_space.specs.declared.scopes.Candidate.{Candidate}
-use Rattle.aml_space.specs.Graph.{walk}
+use Rattle.aml_space.specs.Nodes.{walk, kids_of, kinds_of, outs_of, givens_of, known_by, IsShape}
 use Rattle.aml_space.specs.Known.{namespace_in}
 use Rattle.aml_space.specs.Namespace.{Namespace}
-use Rattle.aml_space.specs.Nodes.{kids_of, kinds_of, outs_of, givens_of, known_by, IsShape}
 
 -- the namespace in which a scope stands
 abbrev pub names_of : Scope → Namespace

@@ -6,9 +6,8 @@ ghost use Rattle.aml_names.specs.declared.segments.Seg.{Seg};
 ghost use Rattle.aml_names.specs.Searching.{upward};
 ghost use Rattle.aml_space.specs.Predefined.{predefined};
 ghost use Rattle.aml_space.specs.Namespace.{first_of, first_given, count_at};
-ghost use Rattle.aml_space.specs.Graph.{walk};
+ghost use Rattle.aml_space.specs.Nodes.{walk, kids_of, kinds_of, outs_of, known_by, IsShape};
 ghost use Rattle.aml_space.specs.Known.{namespace_in};
-ghost use Rattle.aml_space.specs.Nodes.{kids_of, kinds_of, outs_of, known_by, IsShape};
 ghost use Rattle.aml_space.specs.Candidates.{path_at, stands_at, names_of, IsAlong, IsBare, HasBareChildren, IsNext, AreAsked, IsScope, IsCandidate};
 
 use crate::counting::{count_met, kind_met};

@@ -2,11 +2,8 @@
 ghost use Rattle.std.specs.Prelude.{◌≡◌, ◌≤◌, ◌*◌, length, slice_get, [], ◌∷◌, ◌++◌, List, Option, ◌⊎◌, OnOk, OnErr, IfOk, IfErr, IsTrue};
 ghost use Rattle.std.specs.Option.{option_map, option_copied};
 ghost use Rattle.std.specs.FinMap as map;
-ghost use Rattle.aml_space.specs.Entries.{Entry, Body, declares, external as outside, given as said};
-ghost use Rattle.aml_space.specs.Namespace.{kind_at, count_at, namespace_of};
-ghost use Rattle.aml_space.specs.Known.{StandsFor, nothing_known, with_declared, with_external, with_given, is_declared as declared_yet, namespace_in};
-ghost use Rattle.aml_space.specs.Listed.{row_pair, row_pairs};
-ghost use Rattle.aml_space.specs.Rows.{AreRows};
+ghost use Rattle.aml_space.specs.Namespace.{Entry, Body, declares, external as outside, given as said, kind_at, count_at, namespace_of};
+ghost use Rattle.aml_space.specs.Known.{StandsFor, nothing_known, with_declared, with_external, with_given, is_declared as declared_yet, namespace_in, row_pair, row_pairs, AreRows};
 
 use crate::counting::count_of;
 use crate::faults::SpaceFault;

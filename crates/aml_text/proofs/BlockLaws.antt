@@ -8,18 +8,16 @@ use Rattle.aml_code.specs.declared.tree.Node.{Node, Nothing, Named, Op}
 use Rattle.aml_code.specs.declared.tree.Part.{Part}
 use Rattle.aml_code.specs.declared.tree.Tail.{Tail}
 use Rattle.aml_code.specs.declared.tree.Tail as tails
-use Rattle.aml_code.specs.Declaring.{last_label, last_byte}
-use Rattle.aml_code.specs.Encoding.{slice_of}
-use Rattle.aml_code.specs.Rows.{row_of}
-use Rattle.aml_code.specs.Tree.{Parts}
+use Rattle.aml_code.specs.Lawful.{last_label, last_byte}
+use Rattle.aml_code.specs.Tree.{slice_of, Parts}
+use Rattle.aml_code.specs.Opcodes.{row_of}
 use Rattle.aml_code.specs.Tree as trees
 use Rattle.aml_code.specs.View.{node_view, nodes_view, parts_view, tail_view, fields_view}
 use Rattle.aml_code.proofs.Views.{view-Nothing, view-Named, view-Op, view-tail-Empty, view-tail-Terms, view-tail-Bytes, view-tail-Elements, view-tail-Fields}
 use Rattle.aml_code.proofs.Views.{view-tail-Body}
-use Rattle.aml_text.specs.Texts.{head_text, part_texts}
-use Rattle.aml_text.specs.Lines.{deeper, lines, op_lines, opening, closing, method_text, method_head, BodyLines, first_lines, left, left_rest}
-use Rattle.aml_text.specs.Lines.{left_all, table_lines, table_op_lines, all_table_lines}
-use Rattle.aml_text.specs.Views.{node_lines}
+use Rattle.aml_text.specs.Texts.{head_text, part_texts, deeper, lines, op_lines, opening, closing, method_text, method_head, BodyLines, first_lines, left}
+use Rattle.aml_text.specs.Texts.{left_rest, left_all, table_lines, table_op_lines, all_table_lines}
+use Rattle.aml_text.specs.Listing.{node_lines}
 
 pub head_unnamed : (o : Option Name) (f : Option ℕ) (other : List ℕ) → o ≡ None → method_head o f other ≡ other
 head_unnamed o f other e = ap (λ (n : Option Name). method_head n f other) e

@@ -7,8 +7,8 @@ use Rattle.aml_text.specs.declared.bodies.Body.{Body}
 use Rattle.aml_text.specs.declared.bodies.Body.TheVariants as bodies
 use Rattle.aml_text.specs.declared.bodies.BodyText.{BodyText}
 use Rattle.aml_text.specs.declared.bodies.BodyText.TheVariants as texts
-use Rattle.aml_text.specs.Lines.{line, raw_text, BodyLines, body_lines, first_lines}
-use Rattle.aml_text.specs.Views.{node_lines, body_view, kept_lines, printed_lines}
+use Rattle.aml_text.specs.Texts.{line, raw_text, BodyLines, body_lines, first_lines}
+use Rattle.aml_text.specs.Listing.{node_lines, body_view, kept_lines, printed_lines}
 use Rattle.aml_text.proofs.LineLaws.{all_lines-map}
 
 pub first_none : {X : Type 0} (f : X → BodyLines) (xs : List X) (level : ℕ) (bs : List ℕ) → length xs ≡ 0 → first_lines (map f xs) level bs ≡ []

@@ -2,11 +2,11 @@
 use Rattle.std.proofs.Common.{◌≡◌, ℕ, ◌-◌, List, ◌++◌, length, take, append_assoc, refl, sym, ap, ◌∙◌, arith}
 use Rattle.std.proofs.lemmas.List.{length-append}
 use Rattle.std.proofs.Math.Seq.{take-append_seam}
-use Rattle.aml_code.specs.Rows.{row_of}
+use Rattle.aml_code.specs.Opcodes.{row_of}
 use Rattle.aml_code.specs.Tree.{Tree, nothing, named, op, Tail, terms, fields}
-use Rattle.text_writer.specs.Words.{word}
-use Rattle.aml_text.specs.Texts.{head_text, inline, part_texts, tail_text}
-use Rattle.aml_text.specs.Lines.{deeper, indent, line, opening, closing, block, lines, op_lines, all_lines, field_lines}
+use Rattle.text_writer.specs.Prints.{word}
+use Rattle.aml_text.specs.Texts.{head_text, inline, part_texts, tail_text, deeper, indent, line, opening, closing, block, lines, op_lines, all_lines}
+use Rattle.aml_text.specs.Texts.{field_lines}
 
 abbrev Ends : List ℕ → Type 0
 Ends text = (front : List ℕ) × (text ≡ front ++ word "\n")

@@ -1,15 +1,13 @@
 -- Bodies that print the same lines at their levels give the same blocks.
 use Rattle.std.proofs.Common.{◌≡◌, ℕ, None, List, [], ◌∷◌, ◌++◌, drop, append_assoc, refl, ap, subst, ◌∙◌}
-use Rattle.aml_code.specs.Encoding.{slice_of}
-use Rattle.aml_code.specs.Rows.{row_of}
-use Rattle.aml_code.specs.Declaring.{last_label, last_byte}
-use Rattle.aml_code.specs.Tree.{Tree, op, Trees, no_trees, tree_more, Parts, Tail, terms, body}
-use Rattle.aml_text.specs.Texts.{head_text, part_texts}
-use Rattle.aml_text.specs.Lines.{deeper, opening, closing, method_head, BodyLines, first_lines, left, left_rest, left_all, table_lines, table_op_lines}
-use Rattle.aml_text.specs.Lines.{all_table_lines, block_text, block_opening, blocks_text}
+use Rattle.aml_code.specs.Tree.{slice_of, Tree, op, Trees, no_trees, tree_more, Parts, Tail, terms, body}
+use Rattle.aml_code.specs.Opcodes.{row_of}
+use Rattle.aml_code.specs.Lawful.{last_label, last_byte}
+use Rattle.aml_text.specs.Texts.{head_text, part_texts, deeper, opening, closing, method_head, BodyLines, first_lines, left, left_rest, left_all, table_lines}
+use Rattle.aml_text.specs.Texts.{table_op_lines, all_table_lines, block_text, block_opening, blocks_text, levels_in, tail_levels, all_levels, levels_of}
+use Rattle.aml_text.specs.Texts.{AgreeAt}
 use Rattle.aml_text.specs.Listing.{blocks_of}
-use Rattle.aml_text.specs.Levels.{levels_in, tail_levels, all_levels, levels_of, AgreeAt}
-use Rattle.text_writer.specs.Words.{word}
+use Rattle.text_writer.specs.Prints.{word}
 
 first_agrees : (l : ℕ) (more : List ℕ) (fs gs : List BodyLines) (bs : List ℕ) → AgreeAt (l ∷ more) fs gs → first_lines fs l bs ≡ first_lines gs l bs
 first_agrees l more [] [] bs a = refl

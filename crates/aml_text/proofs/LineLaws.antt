@@ -13,16 +13,16 @@ use Rattle.aml_code.specs.declared.tree.Node.{Node, Nothing, Named, Op}
 use Rattle.aml_code.specs.declared.tree.Part.{Part}
 use Rattle.aml_code.specs.declared.tree.Tail.{Tail}
 use Rattle.aml_code.specs.declared.tree.Tail as tails
-use Rattle.aml_code.specs.Rows.{row_of}
+use Rattle.aml_code.specs.Opcodes.{row_of}
 use Rattle.aml_code.specs.Tree as trees
 use Rattle.aml_code.specs.View.{node_view, nodes_view, parts_view, tail_view, field_view, fields_view, link_view}
 use Rattle.aml_code.proofs.Views.{view-Nothing, view-Named, view-Op, view-tail-Empty, view-tail-Terms, view-tail-Bytes, view-tail-Elements, view-tail-Fields}
 use Rattle.aml_code.proofs.Views.{view-tail-Body, view-field-NamedUnit, view-field-Reserved, view-field-Access, view-field-Connection, view-field-Extended}
 use Rattle.aml_code.proofs.Views.{view-link-Target, view-link-Buffer}
-use Rattle.text_writer.specs.Words.{word}
-use Rattle.aml_text.specs.Texts.{name_text, head_text, part_texts, tail_text, inline}
-use Rattle.aml_text.specs.Lines.{byte_pair, byte_end, deeper, line, opening, closing, field_text, field_lines, link_text, lines, op_lines, all_lines}
-use Rattle.aml_text.specs.Views.{node_inline, node_lines, field_inline, field_line, link_inline}
+use Rattle.text_writer.specs.Prints.{word}
+use Rattle.aml_text.specs.Texts.{name_text, head_text, part_texts, tail_text, inline, byte_pair, byte_end, deeper, line, opening, closing, field_text}
+use Rattle.aml_text.specs.Texts.{field_lines, link_text, lines, op_lines, all_lines}
+use Rattle.aml_text.specs.Listing.{node_inline, node_lines, field_inline, field_line, link_inline}
 
 -- ---- connections and units
 

@@ -3,23 +3,21 @@ use Rattle.std.proofs.Common.{◌≡◌, ℕ, Bool, true, false, cond, List, [],
 use Rattle.std.specs.declared.alloc.Global.{Global}
 use Rattle.aml_names.specs.declared.names.Name.{Name}
 use Rattle.aml_code.specs.declared.packages.PkgWidth.{PkgWidth}
-use Rattle.aml_code.specs.Opcodes.{Row}
+use Rattle.aml_code.specs.Opcodes.{Row, row_of}
 use Rattle.aml_code.specs.declared.tree.Field.{Field}
 use Rattle.aml_code.specs.declared.tree.Node.{Node, Nothing, Named, Op}
 use Rattle.aml_code.specs.declared.tree.Part.{Part}
 use Rattle.aml_code.specs.declared.tree.Part as parts
 use Rattle.aml_code.specs.declared.tree.Tail.{Tail}
 use Rattle.aml_code.specs.declared.tree.Tail as tails
-use Rattle.aml_code.specs.Rows.{row_of}
 use Rattle.aml_code.specs.View.{node_view, nodes_view, part_view, parts_view, tail_view}
 use Rattle.aml_code.proofs.Views.{view-Nothing, view-Named, view-Op, view-part-Child, view-part-Label, view-part-Byte, view-part-Word, view-part-Dword}
 use Rattle.aml_code.proofs.Views.{view-part-Qword, view-part-Text, view-tail-Empty, view-tail-Terms, view-tail-Bytes, view-tail-Elements, view-tail-Fields}
 use Rattle.aml_code.proofs.Views.{view-tail-Body}
-use Rattle.text_writer.specs.Words.{word}
+use Rattle.text_writer.specs.Prints.{word, hex2, hex4, hex8, hex16, quoted}
 use Rattle.aml_text.specs.Texts.{name_text, separated_by, joined, arguments_text, braced, is_constant, head_text, inline, inlines, part_text, part_texts}
 use Rattle.aml_text.specs.Texts.{tail_text}
-use Rattle.text_writer.specs.Numbers.{hex2, hex4, hex8, hex16, quoted}
-use Rattle.aml_text.specs.Views.{node_inline, part_inline}
+use Rattle.aml_text.specs.Listing.{node_inline, part_inline}
 use Rattle.aml_text.proofs.TextLaws.{joined-map, braced-map}
 
 -- ---- lists

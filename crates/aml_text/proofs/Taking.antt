@@ -6,11 +6,10 @@ use Rattle.aml_code.specs.declared.rows.Position.{Position}
 use Rattle.aml_code.specs.declared.rows.Position.TheVariants as positions
 use Rattle.aml_code.specs.declared.rows.TailKind.{TailKind}
 use Rattle.aml_code.specs.Tree.{Tree, nothing, named, op, Trees, no_trees, tree_more, Tail, empty, terms, bytes, elements, fields, body}
-use Rattle.aml_code.specs.Declaring.{after}
-use Rattle.aml_code.specs.Lawful.{Setting, IsLawful, AreTerms, IsTail, terms_in, next_position}
+use Rattle.aml_code.specs.Lawful.{after, Setting, IsLawful, AreTerms, IsTail, terms_in, next_position}
 use Rattle.aml_load.specs.Spans.{Span, tree_spans, all_spans, tail_spans, fields_spans}
 use Rattle.aml_load.proofs.NoSpans.{terms_tail, parts_none, all_none, elements_none, fields_tail_none}
-use Rattle.aml_text.specs.Lines.{BodyLines, left, left_rest, left_all}
+use Rattle.aml_text.specs.Texts.{BodyLines, left, left_rest, left_all}
 
 takes_none : (spans : List Span) (bs : List BodyLines) → spans ≡ [] → bs ≡ drop (length spans) bs
 takes_none spans bs h = ap (λ xs. drop (length xs) bs) (sym h)

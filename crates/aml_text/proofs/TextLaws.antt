@@ -1,8 +1,7 @@
 -- Texts of lists, as loops print them.
 use Rattle.std.proofs.Common.{◌≡◌, ℕ, zero, suc, ◌+◌, add-one, List, [], ◌∷◌, ◌++◌, map, flat_map, length, replicate, refl, ap}
-use Rattle.text_writer.specs.Words.{word}
-use Rattle.aml_text.specs.Lines.{indent}
-use Rattle.aml_text.specs.Texts.{after_separator, separated_by, joined, braced}
+use Rattle.text_writer.specs.Prints.{word}
+use Rattle.aml_text.specs.Texts.{indent, after_separator, separated_by, joined, braced}
 
 pub separated-nil : {X : Type 0} (separator : List ℕ) (g : X → List ℕ) (xs : List X) → length xs ≡ 0 → separated_by separator g xs ≡ []
 unfolding separated_by

@@ -1,18 +1,18 @@
 -- The text of names and of terms on one line.
 use Rattle.std.specs.Prelude.{ℕ, Bool, true, false, cond, List, [], ◌∷◌, ◌++◌, map, flat_map, replicate, ◌&&◌, not}
-use Rattle.std.specs.Prelude.{Option, Some, None}
+use Rattle.std.specs.Prelude.{Option, Some, None, zero, suc, min, decimal, ◌+◌, ◌/◌, ◌%◌, ◌==◌, drop, ◌≡◌}
 use Rattle.aml_names.specs.declared.segments.Seg.{Seg}
 use Rattle.aml_names.specs.declared.names.Name.{Name}
 use Rattle.aml_code.specs.declared.rows.Group.{Group}
 use Rattle.aml_code.specs.declared.rows.Group.TheVariants as groups
-use Rattle.aml_code.specs.Opcodes.{Row}
+use Rattle.aml_code.specs.Opcodes.{Row, row_of, has_length}
 use Rattle.aml_code.specs.declared.rows.PartKind.{PartKind}
-use Rattle.aml_code.specs.Rows.{row_of, has_length}
 use Rattle.aml_code.specs.Tree.{Tree, nothing, named, op, Trees, no_trees, tree_more, Part, child, label, byte}
 use Rattle.aml_code.specs.Tree.{word as word_part, dword, qword, text as text_part, Parts, no_parts, part_more, Tail}
-use Rattle.aml_code.specs.Tree.{bytes, elements}
-use Rattle.text_writer.specs.Words.{word}
-use Rattle.text_writer.specs.Numbers.{hex2, hex4, hex8, hex16, quoted}
+use Rattle.aml_code.specs.Tree.{bytes, elements, terms, fields, body, Field, unit, reserved, access, connection}
+use Rattle.aml_code.specs.Tree.{extended, Fields, no_fields, field_more, Link, target, buffer, slice_of}
+use Rattle.text_writer.specs.Prints.{word, hex2, hex4, hex8, hex16, quoted}
+use Rattle.aml_code.specs.Lawful.{last_label, last_byte}
 
 -- an item's text behind a separator
 unfoldable pub after_separator : {X : Type 0} → List ℕ → (X → List ℕ) → X → List ℕ
@@ -96,3 +96,213 @@ abbrev mutual
   tail_text (bytes bs) = braced (map hex2 bs)
   tail_text (elements ts) = braced (inlines ts)
   tail_text _ = []
+
+-- ---- The lines of terms, of field lists, of methods and of definition blocks.
+
+-- the level below (a machine number)
+abbrev pub deeper : ℕ → ℕ
+deeper level = min (level + 1) 4294967295
+
+-- two spaces for each level
+unfoldable pub indent : ℕ → List ℕ
+indent zero = []
+indent (suc n) = indent n ++ word "  "
+
+-- a line
+unfoldable pub line : ℕ → List ℕ → List ℕ
+line level text = indent level ++ text ++ word "\n"
+
+-- the first line of a block, and its last
+unfoldable pub opening : ℕ → List ℕ → List ℕ
+opening level head = indent level ++ head ++ word " {\n"
+
+unfoldable pub closing : ℕ → List ℕ
+closing level = indent level ++ word "}\n"
+
+-- lines between braces: HEAD {
+--   ..
+-- }
+abbrev pub block : ℕ → List ℕ → List ℕ → List ℕ
+block level head inside = opening level head ++ inside ++ closing level
+
+-- ---- field lists
+
+abbrev pub link_text : Link → List ℕ
+link_text (target n) = name_text n
+link_text (buffer t) = inline t
+
+-- two bytes as constants
+unfoldable pub byte_pair : ℕ → ℕ → List ℕ
+byte_pair a b = (word "0x" ++ hex2 a) ++ word ", " ++ (word "0x" ++ hex2 b)
+
+unfoldable pub byte_end : ℕ → List ℕ
+byte_end c = word ", " ++ (word "0x" ++ hex2 c) ++ word ")"
+
+-- the text of an element of a field list:
+--   FLD0, 8
+--   Reserved, 8
+--   Access (0x01, 0x00)
+--   Connection (I2C0)
+--   ExtendedAccess (0x01, 0x00, 0x04)
+abbrev pub field_text : Field → List ℕ
+field_text (unit s w n) = s.0 ++ word ", " ++ decimal n
+field_text (reserved w n) = word "Reserved, " ++ decimal n
+field_text (access a b) = word "Access (" ++ byte_pair a b ++ word ")"
+field_text (connection l) = word "Connection (" ++ link_text l ++ word ")"
+field_text (extended a b c) = word "ExtendedAccess (" ++ byte_pair a b ++ byte_end c
+
+abbrev pub field_lines : ℕ → Fields → List ℕ
+field_lines level no_fields = []
+field_lines level (field_more u us) = line level (field_text u) ++ field_lines level us
+
+-- ---- terms
+
+-- The lines of a term: a block where it has terms or a field list in it, as Scope (\_SB_) { .. }, else one line, as
+-- Store (Zero, Local0).
+abbrev mutual
+  pub lines : ℕ → Tree → List ℕ
+  lines level nothing = line level []
+  lines level (named n ts) = line level (inline (named n ts))
+  lines level (op o w ps t) = op_lines level (head_text (row_of o) (part_texts ps)) t
+
+  pub op_lines : ℕ → List ℕ → Tail → List ℕ
+  op_lines level head (terms ts) = block level head (all_lines (deeper level) ts)
+  op_lines level head (fields us) = block level head (field_lines (deeper level) us)
+  op_lines level head t = line level (head ++ tail_text t)
+
+  pub all_lines : ℕ → Trees → List ℕ
+  all_lines level no_trees = []
+  all_lines level (tree_more t ts) = lines level t ++ all_lines level ts
+
+-- ---- methods
+
+-- what became of a method's body: its terms, or its bytes as they are
+pub data OneBody : Type 0 where
+  read : Trees → OneBody
+  raw : OneBody
+
+-- bit 3 of a method's flags (ACPI 6.5, 20.2.5.2)
+unfoldable pub serialized_text : ℕ → List ℕ
+serialized_text flags = cond (flags / 8 % 2 == 1) (word ", Serialized") (word ", NotSerialized")
+
+unfoldable pub comma_decimal : ℕ → List ℕ
+comma_decimal n = word ", " ++ decimal n
+
+-- the number of arguments, whether the method is serialized, and its sync level
+unfoldable pub flags_text : ℕ → List ℕ
+flags_text flags = comma_decimal (flags % 8) ++ serialized_text flags ++ comma_decimal (flags / 16)
+
+-- a method's name and flags: Method (FOO_, 2, NotSerialized, 0)
+unfoldable pub method_text : Name → ℕ → List ℕ
+method_text n flags = word "Method (" ++ name_text n ++ flags_text flags ++ word ")"
+
+-- the head of a method, by its name and flags, if its parts have them
+abbrev pub method_head : Option Name → Option ℕ → List ℕ → List ℕ
+method_head (Some n) (Some flags) other = method_text n flags
+method_head (Some n) None other = other
+method_head None flags other = other
+
+-- the bytes of a body that can't be read: Raw {A4, 5A}
+unfoldable pub raw_text : List ℕ → List ℕ
+raw_text bs = word "Raw {" ++ separated_by (word ", ") hex2 bs ++ word "}"
+
+-- the lines of a body: by the level at which they stand, and by the body's bytes
+abbrev pub BodyLines : Type 0
+BodyLines = ℕ → List ℕ → List ℕ
+
+-- its terms, or its bytes where it can't be read
+abbrev pub body_lines : OneBody → BodyLines
+body_lines (read ts) level bs = all_lines level ts
+body_lines raw level bs = line level (raw_text bs)
+
+-- the lines of the first of some bodies
+abbrev pub first_lines : List BodyLines → BodyLines
+first_lines [] level bs = []
+first_lines (b ∷ others) level bs = b level bs
+
+-- ---- definition blocks
+
+-- the bodies that are left after those of a term, each method taking one in the order of the text
+abbrev mutual
+  pub left : Tree → List BodyLines → List BodyLines
+  left (op o w ps t) bs = left_rest t bs
+  left _ bs = bs
+
+  pub left_rest : Tail → List BodyLines → List BodyLines
+  left_rest (terms ts) bs = left_all ts bs
+  left_rest (body start len) bs = drop 1 bs
+  left_rest _ bs = bs
+
+  pub left_all : Trees → List BodyLines → List BodyLines
+  left_all no_trees bs = bs
+  left_all (tree_more t ts) bs = left_all ts (left t bs)
+
+-- the lines of a term of a table: those of a term, but for a method's body
+abbrev mutual
+  pub table_lines : List ℕ → ℕ → Tree → List BodyLines → List ℕ
+  table_lines code level (op o w ps t) bs = table_op_lines code level o ps t bs
+  table_lines code level t bs = lines level t
+
+  pub table_op_lines : List ℕ → ℕ → ℕ → Parts → Tail → List BodyLines → List ℕ
+  table_op_lines code level o ps (terms ts) bs = block level (head_text (row_of o) (part_texts ps))
+      (all_table_lines code (deeper level) ts bs)
+  table_op_lines code level o ps (body start len) bs =
+      block level (method_head (last_label None ps) (last_byte None ps) (head_text (row_of o) (part_texts ps)))
+      (first_lines bs (deeper level) (slice_of code start len))
+  table_op_lines code level o ps t bs = op_lines level (head_text (row_of o) (part_texts ps)) t
+
+  pub all_table_lines : List ℕ → ℕ → Trees → List BodyLines → List ℕ
+  all_table_lines code level no_trees bs = []
+  all_table_lines code level (tree_more t ts) bs = table_lines code level t bs
+      ++ all_table_lines code level ts (left t bs)
+
+-- DefinitionBlock ("dsdt.dat") {
+unfoldable pub block_opening : List ℕ → List ℕ
+block_opening name = word "DefinitionBlock (" ++ quoted name ++ word ") {\n"
+
+-- a definition block, by its table's file name
+unfoldable pub block_text : List ℕ → List ℕ → Trees → List BodyLines → List ℕ
+block_text name code ts bs = block_opening name ++ all_table_lines code 1 ts bs ++ word "}\n"
+
+-- a table that is printed as a definition block
+pub record OneBlock : Type 0 where
+  pub name : List ℕ
+  pub code : List ℕ
+  pub terms : Trees
+
+-- definition blocks, one after the other: each takes the bodies of its own methods, and the next one those that are
+-- left
+abbrev pub blocks_text : List OneBlock → List BodyLines → List ℕ
+blocks_text [] bs = []
+blocks_text (b ∷ others) bs = block_text b.name b.code b.terms bs ++ blocks_text others (left_all b.terms bs)
+
+-- ---- A stepping stone of the proofs: the levels at which the bodies of tables are printed, in the order of the text.
+
+abbrev mutual
+  -- of the bodies in a term of a table
+  pub levels_in : ℕ → Tree → List ℕ
+  levels_in level (op o w ps t) = tail_levels (deeper level) t
+  levels_in level _ = []
+
+  -- of those in a tail whose terms stand at this level
+  pub tail_levels : ℕ → Tail → List ℕ
+  tail_levels level (terms ts) = all_levels level ts
+  tail_levels level (body start len) = level ∷ []
+  tail_levels level _ = []
+
+  pub all_levels : ℕ → Trees → List ℕ
+  all_levels level no_trees = []
+  all_levels level (tree_more t ts) = levels_in level t ++ all_levels level ts
+
+-- of those in tables, one after the other
+abbrev pub levels_of : List Trees → List ℕ
+levels_of [] = []
+levels_of (ts ∷ others) = all_levels 1 ts ++ levels_of others
+
+-- bodies print the same lines at these levels
+abbrev pub AgreeAt : List ℕ → List BodyLines → List BodyLines → Type 0
+AgreeAt [] fs gs = Unit {0}
+AgreeAt (l ∷ ls) [] [] = AgreeAt ls [] []
+AgreeAt (l ∷ ls) [] (g ∷ gs) = ⊥
+AgreeAt (l ∷ ls) (f ∷ fs) [] = ⊥
+AgreeAt (l ∷ ls) (f ∷ fs) (g ∷ gs) = ((bytes : List ℕ) → f l bytes ≡ g l bytes) × AgreeAt ls fs gs

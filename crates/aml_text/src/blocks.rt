@@ -3,9 +3,9 @@
 
 ghost use Rattle.std.specs.Prelude.{◌≡◌, ◌++◌};
 ghost use Rattle.aml_code.specs.View.{node_view, nodes_view, parts_view, tail_view};
-ghost use Rattle.aml_text.specs.Views.{bodies_lines, head_of, method_head_of};
+ghost use Rattle.aml_text.specs.Listing.{bodies_lines, head_of, method_head_of};
 ghost use Rattle.text_writer.specs.Prints.{Prints};
-ghost use Rattle.aml_text.specs.Lines.{deeper, opening, closing, serialized_text, comma_decimal, flags_text, method_text, first_lines, left, left_rest, left_all, table_lines, table_op_lines, all_table_lines, block_opening, block_text};
+ghost use Rattle.aml_text.specs.Texts.{deeper, opening, closing, serialized_text, comma_decimal, flags_text, method_text, first_lines, left, left_rest, left_all, table_lines, table_op_lines, all_table_lines, block_opening, block_text};
 
 use crate::bodies::{Bodies, print_first};
 use crate::lines::{print_closing, print_indent, print_lines, print_op_lines, print_opening};

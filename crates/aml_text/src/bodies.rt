@@ -3,8 +3,8 @@
 
 ghost use Rattle.std.specs.Prelude.{◌≡◌, drop, map};
 ghost use Rattle.text_writer.specs.Prints.{Prints};
-ghost use Rattle.aml_text.specs.Lines.{line, raw_text, body_lines, first_lines};
-ghost use Rattle.aml_text.specs.Views.{body_view, kept_lines, printed_lines, bodies_lines};
+ghost use Rattle.aml_text.specs.Texts.{line, raw_text, body_lines, first_lines};
+ghost use Rattle.aml_text.specs.Listing.{body_view, kept_lines, printed_lines, bodies_lines};
 
 use crate::lines::{print_indent, print_terms};
 use crate::texts::print_bytes;

@@ -3,11 +3,9 @@
 
 ghost use Rattle.std.specs.Prelude.{◌++◌, decimal, flat_map};
 ghost use Rattle.aml_code.specs.View.{parts_view, tail_view};
-ghost use Rattle.text_writer.specs.Prints.{Prints};
-ghost use Rattle.text_writer.specs.Words.{word};
-ghost use Rattle.aml_text.specs.Texts.{tail_text};
-ghost use Rattle.aml_text.specs.Lines.{byte_pair, byte_end, deeper, indent, line, opening, closing, op_lines};
-ghost use Rattle.aml_text.specs.Views.{head_of, node_inline, node_lines, field_inline, field_line, link_inline};
+ghost use Rattle.text_writer.specs.Prints.{Prints, word};
+ghost use Rattle.aml_text.specs.Texts.{tail_text, byte_pair, byte_end, deeper, indent, line, opening, closing, op_lines};
+ghost use Rattle.aml_text.specs.Listing.{head_of, node_inline, node_lines, field_inline, field_line, link_inline};
 
 use crate::texts::{print_byte, print_head, print_inline, print_tail};
 use crate::words::print_name;

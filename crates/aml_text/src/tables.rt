@@ -1,10 +1,8 @@
 //! The definition blocks of a listing.
 ghost use Rattle.std.specs.Prelude.{◌≡◌, ◌<◌, length, slice_index, slice_index_or};
 ghost use Rattle.text_writer.specs.Prints.{Prints};
-ghost use Rattle.aml_text.specs.Lines.{OneBlock, blocks_text};
-ghost use Rattle.aml_text.specs.Matched.{indexes_in};
-ghost use Rattle.aml_text.specs.Views.{block_view, bodies_lines};
-ghost use Rattle.aml_text.specs.Listing.{blocks_at};
+ghost use Rattle.aml_text.specs.Texts.{OneBlock, blocks_text};
+ghost use Rattle.aml_text.specs.Listing.{indexes_in, block_view, bodies_lines, blocks_at};
 
 use crate::blocks::{Block, print_block};
 use crate::bodies::Bodies;

@@ -2,13 +2,11 @@
 #![tactic(auto, using(text_writer::proofs::PrintLaws::straight))]
 
 ghost use Rattle.std.specs.Prelude.{◌≡◌, ◌++◌, Some, map};
-ghost use Rattle.aml_code.specs.Rows.{row_of, row_view};
+ghost use Rattle.aml_code.specs.Opcodes.{row_of, row_view};
 ghost use Rattle.aml_code.specs.View.{nodes_view, parts_view, tail_view};
-ghost use Rattle.text_writer.specs.Prints.{Prints};
-ghost use Rattle.text_writer.specs.Words.{word};
+ghost use Rattle.text_writer.specs.Prints.{Prints, word, hex2, hex4, hex8, hex16};
 ghost use Rattle.aml_text.specs.Texts.{name_text, after_separator, separated_by, arguments_text, braced, is_constant, head_text, part_texts, inlines, tail_text};
-ghost use Rattle.text_writer.specs.Numbers.{hex2, hex4, hex8, hex16};
-ghost use Rattle.aml_text.specs.Views.{node_inline, part_inline};
+ghost use Rattle.aml_text.specs.Listing.{node_inline, part_inline};
 
 use crate::words::print_name;
 use aml_code::{Bytes, Group, Name, Node, OpRow, Part, Tail, listed_row};

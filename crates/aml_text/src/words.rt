@@ -2,8 +2,7 @@
 #![tactic(auto, using(text_writer::proofs::PrintLaws::straight))]
 
 ghost use Rattle.std.specs.Prelude.{[], cond, replicate};
-ghost use Rattle.text_writer.specs.Prints.{Prints};
-ghost use Rattle.text_writer.specs.Words.{word};
+ghost use Rattle.text_writer.specs.Prints.{Prints, word};
 ghost use Rattle.aml_text.specs.Texts.{after_separator, separated_by, prefix_text, segment_text, name_text};
 
 use aml_code::{Name, Seg};

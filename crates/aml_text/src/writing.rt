@@ -2,11 +2,9 @@
 ghost use Rattle.std.specs.Prelude.{◌≡◌, ◌++◌, true, map, flat_map, IfOk, IfSome};
 ghost use Rattle.acpi_tables.specs.Order.{AreTaken};
 ghost use Rattle.aml_code.specs.View.{node_view, nodes_view};
-ghost use Rattle.text_writer.specs.Prints.{Prints, Writes};
-ghost use Rattle.text_writer.specs.Words.{word};
-ghost use Rattle.aml_text.specs.Lines.{lines, all_lines};
-ghost use Rattle.aml_text.specs.Listing.{set_text, shown_text};
-ghost use Rattle.aml_text.specs.Views.{IsText, node_lines, printed_lines, bodies_lines};
+ghost use Rattle.text_writer.specs.Prints.{Prints, Writes, word};
+ghost use Rattle.aml_text.specs.Texts.{lines, all_lines};
+ghost use Rattle.aml_text.specs.Listing.{set_text, shown_text, IsText, node_lines, printed_lines, bodies_lines};
 
 use crate::bodies::{Bodies, BodyText};
 use crate::bounded::Bounded;

@@ -11,11 +11,9 @@ use Rattle.std.proofs.Math.Seq.{take-add}
 use Rattle.std.proofs.lemmas.List.{get_or_default, take_all, take_more}
 use Rattle.std.proofs.lemmas.Grind.{flat_map-append}
 use Rattle.std.proofs.lemmas.Bool.Decides.{nat_tests}
-use Rattle.text_writer.specs.Words.{word}
-use Rattle.text_writer.specs.Waiting.{waiting}
+use Rattle.text_writer.specs.Prints.{word, waiting, Sends, PrintsBy, Prints, Writes}
 use Rattle.text_writer.specs.declared.output.Out.{Out}
 use Rattle.text_writer.specs.declared.output.WriteFault.{WriteFault}
-use Rattle.text_writer.specs.Prints.{Sends, PrintsBy, Prints, Writes}
 
 -- what is sent after a first part, of a text after a first text
 joined_whole : (before now xs ys sent more end : List ℕ) → before ++ xs ≡ sent ++ now → now ++ ys ≡ more ++ end → before ++ (xs ++ ys) ≡ (sent ++ more) ++ end

@@ -1,10 +1,61 @@
--- What a writer took, and how much of it.
-use Rattle.std.specs.Prelude.{◌≡◌, ℕ, ◌+◌, ◌-◌, ◌^◌, ◌<◌, min, Bool, true, false}
-use Rattle.std.specs.Prelude.{List, [], ◌++◌, length, Option, Result, MatchResult}
+-- A fixed word of the text. It stays closed, so that a text reads in a goal as it stands in its definition.
+use Prim.Native.String.{String}
+use Rattle.std.specs.Prelude.{ℕ, List, codes, Bool, ◌/◌, ◌%◌, [], ◌∷◌, ◌++◌, flat_map, slice_index, nat_eq, nat_le}
+use Rattle.std.specs.Prelude.{◌&&◌, not, if◌then◌else◌, take, ◌≡◌, ◌+◌, ◌-◌, ◌^◌, ◌<◌, min, true, false, length, Option}
+use Rattle.std.specs.Prelude.{Result, MatchResult}
+use Rattle.text_writer.specs.declared.pending.Pending.{Pending}
 use Rattle.std.specs.Io.KnownBytes.{Appends}
-use Rattle.text_writer.specs.Waiting.{waiting}
 use Rattle.text_writer.specs.declared.output.Out.{Out}
 use Rattle.text_writer.specs.declared.output.WriteFault.{WriteFault}
+
+-- the bytes of this word
+unfoldable pub word : String → List ℕ
+word s = codes s
+
+-- ---- The text of numbers and of quoted bytes.
+
+-- a hexadecimal digit
+unfoldable pub hex_digit : ℕ → ℕ
+hex_digit n = slice_index (codes "0123456789ABCDEF") n
+
+-- a byte in two digits
+unfoldable pub hex2 : ℕ → List ℕ
+hex2 n = hex_digit (n / 16) ∷ hex_digit (n % 16) ∷ []
+
+-- numbers in four, eight and sixteen digits
+unfoldable pub hex4 : ℕ → List ℕ
+hex4 n = hex2 (n / 256) ++ hex2 (n % 256)
+
+unfoldable pub hex8 : ℕ → List ℕ
+hex8 n = hex4 (n / 65536) ++ hex4 (n % 65536)
+
+unfoldable pub hex16 : ℕ → List ℕ
+hex16 n = hex8 (n / 4294967296) ++ hex8 (n % 4294967296)
+
+-- printable ASCII but the quote and the backslash
+unfoldable pub is_plain : ℕ → Bool
+is_plain b = nat_le 32 b && nat_le b 126 && not (nat_eq b 34) && not (nat_eq b 92)
+
+-- such a byte stands as it is, and any other is escaped
+unfoldable pub quoted_byte : ℕ → List ℕ
+quoted_byte b = if is_plain b then b ∷ [] else word "\\x" ++ hex2 b
+
+-- the bytes between quotes
+unfoldable pub quoted : List ℕ → List ℕ
+quoted bs = word "\"" ++ flat_map quoted_byte bs ++ word "\""
+
+-- ---- The bytes that wait to be written.
+
+-- the bytes that wait
+abbrev pub waiting : Pending → List ℕ
+waiting p = take p.len p.bytes
+
+-- ---- How many bytes can wait.
+
+abbrev pub most_waiting : ℕ
+most_waiting = 4096
+
+-- ---- What a writer took, and how much of it.
 
 -- the writer grew by these bytes, and the count by their length, up to `u64::MAX`
 pub record Sends {W : Type 0} (contents : W → Option (List ℕ)) (before after : Out W) (bytes : List ℕ) : Type 0 where

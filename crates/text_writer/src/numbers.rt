@@ -1,7 +1,6 @@
 //! Numbers in hexadecimal and decimal digits, and bytes between quotes.
 ghost use Rattle.std.specs.Prelude.{◌≡◌, decimal};
-ghost use Rattle.text_writer.specs.Prints.{Prints};
-ghost use Rattle.text_writer.specs.Numbers.{hex2, hex4, hex8, hex16, is_plain, quoted_byte, quoted};
+ghost use Rattle.text_writer.specs.Prints.{Prints, hex2, hex4, hex8, hex16, is_plain, quoted_byte, quoted};
 
 use crate::output::Out;
 use itoa::Buffer;

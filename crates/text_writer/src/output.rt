@@ -2,8 +2,7 @@
 ghost use Rattle.std.specs.Prelude.{◌≡◌, ◌≤◌, ◌∷◌, length, take, [], true, false, OnOk, IfErr, IfSome};
 ghost use Rattle.std.specs.Option.{unwrap_or};
 ghost use Rattle.std.specs.Io.KnownBytes.{Appends};
-ghost use Rattle.text_writer.specs.Waiting.{waiting};
-ghost use Rattle.text_writer.specs.Prints.{Prints};
+ghost use Rattle.text_writer.specs.Prints.{waiting, Prints};
 
 use crate::pending::Pending;
 use std::io::{ErrorKind, Write};

@@ -1,6 +1,6 @@
 //! Bytes that wait to be written, on the stack.
 ghost use Rattle.std.specs.Prelude.{◌≤◌};
-ghost use Rattle.text_writer.specs.Room.{most_waiting};
+ghost use Rattle.text_writer.specs.Prints.{most_waiting};
 
 /// How many bytes can wait.
 const ROOM: usize = 4096;
@@ -15,7 +15,7 @@ pub struct Pending {
 
 impl Pending {
     ghost use Rattle.std.specs.Prelude.{◌≡◌, ◌+◌, ◌++◌, ◌∷◌, [], length};
-    ghost use Rattle.text_writer.specs.Waiting.{waiting};
+    ghost use Rattle.text_writer.specs.Prints.{waiting};
 
     /// No bytes.
     pub fn new() -> Pending

@@ -2,8 +2,7 @@
 
 ghost use Rattle.std.specs.Prelude.{◌≡◌, ℕ, ◌+◌, ◌<◌, ◌≤◌, ◌++◌, ◌∷◌, [], ◌↔◌, IfOk, IfSome, IfNone, IsTrue, All};
 ghost use Rattle.aml_pool.specs.Counting.{times, IsOnce};
-ghost use Rattle.aml_pool.specs.Machine.{IsDraw};
-ghost use Rattle.aml_pool.specs.Rule.{kept, given, FollowsMachine};
+ghost use Rattle.aml_pool.specs.Machine.{IsDraw, kept, given, FollowsMachine};
 ghost use Rattle.aml_pool.specs.Seats.{count_of, numbers_of, weight_of, HasEnded, IsDrawing, claimant_of, IsSeatOf};
 
 use crate::board::{Board, DrawPlay, Drawn, LookPlay, Part, Seat, SeatJoin, SeatSplit, View};

@@ -1,6 +1,6 @@
 use Rattle.std.proofs.Common.{◌≡◌, zero-add, arith}
 use Rattle.std.proofs.lemmas.List.FromFn.{map-range_with_len_more}
-use Rattle.acpi_tables.specs.Addresses.{address_at, address_count, addresses_of}
+use Rattle.acpi_tables.specs.Header.{address_at, address_count, addresses_of}
 use Rattle.acpi_tables.proofs.addresses.addresses_of.Goals as goal
 
 pub loop-index-preserved : goal.loop-index-preserved

@@ -1,7 +1,7 @@
 use Rattle.std.proofs.Common.{◌≡◌, ◌++◌, [], filter_map, map, ap, sym, ◌∙◌, arith}
 use Rattle.std.proofs.lemmas.List.{append-nil}
 use Rattle.std.specs.List.{cons_option, range_with_len}
-use Rattle.acpi_tables.specs.Addresses.{address_at, address_count, addresses_of}
+use Rattle.acpi_tables.specs.Header.{address_at, address_count, addresses_of}
 use Rattle.acpi_tables.specs.Order.{dump_at}
 use Rattle.acpi_tables.proofs.Once.{given_more}
 use Rattle.acpi_tables.proofs.by_chain.listed_in.Goals as goal

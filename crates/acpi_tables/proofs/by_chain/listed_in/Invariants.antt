@@ -1,6 +1,6 @@
 use Rattle.std.proofs.Common.{◌≡◌, map, filter_map}
 use Rattle.std.specs.List.{range_with_len}
-use Rattle.acpi_tables.specs.Addresses.{address_at}
+use Rattle.acpi_tables.specs.Header.{address_at}
 use Rattle.acpi_tables.specs.Order.{dump_at}
 use Rattle.acpi_tables.proofs.by_chain.listed_in.Given as goal
 

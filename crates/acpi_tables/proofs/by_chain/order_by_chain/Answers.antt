@@ -1,6 +1,5 @@
 use Rattle.std.proofs.Common.{true, codes, sym, ap, subst, ◌∙◌}
-use Rattle.acpi_tables.specs.Header.{HoldsTable, table_of}
-use Rattle.acpi_tables.specs.Rsdp.{HoldsRoot}
+use Rattle.acpi_tables.specs.Header.{HoldsTable, table_of, HoldsRoot}
 use Rattle.acpi_tables.specs.Fadt.{HoldsFadt}
 use Rattle.acpi_tables.specs.Order.{has_signature}
 use Rattle.acpi_tables.proofs.Signatures.{root_holds, list_holds, fadt_holds, root_of-signed, find-passes}

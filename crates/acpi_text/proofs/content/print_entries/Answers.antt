@@ -3,7 +3,7 @@ use Rattle.std.specs.List.{range_with_len}
 use Rattle.std.proofs.lemmas.List.FromFn.{map-range_with_len_more}
 use Rattle.text_writer.specs.Prints.{Prints}
 use Rattle.text_writer.proofs.PrintLaws.{prints_then}
-use Rattle.acpi_tables.specs.Addresses.{address_bytes, address_count}
+use Rattle.acpi_tables.specs.Header.{address_bytes, address_count}
 use Rattle.acpi_text.specs.Dumps.{entry_line, entry_lines}
 use Rattle.acpi_text.proofs.Views.{flat_map-push}
 use Rattle.acpi_text.proofs.content.print_entries.Goals as goal

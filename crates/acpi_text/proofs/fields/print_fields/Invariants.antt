@@ -1,6 +1,6 @@
 use Rattle.std.proofs.Common.{take, flat_map}
 use Rattle.text_writer.specs.Prints.{Prints}
-use Rattle.acpi_tables.specs.Fields.{field_view}
+use Rattle.acpi_tables.specs.Bytes.{field_view}
 use Rattle.acpi_text.specs.Dumps.{field_text}
 use Rattle.acpi_text.proofs.fields.print_fields.Given as goal
 

@@ -1,6 +1,5 @@
 use Rattle.std.proofs.Common.{take, flat_map, reverse}
-use Rattle.text_writer.specs.Prints.{Prints}
-use Rattle.text_writer.specs.Numbers.{hex2}
+use Rattle.text_writer.specs.Prints.{Prints, hex2}
 use Rattle.acpi_text.proofs.fields.print_reversed.Given as goal
 
 abbrev pub invariant-loop-done : goal.invariant-loop-done

@@ -1,4 +1,4 @@
-use Rattle.text_writer.specs.Words.{word}
+use Rattle.text_writer.specs.Prints.{word}
 use Rattle.text_writer.proofs.PrintLaws.{prints_then}
 use Rattle.acpi_text.specs.Dumps.{controller_text}
 use Rattle.acpi_text.proofs.records.print_controller.Goals as goal

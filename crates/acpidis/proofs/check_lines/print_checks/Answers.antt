@@ -3,9 +3,8 @@ use Rattle.std.proofs.Common.{◌≡◌, ◌<◌, false, get_or, length, sym, �
 use Rattle.std.proofs.lemmas.List.{get_or_default}
 use Rattle.std.proofs.lemmas.Slice.Zip.{length-zip, get_or-zip}
 use Rattle.text_writer.proofs.PrintLaws.{prints_none, prints_turn, prints_end}
-use Rattle.aml_text.specs.Lines.{OneBlock}
-use Rattle.aml_text.specs.Listing.{blocks_at}
-use Rattle.aml_text.specs.Views.{block_view}
+use Rattle.aml_text.specs.Texts.{OneBlock}
+use Rattle.aml_text.specs.Listing.{blocks_at, block_view}
 use Rattle.aml_text.proofs.ListingLaws.{blocks_many}
 use Rattle.acpidis.specs.Checks.{check_line}
 use Rattle.acpidis.specs.declared.checking.Checked.{Checked}

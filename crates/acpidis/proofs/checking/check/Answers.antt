@@ -1,9 +1,7 @@
 use Rattle.std.proofs.Common.{map, ap, ◌∙◌}
 use Rattle.aml_load.specs.Views.{codes_view}
-use Rattle.aml_text.specs.Listing.{blocks_at, blocks_in, blocks_with}
-use Rattle.aml_text.specs.Views.{body_view}
-use Rattle.acpidis.specs.Checks.{marks_of}
-use Rattle.acpidis.specs.Tallies.{uncounted, tallied}
+use Rattle.aml_text.specs.Listing.{blocks_at, blocks_in, blocks_with, body_view}
+use Rattle.acpidis.specs.Checks.{marks_of, uncounted, tallied}
 use Rattle.acpidis.proofs.CheckLaws.{under_new, from_nothing}
 use Rattle.acpidis.proofs.checking.check.Goals as goal
 

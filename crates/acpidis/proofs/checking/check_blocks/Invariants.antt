@@ -1,6 +1,6 @@
 use Rattle.std.proofs.Common.{◌≡◌, map, take}
 use Rattle.aml_text.specs.Listing.{blocks_at}
-use Rattle.acpidis.specs.Tallies.{uncounted}
+use Rattle.acpidis.specs.Checks.{uncounted}
 use Rattle.acpidis.proofs.checking.check_blocks.Given as goal
 
 abbrev pub invariant-loop-table : goal.invariant-loop-table

@@ -1,6 +1,6 @@
 use Rattle.std.proofs.Common.{◌∙◌}
 use Rattle.aml_text.specs.Listing.{blocks_at}
-use Rattle.acpidis.specs.Tallies.{tallied, tried_marks}
+use Rattle.acpidis.specs.Checks.{tallied, tried_marks}
 use Rattle.acpidis.proofs.CheckLaws.{under_new, from_nothing}
 use Rattle.acpidis.proofs.checking.check_tables.Goals as goal
 

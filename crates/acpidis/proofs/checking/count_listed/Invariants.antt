@@ -1,6 +1,6 @@
 use Rattle.std.proofs.Common.{map}
 use Rattle.aml_load.specs.Views.{codes_view}
-use Rattle.aml_text.specs.Views.{body_view}
+use Rattle.aml_text.specs.Listing.{body_view}
 use Rattle.acpidis.specs.Checks.{marks_of}
 use Rattle.acpidis.proofs.CheckLaws.{Counted}
 use Rattle.acpidis.proofs.checking.count_listed.Given as goal

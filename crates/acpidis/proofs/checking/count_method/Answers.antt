@@ -1,5 +1,5 @@
 use Rattle.std.proofs.Common.{ap, ◌∙◌, arith}
-use Rattle.acpidis.specs.Tallies.{added}
+use Rattle.acpidis.specs.Checks.{added}
 use Rattle.acpidis.proofs.CheckLaws.{set_is, past_is}
 use Rattle.acpidis.proofs.checking.count_method.Goals as goal
 

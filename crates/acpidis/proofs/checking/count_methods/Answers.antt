@@ -1,5 +1,5 @@
 use Rattle.std.proofs.Common.{arith}
-use Rattle.acpidis.specs.Tallies.{tried_marks}
+use Rattle.acpidis.specs.Checks.{tried_marks}
 use Rattle.acpidis.proofs.CheckLaws.{tried_many, tried_more, counted_all}
 use Rattle.acpidis.proofs.checking.count_methods.Goals as goal
 

@@ -3,9 +3,7 @@ use Rattle.std.proofs.Common.{◌≡◌, sym, ap, ◌∙◌}
 use Rattle.std.proofs.lemmas.Result.{err_from_is_err_and}
 use Rattle.aml_load.specs.Views.{codes_view}
 use Rattle.aml_text.specs.Listing.{blocks_at}
-use Rattle.acpidis.specs.Checks.{all_same, checks_from}
-use Rattle.acpidis.specs.Kept.{AreKeptOf, HasTrials}
-use Rattle.acpidis.specs.Tallies.{tried_marks}
+use Rattle.acpidis.specs.Checks.{all_same, checks_from, AreKeptOf, HasTrials, tried_marks}
 use Rattle.acpidis.proofs.RunLaws.{trials_output, trials_same, cut_so}
 use Rattle.acpidis.proofs.running.run_checks.Goals as goal
 

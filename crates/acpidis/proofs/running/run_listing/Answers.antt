@@ -1,8 +1,8 @@
 use Rattle.std.proofs.Common.{ap, ◌∙◌}
 use Rattle.std.proofs.lemmas.Result.{err_from_is_err_and}
 use Rattle.aml_load.specs.Views.{trees_view}
-use Rattle.aml_text.specs.Levels.{levels_of}
-use Rattle.acpidis.specs.Kept.{AreKeptOf, HasTexts}
+use Rattle.aml_text.specs.Texts.{levels_of}
+use Rattle.acpidis.specs.Checks.{AreKeptOf, HasTexts}
 use Rattle.acpidis.proofs.RunLaws.{texts_output, cut_so}
 use Rattle.acpidis.proofs.running.run_listing.Goals as goal
 

@@ -1,5 +1,5 @@
 use Rattle.std.proofs.Common.{◌≡◌, drop}
-use Rattle.acpidis.specs.Kept.{has_fault}
+use Rattle.acpidis.specs.Checks.{has_fault}
 use Rattle.acpidis.proofs.running.status_of_bodies.Given as goal
 
 abbrev pub invariant-loop-body : goal.invariant-loop-body

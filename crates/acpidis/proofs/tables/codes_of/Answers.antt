@@ -1,6 +1,6 @@
 use Rattle.std.proofs.Common.{ap, sym, subst, ◌∙◌}
 use Rattle.acpi_tables.specs.Header.{HoldsTable}
-use Rattle.acpidis.specs.Tables.{aml_of}
+use Rattle.acpidis.specs.Bodies.{aml_of}
 use Rattle.acpidis.proofs.TableLaws.{table_at, codes_turn}
 use Rattle.acpidis.proofs.tables.codes_of.Goals as goal
 

@@ -1,5 +1,5 @@
 use Rattle.aml_code.specs.View.{node_view, parts_view, tail_view}
-use Rattle.aml_code.specs.Encoding.{encoding, parts_encoding, tail_encoding}
+use Rattle.aml_code.specs.Tree.{encoding, parts_encoding, tail_encoding}
 use Rattle.aml_code.proofs.Encodes.{package_written, op_encoded}
 use Rattle.aml_code.proofs.encode.+encode.Goals as goal
 

@@ -1,6 +1,6 @@
 use Rattle.std.proofs.Common.{◌≡◌, ◌++◌, drop}
 use Rattle.aml_code.specs.View.{nodes_view, parts_view, fields_view}
-use Rattle.aml_code.specs.Encoding.{encodings, parts_encoding, fields_encoding}
+use Rattle.aml_code.specs.Tree.{encodings, parts_encoding, fields_encoding}
 use Rattle.aml_code.proofs.encode.+encode.Given as goal
 
 abbrev pub invariant-encode_nodes-loop-node : goal.invariant-encode_nodes-loop-node

@@ -1,5 +1,5 @@
 use Rattle.std.proofs.Common.{◌/◌, arith, rules, tests}
-use Rattle.aml_code.specs.Lengths.{value_at}
+use Rattle.aml_code.specs.Packages.{value_at}
 use Rattle.aml_code.proofs.LengthLaws.{three_bytes}
 use Rattle.aml_code.proofs.packages.value_of.Goals as goal
 

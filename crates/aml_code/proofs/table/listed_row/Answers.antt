@@ -1,7 +1,7 @@
 use Rattle.std.proofs.Common.{ap, ◌∙◌}
 use Rattle.std.proofs.lemmas.Bool.{eq-eqb, ne_eqb}
 use Rattle.std.specs.Option.{option_copied, option_map}
-use Rattle.aml_code.specs.Rows.{row_view}
+use Rattle.aml_code.specs.Opcodes.{row_view}
 use Rattle.aml_code.proofs.RowIndex.{looked_up, row_here, row_not_here, row_nowhere}
 use Rattle.aml_code.proofs.table.listed_row.Goals as goal
 

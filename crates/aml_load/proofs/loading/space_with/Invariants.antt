@@ -1,5 +1,5 @@
 use Rattle.std.proofs.Common.{take}
-use Rattle.aml_space.specs.Entries.{given_entries}
+use Rattle.aml_space.specs.Namespace.{given_entries}
 use Rattle.aml_space.specs.Known.{StandsFor}
 use Rattle.aml_load.proofs.loading.space_with.Given as goal
 

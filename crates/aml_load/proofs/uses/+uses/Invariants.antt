@@ -1,6 +1,6 @@
 use Rattle.std.proofs.Common.{◌≡◌, ◌++◌, drop}
 use Rattle.aml_code.specs.View.{nodes_view, parts_view, fields_view}
-use Rattle.aml_load.specs.Uses.{parts_uses, elements_uses, fields_uses}
+use Rattle.aml_load.specs.Loading.{parts_uses, elements_uses, fields_uses}
 use Rattle.aml_load.proofs.uses.+uses.Given as goal
 
 abbrev pub invariant-add_parts-loop-part : goal.invariant-add_parts-loop-part

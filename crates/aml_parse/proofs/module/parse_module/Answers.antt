@@ -1,6 +1,6 @@
 use Rattle.std.proofs.Common.{None, arith}
 use Rattle.aml_code.specs.declared.rows.Position.TheVariants as positions
-use Rattle.aml_code.specs.Meaning.{no_arguments}
+use Rattle.aml_code.specs.Lawful.{no_arguments}
 use Rattle.aml_code.specs.View.{nodes_view}
 use Rattle.aml_parse.proofs.Readings.{given_module_sound, given_module_one, given_module_complete, given_placed}
 use Rattle.aml_parse.proofs.module.parse_module.Goals as goal

@@ -3,10 +3,9 @@ use Rattle.std.proofs.Math.Seq.{drop-cons}
 use Rattle.std.proofs.lemmas.List.{drop_all}
 use Rattle.aml_code.specs.declared.rows.PartKind.TheVariants as kinds
 use Rattle.aml_code.specs.declared.rows.Position.TheVariants as positions
-use Rattle.aml_code.specs.Rows.{row_view}
+use Rattle.aml_code.specs.Opcodes.{row_view}
 use Rattle.aml_code.specs.View.{node_view, field_view}
-use Rattle.aml_parse.specs.Contexts.{scope_of}
-use Rattle.aml_parse.specs.Reading.{read_at, terms_at}
+use Rattle.aml_parse.specs.Reading.{scope_of, read_at, terms_at}
 use Rattle.aml_parse.proofs.Bare.{plain_bare}
 use Rattle.aml_parse.proofs.Loops.{parts_go_on, parts_end, arguments_go_on, arguments_fails, arguments_end, go_on, fails, runs_out, terms_loop, terms_end}
 use Rattle.aml_parse.proofs.Loops.{fields_in, fields_loop, fields_end}

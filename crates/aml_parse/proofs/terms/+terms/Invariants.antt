@@ -1,8 +1,7 @@
 use Rattle.std.proofs.Common.{◌≡◌, ◌+◌, ◌-◌, ◌*◌, length, drop}
 use Rattle.aml_code.specs.Tree.{tree_more, part_more, field_more}
 use Rattle.aml_code.specs.View.{node_view, part_view, field_view}
-use Rattle.aml_parse.specs.Contexts.{scope_of}
-use Rattle.aml_parse.specs.Reading.{read_at, parts_at, arguments_at, terms_at, fields_at}
+use Rattle.aml_parse.specs.Reading.{scope_of, read_at, parts_at, arguments_at, terms_at, fields_at}
 use Rattle.aml_parse.proofs.Loops.{then_rest, then_all}
 use Rattle.aml_parse.proofs.terms.+terms.Given as goal
 

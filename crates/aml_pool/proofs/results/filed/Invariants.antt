@@ -1,7 +1,6 @@
 use Rattle.std.proofs.Common.{◌≡◌, ℕ, map, length, vec_len}
 use Rattle.std.specs.Prelude.{All}
-use Rattle.aml_pool.specs.Counting.{times}
-use Rattle.aml_pool.specs.Places.{free, AllGive}
+use Rattle.aml_pool.specs.Counting.{times, free, AllGive}
 use Rattle.aml_pool.proofs.results.filed.Given as goal
 
 abbrev pub invariant-loop-number : goal.invariant-loop-number

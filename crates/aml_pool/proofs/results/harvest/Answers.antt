@@ -4,8 +4,7 @@ use lib.ListN.{length-replicate}
 use Rattle.std.proofs.lemmas.List.{length-map}
 use Rattle.std.proofs.lemmas.Option.{slice_get-map}
 use Rattle.std.specs.Option.{option_map}
-use Rattle.aml_pool.specs.Counting.{times, once_below}
-use Rattle.aml_pool.specs.Places.{free, AllGive}
+use Rattle.aml_pool.specs.Counting.{times, once_below, free, AllGive}
 use Rattle.aml_pool.proofs.Places.{free-new, gives-none}
 use Rattle.aml_pool.proofs.results.harvest.Goals as goal
 

@@ -1,7 +1,6 @@
 use Rattle.std.proofs.Common.{rules, ◌≡◌, ◌+◌, ◌++◌, ◌≤◌, ap, ap₂, ◌∙◌, subst, sym, List, Vec, Global, ℕ}
 use Rattle.aml_pool.specs.Counting.{times}
-use Rattle.aml_pool.specs.Seats.{numbers_of}
-use Rattle.aml_pool.specs.Shares.{AreParts, all_of}
+use Rattle.aml_pool.specs.Seats.{numbers_of, AreParts, all_of}
 use Rattle.aml_pool.proofs.Lots.{parts_append, all_of-append}
 use Rattle.aml_pool.proofs.workers.united.Goals as goal
 

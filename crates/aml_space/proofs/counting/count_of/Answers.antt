@@ -1,6 +1,5 @@
 use Rattle.std.proofs.Common.{ap, ◌∙◌}
-use Rattle.aml_space.specs.Graph.{walk}
-use Rattle.aml_space.specs.Nodes.{kids_of}
+use Rattle.aml_space.specs.Nodes.{walk, kids_of}
 use Rattle.aml_space.proofs.Meaning.{count_of_met}
 use Rattle.aml_space.proofs.counting.count_of.Goals as goal
 

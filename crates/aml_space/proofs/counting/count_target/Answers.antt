@@ -1,7 +1,6 @@
 use Rattle.std.proofs.Common.{ap, ◌∙◌}
-use Rattle.aml_space.specs.Graph.{walk}
+use Rattle.aml_space.specs.Nodes.{walk, kids_of}
 use Rattle.aml_space.specs.Namespace.{target_count}
-use Rattle.aml_space.specs.Nodes.{kids_of}
 use Rattle.aml_space.proofs.Meaning.{kind_of_met, out_of_met}
 use Rattle.aml_space.proofs.counting.count_target.Goals as goal
 

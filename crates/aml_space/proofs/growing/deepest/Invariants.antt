@@ -1,6 +1,5 @@
 use Rattle.std.proofs.Common.{◌≡◌, ◌<◌, length, take, Some}
-use Rattle.aml_space.specs.Graph.{walk}
-use Rattle.aml_space.specs.Nodes.{kids_of}
+use Rattle.aml_space.specs.Nodes.{walk, kids_of}
 use Rattle.aml_space.proofs.growing.deepest.Given as goal
 
 abbrev pub invariant-loop-seg : goal.invariant-loop-seg

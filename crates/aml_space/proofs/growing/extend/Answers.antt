@@ -1,8 +1,7 @@
 use Rattle.std.proofs.Common.{◌≡◌, ◌+◌, arith, [], Some, length, take, get_or, drop, sym, ap, ◌∙◌}
-use Rattle.aml_space.specs.Graph.{walk}
+use Rattle.aml_space.specs.Nodes.{walk, kids_of, with_path}
 use Rattle.aml_space.proofs.Paths.{Leads, path_grown}
 use Rattle.std.proofs.lemmas.List.{take_rest}
-use Rattle.aml_space.specs.Nodes.{kids_of, with_path}
 use Rattle.aml_space.proofs.Walks.{node_range}
 use Rattle.aml_space.proofs.growing.extend.Goals as goal
 use Rattle.aml_space.proofs.growing.extend.Goals.{In_ok-node}

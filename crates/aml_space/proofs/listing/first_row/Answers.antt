@@ -1,6 +1,6 @@
 use Rattle.std.proofs.Common.{◌≡◌, ◌++◌, Some, sym, ap, ◌∙◌}
 use Rattle.std.specs.Option.{option_map}
-use Rattle.aml_space.specs.Listed.{row_pair}
+use Rattle.aml_space.specs.Known.{row_pair}
 use Rattle.aml_space.specs.Nodes.{pairs_of, rows_ahead, own_row}
 use Rattle.aml_space.proofs.Gathered.{rows_on}
 use Rattle.aml_space.proofs.listing.first_row.Goals as goal

@@ -1,7 +1,7 @@
 use Rattle.std.specs.Prelude.{IfSome}
 use Rattle.std.proofs.Common.{◌≡◌, ◌++◌, ◌<◌, ◌∷◌, [], None, length, sym, subst, ap, ◌∙◌, arith}
 use Rattle.std.specs.Option.{option_map}
-use Rattle.aml_space.specs.Listed.{row_pair}
+use Rattle.aml_space.specs.Known.{row_pair}
 use Rattle.aml_space.specs.Nodes.{kids_of, links_of, pairs_of, ahead, rows_ahead, own_row, next_node}
 use Rattle.aml_space.proofs.Stands.{none_from_test}
 use Rattle.aml_space.proofs.Gathered.{rows_on, nodes_on}

@@ -1,7 +1,6 @@
 use Rattle.std.proofs.Common.{◌≡◌, ◌<◌, ◌+◌, length, take, Some}
-use Rattle.aml_space.specs.Graph.{walk}
+use Rattle.aml_space.specs.Nodes.{walk, kids_of, known_by}
 use Rattle.aml_space.specs.Known.{namespace_in}
-use Rattle.aml_space.specs.Nodes.{kids_of, known_by}
 use Rattle.aml_space.specs.Candidates.{IsNext, AreAsked}
 use Rattle.aml_space.proofs.Along.{AlongTo}
 use Rattle.aml_space.proofs.scopes.levels_along.Given as goal

@@ -2,8 +2,8 @@ use Rattle.std.proofs.Common.{◌≡◌, ◌+◌, List, ◌∷◌, ◌++◌, dro
 use Rattle.std.proofs.Math.Seq.{drop-cons}
 use Rattle.aml_code.specs.declared.tree.Node.{Node}
 use Rattle.aml_code.specs.View.{node_view, nodes_view}
-use Rattle.aml_text.specs.Lines.{BodyLines, left_all, table_lines, all_table_lines}
-use Rattle.aml_text.specs.Views.{bodies_lines}
+use Rattle.aml_text.specs.Texts.{BodyLines, left_all, table_lines, all_table_lines}
+use Rattle.aml_text.specs.Listing.{bodies_lines}
 use Rattle.text_writer.proofs.PrintLaws.{prints_then}
 use Rattle.aml_text.proofs.BlockLaws.{table_turn}
 use Rattle.aml_text.proofs.blocks.+blocks.Goals as goal

@@ -1,8 +1,8 @@
 use Rattle.std.proofs.Common.{◌≡◌, ℕ, List, ◌++◌, drop}
 use Rattle.aml_code.specs.View.{nodes_view}
 use Rattle.text_writer.specs.Prints.{Prints}
-use Rattle.aml_text.specs.Lines.{left_all, all_table_lines}
-use Rattle.aml_text.specs.Views.{bodies_lines}
+use Rattle.aml_text.specs.Texts.{left_all, all_table_lines}
+use Rattle.aml_text.specs.Listing.{bodies_lines}
 use Rattle.aml_text.proofs.blocks.+blocks.Given as goal
 
 abbrev pub invariant-print_table_terms-loop-node : goal.invariant-print_table_terms-loop-node

@@ -1,5 +1,5 @@
 use Rattle.text_writer.proofs.PrintLaws.{prints_then, prints_word}
-use Rattle.aml_text.specs.Lines.{block_opening}
+use Rattle.aml_text.specs.Texts.{block_opening}
 use Rattle.aml_text.proofs.blocks.print_block_opening.Goals as goal
 
 pub returns : goal.returns

@@ -1,6 +1,6 @@
 use Rattle.std.proofs.Common.{take, flat_map}
 use Rattle.text_writer.specs.Prints.{Prints}
-use Rattle.aml_text.specs.Views.{node_lines}
+use Rattle.aml_text.specs.Listing.{node_lines}
 use Rattle.aml_text.proofs.lines.+lines.Given as goal
 
 abbrev pub invariant-print_terms-loop-node : goal.invariant-print_terms-loop-node

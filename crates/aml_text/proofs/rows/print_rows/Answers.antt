@@ -7,7 +7,7 @@ use Rattle.std.proofs.lemmas.List.{append-nil}
 use Rattle.std.proofs.lemmas.Grind.{flat_map-append}
 use Rattle.aml_names.specs.declared.segments.Seg.{Seg}
 use Rattle.aml_space.specs.declared.kinds.Kind.{Kind}
-use Rattle.aml_space.specs.Listed.{row_pair}
+use Rattle.aml_space.specs.Known.{row_pair}
 use Rattle.text_writer.specs.Prints.{Prints}
 use Rattle.text_writer.proofs.PrintLaws.{prints_then}
 use Rattle.aml_text.specs.Rows.{row_line, count_line, namespace_text}

@@ -2,9 +2,8 @@ use Rattle.std.proofs.Common.{[], ◌++◌, refl, sym, ◌∙◌, subst, arith}
 use Rattle.std.proofs.lemmas.List.{append-nil, at_drop_all}
 use Rattle.text_writer.specs.Prints.{Prints}
 use Rattle.text_writer.proofs.PrintLaws.{prints_then, prints_none}
-use Rattle.aml_text.specs.Lines.{OneBlock, block_text, blocks_text}
-use Rattle.aml_text.specs.Views.{bodies_lines, block_view}
-use Rattle.aml_text.specs.Listing.{blocks_at}
+use Rattle.aml_text.specs.Texts.{OneBlock, block_text, blocks_text}
+use Rattle.aml_text.specs.Listing.{bodies_lines, block_view, blocks_at}
 use Rattle.aml_text.proofs.ListingLaws.{blocks_many, blocks_turn}
 use Rattle.aml_text.proofs.tables.print_tables.Goals as goal
 

@@ -1,8 +1,7 @@
 use Rattle.std.proofs.Common.{take, flat_map}
-use Rattle.text_writer.specs.Prints.{Prints}
-use Rattle.text_writer.specs.Words.{word}
+use Rattle.text_writer.specs.Prints.{Prints, word}
 use Rattle.aml_text.specs.Texts.{after_separator}
-use Rattle.aml_text.specs.Views.{node_inline, part_inline}
+use Rattle.aml_text.specs.Listing.{node_inline, part_inline}
 use Rattle.aml_text.proofs.texts.+inline.Given as goal
 
 abbrev pub invariant-print_nodes-loop-node : goal.invariant-print_nodes-loop-node

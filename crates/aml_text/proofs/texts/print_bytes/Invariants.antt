@@ -1,8 +1,6 @@
 use Rattle.std.proofs.Common.{take, flat_map}
-use Rattle.text_writer.specs.Prints.{Prints}
-use Rattle.text_writer.specs.Words.{word}
+use Rattle.text_writer.specs.Prints.{Prints, word, hex2}
 use Rattle.aml_text.specs.Texts.{after_separator}
-use Rattle.text_writer.specs.Numbers.{hex2}
 use Rattle.aml_text.proofs.texts.print_bytes.Given as goal
 
 abbrev pub invariant-loop-byte : goal.invariant-loop-byte

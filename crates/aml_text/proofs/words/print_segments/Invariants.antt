@@ -1,6 +1,5 @@
 use Rattle.std.proofs.Common.{take, flat_map}
-use Rattle.text_writer.specs.Prints.{Prints}
-use Rattle.text_writer.specs.Words.{word}
+use Rattle.text_writer.specs.Prints.{Prints, word}
 use Rattle.aml_text.specs.Texts.{after_separator, segment_text}
 use Rattle.aml_text.proofs.words.print_segments.Given as goal
 

@@ -2,10 +2,9 @@ use Rattle.std.proofs.Common.{◌++◌}
 use Rattle.std.specs.FinMap as map
 use Rattle.text_writer.proofs.PrintLaws.{prints_then}
 use Rattle.acpi_text.specs.Dumps.{dumps_text}
-use Rattle.aml_text.specs.Lines.{blocks_text}
+use Rattle.aml_text.specs.Texts.{blocks_text}
 use Rattle.aml_text.specs.Rows.{namespace_text}
-use Rattle.aml_text.specs.Views.{bodies_lines}
-use Rattle.aml_text.specs.Listing.{blocks_at}
+use Rattle.aml_text.specs.Listing.{bodies_lines, blocks_at}
 use Rattle.aml_text.proofs.writing.print_set.Goals as goal
 
 pub returns : goal.returns

@@ -1,8 +1,8 @@
 use Rattle.std.proofs.Common.{◌≡◌, ◌++◌, List, ℕ, ap, ◌∙◌}
 use Rattle.aml_code.specs.View.{node_view}
-use Rattle.text_writer.specs.Words.{word}
-use Rattle.aml_text.specs.Lines.{lines}
-use Rattle.aml_text.specs.Views.{node_lines}
+use Rattle.text_writer.specs.Prints.{word}
+use Rattle.aml_text.specs.Texts.{lines}
+use Rattle.aml_text.specs.Listing.{node_lines}
 use Rattle.aml_text.proofs.EndLaws.{ends_lines, cut_newline}
 use Rattle.aml_text.proofs.writing.term_text.Goals as goal
 

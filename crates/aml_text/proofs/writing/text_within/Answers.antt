@@ -1,5 +1,5 @@
 use Rattle.std.proofs.Common.{List, ℕ, ◌++◌, flat_map, sym, ap, ◌∙◌}
-use Rattle.aml_text.specs.Views.{node_lines}
+use Rattle.aml_text.specs.Listing.{node_lines}
 use Rattle.aml_text.proofs.LineLaws.{all_lines-map}
 use Rattle.aml_text.proofs.writing.text_within.Goals as goal
 

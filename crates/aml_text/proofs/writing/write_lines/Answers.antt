@@ -1,5 +1,5 @@
 use Rattle.std.proofs.Common.{flat_map, sym, ◌∙◌}
-use Rattle.aml_text.specs.Views.{node_lines}
+use Rattle.aml_text.specs.Listing.{node_lines}
 use Rattle.text_writer.proofs.PrintLaws.{writes_listing, prints_same}
 use Rattle.aml_text.proofs.writing.write_lines.Goals as goal
 

@@ -1,6 +1,5 @@
 use Rattle.std.proofs.Common.{sym, ◌∙◌}
-use Rattle.aml_text.specs.Listing.{set_text}
-use Rattle.aml_text.specs.Views.{bodies_lines}
+use Rattle.aml_text.specs.Listing.{set_text, bodies_lines}
 use Rattle.text_writer.proofs.PrintLaws.{writes_listing, prints_same}
 use Rattle.aml_text.proofs.writing.write_set.Goals as goal
 

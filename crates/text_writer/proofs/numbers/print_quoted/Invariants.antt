@@ -1,6 +1,5 @@
 use Rattle.std.proofs.Common.{take, flat_map}
-use Rattle.text_writer.specs.Prints.{Prints}
-use Rattle.text_writer.specs.Numbers.{quoted_byte}
+use Rattle.text_writer.specs.Prints.{Prints, quoted_byte}
 use Rattle.text_writer.proofs.numbers.print_quoted.Given as goal
 
 abbrev pub invariant-loop-byte : goal.invariant-loop-byte

@@ -1,4 +1,4 @@
-use Rattle.acpi_tables.specs.Fields.{value_in}
+use Rattle.acpi_tables.specs.Bytes.{value_in}
 use Rattle.acpi_tables.specs.Fadt.{fadt_fields}
 use Rattle.acpi_tables.proofs.Values.{values_in-by}
 use Rattle.acpi_tables.proofs.fadt.Fadt.read.Goals as goal

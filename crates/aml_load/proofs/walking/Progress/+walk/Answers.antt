@@ -1,7 +1,7 @@
 use Rattle.std.proofs.Common.{refl, sym, subst}
 use Rattle.aml_code.specs.View.{parts_view, tail_view}
 use Rattle.aml_load.specs.Loading.{with_uses}
-use Rattle.aml_load.specs.Progresses.{Walked}
+use Rattle.aml_load.specs.Walking.{Walked}
 use Rattle.aml_load.proofs.Holding.{uses_held, walk_op}
 use Rattle.aml_load.proofs.walking.Progress.+walk.Goals as goal
 

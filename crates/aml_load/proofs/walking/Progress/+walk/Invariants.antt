@@ -1,8 +1,7 @@
 use Rattle.std.proofs.Common.{◌≡◌, drop}
 use Rattle.aml_code.specs.View.{nodes_view}
 use Rattle.aml_load.specs.Loading.{Listed}
-use Rattle.aml_load.specs.Walking.{walk_all}
-use Rattle.aml_load.specs.Progresses.{Holds}
+use Rattle.aml_load.specs.Walking.{walk_all, Holds}
 use Rattle.aml_load.proofs.walking.Progress.+walk.Given as goal
 
 abbrev pub invariant-walk_all-loop-term : goal.invariant-walk_all-loop-term

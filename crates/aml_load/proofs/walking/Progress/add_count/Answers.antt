@@ -1,5 +1,5 @@
 use Rattle.std.proofs.Common.{refl}
-use Rattle.aml_space.specs.Entries.{external}
+use Rattle.aml_space.specs.Namespace.{external}
 use Rattle.aml_load.specs.Loading.{plus}
 use Rattle.aml_load.proofs.Holding.{external_held}
 use Rattle.aml_load.proofs.walking.Progress.add_count.Goals as goal

@@ -1,9 +1,8 @@
 use Rattle.std.proofs.Common.{◌≡◌, drop}
-use Rattle.aml_code.specs.Declaring.{unit_names}
+use Rattle.aml_code.specs.Lawful.{unit_names}
 use Rattle.aml_code.specs.View.{fields_view}
 use Rattle.aml_load.specs.Loading.{Listed}
-use Rattle.aml_load.specs.Walking.{fields_at}
-use Rattle.aml_load.specs.Progresses.{Holds}
+use Rattle.aml_load.specs.Walking.{fields_at, Holds}
 use Rattle.aml_load.proofs.walking.Progress.add_fields.Given as goal
 
 abbrev pub invariant-loop-field : goal.invariant-loop-field

@@ -1,5 +1,5 @@
 use Rattle.std.proofs.Common.{subst, ap, ◌∙◌, ◌++◌, ◌∷◌, []}
-use Rattle.aml_load.specs.Progresses.{Walked}
+use Rattle.aml_load.specs.Walking.{Walked}
 use Rattle.aml_load.proofs.Holding.{unit_is}
 use Rattle.aml_load.proofs.walking.Progress.add_unit.Goals as goal
 

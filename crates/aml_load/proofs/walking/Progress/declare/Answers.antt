@@ -1,5 +1,5 @@
 use Rattle.std.proofs.Common.{None, refl}
-use Rattle.aml_space.specs.Entries.{declares}
+use Rattle.aml_space.specs.Namespace.{declares}
 use Rattle.aml_load.specs.Loading.{plus}
 use Rattle.aml_load.proofs.Steps.{entry_again}
 use Rattle.aml_load.proofs.Holding.{declared_held, fresh}

@@ -1,5 +1,5 @@
 use Rattle.std.proofs.Common.{Some, refl, ◌%◌}
-use Rattle.aml_space.specs.Entries.{Body}
+use Rattle.aml_space.specs.Namespace.{Body}
 use Rattle.aml_space.specs.declared.kinds.Kind.TheVariants as kinds
 use Rattle.aml_load.specs.Loading.{plus, method_entry}
 use Rattle.aml_load.proofs.Steps.{entry_again}

@@ -1,8 +1,7 @@
 use Rattle.std.proofs.Common.{[], ◌∷◌, sym, ap, subst, ◌∙◌}
-use Rattle.aml_names.specs.Ends.{IsKnown}
+use Rattle.aml_names.specs.Searching.{IsKnown, nearest}
 use Rattle.std.specs.Option.{option_copied}
 use Rattle.std.specs.FinSet as set
-use Rattle.aml_names.specs.Searching.{nearest}
 use Rattle.aml_names.proofs.EndLaws.{same_path, nearest_none}
 use Rattle.aml_names.proofs.locals.Locals.nearest.Goals as goal
 

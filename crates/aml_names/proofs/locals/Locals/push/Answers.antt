@@ -6,9 +6,8 @@ use Rattle.std.specs.Ordering.{nat_cmp, eq_by_cmp}
 use Rattle.std.specs.List.{list_any}
 use Rattle.std.specs.BTreeMap.{is_at, get}
 use Rattle.aml_names.specs.declared.segments.Seg.{Seg}
-use Rattle.aml_names.specs.Paths.{seg_cmp, path_cmp}
-use Rattle.aml_names.specs.Lengths.{HaveLengths}
-use Rattle.aml_names.specs.Ends.{KnowEnds, deeper, depth_known}
+use Rattle.aml_names.specs.Paths.{seg_cmp, path_cmp, HaveLengths}
+use Rattle.aml_names.specs.Searching.{KnowEnds, deeper, depth_known}
 use Rattle.aml_names.proofs.Sets.{one_added}
 use Rattle.aml_names.proofs.LengthLaws.{one_length, longer_still}
 use Rattle.aml_names.proofs.EndLaws.{known_root, known_pushed, known_back, not_refused, there_is}

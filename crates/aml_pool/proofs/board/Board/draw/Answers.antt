@@ -1,8 +1,7 @@
 use Rattle.std.proofs.Common.{rules, ◌<◌, ◌∙◌, sym, ap, arith, subst, ◌≤◌}
 use Rattle.std.specs.Prelude.{IsTrue, ◌↔◌, Some, None}
 use Rattle.aml_pool.specs.Counting.{times}
-use Rattle.aml_pool.specs.Machine.{IsDraw}
-use Rattle.aml_pool.specs.Rule.{claimant}
+use Rattle.aml_pool.specs.Machine.{IsDraw, claimant}
 use Rattle.aml_pool.proofs.Counts.{one_more, all_that_stand}
 use Rattle.aml_pool.proofs.Moves.{draws, draw_low}
 use Rattle.aml_pool.proofs.board.Board.draw.Goals as goal

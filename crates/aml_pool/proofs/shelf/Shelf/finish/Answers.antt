@@ -1,7 +1,7 @@
 use Rattle.std.proofs.Common.{◌≡◌, ◌++◌, ◌∷◌, [], None, Some, ap, ◌∙◌, sym, arith, map, length, length-append, append_assoc}
 use Rattle.std.specs.Prelude.{reverse}
 use Rattle.std.proofs.lemmas.List.{reverse-append}
-use Rattle.aml_pool.specs.Places.{vacant}
+use Rattle.aml_pool.specs.Counting.{vacant}
 use Rattle.aml_pool.proofs.Places.{vacant-append}
 use Rattle.aml_pool.proofs.shelf.Shelf.finish.Goals as goal
 

@@ -1,6 +1,6 @@
 use Rattle.std.proofs.Common.{◌≡◌, ◌+◌, ◌≤◌, ◌++◌, Some, map, length, vec_capacity, vec_len}
 use Rattle.std.specs.Prelude.{reverse}
-use Rattle.aml_pool.specs.Places.{vacant}
+use Rattle.aml_pool.specs.Counting.{vacant}
 use Rattle.aml_pool.proofs.shelf.Shelf.finish.Given as goal
 
 abbrev pub invariant-loop-slot : goal.invariant-loop-slot

@@ -1,5 +1,5 @@
 use Rattle.std.proofs.Common.{◌≡◌, sym, ap, ◌∙◌, arith, replicate, None, length}
-use Rattle.aml_pool.specs.Places.{vacant}
+use Rattle.aml_pool.specs.Counting.{vacant}
 use Rattle.aml_pool.proofs.Places.{vacant-replicate}
 use Rattle.aml_pool.proofs.shelf.Shelf.new.Goals as goal
 use lib.ListN.{length-replicate}

@@ -1,7 +1,7 @@
 use Rattle.std.proofs.Common.{rules, ◌≡◌, ◌-◌, Some, set, length-set, refl, ap, ◌∙◌, arith}
 use Rattle.std.specs.Prelude.{slice_get}
 use Rattle.std.proofs.lemmas.Option.{slice_get_read}
-use Rattle.aml_pool.specs.Places.{vacant}
+use Rattle.aml_pool.specs.Counting.{vacant}
 use Rattle.aml_pool.proofs.Places.{place-filed}
 use Rattle.aml_pool.proofs.shelf.Shelf.put.Goals as goal
 

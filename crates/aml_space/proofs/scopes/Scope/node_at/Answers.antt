@@ -3,8 +3,7 @@ use Rattle.std.proofs.Common.{◌≡◌, ◌≤◌, List, [], length, Some, take
 use Rattle.std.proofs.lemmas.Bool.{ltb-true, ltb-false}
 use Rattle.std.proofs.lemmas.Option.{slice_get-get_or}
 use Rattle.aml_space.specs.declared.scopes.Level.{Level}
-use Rattle.aml_space.specs.Graph.{walk}
-use Rattle.aml_space.specs.Nodes.{kids_of}
+use Rattle.aml_space.specs.Nodes.{walk, kids_of}
 use Rattle.aml_space.proofs.Along.{along_led, along_past, candidate_node, no_candidate}
 use Rattle.aml_space.proofs.Walks.{kid_within, node_range}
 use Rattle.aml_space.proofs.scopes.Scope.node_at.Goals as goal

@@ -1,6 +1,6 @@
 use Rattle.std.proofs.Common.{◌≡◌, length, ◌++◌, ◌∷◌, [], sym, subst, ap, ◌∙◌}
 use Rattle.std.specs.FinMap as map
-use Rattle.aml_space.specs.Entries.{given as said}
+use Rattle.aml_space.specs.Namespace.{given as said}
 use Rattle.aml_space.specs.Known.{Known, StandsFor, with_given}
 use Rattle.aml_space.specs.Nodes.{known_by, IsIndex, HasGiven}
 use Rattle.aml_space.proofs.Stands.{stands_given}

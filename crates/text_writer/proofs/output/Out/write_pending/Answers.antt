@@ -1,5 +1,5 @@
 use Rattle.std.proofs.Common.{[], append-nil, refl, sym, ◌∙◌}
-use Rattle.text_writer.specs.Waiting.{waiting}
+use Rattle.text_writer.specs.Prints.{waiting}
 use Rattle.text_writer.proofs.PrintLaws.{prints_sent}
 use Rattle.text_writer.proofs.output.Out.write_pending.Goals as goal
 
