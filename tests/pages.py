@@ -6,7 +6,7 @@
 A block that begins with ```console has commands behind `$ `, more lines of theirs behind `> `, and below what they
 print. They run in a folder with `mine`, the set of docs/listing.md, whose text is the first block of that page, and
 with `examples`. `./acpidis` is the launcher. What README quotes from a source has to stand there, and README has at
-most 2,000 words. Then the manual page is looked through by mandoc and groff, each where it
+most 2,000 words. Each definition that docs/definitions.md names stands in the file that it names. Then the manual page is looked through by mandoc and groff, each where it
 is installed, and its options are compared with the program's, its words and docs/refusals.md's with the sources'. Last,
 the scripts that the pages speak of are tried. The last line is 'N passed, N failed'.
 """
@@ -26,6 +26,7 @@ MANUAL = "docs/acpidis.1"
 LINTS = [["mandoc", "-T", "lint"], ["groff", "-ww", "-man", "-z"]]
 REFUSALS = "docs/refusals.md"
 README = "README.md"
+DEFINITIONS = "docs/definitions.md"
 MOST_WORDS = 2000
 SCRIPTS = ["tests/survey.sh", "tests/install.sh", "tests/examples.py", "tests/library.sh"]
 DSDT = b"\x08BAR_\x0A\x05" + b"\x14\x0BFOO_\x02\xA4\x72\x68\x69\x00" + b"\x14\x0BCALL\x00\xA4ZZZZ"
@@ -132,6 +133,28 @@ def fails_of_readme():
     yield words > MOST_WORDS
 
 
+def words_in(text):
+    """The words that a page marks as code."""
+    return re.findall(r"`([\w.]+)`", text)
+
+
+def fails_of_definitions():
+    """Of each definition that the page names, whether it doesn't stand in one of the files that its line names."""
+    text = (TOP / DEFINITIONS).read_text()
+    for crate, part in re.findall(r"^## `(\w+)`(.*?)(?=^## |\Z)", text, re.MULTILINE | re.DOTALL):
+        folder = TOP / "crates" / crate
+        for line in re.findall(r"^\| `.*$", part, re.MULTILINE):
+            names, _, files, _ = line.strip("| ").split(" | ")
+            there = [it for it in words_in(files.split("(")[0]) if (folder / f"specs/{it}.antt").exists()]
+            text = "".join((folder / f"specs/{it}.antt").read_text() for it in there)
+            text += "".join(it.read_text() for it in folder.glob("src/*.rt") if it.name in files)
+            form = r"^ *[a-z ]*\b{0}\b.* : |\bstruct {0}\b"
+            lacking = [it for it in words_in(names) if not re.search(form.format(it), text, re.MULTILINE)]
+            if lacking:
+                print(f"FAILED {DEFINITIONS}: {crate} has not in {files}: {', '.join(lacking)}")
+            yield bool(lacking)
+
+
 def options_in(text):
     return set(re.findall(r"--[a-z][a-z-]*", text))
 
@@ -185,7 +208,7 @@ def fails_of_scripts():
 
 def main():
     fails = [fail for page in [LISTING, *PAGES] for fail in fails_of(page)]
-    fails += [*fails_of_readme(), *fails_of_manual(), *fails_of_words(), *fails_of_scripts()]
+    fails += [*fails_of_readme(), *fails_of_definitions(), *fails_of_manual(), *fails_of_words(), *fails_of_scripts()]
     print(f"{fails.count(False)} passed, {fails.count(True)} failed")
     sys.exit(any(fails))
 
