@@ -6,9 +6,10 @@
 A block that begins with ```console has commands behind `$ `, more lines of theirs behind `> `, and below what they
 print. They run in a folder with `mine`, the set of docs/listing.md, whose text is the first block of that page, and
 with `examples`. `./acpidis` is the launcher. What README quotes from a source has to stand there, and README has at
-most 2,000 words. Each definition that docs/definitions.md names stands in the file that it names. Then the manual page is looked through by mandoc and groff, each where it
-is installed, and its options are compared with the program's, its words and docs/refusals.md's with the sources'. Last,
-the scripts that the pages speak of are tried. The last line is 'N passed, N failed'.
+most 2,000 words. Each definition that docs/definitions.md names stands in the file that it names. Then the manual page
+is looked through by mandoc and groff, each where it is installed, and its options are compared with the program's, its
+words and docs/refusals.md's with the sources'. Last, the scripts that the pages speak of are tried. The last line is
+'N passed, N failed'.
 """
 
 import os
