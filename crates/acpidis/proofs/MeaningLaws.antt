@@ -12,7 +12,8 @@ use Rattle.acpi_tables.specs.declared.dump.Dump.{Dump}
 use Rattle.acpi_tables.specs.declared.order.Order.{Order}
 use Rattle.acpi_tables.specs.Order.{IsOrder}
 use Rattle.aml_text.specs.declared.bodies.Body.{Body}
-use Rattle.aml_text.specs.Listing.{AreMatched, body_view}
+use Rattle.aml_text.specs.Listing.{body_view}
+use Rattle.aml_text.specs.Matched.{AreMatched}
 use Rattle.acpidis.specs.declared.options.Options.{Options}
 use Rattle.acpidis.specs.declared.refusal.Refusal.{Refusal}
 use Rattle.acpidis.specs.declared.refusal.Refusal.TheVariants as refusals

@@ -18,7 +18,8 @@ use Rattle.aml_text.specs.declared.bodies.Body.{Body}
 use Rattle.aml_text.specs.declared.bodies.BodyText.{BodyText}
 use Rattle.aml_text.specs.declared.listing.Listing.{Listing}
 use Rattle.aml_text.specs.Texts.{levels_of, body_lines}
-use Rattle.aml_text.specs.Listing.{names_in, blocks_of, blocks_with, listing_text, text_with, indexes_in, IsText, body_view, printed_lines}
+use Rattle.aml_text.specs.Listing.{names_in, blocks_of, blocks_with, listing_text, text_with, IsText, body_view, printed_lines}
+use Rattle.aml_text.specs.Matched.{indexes_in}
 use Rattle.aml_text.specs.Rows.{namespace_text}
 use Rattle.aml_text.proofs.LevelLaws.{same_blocks}
 use Rattle.acpidis.specs.Bodies.{has_raw}

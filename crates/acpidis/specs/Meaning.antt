@@ -10,7 +10,8 @@ use Rattle.aml_load.specs.Loading.{Listed, IsLoad, methods_of}
 use Rattle.aml_load.specs.Views.{HoldsLoad, AreShort, codes_view}
 use Rattle.aml_load.specs.declared.loading.Loaded.{Loaded}
 use Rattle.aml_text.specs.Texts.{OneBody}
-use Rattle.aml_text.specs.Listing.{listing_text, body_view, AreMatched}
+use Rattle.aml_text.specs.Listing.{listing_text, body_view}
+use Rattle.aml_text.specs.Matched.{AreMatched}
 use Rattle.aml_text.specs.declared.listing.Listing.{Listing}
 use Rattle.acpi_tables.specs.declared.dump.Dump.{Dump}
 use Rattle.acpi_tables.specs.declared.order.Order.{Order}

@@ -6,7 +6,7 @@ ghost use Rattle.aml_load.specs.Views.{codes_view, AreShort, HoldsLoad};
 ghost use Rattle.acpi_tables.specs.Order.{AreTables, AreTaken, IsOrder};
 ghost use Rattle.acpidis.specs.Bodies.{AreDrawn};
 ghost use Rattle.acpidis.specs.Meaning.{Meaning, LoadsSet, HoldsSet, Means, Shows, Told};
-ghost use Rattle.aml_text.specs.Listing.{AreMatched};
+ghost use Rattle.aml_text.specs.Matched.{AreMatched};
 ghost use Rattle.acpidis.specs.Refusals.{IsWant, load_refusal, TellsTable, TellsLoad, TellsBlocks};
 
 use crate::bodies::read_bodies;

@@ -14,7 +14,8 @@ use Rattle.acpi_tables.specs.Order.{name_of}
 use Rattle.aml_load.specs.Views.{codes_view, trees_view}
 use Rattle.aml_load.specs.declared.loading.Loaded.{Loaded}
 use Rattle.aml_text.specs.Texts.{OneBlock, BodyLines, left_all, block_text, blocks_text}
-use Rattle.aml_text.specs.Listing.{indexes_in, AreMatched, names_in, a_block, blocks_with}
+use Rattle.aml_text.specs.Listing.{names_in, a_block, blocks_with}
+use Rattle.aml_text.specs.Matched.{indexes_in, AreMatched}
 use Rattle.aml_text.proofs.Pairs.{pairs_many, pair_there}
 
 module _ (dumps : List Dump) (order : Order) (loaded : Loaded) (matched : AreMatched order loaded) where

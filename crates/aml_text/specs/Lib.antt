@@ -1,4 +1,5 @@
 -- The text of each thing.
 pub mod Rows
+pub mod Matched
 pub mod Listing
 pub mod Texts

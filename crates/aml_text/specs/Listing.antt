@@ -1,5 +1,5 @@
 -- The texts of nodes in memory.
-use Rattle.std.specs.Prelude.{◌≡◌, ℕ, List, map, None, Result, Ok, Err, ◌∷◌, length, ◌++◌, map as map_list, zip}
+use Rattle.std.specs.Prelude.{◌≡◌, ℕ, List, None, Result, Ok, Err, ◌∷◌, length, ◌++◌, map as map_list, zip}
 use Rattle.aml_names.specs.declared.faults.CodeFault.{CodeFault}
 use Rattle.aml_code.specs.declared.tree.Field.{Field}
 use Rattle.aml_code.specs.declared.tree.Link.{Link}
@@ -31,6 +31,7 @@ use Rattle.aml_load.specs.Views.{codes_view, trees_view}
 use Rattle.aml_text.specs.declared.listing.Listing.{Listing}
 use Rattle.aml_text.specs.declared.listing.Tables.{Tables}
 use Rattle.aml_text.specs.Rows.{namespace_text}
+use Rattle.aml_text.specs.Matched.{indexes_in}
 
 unfoldable pub node_inline : Node → List ℕ
 node_inline node = inline (node_view node)
@@ -80,23 +81,12 @@ IsText level ts (texts.Terms nodes) = nodes_view nodes.items ≡ ts
 
 -- the lines of bodies, whatever is kept of them
 abbrev pub bodies_lines : Bodies → List BodyLines
-bodies_lines (all_bodies.Read bodies) = map body_lines (map body_view bodies.now)
-bodies_lines (all_bodies.Printed texts) = map printed_lines texts.now
+bodies_lines (all_bodies.Read bodies) = map_list body_lines (map_list body_view bodies.now)
+bodies_lines (all_bodies.Printed texts) = map_list printed_lines texts.now
 
 -- a block as its bytes and terms, wherever they lie
 abbrev pub block_view : Block → OneBlock
 block_view b = record { name = b.name.now; code = b.code.now; terms = nodes_view b.nodes.now }
-
--- ---- Which tables go together: a dump, AML and terms for each place in the load order.
-
--- the indexes of the dumps of an order
-abbrev pub indexes_in : Order → List ℕ
-indexes_in order = order.dsdt ∷ order.ssdts.items
-
--- the loaded tables are as many as the dumps of the order, and each has its terms
-abbrev pub AreMatched : Order → Loaded → Type 0
-AreMatched order loaded =
-    (length loaded.tables.items ≡ length (indexes_in order)) × (length loaded.trees.items ≡ length loaded.tables.items)
 
 -- ---- The text of a listing: the dumps, the namespace, and the definition blocks of the loaded tables.
 

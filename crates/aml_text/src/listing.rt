@@ -1,6 +1,6 @@
 //! What is known of a set of tables.
 ghost use Rattle.std.specs.Prelude.{◌≡◌, length};
-ghost use Rattle.aml_text.specs.Listing.{AreMatched};
+ghost use Rattle.aml_text.specs.Matched.{AreMatched};
 
 use crate::bodies::Body;
 use acpi_tables::{Dump, Order};

@@ -2,7 +2,8 @@
 ghost use Rattle.std.specs.Prelude.{◌≡◌, ◌<◌, length, slice_index, slice_index_or};
 ghost use Rattle.text_writer.specs.Prints.{Prints};
 ghost use Rattle.aml_text.specs.Texts.{OneBlock, blocks_text};
-ghost use Rattle.aml_text.specs.Listing.{indexes_in, block_view, bodies_lines, blocks_at};
+ghost use Rattle.aml_text.specs.Listing.{block_view, bodies_lines, blocks_at};
+ghost use Rattle.aml_text.specs.Matched.{indexes_in};
 
 use crate::blocks::{Block, print_block};
 use crate::bodies::Bodies;

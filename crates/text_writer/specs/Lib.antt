@@ -1,2 +1,3 @@
 -- What printing means, and the text of numbers.
+pub mod Room
 pub mod Prints

@@ -50,11 +50,6 @@ quoted bs = word "\"" ++ flat_map quoted_byte bs ++ word "\""
 abbrev pub waiting : Pending → List ℕ
 waiting p = take p.len p.bytes
 
--- ---- How many bytes can wait.
-
-abbrev pub most_waiting : ℕ
-most_waiting = 4096
-
 -- ---- What a writer took, and how much of it.
 
 -- the writer grew by these bytes, and the count by their length, up to `u64::MAX`

@@ -1,6 +1,6 @@
 //! Bytes that wait to be written, on the stack.
 ghost use Rattle.std.specs.Prelude.{◌≤◌};
-ghost use Rattle.text_writer.specs.Prints.{most_waiting};
+ghost use Rattle.text_writer.specs.Room.{most_waiting};
 
 /// How many bytes can wait.
 const ROOM: usize = 4096;

@@ -3,7 +3,8 @@ use Rattle.std.proofs.lemmas.List.{take_all}
 use Rattle.aml_code.specs.Tree.{no_trees}
 use Rattle.aml_load.specs.Views.{codes_view, trees_view}
 use Rattle.aml_text.specs.Texts.{OneBlock}
-use Rattle.aml_text.specs.Listing.{indexes_in, names_in, blocks_at, block_view}
+use Rattle.aml_text.specs.Listing.{names_in, blocks_at, block_view}
+use Rattle.aml_text.specs.Matched.{indexes_in}
 use Rattle.aml_text.proofs.ListingLaws.{blocks_many}
 use Rattle.acpidis.specs.Checks.{uncounted}
 use Rattle.acpidis.proofs.CheckLaws.{short_block, uncounted_more}
