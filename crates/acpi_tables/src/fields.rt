@@ -102,7 +102,7 @@ impl TableField {
     }
 
     /// The bytes of the field, in a table that reaches to its end.
-    #[tactic(auto, unfolding(crate::specs::Fields::field_bytes, crate::specs::Bytes::bytes_at))]
+    #[tactic(auto, unfolding(crate::specs::Bytes::field_bytes, crate::specs::Bytes::bytes_at))]
     pub fn bytes_in<'t>(&self, table: &'t [u8]) -> Option<&'t [u8]>
         ensures bytes { option_map (λ bytes. bytes.now) result ≡ field_bytes table.now (field_view self.now) }
         ensures width { IfSome result (λ bytes. length bytes.now ≡ self.now.width) }

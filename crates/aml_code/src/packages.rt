@@ -42,7 +42,7 @@ impl PkgWidth {
 }
 
 /// A number of so many bytes, the lowest first. `Truncated` at the span's end where there are fewer.
-#[tactic(auto, unfolding(crate::specs::Lengths::little_at))]
+#[tactic(auto, unfolding(crate::specs::Packages::little_at))]
 pub fn little_of(width: u8, end: u32, bytes: &[u8]) -> Result<(u64, &[u8]), CodeFault>
     requires { width ≤ 8 }
     ensures exact { Gives (λ x. (x.0, x.1.now)) result (little_at width end bytes.now) }
@@ -58,7 +58,7 @@ pub fn little_of(width: u8, end: u32, bytes: &[u8]) -> Result<(u64, &[u8]), Code
 }
 
 /// The length that a lead byte at offset `at` begins.
-#[tactic(auto, unfolding(crate::specs::Lengths::value_at))]
+#[tactic(auto, unfolding(crate::specs::Packages::value_at))]
 fn value_of(
     at: u32,
     lead: u8,
@@ -82,7 +82,7 @@ fn value_of(
 
 /// A package length: its width and its value. `PkgBits` at the lead byte where one of the bits that have to be clear is
 /// set, `Truncated` at the span's end where a byte is missing.
-#[tactic(auto, unfolding(crate::specs::Lengths::length_at))]
+#[tactic(auto, unfolding(crate::specs::Packages::length_at))]
 pub fn length_of(end: u32, bytes: &[u8]) -> Result<((PkgWidth, u32), &[u8]), CodeFault>
     ensures exact { Gives (λ x. (x.0, x.1.now)) result (length_at end bytes.now) }
     ensures takes_none { IfErr result (λ e. e ≢ CodeFault.NoMemory) }
@@ -93,7 +93,7 @@ pub fn length_of(end: u32, bytes: &[u8]) -> Result<((PkgWidth, u32), &[u8]), Cod
 
 /// A package: the width of its length, the bytes that it covers after the length, and those behind it. Faults as of
 /// `length_of`, and `PkgPast` at the lead byte where the length is less than its own bytes or leads past the end.
-#[tactic(auto, unfolding(crate::specs::Lengths::span_at))]
+#[tactic(auto, unfolding(crate::specs::Packages::span_at))]
 pub fn span_of(end: u32, bytes: &[u8]) -> Result<(PkgWidth, &[u8], &[u8]), CodeFault>
     ensures { Gives (λ x. (x.0, x.1.now, x.2.now)) result (span_at end bytes.now) }
 {
@@ -115,7 +115,7 @@ pub fn span_of(end: u32, bytes: &[u8]) -> Result<(PkgWidth, &[u8], &[u8]), CodeF
 }
 
 /// The package length at the front of the bytes.
-#[tactic(auto, unfolding(crate::specs::Lengths::front_at))]
+#[tactic(auto, unfolding(crate::specs::Packages::front_at))]
 fn front_of(bytes: &[u8]) -> Result<(PkgWidth, u32), CodeFault>
     requires { length bytes.now < 2 ^ 32 }
     ensures exact { Gives (λ x. x) result (front_at bytes.now) }

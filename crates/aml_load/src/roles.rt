@@ -6,7 +6,7 @@ use aml_code::{Object, Role, listed_row};
 use aml_space::Kind;
 
 /// The role of an opcode.
-#[tactic(auto, unfolding(crate::specs::Roles::role_of))]
+#[tactic(auto, unfolding(crate::specs::Loading::role_of))]
 pub fn role_of(opcode: u16) -> Role
     ensures { result ≡ role_of opcode }
 {

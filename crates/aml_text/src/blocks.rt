@@ -27,7 +27,7 @@ pub struct Block<'a> {
 }
 
 /// Whether a method is serialized: bit 3 of its flags.
-#[tactic(auto, using(text_writer::proofs::PrintLaws::straight), unfolding(crate::specs::Lines::serialized_text))]
+#[tactic(auto, using(text_writer::proofs::PrintLaws::straight), unfolding(crate::specs::Texts::serialized_text))]
 fn print_serialized<W: Write>(out: &mut Out<'_, W>, flags: u8)
     ensures { Prints W.contents out.old out.new (serialized_text flags) }
 {
@@ -39,7 +39,7 @@ fn print_serialized<W: Write>(out: &mut Out<'_, W>, flags: u8)
 }
 
 /// A comma and a number.
-#[tactic(auto, using(text_writer::proofs::PrintLaws::straight), unfolding(crate::specs::Lines::comma_decimal))]
+#[tactic(auto, using(text_writer::proofs::PrintLaws::straight), unfolding(crate::specs::Texts::comma_decimal))]
 fn print_comma_decimal<W: Write>(out: &mut Out<'_, W>, n: u8)
     ensures { Prints W.contents out.old out.new (comma_decimal n) }
 {
@@ -48,7 +48,7 @@ fn print_comma_decimal<W: Write>(out: &mut Out<'_, W>, n: u8)
 }
 
 /// The number of arguments, whether the method is serialized, and its sync level.
-#[tactic(auto, using(text_writer::proofs::PrintLaws::straight), unfolding(crate::specs::Lines::flags_text))]
+#[tactic(auto, using(text_writer::proofs::PrintLaws::straight), unfolding(crate::specs::Texts::flags_text))]
 fn print_flags<W: Write>(out: &mut Out<'_, W>, flags: u8)
     ensures { Prints W.contents out.old out.new (flags_text flags) }
 {
@@ -58,7 +58,7 @@ fn print_flags<W: Write>(out: &mut Out<'_, W>, flags: u8)
 }
 
 /// A method by its name and flags.
-#[tactic(auto, using(text_writer::proofs::PrintLaws::straight), unfolding(crate::specs::Lines::method_text))]
+#[tactic(auto, using(text_writer::proofs::PrintLaws::straight), unfolding(crate::specs::Texts::method_text))]
 fn print_method<W: Write>(out: &mut Out<'_, W>, name: &Name, flags: u8)
     ensures { Prints W.contents out.old out.new (method_text name.now flags) }
 {
@@ -83,7 +83,7 @@ fn print_method_head<W: Write>(out: &mut Out<'_, W>, opcode: u16, parts: &[Part]
 }
 
 /// The first line of a method.
-#[tactic(auto, using(text_writer::proofs::PrintLaws::straight), unfolding(crate::specs::Lines::opening))]
+#[tactic(auto, using(text_writer::proofs::PrintLaws::straight), unfolding(crate::specs::Texts::opening))]
 fn print_method_opening<W: Write>(out: &mut Out<'_, W>, level: u32, opcode: u16, parts: &[Part])
     ensures { Prints W.contents out.old out.new (opening level (method_head_of opcode parts.now)) }
 {
@@ -220,7 +220,7 @@ fn print_table_terms<'b, W: Write>(
 
 /// A definition block: the terms of a table's AML, each method with its body, in the order of the text.
 /// Answers the bodies that are left: those of the next tables.
-#[tactic(auto, using(text_writer::proofs::PrintLaws::straight), unfolding(crate::specs::Lines::block_text))]
+#[tactic(auto, using(text_writer::proofs::PrintLaws::straight), unfolding(crate::specs::Texts::block_text))]
 pub fn print_block<'b, W: Write>(
     out: &mut Out<'_, W>,
     name: &[u8],
@@ -239,7 +239,7 @@ pub fn print_block<'b, W: Write>(
 }
 
 /// The first line of a definition block.
-#[tactic(auto, using(text_writer::proofs::PrintLaws::straight), unfolding(crate::specs::Lines::block_opening))]
+#[tactic(auto, using(text_writer::proofs::PrintLaws::straight), unfolding(crate::specs::Texts::block_opening))]
 fn print_block_opening<W: Write>(out: &mut Out<'_, W>, name: &[u8])
     ensures { Prints W.contents out.old out.new (block_opening name.now) }
 {

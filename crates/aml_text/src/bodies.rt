@@ -126,7 +126,7 @@ fn print_kept<W: Write>(out: &mut Out<'_, W>, level: u32, text: &BodyText)
 }
 
 /// The bytes of a body that can't be read.
-#[tactic(auto, using(text_writer::proofs::PrintLaws::straight), unfolding(crate::specs::Lines::raw_text))]
+#[tactic(auto, using(text_writer::proofs::PrintLaws::straight), unfolding(crate::specs::Texts::raw_text))]
 fn print_raw<W: Write>(out: &mut Out<'_, W>, bytes: &[u8])
     ensures { Prints W.contents out.old out.new (raw_text bytes.now) }
 {
@@ -136,7 +136,7 @@ fn print_raw<W: Write>(out: &mut Out<'_, W>, bytes: &[u8])
 }
 
 /// The same, on a line of its own.
-#[tactic(auto, using(text_writer::proofs::PrintLaws::straight), unfolding(crate::specs::Lines::line))]
+#[tactic(auto, using(text_writer::proofs::PrintLaws::straight), unfolding(crate::specs::Texts::line))]
 fn print_raw_line<W: Write>(out: &mut Out<'_, W>, level: u32, bytes: &[u8])
     ensures { Prints W.contents out.old out.new (line level (raw_text bytes.now)) }
 {

@@ -24,7 +24,7 @@ pub fn print_indent<W: Write>(out: &mut Out<'_, W>, level: u32)
 }
 
 /// The last line of a block.
-#[tactic(auto, using(text_writer::proofs::PrintLaws::straight), unfolding(crate::specs::Lines::closing))]
+#[tactic(auto, using(text_writer::proofs::PrintLaws::straight), unfolding(crate::specs::Texts::closing))]
 pub fn print_closing<W: Write>(out: &mut Out<'_, W>, level: u32)
     ensures { Prints W.contents out.old out.new (closing level) }
 {
@@ -33,7 +33,7 @@ pub fn print_closing<W: Write>(out: &mut Out<'_, W>, level: u32)
 }
 
 /// The first line of a block.
-#[tactic(auto, using(text_writer::proofs::PrintLaws::straight), unfolding(crate::specs::Lines::opening))]
+#[tactic(auto, using(text_writer::proofs::PrintLaws::straight), unfolding(crate::specs::Texts::opening))]
 pub fn print_opening<W: Write>(out: &mut Out<'_, W>, level: u32, opcode: u16, parts: &[Part])
     ensures { Prints W.contents out.old out.new (opening level (head_of opcode parts.now)) }
 {
@@ -43,7 +43,7 @@ pub fn print_opening<W: Write>(out: &mut Out<'_, W>, level: u32, opcode: u16, pa
 }
 
 /// A term on a line of its own.
-#[tactic(auto, using(text_writer::proofs::PrintLaws::straight), unfolding(crate::specs::Lines::line))]
+#[tactic(auto, using(text_writer::proofs::PrintLaws::straight), unfolding(crate::specs::Texts::line))]
 fn print_node_line<W: Write>(out: &mut Out<'_, W>, level: u32, node: &Node)
     ensures { Prints W.contents out.old out.new (line level (node_inline node.now)) }
 {
@@ -61,7 +61,7 @@ fn print_op<W: Write>(out: &mut Out<'_, W>, opcode: u16, parts: &[Part], tail: &
 }
 
 /// The same, on a line of its own.
-#[tactic(auto, using(text_writer::proofs::PrintLaws::straight), unfolding(crate::specs::Lines::line))]
+#[tactic(auto, using(text_writer::proofs::PrintLaws::straight), unfolding(crate::specs::Texts::line))]
 fn print_op_line<W: Write>(
     out: &mut Out<'_, W>,
     level: u32,
@@ -106,7 +106,7 @@ fn print_reserved<W: Write>(out: &mut Out<'_, W>, bits: u32)
 }
 
 /// Two bytes as constants.
-#[tactic(auto, using(text_writer::proofs::PrintLaws::straight), unfolding(crate::specs::Lines::byte_pair))]
+#[tactic(auto, using(text_writer::proofs::PrintLaws::straight), unfolding(crate::specs::Texts::byte_pair))]
 fn print_byte_pair<W: Write>(out: &mut Out<'_, W>, first: u8, second: u8)
     ensures { Prints W.contents out.old out.new (byte_pair first second) }
 {
@@ -134,7 +134,7 @@ fn print_extended<W: Write>(out: &mut Out<'_, W>, access: u8, attribute: u8, len
     print_byte_end(out, length);
 }
 
-#[tactic(auto, using(text_writer::proofs::PrintLaws::straight), unfolding(crate::specs::Lines::byte_end))]
+#[tactic(auto, using(text_writer::proofs::PrintLaws::straight), unfolding(crate::specs::Texts::byte_end))]
 fn print_byte_end<W: Write>(out: &mut Out<'_, W>, last: u8)
     ensures { Prints W.contents out.old out.new (byte_end last) }
 {
@@ -169,7 +169,7 @@ fn print_field<W: Write>(out: &mut Out<'_, W>, field: &Field)
 }
 
 /// An element of a field list, on a line of its own.
-#[tactic(auto, using(text_writer::proofs::PrintLaws::straight), unfolding(crate::specs::Lines::line, crate::specs::Views::field_line))]
+#[tactic(auto, using(text_writer::proofs::PrintLaws::straight), unfolding(crate::specs::Texts::line, crate::specs::Listing::field_line))]
 fn print_field_line<W: Write>(out: &mut Out<'_, W>, level: u32, field: &Field)
     ensures { Prints W.contents out.old out.new (field_line level field.now) }
 {

@@ -67,7 +67,7 @@ fn print_row_text<W: Write>(out: &mut Out<'_, W>, path: &Path, kind: &Kind)
 }
 
 /// The line of a path with its kind.
-#[tactic(auto, using(text_writer::proofs::PrintLaws::straight), unfolding(crate::specs::Rows::row_line, crate::specs::Lines::line))]
+#[tactic(auto, using(text_writer::proofs::PrintLaws::straight), unfolding(crate::specs::Rows::row_line, crate::specs::Texts::line))]
 fn print_row<W: Write>(out: &mut Out<'_, W>, path: &Path, kind: &Kind)
     ensures { Prints W.contents out.old out.new (row_line (path.now, kind.now)) }
 {

@@ -9,14 +9,14 @@ use std::io::Write;
 const DIGITS: [u8; 16] = *b"0123456789ABCDEF";
 
 /// A byte in two hexadecimal digits.
-#[tactic(auto, unfolding(crate::specs::Numbers::hex2, crate::specs::Numbers::hex_digit))]
+#[tactic(auto, unfolding(crate::specs::Prints::hex2, crate::specs::Prints::hex_digit))]
 pub fn print_hex2<W: Write>(out: &mut Out<'_, W>, n: u8)
     ensures { Prints W.contents out.old out.new (hex2 n) }
 {
     out.put_two(DIGITS[(n / 16) as usize], DIGITS[(n % 16) as usize]);
 }
 
-#[tactic(auto, using(crate::proofs::PrintLaws::straight), unfolding(crate::specs::Numbers::hex4))]
+#[tactic(auto, using(crate::proofs::PrintLaws::straight), unfolding(crate::specs::Prints::hex4))]
 pub fn print_hex4<W: Write>(out: &mut Out<'_, W>, n: u16)
     ensures { Prints W.contents out.old out.new (hex4 n) }
 {
@@ -24,7 +24,7 @@ pub fn print_hex4<W: Write>(out: &mut Out<'_, W>, n: u16)
     print_hex2(out, (n % 256) as u8);
 }
 
-#[tactic(auto, using(crate::proofs::PrintLaws::straight), unfolding(crate::specs::Numbers::hex8))]
+#[tactic(auto, using(crate::proofs::PrintLaws::straight), unfolding(crate::specs::Prints::hex8))]
 pub fn print_hex8<W: Write>(out: &mut Out<'_, W>, n: u32)
     ensures { Prints W.contents out.old out.new (hex8 n) }
 {
@@ -32,7 +32,7 @@ pub fn print_hex8<W: Write>(out: &mut Out<'_, W>, n: u32)
     print_hex4(out, (n % 65536) as u16);
 }
 
-#[tactic(auto, using(crate::proofs::PrintLaws::straight), unfolding(crate::specs::Numbers::hex16))]
+#[tactic(auto, using(crate::proofs::PrintLaws::straight), unfolding(crate::specs::Prints::hex16))]
 pub fn print_hex16<W: Write>(out: &mut Out<'_, W>, n: u64)
     ensures { Prints W.contents out.old out.new (hex16 n) }
 {
@@ -47,14 +47,14 @@ pub fn print_decimal<W: Write>(out: &mut Out<'_, W>, n: u64)
     out.put(buffer.format(n).as_bytes());
 }
 
-#[tactic(auto, unfolding(crate::specs::Numbers::is_plain))]
+#[tactic(auto, unfolding(crate::specs::Prints::is_plain))]
 fn is_plain_byte(byte: u8) -> bool
     ensures { result ≡ is_plain byte }
 {
     0x20 <= byte && byte <= 0x7E && byte != b'"' && byte != b'\\'
 }
 
-#[tactic(auto, using(crate::proofs::PrintLaws::straight), unfolding(crate::specs::Numbers::quoted_byte))]
+#[tactic(auto, using(crate::proofs::PrintLaws::straight), unfolding(crate::specs::Prints::quoted_byte))]
 fn print_quoted_byte<W: Write>(out: &mut Out<'_, W>, byte: u8)
     ensures { Prints W.contents out.old out.new (quoted_byte byte) }
 {
@@ -67,7 +67,7 @@ fn print_quoted_byte<W: Write>(out: &mut Out<'_, W>, byte: u8)
 }
 
 /// Bytes between quotes; any but printable ASCII, the quote and the backslash is `\x` and two digits.
-#[tactic(auto, using(crate::proofs::PrintLaws::straight), unfolding(crate::specs::Numbers::quoted))]
+#[tactic(auto, using(crate::proofs::PrintLaws::straight), unfolding(crate::specs::Prints::quoted))]
 pub fn print_quoted<W: Write>(out: &mut Out<'_, W>, bytes: &[u8])
     ensures { Prints W.contents out.old out.new (quoted bytes.now) }
 {
