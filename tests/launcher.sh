@@ -147,13 +147,15 @@ is 'a failed build leaves no program' "$(find copy -name 'acpidis.*')" ''
 
 # where one crate fails, the others are ended
 # shellcheck disable=SC2016 # the command expands them
-printf '#!/bin/sh\ncase $PWD in *aml_names) sleep 1; exit 1 ;; esac\necho $$ >>"%s/begun"\nsleep 30\n' "$work" >commands/rt
+printf '#!/bin/sh\ncase $PWD in *aml_names) sleep 1; exit 1 ;; esac\nps -o pgid= $$ >>"%s/begun"\nsleep 30\n' "$work" >commands/rt
 start=$(date +%s)
 row 'a crate that fails beside others' 126 'acpidis: the build failed at the crate aml_names' \
     env RT_JOBS=4 PATH="$path" copy/acpidis demo
 is 'the others are begun' "$(wc -l <begun)" 3
-# shellcheck disable=SC2009 # pgrep shows no states
-is 'the others are ended' "$(while read -r pid; do ps -o stat= -g "$pid" | grep -v '^Z'; done <begun)" ''
+groups() {
+    ps -e -o pgid=,stat= | awk 'FNR == NR { begun[$1] = 1; next } $1 in begun && $2 !~ /^Z/' begun -
+}
+is 'the others are ended' "$(groups)" ''
 is 'at once' "$(($(date +%s) - start < 20))" 1
 
 # a build that works; rt keeps a log of what begins and ends, and of how many jobs

@@ -8,7 +8,7 @@ use Rattle.std.specs.declared.cmp.Ordering.TheVariants.{Less, Equal, Greater}
 use Rattle.aml_names.specs.declared.segments.Seg.{Seg}
 use Rattle.aml_names.specs.Paths.{seg_cmp, segs_total, exact_segs}
 use Rattle.aml_children.specs.declared.children.Child.{Child}
-use Rattle.aml_children.specs.Trees.{child_in, IsBefore, Rise, put, behind, first_node}
+use Rattle.aml_children.specs.Children.{child_in, IsBefore, Rise, put, behind, first_node}
 
 -- ---- the segments rise
 

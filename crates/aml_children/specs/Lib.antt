@@ -1,1 +1,3 @@
+pub mod Children
+pub mod Codes
 pub mod Trees

@@ -1,60 +1,10 @@
--- A stepping stone of the proofs: children can be stored as numbers and lists.
-use Rattle.std.specs.Prelude.{ℕ, List, refl, ◌≡◌, cond, [], ◌∷◌, Option, Some, None, ◌+◌, ◌^◌, ◌<◌, ◌≤◌, max, ◌++◌}
-use Rattle.std.specs.Prelude.{length, IfSome}
-use Rattle.std.specs.Coded.{Coded, code_by, coded×, coded_ℕ, coded_list}
-use Rattle.aml_names.specs.declared.segments.Seg.{Seg}
-use Rattle.aml_names.specs.Paths.{coded_seg, seg_cmp}
-use Rattle.aml_children.specs.declared.children.Child.{Child}
-use Rattle.std.specs.Ordering.{eq_by_cmp, is_lt}
-use Rattle.std.specs.declared.cmp.Ordering.TheVariants.{Less}
+-- A stepping stone of the proofs: what a fork of a tree of children is seen as, and what holds of it.
+use Rattle.std.specs.Prelude.{◌≡◌, ℕ, ◌+◌, ◌^◌, ◌<◌, ◌≤◌, max, List, [], ◌∷◌, ◌++◌, length, Option, Some, None, IfSome}
 use Rattle.std.specs.Global.{Box}
+use Rattle.aml_children.specs.declared.children.Child.{Child}
 use Rattle.aml_children.specs.declared.children.Kept.{Kept}
 use Rattle.aml_children.specs.declared.children.Kept.TheVariants.{Nobody, Only, Many}
 use Rattle.aml_children.specs.declared.trees.Fork.{Fork}
-
-abbrev pub coded_child : Coded Child
-coded_child = code_by (Seg × ℕ) (coded× coded_seg coded_ℕ) (λ c. (c.seg, c.node))
-    (λ p. record { seg = p.0; node = p.1 }) (λ _. refl)
-
-abbrev pub coded_children : Coded (List Child)
-coded_children = coded_list coded_child
-
-abbrev pub coded_tree : Coded (List Child × ℕ)
-coded_tree = coded× coded_children coded_ℕ
-
--- ---- The children of a node in the order of their segments.
-
--- the node of a segment among some children
-abbrev pub child_in : List Child → Seg → Option ℕ
-child_in [] s = None
-child_in (c ∷ cs) s = cond (eq_by_cmp seg_cmp s c.seg) (Some c.node) (child_in cs s)
-
--- a segment comes before those of some children
-abbrev pub IsBefore : Seg → List Child → Type 0
-IsBefore s [] = Unit {0}
-IsBefore s (c ∷ cs) = (seg_cmp s c.seg ≡ Less) × IsBefore s cs
-
--- the segments rise
-abbrev pub Rise : List Child → Type 0
-Rise [] = Unit {0}
-Rise (c ∷ cs) = IsBefore c.seg cs × Rise cs
-
--- a new child behind those that come before it
-abbrev pub put : List Child → Child → List Child
-put [] c = c ∷ []
-put (d ∷ cs) c = cond (is_lt (seg_cmp d.seg c.seg)) (d ∷ put cs c) (c ∷ d ∷ cs)
-
--- the children from the first one on whose segment comes behind this one
-abbrev pub behind : Seg → List Child → List Child
-behind s [] = []
-behind s (c ∷ cs) = cond (is_lt (seg_cmp s c.seg)) (c ∷ cs) (behind s cs)
-
--- the node of the first child
-abbrev pub first_node : List Child → Option ℕ
-first_node [] = None
-first_node (c ∷ cs) = Some c.node
-
--- ---- A stepping stone of the proofs: what a fork of a tree of children is seen as, and what holds of it.
 
 -- the children of a fork in order
 abbrev pub list_of : Fork → List Child

@@ -2,7 +2,7 @@
 ghost use Rattle.std.specs.Ordering.{is_lt};
 ghost use Rattle.std.specs.Prelude.{◌≡◌, ◌↔◌, ◌≤◌, ◌<◌, [], ◌∷◌, length, None, IsTrue, OnOk, OnErr};
 ghost use Rattle.aml_names.specs.Paths.{seg_cmp};
-ghost use Rattle.aml_children.specs.Trees.{child_in, Rise, put, behind, first_node};
+ghost use Rattle.aml_children.specs.Children.{child_in, Rise, put, behind, first_node};
 
 use crate::trees::Tree;
 use aml_names::Seg;
@@ -37,7 +37,8 @@ enum Kept {
 impl Model for Children {
     ghost use Rattle.std.specs.Prelude.{List};
     ghost use Rattle.aml_children.specs.declared.children.Child.{Child};
-    ghost use Rattle.aml_children.specs.Trees.{coded_children, kept_list, IsFit};
+    ghost use Rattle.aml_children.specs.Codes.{coded_children};
+    ghost use Rattle.aml_children.specs.Trees.{kept_list, IsFit};
 
     ghost Value = { List Child };
 

@@ -1,6 +1,7 @@
 //! A balanced tree of children, seen as the list of these in order and the tree's height (Adelson-Velsky and Landis).
 ghost use Rattle.std.specs.Prelude.{◌≡◌, ℕ, ◌+◌, ◌^◌, ◌<◌, ◌≤◌, max, [], ◌∷◌, ◌++◌, Some, None, is_some, is_ok, if◌then◌else◌, IsTrue, OnOk, OnErr, IfOk};
-ghost use Rattle.aml_children.specs.Trees.{child_in, Rise, put, behind, first_node, made, list_of, list_and_height, seen, height_of, left_lifted, right_lifted, DifferByAtMost, IsBalanced, AreBalanced, IsNearlyBalanced, AreNearlyBalanced, CanLean, IsRebalanced, Rebalances};
+ghost use Rattle.aml_children.specs.Children.{child_in, Rise, put, behind, first_node};
+ghost use Rattle.aml_children.specs.Trees.{made, list_of, list_and_height, seen, height_of, left_lifted, right_lifted, DifferByAtMost, IsBalanced, AreBalanced, IsNearlyBalanced, AreNearlyBalanced, CanLean, IsRebalanced, Rebalances};
 
 use crate::children::Child;
 use aml_names::Seg;
@@ -29,7 +30,7 @@ struct Fork {
 impl Model for Tree {
     ghost use Rattle.std.specs.Prelude.{ℕ, List, length};
     ghost use Rattle.aml_children.specs.declared.children.Child.{Child};
-    ghost use Rattle.aml_children.specs.Trees.{coded_tree};
+    ghost use Rattle.aml_children.specs.Codes.{coded_tree};
 
     ghost Value = { List Child × ℕ };
 

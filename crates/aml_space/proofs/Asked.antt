@@ -11,7 +11,7 @@ use Rattle.std.proofs.lemmas.Option.{slice_get_past}
 use Rattle.std.specs.Option.{option_and_then, option_or}
 use Rattle.aml_names.specs.declared.segments.Seg.{Seg}
 use Rattle.aml_names.specs.Paths.{PathSet}
-use Rattle.aml_children.specs.Trees.{child_in}
+use Rattle.aml_children.specs.Children.{child_in}
 use Rattle.aml_space.specs.declared.nodes.Node.{Node}
 use Rattle.aml_space.specs.declared.scopes.Level.{Level}
 use Rattle.aml_space.specs.Nodes.{walk, Content, kids_of, content_of, kind_in, part_by, known_by, IsShape}

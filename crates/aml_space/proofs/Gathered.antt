@@ -9,7 +9,7 @@ use Rattle.std.specs.FinMap as map
 use Rattle.aml_names.specs.declared.segments.Seg.{Seg}
 use Rattle.aml_space.specs.declared.kinds.Kind.{Kind}
 use Rattle.aml_children.specs.declared.children.Child.{Child}
-use Rattle.aml_children.specs.Trees.{child_in}
+use Rattle.aml_children.specs.Children.{child_in}
 use Rattle.aml_space.specs.declared.nodes.Node.{Node}
 use Rattle.aml_space.specs.Nodes.{walk, own, under, gather, kids_of, kinds_of, pairs_of, known_by, rows_below, ahead, rows_ahead, links_of, next_node, own_row}
 use Rattle.aml_space.specs.Nodes.{IsIndex}

@@ -6,7 +6,7 @@ use Rattle.std.proofs.lemmas.List.{append-nil, take-append-drop, drop_more}
 use Rattle.std.specs.Option.{option_and_then}
 use Rattle.aml_names.specs.declared.segments.Seg.{Seg}
 use Rattle.aml_children.specs.declared.children.Child.{Child}
-use Rattle.aml_children.specs.Trees.{child_in}
+use Rattle.aml_children.specs.Children.{child_in}
 use Rattle.aml_space.specs.declared.nodes.Node.{Node}
 use Rattle.aml_space.specs.Nodes.{walk, kids_of, known_by, IsIndex, empty, chain, with_child, with_path}
 use Rattle.aml_space.proofs.Walks.{walk_push, node_range}

@@ -13,7 +13,7 @@ use Rattle.std.proofs.lemmas.Bool.{eq-eqb, ne_eqb, cases_Bool, false≢true, fal
 use Rattle.aml_names.specs.declared.segments.Seg.{Seg}
 use Rattle.aml_names.specs.Paths.{seg_cmp, exact_paths, paths_total}
 use Rattle.aml_children.specs.declared.children.Child.{Child}
-use Rattle.aml_children.specs.Trees.{child_in}
+use Rattle.aml_children.specs.Children.{child_in}
 use Rattle.aml_space.specs.Namespace.{same_path}
 use Rattle.aml_space.specs.Nodes.{walk, IsFamily, IsTree}
 use Rattle.aml_space.proofs.Basics.{and_then_twice}

@@ -1,6 +1,6 @@
 use Rattle.std.proofs.Common.{◌≡◌, [], Some, get_or, sym, ◌∙◌, arith}
 use Rattle.aml_names.specs.declared.segments.Seg.{Seg}
-use Rattle.aml_children.specs.Trees.{child_in}
+use Rattle.aml_children.specs.Children.{child_in}
 use Rattle.aml_space.specs.Nodes.{kids_of}
 use Rattle.aml_space.proofs.Walks.{kid_range, led_more}
 use Rattle.aml_space.proofs.growing.deepest.Goals as goal

@@ -1,7 +1,7 @@
 use Rattle.std.proofs.Common.{◌≡◌, ◌++◌, Some, set, sym, ap, ◌∙◌, subst, length, slice_get, arith, length-append}
 use Rattle.std.proofs.lemmas.Option.{slice_get-get_or}
 use Rattle.aml_children.specs.declared.children.Child.{Child}
-use Rattle.aml_children.specs.Trees.{child_in, Rise}
+use Rattle.aml_children.specs.Children.{child_in, Rise}
 use Rattle.aml_space.specs.Nodes.{kids_in, kids_of, chain, with_child}
 use Rattle.aml_space.proofs.Basics.{read_front}
 use Rattle.aml_space.proofs.Family.{family_rises}

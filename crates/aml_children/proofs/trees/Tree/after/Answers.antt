@@ -1,6 +1,6 @@
 use Rattle.std.proofs.Common.{◌≡◌, ℕ, Option, Some, None, refl, sym, ap, ◌∙◌}
 use Rattle.std.specs.Option.{option_or}
-use Rattle.aml_children.specs.Trees.{behind, first_node}
+use Rattle.aml_children.specs.Children.{behind, first_node}
 use Rattle.aml_children.specs.declared.trees.Fork.{Fork}
 use Rattle.aml_children.proofs.Forks.{left_rises, right_rises, behind_at_left, behind_at_right}
 use Rattle.aml_children.proofs.trees.Tree.after.Goals as goal

@@ -1,6 +1,6 @@
 use Rattle.std.proofs.Common.{◌≡◌, length}
 use Rattle.std.specs.Option.{option_or}
-use Rattle.aml_children.specs.Trees.{behind, first_node, Rise}
+use Rattle.aml_children.specs.Children.{behind, first_node, Rise}
 use Rattle.aml_children.proofs.trees.Tree.after.Given as goal
 
 abbrev pub invariant-forks : goal.invariant-forks

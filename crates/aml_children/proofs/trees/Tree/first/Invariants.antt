@@ -1,6 +1,6 @@
 use Rattle.std.proofs.Common.{◌≡◌, length}
 use Rattle.std.specs.Option.{option_or}
-use Rattle.aml_children.specs.Trees.{first_node}
+use Rattle.aml_children.specs.Children.{first_node}
 use Rattle.aml_children.proofs.trees.Tree.first.Given as goal
 
 abbrev pub invariant-forks : goal.invariant-forks

@@ -1,5 +1,5 @@
 use Rattle.std.proofs.Common.{◌≡◌, length}
-use Rattle.aml_children.specs.Trees.{child_in, Rise}
+use Rattle.aml_children.specs.Children.{child_in, Rise}
 use Rattle.aml_children.proofs.trees.Tree.node.Given as goal
 
 abbrev pub invariant-forks : goal.invariant-forks
