@@ -1,6 +1,6 @@
 -- In lawful terms each Else stands right behind an If.
 use Rattle.std.specs.Prelude.{◌==◌}
-use Rattle.std.proofs.Common.{◌≡◌, ℕ, zero, suc, Bool, List, [], ◌∷◌, true, false, cond, Option, Some, None, refl, sym, ap, subst, ◌∙◌}
+use Rattle.std.proofs.Common.{◌≡◌, ℕ, zero, suc, Bool, List, [], ◌∷◌, true, false, cond, not, Some, refl, ap, ◌∙◌}
 use Rattle.aml_names.specs.declared.segments.Seg.{Seg}
 use Rattle.aml_names.specs.Paths.{PathSet}
 use Rattle.aml_code.specs.Opcodes.{Row, rows, row_of, takes}
@@ -12,61 +12,27 @@ use Rattle.aml_code.specs.declared.rows.PartKind.{PartKind}
 use Rattle.aml_code.specs.declared.rows.PartKind.TheVariants as kinds
 use Rattle.aml_code.specs.declared.rows.TailKind.{TailKind}
 use Rattle.aml_code.specs.declared.rows.TailKind.TheVariants as tails
-use Rattle.aml_code.specs.Lawful.{after, Setting, IsLawful, AreTerms, IsPart, AreParts, IsTail, AreFields, IsField, is_if, is_if_row, is_if_place, terms_in}
-use Rattle.aml_code.specs.Lawful.{next_position, ReadsBody, ReadsModule}
-use Rattle.aml_code.specs.Laws.{has_opcode, ElsesFollow, ElseFollows, NoElses, FollowInPart, FollowInParts, FollowInTail, FollowInFields, FollowInField}
+use Rattle.aml_code.specs.Lawful.{after, Setting, IsLawful, AreTerms, AreParts, IsTail, AreFields, has_opcode, terms_in, next_position, ReadsBody, ReadsModule}
+use Rattle.aml_code.specs.Laws.{ElsesFollow, ElseFollows, NoElses, FollowInParts, FollowInTail, FollowInFields}
 use Rattle.aml_code.specs.Faults.{Arities}
-use Rattle.aml_code.proofs.RowFacts.{row_opcode, rows_say}
+use Rattle.aml_code.proofs.RowFacts.{row_opcode, not_true, rows_say}
 use Rattle.aml_code.proofs.InnerLaws.{is_inner, inner_next}
-use Rattle.aml_code.specs.Tree.{Tree, nothing, named, op, Trees, no_trees, tree_more, Part, child, Parts, no_parts, part_more, Tail, terms, elements, fields}
-use Rattle.aml_code.specs.Tree.{Field, connection, Fields, no_fields, field_more, target, buffer}
+use Rattle.aml_code.specs.Tree.{Tree, nothing, named, op, Trees, no_trees, tree_more, child, Parts, no_parts, part_more, Tail, terms, elements, fields}
+use Rattle.aml_code.specs.Tree.{connection, Fields, no_fields, field_more, target, buffer}
 
 abbrev pub is_after_if : Position → Bool
 is_after_if positions.AfterIf = true
 is_after_if _ = false
 
--- only the position behind an If takes an Else
-taken_else : (p : Position) → takes p places.Else ≡ true → is_after_if p ≡ true
-taken_else positions.AfterIf e = refl
-taken_else _ e = absurd cc
-
--- ---- the rows of If and Else
-
-abbrev is_else_place : Place → Bool
-is_else_place places.Else = true
-is_else_place _ = false
-
-only_else : (p : Place) → is_else_place p ≡ true → p ≡ places.Else
-only_else places.Else e = refl
-only_else _ e = absurd cc
-
-if_opcode : (o : ℕ) (r : Row) → row_of o ≡ Some r → is_if_place r.place ≡ true → (o == 0xA0) ≡ true
-unfolding rows
-if_opcode o r e is = subst (λ n. (n == 0xA0) ≡ true) (row_opcode o r e) (rows_say (λ r. is_if_place r.place) (λ r. r.opcode == 0xA0) refl o r e is)
-
-else_place : (o : ℕ) (r : Row) → row_of o ≡ Some r → (o == 0xA1) ≡ true → r.place ≡ places.Else
-unfolding rows
-else_place o r e is =
-    only_else r.place (rows_say (λ r. r.opcode == 0xA1) (λ r. is_else_place r.place) refl o r e (ap (λ n. n == 0xA1) (row_opcode o r e) ∙ is))
-
 -- ---- what stands behind an If
 
-if_is : (t : Tree) → is_if t ≡ true → has_opcode 0xA0 t ≡ true
-if_is nothing e = absurd cc
-if_is (named n ts) e = absurd cc
-if_is (op o w ps r) e = by (row_of o) refl e
-  where
-    by : (x : Option Row) → row_of o ≡ x → is_if_row x ≡ true → (o == 0xA0) ≡ true
-    by None is never = absurd cc
-    by (Some row) is it = if_opcode o row is it
-
-behind_by : (t : Tree) (b : Bool) → is_if t ≡ b → is_after_if (cond b positions.AfterIf positions.BodyTerm) ≡ true → has_opcode 0xA0 t ≡ true
-behind_by t true is e = if_is t is
-behind_by t false is e = absurd cc
+behind_by : (b : Bool) → is_after_if (cond b positions.AfterIf positions.BodyTerm) ≡ true → b ≡ true
+behind_by true e = refl
+behind_by false e = absurd cc
 
 behind : (p : Position) (t : Tree) → is_after_if (next_position p t) ≡ true → has_opcode 0xA0 t ≡ true
-behind positions.BodyTerm t e = behind_by t (is_if t) refl e
-behind positions.AfterIf t e = behind_by t (is_if t) refl e
+behind positions.BodyTerm t e = behind_by (has_opcode 0xA0 t) e
+behind positions.AfterIf t e = behind_by (has_opcode 0xA0 t) e
 behind _ t e = absurd cc
 
 -- ---- the terms of a list, and all that is inside them
@@ -74,8 +40,11 @@ behind _ t e = absurd cc
 -- an Else is taken only where an If may stand before it
 may_follow : (p : Position) (before : Bool) (o : ℕ) (r : Row) → (is_after_if p ≡ true → before ≡ true) → row_of o ≡ Some r → takes p r.place ≡ true
     → o ≡ 0xA1 → before ≡ true
+unfolding rows
+may_follow positions.AfterIf before o r k listed taken e = k refl
 may_follow p before o r k listed taken e =
-    k (taken_else p (subst (λ x. takes p x ≡ true) (else_place o r listed (ap (λ n. n == 0xA1) e)) taken))
+    let other = rows_say (λ r. r.opcode == 0xA1) (λ r. not (takes p r.place)) refl o r listed (ap (λ n. n == 0xA1) (row_opcode o r listed ∙ e)) in
+    absurd (cc (not_true _ other, taken))
 
 none_after : (p : Position) → is_inner p ≡ true → is_after_if p ≡ true → false ≡ true
 none_after positions.AfterIf i e = i
@@ -114,20 +83,20 @@ module _ (s : Setting) where
     none_follow levels p ls (tree_more t ts) i l =
         (else_follows levels p ls t false (none_after p i) l.0, none_follow levels (next_position p t) (after s.scope ls t) ts (inner_next p t i) l.1)
 
-    part_follows : (levels : ℕ) (k : PartKind) (ls : PathSet) (x : Part) → IsPart s levels k ls x → FollowInPart x
-    part_follows levels kinds.Term ls (child t) l = else_follows levels positions.Argument ls t false (λ e. e) l
-    part_follows levels kinds.Target ls (child t) l = else_follows levels positions.Target ls t false (λ e. e) l
-    part_follows levels kinds.Data ls (child t) l = else_follows levels positions.Data ls t false (λ e. e) l
-    part_follows levels _ ls (child t) l = absurd l
-    part_follows levels k ls _ l = tt
-
-    parts_follow : (levels : ℕ) (ks : List PartKind) (ls : PathSet) (xs : Parts) → AreParts s levels ks ls xs → FollowInParts xs
+    parts_follow : (levels : ℕ) (ks : List PartKind) (ls : PathSet) (xs : Parts) → AreParts (λ q. IsLawful s levels q ls) ks xs → FollowInParts xs
     parts_follow levels ks ls no_parts l = tt
     parts_follow levels [] ls (part_more x xs) l = absurd l
-    parts_follow levels (k ∷ ks) ls (part_more x xs) l = (part_follows levels k ls x l.0, parts_follow levels ks ls xs l.1)
+    parts_follow levels (kinds.Term ∷ ks) ls (part_more (child t) xs) l =
+        (else_follows levels positions.Argument ls t false (λ e. e) l.0, parts_follow levels ks ls xs l.1)
+    parts_follow levels (kinds.Target ∷ ks) ls (part_more (child t) xs) l =
+        (else_follows levels positions.Target ls t false (λ e. e) l.0, parts_follow levels ks ls xs l.1)
+    parts_follow levels (kinds.Data ∷ ks) ls (part_more (child t) xs) l =
+        (else_follows levels positions.Data ls t false (λ e. e) l.0, parts_follow levels ks ls xs l.1)
+    parts_follow levels (_ ∷ ks) ls (part_more (child t) xs) l = absurd l.0
+    parts_follow levels (k ∷ ks) ls (part_more _ xs) l = parts_follow levels ks ls xs l.1
 
-    tail_follows : (levels : ℕ) (p : Position) (k : TailKind) (ls : PathSet) (t : Tail) → (is_after_if p ≡ true → false ≡ true) → IsTail s levels p k ls t
-        → FollowInTail t
+    tail_follows : (levels : ℕ) (p : Position) (k : TailKind) (ls : PathSet) (t : Tail) → (is_after_if p ≡ true → false ≡ true)
+        → IsTail s (IsLawful s levels) p k ls t → FollowInTail t
     tail_follows levels p tails.Terms ls (terms ts) apart l = elses_follow levels p ls ts false apart l
     tail_follows levels p _ ls (terms ts) apart l = absurd l
     tail_follows levels p tails.Elements ls (elements ts) apart l = none_follow levels positions.Data ls ts refl l
@@ -136,14 +105,12 @@ module _ (s : Setting) where
     tail_follows levels p _ ls (fields us) apart l = absurd l
     tail_follows levels p k ls _ apart l = tt
 
-    fields_follow : (levels : ℕ) (ls : PathSet) (us : Fields) → AreFields s levels ls us → FollowInFields us
+    fields_follow : (levels : ℕ) (ls : PathSet) (us : Fields) → AreFields (λ q. IsLawful s levels q ls) us → FollowInFields us
     fields_follow levels ls no_fields l = tt
-    fields_follow levels ls (field_more u us) l = (field_follows levels ls u l.0, fields_follow levels ls us l.1)
-
-    field_follows : (levels : ℕ) (ls : PathSet) (u : Field) → IsField s levels ls u → FollowInField u
-    field_follows levels ls (connection (target n)) h = tt
-    field_follows levels ls (connection (buffer t)) h = else_follows levels positions.Data ls t false (λ e. e) h.1
-    field_follows levels ls _ h = tt
+    fields_follow levels ls (field_more (connection (buffer t)) us) l =
+        (else_follows levels positions.Data ls t false (λ e. e) l.0.1, fields_follow levels ls us l.1)
+    fields_follow levels ls (field_more (connection (target n)) us) l = fields_follow levels ls us l.1
+    fields_follow levels ls (field_more _ us) l = fields_follow levels ls us l.1
 
 -- in the body of a method, and in a table
 pub else_behind_if : (arity : Arities) (method : List Seg) (code : List ℕ) (ts : Trees) → ReadsBody arity method code ts → ElsesFollow false ts

@@ -1,5 +1,5 @@
 -- What stands inside a term and not in a list of terms declares nothing: an argument, a target, data.
-use Rattle.std.proofs.Common.{◌≡◌, ℕ, zero, suc, Bool, true, false, cond, not, ◌&&◌, List, Option, Some, None, refl, ap, ◌∙◌}
+use Rattle.std.proofs.Common.{◌≡◌, ℕ, zero, suc, Bool, true, false, not, ◌&&◌, List, Option, Some, None, refl, ap, ◌∙◌}
 use Rattle.aml_names.specs.declared.segments.Seg.{Seg}
 use Rattle.aml_names.specs.Paths.{PathSet}
 use Rattle.aml_code.specs.declared.rows.Place.{Place}
@@ -10,7 +10,7 @@ use Rattle.aml_code.specs.declared.rows.Role.{Role}
 use Rattle.aml_code.specs.declared.rows.Role.TheVariants as roles
 use Rattle.aml_code.specs.declared.rows.TailKind.{TailKind}
 use Rattle.aml_code.specs.declared.rows.TailKind.TheVariants as tails
-use Rattle.aml_code.specs.Opcodes.{Row, rows, row_of, takes, taken_as_argument}
+use Rattle.aml_code.specs.Opcodes.{Row, rows, row_of, takes}
 use Rattle.aml_code.specs.Tree.{Tree, nothing, named, op, Trees, no_trees, tree_more, Parts, Tail, terms}
 use Rattle.aml_code.specs.Lawful.{names_declared, with_declared, declared_by, after, after_all, after_tail, Setting, IsLawful, AreTerms, IsTail, next_position}
 use Rattle.aml_code.proofs.RowFacts.{and_left, and_right, rows_say}
@@ -36,17 +36,15 @@ has_terms : TailKind → Bool
 has_terms tails.Terms = true
 has_terms _ = false
 
-as_argument : (p : Position) (place : Place) → is_inner p ≡ true → takes p place ≡ true → taken_as_argument place ≡ true
+as_argument : (p : Position) (place : Place) → is_inner p ≡ true → takes p place ≡ true → takes positions.Argument place ≡ true
 as_argument positions.Argument place i e = e
 as_argument positions.Target places.Target i e = refl
-as_argument positions.Target _ i e = absurd cc
 as_argument positions.Data places.Data i e = refl
-as_argument positions.Data _ i e = absurd cc
-as_argument _ place i e = absurd cc
+as_argument _ _ i e = absurd cc
 
-quiet : (o : ℕ) (r : Row) → row_of o ≡ Some r → taken_as_argument r.place ≡ true → (is_other r.role && not (has_terms r.tail)) ≡ true
+quiet : (o : ℕ) (r : Row) → row_of o ≡ Some r → takes positions.Argument r.place ≡ true → (is_other r.role && not (has_terms r.tail)) ≡ true
 unfolding rows is_other has_terms
-quiet o r e taken = rows_say (λ r. taken_as_argument r.place) (λ r. is_other r.role && not (has_terms r.tail)) refl o r e taken
+quiet o r e taken = rows_say (λ r. takes positions.Argument r.place) (λ r. is_other r.role && not (has_terms r.tail)) refl o r e taken
 
 -- ---- nothing is declared
 
@@ -57,8 +55,8 @@ none_declared None ls role ps t e = refl
 none_declared (Some path) ls roles.Other ps t e = refl
 none_declared (Some path) ls _ ps t e = absurd cc
 
-tail_unchanged : (s : Setting) (levels : ℕ) (p : Position) (k : TailKind) (ls : PathSet) (t : Tail) → not (has_terms k) ≡ true → IsTail s levels p k ls t
-    → after_tail s.scope ls t ≡ ls
+tail_unchanged : (s : Setting) (levels : ℕ) (p : Position) (k : TailKind) (ls : PathSet) (t : Tail) → not (has_terms k) ≡ true
+    → IsTail s (IsLawful s levels) p k ls t → after_tail s.scope ls t ≡ ls
 unfolding has_terms
 tail_unchanged s levels p tails.Terms ls (terms ts) e h = absurd cc
 tail_unchanged s levels p _ ls (terms ts) e h = absurd h

@@ -1,5 +1,5 @@
 -- A package length that is read is the one that is spelled, and one that is spelled is read again.
-use Rattle.std.specs.Prelude.{slice_get, IfOk, IfErr, ◌≢◌}
+use Rattle.std.specs.Prelude.{slice_get}
 use Rattle.std.proofs.Common.{◌≡◌, ℕ, zero, suc, ◌+◌, ◌-◌, ◌*◌, ◌/◌, ◌%◌, ◌^◌, ◌<◌, ◌≤◌, true, false, eqb, ltb, List, [], ◌∷◌, ◌++◌, length, take, drop, Result}
 use Rattle.std.proofs.Common.{Ok, Err, refl, sym, ap, subst, ◌∙◌, ◌⊎◌, arith, inl, inr}
 use Rattle.std.proofs.lemmas.Bool.{ltb-false, le-ltb, ltb-true, eqb-true, eqb-false, eq-eqb, ne_eqb}
@@ -7,7 +7,7 @@ use Rattle.std.proofs.lemmas.List.{take_at, drop_at, take-append-drop, length-ap
 use Rattle.std.proofs.Math.Nat.{pow-succ', pow-le-pow_right}
 use Rattle.aml_names.specs.declared.faults.CodeFault.{CodeFault}
 use Rattle.aml_names.specs.declared.faults.CodeFault.TheVariants as faults
-use Rattle.aml_names.specs.NameReading.{◌>>=◌, Gives, byte_at}
+use Rattle.aml_names.specs.NameReading.{◌>>=◌, byte_at}
 use Rattle.aml_names.proofs.StepLaws.{ok_is, err_is, bind_then, err_then, cond_then, IsBytes, IsBytes-drop, IsBytes-take, Takes, Takes-then, byte_takes}
 use Rattle.aml_names.proofs.StepLaws.{byte_fault}
 use Rattle.aml_code.specs.declared.packages.PkgWidth.{PkgWidth}
@@ -75,17 +75,8 @@ width_again width.Two = refl
 width_again width.Three = refl
 width_again width.Four = refl
 
-pub width_few : (w : PkgWidth) → width_len w ≤ 4
-width_few width.One = omega arith
-width_few width.Two = omega arith
-width_few width.Three = omega arith
-width_few width.Four = omega arith
-
 pub width_some : (w : PkgWidth) → 0 < width_len w
-width_some width.One = omega arith
-width_some width.Two = omega arith
-width_some width.Three = omega arith
-width_some width.Four = omega arith
+width_some w = omega arith
 
 pub length-little : (k n : ℕ) → length (little k n) ≡ k
 length-little zero n = refl
@@ -273,19 +264,19 @@ three_bytes k h =
 
 -- ---- the length at the front of the bytes
 
-front_again : (bytes : List ℕ) (w : PkgWidth) (v : ℕ) (rest : List ℕ) → FitsWidth w v → bytes ≡ package_bytes w v ++ rest → front_at bytes ≡ Ok (w, v)
+pub front_again : (bytes : List ℕ) (w : PkgWidth) (v : ℕ) (rest : List ℕ) → FitsWidth w v → bytes ≡ package_bytes w v ++ rest → front_at bytes ≡ Ok (w, v)
 unfolding front_at
 front_again bytes w v rest fits text =
     ap (λ r. r >>= λ l. Ok l.0) (ap (length_at (length bytes)) text ∙ length_again (length bytes) w v rest fits)
 
-front_takes : (bytes : List ℕ) (x : PkgWidth × ℕ) → IsBytes bytes → front_at bytes ≡ Ok x
+pub front_takes : (bytes : List ℕ) (x : PkgWidth × ℕ) → IsBytes bytes → front_at bytes ≡ Ok x
     → FitsWidth x.0 x.1 × ((rest : List ℕ) × (bytes ≡ package_bytes x.0 x.1 ++ rest))
 unfolding front_at
 front_takes bytes x fits e =
     answered (λ (y : PkgWidth × ℕ). FitsWidth y.0 y.1 × ((rest : List ℕ) × (bytes ≡ package_bytes y.0 y.1 ++ rest))) _ _ x e (λ l h.
     let t = length_takes (length bytes) bytes l fits h in (t.1, (l.1, t.0.parts)))
 
-front_fault : (bytes : List ℕ) (d : CodeFault) → front_at bytes ≡ Err d → IsLengthFault bytes d
+pub front_fault : (bytes : List ℕ) (d : CodeFault) → front_at bytes ≡ Err d → IsLengthFault bytes d
 unfolding front_at
 front_fault bytes d e =
     elim (length_fault (length bytes) bytes d (not_answered _ _ d e)) [
@@ -295,29 +286,9 @@ front_fault bytes d e =
           subst (IsLengthFault bytes) (sym (p.4 ∙ ap (λ n. faults.PkgBits n) none)) (p.0, ap (λ (b : List ℕ). slice_get b 0) p.2, p.3)
     ]
 
-abbrev pub Fronts : Result (PkgWidth × ℕ) CodeFault → List ℕ → Type 0
-Fronts result bytes = Gives (λ x. x) result (front_at bytes)
-
-pub given_sound : (result : Result (PkgWidth × ℕ) CodeFault) (bytes : List ℕ) → IsBytes bytes → Fronts result bytes
-    → IfOk result (λ x. FitsWidth x.0 x.1 × ((rest : List ℕ) × (bytes ≡ package_bytes x.0 x.1 ++ rest)))
-given_sound (Ok x) bytes fits e = front_takes bytes x fits e
-given_sound (Err d) bytes fits e = tt
-
-pub given_one : (result : Result (PkgWidth × ℕ) CodeFault) (bytes : List ℕ) → Fronts result bytes
-    → IfOk result (λ x. (w : PkgWidth) (v : ℕ) (rest : List ℕ) → FitsWidth w v → bytes ≡ package_bytes w v ++ rest → (w ≡ x.0) × (v ≡ x.1))
-given_one (Ok x) bytes e =
-    λ w v rest fits text. let same =
-    ok_is (w, v) x (sym (front_again bytes w v rest fits text) ∙ e) in (ap (λ (y : PkgWidth × ℕ). y.0) same, ap (λ (y : PkgWidth × ℕ). y.1) same)
-given_one (Err d) bytes e = tt
-
-pub given_complete : (result : Result (PkgWidth × ℕ) CodeFault) (bytes : List ℕ) → IfErr result (λ e. e ≢ faults.NoMemory) → Fronts result bytes
-    → IfErr result (λ e. (w : PkgWidth) (v : ℕ) (rest : List ℕ) → FitsWidth w v → bytes ≡ package_bytes w v ++ rest → ⊥)
-given_complete (Ok x) bytes free e = tt
-given_complete (Err d) bytes free (inl e) = absurd (free e)
-given_complete (Err d) bytes free (inr e) = λ w v rest fits text. absurd (cc (front_again bytes w v rest fits text, e))
-
-pub given_placed : (result : Result (PkgWidth × ℕ) CodeFault) (bytes : List ℕ) → IfErr result (λ e. e ≢ faults.NoMemory) → Fronts result bytes
-    → IfErr result (IsLengthFault bytes)
-given_placed (Ok x) bytes free e = tt
-given_placed (Err d) bytes free (inl e) = absurd (free e)
-given_placed (Err d) bytes free (inr e) = front_fault bytes d e
+-- only one is spelled there
+pub front_one : (bytes : List ℕ) (x : PkgWidth × ℕ) (w : PkgWidth) (v : ℕ) (rest : List ℕ) → front_at bytes ≡ Ok x → FitsWidth w v
+    → bytes ≡ package_bytes w v ++ rest → (w ≡ x.0) × (v ≡ x.1)
+front_one bytes x w v rest e fits text =
+    let same = ok_is (w, v) x (sym (front_again bytes w v rest fits text) ∙ e) in
+    (ap (λ (y : PkgWidth × ℕ). y.0) same, ap (λ (y : PkgWidth × ℕ). y.1) same)

@@ -7,66 +7,61 @@ use Rattle.aml_code.specs.declared.rows.Position.{Position}
 use Rattle.aml_code.specs.declared.rows.Position.TheVariants as positions
 use Rattle.aml_code.specs.declared.rows.TailKind.{TailKind}
 use Rattle.aml_code.specs.declared.rows.TailKind.TheVariants as tails
-use Rattle.aml_code.specs.Lawful.{after, Setting, IsLawful, AreTerms, IsPart, AreParts, IsTail, AreFields, IsField, terms_in, next_position}
-use Rattle.aml_code.specs.Tree.{Tree, nothing, named, op, Trees, no_trees, tree_more, Part, child, label, byte, word, dword, qword, text, Parts, no_parts}
-use Rattle.aml_code.specs.Tree.{part_more, Tail, empty, terms, bytes, elements, fields, body, Field, connection, Fields, no_fields, field_more, target, buffer}
+use Rattle.aml_code.specs.Lawful.{after, Setting, TermsStand, IsLawful, AreTerms, IsPart, AreParts, IsTail, AreFields, IsField, terms_in, next_position}
+use Rattle.aml_code.specs.Tree.{Tree, nothing, named, op, Trees, no_trees, tree_more, Part, child, Parts, no_parts, part_more, Tail, terms, elements}
+use Rattle.aml_code.specs.Tree.{fields, Field, connection, Fields, no_fields, field_more, target, buffer}
+
+-- what is made of terms that may stand in their positions is made of terms that may by another account
+module _ (Is More : Position → Tree → Type 0) (more : (p : Position) (t : Tree) → Is p t → More p t) where
+  part_more_so : (k : PartKind) (x : Part) → IsPart Is k x → IsPart More k x
+  part_more_so kinds.Term (child t) h = more positions.Argument t h
+  part_more_so kinds.Target (child t) h = more positions.Target t h
+  part_more_so kinds.Data (child t) h = more positions.Data t h
+  part_more_so _ (child t) h = absurd h
+  part_more_so _ _ h = h
+
+  parts_more_so : (ks : List PartKind) (xs : Parts) → AreParts Is ks xs → AreParts More ks xs
+  parts_more_so [] no_parts h = tt
+  parts_more_so (k ∷ ks) (part_more x xs) h = (part_more_so k x h.0, parts_more_so ks xs h.1)
+  parts_more_so _ _ h = absurd h
+
+  field_more_so : (u : Field) → IsField Is u → IsField More u
+  field_more_so (connection (target n)) h = h
+  field_more_so (connection (buffer t)) h = (h.0, more positions.Data t h.1)
+  field_more_so _ h = h
+
+  fields_more_so : (us : Fields) → AreFields Is us → AreFields More us
+  fields_more_so no_fields h = tt
+  fields_more_so (field_more u us) h = (field_more_so u h.0, fields_more_so us h.1)
+
+module _ (s : Setting) (Is More : Position → PathSet → Tree → Type 0) (more : (p : Position) (ls : PathSet) (t : Tree) → Is p ls t → More p ls t) where
+  terms_more_so : (p : Position) (ls : PathSet) (ts : Trees) → TermsStand s Is p ls ts → TermsStand s More p ls ts
+  terms_more_so p ls no_trees h = tt
+  terms_more_so p ls (tree_more t ts) h = (more p ls t h.0, terms_more_so (next_position p t) (after s.scope ls t) ts h.1)
+
+  tail_more_so : (p : Position) (k : TailKind) (ls : PathSet) (t : Tail) → IsTail s Is p k ls t → IsTail s More p k ls t
+  tail_more_so p tails.Terms ls (terms ts) h = terms_more_so p ls ts h
+  tail_more_so p _ ls (terms ts) h = absurd h
+  tail_more_so p tails.Elements ls (elements ts) h = terms_more_so positions.Data ls ts h
+  tail_more_so p _ ls (elements ts) h = absurd h
+  tail_more_so p tails.Fields ls (fields us) h = fields_more_so (λ q. Is q ls) (λ q. More q ls) (λ q. more q ls) us h
+  tail_more_so p _ ls (fields us) h = absurd h
+  tail_more_so p _ ls _ h = h
 
 module _ (s : Setting) where
-  mutual
-    pub deeper : (levels : ℕ) (p : Position) (ls : PathSet) (t : Tree) → IsLawful s levels p ls t → IsLawful s (suc levels) p ls t
-    deeper zero p ls t h = absurd h
-    deeper (suc levels) p ls nothing h = h
-    deeper (suc levels) p ls (named n ts) h = (h.0, h.1, h.2, terms_deeper levels positions.Argument ls ts h.3)
-    deeper (suc levels) p ls (op o w ps t) h = record {
-      row = h.row;
-      listed = h.listed;
-      taken = h.taken;
-      width = h.width;
-      guarded = h.guarded;
-      parts = parts_deeper levels (h.row).parts ls ps h.parts;
-      tail = tail_deeper levels (terms_in p (h.row).place) (h.row).tail ls t h.tail;
-    }
-
-    pub terms_deeper : (levels : ℕ) (p : Position) (ls : PathSet) (ts : Trees) → AreTerms s levels p ls ts → AreTerms s (suc levels) p ls ts
-    terms_deeper levels p ls no_trees h = tt
-    terms_deeper levels p ls (tree_more t ts) h = (deeper levels p ls t h.0, terms_deeper levels (next_position p t) (after s.scope ls t) ts h.1)
-
-    part_deeper : (levels : ℕ) (k : PartKind) (ls : PathSet) (x : Part) → IsPart s levels k ls x → IsPart s (suc levels) k ls x
-    part_deeper levels kinds.Term ls (child t) h = deeper levels positions.Argument ls t h
-    part_deeper levels kinds.Target ls (child t) h = deeper levels positions.Target ls t h
-    part_deeper levels kinds.Data ls (child t) h = deeper levels positions.Data ls t h
-    part_deeper levels kinds.Name ls (label n) h = h
-    part_deeper levels kinds.ScopeName ls (label n) h = h
-    part_deeper levels kinds.Byte ls (byte b) h = h
-    part_deeper levels kinds.Count ls (byte b) h = h
-    part_deeper levels kinds.Word ls (word n) h = h
-    part_deeper levels kinds.Dword ls (dword n) h = h
-    part_deeper levels kinds.Qword ls (qword n) h = h
-    part_deeper levels kinds.Text ls (text bs) h = h
-    part_deeper levels _ ls _ h = absurd h
-
-    parts_deeper : (levels : ℕ) (ks : List PartKind) (ls : PathSet) (xs : Parts) → AreParts s levels ks ls xs → AreParts s (suc levels) ks ls xs
-    parts_deeper levels [] ls no_parts h = tt
-    parts_deeper levels (k ∷ ks) ls (part_more x xs) h = (part_deeper levels k ls x h.0, parts_deeper levels ks ls xs h.1)
-    parts_deeper levels _ ls _ h = absurd h
-
-    tail_deeper : (levels : ℕ) (p : Position) (k : TailKind) (ls : PathSet) (t : Tail) → IsTail s levels p k ls t → IsTail s (suc levels) p k ls t
-    tail_deeper levels p tails.Empty ls empty h = tt
-    tail_deeper levels p tails.Terms ls (terms ts) h = terms_deeper levels p ls ts h
-    tail_deeper levels p tails.Bytes ls (bytes bs) h = h
-    tail_deeper levels p tails.Elements ls (elements ts) h = terms_deeper levels positions.Data ls ts h
-    tail_deeper levels p tails.Fields ls (fields us) h = fields_deeper levels ls us h
-    tail_deeper levels p tails.Body ls (body start len) h = h
-    tail_deeper levels p _ ls _ h = absurd h
-
-    fields_deeper : (levels : ℕ) (ls : PathSet) (us : Fields) → AreFields s levels ls us → AreFields s (suc levels) ls us
-    fields_deeper levels ls no_fields h = tt
-    fields_deeper levels ls (field_more u us) h = (field_deeper levels ls u h.0, fields_deeper levels ls us h.1)
-
-    field_deeper : (levels : ℕ) (ls : PathSet) (u : Field) → IsField s levels ls u → IsField s (suc levels) ls u
-    field_deeper levels ls (connection (target n)) h = h
-    field_deeper levels ls (connection (buffer t)) h = (h.0, deeper levels positions.Data ls t h.1)
-    field_deeper levels ls _ h = h
+  deeper : (levels : ℕ) (p : Position) (ls : PathSet) (t : Tree) → IsLawful s levels p ls t → IsLawful s (suc levels) p ls t
+  deeper zero p ls t h = absurd h
+  deeper (suc levels) p ls nothing h = h
+  deeper (suc levels) p ls (named n ts) h = (h.0, h.1, h.2, terms_more_so s _ _ (deeper levels) positions.Argument ls ts h.3)
+  deeper (suc levels) p ls (op o w ps t) h = record {
+    row = h.row;
+    listed = h.listed;
+    taken = h.taken;
+    width = h.width;
+    guarded = h.guarded;
+    parts = parts_more_so _ _ (λ q. deeper levels q ls) (h.row).parts ps h.parts;
+    tail = tail_more_so s _ _ (deeper levels) (terms_in p (h.row).place) (h.row).tail ls t h.tail;
+  }
 
   -- by any number of levels
   pub deeper_by : (more levels all : ℕ) (p : Position) (ls : PathSet) (t : Tree) → more + levels ≡ all → IsLawful s levels p ls t → IsLawful s all p ls t
@@ -75,5 +70,4 @@ module _ (s : Setting) where
 
   pub terms_deeper_by : (more levels all : ℕ) (p : Position) (ls : PathSet) (ts : Trees) → more + levels ≡ all → AreTerms s levels p ls ts
       → AreTerms s all p ls ts
-  terms_deeper_by zero levels all p ls ts e h = subst (λ (n : ℕ). AreTerms s n p ls ts) (omega (arith, e)) h
-  terms_deeper_by (suc more) levels all p ls ts e h = terms_deeper_by more (suc levels) all p ls ts (omega (arith, e)) (terms_deeper levels p ls ts h)
+  terms_deeper_by more levels all p ls ts e = terms_more_so s _ _ (λ q m t. deeper_by more levels all q m t e) p ls ts

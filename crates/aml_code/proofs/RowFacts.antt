@@ -3,10 +3,10 @@ use Rattle.std.proofs.Common.{◌≡◌, ℕ, ◌/◌, ◌%◌, ◌<◌, Bool, t
 use Rattle.std.proofs.Common.{sym, ap, subst, ◌∙◌, arith, inl, inr}
 use Rattle.std.specs.Prelude.{nat_le}
 use Rattle.std.specs.List.{list_all}
-use Rattle.std.proofs.lemmas.Bool.{eqb-true, eqb-false, eq-eqb, ltb-true, lt-ltb, le-ltb}
+use Rattle.std.proofs.lemmas.Bool.{eqb-true, eqb-false, ltb-true, lt-ltb, le-ltb}
 use Rattle.std.proofs.lemmas.Bool.Decides.{nat_tests}
 use Rattle.aml_names.specs.Names.{is_name_lead}
-use Rattle.aml_code.specs.Opcodes.{Row, rows, row_of, has_length, taken_as_target}
+use Rattle.aml_code.specs.Opcodes.{Row, rows, row_of, has_length, takes}
 use Rattle.aml_code.specs.declared.rows.PartKind.{PartKind}
 use Rattle.aml_code.specs.declared.rows.PartKind.TheVariants as kinds
 use Rattle.aml_code.specs.declared.rows.Place.{Place}
@@ -16,7 +16,7 @@ use Rattle.aml_code.specs.declared.rows.TailKind.TheVariants as tails
 use Rattle.aml_code.specs.Tree.{opcode_bytes}
 use Rattle.aml_code.specs.declared.rows.Position.{Position}
 use Rattle.aml_code.specs.declared.rows.Position.TheVariants as positions
-use Rattle.aml_code.specs.Lawful.{is_guard, is_if_place}
+use Rattle.aml_code.specs.Lawful.{is_guard}
 use Rattle.aml_code.specs.Faults.{IsOpcode}
 
 pub and_left : (a b : Bool) → (a && b) ≡ true → a ≡ true
@@ -55,7 +55,7 @@ rows_say when is all o r e h = where_true (when r) (is r) h (found (λ r. r.opco
 is_opcode : ℕ → Bool
 is_opcode o = cond (ltb o 256) (not (o == 0x5B)) (nat_le 0x5B00 o && ltb o 0x5C00)
 
-not_true : (b : Bool) → not b ≡ true → b ≡ false
+pub not_true : (b : Bool) → not b ≡ true → b ≡ false
 not_true true e = absurd cc
 not_true false e = refl
 
@@ -67,7 +67,8 @@ opcode_by o false small e =
 
 pub row_is_opcode : (o : ℕ) (r : Row) → row_of o ≡ Some r → IsOpcode o
 unfolding rows is_opcode
-row_is_opcode o r e = subst IsOpcode (row_opcode o r e) (opcode_by r.opcode (ltb r.opcode 256) refl (rows_say (λ r. true) (λ r. is_opcode r.opcode) refl o r e refl))
+row_is_opcode o r e =
+    subst IsOpcode (row_opcode o r e) (opcode_by r.opcode (ltb r.opcode 256) refl (rows_say (λ r. true) (λ r. is_opcode r.opcode) refl o r e refl))
 
 -- the lead byte of an opcode
 abbrev pub lead_of : ℕ → ℕ
@@ -79,31 +80,20 @@ row_apart o r e = subst (λ (n : ℕ). is_name_lead (lead_of n) ≡ false) (row_
     (not_true _ (rows_say (λ r. true) (λ r. not (is_name_lead (lead_of r.opcode))) refl o r e refl))
 
 -- no target's opcode is 00
-pub target_opcode : (o : ℕ) (r : Row) → row_of o ≡ Some r → taken_as_target r.place ≡ true → (lead_of o == 0x00) ≡ false
+pub target_opcode : (o : ℕ) (r : Row) → row_of o ≡ Some r → takes positions.Target r.place ≡ true → (lead_of o == 0x00) ≡ false
 unfolding rows
 target_opcode o r e h = subst (λ (n : ℕ). (lead_of n == 0x00) ≡ false) (row_opcode o r e)
-    (not_true _ (rows_say (λ r. taken_as_target r.place) (λ r. not (lead_of r.opcode == 0x00)) refl o r e h))
+    (not_true _ (rows_say (λ r. takes positions.Target r.place) (λ r. not (lead_of r.opcode == 0x00)) refl o r e h))
 
--- ---- only a Method has a body
-
-is_body : TailKind → Bool
+abbrev pub is_body : TailKind → Bool
 is_body tails.Body = true
 is_body _ = false
 
-is_method : Place → Bool
-is_method places.Method = true
-is_method _ = false
-
-method_is : (p : Place) → is_method p ≡ true → p ≡ places.Method
-unfolding is_method
-method_is places.Method e = refl
-method_is _ e = absurd cc
-
-pub body_place : (o : ℕ) (r : Row) → row_of o ≡ Some r → r.tail ≡ tails.Body → r.place ≡ places.Method
-unfolding rows is_body is_method
-body_place o r e h = method_is r.place (rows_say (λ r. is_body r.tail) (λ r. is_method r.place) refl o r e (ap is_body h))
-
 -- ---- an If has one part, a term, and a package length; the row of 00 has neither
+
+abbrev pub is_if_place : Place → Bool
+is_if_place places.If = true
+is_if_place _ = false
 
 one_term : List PartKind → Bool
 one_term (kinds.Term ∷ []) = true

@@ -82,27 +82,20 @@ looked_up o slot place table f a b are c =
     let here : place ≡ get_or INDEX (slot_of o) 0 = b ∙ ap (λ (s : ℕ). get_or INDEX s 0) a in
     sym (ap (option_map row_view) c ∙ viewed_at row_view table place ∙ ap (λ (rs : List Row). slice_get rs place) are ∙ ap (slice_get rows) here)
 
-pub row_here : (o : ℕ) (x : Row) → slice_get rows (place_of o) ≡ Some x → (x.opcode == o) ≡ true → Some x ≡ row_of o
-row_here o x e is = by_row (row_of o) refl
-  where
-    by_row : (f : Option Row) → row_of o ≡ f → Some x ≡ f
-    by_row None none = absurd (own_row o x (place_of o) e is none)
-    by_row (Some y) some = sym e ∙ row_place o y some
+-- what stands at the place of an opcode, if it has the opcode
+abbrev pub kept : ℕ → Option Row → Option Row
+kept o None = None
+kept o (Some r) = cond (r.opcode == o) (Some r) None
 
-pub row_not_here : (o : ℕ) (x : Row) → slice_get rows (place_of o) ≡ Some x → (x.opcode == o) ≡ false → None ≡ row_of o
-row_not_here o x e other = by_row (row_of o) refl
+pub row_kept : (o : ℕ) → kept o (slice_get rows (place_of o)) ≡ row_of o
+row_kept o = by (slice_get rows (place_of o)) refl (row_of o) refl
   where
-    by_row : (f : Option Row) → row_of o ≡ f → None ≡ f
-    by_row None none = refl
-    by_row (Some y) some =
-        let same : Some x ≡ Some y = sym e ∙ row_place o y some in
-        let x_is : x ≡ y = cc in
-        let is : (x.opcode == o) ≡ true = eq-eqb x.opcode o (ap (λ (z : Row). z.opcode) x_is ∙ row_opcode o y some) in
-        absurd (cc (is, other))
+    other : (x : Row) (b : Bool) → (x.opcode == o) ≡ b → slice_get rows (place_of o) ≡ Some x → row_of o ≡ None → cond b (Some x) None ≡ None
+    other x true is e none = absurd (own_row o x (place_of o) e is none)
+    other x false is e none = refl
 
-pub row_nowhere : (o : ℕ) → slice_get rows (place_of o) ≡ None → None ≡ row_of o
-row_nowhere o e = by_row (row_of o) refl
-  where
-    by_row : (f : Option Row) → row_of o ≡ f → None ≡ f
-    by_row None none = refl
-    by_row (Some y) some = let both : None ≡ Some y = sym e ∙ row_place o y some in absurd cc
+    by : (f : Option Row) → slice_get rows (place_of o) ≡ f → (g : Option Row) → row_of o ≡ g → kept o f ≡ g
+    by f at (Some y) some =
+        ap (kept o) (sym at ∙ row_place o y some) ∙ ap (λ (b : Bool). cond b (Some y) None) (eq-eqb y.opcode o (row_opcode o y some))
+    by None at None none = refl
+    by (Some x) at None none = other x (x.opcode == o) refl at none

@@ -10,7 +10,7 @@ use Rattle.aml_names.proofs.StepLaws.{IsBytes, Takes}
 use Rattle.aml_code.specs.declared.packages.PkgWidth.{PkgWidth}
 use Rattle.aml_code.specs.Packages.{width_len, package_bytes}
 use Rattle.aml_code.specs.Tree.{slice_of}
-use Rattle.aml_code.specs.Faults.{StandsThere, LengthThere, IsEnd, IsEndBefore, Arities, StandsAt}
+use Rattle.aml_code.specs.Faults.{StandsThere, LengthThere, IsEnd, Arities, StandsAt}
 use Rattle.aml_code.proofs.LengthLaws.{IsSpan, LengthFault, PastFault, length-package_bytes, width_some}
 
 -- The bytes are a part of the code: they begin at an offset, and go on to the end of a span that begins before them.
@@ -20,13 +20,13 @@ pub record Within (code : List ℕ) (at end : ℕ) (bytes : List ℕ) : Type 0 w
   pub text : code ≡ before ++ (bytes ++ behind)
   pub offset : length before ≡ at
   pub place : at + length bytes ≡ end
-  pub is_end : IsEndBefore code at end
+  pub is_end : IsEnd code at end
   pub fits : IsBytes bytes
 
 pub whole : (code : List ℕ) → IsBytes code → Within code 0 (length code) code
 whole code fits = record { before = []; behind = []; text = sym (append-nil code); offset = refl; place = omega arith; is_end = inl refl; fits = fits }
 
-later : (code : List ℕ) (at more end : ℕ) → IsEndBefore code at end → IsEndBefore code (at + more) end
+later : (code : List ℕ) (at more end : ℕ) → IsEnd code at end → IsEnd code (at + more) end
 later code at more end (inl e) = inl e
 later code at more end (inr (p, w, v, there, is, less)) = inr (p, w, v, there, is, omega (arith, less))
 
@@ -110,12 +110,8 @@ span_inside code at end bytes w =
 
 -- ---- faults
 
-pub end_there : (code : List ℕ) (at end : ℕ) (bytes : List ℕ) → Within code at end bytes → IsEnd code end
-end_there code at end bytes w = end_of code at end w.is_end
-  where
-    end_of : (code : List ℕ) (at end : ℕ) → IsEndBefore code at end → IsEnd code end
-    end_of code at end (inl e) = inl e
-    end_of code at end (inr (p, w, v, there, is, less)) = inr (p, w, v, there, is)
+pub end_there : (code : List ℕ) (at end : ℕ) (bytes : List ℕ) → Within code at end bytes → IsEnd code end end
+end_there code at end bytes w = subst (λ (n : ℕ). IsEnd code n end) w.place (later code at (length bytes) end w.is_end)
 
 pub truncated_placed : (arity : Arities) (code : List ℕ) (at end : ℕ) (bytes : List ℕ) (d : CodeFault) → Within code at end bytes → d ≡ faults.Truncated end
     → StandsAt arity code d
@@ -141,7 +137,7 @@ past_placed arity code at end bytes d w f =
     let long : length bytes ≡ width_len f.width + length f.rest =
     ap length t.0.parts ∙ length-append (package_bytes f.width f.value) f.rest ∙ ap (λ n. n + length f.rest) (length-package_bytes f.width f.value) in
     let place = offset_is code at end bytes w in
-    let past : (f.value < width_len f.width) ⊎ ((e : ℕ) × IsEndBefore code at e × (at < e) × (e < at + f.value)) =
+    let past : (f.value < width_len f.width) ⊎ ((e : ℕ) × IsEnd code at e × (at < e) × (e < at + f.value)) =
     elim f.past [
       | inl less ↦ inl less
       | inr short ↦ inr (end, w.is_end, omega (arith, long, w.place, width_some f.width), omega (arith, short, long, w.place))

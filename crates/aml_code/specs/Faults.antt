@@ -25,9 +25,10 @@ pub record LengthThere (code : List ℕ) (at : ℕ) (w : PkgWidth) (v : ℕ) : T
   pub fits : FitsWidth w v
   pub there : StandsThere code at (package_bytes w v)
 
--- the end of the code, or of a package whose length is spelled in it
-abbrev pub IsEnd : List ℕ → ℕ → Type 0
-IsEnd code at = (at ≡ length code) ⊎ ((p : ℕ) × (w : PkgWidth) × (v : ℕ) × LengthThere code p w v × (at ≡ p + v))
+-- the end of the code, or of a package whose length is spelled before an offset
+abbrev pub IsEnd : List ℕ → ℕ → ℕ → Type 0
+IsEnd code at end =
+    (end ≡ length code) ⊎ ((p : ℕ) × (w : PkgWidth) × (v : ℕ) × LengthThere code p w v × (end ≡ p + v) × (p < at))
 
 -- the byte at an offset passes a test
 abbrev pub ByteThere : List ℕ → ℕ → (ℕ → Type 0) → Type 0
@@ -53,16 +54,18 @@ HasRow Test o = (r : Row) × (row_of o ≡ Some r) × Test r.place
 abbrev pub HasPkgBits : ℕ → Type 0
 HasPkgBits b = (64 ≤ b) × (0 < b / 16 % 4)
 
--- the end of the code, or of a package whose length is spelled before an offset
-abbrev pub IsEndBefore : List ℕ → ℕ → ℕ → Type 0
-IsEndBefore code at end =
-    (end ≡ length code) ⊎ ((p : ℕ) × (w : PkgWidth) × (v : ℕ) × LengthThere code p w v × (end ≡ p + v) × (p < at))
-
 -- a length that is smaller than its own bytes, or leads past the end of the code or of a package that begins before it
 -- and ends behind it
 abbrev pub IsPast : List ℕ → ℕ → Type 0
 IsPast code at = (w : PkgWidth) × (v : ℕ) × LengthThere code at w v
-    × ((v < width_len w) ⊎ ((end : ℕ) × IsEndBefore code at end × (at < end) × (end < at + v)))
+    × ((v < width_len w) ⊎ ((end : ℕ) × IsEnd code at end × (at < end) × (end < at + v)))
+
+-- the most levels of terms inside each other, and the most arguments that an External tells (ACPI 6.5, 20.2.5.2)
+abbrev pub most_levels : ℕ
+most_levels = 512
+
+abbrev pub most_arguments : ℕ
+most_arguments = 7
 
 -- how many arguments a name takes, by the paths declared so far
 abbrev pub Arities : Type 0
@@ -70,7 +73,7 @@ Arities = PathSet → Name → Option ℕ
 
 -- what a fault says of the code at its offset
 abbrev pub StandsAt : Arities → List ℕ → CodeFault → Type 0
-StandsAt arity code (faults.Truncated at) = IsEnd code at
+StandsAt arity code (faults.Truncated at) = IsEnd code at at
 StandsAt arity code (faults.PkgBits at) = ByteThere code at HasPkgBits
 StandsAt arity code (faults.PkgPast at) = IsPast code at
 StandsAt arity code (faults.BadName at) = ByteThere code at (λ b. is_lead_char b ≡ false)
@@ -83,8 +86,8 @@ StandsAt arity code (faults.NestedMethod at) = OpcodeThere code at (HasRow (λ p
 StandsAt arity code (faults.NestedScope at) = OpcodeThere code at (HasRow (λ p. p ≡ places.Scope))
 StandsAt arity code (faults.ModuleCode at) =
     ByteThere code at (λ b. is_name_lead b ≡ true) ⊎ OpcodeThere code at (HasRow (λ p. p ≢ places.External))
-StandsAt arity code (faults.BadCount at) = ByteThere code at (λ b. 7 < b)
-StandsAt arity code (faults.TooDeep at) = (512 ≤ at) × (at < length code)
+StandsAt arity code (faults.BadCount at) = ByteThere code at (λ b. most_arguments < b)
+StandsAt arity code (faults.TooDeep at) = (most_levels ≤ at) × (at < length code)
 StandsAt arity code faults.NoMemory = Unit {0}
 
 -- what a fault in a package length alone says

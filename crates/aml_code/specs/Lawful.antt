@@ -1,6 +1,6 @@
 -- What a term declares (ACPI 6.5, 5.3 and 20.2.5), and which paths are declared once it was read.
 use Rattle.std.specs.Prelude.{ℕ, false, List, [], ◌∷◌, Option, Some, None, ◌≡◌, zero, suc, ◌+◌, ◌^◌, ◌<◌, ◌≤◌, Bool}
-use Rattle.std.specs.Prelude.{true, cond, ◌++◌, length}
+use Rattle.std.specs.Prelude.{true, cond, ◌++◌, ◌==◌, length, All, option_to_list}
 use Rattle.std.specs.FinSet as set
 use Rattle.aml_names.specs.declared.segments.Seg.{Seg}
 use Rattle.aml_names.specs.declared.names.Name.{Name}
@@ -13,7 +13,7 @@ use Rattle.aml_code.specs.Opcodes.{Row, row_of, has_length, takes}
 use Rattle.aml_code.specs.Tree.{Tree, nothing, named, op, Trees, no_trees, tree_more, label, byte, Parts, no_parts}
 use Rattle.aml_code.specs.Tree.{part_more, Tail, terms, fields, unit, Fields, no_fields, field_more, Part, child, word}
 use Rattle.aml_code.specs.Tree.{dword, qword, text, empty, bytes, elements, body, Field, reserved, access, connection}
-use Rattle.aml_code.specs.Tree.{extended, Link, target, buffer, tree_count, parts_encoding, tail_encoding, opcode_bytes}
+use Rattle.aml_code.specs.Tree.{extended, target, buffer, tree_count, parts_encoding, tail_encoding, opcode_bytes}
 use Rattle.aml_code.specs.Tree.{encoding, encodings}
 use Rattle.aml_names.specs.NameReading.{has_segment, is_bare}
 use Rattle.aml_code.specs.declared.packages.PkgWidth.{PkgWidth}
@@ -26,7 +26,7 @@ use Rattle.aml_code.specs.declared.rows.Position.TheVariants as positions
 use Rattle.aml_code.specs.declared.rows.TailKind.{TailKind}
 use Rattle.aml_code.specs.declared.rows.TailKind.TheVariants as tails
 use Rattle.aml_code.specs.Packages.{width_len, FitsWidth}
-use Rattle.aml_code.specs.Faults.{Arities}
+use Rattle.aml_code.specs.Faults.{Arities, most_levels, most_arguments}
 
 -- the last part that is a name, or else this
 abbrev pub last_label : Option Name → Parts → Option Name
@@ -39,10 +39,6 @@ abbrev pub last_byte : Option ℕ → Parts → Option ℕ
 last_byte found no_parts = found
 last_byte found (part_more (byte b) ps) = last_byte (Some b) ps
 last_byte found (part_more _ ps) = last_byte found ps
-
-abbrev pub listed : Option Name → List Name
-listed None = []
-listed (Some n) = n ∷ []
 
 -- a name of one segment without prefix
 abbrev pub plain_name : Seg → Name
@@ -61,9 +57,9 @@ field_names _ = []
 -- The names that a term declares itself, by the role of its row, in the order of the text. An External declares none:
 -- what it names is declared elsewhere.
 abbrev pub names_declared : Role → Parts → Tail → List Name
-names_declared (roles.Declares o) ps t = listed (last_label None ps)
-names_declared roles.Method ps t = listed (last_label None ps)
-names_declared roles.Alias ps t = listed (last_label None ps)
+names_declared (roles.Declares o) ps t = option_to_list (last_label None ps)
+names_declared roles.Method ps t = option_to_list (last_label None ps)
+names_declared roles.Alias ps t = option_to_list (last_label None ps)
 names_declared roles.Fields ps t = field_names t
 names_declared _ ps t = []
 
@@ -102,8 +98,8 @@ abbrev mutual
   after_tail scope ls (terms ts) = after_all scope ls ts
   after_tail scope ls _ = ls
 
--- ---- Which trees are AML (ACPI 6.5, 20.2): what each position takes, what each row is made of, how many arguments a name
--- has.
+-- ---- Which trees are AML (ACPI 6.5, 20.2): what each position takes, what each row is made of, how many arguments a
+-- name has.
 
 -- What the grammar leaves to where the terms stand: the code that spans point into, how many arguments a name takes by
 -- the paths declared so far, and the scope from which a body's declarations are placed (none in a table).
@@ -117,11 +113,9 @@ pub record Setting : Type 0 where
 abbrev pub count_in : Arities → Position → PathSet → Name → Option ℕ
 count_in arity positions.ModuleTerm ls n = None
 count_in arity positions.GuardTerm ls n = None
-count_in arity positions.BodyTerm ls n = arity ls n
-count_in arity positions.AfterIf ls n = arity ls n
-count_in arity positions.Argument ls n = arity ls n
 count_in arity positions.Target ls n = Some 0
 count_in arity positions.Data ls n = Some 0
+count_in arity _ ls n = arity ls n
 
 -- a package length stands where the row has one, and has room for its own bytes and the content
 abbrev pub HasWidth : Bool → Option PkgWidth → ℕ → Type 0
@@ -146,113 +140,92 @@ terms_in positions.ModuleTerm places.If = positions.GuardTerm
 terms_in positions.ModuleTerm _ = positions.ModuleTerm
 terms_in _ _ = positions.BodyTerm
 
-abbrev pub is_if_place : Place → Bool
-is_if_place places.If = true
-is_if_place _ = false
+-- a term with this opcode
+abbrev pub has_opcode : ℕ → Tree → Bool
+has_opcode o (op p w ps t) = p == o
+has_opcode o _ = false
 
-abbrev pub is_if_row : Option Row → Bool
-is_if_row None = false
-is_if_row (Some r) = is_if_place r.place
-
-abbrev pub is_if : Tree → Bool
-is_if (op o w ps t) = is_if_row (row_of o)
-is_if _ = false
-
--- where the next term of a list stands
+-- where the next term of a list stands: behind an If, which is the opcode A0, or not
 abbrev pub next_position : Position → Tree → Position
-next_position positions.BodyTerm t = cond (is_if t) positions.AfterIf positions.BodyTerm
-next_position positions.AfterIf t = cond (is_if t) positions.AfterIf positions.BodyTerm
+next_position positions.BodyTerm t = cond (has_opcode 0xA0 t) positions.AfterIf positions.BodyTerm
+next_position positions.AfterIf t = cond (has_opcode 0xA0 t) positions.AfterIf positions.BodyTerm
 next_position p t = p
 
-abbrev pub AreBytes : List ℕ → Type 0
-AreBytes [] = Unit {0}
-AreBytes (b ∷ bs) = (b < 256) × AreBytes bs
+-- ---- What stands inside a term, by which terms may stand in which positions there.
 
--- the bytes 01 to FF
-abbrev pub AreTextBytes : List ℕ → Type 0
-AreTextBytes [] = Unit {0}
-AreTextBytes (b ∷ bs) = (0 < b) × (b < 256) × AreTextBytes bs
+-- a part of a kind
+abbrev pub IsPart : (Position → Tree → Type 0) → PartKind → Part → Type 0
+IsPart Is kinds.Term (child t) = Is positions.Argument t
+IsPart Is kinds.Target (child t) = Is positions.Target t
+IsPart Is kinds.Data (child t) = Is positions.Data t
+IsPart Is kinds.Name (label n) = IsName n × (has_segment n ≡ true)
+IsPart Is kinds.ScopeName (label n) = IsName n
+IsPart Is kinds.Byte (byte b) = b < 256 ^ 1
+IsPart Is kinds.Count (byte b) = b ≤ most_arguments
+IsPart Is kinds.Word (word n) = n < 256 ^ 2
+IsPart Is kinds.Dword (dword n) = n < 256 ^ 4
+IsPart Is kinds.Qword (qword n) = n < 256 ^ 8
+IsPart Is kinds.Text (text bs) = All (λ b. (0 < b) × (b < 256)) bs
+IsPart Is _ _ = ⊥
 
--- a Buffer, as the lead byte of a connection tells it
-abbrev pub IsBuffer : Tree → Type 0
-IsBuffer (op o w ps t) = o ≡ 0x11
-IsBuffer _ = ⊥
+-- one part of each kind
+abbrev pub AreParts : (Position → Tree → Type 0) → List PartKind → Parts → Type 0
+AreParts Is [] no_parts = Unit {0}
+AreParts Is (k ∷ ks) (part_more x xs) = IsPart Is k x × AreParts Is ks xs
+AreParts Is _ _ = ⊥
+
+-- an element of a field list
+abbrev pub IsField : (Position → Tree → Type 0) → Field → Type 0
+IsField Is (unit g w n) = IsNameSeg g.0 × FitsWidth w n
+IsField Is (reserved w n) = FitsWidth w n
+IsField Is (access a b) = (a < 256) × (b < 256)
+IsField Is (connection (target n)) = IsName n × (has_segment n ≡ true)
+IsField Is (connection (buffer t)) = (has_opcode 0x11 t ≡ true) × Is positions.Data t
+IsField Is (extended a b c) = (a < 256) × (b < 256) × (c < 256)
+
+abbrev pub AreFields : (Position → Tree → Type 0) → Fields → Type 0
+AreFields Is no_fields = Unit {0}
+AreFields Is (field_more u us) = IsField Is u × AreFields Is us
+
+-- A list of terms, of arguments or of elements: each declares for those behind it.
+abbrev pub TermsStand : Setting → (Position → PathSet → Tree → Type 0) → Position → PathSet → Trees → Type 0
+TermsStand s Is p ls no_trees = Unit {0}
+TermsStand s Is p ls (tree_more t ts) = Is p ls t × TermsStand s Is (next_position p t) (after s.scope ls t) ts
+
+abbrev pub IsTail : Setting → (Position → PathSet → Tree → Type 0) → Position → TailKind → PathSet → Tail → Type 0
+IsTail s Is p tails.Empty ls empty = Unit {0}
+IsTail s Is p tails.Terms ls (terms ts) = TermsStand s Is p ls ts
+IsTail s Is p tails.Bytes ls (bytes bs) = All (λ b. b < 256) bs
+IsTail s Is p tails.Elements ls (elements ts) = TermsStand s Is positions.Data ls ts
+IsTail s Is p tails.Fields ls (fields us) = AreFields (λ q. Is q ls) us
+IsTail s Is p tails.Body ls (body start len) = start + len ≤ length s.code
+IsTail s Is p _ ls _ = ⊥
 
 -- An operation: its opcode has a row that the position takes, with a package length, parts and a tail as the row says.
-pub record IsOperation (p : Position) (o : ℕ) (w : Option PkgWidth) (len : ℕ) (ps : Parts)
-    (AreItsParts IsItsTail : Row → Type 0) : Type 0 where
+pub record IsOperation (s : Setting) (Is : Position → PathSet → Tree → Type 0) (p : Position) (ls : PathSet) (o : ℕ)
+    (w : Option PkgWidth) (ps : Parts) (t : Tail) : Type 0 where
   pub row : Row
   pub listed : row_of o ≡ Some row
   pub taken : takes p row.place ≡ true
-  pub width : HasWidth (has_length row.tail) w len
+  pub width : HasWidth (has_length row.tail) w (length (parts_encoding s.code ps ++ tail_encoding s.code t))
   pub guarded : IsGuarded (is_guard p row.place) ps
-  pub parts : AreItsParts row
-  pub tail : IsItsTail row
+  pub parts : AreParts (λ q. Is q ls) row.parts ps
+  pub tail : IsTail s Is (terms_in p row.place) row.tail ls t
 
 -- IsLawful s levels p ls t: the tree t may stand in the position p, with at most so many levels of nesting, where the
 -- paths ls are declared. What stands inside a term and not in a list of terms declares nothing, so all of it has one
 -- ls.
-abbrev mutual
-  pub IsLawful : Setting → ℕ → Position → PathSet → Tree → Type 0
-  IsLawful s zero p ls t = ⊥
-  IsLawful s (suc levels) p ls nothing = p ≡ positions.Target
-  IsLawful s (suc levels) p ls (named n ts) =
-      IsName n × (is_bare n ≡ false) × (count_in s.arity p ls n ≡ Some (tree_count ts))
-      × AreTerms s levels positions.Argument ls ts
-  IsLawful s (suc levels) p ls (op o w ps t) =
-      IsOperation p o w (length (parts_encoding s.code ps ++ tail_encoding s.code t)) ps
-      (λ row. AreParts s levels row.parts ls ps)
-      (λ row. IsTail s levels (terms_in p row.place) row.tail ls t)
+abbrev pub IsLawful : Setting → ℕ → Position → PathSet → Tree → Type 0
+IsLawful s zero p ls t = ⊥
+IsLawful s (suc levels) p ls nothing = p ≡ positions.Target
+IsLawful s (suc levels) p ls (named n ts) =
+    IsName n × (is_bare n ≡ false) × (count_in s.arity p ls n ≡ Some (tree_count ts))
+    × TermsStand s (IsLawful s levels) positions.Argument ls ts
+IsLawful s (suc levels) p ls (op o w ps t) = IsOperation s (IsLawful s levels) p ls o w ps t
 
-  -- a list of terms, of arguments or of elements
-  pub AreTerms : Setting → ℕ → Position → PathSet → Trees → Type 0
-  AreTerms s levels p ls no_trees = Unit {0}
-  AreTerms s levels p ls (tree_more t ts) =
-      IsLawful s levels p ls t × AreTerms s levels (next_position p t) (after s.scope ls t) ts
-
-  pub IsPart : Setting → ℕ → PartKind → PathSet → Part → Type 0
-  IsPart s levels kinds.Term ls (child t) = IsLawful s levels positions.Argument ls t
-  IsPart s levels kinds.Target ls (child t) = IsLawful s levels positions.Target ls t
-  IsPart s levels kinds.Data ls (child t) = IsLawful s levels positions.Data ls t
-  IsPart s levels kinds.Name ls (label n) = IsName n × (has_segment n ≡ true)
-  IsPart s levels kinds.ScopeName ls (label n) = IsName n
-  IsPart s levels kinds.Byte ls (byte b) = b < 256 ^ 1
-  IsPart s levels kinds.Count ls (byte b) = b < 8
-  IsPart s levels kinds.Word ls (word n) = n < 256 ^ 2
-  IsPart s levels kinds.Dword ls (dword n) = n < 256 ^ 4
-  IsPart s levels kinds.Qword ls (qword n) = n < 256 ^ 8
-  IsPart s levels kinds.Text ls (text bs) = AreTextBytes bs
-  IsPart s levels _ ls _ = ⊥
-
-  -- one part of each kind
-  pub AreParts : Setting → ℕ → List PartKind → PathSet → Parts → Type 0
-  AreParts s levels [] ls no_parts = Unit {0}
-  AreParts s levels (k ∷ ks) ls (part_more x xs) = IsPart s levels k ls x × AreParts s levels ks ls xs
-  AreParts s levels _ ls _ = ⊥
-
-  pub IsTail : Setting → ℕ → Position → TailKind → PathSet → Tail → Type 0
-  IsTail s levels p tails.Empty ls empty = Unit {0}
-  IsTail s levels p tails.Terms ls (terms ts) = AreTerms s levels p ls ts
-  IsTail s levels p tails.Bytes ls (bytes bs) = AreBytes bs
-  IsTail s levels p tails.Elements ls (elements ts) = AreTerms s levels positions.Data ls ts
-  IsTail s levels p tails.Fields ls (fields us) = AreFields s levels ls us
-  IsTail s levels p tails.Body ls (body start len) = start + len ≤ length s.code
-  IsTail s levels p _ ls _ = ⊥
-
-  pub AreFields : Setting → ℕ → PathSet → Fields → Type 0
-  AreFields s levels ls no_fields = Unit {0}
-  AreFields s levels ls (field_more u us) = IsField s levels ls u × AreFields s levels ls us
-
-  pub IsField : Setting → ℕ → PathSet → Field → Type 0
-  IsField s levels ls (unit g w n) = IsNameSeg g.0 × FitsWidth w n
-  IsField s levels ls (reserved w n) = FitsWidth w n
-  IsField s levels ls (access a b) = (a < 256) × (b < 256)
-  IsField s levels ls (connection l) = IsLink s levels ls l
-  IsField s levels ls (extended a b c) = (a < 256) × (b < 256) × (c < 256)
-
-  pub IsLink : Setting → ℕ → PathSet → Link → Type 0
-  IsLink s levels ls (target n) = IsName n × (has_segment n ≡ true)
-  IsLink s levels ls (buffer t) = IsBuffer t × IsLawful s levels positions.Data ls t
+-- a list of terms, with at most so many levels
+abbrev pub AreTerms : Setting → ℕ → Position → PathSet → Trees → Type 0
+AreTerms s levels = TermsStand s (IsLawful s levels)
 
 -- ---- What it is that code reads as a tree (ACPI 6.5, 5.3 and 20.2): the tree is lawful, and its bytes are the code.
 
@@ -263,7 +236,7 @@ setting_of arity scope code = record { code = code; arity = arity; scope = scope
 -- The bytes of a method's body read as these terms: they are lawful from no declared path on, with at most 512 levels,
 -- and they are spelled by the bytes. Declarations are placed from the method's path.
 pub record ReadsBody (arity : Arities) (method : List Seg) (code : List ℕ) (ts : Trees) : Type 0 where
-  pub lawful : AreTerms (setting_of arity (Some method) code) 512 positions.BodyTerm set.empty ts
+  pub lawful : AreTerms (setting_of arity (Some method) code) most_levels positions.BodyTerm set.empty ts
   pub spelled : encodings code ts ≡ code
 
 -- in a table no name has arguments
@@ -293,6 +266,6 @@ abbrev mutual
 -- The AML of a table reads as these terms: they are lawful as terms of a table, with at most 512 levels, no name has
 -- arguments, they are spelled by the code, and each method's body is the span where it stands.
 pub record ReadsModule (code : List ℕ) (ts : Trees) : Type 0 where
-  pub lawful : AreTerms (setting_of no_arguments None code) 512 positions.ModuleTerm set.empty ts
+  pub lawful : AreTerms (setting_of no_arguments None code) most_levels positions.ModuleTerm set.empty ts
   pub spelled : encodings code ts ≡ code
   pub bodies : BodiesStand code 0 ts

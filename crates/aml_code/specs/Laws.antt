@@ -1,17 +1,12 @@
 -- Where an Else stands (ACPI 6.5, 20.2.5.3): DefIfElse is an If and perhaps one Else, and nothing comes between them.
 -- So an Else, at whatever depth, is a term of a list of terms, and the term before it is an If.
-use Rattle.std.specs.Prelude.{◌≡◌, ℕ, ◌==◌, Bool, true, false, List, [], ◌++◌}
-use Rattle.aml_code.specs.Tree.{Tree, nothing, named, op, Trees, no_trees, tree_more, Part, child, Parts, no_parts}
-use Rattle.aml_code.specs.Tree.{part_more, Tail, terms, elements, fields, Field, connection, Fields, no_fields}
-use Rattle.aml_code.specs.Tree.{field_more, Link, target, buffer, encoding, encodings}
+use Rattle.std.specs.Prelude.{◌≡◌, ℕ, Bool, true, false, List, [], ◌++◌}
+use Rattle.aml_code.specs.Tree.{Tree, nothing, named, op, Trees, no_trees, tree_more, child, Parts, no_parts, part_more}
+use Rattle.aml_code.specs.Tree.{Tail, terms, elements, fields, connection, Fields, no_fields, field_more, buffer}
+use Rattle.aml_code.specs.Tree.{encoding, encodings}
 use Rattle.aml_names.specs.Paths.{PathSet}
 use Rattle.aml_code.specs.declared.rows.Position.{Position}
-use Rattle.aml_code.specs.Lawful.{Setting, IsLawful, AreTerms, BodyStands, BodiesStand}
-
--- a term with this opcode
-abbrev pub has_opcode : ℕ → Tree → Bool
-has_opcode o (op p w ps t) = p == o
-has_opcode o _ = false
+use Rattle.aml_code.specs.Lawful.{has_opcode, Setting, IsLawful, AreTerms, BodyStands, BodiesStand}
 
 abbrev mutual
   -- In a list of terms, and in all lists inside these terms, each Else stands right behind an If. It is said whether an
@@ -31,13 +26,10 @@ abbrev mutual
   NoElses no_trees = Unit {0}
   NoElses (tree_more t ts) = ElseFollows false t × NoElses ts
 
-  pub FollowInPart : Part → Type 0
-  FollowInPart (child t) = ElseFollows false t
-  FollowInPart _ = Unit {0}
-
   pub FollowInParts : Parts → Type 0
   FollowInParts no_parts = Unit {0}
-  FollowInParts (part_more p ps) = FollowInPart p × FollowInParts ps
+  FollowInParts (part_more (child t) ps) = ElseFollows false t × FollowInParts ps
+  FollowInParts (part_more _ ps) = FollowInParts ps
 
   pub FollowInTail : Tail → Type 0
   FollowInTail (terms ts) = ElsesFollow false ts
@@ -47,18 +39,11 @@ abbrev mutual
 
   pub FollowInFields : Fields → Type 0
   FollowInFields no_fields = Unit {0}
-  FollowInFields (field_more u us) = FollowInField u × FollowInFields us
+  FollowInFields (field_more (connection (buffer t)) us) = ElseFollows false t × FollowInFields us
+  FollowInFields (field_more _ us) = FollowInFields us
 
-  pub FollowInField : Field → Type 0
-  FollowInField (connection l) = FollowInLink l
-  FollowInField _ = Unit {0}
-
-  pub FollowInLink : Link → Type 0
-  FollowInLink (target n) = Unit {0}
-  FollowInLink (buffer t) = ElseFollows false t
-
--- ---- Where a term ends, its bytes tell (ACPI 6.5, 20.2): nothing marks its end, so the bytes of a term never begin those
--- of another that may stand in its place.
+-- ---- Where a term ends, its bytes tell (ACPI 6.5, 20.2): nothing marks its end, so the bytes of a term never begin
+-- those of another that may stand in its place.
 
 -- The tree is a term in a position at an offset of the code: it is lawful where these paths are declared, with however
 -- many levels, and each method's body in it is the span where it stands, and no other span with the same bytes.

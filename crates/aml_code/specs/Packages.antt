@@ -22,10 +22,7 @@ width_of (suc (suc (suc n))) = width.Four
 
 -- how many bytes spell the length
 abbrev pub width_len : PkgWidth → ℕ
-width_len width.One = 1
-width_len width.Two = 2
-width_len width.Three = 3
-width_len width.Four = 4
+width_len w = suc (following_bytes w)
 
 -- n in so many bytes, the lowest first
 abbrev pub little : ℕ → ℕ → List ℕ

@@ -17,7 +17,7 @@ use Rattle.aml_code.specs.declared.rows.Role.{Role}
 use Rattle.aml_code.specs.declared.rows.Role.TheVariants as roles
 use Rattle.aml_code.specs.declared.rows.TailKind.{TailKind}
 use Rattle.aml_code.specs.declared.rows.TailKind.TheVariants as tails
-use Rattle.aml_code.specs.Opcodes.{Row, rows, row_of, takes, taken_in_module, taken_in_guard}
+use Rattle.aml_code.specs.Opcodes.{Row, rows, row_of, takes}
 use Rattle.aml_code.specs.Tree.{Tree, nothing, named, op, Trees, no_trees, tree_more, Parts, Tail, terms, elements, fields, body}
 use Rattle.aml_code.specs.Lawful.{after, field_names, Setting, IsLawful, AreTerms, IsTail, terms_in, next_position, setting_of, no_arguments}
 use Rattle.aml_code.proofs.RowFacts.{and_left, and_right, rows_say}
@@ -80,9 +80,9 @@ Fits p r = (fits r.role r.tail ≡ true) × (r.tail ≡ tails.Terms → takes_na
 row_fits : (p : Position) (o : ℕ) (r : Row) → takes_names p ≡ false → row_of o ≡ Some r → takes p r.place ≡ true → Fits p r
 unfolding rows fits is_flat is_body is_terms
 row_fits positions.ModuleTerm o r h listed taken =
-    (rows_say (λ r. taken_in_module r.place) (λ r. fits r.role r.tail) refl o r listed taken, λ e. module_inside r.place)
+    (rows_say (λ r. takes positions.ModuleTerm r.place) (λ r. fits r.role r.tail) refl o r listed taken, λ e. module_inside r.place)
 row_fits positions.GuardTerm o r h listed taken =
-    let both = rows_say (λ r. taken_in_guard r.place) (λ r. fits r.role r.tail && is_flat r.tail) refl o r listed taken in
+    let both = rows_say (λ r. takes positions.GuardTerm r.place) (λ r. fits r.role r.tail && is_flat r.tail) refl o r listed taken in
     (and_left (fits r.role r.tail) (is_flat r.tail) both, λ e. absurd (flat_terms r.tail (and_right (fits r.role r.tail) (is_flat r.tail) both) e))
 row_fits _ o r h listed taken = absurd cc
 
@@ -162,13 +162,13 @@ role_adds roles.Fields k t l scope ps x Inside m fit has h = same_adds l m (tail
 role_adds roles.Guard k t l scope ps x Inside m fit has h = has.inside fit l scope m h
 role_adds roles.Other k t l scope ps x Inside m fit has h = same_adds l m (tail_spans t x) (ap spans_so_far h) (has.flat fit)
 
-flat_none : (s : Setting) (levels : ℕ) (p : Position) (k : TailKind) (ls : PathSet) (t : ℕ) (x : Tail) → IsTail s levels p k ls x → is_flat k ≡ true
+flat_none : (s : Setting) (levels : ℕ) (p : Position) (k : TailKind) (ls : PathSet) (t : ℕ) (x : Tail) → IsTail s (IsLawful s levels) p k ls x → is_flat k ≡ true
     → tail_spans t x ≡ []
 unfolding is_flat
 flat_none s levels p k ls t x l h =
     tail_none s t levels p k ls x (λ e. absurd (flat_terms k h e)) (not_body k (and_left (not (is_body k)) (not (is_terms k)) h)) l
 
-body_one : (s : Setting) (levels : ℕ) (p : Position) (ls : PathSet) (t : ℕ) (x : Tail) → IsTail s levels p tails.Body ls x → tail_spans t x ≡ one_span t x
+body_one : (s : Setting) (levels : ℕ) (p : Position) (ls : PathSet) (t : ℕ) (x : Tail) → IsTail s (IsLawful s levels) p tails.Body ls x → tail_spans t x ≡ one_span t x
 body_one s levels p ls t (body start len) l = refl
 body_one s levels p ls t _ l = absurd l
 
@@ -191,14 +191,14 @@ module _ (s : Setting) (t : ℕ) where
         let here = subst (λ (x : Role). fits x k ≡ true) (sym (role_is o law.row law.listed)) fit.0 in
         let has : TailSpans k t r (λ l p m. DeclareInside t l p r m) = record {
           flat = flat_none s levels q k ls t r law.tail;
-          one = λ e. body_one s levels q ls t r (subst (λ (k : TailKind). IsTail s levels q k ls r) (the_body k e) law.tail);
+          one = λ e. body_one s levels q ls t r (subst (λ (k : TailKind). IsTail s (IsLawful s levels) q k ls r) (the_body k e) law.tail);
           inside = λ e l scope m d. inside_adds levels q k ls l scope r m fit.1 (not_body k e) law.tail d;
         } in
         role_adds (role_of o) k t (with_uses t l scope o ps r) scope ps r (λ l p m. DeclareInside t l p r m) m here has d
         ∙ ap (λ zs. spans_so_far l ++ (zs ++ tail_spans t r)) (sym (parts_none s t levels (law.row).parts ls ps law.parts))
 
     inside_adds : (levels : ℕ) (p : Position) (k : TailKind) (ls : PathSet) (l : Listed) (scope : List Seg) (r : Tail) (m : Listed)
-        → (k ≡ tails.Terms → takes_names p ≡ false) → (k ≡ tails.Body → ⊥) → IsTail s levels p k ls r → DeclareInside t l scope r m
+        → (k ≡ tails.Terms → takes_names p ≡ false) → (k ≡ tails.Body → ⊥) → IsTail s (IsLawful s levels) p k ls r → DeclareInside t l scope r m
         → Adds l m (tail_spans t r)
     inside_adds levels p k ls l scope (terms xs) m h other law d =
         let e = terms_tail s levels p ls k xs law in all_add levels p ls l scope xs m (h e.0) e.1 d

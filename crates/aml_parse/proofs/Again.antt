@@ -1,44 +1,31 @@
 -- A lawful term is read again from its bytes, whatever follows them. Each reader has a law here, beginning with parts and
 -- ending with terms, that follows its steps over the bytes of what is lawful: each step reads what is spelled in front
 -- (`read_on`), and the next one goes on behind it. The reader of the terms inside is any with that law (`IsReader`).
-use Rattle.std.proofs.Common.{◌≡◌, ℕ, zero, suc, ◌+◌, ◌-◌, ◌<◌, ◌≤◌, Bool, true, false, cond, ◌==◌, List, [], ◌∷◌, ◌++◌, length, drop, Option, Some, None}
-use Rattle.std.proofs.Common.{Result, Ok, Err, refl, sym, ap, subst, ◌∙◌, append_assoc, arith, inl, inr}
-use Rattle.std.proofs.lemmas.Bool.{ne_eqb}
-use Rattle.std.proofs.lemmas.List.{length-append, append-nil, length-take, length-drop}
-use Rattle.aml_names.specs.declared.faults.CodeFault.{CodeFault}
-use Rattle.aml_names.specs.declared.names.Name.{Name}
-use Rattle.aml_names.specs.Names.{is_lead_char, IsNameSeg, IsName, spelling, is_name_lead}
-use Rattle.aml_names.specs.NameReading.{is_bare, ◌>>=◌}
-use Rattle.aml_names.specs.Paths.{PathSet}
-use Rattle.aml_names.proofs.NameLaws.{name_again, name_lead}
-use Rattle.aml_code.specs.declared.packages.PkgWidth.{PkgWidth}
-use Rattle.aml_code.specs.declared.rows.PartKind.{PartKind}
+use Rattle.aml_parse.proofs.Common.{◌≡◌, ℕ, zero, suc, ◌+◌, ◌-◌, ◌≤◌, Bool, true, false, cond, ◌==◌, List, [], ◌∷◌, ◌++◌, length, drop, Option, Some}
+use Rattle.aml_parse.proofs.Common.{None, Result, Ok, Err, refl, sym, ap, subst, ◌∙◌, append_assoc, arith, inl, inr, eqb-true, ne_eqb, length-append}
+use Rattle.aml_parse.proofs.Common.{append-nil, length-take, length-drop, CodeFault, ok_or, Name, is_lead_char, IsNameSeg, IsName, spelling, is_name_lead}
+use Rattle.aml_parse.proofs.Common.{is_bare, PathSet, name_again, name_lead, PkgWidth, PartKind, Position, TailKind, Row, row_of, has_length, takes}
+use Rattle.aml_parse.proofs.Common.{width_len, package_bytes, FitsWidth, Tree, nothing, named, op, Trees, no_trees, tree_more, Part, child, label, byte, word}
+use Rattle.aml_parse.proofs.Common.{dword, qword, text, Parts, no_parts, part_more, tree_count, Tail, empty, terms, elements, fields, body, Field, unit}
+use Rattle.aml_parse.proofs.Common.{reserved, access, connection, extended, Fields, no_fields, field_more, Link, target, buffer, opcode_bytes, packed}
+use Rattle.aml_parse.proofs.Common.{slice_of, encoding, encodings, part_encoding, parts_encoding, tail_encoding, field_encoding, fields_encoding}
+use Rattle.aml_parse.proofs.Common.{link_encoding, names_declared, with_declared, declared_by, after, after_all, after_tail, IsGuarded, is_guard}
+use Rattle.aml_parse.proofs.Common.{terms_in, next_position, Setting, IsLawful, AreTerms, IsPart, AreParts, IsTail, IsField, AreFields, BodyStands}
+use Rattle.aml_parse.proofs.Common.{BodiesStand, TailStands, read_on, is_inner, unchanged, all_unchanged, span_again, length-package_bytes, row_opcode}
+use Rattle.aml_parse.proofs.Common.{row_is_opcode, lead_of, row_apart, target_opcode, opcode_lead}
+use Rattle.aml_names.specs.declared.faults.CodeFault.TheVariants as faults
 use Rattle.aml_code.specs.declared.rows.PartKind.TheVariants as kinds
-use Rattle.aml_code.specs.declared.rows.Position.{Position}
 use Rattle.aml_code.specs.declared.rows.Position.TheVariants as positions
-use Rattle.aml_code.specs.declared.rows.TailKind.{TailKind}
 use Rattle.aml_code.specs.declared.rows.TailKind.TheVariants as tails
-use Rattle.aml_code.specs.Opcodes.{Row, row_of, has_length, takes}
-use Rattle.aml_code.specs.Packages.{width_len, package_bytes, FitsWidth}
-use Rattle.aml_code.specs.Tree.{Tree, nothing, named, op, Trees, no_trees, tree_more, Part, child, label, byte, word, dword, qword, text, Parts, no_parts}
-use Rattle.aml_code.specs.Tree.{part_more, tree_count, Tail, empty, terms, elements, fields, body, Field, unit, reserved, access, connection, extended, Fields}
-use Rattle.aml_code.specs.Tree.{no_fields, field_more, Link, target, buffer, opcode_bytes, packed, slice_of, encoding, encodings, part_encoding, parts_encoding}
-use Rattle.aml_code.specs.Tree.{tail_encoding, field_encoding, fields_encoding, link_encoding}
 use Rattle.aml_code.specs.Tree as trees
-use Rattle.aml_code.specs.Lawful.{names_declared, with_declared, declared_by, after, after_all, after_tail, HasWidth, IsGuarded, is_guard, terms_in}
-use Rattle.aml_code.specs.Lawful.{next_position, Setting, IsLawful, AreTerms, IsPart, AreParts, IsTail, IsLink, IsField, AreFields, BodyStands, BodiesStand}
-use Rattle.aml_code.specs.Lawful.{TailStands}
-use Rattle.aml_code.proofs.Answered.{read_on}
-use Rattle.aml_code.proofs.InnerLaws.{is_inner, unchanged, all_unchanged}
-use Rattle.aml_code.proofs.LengthLaws.{span_again, length-package_bytes}
-use Rattle.aml_code.proofs.RowFacts.{row_opcode, row_is_opcode, lead_of, row_apart, target_opcode, opcode_lead}
-use Rattle.aml_parse.specs.Reading.{Reader, flat, part_at, parts_at, arguments_at, terms_at, named_unit, named_link, buffer_at, link_at, field_at, fields_at}
-use Rattle.aml_parse.specs.Reading.{known, call_at, takes_names, name_term_at, refusal, body_to, tail_at, plain_at, packed_at, row_at, by_row, operation_at}
+use Rattle.aml_parse.specs.Reading.{Reader, flat, held, held_inside, part_at, parts_at, arguments_at, terms_at, segmented_at, named_unit, link_at, field_at}
+use Rattle.aml_parse.specs.Reading.{fields_at, call_at, takes_names, name_term_at, refusal, body_to, tail_at, plain_at, packed_at, row_at, by_row, operation_at}
 use Rattle.aml_parse.specs.Reading.{is_absent_target, term_at}
 use Rattle.aml_parse.proofs.FlatLaws.{number_again, count_again, text_again, segmented_again, opcode_again, apart, named_unit_again, reserved_again}
 use Rattle.aml_parse.proofs.FlatLaws.{access_again, extended_again}
+use Rattle.aml_parse.proofs.Loops.{turn, terms_loop, fields_in, fields_loop}
 use Rattle.aml_parse.proofs.Leads.{tail_is_empty, guard_again}
-use Rattle.aml_parse.proofs.Took.{IsReader, place_behind, place_split, nonempty, field_some, names_taken, long_tail}
+use Rattle.aml_parse.proofs.Took.{IsReader, IsLink, place_behind, place_split, nonempty, field_some, names_taken, long_tail}
 use Rattle.aml_parse.proofs.Bodiless.{bodiless, terms_bodiless}
 
 -- ---- first bytes
@@ -59,12 +46,8 @@ name_apart n is =
     ]
 
 seg_first : (front rest : List ℕ) → IsNameSeg front → (lead : ℕ) × (behind : List ℕ) × (front ++ rest ≡ lead ∷ behind) × (is_lead_char lead ≡ true)
-seg_first [] rest h = absurd h
-seg_first (a ∷ []) rest h = absurd h
-seg_first (a ∷ b ∷ []) rest h = absurd h
-seg_first (a ∷ b ∷ c ∷ []) rest h = absurd h
 seg_first (a ∷ b ∷ c ∷ d ∷ []) rest h = (a, b ∷ c ∷ d ∷ rest, refl, h.0)
-seg_first (a ∷ b ∷ c ∷ d ∷ f ∷ front) rest h = absurd h
+seg_first _ rest h = absurd h
 
 taken_target : (p : Position) (o : ℕ) (row : Row) → row_of o ≡ Some row → takes p row.place ≡ true → is_absent_target p (lead_of o) ≡ false
 taken_target positions.Target o row listed taken = target_opcode o row listed taken
@@ -75,15 +58,15 @@ read_as x = Ok x
 
 -- what a reader does by the first byte, or by the first bytes
 module _ (read : Position → Reader Tree) (end : ℕ) (ls : PathSet) (lead : ℕ) (behind : List ℕ) where
-  link_named : (lead == 0x11) ≡ false → link_at read end ls (lead ∷ behind) ≡ flat named_link end ls (lead ∷ behind)
+  link_named : (lead == 0x11) ≡ false → link_at read end ls (lead ∷ behind) ≡ flat ls (held target (segmented_at end (lead ∷ behind)))
   unfolding link_at
   link_named h = rw h refl
 
-  link_led : link_at read end ls (0x11 ∷ behind) ≡ buffer_at (read positions.Data) end ls (0x11 ∷ behind)
+  link_led : link_at read end ls (0x11 ∷ behind) ≡ held_inside buffer (read positions.Data end ls (0x11 ∷ behind))
   unfolding link_at
   link_led = refl
 
-  unit_named : is_lead_char lead ≡ true → field_at read end ls (lead ∷ behind) ≡ flat named_unit end ls (lead ∷ behind)
+  unit_named : is_lead_char lead ≡ true → field_at read end ls (lead ∷ behind) ≡ flat ls (named_unit end (lead ∷ behind))
   unfolding field_at
   unit_named h = rw (apart lead 0x00 h refl, apart lead 0x01 h refl, apart lead 0x02 h refl, apart lead 0x03 h refl) refl
 
@@ -124,7 +107,7 @@ module _ (s : Setting) (levels : ℕ) (read : Position → Reader Tree) (law : I
   inner_again p at end ls t rest i inner h place =
       law.again p at end ls t rest h (bodiless s levels p ls at t inner h) place ∙ ap (λ (m : PathSet). Ok (t, m, rest)) (unchanged s levels p ls t i h)
 
-  part_again : (k : PartKind) (at end : ℕ) (ls : PathSet) (x : Part) (rest : List ℕ) → IsPart s levels k ls x
+  part_again : (k : PartKind) (at end : ℕ) (ls : PathSet) (x : Part) (rest : List ℕ) → IsPart (λ q. IsLawful s levels q ls) k x
       → at + length (part_encoding s.code x ++ rest) ≡ end
       → part_at read k end ls (part_encoding s.code x ++ rest) ≡ Ok (x, ls, rest)
   part_again kinds.Term at end ls (child t) rest h place = read_on _ _ _ _ (inner_again positions.Argument at end ls t rest refl refl h place) refl
@@ -140,12 +123,10 @@ module _ (s : Setting) (levels : ℕ) (read : Position → Reader Tree) (law : I
   part_again kinds.Text at end ls (text t) rest h place = read_on _ _ _ _ (text_again end t rest h) refl
   part_again _ at end ls _ rest h place = absurd h
 
-  parts_again : (ks : List PartKind) (at end : ℕ) (ls : PathSet) (xs : Parts) (rest : List ℕ) → AreParts s levels ks ls xs
+  parts_again : (ks : List PartKind) (at end : ℕ) (ls : PathSet) (xs : Parts) (rest : List ℕ) → AreParts (λ q. IsLawful s levels q ls) ks xs
       → at + length (parts_encoding s.code xs ++ rest) ≡ end → parts_at read ks end ls (parts_encoding s.code xs ++ rest) ≡ Ok (xs, ls, rest)
   unfolding parts_at
   parts_again [] at end ls no_parts rest h place = refl
-  parts_again [] at end ls (part_more x xs) rest h place = absurd h
-  parts_again (k ∷ ks) at end ls no_parts rest h place = absurd h
   parts_again (k ∷ ks) at end ls (part_more x xs) rest h place =
       let front = part_encoding s.code x in
       let back = parts_encoding s.code xs in
@@ -153,6 +134,7 @@ module _ (s : Setting) (levels : ℕ) (read : Position → Reader Tree) (law : I
       ap (parts_at read (k ∷ ks) end ls) (append_assoc front back rest)
       ∙ read_on _ _ _ _ (part_again k at end ls x (back ++ rest) h.0 here)
       (read_on _ _ _ _ (parts_again ks (at + length front) end ls xs rest h.1 (place_behind at end front (back ++ rest) here)) refl)
+  parts_again _ at end ls _ rest h place = absurd h
 
   -- ---- lists of terms
 
@@ -169,13 +151,6 @@ module _ (s : Setting) (levels : ℕ) (read : Position → Reader Tree) (law : I
       ∙ read_on _ _ _ _ (law.again positions.Argument at end ls t (back ++ rest) h.0 (bodiless s levels positions.Argument ls at t refl h.0) here)
       (read_on _ _ _ _ (arguments_again (at + length front) end (after s.scope ls t) ts rest h.1 (place_behind at end front (back ++ rest) here)) refl)
 
-  terms_step : (n : ℕ) (p : Position) (end : ℕ) (ls : PathSet) (bs : List ℕ) → 0 < length bs
-      → terms_at read (suc n) p end ls bs
-      ≡ (read p end ls bs >>= λ first. terms_at read n (next_position p first.0) end first.1 first.2 >>= λ others. Ok (tree_more first.0 others.0, others.1))
-  unfolding terms_at
-  terms_step n p end ls [] h = absurd (omega arith)
-  terms_step n p end ls (b ∷ bs) h = refl
-
   pub terms_again : (n : ℕ) (p : Position) (at end : ℕ) (ls : PathSet) (ts : Trees) → length (encodings s.code ts) ≤ n → AreTerms s levels p ls ts
       → BodiesStand s.code at ts → at + length (encodings s.code ts) ≡ end → terms_at read n p end ls (encodings s.code ts) ≡ Ok (ts, after_all s.scope ls ts)
   unfolding terms_at
@@ -187,7 +162,7 @@ module _ (s : Setting) (levels : ℕ) (read : Position → Reader Tree) (law : I
       let back = encodings s.code ts in
       let some = nonempty s levels p ls t h.0 in
       let long = length-append front back in
-      terms_step n p end ls (front ++ back) (omega (arith, some, long))
+      turn _ _ _ _ (terms_at read) (terms_loop read) n p end ls (front ++ back) (omega (arith, some, long))
       ∙ read_on _ _ _ _ (law.again p at end ls t back h.0 stands.0 place) (read_on _ _ _ _
       (terms_again n (next_position p t) (at + length front) end (after s.scope ls t) ts (omega (arith, some, long)) h.1 stands.1
       (place_behind at end front back place)) refl)
@@ -199,37 +174,31 @@ module _ (s : Setting) (levels : ℕ) (read : Position → Reader Tree) (law : I
   link_again at end ls (target n) rest h place =
       let f = name_apart n h.0 in
       let spelled : spelling n ++ rest ≡ f.0 ∷ (f.1 ++ rest) = ap (λ (b : List ℕ). b ++ rest) f.2 in
-      subst (λ (b : List ℕ). link_at read end ls b ≡ flat named_link end ls b) (sym spelled) (link_named read end ls f.0 (f.1 ++ rest) f.3)
+      subst (λ (b : List ℕ). link_at read end ls b ≡ flat ls (held target (segmented_at end b))) (sym spelled) (link_named read end ls f.0 (f.1 ++ rest) f.3)
       ∙ read_on _ _ _ _ (read_on _ _ _ _ (segmented_again end n rest h.0 h.1) refl) refl
-  link_again at end ls (buffer nothing) rest h place = absurd h.0
-  link_again at end ls (buffer (named n ts)) rest h place = absurd h.0
+  link_again at end ls (buffer nothing) rest h place = absurd (cc h.0)
+  link_again at end ls (buffer (named n ts)) rest h place = absurd (cc h.0)
   link_again at end ls (buffer (op o w ps t)) rest h place =
       let content = packed w (parts_encoding s.code ps ++ tail_encoding s.code t) in
-      let spelled : encoding s.code (op o w ps t) ++ rest ≡ 0x11 ∷ (content ++ rest) = ap (λ (n : ℕ). (opcode_bytes n ++ content) ++ rest) h.0 in
-      subst (λ (b : List ℕ). link_at read end ls b ≡ buffer_at (read positions.Data) end ls b) (sym spelled) (link_led read end ls 0 (content ++ rest))
+      let spelled : encoding s.code (op o w ps t) ++ rest ≡ 0x11 ∷ (content ++ rest) =
+      ap (λ (n : ℕ). (opcode_bytes n ++ content) ++ rest) (eqb-true o 0x11 h.0) in
+      subst (λ (b : List ℕ). link_at read end ls b ≡ held_inside buffer (read positions.Data end ls b)) (sym spelled) (link_led read end ls 0 (content ++ rest))
       ∙ read_on _ _ _ _ (inner_again positions.Data at end ls (op o w ps t) rest refl refl h.1 place) refl
 
-  field_again : (at end : ℕ) (ls : PathSet) (u : Field) (rest : List ℕ) → IsField s levels ls u → at + length (field_encoding s.code u ++ rest) ≡ end
-      → field_at read end ls (field_encoding s.code u ++ rest) ≡ Ok (u, ls, rest)
+  field_again : (at end : ℕ) (ls : PathSet) (u : Field) (rest : List ℕ) → IsField (λ q. IsLawful s levels q ls) u
+      → at + length (field_encoding s.code u ++ rest) ≡ end → field_at read end ls (field_encoding s.code u ++ rest) ≡ Ok (u, ls, rest)
   unfolding field_at
   field_again at end ls (unit g w n) rest h place =
       let f = seg_first g.0 (package_bytes w n ++ rest) h.0 in
       ap (field_at read end ls) (append_assoc g.0 (package_bytes w n) rest)
-      ∙ subst (λ (b : List ℕ). field_at read end ls b ≡ flat named_unit end ls b) (sym f.2) (unit_named read end ls f.0 f.1 f.3)
+      ∙ subst (λ (b : List ℕ). field_at read end ls b ≡ flat ls (named_unit end b)) (sym f.2) (unit_named read end ls f.0 f.1 f.3)
       ∙ read_on _ _ _ _ (named_unit_again end g w n rest h.0 h.1) refl
   field_again at end ls (reserved w n) rest h place = read_on _ _ _ _ (reserved_again end w n rest h) refl
   field_again at end ls (access a b) rest h place = read_on _ _ _ _ (access_again end a b rest) refl
   field_again at end ls (connection l) rest h place = read_on _ _ _ _ (link_again (at + 1) end ls l rest h (omega (arith, place))) refl
   field_again at end ls (extended a b c) rest h place = read_on _ _ _ _ (extended_again end a b c rest) refl
 
-  fields_step : (n end : ℕ) (ls : PathSet) (bs : List ℕ) → 0 < length bs
-      → fields_at read (suc n) end ls bs
-      ≡ (field_at read end ls bs >>= λ first. fields_at read n end first.1 first.2 >>= λ others. Ok (field_more first.0 others.0, others.1))
-  unfolding fields_at
-  fields_step n end ls [] h = absurd (omega arith)
-  fields_step n end ls (b ∷ bs) h = refl
-
-  fields_again : (n at end : ℕ) (ls : PathSet) (us : Fields) → length (fields_encoding s.code us) ≤ n → AreFields s levels ls us
+  fields_again : (n at end : ℕ) (ls : PathSet) (us : Fields) → length (fields_encoding s.code us) ≤ n → AreFields (λ q. IsLawful s levels q ls) us
       → at + length (fields_encoding s.code us) ≡ end → fields_at read n end ls (fields_encoding s.code us) ≡ Ok (us, ls)
   unfolding fields_at
   fields_again n at end ls no_fields le h place = refl
@@ -240,7 +209,7 @@ module _ (s : Setting) (levels : ℕ) (read : Position → Reader Tree) (law : I
       let back = fields_encoding s.code us in
       let some = field_some s levels ls u h.0 in
       let long = length-append front back in
-      fields_step n end ls (front ++ back) (omega (arith, some, long))
+      turn _ _ _ _ (fields_in read) (fields_loop read) n positions.Data end ls (front ++ back) (omega (arith, some, long))
       ∙ read_on _ _ _ _ (field_again at end ls u back h.0 place)
       (read_on _ _ _ _ (fields_again n (at + length front) end ls us (omega (arith, some, long)) h.1 (place_behind at end front back place)) refl)
 
@@ -260,14 +229,14 @@ module _ (s : Setting) (levels : ℕ) (read : Position → Reader Tree) (law : I
       ap (term_at s.arity s.scope read p end ls) (append_assoc (spelling n) (encodings s.code ts) rest)
       ∙ subst (λ (b : List ℕ). term_at s.arity s.scope read p end ls b ≡ call_at s.arity read p end ls b) (sym spelled)
       (term_name s read p end ls l.lead (l.behind ++ back) leads (names_taken s.arity p ls n (tree_count ts) h.2))
-      ∙ read_on _ _ _ _ (name_again end n back h.0) (read_on _ _ _ _ (ap (known (end - length bs)) h.2) (read_on _ _ _ _
-      (arguments_again (at + length (spelling n)) end ls ts rest h.3 (place_behind at end (spelling n) back here))
+      ∙ read_on _ _ _ _ (name_again end n back h.0) (read_on _ _ _ _ (ap (λ (o : Option ℕ). ok_or o (faults.UnknownName (end - length bs))) h.2)
+      (read_on _ _ _ _ (arguments_again (at + length (spelling n)) end ls ts rest h.3 (place_behind at end (spelling n) back here))
       (ap (λ (m : PathSet). Ok (named n ts, m, rest)) (all_unchanged s levels positions.Argument ls ts refl h.3))))
 
   -- ---- tails
 
-  tail_again : (p : Position) (k : TailKind) (at end : ℕ) (ls : PathSet) (t : Tail) → IsTail s levels p k ls t → (k ≡ tails.Empty → ⊥) → TailStands s.code at t
-      → at + length (tail_encoding s.code t) ≡ end → tail_at read p k end ls (tail_encoding s.code t) ≡ Ok (t, after_tail s.scope ls t)
+  tail_again : (p : Position) (k : TailKind) (at end : ℕ) (ls : PathSet) (t : Tail) → IsTail s (IsLawful s levels) p k ls t → (k ≡ tails.Empty → ⊥)
+      → TailStands s.code at t → at + length (tail_encoding s.code t) ≡ end → tail_at read p k end ls (tail_encoding s.code t) ≡ Ok (t, after_tail s.scope ls t)
   tail_again p tails.Empty at end ls t h some stands place = absurd (some refl)
   tail_again p tails.Fields at end ls (fields us) h some stands place =
       read_on _ _ _ _ (fields_again (length (fields_encoding s.code us)) at end ls us (omega arith) h place) refl
@@ -296,14 +265,14 @@ module _ (s : Setting) (levels : ℕ) (read : Position → Reader Tree) (law : I
         ap (λ (n : ℕ). Ok (op n w ps t, with_declared s.scope m (names_declared row.role ps t), rest)) (row_opcode o row listed)
         ∙ ap (λ (f : Option Row). Ok (op o w ps t, declared_by s.scope f m ps t, rest)) (sym listed)
 
-    plain_again : (at : ℕ) → AreParts s levels row.parts ls ps → at + length (parts_encoding s.code ps ++ rest) ≡ end
+    plain_again : (at : ℕ) → AreParts (λ q. IsLawful s levels q ls) row.parts ps → at + length (parts_encoding s.code ps ++ rest) ≡ end
         → plain_at s.scope read row end ls (parts_encoding s.code ps ++ rest) ≡ Ok (op o None ps empty, declared_by s.scope (row_of o) ls ps empty, rest)
     unfolding plain_at
     plain_again at h place = read_on _ _ _ _ (parts_again row.parts at end ls ps rest h place) (by_opcode None empty ls)
 
     packed_again : (w : PkgWidth) (there at : ℕ) (t : Tail) → IsGuarded (is_guard p row.place) ps
-        → FitsWidth w (width_len w + length (parts_encoding s.code ps ++ tail_encoding s.code t)) → AreParts s levels row.parts ls ps
-        → IsTail s levels (terms_in p row.place) row.tail ls t → (row.tail ≡ tails.Empty → ⊥)
+        → FitsWidth w (width_len w + length (parts_encoding s.code ps ++ tail_encoding s.code t)) → AreParts (λ q. IsLawful s levels q ls) row.parts ps
+        → IsTail s (IsLawful s levels) (terms_in p row.place) row.tail ls t → (row.tail ≡ tails.Empty → ⊥)
         → TailStands s.code (at + (width_len w + length (parts_encoding s.code ps))) t
         → at + length (packed (Some w) (parts_encoding s.code ps ++ tail_encoding s.code t) ++ rest) ≡ end
         → packed_at s.scope read p there row end ls (packed (Some w) (parts_encoding s.code ps ++ tail_encoding s.code t) ++ rest)
@@ -346,19 +315,15 @@ module _ (s : Setting) (levels : ℕ) (read : Position → Reader Tree) (law : I
       ∙ ap (λ (c : Bool). cond c (packed_at s.scope read p there row end ls (front ++ rest)) (plain_at s.scope read row end ls (front ++ rest))) short
       ∙ plain_again p o row end ls ps rest h.listed (at + length (opcode_bytes o)) h.parts inner_place
       ∙ ap (λ (y : Tail). Ok (op o None ps y, declared_by s.scope (row_of o) (after_tail s.scope ls y) ps y, rest)) (sym is_empty)
-  op_again p o None at end ls ps t rest h true long stands place =
-      let width : HasWidth true None 0 =
-      subst (λ (b : Bool). HasWidth b None (length (parts_encoding s.code ps ++ tail_encoding s.code t))) long h.width in absurd width
-  op_again p o (Some w) at end ls ps t rest h false short stands place =
-      let width : HasWidth false (Some w) 0 =
-      subst (λ (b : Bool). HasWidth b (Some w) (length (parts_encoding s.code ps ++ tail_encoding s.code t))) short h.width in absurd width
+  op_again p o None at end ls ps t rest h true long stands place = absurd (rw long at h.width)
+  op_again p o (Some w) at end ls ps t rest h false short stands place = absurd (rw short at h.width)
   op_again p o (Some w) at end ls ps t rest h true long stands place =
       let row = h.row in
       let inside = parts_encoding s.code ps ++ tail_encoding s.code t in
       let content = packed (Some w) inside in
       let spelled = append_assoc (opcode_bytes o) content rest in
       let there = end - length (opcode_bytes o ++ (content ++ rest)) in
-      let width : FitsWidth w (width_len w + length inside) = subst (λ (b : Bool). HasWidth b (Some w) (length inside)) long h.width in
+      let width : FitsWidth w (width_len w + length inside) = rw long at h.width in
       let at1 = at + length (opcode_bytes o) in
       let inner_place : at1 + length (content ++ rest) ≡ end = omega (arith, place, ap length spelled, length-append (opcode_bytes o) (content ++ rest)) in
       let inner = width_len w + length (parts_encoding s.code ps) in

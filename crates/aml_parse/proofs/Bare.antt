@@ -1,16 +1,7 @@
 -- An opcode whose row has no parts and no tail.
-use Rattle.std.proofs.Common.{◌≡◌, ℕ, List, [], ◌∷◌, length, Option, Some, None, Result, Ok, refl, ap, ◌∙◌}
-use Rattle.aml_names.specs.declared.segments.Seg.{Seg}
-use Rattle.aml_names.specs.declared.faults.CodeFault.{CodeFault}
-use Rattle.aml_names.specs.Paths.{PathSet}
-use Rattle.aml_names.specs.NameReading.{◌>>=◌}
-use Rattle.aml_code.specs.Opcodes.{Row}
-use Rattle.aml_code.specs.declared.rows.Position.{Position}
-use Rattle.aml_code.specs.declared.rows.PartKind.{PartKind}
-use Rattle.aml_code.specs.declared.rows.Role.{Role}
+use Rattle.aml_parse.proofs.Common.{◌≡◌, ℕ, List, [], ◌∷◌, length, Option, Some, None, Result, Ok, refl, ap, ◌∙◌, Seg, CodeFault, PathSet, ◌>>=◌, Row}
+use Rattle.aml_parse.proofs.Common.{Position, PartKind, Role, Tree, op, Parts, no_parts, empty, names_declared, with_declared}
 use Rattle.aml_code.specs.declared.rows.Role.TheVariants as roles
-use Rattle.aml_code.specs.Tree.{Tree, op, Parts, no_parts, empty}
-use Rattle.aml_code.specs.Lawful.{names_declared, with_declared}
 use Rattle.aml_parse.specs.Reading.{Reader, parts_at, plain_at}
 
 none_declared : (scope : Option (List Seg)) (ls : PathSet) → with_declared scope ls [] ≡ ls
@@ -23,13 +14,7 @@ empty_is (x ∷ xs) e = absurd cc
 
 bare_names : (r : Role) → names_declared r no_parts empty ≡ []
 bare_names (roles.Declares o) = refl
-bare_names roles.Method = refl
-bare_names roles.Scope = refl
-bare_names roles.Alias = refl
-bare_names roles.External = refl
-bare_names roles.Fields = refl
-bare_names roles.Guard = refl
-bare_names roles.Other = refl
+bare_names _ = refl
 
 pub plain_bare : (scope : Option (List Seg)) (read : Position → Reader Tree) (row : Row) (end : ℕ) (ls : PathSet) (bytes : List ℕ) → length row.parts ≡ 0
     → plain_at scope read row end ls bytes ≡ Ok (op row.opcode None no_parts empty, ls, bytes)

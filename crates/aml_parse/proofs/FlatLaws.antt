@@ -1,24 +1,11 @@
 -- What holds no terms is read again from its bytes, whatever follows them.
-use Rattle.std.proofs.Common.{◌≡◌, ℕ, zero, suc, ◌+◌, ◌-◌, ◌/◌, ◌%◌, ◌^◌, ◌<◌, true, false, cond, eqb, ltb, ◌==◌, List, [], ◌∷◌, ◌++◌, length, get_or, take}
-use Rattle.std.proofs.Common.{drop, Some, None, Ok, Err, refl, sym, ap, subst, ◌∙◌, append_assoc, arith, inl, inr}
-use Rattle.std.specs.Prelude.{position}
-use Rattle.std.specs.List.{position_or_len}
-use Rattle.std.proofs.lemmas.Bool.{ne_eqb, lt-ltb, le-ltb}
-use Rattle.std.proofs.lemmas.List.{length-append, take_at, drop_at}
-use Rattle.std.proofs.lemmas.List.Sums.{position_or_len_is}
-use Rattle.aml_names.specs.declared.names.Name.{Name}
-use Rattle.aml_names.specs.declared.segments.Seg.{Seg}
-use Rattle.aml_names.specs.Names.{is_lead_char, IsNameSeg, IsName, spelling}
-use Rattle.aml_names.specs.NameReading.{has_segment, ◌>>=◌, Left}
+use Rattle.aml_parse.proofs.Common.{◌≡◌, ℕ, zero, suc, ◌+◌, ◌-◌, ◌/◌, ◌%◌, ◌^◌, ◌<◌, ◌≤◌, true, false, cond, eqb, ltb, ◌==◌, List, [], ◌∷◌, ◌++◌, length}
+use Rattle.aml_parse.proofs.Common.{get_or, take, drop, Some, None, Ok, Err, refl, sym, ap, subst, ◌∙◌, append_assoc, arith, inl, inr, position, All}
+use Rattle.aml_parse.proofs.Common.{position_or_len, ne_eqb, lt-ltb, le-ltb, length-append, take_at, drop_at, position_or_len_is, Name, Seg, is_lead_char}
+use Rattle.aml_parse.proofs.Common.{IsNameSeg, IsName, spelling, has_segment, ◌>>=◌, Left, segment_again, name_again, PkgWidth, little, package_bytes}
+use Rattle.aml_parse.proofs.Common.{FitsWidth, little_at, byte, text, unit, reserved, access, extended, opcode_bytes, IsOpcode, read_on, little_again}
+use Rattle.aml_parse.proofs.Common.{length_again}
 use Rattle.aml_names.specs.declared.faults.CodeFault.TheVariants as faults
-use Rattle.aml_names.proofs.NameLaws.{segment_again, name_again}
-use Rattle.aml_code.specs.declared.packages.PkgWidth.{PkgWidth}
-use Rattle.aml_code.specs.Packages.{little, package_bytes, FitsWidth, little_at}
-use Rattle.aml_code.specs.Tree.{byte, text, unit, reserved, access, extended, opcode_bytes}
-use Rattle.aml_code.specs.Faults.{IsOpcode}
-use Rattle.aml_code.specs.Lawful.{AreTextBytes}
-use Rattle.aml_code.proofs.Answered.{read_on}
-use Rattle.aml_code.proofs.LengthLaws.{little_again, length_again}
 use Rattle.aml_parse.specs.Reading.{count_part, text_to, text_part, segmented_at, opcode_at, named_unit, reserved_unit, access_unit, extended_unit}
 
 -- ---- numbers
@@ -31,7 +18,7 @@ module _ {A : Type 0} (k : ℕ) (made : ℕ → A) where
   pub number_again : (end n : ℕ) (rest : List ℕ) → n < 256 ^ k → number end (little k n ++ rest) ≡ Ok (made n, rest)
   number_again end n rest h = read_on _ _ _ _ (little_again k end n rest h) refl
 
-pub count_again : (end n : ℕ) (rest : List ℕ) → n < 8 → count_part end (little 1 n ++ rest) ≡ Ok (byte n, rest)
+pub count_again : (end n : ℕ) (rest : List ℕ) → n ≤ 7 → count_part end (little 1 n ++ rest) ≡ Ok (byte n, rest)
 unfolding count_part
 count_again end n rest h =
     let less : n < 256 ^ 1 = omega (arith, h) in
@@ -40,16 +27,16 @@ count_again end n rest h =
 
 -- ---- texts
 
-no_zero : (bs rest : List ℕ) → AreTextBytes bs → (k : ℕ) → k < length bs → (get_or (bs ++ 0 ∷ rest) k 0 == 0) ≡ false
+no_zero : (bs rest : List ℕ) → All (λ b. (0 < b) × (b < 256)) bs → (k : ℕ) → k < length bs → (get_or (bs ++ 0 ∷ rest) k 0 == 0) ≡ false
 no_zero [] rest h k less = absurd (omega (arith, less))
-no_zero (b ∷ bs) rest h zero less = ne_eqb _ _ (λ z. absurd (omega (arith, h.0, z)))
-no_zero (b ∷ bs) rest h (suc k) less = no_zero bs rest h.2 k (omega (arith, less))
+no_zero (b ∷ bs) rest h zero less = ne_eqb _ _ (λ z. let some : 0 < b = (h 0 0 less).0 in absurd (omega (arith, some, z)))
+no_zero (b ∷ bs) rest h (suc k) less = no_zero bs rest (λ i d l. h (suc i) d (omega (arith, l))) k (omega (arith, less))
 
 zero_at : (bs rest : List ℕ) → get_or (bs ++ 0 ∷ rest) (length bs) 0 ≡ 0
 zero_at [] rest = refl
 zero_at (b ∷ bs) rest = zero_at bs rest
 
-pub text_again : (end : ℕ) (bs rest : List ℕ) → AreTextBytes bs → text_part end ((bs ++ 0 ∷ []) ++ rest) ≡ Ok (text bs, rest)
+pub text_again : (end : ℕ) (bs rest : List ℕ) → All (λ b. (0 < b) × (b < 256)) bs → text_part end ((bs ++ 0 ∷ []) ++ rest) ≡ Ok (text bs, rest)
 text_again end bs rest h =
     let all : List ℕ = bs ++ 0 ∷ rest in
     let same : (bs ++ 0 ∷ []) ++ rest ≡ all = append_assoc bs (0 ∷ []) rest in
@@ -96,7 +83,6 @@ named_unit_again end g w n rest is fits =
     read_on _ _ _ _ (segment_again end g (package_bytes w n ++ rest) is) (read_on _ _ _ _ (length_again end w n rest fits) refl)
 
 pub reserved_again : (end : ℕ) (w : PkgWidth) (n : ℕ) (rest : List ℕ) → FitsWidth w n → reserved_unit end (package_bytes w n ++ rest) ≡ Ok (reserved w n, rest)
-unfolding reserved_unit
 reserved_again end w n rest fits = read_on _ _ _ _ (length_again end w n rest fits) refl
 
 pub access_again : (end a b : ℕ) (rest : List ℕ) → access_unit end (a ∷ b ∷ rest) ≡ Ok (access a b, rest)

@@ -1,26 +1,14 @@
 -- What a step that holds no terms reads is spelled by the bytes that were taken, and its fault is true of the code.
-use Rattle.std.proofs.Common.{◌≡◌, ℕ, zero, suc, ◌+◌, ◌-◌, ◌<◌, ◌≤◌, ◌/◌, ◌%◌, ◌^◌, Bool, true, false, cond, eqb, ltb, ◌==◌, List, [], ◌∷◌, ◌++◌, length}
-use Rattle.std.proofs.Common.{get_or, take, drop, Option, Some, None, Result, Ok, Err, refl, sym, ap, subst, ◌∙◌, append_assoc, arith, inl, inr}
-use Rattle.std.specs.Prelude.{position}
-use Rattle.std.proofs.Math.Seq.{drop-cons}
-use Rattle.std.proofs.lemmas.Bool.{eqb-true, eqb-false, ltb-true, ltb-false, lt-ltb, le-ltb}
-use Rattle.std.proofs.lemmas.List.{take-append-drop}
-use Rattle.std.proofs.lemmas.List.Quantifiers.{position-Some}
-use Rattle.aml_names.specs.declared.faults.CodeFault.{CodeFault}
+use Rattle.aml_parse.proofs.Common.{◌≡◌, ℕ, zero, suc, ◌+◌, ◌-◌, ◌<◌, ◌≤◌, ◌/◌, ◌%◌, ◌^◌, Bool, true, false, cond, eqb, ltb, ◌==◌, List, [], ◌∷◌, ◌++◌, length}
+use Rattle.aml_parse.proofs.Common.{get_or, take, drop, Option, Some, None, Result, Ok, Err, refl, sym, ap, subst, ◌∙◌, append_assoc, arith, inl, inr}
+use Rattle.aml_parse.proofs.Common.{position, All, drop-cons, eqb-true, eqb-false, ltb-true, ltb-false, lt-ltb, le-ltb, take-append-drop, position-Some}
+use Rattle.aml_parse.proofs.Common.{CodeFault, Name, IsNameSeg, IsName, spelling, name_at, segment_at, has_segment, ◌>>=◌, byte_at, PathSet, segment_fault}
+use Rattle.aml_parse.proofs.Common.{segment_takes, name_takes, name_fault, ok_is, err_is, IsBytes, IsBytes-drop, Takes, Takes-then, byte_takes, byte_fault}
+use Rattle.aml_parse.proofs.Common.{little, package_bytes, FitsWidth, little_at, length_at, span_at, Part, byte, text, Field, opcode_bytes, part_encoding}
+use Rattle.aml_parse.proofs.Common.{field_encoding, IsOpcode, StandsAt, Setting, IsLawful, IsField, IsSpan, little_takes, little_fault, length_takes}
+use Rattle.aml_parse.proofs.Common.{length_fault, span_takes, span_fault, Within, onward, text_there, byte_there, end_there, truncated_placed, offset_is}
+use Rattle.aml_parse.proofs.Common.{length_placed, past_placed, name_placed}
 use Rattle.aml_names.specs.declared.faults.CodeFault.TheVariants as faults
-use Rattle.aml_names.specs.declared.names.Name.{Name}
-use Rattle.aml_names.specs.Names.{IsNameSeg, IsName, spelling}
-use Rattle.aml_names.specs.NameReading.{name_at, segment_at, has_segment, ◌>>=◌, byte_at}
-use Rattle.aml_names.specs.Paths.{PathSet}
-use Rattle.aml_names.proofs.NameFaults.{segment_fault}
-use Rattle.aml_names.proofs.NameLaws.{segment_takes, name_takes, name_fault}
-use Rattle.aml_names.proofs.StepLaws.{ok_is, err_is, IsBytes, IsBytes-drop, Takes, Takes-then, byte_takes, byte_fault}
-use Rattle.aml_code.specs.Packages.{little, package_bytes, FitsWidth, little_at, length_at, span_at}
-use Rattle.aml_code.specs.Tree.{Part, byte, text, Field, opcode_bytes, part_encoding, field_encoding}
-use Rattle.aml_code.specs.Faults.{IsOpcode, StandsAt}
-use Rattle.aml_code.specs.Lawful.{AreTextBytes, Setting, IsField}
-use Rattle.aml_code.proofs.LengthLaws.{IsSpan, little_takes, little_fault, length_takes, length_fault, span_takes, span_fault}
-use Rattle.aml_code.proofs.Within.{Within, onward, text_there, byte_there, end_there, truncated_placed, offset_is, length_placed, past_placed, name_placed}
 use Rattle.aml_parse.specs.Reading.{count_part, text_to, text_part, segmented_at, opcode_at, named_unit, reserved_unit, access_unit, extended_unit}
 
 -- ---- steps
@@ -161,20 +149,21 @@ module _ (s : Setting) {A : Type 0} (spelled : A → List ℕ) (Is : A → Type 
   some_name_reads make so is = made s _ _ _ _ (segmented_reads s at end bs w) (λ n t.
       record { takes = subst (λ (b : List ℕ). Takes bs b n.1) (sym (so n.0)) t.0; is = is n.0 t.1 t.2 })
 
-text_bytes : (n : ℕ) (bs : List ℕ) → n ≤ length bs → ((k : ℕ) → k < n → (get_or bs k 0 == 0) ≡ false) → IsBytes bs → AreTextBytes (take n bs)
-text_bytes zero bs le h fits = tt
-text_bytes (suc n) [] le h fits = absurd (omega arith)
-text_bytes (suc n) (b ∷ bs) le h fits =
-    let some = eqb-false b 0 (h 0 (omega arith)) in
-    (positive b some, fits 0, text_bytes n bs (omega arith) (λ k less. h (suc k) (omega (arith, less))) (λ i. fits (suc i)))
-  where
-    positive : (b : ℕ) → (b ≡ 0 → ⊥) → 0 < b
-    positive zero h = absurd (h refl)
-    positive (suc b) h = omega arith
+positive : (b : ℕ) → (b ≡ 0 → ⊥) → 0 < b
+positive zero h = absurd (h refl)
+positive (suc b) h = omega arith
+
+text_bytes : (n : ℕ) (bs : List ℕ) → n ≤ length bs → ((k : ℕ) → k < n → (get_or bs k 0 == 0) ≡ false) → IsBytes bs
+    → All (λ b. (0 < b) × (b < 256)) (take n bs)
+text_bytes zero bs le h fits k d less = absurd (omega (arith, less))
+text_bytes (suc n) [] le h fits k d less = absurd (omega arith)
+text_bytes (suc n) (b ∷ bs) le h fits zero d less = (positive b (eqb-false b 0 (h 0 (omega arith))), fits 0)
+text_bytes (suc n) (b ∷ bs) le h fits (suc k) d less =
+    text_bytes n bs (omega arith) (λ j l. h (suc j) (omega (arith, l))) (λ i. fits (suc i)) k d (omega (arith, less))
 
 module _ (s : Setting) (Is : Part → Type 0) (at end : ℕ) (bs : List ℕ) (w : Within s.code at end bs) where
   -- a number of arguments
-  pub count_reads : ((n : ℕ) → n < 8 → Is (byte n)) → Answers s (TookFlat (part_encoding s.code) Is bs) (count_part end bs)
+  pub count_reads : ((n : ℕ) → n ≤ 7 → Is (byte n)) → Answers s (TookFlat (part_encoding s.code) Is bs) (count_part end bs)
   unfolding count_part
   count_reads is = then s _ _ _ _ (little_reads s at end bs w 1) (λ n e t. chosen s _ (ltb 7 n.0) _ _
       (λ many.
@@ -185,7 +174,7 @@ module _ (s : Setting) (Is : Part → Type 0) (at end : ℕ) (bs : List ℕ) (w 
       (λ few. answers s _ (byte n.0, n.1) (record { takes = t.0; is = is n.0 (omega (arith, ltb-false _ _ few)) })))
 
   -- a text up to its 00
-  pub text_reads : ((t : List ℕ) → AreTextBytes t → Is (text t)) → Answers s (TookFlat (part_encoding s.code) Is bs) (text_part end bs)
+  pub text_reads : ((t : List ℕ) → All (λ b. (0 < b) × (b < 256)) t → Is (text t)) → Answers s (TookFlat (part_encoding s.code) Is bs) (text_part end bs)
   text_reads is = by (position (λ b. b == 0) bs) refl
     where
       by : (o : Option ℕ) → position (λ b. b == 0) bs ≡ o → Answers s (TookFlat (part_encoding s.code) Is bs) (text_to o end bs)
@@ -207,7 +196,7 @@ behind_lead lead bs front rest t = record { parts = ap (λ (b : List ℕ). lead 
 
 module _ (s : Setting) (levels : ℕ) (ls : PathSet) (at end : ℕ) (bs : List ℕ) (w : Within s.code at end bs) where
   abbrev TookUnit : List ℕ → Field × List ℕ → Type 0
-  TookUnit whole = TookFlat (field_encoding s.code) (IsField s levels ls) whole
+  TookUnit whole = TookFlat (field_encoding s.code) (IsField (λ q. IsLawful s levels q ls)) whole
 
   pub named_unit_reads : Answers s (TookUnit bs) (named_unit end bs)
   unfolding named_unit
@@ -217,7 +206,6 @@ module _ (s : Setting) (levels : ℕ) (ls : PathSet) (at end : ℕ) (bs : List �
       record { takes = Takes-then bs (g.0).0 g.1 (package_bytes n.0.0 n.0.1) n.1 t.0 u.0; is = (t.1, u.1) }))
 
   pub reserved_reads : Answers s (TookUnit (0x00 ∷ bs)) (reserved_unit end bs)
-  unfolding reserved_unit
   reserved_reads = made s _ _ _ _ (length_reads s at end bs w) (λ n t.
       record { takes = behind_lead 0x00 bs (package_bytes n.0.0 n.0.1) n.1 t.0; is = t.1 })
 

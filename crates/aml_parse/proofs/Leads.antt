@@ -1,28 +1,14 @@
 -- The first byte of a term, and the guard of a table.
-use Rattle.std.proofs.Common.{◌≡◌, ℕ, zero, suc, Bool, true, false, eqb, List, [], ◌∷◌, ◌++◌, length, Option, Some, None, Ok, Err, refl, sym, ap, subst, ◌∙◌}
-use Rattle.std.proofs.Common.{append_assoc, ◌⊎◌, arith, inl, inr}
-use Rattle.std.proofs.lemmas.Bool.{eqb-true}
-use Rattle.std.proofs.lemmas.List.{append-nil}
-use Rattle.aml_names.specs.declared.faults.CodeFault.{CodeFault}
+use Rattle.aml_parse.proofs.Common.{◌≡◌, ℕ, zero, suc, Bool, true, false, eqb, List, [], ◌∷◌, ◌++◌, length, Option, Some, None, Ok, Err, refl, sym, ap, subst}
+use Rattle.aml_parse.proofs.Common.{◌∙◌, append_assoc, ◌⊎◌, arith, inl, inr, eqb-true, eq-eqb, append-nil, CodeFault, Name, IsName, spelling, is_name_lead}
+use Rattle.aml_parse.proofs.Common.{is_bare, PathSet, name_lead, err_is, cond_then, chosen_ok, PkgWidth, PartKind, Position, TailKind, row_of, has_length}
+use Rattle.aml_parse.proofs.Common.{Tree, nothing, named, op, child, Parts, no_parts, part_more, Tail, empty, opcode_bytes, packed, encoding, encodings}
+use Rattle.aml_parse.proofs.Common.{parts_encoding, tail_encoding, HasWidth, IsGuarded, terms_in, has_opcode, Setting, IsLawful, AreParts, IsTail, zero_bare}
+use Rattle.aml_parse.proofs.Common.{lead_of, opcode_lead, row_lead_is}
 use Rattle.aml_names.specs.declared.faults.CodeFault.TheVariants as faults
-use Rattle.aml_names.specs.declared.names.Name.{Name}
-use Rattle.aml_names.specs.Names.{IsName, spelling, is_name_lead}
-use Rattle.aml_names.specs.NameReading.{is_bare}
-use Rattle.aml_names.specs.Paths.{PathSet}
-use Rattle.aml_names.proofs.NameLaws.{name_lead}
-use Rattle.aml_names.proofs.StepLaws.{err_is, cond_then, chosen_ok}
-use Rattle.aml_code.specs.declared.packages.PkgWidth.{PkgWidth}
-use Rattle.aml_code.specs.declared.rows.PartKind.{PartKind}
 use Rattle.aml_code.specs.declared.rows.PartKind.TheVariants as kinds
-use Rattle.aml_code.specs.declared.rows.Position.{Position}
 use Rattle.aml_code.specs.declared.rows.Position.TheVariants as positions
-use Rattle.aml_code.specs.declared.rows.TailKind.{TailKind}
 use Rattle.aml_code.specs.declared.rows.TailKind.TheVariants as tails
-use Rattle.aml_code.specs.Opcodes.{row_of, has_length}
-use Rattle.aml_code.specs.Tree.{Tree, nothing, named, op, child, Parts, no_parts, part_more, Tail, empty, opcode_bytes, packed, encoding, encodings}
-use Rattle.aml_code.specs.Tree.{parts_encoding, tail_encoding}
-use Rattle.aml_code.specs.Lawful.{HasWidth, IsGuarded, terms_in, IsBuffer, Setting, IsLawful, AreParts, IsTail}
-use Rattle.aml_code.proofs.RowFacts.{zero_bare, lead_of, opcode_lead, row_lead_is}
 use Rattle.aml_parse.specs.Reading.{guard_at}
 
 -- an operation whose opcode begins with this byte
@@ -57,11 +43,11 @@ module _ (s : Setting) where
       let l = opcode_lead o (content ++ rest) in
       first_same (lead_of o) b l.0 behind (sym l.1 ∙ sym (append_assoc (opcode_bytes o) content rest) ∙ e)
 
-  pub is_buffer : (levels : ℕ) (p : Position) (ls : PathSet) (t : Tree) → IsLawful s levels p ls t → IsLedBy 0x11 t → IsBuffer t
+  pub is_buffer : (levels : ℕ) (p : Position) (ls : PathSet) (t : Tree) → IsLawful s levels p ls t → IsLedBy 0x11 t → has_opcode 0x11 t ≡ true
   is_buffer zero p ls t h e = absurd h
   is_buffer (suc levels) p ls nothing h e = absurd e
   is_buffer (suc levels) p ls (named n ts) h e = absurd e
-  is_buffer (suc levels) p ls (op o w ps t) h e = row_lead_is o 0x11 h.row h.listed e (omega arith)
+  is_buffer (suc levels) p ls (op o w ps t) h e = eq-eqb o 0x11 (row_lead_is o 0x11 h.row h.listed e (omega arith))
 
 -- ---- the opcode 00 stands alone
 
@@ -73,12 +59,12 @@ abbrev the_zero : Tree
 the_zero = op 0x00 None no_parts empty
 
 module _ (s : Setting) (levels : ℕ) (ls : PathSet) where
-  pub tail_is_empty : (p : Position) (k : TailKind) (t : Tail) → has_length k ≡ false → IsTail s levels p k ls t → t ≡ empty
+  pub tail_is_empty : (p : Position) (k : TailKind) (t : Tail) → has_length k ≡ false → IsTail s (IsLawful s levels) p k ls t → t ≡ empty
   tail_is_empty p tails.Empty empty e l = refl
   tail_is_empty p tails.Empty _ e l = absurd l
   tail_is_empty p _ t e l = absurd cc
 
-  none_of_none : (ps : Parts) → AreParts s levels [] ls ps → ps ≡ no_parts
+  none_of_none : (ps : Parts) → AreParts (λ q. IsLawful s levels q ls) [] ps → ps ≡ no_parts
   none_of_none no_parts h = refl
   none_of_none (part_more x xs) h = absurd h
 
@@ -92,14 +78,14 @@ module _ (s : Setting) (levels : ℕ) (ls : PathSet) where
       let z = zero_bare row (subst (λ (n : ℕ). row_of n ≡ Some row) o_is h.listed) in
       let len = length (parts_encoding s.code ps ++ tail_encoding s.code t) in
       let w_is : w ≡ None = no_width w len (subst (λ (b : Bool). HasWidth b w len) z.1 h.width) in
-      let ps_is : ps ≡ no_parts = none_of_none ps (subst (λ (ks : List PartKind). AreParts s levels ks ls ps) z.0 h.parts) in
+      let ps_is : ps ≡ no_parts = none_of_none ps (subst (λ (ks : List PartKind). AreParts (λ q. IsLawful s levels q ls) ks ps) z.0 h.parts) in
       let t_is : t ≡ empty = tail_is_empty (terms_in p row.place) row.tail t z.1 h.tail in
       ap (λ (n : ℕ). op n w ps t) o_is ∙ ap (λ (v : Option PkgWidth). op 0x00 v ps t) w_is
       ∙ ap (λ (xs : Parts). op 0x00 None xs t) ps_is ∙ ap (λ (y : Tail). op 0x00 None no_parts y) t_is
 
   -- ---- guards
 
-  one_part : (ps : Parts) → AreParts s levels (kinds.Term ∷ []) ls ps
+  one_part : (ps : Parts) → AreParts (λ q. IsLawful s levels q ls) (kinds.Term ∷ []) ps
       → (t : Tree) × (ps ≡ part_more (child t) no_parts) × IsLawful s levels positions.Argument ls t
   one_part no_parts h = absurd h
   one_part (part_more (child t) no_parts) h = (t, refl, h.0)
@@ -115,14 +101,14 @@ guard_first at end (b ∷ behind) x e =
 -- the one part of a guard that was read is the opcode 00
 pub guard_holds : (s : Setting) (levels : ℕ) (guarded : Bool) (at end : ℕ) (inside : List ℕ) (x : Bool) (ks : List PartKind) (ls : PathSet) (ps : Parts)
     (rest : List ℕ)
-    → (guarded ≡ true → ks ≡ kinds.Term ∷ []) → guard_at guarded at end inside ≡ Ok x → AreParts s levels ks ls ps → inside ≡ parts_encoding s.code ps ++ rest
-    → IsGuarded guarded ps
+    → (guarded ≡ true → ks ≡ kinds.Term ∷ []) → guard_at guarded at end inside ≡ Ok x → AreParts (λ q. IsLawful s levels q ls) ks ps
+    → inside ≡ parts_encoding s.code ps ++ rest → IsGuarded guarded ps
 guard_holds s levels false at end inside x ks ls ps rest one e h whole = tt
 guard_holds s zero true at end inside x ks ls ps rest one e h whole =
-    absurd ((one_part s zero ls ps (subst (λ (l : List PartKind). AreParts s zero l ls ps) (one refl) h)).2)
+    absurd ((one_part s zero ls ps (subst (λ (l : List PartKind). AreParts (λ q. IsLawful s zero q ls) l ps) (one refl) h)).2)
 guard_holds s (suc levels) true at end inside x ks ls ps rest one e h whole =
     let f = guard_first at end inside x e in
-    let t = one_part s (suc levels) ls ps (subst (λ (l : List PartKind). AreParts s (suc levels) l ls ps) (one refl) h) in
+    let t = one_part s (suc levels) ls ps (subst (λ (l : List PartKind). AreParts (λ q. IsLawful s (suc levels) q ls) l ps) (one refl) h) in
     let spelled : parts_encoding s.code ps ≡ encoding s.code t.0 = ap (parts_encoding s.code) t.1 ∙ append-nil (encoding s.code t.0) in
     let first : encoding s.code t.0 ++ rest ≡ 0x00 ∷ f.0 = ap (λ (b : List ℕ). b ++ rest) (sym spelled) ∙ sym whole ∙ f.1 in
     let led = led_by s (suc levels) positions.Argument ls t.0 rest 0x00 f.0 t.2 (λ z. absurd cc) first refl in

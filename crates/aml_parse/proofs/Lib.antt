@@ -1,3 +1,4 @@
+pub mod Common
 pub mod FlatLaws
 pub mod FlatReads
 pub mod Took

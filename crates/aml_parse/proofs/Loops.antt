@@ -1,19 +1,12 @@
 -- Reading one after the other, as a loop does: what was found before, and then what is still read, is all that is read.
-use Rattle.std.proofs.Common.{◌≡◌, ℕ, zero, suc, ◌-◌, ◌<◌, List, [], ◌∷◌, ◌++◌, length, Result, Ok, Err, refl, sym, ap, ◌∙◌, arith, inl, inr}
-use Rattle.aml_names.specs.declared.faults.CodeFault.{CodeFault}
+use Rattle.aml_parse.proofs.Common.{◌≡◌, ℕ, zero, suc, ◌-◌, ◌<◌, List, [], ◌∷◌, ◌++◌, length, Result, Ok, Err, refl, sym, ap, ◌∙◌, arith, inl, inr, CodeFault}
+use Rattle.aml_parse.proofs.Common.{PathSet, ◌>>=◌, Fails, PartKind, Position, Tree, Trees, no_trees, tree_more, Parts, no_parts, part_more, Fields, no_fields}
+use Rattle.aml_parse.proofs.Common.{field_more, node_view, nodes_view, part_view, parts_view, field_view, fields_view, next_position, read_on}
 use Rattle.aml_names.specs.declared.faults.CodeFault.TheVariants as faults
-use Rattle.aml_names.specs.Paths.{PathSet}
-use Rattle.aml_names.specs.NameReading.{◌>>=◌, Fails}
-use Rattle.aml_code.specs.declared.rows.PartKind.{PartKind}
-use Rattle.aml_code.specs.declared.rows.Position.{Position}
 use Rattle.aml_code.specs.declared.rows.Position.TheVariants as positions
 use Rattle.aml_code.specs.declared.tree.Field.{Field}
 use Rattle.aml_code.specs.declared.tree.Node.{Node}
 use Rattle.aml_code.specs.declared.tree.Part.{Part}
-use Rattle.aml_code.specs.Tree.{Tree, Trees, no_trees, tree_more, Parts, no_parts, part_more, Fields, no_fields, field_more}
-use Rattle.aml_code.specs.View.{node_view, nodes_view, part_view, parts_view, field_view, fields_view}
-use Rattle.aml_code.specs.Lawful.{next_position}
-use Rattle.aml_code.proofs.Answered.{read_on}
 use Rattle.aml_parse.specs.Reading.{Reader, part_at, parts_at, arguments_at, terms_at, field_at, fields_at}
 
 -- ---- what was found, and what is still read
@@ -113,6 +106,11 @@ module _ {K A AS : Type 0} (more : A → AS → AS) (none : AS) (one : K → Rea
     pub stops : (k : K) (end : ℕ) (ls : PathSet) (b : ℕ) (bs : List ℕ) → all zero k end ls (b ∷ bs) ≡ Err (faults.Truncated end)
     pub turns : (n : ℕ) (k : K) (end : ℕ) (ls : PathSet) (b : ℕ) (bs : List ℕ) → all (suc n) k end ls (b ∷ bs)
         ≡ (one k end ls (b ∷ bs) >>= λ first. all n (next k first.0) end first.1 first.2 >>= λ others. Ok (more first.0 others.0, others.1))
+
+  pub turn : (loop : IsLoop) (n : ℕ) (k : K) (end : ℕ) (ls : PathSet) (bs : List ℕ) → 0 < length bs → all (suc n) k end ls bs
+      ≡ (one k end ls bs >>= λ first. all n (next k first.0) end first.1 first.2 >>= λ others. Ok (more first.0 others.0, others.1))
+  turn loop n k end ls [] h = absurd (omega arith)
+  turn loop n k end ls (b ∷ bs) h = loop.turns n k end ls b bs
 
   module _ {X : Type 0} (see : X → A) (loop : IsLoop) (front : List X) (k : K) (end : ℕ) (ls : PathSet) (total : Result (AS × PathSet) CodeFault) where
     pub go_on : (n : ℕ) (bs : List ℕ) (x : X) (ls' : PathSet) (rest : List ℕ) → 0 < length bs → 0 < n → one k end ls bs ≡ Ok (see x, ls', rest)

@@ -1,16 +1,8 @@
 -- No lawful term's bytes begin another's, and terms with the same bytes are the same: the reader reads each lawful term again
 -- from its bytes, whatever is behind them, and it answers one term.
-use Rattle.std.proofs.Common.{◌≡◌, ℕ, ◌+◌, List, [], ◌++◌, length, Option, refl, sym, ap, ◌∙◌, arith}
-use Rattle.std.proofs.lemmas.List.{append-nil}
-use Rattle.aml_names.specs.declared.segments.Seg.{Seg}
-use Rattle.aml_names.specs.Paths.{PathSet}
-use Rattle.aml_names.proofs.StepLaws.{ok_is}
-use Rattle.aml_code.specs.declared.rows.Position.{Position}
-use Rattle.aml_code.specs.Tree.{Tree, Trees, encoding, encodings}
-use Rattle.aml_code.specs.Lawful.{after, after_all, IsLawful, AreTerms, setting_of}
-use Rattle.aml_code.specs.Faults.{Arities}
-use Rattle.aml_code.specs.Laws.{IsTermAt, AreTermsAt, NoProperPrefix, SameByBytes, AllSameByBytes}
-use Rattle.aml_code.proofs.LevelLaws.{deeper_by, terms_deeper_by}
+use Rattle.aml_parse.proofs.Common.{◌≡◌, ℕ, ◌+◌, List, [], ◌++◌, length, Option, refl, sym, ap, ◌∙◌, arith, append-nil, Seg, PathSet, ok_is, Position, Tree}
+use Rattle.aml_parse.proofs.Common.{Trees, encoding, encodings, after, after_all, IsLawful, AreTerms, setting_of, Arities, IsTermAt, AreTermsAt}
+use Rattle.aml_parse.proofs.Common.{NoProperPrefix, SameByBytes, AllSameByBytes, deeper_by, terms_deeper_by}
 use Rattle.aml_parse.specs.Reading.{terms_at, read_at}
 use Rattle.aml_parse.proofs.Again.{terms_again}
 use Rattle.aml_parse.proofs.Readings.{read_law}

@@ -2,59 +2,42 @@
 -- definitions; and each fault is true of the code at its offset. Each reader has a law here, beginning with parts and ending
 -- with terms, that follows its steps (`then`): what a step took stands in front of what the next one takes. The reader of the
 -- terms inside is any with that law (`IsReader`).
-use Rattle.std.proofs.Common.{◌≡◌, ◌≢◌, ℕ, zero, suc, ◌+◌, ◌-◌, ◌≤◌, Bool, true, false, eqb, List, [], ◌∷◌, ◌++◌, length, Option, Some, None, Ok, refl, sym, ap}
-use Rattle.std.proofs.Common.{subst, ◌∙◌, arith, inl, inr}
-use Rattle.std.proofs.lemmas.Bool.{eqb-true}
-use Rattle.std.proofs.lemmas.List.{append-nil}
+use Rattle.aml_parse.proofs.Common.{◌≡◌, ◌≢◌, ℕ, zero, suc, ◌+◌, ◌-◌, ◌≤◌, Bool, true, false, eqb, List, [], ◌∷◌, ◌++◌, length, Option, Some, None, Ok, refl}
+use Rattle.aml_parse.proofs.Common.{sym, ap, ◌<◌, subst, ◌∙◌, arith, inl, inr, All, ok_or, eqb-true, append-nil, Name, IsName, spelling, is_name_lead, PathSet}
+use Rattle.aml_parse.proofs.Common.{Left, lead_reads, IsBytes, Takes, Takes-none, Takes-then, PartKind, Place, Position, TailKind, Row, row_of}
+use Rattle.aml_parse.proofs.Common.{has_length, takes, width_len, package_bytes, FitsWidth, Tree, op, connection, child, label, byte, word, dword, qword}
+use Rattle.aml_parse.proofs.Common.{Parts, Tail, empty, target, buffer, opcode_bytes, slice_of, encoding, encodings, part_encoding, parts_encoding}
+use Rattle.aml_parse.proofs.Common.{tail_encoding, field_encoding, link_encoding, names_declared, with_declared, declared_by, HasWidth, IsGuarded, count_in}
+use Rattle.aml_parse.proofs.Common.{is_guard, terms_in, next_position, Setting, IsLawful, AreParts, IsTail, TailStands, Arities, StandsThere, IsOpcode}
+use Rattle.aml_parse.proofs.Common.{StandsAt, is_inner, unchanged, all_unchanged, row_opcode, is_if_place, if_parts, if_has_length, guard_place, opcode_some}
+use Rattle.aml_parse.proofs.Common.{Within, onward, inward, text_there, byte_there, slice_there, span_inside, end_there, truncated_placed, offset_is}
 use Rattle.aml_names.specs.declared.faults.CodeFault.TheVariants as faults
-use Rattle.aml_names.specs.declared.names.Name.{Name}
-use Rattle.aml_names.specs.Names.{IsName, spelling, is_name_lead}
-use Rattle.aml_names.specs.Paths.{PathSet}
-use Rattle.aml_names.specs.NameReading.{◌>>=◌, Left}
-use Rattle.aml_names.proofs.NameLaws.{lead_reads}
-use Rattle.aml_names.proofs.StepLaws.{IsBytes, Takes, Takes-none, Takes-then}
-use Rattle.aml_code.specs.declared.rows.PartKind.{PartKind}
 use Rattle.aml_code.specs.declared.rows.PartKind.TheVariants as kinds
-use Rattle.aml_code.specs.declared.rows.Place.{Place}
 use Rattle.aml_code.specs.declared.rows.Place.TheVariants as places
-use Rattle.aml_code.specs.declared.rows.Position.{Position}
 use Rattle.aml_code.specs.declared.rows.Position.TheVariants as positions
-use Rattle.aml_code.specs.declared.rows.TailKind.{TailKind}
 use Rattle.aml_code.specs.declared.rows.TailKind.TheVariants as tails
-use Rattle.aml_code.specs.Opcodes.{Row, row_of, has_length, takes}
-use Rattle.aml_code.specs.Packages.{width_len, package_bytes, FitsWidth}
-use Rattle.aml_code.specs.Tree.{Tree, op, child, label, byte, word, dword, qword, Parts, Tail, empty, target, buffer, opcode_bytes, slice_of, encoding}
-use Rattle.aml_code.specs.Tree.{encodings, part_encoding, parts_encoding, tail_encoding, field_encoding, link_encoding}
-use Rattle.aml_code.specs.Lawful.{names_declared, with_declared, declared_by, HasWidth, IsGuarded, count_in, is_if_place, is_guard, terms_in, next_position}
-use Rattle.aml_code.specs.Lawful.{AreBytes, Setting, IsLawful, AreParts, IsTail, IsLink, TailStands}
-use Rattle.aml_code.specs.Faults.{Arities, StandsThere, IsOpcode, StandsAt}
-use Rattle.aml_code.proofs.InnerLaws.{is_inner, unchanged, all_unchanged}
-use Rattle.aml_code.proofs.RowFacts.{row_opcode, if_parts, if_has_length, guard_place, opcode_some}
-use Rattle.aml_code.proofs.Within.{Within, onward, inward, text_there, byte_there, slice_there, span_inside, end_there, truncated_placed, offset_is}
-use Rattle.aml_parse.specs.Reading.{Reader, part_at, parts_at, arguments_at, terms_at, link_at, connection_at, field_at, fields_at, known, call_at}
+use Rattle.aml_parse.specs.Reading.{Reader, part_at, parts_at, arguments_at, terms_at, flat, held_inside, link_at, field_at, fields_at, call_at}
 use Rattle.aml_parse.specs.Reading.{name_term_at, refused_in_body, refusal, guard_at, tail_at, takes_names, plain_at, packed_at, by_row, operation_at}
 use Rattle.aml_parse.specs.Reading.{is_absent_target, term_at}
 use Rattle.aml_parse.proofs.FlatReads.{Answers, answers, fails, then, made, chosen, at_offset, byte_reads, span_reads, name_reads, opcode_reads, TookFlat}
 use Rattle.aml_parse.proofs.FlatReads.{number_reads, named_reads, some_name_reads, count_reads, text_reads, behind_lead, named_unit_reads, reserved_reads}
 use Rattle.aml_parse.proofs.FlatReads.{access_reads, extended_reads}
 use Rattle.aml_parse.proofs.Leads.{led_by, is_buffer, guard_holds, guard_fault, not_guarded}
-use Rattle.aml_parse.proofs.Took.{Reads, TookInner, TookTerm, TookArguments, TookTerms, TookFields, TookTail, TookPart, TookParts, TookLink, TookField}
+use Rattle.aml_parse.proofs.Took.{Reads, TookInner, TookTerm, TookArguments, TookTerms, TookFields, TookTail, TookPart, TookParts, TookLink, TookField, IsLink}
 use Rattle.aml_parse.proofs.Took.{IsReader, name_some, empty_tail}
 
 -- ---- what holds no terms
 
-are_bytes : (bs : List ℕ) → IsBytes bs → AreBytes bs
-are_bytes [] fits = tt
-are_bytes (b ∷ bs) fits = (fits 0, are_bytes bs (λ i. fits (suc i)))
+are_bytes : (bs : List ℕ) → IsBytes bs → All (λ b. b < 256) bs
+are_bytes [] fits k d less = absurd (omega (arith, less))
+are_bytes (b ∷ bs) fits zero d less = fits 0
+are_bytes (b ∷ bs) fits (suc k) d less = are_bytes bs (λ i. fits (suc i)) k d (omega (arith, less))
 
 asked_none : (arity : Arities) (p : Position) (ls : PathSet) (n : Name) → takes_names p ≡ true → count_in arity p ls n ≡ None → arity ls n ≡ None
-asked_none arity positions.ModuleTerm ls n h e = absurd cc
-asked_none arity positions.GuardTerm ls n h e = absurd cc
-asked_none arity positions.Target ls n h e = absurd cc
-asked_none arity positions.Data ls n h e = absurd cc
 asked_none arity positions.BodyTerm ls n h e = e
 asked_none arity positions.AfterIf ls n h e = e
 asked_none arity positions.Argument ls n h e = e
+asked_none arity _ ls n h e = absurd cc
 
 -- what has no package length is no guard
 unguarded : (o : ℕ) (row : Row) (p : Position) (ps : Parts) → row_of o ≡ Some row → has_length row.tail ≡ false → IsGuarded (is_guard p row.place) ps
@@ -94,14 +77,14 @@ module _ (s : Setting) (levels : ℕ) (read : Position → Reader Tree) (law : I
 
   -- what holds no terms declares nothing
   flat_reads : {A : Type 0} (spelled : A → List ℕ) (Is : A → Type 0) (step : Left A) (ls : PathSet) (bs : List ℕ) → Answers s (TookFlat spelled Is bs) step
-      → Answers s (TookInner spelled Is ls bs) (step >>= λ y. Ok (y.0, ls, y.1))
+      → Answers s (TookInner spelled Is ls bs) (flat ls step)
   flat_reads spelled Is step ls bs h = made s _ _ _ _ h (λ y a. record { takes = a.takes; is = a.is; same = refl })
 
   -- a term that is no term of a list
   inner_reads : {A : Type 0} (make : Tree → A) (spelled : A → List ℕ) (Is : A → Type 0) (p : Position) (at end : ℕ) (ls : PathSet) (bs : List ℕ)
       → is_inner p ≡ true → Within s.code at end bs → 512 ≤ levels + at → ((t : Tree) → spelled (make t) ≡ encoding s.code t)
       → ((t : Tree) (rest : List ℕ) → IsLawful s levels p ls t → bs ≡ encoding s.code t ++ rest → Is (make t))
-      → Answers s (TookInner spelled Is ls bs) (read p end ls bs >>= λ t. Ok (make t.0, t.1, t.2))
+      → Answers s (TookInner spelled Is ls bs) (held_inside make (read p end ls bs))
   inner_reads make spelled Is p at end ls bs i w deep so is = made s _ _ _ _ (law.reads p at end ls bs w deep) (λ t a. record {
     takes = subst (λ (r : List ℕ). Takes bs r t.2) (sym (so t.0)) a.takes;
     is = is t.0 t.2 a.lawful a.takes.parts;
@@ -129,7 +112,7 @@ module _ (s : Setting) (levels : ℕ) (read : Position → Reader Tree) (law : I
       let w1 = onward s.code at end bs front first.2 w a.takes in
       made s _ _ _ _ (parts_reads ks (at + length front) end first.1 first.2 w1 (omega (arith, deep))) (λ others b. record {
         takes = Takes-then bs front first.2 (parts_encoding s.code others.0) others.2 a.takes b.takes;
-        is = (a.is, subst (λ (m : PathSet). AreParts s levels ks m others.0) a.same b.is);
+        is = (a.is, subst (λ (m : PathSet). AreParts (λ q. IsLawful s levels q m) ks others.0) a.same b.is);
         same = b.same ∙ a.same;
       }))
 
@@ -177,7 +160,7 @@ module _ (s : Setting) (levels : ℕ) (read : Position → Reader Tree) (law : I
       (λ g. flat_reads (link_encoding s.code) (IsLink s levels ls) _ ls bs
       (some_name_reads s (link_encoding s.code) (IsLink s levels ls) at end bs w target (λ n. refl) (λ n h k. (h, k)))))
 
-  connection_reads : Reads s levels (λ at ls bs. TookField s levels ls (0x02 ∷ bs)) (connection_at read)
+  connection_reads : Reads s levels (λ at ls bs. TookField s levels ls (0x02 ∷ bs)) (λ end ls bs. held_inside connection (link_at read end ls bs))
   connection_reads at end ls bs w deep = made s _ _ _ _ (link_reads at end ls bs w deep) (λ l a.
       record { takes = behind_lead 0x02 bs (link_encoding s.code l.0) l.2 a.takes; is = a.is; same = a.same })
 
@@ -229,7 +212,7 @@ module _ (s : Setting) (levels : ℕ) (read : Position → Reader Tree) (law : I
       })))
     where
       counted : (n : Name) (rest : List ℕ) → IsName n → lead ∷ behind ≡ spelling n ++ rest → (o : Option ℕ) → count_in s.arity p ls n ≡ o
-          → Answers s (λ m. count_in s.arity p ls n ≡ Some m) (known (end - length (lead ∷ behind)) o)
+          → Answers s (λ m. count_in s.arity p ls n ≡ Some m) (ok_or o (faults.UnknownName (end - length (lead ∷ behind))))
       counted n rest is parts None e = fails s _ (faults.UnknownName (end - length (lead ∷ behind)))
           (at_offset s at end (lead ∷ behind) w (λ i. faults.UnknownName i)
           (n, is, text_there s.code at end (lead ∷ behind) (spelling n) rest w parts, (ls, asked_none s.arity p ls n inner e)))
@@ -281,7 +264,7 @@ module _ (s : Setting) (levels : ℕ) (read : Position → Reader Tree) (law : I
             width = subst (λ (b : Bool). HasWidth b None (length (parts_encoding s.code ps.0 ++ []))) (sym short) tt;
             guarded = unguarded o row p ps.0 found.listed short;
             parts = b.is;
-            tail = subst (λ (k : TailKind). IsTail s levels (terms_in p row.place) k ls empty) (sym (empty_tail row.tail short)) tt;
+            tail = subst (λ (k : TailKind). IsTail s (IsLawful s levels) (terms_in p row.place) k ls empty) (sym (empty_tail row.tail short)) tt;
           };
           after_is = ap (λ (m : PathSet). declared_by s.scope (row_of o) m ps.0 empty) b.same;
           stands = tt;

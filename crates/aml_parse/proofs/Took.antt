@@ -1,28 +1,13 @@
 -- What was read from the front of the bytes, and what a reader of terms keeps.
-use Rattle.std.proofs.Common.{◌≡◌, ℕ, zero, suc, ◌+◌, ◌<◌, ◌≤◌, true, false, List, [], ◌∷◌, ◌++◌, length, Some, Result, Ok, refl, sym, ap, subst, ◌∙◌}
-use Rattle.std.proofs.Common.{append_assoc, arith}
-use Rattle.std.proofs.lemmas.List.{length-append}
-use Rattle.aml_names.specs.declared.faults.CodeFault.{CodeFault}
-use Rattle.aml_names.specs.declared.names.Name.{Name}
-use Rattle.aml_names.specs.Names.{IsNameSeg, IsName, spelling}
-use Rattle.aml_names.specs.Paths.{PathSet}
-use Rattle.aml_names.proofs.NameLaws.{name_lead}
-use Rattle.aml_names.proofs.StepLaws.{Takes}
-use Rattle.aml_code.specs.declared.rows.PartKind.{PartKind}
-use Rattle.aml_code.specs.declared.rows.Position.{Position}
+use Rattle.aml_parse.proofs.Common.{◌≡◌, ℕ, zero, suc, ◌+◌, ◌<◌, ◌≤◌, true, false, List, [], ◌∷◌, ◌++◌, length, Some, Result, Ok, refl, sym, ap, subst, ◌∙◌}
+use Rattle.aml_parse.proofs.Common.{append_assoc, arith, length-append, CodeFault, Name, IsNameSeg, IsName, spelling, PathSet, name_lead, Takes, PartKind}
+use Rattle.aml_parse.proofs.Common.{Position, TailKind, package_bytes, has_length, Tree, nothing, named, op, Trees, Part, Parts, Tail, Field, unit}
+use Rattle.aml_parse.proofs.Common.{connection, Fields, Link, tree_count, opcode_bytes, packed, encoding, encodings, part_encoding}
+use Rattle.aml_parse.proofs.Common.{parts_encoding, tail_encoding, field_encoding, fields_encoding, link_encoding, after, after_all, after_tail, count_in}
+use Rattle.aml_parse.proofs.Common.{Setting, IsLawful, AreTerms, IsPart, AreParts, IsTail, IsField, AreFields, BodyStands, BodiesStand, TailStands, Arities}
+use Rattle.aml_parse.proofs.Common.{opcode_some, Within}
 use Rattle.aml_code.specs.declared.rows.Position.TheVariants as positions
-use Rattle.aml_code.specs.declared.rows.TailKind.{TailKind}
 use Rattle.aml_code.specs.declared.rows.TailKind.TheVariants as tails
-use Rattle.aml_code.specs.Packages.{package_bytes}
-use Rattle.aml_code.specs.Opcodes.{has_length}
-use Rattle.aml_code.specs.Tree.{Tree, nothing, named, op, Trees, Part, Parts, Tail, Field, unit, reserved, access, connection, extended, Fields, Link}
-use Rattle.aml_code.specs.Tree.{tree_count, opcode_bytes, packed, encoding, encodings, part_encoding, parts_encoding, tail_encoding, field_encoding}
-use Rattle.aml_code.specs.Tree.{fields_encoding, link_encoding}
-use Rattle.aml_code.specs.Lawful.{after, after_all, after_tail, count_in, Setting, IsLawful, AreTerms, IsPart, AreParts, IsTail, IsLink, IsField, AreFields}
-use Rattle.aml_code.specs.Lawful.{BodyStands, BodiesStand, TailStands}
-use Rattle.aml_code.specs.Faults.{Arities}
-use Rattle.aml_code.proofs.RowFacts.{opcode_some}
-use Rattle.aml_code.proofs.Within.{Within}
 use Rattle.aml_parse.specs.Reading.{Reader, takes_names}
 use Rattle.aml_parse.proofs.FlatReads.{Answers}
 
@@ -35,6 +20,10 @@ module _ {A : Type 0} (spelled : A → List ℕ) (Is : A → Type 0) where
     pub same : x.1 ≡ ls
 
 -- ---- terms, and what is made of them
+
+-- what a connection leads to
+abbrev pub IsLink : Setting → ℕ → PathSet → Link → Type 0
+IsLink s levels ls l = IsField (λ q. IsLawful s levels q ls) (connection l)
 
 module _ (s : Setting) (levels : ℕ) where
   pub record TookTerm (p : Position) (at : ℕ) (ls : PathSet) (bs : List ℕ) (x : Tree × PathSet × List ℕ) : Type 0 where
@@ -57,26 +46,26 @@ module _ (s : Setting) (levels : ℕ) where
 
   pub record TookFields (ls : PathSet) (bs : List ℕ) (x : Fields × PathSet) : Type 0 where
     pub text : bs ≡ fields_encoding s.code x.0
-    pub are_fields : AreFields s levels ls x.0
+    pub are_fields : AreFields (λ q. IsLawful s levels q ls) x.0
     pub same : x.1 ≡ ls
 
   pub record TookTail (p : Position) (k : TailKind) (at : ℕ) (ls : PathSet) (bs : List ℕ) (x : Tail × PathSet) : Type 0 where
     pub text : bs ≡ tail_encoding s.code x.0
-    pub is_tail : IsTail s levels p k ls x.0
+    pub is_tail : IsTail s (IsLawful s levels) p k ls x.0
     pub after_is : x.1 ≡ after_tail s.scope ls x.0
     pub stands : TailStands s.code at x.0
 
   abbrev pub TookPart : PartKind → PathSet → List ℕ → Part × PathSet × List ℕ → Type 0
-  TookPart k ls = TookInner (part_encoding s.code) (IsPart s levels k ls) ls
+  TookPart k ls = TookInner (part_encoding s.code) (IsPart (λ q. IsLawful s levels q ls) k) ls
 
   abbrev pub TookParts : List PartKind → PathSet → List ℕ → Parts × PathSet × List ℕ → Type 0
-  TookParts ks ls = TookInner (parts_encoding s.code) (AreParts s levels ks ls) ls
+  TookParts ks ls = TookInner (parts_encoding s.code) (AreParts (λ q. IsLawful s levels q ls) ks) ls
 
   abbrev pub TookLink : PathSet → List ℕ → Link × PathSet × List ℕ → Type 0
   TookLink ls = TookInner (link_encoding s.code) (IsLink s levels ls) ls
 
   abbrev pub TookField : PathSet → List ℕ → Field × PathSet × List ℕ → Type 0
-  TookField ls = TookInner (field_encoding s.code) (IsField s levels ls) ls
+  TookField ls = TookInner (field_encoding s.code) (IsField (λ q. IsLawful s levels q ls)) ls
 
   -- What a reader answers is so, or its fault is true. What is left of the levels makes up 512 with the offset: a term takes a
   -- level and a byte at least, so where no level is left the offset is 512 or more.
@@ -115,12 +104,9 @@ module _ (s : Setting) where
   nonempty (suc levels) p ls (op o w ps t) h =
       let content = packed w (parts_encoding s.code ps ++ tail_encoding s.code t) in omega (arith, opcode_some o, length-append (opcode_bytes o) content)
 
-  pub field_some : (levels : ℕ) (ls : PathSet) (u : Field) → IsField s levels ls u → 0 < length (field_encoding s.code u)
+  pub field_some : (levels : ℕ) (ls : PathSet) (u : Field) → IsField (λ q. IsLawful s levels q ls) u → 0 < length (field_encoding s.code u)
   field_some levels ls (unit g w n) h = omega (arith, seg_some g.0 h.0, length-append g.0 (package_bytes w n))
-  field_some levels ls (reserved w n) h = omega arith
-  field_some levels ls (access a b) h = omega arith
-  field_some levels ls (connection l) h = omega arith
-  field_some levels ls (extended a b c) h = omega arith
+  field_some levels ls _ h = omega arith
 
 -- ---- names and tails
 

@@ -3,7 +3,7 @@
 -- answers. What it means that code reads as terms is said without it, by `ReadsModule` and `ReadsBody` of aml_code, and
 -- what a fault says of the byte at its offset by `StandsAt`.
 use Rattle.std.specs.Prelude.{◌≡◌, ℕ, zero, suc, ◌+◌, ◌-◌, Bool, true, false, ◌==◌, if◌then◌else◌, nat_lt, List, []}
-use Rattle.std.specs.Prelude.{◌∷◌, length, take, drop, position, Option, Some, None, Result, Ok, Err, option_map}
+use Rattle.std.specs.Prelude.{◌∷◌, length, take, drop, position, Option, Some, None, Result, Ok, Err, option_map, ok_or}
 use Rattle.std.specs.FinSet as set
 use Rattle.aml_names.specs.declared.faults.CodeFault.{CodeFault}
 use Rattle.aml_names.specs.declared.faults.CodeFault.TheVariants as faults
@@ -28,7 +28,7 @@ use Rattle.aml_code.specs.Tree.{body, Field, unit, reserved, access, connection,
 use Rattle.aml_code.specs.Tree.{field_more, Link, target, buffer}
 use Rattle.aml_code.specs.Tree as trees
 use Rattle.aml_code.specs.Lawful.{names_declared, with_declared, count_in, is_guard, terms_in, next_position}
-use Rattle.aml_code.specs.Faults.{Arities}
+use Rattle.aml_code.specs.Faults.{Arities, most_levels, most_arguments}
 use Rattle.aml_parse.specs.declared.positions.Lead.{Lead}
 use Rattle.aml_parse.specs.declared.positions.Lead.TheVariants as leads
 use denote.Ref.{Bor}
@@ -44,37 +44,31 @@ abbrev pub ReaderToEnd : Type 0 → Type 0
 ReaderToEnd A = ℕ → PathSet → List ℕ → Result (A × PathSet) CodeFault
 
 -- a step that declares nothing
-abbrev pub flat : {A : Type 0} → (ℕ → List ℕ → Left A) → Reader A
-flat step end ls bytes = do
-  x ← step end bytes
+abbrev pub flat : {A : Type 0} → PathSet → Left A → Result (A × PathSet × List ℕ) CodeFault
+flat ls step = do
+  x ← step
   Ok (x.0, ls, x.1)
+
+-- what was read, as what holds it
+abbrev pub held : {A B R : Type 0} → (A → B) → Result (A × R) CodeFault → Result (B × R) CodeFault
+held holds read = do
+  x ← read
+  Ok (holds x.0, x.1)
+
+-- the same of a reader of terms
+abbrev pub held_inside : {A B : Type 0} → (A → B) → Result (A × PathSet × List ℕ) CodeFault
+    → Result (B × PathSet × List ℕ) CodeFault
+held_inside holds read = do
+  x ← read
+  Ok (holds x.0, x.1, x.2)
 
 -- ---- parts that hold no terms
 
-abbrev pub byte_part : ℕ → List ℕ → Left Part
-byte_part end bytes = do
-  n ← little_at 1 end bytes
-  Ok (byte n.0, n.1)
-
+-- a byte up to the most arguments
 unfoldable pub count_part : ℕ → List ℕ → Left Part
 count_part end bytes = do
   n ← little_at 1 end bytes
-  if nat_lt 7 n.0 then Err (faults.BadCount (end - length bytes)) else Ok (byte n.0, n.1)
-
-abbrev pub word_part : ℕ → List ℕ → Left Part
-word_part end bytes = do
-  n ← little_at 2 end bytes
-  Ok (word n.0, n.1)
-
-abbrev pub dword_part : ℕ → List ℕ → Left Part
-dword_part end bytes = do
-  n ← little_at 4 end bytes
-  Ok (dword n.0, n.1)
-
-abbrev pub qword_part : ℕ → List ℕ → Left Part
-qword_part end bytes = do
-  n ← little_at 8 end bytes
-  Ok (qword n.0, n.1)
+  if nat_lt most_arguments n.0 then Err (faults.BadCount (end - length bytes)) else Ok (byte n.0, n.1)
 
 -- a text up to its 00
 abbrev pub text_to : Option ℕ → ℕ → List ℕ → Left Part
@@ -84,29 +78,13 @@ text_to (Some n) end bytes = Ok (text (take n bytes), drop (suc n) bytes)
 abbrev pub text_part : ℕ → List ℕ → Left Part
 text_part end bytes = text_to (position (λ b. b == 0) bytes) end bytes
 
--- a name that may have no segment
-abbrev pub any_name_part : ℕ → List ℕ → Left Part
-any_name_part end bytes = do
-  n ← name_at end bytes
-  Ok (label n.0, n.1)
-
 -- a name with a segment
 unfoldable pub segmented_at : ℕ → List ℕ → Left Name
 segmented_at end bytes = do
   n ← name_at end bytes
   if has_segment n.0 then Ok n else Err (faults.EmptyName (end - length bytes))
 
-abbrev pub name_part : ℕ → List ℕ → Left Part
-name_part end bytes = do
-  n ← segmented_at end bytes
-  Ok (label n.0, n.1)
-
 -- ---- parts
-
-abbrev pub child_at : Reader Tree → Reader Part
-child_at read end ls bytes = do
-  t ← read end ls bytes
-  Ok (child t.0, t.1, t.2)
 
 -- where a part stands that is a term
 abbrev pub child_position : PartKind → Option Position
@@ -117,19 +95,19 @@ child_position _ = None
 
 -- a part of another kind
 abbrev pub flat_part : PartKind → ℕ → List ℕ → Left Part
-flat_part kinds.Name end bytes = name_part end bytes
-flat_part kinds.ScopeName end bytes = any_name_part end bytes
-flat_part kinds.Byte end bytes = byte_part end bytes
+flat_part kinds.Name end bytes = held label (segmented_at end bytes)
+flat_part kinds.ScopeName end bytes = held label (name_at end bytes)
+flat_part kinds.Byte end bytes = held byte (little_at 1 end bytes)
 flat_part kinds.Count end bytes = count_part end bytes
-flat_part kinds.Word end bytes = word_part end bytes
-flat_part kinds.Dword end bytes = dword_part end bytes
-flat_part kinds.Qword end bytes = qword_part end bytes
+flat_part kinds.Word end bytes = held word (little_at 2 end bytes)
+flat_part kinds.Dword end bytes = held dword (little_at 4 end bytes)
+flat_part kinds.Qword end bytes = held qword (little_at 8 end bytes)
 flat_part kinds.Text end bytes = text_part end bytes
 flat_part _ end bytes = Err (faults.Truncated end)
 
 abbrev pub part_by : Option Position → (Position → Reader Tree) → PartKind → Reader Part
-part_by (Some p) read k = child_at (read p)
-part_by None read k = flat (flat_part k)
+part_by (Some p) read k end ls bytes = held_inside child (read p end ls bytes)
+part_by None read k end ls bytes = flat ls (flat_part k end bytes)
 
 abbrev pub part_at : (Position → Reader Tree) → PartKind → Reader Part
 part_at read k = part_by (child_position k) read k
@@ -170,10 +148,8 @@ named_unit end bytes = do
   Ok (unit s.0 n.0.0 n.0.1, n.1)
 
 -- behind 00: a number of bits
-unfoldable pub reserved_unit : ℕ → List ℕ → Left Field
-reserved_unit end bytes = do
-  n ← length_at end bytes
-  Ok (reserved n.0.0 n.0.1, n.1)
+abbrev pub reserved_unit : ℕ → List ℕ → Left Field
+reserved_unit end bytes = held (λ n. reserved n.0 n.1) (length_at end bytes)
 
 -- behind 01: type and attribute
 unfoldable pub access_unit : ℕ → List ℕ → Left Field
@@ -190,38 +166,22 @@ extended_unit end bytes = do
   len ← byte_at end attribute.1
   Ok (extended kind.0 attribute.0 len.0, len.1)
 
--- a connection's name
-abbrev pub named_link : ℕ → List ℕ → Left Link
-named_link end bytes = do
-  n ← segmented_at end bytes
-  Ok (target n.0, n.1)
-
-abbrev pub buffer_at : Reader Tree → Reader Link
-buffer_at read end ls bytes = do
-  t ← read end ls bytes
-  Ok (buffer t.0, t.1, t.2)
-
 -- what a connection leads to: a Buffer, by its lead byte, or a name
 unfoldable pub link_at : (Position → Reader Tree) → Reader Link
 link_at read end ls bytes = do
   lead ← byte_at end bytes
-  if lead.0 == 0x11 then buffer_at (read positions.Data) end ls bytes else flat named_link end ls bytes
-
--- behind 02
-abbrev pub connection_at : (Position → Reader Tree) → Reader Field
-connection_at read end ls bytes = do
-  l ← link_at read end ls bytes
-  Ok (connection l.0, l.1, l.2)
+  if lead.0 == 0x11 then held_inside buffer (read positions.Data end ls bytes)
+      else flat ls (held target (segmented_at end bytes))
 
 -- an element, by its lead byte
 unfoldable pub field_at : (Position → Reader Tree) → Reader Field
 field_at read end ls bytes = do
   lead ← byte_at end bytes
-  if lead.0 == 0x00 then flat reserved_unit end ls lead.1 else
-      if lead.0 == 0x01 then flat access_unit end ls lead.1 else
-      if lead.0 == 0x02 then connection_at read end ls lead.1 else
-      if lead.0 == 0x03 then flat extended_unit end ls lead.1 else
-      flat named_unit end ls bytes
+  if lead.0 == 0x00 then flat ls (reserved_unit end lead.1) else
+      if lead.0 == 0x01 then flat ls (access_unit end lead.1) else
+      if lead.0 == 0x02 then held_inside connection (link_at read end ls lead.1) else
+      if lead.0 == 0x03 then flat ls (extended_unit end lead.1) else
+      flat ls (named_unit end bytes)
 
 -- Elements to the end of the span. The number bounds the turns: that of the bytes is always enough.
 unfoldable pub fields_at : (Position → Reader Tree) → ℕ → ReaderToEnd Fields
@@ -234,14 +194,10 @@ fields_at read (suc n) end ls (b ∷ bytes) = do
 
 -- ---- names
 
-abbrev pub known : ℕ → Option ℕ → Result ℕ CodeFault
-known at None = Err (faults.UnknownName at)
-known at (Some n) = Ok n
-
 unfoldable pub call_at : Arities → (Position → Reader Tree) → Position → Reader Tree
 call_at arity read p end ls bytes = do
   name ← name_at end bytes
-  n ← known (end - length bytes) (count_in arity p ls name.0)
+  n ← ok_or (count_in arity p ls name.0) (faults.UnknownName (end - length bytes))
   args ← arguments_at read n end ls name.1
   Ok (named name.0 args.0, args.1, args.2)
 
@@ -276,9 +232,7 @@ refusal positions.ModuleTerm place at = faults.ModuleCode at
 refusal positions.GuardTerm place at = faults.ModuleCode at
 refusal positions.BodyTerm place at = refused_in_body place at
 refusal positions.AfterIf place at = refused_in_body place at
-refusal positions.Argument place at = faults.NotHere at
-refusal positions.Target place at = faults.NotHere at
-refusal positions.Data place at = faults.NotHere at
+refusal _ place at = faults.NotHere at
 
 -- the content of a guard begins with 00
 abbrev pub guard_at : Bool → ℕ → ℕ → List ℕ → Result Bool CodeFault
@@ -294,16 +248,10 @@ body_to end start = body start (end - start)
 -- a tail to the end of its span
 abbrev pub tail_at : (Position → Reader Tree) → Position → TailKind → ReaderToEnd Tail
 tail_at read p tails.Empty end ls inside = Err (faults.Truncated end)
-tail_at read p tails.Terms end ls inside = do
-  ts ← terms_at read (length inside) p end ls inside
-  Ok (terms ts.0, ts.1)
+tail_at read p tails.Terms end ls inside = held terms (terms_at read (length inside) p end ls inside)
 tail_at read p tails.Bytes end ls inside = Ok (trees.bytes inside, ls)
-tail_at read p tails.Elements end ls inside = do
-  ts ← terms_at read (length inside) positions.Data end ls inside
-  Ok (elements ts.0, ts.1)
-tail_at read p tails.Fields end ls inside = do
-  us ← fields_at read (length inside) end ls inside
-  Ok (fields us.0, us.1)
+tail_at read p tails.Elements end ls inside = held elements (terms_at read (length inside) positions.Data end ls inside)
+tail_at read p tails.Fields end ls inside = held fields (fields_at read (length inside) end ls inside)
 tail_at read p tails.Body end ls inside = Ok (body_to end (end - length inside), ls)
 
 -- an opcode without a package length
@@ -367,10 +315,10 @@ read_at arity scope (suc levels) p end ls bytes = term_at arity scope (read_at a
 
 -- ---- all of the code
 
--- Reading all of the code as terms of a position, with at most 512 levels: the terms, or the first fault that is met.
+-- Reading all of the code as terms of a position: the terms, or the first fault that is met.
 unfoldable pub all_at : Arities → Option (List Seg) → Position → List ℕ → Result Trees CodeFault
 all_at arity scope p code = do
-  ts ← terms_at (read_at arity scope 512) (length code) p (length code) set.empty code
+  ts ← terms_at (read_at arity scope most_levels) (length code) p (length code) set.empty code
   Ok ts.0
 
 -- ---- A stepping stone of the proofs: what stays the same while a list of terms is read, as contracts see it.

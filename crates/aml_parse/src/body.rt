@@ -7,7 +7,7 @@ ghost use Rattle.aml_code.specs.Tree.{Trees};
 ghost use Rattle.aml_code.specs.View.{nodes_view};
 ghost use Rattle.aml_parse.specs.Reading.{all_at};
 
-use crate::context::Context;
+use crate::context::{Context, MOST_LEVELS};
 use crate::room::without_room;
 use crate::terms::terms;
 use aml_code::{Arity, CodeFault, Locals, Node, Path, Position};
@@ -32,7 +32,14 @@ fn body_terms<A: Arity>(
     };
     let mut locals = Locals::of_scope(alloc, scope)?;
     let end = code.len() as u32;
-    let nodes = terms(&context, 512, Position::BodyTerm, end, &mut locals, code)?;
+    let nodes = terms(
+        &context,
+        MOST_LEVELS,
+        Position::BodyTerm,
+        end,
+        &mut locals,
+        code,
+    )?;
     Ok(without_room(nodes))
 }
 

@@ -1,17 +1,20 @@
 //! What stays the same while a list of terms is read.
-ghost use Rattle.std.specs.Prelude.{◌≡◌, None, OnOk};
+ghost use Rattle.std.specs.Prelude.{◌≡◌, None, OnOk, option_to_list, ok_or};
 ghost use Rattle.aml_names.specs.NameReading.{Gives};
 ghost use Rattle.aml_names.specs.Names.{placed};
 ghost use Rattle.aml_code.specs.Tree.{no_fields, field_more};
-ghost use Rattle.aml_code.specs.Lawful.{field_names, last_label, listed, names_declared, unit_names, with_declared, with_names, with_path, count_in};
+ghost use Rattle.aml_code.specs.Lawful.{field_names, last_label, names_declared, unit_names, with_declared, with_names, with_path, count_in};
 ghost use Rattle.aml_code.specs.View.{field_view, fields_view, parts_view, tail_view};
-ghost use Rattle.aml_parse.specs.Reading.{known, scope_of};
+ghost use Rattle.aml_parse.specs.Reading.{scope_of};
 
 use aml_code::{
     Arity, CodeFault, Field, Locals, Name, NameForm, NoMemory, Part, Path, Position, Role, Segs,
     Tail, last_name, place,
 };
 use std::alloc::Global;
+
+/// The most levels of terms inside each other.
+pub const MOST_LEVELS: u16 = 512;
 
 /// How many arguments names take, and from where declarations are placed: from a method's path in its body, and from
 /// nowhere in a table.
@@ -31,8 +34,8 @@ impl<'a, A: Arity> Context<'a, A> {
         locals: &Locals,
         name: &Name,
     ) -> Result<u8, CodeFault>
-        ensures { Gives (λ n. n) result (known at
-            (count_in (A.arity self.now.arity.now) position locals.now name.now)) }
+        ensures { Gives (λ n. n) result (ok_or
+            (count_in (A.arity self.now.arity.now) position locals.now name.now) (CodeFault.UnknownName at)) }
     {
         match position {
             Position::Target | Position::Data => Ok(0),
@@ -93,7 +96,7 @@ fn declare_last(
     locals: &mut Locals,
 ) -> Result<(), NoMemory>
     ensures { OnOk result (locals.new ≡ with_names scope.now locals.old
-        (listed (last_label None (parts_view parts.now)))) }
+        (option_to_list (last_label None (parts_view parts.now)))) }
 {
     match last_name(parts) {
         None => Ok(()),

@@ -1,28 +1,33 @@
 //! Parts that hold no terms.
 ghost use Rattle.std.specs.Prelude.{◌≡◌, ◌<◌, ◌==◌, position, take, drop, suc, IfSome, length};
-ghost use Rattle.aml_names.specs.NameReading.{Gives};
+ghost use Rattle.aml_names.specs.NameReading.{Gives, name_at};
+ghost use Rattle.aml_code.specs.Packages.{little_at};
+ghost use Rattle.aml_code.specs.Tree.{label, byte, word, dword, qword};
 ghost use Rattle.aml_code.specs.View.{part_view};
-ghost use Rattle.aml_parse.specs.Reading.{byte_part, count_part, word_part, dword_part, qword_part, text_part, text_to, any_name_part, segmented_at, name_part, flat_part};
+ghost use Rattle.aml_parse.specs.Reading.{held, count_part, text_part, text_to, segmented_at, flat_part};
 
 use aml_code::{Bytes, CodeFault, Name, Part, PartKind, little_of, offset_of};
 use aml_names::name_of;
 use std::alloc::Global;
 
+/// The most arguments that an External tells.
+const MOST_ARGUMENTS: u64 = 7;
+
 /// A number of one byte.
 fn byte_part_of(end: u32, bytes: &[u8]) -> Result<(Part, &[u8]), CodeFault>
-    ensures { Gives (λ x. (part_view x.0, x.1.now)) result (byte_part end bytes.now) }
+    ensures { Gives (λ x. (part_view x.0, x.1.now)) result (held byte (little_at 1 end bytes.now)) }
 {
     let (value, rest) = little_of(1, end, bytes)?;
     Ok((Part::Byte(value as u8), rest))
 }
 
-/// A number of arguments. `BadCount` at the byte where it is above 7.
+/// A number of arguments. `BadCount` at the byte where there are too many.
 #[tactic(auto, unfolding(crate::specs::Reading::count_part))]
 fn count_part_of(end: u32, bytes: &[u8]) -> Result<(Part, &[u8]), CodeFault>
     ensures { Gives (λ x. (part_view x.0, x.1.now)) result (count_part end bytes.now) }
 {
     let (value, rest) = little_of(1, end, bytes)?;
-    if value > 7 {
+    if value > MOST_ARGUMENTS {
         return Err(CodeFault::BadCount {
             at: offset_of(end, bytes),
         });
@@ -32,7 +37,7 @@ fn count_part_of(end: u32, bytes: &[u8]) -> Result<(Part, &[u8]), CodeFault>
 
 /// A number of two bytes.
 fn word_part_of(end: u32, bytes: &[u8]) -> Result<(Part, &[u8]), CodeFault>
-    ensures { Gives (λ x. (part_view x.0, x.1.now)) result (word_part end bytes.now) }
+    ensures { Gives (λ x. (part_view x.0, x.1.now)) result (held word (little_at 2 end bytes.now)) }
 {
     let (value, rest) = little_of(2, end, bytes)?;
     Ok((Part::Word(value as u16), rest))
@@ -40,7 +45,7 @@ fn word_part_of(end: u32, bytes: &[u8]) -> Result<(Part, &[u8]), CodeFault>
 
 /// A number of four bytes.
 fn dword_part_of(end: u32, bytes: &[u8]) -> Result<(Part, &[u8]), CodeFault>
-    ensures { Gives (λ x. (part_view x.0, x.1.now)) result (dword_part end bytes.now) }
+    ensures { Gives (λ x. (part_view x.0, x.1.now)) result (held dword (little_at 4 end bytes.now)) }
 {
     let (value, rest) = little_of(4, end, bytes)?;
     Ok((Part::Dword(value as u32), rest))
@@ -48,7 +53,7 @@ fn dword_part_of(end: u32, bytes: &[u8]) -> Result<(Part, &[u8]), CodeFault>
 
 /// A number of eight bytes.
 fn qword_part_of(end: u32, bytes: &[u8]) -> Result<(Part, &[u8]), CodeFault>
-    ensures { Gives (λ x. (part_view x.0, x.1.now)) result (qword_part end bytes.now) }
+    ensures { Gives (λ x. (part_view x.0, x.1.now)) result (held qword (little_at 8 end bytes.now)) }
 {
     let (value, rest) = little_of(8, end, bytes)?;
     Ok((Part::Qword(value), rest))
@@ -77,7 +82,7 @@ fn text_part_of(alloc: Global, end: u32, bytes: &[u8]) -> Result<(Part, &[u8]), 
 
 /// A name that may have no segment.
 fn any_name_part_of(alloc: Global, end: u32, bytes: &[u8]) -> Result<(Part, &[u8]), CodeFault>
-    ensures { Gives (λ x. (part_view x.0, x.1.now)) result (any_name_part end bytes.now) }
+    ensures { Gives (λ x. (part_view x.0, x.1.now)) result (held label (name_at end bytes.now)) }
 {
     let (name, rest) = name_of(alloc, end, bytes)?;
     Ok((Part::Label(name), rest))
@@ -99,7 +104,7 @@ pub fn segmented_of(alloc: Global, end: u32, bytes: &[u8]) -> Result<(Name, &[u8
 
 /// A name with a segment, as a part.
 fn name_part_of(alloc: Global, end: u32, bytes: &[u8]) -> Result<(Part, &[u8]), CodeFault>
-    ensures { Gives (λ x. (part_view x.0, x.1.now)) result (name_part end bytes.now) }
+    ensures { Gives (λ x. (part_view x.0, x.1.now)) result (held label (segmented_at end bytes.now)) }
 {
     let (name, rest) = segmented_of(alloc, end, bytes)?;
     Ok((Part::Label(name), rest))

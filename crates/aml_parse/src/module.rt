@@ -7,7 +7,7 @@ ghost use Rattle.aml_code.specs.Tree.{Trees};
 ghost use Rattle.aml_code.specs.View.{nodes_view};
 ghost use Rattle.aml_parse.specs.Reading.{all_at};
 
-use crate::context::Context;
+use crate::context::{Context, MOST_LEVELS};
 use crate::room::without_room;
 use crate::terms::terms;
 use aml_code::{Arity, CodeFault, Locals, Name, NoMemory, Node, Position};
@@ -44,7 +44,7 @@ fn module_terms(alloc: Global, code: &[u8]) -> Result<Vec<Node>, CodeFault>
     let mut locals = Locals::new(alloc);
     let nodes = terms(
         &context,
-        512,
+        MOST_LEVELS,
         Position::ModuleTerm,
         code.len() as u32,
         &mut locals,

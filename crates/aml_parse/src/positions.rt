@@ -1,11 +1,11 @@
 //! Opcodes, which of them a position takes, and which position comes next.
 ghost use Rattle.std.specs.Prelude.{◌≡◌};
 ghost use Rattle.aml_names.specs.NameReading.{Gives};
-ghost use Rattle.aml_code.specs.Lawful.{is_guard, is_if, next_position, terms_in};
+ghost use Rattle.aml_code.specs.Lawful.{has_opcode, is_guard, next_position, terms_in};
 ghost use Rattle.aml_code.specs.View.{node_view};
 ghost use Rattle.aml_parse.specs.Reading.{opcode_at, refused_in_body, refusal, child_position, is_absent_target, Begins, takes_names, guard_at};
 
-use aml_code::{CodeFault, Node, PartKind, Place, Position, byte_of, listed_row};
+use aml_code::{CodeFault, Node, PartKind, Place, Position, byte_of};
 use aml_names::is_name_lead;
 
 /// An opcode: one byte, or 5B and a second.
@@ -112,15 +112,15 @@ pub fn terms_in(position: Position, place: Place) -> Position
     }
 }
 
+/// The opcode of an If.
+const IF: u16 = 0xA0;
+
 /// Whether a term is an If.
 fn is_if(node: &Node) -> bool
-    ensures { result ≡ is_if (node_view node.now) }
+    ensures { result ≡ has_opcode 0xA0 (node_view node.now) }
 {
     match node {
-        Node::Op { opcode, .. } => match listed_row(*opcode) {
-            None => false,
-            Some(row) => row.place == Place::If,
-        },
+        Node::Op { opcode, .. } => *opcode == IF,
         _ => false,
     }
 }

@@ -1,7 +1,8 @@
 //! Elements of field lists that hold no terms (ACPI 6.5, 20.2.5.2).
 ghost use Rattle.aml_names.specs.NameReading.{Gives};
+ghost use Rattle.aml_code.specs.Tree.{target};
 ghost use Rattle.aml_code.specs.View.{field_view, link_view};
-ghost use Rattle.aml_parse.specs.Reading.{named_unit, reserved_unit, access_unit, extended_unit, named_link};
+ghost use Rattle.aml_parse.specs.Reading.{named_unit, reserved_unit, access_unit, extended_unit, held, segmented_at};
 
 use crate::flat::segmented_of;
 use aml_code::{CodeFault, Field, Link, byte_of, length_of};
@@ -19,7 +20,6 @@ pub fn named_unit_of(end: u32, bytes: &[u8]) -> Result<(Field, &[u8]), CodeFault
 }
 
 /// Reserved bits, behind their 00.
-#[tactic(auto, unfolding(crate::specs::Reading::reserved_unit))]
 pub fn reserved_unit_of(end: u32, bytes: &[u8]) -> Result<(Field, &[u8]), CodeFault>
     ensures { Gives (λ x. (field_view x.0, x.1.now)) result (reserved_unit end bytes.now) }
 {
@@ -50,7 +50,7 @@ pub fn extended_unit_of(end: u32, bytes: &[u8]) -> Result<(Field, &[u8]), CodeFa
 
 /// A connection's name, which has a segment.
 pub fn named_link_of(alloc: Global, end: u32, bytes: &[u8]) -> Result<(Link, &[u8]), CodeFault>
-    ensures { Gives (λ x. (link_view x.0, x.1.now)) result (named_link end bytes.now) }
+    ensures { Gives (λ x. (link_view x.0, x.1.now)) result (held target (segmented_at end bytes.now)) }
 {
     let (name, rest) = segmented_of(alloc, end, bytes)?;
     Ok((Link::Target(name), rest))

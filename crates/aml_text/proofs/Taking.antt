@@ -28,7 +28,7 @@ mutual
       tail_takes s levels (terms_in p (law.row).place) (law.row).tail ls t r bs law.tail
       ∙ ap (λ xs. drop (length (xs ++ tail_spans t r)) bs) (sym (parts_none s t levels (law.row).parts ls ps law.parts))
 
-  tail_takes : (s : Setting) (levels : ℕ) (p : Position) (k : TailKind) (ls : PathSet) (t : ℕ) (r : Tail) (bs : List BodyLines) → IsTail s levels p k ls r
+  tail_takes : (s : Setting) (levels : ℕ) (p : Position) (k : TailKind) (ls : PathSet) (t : ℕ) (r : Tail) (bs : List BodyLines) → IsTail s (IsLawful s levels) p k ls r
       → left_rest r bs ≡ drop (length (tail_spans t r)) bs
   tail_takes s levels p k ls t empty bs law = refl
   tail_takes s levels p k ls t (terms xs) bs law = let e = terms_tail s levels p ls k xs law in all_take s levels p ls t xs bs e.1

@@ -1,8 +1,8 @@
-use Rattle.std.proofs.Common.{ap, ◌∙◌}
+use Rattle.std.proofs.Common.{None, Some, cond, sym, ap, ◌∙◌}
 use Rattle.std.proofs.lemmas.Bool.{eq-eqb, ne_eqb}
 use Rattle.std.specs.Option.{option_copied, option_map}
 use Rattle.aml_code.specs.Opcodes.{row_view}
-use Rattle.aml_code.proofs.RowIndex.{looked_up, row_here, row_not_here, row_nowhere}
+use Rattle.aml_code.proofs.RowIndex.{looked_up, kept, row_kept}
 use Rattle.aml_code.proofs.table.listed_row.Goals as goal
 
 pub returns-in-None : goal.returns-in-None
@@ -10,19 +10,20 @@ returns-in-None c =
     let at =
     looked_up c.args.opcode c.slot.result c.place_at.result _
     (option_copied c.row_at.result) c.slot.ensures.opcode c.place_at.ensures c.table.ensures c.row_at.ensures in
-    row_nowhere c.args.opcode (at ∙ ap (λ r. option_map row_view (option_copied r)) c.in-None.is)
+    sym (ap (kept c.args.opcode) (at ∙ ap (λ r. option_map row_view (option_copied r)) c.in-None.is)) ∙ row_kept c.args.opcode
 
 pub returns-then-row-opcode : goal.returns-then-row-opcode
 returns-then-row-opcode c =
     let at =
     looked_up c.args.opcode c.slot.result c.place_at.result _
     (option_copied c.row_at.result) c.slot.ensures.opcode c.place_at.ensures c.table.ensures c.row_at.ensures in
-    row_here c.args.opcode (row_view c.in-Some.row.now) (at ∙ ap (λ r. option_map row_view (option_copied r)) c.in-Some.is) (eq-eqb _ _ c.if-row-opcode.true)
+    sym (ap (λ b. cond b (Some (row_view c.in-Some.row.now)) None) (eq-eqb _ _ c.if-row-opcode.true))
+    ∙ sym (ap (kept c.args.opcode) (at ∙ ap (λ r. option_map row_view (option_copied r)) c.in-Some.is)) ∙ row_kept c.args.opcode
 
 pub returns-else-row-opcode : goal.returns-else-row-opcode
 returns-else-row-opcode c =
     let at =
     looked_up c.args.opcode c.slot.result c.place_at.result _
     (option_copied c.row_at.result) c.slot.ensures.opcode c.place_at.ensures c.table.ensures c.row_at.ensures in
-    row_not_here c.args.opcode (row_view c.in-Some.row.now) (at ∙ ap (λ r. option_map row_view (option_copied r)) c.in-Some.is)
-    (ne_eqb _ _ c.if-row-opcode.false)
+    sym (ap (λ b. cond b (Some (row_view c.in-Some.row.now)) None) (ne_eqb _ _ c.if-row-opcode.false))
+    ∙ sym (ap (kept c.args.opcode) (at ∙ ap (λ r. option_map row_view (option_copied r)) c.in-Some.is)) ∙ row_kept c.args.opcode

@@ -1,4 +1,4 @@
-use Rattle.std.proofs.Common.{rules}
+use Rattle.aml_parse.proofs.Common.{rules}
 use Rattle.aml_parse.proofs.body.body_terms.Goals as goal
 use Rattle.aml_parse.specs.Reading.{all_at}
 

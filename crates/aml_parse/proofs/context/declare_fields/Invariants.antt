@@ -1,6 +1,4 @@
-use Rattle.std.proofs.Common.{◌≡◌, drop}
-use Rattle.aml_code.specs.View.{fields_view}
-use Rattle.aml_code.specs.Lawful.{unit_names, with_names}
+use Rattle.aml_parse.proofs.Common.{◌≡◌, drop, fields_view, unit_names, with_names}
 use Rattle.aml_parse.proofs.context.declare_fields.Given as goal
 
 abbrev pub invariant-loop-field : goal.invariant-loop-field

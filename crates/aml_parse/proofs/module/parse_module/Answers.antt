@@ -1,21 +1,18 @@
-use Rattle.std.proofs.Common.{None, arith}
-use Rattle.aml_code.specs.declared.rows.Position.TheVariants as positions
-use Rattle.aml_code.specs.Lawful.{no_arguments}
-use Rattle.aml_code.specs.View.{nodes_view}
-use Rattle.aml_parse.proofs.Readings.{given_module_sound, given_module_one, given_module_complete, given_placed}
+use Rattle.aml_parse.proofs.Common.{refl, sym, ◌∙◌, inl, inr, arith, ok_is, StandsAt, no_arguments, given_ok, given_err}
+use Rattle.aml_parse.proofs.Readings.{module_sound, module_again, all_placed}
 use Rattle.aml_parse.proofs.module.parse_module.Goals as goal
 
 pub returns-clause-sound : goal.returns-clause-sound
-returns-clause-sound c =
-    given_module_sound (λ x. nodes_view x.items) c.module_terms.result c.args.code.now c.module_terms.ensures (λ i. omega (arith, c.type_inv.code i))
+returns-clause-sound c = given_ok _ _ c.module_terms.result _ c.module_terms.ensures (λ x e. module_sound _ _ (λ i. omega (arith, c.type_inv.code i)) e)
 
 pub returns-clause-one : goal.returns-clause-one
-returns-clause-one c = given_module_one (λ x. nodes_view x.items) c.module_terms.result c.args.code.now c.module_terms.ensures
+returns-clause-one c = given_ok _ _ c.module_terms.result _ c.module_terms.ensures (λ x e ts h. ok_is _ _ (sym (module_again _ ts h) ∙ e))
 
 pub returns-clause-complete : goal.returns-clause-complete
-returns-clause-complete c = given_module_complete (λ x. nodes_view x.items) c.module_terms.result c.args.code.now c.module_terms.ensures
+returns-clause-complete c =
+    given_err _ _ c.module_terms.result _ c.module_terms.ensures (inl refl) (λ d e. inr (λ ts h. absurd (cc (module_again _ ts h, e))))
 
 pub returns-clause-placed : goal.returns-clause-placed
 returns-clause-placed c =
-    given_placed (λ x. nodes_view x.items) c.module_terms.result no_arguments None positions.ModuleTerm c.args.code.now
-    (λ i. omega (arith, c.type_inv.code i)) c.module_terms.ensures
+    given_err _ _ c.module_terms.result (StandsAt no_arguments c.args.code.now) c.module_terms.ensures tt
+    (λ d. all_placed _ _ _ c.args.code.now d (λ i. omega (arith, c.type_inv.code i)))

@@ -1,5 +1,4 @@
-use Rattle.std.proofs.Common.{◌-◌, ap, ◌∙◌}
-use Rattle.aml_code.proofs.Views.{view-tail-Body}
+use Rattle.aml_parse.proofs.Common.{◌-◌, ap, ◌∙◌, view-tail-Body}
 use Rattle.aml_parse.specs.Reading.{body_to}
 use Rattle.aml_parse.proofs.packages.body_of.Goals as goal
 

@@ -1,4 +1,4 @@
-use Rattle.aml_code.proofs.Views.{view-Op}
+use Rattle.aml_parse.proofs.Common.{view-Op}
 use Rattle.aml_parse.proofs.packages.operation_of.Goals as goal
 
 pub returns : goal.returns

@@ -1,4 +1,4 @@
-use Rattle.std.proofs.Common.{rules}
+use Rattle.aml_parse.proofs.Common.{rules}
 use Rattle.aml_parse.proofs.packages.package_of.Goals as goal
 
 pub returns-clause-exact : goal.returns-clause-exact

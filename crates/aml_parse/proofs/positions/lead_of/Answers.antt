@@ -1,4 +1,4 @@
-use Rattle.std.proofs.Common.{rules}
+use Rattle.aml_parse.proofs.Common.{rules}
 use Rattle.aml_parse.proofs.positions.lead_of.Goals as goal
 
 pub returns-then-is_name_lead : goal.returns-then-is_name_lead

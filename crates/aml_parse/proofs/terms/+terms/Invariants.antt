@@ -1,7 +1,5 @@
-use Rattle.std.proofs.Common.{◌≡◌, ◌+◌, ◌-◌, ◌*◌, length, drop}
-use Rattle.aml_code.specs.Tree.{tree_more, part_more, field_more}
-use Rattle.aml_code.specs.View.{node_view, part_view, field_view}
-use Rattle.aml_parse.specs.Reading.{scope_of, read_at, parts_at, arguments_at, terms_at, fields_at}
+use Rattle.aml_parse.proofs.Common.{◌≡◌, ◌+◌, ◌-◌, ◌*◌, length, drop, tree_more, part_more, field_more, node_view, part_view, field_view}
+use Rattle.aml_parse.specs.Reading.{read_in, parts_at, arguments_at, terms_at, fields_at}
 use Rattle.aml_parse.proofs.Loops.{then_rest, then_all}
 use Rattle.aml_parse.proofs.terms.+terms.Given as goal
 
@@ -49,24 +47,20 @@ decreases-link g l = 8 * l.levels + 2
 
 abbrev pub invariant-arguments-loop-i : goal.invariant-arguments-loop-i
 invariant-arguments-loop-i g l =
-    let read = read_at (g.A.Arity.arity l.context.arity.now) (scope_of l.context.scope) l.levels in
-    then_rest node_view tree_more l.found.items (arguments_at read (l.count - l._i) l.end l.locals l.rest)
-    ≡ arguments_at read l.count l.end l.initial.locals l.initial.rest
+    then_rest node_view tree_more l.found.items (arguments_at (read_in g.A.Arity.arity l.context l.levels) (l.count - l._i) l.end l.locals l.rest)
+    ≡ arguments_at (read_in g.A.Arity.arity l.context l.levels) l.count l.end l.initial.locals l.initial.rest
 
 abbrev pub invariant-parts-loop-kind : goal.invariant-parts-loop-kind
 invariant-parts-loop-kind g l =
-    let read = read_at (g.A.Arity.arity l.context.arity.now) (scope_of l.context.scope) l.levels in
-    then_rest part_view part_more l.found.items (parts_at read (drop l.kind-index l.kinds) l.end l.locals l.rest)
-    ≡ parts_at read l.kinds l.end l.initial.locals l.initial.rest
+    then_rest part_view part_more l.found.items (parts_at (read_in g.A.Arity.arity l.context l.levels) (drop l.kind-index l.kinds) l.end l.locals l.rest)
+    ≡ parts_at (read_in g.A.Arity.arity l.context l.levels) l.kinds l.end l.initial.locals l.initial.rest
 
 abbrev pub invariant-terms-loop-turn : goal.invariant-terms-loop-turn
 invariant-terms-loop-turn g l =
-    let read = read_at (g.A.Arity.arity l.context.arity.now) (scope_of l.context.scope) l.levels in
-    then_all node_view tree_more l.found.items (terms_at read (length l.bytes - l._turn) l.here l.end l.locals l.rest)
-    ≡ terms_at read (length l.bytes) l.initial.here l.end l.initial.locals l.bytes
+    then_all node_view tree_more l.found.items (terms_at (read_in g.A.Arity.arity l.context l.levels) (length l.bytes - l._turn) l.here l.end l.locals l.rest)
+    ≡ terms_at (read_in g.A.Arity.arity l.context l.levels) (length l.bytes) l.initial.here l.end l.initial.locals l.bytes
 
 abbrev pub invariant-fields-loop-turn : goal.invariant-fields-loop-turn
 invariant-fields-loop-turn g l =
-    let read = read_at (g.A.Arity.arity l.context.arity.now) (scope_of l.context.scope) l.levels in
-    then_all field_view field_more l.found.items (fields_at read (length l.bytes - l._turn) l.end l.locals l.rest)
-    ≡ fields_at read (length l.bytes) l.end l.initial.locals l.bytes
+    then_all field_view field_more l.found.items (fields_at (read_in g.A.Arity.arity l.context l.levels) (length l.bytes - l._turn) l.end l.locals l.rest)
+    ≡ fields_at (read_in g.A.Arity.arity l.context l.levels) (length l.bytes) l.end l.initial.locals l.bytes

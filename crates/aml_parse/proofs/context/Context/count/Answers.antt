@@ -1,4 +1,4 @@
-use Rattle.std.proofs.Common.{rules}
+use Rattle.aml_parse.proofs.Common.{rules}
 use Rattle.aml_parse.proofs.context.Context.count.Goals as goal
 
 pub returns-in-None : goal.returns-in-None
