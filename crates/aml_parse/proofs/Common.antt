@@ -4,7 +4,8 @@ pub use Rattle.aml_code.proofs.InnerLaws.{is_inner, unchanged, all_unchanged}
 pub use Rattle.aml_code.proofs.LengthLaws.{span_again, length-package_bytes, IsSpan, little_takes, little_fault, length_takes, length_fault, span_takes}
 pub use Rattle.aml_code.proofs.LengthLaws.{span_fault, little_again, length_again}
 pub use Rattle.aml_code.proofs.LevelLaws.{deeper_by, terms_deeper_by}
-pub use Rattle.aml_code.proofs.RowFacts.{zero_bare, lead_of, opcode_lead, row_lead_is, row_opcode, row_is_opcode, row_apart, target_opcode, is_if_place, if_parts}
+pub use Rattle.aml_code.proofs.RowFacts.{zero_bare, lead_of, opcode_lead, row_lead_is, row_opcode, row_is_opcode, row_apart, target_opcode, is_if_place}
+pub use Rattle.aml_code.proofs.RowFacts.{if_parts}
 pub use Rattle.aml_code.proofs.RowFacts.{if_has_length, guard_place, opcode_some, is_body, not_true, rows_say}
 pub use Rattle.aml_code.proofs.Views.{view-Op, view-tail-Body}
 pub use Rattle.aml_code.proofs.Within.{Within, onward, text_there, byte_there, end_there, truncated_placed, offset_is, length_placed, past_placed, name_placed}
@@ -37,8 +38,10 @@ pub use Rattle.aml_names.specs.Paths.{PathSet}
 pub use Rattle.aml_names.specs.declared.faults.CodeFault.{CodeFault}
 pub use Rattle.aml_names.specs.declared.names.Name.{Name}
 pub use Rattle.aml_names.specs.declared.segments.Seg.{Seg}
-pub use Rattle.std.proofs.Common.{◌≡◌, ℕ, zero, suc, Bool, true, false, eqb, List, [], ◌∷◌, ◌++◌, length, Option, Some, None, Ok, Err, refl, sym, ap, subst, ◌∙◌}
-pub use Rattle.std.proofs.Common.{append_assoc, ◌⊎◌, arith, inl, inr, ◌-◌, ◌<◌, Result, ◌+◌, ◌≤◌, cond, ◌==◌, drop, rules, ◌/◌, ◌%◌, ◌^◌, ltb, get_or, take, ◌≢◌}
+pub use Rattle.std.proofs.Common.{◌≡◌, ℕ, zero, suc, Bool, true, false, eqb, List, [], ◌∷◌, ◌++◌, length, Option, Some, None, Ok, Err, refl, sym, ap, subst}
+pub use Rattle.std.proofs.Common.{◌∙◌}
+pub use Rattle.std.proofs.Common.{append_assoc, ◌⊎◌, arith, inl, inr, ◌-◌, ◌<◌, Result, ◌+◌, ◌≤◌, cond, ◌==◌, drop, rules, ◌/◌, ◌%◌, ◌^◌, ltb, get_or, take}
+pub use Rattle.std.proofs.Common.{◌≢◌}
 pub use Rattle.std.proofs.Common.{not, ◌*◌, add-one}
 pub use Rattle.std.proofs.Math.Seq.{drop-cons}
 pub use Rattle.std.proofs.lemmas.Bool.{eqb-true, eq-eqb, ne_eqb, eqb-false, ltb-true, ltb-false, lt-ltb, le-ltb}
