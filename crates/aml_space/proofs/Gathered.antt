@@ -11,12 +11,16 @@ use Rattle.aml_space.specs.declared.kinds.Kind.{Kind}
 use Rattle.aml_children.specs.declared.children.Child.{Child}
 use Rattle.aml_children.specs.Children.{child_in}
 use Rattle.aml_space.specs.declared.nodes.Node.{Node}
-use Rattle.aml_space.specs.Nodes.{walk, own, under, gather, kids_of, kinds_of, pairs_of, known_by, rows_below, ahead, rows_ahead, links_of, next_node, own_row}
+use Rattle.aml_space.specs.Nodes.{walk, own, under, gather, kids_of, kinds_of, pairs_of, known_by, visited, ahead, rows_ahead, links_of, next_node, own_row}
 use Rattle.aml_space.specs.Nodes.{IsIndex}
 use Rattle.aml_space.proofs.Walks.{walk_push}
 use Rattle.aml_space.proofs.Family.{at_found}
 use Rattle.aml_space.proofs.Visiting.{one_on}
 use Rattle.aml_space.proofs.Order.{rises_gather, entries_of_rising}
+
+-- the rows at and below a node, to a depth
+abbrev rows_below : List Node → ℕ → ℕ → List (List Seg × Kind)
+rows_below ns n i = visited (kids_of ns) (λ k. own_row (pairs_of ns k)) n i
 
 module _ (ns : List Node) (is : IsIndex ns) where
   abbrev after : List Seg → List Seg × Kind → List Seg × Kind

@@ -15,10 +15,21 @@ use Rattle.aml_children.specs.declared.children.Child.{Child}
 use Rattle.aml_children.specs.Children.{child_in, put}
 use Rattle.aml_space.specs.declared.nodes.Node.{Node}
 use Rattle.aml_space.specs.Nodes.{walk, IsFamily, Content, nothing, kids_in, kids_of, links_of, content_of, kind_in, pairs_of, part_by, known_by, IsShape}
-use Rattle.aml_space.specs.Nodes.{IsNamed, IsLinked, IsIndex, HasGrown}
+use Rattle.aml_space.specs.Nodes.{IsNamed, IsLinked, IsIndex}
 use Rattle.aml_space.proofs.Family.{same_itself, found_put, wider_family, family_put}
 use Rattle.aml_space.proofs.Index.{part_at}
 use Rattle.aml_space.proofs.Walks.{kid_range, node_range}
+
+-- new has the nodes of old and an empty one after them, a child of node i
+pub record HasGrown (old new : List Node) (i : ℕ) (seg : Seg) : Type 0 where
+  pub long : length new ≡ length old + 1
+  pub kids : (k : ℕ) → k < length old → kids_of new k ≡ cond (k == i)
+      (put (kids_of old i) (record { seg = seg; node = length old })) (kids_of old k)
+  pub leaf : kids_of new (length old) ≡ []
+  pub links : (k : ℕ) → k < length old → links_of new k ≡ links_of old k
+  pub new_link : links_of new (length old) ≡ (i, seg)
+  pub contents : (k : ℕ) → k < length old → content_of new k ≡ content_of old k
+  pub no_content : content_of new (length old) ≡ nothing
 
 module _ (ns new : List Node) (i : ℕ) (seg : Seg) (is : IsIndex ns) (within : i < length ns) (absent : child_in (kids_of ns i) seg ≡ None)
     (has : HasGrown ns new i seg) where
