@@ -153,7 +153,7 @@ Leads l scope n p = lead_of l.entries scope n ≡ Some p
 -- what an Alias of a path stands for: the path, or that path's own target if it is an Alias
 abbrev pub target_by : Option Kind → List Seg → List Seg
 target_by None p = p
-target_by (Some (kinds.Alias target)) p = target
+target_by (Some (kinds.Alias q)) p = q
 target_by (Some _) p = p
 
 abbrev pub target_of : List Entry → List Seg → List Seg
