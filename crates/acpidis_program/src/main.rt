@@ -1,15 +1,11 @@
 //! Disassembles the ACPI tables of a folder.
 #![tactic(auto)]
 
-mod command_line;
-mod externals;
-
 use acpi_folder::{DiskFolder, gather};
 use acpidis::{Options, run};
 use aml_names::Path;
 use aml_pool::FreeGate;
-use command_line::{CommandLine, Stop, read};
-use externals::{FileFault, read_externals};
+use command_line::{CommandLine, FileFault, Stop, read, read_externals};
 use std::io::{BufWriter, Write};
 use std::process::ExitCode;
 use std::sync::Wait;
