@@ -1,12 +1,9 @@
 -- Paths as they are printed, and what gives them back. A path is read segment by segment, each with a byte in front: the
 -- backslash, and then dots. What is read and what is left are the text, and a path that is printed so goes on with what is
 -- left; so there is none where no segment follows.
-use Rattle.std.proofs.Common.{◌≡◌, ℕ, ◌-◌, ◌<◌, ◌≤◌, true, List, [], ◌∷◌, ◌++◌, length, take, drop, Ok, refl, sym, ap, ◌∙◌, append_assoc, inl, inr, arith}
-use Rattle.std.proofs.Common.{get_or, append-nil}
-use Rattle.std.specs.List.{flat_map}
-use Rattle.std.specs.Char.{encode_utf8}
+use Rattle.acpi_folder.proofs.Common.{◌≡◌, ℕ, ◌-◌, ◌<◌, ◌≤◌, true, List, [], ◌∷◌, ◌++◌, length, take, drop, Ok, refl, sym, ap, ◌∙◌, append_assoc, inl, inr}
+use Rattle.acpi_folder.proofs.Common.{arith, get_or, append-nil, flat_map, encode_utf8, drop_at, take_all, nil_from_length}
 use Rattle.std.proofs.lemmas.Str.{encode_ascii}
-use Rattle.std.proofs.lemmas.List.{drop_at, take_all, nil_from_length}
 use Rattle.std.proofs.lemmas.List.Concat.{flat_map-append}
 use Rattle.std.proofs.lemmas.Bool.Decides.{nat_tests}
 use Rattle.aml_names.specs.declared.segments.Seg.{Seg}

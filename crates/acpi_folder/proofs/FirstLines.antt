@@ -1,14 +1,12 @@
 -- The first line of a text: the bytes up to the one that ends it, or all of them where none does.
-use Rattle.std.proofs.Common.{◌≤◌, Some, None, ltb, ◌≡◌, ℕ, suc, ◌+◌, ◌<◌, Bool, true, false, not, List, [], ◌∷◌}
-use Rattle.std.proofs.Common.{length, take, drop, refl, ap, arith, cond, eqb}
-use Rattle.std.specs.List.{before_first, after_first, position, position_or_len}
-use Rattle.std.proofs.lemmas.List.{take_all, drop_all}
+use Rattle.acpi_folder.proofs.Common.{◌≤◌, Some, None, ltb, ◌≡◌, ℕ, suc, ◌+◌, ◌<◌, Bool, true, false, not, List, [], ◌∷◌, length, take, drop, refl, ap, arith}
+use Rattle.acpi_folder.proofs.Common.{cond, eqb, before_first, after_first, onto_first, position, position_or_len, take_all, drop_all, cond_some, lines_of}
+use Rattle.acpi_folder.proofs.Common.{is_line_end}
 use Rattle.std.proofs.lemmas.Bool.{ltb-false}
-use Rattle.acpi_folder.specs.Map.{lines_of, before_lines, is_line_end}
 
 -- a byte in front of a text whose first line has this many bytes
 longer : (byte : ℕ) (text : List ℕ) (n : ℕ) → lines_of text ≡ take n text ∷ lines_of (drop (n + 1) text)
-    → before_lines byte (lines_of text) ≡ take (1 + n) (byte ∷ text) ∷ lines_of (drop (1 + n + 1) (byte ∷ text))
+    → onto_first byte (lines_of text) ≡ take (1 + n) (byte ∷ text) ∷ lines_of (drop (1 + n + 1) (byte ∷ text))
 longer byte text n cut =
     let one : 1 + n ≡ suc n = omega arith in
     let front : take (1 + n) (byte ∷ text) ≡ byte ∷ take n text = ap (λ k. take k (byte ∷ text)) one in
@@ -26,7 +24,7 @@ lines_of-first byte [] =
       | false ↦ refl
     ]
 lines_of-first byte (next ∷ bytes) =
-    elim (eqb byte 10) as (λ ends. cond ends ([] ∷ lines_of (next ∷ bytes)) (before_lines byte (lines_of (next ∷ bytes)))
+    elim (eqb byte 10) as (λ ends. cond ends ([] ∷ lines_of (next ∷ bytes)) (onto_first byte (lines_of (next ∷ bytes)))
     ≡ take (cond (not ends) (1 + position_or_len is_line_end (next ∷ bytes)) 0) (byte ∷ next ∷ bytes)
     ∷ lines_of (drop (cond (not ends) (1 + position_or_len is_line_end (next ∷ bytes)) 0 + 1) (byte ∷ next ∷ bytes))) [
       | true ↦ refl
@@ -34,10 +32,6 @@ lines_of-first byte (next ∷ bytes) =
     ]
 
 -- the same, by the index that a search for the end gives
-found : (test : Bool) (index end : ℕ) → cond test (Some index) None ≡ Some end → index ≡ end
-found true index end is = cc
-found false index end is = cc
-
 missing : (test : Bool) (index : ℕ) → cond test (Some index) None ≡ None → test ≡ false
 missing true index is = cc
 missing false index is = refl
@@ -47,7 +41,7 @@ pub lines_of-ended : (text : List ℕ) (end : ℕ) → position is_line_end text
 lines_of-ended [] end is = cc
 lines_of-ended (byte ∷ bytes) end is =
     let all : List ℕ = byte ∷ bytes in
-    rw (found (ltb (position_or_len is_line_end all) (length all)) (position_or_len is_line_end all) end is) at (lines_of-first byte bytes)
+    rw (cond_some (ltb (position_or_len is_line_end all) (length all)) (position_or_len is_line_end all) end is).1 at (lines_of-first byte bytes)
 
 pub lines_of-unended : (text : List ℕ) → 0 < length text → position is_line_end text ≡ None → lines_of text ≡ text ∷ lines_of []
 lines_of-unended [] some is = absurd (omega arith)

@@ -1,12 +1,12 @@
 -- What is read of a folder, call by call. What a folder may answer later it might have answered before (`IsWithin`), so
 -- each call tells of the folder as it was at the beginning. The loop over the files comes first, then the listing, what
 -- stops the gathering, and at the end the dumps that names, files and addresses make.
-use Rattle.std.proofs.Common.{◌≡◌, ℕ, ◌+◌, ◌<◌, ◌≤◌, true, false, not, List, [], ◌∷◌, ◌++◌, length, take, map, get_or, refl, ap, sym, ◌∙◌, arith}
-use Rattle.std.proofs.Common.{cond, filter, string_bytes, string_cmp, IsPermutation, IsSorted, String, Vec, Global, Option, None, Bool, ◌⊎◌, inl, inr, zip}
-use Rattle.std.proofs.lemmas.List.{get_or-map, length-map, map-append}
-use Rattle.std.proofs.lemmas.List.Elements.{all_zip_more, length_all_zip}
+use Rattle.acpi_folder.proofs.Common.{◌≡◌, ℕ, ◌+◌, ◌<◌, ◌≤◌, true, false, not, List, [], ◌∷◌, ◌++◌, length, take, map, get_or, refl, ap, sym, ◌∙◌, arith, cond}
+use Rattle.acpi_folder.proofs.Common.{filter, string_bytes, string_cmp, IsPermutation, IsSorted, String, Vec, Global, Option, None, Bool, ◌⊎◌, inl, inr, zip}
+use Rattle.acpi_folder.proofs.Common.{get_or-map, length-map, map-append, all_zip_more, length_all_zip, list_any, MapFault, RefusesMap, address_in, entry_of}
+use Rattle.acpi_folder.proofs.Common.{lines_of, Answers, IsWithin, Reads, AreRead, IsListing, IsMapText, AreAddresses, AreGathered, StopsAtFile, LacksMap}
+use Rattle.acpi_folder.proofs.Common.{RefusesFolder, FailsAt, StopsBy, FailsAtMap, is_map, map_name, read_limit, dump_name, dump_bytes}
 use Rattle.std.proofs.lemmas.List.Sorted.{IsPermutation-map}
-use Rattle.std.specs.List.{list_any}
 use Rattle.std.specs.Ordering.{nat_cmp}
 use Rattle.std.specs.Cmp.Lexicographic.{slice_cmp}
 use Rattle.acpi_tables.specs.declared.dump.Dump.{Dump}
@@ -14,11 +14,7 @@ use Rattle.acpi_tables.specs.Dumps.{most_bytes}
 use Rattle.acpi_tables.specs.Order.{most_dumps}
 use Rattle.acpi_folder.specs.declared.gathering.GatherFault.{GatherFault}
 use Rattle.acpi_folder.specs.declared.gathering.GatherFault.TheVariants as faults
-use Rattle.acpi_folder.specs.declared.map.MapFault.{MapFault}
 use Rattle.acpi_folder.specs.declared.map.MapFault.TheVariants as map_faults
-use Rattle.acpi_folder.specs.Map.{RefusesMap, address_in, entry_of, lines_of}
-use Rattle.acpi_folder.specs.Folders.{Answers, IsWithin, Reads, AreRead, IsListing, IsMapText, AreAddresses, AreGathered, IsSmall, IsTooLarge, StopsAtFile}
-use Rattle.acpi_folder.specs.Folders.{LacksMap, RefusesFolder, FailsAt, StopsBy, FailsAtMap, is_map, map_name, read_limit, dump_name, dump_bytes}
 use Rattle.acpi_folder.proofs.Entries.{list_any-map}
 
 within_both : (last middle first : Answers) → IsWithin last middle → IsWithin middle first → IsWithin last first
@@ -106,15 +102,14 @@ module _ (first now : Answers) (names : List (String Global)) (n : ℕ) (name : 
 
 filter_named : (test : List ℕ → Bool) (names : List (String Global)) → filter test (names_of names) ≡ names_of (filter (λ name. test (string_bytes name)) names)
 filter_named test [] = refl
-filter_named test (name ∷ names) = by_test (test (string_bytes name)) (filter_named test names)
-  where
-    kept : List (String Global)
-    kept = filter (λ name. test (string_bytes name)) names
-
-    by_test : (b : Bool) → filter test (names_of names) ≡ names_of kept
-        → cond b (string_bytes name ∷ filter test (names_of names)) (filter test (names_of names)) ≡ names_of (cond b (name ∷ kept) kept)
-    by_test true rest = cc
-    by_test false rest = rest
+filter_named test (name ∷ names) =
+    let kept = filter (λ name. test (string_bytes name)) names in
+    let rest = filter_named test names in
+    elim (test (string_bytes name)) as (λ b. cond b (string_bytes name ∷ filter test (names_of names)) (filter test (names_of names))
+    ≡ names_of (cond b (name ∷ kept) kept)) [
+      | true ↦ ap (λ (l : List (List ℕ)). string_bytes name ∷ l) rest
+      | false ↦ rest
+    ]
 
 sorted_named : (names : List (String Global)) → IsSorted string_cmp names → IsSorted (slice_cmp nat_cmp) (names_of names)
 sorted_named [] sorted k d low high = absurd (omega arith)
@@ -138,11 +133,6 @@ listing folder listed dumps mapped given all sorted any = record {
 
 -- ---- what stops the gathering
 
-pub too_many : (folder : Answers) (names : List (String Global)) (mapped : Bool) → IsListing folder (names_of names) mapped → 512 < length names
-    → IsTooLarge folder
-too_many folder names mapped listing many =
-    record { names = names_of names; mapped = mapped; listing = listing; many = omega (arith, length-map names string_bytes) }
-
 -- a map that is refused for another cause than memory
 pub map_refused : (folder : Answers) (names : List (List ℕ)) (text seen : List ℕ) (fault : MapFault) → Reads folder map_name read_limit text
     → length text ≤ most_bytes → seen ≡ text → (fault ≡ map_faults.NoMemory) ⊎ RefusesMap names seen fault → (fault ≡ map_faults.NoMemory → ⊥)
@@ -162,48 +152,40 @@ no_map folder mapped names addresses unmapped none = rw unmapped (none ∙ nothi
 -- the folder's listing is small enough, and what is read is read of what it became
 module _ (first middle : Answers) (names : List (String Global)) (mapped : Bool) (listing : IsListing first (names_of names) mapped)
     (few : length names ≤ most_dumps) (begun : IsWithin middle first) where
-  small : IsSmall first (names_of names) mapped
-  small = record { listing = listing; few = omega (arith, length-map names string_bytes) }
+  small : length (names_of names) ≤ most_dumps
+  small = omega (arith, length-map names string_bytes)
 
   pub file_refuses : (fault : GatherFault) → StopsBy middle (names_of names) fault → RefusesFolder first fault
-  file_refuses (faults.File name) stop = record {
-    names = names_of names;
-    mapped = mapped;
-    small = small;
-    stop = inl (stop_before middle first begun (names_of names) (string_bytes name) stop);
-  }
+  file_refuses (faults.File name) stop =
+      let stop = stop_before middle first begun (names_of names) (string_bytes name) stop in
+      record { names = names_of names; mapped = mapped; listing = listing; cause = (small, inl stop) }
   file_refuses faults.NoMemory stop = tt
   file_refuses _ stop = absurd stop
 
   module _ (now : Answers) (files : List (List ℕ)) (read : AreRead middle (names_of names) files) (within : IsWithin now middle) where
-    map_fails : (fault : GatherFault) → mapped ≡ true → FailsAtMap now (names_of names) fault → RefusesFolder first fault
-    map_fails (faults.File name) is failed = record {
-      names = names_of names;
-      mapped = mapped;
-      small = small;
-      stop = inr (
-        failed.0,
-        is,
-        record {
-          before = (files, reads_before middle first begun (names_of names) files read);
-          cause = map_before now first (within_both now middle first within begun) failed.1;
-        },
-      );
-    }
-    map_fails (faults.Map fault) is failed = record {
-      names = names_of names;
-      small = rw is at small;
-      before = (files, reads_before middle first begun (names_of names) files read);
-      text = failed.0;
-      map = text_before now first (within_both now middle first within begun) failed.0 failed.1;
-      refused = failed.2;
-    }
-    map_fails faults.NoMemory is failed = tt
-    map_fails _ is failed = absurd failed
+    now_first : IsWithin now first
+    now_first = within_both now middle first within begun
+
+    before : (files : List (List ℕ)) × AreRead first (names_of names) files
+    before = (files, reads_before middle first begun (names_of names) files read)
+
+    behind : (fault : GatherFault) → mapped ≡ true → FailsAtMap first (names_of names) fault → RefusesFolder first fault
+    behind (faults.File name) is failed =
+        record { names = names_of names; mapped = mapped; listing = listing; cause = (small, inr (is, before, failed)) }
+    behind (faults.Map fault) is failed =
+        record { names = names_of names; mapped = mapped; listing = listing; cause = (small, inr (is, before, failed)) }
+    behind faults.NoMemory is failed = tt
+    behind _ is failed = absurd failed
+
+    map_fails : (fault : GatherFault) → FailsAtMap now (names_of names) fault → FailsAtMap first (names_of names) fault
+    map_fails (faults.File name) failed = (failed.0, map_before now first now_first failed.1)
+    map_fails (faults.Map fault) failed = (failed.0, text_before now first now_first failed.0 failed.1, failed.2)
+    map_fails faults.NoMemory failed = failed
+    map_fails _ failed = failed
 
     pub map_refuses : (fault : GatherFault) → (fault ≡ faults.NoMemory) ⊎ ((mapped ≡ true) × FailsAtMap now (names_of names) fault) → RefusesFolder first fault
     map_refuses fault (inl memory) = rw memory tt
-    map_refuses fault (inr failed) = map_fails fault failed.0 failed.1
+    map_refuses fault (inr failed) = behind fault failed.0 (map_fails fault failed.1)
 
 -- ---- what is gathered
 
@@ -246,3 +228,5 @@ gathered first middle now names files addresses mapped dumps listing few begun r
       files = rw (all.named, all.filed) (reads_before middle first begun (names_of names) (files_of files) read);
       addresses = rw (all.named, all.placed) (addresses_before now first (within_both now middle first within begun) mapped (names_of names) addresses found);
     }
+
+pub ruleset unmapped = (no_map)

@@ -1,3 +1,4 @@
+pub mod Common
 pub mod FirstLines
 pub mod Digits
 pub mod Counts

@@ -1,16 +1,9 @@
 -- The lines of a map, one after another: what is left behind so many lines begins with the next one. Each line that is
 -- read is a map's, and the first that isn't refuses the text.
-use Rattle.std.proofs.Common.{◌≡◌, ℕ, ◌+◌, ◌-◌, ◌<◌, ◌≤◌, true, false, List, [], ◌∷◌, ◌++◌, length, take, drop, map, get_or, refl, ap, ◌∙◌}
-use Rattle.std.proofs.Common.{arith, Some, length-drop, below_more}
-use Rattle.std.specs.Prelude.{option_map}
-use Rattle.std.specs.List.{list_any, find}
+use Rattle.acpi_folder.proofs.Common.{◌≡◌, ℕ, ◌+◌, ◌-◌, ◌<◌, ◌≤◌, true, false, List, [], ◌∷◌, ◌++◌, length, take, drop, map, get_or, refl, ap, ◌∙◌, arith, Some}
+use Rattle.acpi_folder.proofs.Common.{length-drop, below_more, option_map, list_any, find, take_more, drop_more, map-append, Line, MapFault, Entry, entry_of}
+use Rattle.acpi_folder.proofs.Common.{shown_by, lines_of, repeats, is_listed, IsLine, IsMapped, HoldsTo, HasFault, RefusesMap, numbered_by, address_in}
 use Rattle.std.specs.Str.{bytes_eq}
-use Rattle.std.proofs.lemmas.List.{take_more, drop_more, map-append}
-use Rattle.acpi_folder.specs.declared.map.Line.{Line}
-use Rattle.acpi_folder.specs.declared.map.MapFault.{MapFault}
-use Rattle.acpi_folder.specs.declared.map.MapFault.TheVariants.{BadLine, NoSuchFile, Again, NoMemory}
-use Rattle.acpi_folder.specs.Map.{Entry, entry_of, shown_by, lines_of, repeats, is_listed, IsLine, IsMapped, HoldsTo, HoldsMap, HasFault, RefusesMap}
-use Rattle.acpi_folder.specs.Map.{numbered_by, address_in}
 use Rattle.acpi_folder.proofs.Entries.{address_in-shown}
 
 -- the line behind the first ones, where what is left is known
@@ -63,21 +56,11 @@ refuses names text read earlier n rest line others fault before cut all numbered
     record {
       number = n + 1;
       numbered = numbered;
-      first = record { counted = omega arith; inside = omega (arith, inside (lines_of text) n line others is); before = rw less before.held };
+      counted = omega arith;
+      inside = omega (arith, inside (lines_of text) n line others is);
+      before = rw less before.held;
       there = rw (less, front (lines_of text) n line others is) (rw (all, before.said) at there);
     }
-
--- a map is never refused
-at_fault : (names earlier : List (List ℕ)) (line : List ℕ) (fault : MapFault) → IsMapped names earlier line → HasFault names (map entry_of earlier) line fault
-    → ⊥
-at_fault names earlier line (BadLine number) mapped there = there mapped.form
-at_fault names earlier line (NoSuchFile number) mapped there = cc (mapped.listed, there.1)
-at_fault names earlier line (Again number) mapped there = cc (mapped.fresh, there.2)
-at_fault names earlier line NoMemory mapped there = there
-
-pub not_map : (names : List (List ℕ)) (text : List ℕ) (fault : MapFault) → RefusesMap names text fault → ¬ HoldsMap names text
-not_map names text fault refused held =
-    at_fault names _ _ fault (held (refused.number - 1) (omega (arith, refused.first.counted, refused.first.inside))) refused.there
 
 -- the addresses of the files
 pub addresses_shown : {X : Type 0} (bytes_of : X → List ℕ) (names : List X) (lines : List Line) (entries : List Entry) → map shown_by lines ≡ entries

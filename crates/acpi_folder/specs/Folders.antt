@@ -93,17 +93,8 @@ pub record AreGathered (folder : Answers) (dumps : List Dump) : Type 0 where
   pub files : AreRead folder (map dump_name dumps) (map dump_bytes dumps)
   pub addresses : AreAddresses folder mapped (map dump_name dumps) (map (λ dump. dump.address) dumps)
 
--- Why no dumps are gathered. Listing comes first, then the number of dumps, the files by their names, the map.
-pub record IsSmall (folder : Answers) (names : List (List ℕ)) (mapped : Bool) : Type 0 where
-  pub listing : IsListing folder names mapped
-  pub few : length names ≤ most_dumps
-
--- more files than 512 are no map
-pub record IsTooLarge (folder : Answers) : Type 0 where
-  pub names : List (List ℕ)
-  pub mapped : Bool
-  pub listing : IsListing folder names mapped
-  pub many : most_dumps < length names
+-- Why no dumps are gathered, the first that is met: the listing, the number of dumps, the files by their names, and the
+-- map.
 
 -- the first file that can't be read, by name
 pub record StopsAtFile (folder : Answers) (names : List (List ℕ)) (name : List ℕ) : Type 0 where
@@ -118,40 +109,14 @@ abbrev pub LacksMap : Answers → Type 0
 LacksMap folder =
     folder.unread map_name ⊎ ((text : List ℕ) × Reads folder map_name read_limit text × (most_bytes < length text))
 
--- all files are read, and the map isn't
-pub record StopsAtMap (folder : Answers) (names : List (List ℕ)) : Type 0 where
-  pub before : (files : List (List ℕ)) × AreRead folder names files
-  pub cause : LacksMap folder
-
--- a file that stops the gathering
-pub record IsUnread (folder : Answers) (name : List ℕ) : Type 0 where
-  pub names : List (List ℕ)
-  pub mapped : Bool
-  pub small : IsSmall folder names mapped
-  pub stop : StopsAtFile folder names name ⊎ ((name ≡ map_name) × (mapped ≡ true) × StopsAtMap folder names)
-
--- a map that is refused: all files are read before
-pub record RefusesMapOf (folder : Answers) (fault : MapFault) : Type 0 where
-  pub names : List (List ℕ)
-  pub small : IsSmall folder names true
-  pub before : (files : List (List ℕ)) × AreRead folder names files
-  pub text : List ℕ
-  pub map : IsMapText folder text
-  pub refused : RefusesMap names text fault
-
--- What a fault says of the file that it names, or of the map's text; want of memory says nothing.
+-- What a fault says of the file that it names, or of the map; want of memory says nothing.
 abbrev pub TellsFile : (List ℕ → Type 0) → (MapFault → Type 0) → GatherFault → Type 0
 TellsFile file map (faults.File name) = file (string_bytes name)
 TellsFile file map (faults.Map fault) = map fault
 TellsFile file map faults.NoMemory = Unit {0}
 TellsFile file map _ = ⊥
 
-abbrev pub RefusesFolder : Answers → GatherFault → Type 0
-RefusesFolder folder faults.Folder = folder.unlisted
-RefusesFolder folder faults.TooManyTables = IsTooLarge folder
-RefusesFolder folder fault = TellsFile (IsUnread folder) (RefusesMapOf folder) fault
-
--- The steps of it: a file that can't be read, the first of several that can't, a map that gives no addresses.
+-- of one file, of the first of several, and of the map
 abbrev pub FailsAt : Answers → List ℕ → GatherFault → Type 0
 FailsAt folder name = TellsFile (λ other. (other ≡ name) × folder.unread name) (λ fault. ⊥)
 
@@ -162,3 +127,20 @@ abbrev pub FailsAtMap : Answers → List (List ℕ) → GatherFault → Type 0
 FailsAtMap folder names =
     TellsFile (λ name. (name ≡ map_name) × LacksMap folder)
     (λ fault. (text : List ℕ) × IsMapText folder text × RefusesMap names text fault)
+
+-- files that are listed are too many; or one of them can't be read; or all are read, and the map fails
+abbrev pub FailsListed : Answers → List (List ℕ) → Bool → GatherFault → Type 0
+FailsListed folder names mapped faults.TooManyTables = most_dumps < length names
+FailsListed folder names mapped fault = (length names ≤ most_dumps) × (StopsBy folder names fault
+    ⊎ ((mapped ≡ true) × ((files : List (List ℕ)) × AreRead folder names files) × FailsAtMap folder names fault))
+
+pub record FailsBehind (folder : Answers) (fault : GatherFault) : Type 0 where
+  pub names : List (List ℕ)
+  pub mapped : Bool
+  pub listing : IsListing folder names mapped
+  pub cause : FailsListed folder names mapped fault
+
+abbrev pub RefusesFolder : Answers → GatherFault → Type 0
+RefusesFolder folder faults.Folder = folder.unlisted
+RefusesFolder folder faults.NoMemory = Unit {0}
+RefusesFolder folder fault = FailsBehind folder fault

@@ -1,11 +1,12 @@
 -- The file `tables.map` of a folder: the physical address at which each table stood. It has a line for each file that
 -- it places: 16 hexadecimal digits of either case, a space and the file's name. The byte 0A ends a line; the last line
 -- may go without.
-use Rattle.std.specs.Prelude.{◌≡◌, ℕ, ◌+◌, ◌-◌, ◌*◌, ◌^◌, ◌<◌, ◌≤◌, ◌&&◌, ◌||◌, not, Bool, true, false}
-use Rattle.std.specs.Prelude.{List, [], ◌∷◌, length, take, drop, map, find, nat_eq, nat_le, slice_index}
-use Rattle.std.specs.Prelude.{slice_index_or, Option, Some, None, option_map, if◌then◌else◌}
-use Rattle.std.specs.List.{list_any, list_all}
+use Rattle.std.specs.Prelude.{◌≡◌, ℕ, ◌-◌, ◌<◌, ◌≤◌, ◌&&◌, ◌||◌, not, Bool, true, false, List, [], ◌∷◌, length, take}
+use Rattle.std.specs.Prelude.{drop, map, find, nat_eq, slice_index, slice_index_or, Option, Some, None, option_map}
+use Rattle.std.specs.Prelude.{if◌then◌else◌}
+use Rattle.std.specs.List.{list_any, onto_first}
 use Rattle.std.specs.Str.{bytes_eq}
+use Rattle.std.specs.Str.Parse.{AllDigits, digits_value}
 use Rattle.acpi_folder.specs.declared.map.Line.{Line}
 use Rattle.acpi_folder.specs.declared.map.MapFault.{MapFault}
 use Rattle.acpi_folder.specs.declared.map.MapFault.TheVariants.{BadLine, NoSuchFile, Again, NoMemory}
@@ -14,30 +15,13 @@ abbrev pub is_line_end : ℕ → Bool
 is_line_end byte = nat_eq byte 10
 
 -- the lines of a text, without the bytes that end them
-abbrev pub before_lines : ℕ → List (List ℕ) → List (List ℕ)
-before_lines byte [] = (byte ∷ []) ∷ []
-before_lines byte (line ∷ lines) = (byte ∷ line) ∷ lines
-
 unfoldable pub lines_of : List ℕ → List (List ℕ)
 lines_of [] = []
-lines_of (byte ∷ bytes) = if is_line_end byte then [] ∷ lines_of bytes else before_lines byte (lines_of bytes)
-
--- a hexadecimal digit, and its value
-abbrev pub is_hex_digit : ℕ → Bool
-is_hex_digit byte =
-    (nat_le 48 byte && nat_le byte 57) || (nat_le 65 byte && nat_le byte 70) || (nat_le 97 byte && nat_le byte 102)
-
-abbrev pub hex_value : ℕ → ℕ
-hex_value byte = if nat_le byte 57 then byte - 48 else if nat_le byte 70 then byte - 55 else byte - 87
-
--- the number that digits spell, the highest first
-unfoldable pub hex_number : List ℕ → ℕ
-hex_number [] = 0
-hex_number (digit ∷ digits) = hex_value digit * 16 ^ length digits + hex_number digits
+lines_of (byte ∷ bytes) = if is_line_end byte then [] ∷ lines_of bytes else onto_first byte (lines_of bytes)
 
 -- a line's form: 16 digits, and a space behind them
 pub record IsLine (line : List ℕ) : Type 0 where
-  pub digits : list_all is_hex_digit (take 16 line) ≡ true
+  pub digits : AllDigits 16 (take 16 line)
   pub space : slice_index line 16 ≡ 32
 
 -- what a line says: the file of this name stood at this address
@@ -46,7 +30,7 @@ pub record Entry : Type 0 where
   pub name : List ℕ
 
 abbrev pub entry_of : List ℕ → Entry
-entry_of line = record { address = hex_number (take 16 line); name = drop 17 line }
+entry_of line = record { address = digits_value 16 (take 16 line); name = drop 17 line }
 
 -- what the program keeps of it
 abbrev pub shown_by : Line → Entry
@@ -84,13 +68,7 @@ address_in entries name = option_map (λ entry. entry.address) (find (λ entry. 
 abbrev pub addresses_of : List (List ℕ) → List ℕ → List (Option ℕ)
 addresses_of names text = map (address_in (map entry_of (lines_of text))) names
 
--- What a refusal says of a text: the line of this number, counted from 1, is the first that isn't a map's, and has this
--- fault.
-pub record IsFirst (names lines : List (List ℕ)) (number : ℕ) : Type 0 where
-  pub counted : 1 ≤ number
-  pub inside : number ≤ length lines
-  pub before : HoldsTo names lines (number - 1)
-
+-- what is wrong with a line behind these
 abbrev pub HasFault : List (List ℕ) → List Entry → List ℕ → MapFault → Type 0
 HasFault names earlier line (BadLine number) = ¬ IsLine line
 HasFault names earlier line (NoSuchFile number) = IsLine line × (is_listed names (entry_of line).name ≡ false)
@@ -107,9 +85,13 @@ numbered_by (NoSuchFile number) = Some number
 numbered_by (Again number) = Some number
 numbered_by NoMemory = None
 
+-- What a refusal says of a text: the line of this number, counted from 1, is the first that isn't a map's, and has this
+-- fault.
 pub record RefusesMap (names : List (List ℕ)) (text : List ℕ) (fault : MapFault) : Type 0 where
   pub number : ℕ
   pub numbered : numbered_by fault ≡ Some number
-  pub first : IsFirst names (lines_of text) number
+  pub counted : 1 ≤ number
+  pub inside : number ≤ length (lines_of text)
+  pub before : HoldsTo names (lines_of text) (number - 1)
   pub there :
       HasFault names (map entry_of (take (number - 1) (lines_of text))) (line_at (lines_of text) (number - 1)) fault

@@ -191,6 +191,7 @@ fn read_file<F: Folder>(alloc: Global, folder: &mut F, name: &str) -> Result<Vec
 }
 
 /// The addresses of the dumps that are listed, if there is a map.
+#[tactic(auto, using(crate::proofs::Gathered::unmapped))]
 fn find_addresses<F: Folder>(
     alloc: Global,
     folder: &mut F,

@@ -1,10 +1,11 @@
 //! The file `tables.map` of a folder: the physical address at which each table stood.
-ghost use Rattle.std.specs.Prelude.{◌≡◌, ◌⊎◌, ◌+◌, ◌<◌, ◌∷◌, [], true, false, None, Some, MatchOption};
+ghost use Rattle.std.specs.Prelude.{◌≡◌, ◌⊎◌, true, false, None, Some, MatchOption};
 ghost use Rattle.std.specs.Prelude.{OnOk, IfOk, IfErr, map, find, option_map, length, string_bytes};
-ghost use Rattle.std.specs.List.{list_any, list_all};
+ghost use Rattle.std.specs.List.{list_any};
 ghost use Rattle.std.specs.Str.{bytes_eq};
+ghost use Rattle.std.specs.Str.Parse.{AllDigits, digits_value};
 ghost use Rattle.acpi_folder.specs.declared.map.MapFault.TheVariants.{NoMemory};
-ghost use Rattle.acpi_folder.specs.Map.{lines_of, is_hex_digit, hex_value, hex_number, IsLine};
+ghost use Rattle.acpi_folder.specs.Map.{lines_of, IsLine};
 ghost use Rattle.acpi_folder.specs.Map.{entry_of, shown_by, is_listed, repeats, address_in};
 ghost use Rattle.acpi_folder.specs.Map.{addresses_of, HoldsMap, HasFault, RefusesMap, numbered_by};
 
@@ -188,27 +189,14 @@ impl<'a> Line<'a> {
 /// The number that 16 hexadecimal digits spell.
 fn hex_number(digits: &[u8]) -> Option<u64>
     requires { length digits.now ≡ 16 }
-    ensures { MatchOption result (list_all is_hex_digit digits.now ≡ false)
-        (λ number. (list_all is_hex_digit digits.now ≡ true) × (number ≡ hex_number digits.now)) }
+    ensures { MatchOption result (¬ AllDigits 16 digits.now)
+        (λ number. AllDigits 16 digits.now × (number ≡ digits_value 16 digits.now)) }
 {
     let mut number = 0;
     for digit in digits {
-        number = number * 16 + u64::from(hex_value(*digit)?);
+        number = number * 16 + u64::from(char::from(*digit).to_digit(16)?);
     }
     Some(number)
-}
-
-/// The value of a hexadecimal digit.
-fn hex_value(digit: u8) -> Option<u8>
-    ensures { MatchOption result (is_hex_digit digit ≡ false) (λ value. (is_hex_digit digit ≡ true) ×
-        (value ≡ hex_value digit) × (value < 16)) }
-{
-    match digit {
-        b'0'..=b'9' => Some(digit - b'0'),
-        b'A'..=b'F' => Some(digit - b'A' + 10),
-        b'a'..=b'f' => Some(digit - b'a' + 10),
-        _ => None,
-    }
 }
 
 /// Whether a name is a file's.

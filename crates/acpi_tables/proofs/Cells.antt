@@ -1,12 +1,8 @@
 -- The addresses that an XSDT or an RSDT lists.
-use Rattle.std.proofs.Common.{◌≡◌, ℕ, ◌+◌, ◌-◌, ◌*◌, ◌/◌, ◌%◌, ◌≤◌, ◌<◌, List, length, Some, None, refl, rules, tests, arith, Bool, true, false, ◌&&◌, nat_le}
-use Rattle.std.proofs.Common.{nat_eq, zero-add}
-use Rattle.std.specs.Prelude.{slice_get, if◌then◌else◌}
+use Rattle.acpi_tables.proofs.Common.{◌≡◌, ℕ, ◌+◌, ◌-◌, ◌*◌, ◌/◌, ◌%◌, ◌≤◌, ◌<◌, List, length, Some, None, refl, rules, tests, arith, Bool, true, false, ◌&&◌}
+use Rattle.acpi_tables.proofs.Common.{nat_le, nat_eq, zero-add, slice_get, if◌then◌else◌, nat_tests, slice_get-get_or, slice_get_past}
+use Rattle.acpi_tables.proofs.Common.{get_or-map-range_with_len, length-map-range_with_len, HoldsAddresses, addresses_of, address_at, address_in, address_count}
 use Rattle.std.proofs.Math.Nat.{le-div_iff_mul-le}
-use Rattle.std.proofs.lemmas.Bool.Decides.{nat_tests}
-use Rattle.std.proofs.lemmas.Option.{slice_get-get_or, slice_get_past}
-use Rattle.std.proofs.lemmas.List.FromFn.{get_or-map-range_with_len, length-map-range_with_len}
-use Rattle.acpi_tables.specs.Header.{HoldsAddresses, addresses_of, address_at, address_in, address_count}
 
 -- an address lies within its table
 pub address_inside : (width : ℕ) (table : List ℕ) (index : ℕ) → 0 < width → 36 ≤ length table → index < (length table - 36) / width
@@ -41,3 +37,5 @@ module _ (width : ℕ) (table : List ℕ) (index : ℕ) where
       let long = length-map-range_with_len (address_at width table) 0 (address_count width table) in
       let e = slice_get_past (addresses_of width table) index (omega (arith, long, past)) in
       grind (arith, nat_tests)
+
+pub ruleset cells = (address_in-inside, address_in-refused, address_in-past)

@@ -1,3 +1,4 @@
+pub mod Common
 pub mod Numbers
 pub mod Values
 pub mod Cells
@@ -9,4 +10,3 @@ pub mod Signatures
 pub mod Ranks
 pub mod Unique
 pub mod Blocks
-pub mod Refuted

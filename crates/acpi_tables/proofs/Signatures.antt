@@ -1,23 +1,16 @@
--- What a signature tells of a dump. Bytes that begin with one word begin with another where that word does, unless the
--- two agree as far as both go; so a signature tells how a dump is read, and what holds of one that is taken. What a
--- search for a signature or an address has found has the signature.
-use Rattle.std.proofs.Common.{◌≡◌, ℕ, ◌<◌, ◌≤◌, ◌⊎◌, inl, inr, Bool, true, false, not, ◌&&◌, ◌||◌, List, [], ◌∷◌, ◌++◌, length, drop, codes, cond, Some, None}
-use Rattle.std.proofs.Common.{position, find, ltb, nat_eq, refl, sym, ap, ◌∙◌, arith, rules, tests, length-append, append_assoc}
-use Rattle.std.specs.List.{AllByRecursion}
+-- What a signature tells of a dump: how it is read, since that comes out of a signature by computing, whatever follows it;
+-- and so what holds of one that is taken. What a search for a signature or an address has found has the signature.
+use Rattle.acpi_tables.proofs.Common.{◌≡◌, ℕ, ◌<◌, ◌≤◌, ◌⊎◌, inl, inr, Bool, true, false, List, ◌++◌, length, drop, codes, cond, Some, None, find, ltb, nat_eq}
+use Rattle.acpi_tables.proofs.Common.{refl, sym, ap, ◌∙◌, arith, rules, tests, length-append, Decides-eqb, passes_at_first, option_and_then_some, cond_some}
+use Rattle.acpi_tables.proofs.Common.{slice_get_within, get_or_from_slice_get, Dump, begins_with, HoldsTable, table_of, HoldsRoot, HoldsAddresses, rsdp_of}
+use Rattle.acpi_tables.proofs.Common.{HoldsFadt, AreTaken, bytes_of, has_signature, dump_at, signed_at, root_of, xsdt_address, list_of, list_in, width_of}
 use Rattle.std.proofs.lemmas.Slice.Eq.{starts_is}
-use Rattle.std.proofs.lemmas.Bool.Decides.{Decides-eqb, nat_tests}
-use Rattle.std.proofs.lemmas.List.{get_or-map}
 use Rattle.std.proofs.lemmas.List.Folds.{find_at}
-use Rattle.std.proofs.lemmas.List.Sums.{passes_at_first}
-use Rattle.std.proofs.lemmas.Option.{option_and_then_some, cond_some, slice_get_within, get_or_from_slice_get}
-use Rattle.std.proofs.lemmas.List.Quantifiers.{position-Some}
-use Rattle.acpi_tables.specs.declared.dump.Dump.{Dump}
+use Rattle.acpi_tables.specs.declared.dump.Content.TheVariants.{Xsdt, Rsdt, Fadt, Other}
+use Rattle.acpi_tables.specs.declared.dump.Kind.{Kind}
+use Rattle.acpi_tables.specs.declared.dump.Kind.TheVariants.{Root, Standard}
 use Rattle.acpi_tables.specs.declared.rsdp.Rsdp.{Rsdp}
-use Rattle.acpi_tables.specs.Bytes.{begins_with}
-use Rattle.acpi_tables.specs.Header.{HoldsTable, table_of, HoldsRoot, HoldsAddresses}
-use Rattle.acpi_tables.specs.Fadt.{HoldsFadt}
 use Rattle.acpi_tables.specs.Dumps.{kind_of, HoldsShape, HoldsContent, most_bytes}
-use Rattle.acpi_tables.specs.Order.{AreTaken, bytes_of, has_signature, dump_at, signed_at, root_of, xsdt_address, list_of, width_of}
 use Rattle.acpi_tables.proofs.Places.{part-past}
 
 -- ---- words that bytes begin with
@@ -26,56 +19,9 @@ begins : (bytes word : List ℕ) → begins_with bytes word ≡ true → bytes �
 unfolding begins_with
 begins bytes word e = (starts_is Decides-eqb bytes word (begins_with bytes word) refl).0 e
 
-begins-more : (bytes word two : List ℕ) → begins_with bytes word ≡ true → begins_with word two ≡ true → begins_with bytes two ≡ true
-unfolding begins_with
-begins-more bytes word two is e =
-    (starts_is Decides-eqb bytes two (begins_with bytes two) refl).1 (drop (length two) word ++ drop (length word) bytes)
-    (begins bytes word is ∙ ap (λ xs. xs ++ drop (length word) bytes) (begins word two e) ∙ append_assoc two _ _)
-
--- as far as both go
-abbrev agree : List ℕ → List ℕ → Bool
-agree (a ∷ one) (b ∷ two) = nat_eq a b && agree one two
-agree _ _ = true
-
-tails : (a b : ℕ) (xs ys : List ℕ) → a ∷ xs ≡ b ∷ ys → (a ≡ b) × (xs ≡ ys)
-tails a b xs ys e = (cc, cc)
-
-agree-both : (one two xs ys : List ℕ) → one ++ xs ≡ two ++ ys → agree one two ≡ true
-agree-both (a ∷ one) (b ∷ two) xs ys e =
-    let same = tails a b (one ++ xs) (two ++ ys) e in
-    let rest = agree-both one two xs ys same.1 in
-    let first = same.0 in
-    grind (arith, nat_tests)
-agree-both _ _ xs ys e = refl
-
--- a word that tells of bytes that begin with it whether they begin with another
-abbrev settles : List ℕ → List ℕ → Bool
-settles word two = begins_with word two || not (agree word two)
-
-begins-as : (bytes word two : List ℕ) → settles word two ≡ true → begins_with bytes word ≡ true → begins_with bytes two ≡ begins_with word two
-begins-as bytes word two settled is = by_test (begins_with word two) (begins_with bytes two) refl refl settled
-  where
-    by_test : (a b : Bool) → begins_with word two ≡ a → begins_with bytes two ≡ b → (a || not (agree word two)) ≡ true → b ≡ a
-    by_test true b e f settled = sym f ∙ begins-more bytes word two is e
-    by_test false false e f settled = refl
-    by_test false true e f settled = cc (agree-both word two _ _ (sym (begins bytes word is) ∙ begins bytes two f), settled)
-
--- the words that tell how a dump is read
-abbrev words : List (List ℕ)
-words = codes "RSD PTR " ∷ codes "FACS" ∷ codes "XSDT" ∷ codes "RSDT" ∷ codes "FACP" ∷ codes "APIC" ∷ []
-
-abbrev SettlesKind : List ℕ → Type 0
-SettlesKind word = AllByRecursion (λ two. settles word two ≡ true) words
-
-kind-as : (bytes word : List ℕ) → SettlesKind word → begins_with bytes word ≡ true → kind_of bytes ≡ kind_of word
-kind-as bytes word all is = rw (
-  begins-as bytes word _ all.0 is,
-  begins-as bytes word _ all.1.0 is,
-  begins-as bytes word _ all.1.1.0 is,
-  begins-as bytes word _ all.1.1.1.0 is,
-  begins-as bytes word _ all.1.1.1.1.0 is,
-  begins-as bytes word _ all.1.1.1.1.1.0 is,
-) refl
+-- what comes out for a word, whatever follows it, comes out for bytes that begin with it
+as-word : {X : Type 0} (f : List ℕ → X) (x : X) (bytes word : List ℕ) → ((rest : List ℕ) → f (word ++ rest) ≡ x) → begins_with bytes word ≡ true → f bytes ≡ x
+as-word f x bytes word all is = ap f (begins bytes word is) ∙ all (drop (length word) bytes)
 
 -- ---- what was found
 
@@ -104,62 +50,52 @@ list_by : (dumps : List Dump) (root : Rsdp) (index : ℕ) (b : Bool)
 list_by dumps root index true e = inr (signed_at-signed dumps (codes "RSDT") root.rsdt index e)
 list_by dumps root index false e = inl (signed_at-signed dumps (codes "XSDT") (xsdt_address root.wide) index e)
 
--- what a search for a dump has found
-first_of : (dumps : List Dump) (test : List ℕ → Bool) (index : ℕ) → position (λ dump. test dump.bytes.items) dumps ≡ Some index
-    → test (bytes_of dumps index) ≡ true
-unfolding bytes_of
-first_of [] test index e = cc
-first_of (dump ∷ dumps) test index e =
-    let found = position-Some (λ d. test d.bytes.items) (dump ∷ dumps) index dump e in
-    ap test (get_or-map (λ d. d.bytes.items) (dump ∷ dumps) index dump [] found.0) ∙ found.1
-
-pub root_of-signed : (dumps : List Dump) (index : ℕ) → root_of dumps ≡ Some index → has_signature dumps (codes "RSD PTR ") index ≡ true
-unfolding root_of
-root_of-signed dumps index e = first_of dumps (λ bytes. begins_with bytes (codes "RSD PTR ")) index e
-
 pub find-passes : (test : ℕ → Bool) (xs : List ℕ) (x : ℕ) → find test xs ≡ Some x → test x ≡ true
 find-passes test xs x e =
     let there = sym (find_at test xs) ∙ e in
     rw (get_or_from_slice_get xs _ x x there) at (passes_at_first test xs x (slice_get_within xs _ x there))
 
+pub root_of-signed : (dumps : List Dump) (index : ℕ) → root_of dumps ≡ Some index → has_signature dumps (codes "RSD PTR ") index ≡ true
+unfolding root_of
+root_of-signed dumps index e = find-passes (has_signature dumps (codes "RSD PTR ")) _ index e
+
 -- ---- what holds of a dump that is taken, by its signature
 
-module _ (dumps : List Dump) (any_sum : Bool) (each : AreTaken dumps any_sum) where
-  held : (word : List ℕ) (index : ℕ) → 0 < length word → SettlesKind word → has_signature dumps word index ≡ true
-      → HoldsShape (kind_of word) (bytes_of dumps index) × HoldsContent (kind_of word) (bytes_of dumps index) × (length (bytes_of dumps index) ≤ most_bytes)
-  held word index some all is =
+module _ (dumps : List Dump) (any_sum : Bool) (each : AreTaken dumps any_sum) (index : ℕ) where
+  held : (word : List ℕ) (kind : Kind) → 0 < length word → ((rest : List ℕ) → kind_of (word ++ rest) ≡ kind) → has_signature dumps word index ≡ true
+      → HoldsShape kind (bytes_of dumps index) × HoldsContent kind (bytes_of dumps index) × (length (bytes_of dumps index) ≤ most_bytes)
+  held word kind some all is =
       let holds = each index (signed_inside dumps word index some is) in
-      let same = kind-as (bytes_of dumps index) word all is in
+      let same = as-word kind_of kind (bytes_of dumps index) word all is in
       (rw same at holds.shape, rw same at holds.content, holds.small)
 
-  pub root_holds : (index : ℕ) → has_signature dumps (codes "RSD PTR ") index ≡ true → HoldsRoot (bytes_of dumps index)
+  pub root_holds : has_signature dumps (codes "RSD PTR ") index ≡ true → HoldsRoot (bytes_of dumps index)
   unfolding begins_with
-  root_holds index is = (held (codes "RSD PTR ") index (omega arith) (search rules) is).0
+  root_holds is = (held (codes "RSD PTR ") Root (omega arith) (λ rest. refl) is).0
 
-  pub dsdt_holds : (index : ℕ) → has_signature dumps (codes "DSDT") index ≡ true
-      → HoldsTable (bytes_of dumps index) × (length (bytes_of dumps index) ≤ most_bytes)
+  pub dsdt_holds : has_signature dumps (codes "DSDT") index ≡ true → HoldsTable (bytes_of dumps index) × (length (bytes_of dumps index) ≤ most_bytes)
   unfolding begins_with
-  dsdt_holds index is = let h = held (codes "DSDT") index (omega arith) (search rules) is in (h.0, h.2)
+  dsdt_holds is = let h = held (codes "DSDT") (Standard Other) (omega arith) (λ rest. refl) is in (h.0, h.2)
 
-  pub ssdt_holds : (index : ℕ) → has_signature dumps (codes "SSDT") index ≡ true
-      → HoldsTable (bytes_of dumps index) × (length (bytes_of dumps index) ≤ most_bytes)
+  pub ssdt_holds : has_signature dumps (codes "SSDT") index ≡ true → HoldsTable (bytes_of dumps index) × (length (bytes_of dumps index) ≤ most_bytes)
   unfolding begins_with
-  ssdt_holds index is = let h = held (codes "SSDT") index (omega arith) (search rules) is in (h.0, h.2)
+  ssdt_holds is = let h = held (codes "SSDT") (Standard Other) (omega arith) (λ rest. refl) is in (h.0, h.2)
 
-  pub fadt_holds : (index : ℕ) → has_signature dumps (codes "FACP") index ≡ true
-      → HoldsTable (bytes_of dumps index) × HoldsFadt (table_of (bytes_of dumps index))
+  pub fadt_holds : has_signature dumps (codes "FACP") index ≡ true → HoldsTable (bytes_of dumps index) × HoldsFadt (table_of (bytes_of dumps index))
   unfolding begins_with
-  fadt_holds index is = let h = held (codes "FACP") index (omega arith) (search rules) is in (h.0, h.1)
+  fadt_holds is = let h = held (codes "FACP") (Standard Fadt) (omega arith) (λ rest. refl) is in (h.0, h.1)
 
-  -- the list that a root leads to
-  pub list_holds : (root : Rsdp) (index : ℕ) → list_of dumps root ≡ Some index
-      → HoldsTable (bytes_of dumps index) × HoldsAddresses (width_of (bytes_of dumps index)) (table_of (bytes_of dumps index))
+  abbrev HoldsList : Type 0
+  HoldsList = HoldsTable (bytes_of dumps index) × HoldsAddresses (width_of (bytes_of dumps index)) (table_of (bytes_of dumps index))
+
+  listing : (has_signature dumps (codes "XSDT") index ≡ true) ⊎ (has_signature dumps (codes "RSDT") index ≡ true) → HoldsList
   unfolding begins_with
-  list_holds root index e = by_list (list_by dumps root index (nat_eq (xsdt_address root.wide) 0) e)
-    where
-      by_list : (has_signature dumps (codes "XSDT") index ≡ true) ⊎ (has_signature dumps (codes "RSDT") index ≡ true)
-          → HoldsTable (bytes_of dumps index) × HoldsAddresses (width_of (bytes_of dumps index)) (table_of (bytes_of dumps index))
-      by_list (inl is) = let h = held (codes "XSDT") index (omega arith) (search rules) is in (h.0, rw is h.1)
-      by_list (inr is) =
-          let h = held (codes "RSDT") index (omega arith) (search rules) is in
-          (h.0, rw (begins-as (bytes_of dumps index) (codes "RSDT") (codes "XSDT") refl is) h.1)
+  listing (inl is) = let h = held (codes "XSDT") (Standard Xsdt) (omega arith) (λ rest. refl) is in (h.0, rw is h.1)
+  listing (inr is) =
+      let h = held (codes "RSDT") (Standard Rsdt) (omega arith) (λ rest. refl) is in
+      (h.0, rw (as-word width_of 4 (bytes_of dumps index) (codes "RSDT") (λ rest. refl) is) h.1)
+
+  -- the list that the first root leads to
+  pub list_holds : list_in dumps ≡ Some index → HoldsList
+  list_holds e = option_and_then_some (λ root. list_of dumps (rsdp_of (bytes_of dumps root))) (root_of dumps) index e
+      (λ place there leads. let root = rsdp_of (bytes_of dumps place) in listing (list_by dumps root index (nat_eq (xsdt_address root.wide) 0) leads))

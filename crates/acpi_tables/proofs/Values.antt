@@ -1,9 +1,7 @@
 -- The values of a list of fields: one that ends within the least length that the bytes have is there, so that they come
 -- out by computing, whatever fields the list has.
-use Rattle.std.proofs.Common.{◌≡◌, ℕ, ◌+◌, ◌≤◌, Bool, true, false, List, [], ◌∷◌, length, map, find, option_map, Option, Some, nat_le, refl, arith}
-use Rattle.std.specs.Prelude.{if◌then◌else◌}
-use Rattle.std.proofs.lemmas.Bool.Decides.{nat_tests}
-use Rattle.acpi_tables.specs.Bytes.{number_at, Field, value_in}
+use Rattle.acpi_tables.proofs.Common.{◌≡◌, ℕ, ◌+◌, ◌≤◌, Bool, true, false, cond, List, [], ◌∷◌, length, map, find, option_map, Option, Some, nat_le, refl}
+use Rattle.acpi_tables.proofs.Common.{arith, if◌then◌else◌, nat_tests, number_at, Field, value_in}
 
 -- the value of a field of bytes that have at least so many
 abbrev value_by : ℕ → List ℕ → Field → Option ℕ
@@ -20,9 +18,10 @@ values_in-by least bytes (f ∷ fields) h = cc (value_in-by least bytes f h, val
 -- the first element whose image passes has the first image that does
 pub find-map : {X Y : Type 0} (f : X → Y) (p : Y → Bool) (xs : List X) → option_map f (find (λ x. p (f x)) xs) ≡ find p (map f xs)
 find-map f p [] = refl
-find-map f p (x ∷ xs) = by_test (p (f x)) refl (find-map f p xs)
-  where
-    by_test : (b : Bool) → p (f x) ≡ b → option_map f (find (λ y. p (f y)) xs) ≡ find p (map f xs)
-        → option_map f (find (λ y. p (f y)) (x ∷ xs)) ≡ find p (map f (x ∷ xs))
-    by_test true is rest = cc
-    by_test false is rest = cc
+find-map f p (x ∷ xs) =
+    elim (p (f x)) as (λ b. option_map f (cond b (Some x) (find (λ y. p (f y)) xs)) ≡ cond b (Some (f x)) (find p (map f xs))) [
+      | true ↦ refl
+      | false ↦ find-map f p xs
+    ]
+
+pub ruleset values = (values_in-by)

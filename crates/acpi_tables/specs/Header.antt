@@ -29,9 +29,9 @@ header_of bytes = record {
 abbrev pub table_of : List ℕ → List ℕ
 table_of bytes = take (number_at bytes 4 4) bytes
 
--- ---- The tables that list the addresses of the others: the Root System Description Table (ACPI 6.5, section 5.2.7), where
--- an address has four bytes, and the Extended one (section 5.2.8), where it has eight. Both are the header, and then
--- addresses of this width up to the table's end.
+-- ---- The tables that list the addresses of the others: the Root System Description Table (ACPI 6.5, section 5.2.7),
+-- where an address has four bytes, and the Extended one (section 5.2.8), where it has eight. Both are the header, and
+-- then addresses of this width up to the table's end.
 
 -- what follows the 36 bytes of the header is cut into addresses
 pub record HoldsAddresses (width : ℕ) (table : List ℕ) : Type 0 where

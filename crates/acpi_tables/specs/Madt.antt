@@ -2,9 +2,9 @@
 -- to its end. The kinds of records that are read here are data (sections 5.2.12.2, 5.2.12.3, 5.2.12.5 to 5.2.12.8,
 -- 5.2.12.12 and 5.2.12.13).
 use Prim.Native.String.{String}
-use Rattle.std.specs.Prelude.{◌≡◌, ℕ, zero, suc, ◌+◌, ◌-◌, ◌<◌, ◌≤◌, ◌&&◌, Bool, List, [], ◌∷◌, codes, length, take}
+use Rattle.std.specs.Prelude.{◌≡◌, ℕ, zero, suc, ◌+◌, ◌<◌, ◌≤◌, ◌&&◌, Bool, List, [], ◌∷◌, codes, length}
 use Rattle.std.specs.Prelude.{drop, map, find, nat_eq, nat_le, Option, Some, None, if◌then◌else◌}
-use Rattle.std.specs.List.{AllByRecursion, concat}
+use Rattle.std.specs.List.{concat}
 use Rattle.acpi_tables.specs.Bytes.{bytes_at, number_at, Field, field, field_view}
 use Rattle.acpi_tables.specs.declared.faults.Bad.{Bad}
 use Rattle.acpi_tables.specs.declared.faults.Bad.TheVariants.{Short, MadtRecord as BadRecord}
@@ -79,55 +79,44 @@ said see (X2Apic id flags uid) = known "X2Apic" (id ∷ flags ∷ uid ∷ [])
 said see (X2Nmi flags uid lint) = known "X2Nmi" (flags ∷ uid ∷ lint ∷ [])
 said see (Other kind content) = Unknown kind (see content)
 
--- a whole record stands at this offset: its length is there and counts at least its first two bytes, and it lies within
--- the table
-pub record HoldsRecord (table : List ℕ) (at : ℕ) : Type 0 where
-  pub behind_fields : 44 ≤ at
-  pub header : at + 2 ≤ length table
-  pub covers : 2 ≤ number_at table (at + 1) 1
-  pub inside : at + number_at table (at + 1) 1 ≤ length table
-
--- the bytes of the record at this offset, and the offset behind it
+-- the bytes of the record at this offset, by its second byte, and the offset behind it
 abbrev pub record_bytes_at : List ℕ → ℕ → List ℕ
 record_bytes_at table at = bytes_at table at (number_at table (at + 1) 1)
 
 abbrev pub record_end : List ℕ → ℕ → ℕ
 record_end table at = at + number_at table (at + 1) 1
 
--- The cut of bytes into records: one after another they are the bytes, and the second byte of each is its length.
-pub record IsRecord (bytes : List ℕ) : Type 0 where
-  pub header : 2 ≤ length bytes
-  pub long : number_at bytes 1 1 ≡ length bytes
+-- a whole record stands there: its length counts at least its first two bytes, and it lies within the table
+pub record HoldsRecord (table : List ℕ) (at : ℕ) : Type 0 where
+  pub behind_fields : 44 ≤ at
+  pub covers : 2 ≤ number_at table (at + 1) 1
+  pub inside : record_end table at ≤ length table
 
-pub record IsCut (bytes : List ℕ) (records : List (List ℕ)) : Type 0 where
-  pub joined : bytes ≡ concat records
-  pub each : AllByRecursion IsRecord records
+abbrev pub is_whole : List ℕ → ℕ → Bool
+is_whole table at = nat_le 2 (number_at table (at + 1) 1) && nat_le (record_end table at) (length table)
 
--- The records as a function of the bytes: as many as are whole. There is at most one cut of bytes, and where there is
--- one this is it. The number bounds the steps, and the count of the bytes is always enough.
-abbrev pub begins_whole : List ℕ → Bool
-begins_whole bytes =
-    nat_le 2 (length bytes) && (nat_le 2 (number_at bytes 1 1) && nat_le (number_at bytes 1 1) (length bytes))
+-- The records from an offset on, one behind the other, as many as are whole. The number bounds the steps, and the count
+-- of the table's bytes is always enough.
+unfoldable pub records_from : ℕ → List ℕ → ℕ → List (List ℕ)
+records_from zero table at = []
+records_from (suc n) table at =
+    if is_whole table at then record_bytes_at table at ∷ records_from n table (record_end table at) else []
 
-unfoldable pub records_within : ℕ → List ℕ → List (List ℕ)
-records_within zero bytes = []
-records_within (suc n) bytes =
-    if begins_whole bytes
-    then take (number_at bytes 1 1) bytes ∷ records_within n (drop (number_at bytes 1 1) bytes) else []
+-- those of a MADT, and the offset behind them
+abbrev pub records_of : List ℕ → List (List ℕ)
+records_of table = records_from (length table) table 44
 
-unfoldable pub records_of : List ℕ → List (List ℕ)
-records_of table = records_within (length table) (drop 44 table)
+abbrev pub records_end : List ℕ → ℕ
+records_end table = 44 + length (concat (records_of table))
 
--- a table whose bytes from 44 on are cut into records
+-- a table whose bytes from 44 on are whole records
 pub record HoldsMadt (table : List ℕ) : Type 0 where
   pub header : 44 ≤ length table
-  pub cut : IsCut (drop 44 table) (records_of table)
+  pub whole : records_end table ≡ length table
 
 -- whole records stand up to this offset, and a broken one begins there
 pub record BreaksAt (table : List ℕ) (at : ℕ) : Type 0 where
-  pub behind_fields : 44 ≤ at
-  pub before : List (List ℕ)
-  pub whole : IsCut (bytes_at table 44 (at - 44)) before
+  pub before : records_end table ≡ at
   pub inside : at < length table
   pub broken : ¬ HoldsRecord table at
 

@@ -1,9 +1,12 @@
 -- The order in which the definition blocks of a set of dumps are loaded, and what each refusal of a set says of it.
-use Rattle.std.specs.Prelude.{◌≡◌, ℕ, ◌+◌, ◌-◌, ◌*◌, ◌<◌, ◌≤◌, ◌⊎◌, ◌&&◌, ⊤, not, Bool, true, false, List, [], ◌∷◌}
-use Rattle.std.specs.Prelude.{codes, length, take, map, reverse, filter, filter_map, find, position, take_while}
-use Rattle.std.specs.Prelude.{slice_get, slice_index_or, IsPermutation, IsSorted, is_some, nat_eq, nat_le, string_bytes}
-use Rattle.std.specs.Prelude.{Option, Some, None, option_and_then, MatchBool, if◌then◌else◌}
-use Rattle.std.specs.List.{before_last, list_any, range_with_len}
+use Rattle.std.specs.Prelude.{◌≡◌, ℕ, ◌<◌, ◌≤◌, ◌⊎◌, ◌&&◌, ⊤, not, Bool, true, false, List, [], ◌∷◌, ◌++◌, codes}
+use Rattle.std.specs.Prelude.{length, take, map, reverse, filter, filter_map, find, position, take_while, slice_get}
+use Rattle.std.specs.Prelude.{slice_index_or, nat_eq, nat_le, IsPermutation, IsSorted, string_bytes, if◌then◌else◌}
+use Rattle.std.specs.Prelude.{Option, Some, None, is_some, option_map, option_and_then, MatchBool}
+use Rattle.std.specs.Option.{option_eq, option_map_or}
+use Rattle.std.specs.Char.{is_ascii_digit}
+use Rattle.std.specs.Str.Parse.{digits_value}
+use Rattle.std.specs.List.{before_last, fold, list_any, range_with_len}
 use Rattle.std.specs.declared.cmp.Ordering.{Ordering}
 use Rattle.std.specs.Ordering.{then_cmp, on, nat_cmp}
 use Rattle.std.specs.Cmp.Lexicographic.{slice_cmp}
@@ -41,17 +44,13 @@ is_dot c = nat_eq c 46
 abbrev pub stem_of : List ℕ → List ℕ
 stem_of name = if nat_eq (length (before_last is_dot name)) 0 then name else before_last is_dot name
 
--- the number that decimal digits spell, the lowest digit first
-abbrev pub decimal_of : List ℕ → ℕ
-decimal_of [] = 0
-decimal_of (digit ∷ digits) = (digit - 48) + 10 * decimal_of digits
-
-abbrev pub is_digit : ℕ → Bool
-is_digit c = nat_le 48 c && nat_le c 57
+-- the last decimal digits of some bytes, at most so many
+abbrev pub ending_digits : ℕ → List ℕ → List ℕ
+ending_digits count bytes = reverse (take count (take_while is_ascii_digit (reverse bytes)))
 
 -- the number that ends the stem, of whose digits the last nine count
 unfoldable pub ending_number : List ℕ → ℕ
-ending_number name = decimal_of (take 9 (take_while is_digit (reverse (stem_of name))))
+ending_number name = digits_value 10 (ending_digits 9 (stem_of name))
 
 -- dumps by that number, then by their names as bytes, then by their indexes
 abbrev pub rank_cmp : List Dump → ℕ → ℕ → Ordering
@@ -71,12 +70,8 @@ abbrev pub is_addressed : List Dump → Bool
 is_addressed dumps = list_any (λ dump. is_some dump.address) dumps
 
 -- the first dump at an address
-abbrev pub is_address : ℕ → Option ℕ → Bool
-is_address address None = false
-is_address address (Some there) = nat_eq there address
-
 abbrev pub stands_at : ℕ → Dump → Bool
-stands_at address dump = is_address address dump.address
+stands_at address dump = option_eq nat_eq dump.address (Some address)
 
 unfoldable pub dump_at : List Dump → ℕ → Option ℕ
 dump_at dumps address = position (stands_at address) dumps
@@ -88,12 +83,11 @@ signed_at dumps signature address =
 
 -- the first RSDP
 unfoldable pub root_of : List Dump → Option ℕ
-root_of dumps = position (λ dump. begins_with dump.bytes.items (codes "RSD PTR ")) dumps
+root_of dumps = find (has_signature dumps (codes "RSD PTR ")) (range_with_len 0 (length dumps))
 
 -- the XSDT's address that an RSDP gives (section 5.2.5.3), from revision 2 on, and 0 where it gives none
 abbrev pub xsdt_address : Option Wide → ℕ
-xsdt_address None = 0
-xsdt_address (Some wide) = wide.xsdt
+xsdt_address wide = option_map_or (λ w. w.xsdt) wide 0
 
 -- the list of the tables that an RSDP leads to: the XSDT where it gives that address, else the RSDT
 abbrev pub list_of : List Dump → Rsdp → Option ℕ
@@ -101,24 +95,25 @@ list_of dumps root =
     if nat_eq (xsdt_address root.wide) 0 then signed_at dumps (codes "RSDT") root.rsdt
     else signed_at dumps (codes "XSDT") (xsdt_address root.wide)
 
--- The first RSDP leads to the list.
-pub record LeadsToList (dumps : List Dump) (root list : ℕ) : Type 0 where
-  pub first : root_of dumps ≡ Some root
-  pub there : list_of dumps (rsdp_of (bytes_of dumps root)) ≡ Some list
-
 -- how many bytes an address has in such a list
 abbrev pub width_of : List ℕ → ℕ
 width_of list = if begins_with list (codes "XSDT") then 8 else 4
 
--- the dumps that it lists, in its order; an entry with no dump is skipped
+-- each number where it stands first
+abbrev pub with_more : List ℕ → ℕ → List ℕ
+with_more xs x = if list_any (λ y. nat_eq y x) xs then xs else xs ++ x ∷ []
+
+abbrev pub each_once : List ℕ → List ℕ
+each_once = fold with_more []
+
+-- the dumps at some addresses; an address with no dump is skipped
+abbrev pub listed_in : List Dump → List ℕ → List ℕ
+listed_in dumps addresses = each_once (filter_map (dump_at dumps) addresses)
+
+-- those that a list gives, in its order
 abbrev pub listed_by : List Dump → ℕ → List ℕ
 listed_by dumps list =
-    filter_map (dump_at dumps) (addresses_of (width_of (bytes_of dumps list)) (table_of (bytes_of dumps list)))
-
--- The first of these that is a FADT.
-pub record LeadsToFadt (dumps : List Dump) (root list fadt : ℕ) : Type 0 where
-  pub to_list : LeadsToList dumps root list
-  pub first : find (has_signature dumps (codes "FACP")) (listed_by dumps list) ≡ Some fadt
+    listed_in dumps (addresses_of (width_of (bytes_of dumps list)) (table_of (bytes_of dumps list)))
 
 -- the DSDT's address in a FADT: X_DSDT where the table reaches to its end and it isn't 0, else DSDT
 abbrev pub dsdt_address : List ℕ → ℕ
@@ -126,19 +121,28 @@ dsdt_address table =
     if nat_le 148 (length table) && not (nat_eq (number_at table 140 8) 0) then number_at table 140 8
     else number_at table 40 4
 
--- each number where it stands first
-abbrev pub each_once : List ℕ → List ℕ
-each_once [] = []
-each_once (x ∷ xs) = x ∷ filter (λ y. not (nat_eq y x)) (each_once xs)
+-- The chain: the list that the first RSDP leads to, the first FADT that it lists, the DSDT whose address that FADT
+-- gives, and the SSDTs that are listed.
+abbrev pub list_in : List Dump → Option ℕ
+list_in dumps = option_and_then (λ root. list_of dumps (rsdp_of (bytes_of dumps root))) (root_of dumps)
 
--- The FADT gives the address of the DSDT, and the SSDTs are those that the list has, each once.
+abbrev pub fadt_in : List Dump → Option ℕ
+fadt_in dumps =
+    option_and_then (λ list. find (has_signature dumps (codes "FACP")) (listed_by dumps list)) (list_in dumps)
+
+abbrev pub dsdt_of : List Dump → ℕ → Option ℕ
+dsdt_of dumps fadt = signed_at dumps (codes "DSDT") (dsdt_address (table_of (bytes_of dumps fadt)))
+
+abbrev pub dsdt_in : List Dump → Option ℕ
+dsdt_in dumps = option_and_then (dsdt_of dumps) (fadt_in dumps)
+
+abbrev pub ssdts_in : List Dump → Option (List ℕ)
+ssdts_in dumps =
+    option_map (λ list. filter (has_signature dumps (codes "SSDT")) (listed_by dumps list)) (list_in dumps)
+
 pub record IsChained (dumps : List Dump) (dsdt : ℕ) (ssdts : List ℕ) : Type 0 where
-  pub root : ℕ
-  pub list : ℕ
-  pub fadt : ℕ
-  pub to_fadt : LeadsToFadt dumps root list fadt
-  pub there : signed_at dumps (codes "DSDT") (dsdt_address (table_of (bytes_of dumps fadt))) ≡ Some dsdt
-  pub listed : ssdts ≡ each_once (filter (has_signature dumps (codes "SSDT")) (listed_by dumps list))
+  pub there : dsdt_in dumps ≡ Some dsdt
+  pub listed : ssdts_in dumps ≡ Some ssdts
 
 -- Each dump is taken by itself.
 abbrev pub AreTaken : List Dump → Bool → Type 0
@@ -160,33 +164,18 @@ AreTables dumps [] = ⊤
 AreTables dumps (index ∷ indexes) =
     HoldsTable (bytes_of dumps index) × (length (bytes_of dumps index) ≤ most_bytes) × AreTables dumps indexes
 
--- The chain ends at a list without a FADT, or at a FADT whose address leads to no DSDT.
-pub record LacksFadt (dumps : List Dump) (list : ℕ) : Type 0 where
-  pub root : ℕ
-  pub to_list : LeadsToList dumps root list
-  pub none : find (has_signature dumps (codes "FACP")) (listed_by dumps list) ≡ None
-
-pub record LacksDsdt (dumps : List Dump) : Type 0 where
-  pub root : ℕ
-  pub list : ℕ
-  pub fadt : ℕ
-  pub to_fadt : LeadsToFadt dumps root list fadt
-  pub none : signed_at dumps (codes "DSDT") (dsdt_address (table_of (bytes_of dumps fadt))) ≡ None
-
 -- Why there is no order of dumps that are all taken: what a refusal says where it names no dump, and of the place of
 -- the dump that it names.
 abbrev pub RefusesOrder : List Dump → Option ℕ → Bad → Type 0
-RefusesOrder dumps None RootMissing = (is_addressed dumps ≡ true) × (root_of dumps ≡ None)
-RefusesOrder dumps (Some index) RootMissing =
-    (is_addressed dumps ≡ true) × (root_of dumps ≡ Some index)
-    × (list_of dumps (rsdp_of (bytes_of dumps index)) ≡ None)
-RefusesOrder dumps (Some index) FadtMissing = (is_addressed dumps ≡ true) × LacksFadt dumps index
-RefusesOrder dumps None NoDsdt =
-    ((is_addressed dumps ≡ false) × (indexes_with dumps (codes "DSDT") ≡ []))
-    ⊎ ((is_addressed dumps ≡ true) × LacksDsdt dumps)
-RefusesOrder dumps (Some index) TwoDsdts =
-    (is_addressed dumps ≡ false) × (slice_get (indexes_with dumps (codes "DSDT")) 1 ≡ Some index)
-RefusesOrder dumps _ _ = ⊥
+RefusesOrder dumps place RootMissing = (is_addressed dumps ≡ true) × (root_of dumps ≡ place) × (list_in dumps ≡ None)
+RefusesOrder dumps place FadtMissing =
+    (is_addressed dumps ≡ true) × (is_some place ≡ true) × (list_in dumps ≡ place) × (fadt_in dumps ≡ None)
+RefusesOrder dumps place NoDsdt = (place ≡ None)
+    × (((is_addressed dumps ≡ false) × (indexes_with dumps (codes "DSDT") ≡ []))
+    ⊎ ((is_addressed dumps ≡ true) × (is_some (fadt_in dumps) ≡ true) × (dsdt_in dumps ≡ None)))
+RefusesOrder dumps place TwoDsdts =
+    (is_addressed dumps ≡ false) × (is_some place ≡ true) × (slice_get (indexes_with dumps (codes "DSDT")) 1 ≡ place)
+RefusesOrder dumps place _ = ⊥
 
 -- It names the first dump that isn't taken, and says why.
 pub record RefusesBytes (dumps : List Dump) (any_sum : Bool) (fault : TableFault) : Type 0 where

@@ -7,7 +7,7 @@ ghost use Rattle.acpi_tables.specs.declared.faults.Bad.TheVariants.{BadRoot, NoM
 use crate::bytes::little_endian;
 use crate::faults::Bad;
 use crate::header::HEADER_LENGTH;
-use std::alloc::Global;
+use std::alloc::{AllocError, Global};
 
 /// How many bytes an address of an RSDT has.
 pub const RSDT_WIDTH: usize = 4;
@@ -75,15 +75,25 @@ fn addresses_of(alloc: Global, table: &[u8], width: usize) -> Result<Vec<u64>, B
         ((bad ≡ BadRoot) × ¬ HoldsAddresses width table.now)) }
 {
     check_addresses(table, width)?;
-    let count = address_count(table, width);
-    let mut addresses = Vec::with_capacity(alloc, count)?;
-    for index in 0..count {
-        addresses.push(address_at(table, width, index))?;
-    }
+    let addresses = all_addresses(alloc, table, width)?;
     Ok(addresses)
 }
 
+/// The addresses of this width of a table that is cut into them.
+#[tactic(auto, unfolding(crate::specs::Header::addresses_of))]
+fn all_addresses(alloc: Global, table: &[u8], width: usize) -> Result<Vec<u64>, AllocError>
+    requires some { 0 < width }
+    requires narrow { width ≤ 8 }
+    requires holds { HoldsAddresses width table.now }
+    ensures { IfOk result (λ addresses. addresses.items ≡ addresses_of width table.now) }
+{
+    (0..address_count(table, width))
+        .map(|index| address_at(table, width, index))
+        .collect(alloc)
+}
+
 /// The address of this width at this index, if the table lists one there.
+#[tactic(auto, using(crate::proofs::Cells::cells))]
 fn address_in(table: &[u8], width: usize, index: usize) -> Option<u64>
     requires some { 0 < width }
     requires narrow { width ≤ 8 }

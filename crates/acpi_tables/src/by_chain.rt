@@ -1,9 +1,10 @@
 //! The order of the definition blocks where addresses lead from the RSDP over the XSDT or RSDT and the FADT to a DSDT.
-ghost use Rattle.std.specs.Prelude.{◌≡◌, ◌⊎◌, ◌<◌, ◌≤◌, ℕ, List, None, true, false, length, filter, filter_map, find, codes, IfOk, IfErr};
-ghost use Rattle.acpi_tables.specs.Bytes.{begins_with as has_front};
+ghost use Rattle.std.specs.Prelude.{◌≡◌, ◌⊎◌, ◌<◌, ◌≤◌, None, true, filter, find, IfOk, IfErr};
 ghost use Rattle.acpi_tables.specs.Header.{HoldsTable, table_of, HoldsAddresses, addresses_of};
 ghost use Rattle.acpi_tables.specs.Fadt.{HoldsFadt};
-ghost use Rattle.acpi_tables.specs.Order.{AreTaken, IsChained, RefusesOrder, bytes_of, dump_at, signed_at, root_of, xsdt_address, list_of, width_of, listed_by, dsdt_address, each_once, has_signature, is_addressed};
+ghost use Rattle.acpi_tables.specs.Order.{AreTaken, IsChained, RefusesOrder, bytes_of, dump_at, signed_at, root_of};
+ghost use Rattle.acpi_tables.specs.Order.{xsdt_address, list_of, list_in, width_of, listed_by, dsdt_of, dsdt_address};
+ghost use Rattle.acpi_tables.specs.Order.{listed_in, has_signature, is_addressed};
 ghost use Rattle.acpi_tables.specs.declared.faults.Bad.TheVariants.{NoMemory};
 
 use crate::addresses::{RSDT_WIDTH, XSDT_WIDTH, address_at, address_count};
@@ -23,21 +24,17 @@ pub(crate) fn order_by_chain(alloc: Global, dumps: &[Dump]) -> Result<Order, Tab
     ensures refused { IfErr result (λ fault. (fault ≡ record { dump = None; bad = NoMemory }) ⊎
         RefusesOrder dumps.now fault.dump fault.bad) }
 {
-    let Some(root) = root_of(dumps) else {
-        return Err(TableFault::of_set(Bad::RootMissing));
-    };
-    let Some(list) = list_of(dumps, &Rsdp::of(bytes_of(dumps, root))) else {
-        return Err(TableFault::of_dump(root, Bad::RootMissing));
+    let Some(list) = list_in(dumps) else {
+        return Err(TableFault {
+            dump: root_of(dumps),
+            bad: Bad::RootMissing,
+        });
     };
     let listed = listed_by(alloc, dumps, list)?;
     let Some(fadt) = first_with(dumps, &listed, b"FACP") else {
         return Err(TableFault::of_dump(list, Bad::FadtMissing));
     };
-    let Some(dsdt) = signed_at(
-        dumps,
-        b"DSDT",
-        dsdt_address(table_of(bytes_of(dumps, fadt))),
-    ) else {
+    let Some(dsdt) = dsdt_of(dumps, fadt) else {
         return Err(TableFault::of_set(Bad::NoDsdt));
     };
     Ok(Order {
@@ -47,6 +44,7 @@ pub(crate) fn order_by_chain(alloc: Global, dumps: &[Dump]) -> Result<Order, Tab
 }
 
 /// The bytes of the dump at this index, and none past the last.
+#[tactic(auto, using(crate::proofs::Places::parts), unfolding(crate::specs::Order::bytes_of))]
 pub fn bytes_of(dumps: &[Dump], index: usize) -> &[u8]
     ensures { result.now ≡ bytes_of dumps.now index }
 {
@@ -56,14 +54,28 @@ pub fn bytes_of(dumps: &[Dump], index: usize) -> &[u8]
     }
 }
 
+/// Whether the dump at this index has this signature.
+pub(crate) fn has_signature(dumps: &[Dump], index: usize, signature: &[u8]) -> bool
+    ensures { result ≡ has_signature dumps.now signature.now index }
+{
+    begins_with(bytes_of(dumps, index), signature)
+}
+
 /// The first RSDP.
 #[tactic(auto, unfolding(crate::specs::Order::root_of))]
 fn root_of(dumps: &[Dump]) -> Option<usize>
     ensures { result ≡ root_of dumps.now }
 {
-    dumps
-        .iter()
-        .position(|dump| dump.has_signature(&RSDP_SIGNATURE))
+    (0..dumps.len()).find(|index| has_signature(dumps, *index, &RSDP_SIGNATURE))
+}
+
+/// The list of the tables that the first RSDP leads to.
+fn list_in(dumps: &[Dump]) -> Option<usize>
+    requires { AreTaken dumps.now true }
+    ensures { result ≡ list_in dumps.now }
+{
+    let root = root_of(dumps)?;
+    list_of(dumps, &Rsdp::of(bytes_of(dumps, root)))
 }
 
 /// The XSDT that an RSDP leads to, or else the RSDT.
@@ -82,10 +94,7 @@ fn list_of(dumps: &[Dump], root: &Rsdp) -> Option<usize>
 fn xsdt_address(wide: Option<Wide>) -> u64
     ensures { result ≡ xsdt_address wide }
 {
-    match wide {
-        Some(wide) => wide.xsdt,
-        None => 0,
-    }
+    wide.map_or(0, |wide| wide.xsdt)
 }
 
 /// The index of the first dump that stood at this address.
@@ -101,14 +110,14 @@ fn signed_at(dumps: &[Dump], signature: &[u8], address: u64) -> Option<usize>
     ensures { result ≡ signed_at dumps.now signature.now address }
 {
     let index = dump_at(dumps, address)?;
-    if begins_with(bytes_of(dumps, index), signature) {
+    if has_signature(dumps, index, signature) {
         Some(index)
     } else {
         None
     }
 }
 
-/// The dumps that an XSDT or an RSDT lists, in its order.
+/// The dumps that an XSDT or an RSDT lists, in its order, each where it stands first.
 fn listed_by(alloc: Global, dumps: &[Dump], list: usize) -> Result<Vec<usize>, AllocError>
     requires table { HoldsTable (bytes_of dumps.now list) }
     requires holds { HoldsAddresses (width_of (bytes_of dumps.now list)) (table_of (bytes_of dumps.now list)) }
@@ -139,12 +148,14 @@ fn listed_in(
     requires some { 0 < width }
     requires narrow { width ≤ 8 }
     requires holds { HoldsAddresses width table.now }
-    ensures { IfOk result (λ listed. listed.items ≡ filter_map (dump_at dumps.now) (addresses_of width table.now)) }
+    ensures { IfOk result (λ listed. listed.items ≡ listed_in dumps.now (addresses_of width table.now)) }
 {
     let mut listed = Vec::new(alloc);
     for index in 0..address_count(table, width) {
         if let Some(dump) = dump_at(dumps, address_at(table, width, index)) {
-            listed.push(dump)?;
+            if !listed.contains(&dump) {
+                listed.push(dump)?;
+            }
         }
     }
     Ok(listed)
@@ -157,7 +168,20 @@ fn first_with(dumps: &[Dump], listed: &[usize], signature: &[u8]) -> Option<usiz
     listed
         .iter()
         .copied()
-        .find(|index| begins_with(bytes_of(dumps, *index), signature))
+        .find(|index| has_signature(dumps, *index, signature))
+}
+
+/// The DSDT whose address a FADT gives.
+fn dsdt_of(dumps: &[Dump], fadt: usize) -> Option<usize>
+    requires table { HoldsTable (bytes_of dumps.now fadt) }
+    requires holds { HoldsFadt (table_of (bytes_of dumps.now fadt)) }
+    ensures { result ≡ dsdt_of dumps.now fadt }
+{
+    signed_at(
+        dumps,
+        b"DSDT",
+        dsdt_address(table_of(bytes_of(dumps, fadt))),
+    )
 }
 
 /// The DSDT's address in a FADT.
@@ -174,21 +198,18 @@ fn dsdt_address(table: &[u8]) -> u64
     u64::from(u32_at(table, DSDT_AT))
 }
 
-/// Those of these dumps that have this signature, each where it stands first.
+/// Those of these dumps that have this signature.
 fn each_with(
     alloc: Global,
     dumps: &[Dump],
     listed: &[usize],
     signature: &[u8],
 ) -> Result<Vec<usize>, AllocError>
-    ensures { IfOk result (λ found. found.items
-        ≡ each_once (filter (has_signature dumps.now signature.now) listed.now)) }
+    ensures { IfOk result (λ found. found.items ≡ filter (has_signature dumps.now signature.now) listed.now) }
 {
-    let mut found = Vec::new(alloc);
-    for index in listed {
-        if begins_with(bytes_of(dumps, *index), signature) && !found.contains(index) {
-            found.push(*index)?;
-        }
-    }
-    Ok(found)
+    listed
+        .iter()
+        .copied()
+        .filter(|index| has_signature(dumps, *index, signature))
+        .collect(alloc)
 }

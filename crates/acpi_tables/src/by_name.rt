@@ -1,10 +1,13 @@
 //! The order of the definition blocks where no addresses are known, and the names of the files decide.
-ghost use Rattle.std.specs.Prelude.{◌≡◌, ◌⊎◌, ◌<◌, ◌^◌, None, false, take, reverse};
-ghost use Rattle.std.specs.Prelude.{take_while, IfOk, IfErr, IsPermutation, IsSorted};
+ghost use Rattle.std.specs.Prelude.{◌≡◌, ◌⊎◌, ◌<◌, ◌^◌, None, false, IfOk, IfErr, IfSome};
+ghost use Rattle.std.specs.Prelude.{IsPermutation, IsSorted, length, position, reverse};
+ghost use Rattle.std.specs.List.{before_last};
+ghost use Rattle.std.specs.Str.Parse.{digits_value};
 ghost use Rattle.acpi_tables.specs.Order.{IsNamed, RefusesOrder, indexes_with, name_of, rank_cmp};
-ghost use Rattle.acpi_tables.specs.Order.{stem_of, ending_number, decimal_of, is_digit, is_addressed};
+ghost use Rattle.acpi_tables.specs.Order.{is_dot, stem_of, ending_number, ending_digits, is_addressed};
 ghost use Rattle.acpi_tables.specs.declared.faults.Bad.TheVariants.{NoMemory};
 
+use crate::by_chain::has_signature;
 use crate::dump::Dump;
 use crate::faults::{Bad, TableFault};
 use crate::order::Order;
@@ -33,16 +36,13 @@ pub(crate) fn order_by_name(alloc: Global, dumps: &[Dump]) -> Result<Order, Tabl
 }
 
 /// The indexes of the dumps with this signature.
+#[tactic(auto, unfolding(crate::specs::Order::indexes_with))]
 fn indexes_with(alloc: Global, dumps: &[Dump], signature: &[u8]) -> Result<Vec<usize>, AllocError>
     ensures { IfOk result (λ indexes. indexes.items ≡ indexes_with dumps.now signature.now) }
 {
-    let mut indexes = Vec::new(alloc);
-    for (index, dump) in dumps.iter().enumerate() {
-        if dump.has_signature(signature) {
-            indexes.push(index)?;
-        }
-    }
-    Ok(indexes)
+    (0..dumps.len())
+        .filter(|index| has_signature(dumps, *index, signature))
+        .collect(alloc)
 }
 
 /// Compares two dumps by the number that ends the stem of their name, then by name, then by index.
@@ -55,6 +55,7 @@ fn compare(dumps: &[Dump], a: usize, b: usize) -> Ordering
 }
 
 /// The name of the dump at this index, and an empty one past the last.
+#[tactic(auto, using(crate::proofs::Places::parts), unfolding(crate::specs::Order::name_of))]
 pub fn name_of(dumps: &[Dump], index: usize) -> &[u8]
     ensures { result.now ≡ name_of dumps.now index }
 {
@@ -65,6 +66,7 @@ pub fn name_of(dumps: &[Dump], index: usize) -> &[u8]
 }
 
 /// The decimal number that ends the stem of this name, of whose digits the last nine count.
+#[tactic(auto, unfolding(crate::specs::Order::ending_number))]
 fn ending_number(name: &[u8]) -> u32
     ensures { result ≡ ending_number name.now }
 {
@@ -75,19 +77,33 @@ fn ending_number(name: &[u8]) -> u32
 fn stem_of(name: &[u8]) -> &[u8]
     ensures { result.now ≡ stem_of name.now }
 {
-    for dot in (1..name.len()).rev() {
-        if name[dot] == b'.' {
-            return &name[..dot];
-        }
+    let stem = before_last_dot(name);
+    if stem.is_empty() { name } else { stem }
+}
+
+/// What stands before the last dot, and nothing if there is none.
+fn before_last_dot(name: &[u8]) -> &[u8]
+    ensures { result.now ≡ before_last is_dot name.now }
+{
+    match after_last_dot(name) {
+        Some(after) => &name[..name.len() - after - 1],
+        None => &[],
     }
-    name
+}
+
+/// How many bytes stand after the last dot.
+fn after_last_dot(name: &[u8]) -> Option<usize>
+    ensures after { result ≡ position is_dot (reverse name.now) }
+    ensures inside { IfSome result (λ after. after < length name.now) }
+{
+    name.iter().rev().position(|byte| *byte == b'.')
 }
 
 /// The number that the digits at the end of these bytes spell, of which at most this many count.
 fn ending_digits(bytes: &[u8], count: u8) -> u32
     requires { count < 10 }
     ensures bound { result < 10 ^ count }
-    ensures value { result ≡ decimal_of (take count (take_while is_digit (reverse bytes.now))) }
+    ensures value { result ≡ digits_value 10 (ending_digits count bytes.now) }
 {
     if count == 0 {
         return 0;

@@ -29,15 +29,7 @@ pub struct Dump {
 }
 
 impl Dump {
-    ghost use Rattle.acpi_tables.specs.Bytes.{begins_with};
     ghost use Rattle.acpi_tables.specs.Order.{stands_at};
-
-    /// Whether the bytes begin with this signature.
-    pub(crate) fn has_signature(&self, signature: &[u8]) -> bool
-        ensures { result ≡ begins_with self.now.bytes.items signature.now }
-    {
-        begins_with(&self.bytes, signature)
-    }
 
     /// Whether the table stood at this address.
     pub(crate) fn stands_at(&self, address: u64) -> bool

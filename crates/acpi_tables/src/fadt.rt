@@ -58,6 +58,7 @@ impl Fadt {
     ghost use Rattle.acpi_tables.specs.Fadt.{HoldsFadt, fadt_fields, fadt_values};
 
     /// The fields of a FADT. `table` is the first Length bytes of a dump.
+    #[tactic(auto, using(crate::proofs::Values::values), unfolding(crate::specs::Bytes::value_in))]
     ///
     /// # Errors
     /// `Bad::FadtShort` below 116 bytes.

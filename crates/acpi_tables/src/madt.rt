@@ -263,6 +263,7 @@ impl Madt {
     }
 
     /// The bytes of the record at offset `at` of the table, and `None` where `record_at` is.
+    #[tactic(auto, unfolding(crate::specs::Bytes::bytes_at))]
     pub fn record_bytes(table: &[u8], at: usize) -> Option<&[u8]>
         ensures holds { IsSome result ↔ HoldsRecord table.now at }
         ensures bytes { IfSome result (λ bytes. bytes.now ≡ record_bytes_at table.now at) }

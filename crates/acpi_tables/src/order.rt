@@ -70,6 +70,7 @@ fn find_order(alloc: Global, dumps: &[Dump]) -> Result<Order, TableFault>
 }
 
 /// Whether each dump is taken by itself, and else the first that isn't.
+#[tactic(auto, using(crate::proofs::Places::inside))]
 fn check_dumps(dumps: &[Dump], any_sum: bool) -> Result<(), TableFault>
     ensures taken { OnOk result (AreTaken dumps.now any_sum) }
     ensures refused { IfErr result (RefusesBytes dumps.now any_sum) }

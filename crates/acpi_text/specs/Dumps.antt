@@ -1,6 +1,6 @@
 -- The first part of a listing: what it says of each dump. The fields are those of ACPI 6.5, sections 5.2.5 to 5.2.12.
-use Rattle.std.specs.Prelude.{ℕ, Bool, true, false, nat_eq, if◌then◌else◌, decimal, codes, List, [], ◌++◌, flat_map}
-use Rattle.std.specs.Prelude.{map, drop, reverse, length, Option, Some, None, option_map, string_bytes}
+use Rattle.std.specs.Prelude.{ℕ, Bool, nat_eq, if◌then◌else◌, decimal, codes, List, [], ◌++◌, flat_map, map, drop}
+use Rattle.std.specs.Prelude.{reverse, length, Option, Some, None, option_map, unwrap_or, string_bytes}
 use Rattle.std.specs.List.{range_with_len}
 use Rattle.acpi_tables.specs.Bytes.{little_endian, number_at, Field, field_bytes}
 use Rattle.acpi_tables.specs.Header.{table_of, header_of, rsdp_of, address_bytes, address_count}
@@ -23,12 +23,15 @@ use Rattle.text_writer.specs.Prints.{word, hex2, hex8, hex16, quoted}
 abbrev pub below : List ℕ → List ℕ
 below text = word "  " ++ text ++ word "\n"
 
+-- what may be absent, and is nothing then
+abbrev pub if_there : {X : Type 0} → (X → List ℕ) → Option X → List ℕ
+if_there text x = unwrap_or (option_map text x) []
+
 -- ---- the line of a dump. Each definition quotes what it gives.
 
 -- ` Length N Xsdt XXXXXXXXXXXXXXXX`, which revision 2 added to the RSDP
-abbrev pub wide_text : Option Wide → List ℕ
-wide_text None = []
-wide_text (Some w) = (word " Length " ++ decimal w.length) ++ (word " Xsdt " ++ hex16 w.xsdt)
+abbrev pub wide_text : Wide → List ℕ
+wide_text w = (word " Length " ++ decimal w.length) ++ (word " Xsdt " ++ hex16 w.xsdt)
 
 -- ` Oem "OEMID" Revision N Rsdt XXXXXXXX`, and what revision 2 added
 unfoldable pub root_text : Rsdp → List ℕ
@@ -36,11 +39,7 @@ root_text r =
     (word " Oem " ++ quoted r.oem)
     ++ (word " Revision " ++ decimal r.revision)
     ++ (word " Rsdt " ++ hex8 r.rsdt)
-    ++ wide_text r.wide
-
--- ` "FACS" Length N`
-abbrev pub facs_text : ℕ → List ℕ
-facs_text length = (word " " ++ quoted (codes "FACS")) ++ (word " Length " ++ decimal length)
+    ++ if_there wide_text r.wide
 
 -- ` "SIGN" Length N Revision N Oem "OEMID" "OEMTABLE" XXXXXXXX Creator "CREA" XXXXXXXX`
 unfoldable pub header_text : Header → List ℕ
@@ -54,42 +53,34 @@ header_text h =
     ++ (word " Creator " ++ quoted h.creator_id)
     ++ (word " " ++ hex8 h.creator_revision)
 
--- `Root "FILE"` or `Table "FILE"`, and one of these
+-- `Root "FILE"` or `Table "FILE"`, and one of these; of a FACS ` "FACS" Length N`
 abbrev pub head_by : Kind → List ℕ → List ℕ → List ℕ
 head_by Root name bytes = (word "Root " ++ quoted name) ++ root_text (rsdp_of bytes)
-head_by Facs name bytes = (word "Table " ++ quoted name) ++ facs_text (number_at bytes 4 4)
+head_by Facs name bytes = (word "Table " ++ quoted name)
+    ++ ((word " " ++ quoted (codes "FACS")) ++ (word " Length " ++ decimal (number_at bytes 4 4)))
 head_by (Standard content) name bytes = (word "Table " ++ quoted name) ++ header_text (header_of bytes)
 
 -- ` At XXXXXXXXXXXXXXXX`, where the address is known
 abbrev pub address_text : Option ℕ → List ℕ
-address_text None = []
-address_text (Some address) = word " At " ++ hex16 address
+address_text address = if_there (λ a. word " At " ++ hex16 a) address
 
 -- ` BadSum`, where a checksum is wrong
 abbrev pub sum_text : Bool → List ℕ
-sum_text true = []
-sum_text false = word " BadSum"
-
-abbrev pub end_text : Option ℕ → Bool → List ℕ
-end_text address holds = address_text address ++ sum_text holds ++ word "\n"
+sum_text holds = if holds then [] else word " BadSum"
 
 unfoldable pub line_by : Kind → Dump → List ℕ
-line_by kind d = head_by kind (string_bytes d.name) d.bytes.items ++ end_text d.address (sums_hold kind d.bytes.items)
+line_by kind d = head_by kind (string_bytes d.name) d.bytes.items
+    ++ (address_text d.address ++ sum_text (sums_hold kind d.bytes.items) ++ word "\n")
 
 -- ---- the lines below it
 
 -- ` "FILE"`: the first dump at an address, where there is one
-abbrev pub owner_of : List Dump → ℕ → Option (List ℕ)
-owner_of dumps address = option_map (name_of dumps) (dump_at dumps address)
+abbrev pub owner_text : List Dump → ℕ → List ℕ
+owner_text dumps address = if_there (λ i. word " " ++ quoted (name_of dumps i)) (dump_at dumps address)
 
-abbrev pub owner_text : Option (List ℕ) → List ℕ
-owner_text None = []
-owner_text (Some name) = word " " ++ quoted name
-
--- `  Entry XXXXXXXX "FILE"`: an address of an RSDT, and of an XSDT with 16 digits
+-- `Entry XXXXXXXX "FILE"`: an address of an RSDT, and of an XSDT with 16 digits
 unfoldable pub entry_text : List Dump → List ℕ → List ℕ
-entry_text dumps bytes =
-    word "Entry " ++ flat_map hex2 (reverse bytes) ++ owner_text (owner_of dumps (little_endian bytes))
+entry_text dumps bytes = word "Entry " ++ flat_map hex2 (reverse bytes) ++ owner_text dumps (little_endian bytes)
 
 abbrev pub entry_line : List Dump → List ℕ → List ℕ
 entry_line dumps bytes = below (entry_text dumps bytes)
@@ -112,18 +103,11 @@ labelled f bytes = label_text f.label ++ value_text f.base bytes
 
 -- the fields that the bytes reach to, each between these words: a line of a FADT for each, `  LABEL XX`, or those of a
 -- record of a MADT behind its name, ` LABEL N LABEL XX ..`
-abbrev pub field_by : List ℕ → List ℕ → Field → Option (List ℕ) → List ℕ
-field_by before behind f None = []
-field_by before behind f (Some bytes) = before ++ labelled f bytes ++ behind
-
 abbrev pub field_text : List ℕ → List ℕ → List ℕ → Field → List ℕ
-field_text before behind bytes f = field_by before behind f (field_bytes bytes f)
+field_text before behind bytes f = if_there (λ value. before ++ labelled f value ++ behind) (field_bytes bytes f)
 
 unfoldable pub fields_text : List ℕ → List ℕ → List ℕ → List Field → List ℕ
 fields_text before behind bytes fields = flat_map (field_text before behind bytes) fields
-
-abbrev pub fadt_lines : List ℕ → List ℕ
-fadt_lines table = fields_text (word "  ") (word "\n") table fadt_fields
 
 -- ` XX`
 unfoldable pub spaced_byte : ℕ → List ℕ
@@ -144,20 +128,16 @@ record_text_by (Some r) bytes = r.name ++ fields_text (word " ") [] bytes r.fiel
 abbrev pub record_line : List ℕ → List ℕ
 record_line bytes = below (record_text_by (row_of bytes) bytes)
 
--- `Controller XXXXXXXX Flags XXXXXXXX`
-unfoldable pub controller_text : List ℕ → List ℕ
-controller_text table =
-    (word "Controller " ++ hex8 (number_at table 36 4)) ++ (word " Flags " ++ hex8 (number_at table 40 4))
-
--- the first line below a MADT, and one for each record
+-- `  Controller XXXXXXXX Flags XXXXXXXX` below a MADT, and a line for each record
 unfoldable pub madt_lines : List ℕ → List ℕ
-madt_lines table = below (controller_text table) ++ flat_map record_line (records_of table)
+madt_lines table = (word "  Controller " ++ hex8 (number_at table 36 4))
+    ++ (word " Flags " ++ hex8 (number_at table 40 4)) ++ word "\n" ++ flat_map record_line (records_of table)
 
 -- the lines below that of a dump
 abbrev pub lines_by : Kind → List Dump → List ℕ → List ℕ
 lines_by (Standard Xsdt) dumps bytes = entry_lines dumps 8 (table_of bytes)
 lines_by (Standard Rsdt) dumps bytes = entry_lines dumps 4 (table_of bytes)
-lines_by (Standard Fadt) dumps bytes = fadt_lines (table_of bytes)
+lines_by (Standard Fadt) dumps bytes = fields_text (word "  ") (word "\n") (table_of bytes) fadt_fields
 lines_by (Standard Madt) dumps bytes = madt_lines (table_of bytes)
 lines_by _ dumps bytes = []
 

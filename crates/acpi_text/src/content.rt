@@ -1,34 +1,23 @@
-//! The lines below a table: the addresses of an XSDT or an RSDT, and the fields of a FADT.
+//! The lines below an XSDT or an RSDT: its addresses.
 #![tactic(auto, using(text_writer::proofs::PrintLaws::straight), unfolding(crate::specs::Dumps::entry_text))]
 
-ghost use Rattle.std.specs.Prelude.{◌≡◌, ◌<◌, ◌≤◌, length, option_map};
+ghost use Rattle.std.specs.Prelude.{◌<◌, ◌≤◌, length};
 ghost use Rattle.text_writer.specs.Prints.{Prints};
 ghost use Rattle.acpi_tables.specs.Header.{HoldsAddresses};
-ghost use Rattle.acpi_text.specs.Dumps.{owner_text, owner_of, entry_text, entry_line, entry_lines, fadt_lines};
+ghost use Rattle.acpi_text.specs.Dumps.{owner_text, entry_text, entry_line, entry_lines};
 
-use crate::fields::{print_fields, print_reversed};
+use crate::fields::print_reversed;
 use crate::labels::put_quoted;
-use acpi_tables::{
-    Dump, TableField, address_bytes, address_count, dump_at, little_endian, name_of,
-};
+use acpi_tables::{Dump, address_bytes, address_count, dump_at, little_endian, name_of};
 use std::io::Write;
 use text_writer::Out;
 
-/// The name of the dump at an address.
-fn owner_of(dumps: &[Dump], address: u64) -> Option<&[u8]>
-    ensures { option_map (λ name. name.now) result ≡ owner_of dumps.now address }
-{
-    match dump_at(dumps, address) {
-        None => None,
-        Some(index) => Some(name_of(dumps, index)),
-    }
-}
-
+/// The name of the first dump at an address, where there is one.
 fn print_owner<W: Write>(out: &mut Out<'_, W>, dumps: &[Dump], address: u64)
-    ensures { Prints W.contents out.old out.new (owner_text (owner_of dumps.now address)) }
+    ensures { Prints W.contents out.old out.new (owner_text dumps.now address) }
 {
-    if let Some(name) = owner_of(dumps, address) {
-        put_quoted(out, b" ", name);
+    if let Some(index) = dump_at(dumps, address) {
+        put_quoted(out, b" ", name_of(dumps, index));
     }
 }
 
@@ -66,11 +55,4 @@ pub(crate) fn print_entries<W: Write>(
     for index in 0..address_count(table, width) {
         print_entry(out, dumps, address_bytes(table, width, index));
     }
-}
-
-/// The fields of a FADT that it reaches to.
-pub(crate) fn print_fadt<W: Write>(out: &mut Out<'_, W>, table: &[u8])
-    ensures { Prints W.contents out.old out.new (fadt_lines table.now) }
-{
-    print_fields(out, b"  ", b"\n", table, TableField::of_fadt());
 }

@@ -7,10 +7,11 @@ ghost use Rattle.acpi_tables.specs.Dumps.{HoldsDump, HoldsShape, HoldsContent};
 ghost use Rattle.acpi_tables.specs.Order.{AreTaken};
 ghost use Rattle.acpi_text.specs.Dumps.{lines_by, dump_lines, dumps_text};
 
-use crate::content::{print_entries, print_fadt};
+use crate::content::print_entries;
+use crate::fields::print_fields;
 use crate::heads::print_line;
 use crate::records::print_madt;
-use acpi_tables::{Content, Dump, Kind, RSDT_WIDTH, XSDT_WIDTH, table_of};
+use acpi_tables::{Content, Dump, Kind, RSDT_WIDTH, TableField, XSDT_WIDTH, table_of};
 use std::io::Write;
 use text_writer::Out;
 
@@ -25,7 +26,13 @@ fn print_below<W: Write>(out: &mut Out<'_, W>, kind: Kind, dumps: &[Dump], bytes
         Kind::Standard(content) => match content {
             Content::Xsdt => print_entries(out, dumps, XSDT_WIDTH, table_of(bytes)),
             Content::Rsdt => print_entries(out, dumps, RSDT_WIDTH, table_of(bytes)),
-            Content::Fadt => print_fadt(out, table_of(bytes)),
+            Content::Fadt => print_fields(
+                out,
+                b"  ",
+                b"\n",
+                table_of(bytes),
+                TableField::of_fadt(),
+            ),
             Content::Madt => print_madt(out, table_of(bytes)),
             Content::Other => {}
         },

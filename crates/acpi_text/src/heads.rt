@@ -1,10 +1,10 @@
 //! The line of a dump.
 #![tactic(auto, using(text_writer::proofs::PrintLaws::straight), unfolding(crate::specs::Dumps::line_by))]
 
-ghost use Rattle.text_writer.specs.Prints.{Prints};
+ghost use Rattle.std.specs.Prelude.{◌++◌, codes, decimal};
+ghost use Rattle.text_writer.specs.Prints.{Prints, quoted, word};
 ghost use Rattle.acpi_tables.specs.Dumps.{HoldsShape};
-ghost use Rattle.acpi_text.specs.Dumps.{wide_text, root_text, header_text, facs_text, head_by};
-ghost use Rattle.acpi_text.specs.Dumps.{address_text, sum_text, end_text, line_by};
+ghost use Rattle.acpi_text.specs.Dumps.{if_there, wide_text, root_text, header_text, head_by, address_text, sum_text, line_by};
 
 use crate::labels::{put_decimal, put_hex8, put_hex16, put_quoted};
 use acpi_tables::{Dump, Header, Kind, LENGTH_AT, Rsdp, Wide, u32_at};
@@ -13,7 +13,7 @@ use text_writer::Out;
 
 /// What revision 2 added to the RSDP.
 fn print_wide<W: Write>(out: &mut Out<'_, W>, wide: Option<Wide>)
-    ensures { Prints W.contents out.old out.new (wide_text wide) }
+    ensures { Prints W.contents out.old out.new (if_there wide_text wide) }
 {
     if let Some(wide) = wide {
         put_decimal(out, b" Length ", wide.length as u64);
@@ -44,7 +44,7 @@ fn print_header<W: Write>(out: &mut Out<'_, W>, header: &Header)
 }
 
 fn print_facs<W: Write>(out: &mut Out<'_, W>, length: u32)
-    ensures { Prints W.contents out.old out.new (facs_text length) }
+    ensures { Prints W.contents out.old out.new ((word " " ++ quoted (codes "FACS")) ++ (word " Length " ++ decimal length)) }
 {
     put_quoted(out, b" ", b"FACS");
     put_decimal(out, b" Length ", length as u64);
@@ -88,7 +88,7 @@ fn print_sum<W: Write>(out: &mut Out<'_, W>, holds: bool)
 }
 
 fn print_end<W: Write>(out: &mut Out<'_, W>, address: Option<u64>, holds: bool)
-    ensures { Prints W.contents out.old out.new (end_text address holds) }
+    ensures { Prints W.contents out.old out.new (address_text address ++ sum_text holds ++ word "\n") }
 {
     print_address(out, address);
     print_sum(out, holds);

@@ -6,7 +6,7 @@ ghost use Rattle.std.specs.List.{All};
 ghost use Rattle.text_writer.specs.Prints.{Prints};
 ghost use Rattle.acpi_tables.specs.Bytes.{IsNarrow};
 ghost use Rattle.acpi_tables.specs.Madt.{HoldsMadt, records_of, row_of, row_view};
-ghost use Rattle.acpi_text.specs.Dumps.{spaced_byte, other_text, record_text_by, below, record_line, controller_text, madt_lines};
+ghost use Rattle.acpi_text.specs.Dumps.{spaced_byte, other_text, record_text_by, record_line, madt_lines};
 
 use crate::fields::print_fields;
 use crate::labels::{put_decimal, put_hex8};
@@ -69,23 +69,6 @@ fn print_record_line<W: Write>(out: &mut Out<'_, W>, bytes: &[u8])
     out.put(b"\n");
 }
 
-fn print_controller<W: Write>(out: &mut Out<'_, W>, table: &[u8])
-    requires fields { 44 ≤ length table.now }
-    ensures { Prints W.contents out.old out.new (controller_text table.now) }
-{
-    put_hex8(out, b"Controller ", u32_at(table, MADT_CONTROLLER));
-    put_hex8(out, b" Flags ", u32_at(table, MADT_FLAGS));
-}
-
-fn print_controller_line<W: Write>(out: &mut Out<'_, W>, table: &[u8])
-    requires fields { 44 ≤ length table.now }
-    ensures { Prints W.contents out.old out.new (below (controller_text table.now)) }
-{
-    out.put(b"  ");
-    print_controller(out, table);
-    out.put(b"\n");
-}
-
 /// The records of a MADT.
 fn print_records<W: Write>(out: &mut Out<'_, W>, table: &[u8])
     requires holds { HoldsMadt table.now }
@@ -106,6 +89,8 @@ pub(crate) fn print_madt<W: Write>(out: &mut Out<'_, W>, table: &[u8])
     requires holds { HoldsMadt table.now }
     ensures { Prints W.contents out.old out.new (madt_lines table.now) }
 {
-    print_controller_line(out, table);
+    put_hex8(out, b"  Controller ", u32_at(table, MADT_CONTROLLER));
+    put_hex8(out, b" Flags ", u32_at(table, MADT_FLAGS));
+    out.put(b"\n");
     print_records(out, table);
 }

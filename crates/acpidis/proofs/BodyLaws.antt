@@ -1,47 +1,38 @@
 -- Bodies that were read are the entries of a listing, and the only ones: by what became of each, method by method. What
 -- a run keeps of bodies is kept of such bodies, so texts print as they do, faults tell of the raw ones, and trials are
 -- their marks.
-use Rattle.std.specs.List.{AllZip}
-use Rattle.std.proofs.Common.{◌≡◌, ℕ, suc, Bool, false, List, [], ◌∷◌, map, length, Some, Result, Ok, Err, refl, sym, ap, ap₂, subst, arith, slice_get}
-use Rattle.aml_space.specs.Namespace.{Entry}
+use Rattle.acpidis.proofs.Common.{AllZip, ◌≡◌, ℕ, suc, Bool, false, List, [], ◌∷◌, ◌++◌, map, length, Some, Result, Ok, Err, refl, sym, ap, ap₂, subst, arith}
+use Rattle.acpidis.proofs.Common.{slice_get, map-id, Entry, CodeFault, Trees, OfMethod, codes_view, span_of, body_in, Loaded, Method, Body, AgreeAt, OneBody}
+use Rattle.acpidis.proofs.Common.{read, raw, all_lines, body_lines, BodyText, IsText, body_view, printed_lines, IsEntry, AreEntries, Became, BecameIn}
+use Rattle.acpidis.proofs.Common.{AreBodies, has_raw, mark_of, marks_of, IsKept, AreKept, AreKeptOf, IsSame, has_fault, tried_mark, tried_marks, get_or}
 use Rattle.aml_space.specs.Known.{StandsFor}
-use Rattle.aml_names.specs.declared.faults.CodeFault.{CodeFault}
-use Rattle.aml_code.specs.Tree.{Trees}
-use Rattle.aml_load.specs.Views.{OfMethod, codes_view, span_of, body_in}
-use Rattle.aml_load.specs.declared.loading.Loaded.{Loaded}
-use Rattle.aml_load.specs.declared.methods.Method.{Method}
-use Rattle.aml_text.specs.declared.bodies.Body.{Body}
 use Rattle.aml_text.specs.declared.bodies.Body.TheVariants as bodies
-use Rattle.aml_text.specs.Texts.{AgreeAt, OneBody, read, raw, all_lines, body_lines}
-use Rattle.aml_text.specs.declared.bodies.BodyText.{BodyText}
 use Rattle.aml_text.specs.declared.bodies.BodyText.TheVariants as kept_texts
-use Rattle.aml_text.specs.Listing.{IsText, body_view, printed_lines}
-use Rattle.acpidis.specs.declared.bodies.Bodies.{Bodies}
-use Rattle.acpidis.specs.Bodies.{IsEntry, AreEntries, Became, IsTold, AreTold, AreBodies, IsReading, has_raw}
-use Rattle.acpidis.specs.Checks.{mark_of, marks_of, IsKept, KeptOf, AreKept, AreKeptOf, HasTexts, HasTrials, IsSame, has_fault, tried_mark, tried_marks}
 
-module _ (z : Bool) (es : List Entry) (cs : List (List ℕ)) where
-  is_entry : (m : Method) (d : Body) → Became z es cs m d → IsEntry z es cs m (body_view d)
-  is_entry m (bodies.Tree nodes) h = h.0
-  is_entry m (bodies.Raw f) h = h.unread.none
+-- what is true of each pair is true of what is made of it
+all_zip_to : {A B C : Type 0} (R : A → B → Type 0) (S : A → C → Type 0) (f : B → C) → ((x : A) (y : B) → R x y → S x (f y)) → (xs : List A) (ys : List B)
+    → AllZip R xs ys → AllZip S xs (map f ys)
+all_zip_to R S f to [] [] h = tt
+all_zip_to R S f to [] (y ∷ ys) h = absurd h
+all_zip_to R S f to (x ∷ xs) [] h = absurd h
+all_zip_to R S f to (x ∷ xs) (y ∷ ys) h = (to x y h.0, all_zip_to R S f to xs ys h.1)
 
-  the_entry : (m : Method) (d : Body) (b : OneBody) → Became z es cs m d → IsEntry z es cs m b → b ≡ body_view d
-  the_entry m (bodies.Tree nodes) (read ts) h e = ap read (h.1 ts e)
-  the_entry m (bodies.Tree nodes) raw h e = absurd (e _ h.0)
-  the_entry m (bodies.Raw f) (read ts) h e = absurd (h.unread.none ts e)
+module _ (z : Bool) (x : Loaded) (es : List Entry) (stands : StandsFor x.space es) where
+  is_entry : (m : Method) (d : Body) → BecameIn z x m d → IsEntry z es (codes_view x.tables.items) m (body_view d)
+  is_entry m (bodies.Tree nodes) h = (h es stands).0
+  is_entry m (bodies.Raw f) h = (h es stands).unread.none
+
+  the_entry : (m : Method) (d : Body) (b : OneBody) → BecameIn z x m d → IsEntry z es (codes_view x.tables.items) m b → b ≡ body_view d
+  the_entry m (bodies.Tree nodes) (read ts) h e = ap read ((h es stands).1 ts e)
+  the_entry m (bodies.Tree nodes) raw h e = absurd (e _ (h es stands).0)
+  the_entry m (bodies.Raw f) (read ts) h e = absurd ((h es stands).unread.none ts e)
   the_entry m (bodies.Raw f) raw h e = refl
 
-  is_told : (m : Method) (d : Body) → Became z es cs m d → IsTold z es cs m d
-  is_told m (bodies.Tree nodes) h = tt
-  is_told m (bodies.Raw f) h = h
+  pub are_entries : (ms : List Method) (ds : List Body) → AllZip (BecameIn z x) ms ds → AreEntries z es (codes_view x.tables.items) ms (map body_view ds)
+  are_entries ms ds h = all_zip_to (BecameIn z x) (IsEntry z es (codes_view x.tables.items)) body_view is_entry ms ds h
 
-  pub are_entries : (ms : List Method) (ds : List Body) → AllZip (Became z es cs) ms ds → AreEntries z es cs ms (map body_view ds)
-  are_entries [] [] h = tt
-  are_entries [] (d ∷ ds) h = absurd h
-  are_entries (m ∷ ms) [] h = absurd h
-  are_entries (m ∷ ms) (d ∷ ds) h = (is_entry m d h.0, are_entries ms ds h.1)
-
-  pub the_entries : (ms : List Method) (ds : List Body) (bs : List OneBody) → AllZip (Became z es cs) ms ds → AreEntries z es cs ms bs → bs ≡ map body_view ds
+  pub the_entries : (ms : List Method) (ds : List Body) (bs : List OneBody) → AllZip (BecameIn z x) ms ds → AreEntries z es (codes_view x.tables.items) ms bs
+      → bs ≡ map body_view ds
   the_entries [] [] [] h e = refl
   the_entries [] [] (b ∷ bs) h e = absurd e
   the_entries [] (d ∷ ds) bs h e = absurd h
@@ -49,50 +40,42 @@ module _ (z : Bool) (es : List Entry) (cs : List (List ℕ)) where
   the_entries (m ∷ ms) (d ∷ ds) [] h e = absurd e
   the_entries (m ∷ ms) (d ∷ ds) (b ∷ bs) h e = ap₂ ◌∷◌ (the_entry m d b h.0 e.0) (the_entries ms ds bs h.1 e.1)
 
-  pub are_told : (ms : List Method) (ds : List Body) → AllZip (Became z es cs) ms ds → AreTold z es cs ms ds
-  are_told [] [] h = tt
-  are_told [] (d ∷ ds) h = absurd h
-  are_told (m ∷ ms) [] h = absurd h
-  are_told (m ∷ ms) (d ∷ ds) h = (is_told m d h.0, are_told ms ds h.1)
+  pub are_told : (ms : List Method) (ds : List Body) → AllZip (BecameIn z x) ms ds → AllZip (Became z es (codes_view x.tables.items)) ms ds
+  are_told ms ds h =
+      let Told = Became z es (codes_view x.tables.items) in
+      subst (AllZip Told ms) (map-id ds) (all_zip_to (BecameIn z x) Told (λ d. d) (λ m d is. is es stands) ms ds h)
 
-  -- the bodies of which it is kept, by number
-  pub chosen : {X : Type 0} (Keeps : ℕ → Body → X → Type 0) (ms : List Method) (ds : List X) → length ds ≡ length ms
-      → ((n : ℕ) (d : X) → slice_get ds n ≡ Some d → (b : Body) × OfMethod (slice_get ms n) (λ m. Became z es cs m b) × Keeps n b d)
-      → (bs : List Body) × AllZip (Became z es cs) ms bs × AreKept Keeps bs ds
-  chosen Keeps [] [] l h = ([], tt, tt)
-  chosen Keeps [] (d ∷ ds) l h = absurd (omega (arith, l))
-  chosen Keeps (m ∷ ms) [] l h = absurd (omega (arith, l))
-  chosen Keeps (m ∷ ms) (d ∷ ds) l h =
-      let first = h 0 d refl in
-      let rest = chosen (λ n. Keeps (suc n)) ms ds (omega (arith, l)) (λ n x e. h (suc n) x e) in
-      (first.0 ∷ rest.0, (first.1, rest.1), (first.2, rest.2))
+-- ---- what is kept of bodies
 
--- ---- of a loaded set
+-- the bodies of which it is kept, by number
+pub chosen : {X : Type 0} (Is : Method → Body → Type 0) (Keeps : ℕ → Body → X → Type 0) (ms : List Method) (ds : List X) → length ds ≡ length ms
+    → ((n : ℕ) (d : X) → slice_get ds n ≡ Some d → (b : Body) × OfMethod (slice_get ms n) (λ m. Is m b) × Keeps n b d)
+    → (bs : List Body) × AllZip Is ms bs × AreKept Keeps bs ds
+chosen Is Keeps [] [] l h = ([], tt, tt)
+chosen Is Keeps [] (d ∷ ds) l h = absurd (omega (arith, l))
+chosen Is Keeps (m ∷ ms) [] l h = absurd (omega (arith, l))
+chosen Is Keeps (m ∷ ms) (d ∷ ds) l h =
+    let first = h 0 d refl in
+    let rest = chosen Is (λ n. Keeps (suc n)) ms ds (omega (arith, l)) (λ n x e. h (suc n) x e) in
+    (first.0 ∷ rest.0, (first.1, rest.1), (first.2, rest.2))
 
--- what was kept of the bodies of a set, by their bytes
-pub kept_of : {X : Type 0} (Keeps : ℕ → List ℕ → Body → X → Type 0) (z : Bool) (loaded : Loaded) (w : Bodies) (ds : List X) → IsReading z loaded w
-    → length ds ≡ length loaded.methods.items
-    → ((n : ℕ) (d : X) → slice_get ds n ≡ Some d → KeptOf (Keeps n (body_in (codes_view w.tables.now) (slice_get w.methods.now n))) w.unknown_zero w.space.now
-    (codes_view w.tables.now) w.methods.now n d)
-    → AreKeptOf (λ n. Keeps n (body_in (codes_view loaded.tables.items) (slice_get loaded.methods.items n))) z loaded ds
-kept_of Keeps z loaded w ds r l h = (l, rw (← r.zero_is, ← r.space, ← r.tables, ← r.methods) h)
-
-pub bodies_kept : {X : Type 0} (Keeps : ℕ → Body → X → Type 0) (z : Bool) (x : Loaded) (ds : List X) → AreKeptOf Keeps z x ds → (es : List Entry)
-    → StandsFor x.space es → (bs : List Body) × AllZip (Became z es (codes_view x.tables.items)) x.methods.items bs × AreKept Keeps bs ds
-bodies_kept Keeps z x ds k es s =
-    chosen z es (codes_view x.tables.items) Keeps x.methods.items ds k.0 (λ n d e. let of = k.1 n d e in (of.0, of.1 es s, of.2))
+-- of one body more
+pub kept_more : {X : Type 0} (Keeps : ℕ → Body → X → Type 0) (bs : List Body) (ds : List X) (b : Body) (d : X) → AreKept Keeps bs ds → Keeps (length bs) b d
+    → AreKept Keeps (bs ++ b ∷ []) (ds ++ d ∷ [])
+kept_more Keeps [] [] b d k h = (h, tt)
+kept_more Keeps [] (e ∷ ds) b d k h = absurd k
+kept_more Keeps (c ∷ bs) [] b d k h = absurd k
+kept_more Keeps (c ∷ bs) (e ∷ ds) b d k h = (k.0, kept_more (λ n. Keeps (suc n)) bs ds b d k.1 h)
 
 -- the bodies themselves
-kept_whole : (bs ds : List Body) → AreKept (λ n body kept. kept ≡ body) bs ds → ds ≡ bs
+kept_whole : (bs ds : List Body) → AreKept (λ n body kept. kept ≡ body) bs ds → bs ≡ ds
 kept_whole [] [] k = refl
 kept_whole [] (d ∷ ds) k = absurd k
 kept_whole (b ∷ bs) [] k = absurd k
-kept_whole (b ∷ bs) (d ∷ ds) k = ap₂ ◌∷◌ k.0 (kept_whole bs ds k.1)
+kept_whole (b ∷ bs) (d ∷ ds) k = ap₂ ◌∷◌ (sym k.0) (kept_whole bs ds k.1)
 
 pub whole_kept : (z : Bool) (x : Loaded) (ds : List Body) → AreKeptOf (λ n body kept. kept ≡ body) z x ds → AreBodies z x ds
-whole_kept z x ds k = λ es s.
-    let c = bodies_kept (λ n body kept. kept ≡ body) z x ds k es s in
-    subst (AllZip (Became z es (codes_view x.tables.items)) x.methods.items) (sym (kept_whole c.0 ds c.2)) c.1
+whole_kept z x ds k = subst (AllZip (BecameIn z x) x.methods.items) (kept_whole k.0 ds k.2) k.1
 
 -- ---- what it says of them
 
@@ -105,7 +88,7 @@ same_lines level (bodies.Raw fault) (Ok text) k bytes = absurd k
 same_lines level (bodies.Raw fault) (Err kept) k bytes = refl
 
 -- texts at their levels print as the bodies do
-pub texts_agree : (ls : List ℕ) (bs : List Body) (ds : List (Result BodyText CodeFault)) → AreKept (HasTexts ls) bs ds
+pub texts_agree : (ls : List ℕ) (bs : List Body) (ds : List (Result BodyText CodeFault)) → AreKept (λ n. IsKept (IsText (get_or ls n 0))) bs ds
     → AgreeAt ls (map body_lines (map body_view bs)) (map printed_lines ds)
 texts_agree [] bs ds k = tt
 texts_agree (l ∷ ls) [] [] k = texts_agree ls [] [] tt
@@ -125,15 +108,15 @@ faults_are Gives (bodies.Raw fault ∷ bs) (Ok x ∷ ds) k = absurd k.0
 faults_are Gives (bodies.Raw fault ∷ bs) (Err kept ∷ ds) k = refl
 
 -- trials are marks of the bodies
-pub mark_is : (cs : List (List ℕ)) (m : Method) (b : Body) (d : Result Bool CodeFault) → IsKept (IsSame (span_of cs m)) b d
+mark_is : (cs : List (List ℕ)) (m : Method) (b : Body) (d : Result Bool CodeFault) → IsKept (IsSame (span_of cs m)) b d
     → tried_mark m.table d ≡ mark_of cs (m, body_view b)
 mark_is cs m (bodies.Tree nodes) (Ok same) k = λ i. record { table = m.table; raw = false; same = k i }
 mark_is cs m (bodies.Tree nodes) (Err fault) k = absurd k
 mark_is cs m (bodies.Raw fault) (Ok same) k = absurd k
 mark_is cs m (bodies.Raw fault) (Err kept) k = refl
 
-pub trials_are : (cs : List (List ℕ)) (ms : List Method) (bs : List Body) (ds : List (Result Bool CodeFault)) → AreKept (HasTrials cs ms) bs ds
-    → tried_marks ms ds ≡ marks_of cs ms (map body_view bs)
+pub trials_are : (cs : List (List ℕ)) (ms : List Method) (bs : List Body) (ds : List (Result Bool CodeFault))
+    → AreKept (λ n. IsKept (IsSame (body_in cs (slice_get ms n)))) bs ds → tried_marks ms ds ≡ marks_of cs ms (map body_view bs)
 trials_are cs [] bs ds k = refl
 trials_are cs (m ∷ ms) [] [] k = refl
 trials_are cs (m ∷ ms) [] (d ∷ ds) k = absurd k

@@ -1,3 +1,4 @@
+pub mod Common
 pub mod TableLaws
 pub mod Sharing
 pub mod BodyLaws

@@ -1,31 +1,13 @@
 -- What a set means is the same when it is made anew: what was read encodes to the bytes that it was read from, so no
 -- table of a listing that dumps mean differs.
-use Rattle.std.specs.Prelude.{◌&&◌, filter}
-use Rattle.std.specs.List.{list_all}
-use Rattle.std.proofs.lemmas.Bool.Decides.{nat_tests}
-use Rattle.std.proofs.lemmas.List.Elements.{All-filter}
-use Rattle.std.proofs.lemmas.List.Sums.{AllPass-from_list_all, list_all-from_AllPass}
-use Rattle.std.proofs.Common.{◌≡◌, ℕ, suc, ◌==◌, Bool, true, List, [], ◌∷◌, refl, ap₂, subst, arith}
-use Rattle.aml_code.specs.Tree.{Trees}
-use Rattle.aml_space.specs.Namespace.{Entry}
-use Rattle.aml_load.specs.Loading.{ReadTables, methods_of}
-use Rattle.aml_load.specs.Views.{span_of}
-use Rattle.aml_load.specs.declared.methods.Method.{Method}
-use Rattle.aml_text.specs.Texts.{OneBody, read, raw}
-use Rattle.aml_text.specs.Listing.{names_in, blocks_of}
-use Rattle.acpi_tables.specs.declared.dump.Dump.{Dump}
-use Rattle.acpidis.specs.declared.options.Options.{Options}
-use Rattle.acpidis.specs.declared.checking.Mark.{Mark}
-use Rattle.acpidis.specs.Bodies.{IsEntry, AreEntries}
-use Rattle.acpidis.specs.Checks.{same_bytes, body_same, marks_of, checks_from, all_same}
-use Rattle.acpidis.specs.Meaning.{Meaning, Means, order_of, codes_of}
-
-same_itself : (xs : List ℕ) → same_bytes xs xs ≡ true
-same_itself [] = refl
-same_itself (x ∷ xs) = let same : (x == x) ≡ true = grind (arith, nat_tests) in rw same (same_itself xs)
+use Rattle.acpidis.proofs.Common.{◌&&◌, filter, list_all, All-filter, AllPass-from_list_all, list_all-from_AllPass, ◌≡◌, ℕ, suc, Bool, true, List, [], ◌∷◌}
+use Rattle.acpidis.proofs.Common.{refl, ap₂, map, Trees, Entry, AllZip, ReadsModule, methods_of, span_of, Method, OneBody, read, raw, names_in, blocks_of, Dump, Options}
+use Rattle.acpidis.proofs.Common.{Mark, IsEntry, AreEntries, same_bytes, body_same, marks_of, checks_with, tallied, uncounted, all_same, Meaning, Means}
+use Rattle.acpidis.proofs.Common.{order_of, codes_of}
+use Rattle.std.proofs.lemmas.Slice.Eq.{bytes_eq-Decides}
 
 same_if : (xs ys : List ℕ) → xs ≡ ys → same_bytes xs ys ≡ true
-same_if xs ys e = subst (λ (zs : List ℕ). same_bytes xs zs ≡ true) e (same_itself xs)
+same_if xs ys = (bytes_eq-Decides xs ys).1
 
 entry_same : (z : Bool) (es : List Entry) (codes : List (List ℕ)) (m : Method) (b : OneBody) → IsEntry z es codes m b → body_same (span_of codes m) b ≡ true
 entry_same z es codes m (read ts) h = same_if _ _ h.spelled
@@ -41,8 +23,8 @@ marks_same z es codes [] bs h = refl
 marks_same z es codes (m ∷ ms) [] h = refl
 marks_same z es codes (m ∷ ms) (b ∷ bs) h = ap₂ ◌&&◌ (entry_same z es codes m b h.0) (marks_same z es codes ms bs h.1)
 
-tables_same : (marks : List Mark) (names codes : List (List ℕ)) (trees : List Trees) (t : ℕ) → list_all (λ m. m.same) marks ≡ true → ReadTables codes trees
-    → all_same (checks_from marks t (blocks_of names codes trees)) ≡ true
+tables_same : (marks : List Mark) (names codes : List (List ℕ)) (trees : List Trees) (t : ℕ) → list_all (λ m. m.same) marks ≡ true → AllZip ReadsModule codes trees
+    → all_same (tallied marks t (map uncounted (blocks_of names codes trees))) ≡ true
 tables_same marks [] codes trees t h r = refl
 tables_same marks (n ∷ names) [] trees t h r = refl
 tables_same marks (n ∷ names) (c ∷ codes) [] t h r = refl
@@ -51,8 +33,8 @@ tables_same marks (n ∷ names) (c ∷ codes) (ts ∷ trees) t h r =
 
 -- all tables of what dumps mean are the same
 pub all_are_same : (dumps : List Dump) (options : Options) (k : Meaning) → Means dumps options k
-    → all_same (checks_from (marks_of (codes_of dumps k) (methods_of k.listed.entries) k.bodies) 0
-    (blocks_of (names_in dumps (order_of k)) (codes_of dumps k) k.trees)) ≡ true
+    → all_same (checks_with (blocks_of (names_in dumps (order_of k)) (codes_of dumps k) k.trees)
+    (marks_of (codes_of dumps k) (methods_of k.listed.entries) k.bodies)) ≡ true
 all_are_same dumps options k means =
     tables_same _ (names_in dumps (order_of k)) (codes_of dumps k) k.trees 0
     (marks_same options.unknown_zero k.listed.entries (codes_of dumps k) (methods_of k.listed.entries) k.bodies means.bodies) means.set.loads.read

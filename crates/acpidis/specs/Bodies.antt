@@ -1,5 +1,5 @@
--- The AML of definition blocks.
-use Rattle.std.specs.Prelude.{ℕ, List, drop, map, ◌≡◌, ◌<◌, Bool, true, false, length, slice_get, All, Vec, Err}
+-- The AML of definition blocks, and what becomes of the bodies of methods: terms, or bytes where a body reads as none.
+use Rattle.std.specs.Prelude.{ℕ, List, drop, map, ◌≡◌, ◌<◌, ◌≤◌, Bool, true, false, length, slice_get, All, Vec, Err}
 use Rattle.acpi_tables.specs.declared.dump.Dump.{Dump}
 use Rattle.acpi_tables.specs.Header.{table_of}
 use Rattle.acpi_tables.specs.Order.{bytes_of}
@@ -10,7 +10,7 @@ use Rattle.aml_names.specs.declared.faults.CodeFault.{CodeFault}
 use Rattle.aml_code.specs.Tree.{Trees}
 use Rattle.aml_code.specs.View.{nodes_view}
 use Rattle.aml_space.specs.Namespace.{Entry}
-use Rattle.aml_space.specs.Known.{Known, StandsFor}
+use Rattle.aml_space.specs.Known.{StandsFor}
 use Rattle.aml_load.specs.Views.{IsBody, IsUnread, body_at, OfMethod, AreShort, codes_view}
 use Rattle.aml_load.specs.declared.loading.Loaded.{Loaded}
 use Rattle.aml_load.specs.declared.methods.Method.{Method}
@@ -19,7 +19,6 @@ use Rattle.aml_pool.specs.Seats.{all_of}
 use Rattle.aml_text.specs.declared.bodies.Body.{Body}
 use Rattle.aml_text.specs.declared.bodies.Body.TheVariants as bodies
 use Rattle.aml_text.specs.Texts.{OneBody, read, raw}
-use Rattle.acpidis.specs.declared.bodies.Bodies.{Bodies}
 
 -- the AML of a definition block: what follows the 36 bytes of its header (ACPI 6.5, 5.2.11.1)
 abbrev pub aml_of : List ℕ → List ℕ
@@ -28,8 +27,6 @@ aml_of bytes = drop 36 (table_of bytes)
 -- the AML of the dumps at these indexes
 abbrev pub codes_in : List Dump → List ℕ → List (List ℕ)
 codes_in dumps order = map (λ index. aml_of (bytes_of dumps index)) order
-
--- ---- What became of the bodies of methods: terms, or bytes where a body reads as none.
 
 -- what a listing has of a method: the terms that its body reads as, or its bytes, where the body reads as no terms
 abbrev pub IsEntry : Bool → List Entry → List (List ℕ) → Method → OneBody → Type 0
@@ -55,14 +52,12 @@ pub record IsRaw (unknown_zero : Bool) (es : List Entry) (tables : List (List �
   pub unread : IsUnread unknown_zero es tables m fault
   pub first : body_at unknown_zero es tables m ≡ Err fault
 
--- the fault of a raw body is told truly
-abbrev pub IsTold : Bool → List Entry → List (List ℕ) → Method → Body → Type 0
-IsTold z es tables m (bodies.Tree nodes) = Unit {0}
-IsTold z es tables m (bodies.Raw fault) = IsRaw z es tables m fault
-
--- that of each raw body
-abbrev pub AreTold : Bool → List Entry → List (List ℕ) → List Method → List Body → Type 0
-AreTold z es tables ms ds = AllZip (IsTold z es tables) ms ds
+-- a body in memory: it reads as its terms and as no others, or it is raw for its fault
+abbrev pub Became : Bool → List Entry → List (List ℕ) → Method → Body → Type 0
+Became z es tables m (bodies.Tree nodes) =
+    IsBody z es tables m (nodes_view nodes.items) × ((ts : Trees) → IsBody z es tables m ts
+    → ts ≡ nodes_view nodes.items)
+Became z es tables m (bodies.Raw fault) = IsRaw z es tables m fault
 
 -- one ascending list for each worker, and each number below the count stands in exactly one of them, once
 pub record AreDrawn (workers count : ℕ) (drawn : List (Vec ℕ Global)) : Type 0 where
@@ -70,32 +65,23 @@ pub record AreDrawn (workers count : ℕ) (drawn : List (Vec ℕ Global)) : Type
   pub ascending : All (λ v. IsStrictlyIncreasing v.items) drawn
   pub once : IsOnce (all_of drawn) count
 
--- ---- the work of one number
+-- ---- A stepping stone of the proofs: the bodies of a loaded set.
 
--- the bodies of this set are to be read so
-pub record IsReading (unknown_zero : Bool) (x : Loaded) (w : Bodies) : Type 0 where
-  pub tables : w.tables.now ≡ x.tables.items
-  pub methods : w.methods.now ≡ x.methods.items
-  pub space : w.space.now ≡ x.space
-  pub zero_is : w.unknown_zero ≡ unknown_zero
-
--- a body in memory: it reads as its terms and as no others, or it reads as none, and its fault is the first that is met
-abbrev pub Became : Bool → List Entry → List (List ℕ) → Method → Body → Type 0
-Became z es tables m (bodies.Tree nodes) =
-    IsBody z es tables m (nodes_view nodes.items) × ((ts : Trees) → IsBody z es tables m ts
-    → ts ≡ nodes_view nodes.items)
-Became z es tables m (bodies.Raw fault) = IsRaw z es tables m fault
-
--- the bodies of a loaded set: whatever entries its namespace stands for, each became what it is
-abbrev pub AreBodies : Bool → Loaded → List Body → Type 0
-AreBodies z x ds =
-    (es : List Entry) → StandsFor x.space es → AllZip (Became z es (codes_view x.tables.items)) x.methods.items ds
+-- the limits of a table and of the methods
+abbrev pub IsWithinLimits : Loaded → Type 0
+IsWithinLimits x = AreShort (codes_view x.tables.items) × (length x.methods.items ≤ 1048576)
 
 -- the body of this number can be read
-abbrev pub CanRead : List (List ℕ) → List Method → ℕ → Type 0
-CanRead tables ms number = (number < length ms) × AreShort tables
+abbrev pub CanRead : Loaded → ℕ → Type 0
+CanRead x number = (number < length x.methods.items) × AreShort (codes_view x.tables.items)
 
--- what became of the body of this number
-abbrev pub BecameOf : Bool → Known → List (List ℕ) → List Method → ℕ → Body → Type 0
-BecameOf z space tables ms number d =
-    (es : List Entry) → StandsFor space es → OfMethod (slice_get ms number) (λ m. Became z es tables m d)
+-- the body of a method became this, whatever entries the namespace stands for
+abbrev pub BecameIn : Bool → Loaded → Method → Body → Type 0
+BecameIn z x m d = (es : List Entry) → StandsFor x.space es → Became z es (codes_view x.tables.items) m d
+
+-- that of the method of this number, and those of all
+abbrev pub BecameOf : Bool → Loaded → ℕ → Body → Type 0
+BecameOf z x number d = OfMethod (slice_get x.methods.items number) (λ m. BecameIn z x m d)
+
+abbrev pub AreBodies : Bool → Loaded → List Body → Type 0
+AreBodies z x ds = AllZip (BecameIn z x) x.methods.items ds

@@ -1,30 +1,27 @@
 -- What `check` says of each loaded table: its length, its methods, its raw bodies, and whether what was read encodes
 -- to the same bytes again.
 use Rattle.std.specs.Prelude.{ℕ, suc, ◌==◌, nat_eq, Bool, true, false, ◌&&◌, List, [], ◌∷◌, ◌++◌, map, filter, zip}
-use Rattle.std.specs.Prelude.{flat_map, length, decimal, ◌≡◌, get_or, slice_get, Some, Result, Ok, Err, zero, ◌+◌, ◌<◌}
-use Rattle.std.specs.Prelude.{cond, All}
-use Rattle.std.specs.List.{list_all, list_any}
+use Rattle.std.specs.Prelude.{flat_map, length, decimal, ◌≡◌, Result, Ok, Err, ◌+◌, ◌<◌, cond, All, is_err}
+use Rattle.std.specs.List.{list_all, list_any, count_by}
 use lib.Pointwise.{pointwise}
 use Rattle.aml_code.specs.Tree.{encodings, Trees}
 use Rattle.aml_load.specs.Loading.{methods_of}
-use Rattle.aml_load.specs.Views.{codes_view, span_of, body_in}
+use Rattle.aml_load.specs.Views.{codes_view, span_of}
 use Rattle.aml_load.specs.declared.methods.Method.{Method}
 use Rattle.aml_text.specs.Texts.{OneBody, read, raw, OneBlock}
-use Rattle.aml_text.specs.Listing.{names_in, blocks_of, blocks_in, body_view, IsText}
+use Rattle.aml_text.specs.Listing.{names_in, blocks_of, blocks_in, body_view}
 use Rattle.aml_text.specs.declared.listing.Listing.{Listing}
 use Rattle.text_writer.specs.Prints.{quoted, word}
 use Rattle.acpi_tables.specs.declared.dump.Dump.{Dump}
-use Rattle.acpidis.specs.Bodies.{is_raw, BecameOf}
+use Rattle.acpidis.specs.Bodies.{is_raw, AreBodies}
 use Rattle.acpidis.specs.Meaning.{Meaning, order_of, codes_of}
 use Rattle.acpidis.specs.declared.checking.Checked.{Checked}
 use Rattle.acpidis.specs.declared.checking.Mark.{Mark}
 use Rattle.aml_names.specs.declared.faults.CodeFault.{CodeFault}
 use Rattle.aml_code.specs.View.{nodes_view}
-use Rattle.aml_space.specs.Known.{Known}
 use Rattle.aml_load.specs.declared.loading.Loaded.{Loaded}
 use Rattle.aml_text.specs.declared.bodies.Body.{Body}
 use Rattle.aml_text.specs.declared.bodies.Body.TheVariants as bodies
-use Rattle.aml_text.specs.declared.bodies.BodyText.{BodyText}
 
 -- two texts have the same bytes
 abbrev pub same_bytes : List ℕ → List ℕ → Bool
@@ -47,26 +44,39 @@ marks_of codes ms bs = map (mark_of codes) (zip ms bs)
 abbrev pub marks_in : ℕ → List Mark → List Mark
 marks_in t marks = filter (λ m. nat_eq m.table t) marks
 
--- what is said of table t, of which this is the block
-abbrev pub checked : List Mark → ℕ → OneBlock → Checked
-checked marks t b =
+-- what is said of a table before its methods are counted
+abbrev pub uncounted : OneBlock → Checked
+uncounted b = record {
+  bytes = length b.code;
+  methods = 0;
+  raw = 0;
+  same = same_bytes (encodings b.code b.terms) b.code;
+}
+
+-- and when these are counted too
+abbrev pub tally : List Mark → Checked → Checked
+tally inside c =
     record {
-      bytes = length b.code;
-      methods = length (marks_in t marks);
-      raw = length (filter (λ m. m.raw) (marks_in t marks));
-      same = same_bytes (encodings b.code b.terms) b.code && list_all (λ m. m.same) (marks_in t marks);
+      bytes = c.bytes;
+      methods = c.methods + length inside;
+      raw = c.raw + count_by (λ m. m.raw) inside;
+      same = c.same && list_all (λ m. m.same) inside;
     }
 
--- of the tables from number t on
-abbrev pub checks_from : List Mark → ℕ → List OneBlock → List Checked
-checks_from marks t [] = []
-checks_from marks t (b ∷ blocks) = checked marks t b ∷ checks_from marks (suc t) blocks
+-- of the tables from number t on, each with its methods
+abbrev pub tallied : List Mark → ℕ → List Checked → List Checked
+tallied marks t [] = []
+tallied marks t (c ∷ cs) = tally (marks_in t marks) c ∷ tallied marks (suc t) cs
 
--- what is said of a listing in memory
+-- what is said of the tables of these blocks, by what is said of their methods
+abbrev pub checks_with : List OneBlock → List Mark → List Checked
+checks_with blocks marks = tallied marks 0 (map uncounted blocks)
+
+-- of a listing in memory
 abbrev pub checks_of : Listing → List Checked
 checks_of x =
-    checks_from (marks_of (codes_view x.loaded.tables.items) x.loaded.methods.items (map body_view x.bodies.items)) 0
-    (blocks_in x)
+    checks_with (blocks_in x)
+    (marks_of (codes_view x.loaded.tables.items) x.loaded.methods.items (map body_view x.bodies.items))
 
 -- whether all tables are the same
 abbrev pub all_same : List Checked → Bool
@@ -95,53 +105,41 @@ abbrev pub checks_text : List Dump → Meaning → List ℕ
 checks_text dumps k =
     let codes = codes_of dumps k in
     let blocks = blocks_of (names_in dumps (order_of k)) codes k.trees in
-    check_lines blocks (checks_from (marks_of codes (methods_of k.listed.entries) k.bodies) 0 blocks)
+    check_lines blocks (checks_with blocks (marks_of codes (methods_of k.listed.entries) k.bodies))
 
 -- ---- A stepping stone of the proofs: what a run keeps of each body, whose terms it lets go.
 
 -- of a body that reads as terms what they give, of a raw one its fault
 abbrev pub IsKept : {X : Type 0} → (Trees → X → Type 0) → Body → Result X CodeFault → Type 0
 IsKept Gives (bodies.Tree nodes) (Ok x) = Gives (nodes_view nodes.items) x
-IsKept Gives (bodies.Tree nodes) (Err fault) = ⊥
-IsKept Gives (bodies.Raw fault) (Ok x) = ⊥
 IsKept Gives (bodies.Raw fault) (Err kept) = kept ≡ fault
+IsKept Gives _ _ = ⊥
 
 -- whether terms encode to these bytes
 abbrev pub IsSame : List ℕ → Trees → Bool → Type 0
 IsSame bytes ts same = same ≡ same_bytes (encodings bytes ts) bytes
 
--- what is kept of the body of this number
-abbrev pub KeptOf : {X : Type 0} → (Body → X → Type 0) → Bool → Known → List (List ℕ) → List Method → ℕ → X → Type 0
-KeptOf Keeps z space tables ms number d = (body : Body) × BecameOf z space tables ms number body × Keeps body d
-
 -- of each body, by its number
 abbrev pub AreKept : {X : Type 0} → (ℕ → Body → X → Type 0) → List Body → List X → Type 0
 AreKept Keeps [] [] = Unit {0}
-AreKept Keeps [] (d ∷ ds) = ⊥
-AreKept Keeps (b ∷ bs) [] = ⊥
 AreKept Keeps (b ∷ bs) (d ∷ ds) = Keeps 0 b d × AreKept (λ n. Keeps (suc n)) bs ds
+AreKept Keeps _ _ = ⊥
 
--- what is kept of the bodies of a loaded set: something of each
+-- of those of a loaded set
 abbrev pub AreKeptOf : {X : Type 0} → (ℕ → Body → X → Type 0) → Bool → Loaded → List X → Type 0
-AreKeptOf {X} Keeps z x ds =
-    (length ds ≡ length x.methods.items) × ((n : ℕ) (d : X) → slice_get ds n ≡ Some d
-    → KeptOf (Keeps n) z x.space (codes_view x.tables.items) x.methods.items n d)
-
--- their lines at these levels, or their terms
-abbrev pub HasTexts : List ℕ → ℕ → Body → Result BodyText CodeFault → Type 0
-HasTexts levels n = IsKept (IsText (get_or levels n 0))
-
--- whether they encode to their bytes
-abbrev pub HasTrials : List (List ℕ) → List Method → ℕ → Body → Result Bool CodeFault → Type 0
-HasTrials codes ms n = IsKept (IsSame (body_in codes (slice_get ms n)))
+AreKeptOf Keeps z x ds = (bs : List Body) × AreBodies z x bs × AreKept Keeps bs ds
 
 -- whether a fault is kept
-abbrev pub is_fault : {X : Type 0} → Result X CodeFault → Bool
-is_fault (Ok x) = false
-is_fault (Err fault) = true
-
 abbrev pub has_fault : {X : Type 0} → List (Result X CodeFault) → Bool
-has_fault ds = list_any is_fault ds
+has_fault ds = list_any is_err ds
+
+-- what is said of a method by what was tried of its body, in a table, and of methods
+abbrev pub tried_mark : ℕ → Result Bool CodeFault → Mark
+tried_mark table (Ok same) = record { table = table; raw = false; same = same }
+tried_mark table (Err fault) = record { table = table; raw = true; same = true }
+
+abbrev pub tried_marks : List Method → List (Result Bool CodeFault) → List Mark
+tried_marks ms ds = map (λ p. tried_mark p.0.table p.1) (zip ms ds)
 
 -- ---- A stepping stone of the proofs of `check`: the methods of tables, counted one after the other.
 
@@ -160,43 +158,3 @@ added m c = record {
   raw = c.raw + cond m.raw 1 0;
   same = c.same && m.same;
 }
-
--- one method more of the table at this place
-abbrev pub added_at : ℕ → Mark → List Checked → List Checked
-added_at n m [] = []
-added_at zero m (c ∷ cs) = added m c ∷ cs
-added_at (suc n) m (c ∷ cs) = c ∷ added_at n m cs
-
--- what is said of a table before its methods are counted
-abbrev pub uncounted : OneBlock → Checked
-uncounted b = record {
-  bytes = length b.code;
-  methods = 0;
-  raw = 0;
-  same = same_bytes (encodings b.code b.terms) b.code;
-}
-
--- and when these are counted too
-abbrev pub tally : List Mark → Checked → Checked
-tally inside c =
-    record {
-      bytes = c.bytes;
-      methods = c.methods + length inside;
-      raw = c.raw + length (filter (λ m. m.raw) inside);
-      same = c.same && list_all (λ m. m.same) inside;
-    }
-
--- of the tables from number t on
-abbrev pub tallied : List Mark → ℕ → List Checked → List Checked
-tallied marks t [] = []
-tallied marks t (c ∷ cs) = tally (marks_in t marks) c ∷ tallied marks (suc t) cs
-
--- ---- what was tried of bodies
-
--- what that says of the body's method
-abbrev pub tried_mark : ℕ → Result Bool CodeFault → Mark
-tried_mark table (Ok same) = record { table = table; raw = false; same = same }
-tried_mark table (Err fault) = record { table = table; raw = true; same = true }
-
-abbrev pub tried_marks : List Method → List (Result Bool CodeFault) → List Mark
-tried_marks ms ds = map (λ p. tried_mark p.0.table p.1) (zip ms ds)

@@ -1,5 +1,6 @@
 -- What a set of dumps means: one listing, as plain data, and its text.
-use Rattle.std.specs.Prelude.{◌≡◌, ℕ, List, ◌∷◌, map, ◌≤◌, length}
+use Rattle.std.specs.Prelude.{◌≡◌, ℕ, List, ◌∷◌, map}
+use Rattle.std.specs.List.{AllZip}
 use Rattle.std.specs.FinMap as finite
 use Rattle.aml_names.specs.declared.segments.Seg.{Seg}
 use Rattle.aml_code.specs.Tree.{Trees}
@@ -7,7 +8,7 @@ use Rattle.aml_space.specs.declared.kinds.Kind.{Kind}
 use Rattle.aml_space.specs.Namespace.{Entry}
 use Rattle.aml_space.specs.Known.{kinds_in}
 use Rattle.aml_load.specs.Loading.{Listed, IsLoad, methods_of}
-use Rattle.aml_load.specs.Views.{HoldsLoad, AreShort, codes_view}
+use Rattle.aml_load.specs.Views.{HoldsLoad}
 use Rattle.aml_load.specs.declared.loading.Loaded.{Loaded}
 use Rattle.aml_text.specs.Texts.{OneBody}
 use Rattle.aml_text.specs.Listing.{listing_text, body_view}
@@ -17,7 +18,7 @@ use Rattle.acpi_tables.specs.declared.dump.Dump.{Dump}
 use Rattle.acpi_tables.specs.declared.order.Order.{Order}
 use Rattle.acpi_tables.specs.Order.{IsOrder}
 use Rattle.acpidis.specs.declared.options.Options.{Options}
-use Rattle.acpidis.specs.Bodies.{codes_in, AreEntries, AreTold}
+use Rattle.acpidis.specs.Bodies.{codes_in, AreEntries, Became, IsWithinLimits}
 
 -- a listing: the indexes of the definition blocks in load order, their terms, what these declare, and a body for each
 -- method
@@ -70,18 +71,19 @@ pub record Shows (x : Listing) (dumps : List Dump) (k : Meaning) : Type 0 where
   pub set : HoldsSet x.order x.loaded dumps k
   pub bodies : map body_view x.bodies.items ≡ k.bodies
 
--- the fault of each of its raw bodies is true of it, and the first that is met
+-- Each of its bodies became what it is: its terms are those that the body reads as, and no others, and the fault of a
+-- raw one is true of it, and the first that is met.
 abbrev pub Told : Listing → List Dump → Options → Meaning → Type 0
 Told x dumps options k =
-    AreTold options.unknown_zero k.listed.entries (codes_of dumps k) (methods_of k.listed.entries) x.bodies.items
+    AllZip (Became options.unknown_zero k.listed.entries (codes_of dumps k)) (methods_of k.listed.entries)
+    x.bodies.items
 
--- ---- A stepping stone of the proofs: the tables of a set, loaded in their order, before the bodies of their methods are
--- read.
+-- ---- A stepping stone of the proofs: the tables of a set, loaded in their order, before the bodies of their methods
+-- are read.
 
 -- an order and a loaded set are what the dumps have and load to, which is nothing else, and they are within the limits
 pub record IsSet (dumps : List Dump) (options : Options) (order : Order) (loaded : Loaded) : Type 0 where
   pub sound : (k : Meaning) × LoadsSet dumps options k × HoldsSet order loaded dumps k
   pub one : (k : Meaning) → LoadsSet dumps options k → HoldsSet order loaded dumps k
   pub matched : AreMatched order loaded
-  pub few : length loaded.methods.items ≤ 1048576
-  pub short : AreShort (codes_view loaded.tables.items)
+  pub limits : IsWithinLimits loaded

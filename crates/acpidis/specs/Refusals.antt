@@ -1,7 +1,7 @@
 -- What a refusal says of a set of dumps.
 use Rattle.std.specs.Prelude.{◌≡◌, ℕ, Bool, List, ◌∷◌, get_or, ⊤, Err, Option, None, Some, codes}
 use Rattle.aml_space.specs.Namespace.{Givens}
-use Rattle.aml_load.specs.Stops.{StopsLoad}
+use Rattle.aml_load.specs.Loading.{StopsLoad}
 use Rattle.aml_load.specs.Walking.{load_at}
 use Rattle.aml_load.specs.declared.faults.LoadFault.{LoadFault}
 use Rattle.aml_load.specs.declared.faults.LoadFault.TheVariants as loads
@@ -14,25 +14,21 @@ use Rattle.acpidis.specs.Bodies.{codes_in}
 
 -- memory or a thread was refused, which says nothing of the set
 abbrev pub IsWant : Refusal → Type 0
-IsWant (refusals.Table fault) = ⊥
-IsWant (refusals.Load fault) = ⊥
 IsWant refusals.NoThread = ⊤
 IsWant refusals.NoMemory = ⊤
+IsWant _ = ⊥
 
 -- a fault of a table of this order, by the index of its dump
 abbrev pub in_dump : List ℕ → LoadFault → LoadFault
 in_dump order (loads.Code t f) = loads.Code (get_or order t 0) f
 in_dump order (loads.Space t f) = loads.Space (get_or order t 0) f
 in_dump order (loads.ModuleCall t) = loads.ModuleCall (get_or order t 0)
-in_dump order loads.TooManyMethods = loads.TooManyMethods
-in_dump order loads.NoMemory = loads.NoMemory
+in_dump order f = f
 
+-- and the refusal for it
 abbrev pub load_refusal : List ℕ → LoadFault → Refusal
-load_refusal order (loads.Code t f) = refusals.Load (in_dump order (loads.Code t f))
-load_refusal order (loads.Space t f) = refusals.Load (in_dump order (loads.Space t f))
-load_refusal order (loads.ModuleCall t) = refusals.Load (in_dump order (loads.ModuleCall t))
-load_refusal order loads.TooManyMethods = refusals.Load loads.TooManyMethods
 load_refusal order loads.NoMemory = refusals.NoMemory
+load_refusal order f = refusals.Load (in_dump order f)
 
 -- a refusal of the set's order is true of it
 abbrev pub TellsTable : List Dump → Bool → Refusal → Type 0
@@ -69,7 +65,6 @@ TellsBlocks dumps options _ = ⊤
 
 -- The word of a refused growth or start. What a fault of the set displays as isn't said here.
 abbrev pub want_text : Refusal → Option (List ℕ)
-want_text (refusals.Table fault) = None
-want_text (refusals.Load fault) = None
 want_text refusals.NoThread = Some (codes "NoThread")
 want_text refusals.NoMemory = Some (codes "NoMemory")
+want_text _ = None

@@ -81,10 +81,5 @@ pub fn write_checks<W: Write>(
 pub(crate) fn are_same(checks: &[Checked]) -> bool
     ensures { result ≡ all_same checks.now }
 {
-    for checked in checks {
-        if !checked.same {
-            return false;
-        }
-    }
-    true
+    checks.iter().all(|checked| checked.same)
 }

@@ -1,8 +1,9 @@
 //! Whether what was read encodes to the same bytes again.
-ghost use Rattle.std.specs.Prelude.{◌≡◌, ◌≤◌, ◌<◌, IfOk, OnOk, length, map};
-ghost use Rattle.aml_load.specs.Views.{codes_view, AreShort};
-ghost use Rattle.aml_text.specs.Listing.{blocks_at, body_view, block_view};
-ghost use Rattle.acpidis.specs.Checks.{marks_of, checks_from, checks_of, Under, added, added_at, uncounted, tallied, tried_mark, tried_marks};
+ghost use Rattle.std.specs.Prelude.{◌≡◌, ◌≤◌, ◌<◌, IfOk, length, map, slice_set, slice_index_or};
+ghost use Rattle.aml_load.specs.Views.{codes_view, AreShort, body_of};
+ghost use Rattle.aml_text.specs.Listing.{blocks_at, block_view};
+ghost use Rattle.acpidis.specs.Bodies.{IsWithinLimits};
+ghost use Rattle.acpidis.specs.Checks.{checks_with, checks_of, Under, added, uncounted, tallied, tried_mark, tried_marks, AreKept, IsKept, IsSame};
 
 use crate::trials::{is_encoding, try_body};
 use aml_code::{CodeFault, NoMemory};
@@ -97,7 +98,8 @@ fn check_blocks(alloc: Global, tables: Tables<'_, '_>) -> Result<Vec<Checked>, N
 /// Counts a method of its table.
 fn count_method(all: &mut Vec<Checked>, mark: Mark)
     requires { Under 1048576 all.old.items }
-    ensures { all.new.items ≡ added_at mark.table mark all.old.items }
+    ensures { (other : Checked) → all.new.items ≡ slice_set all.old.items mark.table
+        (added mark (slice_index_or all.old.items mark.table other)) }
 {
     if mark.table < all.len() {
         all[mark.table] = all[mark.table].with_method(mark);
@@ -122,35 +124,32 @@ pub(crate) fn check_tables(
     tables: Tables<'_, '_>,
     tried: &[Result<bool, CodeFault>],
 ) -> Result<Vec<Checked>, NoMemory>
-    requires short { AreShort (codes_view tables.loaded.now.tables.items) }
-    requires few { length tables.loaded.now.methods.items ≤ 1048576 }
+    requires limits { IsWithinLimits tables.loaded.now }
     requires each { length tried.now ≡ length tables.loaded.now.methods.items }
     ensures { IfOk result (λ all. all.items ≡
-        checks_from (tried_marks tables.entry.loaded.now.methods.items tried.now) 0 (blocks_at tables.entry)) }
+        checks_with (blocks_at tables.entry) (tried_marks tables.entry.loaded.now.methods.items tried.now)) }
 {
     let mut all = check_blocks(alloc, tables)?;
     count_methods(tables.loaded.methods.as_slice(), tried, &mut all);
     Ok(all)
 }
 
-/// Tries the bodies of a listing, and counts the methods of each table.
-fn count_listed(
+/// Tries the bodies of a listing.
+fn try_bodies(
     alloc: Global,
     listing: &Listing<'_>,
-    all: &mut Vec<Checked>,
-) -> Result<(), NoMemory>
+) -> Result<Vec<Result<bool, CodeFault>>, NoMemory>
     requires few { length listing.now.loaded.methods.items ≤ 1048576 }
-    requires new { Under 1 all.old.items }
-    ensures { OnOk result (all.new.items ≡ tallied
-        (marks_of (codes_view listing.now.loaded.tables.items) listing.now.loaded.methods.items
-        (map body_view listing.now.bodies.items)) 0 all.old.items) }
+    ensures kept { IfOk result (λ tried.
+        AreKept (λ n. IsKept (IsSame (body_of listing.now.loaded n))) listing.now.bodies.items tried.items) }
+    ensures each { IfOk result (λ tried. length tried.items ≡ length listing.now.loaded.methods.items) }
 {
-    let loaded = &listing.loaded;
-    for number in 0..loaded.methods.len() {
-        let tried = try_body(alloc, loaded.body(number as u32), &listing.bodies[number])?;
-        count_method(all, Mark::of(&loaded.methods[number], &tried));
+    let mut tried = Vec::new(alloc);
+    for number in 0..listing.bodies.len() {
+        let bytes = listing.loaded.body(number as u32);
+        tried.push(try_body(alloc, bytes, &listing.bodies[number])?)?;
     }
-    Ok(())
+    Ok(tried)
 }
 
 /// Whether each loaded table is the same when it is made anew from what was read: its terms, and those of its methods'
@@ -161,7 +160,6 @@ pub fn check(alloc: Global, listing: &Listing<'_>) -> Result<Vec<Checked>, NoMem
     requires few { length listing.now.loaded.methods.items ≤ 1048576 }
     ensures { IfOk result (λ all. all.items ≡ checks_of listing.now) }
 {
-    let mut all = check_blocks(alloc, listing.tables())?;
-    count_listed(alloc, listing, &mut all)?;
-    Ok(all)
+    let tried = try_bodies(alloc, listing)?;
+    check_tables(alloc, listing.tables(), tried.as_slice())
 }

@@ -1,18 +1,19 @@
 //! From the dumps of a set to its listing, the bodies read by workers.
-ghost use Rattle.std.specs.Prelude.{◌≡◌, ◌⊎◌, ◌≤◌, ℕ, Bool, true, List, ◌∷◌, IfOk, IfErr, get_or, length};
+ghost use Rattle.std.specs.Prelude.{◌≡◌, ◌⊎◌, ◌≤◌, ℕ, Bool, true, List, IfOk, IfErr, get_or, length};
 ghost use Rattle.aml_code.specs.Tree.{Trees};
 ghost use Rattle.aml_load.specs.Loading.{Listed, IsLoad};
 ghost use Rattle.aml_load.specs.Views.{codes_view, AreShort, HoldsLoad};
 ghost use Rattle.acpi_tables.specs.Order.{AreTables, AreTaken, IsOrder};
-ghost use Rattle.acpidis.specs.Bodies.{AreDrawn};
-ghost use Rattle.acpidis.specs.Meaning.{Meaning, LoadsSet, HoldsSet, Means, Shows, Told};
-ghost use Rattle.aml_text.specs.Matched.{AreMatched};
+ghost use Rattle.acpidis.specs.Bodies.{AreDrawn, IsWithinLimits};
+ghost use Rattle.acpidis.specs.Meaning.{Meaning, LoadsSet, IsSet, Means, Shows, Told};
+ghost use Rattle.aml_text.specs.Matched.{indexes_in};
 ghost use Rattle.acpidis.specs.Refusals.{IsWant, load_refusal, TellsTable, TellsLoad, TellsBlocks};
 
 use crate::bodies::read_bodies;
+use crate::crew::Crew;
 use crate::options::Options;
 use crate::refusal::Refusal;
-use crate::tables::{codes_of, indexes_of};
+use crate::tables::codes_of;
 use acpi_tables::{Bad, Dump, Order, TableFault, load_order};
 use aml_load::{LoadFault, Loaded, load};
 use aml_names::Path;
@@ -38,7 +39,7 @@ fn order_in(alloc: Global, dumps: &[Dump], any_sum: bool) -> Result<Order, Refus
     ensures order { IfOk result (λ order. IsOrder dumps.now any_sum order.dsdt order.ssdts.items) }
     ensures only { IfOk result (λ order. (dsdt : ℕ) (ssdts : List ℕ) → IsOrder dumps.now any_sum dsdt ssdts →
         (dsdt ≡ order.dsdt) × (ssdts ≡ order.ssdts.items)) }
-    ensures tables { IfOk result (λ order. AreTables dumps.now (order.dsdt ∷ order.ssdts.items)) }
+    ensures tables { IfOk result (λ order. AreTables dumps.now (indexes_in order)) }
     ensures none { IfErr result (λ e. IsWant e ⊎ ((dsdt : ℕ) (ssdts : List ℕ) →
         ¬ IsOrder dumps.now any_sum dsdt ssdts)) }
     ensures tells { IfErr result (TellsTable dumps.now any_sum) }
@@ -51,18 +52,19 @@ fn order_in(alloc: Global, dumps: &[Dump], any_sum: bool) -> Result<Order, Refus
 }
 
 /// The dump of a table.
-fn dump_at(order: &[usize], table: usize) -> usize
-    ensures { result ≡ get_or order.now table 0 }
+fn dump_at(order: &Order, table: usize) -> usize
+    ensures { result ≡ get_or (indexes_in order.now) table 0 }
 {
-    match order.get(table) {
-        None => 0,
-        Some(index) => *index,
+    if table == 0 {
+        order.dsdt
+    } else {
+        order.ssdts.get(table - 1).copied().unwrap_or(0)
     }
 }
 
 /// Why tables that can't be loaded aren't disassembled, by the dump of the table at fault.
-fn refused_load(order: &[usize], fault: LoadFault) -> Refusal
-    ensures { result ≡ load_refusal order.now fault }
+fn refused_load(order: &Order, fault: LoadFault) -> Refusal
+    ensures { result ≡ load_refusal (indexes_in order.now) fault }
 {
     match fault {
         LoadFault::Code(table, fault) => Refusal::Load(LoadFault::Code(
@@ -84,7 +86,7 @@ fn load_in<'a>(
     alloc: Global,
     codes: &[&'a [u8]],
     givens: &[(Path, u8)],
-    order: &[usize],
+    order: &Order,
 ) -> Result<Loaded<'a>, Refusal>
     requires short { AreShort (codes_view codes.now) }
     ensures sound { IfOk result (λ x. (trees : List Trees) × (m : Listed) ×
@@ -93,11 +95,10 @@ fn load_in<'a>(
     ensures one { IfOk result (λ x. (trees : List Trees) (m : Listed) →
         IsLoad givens.now (codes_view codes.now) trees m →
         HoldsLoad x (codes_view codes.now) trees m) }
-    ensures few { IfOk result (λ x. length x.methods.items ≤ 1048576) }
-    ensures still { IfOk result (λ x. AreShort (codes_view x.tables.items)) }
+    ensures limits { IfOk result IsWithinLimits }
     ensures complete { IfErr result (λ e. IsWant e ⊎ ((trees : List Trees) (m : Listed) →
         IsLoad givens.now (codes_view codes.now) trees m → ⊥)) }
-    ensures tells { IfErr result (TellsLoad givens.now (codes_view codes.now) order.now) }
+    ensures tells { IfErr result (TellsLoad givens.now (codes_view codes.now) (indexes_in order.now)) }
     ensures of_load { IfErr result (λ e. (dumps : List Dump) (any_sum : Bool) → TellsTable dumps any_sum e) }
 {
     match load(alloc, codes, givens) {
@@ -112,23 +113,18 @@ pub(crate) fn load_set<'a>(
     dumps: &'a [Dump],
     options: &Options,
 ) -> Result<(Order, Loaded<'a>), Refusal>
-    ensures sound { IfOk result (λ x. (k : Meaning) × LoadsSet dumps.now options.now k × HoldsSet x.0 x.1 dumps.now k) }
-    ensures one { IfOk result (λ x. (k : Meaning) → LoadsSet dumps.now options.now k → HoldsSet x.0 x.1 dumps.now k) }
-    ensures matched { IfOk result (λ x. AreMatched x.0 x.1) }
-    ensures few { IfOk result (λ x. length x.1.methods.items ≤ 1048576) }
-    ensures short { IfOk result (λ x. AreShort (codes_view x.1.tables.items)) }
+    ensures set { IfOk result (λ x. IsSet dumps.now options.now x.0 x.1) }
     ensures complete { IfErr result (λ e. IsWant e ⊎ ((k : Meaning) → ¬ LoadsSet dumps.now options.now k)) }
     ensures true_table { IfErr result (TellsTable dumps.now options.now.any_sum) }
     ensures true_load { IfErr result (TellsBlocks dumps.now options.now) }
 {
     let order = order_in(alloc, dumps, options.any_sum)?;
-    let indexes = indexes_of(alloc, &order)?;
-    let codes = codes_of(alloc, dumps, indexes.as_slice())?;
+    let codes = codes_of(alloc, dumps, &order)?;
     let loaded = match load_in(
         alloc,
         codes.as_slice(),
         options.externals.as_slice(),
-        indexes.as_slice(),
+        &order,
     ) {
         Ok(loaded) => loaded,
         Err(refusal) => return Err(refusal),
@@ -176,7 +172,13 @@ pub fn disassemble<'a, R: Threads + Wait + Sync, G: Gate + Sync>(
         Ok(set) => set,
         Err(refusal) => return Err(refusal),
     };
-    let found = read_bodies(rt, alloc, &loaded, options.unknown_zero, workers, gate)?;
+    let crew = Crew {
+        rt,
+        alloc,
+        workers,
+        gate,
+    };
+    let found = read_bodies(&crew, &loaded, options.unknown_zero)?;
     Ok(Listing {
         dumps,
         order,

@@ -1,10 +1,10 @@
 //! A whole run: from the dumps of a set to its listing and the text of it.
 #![tactic(auto)]
 
-mod aml;
 mod bodies;
 mod check_lines;
 mod checking;
+mod crew;
 mod disassembling;
 mod faults;
 mod options;

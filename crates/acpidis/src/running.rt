@@ -8,6 +8,7 @@ ghost use Rattle.acpidis.specs.Meaning.{IsSet};
 use crate::bodies::keep_bodies;
 use crate::check_lines::{are_same, write_tables};
 use crate::checking::check_tables;
+use crate::crew::Crew;
 use crate::disassembling::load_set;
 use crate::faults::RunFault;
 use crate::options::Options;
@@ -21,7 +22,6 @@ use aml_load::{LoadFault, Method};
 use aml_pool::Gate;
 use aml_text::{Tables, body_levels, write_printed};
 use std::alloc::Global;
-use std::fmt::Display;
 use std::io::Write;
 use std::sync::Wait;
 use std::thread::Threads;
@@ -73,7 +73,13 @@ pub fn run<R: Threads + Wait + Sync, G: Gate + Sync, O: Write, E: Write>(
     ensures cut { result ≡ 4 →
         IsCut dumps.now options check (O.contents out.old) (O.contents out.new) }
 {
-    match run_set(rt, alloc, dumps, &options, workers, check, gate, out, err) {
+    let crew = Crew {
+        rt,
+        alloc,
+        workers,
+        gate,
+    };
+    match run_set(&crew, dumps, &options, check, out, err) {
         Ok(status) => status,
         Err(fault) => print_fault(dumps, fault, err),
     }
@@ -81,61 +87,48 @@ pub fn run<R: Threads + Wait + Sync, G: Gate + Sync, O: Write, E: Write>(
 
 /// Loads the tables of these dumps, and writes what is printed of them. Answers the status.
 fn run_set<R: Threads + Wait + Sync, G: Gate + Sync, O: Write, E: Write>(
-    rt: &R,
-    alloc: Global,
+    crew: &Crew<'_, R, G>,
     dumps: &[Dump],
     options: &Options,
-    workers: u32,
     check: bool,
-    gate: &G,
     out: &mut O,
     err: &mut E,
 ) -> Result<u8, RunFault>
-    requires workers { (1 ≤ workers) × (workers ≤ 64) }
+    requires workers { (1 ≤ crew.now.workers) × (crew.now.workers ≤ 64) }
     ensures { Ends dumps.now options.now check (O.contents out.old) (O.contents out.new) result }
 {
-    let (order, loaded) = load_set(alloc, dumps, options)?;
+    let (order, loaded) = load_set(crew.alloc, dumps, options)?;
     let set = Tables {
         dumps,
         order: &order,
         loaded: &loaded,
     };
     if check {
-        run_checks(rt, alloc, set, options, workers, gate, out, err)
+        run_checks(crew, set, options, out, err)
     } else {
-        run_listing(rt, alloc, set, options, workers, gate, out, err)
+        run_listing(crew, set, options, out, err)
     }
 }
 
 /// Writes the listing of a loaded set, and a line on `err` for each body that can't be read. Each body is read and
 /// printed by a worker, which lets its terms go. Answers the status.
 fn run_listing<R: Threads + Wait + Sync, G: Gate + Sync, O: Write, E: Write>(
-    rt: &R,
-    alloc: Global,
+    crew: &Crew<'_, R, G>,
     set: Tables<'_, '_>,
     options: &Options,
-    workers: u32,
-    gate: &G,
     out: &mut O,
     err: &mut E,
 ) -> Result<u8, RunFault>
-    requires workers { (1 ≤ workers) × (workers ≤ 64) }
+    requires workers { (1 ≤ crew.now.workers) × (crew.now.workers ≤ 64) }
     requires set { IsSet set.dumps.now options.now set.order.now set.loaded.now }
     ensures { Ends set.entry.dumps.now options.now false (O.contents out.old) (O.contents out.new) result }
 {
-    let levels = body_levels(alloc, set.loaded.trees.as_slice())?;
+    let levels = body_levels(crew.alloc, set.loaded.trees.as_slice())?;
     let keep = Texts {
+        alloc: crew.alloc,
         levels: levels.as_slice(),
     };
-    let found = keep_bodies(
-        rt,
-        alloc,
-        set.loaded,
-        options.unknown_zero,
-        workers,
-        gate,
-        &keep,
-    )?;
+    let found = keep_bodies(crew, set.loaded, options.unknown_zero, &keep)?;
     let texts = found.items.as_slice();
     write_printed(out, set, texts)?;
     print_raw_bodies(set.loaded.methods.as_slice(), texts, err);
@@ -145,30 +138,20 @@ fn run_listing<R: Threads + Wait + Sync, G: Gate + Sync, O: Write, E: Write>(
 /// Writes a line for each table of a loaded set, and a line on `err` for each body that can't be read. Each body is read
 /// and tried by a worker, which lets its terms go. Answers the status.
 fn run_checks<R: Threads + Wait + Sync, G: Gate + Sync, O: Write, E: Write>(
-    rt: &R,
-    alloc: Global,
+    crew: &Crew<'_, R, G>,
     set: Tables<'_, '_>,
     options: &Options,
-    workers: u32,
-    gate: &G,
     out: &mut O,
     err: &mut E,
 ) -> Result<u8, RunFault>
-    requires workers { (1 ≤ workers) × (workers ≤ 64) }
+    requires workers { (1 ≤ crew.now.workers) × (crew.now.workers ≤ 64) }
     requires set { IsSet set.dumps.now options.now set.order.now set.loaded.now }
     ensures { Ends set.entry.dumps.now options.now true (O.contents out.old) (O.contents out.new) result }
 {
-    let found = keep_bodies(
-        rt,
-        alloc,
-        set.loaded,
-        options.unknown_zero,
-        workers,
-        gate,
-        &Trials,
-    )?;
+    let keep = Trials { alloc: crew.alloc };
+    let found = keep_bodies(crew, set.loaded, options.unknown_zero, &keep)?;
     let tried = found.items.as_slice();
-    let checks = check_tables(alloc, set, tried)?;
+    let checks = check_tables(crew.alloc, set, tried)?;
     write_tables(out, set, checks.as_slice())?;
     if !are_same(checks.as_slice()) {
         return Err(RunFault::Differs);
@@ -177,16 +160,18 @@ fn run_checks<R: Threads + Wait + Sync, G: Gate + Sync, O: Write, E: Write>(
     Ok(status_of_bodies(tried))
 }
 
+/// Whether one of these bodies can't be read.
+fn is_any_raw<T>(bodies: &[Result<T, CodeFault>]) -> bool
+    ensures { result ≡ has_fault bodies.now }
+{
+    bodies.iter().any(|body| body.is_err())
+}
+
 /// The status of a run with these bodies.
 fn status_of_bodies<T>(bodies: &[Result<T, CodeFault>]) -> u8
     ensures { result ≡ cond (has_fault bodies.now) 3 0 }
 {
-    for body in bodies {
-        if let Err(_) = body {
-            return RAW;
-        }
-    }
-    DONE
+    if is_any_raw(bodies) { RAW } else { DONE }
 }
 
 /// Prints why a run is refused, and returns its status. A fault of the writer is passed over.
@@ -199,34 +184,32 @@ fn print_fault<E: Write>(dumps: &[Dump], fault: RunFault, err: &mut E) -> u8
             UNWRITTEN
         }
         RunFault::Refused(refusal) => {
-            print_refusal(dumps, refusal, err);
+            print_refusal(dumps, &refusal, err);
             REFUSED
         }
         RunFault::Differs => REFUSED,
     }
 }
 
-/// Prints why a set isn't disassembled.
-fn print_refusal<E: Write>(dumps: &[Dump], refusal: Refusal, err: &mut E) {
-    match refusal {
-        Refusal::Table(fault) => print_table_fault(name_of(dumps, fault.dump), &fault, err),
-        Refusal::Load(fault) => print_table_fault(name_of(dumps, dump_of(&fault)), &fault, err),
-        Refusal::NoThread => {
-            let _ = writeln!(err, "acpidis: NoThread");
+/// Prints why a set isn't disassembled, and the file that it is about.
+fn print_refusal<E: Write>(dumps: &[Dump], refusal: &Refusal, err: &mut E) {
+    let _ = match name_of(dumps, dump_of(refusal)) {
+        Some(name) => {
+            let name = Quoted(name);
+            writeln!(err, "acpidis: table {name}: {refusal}")
         }
-        Refusal::NoMemory => {
-            let _ = writeln!(err, "acpidis: NoMemory");
-        }
-    }
+        None => writeln!(err, "acpidis: {refusal}"),
+    };
 }
 
-/// The dump that a fault is about, if it is about one.
-fn dump_of(fault: &LoadFault) -> Option<usize> {
-    match fault {
-        LoadFault::Code(dump, _) | LoadFault::Space(dump, _) | LoadFault::ModuleCall(dump) => Some(
-            *dump,
-        ),
-        LoadFault::TooManyMethods | LoadFault::NoMemory => None,
+/// The dump that a refusal is about, if it is about one.
+fn dump_of(refusal: &Refusal) -> Option<usize> {
+    match refusal {
+        Refusal::Table(fault) => fault.dump,
+        Refusal::Load(LoadFault::Code(dump, _)) => Some(*dump),
+        Refusal::Load(LoadFault::Space(dump, _)) => Some(*dump),
+        Refusal::Load(LoadFault::ModuleCall(dump)) => Some(*dump),
+        _ => None,
     }
 }
 
@@ -234,17 +217,6 @@ fn dump_of(fault: &LoadFault) -> Option<usize> {
 fn name_of(dumps: &[Dump], index: Option<usize>) -> Option<&str> {
     let dump = dumps.get(index?)?;
     Some(dump.name.as_str())
-}
-
-/// Prints a fault, and the file that it is about.
-fn print_table_fault<F: Display, E: Write>(name: Option<&str>, fault: &F, err: &mut E) {
-    let _ = match name {
-        Some(name) => {
-            let name = Quoted(name);
-            writeln!(err, "acpidis: table {name}: {fault}")
-        }
-        None => writeln!(err, "acpidis: {fault}"),
-    };
 }
 
 /// Prints each body that can't be read, by its method's path, and why.

@@ -12,6 +12,7 @@ use std::alloc::Global;
 /// Each body is kept as its text, at its level, or as its fault.
 #[derive(Clone, Copy)]
 pub(crate) struct Texts<'a> {
+    pub(crate) alloc: Global,
     /// The level of each body.
     pub(crate) levels: &'a [u32],
 }
@@ -20,10 +21,7 @@ pub(crate) struct Texts<'a> {
 fn level_of(levels: &[u32], number: u32) -> u32
     ensures { result ≡ get_or levels.now number 0 }
 {
-    match levels.get(number as usize) {
-        None => 0,
-        Some(level) => *level,
-    }
+    levels.get(number as usize).copied().unwrap_or(0)
 }
 
 /// How many bytes of text are kept of a body: more than 32 for each of its bytes would take as much memory as its terms.
@@ -36,18 +34,12 @@ impl<'a> Keep for Texts<'a> {
 
     ghost keeps = { λ w n bytes body kept. IsKept (IsText (get_or w.levels.now n 0)) body kept };
 
-    fn keep(
-        &self,
-        alloc: Global,
-        number: u32,
-        bytes: &[u8],
-        body: Body,
-    ) -> Result<Result<BodyText, CodeFault>, NoMemory> {
+    fn keep(&self, number: u32, bytes: &[u8], body: Body) -> Result<Self::Kept, NoMemory> {
         match body {
             Body::Raw(fault) => Ok(Err(fault)),
             Body::Tree(nodes) => {
                 let level = level_of(self.levels, number);
-                Ok(Ok(body_text(alloc, level, most_of(bytes), nodes)))
+                Ok(Ok(body_text(self.alloc, level, most_of(bytes), nodes)))
             }
         }
     }

@@ -34,21 +34,17 @@ pub(crate) fn try_body(
 
 /// Of each body is kept whether its terms encode to its bytes, or its fault.
 #[derive(Clone, Copy)]
-pub(crate) struct Trials;
+pub(crate) struct Trials {
+    pub(crate) alloc: Global,
+}
 
 impl Keep for Trials {
     type Kept = Result<bool, CodeFault>;
 
     ghost keeps = { λ w n bytes body kept. IsKept (IsSame bytes) body kept };
 
-    fn keep(
-        &self,
-        alloc: Global,
-        _number: u32,
-        bytes: &[u8],
-        body: Body,
-    ) -> Result<Result<bool, CodeFault>, NoMemory> {
-        let same = try_body(alloc, bytes, &body)?;
+    fn keep(&self, _number: u32, bytes: &[u8], body: Body) -> Result<Self::Kept, NoMemory> {
+        let same = try_body(self.alloc, bytes, &body)?;
         Ok(same)
     }
 }

@@ -11,42 +11,42 @@ use Rattle.aml_code.specs.declared.rows.Role.{Role}
 use Rattle.aml_code.specs.declared.tree.Node.{Node, Op}
 use Rattle.aml_code.specs.declared.tree.Part.{Part}
 use Rattle.aml_code.specs.declared.tree.Tail.{Tail as CodeTail}
-use Rattle.aml_code.specs.Opcodes.{row_of}
 use Rattle.aml_code.specs.Tree.{Parts, Tail}
 use Rattle.aml_code.specs.View.{node_view, parts_view, tail_view}
 use Rattle.aml_code.proofs.Views.{view-Op}
 use Rattle.std.specs.FinMap as map
+use Rattle.std.specs.Option.{ok_or}
+use Rattle.std.specs.List.{cons_option}
 use Rattle.aml_names.specs.declared.segments.Seg.{Seg}
 use Rattle.aml_space.specs.declared.kinds.Kind.{Kind}
 use Rattle.aml_space.specs.declared.kinds.Kind.TheVariants as kinds
 use Rattle.aml_space.specs.declared.faults.SpaceFault.{SpaceFault}
 use Rattle.aml_space.specs.declared.faults.SpaceFault.TheVariants as faults
-use Rattle.aml_space.specs.Namespace.{Entry, Body, declares, external, declared_at}
+use Rattle.aml_space.specs.Namespace.{Entry, Body, declares, declared_at}
 use Rattle.aml_space.specs.Known.{Known, StandsFor, is_declared}
 use Rattle.aml_load.specs.declared.faults.LoadFault.{LoadFault}
 use Rattle.aml_load.specs.declared.faults.LoadFault.TheVariants as loads
 use Rattle.aml_load.specs.declared.methods.Method.{Method}
 use Rattle.aml_load.specs.declared.walking.Progress.{Progress}
-use Rattle.aml_load.specs.Loading.{Listed, plus, with_uses, methods_of, role_of, kinds_in, parts_uses, tail_uses}
-use Rattle.aml_load.specs.Walking.{◌>>=◌, listed, or_fault, place_at, space_fault, entry_at, name_at, fields_at, do_as, walk, walk_inside, Fails, Holds}
-use Rattle.aml_load.proofs.Steps.{methods_more}
+use Rattle.aml_load.specs.Loading.{◌>>=◌, Listed, plus, with_uses, method_of, methods_of, role_of, kinds_in, parts_uses, tail_uses, place_at, entry_at, new_at}
+use Rattle.aml_load.specs.Loading.{units_at, declare_as, declare, declare_inside}
+use Rattle.aml_load.specs.Walking.{space_fault, Fails, Holds}
+
+pub methods_more : (es : List Entry) (x : Entry) → methods_of (es ++ x ∷ []) ≡ methods_of es ++ methods_of (x ∷ [])
+methods_more [] x = refl
+methods_more (e ∷ es) x = by (method_of e) (methods_more es x)
+  where
+    by : (o : Option Method) → methods_of (es ++ x ∷ []) ≡ methods_of es ++ methods_of (x ∷ [])
+        → cons_option o (methods_of (es ++ x ∷ [])) ≡ cons_option o (methods_of es) ++ methods_of (x ∷ [])
+    by None more = more
+    by (Some m) more = ap (λ (ms : List Method). m ∷ ms) more
 
 -- an entry without a body
-pub external_held : (old new : Progress) (l : Listed) (p : List Seg) (n : ℕ) → Holds old l → StandsFor new.space (l.entries ++ external p n ∷ [])
-    → new.methods.items ≡ old.methods.items → new.uses.items ≡ old.uses.items
-    → Holds new (plus l (external p n))
-external_held old new l p n h s ms us = record {
+pub plain_held : (old new : Progress) (l : Listed) (x : Entry) → methods_of (x ∷ []) ≡ [] → Holds old l → StandsFor new.space (l.entries ++ x ∷ [])
+    → new.methods.items ≡ old.methods.items → new.uses.items ≡ old.uses.items → Holds new (plus l x)
+plain_held old new l x none h s ms us = record {
   space = s;
-  methods = ms ∙ h.methods ∙ sym (append-nil (methods_of l.entries)) ∙ sym (methods_more l.entries (external p n));
-  uses = us ∙ h.uses;
-}
-
-pub declared_held : (old new : Progress) (l : Listed) (p : List Seg) (k : Kind) → Holds old l → StandsFor new.space (l.entries ++ declares p k None ∷ [])
-    → new.methods.items ≡ old.methods.items → new.uses.items ≡ old.uses.items
-    → Holds new (plus l (declares p k None))
-declared_held old new l p k h s ms us = record {
-  space = s;
-  methods = ms ∙ h.methods ∙ sym (append-nil (methods_of l.entries)) ∙ sym (methods_more l.entries (declares p k None));
+  methods = ms ∙ h.methods ∙ sym (methods_more l.entries x ∙ ap (λ zs. methods_of l.entries ++ zs) none ∙ append-nil (methods_of l.entries));
   uses = us ∙ h.uses;
 }
 
@@ -64,24 +64,25 @@ method_held old new l p k b m h s ms is us = record {
 -- the names of a term more
 pub uses_held : (old new : Progress) (l : Listed) (t : ℕ) (scope : List Seg) (o : ℕ) (ps : Parts) (r : Tail) → Holds old l → new.space ≡ old.space
     → new.methods.items ≡ old.methods.items
-    → new.uses.items ≡ old.uses.items ++ (parts_uses t scope (kinds_in (row_of o)) ps ++ tail_uses t scope r) → Holds new (with_uses t l scope o ps r)
+    → new.uses.items ≡ old.uses.items ++ (parts_uses t scope (kinds_in o) ps ++ tail_uses t scope r) → Holds new (with_uses t l scope o ps r)
 uses_held old new l t scope o ps r h s ms us = record {
   space = subst (λ k. StandsFor k l.entries) (sym s) h.space;
   methods = ms ∙ h.methods;
-  uses = us ∙ ap (λ us. us ++ (parts_uses t scope (kinds_in (row_of o)) ps ++ tail_uses t scope r)) h.uses;
+  uses = us ∙ ap (λ us. us ++ (parts_uses t scope (kinds_in o) ps ++ tail_uses t scope r)) h.uses;
 }
 
--- what the walk of an opcode is
-pub walk_op : (t : ℕ) (l : Listed) (scope : List Seg) (node : Node) (o : ℕ) (w : Option PkgWidth) (ps : Vec Part Global) (r : CodeTail) (role : Role)
+-- what an opcode declares
+pub declare_op : (t : ℕ) (l : Listed) (scope : List Seg) (node : Node) (o : ℕ) (w : Option PkgWidth) (ps : Vec Part Global) (r : CodeTail) (role : Role)
     → node ≡ Op o w ps r → role ≡ role_of o
-    → walk t l scope (node_view node) ≡ do_as role t (with_uses t l scope o (parts_view ps.items) (tail_view r)) scope (parts_view ps.items) (tail_view r)
-    (λ l p. walk_inside t l p (tail_view r))
-unfolding walk
-walk_op t l scope node o w ps r role e is =
-    ap (λ n. walk t l scope (node_view n)) e
-    ∙ ap (walk t l scope) (view-Op o w ps r)
-    ∙ ap (λ k. do_as k t (with_uses t l scope o (parts_view ps.items) (tail_view r)) scope (parts_view ps.items) (tail_view r)
-    (λ l p. walk_inside t l p (tail_view r))) (sym is)
+    → declare t l scope (node_view node)
+    ≡ declare_as role t (with_uses t l scope o (parts_view ps.items) (tail_view r)) scope (parts_view ps.items) (tail_view r)
+    (λ l p. declare_inside t l p (tail_view r))
+unfolding declare
+declare_op t l scope node o w ps r role e is =
+    ap (λ n. declare t l scope (node_view n)) e
+    ∙ ap (declare t l scope) (view-Op o w ps r)
+    ∙ ap (λ k. declare_as k t (with_uses t l scope o (parts_view ps.items) (tail_view r)) scope (parts_view ps.items) (tail_view r)
+    (λ l p. declare_inside t l p (tail_view r))) (sym is)
 
 fresh_by : (o : Option Kind) (u : Unit {0}) (e : SpaceFault) → (IsTrue (is_some o) → Ok u ≡ Err e) → o ≡ None
 fresh_by None u e h = refl
@@ -95,7 +96,10 @@ pub fresh : (k : Known) (es : List Entry) (p : List Seg) (u : Unit {0}) → Stan
     → declared_at es p ≡ None
 fresh k es p u s h = sym (s.same_kinds p) ∙ fresh_by (map.get k.kinds p) u (faults.Duplicate p) h
 
-ended : (r : Result Listed LoadFault) → (r >>= λ k. listed k) ≡ r
+abbrev the_ok : Listed → Result Listed LoadFault
+the_ok l = Ok l
+
+ended : (r : Result Listed LoadFault) → (r >>= λ k. the_ok k) ≡ r
 ended (Ok l) = refl
 ended (Err e) = refl
 
@@ -107,15 +111,20 @@ field_placed scope s =
     rw (le, all) (ap (λ front. Some (front ++ s ∷ [])) (take_all (length scope) scope (omega arith)))
 
 pub unit_is : (t : ℕ) (l : Listed) (scope p : List Seg) (s : Seg) → p ≡ scope ++ s ∷ []
-    → entry_at t l p (declares p kinds.Field None) ≡ fields_at t l scope (plain_name s ∷ [])
-unfolding fields_at name_at place_at
+    → entry_at t l p (declares p kinds.Field None) ≡ units_at t l scope (plain_name s ∷ [])
+unfolding units_at new_at place_at
 unit_is t l scope p s e =
     ap (λ q. entry_at t l q (declares q kinds.Field None)) e
-    ∙ sym (ap (λ r. r >>= λ q. entry_at t l q (declares q kinds.Field None)) (ap (or_fault (loads.Space t faults.AboveRoot)) (field_placed scope s)))
-    ∙ sym (ended (name_at t l scope (Some (plain_name s)) kinds.Field))
+    ∙ sym (ap (λ r. r >>= λ q. entry_at t l q (declares q kinds.Field None)) (ap (λ o. ok_or o (loads.Space t faults.AboveRoot)) (field_placed scope s)))
+    ∙ sym (ended (new_at t l scope (Some (plain_name s)) (λ q. declares q kinds.Field None)))
+
+-- where nothing declared the path, the entry is there
+pub entry_again : (t : ℕ) (l : Listed) (p : List Seg) (x : Entry) → declared_at l.entries p ≡ None → entry_at t l p x ≡ Ok (plus l x)
+unfolding entry_at
+entry_again t l p x e = ap (λ o. cond (is_some o) (Err (loads.Space t (faults.Duplicate p))) (the_ok (plus l x))) e
 
 twice : (o : Option Kind) (p : List Seg) (t : ℕ) (l : Listed) → IsTrue (is_some o)
-    → cond (is_some o) (Err (loads.Space t (faults.Duplicate p))) (listed l) ≡ Err (loads.Space t (faults.Duplicate p))
+    → cond (is_some o) (Err (loads.Space t (faults.Duplicate p))) (the_ok l) ≡ Err (loads.Space t (faults.Duplicate p))
 twice None p t l d = absurd cc
 twice (Some k) p t l d = refl
 

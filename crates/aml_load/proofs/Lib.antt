@@ -1,5 +1,3 @@
-pub mod Steps
-pub mod Walks
 pub mod Holding
 pub mod Outcome
 mod Givens

@@ -87,7 +87,8 @@ module _ (s : Setting) (t : ℕ) where
     fields_none levels ls (field_more u us) l =
         both_none (field_spans t u) (fields_spans t us) (field_none levels ls u l.0) (fields_none levels ls us l.1)
 
-  pub elements_none : (levels : ℕ) (p : Position) (k : TailKind) (ls : PathSet) (xs : Trees) → IsTail s (IsLawful s levels) p k ls (elements xs) → all_spans t xs ≡ []
+  pub elements_none : (levels : ℕ) (p : Position) (k : TailKind) (ls : PathSet) (xs : Trees) → IsTail s (IsLawful s levels) p k ls (elements xs)
+      → all_spans t xs ≡ []
   elements_none levels p k ls xs l = all_none levels positions.Data ls xs refl (elements_tail s levels p ls k xs l)
 
   pub fields_tail_none : (levels : ℕ) (p : Position) (k : TailKind) (ls : PathSet) (us : Fields) → IsTail s (IsLawful s levels) p k ls (fields us)

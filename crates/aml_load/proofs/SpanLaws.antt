@@ -1,10 +1,13 @@
--- The methods of the entries stand in the order of the text, each once: where a method can't stand, there is no body, and
--- loading goes into all terms in which one can stand.
-use Rattle.std.proofs.Common.{◌≡◌, ℕ, zero, suc, Bool, true, false, not, ◌&&◌, List, [], ◌∷◌, ◌++◌, length, map, Some, None, refl, sym, ap, subst, ◌∙◌}
-use Rattle.std.proofs.Common.{append_assoc, slice_get}
+-- The methods of the entries stand in the order of the text, each once, and there aren't too many: where a method can't
+-- stand, there is no body, and loading goes into all terms in which one can stand.
+use Rattle.std.proofs.Common.{◌≡◌, ℕ, zero, suc, Bool, true, false, not, ◌&&◌, List, [], ◌∷◌, ◌++◌, length, map, Option, Some, None, refl, sym, ap, subst, ◌∙◌}
+use Rattle.std.proofs.Common.{append_assoc, slice_get, Result, Ok, Err, is_some, cond, nat_le, ◌≤◌, ◌<◌, ◌+◌, arith}
+use Rattle.std.specs.Prelude.{IfOk}
 use Rattle.std.specs.FinSet as set
-use Rattle.std.specs.Option.{option_map}
-use Rattle.std.proofs.lemmas.List.{append-nil, map-append, length-map}
+use Rattle.std.specs.List.{AllZip}
+use Rattle.std.specs.Option.{option_map, unwrap_or}
+use Rattle.std.proofs.lemmas.Bool.Decides.{nat_tests}
+use Rattle.std.proofs.lemmas.List.{append-nil, map-append, length-append, length-map}
 use Rattle.std.proofs.lemmas.Option.{slice_get-map}
 use Rattle.aml_names.specs.declared.segments.Seg.{Seg}
 use Rattle.aml_names.specs.declared.names.Name.{Name}
@@ -19,18 +22,20 @@ use Rattle.aml_code.specs.declared.rows.TailKind.{TailKind}
 use Rattle.aml_code.specs.declared.rows.TailKind.TheVariants as tails
 use Rattle.aml_code.specs.Opcodes.{Row, rows, row_of, takes}
 use Rattle.aml_code.specs.Tree.{Tree, nothing, named, op, Trees, no_trees, tree_more, Parts, Tail, terms, elements, fields, body}
-use Rattle.aml_code.specs.Lawful.{after, field_names, Setting, IsLawful, AreTerms, IsTail, terms_in, next_position, setting_of, no_arguments}
+use Rattle.aml_code.specs.Lawful.{after, field_names, last_label, Setting, IsLawful, AreTerms, IsTail, ReadsModule, terms_in, next_position, setting_of}
+use Rattle.aml_code.specs.Lawful.{no_arguments}
 use Rattle.aml_code.proofs.RowFacts.{and_left, and_right, rows_say}
 use Rattle.aml_parse.specs.Reading.{takes_names}
-use Rattle.aml_space.specs.declared.kinds.Kind.{Kind}
 use Rattle.aml_space.specs.declared.kinds.Kind.TheVariants as kinds
-use Rattle.aml_space.specs.Namespace.{Givens, declares, external}
-use Rattle.aml_load.specs.Loading.{role_of, role_in, kind_of, Listed, plus, with_uses, byte_of, body_start, body_len, target_of, method_entry, DeclareUnits}
-use Rattle.aml_load.specs.Loading.{DoesAs, Declares, DeclareInside, DeclareAll, DeclareTables, methods_of, ReadTables, IsLoad, first_listed}
+use Rattle.aml_space.specs.Namespace.{Entry, Givens, declares, external, declared_at, given_entries}
+use Rattle.aml_load.specs.declared.faults.LoadFault.{LoadFault}
+use Rattle.aml_load.specs.Loading.{◌>>=◌, role_of, kind_of, Listed, with_uses, first_listed, first_label, byte_of, body_start, body_len, method_entry}
+use Rattle.aml_load.specs.Loading.{methods_of, most_methods, place_at, lead_at, entry_at, new_at, method_at, alias_at, external_at, units_at, declare_as}
+use Rattle.aml_load.specs.Loading.{declare, declare_inside, declare_all, declare_tables, IsLoad}
+use Rattle.aml_load.specs.Spans.{Span, method_span, tree_spans, all_spans, parts_spans, tail_spans, fields_spans, tables_spans, InTextOrder}
 use Rattle.aml_load.proofs.Givens.{no_methods}
-use Rattle.aml_load.specs.Spans.{Span, method_span, tree_spans, all_spans, tail_spans, fields_spans, tables_spans, InTextOrder}
+use Rattle.aml_load.proofs.Holding.{methods_more}
 use Rattle.aml_load.proofs.NoSpans.{terms_tail, body_tail, parts_none, all_none, tail_none, elements_none, fields_tail_none}
-use Rattle.aml_load.proofs.Steps.{methods_more}
 
 -- ---- what the rows say of the terms of tables, by a test over the whole table of opcodes
 
@@ -93,82 +98,133 @@ next_in_table _ x h = absurd cc
 
 role_is : (o : ℕ) (r : Row) → row_of o ≡ Some r → role_of o ≡ r.role
 unfolding role_of
-role_is o r e = ap role_in e
+role_is o r e = ap (λ row. unwrap_or (option_map (λ (r : Row). r.role) row) roles.Other) e
 
 -- ---- what entries add to the methods' spans
 
--- the spans of the methods so far
-abbrev spans_so_far : Listed → List Span
-spans_so_far l = map method_span (methods_of l.entries)
+abbrev spans_of : List Entry → List Span
+spans_of es = map method_span (methods_of es)
 
--- from l to m the spans become more by these
-abbrev Adds : Listed → Listed → List Span → Type 0
-Adds l m spans = spans_so_far m ≡ spans_so_far l ++ spans
+-- From some entries to others the spans become more by these, and there don't become too many methods.
+record Adds (es more : List Entry) (spans : List Span) : Type 0 where
+  grow : spans_of more ≡ spans_of es ++ spans
+  few : length (methods_of es) ≤ most_methods → length (methods_of more) ≤ most_methods
 
-same_adds : (l m : Listed) (spans : List Span) → spans_so_far m ≡ spans_so_far l → spans ≡ [] → Adds l m spans
-same_adds l m spans e none = e ∙ sym (append-nil (spans_so_far l)) ∙ ap (λ zs. spans_so_far l ++ zs) (sym none)
+nothing_more : (es : List Entry) → Adds es es []
+nothing_more es = record { grow = sym (append-nil (spans_of es)); few = λ h. h }
 
-after_adds : (l k m : Listed) (spans : List Span) → spans_so_far k ≡ spans_so_far l → Adds k m spans → Adds l m spans
-after_adds l k m spans e h = h ∙ ap (λ zs. zs ++ spans) e
+then_adds : (es fs gs : List Entry) (xs ys : List Span) → Adds es fs xs → Adds fs gs ys → Adds es gs (xs ++ ys)
+then_adds es fs gs xs ys h g = record {
+  grow = g.grow ∙ ap (λ zs. zs ++ ys) h.grow ∙ append_assoc (spans_of es) xs ys;
+  few = λ fits. g.few (h.few fits);
+}
 
-then_adds : (l k m : Listed) (xs ys : List Span) → Adds l k xs → Adds k m ys → Adds l m (xs ++ ys)
-then_adds l k m xs ys h g = g ∙ ap (λ zs. zs ++ ys) h ∙ append_assoc (spans_so_far l) xs ys
-
-declared_same : (l : Listed) (p : List Seg) (k : Kind) → spans_so_far (plus l (declares p k None)) ≡ spans_so_far l
-declared_same l p k = ap (map method_span) (methods_more l.entries (declares p k None) ∙ append-nil (methods_of l.entries))
-
-external_same : (l : Listed) (p : List Seg) (n : ℕ) → spans_so_far (plus l (external p n)) ≡ spans_so_far l
-external_same l p n = ap (map method_span) (methods_more l.entries (external p n) ∙ append-nil (methods_of l.entries))
-
-fields_same : (l : Listed) (scope : List Seg) (ns : List Name) (m : Listed) → DeclareUnits l scope ns m → spans_so_far m ≡ spans_so_far l
-fields_same l scope [] m h = ap spans_so_far h
-fields_same l scope (n ∷ ns) m h = fields_same (plus l (declares h.0 kinds.Field None)) scope ns m h.2 ∙ declared_same l h.0 kinds.Field
+-- an entry without a body
+plain_adds : (es : List Entry) (x : Entry) → methods_of (x ∷ []) ≡ [] → Adds es (es ++ x ∷ []) []
+plain_adds es x none =
+    let same = methods_more es x ∙ ap (λ ms. methods_of es ++ ms) none in
+    record {
+      grow = ap (map method_span) (same ∙ append-nil (methods_of es)) ∙ sym (append-nil (spans_of es));
+      few = subst (λ ms. length ms ≤ most_methods) (sym (same ∙ append-nil (methods_of es)));
+    }
 
 abbrev one_span : ℕ → Tail → List Span
 one_span t x = record { table = t; start = body_start x; len = body_len x } ∷ []
 
-method_adds : (t : ℕ) (l : Listed) (p : List Seg) (flags : ℕ) (x : Tail) → Adds l (plus l (method_entry t p flags (body_start x) (body_len x))) (one_span t x)
-method_adds t l p flags x =
+method_adds : (t : ℕ) (es : List Entry) (p : List Seg) (flags : ℕ) (x : Tail) → nat_le most_methods (length (methods_of es)) ≡ false
+    → Adds es (es ++ method_entry t p flags (body_start x) (body_len x) ∷ []) (one_span t x)
+method_adds t es p flags x room =
     let e = method_entry t p flags (body_start x) (body_len x) in
-    ap (map method_span) (methods_more l.entries e)
-    ∙ map-append method_span (methods_of l.entries) (record { path = p; table = t; start = body_start x; len = body_len x; flags = flags } ∷ [])
+    let less : length (methods_of es) < 1048576 = grind (arith, nat_tests, room) in
+    record {
+      grow = ap (map method_span) (methods_more es e) ∙ map-append method_span (methods_of es) (methods_of (e ∷ []));
+      few = λ fits. omega (arith, less, ap length (methods_more es e), length-append (methods_of es) (methods_of (e ∷ [])));
+    }
 
 -- ---- what a term adds, by its role
 
-Adding : (Listed → List Seg → Listed → Type 0) → List Span → Type 0
-Adding Inside spans = (l : Listed) (p : List Seg) (m : Listed) → Inside l p m → Adds l m spans
+-- what a step gives adds these spans to what was listed
+abbrev GivesMore : Result Listed LoadFault → Listed → List Span → Type 0
+GivesMore r l spans = IfOk r (λ m. Adds l.entries m.entries spans)
+
+-- a fault where a test holds, else a step
+unless_adds : (b : Bool) (d : LoadFault) (r : Result Listed LoadFault) (l : Listed) (spans : List Span) → (b ≡ false → GivesMore r l spans)
+    → GivesMore (cond b (Err d) r) l spans
+unless_adds true d r l spans h = tt
+unless_adds false d r l spans h = h refl
+
+-- a step of which nothing is known, and another
+after_adds : {A : Type 0} (r : Result A LoadFault) (f : A → Result Listed LoadFault) (l : Listed) (spans : List Span)
+    → ((x : A) → GivesMore (f x) l spans) → GivesMore (r >>= f) l spans
+after_adds (Ok x) f l spans h = h x
+after_adds (Err e) f l spans h = tt
+
+-- one step behind another
+more_adds : (r : Result Listed LoadFault) (f : Listed → Result Listed LoadFault) (l : Listed) (xs ys : List Span) → GivesMore r l xs
+    → ((k : Listed) → GivesMore (f k) k ys) → GivesMore (r >>= f) l (xs ++ ys)
+more_adds (Ok k) f l xs ys h g = by (f k) (g k)
+  where
+    by : (r : Result Listed LoadFault) → GivesMore r k ys → GivesMore r l (xs ++ ys)
+    by (Ok m) two = then_adds l.entries k.entries m.entries xs ys h two
+    by (Err e) two = tt
+more_adds (Err e) f l xs ys h g = tt
+
+entry_adds : (t : ℕ) (l : Listed) (p : List Seg) (x : Entry) (spans : List Span) → Adds l.entries (l.entries ++ x ∷ []) spans
+    → GivesMore (entry_at t l p x) l spans
+unfolding entry_at
+entry_adds t l p x spans h = unless_adds (is_some (declared_at l.entries p)) _ _ l spans (λ free. h)
+
+new_adds : (t : ℕ) (l : Listed) (scope : List Seg) (n : Option Name) (x : List Seg → Entry) (spans : List Span)
+    → ((p : List Seg) → Adds l.entries (l.entries ++ x p ∷ []) spans) → GivesMore (new_at t l scope n x) l spans
+unfolding new_at
+new_adds t l scope n x spans h = after_adds (place_at t scope n) _ l spans (λ p. entry_adds t l p (x p) spans (h p))
+
+units_add : (t : ℕ) (l : Listed) (scope : List Seg) (ns : List Name) → GivesMore (units_at t l scope ns) l []
+unfolding units_at
+units_add t l scope [] = nothing_more l.entries
+units_add t l scope (n ∷ ns) =
+    more_adds (new_at t l scope (Some n) (λ p. declares p kinds.Field None)) _ l [] []
+    (new_adds t l scope (Some n) _ [] (λ p. plain_adds l.entries (declares p kinds.Field None) refl)) (λ k. units_add t k scope ns)
 
 -- what a tail of this kind has: no spans, its own body's span, or what the terms inside it add
-record TailSpans (k : TailKind) (t : ℕ) (x : Tail) (Inside : Listed → List Seg → Listed → Type 0) : Type 0 where
+record TailSpans (k : TailKind) (t : ℕ) (x : Tail) (inside : Listed → List Seg → Result Listed LoadFault) : Type 0 where
   flat : is_flat k ≡ true → tail_spans t x ≡ []
   one : is_body k ≡ true → tail_spans t x ≡ one_span t x
-  inside : not (is_body k) ≡ true → Adding Inside (tail_spans t x)
+  inner : not (is_body k) ≡ true → (l : Listed) (p : List Seg) → GivesMore (inside l p) l (tail_spans t x)
 
-role_adds : (r : Role) (k : TailKind) (t : ℕ) (l : Listed) (scope : List Seg) (ps : Parts) (x : Tail) (Inside : Listed → List Seg → Listed → Type 0)
-    (m : Listed)
-    → fits r k ≡ true → TailSpans k t x Inside → DoesAs r t l scope ps x Inside m → Adds l m (tail_spans t x)
-unfolding fits Adding
-role_adds (roles.Declares o) k t l scope ps x Inside m fit has h =
-    let e = declares h.0 (kind_of o) None in
-    after_adds l (plus l e) m (tail_spans t x) (declared_same l h.0 (kind_of o)) (has.inside fit (plus l e) h.0 m h.2)
-role_adds roles.Method k t l scope ps x Inside m fit has h =
-    ap spans_so_far h.2 ∙ method_adds t l h.0 (byte_of ps) x ∙ ap (λ zs. spans_so_far l ++ zs) (sym (has.one fit))
-role_adds roles.Scope k t l scope ps x Inside m fit has h = has.inside fit l h.0 m h.2
-role_adds roles.Alias k t l scope ps x Inside m fit has h =
-    same_adds l m (tail_spans t x) (ap spans_so_far h.2.2 ∙ declared_same l h.2.0 (kinds.Alias (target_of l.entries h.0))) (has.flat fit)
-role_adds roles.External k t l scope ps x Inside m fit has h =
-    same_adds l m (tail_spans t x) (ap spans_so_far h.2 ∙ external_same l h.0 (byte_of ps)) (has.flat fit)
-role_adds roles.Fields k t l scope ps x Inside m fit has h = same_adds l m (tail_spans t x) (fields_same l scope (field_names x) m h) (has.flat fit)
-role_adds roles.Guard k t l scope ps x Inside m fit has h = has.inside fit l scope m h
-role_adds roles.Other k t l scope ps x Inside m fit has h = same_adds l m (tail_spans t x) (ap spans_so_far h) (has.flat fit)
+-- spans that are these
+as_spans : (r : Result Listed LoadFault) (l : Listed) (xs ys : List Span) → ys ≡ xs → GivesMore r l xs → GivesMore r l ys
+as_spans r l xs ys e = subst (λ zs. GivesMore r l zs) (sym e)
 
-flat_none : (s : Setting) (levels : ℕ) (p : Position) (k : TailKind) (ls : PathSet) (t : ℕ) (x : Tail) → IsTail s (IsLawful s levels) p k ls x → is_flat k ≡ true
-    → tail_spans t x ≡ []
+role_adds : (r : Role) (k : TailKind) (t : ℕ) (l : Listed) (scope : List Seg) (ps : Parts) (x : Tail) (inside : Listed → List Seg → Result Listed LoadFault)
+    → fits r k ≡ true → TailSpans k t x inside → GivesMore (declare_as r t l scope ps x inside) l (tail_spans t x)
+unfolding fits declare_as method_at alias_at external_at
+role_adds (roles.Declares o) k t l scope ps x inside fit has =
+    after_adds (place_at t scope (last_label None ps)) _ l (tail_spans t x) (λ p.
+    let e = declares p (kind_of o) None in
+    more_adds (entry_at t l p e) _ l [] (tail_spans t x) (entry_adds t l p e [] (plain_adds l.entries e refl)) (λ m. has.inner fit m p))
+role_adds roles.Method k t l scope ps x inside fit has =
+    as_spans _ l (one_span t x) (tail_spans t x) (has.one fit) (unless_adds (nat_le most_methods (length (methods_of l.entries))) _ _ l _ (λ room.
+    new_adds t l scope (last_label None ps) _ (one_span t x) (λ p. method_adds t l.entries p (byte_of ps) x room)))
+role_adds roles.Scope k t l scope ps x inside fit has = after_adds (lead_at t l.entries scope (last_label None ps) _) _ l _ (λ p. has.inner fit l p)
+role_adds roles.Alias k t l scope ps x inside fit has =
+    as_spans _ l [] (tail_spans t x) (has.flat fit) (after_adds (lead_at t l.entries scope (first_label ps) _) _ l [] (λ q.
+    new_adds t l scope (last_label None ps) _ [] (λ p. plain_adds l.entries _ refl)))
+role_adds roles.External k t l scope ps x inside fit has =
+    as_spans _ l [] (tail_spans t x) (has.flat fit) (after_adds (place_at t scope (last_label None ps)) _ l [] (λ p.
+    plain_adds l.entries (external p (byte_of ps)) refl))
+role_adds roles.Fields k t l scope ps x inside fit has = as_spans _ l [] (tail_spans t x) (has.flat fit) (units_add t l scope (field_names x))
+role_adds roles.Guard k t l scope ps x inside fit has = has.inner fit l scope
+role_adds roles.Other k t l scope ps x inside fit has = as_spans (Ok l) l [] (tail_spans t x) (has.flat fit) (nothing_more l.entries)
+
+flat_none : (s : Setting) (levels : ℕ) (p : Position) (k : TailKind) (ls : PathSet) (t : ℕ) (x : Tail) → IsTail s (IsLawful s levels) p k ls x
+    → is_flat k ≡ true → tail_spans t x ≡ []
 unfolding is_flat
 flat_none s levels p k ls t x l h =
     tail_none s t levels p k ls x (λ e. absurd (flat_terms k h e)) (not_body k (and_left (not (is_body k)) (not (is_terms k)) h)) l
 
-body_one : (s : Setting) (levels : ℕ) (p : Position) (ls : PathSet) (t : ℕ) (x : Tail) → IsTail s (IsLawful s levels) p tails.Body ls x → tail_spans t x ≡ one_span t x
+body_one : (s : Setting) (levels : ℕ) (p : Position) (ls : PathSet) (t : ℕ) (x : Tail) → IsTail s (IsLawful s levels) p tails.Body ls x
+    → tail_spans t x ≡ one_span t x
 body_one s levels p ls t (body start len) l = refl
 body_one s levels p ls t _ l = absurd l
 
@@ -176,63 +232,71 @@ body_one s levels p ls t _ l = absurd l
 
 module _ (s : Setting) (t : ℕ) where
   mutual
-    unfolding Adding
+    unfolding declare declare_inside declare_all
 
-    tree_adds : (levels : ℕ) (p : Position) (ls : PathSet) (l : Listed) (scope : List Seg) (x : Tree) (m : Listed) → takes_names p ≡ false
-        → IsLawful s levels p ls x → Declares t l scope x m → Adds l m (tree_spans t x)
-    tree_adds levels p ls l scope nothing m h law d = same_adds l m [] (ap spans_so_far d) refl
-    tree_adds zero p ls l scope _ m h law d = absurd law
-    tree_adds (suc levels) p ls l scope (named n xs) m h law d =
-        same_adds l m (all_spans t xs) (ap spans_so_far d) (all_none s t levels positions.Argument ls xs refl law.3)
-    tree_adds (suc levels) p ls l scope (op o w ps r) m h law d =
+    tree_adds : (levels : ℕ) (p : Position) (ls : PathSet) (l : Listed) (scope : List Seg) (x : Tree) → takes_names p ≡ false → IsLawful s levels p ls x
+        → GivesMore (declare t l scope x) l (tree_spans t x)
+    tree_adds levels p ls l scope nothing h law = nothing_more l.entries
+    tree_adds zero p ls l scope _ h law = absurd law
+    tree_adds (suc levels) p ls l scope (named n xs) h law =
+        as_spans (Ok l) l [] (all_spans t xs) (all_none s t levels positions.Argument ls xs refl law.3) (nothing_more l.entries)
+    tree_adds (suc levels) p ls l scope (op o w ps r) h law =
         let k = (law.row).tail in
         let q = terms_in p (law.row).place in
         let fit = row_fits p o law.row h law.listed law.taken in
         let here = subst (λ (x : Role). fits x k ≡ true) (sym (role_is o law.row law.listed)) fit.0 in
-        let has : TailSpans k t r (λ l p m. DeclareInside t l p r m) = record {
+        let has : TailSpans k t r (λ l p. declare_inside t l p r) = record {
           flat = flat_none s levels q k ls t r law.tail;
           one = λ e. body_one s levels q ls t r (subst (λ (k : TailKind). IsTail s (IsLawful s levels) q k ls r) (the_body k e) law.tail);
-          inside = λ e l scope m d. inside_adds levels q k ls l scope r m fit.1 (not_body k e) law.tail d;
+          inner = λ e l scope. inside_adds levels q k ls l scope r fit.1 (not_body k e) law.tail;
         } in
-        role_adds (role_of o) k t (with_uses t l scope o ps r) scope ps r (λ l p m. DeclareInside t l p r m) m here has d
-        ∙ ap (λ zs. spans_so_far l ++ (zs ++ tail_spans t r)) (sym (parts_none s t levels (law.row).parts ls ps law.parts))
+        let all = role_adds (role_of o) k t (with_uses t l scope o ps r) scope ps r (λ l p. declare_inside t l p r) here has in
+        as_spans _ l (tail_spans t r) (parts_spans t ps ++ tail_spans t r)
+        (ap (λ zs. zs ++ tail_spans t r) (parts_none s t levels (law.row).parts ls ps law.parts)) all
 
-    inside_adds : (levels : ℕ) (p : Position) (k : TailKind) (ls : PathSet) (l : Listed) (scope : List Seg) (r : Tail) (m : Listed)
-        → (k ≡ tails.Terms → takes_names p ≡ false) → (k ≡ tails.Body → ⊥) → IsTail s (IsLawful s levels) p k ls r → DeclareInside t l scope r m
-        → Adds l m (tail_spans t r)
-    inside_adds levels p k ls l scope (terms xs) m h other law d =
-        let e = terms_tail s levels p ls k xs law in all_add levels p ls l scope xs m (h e.0) e.1 d
-    inside_adds levels p k ls l scope (elements xs) m h other law d =
-        same_adds l m (all_spans t xs) (ap spans_so_far d) (elements_none s t levels p k ls xs law)
-    inside_adds levels p k ls l scope (fields us) m h other law d =
-        same_adds l m (fields_spans t us) (ap spans_so_far d) (fields_tail_none s t levels p k ls us law)
-    inside_adds levels p k ls l scope (body start len) m h other law d = absurd (other (body_tail s levels p ls k start len law))
-    inside_adds levels p k ls l scope _ m h other law d = same_adds l m [] (ap spans_so_far d) refl
+    inside_adds : (levels : ℕ) (p : Position) (k : TailKind) (ls : PathSet) (l : Listed) (scope : List Seg) (r : Tail)
+        → (k ≡ tails.Terms → takes_names p ≡ false) → (k ≡ tails.Body → ⊥) → IsTail s (IsLawful s levels) p k ls r
+        → GivesMore (declare_inside t l scope r) l (tail_spans t r)
+    inside_adds levels p k ls l scope (terms xs) h other law = let e = terms_tail s levels p ls k xs law in all_add levels p ls l scope xs (h e.0) e.1
+    inside_adds levels p k ls l scope (elements xs) h other law =
+        as_spans (Ok l) l [] (all_spans t xs) (elements_none s t levels p k ls xs law) (nothing_more l.entries)
+    inside_adds levels p k ls l scope (fields us) h other law =
+        as_spans (Ok l) l [] (fields_spans t us) (fields_tail_none s t levels p k ls us law) (nothing_more l.entries)
+    inside_adds levels p k ls l scope (body start len) h other law = absurd (other (body_tail s levels p ls k start len law))
+    inside_adds levels p k ls l scope _ h other law = nothing_more l.entries
 
-    pub all_add : (levels : ℕ) (p : Position) (ls : PathSet) (l : Listed) (scope : List Seg) (xs : Trees) (m : Listed) → takes_names p ≡ false
-        → AreTerms s levels p ls xs → DeclareAll t l scope xs m → Adds l m (all_spans t xs)
-    all_add levels p ls l scope no_trees m h law d = same_adds l m [] (ap spans_so_far d) refl
-    all_add levels p ls l scope (tree_more x xs) m h law d =
-        then_adds l d.0 m (tree_spans t x) (all_spans t xs) (tree_adds levels p ls l scope x d.0 h law.0 d.1)
-        (all_add levels (next_position p x) (after s.scope ls x) d.0 scope xs m (next_in_table p x h) law.1 d.2)
+    all_add : (levels : ℕ) (p : Position) (ls : PathSet) (l : Listed) (scope : List Seg) (xs : Trees) → takes_names p ≡ false → AreTerms s levels p ls xs
+        → GivesMore (declare_all t l scope xs) l (all_spans t xs)
+    all_add levels p ls l scope no_trees h law = nothing_more l.entries
+    all_add levels p ls l scope (tree_more x xs) h law =
+        more_adds (declare t l scope x) _ l (tree_spans t x) (all_spans t xs) (tree_adds levels p ls l scope x h law.0)
+        (λ k. all_add levels (next_position p x) (after s.scope ls x) k scope xs (next_in_table p x h) law.1)
 
 -- ---- the tables, from any list on
 
-pub tables_add : (t : ℕ) (l : Listed) (codes : List (List ℕ)) (trees : List Trees) (m : Listed) → ReadTables codes trees → DeclareTables t l trees m
-    → Adds l m (tables_spans t trees)
-tables_add t l [] [] m read d = same_adds l m [] (ap spans_so_far d) refl
-tables_add t l (c ∷ codes) [] m read d = absurd read
-tables_add t l [] (xs ∷ trees) m read d = absurd read
-tables_add t l (c ∷ codes) (xs ∷ trees) m read d =
-    then_adds l d.0 m (all_spans t xs) (tables_spans (suc t) trees)
-    (all_add (setting_of no_arguments None c) t 512 positions.ModuleTerm set.empty l [] xs d.0 refl (read.0).lawful d.1)
-    (tables_add (suc t) d.0 codes trees m read.1 d.2)
+tables_add : (t : ℕ) (l : Listed) (codes : List (List ℕ)) (trees : List Trees) → AllZip ReadsModule codes trees
+    → GivesMore (declare_tables t l trees) l (tables_spans t trees)
+unfolding declare_tables
+tables_add t l [] [] read = nothing_more l.entries
+tables_add t l (c ∷ codes) [] read = absurd read
+tables_add t l [] (xs ∷ trees) read = absurd read
+tables_add t l (c ∷ codes) (xs ∷ trees) read =
+    more_adds (declare_all t l [] xs) _ l (all_spans t xs) (tables_spans (suc t) trees)
+    (all_add (setting_of no_arguments None c) t 512 positions.ModuleTerm set.empty l [] xs refl (read.0).lawful) (λ k. tables_add (suc t) k codes trees read.1)
+
+load_adds : (gs : Givens) (tables : List (List ℕ)) (trees : List Trees) (m : Listed) → IsLoad gs tables trees m
+    → Adds (given_entries gs) m.entries (tables_spans 0 trees)
+load_adds gs tables trees m h =
+    subst (λ r. GivesMore r (first_listed gs) (tables_spans 0 trees)) h.declared (tables_add 0 (first_listed gs) tables trees h.read)
 
 -- The methods that tables load to are those whose bodies stand in the trees, in load order and in the order of the text.
 pub in_text_order : (gs : Givens) (tables : List (List ℕ)) (trees : List Trees) (m : Listed) → IsLoad gs tables trees m → InTextOrder trees m
-in_text_order gs tables trees m h =
-    tables_add 0 (first_listed gs) tables trees m h.read (h.loads).declared
-    ∙ ap (λ ms. map method_span ms ++ tables_spans 0 trees) (no_methods gs)
+in_text_order gs tables trees m h = (load_adds gs tables trees m h).grow ∙ ap (λ ms. map method_span ms ++ tables_spans 0 trees) (no_methods gs)
+
+-- there aren't too many
+pub few_methods : (gs : Givens) (tables : List (List ℕ)) (trees : List Trees) (m : Listed) → IsLoad gs tables trees m
+    → length (methods_of m.entries) ≤ most_methods
+few_methods gs tables trees m h = (load_adds gs tables trees m h).few (subst (λ ms. length ms ≤ most_methods) (sym (no_methods gs)) (omega arith))
 
 -- there are as many methods as bodies
 pub as_many : (gs : Givens) (tables : List (List ℕ)) (trees : List Trees) (m : Listed) → IsLoad gs tables trees m

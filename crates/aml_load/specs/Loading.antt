@@ -1,35 +1,40 @@
--- What the terms of a table do to the namespace, by their opcodes (ACPI 6.5, 20.2.5.1 and 20.2.5.2).
-use Rattle.std.specs.Prelude.{ℕ, Option, Some, None, Bool, true, false, List, [], ◌∷◌, ◌++◌, ◌≡◌, suc, ◌%◌, ◌≤◌, length}
-use Rattle.aml_space.specs.declared.kinds.Kind.{Kind}
-use Rattle.aml_space.specs.declared.kinds.Kind.TheVariants as kinds
-use Rattle.aml_code.specs.declared.rows.Object.{Object}
-use Rattle.aml_code.specs.declared.rows.Object.TheVariants as objects
-use Rattle.aml_code.specs.declared.rows.Role.{Role}
-use Rattle.aml_code.specs.declared.rows.Role.TheVariants as roles
-use Rattle.aml_code.specs.Opcodes.{Row, row_of}
+-- What the terms of tables declare, and where a load stops (ACPI 6.5, 5.2.11, 5.3, 20.2.5.1 and 20.2.5.2).
+use Rattle.std.specs.Prelude.{ℕ, Option, Some, None, Bool, true, false, List, [], ◌∷◌, ◌++◌, ◌≡◌, suc, ◌%◌, ◌⊎◌, length}
+use Rattle.std.specs.Prelude.{Result, Ok, Err, is_some, nat_le, nat_lt, if◌then◌else◌}
+use Rattle.std.specs.List.{AllZip, filter_map}
+use Rattle.std.specs.Option.{unwrap_or, option_map, option_and_then, ok_or}
+use Rattle.std.specs.FinSet as set
+use Rattle.aml_names.specs.declared.faults.CodeFault.{CodeFault}
+use Rattle.aml_names.specs.declared.faults.CodeFault.TheVariants as codes
 use Rattle.aml_names.specs.declared.segments.Seg.{Seg}
 use Rattle.aml_names.specs.declared.names.Name.{Name}
-use Rattle.aml_load.specs.declared.methods.Use.{Use}
+use Rattle.aml_names.specs.Names.{placed}
+use Rattle.aml_code.specs.declared.rows.Object.{Object}
+use Rattle.aml_code.specs.declared.rows.Object.TheVariants as objects
 use Rattle.aml_code.specs.declared.rows.PartKind.{PartKind}
 use Rattle.aml_code.specs.declared.rows.PartKind.TheVariants as part_kinds
+use Rattle.aml_code.specs.declared.rows.Role.{Role}
+use Rattle.aml_code.specs.declared.rows.Role.TheVariants as roles
+use Rattle.aml_code.specs.Faults.{StandsAt}
+use Rattle.aml_code.specs.Lawful.{last_label, last_byte, field_names, no_arguments, ReadsModule}
+use Rattle.aml_code.specs.Opcodes.{row_of}
 use Rattle.aml_code.specs.Tree.{Tree, nothing, named, op, Trees, no_trees, tree_more, Part, child, Parts, no_parts}
 use Rattle.aml_code.specs.Tree.{part_more, Tail, elements, fields, Field, connection, Fields, no_fields, field_more}
 use Rattle.aml_code.specs.Tree.{Link, target, buffer, label, terms, body}
-use Rattle.std.specs.Option.{unwrap_or}
-use Rattle.std.specs.FinSet as set
-use Rattle.aml_names.specs.Names.{placed}
-use Rattle.aml_code.specs.Lawful.{last_label, last_byte, field_names, ReadsModule}
-use Rattle.aml_space.specs.Namespace.{Entry, Body, Givens, declares, external, given, given_entries, declared_at}
-use Rattle.aml_space.specs.Namespace.{namespace_of, kind_at, found, arity_of}
+use Rattle.aml_space.specs.declared.faults.SpaceFault.{SpaceFault}
+use Rattle.aml_space.specs.declared.faults.SpaceFault.TheVariants as faults
+use Rattle.aml_space.specs.declared.kinds.Kind.{Kind}
+use Rattle.aml_space.specs.declared.kinds.Kind.TheVariants as kinds
+use Rattle.aml_space.specs.Namespace.{Entry, Givens, declares, external, given_entries, declared_at, namespace_of}
+use Rattle.aml_space.specs.Namespace.{kind_at, found, arity_of}
+use Rattle.aml_load.specs.declared.faults.LoadFault.{LoadFault}
+use Rattle.aml_load.specs.declared.faults.LoadFault.TheVariants as loads
 use Rattle.aml_load.specs.declared.methods.Method.{Method}
-
-abbrev pub role_in : Option Row → Role
-role_in None = roles.Other
-role_in (Some r) = r.role
+use Rattle.aml_load.specs.declared.methods.Use.{Use}
 
 -- the role of an opcode; an opcode that has no row does nothing
 unfoldable pub role_of : ℕ → Role
-role_of opcode = role_in (row_of opcode)
+role_of opcode = unwrap_or (option_map (λ r. r.role) (row_of opcode)) roles.Other
 
 abbrev pub kind_of : Object → Kind
 kind_of objects.Name = kinds.Name
@@ -50,23 +55,19 @@ abbrev pub is_argument : PartKind → Bool
 is_argument part_kinds.Term = true
 is_argument _ = false
 
-abbrev pub kinds_in : Option Row → List PartKind
-kinds_in None = []
-kinds_in (Some r) = r.parts
+-- the kinds of the parts of an opcode
+abbrev pub kinds_in : ℕ → List PartKind
+kinds_in opcode = unwrap_or (option_map (λ r. r.parts) (row_of opcode)) []
 
 abbrev pub use_of : ℕ → List Seg → Name → Use
 use_of tb scope n = record { table = tb; scope = scope; name = n }
-
-abbrev pub if_argument : Bool → Use → List Use
-if_argument true u = u ∷ []
-if_argument false u = []
 
 -- the names in a tree of table tb in this scope; the tree itself is a TermArg or isn't; in the order of the text
 abbrev mutual
   pub uses_in : ℕ → List Seg → Bool → Tree → List Use
   uses_in tb scope argument nothing = []
-  uses_in tb scope argument (named n ts) = if_argument argument (use_of tb scope n)
-  uses_in tb scope argument (op o w ps r) = parts_uses tb scope (kinds_in (row_of o)) ps ++ tail_uses tb scope r
+  uses_in tb scope argument (named n ts) = if argument then use_of tb scope n ∷ [] else []
+  uses_in tb scope argument (op o w ps r) = parts_uses tb scope (kinds_in o) ps ++ tail_uses tb scope r
 
   pub parts_uses : ℕ → List Seg → List PartKind → Parts → List Use
   parts_uses tb scope [] ps = []
@@ -98,9 +99,8 @@ abbrev mutual
   link_uses tb scope (target n) = []
   link_uses tb scope (buffer t) = uses_in tb scope false t
 
--- ---- What tables declare (ACPI 6.5, 5.2.11, 5.3 and 20.2.5): one list of entries, in load order and in the order of the
--- text,
--- behind the counts that the user gives.
+-- ---- What is listed: one list of entries, in load order and in the order of the text, behind the counts that the user
+-- gives.
 
 -- The entries, and the names that may not take arguments once all entries are there.
 pub record Listed : Type 0 where
@@ -119,9 +119,23 @@ plus l e = record { entries = l.entries ++ e ∷ []; uses = l.uses }
 abbrev pub with_uses : ℕ → Listed → List Seg → ℕ → Parts → Tail → Listed
 with_uses t l scope o ps r = record {
   entries = l.entries;
-  uses =
-      l.uses ++ (parts_uses t scope (kinds_in (row_of o)) ps ++ tail_uses t scope r);
+  uses = l.uses ++ (parts_uses t scope (kinds_in o) ps ++ tail_uses t scope r);
 }
+
+-- the methods, in order
+abbrev pub method_of : Entry → Option Method
+method_of (declares p k (Some b)) =
+    Some (record { path = p; table = b.table; start = b.start; len = b.len; flags = b.flags })
+method_of _ = None
+
+abbrev pub methods_of : List Entry → List Method
+methods_of es = filter_map method_of es
+
+-- the most methods that a set of tables may have
+abbrev pub most_methods : ℕ
+most_methods = 1048576
+
+-- ---- Of a term: its names, its last byte, and the span of a method's body.
 
 -- the first part, if it is a name: of an Alias, its source
 abbrev pub first_label : Parts → Option Name
@@ -132,34 +146,6 @@ first_label _ = None
 abbrev pub byte_of : Parts → ℕ
 byte_of ps = unwrap_or (last_byte None ps) 0
 
--- where a name leads from a scope, without a search; a term without a name has no such path
-abbrev pub place_of : List Seg → Option Name → Option (List Seg)
-place_of scope None = None
-place_of scope (Some n) = placed scope n
-
--- what a name leads to in a scope, among the entries so far
-abbrev pub lead_of : List Entry → List Seg → Option Name → Option (List Seg)
-lead_of es scope None = None
-lead_of es scope (Some n) = found (namespace_of es) set.empty scope n
-
--- a name has this path in a scope, and nothing has declared it
-abbrev pub IsNew : Listed → List Seg → Option Name → List Seg → Type 0
-IsNew l scope n p = (place_of scope n ≡ Some p) × (declared_at l.entries p ≡ None)
-
--- a name leads to this path, as the entries stand there
-abbrev pub Leads : Listed → List Seg → Option Name → List Seg → Type 0
-Leads l scope n p = lead_of l.entries scope n ≡ Some p
-
--- what an Alias of a path stands for: the path, or that path's own target if it is an Alias
-abbrev pub target_by : Option Kind → List Seg → List Seg
-target_by None p = p
-target_by (Some (kinds.Alias q)) p = q
-target_by (Some _) p = p
-
-abbrev pub target_of : List Entry → List Seg → List Seg
-target_of es p = target_by (kind_at (namespace_of es) p) p
-
--- the span of a method's body
 abbrev pub body_start : Tail → ℕ
 body_start (body start len) = start
 body_start _ = 0
@@ -173,86 +159,158 @@ abbrev pub method_entry : ℕ → List Seg → ℕ → ℕ → ℕ → Entry
 method_entry t p flags start len = declares p (kinds.Method (flags % 8))
     (Some (record { table = t; start = start; len = len; flags = flags }))
 
--- the named units of a field list, each under its segment in the scope
-abbrev pub DeclareUnits : Listed → List Seg → List Name → Listed → Type 0
-DeclareUnits l scope [] m = m ≡ l
-DeclareUnits l scope (n ∷ ns) m = (p : List Seg) × IsNew l scope (Some n) p
-    × DeclareUnits (plus l (declares p kinds.Field None)) scope ns m
+-- what a name leads to in a scope, among the entries so far
+abbrev pub lead_of : List Entry → List Seg → Option Name → Option (List Seg)
+lead_of es scope n = option_and_then (found (namespace_of es) set.empty scope) n
 
--- What a term of table t does by its role, in a scope, from l to m. `Inside` are the terms inside it, from one list to
--- the
--- next, under a path.
-abbrev pub DoesAs : Role → ℕ → Listed → List Seg → Parts → Tail → (Listed → List Seg → Listed → Type 0) → Listed
-    → Type 0
-DoesAs (roles.Declares o) t l scope ps r Inside m = (p : List Seg) × IsNew l scope (last_label None ps) p
-    × Inside (plus l (declares p (kind_of o) None)) p m
-DoesAs roles.Method t l scope ps r Inside m = (p : List Seg) × IsNew l scope (last_label None ps) p
-    × (m ≡ plus l (method_entry t p (byte_of ps) (body_start r) (body_len r)))
-DoesAs roles.Scope t l scope ps r Inside m = (p : List Seg) × Leads l scope (last_label None ps) p × Inside l p m
-DoesAs roles.Alias t l scope ps r Inside m =
-    (q : List Seg) × Leads l scope (first_label ps) q × ((p : List Seg) × IsNew l scope (last_label None ps) p
-    × (m ≡ plus l (declares p (kinds.Alias (target_of l.entries q)) None)))
-DoesAs roles.External t l scope ps r Inside m = (p : List Seg) × (place_of scope (last_label None ps) ≡ Some p)
-    × (m ≡ plus l (external p (byte_of ps)))
-DoesAs roles.Fields t l scope ps r Inside m = DeclareUnits l scope (field_names r) m
-DoesAs roles.Guard t l scope ps r Inside m = Inside l scope m
-DoesAs roles.Other t l scope ps r Inside m = m ≡ l
+-- what an Alias of a path stands for: the path, or that path's own target if it is an Alias
+abbrev pub target_by : Option Kind → List Seg → List Seg
+target_by (Some (kinds.Alias q)) p = q
+target_by _ p = p
 
--- Declares t l scope x m: after l, the term x of table t, in this scope, leads to m. Terms go in the order of the text.
-abbrev mutual
-  pub Declares : ℕ → Listed → List Seg → Tree → Listed → Type 0
-  Declares t l scope (op o w ps r) m =
-      DoesAs (role_of o) t (with_uses t l scope o ps r) scope ps r (λ l p m. DeclareInside t l p r m) m
-  Declares t l scope _ m = m ≡ l
+abbrev pub target_of : List Entry → List Seg → List Seg
+target_of es p = target_by (kind_at (namespace_of es) p) p
+
+-- ---- What a term declares: what is listed behind it, or the fault at which the load stops.
+
+-- one step, and another over what it gave: the first fault is the fault of both
+infixl 10 ◌>>=◌
+abbrev pub ◌>>=◌ : {A B : Type 0} → Result A LoadFault → (A → Result B LoadFault) → Result B LoadFault
+(Ok x) >>= f = f x
+(Err e) >>= f = Err e
+
+-- the path that a name has in a scope, without a search, or the fault that its prefixes lead above the root
+unfoldable pub place_at : ℕ → List Seg → Option Name → Result (List Seg) LoadFault
+place_at t scope n = ok_or (option_and_then (placed scope) n) (loads.Space t faults.AboveRoot)
+
+-- the path that a name leads to in a scope, as the entries stand there, or the fault that it leads nowhere
+unfoldable pub lead_at : ℕ → List Entry → List Seg → Option Name → (List Seg → SpaceFault)
+    → Result (List Seg) LoadFault
+lead_at t es scope n missing = do
+  p ← place_at t scope n
+  ok_or (lead_of es scope n) (loads.Space t (missing p))
+
+-- an entry more, which declares a path, or the fault that something declares it already
+unfoldable pub entry_at : ℕ → Listed → List Seg → Entry → Result Listed LoadFault
+entry_at t l p x = if is_some (declared_at l.entries p) then Err (loads.Space t (faults.Duplicate p)) else Ok (plus l x)
+
+-- an entry of a name that is new in a scope
+unfoldable pub new_at : ℕ → Listed → List Seg → Option Name → (List Seg → Entry) → Result Listed LoadFault
+new_at t l scope n entry = do
+  p ← place_at t scope n
+  entry_at t l p (entry p)
+
+-- a method, with its flags and the span of its body (20.2.5.2): the limit is met before its name
+unfoldable pub method_at : ℕ → Listed → List Seg → Option Name → ℕ → ℕ → ℕ → Result Listed LoadFault
+method_at t l scope n flags start len =
+    if nat_le most_methods (length (methods_of l.entries)) then Err loads.TooManyMethods else
+    new_at t l scope n (λ p. method_entry t p flags start len)
+
+-- an Alias (20.2.5.1): first where its source leads, then its own name
+unfoldable pub alias_at : ℕ → Listed → List Seg → Option Name → Option Name → Result Listed LoadFault
+alias_at t l scope source n = do
+  q ← lead_at t l.entries scope source (λ p. faults.AliasMissing p)
+  new_at t l scope n (λ p. declares p (kinds.Alias (target_of l.entries q)) None)
+
+-- an External, which counts for a path (20.2.5.2)
+unfoldable pub external_at : ℕ → Listed → List Seg → Option Name → ℕ → Result Listed LoadFault
+external_at t l scope n count = do
+  p ← place_at t scope n
+  Ok (plus l (external p count))
+
+-- the named units of a field list (20.2.5.2), each under its segment in the scope
+unfoldable pub units_at : ℕ → Listed → List Seg → List Name → Result Listed LoadFault
+units_at t l scope [] = Ok l
+units_at t l scope (n ∷ ns) = do
+  k ← new_at t l scope (Some n) (λ p. declares p kinds.Field None)
+  units_at t k scope ns
+
+-- What a term of table t does by its role, in a scope, after l. `inside` is what the terms inside it declare, after what is
+-- listed then and under a path.
+unfoldable pub declare_as : Role → ℕ → Listed → List Seg → Parts → Tail → (Listed → List Seg → Result Listed LoadFault)
+    → Result Listed LoadFault
+declare_as (roles.Declares o) t l scope ps r inside = do
+  p ← place_at t scope (last_label None ps)
+  m ← entry_at t l p (declares p (kind_of o) None)
+  inside m p
+declare_as roles.Method t l scope ps r inside =
+    method_at t l scope (last_label None ps) (byte_of ps) (body_start r) (body_len r)
+declare_as roles.Scope t l scope ps r inside = do
+  p ← lead_at t l.entries scope (last_label None ps) (λ p. faults.ScopeMissing p)
+  inside l p
+declare_as roles.Alias t l scope ps r inside = alias_at t l scope (first_label ps) (last_label None ps)
+declare_as roles.External t l scope ps r inside = external_at t l scope (last_label None ps) (byte_of ps)
+declare_as roles.Fields t l scope ps r inside = units_at t l scope (field_names r)
+declare_as roles.Guard t l scope ps r inside = inside l scope
+declare_as roles.Other t l scope ps r inside = Ok l
+
+unfoldable mutual
+  -- a term of table t in a scope, after l: the names that stand in it as TermArgs, and then what it does by its role
+  pub declare : ℕ → Listed → List Seg → Tree → Result Listed LoadFault
+  declare t l scope (op o w ps r) =
+      declare_as (role_of o) t (with_uses t l scope o ps r) scope ps r (λ l p. declare_inside t l p r)
+  declare t l scope _ = Ok l
 
   -- the terms inside a term
-  pub DeclareInside : ℕ → Listed → List Seg → Tail → Listed → Type 0
-  DeclareInside t l scope (terms ts) m = DeclareAll t l scope ts m
-  DeclareInside t l scope _ m = m ≡ l
+  pub declare_inside : ℕ → Listed → List Seg → Tail → Result Listed LoadFault
+  declare_inside t l scope (terms ts) = declare_all t l scope ts
+  declare_inside t l scope _ = Ok l
 
-  pub DeclareAll : ℕ → Listed → List Seg → Trees → Listed → Type 0
-  DeclareAll t l scope no_trees m = m ≡ l
-  DeclareAll t l scope (tree_more x xs) m = (k : Listed) × Declares t l scope x k × DeclareAll t k scope xs m
+  -- terms, in the order of the text
+  pub declare_all : ℕ → Listed → List Seg → Trees → Result Listed LoadFault
+  declare_all t l scope no_trees = Ok l
+  declare_all t l scope (tree_more x xs) = do
+    k ← declare t l scope x
+    declare_all t k scope xs
 
--- the tables from number t on, each from the root
-abbrev pub DeclareTables : ℕ → Listed → List Trees → Listed → Type 0
-DeclareTables t l [] m = m ≡ l
-DeclareTables t l (ts ∷ rest) m = (k : Listed) × DeclareAll t l [] ts k × DeclareTables (suc t) k rest m
+-- the terms of the tables from number t on, each table from the root
+unfoldable pub declare_tables : ℕ → Listed → List Trees → Result Listed LoadFault
+declare_tables t l [] = Ok l
+declare_tables t l (ts ∷ rest) = do
+  k ← declare_all t l [] ts
+  declare_tables (suc t) k rest
 
--- the methods, in order
-abbrev pub methods_at : List Seg → Option Body → List Method
-methods_at p None = []
-methods_at p (Some b) = record { path = p; table = b.table; start = b.start; len = b.len; flags = b.flags } ∷ []
-
-abbrev pub methods_of : List Entry → List Method
-methods_of [] = []
-methods_of (declares p k b ∷ es) = methods_at p b ++ methods_of es
-methods_of (external p n ∷ es) = methods_of es
-methods_of (given p n ∷ es) = methods_of es
+-- ---- The whole load.
 
 -- how many arguments a name takes that stands as a TermArg of a table
 abbrev pub use_count : List Entry → Use → Option ℕ
 use_count es u = arity_of (namespace_of es) false u.scope set.empty u.name
 
--- such a name takes none: it has no count, or its count is 0
-abbrev pub Uncalled : List Entry → List Use → Type 0
-Uncalled es [] = Unit {0}
-Uncalled es (u ∷ us) = (unwrap_or (use_count es u) 0 ≡ 0) × Uncalled es us
+-- such names take none: they have no count, or their count is 0; or the fault of the first that takes some
+unfoldable pub uses_at : List Entry → List Use → Result (Unit {0}) LoadFault
+uses_at es [] = Ok tt
+uses_at es (u ∷ us) = if nat_lt 0 (unwrap_or (use_count es u) 0) then Err (loads.ModuleCall u.table) else uses_at es us
 
--- The trees of all tables load to these entries, behind the given counts, with at most 1,048,576 methods.
-pub record Loads (gs : Givens) (trees : List Trees) (m : Listed) : Type 0 where
-  pub declared : DeclareTables 0 (first_listed gs) trees m
-  pub few : length (methods_of m.entries) ≤ 1048576
-  pub uncalled : Uncalled m.entries m.uses
-
--- each table's AML reads as its tree
-abbrev pub ReadTables : List (List ℕ) → List Trees → Type 0
-ReadTables [] [] = Unit {0}
-ReadTables [] (t ∷ ts) = ⊥
-ReadTables (c ∷ cs) [] = ⊥
-ReadTables (c ∷ cs) (t ∷ ts) = ReadsModule c t × ReadTables cs ts
-
--- The tables have these trees, and these load to these entries, where the user gives these counts.
+-- The tables' AML reads as these trees, and these load to these entries, where the user gives these counts.
 pub record IsLoad (gs : Givens) (tables : List (List ℕ)) (trees : List Trees) (m : Listed) : Type 0 where
-  pub read : ReadTables tables trees
-  pub loads : Loads gs trees m
+  pub read : AllZip ReadsModule tables trees
+  pub declared : declare_tables 0 (first_listed gs) trees ≡ Ok m
+  pub uncalled : uses_at m.entries m.uses ≡ Ok tt
+
+-- ---- Where the load of tables stops, and why.
+
+-- a fault of the AML of table t
+abbrev pub code_fault : ℕ → CodeFault → LoadFault
+code_fault t codes.NoMemory = loads.NoMemory
+code_fault t f = loads.Code t f
+
+-- the AML of table t can't be read, and the fault is true of the byte at its offset
+abbrev pub Unread : ℕ → List ℕ → LoadFault → Type 0
+Unread t code e = (f : CodeFault) × StandsAt no_arguments code f × ((ts : Trees) → ReadsModule code ts → ⊥)
+    × (e ≡ code_fault t f)
+
+-- table t can't be read, or what its terms declare stops
+abbrev pub StopsTable : ℕ → Listed → List ℕ → LoadFault → Type 0
+StopsTable t l code e = Unread t code e ⊎ ((ts : Trees) × ReadsModule code ts × (declare_all t l [] ts ≡ Err e))
+
+abbrev pub StopsTables : ℕ → Listed → List (List ℕ) → LoadFault → Type 0
+StopsTables t l [] e = ⊥
+StopsTables t l (c ∷ cs) e = StopsTable t l c e ⊎ ((ts : Trees) × ReadsModule c ts
+    × ((k : Listed) × (declare_all t l [] ts ≡ Ok k) × StopsTables (suc t) k cs e))
+
+-- The load of these tables, where the user gives these counts, stops for this reason: at a table, or behind all of them
+-- at a name that takes arguments.
+abbrev pub StopsLoad : Givens → List (List ℕ) → LoadFault → Type 0
+StopsLoad gs tables e = StopsTables 0 (first_listed gs) tables e
+    ⊎ ((trees : List Trees) × AllZip ReadsModule tables trees
+    × ((m : Listed) × (declare_tables 0 (first_listed gs) trees ≡ Ok m) × (uses_at m.entries m.uses ≡ Err e)))

@@ -1,7 +1,8 @@
 //! Why tables can't be loaded.
 ghost use Rattle.std.specs.Prelude.{◌≡◌};
 ghost use Rattle.aml_load.specs.declared.faults.LoadFault.TheVariants.{NoMemory as want};
-ghost use Rattle.aml_load.specs.Walking.{code_fault, space_fault};
+ghost use Rattle.aml_load.specs.Loading.{code_fault};
+ghost use Rattle.aml_load.specs.Walking.{space_fault};
 
 use aml_code::CodeFault;
 use aml_space::SpaceFault;

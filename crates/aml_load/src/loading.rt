@@ -5,9 +5,8 @@ ghost use Rattle.aml_code.specs.Tree.{Trees};
 ghost use Rattle.aml_code.specs.View.{nodes_view};
 ghost use Rattle.aml_space.specs.Namespace.{given_entries};
 ghost use Rattle.aml_space.specs.Known.{StandsFor};
-ghost use Rattle.aml_load.specs.Loading.{Listed, first_listed, IsLoad, use_count};
-ghost use Rattle.aml_load.specs.Walking.{table_at, tables_at, uses_at, GivesLoad, IsCode, AreCodes, Holds, Gives, TableWalked};
-ghost use Rattle.aml_load.specs.Stops.{StopsLoad};
+ghost use Rattle.aml_load.specs.Loading.{Listed, first_listed, IsLoad, StopsLoad, most_methods, use_count, uses_at};
+ghost use Rattle.aml_load.specs.Walking.{table_at, tables_at, GivesLoad, IsCode, AreCodes, Holds, Gives, TableWalked};
 ghost use Rattle.aml_load.specs.Views.{codes_view, trees_view, AreShort, HoldsLoad, body_of, table_encoding};
 
 use crate::faults::LoadFault;
@@ -85,7 +84,7 @@ fn count_of(alloc: Global, space: &Space, used: &Use) -> Result<u8, NoMemory>
 }
 
 /// Looks at each name that stands as a TermArg. `ModuleCall` at the first that takes arguments.
-#[tactic(auto, unfolding(crate::specs::Walking::uses_at))]
+#[tactic(auto, unfolding(crate::specs::Loading::uses_at))]
 fn check_uses(alloc: Global, space: &Space, uses: &[Use]) -> Result<(), LoadFault>
     ensures { (l : Listed) → StandsFor space.now l.entries → Gives (λ x. x) result (uses_at l.entries uses.now) }
 {
@@ -181,6 +180,8 @@ pub fn load<'a>(
     ensures one { IfOk result (λ x. (trees : List Trees) (m : Listed) →
         IsLoad givens.now (codes_view tables.now) trees m →
         HoldsLoad x (codes_view tables.now) trees m) }
+    // There are at most so many methods.
+    ensures few { IfOk result (λ x. length x.methods.items ≤ most_methods) }
     // A refusal for another cause than memory comes only where there are no trees and entries that load.
     ensures complete { IfErr result (λ e. (e ≡ LoadFault.NoMemory) ⊎
         ((trees : List Trees) (m : Listed) → IsLoad givens.now (codes_view tables.now) trees m → ⊥)) }

@@ -1,7 +1,6 @@
 //! The names that stand as TermArgs outside the methods.
 ghost use Rattle.std.specs.Prelude.{◌≡◌, ◌++◌, ◌∷◌, [], OnOk, false};
 ghost use Rattle.aml_code.specs.View.{node_view, nodes_view, part_view, parts_view, tail_view, field_view, fields_view, link_view};
-ghost use Rattle.aml_code.specs.Opcodes.{row_of};
 ghost use Rattle.aml_load.specs.Loading.{is_argument, kinds_in, use_of, uses_in, part_uses, parts_uses, tail_uses, elements_uses, fields_uses, field_uses, link_uses};
 
 use crate::methods::Use;
@@ -24,7 +23,7 @@ fn is_argument(kind: PartKind) -> bool
 
 /// The kinds of the parts of an opcode.
 fn kinds_of(opcode: u16) -> &'static [PartKind]
-    ensures { result.now ≡ kinds_in (row_of opcode) }
+    ensures { result.now ≡ kinds_in opcode }
 {
     match listed_row(opcode) {
         None => &[],
@@ -183,7 +182,7 @@ pub fn add_names(
     uses: &mut Vec<Use>,
 ) -> Result<(), NoMemory>
     ensures { OnOk result (uses.new.items ≡ uses.old.items ++
-        (parts_uses site.now.table site.now.scope.now (kinds_in (row_of opcode)) (parts_view parts.now) ++
+        (parts_uses site.now.table site.now.scope.now (kinds_in opcode) (parts_view parts.now) ++
         tail_uses site.now.table site.now.scope.now (tail_view tail.now))) }
 {
     add_parts(site, kinds_of(opcode), parts, uses)?;

@@ -1,13 +1,13 @@
 //! What the terms of a table declare.
-ghost use Rattle.std.specs.Prelude.{◌≡◌, ◌%◌, ◌∷◌, [], None, IfOk};
-ghost use Rattle.std.specs.Option.{option_copied};
+ghost use Rattle.std.specs.Prelude.{◌≡◌, ◌%◌, ◌∷◌, [], None, Ok, IfOk};
+ghost use Rattle.std.specs.Option.{option_copied, ok_or};
 ghost use Rattle.aml_code.specs.Lawful.{last_label, field_names, plain_name, unit_names};
 ghost use Rattle.aml_code.specs.Tree.{no_fields, field_more};
 ghost use Rattle.aml_code.specs.View.{node_view, nodes_view, parts_view, tail_view, fields_view, field_view};
 ghost use Rattle.aml_space.specs.Namespace.{declares, external as outside};
 ghost use Rattle.aml_space.specs.Known.{StandsFor};
-ghost use Rattle.aml_load.specs.Loading.{Listed, plus, method_entry, first_label, byte_of, lead_of, target_of, body_start, body_len};
-ghost use Rattle.aml_load.specs.Walking.{listed, led_at, place_at, scope_at, source_at, entry_at, new_at, name_at, new_method_at, method_at, alias_at, external_at, fields_at, do_as, walk, walk_inside, walk_all, Gives, GivesIn, Walks, WalksTo};
+ghost use Rattle.aml_load.specs.Loading.{Listed, plus, method_entry, first_label, byte_of, lead_of, target_of, body_start, body_len, place_at, lead_at, entry_at, new_at, method_at, alias_at, external_at, units_at, declare_as, declare, declare_inside, declare_all};
+ghost use Rattle.aml_load.specs.Walking.{Gives, GivesIn, Walks};
 
 use crate::faults::LoadFault;
 use crate::methods::{Method, Use};
@@ -61,7 +61,7 @@ fn first_name(parts: &[Part]) -> Option<&Name>
 
 impl Progress {
     /// Where a term's name leads from its scope, without a search. `AboveRoot` where that is nowhere.
-    #[tactic(auto, unfolding(crate::specs::Walking::place_at))]
+    #[tactic(auto, unfolding(crate::specs::Loading::place_at))]
     fn own_path(&self, site: &Site<'_>, name: Option<&Name>) -> Result<Path, LoadFault>
         ensures { Gives (λ p. p) result (place_at site.now.table site.now.scope.now (option_copied name.entry)) }
     {
@@ -93,7 +93,7 @@ impl Progress {
         missing: SpaceFault,
     ) -> Result<Path, LoadFault>
         ensures { GivesIn (λ p. p) self.now.space result (λ l.
-            led_at site.now.table l.entries site.now.scope.now (option_copied name.entry) missing) }
+            ok_or (lead_of l.entries site.now.scope.now (option_copied name.entry)) (LoadFault.Space site.now.table missing)) }
     {
         match self.found_path(site.scope.path(), name)? {
             None => Err(LoadFault::Space(site.table, missing)),
@@ -102,20 +102,20 @@ impl Progress {
     }
 
     /// The path that a Scope opens. `ScopeMissing` where its name leads to nothing.
-    #[tactic(auto, unfolding(crate::specs::Walking::scope_at))]
+    #[tactic(auto, unfolding(crate::specs::Loading::lead_at))]
     fn scope_path(&self, site: &Site<'_>, name: Option<&Name>) -> Result<Path, LoadFault>
         ensures { GivesIn (λ p. p) self.now.space result (λ l.
-            scope_at site.now.table l.entries site.now.scope.now (option_copied name.entry)) }
+            lead_at site.now.table l.entries site.now.scope.now (option_copied name.entry) (λ p. SpaceFault.ScopeMissing p)) }
     {
         let path = self.own_path(site, name)?;
         self.led_path(site, name, SpaceFault::ScopeMissing(path))
     }
 
     /// The path that the source of an Alias leads to. `AliasMissing` where that is nothing.
-    #[tactic(auto, unfolding(crate::specs::Walking::source_at))]
+    #[tactic(auto, unfolding(crate::specs::Loading::lead_at))]
     fn source_path(&self, site: &Site<'_>, name: Option<&Name>) -> Result<Path, LoadFault>
         ensures { GivesIn (λ p. p) self.now.space result (λ l.
-            source_at site.now.table l.entries site.now.scope.now (option_copied name.entry)) }
+            lead_at site.now.table l.entries site.now.scope.now (option_copied name.entry) (λ p. SpaceFault.AliasMissing p)) }
     {
         let path = self.own_path(site, name)?;
         self.led_path(site, name, SpaceFault::AliasMissing(path))
@@ -133,7 +133,7 @@ impl Progress {
     }
 
     /// Declares a path that has no body.
-    #[tactic(auto, unfolding(crate::specs::Walking::entry_at))]
+    #[tactic(auto, unfolding(crate::specs::Loading::entry_at))]
     fn declare(&mut self, table: usize, path: Path, kind: Kind) -> Result<(), LoadFault>
         ensures { Walks self.old self.new result (λ l. entry_at table l path (declares path kind None)) }
     {
@@ -144,7 +144,7 @@ impl Progress {
     }
 
     /// Declares a name with a kind.
-    #[tactic(auto, unfolding(crate::specs::Walking::name_at))]
+    #[tactic(auto, unfolding(crate::specs::Loading::new_at))]
     fn declare_name(
         &mut self,
         site: &Site<'_>,
@@ -152,26 +152,10 @@ impl Progress {
         kind: Kind,
     ) -> Result<(), LoadFault>
         ensures { Walks self.old self.new result (λ l.
-            name_at site.now.table l site.now.scope.now (option_copied name.entry) kind) }
+            new_at site.now.table l site.now.scope.now (option_copied name.entry) (λ p. declares p kind None)) }
     {
         let path = self.own_path(site, name)?;
         self.declare(site.table, path, kind)
-    }
-
-    /// Declares a name with a kind, and lends its path to the terms inside.
-    #[tactic(auto, unfolding(crate::specs::Walking::new_at))]
-    fn open_name(
-        &mut self,
-        site: &Site<'_>,
-        name: Option<&Name>,
-        kind: Kind,
-    ) -> Result<Path, LoadFault>
-        ensures { WalksTo (λ p. p) self.old self.new result (λ l.
-            new_at site.now.table l site.now.scope.now (option_copied name.entry) kind) }
-    {
-        let path = self.own_path(site, name)?;
-        self.declare(site.table, path.clone()?, kind)?;
-        Ok(path)
     }
 
     /// Declares the path of a method with this body.
@@ -192,7 +176,7 @@ impl Progress {
     }
 
     /// Declares a method, however many there are.
-    #[tactic(auto, unfolding(crate::specs::Walking::new_method_at))]
+    #[tactic(auto, unfolding(crate::specs::Loading::new_at))]
     fn declare_method(
         &mut self,
         site: &Site<'_>,
@@ -200,8 +184,9 @@ impl Progress {
         tail: &Tail,
     ) -> Result<(), LoadFault>
         ensures { Walks self.old self.new result (λ l.
-            new_method_at site.now.table l site.now.scope.now (last_label None (parts_view parts.now))
-            (byte_of (parts_view parts.now)) (body_start (tail_view tail.now)) (body_len (tail_view tail.now))) }
+            new_at site.now.table l site.now.scope.now (last_label None (parts_view parts.now)) (λ p.
+            method_entry site.now.table p (byte_of (parts_view parts.now)) (body_start (tail_view tail.now))
+            (body_len (tail_view tail.now)))) }
     {
         let path = self.own_path(site, last_name(parts))?;
         let (start, len) = body_span(tail);
@@ -215,7 +200,7 @@ impl Progress {
     }
 
     /// Declares a method. `TooManyMethods` where as many as there may be are there, whatever its name is.
-    #[tactic(auto, unfolding(crate::specs::Walking::method_at))]
+    #[tactic(auto, unfolding(crate::specs::Loading::method_at))]
     fn add_method(&mut self, site: &Site<'_>, parts: &[Part], tail: &Tail) -> Result<(), LoadFault>
         ensures { Walks self.old self.new result (λ l.
             method_at site.now.table l site.now.scope.now (last_label None (parts_view parts.now))
@@ -227,7 +212,7 @@ impl Progress {
         self.declare_method(site, parts, tail)
     }
 
-    #[tactic(auto, unfolding(crate::specs::Walking::alias_at))]
+    #[tactic(auto, unfolding(crate::specs::Loading::alias_at))]
     fn add_alias(&mut self, site: &Site<'_>, parts: &[Part]) -> Result<(), LoadFault>
         ensures { Walks self.old self.new result (λ l.
             alias_at site.now.table l site.now.scope.now (first_label (parts_view parts.now))
@@ -240,13 +225,13 @@ impl Progress {
 
     /// Adds an External of a path.
     fn add_count(&mut self, path: Path, count: u8) -> Result<(), LoadFault>
-        ensures { Walks self.old self.new result (λ l. listed (plus l (outside path count))) }
+        ensures { Walks self.old self.new result (λ l. Ok (plus l (outside path count))) }
     {
         self.space.external(path, count)?;
         Ok(())
     }
 
-    #[tactic(auto, unfolding(crate::specs::Walking::external_at))]
+    #[tactic(auto, unfolding(crate::specs::Loading::external_at))]
     fn add_external(&mut self, site: &Site<'_>, parts: &[Part]) -> Result<(), LoadFault>
         ensures { Walks self.old self.new result (λ l.
             external_at site.now.table l site.now.scope.now (last_label None (parts_view parts.now))
@@ -257,19 +242,19 @@ impl Progress {
     }
 
     /// Declares the unit of a field list with this segment.
-    #[tactic(auto, unfolding(crate::specs::Walking::fields_at))]
+    #[tactic(auto, unfolding(crate::specs::Loading::units_at))]
     fn add_unit(&mut self, site: &Site<'_>, seg: Seg) -> Result<(), LoadFault>
         ensures { Walks self.old self.new result (λ l.
-            fields_at site.now.table l site.now.scope.now (plain_name seg ∷ [])) }
+            units_at site.now.table l site.now.scope.now (plain_name seg ∷ [])) }
     {
         let path = Path::below(self.alloc, site.scope.path().segs(), &[seg])?;
         self.declare(site.table, path, Kind::Field)
     }
 
-    #[tactic(auto, unfolding(crate::specs::Walking::fields_at))]
+    #[tactic(auto, unfolding(crate::specs::Loading::units_at))]
     fn add_field(&mut self, site: &Site<'_>, field: &Field) -> Result<(), LoadFault>
         ensures { Walks self.old self.new result (λ l.
-            fields_at site.now.table l site.now.scope.now (unit_names (field_more (field_view field.now) no_fields))) }
+            units_at site.now.table l site.now.scope.now (unit_names (field_more (field_view field.now) no_fields))) }
     {
         match field {
             Field::NamedUnit { seg, .. } => self.add_unit(site, *seg),
@@ -277,10 +262,10 @@ impl Progress {
         }
     }
 
-    #[tactic(auto, unfolding(crate::specs::Walking::fields_at))]
+    #[tactic(auto, unfolding(crate::specs::Loading::units_at))]
     fn add_fields(&mut self, site: &Site<'_>, fields: &[Field]) -> Result<(), LoadFault>
         ensures { Walks self.old self.new result (λ l.
-            fields_at site.now.table l site.now.scope.now (unit_names (fields_view fields.now))) }
+            units_at site.now.table l site.now.scope.now (unit_names (fields_view fields.now))) }
     {
         for field in fields {
             self.add_field(site, field)?;
@@ -289,10 +274,10 @@ impl Progress {
     }
 
     /// Declares the named units of a field list.
-    #[tactic(auto, unfolding(crate::specs::Walking::fields_at))]
+    #[tactic(auto, unfolding(crate::specs::Loading::units_at))]
     fn add_units(&mut self, site: &Site<'_>, tail: &Tail) -> Result<(), LoadFault>
         ensures { Walks self.old self.new result (λ l.
-            fields_at site.now.table l site.now.scope.now (field_names (tail_view tail.now))) }
+            units_at site.now.table l site.now.scope.now (field_names (tail_view tail.now))) }
     {
         match tail {
             Tail::Fields(fields) => self.add_fields(site, fields.as_slice()),
@@ -302,9 +287,9 @@ impl Progress {
 
     /// Declares what a term declares, and what the terms inside it declare.
     #[cycle(walk)]
-    #[tactic(auto, unfolding(crate::specs::Walking::walk))]
+    #[tactic(auto, unfolding(crate::specs::Loading::declare))]
     fn walk(&mut self, site: &Site<'_>, node: &Node) -> Result<(), LoadFault>
-        ensures { Walks self.old self.new result (λ l. walk site.now.table l site.now.scope.now (node_view node.now)) }
+        ensures { Walks self.old self.new result (λ l. declare site.now.table l site.now.scope.now (node_view node.now)) }
     {
         match node {
             Node::Nothing | Node::Named { .. } => Ok(()),
@@ -322,7 +307,7 @@ impl Progress {
 
     /// Does what a role does.
     #[cycle(walk)]
-    #[tactic(auto, unfolding(crate::specs::Walking::do_as))]
+    #[tactic(auto, unfolding(crate::specs::Loading::declare_as))]
     fn walk_role(
         &mut self,
         site: &Site<'_>,
@@ -331,12 +316,13 @@ impl Progress {
         parts: &[Part],
     ) -> Result<(), LoadFault>
         ensures { Walks self.old self.new result (λ l.
-            do_as role site.now.table l site.now.scope.now (parts_view parts.now) (tail_view tail.now)
-            (λ l p. walk_inside site.now.table l p (tail_view tail.now))) }
+            declare_as role site.now.table l site.now.scope.now (parts_view parts.now) (tail_view tail.now)
+            (λ l p. declare_inside site.now.table l p (tail_view tail.now))) }
     {
         match role {
             Role::Declares(object) => {
-                let path = self.open_name(site, last_name(parts), kind_of(object))?;
+                let path = self.own_path(site, last_name(parts))?;
+                self.declare(site.table, path.clone()?, kind_of(object))?;
                 self.walk_below(site.table, path, tail)
             }
             Role::Method => self.add_method(site, parts, tail),
@@ -355,7 +341,7 @@ impl Progress {
     /// Declares what the terms inside a term declare, whose scope is this path.
     #[cycle(walk)]
     fn walk_below(&mut self, table: usize, path: Path, tail: &Tail) -> Result<(), LoadFault>
-        ensures { Walks self.old self.new result (λ l. walk_inside table l path (tail_view tail.now)) }
+        ensures { Walks self.old self.new result (λ l. declare_inside table l path (tail_view tail.now)) }
     {
         let scope = SharedPath::new(self.alloc, path)?;
         self.walk_inside(
@@ -369,10 +355,10 @@ impl Progress {
 
     /// Declares what the terms inside a term declare.
     #[cycle(walk)]
-    #[tactic(auto, unfolding(crate::specs::Walking::walk_inside))]
+    #[tactic(auto, unfolding(crate::specs::Loading::declare_inside))]
     fn walk_inside(&mut self, site: &Site<'_>, tail: &Tail) -> Result<(), LoadFault>
         ensures { Walks self.old self.new result (λ l.
-            walk_inside site.now.table l site.now.scope.now (tail_view tail.now)) }
+            declare_inside site.now.table l site.now.scope.now (tail_view tail.now)) }
     {
         match tail {
             Tail::Terms(terms) => self.walk_all(site, terms.as_slice()),
@@ -382,10 +368,10 @@ impl Progress {
 
     /// Declares what these terms declare, in the order of the text.
     #[cycle(walk)]
-    #[tactic(auto, unfolding(crate::specs::Walking::walk_all))]
+    #[tactic(auto, unfolding(crate::specs::Loading::declare_all))]
     pub fn walk_all(&mut self, site: &Site<'_>, terms: &[Node]) -> Result<(), LoadFault>
         ensures { Walks self.old self.new result (λ l.
-            walk_all site.now.table l site.now.scope.now (nodes_view terms.now)) }
+            declare_all site.now.table l site.now.scope.now (nodes_view terms.now)) }
     {
         for term in terms {
             self.walk(site, term)?;

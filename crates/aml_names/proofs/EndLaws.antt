@@ -2,6 +2,7 @@
 -- true where a path is added (`known_pushed`, `known_root`), where a segment alone is made known and set back
 -- (`known_room`, `known_back`), and answers what a look at the paths would (`known_end`, `known_depth`).
 use Rattle.std.specs.Prelude.{slice_get}
+use Rattle.std.specs.Option.{option_flatten}
 use Rattle.std.proofs.Common.{◌≡◌, ℕ, zero, suc, ◌+◌, ◌-◌, ◌<◌, ◌≤◌, ◌==◌, Bool, true, false, ◌||◌, cond, List, [], ◌∷◌, ◌++◌, length, take, drop, Option, Some}
 use Rattle.std.proofs.Common.{None, IfSome, is_some, Result, Ok, Err, OnOk, OnErr, refl, sym, ap, subst, ◌∙◌, arith, length-append}
 use Rattle.std.proofs.lemmas.Bool.{false≢true, eqb-true, eqb-false, cond_both, false_from_ne_true}
@@ -18,7 +19,7 @@ use Rattle.std.specs.List.{list_any}
 use Rattle.std.specs.FinSet as set
 use Rattle.aml_names.specs.declared.segments.Seg.{Seg}
 use Rattle.aml_names.specs.Paths.{PathSet, seg_cmp, path_cmp, segs_total, paths_total, exact_segs, exact_paths, HaveLengths}
-use Rattle.aml_names.specs.Searching.{greatest, nearest, IsKnown, KnowEnds, deeper, depth_known}
+use Rattle.aml_names.specs.Searching.{greatest, nearest, IsKnown, KnowEnds, deeper}
 
 module _ (a b : ℕ → Bool) where
   pub greatest_same : (n : ℕ) → ((d : ℕ) → d ≤ n → a d ≡ b d) → greatest a n ≡ greatest b n
@@ -77,7 +78,7 @@ nearest_none paths own scope e none = greatest_none (λ d. set.contains paths (t
 
 module _ (paths : PathSet) (scope : List Seg) where
   -- what is known says which is the nearest
-  pub known_depth : (end : Seg) (known : Option (Option ℕ)) → IsKnown paths scope end known → depth_known known ≡ nearest paths scope (end ∷ [])
+  pub known_depth : (end : Seg) (known : Option (Option ℕ)) → IsKnown paths scope end known → option_flatten known ≡ nearest paths scope (end ∷ [])
   known_depth end None none = sym (nearest_none paths scope scope end none)
   known_depth end (Some depth) is = is
 
@@ -91,22 +92,22 @@ module _ (paths : PathSet) (scope : List Seg) where
 
   -- a segment more that is known
   pub known_room : (known new : Seg → Option (Option ℕ)) (e : Seg) → KnowEnds paths scope known
-      → ((q : Seg) → new q ≡ cond (is_at (seg_cmp e) q) (Some (deeper None (depth_known (known e)))) (known q)) → KnowEnds paths scope new
+      → ((q : Seg) → new q ≡ cond (is_at (seg_cmp e) q) (Some (deeper None (option_flatten (known e)))) (known q)) → KnowEnds paths scope new
   known_room known new e know grown s = subst (IsKnown paths scope s) (sym (grown s)) (by (is_at (seg_cmp e) s) refl)
     where
-      by : (t : Bool) → is_at (seg_cmp e) s ≡ t → IsKnown paths scope s (cond t (Some (depth_known (known e))) (known s))
+      by : (t : Bool) → is_at (seg_cmp e) s ≡ t → IsKnown paths scope s (cond t (Some (option_flatten (known e))) (known s))
       by true is = known_depth e (known e) (know e) ∙ ap (λ (x : Seg). nearest paths scope (x ∷ [])) (tells_apart exact_segs e s is)
       by false is = know s
 
   -- a segment whose depth was changed and set back
-  pub known_back : (known changed new : Seg → Option (Option ℕ)) (e : Seg) (depth back : Option ℕ) → KnowEnds paths scope known → back ≡ depth_known (known e)
+  pub known_back : (known changed new : Seg → Option (Option ℕ)) (e : Seg) (depth back : Option ℕ) → KnowEnds paths scope known → back ≡ option_flatten (known e)
       → ((q : Seg) → changed q ≡ cond (is_at (seg_cmp e) q) (Some depth) (known q))
       → ((q : Seg) → new q ≡ cond (is_at (seg_cmp e) q) (Some back) (changed q)) → KnowEnds paths scope new
   known_back known changed new e depth back know was change set =
       known_room known new e know (λ q. set q ∙ by q (is_at (seg_cmp e) q) (changed q) (change q))
     where
       by : (q : Seg) (t : Bool) (c : Option (Option ℕ)) → c ≡ cond t (Some depth) (known q)
-          → cond t (Some back) c ≡ cond t (Some (depth_known (known e))) (known q)
+          → cond t (Some back) c ≡ cond t (Some (option_flatten (known e))) (known q)
       by q true c is = ap (λ d. Some d) was
       by q false c is = is
 
@@ -193,10 +194,10 @@ module _ (paths : PathSet) (scope p : List Seg) (e : Seg) (is : slice_get p (len
 
   pub known_pushed : (known new : Seg → Option (Option ℕ)) (depth : Option ℕ) → KnowEnds paths scope known
       → depth ≡ cond (eq_by_cmp path_cmp (take k scope) (take k p)) (Some k) None
-      → ((q : Seg) → new q ≡ cond (is_at (seg_cmp e) q) (Some (deeper depth (depth_known (known e)))) (known q)) → KnowEnds (set.insert paths p) scope new
+      → ((q : Seg) → new q ≡ cond (is_at (seg_cmp e) q) (Some (deeper depth (option_flatten (known e)))) (known q)) → KnowEnds (set.insert paths p) scope new
   known_pushed known new depth know met grown s = subst (IsKnown (set.insert paths p) scope s) (sym (grown s)) (by (is_at (seg_cmp e) s) refl)
     where
-      by : (t : Bool) → is_at (seg_cmp e) s ≡ t → IsKnown (set.insert paths p) scope s (cond t (Some (deeper depth (depth_known (known e)))) (known s))
+      by : (t : Bool) → is_at (seg_cmp e) s ≡ t → IsKnown (set.insert paths p) scope s (cond t (Some (deeper depth (option_flatten (known e)))) (known s))
       by true same =
           ap (deeper depth) (known_depth paths scope e (known e) (know e)) ∙ sym (raised_depth depth met)
           ∙ ap (λ (x : Seg). nearest (set.insert paths p) scope (x ∷ [])) (tells_apart exact_segs e s same)

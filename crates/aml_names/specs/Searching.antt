@@ -1,12 +1,11 @@
 -- Which paths a name may mean in a scope (ACPI 6.5, 5.3).
 use Rattle.std.specs.Prelude.{ℕ, zero, suc, Bool, not, ◌&&◌, ◌==◌, cond, List, [], ◌∷◌, ◌++◌, length, take, Option}
-use Rattle.std.specs.Prelude.{Some, None, ◌≡◌, nat_le, false}
+use Rattle.std.specs.Prelude.{Some, None, ◌≡◌, nat_le, false, option_to_list}
 use Rattle.aml_names.specs.declared.segments.Seg.{Seg}
 use Rattle.aml_names.specs.declared.names.Name.{Name}
 use Rattle.std.specs.FinSet as set
 use Rattle.aml_names.specs.Names.{placed}
 use Rattle.aml_names.specs.Paths.{PathSet}
-use Rattle.std.specs.Option.{option_and_then}
 
 -- one segment without prefix, in any spelling: such a name is searched upward
 abbrev pub is_single : Name → Bool
@@ -27,14 +26,10 @@ abbrev pub upward : ℕ → List Seg → List Seg → List (List Seg)
 upward zero scope segment = segment ∷ []
 upward (suc n) scope segment = (take (suc n) scope ++ segment) ∷ upward n scope segment
 
-abbrev pub the_one : Option (List Seg) → List (List Seg)
-the_one None = []
-the_one (Some p) = p ∷ []
-
 -- the paths that a name may mean in a scope, the nearest first: any name but a single segment has one, or none above
 -- the root
 abbrev pub candidates : List Seg → Name → List (List Seg)
-candidates scope name = cond (is_single name) (upward (length scope) scope name.segs) (the_one (placed scope name))
+candidates scope name = cond (is_single name) (upward (length scope) scope name.segs) (option_to_list (placed scope name))
 
 -- ---- A stepping stone of the proofs: the last segments of some paths.
 
@@ -51,6 +46,3 @@ abbrev pub deeper : Option ℕ → Option ℕ → Option ℕ
 deeper None known = known
 deeper (Some depth) None = Some depth
 deeper (Some depth) (Some known) = Some (cond (nat_le depth known) known depth)
-
-abbrev pub depth_known : Option (Option ℕ) → Option ℕ
-depth_known o = option_and_then (λ depth. depth) o

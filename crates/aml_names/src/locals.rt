@@ -1,12 +1,13 @@
 //! The paths that a method body has declared so far.
 ghost use Rattle.std.specs.Prelude.{◌≡◌, ◌↔◌, ◌≤◌, ◌-◌, [], ◌∷◌, ℕ, length, take, cond, Some, None, false, IsTrue, OnOk, OnErr, IfOk};
 ghost use Rattle.std.specs.Bool.{OnFalse};
+ghost use Rattle.std.specs.Option.{option_flatten};
 ghost use Rattle.std.specs.Ordering.{eq_by_cmp};
 ghost use Rattle.std.specs.BTreeMap.{is_at, get, IsUnchanged};
 ghost use Rattle.std.specs.FinSet as set;
 ghost use Rattle.aml_names.specs.declared.segments.Seg.{Seg};
 ghost use Rattle.aml_names.specs.Paths.{seg_cmp, path_cmp};
-ghost use Rattle.aml_names.specs.Searching.{nearest, deeper, depth_known};
+ghost use Rattle.aml_names.specs.Searching.{nearest, deeper};
 
 use crate::faults::NoMemory;
 use crate::paths::{Path, same_segs};
@@ -192,9 +193,9 @@ fn deepen(
     depth: Option<usize>,
 ) -> Result<Option<usize>, NoMemory>
     ensures ok { OnOk result ((q : Seg) → get seg_cmp ends.new q
-        ≡ cond (is_at (seg_cmp end) q) (Some (deeper depth (depth_known (get seg_cmp ends.old end))))
+        ≡ cond (is_at (seg_cmp end) q) (Some (deeper depth (option_flatten (get seg_cmp ends.old end))))
         (get seg_cmp ends.old q)) }
-    ensures known { IfOk result (λ known. known ≡ depth_known (get seg_cmp ends.old end)) }
+    ensures known { IfOk result (λ known. known ≡ option_flatten (get seg_cmp ends.old end)) }
     ensures err { OnErr result (IsUnchanged ends.old ends.new) }
 {
     let slot = ends.entry(end)?.or_insert(None);

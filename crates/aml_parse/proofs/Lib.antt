@@ -1,12 +1,13 @@
 pub mod Common
 pub mod FlatLaws
 pub mod FlatReads
+pub mod Bodiless
 pub mod Took
 pub mod Leads
-pub mod Bodiless
 pub mod ReadLaws
 pub mod Again
 pub mod Readings
 pub mod PrefixLaws
 pub mod Loops
 pub mod Bare
+pub mod Views

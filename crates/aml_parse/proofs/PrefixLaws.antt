@@ -1,7 +1,7 @@
 -- No lawful term's bytes begin another's, and terms with the same bytes are the same: the reader reads each lawful term again
 -- from its bytes, whatever is behind them, and it answers one term.
-use Rattle.aml_parse.proofs.Common.{◌≡◌, ℕ, ◌+◌, List, [], ◌++◌, length, Option, refl, sym, ap, ◌∙◌, arith, append-nil, Seg, PathSet, ok_is, Position, Tree}
-use Rattle.aml_parse.proofs.Common.{Trees, encoding, encodings, after, after_all, IsLawful, AreTerms, setting_of, Arities, IsTermAt, AreTermsAt}
+use Rattle.aml_parse.proofs.Common.{◌≡◌, ℕ, ◌+◌, List, [], ◌++◌, length, Option, refl, sym, ap, ◌∙◌, arith, inr, append-nil, Seg, PathSet, ok_is, Position}
+use Rattle.aml_parse.proofs.Common.{Tree, Trees, encoding, encodings, after, after_all, IsLawful, AreTerms, setting_of, Arities, IsTermAt, AreTermsAt}
 use Rattle.aml_parse.proofs.Common.{NoProperPrefix, SameByBytes, AllSameByBytes, deeper_by, terms_deeper_by}
 use Rattle.aml_parse.specs.Reading.{terms_at, read_at}
 use Rattle.aml_parse.proofs.Again.{terms_again}
@@ -17,8 +17,8 @@ module _ (arity : Arities) (scope : Option (List Seg)) (code : List ℕ) (p : Po
       let law = read_law s levels in
       let whole : encoding code u ++ [] ≡ encoding code t ++ behind = append-nil (encoding code u) ∙ e in
       let end = at + length (encoding code u ++ []) in
-      let as_u = law.again p at end ls u [] lawful_u is_u.bodies refl in
-      let as_t = law.again p at end ls t behind lawful_t is_t.bodies (ap (λ (b : List ℕ). at + length b) (sym whole)) in
+      let as_u = law.again p end ls u [] lawful_u (inr (at, refl, is_u.bodies)) in
+      let as_t = law.again p end ls t behind lawful_t (inr (at, ap (λ (b : List ℕ). at + length b) (sym whole), is_t.bodies)) in
       let same = ok_is (u, after scope ls u, []) (t, after scope ls t, behind) (sym as_u ∙ ap (read_at arity scope levels p end ls) whole ∙ as_t) in
       (ap (λ (x : Tree × PathSet × List ℕ). x.0) same, sym (ap (λ (x : Tree × PathSet × List ℕ). x.2) same))
 
@@ -34,8 +34,8 @@ module _ (arity : Arities) (scope : Option (List Seg)) (code : List ℕ) (p : Po
       let read = read_at arity scope levels in
       let n = length (encodings code us) in
       let end = at + n in
-      let as_us = terms_again s levels read (read_law s levels) n p at end ls us (omega arith) lawful_us are_us.bodies refl in
-      let as_ts =
-      terms_again s levels read (read_law s levels) n p at end ls ts (omega (arith, ap length e)) lawful_ts are_ts.bodies (omega (arith, ap length e)) in
+      let again = terms_again s levels read (read_law s levels) n p end ls in
+      let as_us = again us (omega arith) lawful_us (inr (at, refl, are_us.bodies)) in
+      let as_ts = again ts (omega (arith, ap length e)) lawful_ts (inr (at, omega (arith, ap length e), are_ts.bodies)) in
       let same = ok_is (us, after_all scope ls us) (ts, after_all scope ls ts) (sym as_us ∙ ap (terms_at read n p end ls) e ∙ as_ts) in
       ap (λ (x : Trees × PathSet). x.0) same

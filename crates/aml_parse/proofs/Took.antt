@@ -1,91 +1,81 @@
 -- What was read from the front of the bytes, and what a reader of terms keeps.
-use Rattle.aml_parse.proofs.Common.{◌≡◌, ℕ, zero, suc, ◌+◌, ◌<◌, ◌≤◌, true, false, List, [], ◌∷◌, ◌++◌, length, Some, Result, Ok, refl, sym, ap, subst, ◌∙◌}
-use Rattle.aml_parse.proofs.Common.{append_assoc, arith, length-append, CodeFault, Name, IsNameSeg, IsName, spelling, PathSet, name_lead, Takes, PartKind}
-use Rattle.aml_parse.proofs.Common.{Position, TailKind, package_bytes, has_length, Tree, nothing, named, op, Trees, Part, Parts, Tail, Field, unit}
-use Rattle.aml_parse.proofs.Common.{connection, Fields, Link, tree_count, opcode_bytes, packed, encoding, encodings, part_encoding}
-use Rattle.aml_parse.proofs.Common.{parts_encoding, tail_encoding, field_encoding, fields_encoding, link_encoding, after, after_all, after_tail, count_in}
-use Rattle.aml_parse.proofs.Common.{Setting, IsLawful, AreTerms, IsPart, AreParts, IsTail, IsField, AreFields, BodyStands, BodiesStand, TailStands, Arities}
-use Rattle.aml_parse.proofs.Common.{opcode_some, Within}
-use Rattle.aml_code.specs.declared.rows.Position.TheVariants as positions
-use Rattle.aml_code.specs.declared.rows.TailKind.TheVariants as tails
+use Rattle.aml_parse.proofs.Common.{◌≡◌, ℕ, zero, suc, ◌+◌, ◌<◌, ◌≤◌, true, false, List, [], ◌∷◌, ◌++◌, length, Some, Result, Ok, refl, sym, subst, arith}
+use Rattle.aml_parse.proofs.Common.{length-append, CodeFault, Name, IsNameSeg, IsName, spelling, PathSet, name_lead, Takes, PartKind, Position, TailKind}
+use Rattle.aml_parse.proofs.Common.{package_bytes, has_length, Tree, nothing, named, op, Trees, Part, Parts, Tail, Field, unit, connection, Fields, Link}
+use Rattle.aml_parse.proofs.Common.{tree_count, opcode_bytes, packed, encoding, encodings, part_encoding, parts_encoding, tail_encoding, field_encoding}
+use Rattle.aml_parse.proofs.Common.{fields_encoding, link_encoding, after, after_all, after_tail, count_in, Setting, IsLawful, AreTerms, IsPart, AreParts}
+use Rattle.aml_parse.proofs.Common.{IsTail, IsField, AreFields, BodyStands, BodiesStand, TailStands, Arities, opcode_some, Within, Option, Seg, Row, row_of}
+use Rattle.aml_parse.proofs.Common.{PkgWidth, with_declared, names_declared, declared_by, row_opcode}
 use Rattle.aml_parse.specs.Reading.{Reader, takes_names}
 use Rattle.aml_parse.proofs.FlatReads.{Answers}
+use Rattle.aml_parse.proofs.Bodiless.{Standing}
 
--- ---- what is inside a term: it is spelled so, it is so, and it declares nothing
+-- what was read from the front of the bytes: it is spelled by what was taken, it is so, and this is declared behind it
+pub record Took {A : Type 0} (spelled : A → List ℕ) (Is : A → Type 0) (behind : A → PathSet) (bs : List ℕ) (x : A × PathSet × List ℕ) : Type 0 where
+  pub takes : Takes bs (spelled x.0) x.2
+  pub is : Is x.0
+  pub behind_is : x.1 ≡ behind x.0
 
-module _ {A : Type 0} (spelled : A → List ℕ) (Is : A → Type 0) where
-  pub record TookInner (ls : PathSet) (bs : List ℕ) (x : A × PathSet × List ℕ) : Type 0 where
-    pub takes : Takes bs (spelled x.0) x.2
-    pub is : Is x.0
-    pub same : x.1 ≡ ls
-
--- ---- terms, and what is made of them
+-- the same of all of the bytes
+pub record TookAll {A : Type 0} (spelled : A → List ℕ) (Is : A → Type 0) (behind : A → PathSet) (bs : List ℕ) (x : A × PathSet) : Type 0 where
+  pub text : bs ≡ spelled x.0
+  pub is : Is x.0
+  pub behind_is : x.1 ≡ behind x.0
 
 -- what a connection leads to
 abbrev pub IsLink : Setting → ℕ → PathSet → Link → Type 0
 IsLink s levels ls l = IsField (λ q. IsLawful s levels q ls) (connection l)
 
 module _ (s : Setting) (levels : ℕ) where
-  pub record TookTerm (p : Position) (at : ℕ) (ls : PathSet) (bs : List ℕ) (x : Tree × PathSet × List ℕ) : Type 0 where
-    pub takes : Takes bs (encoding s.code x.0) x.2
-    pub lawful : IsLawful s levels p ls x.0
-    pub after_is : x.1 ≡ after s.scope ls x.0
-    pub stands : BodyStands s.code at x.0
+  abbrev pub TookTerm : Position → ℕ → PathSet → List ℕ → Tree × PathSet × List ℕ → Type 0
+  TookTerm p at ls = Took (encoding s.code) (λ t. IsLawful s levels p ls t × BodyStands s.code at t) (after s.scope ls)
 
-  pub record TookArguments (n : ℕ) (ls : PathSet) (bs : List ℕ) (x : Trees × PathSet × List ℕ) : Type 0 where
-    pub takes : Takes bs (encodings s.code x.0) x.2
-    pub lawful : AreTerms s levels positions.Argument ls x.0
-    pub count : tree_count x.0 ≡ n
-    pub after_is : x.1 ≡ after_all s.scope ls x.0
+  abbrev pub TookArguments : ℕ → PathSet → List ℕ → Trees × PathSet × List ℕ → Type 0
+  TookArguments n ls = Took (encodings s.code) (λ ts. AreTerms s levels Position.Argument ls ts × (tree_count ts ≡ n)) (after_all s.scope ls)
 
-  pub record TookTerms (p : Position) (at : ℕ) (ls : PathSet) (bs : List ℕ) (x : Trees × PathSet) : Type 0 where
-    pub text : bs ≡ encodings s.code x.0
-    pub lawful : AreTerms s levels p ls x.0
-    pub after_is : x.1 ≡ after_all s.scope ls x.0
-    pub stands : BodiesStand s.code at x.0
+  abbrev pub TookTerms : Position → ℕ → PathSet → List ℕ → Trees × PathSet → Type 0
+  TookTerms p at ls = TookAll (encodings s.code) (λ ts. AreTerms s levels p ls ts × BodiesStand s.code at ts) (after_all s.scope ls)
 
-  pub record TookFields (ls : PathSet) (bs : List ℕ) (x : Fields × PathSet) : Type 0 where
-    pub text : bs ≡ fields_encoding s.code x.0
-    pub are_fields : AreFields (λ q. IsLawful s levels q ls) x.0
-    pub same : x.1 ≡ ls
+  abbrev pub TookFields : PathSet → List ℕ → Fields × PathSet → Type 0
+  TookFields ls = TookAll (fields_encoding s.code) (AreFields (λ q. IsLawful s levels q ls)) (λ us. ls)
 
-  pub record TookTail (p : Position) (k : TailKind) (at : ℕ) (ls : PathSet) (bs : List ℕ) (x : Tail × PathSet) : Type 0 where
-    pub text : bs ≡ tail_encoding s.code x.0
-    pub is_tail : IsTail s (IsLawful s levels) p k ls x.0
-    pub after_is : x.1 ≡ after_tail s.scope ls x.0
-    pub stands : TailStands s.code at x.0
+  abbrev pub TookTail : Position → TailKind → ℕ → PathSet → List ℕ → Tail × PathSet → Type 0
+  TookTail p k at ls = TookAll (tail_encoding s.code) (λ t. IsTail s (IsLawful s levels) p k ls t × TailStands s.code at t) (after_tail s.scope ls)
 
   abbrev pub TookPart : PartKind → PathSet → List ℕ → Part × PathSet × List ℕ → Type 0
-  TookPart k ls = TookInner (part_encoding s.code) (IsPart (λ q. IsLawful s levels q ls) k) ls
+  TookPart k ls = Took (part_encoding s.code) (IsPart (λ q. IsLawful s levels q ls) k) (λ x. ls)
 
   abbrev pub TookParts : List PartKind → PathSet → List ℕ → Parts × PathSet × List ℕ → Type 0
-  TookParts ks ls = TookInner (parts_encoding s.code) (AreParts (λ q. IsLawful s levels q ls) ks) ls
+  TookParts ks ls = Took (parts_encoding s.code) (AreParts (λ q. IsLawful s levels q ls) ks) (λ xs. ls)
 
   abbrev pub TookLink : PathSet → List ℕ → Link × PathSet × List ℕ → Type 0
-  TookLink ls = TookInner (link_encoding s.code) (IsLink s levels ls) ls
+  TookLink ls = Took (link_encoding s.code) (IsLink s levels ls) (λ l. ls)
 
   abbrev pub TookField : PathSet → List ℕ → Field × PathSet × List ℕ → Type 0
-  TookField ls = TookInner (field_encoding s.code) (IsField (λ q. IsLawful s levels q ls)) ls
+  TookField ls = Took (field_encoding s.code) (IsField (λ q. IsLawful s levels q ls)) (λ u. ls)
 
   -- What a reader answers is so, or its fault is true. What is left of the levels makes up 512 with the offset: a term takes a
   -- level and a byte at least, so where no level is left the offset is 512 or more.
   abbrev pub Reads : {A : Type 0} → (ℕ → PathSet → List ℕ → A → Type 0) → (ℕ → PathSet → List ℕ → Result A CodeFault) → Type 0
-  Reads Took read = (at end : ℕ) (ls : PathSet) (bs : List ℕ) → Within s.code at end bs → 512 ≤ levels + at → Answers s (Took at ls bs) (read end ls bs)
+  Reads Is read = (at end : ℕ) (ls : PathSet) (bs : List ℕ) → Within s.code at end bs → 512 ≤ levels + at → Answers s (Is at ls bs) (read end ls bs)
 
   -- what is read is lawful and spelled so, and a lawful term is read again, whatever follows it
   pub record IsReader (read : Position → Reader Tree) : Type 0 where
     pub reads : (p : Position) → Reads (TookTerm p) (read p)
-    pub again : (p : Position) (at end : ℕ) (ls : PathSet) (t : Tree) (rest : List ℕ) → IsLawful s levels p ls t → BodyStands s.code at t
-        → at + length (encoding s.code t ++ rest) ≡ end → read p end ls (encoding s.code t ++ rest) ≡ Ok (t, after s.scope ls t, rest)
+    pub again : (p : Position) (end : ℕ) (ls : PathSet) (t : Tree) (rest : List ℕ) → IsLawful s levels p ls t
+        → Standing (takes_names p ≡ true) (λ at. BodyStands s.code at t) end (encoding s.code t ++ rest)
+        → read p end ls (encoding s.code t ++ rest) ≡ Ok (t, after s.scope ls t, rest)
 
--- ---- offsets
+-- ---- what was read by its row is what it is by its opcode
 
--- behind the first of two that stand one after the other
-pub place_behind : (at end : ℕ) (front back : List ℕ) → at + length (front ++ back) ≡ end → (at + length front) + length back ≡ end
-place_behind at end front back e = omega (arith, e, length-append front back)
+abbrev pub answer : Tree → PathSet → List ℕ → Tree × PathSet × List ℕ
+answer t ls rest = (t, ls, rest)
 
-pub place_split : (at end : ℕ) (front back rest : List ℕ) → at + length ((front ++ back) ++ rest) ≡ end → at + length (front ++ (back ++ rest)) ≡ end
-place_split at end front back rest e = ap (λ (b : List ℕ). at + length b) (sym (append_assoc front back rest)) ∙ e
+pub by_opcode : (scope : Option (List Seg)) (o : ℕ) (row : Row) → row_of o ≡ Some row → (w : Option PkgWidth) (ps : Parts) (t : Tail) (ls : PathSet)
+    (rest : List ℕ)
+    → answer (op row.opcode w ps t) (with_declared scope ls (names_declared row.role ps t)) rest
+    ≡ answer (op o w ps t) (declared_by scope (row_of o) ls ps t) rest
+by_opcode scope o row listed w ps t ls rest = rw (row_opcode o row listed, listed) refl
 
 -- ---- a term takes a byte at least
 
@@ -111,14 +101,10 @@ module _ (s : Setting) where
 -- ---- names and tails
 
 pub names_taken : (arity : Arities) (p : Position) (ls : PathSet) (n : Name) (m : ℕ) → count_in arity p ls n ≡ Some m → takes_names p ≡ true
-names_taken arity positions.ModuleTerm ls n m h = absurd cc
-names_taken arity positions.GuardTerm ls n m h = absurd cc
+names_taken arity Position.ModuleTerm ls n m h = absurd cc
+names_taken arity Position.GuardTerm ls n m h = absurd cc
 names_taken arity _ ls n m h = refl
 
-pub empty_tail : (k : TailKind) → has_length k ≡ false → k ≡ tails.Empty
-empty_tail tails.Empty h = refl
+pub empty_tail : (k : TailKind) → has_length k ≡ false → k ≡ TailKind.Empty
+empty_tail TailKind.Empty h = refl
 empty_tail _ h = absurd cc
-
-pub long_tail : (k : TailKind) → has_length k ≡ true → k ≡ tails.Empty → ⊥
-long_tail tails.Empty h e = absurd cc
-long_tail _ h e = absurd cc

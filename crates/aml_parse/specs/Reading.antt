@@ -6,7 +6,6 @@ use Rattle.std.specs.Prelude.{◌≡◌, ℕ, zero, suc, ◌+◌, ◌-◌, Bool,
 use Rattle.std.specs.Prelude.{◌∷◌, length, take, drop, position, Option, Some, None, Result, Ok, Err, option_map, ok_or}
 use Rattle.std.specs.FinSet as set
 use Rattle.aml_names.specs.declared.faults.CodeFault.{CodeFault}
-use Rattle.aml_names.specs.declared.faults.CodeFault.TheVariants as faults
 use Rattle.aml_names.specs.declared.segments.Seg.{Seg}
 use Rattle.aml_names.specs.declared.names.Name.{Name}
 use Rattle.aml_names.specs.Paths.{PathSet}
@@ -14,25 +13,19 @@ use Rattle.aml_names.specs.Names.{is_name_lead}
 use Rattle.aml_names.specs.NameReading.{name_at, segment_at, has_segment, ◌>>=◌, Left, byte_at}
 use Rattle.aml_code.specs.Opcodes.{Row, row_of, has_length, takes}
 use Rattle.aml_code.specs.declared.rows.PartKind.{PartKind}
-use Rattle.aml_code.specs.declared.rows.PartKind.TheVariants as kinds
 use Rattle.aml_code.specs.declared.rows.Place.{Place}
-use Rattle.aml_code.specs.declared.rows.Place.TheVariants as places
 use Rattle.aml_code.specs.declared.rows.Position.{Position}
-use Rattle.aml_code.specs.declared.rows.Position.TheVariants as positions
 use Rattle.aml_code.specs.declared.rows.TailKind.{TailKind}
-use Rattle.aml_code.specs.declared.rows.TailKind.TheVariants as tails
 use Rattle.aml_code.specs.Packages.{little_at, length_at, span_at}
 use Rattle.aml_code.specs.Tree.{Tree, nothing, named, op, Trees, no_trees, tree_more, Part, child, label, byte, word}
 use Rattle.aml_code.specs.Tree.{dword, qword, text, Parts, no_parts, part_more, Tail, empty, terms, elements, fields}
 use Rattle.aml_code.specs.Tree.{body, Field, unit, reserved, access, connection, extended, Fields, no_fields}
 use Rattle.aml_code.specs.Tree.{field_more, Link, target, buffer}
-use Rattle.aml_code.specs.Tree as trees
 use Rattle.aml_code.specs.Lawful.{names_declared, with_declared, count_in, is_guard, terms_in, next_position}
 use Rattle.aml_code.specs.Faults.{Arities, most_levels, most_arguments}
 use Rattle.aml_parse.specs.declared.positions.Lead.{Lead}
-use Rattle.aml_parse.specs.declared.positions.Lead.TheVariants as leads
 use denote.Ref.{Bor}
-use Rattle.aml_parse.specs.declared.context.Context.{Context}
+use Rattle.aml_parse.specs.declared.parser.Parser.{Parser}
 
 -- A reader is handed where the innermost span ends, the paths declared so far and what is left of the span. It answers
 -- what it read, the paths declared then, and what is left.
@@ -68,49 +61,35 @@ held_inside holds read = do
 unfoldable pub count_part : ℕ → List ℕ → Left Part
 count_part end bytes = do
   n ← little_at 1 end bytes
-  if nat_lt most_arguments n.0 then Err (faults.BadCount (end - length bytes)) else Ok (byte n.0, n.1)
+  if nat_lt most_arguments n.0 then Err (CodeFault.BadCount (end - length bytes)) else Ok (byte n.0, n.1)
 
 -- a text up to its 00
-abbrev pub text_to : Option ℕ → ℕ → List ℕ → Left Part
-text_to None end bytes = Err (faults.Truncated end)
-text_to (Some n) end bytes = Ok (text (take n bytes), drop (suc n) bytes)
-
 abbrev pub text_part : ℕ → List ℕ → Left Part
-text_part end bytes = text_to (position (λ b. b == 0) bytes) end bytes
+text_part end bytes = do
+  n ← ok_or (position (λ b. b == 0) bytes) (CodeFault.Truncated end)
+  Ok (text (take n bytes), drop (suc n) bytes)
 
 -- a name with a segment
 unfoldable pub segmented_at : ℕ → List ℕ → Left Name
 segmented_at end bytes = do
   n ← name_at end bytes
-  if has_segment n.0 then Ok n else Err (faults.EmptyName (end - length bytes))
+  if has_segment n.0 then Ok n else Err (CodeFault.EmptyName (end - length bytes))
 
 -- ---- parts
 
--- where a part stands that is a term
-abbrev pub child_position : PartKind → Option Position
-child_position kinds.Term = Some positions.Argument
-child_position kinds.Target = Some positions.Target
-child_position kinds.Data = Some positions.Data
-child_position _ = None
-
--- a part of another kind
-abbrev pub flat_part : PartKind → ℕ → List ℕ → Left Part
-flat_part kinds.Name end bytes = held label (segmented_at end bytes)
-flat_part kinds.ScopeName end bytes = held label (name_at end bytes)
-flat_part kinds.Byte end bytes = held byte (little_at 1 end bytes)
-flat_part kinds.Count end bytes = count_part end bytes
-flat_part kinds.Word end bytes = held word (little_at 2 end bytes)
-flat_part kinds.Dword end bytes = held dword (little_at 4 end bytes)
-flat_part kinds.Qword end bytes = held qword (little_at 8 end bytes)
-flat_part kinds.Text end bytes = text_part end bytes
-flat_part _ end bytes = Err (faults.Truncated end)
-
-abbrev pub part_by : Option Position → (Position → Reader Tree) → PartKind → Reader Part
-part_by (Some p) read k end ls bytes = held_inside child (read p end ls bytes)
-part_by None read k end ls bytes = flat ls (flat_part k end bytes)
-
+-- a part of a kind
 abbrev pub part_at : (Position → Reader Tree) → PartKind → Reader Part
-part_at read k = part_by (child_position k) read k
+part_at read PartKind.Term end ls bytes = held_inside child (read Position.Argument end ls bytes)
+part_at read PartKind.Target end ls bytes = held_inside child (read Position.Target end ls bytes)
+part_at read PartKind.Data end ls bytes = held_inside child (read Position.Data end ls bytes)
+part_at read PartKind.Name end ls bytes = flat ls (held label (segmented_at end bytes))
+part_at read PartKind.ScopeName end ls bytes = flat ls (held label (name_at end bytes))
+part_at read PartKind.Byte end ls bytes = flat ls (held byte (little_at 1 end bytes))
+part_at read PartKind.Count end ls bytes = flat ls (count_part end bytes)
+part_at read PartKind.Word end ls bytes = flat ls (held word (little_at 2 end bytes))
+part_at read PartKind.Dword end ls bytes = flat ls (held dword (little_at 4 end bytes))
+part_at read PartKind.Qword end ls bytes = flat ls (held qword (little_at 8 end bytes))
+part_at read PartKind.Text end ls bytes = flat ls (text_part end bytes)
 
 unfoldable pub parts_at : (Position → Reader Tree) → List PartKind → Reader Parts
 parts_at read [] end ls bytes = Ok (no_parts, ls, bytes)
@@ -125,18 +104,24 @@ parts_at read (k ∷ ks) end ls bytes = do
 unfoldable pub arguments_at : (Position → Reader Tree) → ℕ → Reader Trees
 arguments_at read zero end ls bytes = Ok (no_trees, ls, bytes)
 arguments_at read (suc n) end ls bytes = do
-  first ← read positions.Argument end ls bytes
+  first ← read Position.Argument end ls bytes
   others ← arguments_at read n end first.1 first.2
   Ok (tree_more first.0 others.0, others.1, others.2)
 
--- Terms to the end of the span. The number bounds the turns: that of the bytes is always enough.
-unfoldable pub terms_at : (Position → Reader Tree) → ℕ → Position → ReaderToEnd Trees
-terms_at read n p end ls [] = Ok (no_trees, ls)
-terms_at read zero p end ls (b ∷ bytes) = Err (faults.Truncated end)
-terms_at read (suc n) p end ls (b ∷ bytes) = do
-  first ← read p end ls (b ∷ bytes)
-  others ← terms_at read n (next_position p first.0) end first.1 first.2
-  Ok (tree_more first.0 others.0, others.1)
+-- One after the other to the end of the span, each in a place that follows from the one before it. The number bounds
+-- the turns: that of the bytes is always enough.
+unfoldable pub to_end_at : {K A AS : Type 0} → AS → (A → AS → AS) → (K → Reader A) → (K → A → K) → ℕ → K
+    → ReaderToEnd AS
+to_end_at none more one next n k end ls [] = Ok (none, ls)
+to_end_at none more one next zero k end ls (b ∷ bytes) = Err (CodeFault.Truncated end)
+to_end_at none more one next (suc n) k end ls (b ∷ bytes) = do
+  first ← one k end ls (b ∷ bytes)
+  others ← to_end_at none more one next n (next k first.0) end first.1 first.2
+  Ok (more first.0 others.0, others.1)
+
+-- terms, of which an If changes the position of the next one
+abbrev pub terms_at : (Position → Reader Tree) → ℕ → Position → ReaderToEnd Trees
+terms_at read = to_end_at no_trees tree_more read next_position
 
 -- ---- field lists (20.2.5.2)
 
@@ -170,7 +155,7 @@ extended_unit end bytes = do
 unfoldable pub link_at : (Position → Reader Tree) → Reader Link
 link_at read end ls bytes = do
   lead ← byte_at end bytes
-  if lead.0 == 0x11 then held_inside buffer (read positions.Data end ls bytes)
+  if lead.0 == 0x11 then held_inside buffer (read Position.Data end ls bytes)
       else flat ls (held target (segmented_at end bytes))
 
 -- an element, by its lead byte
@@ -183,33 +168,28 @@ field_at read end ls bytes = do
       if lead.0 == 0x03 then flat ls (extended_unit end lead.1) else
       flat ls (named_unit end bytes)
 
--- Elements to the end of the span. The number bounds the turns: that of the bytes is always enough.
-unfoldable pub fields_at : (Position → Reader Tree) → ℕ → ReaderToEnd Fields
-fields_at read n end ls [] = Ok (no_fields, ls)
-fields_at read zero end ls (b ∷ bytes) = Err (faults.Truncated end)
-fields_at read (suc n) end ls (b ∷ bytes) = do
-  first ← field_at read end ls (b ∷ bytes)
-  others ← fields_at read n end first.1 first.2
-  Ok (field_more first.0 others.0, others.1)
+-- elements to the end of the span
+abbrev pub fields_at : (Position → Reader Tree) → ℕ → ReaderToEnd Fields
+fields_at read n = to_end_at no_fields field_more (λ (k : Unit {0}). field_at read) (λ k _. k) n tt
 
 -- ---- names
 
 unfoldable pub call_at : Arities → (Position → Reader Tree) → Position → Reader Tree
 call_at arity read p end ls bytes = do
   name ← name_at end bytes
-  n ← ok_or (count_in arity p ls name.0) (faults.UnknownName (end - length bytes))
+  n ← ok_or (count_in arity p ls name.0) (CodeFault.UnknownName (end - length bytes))
   args ← arguments_at read n end ls name.1
   Ok (named name.0 args.0, args.1, args.2)
 
 -- a list of terms of a table takes no name
 abbrev pub takes_names : Position → Bool
-takes_names positions.ModuleTerm = false
-takes_names positions.GuardTerm = false
+takes_names Position.ModuleTerm = false
+takes_names Position.GuardTerm = false
 takes_names _ = true
 
-unfoldable pub name_term_at : Arities → (Position → Reader Tree) → Position → Reader Tree
+abbrev pub name_term_at : Arities → (Position → Reader Tree) → Position → Reader Tree
 name_term_at arity read p end ls bytes =
-    if takes_names p then call_at arity read p end ls bytes else Err (faults.ModuleCode (end - length bytes))
+    if takes_names p then call_at arity read p end ls bytes else Err (CodeFault.ModuleCode (end - length bytes))
 
 -- ---- opcodes
 
@@ -221,25 +201,25 @@ opcode_at end bytes = do
 
 -- why a body doesn't take an opcode of a place
 abbrev pub refused_in_body : Place → ℕ → CodeFault
-refused_in_body places.Method at = faults.NestedMethod at
-refused_in_body places.Scope at = faults.NestedScope at
-refused_in_body places.Else at = faults.StrayElse at
-refused_in_body _ at = faults.NotHere at
+refused_in_body Place.Method at = CodeFault.NestedMethod at
+refused_in_body Place.Scope at = CodeFault.NestedScope at
+refused_in_body Place.Else at = CodeFault.StrayElse at
+refused_in_body _ at = CodeFault.NotHere at
 
 -- why a position doesn't take an opcode of a place
 abbrev pub refusal : Position → Place → ℕ → CodeFault
-refusal positions.ModuleTerm place at = faults.ModuleCode at
-refusal positions.GuardTerm place at = faults.ModuleCode at
-refusal positions.BodyTerm place at = refused_in_body place at
-refusal positions.AfterIf place at = refused_in_body place at
-refusal _ place at = faults.NotHere at
+refusal Position.ModuleTerm place at = CodeFault.ModuleCode at
+refusal Position.GuardTerm place at = CodeFault.ModuleCode at
+refusal Position.BodyTerm place at = refused_in_body place at
+refusal Position.AfterIf place at = refused_in_body place at
+refusal _ place at = CodeFault.NotHere at
 
 -- the content of a guard begins with 00
 abbrev pub guard_at : Bool → ℕ → ℕ → List ℕ → Result Bool CodeFault
 guard_at false at end inside = Ok false
 guard_at true at end inside = do
   first ← byte_at end inside
-  if first.0 == 0x00 then Ok true else Err (faults.ModuleCode at)
+  if first.0 == 0x00 then Ok true else Err (CodeFault.ModuleCode at)
 
 -- a method's body, from where it begins to the end of its span
 abbrev pub body_to : ℕ → ℕ → Tail
@@ -247,12 +227,13 @@ body_to end start = body start (end - start)
 
 -- a tail to the end of its span
 abbrev pub tail_at : (Position → Reader Tree) → Position → TailKind → ReaderToEnd Tail
-tail_at read p tails.Empty end ls inside = Err (faults.Truncated end)
-tail_at read p tails.Terms end ls inside = held terms (terms_at read (length inside) p end ls inside)
-tail_at read p tails.Bytes end ls inside = Ok (trees.bytes inside, ls)
-tail_at read p tails.Elements end ls inside = held elements (terms_at read (length inside) positions.Data end ls inside)
-tail_at read p tails.Fields end ls inside = held fields (fields_at read (length inside) end ls inside)
-tail_at read p tails.Body end ls inside = Ok (body_to end (end - length inside), ls)
+tail_at read p TailKind.Empty end ls inside = Err (CodeFault.Truncated end)
+tail_at read p TailKind.Terms end ls inside = held terms (terms_at read (length inside) p end ls inside)
+tail_at read p TailKind.Bytes end ls inside = Ok (Tail.bytes inside, ls)
+tail_at read p TailKind.Elements end ls inside =
+    held elements (terms_at read (length inside) Position.Data end ls inside)
+tail_at read p TailKind.Fields end ls inside = held fields (fields_at read (length inside) end ls inside)
+tail_at read p TailKind.Body end ls inside = Ok (body_to end (end - length inside), ls)
 
 -- an opcode without a package length
 unfoldable pub plain_at : Option (List Seg) → (Position → Reader Tree) → Row → Reader Tree
@@ -273,26 +254,23 @@ abbrev pub row_at : Option (List Seg) → (Position → Reader Tree) → Positio
 row_at scope read p at row end ls bytes =
     if has_length row.tail then packed_at scope read p at row end ls bytes else plain_at scope read row end ls bytes
 
-abbrev pub by_row : Option Row → Option (List Seg) → (Position → Reader Tree) → Position → ℕ → Reader Tree
-by_row None scope read p at end ls bytes = Err (faults.UnknownOp at)
-by_row (Some row) scope read p at end ls bytes =
-    if takes p row.place then row_at scope read p at row end ls bytes else Err (refusal p row.place at)
-
 unfoldable pub operation_at : Option (List Seg) → (Position → Reader Tree) → Position → Reader Tree
 operation_at scope read p end ls bytes = do
   o ← opcode_at end bytes
-  by_row (row_of o.0) scope read p (end - length bytes) end ls o.1
+  row ← ok_or (row_of o.0) (CodeFault.UnknownOp (end - length bytes))
+  if takes p row.place then row_at scope read p (end - length bytes) row end ls o.1
+      else Err (refusal p row.place (end - length bytes))
 
 -- 00 where a target is wanted
 abbrev pub is_absent_target : Position → ℕ → Bool
-is_absent_target positions.Target lead = lead == 0x00
+is_absent_target Position.Target lead = lead == 0x00
 is_absent_target _ lead = false
 
 -- what the first byte of a term begins
 abbrev pub Begins : Lead → Position → ℕ → Type 0
-Begins leads.Name p lead = is_name_lead lead ≡ true
-Begins leads.Nothing p lead = (is_name_lead lead ≡ false) × (is_absent_target p lead ≡ true)
-Begins leads.Opcode p lead = (is_name_lead lead ≡ false) × (is_absent_target p lead ≡ false)
+Begins Lead.Name p lead = is_name_lead lead ≡ true
+Begins Lead.Nothing p lead = (is_name_lead lead ≡ false) × (is_absent_target p lead ≡ true)
+Begins Lead.Opcode p lead = (is_name_lead lead ≡ false) × (is_absent_target p lead ≡ false)
 
 -- a term, with what is inside it read by another reader
 unfoldable pub term_at : Arities → Option (List Seg) → (Position → Reader Tree) → Position → Reader Tree
@@ -306,7 +284,7 @@ term_at arity scope read p end ls bytes = do
 abbrev pub too_deep : Reader Tree
 too_deep end ls bytes = do
   lead ← byte_at end bytes
-  Err (faults.TooDeep (end - length bytes))
+  Err (CodeFault.TooDeep (end - length bytes))
 
 -- a term with at most so many levels
 unfoldable pub read_at : Arities → Option (List Seg) → ℕ → Position → Reader Tree
@@ -321,12 +299,12 @@ all_at arity scope p code = do
   ts ← terms_at (read_at arity scope most_levels) (length code) p (length code) set.empty code
   Ok ts.0
 
--- ---- A stepping stone of the proofs: what stays the same while a list of terms is read, as contracts see it.
+-- ---- A stepping stone of the proofs: what a parser takes along, as contracts see it.
 
 -- the path that a reference points to, if there is one
 abbrev pub scope_of : Option (Bor (List Seg)) → Option (List Seg)
 scope_of scope = option_map (λ b. b.now) scope
 
--- a term with at most so many levels, in a context
-abbrev pub read_in : {A : Type 0} → (A → Arities) → Context A → ℕ → Position → Reader Tree
-read_in arity c levels = read_at (arity c.arity.now) (scope_of c.scope) levels
+-- a term, as a parser reads it
+abbrev pub read_in : {A : Type 0} → (A → Arities) → Parser A → Position → Reader Tree
+read_in arity p = read_at (arity p.arity.now) (scope_of p.scope) p.levels

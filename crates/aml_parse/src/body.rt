@@ -7,9 +7,8 @@ ghost use Rattle.aml_code.specs.Tree.{Trees};
 ghost use Rattle.aml_code.specs.View.{nodes_view};
 ghost use Rattle.aml_parse.specs.Reading.{all_at};
 
-use crate::context::{Context, MOST_LEVELS};
+use crate::parser::{MOST_LEVELS, Parser};
 use crate::room::without_room;
-use crate::terms::terms;
 use aml_code::{Arity, CodeFault, Locals, Node, Path, Position};
 use std::alloc::Global;
 
@@ -25,21 +24,15 @@ fn body_terms<A: Arity>(
     ensures { Gives (λ x. nodes_view x.items) result
         (all_at (A.arity arity.now) (Some scope.now) Position.BodyTerm code.now) }
 {
-    let context = Context {
+    let parser = Parser {
         alloc,
         arity,
         scope: Some(scope),
+        levels: MOST_LEVELS,
     };
     let mut locals = Locals::of_scope(alloc, scope)?;
     let end = code.len() as u32;
-    let nodes = terms(
-        &context,
-        MOST_LEVELS,
-        Position::BodyTerm,
-        end,
-        &mut locals,
-        code,
-    )?;
+    let nodes = parser.terms(Position::BodyTerm, end, &mut locals, code)?;
     Ok(without_room(nodes))
 }
 

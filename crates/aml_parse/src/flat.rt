@@ -4,9 +4,9 @@ ghost use Rattle.aml_names.specs.NameReading.{Gives, name_at};
 ghost use Rattle.aml_code.specs.Packages.{little_at};
 ghost use Rattle.aml_code.specs.Tree.{label, byte, word, dword, qword};
 ghost use Rattle.aml_code.specs.View.{part_view};
-ghost use Rattle.aml_parse.specs.Reading.{held, count_part, text_part, text_to, segmented_at, flat_part};
+ghost use Rattle.aml_parse.specs.Reading.{held, count_part, text_part, segmented_at};
 
-use aml_code::{Bytes, CodeFault, Name, Part, PartKind, little_of, offset_of};
+use aml_code::{Bytes, CodeFault, Name, Part, little_of, offset_of};
 use aml_names::name_of;
 use std::alloc::Global;
 
@@ -14,7 +14,7 @@ use std::alloc::Global;
 const MOST_ARGUMENTS: u64 = 7;
 
 /// A number of one byte.
-fn byte_part_of(end: u32, bytes: &[u8]) -> Result<(Part, &[u8]), CodeFault>
+pub fn byte_part_of(end: u32, bytes: &[u8]) -> Result<(Part, &[u8]), CodeFault>
     ensures { Gives (λ x. (part_view x.0, x.1.now)) result (held byte (little_at 1 end bytes.now)) }
 {
     let (value, rest) = little_of(1, end, bytes)?;
@@ -23,7 +23,7 @@ fn byte_part_of(end: u32, bytes: &[u8]) -> Result<(Part, &[u8]), CodeFault>
 
 /// A number of arguments. `BadCount` at the byte where there are too many.
 #[tactic(auto, unfolding(crate::specs::Reading::count_part))]
-fn count_part_of(end: u32, bytes: &[u8]) -> Result<(Part, &[u8]), CodeFault>
+pub fn count_part_of(end: u32, bytes: &[u8]) -> Result<(Part, &[u8]), CodeFault>
     ensures { Gives (λ x. (part_view x.0, x.1.now)) result (count_part end bytes.now) }
 {
     let (value, rest) = little_of(1, end, bytes)?;
@@ -36,7 +36,7 @@ fn count_part_of(end: u32, bytes: &[u8]) -> Result<(Part, &[u8]), CodeFault>
 }
 
 /// A number of two bytes.
-fn word_part_of(end: u32, bytes: &[u8]) -> Result<(Part, &[u8]), CodeFault>
+pub fn word_part_of(end: u32, bytes: &[u8]) -> Result<(Part, &[u8]), CodeFault>
     ensures { Gives (λ x. (part_view x.0, x.1.now)) result (held word (little_at 2 end bytes.now)) }
 {
     let (value, rest) = little_of(2, end, bytes)?;
@@ -44,7 +44,7 @@ fn word_part_of(end: u32, bytes: &[u8]) -> Result<(Part, &[u8]), CodeFault>
 }
 
 /// A number of four bytes.
-fn dword_part_of(end: u32, bytes: &[u8]) -> Result<(Part, &[u8]), CodeFault>
+pub fn dword_part_of(end: u32, bytes: &[u8]) -> Result<(Part, &[u8]), CodeFault>
     ensures { Gives (λ x. (part_view x.0, x.1.now)) result (held dword (little_at 4 end bytes.now)) }
 {
     let (value, rest) = little_of(4, end, bytes)?;
@@ -52,7 +52,7 @@ fn dword_part_of(end: u32, bytes: &[u8]) -> Result<(Part, &[u8]), CodeFault>
 }
 
 /// A number of eight bytes.
-fn qword_part_of(end: u32, bytes: &[u8]) -> Result<(Part, &[u8]), CodeFault>
+pub fn qword_part_of(end: u32, bytes: &[u8]) -> Result<(Part, &[u8]), CodeFault>
     ensures { Gives (λ x. (part_view x.0, x.1.now)) result (held qword (little_at 8 end bytes.now)) }
 {
     let (value, rest) = little_of(8, end, bytes)?;
@@ -68,7 +68,7 @@ fn first_zero(bytes: &[u8]) -> Option<usize>
 }
 
 /// A text up to its 00. `Truncated` at the span's end where there is none.
-fn text_part_of(alloc: Global, end: u32, bytes: &[u8]) -> Result<(Part, &[u8]), CodeFault>
+pub fn text_part_of(alloc: Global, end: u32, bytes: &[u8]) -> Result<(Part, &[u8]), CodeFault>
     ensures { Gives (λ x. (part_view x.0, x.1.now)) result (text_part end bytes.now) }
 {
     match first_zero(bytes) {
@@ -81,11 +81,11 @@ fn text_part_of(alloc: Global, end: u32, bytes: &[u8]) -> Result<(Part, &[u8]), 
 }
 
 /// A name that may have no segment.
-fn any_name_part_of(alloc: Global, end: u32, bytes: &[u8]) -> Result<(Part, &[u8]), CodeFault>
+pub fn any_name_part_of(alloc: Global, end: u32, bytes: &[u8]) -> Result<(Part, &[u8]), CodeFault>
     ensures { Gives (λ x. (part_view x.0, x.1.now)) result (held label (name_at end bytes.now)) }
 {
-    let (name, rest) = name_of(alloc, end, bytes)?;
-    Ok((Part::Label(name), rest))
+    let (any, rest) = name_of(alloc, end, bytes)?;
+    Ok((Part::Label(any), rest))
 }
 
 /// A name with a segment. `EmptyName` at its first byte where it has none.
@@ -103,33 +103,9 @@ pub fn segmented_of(alloc: Global, end: u32, bytes: &[u8]) -> Result<(Name, &[u8
 }
 
 /// A name with a segment, as a part.
-fn name_part_of(alloc: Global, end: u32, bytes: &[u8]) -> Result<(Part, &[u8]), CodeFault>
+pub fn name_part_of(alloc: Global, end: u32, bytes: &[u8]) -> Result<(Part, &[u8]), CodeFault>
     ensures { Gives (λ x. (part_view x.0, x.1.now)) result (held label (segmented_at end bytes.now)) }
 {
     let (name, rest) = segmented_of(alloc, end, bytes)?;
     Ok((Part::Label(name), rest))
-}
-
-/// A part of a kind that holds no terms. `Truncated` for other kinds.
-pub fn flat_part_of(
-    alloc: Global,
-    kind: PartKind,
-    end: u32,
-    bytes: &[u8],
-) -> Result<(Part, &[u8]), CodeFault>
-    ensures { Gives (λ x. (part_view x.0, x.1.now)) result (flat_part kind end bytes.now) }
-{
-    match kind {
-        PartKind::Name => name_part_of(alloc, end, bytes),
-        PartKind::ScopeName => any_name_part_of(alloc, end, bytes),
-        PartKind::Byte => byte_part_of(end, bytes),
-        PartKind::Count => count_part_of(end, bytes),
-        PartKind::Word => word_part_of(end, bytes),
-        PartKind::Dword => dword_part_of(end, bytes),
-        PartKind::Qword => qword_part_of(end, bytes),
-        PartKind::Text => text_part_of(alloc, end, bytes),
-        PartKind::Term | PartKind::Target | PartKind::Data => {
-            Err(CodeFault::Truncated { at: end })
-        }
-    }
 }

@@ -4,10 +4,10 @@
 #![tactic(auto)]
 
 mod body;
-mod context;
 mod flat;
 mod module;
 mod packages;
+mod parser;
 mod positions;
 mod room;
 mod terms;

@@ -7,9 +7,8 @@ ghost use Rattle.aml_code.specs.Tree.{Trees};
 ghost use Rattle.aml_code.specs.View.{nodes_view};
 ghost use Rattle.aml_parse.specs.Reading.{all_at};
 
-use crate::context::{Context, MOST_LEVELS};
+use crate::parser::{MOST_LEVELS, Parser};
 use crate::room::without_room;
-use crate::terms::terms;
 use aml_code::{Arity, CodeFault, Locals, Name, NoMemory, Node, Position};
 use std::alloc::Global;
 
@@ -36,20 +35,15 @@ fn module_terms(alloc: Global, code: &[u8]) -> Result<Vec<Node>, CodeFault>
     requires { length code.now < 2 ^ 32 }
     ensures { Gives (λ x. nodes_view x.items) result (all_at no_arguments None Position.ModuleTerm code.now) }
 {
-    let context = Context {
+    let parser = Parser {
         alloc,
         arity: &NoArguments,
         scope: None,
+        levels: MOST_LEVELS,
     };
     let mut locals = Locals::new(alloc);
-    let nodes = terms(
-        &context,
-        MOST_LEVELS,
-        Position::ModuleTerm,
-        code.len() as u32,
-        &mut locals,
-        code,
-    )?;
+    let end = code.len() as u32;
+    let nodes = parser.terms(Position::ModuleTerm, end, &mut locals, code)?;
     Ok(without_room(nodes))
 }
 

@@ -3,9 +3,9 @@ ghost use Rattle.std.specs.Prelude.{◌≡◌};
 ghost use Rattle.aml_names.specs.NameReading.{Gives};
 ghost use Rattle.aml_code.specs.Lawful.{has_opcode, is_guard, next_position, terms_in};
 ghost use Rattle.aml_code.specs.View.{node_view};
-ghost use Rattle.aml_parse.specs.Reading.{opcode_at, refused_in_body, refusal, child_position, is_absent_target, Begins, takes_names, guard_at};
+ghost use Rattle.aml_parse.specs.Reading.{opcode_at, refused_in_body, refusal, is_absent_target, Begins, takes_names, guard_at};
 
-use aml_code::{CodeFault, Node, PartKind, Place, Position, byte_of};
+use aml_code::{CodeFault, Node, Place, Position, byte_of};
 use aml_names::is_name_lead;
 
 /// An opcode: one byte, or 5B and a second.
@@ -71,18 +71,6 @@ pub fn lead_of(position: Position, lead: u8) -> Lead
         return Lead::Nothing;
     }
     Lead::Opcode
-}
-
-/// Where a part of this kind stands, if it is a term.
-pub fn child_position(kind: PartKind) -> Option<Position>
-    ensures { result ≡ child_position kind }
-{
-    match kind {
-        PartKind::Term => Some(Position::Argument),
-        PartKind::Target => Some(Position::Target),
-        PartKind::Data => Some(Position::Data),
-        _ => None,
-    }
 }
 
 /// Whether a term may be a name.

@@ -3,7 +3,7 @@
 use Rattle.std.specs.Prelude.{slice_get}
 use Rattle.std.proofs.Common.{◌≡◌, ℕ, zero, suc, ◌<◌, List, [], ◌∷◌, ◌++◌, map as map_list, Option, Some, None, length, refl, sym, ap, ◌∙◌, append_assoc}
 use Rattle.std.specs.List.{flat_map}
-use Rattle.std.specs.Option.{option_and_then, option_map}
+use Rattle.std.specs.Option.{option_and_then, option_map, option_to_list}
 use Rattle.std.proofs.lemmas.List.{append-nil, map-append}
 use Rattle.std.specs.FinMap as map
 use Rattle.aml_names.specs.declared.segments.Seg.{Seg}
@@ -11,7 +11,7 @@ use Rattle.aml_space.specs.declared.kinds.Kind.{Kind}
 use Rattle.aml_children.specs.declared.children.Child.{Child}
 use Rattle.aml_children.specs.Children.{child_in}
 use Rattle.aml_space.specs.declared.nodes.Node.{Node}
-use Rattle.aml_space.specs.Nodes.{walk, own, under, gather, kids_of, kinds_of, pairs_of, known_by, visited, ahead, rows_ahead, links_of, next_node, own_row}
+use Rattle.aml_space.specs.Nodes.{walk, own, under, gather, kids_of, kinds_of, pairs_of, known_by, visited, ahead, rows_ahead, links_of, next_node}
 use Rattle.aml_space.specs.Nodes.{IsIndex}
 use Rattle.aml_space.proofs.Walks.{walk_push}
 use Rattle.aml_space.proofs.Family.{at_found}
@@ -20,7 +20,7 @@ use Rattle.aml_space.proofs.Order.{rises_gather, entries_of_rising}
 
 -- the rows at and below a node, to a depth
 abbrev rows_below : List Node → ℕ → ℕ → List (List Seg × Kind)
-rows_below ns n i = visited (kids_of ns) (λ k. own_row (pairs_of ns k)) n i
+rows_below ns n i = visited (kids_of ns) (λ k. option_to_list (pairs_of ns k)) n i
 
 module _ (ns : List Node) (is : IsIndex ns) where
   abbrev after : List Seg → List Seg × Kind → List Seg × Kind
@@ -37,10 +37,10 @@ module _ (ns : List Node) (is : IsIndex ns) where
   after_under q s [] = refl
   after_under q s (e ∷ es) = (λ t. (sym (append_assoc q (s ∷ []) e.0) t, e.1) ∷ after_under q s es t)
 
-  own_after : (i : ℕ) (q : List Seg) → walk (kids_of ns) 0 q ≡ Some i → own_row (pairs_of ns i) ≡ map_list (after q) (own (kinds_of ns i))
+  own_after : (i : ℕ) (q : List Seg) → walk (kids_of ns) 0 q ≡ Some i → option_to_list (pairs_of ns i) ≡ map_list (after q) (own (kinds_of ns i))
   own_after i q led = by (pairs_of ns i) refl
     where
-      by : (o : Option (List Seg × Kind)) → pairs_of ns i ≡ o → own_row o ≡ map_list (after q) (own (option_map (λ e. e.1) o))
+      by : (o : Option (List Seg × Kind)) → pairs_of ns i ≡ o → option_to_list o ≡ map_list (after q) (own (option_map (λ e. e.1) o))
       by None e = refl
       by (Some r) e = (λ t. ((is.named q i r led e ∙ sym (append-nil q)) t, r.1) ∷ [])
 
@@ -72,8 +72,8 @@ module _ (ns : List Node) (is : IsIndex ns) where
       ∙ sym (entries_of_rising _ (rises_gather is.shape (kinds_of ns) (length ns) 0))
 
   -- a row, if the node has one, and those from the next node on; and the nodes themselves
-  pub rows_on : (i : ℕ) → i < length ns → rows_ahead ns (Some i) ≡ own_row (pairs_of ns i) ++ rows_ahead ns (next_node ns i)
-  rows_on i within = one_on is.shape (links_of ns) is.linked.lower (λ k. own_row (pairs_of ns k)) is.linked.below i within
+  pub rows_on : (i : ℕ) → i < length ns → rows_ahead ns (Some i) ≡ option_to_list (pairs_of ns i) ++ rows_ahead ns (next_node ns i)
+  rows_on i within = one_on is.shape (links_of ns) is.linked.lower (λ k. option_to_list (pairs_of ns k)) is.linked.below i within
 
   pub nodes_on : (i : ℕ) → i < length ns → ahead (kids_of ns) (links_of ns) (λ k. k ∷ []) (length ns) (Some i) ≡ i
       ∷ ahead (kids_of ns) (links_of ns) (λ k. k ∷ []) (length ns) (next_node ns i)

@@ -1,15 +1,8 @@
 -- The lines of bodies, as the printing functions print them.
-use Rattle.std.proofs.Common.{◌≡◌, ℕ, List, [], ◌∷◌, length, map, flat_map, Vec, Result, Ok, Err, refl, ap, ◌∙◌}
-use Rattle.std.specs.declared.alloc.Global.{Global}
-use Rattle.aml_names.specs.declared.faults.CodeFault.{CodeFault}
-use Rattle.aml_code.specs.declared.tree.Node.{Node}
-use Rattle.aml_text.specs.declared.bodies.Body.{Body}
+use Rattle.aml_text.proofs.Common.{◌≡◌, ℕ, List, [], ◌∷◌, length, map, Vec, Result, Ok, Err, refl, ap, nodes_view, Global, CodeFault, Node, Body, BodyText}
+use Rattle.aml_text.proofs.Common.{line, raw_text, BodyLines, body_lines, first_lines, all_lines, body_view, kept_lines, printed_lines}
 use Rattle.aml_text.specs.declared.bodies.Body.TheVariants as bodies
-use Rattle.aml_text.specs.declared.bodies.BodyText.{BodyText}
 use Rattle.aml_text.specs.declared.bodies.BodyText.TheVariants as texts
-use Rattle.aml_text.specs.Texts.{line, raw_text, BodyLines, body_lines, first_lines}
-use Rattle.aml_text.specs.Listing.{node_lines, body_view, kept_lines, printed_lines}
-use Rattle.aml_text.proofs.LineLaws.{all_lines-map}
 
 pub first_none : {X : Type 0} (f : X → BodyLines) (xs : List X) (level : ℕ) (bs : List ℕ) → length xs ≡ 0 → first_lines (map f xs) level bs ≡ []
 first_none f [] level bs e = refl
@@ -30,8 +23,8 @@ read_some xs level bs x rest e = ap (λ (ys : List Body). first_lines (map body_
 pub ruleset first_of = (first_none, first_some, read_none, read_some)
 
 pub of_tree : (level : ℕ) (bs : List ℕ) (body : Body) (nodes : Vec Node Global) → body ≡ bodies.Tree nodes
-    → body_lines (body_view body) level bs ≡ flat_map (node_lines level) nodes.items
-of_tree level bs body nodes e = ap (λ (b : Body). body_lines (body_view b) level bs) e ∙ all_lines-map level nodes.items
+    → body_lines (body_view body) level bs ≡ all_lines level (nodes_view nodes.items)
+of_tree level bs body nodes e = ap (λ (b : Body). body_lines (body_view b) level bs) e
 
 pub of_raw : (level : ℕ) (bs : List ℕ) (body : Body) (fault : CodeFault) → body ≡ bodies.Raw fault
     → body_lines (body_view body) level bs ≡ line level (raw_text bs)
@@ -43,8 +36,8 @@ pub of_lines : (level : ℕ) (kept : BodyText) (text : Vec ℕ Global) → kept 
 of_lines level kept text e = ap (λ (k : BodyText). kept_lines k level) e
 
 pub of_terms : (level : ℕ) (kept : BodyText) (nodes : Vec Node Global) → kept ≡ texts.Terms nodes
-    → kept_lines kept level ≡ flat_map (node_lines level) nodes.items
-of_terms level kept nodes e = ap (λ (k : BodyText). kept_lines k level) e ∙ all_lines-map level nodes.items
+    → kept_lines kept level ≡ all_lines level (nodes_view nodes.items)
+of_terms level kept nodes e = ap (λ (k : BodyText). kept_lines k level) e
 
 pub ruleset kept = (of_lines, of_terms)
 

@@ -1,3 +1,4 @@
+pub mod Common
 pub mod TextLaws
 pub mod NodeLaws
 pub mod LineLaws

@@ -1,21 +1,9 @@
 -- The definition blocks of tables that go together: as many as the tables, and at each place the block of the name, the
 -- AML and the terms there. So a loop over the places prints them all.
-use Rattle.std.specs.Prelude.{slice_index, zip}
+use Rattle.aml_text.proofs.Common.{slice_index, zip, Bor, ◌≡◌, ℕ, ◌+◌, ◌<◌, List, ◌∷◌, ◌++◌, length, get_or, drop, sym, ap, ◌∙◌, append_assoc, arith}
+use Rattle.aml_text.proofs.Common.{length-map, get_or-map, drop_more, length-zip, get_or-zip, Node, nodes_view, Dump, Order, name_of, codes_view, trees_view}
+use Rattle.aml_text.proofs.Common.{Loaded, OneBlock, BodyLines, left_all, block_text, blocks_text, names_in, a_block, blocks_with, indexes_in, AreMatched}
 use Rattle.std.specs.Global.{Vec}
-use denote.Ref.{Bor}
-use Rattle.std.proofs.Common.{◌≡◌, ℕ, ◌+◌, ◌<◌, List, ◌∷◌, ◌++◌, length, get_or, drop, sym, ap, ◌∙◌, append_assoc, arith}
-use Rattle.std.proofs.lemmas.List.{length-map, get_or-map, drop_more}
-use Rattle.std.proofs.lemmas.Slice.Zip.{length-zip, get_or-zip}
-use Rattle.aml_code.specs.declared.tree.Node.{Node}
-use Rattle.aml_code.specs.View.{nodes_view}
-use Rattle.acpi_tables.specs.declared.dump.Dump.{Dump}
-use Rattle.acpi_tables.specs.declared.order.Order.{Order}
-use Rattle.acpi_tables.specs.Order.{name_of}
-use Rattle.aml_load.specs.Views.{codes_view, trees_view}
-use Rattle.aml_load.specs.declared.loading.Loaded.{Loaded}
-use Rattle.aml_text.specs.Texts.{OneBlock, BodyLines, left_all, block_text, blocks_text}
-use Rattle.aml_text.specs.Listing.{names_in, a_block, blocks_with}
-use Rattle.aml_text.specs.Matched.{indexes_in, AreMatched}
 use Rattle.aml_text.proofs.Pairs.{pairs_many, pair_there}
 
 module _ (dumps : List Dump) (order : Order) (loaded : Loaded) (matched : AreMatched order loaded) where

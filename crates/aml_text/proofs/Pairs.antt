@@ -1,8 +1,5 @@
 -- What is made of the pairs of two lists that are as long as each other.
-use Rattle.std.specs.Prelude.{zip}
-use Rattle.std.proofs.Common.{◌≡◌, ℕ, ◌<◌, List, length, get_or, map, sym, ap, ◌∙◌, arith}
-use Rattle.std.proofs.lemmas.List.{length-map, get_or-map}
-use Rattle.std.proofs.lemmas.Slice.Zip.{length-zip, get_or-zip}
+use Rattle.aml_text.proofs.Common.{zip, ◌≡◌, ℕ, ◌<◌, List, length, get_or, map, sym, ap, ◌∙◌, arith, length-map, get_or-map, length-zip, get_or-zip}
 
 module _ {A B C : Type 0} (f : A × B → C) (xs : List A) (ys : List B) (many : length ys ≡ length xs) where
   pub pairs_many : length (map f (zip xs ys)) ≡ length xs

@@ -1,51 +1,46 @@
 -- Texts of lists, as loops print them.
-use Rattle.std.proofs.Common.{◌≡◌, ℕ, zero, suc, ◌+◌, add-one, List, [], ◌∷◌, ◌++◌, map, flat_map, length, replicate, refl, ap}
-use Rattle.text_writer.specs.Prints.{word}
-use Rattle.aml_text.specs.Texts.{indent, after_separator, separated_by, joined, braced}
+use Rattle.aml_text.proofs.Common.{◌≡◌, ℕ, ◌+◌, ◌<◌, add-one, append-nil, List, [], ◌∷◌, ◌++◌, get_or, map, flat_map, length, take, refl, ap, ◌∙◌, take_more}
+use Rattle.aml_text.proofs.Common.{map-append, nil_from_length, flat_map-append, word, indent, separated}
 
-pub separated-nil : {X : Type 0} (separator : List ℕ) (g : X → List ℕ) (xs : List X) → length xs ≡ 0 → separated_by separator g xs ≡ []
-unfolding separated_by
-separated-nil separator g [] e = refl
-separated-nil separator g (x ∷ xs) e = cc
+-- what is made of a list that grows at its end
+pub grown : {X Y : Type 0} (F : List X → List Y) (g : X → List Y) → ((xs : List X) (x : X) → F (xs ++ x ∷ []) ≡ F xs ++ g x) → (xs : List X) (i j : ℕ) (d : X)
+    → j ≡ i + 1 → i < length xs → F (take j xs) ≡ F (take i xs) ++ g (get_or xs i d)
+grown F g more xs i j d e h = ap F (ap (λ k. take k xs) e ∙ take_more xs i d h) ∙ more (take i xs) (get_or xs i d)
 
-pub separated-cons : {X : Type 0} (separator : List ℕ) (g : X → List ℕ) (xs : List X) (x : X) (rest : List X) → xs ≡ x ∷ rest
-    → separated_by separator g xs ≡ g x ++ flat_map (after_separator separator g) rest
-unfolding separated_by
-separated-cons separator g xs x rest e = ap (separated_by separator g) e
+-- ---- separators
 
-pub ruleset separations = (separated-nil, separated-cons)
+-- texts, each behind a separator
+unfoldable pub continued : List ℕ → List (List ℕ) → List ℕ
+continued separator texts = flat_map (λ text. separator ++ text) texts
 
-after_map : {X : Type 0} (separator : List ℕ) (g : X → List ℕ) (xs : List X)
-    → flat_map (after_separator separator (λ t. t)) (map g xs) ≡ flat_map (after_separator separator g) xs
-unfolding after_separator
-after_map separator g [] = refl
-after_map separator g (x ∷ xs) = ap (λ (l : List ℕ). separator ++ g x ++ l) (after_map separator g xs)
+pub continued_none : (separator : List ℕ) → continued separator [] ≡ []
+unfolding continued
+continued_none separator = refl
 
-pub joined-map : {X : Type 0} (g : X → List ℕ) (xs : List X) → joined (map g xs) ≡ separated_by (word ", ") g xs
-unfolding separated_by
-joined-map g [] = refl
-joined-map g (x ∷ xs) = ap (λ (l : List ℕ). g x ++ l) (after_map (word ", ") g xs)
+pub continued_more : (separator : List ℕ) (texts : List (List ℕ)) (text : List ℕ)
+    → continued separator (texts ++ text ∷ []) ≡ continued separator texts ++ (separator ++ text)
+unfolding continued
+continued_more separator texts text =
+    flat_map-append (λ t. separator ++ t) texts (text ∷ []) ∙ ap (λ l. continued separator texts ++ l) (append-nil (separator ++ text))
 
-pub braced-map : {X : Type 0} (g : X → List ℕ) (xs : List X) → braced (map g xs) ≡ word " {" ++ separated_by (word ", ") g xs ++ word "}"
-unfolding braced
-braced-map g xs = ap (λ (l : List ℕ). word " {" ++ l ++ word "}") (joined-map g xs)
+module _ {X : Type 0} (separator : List ℕ) (g : X → List ℕ) (xs : List X) where
+  pub separated-nil : length xs ≡ 0 → separated separator (map g xs) ≡ []
+  unfolding separated
+  separated-nil e = ap (λ ys. separated separator (map g ys)) (nil_from_length xs e)
 
-pub ruleset braces = (joined-map, braced-map)
+  pub separated-cons : (x : X) (rest : List X) → xs ≡ x ∷ rest → separated separator (map g xs) ≡ g x ++ continued separator (map g rest)
+  unfolding separated continued
+  separated-cons x rest e = ap (λ ys. separated separator (map g ys)) e
 
-abbrev carets : ℕ → List ℕ
-carets n = replicate n 94
+  pub separated-turn : (i j : ℕ) (d : X) → j ≡ i + 1 → i < length xs
+      → continued separator (map g (take j xs)) ≡ continued separator (map g (take i xs)) ++ (separator ++ g (get_or xs i d))
+  separated-turn i j d e h =
+      grown (λ ys. continued separator (map g ys)) (λ x. separator ++ g x)
+      (λ ys x. ap (continued separator) (map-append g ys (x ∷ [])) ∙ continued_more separator (map g ys) (g x)) xs i j d e h
 
-carets-more : (n : ℕ) → carets (suc n) ≡ carets n ++ 94 ∷ []
-carets-more zero = refl
-carets-more (suc n) = ap (λ (l : List ℕ). 94 ∷ l) (carets-more n)
+pub ruleset separations = (separated-nil, separated-cons, separated-turn, continued_none)
 
-pub parents_none : (n : ℕ) → n ≡ 0 → carets n ≡ []
-parents_none n e = ap carets e
-
-pub parents_more : (n : ℕ) → carets (n + 1) ≡ carets n ++ 94 ∷ []
-parents_more n = rw add-one (carets-more n)
-
-pub ruleset parents = (parents_none, parents_more)
+-- ---- indents
 
 pub indent_none : (n : ℕ) → n ≡ 0 → indent n ≡ []
 unfolding indent

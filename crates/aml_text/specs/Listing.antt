@@ -1,14 +1,8 @@
--- The texts of nodes in memory.
-use Rattle.std.specs.Prelude.{◌≡◌, ℕ, List, None, Result, Ok, Err, ◌∷◌, length, ◌++◌, map as map_list, zip}
+-- The text of a listing, and what is kept of the bodies of methods in memory.
+use Rattle.std.specs.Prelude.{◌≡◌, ℕ, List, Result, Ok, Err, ◌++◌, map as map_list, zip}
 use Rattle.aml_names.specs.declared.faults.CodeFault.{CodeFault}
-use Rattle.aml_code.specs.declared.tree.Field.{Field}
-use Rattle.aml_code.specs.declared.tree.Link.{Link}
-use Rattle.aml_code.specs.declared.tree.Node.{Node}
-use Rattle.aml_code.specs.declared.tree.Part.{Part}
-use Rattle.aml_code.specs.Lawful.{last_label, last_byte}
-use Rattle.aml_code.specs.Opcodes.{row_of}
 use Rattle.aml_code.specs.Tree.{Trees}
-use Rattle.aml_code.specs.View.{node_view, nodes_view, part_view, parts_view, field_view, link_view}
+use Rattle.aml_code.specs.View.{nodes_view}
 use Rattle.aml_text.specs.declared.blocks.Block.{Block}
 use Rattle.aml_text.specs.declared.bodies.Body.{Body}
 use Rattle.aml_text.specs.declared.bodies.Body.TheVariants as bodies
@@ -16,8 +10,7 @@ use Rattle.aml_text.specs.declared.bodies.BodyText.{BodyText}
 use Rattle.aml_text.specs.declared.bodies.BodyText.TheVariants as texts
 use Rattle.aml_text.specs.declared.bodies.Bodies.{Bodies}
 use Rattle.aml_text.specs.declared.bodies.Bodies.TheVariants as all_bodies
-use Rattle.aml_text.specs.Texts.{inline, head_text, part_text, part_texts, line, lines, all_lines, method_head}
-use Rattle.aml_text.specs.Texts.{field_text, link_text, raw_text, OneBody, read, raw, OneBlock, BodyLines, body_lines}
+use Rattle.aml_text.specs.Texts.{line, all_lines, raw_text, OneBody, read, raw, OneBlock, BodyLines, body_lines}
 use Rattle.aml_text.specs.Texts.{blocks_text}
 use Rattle.acpi_tables.specs.declared.order.Order.{Order}
 use Rattle.aml_load.specs.declared.loading.Loaded.{Loaded}
@@ -32,32 +25,6 @@ use Rattle.aml_text.specs.declared.listing.Listing.{Listing}
 use Rattle.aml_text.specs.declared.listing.Tables.{Tables}
 use Rattle.aml_text.specs.Rows.{namespace_text}
 use Rattle.aml_text.specs.Matched.{indexes_in}
-
-unfoldable pub node_inline : Node → List ℕ
-node_inline node = inline (node_view node)
-
-unfoldable pub part_inline : Part → List ℕ
-part_inline part = part_text (part_view part)
-
-unfoldable pub node_lines : ℕ → Node → List ℕ
-node_lines level node = lines level (node_view node)
-
-unfoldable pub field_inline : Field → List ℕ
-field_inline field = field_text (field_view field)
-
-unfoldable pub field_line : ℕ → Field → List ℕ
-field_line level field = line level (field_inline field)
-
-unfoldable pub link_inline : Link → List ℕ
-link_inline link = link_text (link_view link)
-
--- an opcode and its parts; the same of a method, whose flags are spelled out
-abbrev pub head_of : ℕ → List Part → List ℕ
-head_of opcode ps = head_text (row_of opcode) (part_texts (parts_view ps))
-
-abbrev pub method_head_of : ℕ → List Part → List ℕ
-method_head_of opcode ps = method_head (last_label None (parts_view ps)) (last_byte None (parts_view ps))
-    (head_of opcode ps)
 
 -- what a body stands for: the fault of a raw one isn't printed
 abbrev pub body_view : Body → OneBody

@@ -1,16 +1,16 @@
 -- The second part of a listing: the namespace, a line for each declared path.
-use Rattle.std.specs.Prelude.{ℕ, decimal, List, ◌++◌, flat_map, length}
+use Rattle.std.specs.Prelude.{ℕ, decimal, List, ◌++◌, map, flat_map, length}
 use Rattle.aml_names.specs.declared.segments.Seg.{Seg}
 use Rattle.aml_space.specs.declared.kinds.Kind.{Kind}
 use Rattle.aml_space.specs.declared.kinds.Kind.TheVariants.{Scope, Name, Method, Alias, Device, Processor}
 use Rattle.aml_space.specs.declared.kinds.Kind.TheVariants.{PowerResource, ThermalZone, Mutex, Event, Region}
 use Rattle.aml_space.specs.declared.kinds.Kind.TheVariants.{DataRegion, Field, BufferField}
 use Rattle.text_writer.specs.Prints.{word}
-use Rattle.aml_text.specs.Texts.{separated_by, segment_text, line}
+use Rattle.aml_text.specs.Texts.{separated, segment_text, line}
 
 -- a path: \ and its segments, with a dot between two: \_SB_.PCI0
 unfoldable pub path_text : List Seg → List ℕ
-path_text path = word "\\" ++ separated_by (word ".") segment_text path
+path_text path = word "\\" ++ separated (word ".") (map segment_text path)
 
 -- what a path stands for: a method with its number of arguments, an Alias with the path that it leads to
 abbrev pub kind_text : Kind → List ℕ
@@ -29,17 +29,10 @@ kind_text DataRegion = word "DataRegion"
 kind_text Field = word "Field"
 kind_text BufferField = word "BufferField"
 
-unfoldable pub row_text : List Seg × Kind → List ℕ
-row_text row = path_text row.0 ++ word " " ++ kind_text row.1
-
 -- the line of a path with its kind:   \_SB_.PCI0 Device
 unfoldable pub row_line : List Seg × Kind → List ℕ
-row_line row = line 1 (row_text row)
+row_line row = line 1 (path_text row.0 ++ word " " ++ kind_text row.1)
 
--- the line above the rows: Namespace 2
-unfoldable pub count_line : ℕ → List ℕ
-count_line count = word "Namespace " ++ decimal count ++ word "\n"
-
--- the number of rows, and their lines
+-- the number of rows, and their lines: Namespace 2
 unfoldable pub namespace_text : List (List Seg × Kind) → List ℕ
-namespace_text rows = count_line (length rows) ++ flat_map row_line rows
+namespace_text rows = line 0 (word "Namespace " ++ decimal (length rows)) ++ flat_map row_line rows

@@ -1,12 +1,11 @@
 -- The text of names and of terms on one line.
-use Rattle.std.specs.Prelude.{ℕ, Bool, true, false, cond, List, [], ◌∷◌, ◌++◌, map, flat_map, replicate, ◌&&◌, not}
-use Rattle.std.specs.Prelude.{Option, Some, None, zero, suc, min, decimal, ◌+◌, ◌/◌, ◌%◌, ◌==◌, drop, ◌≡◌}
+use Rattle.std.specs.Prelude.{ℕ, Bool, true, false, cond, List, [], ◌∷◌, ◌++◌, map, flat_map, replicate, length, drop}
+use Rattle.std.specs.Prelude.{Option, Some, None, option_map, zero, suc, min, decimal, ◌+◌, ◌/◌, ◌%◌, ◌==◌, ◌&&◌, not}
 use Rattle.aml_names.specs.declared.segments.Seg.{Seg}
 use Rattle.aml_names.specs.declared.names.Name.{Name}
 use Rattle.aml_code.specs.declared.rows.Group.{Group}
 use Rattle.aml_code.specs.declared.rows.Group.TheVariants as groups
 use Rattle.aml_code.specs.Opcodes.{Row, row_of, has_length}
-use Rattle.aml_code.specs.declared.rows.PartKind.{PartKind}
 use Rattle.aml_code.specs.Tree.{Tree, nothing, named, op, Trees, no_trees, tree_more, Part, child, label, byte}
 use Rattle.aml_code.specs.Tree.{word as word_part, dword, qword, text as text_part, Parts, no_parts, part_more, Tail}
 use Rattle.aml_code.specs.Tree.{bytes, elements, terms, fields, body, Field, unit, reserved, access, connection}
@@ -14,18 +13,14 @@ use Rattle.aml_code.specs.Tree.{extended, Fields, no_fields, field_more, Link, t
 use Rattle.text_writer.specs.Prints.{word, hex2, hex4, hex8, hex16, quoted}
 use Rattle.aml_code.specs.Lawful.{last_label, last_byte}
 
--- an item's text behind a separator
-unfoldable pub after_separator : {X : Type 0} → List ℕ → (X → List ℕ) → X → List ℕ
-after_separator separator text x = separator ++ text x
-
--- the items' texts, with a separator between two
-unfoldable pub separated_by : {X : Type 0} → List ℕ → (X → List ℕ) → List X → List ℕ
-separated_by separator text [] = []
-separated_by separator text (first ∷ rest) = text first ++ flat_map (after_separator separator text) rest
+-- texts with a separator between two
+unfoldable pub separated : List ℕ → List (List ℕ) → List ℕ
+separated separator [] = []
+separated separator (first ∷ rest) = first ++ flat_map (λ text. separator ++ text) rest
 
 -- texts with a comma and a space between two
 abbrev pub joined : List (List ℕ) → List ℕ
-joined texts = separated_by (word ", ") (λ t. t) texts
+joined texts = separated (word ", ") texts
 
 -- ---- names
 
@@ -38,7 +33,7 @@ segment_text s = s.0
 
 -- the prefix and the segments, with a dot between two
 unfoldable pub name_text : Name → List ℕ
-name_text n = prefix_text n ++ separated_by (word ".") segment_text n.segs
+name_text n = prefix_text n ++ separated (word ".") (map segment_text n.segs)
 
 -- ---- terms
 
@@ -55,13 +50,9 @@ abbrev pub is_value : Group → Bool
 is_value groups.Value = true
 is_value _ = false
 
-abbrev pub is_bare : List PartKind → Bool
-is_bare [] = true
-is_bare (k ∷ ks) = false
-
 -- a constant: its value stands alone, without a mnemonic
 abbrev pub is_constant : Row → Bool
-is_constant r = is_value r.group && (not (has_length r.tail) && not (is_bare r.parts))
+is_constant r = is_value r.group && (not (has_length r.tail) && not (length r.parts == 0))
 
 -- an opcode and its parts
 unfoldable pub head_text : Option Row → List (List ℕ) → List ℕ
@@ -97,6 +88,9 @@ abbrev mutual
   tail_text (elements ts) = braced (inlines ts)
   tail_text _ = []
 
+abbrev pub head_of : ℕ → Parts → List ℕ
+head_of o ps = head_text (row_of o) (part_texts ps)
+
 -- ---- The lines of terms, of field lists, of methods and of definition blocks.
 
 -- the level below (a machine number)
@@ -112,18 +106,14 @@ indent (suc n) = indent n ++ word "  "
 unfoldable pub line : ℕ → List ℕ → List ℕ
 line level text = indent level ++ text ++ word "\n"
 
--- the first line of a block, and its last
-unfoldable pub opening : ℕ → List ℕ → List ℕ
-opening level head = indent level ++ head ++ word " {\n"
-
-unfoldable pub closing : ℕ → List ℕ
-closing level = indent level ++ word "}\n"
-
 -- lines between braces: HEAD {
 --   ..
 -- }
+unfoldable pub opening : ℕ → List ℕ → List ℕ
+opening level head = indent level ++ head ++ word " {\n"
+
 abbrev pub block : ℕ → List ℕ → List ℕ → List ℕ
-block level head inside = opening level head ++ inside ++ closing level
+block level head inside = opening level head ++ inside ++ line level (word "}")
 
 -- ---- field lists
 
@@ -155,25 +145,6 @@ abbrev pub field_lines : ℕ → Fields → List ℕ
 field_lines level no_fields = []
 field_lines level (field_more u us) = line level (field_text u) ++ field_lines level us
 
--- ---- terms
-
--- The lines of a term: a block where it has terms or a field list in it, as Scope (\_SB_) { .. }, else one line, as
--- Store (Zero, Local0).
-abbrev mutual
-  pub lines : ℕ → Tree → List ℕ
-  lines level nothing = line level []
-  lines level (named n ts) = line level (inline (named n ts))
-  lines level (op o w ps t) = op_lines level (head_text (row_of o) (part_texts ps)) t
-
-  pub op_lines : ℕ → List ℕ → Tail → List ℕ
-  op_lines level head (terms ts) = block level head (all_lines (deeper level) ts)
-  op_lines level head (fields us) = block level head (field_lines (deeper level) us)
-  op_lines level head t = line level (head ++ tail_text t)
-
-  pub all_lines : ℕ → Trees → List ℕ
-  all_lines level no_trees = []
-  all_lines level (tree_more t ts) = lines level t ++ all_lines level ts
-
 -- ---- methods
 
 -- what became of a method's body: its terms, or its bytes as they are
@@ -185,106 +156,47 @@ pub data OneBody : Type 0 where
 unfoldable pub serialized_text : ℕ → List ℕ
 serialized_text flags = cond (flags / 8 % 2 == 1) (word ", Serialized") (word ", NotSerialized")
 
-unfoldable pub comma_decimal : ℕ → List ℕ
-comma_decimal n = word ", " ++ decimal n
-
 -- the number of arguments, whether the method is serialized, and its sync level
 unfoldable pub flags_text : ℕ → List ℕ
-flags_text flags = comma_decimal (flags % 8) ++ serialized_text flags ++ comma_decimal (flags / 16)
+flags_text flags = (word ", " ++ decimal (flags % 8)) ++ serialized_text flags ++ (word ", " ++ decimal (flags / 16))
 
 -- a method's name and flags: Method (FOO_, 2, NotSerialized, 0)
 unfoldable pub method_text : Name → ℕ → List ℕ
 method_text n flags = word "Method (" ++ name_text n ++ flags_text flags ++ word ")"
 
 -- the head of a method, by its name and flags, if its parts have them
-abbrev pub method_head : Option Name → Option ℕ → List ℕ → List ℕ
-method_head (Some n) (Some flags) other = method_text n flags
-method_head (Some n) None other = other
-method_head None flags other = other
+abbrev pub method_head_by : Option Name → Option ℕ → List ℕ → List ℕ
+method_head_by (Some n) (Some flags) other = method_text n flags
+method_head_by (Some n) None other = other
+method_head_by None flags other = other
 
--- the bytes of a body that can't be read: Raw {A4, 5A}
-unfoldable pub raw_text : List ℕ → List ℕ
-raw_text bs = word "Raw {" ++ separated_by (word ", ") hex2 bs ++ word "}"
+abbrev pub method_head : ℕ → Parts → List ℕ
+method_head o ps = method_head_by (last_label None ps) (last_byte None ps) (head_of o ps)
 
 -- the lines of a body: by the level at which they stand, and by the body's bytes
 abbrev pub BodyLines : Type 0
 BodyLines = ℕ → List ℕ → List ℕ
-
--- its terms, or its bytes where it can't be read
-abbrev pub body_lines : OneBody → BodyLines
-body_lines (read ts) level bs = all_lines level ts
-body_lines raw level bs = line level (raw_text bs)
 
 -- the lines of the first of some bodies
 abbrev pub first_lines : List BodyLines → BodyLines
 first_lines [] level bs = []
 first_lines (b ∷ others) level bs = b level bs
 
--- ---- definition blocks
+-- A method with these parts: a block with the first of the bodies, of which this is the code; or its head alone, where
+-- no bodies are given.
+abbrev pub method_lines : ℕ → ℕ → Parts → List ℕ → Option (List BodyLines) → List ℕ
+method_lines level o ps code None = line level (head_of o ps)
+method_lines level o ps code (Some bs) = block level (method_head o ps) (first_lines bs (deeper level) code)
 
--- the bodies that are left after those of a term, each method taking one in the order of the text
+-- ---- terms
+
+-- the levels at which the bodies of methods stand, in the order of the text: in a term, in a tail whose terms stand at
+-- this level, and in terms
 abbrev mutual
-  pub left : Tree → List BodyLines → List BodyLines
-  left (op o w ps t) bs = left_rest t bs
-  left _ bs = bs
-
-  pub left_rest : Tail → List BodyLines → List BodyLines
-  left_rest (terms ts) bs = left_all ts bs
-  left_rest (body start len) bs = drop 1 bs
-  left_rest _ bs = bs
-
-  pub left_all : Trees → List BodyLines → List BodyLines
-  left_all no_trees bs = bs
-  left_all (tree_more t ts) bs = left_all ts (left t bs)
-
--- the lines of a term of a table: those of a term, but for a method's body
-abbrev mutual
-  pub table_lines : List ℕ → ℕ → Tree → List BodyLines → List ℕ
-  table_lines code level (op o w ps t) bs = table_op_lines code level o ps t bs
-  table_lines code level t bs = lines level t
-
-  pub table_op_lines : List ℕ → ℕ → ℕ → Parts → Tail → List BodyLines → List ℕ
-  table_op_lines code level o ps (terms ts) bs = block level (head_text (row_of o) (part_texts ps))
-      (all_table_lines code (deeper level) ts bs)
-  table_op_lines code level o ps (body start len) bs =
-      block level (method_head (last_label None ps) (last_byte None ps) (head_text (row_of o) (part_texts ps)))
-      (first_lines bs (deeper level) (slice_of code start len))
-  table_op_lines code level o ps t bs = op_lines level (head_text (row_of o) (part_texts ps)) t
-
-  pub all_table_lines : List ℕ → ℕ → Trees → List BodyLines → List ℕ
-  all_table_lines code level no_trees bs = []
-  all_table_lines code level (tree_more t ts) bs = table_lines code level t bs
-      ++ all_table_lines code level ts (left t bs)
-
--- DefinitionBlock ("dsdt.dat") {
-unfoldable pub block_opening : List ℕ → List ℕ
-block_opening name = word "DefinitionBlock (" ++ quoted name ++ word ") {\n"
-
--- a definition block, by its table's file name
-unfoldable pub block_text : List ℕ → List ℕ → Trees → List BodyLines → List ℕ
-block_text name code ts bs = block_opening name ++ all_table_lines code 1 ts bs ++ word "}\n"
-
--- a table that is printed as a definition block
-pub record OneBlock : Type 0 where
-  pub name : List ℕ
-  pub code : List ℕ
-  pub terms : Trees
-
--- definition blocks, one after the other: each takes the bodies of its own methods, and the next one those that are
--- left
-abbrev pub blocks_text : List OneBlock → List BodyLines → List ℕ
-blocks_text [] bs = []
-blocks_text (b ∷ others) bs = block_text b.name b.code b.terms bs ++ blocks_text others (left_all b.terms bs)
-
--- ---- A stepping stone of the proofs: the levels at which the bodies of tables are printed, in the order of the text.
-
-abbrev mutual
-  -- of the bodies in a term of a table
   pub levels_in : ℕ → Tree → List ℕ
   levels_in level (op o w ps t) = tail_levels (deeper level) t
   levels_in level _ = []
 
-  -- of those in a tail whose terms stand at this level
   pub tail_levels : ℕ → Tail → List ℕ
   tail_levels level (terms ts) = all_levels level ts
   tail_levels level (body start len) = level ∷ []
@@ -299,10 +211,63 @@ abbrev pub levels_of : List Trees → List ℕ
 levels_of [] = []
 levels_of (ts ∷ others) = all_levels 1 ts ++ levels_of others
 
--- bodies print the same lines at these levels
-abbrev pub AgreeAt : List ℕ → List BodyLines → List BodyLines → Type 0
-AgreeAt [] fs gs = Unit {0}
-AgreeAt (l ∷ ls) [] [] = AgreeAt ls [] []
-AgreeAt (l ∷ ls) [] (g ∷ gs) = ⊥
-AgreeAt (l ∷ ls) (f ∷ fs) [] = ⊥
-AgreeAt (l ∷ ls) (f ∷ fs) (g ∷ gs) = ((bytes : List ℕ) → f l bytes ≡ g l bytes) × AgreeAt ls fs gs
+-- the bodies that are left where those at these levels have taken theirs
+abbrev pub behind : List ℕ → List BodyLines → List BodyLines
+behind levels bs = drop (length levels) bs
+
+-- The lines of a term: a block where it has terms or a field list in it, as Scope (\_SB_) { .. }, else one line, as
+-- Store (Zero, Local0). Methods, whose bodies lie in this code, take those that are given, in the order of the text.
+abbrev mutual
+  pub term_lines : List ℕ → Option (List BodyLines) → ℕ → Tree → List ℕ
+  term_lines code bs level (op o w ps t) = op_lines code bs level o ps t
+  term_lines code bs level t = line level (inline t)
+
+  pub op_lines : List ℕ → Option (List BodyLines) → ℕ → ℕ → Parts → Tail → List ℕ
+  op_lines code bs level o ps (terms ts) = block level (head_of o ps) (terms_lines code bs (deeper level) ts)
+  op_lines code bs level o ps (fields us) = block level (head_of o ps) (field_lines (deeper level) us)
+  op_lines code bs level o ps (body start len) = method_lines level o ps (slice_of code start len) bs
+  op_lines code bs level o ps t = line level (head_of o ps ++ tail_text t)
+
+  pub terms_lines : List ℕ → Option (List BodyLines) → ℕ → Trees → List ℕ
+  terms_lines code bs level no_trees = []
+  terms_lines code bs level (tree_more t ts) =
+      term_lines code bs level t ++ terms_lines code (option_map (behind (levels_in level t)) bs) level ts
+
+-- a term, and terms, whose methods stand without their bodies
+abbrev pub lines : ℕ → Tree → List ℕ
+lines level t = term_lines [] None level t
+
+abbrev pub all_lines : ℕ → Trees → List ℕ
+all_lines level ts = terms_lines [] None level ts
+
+-- the bytes of a body that can't be read: Raw {A4, 5A}
+abbrev pub raw_text : List ℕ → List ℕ
+raw_text bs = word "Raw" ++ braced (map hex2 bs)
+
+-- the lines of a body: its terms, or its bytes where it can't be read
+abbrev pub body_lines : OneBody → BodyLines
+body_lines (read ts) level bs = all_lines level ts
+body_lines raw level bs = line level (raw_text bs)
+
+-- ---- definition blocks
+
+-- the bodies that are left for the next tables
+abbrev pub left_all : Trees → List BodyLines → List BodyLines
+left_all ts bs = behind (all_levels 1 ts) bs
+
+-- a definition block, by its table's file name: DefinitionBlock ("dsdt.dat") { .. }
+abbrev pub block_text : List ℕ → List ℕ → Trees → List BodyLines → List ℕ
+block_text name code ts bs =
+    block 0 (word "DefinitionBlock (" ++ quoted name ++ word ")") (terms_lines code (Some bs) 1 ts)
+
+-- a table that is printed as a definition block
+pub record OneBlock : Type 0 where
+  pub name : List ℕ
+  pub code : List ℕ
+  pub terms : Trees
+
+-- definition blocks, one after the other: each takes the bodies of its own methods, and the next one those that are
+-- left
+abbrev pub blocks_text : List OneBlock → List BodyLines → List ℕ
+blocks_text [] bs = []
+blocks_text (b ∷ others) bs = block_text b.name b.code b.terms bs ++ blocks_text others (left_all b.terms bs)

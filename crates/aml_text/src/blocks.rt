@@ -1,17 +1,18 @@
 //! Definition blocks: the terms of a table, with the bodies of its methods in their places.
 #![tactic(auto, using(text_writer::proofs::PrintLaws::straight))]
 
-ghost use Rattle.std.specs.Prelude.{◌≡◌, ◌++◌};
+ghost use Rattle.std.specs.Prelude.{◌≡◌, ◌++◌, Some, decimal};
 ghost use Rattle.aml_code.specs.View.{node_view, nodes_view, parts_view, tail_view};
-ghost use Rattle.aml_text.specs.Listing.{bodies_lines, head_of, method_head_of};
-ghost use Rattle.text_writer.specs.Prints.{Prints};
-ghost use Rattle.aml_text.specs.Texts.{deeper, opening, closing, serialized_text, comma_decimal, flags_text, method_text, first_lines, left, left_rest, left_all, table_lines, table_op_lines, all_table_lines, block_opening, block_text};
+ghost use Rattle.text_writer.specs.Prints.{Prints, quoted, word};
+ghost use Rattle.aml_text.specs.Listing.{bodies_lines};
+ghost use Rattle.aml_text.specs.Texts.{head_of, deeper, line, opening, serialized_text, flags_text, method_text, method_head, first_lines, levels_in, tail_levels, all_levels, behind, term_lines, op_lines, terms_lines, left_all, block_text};
 
 use crate::bodies::{Bodies, print_first};
-use crate::lines::{print_closing, print_indent, print_lines, print_op_lines, print_opening};
-use crate::texts::print_head;
+use crate::inline::Inline;
+use crate::lines::{Op, print_closing, print_fields_block, print_line, print_opening};
+use crate::texts::Head;
 use crate::words::print_name;
-use aml_code::{Name, Node, Part, Tail, last_byte, last_name, slice};
+use aml_code::{Name, Node, Tail, last_byte, last_name, slice};
 use std::io::Write;
 use text_writer::{Out, print_decimal, print_quoted};
 
@@ -39,9 +40,8 @@ fn print_serialized<W: Write>(out: &mut Out<'_, W>, flags: u8)
 }
 
 /// A comma and a number.
-#[tactic(auto, using(text_writer::proofs::PrintLaws::straight), unfolding(crate::specs::Texts::comma_decimal))]
 fn print_comma_decimal<W: Write>(out: &mut Out<'_, W>, n: u8)
-    ensures { Prints W.contents out.old out.new (comma_decimal n) }
+    ensures { Prints W.contents out.old out.new (word ", " ++ decimal n) }
 {
     out.put(b", ");
     print_decimal(out, n as u64);
@@ -69,50 +69,45 @@ fn print_method<W: Write>(out: &mut Out<'_, W>, name: &Name, flags: u8)
 }
 
 /// The head of a method, from its name and flags.
-#[tactic(auto, using(text_writer::proofs::PrintLaws::straight, crate::proofs::BlockLaws::heads))]
-fn print_method_head<W: Write>(out: &mut Out<'_, W>, opcode: u16, parts: &[Part])
-    ensures { Prints W.contents out.old out.new (method_head_of opcode parts.now) }
-{
-    match last_name(parts) {
-        None => print_head(out, opcode, parts),
-        Some(name) => match last_byte(parts) {
-            None => print_head(out, opcode, parts),
-            Some(flags) => print_method(out, name, flags),
-        },
-    }
-}
+#[derive(Drop)]
+struct MethodHead<'n>(Head<'n>);
 
-/// The first line of a method.
-#[tactic(auto, using(text_writer::proofs::PrintLaws::straight), unfolding(crate::specs::Texts::opening))]
-fn print_method_opening<W: Write>(out: &mut Out<'_, W>, level: u32, opcode: u16, parts: &[Part])
-    ensures { Prints W.contents out.old out.new (opening level (method_head_of opcode parts.now)) }
-{
-    print_indent(out, level);
-    print_method_head(out, opcode, parts);
-    out.put(b" {\n");
+impl Inline for MethodHead<'_> {
+    ghost text = { λ method. method_head method.0.opcode (parts_view method.0.parts.now.items) };
+
+    #[tactic(auto, using(text_writer::proofs::PrintLaws::straight, crate::proofs::BlockLaws::heads))]
+    fn print<W: Write>(&self, out: &mut Out<'_, W>) {
+        let parts = self.0.parts.as_slice();
+        match last_name(parts) {
+            None => self.0.print(out),
+            Some(name) => match last_byte(parts) {
+                None => self.0.print(out),
+                Some(flags) => print_method(out, name, flags),
+            },
+        }
+    }
 }
 
 /// A method, with the first of the bodies.
 fn print_method_block<W: Write>(
     out: &mut Out<'_, W>,
     level: u32,
-    opcode: u16,
-    parts: &[Part],
+    head: Head<'_>,
     bytes: &[u8],
     bodies: Bodies<'_>,
 )
     ensures { Prints W.contents out.old out.new
-        (opening level (method_head_of opcode parts.now) ++
-        first_lines (bodies_lines bodies.entry) (deeper level) bytes.now ++ closing level) }
+        (opening level (method_head head.entry.opcode (parts_view head.entry.parts.now.items)) ++
+        first_lines (bodies_lines bodies.entry) (deeper level) bytes.now ++ line level (word "}")) }
 {
-    print_method_opening(out, level, opcode, parts);
+    print_opening(out, level, &MethodHead(head));
     print_first(out, level.saturating_add(1), bytes, bodies);
     print_closing(out, level);
 }
 
 /// The lines of a term of a table. Each method takes the first of the bodies; the others are answered.
 #[cycle(blocks)]
-#[tactic(auto, using(text_writer::proofs::PrintLaws::straight, crate::proofs::BlockLaws::table_nodes))]
+#[tactic(auto, using(text_writer::proofs::PrintLaws::straight, crate::proofs::LineLaws::nodes, crate::proofs::BlockLaws::behind_nodes))]
 fn print_table_term<'b, W: Write>(
     out: &mut Out<'_, W>,
     code: &[u8],
@@ -121,8 +116,8 @@ fn print_table_term<'b, W: Write>(
     bodies: Bodies<'b>,
 ) -> Bodies<'b>
     ensures prints { Prints W.contents out.old out.new
-        (table_lines code.now level (node_view node.now) (bodies_lines bodies.entry)) }
-    ensures others { bodies_lines result ≡ left (node_view node.now) (bodies_lines bodies.entry) }
+        (term_lines code.now (Some (bodies_lines bodies.entry)) level (node_view node.now)) }
+    ensures others { bodies_lines result ≡ behind (levels_in level (node_view node.now)) (bodies_lines bodies.entry) }
 {
     match node {
         Node::Op {
@@ -130,9 +125,19 @@ fn print_table_term<'b, W: Write>(
             parts,
             tail,
             ..
-        } => print_table_op(out, code, level, tail, *opcode, parts.as_slice(), bodies),
+        } => print_table_op(
+            out,
+            code,
+            level,
+            tail,
+            Head {
+                opcode: *opcode,
+                parts,
+            },
+            bodies,
+        ),
         Node::Nothing | Node::Named { .. } => {
-            print_lines(out, level, node);
+            print_line(out, level, node);
             bodies
         }
     }
@@ -140,37 +145,31 @@ fn print_table_term<'b, W: Write>(
 
 /// The lines of an opcode of a table. Bodies are taken and answered as for a term.
 #[cycle(blocks)]
-#[tactic(auto, using(text_writer::proofs::PrintLaws::straight, crate::proofs::BlockLaws::table_tails))]
+#[tactic(auto, using(text_writer::proofs::PrintLaws::straight, crate::proofs::LineLaws::tails_with, crate::proofs::BlockLaws::behind_tails))]
 fn print_table_op<'b, W: Write>(
     out: &mut Out<'_, W>,
     code: &[u8],
     level: u32,
     tail: &Tail,
-    opcode: u16,
-    parts: &[Part],
+    head: Head<'_>,
     bodies: Bodies<'b>,
 ) -> Bodies<'b>
     ensures prints { Prints W.contents out.old out.new
-        (table_op_lines code.now level opcode (parts_view parts.now) (tail_view tail.now)
-        (bodies_lines bodies.entry)) }
-    ensures others { bodies_lines result ≡ left_rest (tail_view tail.now) (bodies_lines bodies.entry) }
+        (op_lines code.now (Some (bodies_lines bodies.entry)) level head.entry.opcode (parts_view head.entry.parts.now.items) (tail_view tail.now)) }
+    ensures others { bodies_lines result ≡ behind (tail_levels (deeper level) (tail_view tail.now)) (bodies_lines bodies.entry) }
 {
     match tail {
-        Tail::Terms(nodes) => print_table_block(
-            out,
-            code,
-            level,
-            nodes.as_slice(),
-            opcode,
-            parts,
-            bodies,
-        ),
+        Tail::Terms(nodes) => print_table_block(out, code, level, nodes.as_slice(), head, bodies),
         Tail::Body { start, len } => {
-            print_method_block(out, level, opcode, parts, slice(code, *start, *len), bodies);
+            print_method_block(out, level, head, slice(code, *start, *len), bodies);
             bodies.others()
         }
+        Tail::Fields(fields) => {
+            print_fields_block(out, level, head, fields.as_slice());
+            bodies
+        }
         _ => {
-            print_op_lines(out, level, tail, opcode, parts);
+            print_line(out, level, &Op { head, tail });
             bodies
         }
     }
@@ -183,16 +182,15 @@ fn print_table_block<'b, W: Write>(
     code: &[u8],
     level: u32,
     nodes: &[Node],
-    opcode: u16,
-    parts: &[Part],
+    head: Head<'_>,
     bodies: Bodies<'b>,
 ) -> Bodies<'b>
     ensures prints { Prints W.contents out.old out.new
-        (opening level (head_of opcode parts.now) ++
-        all_table_lines code.now (deeper level) (nodes_view nodes.now) (bodies_lines bodies.entry) ++ closing level) }
-    ensures others { bodies_lines result ≡ left_all (nodes_view nodes.now) (bodies_lines bodies.entry) }
+        (opening level (head_of head.entry.opcode (parts_view head.entry.parts.now.items)) ++
+        terms_lines code.now (Some (bodies_lines bodies.entry)) (deeper level) (nodes_view nodes.now) ++ line level (word "}")) }
+    ensures others { bodies_lines result ≡ behind (all_levels (deeper level) (nodes_view nodes.now)) (bodies_lines bodies.entry) }
 {
-    print_opening(out, level, opcode, parts);
+    print_opening(out, level, &head);
     let others = print_table_terms(out, code, level.saturating_add(1), nodes, bodies);
     print_closing(out, level);
     others
@@ -208,8 +206,8 @@ fn print_table_terms<'b, W: Write>(
     bodies: Bodies<'b>,
 ) -> Bodies<'b>
     ensures prints { Prints W.contents out.old out.new
-        (all_table_lines code.now level (nodes_view nodes.now) (bodies_lines bodies.entry)) }
-    ensures others { bodies_lines result ≡ left_all (nodes_view nodes.now) (bodies_lines bodies.entry) }
+        (terms_lines code.now (Some (bodies_lines bodies.entry)) level (nodes_view nodes.now)) }
+    ensures others { bodies_lines result ≡ behind (all_levels level (nodes_view nodes.now)) (bodies_lines bodies.entry) }
 {
     let mut rest = bodies;
     for node in nodes {
@@ -220,7 +218,6 @@ fn print_table_terms<'b, W: Write>(
 
 /// A definition block: the terms of a table's AML, each method with its body, in the order of the text.
 /// Answers the bodies that are left: those of the next tables.
-#[tactic(auto, using(text_writer::proofs::PrintLaws::straight), unfolding(crate::specs::Texts::block_text))]
 pub fn print_block<'b, W: Write>(
     out: &mut Out<'_, W>,
     name: &[u8],
@@ -232,18 +229,22 @@ pub fn print_block<'b, W: Write>(
         (block_text name.now code.now (nodes_view nodes.now) (bodies_lines bodies.entry)) }
     ensures others { bodies_lines result ≡ left_all (nodes_view nodes.now) (bodies_lines bodies.entry) }
 {
-    print_block_opening(out, name);
+    print_opening(out, 0, &BlockHead(name));
     let others = print_table_terms(out, code, 1, nodes, bodies);
-    out.put(b"}\n");
+    print_closing(out, 0);
     others
 }
 
-/// The first line of a definition block.
-#[tactic(auto, using(text_writer::proofs::PrintLaws::straight), unfolding(crate::specs::Texts::block_opening))]
-fn print_block_opening<W: Write>(out: &mut Out<'_, W>, name: &[u8])
-    ensures { Prints W.contents out.old out.new (block_opening name.now) }
-{
-    out.put(b"DefinitionBlock (");
-    print_quoted(out, name);
-    out.put(b") {\n");
+/// The head of a definition block: the name of its table's file.
+#[derive(Drop)]
+struct BlockHead<'n>(&'n [u8]);
+
+impl Inline for BlockHead<'_> {
+    ghost text = { λ head. word "DefinitionBlock (" ++ quoted head.0.now ++ word ")" };
+
+    fn print<W: Write>(&self, out: &mut Out<'_, W>) {
+        out.put(b"DefinitionBlock (");
+        print_quoted(out, self.0);
+        out.put(b")");
+    }
 }

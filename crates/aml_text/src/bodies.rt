@@ -3,11 +3,12 @@
 
 ghost use Rattle.std.specs.Prelude.{◌≡◌, drop, map};
 ghost use Rattle.text_writer.specs.Prints.{Prints};
-ghost use Rattle.aml_text.specs.Texts.{line, raw_text, body_lines, first_lines};
+ghost use Rattle.aml_text.specs.Texts.{raw_text, body_lines, first_lines};
 ghost use Rattle.aml_text.specs.Listing.{body_view, kept_lines, printed_lines, bodies_lines};
 
-use crate::lines::{print_indent, print_terms};
-use crate::texts::print_bytes;
+use crate::inline::Inline;
+use crate::lines::{print_line, print_terms};
+use crate::texts::print_braced_bytes;
 use aml_code::{CodeFault, Node};
 use std::io::Write;
 use text_writer::Out;
@@ -94,7 +95,7 @@ fn print_read<W: Write>(out: &mut Out<'_, W>, level: u32, bytes: &[u8], body: &B
 {
     match body {
         Body::Tree(nodes) => print_terms(out, level, nodes.as_slice()),
-        Body::Raw(_) => print_raw_line(out, level, bytes),
+        Body::Raw(_) => print_line(out, level, &Raw(bytes)),
     }
 }
 
@@ -110,7 +111,7 @@ fn print_printed<W: Write>(
 {
     match text {
         Ok(text) => print_kept(out, level, text),
-        Err(_) => print_raw_line(out, level, bytes),
+        Err(_) => print_line(out, level, &Raw(bytes)),
     }
 }
 
@@ -126,21 +127,14 @@ fn print_kept<W: Write>(out: &mut Out<'_, W>, level: u32, text: &BodyText)
 }
 
 /// The bytes of a body that can't be read.
-#[tactic(auto, using(text_writer::proofs::PrintLaws::straight), unfolding(crate::specs::Texts::raw_text))]
-fn print_raw<W: Write>(out: &mut Out<'_, W>, bytes: &[u8])
-    ensures { Prints W.contents out.old out.new (raw_text bytes.now) }
-{
-    out.put(b"Raw {");
-    print_bytes(out, bytes);
-    out.put(b"}");
-}
+#[derive(Drop)]
+struct Raw<'b>(&'b [u8]);
 
-/// The same, on a line of its own.
-#[tactic(auto, using(text_writer::proofs::PrintLaws::straight), unfolding(crate::specs::Texts::line))]
-fn print_raw_line<W: Write>(out: &mut Out<'_, W>, level: u32, bytes: &[u8])
-    ensures { Prints W.contents out.old out.new (line level (raw_text bytes.now)) }
-{
-    print_indent(out, level);
-    print_raw(out, bytes);
-    out.put(b"\n");
+impl Inline for Raw<'_> {
+    ghost text = { λ raw. raw_text raw.0.now };
+
+    fn print<W: Write>(&self, out: &mut Out<'_, W>) {
+        out.put(b"Raw");
+        print_braced_bytes(out, self.0);
+    }
 }

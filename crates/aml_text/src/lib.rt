@@ -7,6 +7,7 @@
 mod blocks;
 mod bodies;
 mod bounded;
+mod inline;
 mod levels;
 mod lines;
 mod listing;

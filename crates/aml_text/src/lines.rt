@@ -1,15 +1,15 @@
 //! The lines of terms and of field lists.
 #![tactic(auto, using(text_writer::proofs::PrintLaws::straight))]
 
-ghost use Rattle.std.specs.Prelude.{◌++◌, decimal, flat_map};
-ghost use Rattle.aml_code.specs.View.{parts_view, tail_view};
+ghost use Rattle.std.specs.Prelude.{◌++◌, [], None, decimal};
+ghost use Rattle.aml_code.specs.View.{node_view, nodes_view, parts_view, tail_view, field_view, fields_view, link_view};
 ghost use Rattle.text_writer.specs.Prints.{Prints, word};
-ghost use Rattle.aml_text.specs.Texts.{tail_text, byte_pair, byte_end, deeper, indent, line, opening, closing, op_lines};
-ghost use Rattle.aml_text.specs.Listing.{head_of, node_inline, node_lines, field_inline, field_line, link_inline};
+ghost use Rattle.aml_text.specs.Texts.{head_of, tail_text, link_text, byte_pair, byte_end, field_text, field_lines, deeper, indent, line, opening, lines, op_lines, all_lines};
 
-use crate::texts::{print_byte, print_head, print_inline, print_tail};
+use crate::inline::Inline;
+use crate::texts::{Head, print_byte, print_tail};
 use crate::words::print_name;
-use aml_code::{Field, Link, Node, Part, Seg, Tail};
+use aml_code::{Field, Link, Node, Seg, Tail};
 use std::io::Write;
 use text_writer::{Out, print_decimal};
 
@@ -24,67 +24,59 @@ pub fn print_indent<W: Write>(out: &mut Out<'_, W>, level: u32)
 }
 
 /// The last line of a block.
-#[tactic(auto, using(text_writer::proofs::PrintLaws::straight), unfolding(crate::specs::Texts::closing))]
+#[tactic(auto, using(text_writer::proofs::PrintLaws::straight), unfolding(crate::specs::Texts::line))]
 pub fn print_closing<W: Write>(out: &mut Out<'_, W>, level: u32)
-    ensures { Prints W.contents out.old out.new (closing level) }
+    ensures { Prints W.contents out.old out.new (line level (word "}")) }
 {
     print_indent(out, level);
-    out.put(b"}\n");
+    out.put(b"}");
+    out.put(b"\n");
+}
+
+/// A line.
+#[tactic(auto, using(text_writer::proofs::PrintLaws::straight), unfolding(crate::specs::Texts::line))]
+pub fn print_line<W: Write, T: Inline>(out: &mut Out<'_, W>, level: u32, item: &T)
+    ensures { Prints W.contents out.old out.new (line level (T.text item.now)) }
+{
+    print_indent(out, level);
+    item.print(out);
+    out.put(b"\n");
 }
 
 /// The first line of a block.
 #[tactic(auto, using(text_writer::proofs::PrintLaws::straight), unfolding(crate::specs::Texts::opening))]
-pub fn print_opening<W: Write>(out: &mut Out<'_, W>, level: u32, opcode: u16, parts: &[Part])
-    ensures { Prints W.contents out.old out.new (opening level (head_of opcode parts.now)) }
+pub fn print_opening<W: Write, T: Inline>(out: &mut Out<'_, W>, level: u32, head: &T)
+    ensures { Prints W.contents out.old out.new (opening level (T.text head.now)) }
 {
     print_indent(out, level);
-    print_head(out, opcode, parts);
+    head.print(out);
     out.put(b" {\n");
 }
 
-/// A term on a line of its own.
-#[tactic(auto, using(text_writer::proofs::PrintLaws::straight), unfolding(crate::specs::Texts::line))]
-fn print_node_line<W: Write>(out: &mut Out<'_, W>, level: u32, node: &Node)
-    ensures { Prints W.contents out.old out.new (line level (node_inline node.now)) }
-{
-    print_indent(out, level);
-    print_inline(out, node);
-    out.put(b"\n");
+/// An opcode with its parts and its tail, where these stand on one line.
+#[derive(Drop)]
+pub struct Op<'n> {
+    pub head: Head<'n>,
+    pub tail: &'n Tail,
 }
 
-/// An opcode with its parts and its tail, on one line.
-fn print_op<W: Write>(out: &mut Out<'_, W>, opcode: u16, parts: &[Part], tail: &Tail)
-    ensures { Prints W.contents out.old out.new (head_of opcode parts.now ++ tail_text (tail_view tail.now)) }
-{
-    print_head(out, opcode, parts);
-    print_tail(out, tail);
-}
+impl Inline for Op<'_> {
+    ghost text = { λ op. head_of op.head.opcode (parts_view op.head.parts.now.items) ++ tail_text (tail_view op.tail.now) };
 
-/// The same, on a line of its own.
-#[tactic(auto, using(text_writer::proofs::PrintLaws::straight), unfolding(crate::specs::Texts::line))]
-fn print_op_line<W: Write>(
-    out: &mut Out<'_, W>,
-    level: u32,
-    opcode: u16,
-    parts: &[Part],
-    tail: &Tail,
-)
-    ensures { Prints W.contents out.old out.new
-        (line level (head_of opcode parts.now ++ tail_text (tail_view tail.now))) }
-{
-    print_indent(out, level);
-    print_op(out, opcode, parts, tail);
-    out.put(b"\n");
+    fn print<W: Write>(&self, out: &mut Out<'_, W>) {
+        self.head.print(out);
+        print_tail(out, self.tail);
+    }
 }
 
 /// What a connection leads to.
 #[tactic(auto, using(text_writer::proofs::PrintLaws::straight, crate::proofs::LineLaws::links))]
 fn print_link<W: Write>(out: &mut Out<'_, W>, link: &Link)
-    ensures { Prints W.contents out.old out.new (link_inline link.now) }
+    ensures { Prints W.contents out.old out.new (link_text (link_view link.now)) }
 {
     match link {
         Link::Target(name) => print_name(out, name),
-        Link::Buffer(node) => print_inline(out, node),
+        Link::Buffer(node) => node.print(out),
     }
 }
 
@@ -145,7 +137,7 @@ fn print_byte_end<W: Write>(out: &mut Out<'_, W>, last: u8)
 
 /// A connection.
 fn print_connection<W: Write>(out: &mut Out<'_, W>, link: &Link)
-    ensures { Prints W.contents out.old out.new (word "Connection (" ++ link_inline link.now ++ word ")") }
+    ensures { Prints W.contents out.old out.new (word "Connection (" ++ link_text (link_view link.now) ++ word ")") }
 {
     out.put(b"Connection (");
     print_link(out, link);
@@ -153,62 +145,54 @@ fn print_connection<W: Write>(out: &mut Out<'_, W>, link: &Link)
 }
 
 /// An element of a field list.
-#[tactic(auto, using(text_writer::proofs::PrintLaws::straight, crate::proofs::LineLaws::fields_of))]
-fn print_field<W: Write>(out: &mut Out<'_, W>, field: &Field)
-    ensures { Prints W.contents out.old out.new (field_inline field.now) }
-{
-    match field {
-        Field::NamedUnit { seg, bits, .. } => print_unit(out, seg, *bits),
-        Field::Reserved { bits, .. } => print_reserved(out, *bits),
-        Field::Access(access, attribute) => print_access(out, *access, *attribute),
-        Field::Connection(link) => print_connection(out, link),
-        Field::Extended(access, attribute, length) => print_extended(
-            out, *access, *attribute, *length,
-        ),
+impl Inline for Field {
+    ghost text = { λ field. field_text (field_view field) };
+
+    #[tactic(auto, using(text_writer::proofs::PrintLaws::straight, crate::proofs::LineLaws::fields_of))]
+    fn print<W: Write>(&self, out: &mut Out<'_, W>) {
+        match self {
+            Field::NamedUnit { seg, bits, .. } => print_unit(out, seg, *bits),
+            Field::Reserved { bits, .. } => print_reserved(out, *bits),
+            Field::Access(access, attribute) => print_access(out, *access, *attribute),
+            Field::Connection(link) => print_connection(out, link),
+            Field::Extended(access, attribute, length) => print_extended(
+                out, *access, *attribute, *length,
+            ),
+        }
     }
 }
 
-/// An element of a field list, on a line of its own.
-#[tactic(auto, using(text_writer::proofs::PrintLaws::straight), unfolding(crate::specs::Texts::line, crate::specs::Listing::field_line))]
-fn print_field_line<W: Write>(out: &mut Out<'_, W>, level: u32, field: &Field)
-    ensures { Prints W.contents out.old out.new (field_line level field.now) }
-{
-    print_indent(out, level);
-    print_field(out, field);
-    out.put(b"\n");
-}
-
 /// The elements of a field list, a line each.
+#[tactic(auto, using(text_writer::proofs::PrintLaws::straight, crate::proofs::LineLaws::fields_turned))]
 fn print_fields<W: Write>(out: &mut Out<'_, W>, level: u32, fields: &[Field])
-    ensures { Prints W.contents out.old out.new (flat_map (field_line level) fields.now) }
+    ensures { Prints W.contents out.old out.new (field_lines level (fields_view fields.now)) }
 {
     for field in fields {
-        print_field_line(out, level, field);
+        print_line(out, level, field);
     }
 }
 
 /// An opcode with a field list as a block.
-fn print_fields_block<W: Write>(
+pub fn print_fields_block<W: Write>(
     out: &mut Out<'_, W>,
     level: u32,
-    opcode: u16,
-    parts: &[Part],
+    head: Head<'_>,
     fields: &[Field],
 )
     ensures { Prints W.contents out.old out.new
-        (opening level (head_of opcode parts.now) ++
-        flat_map (field_line (deeper level)) fields.now ++ closing level) }
+        (opening level (head_of head.entry.opcode (parts_view head.entry.parts.now.items)) ++
+        field_lines (deeper level) (fields_view fields.now) ++ line level (word "}")) }
 {
-    print_opening(out, level, opcode, parts);
+    print_opening(out, level, &head);
     print_fields(out, level.saturating_add(1), fields);
     print_closing(out, level);
 }
 
-/// The lines of a term.
+/// The lines of a term, whose methods stand without their bodies.
 #[cycle(lines)]
-#[tactic(auto, using(text_writer::proofs::PrintLaws::straight, crate::proofs::LineLaws::node_variants))]
-pub fn print_lines<W: Write>(out: &mut Out<'_, W>, level: u32, node: &Node)
-    ensures { Prints W.contents out.old out.new (node_lines level node.now) }
+#[tactic(auto, using(text_writer::proofs::PrintLaws::straight, crate::proofs::LineLaws::nodes))]
+fn print_lines<W: Write>(out: &mut Out<'_, W>, level: u32, node: &Node)
+    ensures { Prints W.contents out.old out.new (lines level (node_view node.now)) }
 {
     match node {
         Node::Op {
@@ -216,52 +200,50 @@ pub fn print_lines<W: Write>(out: &mut Out<'_, W>, level: u32, node: &Node)
             parts,
             tail,
             ..
-        } => print_op_lines(out, level, tail, *opcode, parts.as_slice()),
-        Node::Nothing | Node::Named { .. } => print_node_line(out, level, node),
+        } => print_op_lines(
+            out,
+            level,
+            tail,
+            Head {
+                opcode: *opcode,
+                parts,
+            },
+        ),
+        Node::Nothing | Node::Named { .. } => print_line(out, level, node),
     }
 }
 
 /// The lines of an opcode with its parts and its tail.
 #[cycle(lines)]
 #[tactic(auto, using(text_writer::proofs::PrintLaws::straight, crate::proofs::LineLaws::tail_variants))]
-pub fn print_op_lines<W: Write>(
-    out: &mut Out<'_, W>,
-    level: u32,
-    tail: &Tail,
-    opcode: u16,
-    parts: &[Part],
-)
-    ensures { Prints W.contents out.old out.new (op_lines level (head_of opcode parts.now) (tail_view tail.now)) }
+fn print_op_lines<W: Write>(out: &mut Out<'_, W>, level: u32, tail: &Tail, head: Head<'_>)
+    ensures { Prints W.contents out.old out.new
+        (op_lines [] None level head.entry.opcode (parts_view head.entry.parts.now.items) (tail_view tail.now)) }
 {
     match tail {
-        Tail::Terms(nodes) => print_terms_block(out, level, nodes.as_slice(), opcode, parts),
-        Tail::Fields(fields) => print_fields_block(out, level, opcode, parts, fields.as_slice()),
-        _ => print_op_line(out, level, opcode, parts, tail),
+        Tail::Terms(nodes) => print_terms_block(out, level, nodes.as_slice(), head),
+        Tail::Fields(fields) => print_fields_block(out, level, head, fields.as_slice()),
+        _ => print_line(out, level, &Op { head, tail }),
     }
 }
 
 /// An opcode with terms as a block.
 #[cycle(lines)]
-fn print_terms_block<W: Write>(
-    out: &mut Out<'_, W>,
-    level: u32,
-    nodes: &[Node],
-    opcode: u16,
-    parts: &[Part],
-)
+fn print_terms_block<W: Write>(out: &mut Out<'_, W>, level: u32, nodes: &[Node], head: Head<'_>)
     ensures { Prints W.contents out.old out.new
-        (opening level (head_of opcode parts.now) ++
-        flat_map (node_lines (deeper level)) nodes.now ++ closing level) }
+        (opening level (head_of head.entry.opcode (parts_view head.entry.parts.now.items)) ++
+        all_lines (deeper level) (nodes_view nodes.now) ++ line level (word "}")) }
 {
-    print_opening(out, level, opcode, parts);
+    print_opening(out, level, &head);
     print_terms(out, level.saturating_add(1), nodes);
     print_closing(out, level);
 }
 
 /// The lines of terms, one after the other.
 #[cycle(lines)]
+#[tactic(auto, using(text_writer::proofs::PrintLaws::straight, crate::proofs::LineLaws::terms_turned))]
 pub fn print_terms<W: Write>(out: &mut Out<'_, W>, level: u32, nodes: &[Node])
-    ensures { Prints W.contents out.old out.new (flat_map (node_lines level) nodes.now) }
+    ensures { Prints W.contents out.old out.new (all_lines level (nodes_view nodes.now)) }
 {
     for node in nodes {
         print_lines(out, level, node);

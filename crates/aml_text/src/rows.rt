@@ -1,9 +1,11 @@
 //! The namespace: a line for each declared path.
 #![tactic(auto, using(text_writer::proofs::PrintLaws::straight))]
 
+ghost use Rattle.std.specs.Prelude.{◌++◌, decimal};
 ghost use Rattle.std.specs.FinMap as map;
-ghost use Rattle.text_writer.specs.Prints.{Prints};
-ghost use Rattle.aml_text.specs.Rows.{path_text, kind_text, row_text, row_line, count_line, namespace_text};
+ghost use Rattle.text_writer.specs.Prints.{Prints, word};
+ghost use Rattle.aml_text.specs.Texts.{line};
+ghost use Rattle.aml_text.specs.Rows.{path_text, kind_text, row_line, namespace_text};
 
 use crate::lines::print_indent;
 use crate::words::print_segments;
@@ -57,9 +59,9 @@ fn print_kind<W: Write>(out: &mut Out<'_, W>, kind: &Kind)
     }
 }
 
-#[tactic(auto, using(text_writer::proofs::PrintLaws::straight), unfolding(crate::specs::Rows::row_text))]
+/// A path with its kind.
 fn print_row_text<W: Write>(out: &mut Out<'_, W>, path: &Path, kind: &Kind)
-    ensures { Prints W.contents out.old out.new (row_text (path.now, kind.now)) }
+    ensures { Prints W.contents out.old out.new (path_text path.now ++ word " " ++ kind_text kind.now) }
 {
     print_path(out, path);
     out.put(b" ");
@@ -77,9 +79,9 @@ fn print_row<W: Write>(out: &mut Out<'_, W>, path: &Path, kind: &Kind)
 }
 
 /// The line above the rows.
-#[tactic(auto, using(text_writer::proofs::PrintLaws::straight), unfolding(crate::specs::Rows::count_line))]
+#[tactic(auto, using(text_writer::proofs::PrintLaws::straight), unfolding(crate::specs::Texts::line, crate::specs::Texts::indent))]
 fn print_count<W: Write>(out: &mut Out<'_, W>, count: usize)
-    ensures { Prints W.contents out.old out.new (count_line count) }
+    ensures { Prints W.contents out.old out.new (line 0 (word "Namespace " ++ decimal count)) }
 {
     out.put(b"Namespace ");
     print_decimal(out, count as u64);

@@ -2,45 +2,52 @@
 #![tactic(auto, using(text_writer::proofs::PrintLaws::straight))]
 
 ghost use Rattle.std.specs.Prelude.{◌≡◌, ◌++◌, Some, map};
-ghost use Rattle.aml_code.specs.Opcodes.{row_of, row_view};
-ghost use Rattle.aml_code.specs.View.{nodes_view, parts_view, tail_view};
+ghost use Rattle.aml_code.specs.Opcodes.{row_view};
+ghost use Rattle.aml_code.specs.View.{node_view, nodes_view, part_view, parts_view, tail_view};
 ghost use Rattle.text_writer.specs.Prints.{Prints, word, hex2, hex4, hex8, hex16};
-ghost use Rattle.aml_text.specs.Texts.{name_text, after_separator, separated_by, arguments_text, braced, is_constant, head_text, part_texts, inlines, tail_text};
-ghost use Rattle.aml_text.specs.Listing.{node_inline, part_inline};
+ghost use Rattle.aml_text.specs.Texts.{name_text, joined, arguments_text, braced, is_constant, head_of, head_text, inline, inlines, part_text, part_texts, tail_text};
 
+use crate::inline::{Inline, print_separated};
 use crate::words::print_name;
 use aml_code::{Bytes, Group, Name, Node, OpRow, Part, Tail, listed_row};
 use std::io::Write;
 use text_writer::{Out, print_hex2, print_hex4, print_hex8, print_hex16, print_quoted};
 
-#[tactic(auto, using(text_writer::proofs::PrintLaws::straight), unfolding(crate::specs::Texts::after_separator))]
-fn print_next_byte<W: Write>(out: &mut Out<'_, W>, byte: u8)
-    ensures { Prints W.contents out.old out.new (after_separator (word ", ") hex2 byte) }
-{
-    out.put(b", ");
-    print_hex2(out, byte);
+/// The parts of an opcode. They are passed as the vector that a node has: a recursion through the impl for vectors is
+/// proved at the types of fields alone.
+pub type Parts = Vec<Part>;
+
+/// An opcode with its parts.
+#[derive(Clone, Copy)]
+pub struct Head<'n> {
+    pub opcode: u16,
+    pub parts: &'n Parts,
 }
 
-/// Bytes with a comma between two.
-#[tactic(auto, using(text_writer::proofs::PrintLaws::straight, crate::proofs::TextLaws::separations))]
-pub fn print_bytes<W: Write>(out: &mut Out<'_, W>, bytes: &[u8])
-    ensures { Prints W.contents out.old out.new (separated_by (word ", ") hex2 bytes.now) }
-{
-    if let Some((first, rest)) = bytes.split_first() {
-        print_hex2(out, *first);
-        for byte in rest {
-            print_next_byte(out, *byte);
-        }
+impl Inline for Head<'_> {
+    ghost text = { λ head. head_of head.opcode (parts_view head.parts.now.items) };
+
+    fn print<W: Write>(&self, out: &mut Out<'_, W>) {
+        print_head(out, self.opcode, self.parts);
+    }
+}
+
+/// A byte in two digits.
+impl Inline for u8 {
+    ghost text = { hex2 };
+
+    fn print<W: Write>(&self, out: &mut Out<'_, W>) {
+        print_hex2(out, *self);
     }
 }
 
 /// Bytes in braces.
-#[tactic(auto, using(text_writer::proofs::PrintLaws::straight, crate::proofs::TextLaws::braces), unfolding(crate::specs::Texts::braced))]
-fn print_braced_bytes<W: Write>(out: &mut Out<'_, W>, bytes: &[u8])
+#[tactic(auto, using(text_writer::proofs::PrintLaws::straight), unfolding(crate::specs::Texts::braced))]
+pub fn print_braced_bytes<W: Write>(out: &mut Out<'_, W>, bytes: &[u8])
     ensures { Prints W.contents out.old out.new (braced (map hex2 bytes.now)) }
 {
     out.put(b" {");
-    print_bytes(out, bytes);
+    print_separated(out, b", ", bytes);
     out.put(b"}");
 }
 
@@ -84,30 +91,32 @@ fn is_constant(row: &OpRow) -> bool
 }
 
 /// A term on one line.
-#[cycle(inline)]
-#[tactic(auto, using(text_writer::proofs::PrintLaws::straight, crate::proofs::NodeLaws::inline_nodes))]
-pub fn print_inline<W: Write>(out: &mut Out<'_, W>, node: &Node)
-    ensures { Prints W.contents out.old out.new (node_inline node.now) }
-{
-    match node {
-        Node::Nothing => {}
-        Node::Named { name, args } => print_call(out, name, args.as_slice()),
-        Node::Op {
-            opcode,
-            parts,
-            tail,
-            ..
-        } => {
-            print_head(out, *opcode, parts.as_slice());
-            print_tail(out, tail);
+impl Inline for Node {
+    ghost text = { λ node. inline (node_view node) };
+
+    #[cycle(inline)]
+    #[tactic(auto, using(text_writer::proofs::PrintLaws::straight, crate::proofs::NodeLaws::inline_nodes))]
+    fn print<W: Write>(&self, out: &mut Out<'_, W>) {
+        match self {
+            Node::Nothing => {}
+            Node::Named { name, args } => print_call(out, name, args),
+            Node::Op {
+                opcode,
+                parts,
+                tail,
+                ..
+            } => {
+                print_head(out, *opcode, parts);
+                print_tail(out, tail);
+            }
         }
     }
 }
 
 #[cycle(inline)]
-fn print_call<W: Write>(out: &mut Out<'_, W>, name: &Name, args: &[Node])
+fn print_call<W: Write>(out: &mut Out<'_, W>, name: &Name, args: &Vec<Node>)
     ensures { Prints W.contents out.old out.new
-        (name_text name.now ++ arguments_text (inlines (nodes_view args.now))) }
+        (name_text name.now ++ arguments_text (inlines (nodes_view args.now.items))) }
 {
     print_name(out, name);
     print_arguments(out, args);
@@ -116,47 +125,24 @@ fn print_call<W: Write>(out: &mut Out<'_, W>, name: &Name, args: &[Node])
 /// Arguments in parentheses, if there are any.
 #[cycle(inline)]
 #[tactic(auto, using(text_writer::proofs::PrintLaws::straight, crate::proofs::NodeLaws::arguments))]
-fn print_arguments<W: Write>(out: &mut Out<'_, W>, args: &[Node])
-    ensures { Prints W.contents out.old out.new (arguments_text (inlines (nodes_view args.now))) }
+fn print_arguments<W: Write>(out: &mut Out<'_, W>, args: &Vec<Node>)
+    ensures { Prints W.contents out.old out.new (arguments_text (inlines (nodes_view args.now.items))) }
 {
     if !args.is_empty() {
         out.put(b" (");
-        print_nodes(out, args);
+        args.print(out);
         out.put(b")");
-    }
-}
-
-#[cycle(inline)]
-#[tactic(auto, using(text_writer::proofs::PrintLaws::straight), unfolding(crate::specs::Texts::after_separator))]
-fn print_next_node<W: Write>(out: &mut Out<'_, W>, node: &Node)
-    ensures { Prints W.contents out.old out.new (after_separator (word ", ") node_inline node.now) }
-{
-    out.put(b", ");
-    print_inline(out, node);
-}
-
-/// Nodes with a comma between two.
-#[cycle(inline)]
-#[tactic(auto, using(text_writer::proofs::PrintLaws::straight, crate::proofs::TextLaws::separations))]
-fn print_nodes<W: Write>(out: &mut Out<'_, W>, nodes: &[Node])
-    ensures { Prints W.contents out.old out.new (separated_by (word ", ") node_inline nodes.now) }
-{
-    if let Some((first, rest)) = nodes.split_first() {
-        print_inline(out, first);
-        for node in rest {
-            print_next_node(out, node);
-        }
     }
 }
 
 /// An opcode's mnemonic and its parts.
 #[cycle(inline)]
 #[tactic(auto, using(text_writer::proofs::PrintLaws::straight, crate::proofs::NodeLaws::heads))]
-pub fn print_head<W: Write>(out: &mut Out<'_, W>, opcode: u16, parts: &[Part])
-    ensures { Prints W.contents out.old out.new (head_text (row_of opcode) (part_texts (parts_view parts.now))) }
+fn print_head<W: Write>(out: &mut Out<'_, W>, opcode: u16, parts: &Parts)
+    ensures { Prints W.contents out.old out.new (head_of opcode (parts_view parts.now.items)) }
 {
     match listed_row(opcode) {
-        None => print_parts(out, parts),
+        None => parts.print(out),
         Some(row) => print_row_head(out, row, parts),
     }
 }
@@ -164,12 +150,12 @@ pub fn print_head<W: Write>(out: &mut Out<'_, W>, opcode: u16, parts: &[Part])
 /// An opcode with its parts, by its row.
 #[cycle(inline)]
 #[tactic(auto, using(text_writer::proofs::PrintLaws::straight, crate::proofs::NodeLaws::heads))]
-fn print_row_head<W: Write>(out: &mut Out<'_, W>, row: &OpRow, parts: &[Part])
+fn print_row_head<W: Write>(out: &mut Out<'_, W>, row: &OpRow, parts: &Parts)
     ensures { Prints W.contents out.old out.new
-        (head_text (Some (row_view row.now)) (part_texts (parts_view parts.now))) }
+        (head_text (Some (row_view row.now)) (part_texts (parts_view parts.now.items))) }
 {
     if is_constant(row) {
-        print_parts(out, parts);
+        parts.print(out);
     } else {
         out.put(row.mnemonic.as_bytes());
         print_part_arguments(out, parts);
@@ -179,54 +165,32 @@ fn print_row_head<W: Write>(out: &mut Out<'_, W>, row: &OpRow, parts: &[Part])
 /// Parts in parentheses, if there are any.
 #[cycle(inline)]
 #[tactic(auto, using(text_writer::proofs::PrintLaws::straight, crate::proofs::NodeLaws::part_arguments))]
-fn print_part_arguments<W: Write>(out: &mut Out<'_, W>, parts: &[Part])
-    ensures { Prints W.contents out.old out.new (arguments_text (part_texts (parts_view parts.now))) }
+fn print_part_arguments<W: Write>(out: &mut Out<'_, W>, parts: &Parts)
+    ensures { Prints W.contents out.old out.new (arguments_text (part_texts (parts_view parts.now.items))) }
 {
     if !parts.is_empty() {
         out.put(b" (");
-        print_parts(out, parts);
+        parts.print(out);
         out.put(b")");
     }
 }
 
-/// A part behind a comma.
-#[cycle(inline)]
-#[tactic(auto, using(text_writer::proofs::PrintLaws::straight), unfolding(crate::specs::Texts::after_separator))]
-fn print_next_part<W: Write>(out: &mut Out<'_, W>, part: &Part)
-    ensures { Prints W.contents out.old out.new (after_separator (word ", ") part_inline part.now) }
-{
-    out.put(b", ");
-    print_part(out, part);
-}
+/// A part. A target that is absent has an empty text.
+impl Inline for Part {
+    ghost text = { λ part. part_text (part_view part) };
 
-/// Parts with a comma between two. A target that is absent has an empty text.
-#[cycle(inline)]
-#[tactic(auto, using(text_writer::proofs::PrintLaws::straight, crate::proofs::TextLaws::separations))]
-fn print_parts<W: Write>(out: &mut Out<'_, W>, parts: &[Part])
-    ensures { Prints W.contents out.old out.new (separated_by (word ", ") part_inline parts.now) }
-{
-    if let Some((first, rest)) = parts.split_first() {
-        print_part(out, first);
-        for part in rest {
-            print_next_part(out, part);
+    #[cycle(inline)]
+    #[tactic(auto, using(text_writer::proofs::PrintLaws::straight, crate::proofs::NodeLaws::inline_parts))]
+    fn print<W: Write>(&self, out: &mut Out<'_, W>) {
+        match self {
+            Part::Child(node) => node.print(out),
+            Part::Label(name) => print_name(out, name),
+            Part::Byte(n) => print_byte(out, *n),
+            Part::Word(n) => print_word(out, *n),
+            Part::Dword(n) => print_dword(out, *n),
+            Part::Qword(n) => print_qword(out, *n),
+            Part::Text(text) => print_quoted(out, text.as_slice()),
         }
-    }
-}
-
-/// A part.
-#[cycle(inline)]
-#[tactic(auto, using(text_writer::proofs::PrintLaws::straight, crate::proofs::NodeLaws::inline_parts))]
-fn print_part<W: Write>(out: &mut Out<'_, W>, part: &Part)
-    ensures { Prints W.contents out.old out.new (part_inline part.now) }
-{
-    match part {
-        Part::Child(node) => print_inline(out, node),
-        Part::Label(name) => print_name(out, name),
-        Part::Byte(n) => print_byte(out, *n),
-        Part::Word(n) => print_word(out, *n),
-        Part::Dword(n) => print_dword(out, *n),
-        Part::Qword(n) => print_qword(out, *n),
-        Part::Text(text) => print_quoted(out, text.as_slice()),
     }
 }
 
@@ -238,18 +202,18 @@ pub fn print_tail<W: Write>(out: &mut Out<'_, W>, tail: &Tail)
 {
     match tail {
         Tail::Bytes(bytes) => print_braced_bytes(out, bytes.as_slice()),
-        Tail::Elements(nodes) => print_braced_nodes(out, nodes.as_slice()),
+        Tail::Elements(nodes) => print_braced_nodes(out, nodes),
         Tail::Empty | Tail::Terms(_) | Tail::Fields(_) | Tail::Body { .. } => {}
     }
 }
 
 /// Elements in braces.
 #[cycle(inline)]
-#[tactic(auto, using(text_writer::proofs::PrintLaws::straight, crate::proofs::NodeLaws::braced_nodes))]
-fn print_braced_nodes<W: Write>(out: &mut Out<'_, W>, nodes: &[Node])
-    ensures { Prints W.contents out.old out.new (braced (inlines (nodes_view nodes.now))) }
+#[tactic(auto, using(text_writer::proofs::PrintLaws::straight, crate::proofs::NodeLaws::braces))]
+fn print_braced_nodes<W: Write>(out: &mut Out<'_, W>, nodes: &Vec<Node>)
+    ensures { Prints W.contents out.old out.new (braced (inlines (nodes_view nodes.now.items))) }
 {
     out.put(b" {");
-    print_nodes(out, nodes);
+    nodes.print(out);
     out.put(b"}");
 }

@@ -1,16 +1,17 @@
 //! The text of names.
 #![tactic(auto, using(text_writer::proofs::PrintLaws::straight))]
 
-ghost use Rattle.std.specs.Prelude.{[], cond, replicate};
+ghost use Rattle.std.specs.Prelude.{[], cond, map, replicate};
 ghost use Rattle.text_writer.specs.Prints.{Prints, word};
-ghost use Rattle.aml_text.specs.Texts.{after_separator, separated_by, prefix_text, segment_text, name_text};
+ghost use Rattle.aml_text.specs.Texts.{separated, prefix_text, segment_text, name_text};
 
+use crate::inline::{Inline, print_separated};
 use aml_code::{Name, Seg};
 use std::io::Write;
 use text_writer::Out;
 
 /// So many `^`.
-#[tactic(auto, using(text_writer::proofs::PrintLaws::straight, crate::proofs::TextLaws::parents))]
+#[tactic(auto, using(text_writer::proofs::PrintLaws::straight, std::proofs::lemmas::Grind::replicate_next))]
 fn print_parents<W: Write>(out: &mut Out<'_, W>, ups: u32)
     ensures { Prints W.contents out.old out.new (replicate ups 94) }
 {
@@ -35,32 +36,20 @@ fn print_prefix<W: Write>(out: &mut Out<'_, W>, name: &Name)
     print_parents(out, name.ups);
 }
 
-#[tactic(auto, unfolding(crate::specs::Texts::segment_text))]
-fn print_segment<W: Write>(out: &mut Out<'_, W>, seg: &Seg)
-    ensures { Prints W.contents out.old out.new (segment_text seg.now) }
-{
-    out.put(&seg.0);
-}
+impl Inline for Seg {
+    ghost text = { segment_text };
 
-#[tactic(auto, using(text_writer::proofs::PrintLaws::straight), unfolding(crate::specs::Texts::after_separator))]
-fn print_next_segment<W: Write>(out: &mut Out<'_, W>, seg: &Seg)
-    ensures { Prints W.contents out.old out.new (after_separator (word ".") segment_text seg.now) }
-{
-    out.put(b".");
-    print_segment(out, seg);
+    #[tactic(auto, unfolding(crate::specs::Texts::segment_text))]
+    fn print<W: Write>(&self, out: &mut Out<'_, W>) {
+        out.put(&self.0);
+    }
 }
 
 /// Segments with a dot between two.
-#[tactic(auto, using(text_writer::proofs::PrintLaws::straight, crate::proofs::TextLaws::separations))]
 pub fn print_segments<W: Write>(out: &mut Out<'_, W>, segs: &[Seg])
-    ensures { Prints W.contents out.old out.new (separated_by (word ".") segment_text segs.now) }
+    ensures { Prints W.contents out.old out.new (separated (word ".") (map segment_text segs.now)) }
 {
-    if let Some((first, rest)) = segs.split_first() {
-        print_segment(out, first);
-        for seg in rest {
-            print_next_segment(out, seg);
-        }
-    }
+    print_separated(out, b".", segs);
 }
 
 /// A name: its prefix, and its segments with a dot between two.

@@ -8,10 +8,9 @@ use Rattle.std.proofs.Common.{length-drop, take-append-drop, arith}
 use Rattle.std.specs.Io.KnownBytes.{Appends}
 use Rattle.std.proofs.KnownBytes.{Appends-nil, Appends-trans}
 use Rattle.std.proofs.Math.Seq.{take-add}
-use Rattle.std.proofs.lemmas.List.{get_or_default, take_all, take_more}
-use Rattle.std.proofs.lemmas.Grind.{flat_map-append}
+use Rattle.std.proofs.lemmas.List.{flat_map_more, get_or_default, take_all, take_more}
 use Rattle.std.proofs.lemmas.Bool.Decides.{nat_tests}
-use Rattle.text_writer.specs.Prints.{word, waiting, Sends, PrintsBy, Prints, Writes}
+use Rattle.text_writer.specs.Prints.{word, waiting, Sends, Went, PrintsBy, Prints, Writes}
 use Rattle.text_writer.specs.declared.output.Out.{Out}
 use Rattle.text_writer.specs.declared.output.WriteFault.{WriteFault}
 
@@ -23,8 +22,7 @@ joined_whole before now xs ys sent more end p q =
 flat_map_turn : {X : Type 0} (g : X → List ℕ) (xs : List X) (i : ℕ) (x : X) → i < length xs → x ≡ get_or xs i x
     → flat_map g (take i xs) ++ g x ≡ flat_map g (take (i + 1) xs)
 flat_map_turn g xs i x h e =
-    sym (ap (flat_map g) (take_more xs i x h) ∙ flat_map-append g (take i xs) (get_or xs i x ∷ [])
-    ∙ ap (λ l. flat_map g (take i xs) ++ l) (append-nil (g (get_or xs i x)) ∙ ap g (sym e)))
+    ap (λ y. flat_map g (take i xs) ++ g y) e ∙ flat_map_more g [] (take i xs) (get_or xs i x) ∙ sym (ap (flat_map g) (take_more xs i x h))
 
 module _ {W : Type 0} (f : W → Option (List ℕ)) where
   Sends-nil : (s : Out W) → Sends f s s []
@@ -37,26 +35,19 @@ module _ {W : Type 0} (f : W → Option (List ℕ)) where
     counted = omega (arith, p.counted, q.counted, length-append xs ys);
   }
 
+  Went-trans : (s t u : Out W) (xs ys now end bytes : List ℕ) → Went f s t xs now → Sends f t u bytes → now ++ ys ≡ bytes ++ end
+      → Went f s u (xs ++ ys) end
+  Went-trans s t u xs ys now end bytes p sent whole = record {
+    bytes = p.bytes ++ bytes;
+    sent = Sends-trans s t u p.bytes bytes p.sent sent;
+    whole = joined_whole (waiting s.pending) now xs ys p.bytes bytes end p.whole whole;
+  }
+
   by_then : (a b c : Bool) (s t u : Out W) (xs ys : List ℕ) → PrintsBy a b f s t xs → PrintsBy b c f t u ys → PrintsBy a c f s u (xs ++ ys)
-  by_then false false false s t u xs ys p q = record {
-    bytes = p.bytes ++ q.bytes;
-    sent = Sends-trans s t u p.bytes q.bytes p.sent q.sent;
-    whole = joined_whole (waiting s.pending) (waiting t.pending) xs ys p.bytes q.bytes (waiting u.pending) p.whole q.whole;
-  }
-  by_then false false true s t u xs ys p q = record {
-    bytes = p.bytes ++ q.bytes;
-    rest = q.rest;
-    sent = Sends-trans s t u p.bytes q.bytes p.sent q.sent;
-    whole = joined_whole (waiting s.pending) (waiting t.pending) xs ys p.bytes q.bytes q.rest p.whole q.whole;
-    short = q.short;
-  }
-  by_then false true true s t u xs ys p q = record {
-    bytes = p.bytes ++ [];
-    rest = p.rest ++ ys;
-    sent = Sends-trans s t u p.bytes [] p.sent q;
-    whole = joined_whole (waiting s.pending) p.rest xs ys p.bytes [] (p.rest ++ ys) p.whole refl;
-    short = omega (arith, p.short, length-append p.rest ys);
-  }
+  by_then false false false s t u xs ys p q = Went-trans s t u xs ys (waiting t.pending) (waiting u.pending) q.bytes p q.sent q.whole
+  by_then false false true s t u xs ys p q = (q.0, q.1, Went-trans s t u xs ys (waiting t.pending) q.0 q.2.bytes p q.2.sent q.2.whole)
+  by_then false true true s t u xs ys p q =
+      (p.0 ++ ys, omega (arith, p.1, length-append p.0 ys), Went-trans s t u xs ys p.0 (p.0 ++ ys) [] p.2 q refl)
   by_then true true true s t u xs ys p q = Sends-trans s t u [] [] p q
   by_then a true false s t u xs ys p q = absurd q
   by_then true false c s t u xs ys p q = absurd p
@@ -126,13 +117,11 @@ module _ {W : Type 0} (f : W → Option (List ℕ)) where
     sent = sent;
     whole = e ∙ sym (rw (empty, append-nil) (take_all n all (grind (arith, nat_tests))));
   }
-  by_sent true s t xs all n e sent is empty = record {
-    bytes = take n all;
-    rest = drop n all;
-    sent = sent;
-    whole = e ∙ sym (take-append-drop n all);
-    short = let lt : n < length all = grind (arith, nat_tests) in omega (arith, lt, length-drop n all);
-  }
+  by_sent true s t xs all n e sent is empty = (
+    drop n all,
+    let lt : n < length all = grind (arith, nat_tests) in omega (arith, lt, length-drop n all),
+    record { bytes = take n all; sent = sent; whole = e ∙ sym (take-append-drop n all) },
+  )
 
   -- what waited and the text were sent, n bytes of them
   pub prints_sent : (s t : Out W) (xs all : List ℕ) (n : ℕ) → s.failed ≡ false → waiting s.pending ++ xs ≡ all → t.inner.ghost_name ≡ s.inner.ghost_name
@@ -157,12 +146,12 @@ module _ {W : Type 0} (f : W → Option (List ℕ)) where
       let all : text ≡ p.bytes = ap (λ l. l ++ text) (sym e) ∙ p.whole ∙ ap (λ l. p.bytes ++ l) o.1 ∙ append-nil p.bytes in
       rw all p.sent.grew
   finished true s t text (Err x) z e p o q = record {
-    bytes = p.bytes;
-    rest = p.rest;
-    whole = ap (λ l. l ++ text) (sym e) ∙ p.whole;
-    short = p.short;
-    grew = p.sent.grew;
-    counted = omega (arith, q.1, p.sent.counted, z);
+    bytes = p.2.bytes;
+    rest = p.0;
+    whole = ap (λ l. l ++ text) (sym e) ∙ p.2.whole;
+    short = p.1;
+    grew = p.2.sent.grew;
+    counted = omega (arith, q.1, p.2.sent.counted, z);
   }
 
   -- what a caller learns once all is printed and sent
@@ -176,7 +165,7 @@ module _ {W : Type 0} (f : W → Option (List ℕ)) where
 
   by_same : (a b : Bool) (s t : Out W) (text : List ℕ) → PrintsBy a b f s t text → t.inner.ghost_name ≡ s.inner.ghost_name
   by_same false false s t text p = p.sent.same
-  by_same false true s t text p = p.sent.same
+  by_same false true s t text p = p.2.sent.same
   by_same true true s t text p = p.same
   by_same true false s t text p = absurd p
 

@@ -58,24 +58,17 @@ pub record Sends {W : Type 0} (contents : W → Option (List ℕ)) (before after
   pub grew : Appends (contents before.inner.now) (contents after.inner.now) bytes
   pub counted : min after.wrote (2 ^ 64 - 1) ≡ min (before.wrote + length bytes) (2 ^ 64 - 1)
 
--- what waited and the text went out, but for what waits now
-pub record Passes {W : Type 0} (contents : W → Option (List ℕ)) (before after : Out W) (text : List ℕ) : Type 0 where
+-- what waited and the text went out, but for this rest
+pub record Went {W : Type 0} (contents : W → Option (List ℕ)) (before after : Out W) (text rest : List ℕ) : Type 0 where
   pub bytes : List ℕ
-  pub sent : Sends contents before after bytes
-  pub whole : waiting before.pending ++ text ≡ bytes ++ waiting after.pending
-
--- a part of that went out, cut short
-pub record Stops {W : Type 0} (contents : W → Option (List ℕ)) (before after : Out W) (text : List ℕ) : Type 0 where
-  pub bytes : List ℕ
-  pub rest : List ℕ
   pub sent : Sends contents before after bytes
   pub whole : waiting before.pending ++ text ≡ bytes ++ rest
-  pub short : 0 < length rest
 
--- by whether a fault came before, and has come since
+-- by whether a fault came before, and has come since: all went out but for what waits now, or it was cut short
 abbrev pub PrintsBy : Bool → Bool → {W : Type 0} → (W → Option (List ℕ)) → Out W → Out W → List ℕ → Type 0
-PrintsBy false false contents before after text = Passes contents before after text
-PrintsBy false true contents before after text = Stops contents before after text
+PrintsBy false false contents before after text = Went contents before after text (waiting after.pending)
+PrintsBy false true contents before after text =
+    (rest : List ℕ) × (0 < length rest) × Went contents before after text rest
 PrintsBy true true contents before after text = Sends contents before after []
 PrintsBy true false contents before after text = ⊥
 

@@ -7,6 +7,8 @@
 mod numbers;
 mod output;
 mod pending;
+mod printing;
 
 pub use numbers::{print_decimal, print_hex2, print_hex4, print_hex8, print_hex16, print_quoted};
 pub use output::{Out, WriteFault};
+pub use printing::{Print, write_text};

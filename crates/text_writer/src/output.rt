@@ -26,7 +26,6 @@ pub struct Out<'w, W> {
 
 /// How many of these bytes the writer took in one call: none where the call was interrupted, and no answer where it
 /// failed or took nothing.
-/// took nothing.
 fn write_some<W: Write>(to: &mut W, bytes: &[u8]) -> Option<usize>
     ensures bound { IfSome result (λ taken. taken ≤ length bytes.now) }
     ensures sent { Appends (W.contents to.old) (W.contents to.new) (take (unwrap_or result 0) bytes.now) }

@@ -1,8 +1,5 @@
-use Rattle.std.proofs.Common.{rules, ◌+◌, ◌≤◌, ap, inr, length, vec_len, ℕ}
-use Rattle.std.proofs.lemmas.List.{take_all}
-use Rattle.std.proofs.lemmas.Option.{MatchOption-at_none, MatchOption-at_some}
+use Rattle.acpi_folder.proofs.Common.{rules, ◌+◌, ◌≤◌, ap, inr, length, vec_len, ℕ, take_all, MatchOption-at_none, MatchOption-at_some, lines_of}
 use Rattle.acpi_folder.specs.declared.externals.ExternalsFault.TheVariants.{BadLine}
-use Rattle.acpi_folder.specs.Map.{lines_of}
 use Rattle.acpi_folder.specs.Externals.{RefusesExternals}
 use Rattle.acpi_folder.proofs.Pairs.{turn, refuses, not_giving}
 use Rattle.acpi_folder.proofs.Turns.{behind}

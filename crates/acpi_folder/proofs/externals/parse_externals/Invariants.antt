@@ -1,5 +1,4 @@
-use Rattle.std.proofs.Common.{length, vec_len}
-use Rattle.acpi_folder.specs.Map.{lines_of}
+use Rattle.acpi_folder.proofs.Common.{length, vec_len, lines_of}
 use Rattle.acpi_folder.proofs.Pairs.{AreRead}
 use Rattle.acpi_folder.proofs.externals.parse_externals.Given as goal
 

@@ -1,5 +1,4 @@
-use Rattle.std.proofs.Common.{rules, tests}
-use Rattle.std.proofs.lemmas.Option.{MatchOption-at_none, MatchOption-at_some}
+use Rattle.acpi_folder.proofs.Common.{rules, tests, MatchOption-at_none, MatchOption-at_some}
 use Rattle.acpi_folder.proofs.Counts.{unread, turn, none_printed, root_printed, printed}
 use Rattle.acpi_folder.proofs.externals.read_path.Goals as goal
 

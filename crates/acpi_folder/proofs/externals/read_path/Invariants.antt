@@ -1,4 +1,4 @@
-use Rattle.std.proofs.Common.{length}
+use Rattle.acpi_folder.proofs.Common.{length}
 use Rattle.acpi_folder.proofs.Counts.{IsRead}
 use Rattle.acpi_folder.proofs.externals.read_path.Given as goal
 

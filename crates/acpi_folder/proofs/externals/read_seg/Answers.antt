@@ -1,4 +1,4 @@
-use Rattle.std.proofs.Common.{arith}
+use Rattle.acpi_folder.proofs.Common.{arith}
 use Rattle.acpi_folder.proofs.Counts.{begins_all, begins_none_all}
 use Rattle.acpi_folder.proofs.externals.read_seg.Goals as goal
 

@@ -1,6 +1,4 @@
-use Rattle.std.proofs.Common.{rules, tests, not, List, String, Global, IsPermutation, string_bytes, subst}
-use Rattle.std.proofs.lemmas.List.Elements.{filter_from_retain}
-use Rattle.acpi_folder.specs.Folders.{is_map}
+use Rattle.acpi_folder.proofs.Common.{rules, tests, not, List, String, Global, IsPermutation, string_bytes, subst, filter_from_retain, is_map}
 use Rattle.acpi_folder.proofs.gathering.dumps_among.Goals as goal
 
 pub returns-clause-all : goal.returns-clause-all

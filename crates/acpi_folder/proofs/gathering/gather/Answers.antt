@@ -1,5 +1,4 @@
-use Rattle.std.proofs.Common.{rules, arith}
-use Rattle.acpi_folder.specs.Folders.{RefusesFolder}
+use Rattle.acpi_folder.proofs.Common.{rules, arith, RefusesFolder}
 use Rattle.acpi_folder.proofs.Gathered.{file_refuses, map_refuses, gathered, files_of}
 use Rattle.acpi_folder.proofs.gathering.gather.Goals as goal
 

@@ -1,6 +1,4 @@
-use Rattle.std.proofs.Common.{◌∙◌, ap, String, Global, string_bytes}
-use Rattle.std.specs.List.{list_any}
-use Rattle.acpi_folder.specs.Folders.{is_map}
+use Rattle.acpi_folder.proofs.Common.{◌∙◌, ap, String, Global, string_bytes, list_any, is_map}
 use Rattle.acpi_folder.proofs.Gathered.{listing}
 use Rattle.acpi_folder.proofs.gathering.list_files.Goals as goal
 

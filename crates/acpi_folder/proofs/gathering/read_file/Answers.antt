@@ -1,4 +1,4 @@
-use Rattle.std.proofs.Common.{rules}
+use Rattle.acpi_folder.proofs.Common.{rules}
 use Rattle.acpi_folder.proofs.gathering.read_file.Goals as goal
 
 -- Without this line a wrong limit isn't refused before the prover's own limit of steps.

@@ -1,4 +1,4 @@
-use Rattle.std.proofs.Common.{map, string_bytes}
+use Rattle.acpi_folder.proofs.Common.{map, string_bytes}
 use Rattle.acpi_folder.proofs.Gathered.{IsReadTo}
 use Rattle.acpi_folder.proofs.gathering.read_files.Given as goal
 

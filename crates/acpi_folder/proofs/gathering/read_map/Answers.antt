@@ -1,4 +1,4 @@
-use Rattle.std.proofs.Common.{arith, map, string_bytes}
+use Rattle.acpi_folder.proofs.Common.{arith, map, string_bytes}
 use Rattle.acpi_folder.proofs.Gathered.{map_refused}
 use Rattle.acpi_folder.proofs.gathering.read_map.Goals as goal
 

@@ -1,6 +1,4 @@
-use Rattle.std.proofs.Common.{◌+◌, ◌-◌, ◌∷◌, length, take, drop, sym, ap, ◌∙◌, arith, length-drop}
-use Rattle.std.proofs.lemmas.List.{take_all}
-use Rattle.acpi_folder.specs.Map.{lines_of}
+use Rattle.acpi_folder.proofs.Common.{◌+◌, ◌-◌, ◌∷◌, length, take, drop, sym, ap, ◌∙◌, arith, length-drop, take_all, lines_of}
 use Rattle.acpi_folder.proofs.FirstLines.{lines_of-ended}
 use Rattle.acpi_folder.proofs.lines.first_line.Goals as goal
 

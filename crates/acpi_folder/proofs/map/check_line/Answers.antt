@@ -1,4 +1,4 @@
-use Rattle.std.proofs.Common.{rules, sym}
+use Rattle.acpi_folder.proofs.Common.{rules, sym}
 use Rattle.acpi_folder.proofs.map.check_line.Goals as goal
 use Rattle.acpi_folder.proofs.Entries.{list_any-shown}
 

@@ -1,6 +1,4 @@
-use Rattle.std.proofs.Common.{◌∙◌, ap, map}
-use Rattle.std.specs.Prelude.{string_bytes}
-use Rattle.acpi_folder.specs.Map.{entry_of, lines_of, shown_by}
+use Rattle.acpi_folder.proofs.Common.{◌∙◌, ap, map, string_bytes, entry_of, lines_of, shown_by}
 use Rattle.acpi_folder.proofs.Turns.{addresses_shown}
 use Rattle.acpi_folder.proofs.map.parse_map.Goals as goal
 

@@ -1,7 +1,4 @@
-use Rattle.std.proofs.Common.{rules, Some, ◌+◌, ◌≤◌, ◌∙◌, ap, arith, map, vec_len, length}
-use Rattle.std.specs.Prelude.{string_bytes}
-use Rattle.std.proofs.lemmas.List.{take_all}
-use Rattle.acpi_folder.specs.Map.{lines_of, entry_of, RefusesMap}
+use Rattle.acpi_folder.proofs.Common.{rules, Some, ◌+◌, ◌≤◌, ◌∙◌, ap, arith, map, vec_len, length, string_bytes, take_all, lines_of, entry_of, RefusesMap}
 use Rattle.acpi_folder.proofs.Turns.{turn, behind, refuses}
 use Rattle.acpi_folder.proofs.map.read_lines.Goals as goal
 

@@ -1,6 +1,4 @@
-use Rattle.std.proofs.Common.{length, map, vec_len}
-use Rattle.std.specs.Prelude.{string_bytes}
-use Rattle.acpi_folder.specs.Map.{lines_of}
+use Rattle.acpi_folder.proofs.Common.{length, map, vec_len, string_bytes, lines_of}
 use Rattle.acpi_folder.proofs.Turns.{AreMapped}
 use Rattle.acpi_folder.proofs.map.read_lines.Given as goal
 

@@ -1,5 +1,5 @@
-use Rattle.std.proofs.Common.{◌-◌, arith}
-use Rattle.acpi_tables.proofs.Digits.{power_more, power_positive, power_small, decimal_of-digit}
+use Rattle.acpi_tables.proofs.Common.{◌-◌, arith}
+use Rattle.acpi_tables.proofs.Digits.{power_more, power_positive, power_small, digits_value-digit}
 use Rattle.acpi_tables.proofs.by_name.+ending_digits.Goals as goal
 
 pub overflow_mul-result : goal.overflow_mul-result
@@ -24,7 +24,7 @@ returns-in-48-to-57-clause-value t c =
       arith,
       c.from.ensures,
       c.ending_digits.ensures.value,
-      decimal_of-digit c.args.bytes.now c.args.count (omega arith) (omega arith) (omega arith)
+      digits_value-digit c.args.bytes.now c.args.count (omega arith) (omega arith) (omega arith)
           (omega arith),
     )
 

@@ -1,4 +1,4 @@
-use Rattle.std.proofs.Common.{subst, sym, ◌∙◌, rules, IsPermutation}
+use Rattle.acpi_tables.proofs.Common.{subst, sym, ◌∙◌, rules, IsPermutation}
 use Rattle.std.proofs.lemmas.Fn.{always_returns_same}
 use Rattle.acpi_tables.proofs.Ranks.{ranks_below, rank_order, only_one}
 use Rattle.acpi_tables.proofs.by_name.order_by_name.Goals as goal

@@ -1,4 +1,4 @@
-use Rattle.std.proofs.Common.{◌≡◌, ◌%◌, sum, take}
+use Rattle.acpi_tables.proofs.Common.{◌≡◌, ◌%◌, sum, take}
 use Rattle.acpi_tables.proofs.bytes.sum.Given as goal
 
 abbrev pub invariant-loop-byte : goal.invariant-loop-byte

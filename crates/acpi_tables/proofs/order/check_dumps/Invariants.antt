@@ -1,6 +1,5 @@
-use Rattle.std.proofs.Common.{ℕ, ◌<◌}
+use Rattle.acpi_tables.proofs.Common.{ℕ, ◌<◌, bytes_of}
 use Rattle.acpi_tables.specs.Dumps.{HoldsDump}
-use Rattle.acpi_tables.specs.Order.{bytes_of}
 use Rattle.acpi_tables.proofs.order.check_dumps.Given as goal
 
 abbrev pub invariant-loop-index : goal.invariant-loop-index

@@ -1,11 +1,5 @@
-use Rattle.std.proofs.Common.{◌≡◌, flat_map, map, ap, sym, subst, ◌∙◌, zero-add, arith}
-use Rattle.std.specs.List.{range_with_len}
-use Rattle.std.proofs.lemmas.List.FromFn.{map-range_with_len_more}
-use Rattle.text_writer.specs.Prints.{Prints}
-use Rattle.text_writer.proofs.PrintLaws.{prints_then}
-use Rattle.acpi_tables.specs.Header.{address_bytes, address_count}
-use Rattle.acpi_text.specs.Dumps.{entry_line, entry_lines}
-use Rattle.acpi_text.proofs.Views.{flat_map-push}
+use Rattle.acpi_text.proofs.Common.{◌≡◌, [], flat_map, map, ap, sym, subst, ◌∙◌, zero-add, arith, range_with_len, map-range_with_len_more, Prints, prints_then}
+use Rattle.acpi_text.proofs.Common.{address_bytes, address_count, entry_line, entry_lines, flat_map_more}
 use Rattle.acpi_text.proofs.content.print_entries.Goals as goal
 
 pub loop-index-preserved : goal.loop-index-preserved
@@ -13,7 +7,7 @@ loop-index-preserved g c =
     let bytes = address_bytes c.args.width c.args.table.now in
     let line = entry_line c.args.dumps.now in
     let index = c.loop-index.index in
-    let more = flat_map-push line (map bytes (range_with_len 0 index)) (bytes index)
+    let more = flat_map_more line [] (map bytes (range_with_len 0 index)) (bytes index)
     ∙ ap (flat_map line) (sym (map-range_with_len_more bytes 0 index index (zero-add index))) in
     subst (Prints g.W.Write.contents c.args.out.now c.print_entry.new.out) more
     (prints_then _ _ _ _ _ _ c.loop-index.invariant (rw c.address_bytes.ensures.bytes at c.print_entry.ensures))

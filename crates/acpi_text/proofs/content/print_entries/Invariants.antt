@@ -1,8 +1,4 @@
-use Rattle.std.proofs.Common.{map, flat_map}
-use Rattle.std.specs.List.{range_with_len}
-use Rattle.text_writer.specs.Prints.{Prints}
-use Rattle.acpi_tables.specs.Header.{address_bytes}
-use Rattle.acpi_text.specs.Dumps.{entry_line}
+use Rattle.acpi_text.proofs.Common.{map, flat_map, range_with_len, Prints, address_bytes, entry_line}
 use Rattle.acpi_text.proofs.content.print_entries.Given as goal
 
 abbrev pub invariant-loop-index : goal.invariant-loop-index

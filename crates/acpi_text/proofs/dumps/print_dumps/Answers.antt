@@ -1,6 +1,4 @@
-use Rattle.std.proofs.Common.{true, subst}
-use Rattle.acpi_tables.specs.Dumps.{HoldsDump}
-use Rattle.acpi_tables.proofs.Places.{bytes_of-inside}
+use Rattle.acpi_text.proofs.Common.{true, subst, HoldsDump, bytes_of-inside}
 use Rattle.acpi_text.proofs.dumps.print_dumps.Goals as goal
 
 pub print_dump-requires : goal.print_dump-requires

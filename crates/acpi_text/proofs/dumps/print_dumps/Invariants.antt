@@ -1,6 +1,4 @@
-use Rattle.std.proofs.Common.{take, flat_map}
-use Rattle.text_writer.specs.Prints.{Prints}
-use Rattle.acpi_text.specs.Dumps.{dump_lines}
+use Rattle.acpi_text.proofs.Common.{take, flat_map, Prints, dump_lines}
 use Rattle.acpi_text.proofs.dumps.print_dumps.Given as goal
 
 abbrev pub invariant-loop-dump : goal.invariant-loop-dump

@@ -1,8 +1,4 @@
-use Rattle.std.proofs.lemmas.List.{get_or_default}
-use Rattle.std.proofs.lemmas.List.Folds.{flat_map-map}
-use Rattle.text_writer.proofs.PrintLaws.{prints_turn, prints_end}
-use Rattle.acpi_tables.specs.Bytes.{field_view}
-use Rattle.acpi_text.specs.Dumps.{field_text, fields_text}
+use Rattle.acpi_text.proofs.Common.{get_or_default, flat_map-map, prints_turn, prints_end, field_view, field_text, fields_text}
 use Rattle.acpi_text.proofs.fields.print_fields.Goals as goal
 
 pub loop-field-preserved : goal.loop-field-preserved

@@ -1,7 +1,4 @@
-use Rattle.std.proofs.Common.{take, flat_map}
-use Rattle.text_writer.specs.Prints.{Prints}
-use Rattle.acpi_tables.specs.Bytes.{field_view}
-use Rattle.acpi_text.specs.Dumps.{field_text}
+use Rattle.acpi_text.proofs.Common.{take, flat_map, Prints, field_view, field_text}
 use Rattle.acpi_text.proofs.fields.print_fields.Given as goal
 
 abbrev pub invariant-loop-field : goal.invariant-loop-field

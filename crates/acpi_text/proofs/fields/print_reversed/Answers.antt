@@ -1,9 +1,5 @@
-use Rattle.std.proofs.Common.{◌≡◌, ◌-◌, ◌<◌, length, reverse, sym, ◌∙◌, arith}
-use Rattle.std.specs.Prelude.{get_or}
-use Rattle.std.proofs.lemmas.List.{get_or-reverse, length-reverse}
+use Rattle.acpi_text.proofs.Common.{◌≡◌, ◌-◌, ◌<◌, length, reverse, sym, ◌∙◌, arith, get_or, get_or-reverse, length-reverse, hex2, prints_turn}
 use Rattle.std.proofs.lemmas.Grind.{get_or_default_zero}
-use Rattle.text_writer.specs.Prints.{hex2}
-use Rattle.text_writer.proofs.PrintLaws.{prints_turn}
 use Rattle.acpi_text.proofs.fields.print_reversed.Goals as goal
 
 pub loop-done-preserved : goal.loop-done-preserved

@@ -1,5 +1,4 @@
-use Rattle.std.proofs.Common.{take, flat_map, reverse}
-use Rattle.text_writer.specs.Prints.{Prints, hex2}
+use Rattle.acpi_text.proofs.Common.{take, flat_map, reverse, Prints, hex2}
 use Rattle.acpi_text.proofs.fields.print_reversed.Given as goal
 
 abbrev pub invariant-loop-done : goal.invariant-loop-done

@@ -1,6 +1,4 @@
-use Rattle.text_writer.specs.Prints.{word}
-use Rattle.text_writer.proofs.PrintLaws.{prints_then}
-use Rattle.acpi_text.specs.Dumps.{header_text}
+use Rattle.acpi_text.proofs.Common.{word, prints_then, header_text}
 use Rattle.acpi_text.proofs.heads.print_header.Goals as goal
 
 pub returns : goal.returns

@@ -1,6 +1,4 @@
-use Rattle.text_writer.specs.Prints.{word}
-use Rattle.text_writer.proofs.PrintLaws.{prints_then}
-use Rattle.acpi_text.specs.Dumps.{root_text}
+use Rattle.acpi_text.proofs.Common.{word, prints_then, root_text}
 use Rattle.acpi_text.proofs.heads.print_root.Goals as goal
 
 pub returns : goal.returns

@@ -1,6 +1,4 @@
-use Rattle.std.proofs.Common.{take, flat_map}
-use Rattle.text_writer.specs.Prints.{Prints}
-use Rattle.acpi_text.specs.Dumps.{spaced_byte}
+use Rattle.acpi_text.proofs.Common.{take, flat_map, Prints, spaced_byte}
 use Rattle.acpi_text.proofs.records.print_content.Given as goal
 
 abbrev pub invariant-loop-byte : goal.invariant-loop-byte

@@ -1,8 +1,4 @@
-use Rattle.std.proofs.Common.{◌≡◌, ◌-◌, length, take, drop, length-drop, arith}
-use Rattle.std.proofs.lemmas.List.{take_all}
-use Rattle.text_writer.specs.Prints.{word}
-use Rattle.text_writer.proofs.PrintLaws.{prints_then}
-use Rattle.acpi_text.specs.Dumps.{other_text}
+use Rattle.acpi_text.proofs.Common.{◌≡◌, ◌-◌, length, take, drop, length-drop, arith, take_all, word, prints_then, other_text}
 use Rattle.acpi_text.proofs.records.print_other.Goals as goal
 
 pub returns : goal.returns

@@ -1,11 +1,5 @@
-use Rattle.std.proofs.Common.{refl, ap, sym, subst}
-use Rattle.std.specs.List.{flat_map}
-use Rattle.std.proofs.lemmas.Bool.{false≢true}
-use Rattle.text_writer.specs.Prints.{Prints}
-use Rattle.text_writer.proofs.PrintLaws.{prints_none, prints_then}
-use Rattle.acpi_tables.proofs.Cuts.{walk_start, walk_more, records_of-walk, whole_not_broken, BreaksAt-walk}
-use Rattle.acpi_text.specs.Dumps.{record_line}
-use Rattle.acpi_text.proofs.Views.{flat_map-push}
+use Rattle.acpi_text.proofs.Common.{[], refl, ap, sym, subst, flat_map, false≢true, Prints, prints_none, prints_then, walk_start, walk_more, records_of-walk}
+use Rattle.acpi_text.proofs.Common.{whole_not_broken, BreaksAt-walk, record_line, flat_map_more}
 use Rattle.acpi_text.proofs.records.print_records.Goals as goal
 
 pub loop-at-init : goal.loop-at-init
@@ -17,7 +11,7 @@ loop-at-preserved g c =
     let line = rw c.in-Some.ensures.bytes at c.print_record_line.ensures in
     rw c.in-Some.ensures.end (
       walk_more c.args.table.now c.loop-at.at walk (c.in-Some.ensures.holds.0 refl),
-      subst (Prints g.W.Write.contents c.args.out.now c.print_record_line.new.out) (flat_map-push record_line walk.records _)
+      subst (Prints g.W.Write.contents c.args.out.now c.print_record_line.new.out) (flat_map_more record_line [] walk.records _)
           (prints_then _ _ _ _ _ _ c.loop-at.invariant.1 line),
     )
 

@@ -1,7 +1,4 @@
-use Rattle.std.proofs.Common.{length, ◌-◌, flat_map}
-use Rattle.text_writer.specs.Prints.{Prints}
-use Rattle.acpi_tables.proofs.Cuts.{WalksTo}
-use Rattle.acpi_text.specs.Dumps.{record_line}
+use Rattle.acpi_text.proofs.Common.{length, ◌-◌, flat_map, Prints, WalksTo, record_line}
 use Rattle.acpi_text.proofs.records.print_records.Given as goal
 
 abbrev pub invariant-loop-at : goal.invariant-loop-at

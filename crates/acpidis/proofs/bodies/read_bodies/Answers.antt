@@ -1,4 +1,4 @@
-use Rattle.std.proofs.lemmas.Result.{IfOk-weaker}
+use Rattle.acpidis.proofs.Common.{IfOk-weaker}
 use Rattle.acpidis.proofs.BodyLaws.{whole_kept}
 use Rattle.acpidis.proofs.bodies.read_bodies.Goals as goal
 

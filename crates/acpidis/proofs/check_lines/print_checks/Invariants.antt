@@ -1,8 +1,5 @@
-use Rattle.std.proofs.Common.{take, flat_map}
-use Rattle.std.specs.Prelude.{zip}
+use Rattle.acpidis.proofs.Common.{take, flat_map, zip, blocks_at, check_line}
 use Rattle.text_writer.specs.Prints.{Prints}
-use Rattle.aml_text.specs.Listing.{blocks_at}
-use Rattle.acpidis.specs.Checks.{check_line}
 use Rattle.acpidis.proofs.check_lines.print_checks.Given as goal
 
 abbrev pub invariant-loop-table : goal.invariant-loop-table

@@ -1,7 +1,4 @@
-use Rattle.std.proofs.Common.{sym, ◌∙◌}
-use Rattle.aml_text.specs.Listing.{blocks_at}
-use Rattle.acpidis.specs.Checks.{check_lines}
-use Rattle.text_writer.proofs.PrintLaws.{writes_listing, prints_same}
+use Rattle.acpidis.proofs.Common.{sym, ◌∙◌, blocks_at, check_lines, writes_listing, prints_same}
 use Rattle.acpidis.proofs.check_lines.write_tables.Goals as goal
 
 pub returns : goal.returns

@@ -1,17 +1,12 @@
-use Rattle.std.proofs.Common.{map, ap, ◌∙◌}
-use Rattle.aml_load.specs.Views.{codes_view}
-use Rattle.aml_text.specs.Listing.{blocks_at, blocks_in, blocks_with, body_view}
-use Rattle.acpidis.specs.Checks.{marks_of, uncounted, tallied}
-use Rattle.acpidis.proofs.CheckLaws.{under_new, from_nothing}
+use Rattle.acpidis.proofs.Common.{ap, ◌∙◌, IfOk-weaker, codes_view, blocks_in, blocks_with, checks_with, tried_marks}
+use Rattle.acpidis.proofs.BodyLaws.{trials_are}
 use Rattle.acpidis.proofs.checking.check.Goals as goal
-
-pub count_listed-requires-clause-new : goal.count_listed-requires-clause-new
-count_listed-requires-clause-new c = rw c.in_ok-all.ensures (under_new (blocks_at c.tables.result))
 
 pub returns : goal.returns
 returns c =
     let x = c.args.listing.now in
-    let marks = marks_of (codes_view x.loaded.tables.items) x.loaded.methods.items (map body_view x.bodies.items) in
     let of = c.tables.ensures in
-    c.in_ok-count_listed.ensures ∙ ap (tallied marks 0) (c.in_ok-all.ensures ∙ (λ i. map uncounted (blocks_with (of.dumps i) (of.order i) (of.loaded i))))
-    ∙ from_nothing marks 0 (blocks_in x)
+    let marks = trials_are (codes_view x.loaded.tables.items) x.loaded.methods.items x.bodies.items c.in_ok-tried.tried.items c.in_ok-tried.ensures.kept in
+    IfOk-weaker c.check_tables.result _ _ (λ r is. is
+    ∙ (λ i. checks_with (blocks_with (of.dumps i) (of.order i) (of.loaded i)) (tried_marks (of.loaded i).methods.items (c.as_slice.ensures.value i)))
+    ∙ ap (checks_with (blocks_in x)) marks) c.check_tables.ensures

@@ -1,13 +1,6 @@
-use Rattle.std.proofs.Common.{[], length, ap, ◌∙◌, arith, map}
-use Rattle.std.proofs.lemmas.List.{take_all}
-use Rattle.aml_code.specs.Tree.{no_trees}
-use Rattle.aml_load.specs.Views.{codes_view, trees_view}
-use Rattle.aml_text.specs.Texts.{OneBlock}
-use Rattle.aml_text.specs.Listing.{names_in, blocks_at, block_view}
-use Rattle.aml_text.specs.Matched.{indexes_in}
-use Rattle.aml_text.proofs.ListingLaws.{blocks_many}
-use Rattle.acpidis.specs.Checks.{uncounted}
-use Rattle.acpidis.proofs.CheckLaws.{short_block, uncounted_more}
+use Rattle.acpidis.proofs.Common.{map_more, List, ◌++◌, ◌∷◌, ap₂, sym, Checked, [], length, ap, ◌∙◌, arith, map, take_all, no_trees, codes_view, trees_view}
+use Rattle.acpidis.proofs.Common.{OneBlock, names_in, blocks_at, block_view, indexes_in, blocks_many, uncounted}
+use Rattle.acpidis.proofs.CheckLaws.{short_block}
 use Rattle.acpidis.proofs.checking.check_blocks.Goals as goal
 
 pub check_block-requires : goal.check_block-requires
@@ -21,10 +14,10 @@ check_block-requires c =
 pub loop-table-preserved : goal.loop-table-preserved
 loop-table-preserved c =
     let t = c.args.tables in
-    uncounted_more (blocks_at t) c.loop-table.table (block_view c.block_at-block.result) c.in_ok-check_block.field-0 c.loop-table.all.items
-    c.push.new.self.items
-    (omega (arith, blocks_many t.dumps.now t.order.now t.loaded.now t.matched)) (c.block_at-block.ensures _) c.in_ok-check_block.ensures
-    c.in_ok-push.ensures.items c.loop-table.invariant
+    let b = block_view c.block_at-block.result in
+    c.in_ok-push.ensures.items
+    ∙ ap₂ (λ (l : List Checked) (x : Checked). l ++ x ∷ []) c.loop-table.invariant (c.in_ok-check_block.ensures ∙ ap uncounted (c.block_at-block.ensures b))
+    ∙ sym (map_more uncounted (blocks_at t) c.loop-table.table b (omega (arith, blocks_many t.dumps.now t.order.now t.loaded.now t.matched)))
 
 pub returns : goal.returns
 returns c =

@@ -1,6 +1,4 @@
-use Rattle.std.proofs.Common.{◌≡◌, map, take}
-use Rattle.aml_text.specs.Listing.{blocks_at}
-use Rattle.acpidis.specs.Checks.{uncounted}
+use Rattle.acpidis.proofs.Common.{◌≡◌, map, take, blocks_at, uncounted}
 use Rattle.acpidis.proofs.checking.check_blocks.Given as goal
 
 abbrev pub invariant-loop-table : goal.invariant-loop-table

@@ -1,4 +1,4 @@
-use Rattle.acpidis.specs.Checks.{tried_marks}
+use Rattle.acpidis.proofs.Common.{tried_marks}
 use Rattle.acpidis.proofs.CheckLaws.{Counted}
 use Rattle.acpidis.proofs.checking.count_methods.Given as goal
 

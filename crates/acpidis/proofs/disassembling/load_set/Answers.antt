@@ -1,7 +1,5 @@
-use Rattle.std.proofs.Common.{ap, ◌∙◌}
-use Rattle.std.proofs.lemmas.Result.{err_from_is_err_and}
-use Rattle.aml_load.specs.Views.{codes_view}
-use Rattle.acpidis.proofs.MeaningLaws.{loads_so, matched_so, tells_blocks}
+use Rattle.acpidis.proofs.Common.{ap, ◌∙◌, err_from_is_err_and, codes_view}
+use Rattle.acpidis.proofs.MeaningLaws.{set_so, tells_blocks, none_meant}
 use Rattle.acpidis.proofs.disassembling.load_set.Goals as goal
 
 pub returns-in_err-order-clause-true_load : goal.returns-in_err-order-clause-true_load
@@ -14,17 +12,18 @@ returns-in-Err-clause-true_table c = c.in-Err.ensures.of_load c.args.dumps.now c
 
 pub returns-in-Err-clause-true_load : goal.returns-in-Err-clause-true_load
 returns-in-Err-clause-true_load c =
-    tells_blocks c.args.dumps.now c.args.options.now c.as_slice-3.result.now c.in_ok-order.order.dsdt c.in_ok-order.order.ssdts.items c.as_slice.result.now
-    c.as_slice-4.result.now (codes_view c.as_slice-2.result.now) c.in-Err.refusal c.in_ok-order.ensures.order c.in_ok-order.ensures.only
-    (c.as_slice.ensures.value ∙ c.in_ok-indexes.ensures) (c.as_slice-4.ensures.value ∙ c.in_ok-indexes.ensures)
-    (ap codes_view c.as_slice-2.ensures.value ∙ c.in_ok-codes.ensures.codes) c.as_slice-3.ensures.value c.in-Err.ensures.tells
+    tells_blocks c.args.dumps.now c.args.options.now c.in_ok-order.order (codes_view c.as_slice.result.now) c.as_slice-2.result.now
+    c.in_ok-order.ensures.order c.in_ok-order.ensures.only (ap codes_view c.as_slice.ensures.value ∙ c.in_ok-codes.ensures.codes) c.as_slice-2.ensures.value
+    c.in-Err.refusal c.in-Err.ensures.tells
 
-pub returns-clause-sound : goal.returns-clause-sound
-returns-clause-sound c =
-    loads_so c.args.dumps.now c.args.options.now c.as_slice-3.result.now c.in_ok-order.order c.in-Ok.loaded c.as_slice.result.now
-    (codes_view c.as_slice-2.result.now) c.in_ok-order.ensures.order
-    (c.as_slice.ensures.value ∙ c.in_ok-indexes.ensures) (ap codes_view c.as_slice-2.ensures.value ∙ c.in_ok-codes.ensures.codes)
-    c.as_slice-3.ensures.value c.in-Ok.ensures.sound
+pub returns-in-Err-clause-complete : goal.returns-in-Err-clause-complete
+returns-in-Err-clause-complete c =
+    none_meant c.args.dumps.now c.args.options.now c.in_ok-order.order (codes_view c.as_slice.result.now) c.as_slice-2.result.now
+    c.in_ok-order.ensures.order c.in_ok-order.ensures.only (ap codes_view c.as_slice.ensures.value ∙ c.in_ok-codes.ensures.codes) c.as_slice-2.ensures.value
+    c.in-Err.refusal c.in-Err.ensures.complete
 
-pub returns-clause-matched : goal.returns-clause-matched
-returns-clause-matched c = matched_so c.args.dumps.now c.args.options.now c.in_ok-order.order c.in-Ok.loaded (returns-clause-sound c)
+pub returns-clause-set : goal.returns-clause-set
+returns-clause-set c =
+    set_so c.args.dumps.now c.args.options.now c.in_ok-order.order (codes_view c.as_slice.result.now) c.as_slice-2.result.now
+    c.in_ok-order.ensures.order c.in_ok-order.ensures.only (ap codes_view c.as_slice.ensures.value ∙ c.in_ok-codes.ensures.codes) c.as_slice-2.ensures.value
+    c.in-Ok.loaded c.in-Ok.ensures.sound c.in-Ok.ensures.one c.in-Ok.ensures.limits

@@ -1,7 +1,5 @@
-use Rattle.std.proofs.Common.{◌≡◌, take}
-use Rattle.aml_load.specs.Views.{codes_view, AreShort}
-use Rattle.acpidis.specs.Bodies.{codes_in}
+use Rattle.acpidis.proofs.Common.{◌≡◌, ◌∷◌, take, codes_view, codes_in}
 use Rattle.acpidis.proofs.tables.codes_of.Given as goal
 
 abbrev pub invariant-loop-index : goal.invariant-loop-index
-invariant-loop-index l = (codes_view l.codes.items ≡ codes_in l.dumps (take l.index-index l.order)) × AreShort (codes_view l.codes.items)
+invariant-loop-index l = codes_view l.codes.items ≡ codes_in l.dumps (l.order.dsdt ∷ take l.index-index l.index-items)

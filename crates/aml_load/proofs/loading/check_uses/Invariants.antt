@@ -1,7 +1,6 @@
 use Rattle.std.proofs.Common.{◌≡◌, drop}
 use Rattle.aml_space.specs.Known.{StandsFor}
-use Rattle.aml_load.specs.Loading.{Listed}
-use Rattle.aml_load.specs.Walking.{uses_at}
+use Rattle.aml_load.specs.Loading.{Listed, uses_at}
 use Rattle.aml_load.proofs.loading.check_uses.Given as goal
 
 abbrev pub invariant-loop-used : goal.invariant-loop-used

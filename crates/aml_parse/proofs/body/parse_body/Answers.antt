@@ -16,6 +16,3 @@ pub returns-clause-placed : goal.returns-clause-placed
 returns-clause-placed g c =
     given_err _ _ c.body_terms.result (StandsAt (g.A.Arity.arity c.args.arity.now) c.args.code.now) c.body_terms.ensures tt
     (λ d. all_placed _ _ _ c.args.code.now d (λ i. omega (arith, c.type_inv.code i)))
-
-pub returns-clause-forward : goal.returns-clause-forward
-returns-clause-forward g c = c.body_terms.ensures

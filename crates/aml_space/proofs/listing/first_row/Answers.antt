@@ -1,7 +1,7 @@
 use Rattle.std.proofs.Common.{◌≡◌, ◌++◌, Some, sym, ap, ◌∙◌}
-use Rattle.std.specs.Option.{option_map}
+use Rattle.std.specs.Option.{option_map, option_to_list}
 use Rattle.aml_space.specs.Known.{row_pair}
-use Rattle.aml_space.specs.Nodes.{pairs_of, rows_ahead, own_row}
+use Rattle.aml_space.specs.Nodes.{pairs_of, rows_ahead}
 use Rattle.aml_space.proofs.Gathered.{rows_on}
 use Rattle.aml_space.proofs.listing.first_row.Goals as goal
 
@@ -11,4 +11,4 @@ returns-clause-some c =
     let at = c.in_ok-at.at in
     let here : pairs_of ns at ≡ Some (row_pair c.in_ok-row.row) = sym c.row_here.ensures ∙ ap (option_map row_pair) c.in_ok-row.was in
     sym c.in_ok-at.ensures.same ∙ rows_on ns c.requires.index at c.in_ok-at.ensures.within
-    ∙ (λ i. own_row (here i) ++ rows_ahead ns (sym c.node_after.ensures.next i))
+    ∙ (λ i. option_to_list (here i) ++ rows_ahead ns (sym c.node_after.ensures.next i))

@@ -1,5 +1,4 @@
-use Rattle.text_writer.proofs.PrintLaws.{prints_then, prints_word}
-use Rattle.aml_text.specs.Texts.{method_text}
+use Rattle.aml_text.proofs.Common.{prints_then, prints_word, method_text}
 use Rattle.aml_text.proofs.blocks.print_method.Goals as goal
 
 pub returns : goal.returns

@@ -1,6 +1,4 @@
-use Rattle.std.proofs.Common.{◌≡◌, ◌++◌, drop}
-use Rattle.aml_code.specs.View.{nodes_view}
-use Rattle.aml_text.specs.Texts.{all_levels}
+use Rattle.aml_text.proofs.Common.{◌≡◌, ◌++◌, drop, nodes_view, all_levels}
 use Rattle.aml_text.proofs.levels.+levels.Given as goal
 
 abbrev pub invariant-push_all_levels-loop-node : goal.invariant-push_all_levels-loop-node

@@ -1,6 +1,4 @@
-use Rattle.std.proofs.Common.{◌≡◌, ◌++◌, drop}
-use Rattle.aml_load.specs.Views.{trees_view}
-use Rattle.aml_text.specs.Texts.{levels_of}
+use Rattle.aml_text.proofs.Common.{◌≡◌, ◌++◌, drop, trees_view, levels_of}
 use Rattle.aml_text.proofs.levels.body_levels.Given as goal
 
 abbrev pub invariant-loop-nodes : goal.invariant-loop-nodes

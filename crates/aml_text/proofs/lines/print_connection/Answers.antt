@@ -1,4 +1,4 @@
-use Rattle.text_writer.proofs.PrintLaws.{prints_then, prints_word}
+use Rattle.aml_text.proofs.Common.{prints_then, prints_word}
 use Rattle.aml_text.proofs.lines.print_connection.Goals as goal
 
 pub returns : goal.returns

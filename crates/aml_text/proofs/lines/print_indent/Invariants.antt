@@ -1,5 +1,4 @@
-use Rattle.text_writer.specs.Prints.{Prints}
-use Rattle.aml_text.specs.Texts.{indent}
+use Rattle.aml_text.proofs.Common.{Prints, indent}
 use Rattle.aml_text.proofs.lines.print_indent.Given as goal
 
 abbrev pub invariant-loop-i : goal.invariant-loop-i

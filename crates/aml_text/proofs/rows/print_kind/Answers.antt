@@ -1,4 +1,4 @@
-use Rattle.text_writer.proofs.PrintLaws.{prints_word}
+use Rattle.aml_text.proofs.Common.{prints_word}
 use Rattle.aml_text.proofs.rows.print_kind.Goals as goal
 
 pub returns-in-BufferField : goal.returns-in-BufferField

@@ -1,16 +1,7 @@
-use mathlib.Core.Bool.{true≢false}
-use Rattle.std.specs.Prelude.{slice_get}
-use Rattle.std.proofs.Common.{◌≡◌, List, [], ◌∷◌, ◌++◌, drop, flat_map, length, Some, None, is_some, refl, sym, subst, ap, ◌∙◌, append_assoc}
+use Rattle.aml_text.proofs.Common.{true≢false, slice_get, decimal, ◌≡◌, ℕ, List, [], ◌∷◌, ◌++◌, drop, flat_map, length, Some, None, is_some, refl, sym, subst}
+use Rattle.aml_text.proofs.Common.{ap, ◌∙◌, append_assoc, option_map, unwrap_or, append-nil, flat_map_more, Seg, Kind, row_pair, Prints, word, prints_then}
+use Rattle.aml_text.proofs.Common.{line, row_line, namespace_text}
 use Rattle.std.specs.FinMap as map
-use Rattle.std.specs.Option.{option_map, unwrap_or}
-use Rattle.std.proofs.lemmas.List.{append-nil}
-use Rattle.std.proofs.lemmas.Grind.{flat_map-append}
-use Rattle.aml_names.specs.declared.segments.Seg.{Seg}
-use Rattle.aml_space.specs.declared.kinds.Kind.{Kind}
-use Rattle.aml_space.specs.Known.{row_pair}
-use Rattle.text_writer.specs.Prints.{Prints}
-use Rattle.text_writer.proofs.PrintLaws.{prints_then}
-use Rattle.aml_text.specs.Rows.{row_line, count_line, namespace_text}
 use Rattle.aml_text.proofs.rows.print_rows.Goals as goal
 
 first_split : {X : Type 0} (xs : List X) (x : X) → slice_get xs 0 ≡ Some x → xs ≡ x ∷ drop 1 xs
@@ -20,9 +11,6 @@ first_split (y ∷ xs) x is = ap (λ o. unwrap_or o y ∷ xs) is
 no_first : {X : Type 0} (xs : List X) → slice_get xs 0 ≡ None → xs ≡ []
 no_first [] is = refl
 no_first (y ∷ xs) is = absurd (true≢false (ap is_some is))
-
-one_line : (done : List (List Seg × Kind)) (row : List Seg × Kind) → flat_map row_line done ++ row_line row ≡ flat_map row_line (done ++ row ∷ [])
-one_line done row = sym (flat_map-append row_line done (row ∷ []) ∙ ap (λ l. flat_map row_line done ++ l) (append-nil (row_line row)))
 
 pub rows-preserved : goal.rows-preserved
 rows-preserved g c =
@@ -34,11 +22,14 @@ rows-preserved g c =
       done ++ row ∷ [],
       (
         c.rows.invariant.1.0 ∙ ap (λ es. done ++ es) split ∙ sym (append_assoc done (row ∷ []) rest),
-        subst (Prints g.W.Write.contents c.print_count.new.out c.print_row.new.out) (one_line done row)
+        subst (Prints g.W.Write.contents c.print_count.new.out c.print_row.new.out) (flat_map_more row_line [] done row)
             (prints_then g.W.Write.contents c.print_count.new.out c.rows.out c.print_row.new.out (flat_map row_line done) (row_line row)
             c.rows.invariant.1.1 c.print_row.ensures),
       ),
     )
+
+abbrev count_line : ℕ → List ℕ
+count_line n = line 0 (word "Namespace " ++ decimal n)
 
 pub returns : goal.returns
 unfolding namespace_text
@@ -47,7 +38,6 @@ returns g c =
     let done = c.rows.invariant.0 in
     let none : c.rows.rows ≡ [] = no_first c.rows.rows (sym c.next.ensures.row ∙ ap (option_map row_pair) c.in_default.is) in
     let whole : done ≡ all = sym (c.rows.invariant.1.0 ∙ ap (λ es. done ++ es) none ∙ append-nil done) in
-    let count : count_line c.row_count-count.result ≡ count_line (length all) = ap count_line c.row_count-count.ensures in
     prints_then g.W.Write.contents c.args.out.now c.print_count.new.out c.rows.out (count_line (length all)) (flat_map row_line all)
-    (subst (Prints g.W.Write.contents c.args.out.now c.print_count.new.out) count c.print_count.ensures)
+    (subst (λ n. Prints g.W.Write.contents c.args.out.now c.print_count.new.out (count_line n)) c.row_count-count.ensures c.print_count.ensures)
     (subst (λ es. Prints g.W.Write.contents c.print_count.new.out c.rows.out (flat_map row_line es)) whole c.rows.invariant.1.1)

@@ -1,9 +1,5 @@
-use Rattle.std.proofs.Common.{◌≡◌, List, ◌++◌, flat_map, length}
+use Rattle.aml_text.proofs.Common.{◌≡◌, List, ◌++◌, flat_map, length, Seg, Kind, Prints, row_line}
 use Rattle.std.specs.FinMap as map
-use Rattle.aml_names.specs.declared.segments.Seg.{Seg}
-use Rattle.aml_space.specs.declared.kinds.Kind.{Kind}
-use Rattle.text_writer.specs.Prints.{Prints}
-use Rattle.aml_text.specs.Rows.{row_line}
 use Rattle.aml_text.proofs.rows.print_rows.Given as goal
 
 abbrev pub invariant-rows : goal.invariant-rows

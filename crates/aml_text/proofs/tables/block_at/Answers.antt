@@ -1,5 +1,4 @@
-use Rattle.std.proofs.Common.{ap, ◌∙◌}
-use Rattle.acpi_tables.specs.Order.{name_of}
+use Rattle.aml_text.proofs.Common.{ap, ◌∙◌, name_of}
 use Rattle.aml_text.proofs.ListingLaws.{block_is}
 use Rattle.aml_text.proofs.tables.block_at.Goals as goal
 

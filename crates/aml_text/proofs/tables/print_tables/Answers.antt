@@ -1,9 +1,5 @@
-use Rattle.std.proofs.Common.{[], ◌++◌, refl, sym, ◌∙◌, subst, arith}
-use Rattle.std.proofs.lemmas.List.{append-nil, at_drop_all}
-use Rattle.text_writer.specs.Prints.{Prints}
-use Rattle.text_writer.proofs.PrintLaws.{prints_then, prints_none}
-use Rattle.aml_text.specs.Texts.{OneBlock, block_text, blocks_text}
-use Rattle.aml_text.specs.Listing.{bodies_lines, block_view, blocks_at}
+use Rattle.aml_text.proofs.Common.{[], ◌++◌, refl, sym, ◌∙◌, subst, arith, append-nil, at_drop_all, Prints, prints_then, prints_none, OneBlock, block_text}
+use Rattle.aml_text.proofs.Common.{blocks_text, bodies_lines, block_view, blocks_at}
 use Rattle.aml_text.proofs.ListingLaws.{blocks_many, blocks_turn}
 use Rattle.aml_text.proofs.tables.print_tables.Goals as goal
 

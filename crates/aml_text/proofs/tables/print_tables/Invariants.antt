@@ -1,7 +1,4 @@
-use Rattle.std.proofs.Common.{◌≡◌, ℕ, List, ◌++◌, drop}
-use Rattle.text_writer.specs.Prints.{Prints}
-use Rattle.aml_text.specs.Texts.{blocks_text}
-use Rattle.aml_text.specs.Listing.{blocks_at, bodies_lines}
+use Rattle.aml_text.proofs.Common.{◌≡◌, ℕ, List, ◌++◌, drop, Prints, blocks_text, blocks_at, bodies_lines}
 use Rattle.aml_text.proofs.tables.print_tables.Given as goal
 
 abbrev pub invariant-loop-table : goal.invariant-loop-table

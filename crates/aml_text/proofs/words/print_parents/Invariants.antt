@@ -1,5 +1,4 @@
-use Rattle.std.proofs.Common.{replicate}
-use Rattle.text_writer.specs.Prints.{Prints}
+use Rattle.aml_text.proofs.Common.{replicate, Prints}
 use Rattle.aml_text.proofs.words.print_parents.Given as goal
 
 abbrev pub invariant-loop-i : goal.invariant-loop-i

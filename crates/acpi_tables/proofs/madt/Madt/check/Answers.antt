@@ -1,5 +1,4 @@
-use Rattle.std.proofs.Common.{refl, sym, subst}
-use Rattle.std.proofs.lemmas.Bool.{false≢true}
+use Rattle.acpi_tables.proofs.Common.{refl, sym, subst, false≢true}
 use Rattle.acpi_tables.proofs.Cuts.{WalksTo, walk_start, walk_more, HoldsMadt-walk, BreaksAt-walk}
 use Rattle.acpi_tables.proofs.madt.Madt.check.Goals as goal
 

@@ -1,4 +1,4 @@
-use Rattle.std.proofs.Common.{length, ◌-◌}
+use Rattle.acpi_tables.proofs.Common.{length, ◌-◌}
 use Rattle.acpi_tables.proofs.Cuts.{WalksTo}
 use Rattle.acpi_tables.proofs.madt.Madt.check.Given as goal
 

@@ -1,12 +1,12 @@
 use Rattle.std.proofs.Common.{◌≡◌, drop}
 use Rattle.aml_code.specs.Lawful.{unit_names}
 use Rattle.aml_code.specs.View.{fields_view}
-use Rattle.aml_load.specs.Loading.{Listed}
-use Rattle.aml_load.specs.Walking.{fields_at, Holds}
+use Rattle.aml_load.specs.Loading.{Listed, units_at}
+use Rattle.aml_load.specs.Walking.{Holds}
 use Rattle.aml_load.proofs.walking.Progress.add_fields.Given as goal
 
 abbrev pub invariant-loop-field : goal.invariant-loop-field
 invariant-loop-field x =
     (l : Listed) → Holds x.initial.self l → (m : Listed) × Holds x.self m
-    × (fields_at x.site.table m x.site.scope.now (unit_names (fields_view (drop x.field-index x.fields)))
-    ≡ fields_at x.site.table l x.site.scope.now (unit_names (fields_view x.fields)))
+    × (units_at x.site.table m x.site.scope.now (unit_names (fields_view (drop x.field-index x.fields)))
+    ≡ units_at x.site.table l x.site.scope.now (unit_names (fields_view x.fields)))

@@ -2,8 +2,7 @@ use Rattle.std.proofs.Common.{Some, refl, ◌%◌}
 use Rattle.aml_space.specs.Namespace.{Body}
 use Rattle.aml_space.specs.declared.kinds.Kind.TheVariants as kinds
 use Rattle.aml_load.specs.Loading.{plus, method_entry}
-use Rattle.aml_load.proofs.Steps.{entry_again}
-use Rattle.aml_load.proofs.Holding.{method_held, fresh, entry_refused}
+use Rattle.aml_load.proofs.Holding.{method_held, entry_again, fresh, entry_refused}
 use Rattle.aml_load.proofs.walking.Progress.declare_body.Goals as goal
 
 pub returns : goal.returns

@@ -1,13 +1,14 @@
 use Rattle.std.specs.Prelude.{slice_get}
 use Rattle.std.proofs.Common.{◌≡◌, ℕ, ◌+◌, ◌-◌, true, cond, length, take, Option, Some, None, OnOk, refl, arith, sym, ap, subst, ◌∙◌}
 use Rattle.std.proofs.lemmas.Option.{slice_get_within}
+use Rattle.std.specs.Option.{option_flatten}
 use Rattle.std.specs.FinSet as set
 use Rattle.std.specs.Ordering.{nat_cmp, eq_by_cmp}
 use Rattle.std.specs.List.{list_any}
 use Rattle.std.specs.BTreeMap.{is_at, get}
 use Rattle.aml_names.specs.declared.segments.Seg.{Seg}
 use Rattle.aml_names.specs.Paths.{seg_cmp, path_cmp, HaveLengths}
-use Rattle.aml_names.specs.Searching.{KnowEnds, deeper, depth_known}
+use Rattle.aml_names.specs.Searching.{KnowEnds, deeper}
 use Rattle.aml_names.proofs.Sets.{one_added}
 use Rattle.aml_names.proofs.LengthLaws.{one_length, longer_still}
 use Rattle.aml_names.proofs.EndLaws.{known_root, known_pushed, known_back, not_refused, there_is}
@@ -57,7 +58,7 @@ invariant_of-self-in-Err c =
     let old = get seg_cmp own.ends in
     let met = get seg_cmp c.deepen.new.ends in
     let deepened = c.in_ok-known.ensures.ok in
-    let depth = deeper c.depth_in-depth.result (depth_known (old e)) in
+    let depth = deeper c.depth_in-depth.result (option_flatten (old e)) in
     let there = there_is paths met e depth (old e) (deepened e) in
     let back = not_refused c.insert-in-Err.result c.insert-in-Err.ensures.updates c.insert-in-Err.ensures.absent there in (
       subst (λ ks. HaveLengths ks c.insert.new.self.keys) (sym c.in-Err.ensures.err)

@@ -1,8 +1,0 @@
-use Rattle.std.proofs.Common.{length, drop, ap, ◌∙◌, ◌-◌, arith, length-drop}
-use Rattle.std.proofs.lemmas.List.{take_all}
-use Rattle.acpidis.proofs.aml.aml_in.Goals as goal
-
-pub returns : goal.returns
-returns c =
-    let table = c.table_of.result.now in
-    take_all (length table - 36) (drop 36 table) (omega (arith, length-drop 36 table)) ∙ ap (drop 36) c.table_of.ensures

@@ -1,0 +1,99 @@
+use Rattle.aml_parse.proofs.Common.{rules, PartKind, ◌≡◌, ◌+◌, ◌-◌, length, drop, get_or, [], ◌∷◌, inr, Ok, ap, sym, ◌∙◌, arith, add-one, drop-cons, drop_all}
+use Rattle.aml_parse.proofs.Common.{row_view, no_trees, tree_more, no_fields, field_more, node_view, field_view}
+use Rattle.aml_parse.proofs.Bare.{plain_bare}
+use Rattle.aml_parse.proofs.Loops.{parts_go_on, parts_end, arguments_go_on, arguments_fails, arguments_end, go_on, fails, runs_out, done, nodes_found}
+use Rattle.aml_parse.proofs.Loops.{fields_found}
+use Rattle.aml_parse.proofs.parser.Parser.+terms.Goals as goal
+
+pub arguments-returns-in_err-node : goal.arguments-returns-in_err-node
+arguments-returns-in_err-node g t c =
+    let failed =
+    arguments_fails _ c.loop-i.found.items _ _ _ _ c.in_err-node.field-0.0 (c.args.count - c.loop-i._i)
+    (omega (arith, c.loop-i-test.true)) c.in_err-node.ensures c.loop-i.invariant in
+    search rules
+
+pub arguments-loop-i-preserved : goal.arguments-loop-i-preserved
+arguments-loop-i-preserved g t c =
+    let less : c.args.count - c.loop-i._i - 1 ≡ c.args.count - (c.loop-i._i + 1) = omega arith in
+    let next =
+    arguments_go_on _ c.loop-i.found.items _ _ _ _ (c.args.count - c.loop-i._i) c.in_ok-node.node _ _
+    (omega (arith, c.loop-i-test.true)) c.in_ok-node.ensures c.loop-i.invariant in
+    rw c.in_ok-push.ensures.items (rw less at next)
+
+pub arguments-returns : goal.arguments-returns
+arguments-returns g t c =
+    arguments_end _ c.loop-i.found.items _ _ _ _ (c.args.count - c.loop-i._i) (omega (arith, c.loop-i-test.false)) c.loop-i.invariant
+
+pub plain-returns-then-is_empty : goal.plain-returns-then-is_empty
+plain-returns-then-is_empty g t c =
+    plain_bare _ _ (row_view c.args.row.now) _ _ _ (grind arith) ∙ ap (λ y. Ok (y, c.args.locals.now, c.args.bytes.now)) (sym c.bare.ensures)
+
+pub parts-loop-kind-preserved : goal.parts-loop-kind-preserved
+parts-loop-kind-preserved g t c =
+    let i = c.loop-kind.kind-index in
+    let ks = c.args.kinds.now in
+    let k = get_or ks i PartKind.Term in
+    let cut : drop i ks ≡ k ∷ drop (i + 1) ks = rw add-one (drop-cons ks i PartKind.Term c.loop-kind-test.true) in
+    rw c.in_ok-push.ensures.items
+    (parts_go_on _ c.loop-kind.found.items _ _ _ _ c.in_ok-part.part k (drop (i + 1) ks) _ _ c.in_ok-part.ensures (rw cut at c.loop-kind.invariant))
+
+pub parts-returns : goal.parts-returns
+parts-returns g t c =
+    let cut : drop c.loop-kind.kind-index c.args.kinds.now ≡ [] = drop_all _ _ c.loop-kind-test.false in
+    parts_end _ c.loop-kind.found.items _ _ _ _ (rw cut at c.loop-kind.invariant)
+
+pub terms-returns-then-is_empty : goal.terms-returns-then-is_empty
+terms-returns-then-is_empty g t c =
+    done no_trees tree_more _ _ node_view c.loop-turn.found.items _ _ _ _ _ _ c.loop-turn.rest.now (nodes_found _) (grind arith) c.loop-turn.invariant
+
+pub terms-returns-in_err-node : goal.terms-returns-in_err-node
+terms-returns-in_err-node g t c =
+    let failed =
+    fails no_trees tree_more _ _ node_view c.loop-turn.found.items _ _ _ _ c.in_err-node.field-0.0 (length c.args.bytes.now - c.loop-turn._turn)
+    c.loop-turn.rest.now (grind arith) (omega (arith, c.loop-turn-test.true)) c.in_err-node.ensures c.loop-turn.invariant in
+    search rules
+
+pub terms-loop-turn-preserved : goal.terms-loop-turn-preserved
+terms-loop-turn-preserved g t c =
+    let less : length c.args.bytes.now - c.loop-turn._turn - 1 ≡ length c.args.bytes.now - (c.loop-turn._turn + 1) = omega arith in
+    let next =
+    go_on no_trees tree_more _ _ node_view c.loop-turn.found.items c.loop-turn.here _ _ _ (length c.args.bytes.now - c.loop-turn._turn)
+    c.loop-turn.rest.now c.in_ok-node.node _ _ (grind arith) (omega (arith, c.loop-turn-test.true)) c.in_ok-node.ensures c.loop-turn.invariant in
+    rw (c.in_ok-push.ensures.items, c.next_position-here.ensures) (rw less at next)
+
+pub terms-returns-then-is_empty-2 : goal.terms-returns-then-is_empty-2
+terms-returns-then-is_empty-2 g t c =
+    done no_trees tree_more _ _ node_view c.loop-turn.found.items _ _ _ _ _ _ c.loop-turn.rest.now (nodes_found _) (grind arith) c.loop-turn.invariant
+
+pub terms-returns-else-is_empty-2 : goal.terms-returns-else-is_empty-2
+terms-returns-else-is_empty-2 g t c =
+    inr (runs_out no_trees tree_more _ _ node_view c.loop-turn.found.items _ _ _ _ (length c.args.bytes.now - c.loop-turn._turn)
+    c.loop-turn.rest.now (omega (arith, c.loop-turn-test.false)) (grind arith) c.loop-turn.invariant)
+
+pub fields-returns-then-is_empty : goal.fields-returns-then-is_empty
+fields-returns-then-is_empty g t c =
+    done no_fields field_more _ _ field_view c.loop-turn.found.items _ _ _ _ _ _ c.loop-turn.rest.now (fields_found _) (grind arith) c.loop-turn.invariant
+
+pub fields-returns-in_err-field : goal.fields-returns-in_err-field
+fields-returns-in_err-field g t c =
+    let failed =
+    fails no_fields field_more _ _ field_view c.loop-turn.found.items _ _ _ _ c.in_err-field.field-0.0 (length c.args.bytes.now - c.loop-turn._turn)
+    c.loop-turn.rest.now (grind arith) (omega (arith, c.loop-turn-test.true)) c.in_err-field.ensures c.loop-turn.invariant in
+    search rules
+
+pub fields-loop-turn-preserved : goal.fields-loop-turn-preserved
+fields-loop-turn-preserved g t c =
+    let less : length c.args.bytes.now - c.loop-turn._turn - 1 ≡ length c.args.bytes.now - (c.loop-turn._turn + 1) = omega arith in
+    let next =
+    go_on no_fields field_more _ _ field_view c.loop-turn.found.items _ _ _ _ (length c.args.bytes.now - c.loop-turn._turn)
+    c.loop-turn.rest.now c.in_ok-field.field _ _ (grind arith) (omega (arith, c.loop-turn-test.true)) c.in_ok-field.ensures c.loop-turn.invariant in
+    rw c.in_ok-push.ensures.items (rw less at next)
+
+pub fields-returns-then-is_empty-2 : goal.fields-returns-then-is_empty-2
+fields-returns-then-is_empty-2 g t c =
+    done no_fields field_more _ _ field_view c.loop-turn.found.items _ _ _ _ _ _ c.loop-turn.rest.now (fields_found _) (grind arith) c.loop-turn.invariant
+
+pub fields-returns-else-is_empty-2 : goal.fields-returns-else-is_empty-2
+fields-returns-else-is_empty-2 g t c =
+    inr (runs_out no_fields field_more _ _ field_view c.loop-turn.found.items _ _ _ _ (length c.args.bytes.now - c.loop-turn._turn)
+    c.loop-turn.rest.now (omega (arith, c.loop-turn-test.false)) (grind arith) c.loop-turn.invariant)

@@ -1,0 +1,161 @@
+//! What all readers of terms take along.
+ghost use Rattle.std.specs.Prelude.{◌≡◌, None, OnOk, option_to_list, ok_or};
+ghost use Rattle.aml_names.specs.NameReading.{Gives};
+ghost use Rattle.aml_names.specs.Names.{placed};
+ghost use Rattle.aml_code.specs.Tree.{no_fields, field_more};
+ghost use Rattle.aml_code.specs.Lawful.{field_names, last_label, names_declared, unit_names, with_declared, with_names, with_path, count_in};
+ghost use Rattle.aml_code.specs.View.{field_view, fields_view, parts_view, tail_view};
+ghost use Rattle.aml_parse.specs.Reading.{scope_of};
+
+use aml_code::{
+    Arity, CodeFault, Field, Locals, Name, NameForm, NoMemory, Part, Path, Position, Role, Segs,
+    Tail, last_name, place,
+};
+use std::alloc::Global;
+
+/// The most levels of terms inside each other.
+pub const MOST_LEVELS: u16 = 512;
+
+/// A reader of terms: it asks `arity` how many arguments names take, places declarations from a method's path in its
+/// body, and from nowhere in a table, and takes so many levels of terms inside each other.
+#[derive(Drop)]
+pub struct Parser<'a, A> {
+    pub alloc: Global,
+    pub arity: &'a A,
+    pub scope: Option<&'a Path>,
+    pub levels: u16,
+}
+
+impl<'a, A: Arity> Parser<'a, A> {
+    /// How many arguments a name takes in a position. `UnknownName` at the offset where nobody knows.
+    pub fn count(
+        &self,
+        position: Position,
+        at: u32,
+        locals: &Locals,
+        name: &Name,
+    ) -> Result<u8, CodeFault>
+        ensures { Gives (λ n. n) result (ok_or
+            (count_in (A.arity self.now.arity.now) position locals.now name.now) (CodeFault.UnknownName at)) }
+    {
+        match position {
+            Position::Target | Position::Data => Ok(0),
+            Position::ModuleTerm | Position::GuardTerm => Err(CodeFault::UnknownName { at }),
+            Position::BodyTerm | Position::AfterIf | Position::Argument => {
+                match self.arity.count(self.alloc, locals, name)? {
+                    None => Err(CodeFault::UnknownName { at }),
+                    Some(count) => Ok(count),
+                }
+            }
+        }
+    }
+
+    /// Adds the paths that a term declares itself.
+    pub fn declare(
+        &self,
+        role: Role,
+        parts: &[Part],
+        tail: &Tail,
+        locals: &mut Locals,
+    ) -> Result<(), NoMemory>
+        ensures { OnOk result (locals.new ≡ with_declared (scope_of self.now.scope) locals.old
+            (names_declared role (parts_view parts.now) (tail_view tail.now))) }
+    {
+        let Some(scope) = self.scope else {
+            return Ok(());
+        };
+        match role {
+            Role::Declares(_) | Role::Method | Role::Alias => {
+                declare_last(self.alloc, scope, parts, locals)
+            }
+            Role::Fields => declare_units(self.alloc, scope, tail, locals),
+            Role::Scope | Role::External | Role::Guard | Role::Other => Ok(()),
+        }
+    }
+}
+
+/// Adds the path of the last part that is a name.
+fn declare_last(
+    alloc: Global,
+    scope: &Path,
+    parts: &[Part],
+    locals: &mut Locals,
+) -> Result<(), NoMemory>
+    ensures { OnOk result (locals.new ≡ with_names scope.now locals.old
+        (option_to_list (last_label None (parts_view parts.now)))) }
+{
+    match last_name(parts) {
+        None => Ok(()),
+        Some(name) => declare_name(alloc, scope, name, locals),
+    }
+}
+
+/// Adds the path of a name, if there is one.
+fn declare_name(
+    alloc: Global,
+    scope: &Path,
+    name: &Name,
+    locals: &mut Locals,
+) -> Result<(), NoMemory>
+    ensures { OnOk result (locals.new ≡ with_path locals.old (placed scope.now name.now)) }
+{
+    if let Some(path) = place(alloc, scope, name)? {
+        locals.push(path)?;
+    }
+    Ok(())
+}
+
+/// Adds the paths of the named units of a field list.
+fn declare_units(
+    alloc: Global,
+    scope: &Path,
+    tail: &Tail,
+    locals: &mut Locals,
+) -> Result<(), NoMemory>
+    ensures { OnOk result (locals.new ≡ with_names scope.now locals.old (field_names (tail_view tail.now))) }
+{
+    match tail {
+        Tail::Fields(fields) => declare_fields(alloc, scope, fields.as_slice(), locals),
+        _ => Ok(()),
+    }
+}
+
+fn declare_fields(
+    alloc: Global,
+    scope: &Path,
+    fields: &[Field],
+    locals: &mut Locals,
+) -> Result<(), NoMemory>
+    ensures { OnOk result (locals.new ≡ with_names scope.now locals.old (unit_names (fields_view fields.now))) }
+{
+    for field in fields {
+        declare_field(alloc, scope, field, locals)?;
+    }
+    Ok(())
+}
+
+/// Adds the path of a named unit.
+fn declare_field(
+    alloc: Global,
+    scope: &Path,
+    field: &Field,
+    locals: &mut Locals,
+) -> Result<(), NoMemory>
+    ensures { OnOk result (locals.new ≡ with_names scope.now locals.old
+        (unit_names (field_more (field_view field.now) no_fields))) }
+{
+    match field {
+        Field::NamedUnit { seg, .. } => {
+            let mut segs = Segs::new(alloc);
+            segs.push(*seg)?;
+            let name = Name {
+                root: false,
+                ups: 0,
+                form: NameForm::One,
+                segs,
+            };
+            declare_name(alloc, scope, &name, locals)
+        }
+        _ => Ok(()),
+    }
+}
