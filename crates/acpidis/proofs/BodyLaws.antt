@@ -6,8 +6,8 @@ use Rattle.acpidis.proofs.Common.{slice_get, map-id, Entry, CodeFault, Trees, Of
 use Rattle.acpidis.proofs.Common.{read, raw, all_lines, body_lines, BodyText, IsText, body_view, printed_lines, IsEntry, AreEntries, Became, BecameIn}
 use Rattle.acpidis.proofs.Common.{AreBodies, has_raw, mark_of, marks_of, IsKept, AreKept, AreKeptOf, IsSame, has_fault, tried_mark, tried_marks, get_or}
 use Rattle.aml_space.specs.Known.{StandsFor}
-use Rattle.aml_text.specs.declared.bodies.Body.TheVariants as bodies
-use Rattle.aml_text.specs.declared.bodies.BodyText.TheVariants as kept_texts
+use Rattle.asl_text.specs.declared.bodies.Body.TheVariants as bodies
+use Rattle.asl_text.specs.declared.bodies.BodyText.TheVariants as kept_texts
 
 -- what is true of each pair is true of what is made of it
 all_zip_to : {A B C : Type 0} (R : A → B → Type 0) (S : A → C → Type 0) (f : B → C) → ((x : A) (y : B) → R x y → S x (f y)) → (xs : List A) (ys : List B)

@@ -18,14 +18,14 @@ pub use Rattle.aml_load.specs.declared.loading.Loaded.{Loaded}
 pub use Rattle.aml_load.specs.declared.methods.Method.{Method}
 pub use Rattle.aml_names.specs.declared.faults.CodeFault.{CodeFault}
 pub use Rattle.aml_space.specs.Namespace.{Entry, Givens}
-pub use Rattle.aml_text.proofs.LevelLaws.{AgreeAt}
+pub use Rattle.asl_text.proofs.LevelLaws.{AgreeAt}
 pub use Rattle.aml_text.proofs.ListingLaws.{blocks_many}
-pub use Rattle.aml_text.specs.Listing.{IsText, body_view, printed_lines, blocks_of, names_in, blocks_with, listing_text, text_with, blocks_at, block_view}
-pub use Rattle.aml_text.specs.Listing.{blocks_in}
+pub use Rattle.asl_text.specs.Bodies.{IsText, body_view, printed_lines, block_view}
+pub use Rattle.aml_text.specs.Listing.{blocks_of, names_in, blocks_with, listing_text, text_with, blocks_at, blocks_in}
 pub use Rattle.aml_text.specs.Matched.{AreMatched, indexes_in}
-pub use Rattle.aml_text.specs.Texts.{OneBody, read, raw, all_lines, body_lines, OneBlock, levels_of}
-pub use Rattle.aml_text.specs.declared.bodies.Body.{Body}
-pub use Rattle.aml_text.specs.declared.bodies.BodyText.{BodyText}
+pub use Rattle.asl_text.specs.Texts.{OneBody, read, raw, all_lines, body_lines, OneBlock, levels_of}
+pub use Rattle.asl_text.specs.declared.bodies.Body.{Body}
+pub use Rattle.asl_text.specs.declared.bodies.BodyText.{BodyText}
 pub use Rattle.std.proofs.Common.{◌≡◌, ℕ, suc, Bool, false, List, [], ◌∷◌, ◌++◌, map, length, Some, Result, Ok, Err, refl, sym, ap, ap₂, subst, arith}
 pub use Rattle.std.proofs.Common.{slice_get, map-id, get_or, ◌&&◌, zero, ◌+◌, ◌<◌, ◌≤◌, nat_eq, true, cond, drop, set, inl, inr, ◌∙◌, filter, length-drop, take}
 pub use Rattle.std.proofs.Common.{rules, zip, flat_map, true≢false, ◌-◌}

@@ -10,7 +10,7 @@ use Rattle.aml_space.proofs.Stands.{known_alone}
 use Rattle.acpi_text.specs.Dumps.{dumps_text}
 use Rattle.aml_text.specs.declared.listing.Listing.{Listing}
 use Rattle.aml_text.specs.Rows.{namespace_text}
-use Rattle.aml_text.proofs.LevelLaws.{same_blocks}
+use Rattle.aml_text.proofs.SameBlocks.{same_blocks}
 use Rattle.acpidis.specs.Endings.{IsOutput, output_of, status_with}
 use Rattle.acpidis.proofs.BodyLaws.{texts_agree, trials_are, faults_are}
 use Rattle.acpidis.proofs.MeaningLaws.{means_so, means_only}

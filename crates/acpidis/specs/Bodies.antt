@@ -16,9 +16,9 @@ use Rattle.aml_load.specs.declared.loading.Loaded.{Loaded}
 use Rattle.aml_load.specs.declared.methods.Method.{Method}
 use Rattle.aml_pool.specs.Counting.{IsOnce}
 use Rattle.aml_pool.specs.Seats.{all_of}
-use Rattle.aml_text.specs.declared.bodies.Body.{Body}
-use Rattle.aml_text.specs.declared.bodies.Body.TheVariants as bodies
-use Rattle.aml_text.specs.Texts.{OneBody, read, raw}
+use Rattle.asl_text.specs.declared.bodies.Body.{Body}
+use Rattle.asl_text.specs.declared.bodies.Body.TheVariants as bodies
+use Rattle.asl_text.specs.Texts.{OneBody, read, raw}
 
 -- the AML of a definition block: what follows the 36 bytes of its header (ACPI 6.5, 5.2.11.1)
 abbrev pub aml_of : List ℕ → List ℕ

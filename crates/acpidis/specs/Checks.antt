@@ -8,8 +8,9 @@ use Rattle.aml_code.specs.Tree.{encodings, Trees}
 use Rattle.aml_load.specs.Loading.{methods_of}
 use Rattle.aml_load.specs.Views.{codes_view, span_of}
 use Rattle.aml_load.specs.declared.methods.Method.{Method}
-use Rattle.aml_text.specs.Texts.{OneBody, read, raw, OneBlock}
-use Rattle.aml_text.specs.Listing.{names_in, blocks_of, blocks_in, body_view}
+use Rattle.asl_text.specs.Texts.{OneBody, read, raw, OneBlock}
+use Rattle.asl_text.specs.Bodies.{body_view}
+use Rattle.aml_text.specs.Listing.{names_in, blocks_of, blocks_in}
 use Rattle.aml_text.specs.declared.listing.Listing.{Listing}
 use Rattle.text_writer.specs.Prints.{quoted, word}
 use Rattle.acpi_tables.specs.declared.dump.Dump.{Dump}
@@ -20,8 +21,8 @@ use Rattle.acpidis.specs.declared.checking.Mark.{Mark}
 use Rattle.aml_names.specs.declared.faults.CodeFault.{CodeFault}
 use Rattle.aml_code.specs.View.{nodes_view}
 use Rattle.aml_load.specs.declared.loading.Loaded.{Loaded}
-use Rattle.aml_text.specs.declared.bodies.Body.{Body}
-use Rattle.aml_text.specs.declared.bodies.Body.TheVariants as bodies
+use Rattle.asl_text.specs.declared.bodies.Body.{Body}
+use Rattle.asl_text.specs.declared.bodies.Body.TheVariants as bodies
 
 -- two texts have the same bytes
 abbrev pub same_bytes : List ℕ → List ℕ → Bool

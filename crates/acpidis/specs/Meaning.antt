@@ -10,8 +10,9 @@ use Rattle.aml_space.specs.Known.{kinds_in}
 use Rattle.aml_load.specs.Loading.{Listed, IsLoad, methods_of}
 use Rattle.aml_load.specs.Views.{HoldsLoad}
 use Rattle.aml_load.specs.declared.loading.Loaded.{Loaded}
-use Rattle.aml_text.specs.Texts.{OneBody}
-use Rattle.aml_text.specs.Listing.{listing_text, body_view}
+use Rattle.asl_text.specs.Texts.{OneBody}
+use Rattle.asl_text.specs.Bodies.{body_view}
+use Rattle.aml_text.specs.Listing.{listing_text}
 use Rattle.aml_text.specs.Matched.{AreMatched}
 use Rattle.aml_text.specs.declared.listing.Listing.{Listing}
 use Rattle.acpi_tables.specs.declared.dump.Dump.{Dump}

@@ -1,7 +1,7 @@
 //! The bodies of all methods, read by workers, and what is kept of them.
 ghost use Rattle.std.specs.Prelude.{◌≡◌, ◌≤◌, ℕ, List, IfOk, IfErr, length};
 ghost use Rattle.aml_load.specs.Views.{body_of};
-ghost use Rattle.aml_text.specs.declared.bodies.Body.{Body};
+ghost use Rattle.asl_text.specs.declared.bodies.Body.{Body};
 ghost use Rattle.acpidis.specs.Refusals.{IsWant};
 ghost use Rattle.acpidis.specs.Bodies.{AreBodies, CanRead, BecameOf, AreDrawn, IsWithinLimits};
 ghost use Rattle.acpidis.specs.Checks.{AreKeptOf};
@@ -11,7 +11,7 @@ use crate::refusal::Refusal;
 use aml_code::CodeFault;
 use aml_load::{Loaded, read_body};
 use aml_pool::{Gate, NoMemory, PoolFault, Results, Work, harvest};
-use aml_text::Body;
+use asl_text::Body;
 use std::alloc::Global;
 use std::sync::Wait;
 use std::thread::Threads;

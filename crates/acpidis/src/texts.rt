@@ -1,12 +1,12 @@
 //! The texts of bodies: a worker prints each body at its level, and lets its terms go, if that takes less memory.
 ghost use Rattle.std.specs.Prelude.{◌≡◌, get_or};
-ghost use Rattle.aml_text.specs.Listing.{IsText};
+ghost use Rattle.asl_text.specs.Bodies.{IsText};
 ghost use Rattle.acpidis.specs.Checks.{IsKept};
 
 use crate::bodies::Keep;
 use aml_code::CodeFault;
 use aml_pool::NoMemory;
-use aml_text::{Body, BodyText, body_text};
+use asl_text::{Body, BodyText, body_text};
 use std::alloc::Global;
 
 /// Each body is kept as its text, at its level, or as its fault.

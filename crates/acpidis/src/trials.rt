@@ -7,7 +7,7 @@ ghost use Rattle.acpidis.specs.Checks.{same_bytes, IsKept, IsSame};
 use crate::bodies::Keep;
 use aml_code::{CodeFault, Node, encode_terms};
 use aml_pool::NoMemory;
-use aml_text::Body;
+use asl_text::Body;
 use std::alloc::{AllocError, Global};
 
 /// Whether terms encode to these bytes.

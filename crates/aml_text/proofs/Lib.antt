@@ -1,11 +1,5 @@
 pub mod Common
-pub mod TextLaws
-pub mod NodeLaws
-pub mod LineLaws
-pub mod BlockLaws
-pub mod BodyLaws
-pub mod LevelLaws
 pub mod Pairs
 pub mod ListingLaws
-mod EndLaws
+pub mod SameBlocks
 pub mod Taking

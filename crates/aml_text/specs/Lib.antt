@@ -1,5 +1,4 @@
--- The text of each thing.
+-- The text of a listing, and the tables that it is made of.
 pub mod Rows
 pub mod Matched
 pub mod Listing
-pub mod Texts

@@ -6,7 +6,7 @@ use Rattle.aml_space.specs.declared.kinds.Kind.TheVariants.{Scope, Name, Method,
 use Rattle.aml_space.specs.declared.kinds.Kind.TheVariants.{PowerResource, ThermalZone, Mutex, Event, Region}
 use Rattle.aml_space.specs.declared.kinds.Kind.TheVariants.{DataRegion, Field, BufferField}
 use Rattle.text_writer.specs.Prints.{word}
-use Rattle.aml_text.specs.Texts.{separated, segment_text, line}
+use Rattle.asl_text.specs.Texts.{separated, segment_text, line}
 
 -- a path: \ and its segments, with a dot between two: \_SB_.PCI0
 unfoldable pub path_text : List Seg → List ℕ

@@ -2,9 +2,9 @@
 ghost use Rattle.std.specs.Prelude.{◌≡◌, length};
 ghost use Rattle.aml_text.specs.Matched.{AreMatched};
 
-use crate::bodies::Body;
 use acpi_tables::{Dump, Order};
 use aml_load::Loaded;
+use asl_text::Body;
 
 /// A set of tables: its dumps, the tables that were loaded, and the bodies of their methods.
 #[derive(Drop)]

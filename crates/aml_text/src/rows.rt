@@ -4,13 +4,12 @@
 ghost use Rattle.std.specs.Prelude.{◌++◌, decimal};
 ghost use Rattle.std.specs.FinMap as map;
 ghost use Rattle.text_writer.specs.Prints.{Prints, word};
-ghost use Rattle.aml_text.specs.Texts.{line};
+ghost use Rattle.asl_text.specs.Texts.{line};
 ghost use Rattle.aml_text.specs.Rows.{path_text, kind_text, row_line, namespace_text};
 
-use crate::lines::print_indent;
-use crate::words::print_segments;
 use aml_code::Path;
 use aml_space::{Kind, Space};
+use asl_text::{print_indent, print_segments};
 use std::io::Write;
 use text_writer::{Out, print_decimal};
 
@@ -69,7 +68,7 @@ fn print_row_text<W: Write>(out: &mut Out<'_, W>, path: &Path, kind: &Kind)
 }
 
 /// The line of a path with its kind.
-#[tactic(auto, using(text_writer::proofs::PrintLaws::straight), unfolding(crate::specs::Rows::row_line, crate::specs::Texts::line))]
+#[tactic(auto, using(text_writer::proofs::PrintLaws::straight), unfolding(crate::specs::Rows::row_line, asl_text::specs::Texts::line))]
 fn print_row<W: Write>(out: &mut Out<'_, W>, path: &Path, kind: &Kind)
     ensures { Prints W.contents out.old out.new (row_line (path.now, kind.now)) }
 {
@@ -79,7 +78,7 @@ fn print_row<W: Write>(out: &mut Out<'_, W>, path: &Path, kind: &Kind)
 }
 
 /// The line above the rows.
-#[tactic(auto, using(text_writer::proofs::PrintLaws::straight), unfolding(crate::specs::Texts::line, crate::specs::Texts::indent))]
+#[tactic(auto, using(text_writer::proofs::PrintLaws::straight), unfolding(asl_text::specs::Texts::line, asl_text::specs::Texts::indent))]
 fn print_count<W: Write>(out: &mut Out<'_, W>, count: usize)
     ensures { Prints W.contents out.old out.new (line 0 (word "Namespace " ++ decimal count)) }
 {

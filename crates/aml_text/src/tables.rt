@@ -1,14 +1,14 @@
 //! The definition blocks of a listing.
 ghost use Rattle.std.specs.Prelude.{◌≡◌, ◌<◌, length, slice_index, slice_index_or};
 ghost use Rattle.text_writer.specs.Prints.{Prints};
-ghost use Rattle.aml_text.specs.Texts.{OneBlock, blocks_text};
-ghost use Rattle.aml_text.specs.Listing.{block_view, bodies_lines, blocks_at};
+ghost use Rattle.asl_text.specs.Texts.{OneBlock, blocks_text};
+ghost use Rattle.asl_text.specs.Bodies.{block_view, bodies_lines};
+ghost use Rattle.aml_text.specs.Listing.{blocks_at};
 ghost use Rattle.aml_text.specs.Matched.{indexes_in};
 
-use crate::blocks::{Block, print_block};
-use crate::bodies::Bodies;
 use crate::listing::Tables;
 use acpi_tables::{Order, name_of};
+use asl_text::{Block, Bodies, print_block};
 use std::io::Write;
 use text_writer::Out;
 

@@ -1,0 +1,8 @@
+pub mod Common
+pub mod TextLaws
+pub mod NodeLaws
+pub mod LineLaws
+pub mod BlockLaws
+pub mod BodyLaws
+pub mod LevelLaws
+mod EndLaws

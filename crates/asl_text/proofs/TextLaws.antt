@@ -1,0 +1,53 @@
+-- Texts of lists, as loops print them.
+use Rattle.asl_text.proofs.Common.{◌≡◌, ℕ, ◌+◌, ◌<◌, add-one, append-nil, List, [], ◌∷◌, ◌++◌, get_or, map, flat_map, length, take, refl, ap, ◌∙◌, take_more}
+use Rattle.asl_text.proofs.Common.{map-append, nil_from_length, flat_map-append, word, indent, separated}
+
+-- what is made of a list that grows at its end
+pub grown : {X Y : Type 0} (F : List X → List Y) (g : X → List Y) → ((xs : List X) (x : X) → F (xs ++ x ∷ []) ≡ F xs ++ g x) → (xs : List X) (i j : ℕ) (d : X)
+    → j ≡ i + 1 → i < length xs → F (take j xs) ≡ F (take i xs) ++ g (get_or xs i d)
+grown F g more xs i j d e h = ap F (ap (λ k. take k xs) e ∙ take_more xs i d h) ∙ more (take i xs) (get_or xs i d)
+
+-- ---- separators
+
+-- texts, each behind a separator
+unfoldable pub continued : List ℕ → List (List ℕ) → List ℕ
+continued separator texts = flat_map (λ text. separator ++ text) texts
+
+pub continued_none : (separator : List ℕ) → continued separator [] ≡ []
+unfolding continued
+continued_none separator = refl
+
+pub continued_more : (separator : List ℕ) (texts : List (List ℕ)) (text : List ℕ)
+    → continued separator (texts ++ text ∷ []) ≡ continued separator texts ++ (separator ++ text)
+unfolding continued
+continued_more separator texts text =
+    flat_map-append (λ t. separator ++ t) texts (text ∷ []) ∙ ap (λ l. continued separator texts ++ l) (append-nil (separator ++ text))
+
+module _ {X : Type 0} (separator : List ℕ) (g : X → List ℕ) (xs : List X) where
+  pub separated-nil : length xs ≡ 0 → separated separator (map g xs) ≡ []
+  unfolding separated
+  separated-nil e = ap (λ ys. separated separator (map g ys)) (nil_from_length xs e)
+
+  pub separated-cons : (x : X) (rest : List X) → xs ≡ x ∷ rest → separated separator (map g xs) ≡ g x ++ continued separator (map g rest)
+  unfolding separated continued
+  separated-cons x rest e = ap (λ ys. separated separator (map g ys)) e
+
+  pub separated-turn : (i j : ℕ) (d : X) → j ≡ i + 1 → i < length xs
+      → continued separator (map g (take j xs)) ≡ continued separator (map g (take i xs)) ++ (separator ++ g (get_or xs i d))
+  separated-turn i j d e h =
+      grown (λ ys. continued separator (map g ys)) (λ x. separator ++ g x)
+      (λ ys x. ap (continued separator) (map-append g ys (x ∷ [])) ∙ continued_more separator (map g ys) (g x)) xs i j d e h
+
+pub ruleset separations = (separated-nil, separated-cons, separated-turn, continued_none)
+
+-- ---- indents
+
+pub indent_none : (n : ℕ) → n ≡ 0 → indent n ≡ []
+unfolding indent
+indent_none n e = ap indent e
+
+pub indent_more : (n : ℕ) → indent (n + 1) ≡ indent n ++ word "  "
+unfolding indent
+indent_more n = rw add-one refl
+
+pub ruleset indents = (indent_none, indent_more)

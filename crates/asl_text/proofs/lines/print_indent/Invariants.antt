@@ -1,0 +1,5 @@
+use Rattle.asl_text.proofs.Common.{Prints, indent}
+use Rattle.asl_text.proofs.lines.print_indent.Given as goal
+
+abbrev pub invariant-loop-i : goal.invariant-loop-i
+invariant-loop-i g l = Prints g.W.Write.contents l.initial.out l.out (indent l._i)

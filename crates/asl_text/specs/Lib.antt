@@ -1,0 +1,3 @@
+-- The text of each thing.
+pub mod Texts
+pub mod Bodies

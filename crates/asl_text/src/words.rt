@@ -1,0 +1,62 @@
+//! The text of names.
+#![tactic(auto, using(text_writer::proofs::PrintLaws::straight))]
+
+ghost use Rattle.std.specs.Prelude.{[], cond, map, replicate};
+ghost use Rattle.text_writer.specs.Prints.{Prints, word};
+ghost use Rattle.asl_text.specs.Texts.{separated, prefix_text, segment_text, name_text};
+
+use crate::inline::{Inline, print_separated};
+use aml_code::{Name, Seg};
+use std::io::Write;
+use text_writer::Out;
+
+/// So many `^`.
+#[tactic(auto, using(text_writer::proofs::PrintLaws::straight, std::proofs::lemmas::Grind::replicate_next))]
+fn print_parents<W: Write>(out: &mut Out<'_, W>, ups: u32)
+    ensures { Prints W.contents out.old out.new (replicate ups 94) }
+{
+    for _i in 0..ups {
+        out.put(b"^");
+    }
+}
+
+fn print_root<W: Write>(out: &mut Out<'_, W>, root: bool)
+    ensures { Prints W.contents out.old out.new (cond root (word "\\") []) }
+{
+    if root {
+        out.put(b"\\");
+    }
+}
+
+#[tactic(auto, using(text_writer::proofs::PrintLaws::straight), unfolding(crate::specs::Texts::prefix_text))]
+fn print_prefix<W: Write>(out: &mut Out<'_, W>, name: &Name)
+    ensures { Prints W.contents out.old out.new (prefix_text name.now) }
+{
+    print_root(out, name.root);
+    print_parents(out, name.ups);
+}
+
+impl Inline for Seg {
+    ghost text = { segment_text };
+
+    #[tactic(auto, unfolding(crate::specs::Texts::segment_text))]
+    fn print<W: Write>(&self, out: &mut Out<'_, W>) {
+        out.put(&self.0);
+    }
+}
+
+/// Segments with a dot between two.
+pub fn print_segments<W: Write>(out: &mut Out<'_, W>, segs: &[Seg])
+    ensures { Prints W.contents out.old out.new (separated (word ".") (map segment_text segs.now)) }
+{
+    print_separated(out, b".", segs);
+}
+
+/// A name: its prefix, and its segments with a dot between two.
+#[tactic(auto, using(text_writer::proofs::PrintLaws::straight), unfolding(crate::specs::Texts::name_text))]
+pub fn print_name<W: Write>(out: &mut Out<'_, W>, name: &Name)
+    ensures { Prints W.contents out.old out.new (name_text name.now) }
+{
+    print_prefix(out, name);
+    print_segments(out, name.segs.as_slice());
+}

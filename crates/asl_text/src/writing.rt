@@ -1,0 +1,70 @@
+//! Terms, written whole to memory.
+ghost use Rattle.std.specs.Prelude.{◌≡◌, ◌++◌, IfOk, IfSome};
+ghost use Rattle.aml_code.specs.View.{node_view, nodes_view};
+ghost use Rattle.text_writer.specs.Prints.{word};
+ghost use Rattle.asl_text.specs.Texts.{lines, all_lines};
+ghost use Rattle.asl_text.specs.Bodies.{IsText};
+
+use crate::bodies::BodyText;
+use crate::bounded::Bounded;
+use crate::lines::print_terms;
+use aml_code::{NoMemory, Node};
+use std::alloc::{AllocError, Global};
+use std::io::Write;
+use std::slice;
+use text_writer::{Out, Print, write_text};
+
+/// Terms that are printed at a level.
+#[derive(Drop)]
+struct Terms<'n> {
+    level: u32,
+    nodes: &'n [Node],
+}
+
+impl Print for Terms<'_> {
+    ghost text = { λ terms. all_lines terms.level (nodes_view terms.nodes.now) };
+
+    fn print<W: Write>(&self, out: &mut Out<'_, W>) {
+        print_terms(out, self.level, self.nodes);
+    }
+}
+
+/// The lines of terms at a level, if there are at most so many bytes of them and memory for these.
+fn text_within(alloc: Global, level: u32, most: usize, nodes: &[Node]) -> Option<Vec<u8>>
+    ensures { IfSome result (λ text. text.items ≡ all_lines level (nodes_view nodes.now)) }
+{
+    let mut lines = Bounded::new(alloc, most);
+    match write_text(&mut lines, &Terms { level, nodes }) {
+        Err(_) => None,
+        Ok(()) => Some(lines.into_text()),
+    }
+}
+
+/// What is to be kept of a body's terms that are printed at this level: their lines, if there are at most so many bytes
+/// of them and memory for these, and else the terms themselves.
+pub fn body_text(alloc: Global, level: u32, most: usize, nodes: Vec<Node>) -> BodyText
+    ensures { IsText level (nodes_view nodes.items) result }
+{
+    match text_within(alloc, level, most, nodes.as_slice()) {
+        Some(text) => BodyText::Lines(text),
+        None => BodyText::Terms(nodes),
+    }
+}
+
+/// The lines of a term by itself, with no newline behind the last. A method's body isn't among them.
+pub fn term_text(alloc: Global, node: &Node) -> Result<Vec<u8>, NoMemory>
+    ensures { IfOk result (λ text. text.items ++ word "\n" ≡ lines 0 (node_view node.now)) }
+{
+    let mut text = Vec::new(alloc);
+    let terms = Terms {
+        level: 0,
+        nodes: slice::from_ref(node),
+    };
+    match write_text(&mut text, &terms) {
+        Err(_) => Err(AllocError),
+        Ok(()) => {
+            text.pop();
+            Ok(text)
+        }
+    }
+}
