@@ -163,7 +163,8 @@ impl<'a> MadtRecord<&'a [u8]> {
 
     /// The same record with a copy of its content.
     pub fn to_record(&self, alloc: Global) -> Result<MadtRecord, AllocError>
-        ensures { IfOk result (λ copy. said (λ content. content.items) copy ≡ said (λ content. content.now) self.now) }
+        ensures { IfOk result (λ copy.
+            said (λ content. content.items) copy ≡ said (λ content. content.now) self.now) }
     {
         Ok(match *self {
             MadtRecord::LocalApic { uid, apic, flags } => MadtRecord::LocalApic {

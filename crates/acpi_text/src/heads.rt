@@ -44,7 +44,8 @@ fn print_header<W: Write>(out: &mut Out<'_, W>, header: &Header)
 }
 
 fn print_facs<W: Write>(out: &mut Out<'_, W>, length: u32)
-    ensures { Prints W.contents out.old out.new ((word " " ++ quoted (codes "FACS")) ++ (word " Length " ++ decimal length)) }
+    ensures { Prints W.contents out.old out.new
+        ((word " " ++ quoted (codes "FACS")) ++ (word " Length " ++ decimal length)) }
 {
     put_quoted(out, b" ", b"FACS");
     put_decimal(out, b" Length ", length as u64);
