@@ -17,10 +17,11 @@ There are three verdicts, each printed with its reason:
 
 A function is proved from its own body and the contracts of what it calls. So wrong bodies of different functions don't touch
 each other, and one check of a crate with all of them says of each function whether it is proved. For the same reason the bodies
-of the other functions are left out at first, with a hole for the proof of each, unless out/ has kept proofs of the crate. Two
-wrong bodies of one function, or of one cycle of calls, are tried in different checks. What such checks don't refuse is tried
-with all bodies, and at last alone, as one is at once that stands in no function, as in a table. `rt must-fail CRATE` tries one
-after the other.
+of the other functions are left out at first, with a hole for the proof of each, unless out/ has kept proofs of the crate. A
+further wrong body of one function stands in a copy of it, behind it, with a copy of its proofs. A method of a trait and a
+function of a cycle of calls have no copies: their wrong bodies are tried in different checks. What such checks don't refuse is
+tried with all bodies, and at last alone, as one is at once that stands in no function, as in a table. `rt must-fail CRATE` tries
+one after the other.
 """
 
 import argparse
@@ -43,8 +44,12 @@ TYPE = re.compile(r"^(?:pub(?:\(\w+\))? )?(?:struct|enum) (\w+)", re.M)
 
 # A function by the end of its name, and the module that it is written in; without a name the module's other items
 Place = collections.namedtuple("Place", "module name cycle")
-Function = collections.namedtuple("Function", "place begin end")
-WrongBody = collections.namedtuple("WrongBody", "name changes places")
+# The offsets of what stands before a function, of its body and of the line that ends it
+Function = collections.namedtuple("Function", "place start begin end")
+# The number of the copy that it stands in, and 0 for the function itself
+WrongBody = collections.namedtuple("WrongBody", "name changes places copy", defaults=[0])
+# A function that can have copies: its source, and the path of its name below the crate
+Lone = collections.namedtuple("Lone", "file function path")
 # Refused by which goals, or undecided or proved, and why
 Verdict = collections.namedtuple("Verdict", "kind reason")
 
@@ -58,6 +63,16 @@ def kit():
     sys.modules["rtlib"] = library
     spec.loader.exec_module(library)
     return library
+
+
+def read(file):
+    with open(file, encoding="utf-8") as it:
+        return it.read()
+
+
+def write(file, text):
+    with open(file, "w", encoding="utf-8") as it:
+        it.write(text)
 
 
 def name_of(module, block, name):
@@ -76,7 +91,7 @@ def module_of(file):
 def functions_of(file, text):
     """The functions of a source that have a body of more than one line, each with the offsets that its body lies between."""
     module = module_of(file)
-    place, body, indent, block, cycle, end = None, None, "", None, None, 0
+    place, body, item, indent, block, cycle, start, end = None, None, 0, "", None, None, 0, 0
     for line in text.split("\n"):
         begin, end = end, end + len(line) + 1
         block = BLOCK.match(line) or (block if line != "}" else None)
@@ -84,13 +99,15 @@ def functions_of(file, text):
         cycle = in_cycle[1] if in_cycle else cycle
         if started:
             indent = started[1] or ""
-            place, body = Place(module, name_of(module, indent and block, started[2]), cycle), None
+            place, body, item = Place(module, name_of(module, indent and block, started[2]), cycle), None, start
             cycle = None
         if place and body is None and re.match(rf"{indent}\S.*{{$|{indent}{{$", line):
             body = end
         elif place and body is not None and line == indent + "}":
-            yield Function(place, body, begin)
+            yield Function(place, item, body, begin)
             place = None
+        if re.search(r"^$|[{}]$", line):
+            start = end
 
 
 def place_at(file, text, at):
@@ -113,7 +130,7 @@ def read_wrong_body(name, text, folder):
         elif word == "old":
             old = rest
         elif line.startswith("new:") and file and old:
-            source = sources.get(file) or open(f"{folder}/{file}", encoding="utf-8").read()
+            source = sources.get(file) or read(f"{folder}/{file}")
             if source.count(old) != 1:
                 sys.exit(f"{folder}: {name}: its old text stands {source.count(old)} times in {file}, and not once")
             changes.append((file, old, rest))
@@ -127,51 +144,103 @@ def wrong_bodies(folder, outside):
     """The wrong bodies of a crate: those that the gate tries, or the others."""
     texts = {}
     for file in sorted(glob.glob(f"{folder}/wrong-bodies.edits" if outside else f"{folder}/must-fail/*.edit")):
-        with open(file, encoding="utf-8") as it:
-            text = it.read()
+        text = read(file)
         parts = re.split(r"^edit: ", text, flags=re.M)[1:] if outside else [f"{os.path.basename(file)[:-5]}\n{text}"]
         texts.update(part.split("\n", 1) for part in parts)
     return [read_wrong_body(name.strip(), text, folder) for name, text in texts.items()]
 
 
-def first_batch(waiting):
-    """Wrong bodies of different functions and cycles, as many as there are; or one that stands in no function."""
-    batch, taken = [], set()
+def sources_in(folder):
+    """The sources of a crate, by their paths below it."""
+    return {os.path.relpath(file, folder): read(file) for file in glob.glob(f"{folder}/src/**/*.rt", recursive=True)}
+
+
+def lone_functions(sources):
+    """The functions that are neither of a cycle nor methods of a trait: those that can have copies, and whose bodies can be
+    left out. Those of one source come from its end on.
+
+    A method stands below its type, wherever its impl stands.
+    """
+    types = {found[1]: module_of(file) for file, text in sources.items() for found in TYPE.finditer(text)}
+    for file, text in sources.items():
+        for it in reversed(list(functions_of(file, text))):
+            *above, name = it.place.name.split("::")
+            if above and above[0] in types:
+                above = [*filter(None, types[above[0]].split("::")), *above]
+            is_known = above == list(filter(None, it.place.module.split("::"))) or it.place.name.split("::")[0] in types
+            called_on = re.findall(rf"([\w.:]*)\b{name}\(", text[it.begin : it.end])
+            # A field's method of the same name is another one.
+            calls_itself = any(not re.fullmatch(r"self\.\w+\.", on) for on in called_on)
+            if is_known and not (it.place.cycle or calls_itself):
+                yield Lone(file, it, [*above, name])
+
+
+def name_of_copy(name, number):
+    return f"{name}_copy{number}" if number else name
+
+
+COPY = re.compile(r"_copy\d+$")
+
+
+def first_batch(waiting, lone):
+    """Wrong bodies of different functions and cycles, as many as there are; or one that stands in no function.
+
+    Further ones of a function that can have copies, those of `lone`, stand in copies of it.
+    """
+    batch, taken = [], collections.Counter()
     for it in waiting:
         keys = {place.cycle or place.name for place in it.places}
-        if all(place.name for place in it.places) and not keys & taken:
-            batch.append(it)
-            taken |= keys
+        number = max(taken[key] for key in keys)
+        can_copy = len(keys) == 1 and keys <= lone and all(file.startswith("src/") for file, *_ in it.changes)
+        if None not in keys and (not number or can_copy):
+            places = {place._replace(name=name_of_copy(place.name, number)) for place in it.places}
+            batch.append(it._replace(places=places, copy=number))
+            taken.update(keys)
     return batch or waiting[:1]
 
 
-def copy_with(batch, folder, room):
+def change(file, old, new):
+    """Replaces what stands once in a file."""
+    text = read(file)
+    if text.count(old) != 1:
+        sys.exit(f"{file}: beside the other wrong bodies this stands {text.count(old)} times, and not once: {old}")
+    write(file, text.replace(old, new))
+
+
+def add_copy(crate, lone, source, wrong, room):
+    """Adds a copy of a function of this source behind it, with its proofs and with a wrong body in it."""
+    file, it, path = lone
+    item = source[it.start : source.index("\n", it.end) + 1]
+    *above, name = path
+    copied = [*above, name_of_copy(name, wrong.copy)]
+    text = re.sub(rf"\bfn {name}\b", f"fn {copied[-1]}", item, count=1)
+    for _, old, new in wrong.changes:
+        text = text.replace(old, new)
+    beside = read(f"{room}/{file}")
+    end = next(found.end for found in functions_of(file, beside) if found.place.name == it.place.name)
+    end = beside.index("\n", end) + 1
+    write(f"{room}/{file}", f"{beside[:end]}\n{text}{beside[end:]}")
+    if os.path.isdir(f"{room}/proofs/{'/'.join(path)}"):
+        shutil.copytree(f"{room}/proofs/{'/'.join(path)}", f"{room}/proofs/{'/'.join(copied)}")
+    for proof in glob.glob(f"{room}/proofs/{'/'.join(copied)}/*"):
+        below = f"Rattle.{crate}.proofs."
+        write(proof, read(proof).replace(f"{below}{'.'.join(path)}.", f"{below}{'.'.join(copied)}."))
+
+
+def copy_with(crate, batch, room):
     """Makes a copy of a crate with these wrong bodies in it."""
+    folder = f"{TOP}/crates/{crate}"
     for part in ("src", "specs", "proofs"):
         if os.path.isdir(f"{folder}/{part}"):
             shutil.copytree(f"{folder}/{part}", f"{room}/{part}")
-    for file, old, new in [change for it in batch for change in it.changes]:
-        with open(f"{room}/{file}", encoding="utf-8") as it:
-            source = it.read()
-        if source.count(old) != 1:
-            sys.exit(f"{folder}/{file}: beside the other wrong bodies this stands {source.count(old)} times, and not once: {old}")
-        with open(f"{room}/{file}", "w", encoding="utf-8") as it:
-            it.write(source.replace(old, new))
-
-
-def left_out(file, text, types, tried):
-    """The functions of a source whose bodies can be left out: neither tried, nor of a cycle, nor methods of a trait.
-
-    Each comes with its path below the crate. A method stands below its type, wherever its impl stands.
-    """
-    for it in reversed(list(functions_of(file, text))):
-        *above, name = it.place.name.split("::")
-        if above and above[0] in types:
-            above = [*filter(None, types[above[0]].split("::")), *above]
-        is_known = above == list(filter(None, it.place.module.split("::"))) or it.place.name.split("::")[0] in types
-        calls_itself = re.search(rf"\b{name}\(", text[it.begin : it.end])
-        if is_known and not (it.place.name in tried or it.place.cycle or calls_itself):
-            yield it, [*above, name]
+    for it in [it for it in batch if not it.copy]:
+        for file, old, new in it.changes:
+            change(f"{room}/{file}", old, new)
+    sources = sources_in(folder)
+    lone = {name_of_copy(it.function.place.name, body.copy): it for it in lone_functions(sources) for body in batch}
+    for it in [it for it in batch if it.copy]:
+        (place,) = it.places
+        add_copy(crate, lone[place.name], sources[lone[place.name].file], it, room)
 
 
 def leave_out_bodies(crate, room, batch):
@@ -180,23 +249,18 @@ def leave_out_bodies(crate, room, batch):
     What they state is left, which is all that the others know of them.
     """
     tried = {place.name for it in batch for place in it.places}
-    sources = {}
-    for path in glob.glob(f"{room}/src/**/*.rt", recursive=True):
-        with open(path, encoding="utf-8") as it:
-            sources[os.path.relpath(path, room)] = it.read()
-    types = {found[1]: module_of(file) for file, text in sources.items() for found in TYPE.finditer(text)}
+    sources = sources_in(room)
+    for file, it, path in lone_functions(sources):
+        if it.place.name in tried:
+            continue
+        sources[file] = f"{sources[file][: it.begin]}loop {{}}\n{sources[file][it.end :]}"
+        folder = f"{room}/proofs/{'/'.join(path)}"
+        shutil.rmtree(folder, ignore_errors=True)
+        os.makedirs(folder)
+        statement, name = ".".join(["Rattle", crate, "proofs", *path, "Statement"]), f"{path[-1]}_spec"
+        write(f"{folder}/Proof.antt", f"use {statement}.{{statement}}\n\npub {name} : {{M : Type 1}} → statement M\n{name} = ?\n")
     for file, text in sources.items():
-        for it, path in left_out(file, text, types, tried):
-            text = f"{text[: it.begin]}loop {{}}\n{text[it.end :]}"
-            folder = f"{room}/proofs/{'/'.join(path)}"
-            shutil.rmtree(folder, ignore_errors=True)
-            os.makedirs(folder)
-            with open(f"{folder}/Proof.antt", "w", encoding="utf-8") as proof:
-                statement = ".".join(["Rattle", crate, "proofs", *path, "Statement"])
-                name = f"{path[-1]}_spec"
-                proof.write(f"use {statement}.{{statement}}\n\npub {name} : {{M : Type 1}} → statement M\n{name} = ?\n")
-        with open(f"{room}/{file}", "w", encoding="utf-8") as it:
-            it.write(text)
+        write(f"{room}/{file}", text)
 
 
 def check(rtlib, crate, batch, kept, only_these):
@@ -206,7 +270,7 @@ def check(rtlib, crate, batch, kept, only_these):
     """
     modules = {place.name or place.module: place.module for it in batch for place in it.places}
     with tempfile.TemporaryDirectory() as room:
-        copy_with(batch, f"{TOP}/crates/{crate.name}", room)
+        copy_with(crate.name, batch, room)
         if only_these:
             leave_out_bodies(crate.name, room, batch)
         while True:
@@ -250,8 +314,7 @@ def answered_goals(file):
     """The goals that a file of answers has answers to: what else it declares is a step on the way."""
     if not os.path.exists(file):
         return set()
-    with open(file, encoding="utf-8") as it:
-        return set(re.findall(r"^pub (\S+)\s*:\s*goal\.", it.read(), re.M))
+    return set(re.findall(r"^pub (\S+)\s*:\s*goal\.", read(file), re.M))
 
 
 REFUSED = re.compile(r"(?:\./)?proofs/(\S+)/(Answers|Proof|Invariants)\.antt:\S+ error: (?:`([^`]+)`: )?(.*)")
@@ -269,7 +332,7 @@ def read_output(printed, proofs):
         answer, ended, counterexample = REFUSED.match(line), re.match(r"fn \w+::(\S+): (.*)", line), FALSE.match(line)
         if answer:
             path, file, name, said = answer.groups()
-            answers = answered_goals(f"{proofs}/{path}/Answers.antt")
+            answers = answered_goals(f"{proofs}/{COPY.sub('', path)}/Answers.antt")
             if file == "Answers" and name in answers and TRIED.search(said) and not STALE.search(said):
                 goals.setdefault(path, []).append(name)
             else:
@@ -328,8 +391,9 @@ def verdicts_on(batch, printed, has_read, proofs, left_out):
 def judged(rtlib, crate, waiting, kept, shown, is_seeded):
     """Gives the verdicts on all wrong bodies of a crate, each with its name, as they come."""
     left_out, alone = not is_seeded, False
+    lone = {it.function.place.name for it in lone_functions(sources_in(f"{TOP}/crates/{crate.name}"))}
     while waiting:
-        batch = waiting[:1] if alone else first_batch(waiting)
+        batch = waiting[:1] if alone else first_batch(waiting, lone)
         left_out = left_out and any(place.name for it in batch for place in it.places)
         # What is checked is only worth keeping where another check follows.
         is_last = len(batch) == len(waiting) and not os.path.exists(kept)

@@ -107,10 +107,8 @@ impl TableField {
         ensures bytes { option_map (λ bytes. bytes.now) result ≡ field_bytes table.now (field_view self.now) }
         ensures width { IfSome result (λ bytes. length bytes.now ≡ self.now.width) }
     {
-        if table.len() < self.offset || table.len() - self.offset < self.width {
-            return None;
-        }
-        Some(&table[self.offset..self.offset + self.width])
+        let end = self.offset.checked_add(self.width)?;
+        table.get(self.offset..end)
     }
 }
 
