@@ -198,7 +198,8 @@ for width in 1 2 4; do
     is "each crate once, $width at a time" "$(grep -c '^begin' log) $(grep -c 'acpidis: built ' printed)" '16 16'
 done
 is 'the longest chain first' "$(grep -m 1 'acpidis: building [a-z_]* ' printed)" 'acpidis: building aml_names (1 of 16)'
-is 'a crate, four jobs' "$(grep 'begin aml_names' log)" 'begin aml_names lib --jobs 4'
+is 'the next of the longest chain beside three others, two jobs' "$(grep 'begin aml_names' log)" 'begin aml_names lib --jobs 2'
+is 'a crate of a short chain, one job' "$(grep 'begin aml_pool' log)" 'begin aml_pool lib --jobs 1'
 is 'one crate, four processors' "$(grep 'begin acpidis_program' log | cut -d ' ' -f 3-5)" 'run --jobs 4'
 row 'a built program, without a kit' 0 'built|folder|' env PATH="$none" copy/acpidis folder
 row 'words go to the program' 0 'built|--wrong|a b||' env PATH="$none" copy/acpidis --wrong 'a b' ''
