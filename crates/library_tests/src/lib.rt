@@ -1,4 +1,4 @@
-//! What no worked example can show of the libraries: writers that fail, limits, refused memory.
+//! What no worked example and no set can show of the libraries: writers and folders that fail, gates, refused memory.
 #![tactic(auto)]
 
 #[cfg(test)]

@@ -1,11 +1,8 @@
 mod checks;
-mod cuts;
 mod fixtures;
 mod folders;
-mod limits;
 mod listings;
 mod memory;
 mod nesting;
-mod spaces;
 mod starts;
 mod writers;

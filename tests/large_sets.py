@@ -1,0 +1,325 @@
+#!/usr/bin/env python3
+"""Runs acpidis over sets that are too many or too large for worked examples, and compares text, error lines and status.
+
+    python3 tests/large_sets.py [PROGRAM]
+
+PROGRAM is out/acpidis if left out. The independent reading of tests/oracle says what has to come of 19 tables cut at each
+byte, of all bodies of two bytes, of 20,000 methods in a mixed order with a call of each, and of the most files and bytes.
+For a long body, a name of sixteen million `^` and a million methods it would take too long: what has to come of these is
+written down here, after docs/listing.md, docs/limits.md and docs/loading.md. The last line is 'N passed, N failed'.
+"""
+
+import argparse
+import concurrent.futures
+import gc
+import io
+import itertools
+import os
+import pathlib
+import string
+import subprocess
+import sys
+import tempfile
+from collections.abc import Iterable
+from typing import NamedTuple
+
+sys.dont_write_bytecode = True
+sys.path.insert(0, str(pathlib.Path(__file__).resolve().parent / "oracle"))
+
+from compare import PROGRAM  # noqa: E402
+from dumps import HEADER_LENGTH, MOST_BYTES, MOST_DUMPS, Dump  # noqa: E402
+from loading import MOST_METHODS  # noqa: E402
+from pages import table  # noqa: E402
+from running import DONE, RAW, REFUSED, Options, run, run_folder  # noqa: E402
+
+LIST, CHECK = Options(), Options(check=True)
+LONGEST_RUN = 120
+MOST_SHOWN = 200
+BLOCK = "dsdt.dat"
+# How many bytes a method has in front of its body.
+METHOD_LENGTH = 10
+# The text of a table that `table` makes, up to its length and behind it.
+BEGUN, ENDED = f'Table "{BLOCK}" "DSDT" Length ', ' Revision 2 Oem "TEST  " "EXAMPLE " 00000001 Creator "TEST" 00000001\n'
+
+# The AML of tables, of which the last five are refused.
+TABLES = (
+    b"\x14\x08FOO_\x01\xA4h",
+    b"\x08BAR_\x0A\x05\x14\x0BFOO_\x02\xA4rhi\x00",
+    b"\x08BAR_\x0A\x05\x14\x0CFOO_\x00pBAR_`",
+    b"\x14\x0EAAAA\x00\xA4BBBB\x01\x0A\x05\x14\x06BBBB\x02",
+    b"\x14G\x00FOO_\x00\x08BAR_\x00[\x82\x05DEV0[\x83\x0BCPU0\x01\x10\x04\x00\x00\x06[\x84\x08PWR0\x01\x02\x00[\x85\x05TZ00"
+    b"[\x01MTX0\x00[\x02EVT0[\x88DRG0\x0D\x00\x0D\x00\x0D\x00\x8CBAR_\x00BYT0",
+    b"\x10\x03\\\x00\x10\x02\x00",
+    b"\xA0\x10\x00\x15AAAA\x08\x02\x15BBBB\x05\x00",
+    b"\x14\x06MMMM\x03\x06MMMMALIA\x14\x0ECALL\x00ALIA`ab\xA3",
+    b"\x14\x06BBBB\x01\x10\x1A\\_SB_[\x82\x12DEV0\x14\x0CAAAA\x00\xA4BBBB`",
+    b"[\x80REG0\x01\x0B\x00\x04\x0A\x10[\x81\x10REG0\x01\x00\x08FLD0\x08\x01\x01\x00",
+    b"[\x81J\x02GNVS\x01ABCDH\x00\x00\x80\x00\x01\x01\x03\x00\x02\\._SB_GPIO\x03\x01\x0B\x04\x02\x11\x05\x0A\x02\x00y",
+    b"\x15BBBB\x08\x02\x14\x0EAAAA\x00\xA4BBBB\x01\x0A\x05",
+    b"\x14\x17AAAA\x00BBBB\x01\x01\x08BBBB\x00\xA4BBBB\x14\x06BBBB\x02",
+    b"\x08AAAB\x00[\x82\x0BAAAA\x08ZZZZ\x00\x08AAA_\x00\x08\\_GL_\x00\x14\x07\\_OSI\x02",
+    b"\x10\x0B\\_SB_[\x82\x05DEV0\x00",
+    b"\x14\x06BBBB\x01[\x80REG0\x01BBBB\x01",
+    b"\x08FOO_\x00\x08FOO_\x00",
+    b"\x14\x06MMMM\x03\x06MMM_ALIA",
+    b"\x08FOO_\x00\xA0\x02\x01",
+)
+# How many of their cuts, the whole tables among them, are taken, and how many bodies of two bytes are read as terms.
+TAKEN_CUTS, READ_BODIES = 60, 880
+# The methods of the mixed order, and how many names are looked up that nothing declares. The step has no factor in common
+# with the number of methods, so that each comes once.
+MIXED, OTHERS, STEP = 20_000, 500, 7_919
+
+
+class Ending(NamedTuple):
+    """The status of a run, and the lines of its text and of standard error."""
+
+    status: int | None
+    text: Iterable[str] = ()
+    errors: Iterable[str] = ()
+
+
+class Trial(NamedTuple):
+    """A set, the options of a run over it, and how that has to end; the independent reading says it where nothing stands."""
+
+    name: str
+    files: dict
+    options: Options = LIST
+    wanted: Ending | None = None
+
+
+class Padded(NamedTuple):
+    """A file of these bytes, with zeros behind them up to its size."""
+
+    head: bytes
+    size: int
+
+
+# ---- runs
+
+
+def write_files(folder, files):
+    for name, content in files.items():
+        head, size = content if isinstance(content, Padded) else (content, len(content))
+        with open(os.path.join(folder, name), "wb") as file:
+            file.write(head)
+            file.truncate(size)
+
+
+def ending_of(outcome):
+    return Ending(outcome.status, io.StringIO(outcome.out), io.StringIO(outcome.err))
+
+
+def first_difference(got, wanted):
+    """What two endings differ in first, of errors, status and text; None where they are the same."""
+    errors = itertools.zip_longest(got.errors, wanted.errors, fillvalue="the end")
+    statuses = [(f"status {got.status}", f"status {wanted.status}")]
+    text = itertools.zip_longest(got.text, wanted.text, fillvalue="the end")
+    pairs = itertools.chain(errors, statuses, text)
+    return next((f"{one[:MOST_SHOWN]!r}, not {other[:MOST_SHOWN]!r}" for one, other in pairs if one != other), None)
+
+
+def new_file():
+    return tempfile.TemporaryFile("w+", encoding="latin-1", newline="\n")
+
+
+def status_of(command, text, errors):
+    """The status of a run whose lines go to these files; None where it doesn't end."""
+    try:
+        status = subprocess.run(command, stdout=text, stderr=errors, timeout=LONGEST_RUN, check=False).returncode
+    except subprocess.TimeoutExpired:
+        status = None
+    text.seek(0)
+    errors.seek(0)
+    return status
+
+
+def tried(program, trial):
+    """The status of a run; None where it ends otherwise than it has to."""
+    with tempfile.TemporaryDirectory() as folder, new_file() as text, new_file() as errors:
+        write_files(folder, trial.files)
+        got = Ending(status_of([program, *trial.options.words(), folder], text, errors), text, errors)
+        difference = first_difference(got, trial.wanted or ending_of(run_folder(folder, trial.options)))
+    if difference:
+        print(f"FAILED {' '.join(['acpidis', *trial.options.words()])}, {trial.name}: {difference}", flush=True)
+    return None if difference else got.status
+
+
+# ---- beside the independent reading
+
+
+def one(code):
+    """A set of one DSDT of this AML."""
+    return {BLOCK: table(b"DSDT", code)}
+
+
+def cuts():
+    for number, code in enumerate(TABLES, 1):
+        for length in range(len(code) + 1):
+            for options in LIST, CHECK:
+                yield Trial(f"table {number} cut to {length} bytes", one(code[:length]), options)
+
+
+def listed_and_checked(name, files, checks):
+    """The listing of a set by the independent reading, and its check, whose lines are written down."""
+    gc.disable()  # else half of the time goes into looking for what is no longer used, and there is little
+    outcome = run([Dump(file, None, data) for file, data in sorted(files.items())], LIST)
+    gc.enable()
+    yield Trial(name, files, LIST, ending_of(outcome))
+    yield Trial(name, files, CHECK, ending_of(outcome)._replace(text=checks))
+
+
+def check_line(file, size, methods, raw):
+    return f'Check "{file}" Bytes {size} Methods {methods} Raw {raw} Same\n'
+
+
+def segment(number):
+    """Four letters for a number below 456,976, in the order of the numbers."""
+    return bytes(ord("A") + number // 26 ** place % 26 for place in (3, 2, 1, 0))
+
+
+def method(name, body):
+    """A method without arguments, its length spelled in four bytes."""
+    size = METHOD_LENGTH - 1 + len(body)
+    return b"\x14" + bytes([0xC0 | size & 15]) + (size >> 4).to_bytes(3, "little") + name + b"\0" + body
+
+
+def bodies_of_two_bytes():
+    count = 1 << 16
+    code = b"".join(b"\x14\x08" + segment(number) + b"\0" + number.to_bytes(2, "big") for number in range(count))
+    check = check_line(BLOCK, len(code), count, count - READ_BODIES)
+    return listed_and_checked("all bodies of two bytes", one(code), [check])
+
+
+def a_mixed_order():
+    """Methods of 0 to 7 arguments, and in an SSDT a call of each in the order of their names, in one body. Of names that
+    nothing declares each stands in a body of its own."""
+    mixed = (place * STEP % MIXED for place in range(MIXED))
+    code = b"".join(b"\x14\x06" + segment(number) + bytes([number % 8]) for number in mixed)
+    calls = method(b"MAIN", b"".join(segment(number) + b"\x60" * (number % 8) for number in range(MIXED)))
+    others = (method(b"Z%03d" % number, segment(MIXED + number)) for number in range(OTHERS))
+    calls += b"".join(others)
+    files = {**one(code), "ssdt1.dat": table(b"SSDT", calls)}
+    checks = [check_line(BLOCK, len(code), MIXED, 0), check_line("ssdt1.dat", len(calls), OTHERS + 1, OTHERS)]
+    return listed_and_checked("methods in a mixed order", files, checks)
+
+
+def tables(count):
+    """A DSDT and SSDTs, each of which declares a name."""
+    names = [BLOCK, *(f"ssdt{number}.dat" for number in range(1, count))]
+    codes = (b"\x08" + segment(number) + b"\0" for number in range(count))
+    return {name: table(b"DSDT" if name == BLOCK else b"SSDT", code) for name, code in zip(names, codes)}
+
+
+def the_most_files():
+    for count in MOST_DUMPS, MOST_DUMPS + 1:
+        yield Trial(f"{count} empty files", dict.fromkeys(map(str, range(count)), b""))
+        yield Trial(f"{count} tables", tables(count))
+    yield Trial(f"{MOST_DUMPS} tables", tables(MOST_DUMPS), CHECK)
+
+
+def the_most_bytes():
+    for size in MOST_BYTES, MOST_BYTES + 1:
+        yield Trial(f"{size} zeros", {BLOCK: Padded(b"", size)})
+        yield Trial(f"a table in {size} bytes", {BLOCK: Padded(table(b"DSDT", TABLES[0]), size)})
+
+
+# ---- written down
+
+
+def refused(name, files, line):
+    return Trial(name, files, LIST, Ending(REFUSED, (), [f"acpidis: {line}\n"]))
+
+
+def of_one_method(name, body, lines):
+    """The listing and the check of a table that has one method, whose body has these lines."""
+    code = method(b"MAIN", body)
+    head = [f"{BEGUN}{HEADER_LENGTH + len(code)}{ENDED}", "Namespace 1\n", "  \\MAIN Method 0\n"]
+    block = [f'DefinitionBlock ("{BLOCK}") {{\n', "  Method (MAIN, 0, NotSerialized, 0) {\n", *lines, "  }\n", "}\n"]
+    yield Trial(name, one(code), LIST, Ending(DONE, head + block))
+    yield Trial(name, one(code), CHECK, Ending(DONE, [check_line(BLOCK, len(code), 1, 0)]))
+
+
+def a_long_body():
+    count = 100_000
+    return of_one_method("a long body", b"\xA4\x72\x60\x61\x00" * count, ["    Return (Add (Local0, Local1, ))\n"] * count)
+
+
+def parent_prefixes():
+    """A name of as many `^` as a table has room for leads above the root. As a target it is printed, and asked for nothing."""
+    room = MOST_BYTES - HEADER_LENGTH
+    name = b"^" * (room - 6) + b"BBBB"
+    yield refused("a declared name of ^", one(b"\x08" + name + b"\0"), f'table "{BLOCK}": AboveRoot')
+    name = b"^" * (room - METHOD_LENGTH - 5) + b"BBBB"
+    yield from of_one_method("a target of ^", b"\x71" + name, [f"    RefOf ({name.decode()})\n"])
+
+
+def ascending(count):
+    """Segments in the order of their bytes."""
+    others = string.digits + string.ascii_uppercase
+    return itertools.islice(map("".join, itertools.product(string.ascii_uppercase, *[others] * 3)), count)
+
+
+def empty_methods(count):
+    return b"".join(b"\x14\x06%s\0" % name.encode() for name in ascending(count))
+
+
+def lines_of_empty_methods(count):
+    """Their listing as the AML of a table, line by line."""
+    yield f"{BEGUN}{HEADER_LENGTH + 7 * count}{ENDED}"
+    yield f"Namespace {count}\n"
+    yield from (f"  \\{name} Method 0\n" for name in ascending(count))
+    yield f'DefinitionBlock ("{BLOCK}") {{\n'
+    for name in ascending(count):
+        yield f"  Method ({name}, 0, NotSerialized, 0) {{\n"
+        yield "  }\n"
+    yield "}\n"
+
+
+def the_most_methods():
+    """The limit is met before the place of a name is looked at. A set has one limit, whichever tables have the methods."""
+    code = empty_methods(MOST_METHODS)
+    most, above, fault = one(code), b"\x14\x07^ABCD\0", "TooManyMethods"
+    yield Trial("the most methods", most, LIST, Ending(DONE, lines_of_empty_methods(MOST_METHODS)))
+    yield Trial("the most methods", most, CHECK, Ending(DONE, [check_line(BLOCK, len(code), MOST_METHODS, 0)]))
+    more = b"\x14\x06ZZZZ\0"
+    yield refused("a method too many", one(code + more), fault)
+    yield refused("a method too many in an SSDT", {**most, "ssdt1.dat": table(b"SSDT", more)}, fault)
+    yield refused("a method too many above the root", one(code + above), fault)
+    yield refused("the last method above the root", one(code[:-7] + above), f'table "{BLOCK}": AboveRoot')
+
+
+def large_trials():
+    yield from bodies_of_two_bytes()
+    yield from a_mixed_order()
+    yield from the_most_files()
+    yield from the_most_bytes()
+    yield from a_long_body()
+    yield from parent_prefixes()
+    yield from the_most_methods()
+
+
+def fails_of_cuts(program):
+    """Whether each run fails, and whether another number of them than it has to be is taken."""
+    with concurrent.futures.ThreadPoolExecutor(len(os.sched_getaffinity(0))) as pool:
+        statuses = list(pool.map(lambda trial: tried(program, trial), cuts()))
+    taken = sum(status in (DONE, RAW) for status in statuses)
+    if taken != 2 * TAKEN_CUTS:
+        print(f"FAILED cuts: {taken} runs of them are taken, not {2 * TAKEN_CUTS}")
+    return [*(status is None for status in statuses), taken != 2 * TAKEN_CUTS]
+
+
+def main():
+    words = argparse.ArgumentParser(description=__doc__, formatter_class=argparse.RawDescriptionHelpFormatter)
+    words.add_argument("program", nargs="?", type=pathlib.Path, default=PROGRAM)
+    program = words.parse_args().program.resolve()
+    if not program.exists():
+        sys.exit("the program isn't built: ./acpidis demo builds it")
+    fails = fails_of_cuts(program)
+    fails += [tried(program, trial) is None for trial in large_trials()]
+    print(f"{fails.count(False)} passed, {fails.count(True)} failed")
+    sys.exit(any(fails))
+
+
+if __name__ == "__main__":
+    main()
