@@ -13,9 +13,10 @@ pub use Rattle.acpidis.specs.declared.options.Options.{Options}
 pub use Rattle.aml_code.specs.Lawful.{ReadsModule}
 pub use Rattle.aml_code.specs.Tree.{Trees, no_trees}
 pub use Rattle.aml_load.specs.Loading.{Listed, IsLoad, methods_of}
-pub use Rattle.aml_load.specs.Views.{OfMethod, codes_view, span_of, body_in, AreShort, HoldsLoad, trees_view, body_of}
-pub use Rattle.aml_load.specs.declared.loading.Loaded.{Loaded}
-pub use Rattle.aml_load.specs.declared.methods.Method.{Method}
+pub use Rattle.aml_set.specs.Views.{codes_view, span_of, body_in, AreShort, trees_view, body_of}
+pub use Rattle.aml_load.specs.Views.{OfMethod, HoldsLoad}
+pub use Rattle.aml_set.specs.declared.loaded.Loaded.{Loaded}
+pub use Rattle.aml_set.specs.declared.methods.Method.{Method}
 pub use Rattle.aml_names.specs.declared.faults.CodeFault.{CodeFault}
 pub use Rattle.aml_space.specs.Namespace.{Entry, Givens}
 pub use Rattle.asl_text.proofs.LevelLaws.{AgreeAt}

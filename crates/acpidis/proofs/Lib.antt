@@ -6,3 +6,4 @@ pub mod MeaningLaws
 pub mod RunLaws
 pub mod CheckLaws
 pub mod SameLaws
+pub mod Taking

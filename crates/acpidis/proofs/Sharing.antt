@@ -8,7 +8,7 @@ use Rattle.aml_code.proofs.tree.Field.TheLaws.TheKnot as Field
 use Rattle.aml_code.specs.contracts.tree.Node as Node
 use Rattle.aml_names.proofs.paths.Path.TheSendSync as Path
 use Rattle.aml_load.below.aml_children.proofs.trees.Tree.TheLaws.TheKnot as Tree
-use Rattle.aml_load.specs.contracts.loading.Loaded as Loaded
+use Rattle.aml_set.specs.contracts.loaded.Loaded as Loaded
 use Rattle.aml_space.specs.contracts.spaces.Space as Space
 use Rattle.acpidis.specs.contracts.bodies.Keeping as Keeping
 

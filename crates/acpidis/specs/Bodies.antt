@@ -11,9 +11,10 @@ use Rattle.aml_code.specs.Tree.{Trees}
 use Rattle.aml_code.specs.View.{nodes_view}
 use Rattle.aml_space.specs.Namespace.{Entry}
 use Rattle.aml_space.specs.Known.{StandsFor}
-use Rattle.aml_load.specs.Views.{IsBody, IsUnread, body_at, OfMethod, AreShort, codes_view}
-use Rattle.aml_load.specs.declared.loading.Loaded.{Loaded}
-use Rattle.aml_load.specs.declared.methods.Method.{Method}
+use Rattle.aml_set.specs.Views.{AreShort, codes_view}
+use Rattle.aml_load.specs.Views.{IsBody, IsUnread, body_at, OfMethod}
+use Rattle.aml_set.specs.declared.loaded.Loaded.{Loaded}
+use Rattle.aml_set.specs.declared.methods.Method.{Method}
 use Rattle.aml_pool.specs.Counting.{IsOnce}
 use Rattle.aml_pool.specs.Seats.{all_of}
 use Rattle.asl_text.specs.declared.bodies.Body.{Body}

@@ -6,8 +6,8 @@ use Rattle.std.specs.List.{list_all, list_any, count_by}
 use lib.Pointwise.{pointwise}
 use Rattle.aml_code.specs.Tree.{encodings, Trees}
 use Rattle.aml_load.specs.Loading.{methods_of}
-use Rattle.aml_load.specs.Views.{codes_view, span_of}
-use Rattle.aml_load.specs.declared.methods.Method.{Method}
+use Rattle.aml_set.specs.Views.{codes_view, span_of}
+use Rattle.aml_set.specs.declared.methods.Method.{Method}
 use Rattle.asl_text.specs.Texts.{OneBody, read, raw, OneBlock}
 use Rattle.asl_text.specs.Bodies.{body_view}
 use Rattle.aml_text.specs.Listing.{names_in, blocks_of, blocks_in}
@@ -20,7 +20,7 @@ use Rattle.acpidis.specs.declared.checking.Checked.{Checked}
 use Rattle.acpidis.specs.declared.checking.Mark.{Mark}
 use Rattle.aml_names.specs.declared.faults.CodeFault.{CodeFault}
 use Rattle.aml_code.specs.View.{nodes_view}
-use Rattle.aml_load.specs.declared.loading.Loaded.{Loaded}
+use Rattle.aml_set.specs.declared.loaded.Loaded.{Loaded}
 use Rattle.asl_text.specs.declared.bodies.Body.{Body}
 use Rattle.asl_text.specs.declared.bodies.Body.TheVariants as bodies
 

@@ -9,7 +9,7 @@ use Rattle.aml_space.specs.Namespace.{Entry}
 use Rattle.aml_space.specs.Known.{kinds_in}
 use Rattle.aml_load.specs.Loading.{Listed, IsLoad, methods_of}
 use Rattle.aml_load.specs.Views.{HoldsLoad}
-use Rattle.aml_load.specs.declared.loading.Loaded.{Loaded}
+use Rattle.aml_set.specs.declared.loaded.Loaded.{Loaded}
 use Rattle.asl_text.specs.Texts.{OneBody}
 use Rattle.asl_text.specs.Bodies.{body_view}
 use Rattle.aml_text.specs.Listing.{listing_text}

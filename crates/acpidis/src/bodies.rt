@@ -1,6 +1,6 @@
 //! The bodies of all methods, read by workers, and what is kept of them.
 ghost use Rattle.std.specs.Prelude.{◌≡◌, ◌≤◌, ℕ, List, IfOk, IfErr, length};
-ghost use Rattle.aml_load.specs.Views.{body_of};
+ghost use Rattle.aml_set.specs.Views.{body_of};
 ghost use Rattle.asl_text.specs.declared.bodies.Body.{Body};
 ghost use Rattle.acpidis.specs.Refusals.{IsWant};
 ghost use Rattle.acpidis.specs.Bodies.{AreBodies, CanRead, BecameOf, AreDrawn, IsWithinLimits};
@@ -9,8 +9,9 @@ ghost use Rattle.acpidis.specs.Checks.{AreKeptOf};
 use crate::crew::Crew;
 use crate::refusal::Refusal;
 use aml_code::CodeFault;
-use aml_load::{Loaded, read_body};
+use aml_load::read_body;
 use aml_pool::{Gate, NoMemory, PoolFault, Results, Work, harvest};
+use aml_set::Loaded;
 use asl_text::Body;
 use std::alloc::Global;
 use std::sync::Wait;

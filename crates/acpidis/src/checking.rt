@@ -1,6 +1,6 @@
 //! Whether what was read encodes to the same bytes again.
 ghost use Rattle.std.specs.Prelude.{◌≡◌, ◌≤◌, ◌<◌, IfOk, length, map, slice_set, slice_index_or};
-ghost use Rattle.aml_load.specs.Views.{codes_view, AreShort, body_of};
+ghost use Rattle.aml_set.specs.Views.{codes_view, AreShort, body_of};
 ghost use Rattle.asl_text.specs.Bodies.{block_view};
 ghost use Rattle.aml_text.specs.Listing.{blocks_at};
 ghost use Rattle.acpidis.specs.Bodies.{IsWithinLimits};
@@ -8,7 +8,7 @@ ghost use Rattle.acpidis.specs.Checks.{checks_with, checks_of, Under, added, unc
 
 use crate::trials::{is_encoding, try_body};
 use aml_code::{CodeFault, NoMemory};
-use aml_load::Method;
+use aml_set::Method;
 use aml_text::{Listing, Tables, block_at};
 use asl_text::Block;
 use std::alloc::Global;

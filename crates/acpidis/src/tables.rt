@@ -1,6 +1,6 @@
 //! The AML of the tables of a set.
 ghost use Rattle.std.specs.Prelude.{◌≡◌, IfOk};
-ghost use Rattle.aml_load.specs.Views.{codes_view, AreShort};
+ghost use Rattle.aml_set.specs.Views.{codes_view, AreShort};
 ghost use Rattle.acpi_tables.specs.Header.{HoldsTable};
 ghost use Rattle.acpi_tables.specs.Order.{AreTables};
 ghost use Rattle.aml_text.specs.Matched.{indexes_in};

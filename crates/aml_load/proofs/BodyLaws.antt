@@ -17,8 +17,9 @@ use Rattle.aml_parse.specs.Reading.{all_at}
 use Rattle.aml_space.specs.Known.{BodyView, Known, StandsFor, namespace_in}
 use Rattle.aml_space.specs.Namespace.{Entry, Namespace, namespace_of, arity_of}
 use Rattle.aml_space.proofs.Stands.{same_namespace}
-use Rattle.aml_load.specs.declared.methods.Method.{Method}
-use Rattle.aml_load.specs.Views.{IsBody, IsUnread, IsReading, GivesBody, AreShort, span_in, span_of}
+use Rattle.aml_set.specs.declared.methods.Method.{Method}
+use Rattle.aml_set.specs.Views.{AreShort, span_in, span_of}
+use Rattle.aml_load.specs.Views.{IsBody, IsUnread, IsReading, GivesBody}
 
 -- a span is no longer than its table
 short_in : (o : Option (List ℕ)) (m : Method) → ((c : List ℕ) → o ≡ Some c → length c ≤ 16777216) → length (span_in o m) ≤ 16777216

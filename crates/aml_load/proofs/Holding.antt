@@ -26,7 +26,7 @@ use Rattle.aml_space.specs.Namespace.{Entry, Body, declares, declared_at}
 use Rattle.aml_space.specs.Known.{Known, StandsFor, is_declared}
 use Rattle.aml_load.specs.declared.faults.LoadFault.{LoadFault}
 use Rattle.aml_load.specs.declared.faults.LoadFault.TheVariants as loads
-use Rattle.aml_load.specs.declared.methods.Method.{Method}
+use Rattle.aml_set.specs.declared.methods.Method.{Method}
 use Rattle.aml_load.specs.declared.walking.Progress.{Progress}
 use Rattle.aml_load.specs.Loading.{◌>>=◌, Listed, plus, with_uses, method_of, methods_of, role_of, kinds_in, parts_uses, tail_uses, place_at, entry_at, new_at}
 use Rattle.aml_load.specs.Loading.{units_at, declare_as, declare, declare_inside}

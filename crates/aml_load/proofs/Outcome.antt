@@ -17,11 +17,12 @@ use Rattle.aml_parse.proofs.Readings.{module_sound, module_again, all_placed}
 use Rattle.aml_space.specs.Namespace.{Givens}
 use Rattle.aml_load.specs.declared.faults.LoadFault.{LoadFault}
 use Rattle.aml_load.specs.declared.faults.LoadFault.TheVariants as loads
-use Rattle.aml_load.specs.declared.loading.Loaded.{Loaded}
-use Rattle.aml_load.specs.declared.methods.Use.{Use}
+use Rattle.aml_set.specs.declared.loaded.Loaded.{Loaded}
+use Rattle.aml_load.specs.declared.used.Use.{Use}
 use Rattle.aml_load.specs.Loading.{◌>>=◌, Listed, first_listed, declare_all, declare_tables, uses_at, IsLoad, StopsTables, StopsLoad, most_methods}
 use Rattle.aml_load.specs.Walking.{in_code, table_at, tables_at, load_at, GivesLoad, AreCodes}
-use Rattle.aml_load.specs.Views.{AreShort, codes_view, HoldsLoad}
+use Rattle.aml_set.specs.Views.{AreShort, codes_view}
+use Rattle.aml_load.specs.Views.{HoldsLoad}
 use Rattle.aml_load.proofs.SpanLaws.{few_methods}
 
 -- ---- the tables

@@ -1,7 +1,7 @@
 -- The methods of the entries stand in the order of the text, each once, and there aren't too many: where a method can't
 -- stand, there is no body, and loading goes into all terms in which one can stand.
 use Rattle.std.proofs.Common.{◌≡◌, ℕ, zero, suc, Bool, true, false, not, ◌&&◌, List, [], ◌∷◌, ◌++◌, length, map, Option, Some, None, refl, sym, ap, subst, ◌∙◌}
-use Rattle.std.proofs.Common.{append_assoc, slice_get, Result, Ok, Err, is_some, cond, nat_le, ◌≤◌, ◌<◌, ◌+◌, arith}
+use Rattle.std.proofs.Common.{append_assoc, slice_get, Result, Ok, Err, is_some, cond, nat_le, ◌≤◌, ◌<◌, arith}
 use Rattle.std.specs.Prelude.{IfOk}
 use Rattle.std.specs.FinSet as set
 use Rattle.std.specs.List.{AllZip}

@@ -29,8 +29,8 @@ use Rattle.aml_space.specs.Namespace.{Entry, Givens, declares, external, given_e
 use Rattle.aml_space.specs.Namespace.{kind_at, found, arity_of}
 use Rattle.aml_load.specs.declared.faults.LoadFault.{LoadFault}
 use Rattle.aml_load.specs.declared.faults.LoadFault.TheVariants as loads
-use Rattle.aml_load.specs.declared.methods.Method.{Method}
-use Rattle.aml_load.specs.declared.methods.Use.{Use}
+use Rattle.aml_set.specs.declared.methods.Method.{Method}
+use Rattle.aml_load.specs.declared.used.Use.{Use}
 
 -- the role of an opcode; an opcode that has no row does nothing
 unfoldable pub role_of : ℕ → Role

@@ -13,7 +13,7 @@ use Rattle.aml_space.specs.Namespace.{Givens}
 use Rattle.aml_space.specs.Known.{Known, StandsFor}
 use Rattle.aml_load.specs.declared.faults.LoadFault.{LoadFault}
 use Rattle.aml_load.specs.declared.faults.LoadFault.TheVariants as loads
-use Rattle.aml_load.specs.declared.loading.Loaded.{Loaded}
+use Rattle.aml_set.specs.declared.loaded.Loaded.{Loaded}
 use Rattle.aml_load.specs.declared.walking.Progress.{Progress}
 use Rattle.aml_load.specs.Loading.{◌>>=◌, code_fault, Listed, first_listed, methods_of, declare_all, uses_at}
 use Rattle.aml_load.specs.Views.{HoldsLoad}

@@ -1,25 +1,16 @@
 //! The bodies of methods.
-ghost use Rattle.std.specs.Prelude.{◌≡◌, List};
+ghost use Rattle.std.specs.Prelude.{List};
 ghost use Rattle.aml_code.specs.View.{nodes_view};
 ghost use Rattle.aml_space.specs.Namespace.{Entry};
 ghost use Rattle.aml_space.specs.Known.{StandsFor};
-ghost use Rattle.aml_load.specs.Views.{IsReading, GivesBody, span_of, codes_view, AreShort};
+ghost use Rattle.aml_set.specs.Views.{codes_view, AreShort};
+ghost use Rattle.aml_load.specs.Views.{IsReading, GivesBody};
 
-use crate::methods::Method;
-use aml_code::{CodeFault, Node, slice};
+use aml_code::{CodeFault, Node};
 use aml_parse::parse_body;
+use aml_set::{Method, span_of};
 use aml_space::{BodyScope, Space};
 use std::alloc::Global;
-
-/// The bytes of the body of a method, by the AML of each table in load order.
-pub fn span_of<'a>(tables: &[&'a [u8]], method: &Method) -> &'a [u8]
-    ensures { result.now ≡ span_of (codes_view tables.now) method.now }
-{
-    match tables.get(method.table) {
-        None => &[],
-        Some(code) => slice(code, method.start, method.len),
-    }
-}
 
 /// The terms of the body of a method, in the namespace of all tables (ACPI 6.5, 5.3), by the AML of each table in load
 /// order. With `unknown_zero` a name that leads nowhere counts as one without arguments.

@@ -7,13 +7,12 @@
 mod bodies;
 mod faults;
 mod loading;
-mod methods;
 mod roles;
 mod scopes;
+mod used;
 mod uses;
 mod walking;
 
-pub use bodies::{read_body, span_of};
+pub use bodies::read_body;
 pub use faults::LoadFault;
-pub use loading::{Loaded, load, rebuild};
-pub use methods::Method;
+pub use loading::load;

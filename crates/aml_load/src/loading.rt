@@ -7,31 +7,20 @@ ghost use Rattle.aml_space.specs.Namespace.{given_entries};
 ghost use Rattle.aml_space.specs.Known.{StandsFor};
 ghost use Rattle.aml_load.specs.Loading.{Listed, first_listed, IsLoad, StopsLoad, most_methods, use_count, uses_at};
 ghost use Rattle.aml_load.specs.Walking.{table_at, tables_at, GivesLoad, IsCode, AreCodes, Holds, Gives, TableWalked};
-ghost use Rattle.aml_load.specs.Views.{codes_view, trees_view, AreShort, HoldsLoad, body_of, table_encoding};
+ghost use Rattle.aml_set.specs.Views.{codes_view, trees_view, AreShort};
+ghost use Rattle.aml_load.specs.Views.{HoldsLoad};
 
 use crate::faults::LoadFault;
-use crate::methods::{Method, Use};
 use crate::scopes::SharedPath;
+use crate::used::Use;
 use crate::uses::Site;
 use crate::walking::Progress;
-use aml_code::{Locals, NoMemory, Node, Path, encode_terms, slice};
+use aml_code::{Locals, NoMemory, Node, Path};
 use aml_names::Arity;
 use aml_parse::parse_module;
+use aml_set::Loaded;
 use aml_space::{BodyScope, Space};
 use std::alloc::Global;
-
-/// Tables that were loaded as one: their namespace and their methods.
-#[derive(Drop)]
-pub struct Loaded<'a> {
-    /// The AML of each table, in load order.
-    pub tables: Vec<&'a [u8]>,
-    /// The terms of each table.
-    pub trees: Vec<Vec<Node>>,
-    /// The namespace of all tables.
-    pub space: Space,
-    /// The methods of all tables, in load order and in the order of the text. Their numbers begin at 0.
-    pub methods: Vec<Method>,
-}
 
 /// Reads a table, and declares what it declares.
 #[tactic(auto, unfolding(crate::specs::Walking::table_at))]
@@ -192,32 +181,4 @@ pub fn load<'a>(
 {
     are_codes(tables);
     load_whole(alloc, tables, givens)
-}
-
-impl<'a> Loaded<'a> {
-    /// The bytes of the body of a method, by the method's number. Of a number without a method there are none.
-    pub fn body(&self, number: u32) -> &'a [u8]
-        ensures { result.now ≡ body_of self.now number }
-    {
-        match self.methods.get(number as usize) {
-            None => &[],
-            Some(method) => match self.tables.get(method.table) {
-                None => &[],
-                Some(code) => slice(code, method.start, method.len),
-            },
-        }
-    }
-}
-
-/// The AML of a table, made anew from its terms. Of a number without a table there is none.
-pub fn rebuild(alloc: Global, loaded: &Loaded<'_>, table: usize) -> Result<Vec<u8>, NoMemory>
-    ensures { IfOk result (λ bytes. bytes.items ≡ table_encoding loaded.now table) }
-{
-    match loaded.tables.get(table) {
-        None => Ok(Vec::new(alloc)),
-        Some(code) => match loaded.trees.get(table) {
-            None => Ok(Vec::new(alloc)),
-            Some(terms) => encode_terms(alloc, code, terms.as_slice()),
-        },
-    }
 }

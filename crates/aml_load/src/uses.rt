@@ -3,8 +3,8 @@ ghost use Rattle.std.specs.Prelude.{◌≡◌, ◌++◌, ◌∷◌, [], OnOk, fa
 ghost use Rattle.aml_code.specs.View.{node_view, nodes_view, part_view, parts_view, tail_view, field_view, fields_view, link_view};
 ghost use Rattle.aml_load.specs.Loading.{is_argument, kinds_in, use_of, uses_in, part_uses, parts_uses, tail_uses, elements_uses, fields_uses, field_uses, link_uses};
 
-use crate::methods::Use;
 use crate::scopes::SharedPath;
+use crate::used::Use;
 use aml_code::{Field, Link, NoMemory, Node, Part, PartKind, Tail, listed_row};
 use aml_names::Name;
 

@@ -10,13 +10,14 @@ ghost use Rattle.aml_load.specs.Loading.{Listed, plus, method_entry, first_label
 ghost use Rattle.aml_load.specs.Walking.{Gives, GivesIn, Walks};
 
 use crate::faults::LoadFault;
-use crate::methods::{Method, Use};
 use crate::roles::{kind_of, role_of};
 use crate::scopes::SharedPath;
+use crate::used::Use;
 use crate::uses::{Site, add_names};
 use aml_code::{
     Field, Name, NoMemory, Node, Part, Path, Role, Seg, Tail, last_byte, last_name, place,
 };
+use aml_set::Method;
 use aml_space::{Kind, Space, SpaceFault};
 use std::alloc::Global;
 

@@ -4,13 +4,9 @@ pub use Rattle.acpi_tables.specs.declared.dump.Dump.{Dump}
 pub use Rattle.acpi_tables.specs.declared.order.Order.{Order}
 pub use Rattle.acpi_text.specs.Dumps.{dumps_text}
 pub use Rattle.aml_code.specs.View.{nodes_view}
-pub use Rattle.aml_code.specs.declared.rows.Position.{Position}
-pub use Rattle.aml_code.specs.declared.rows.TailKind.{TailKind}
 pub use Rattle.aml_code.specs.declared.tree.Node.{Node}
-pub use Rattle.aml_load.specs.Spans.{tree_spans, all_spans, tail_spans}
-pub use Rattle.aml_load.specs.Views.{codes_view, trees_view}
-pub use Rattle.aml_load.specs.declared.loading.Loaded.{Loaded}
-pub use Rattle.aml_names.specs.Paths.{PathSet}
+pub use Rattle.aml_set.specs.Views.{codes_view, trees_view}
+pub use Rattle.aml_set.specs.declared.loaded.Loaded.{Loaded}
 pub use Rattle.aml_names.specs.declared.segments.Seg.{Seg}
 pub use Rattle.aml_space.specs.Known.{row_pair}
 pub use Rattle.aml_space.specs.declared.kinds.Kind.{Kind}
@@ -19,13 +15,13 @@ pub use Rattle.asl_text.specs.Bodies.{bodies_lines, block_view}
 pub use Rattle.aml_text.specs.Matched.{indexes_in, AreMatched}
 pub use Rattle.aml_text.specs.Rows.{row_line}
 unfoldable pub use Rattle.aml_text.specs.Rows.{namespace_text}
-pub use Rattle.asl_text.specs.Texts.{deeper, block}
-pub use Rattle.asl_text.specs.Texts.{BodyLines, levels_in, tail_levels, all_levels, levels_of}
+pub use Rattle.asl_text.specs.Texts.{block}
+pub use Rattle.asl_text.specs.Texts.{BodyLines, all_levels, levels_of}
 pub use Rattle.asl_text.specs.Texts.{left_all, block_text, blocks_text, OneBlock}
 unfoldable pub use Rattle.asl_text.specs.Texts.{line}
 pub use Rattle.std.proofs.Common.{◌≡◌, ℕ, ◌<◌, List, length, get_or, map, sym, ap, ◌∙◌, arith, None, [], ◌++◌, append_assoc, refl}
-pub use Rattle.std.proofs.Common.{◌+◌, ◌∷◌, Some, subst, drop, zero, suc, append-nil, flat_map, is_some}
-pub use Rattle.std.proofs.lemmas.List.{length-map, get_or-map, length-append, drop_more, at_drop_all}
+pub use Rattle.std.proofs.Common.{◌+◌, ◌∷◌, Some, subst, drop, append-nil, flat_map, is_some}
+pub use Rattle.std.proofs.lemmas.List.{length-map, get_or-map, drop_more, at_drop_all}
 pub use Rattle.std.proofs.lemmas.List.{flat_map_more}
 pub use Rattle.std.proofs.lemmas.Slice.Zip.{length-zip, get_or-zip}
 pub use Rattle.std.specs.Option.{option_map, unwrap_or}

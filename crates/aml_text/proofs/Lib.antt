@@ -2,4 +2,3 @@ pub mod Common
 pub mod Pairs
 pub mod ListingLaws
 pub mod SameBlocks
-pub mod Taking

@@ -8,8 +8,8 @@ use Rattle.acpi_text.specs.Dumps.{dumps_text}
 use Rattle.aml_names.specs.declared.segments.Seg.{Seg}
 use Rattle.aml_code.specs.Tree.{Trees}
 use Rattle.aml_space.specs.declared.kinds.Kind.{Kind}
-use Rattle.aml_load.specs.declared.loading.Loaded.{Loaded}
-use Rattle.aml_load.specs.Views.{codes_view, trees_view}
+use Rattle.aml_set.specs.declared.loaded.Loaded.{Loaded}
+use Rattle.aml_set.specs.Views.{codes_view, trees_view}
 use Rattle.asl_text.specs.Texts.{OneBody, OneBlock, BodyLines, body_lines, blocks_text}
 use Rattle.asl_text.specs.Bodies.{body_view}
 use Rattle.aml_text.specs.declared.listing.Listing.{Listing}

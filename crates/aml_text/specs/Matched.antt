@@ -1,7 +1,7 @@
 -- Which tables go together: a dump, AML and terms for each place in the load order.
 use Rattle.std.specs.Prelude.{◌≡◌, ℕ, List, ◌∷◌, length}
 use Rattle.acpi_tables.specs.declared.order.Order.{Order}
-use Rattle.aml_load.specs.declared.loading.Loaded.{Loaded}
+use Rattle.aml_set.specs.declared.loaded.Loaded.{Loaded}
 
 -- the indexes of the dumps of an order
 abbrev pub indexes_in : Order → List ℕ

@@ -1,7 +1,7 @@
 //! The levels at which the bodies of methods are printed.
 ghost use Rattle.std.specs.Prelude.{◌≡◌, ◌++◌, OnOk, IfOk};
 ghost use Rattle.aml_code.specs.View.{node_view, nodes_view, tail_view};
-ghost use Rattle.aml_load.specs.Views.{trees_view};
+ghost use Rattle.aml_set.specs.Views.{trees_view};
 ghost use Rattle.asl_text.specs.Texts.{levels_in, tail_levels, all_levels, levels_of};
 
 use aml_code::{NoMemory, Node, Tail};

@@ -3,7 +3,7 @@ ghost use Rattle.std.specs.Prelude.{◌≡◌, length};
 ghost use Rattle.aml_text.specs.Matched.{AreMatched};
 
 use acpi_tables::{Dump, Order};
-use aml_load::Loaded;
+use aml_set::Loaded;
 use asl_text::Body;
 
 /// A set of tables: its dumps, the tables that were loaded, and the bodies of their methods.

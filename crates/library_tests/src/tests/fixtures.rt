@@ -1,6 +1,6 @@
 //! Code, dumps, tables, works and gates that several tests hand in.
 ghost use Rattle.std.specs.Prelude.{◌≡◌, ◌*◌, ◌≤◌, ⊤, Some, IfOk, length};
-ghost use Rattle.aml_load.specs.Views.{codes_view, AreShort};
+ghost use Rattle.aml_set.specs.Views.{codes_view, AreShort};
 
 use acpi_tables::Dump;
 use acpidis::{Options, Refusal, disassemble, run};

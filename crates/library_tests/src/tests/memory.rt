@@ -3,7 +3,7 @@
 //! `tests/refusals.sh` runs each of these tests again and again, with each growth refused in turn. Where none is
 //! refused the answer has to be whole.
 ghost use Rattle.std.specs.Prelude.{◌≤◌, length};
-ghost use Rattle.aml_load.specs.Views.{codes_view, AreShort};
+ghost use Rattle.aml_set.specs.Views.{codes_view, AreShort};
 
 use super::fixtures::{
     Bare, Square, Want, codes, is_whole_or_want, listing_of, push_dump, push_table,
@@ -14,10 +14,11 @@ use acpi_folder::{ExternalsFault, FolderFault, GatherFault, gather, parse_extern
 use acpi_tables::{Bad, Dump, load_order};
 use acpidis::{Checked, Refusal, check};
 use aml_code::CodeFault;
-use aml_load::{LoadFault, Loaded, load, rebuild};
+use aml_load::{LoadFault, load};
 use aml_names::{Path, Seg};
 use aml_parse::parse_body;
 use aml_pool::{Board, FreeGate, PoolFault, crew, harvest};
+use aml_set::{Loaded, rebuild};
 use aml_space::Space;
 use aml_text::{Body, Listing, term_text};
 use std::alloc::{AllocError, Global};

@@ -1,6 +1,6 @@
 use Rattle.std.proofs.Common.{List, ℕ, ◌≤◌, length, subst, sym}
 use Rattle.aml_code.specs.View.{nodes_view}
-use Rattle.aml_load.specs.Views.{codes_view}
+use Rattle.aml_set.specs.Views.{codes_view}
 use Rattle.aml_load.proofs.BodyLaws.{short_span, reading_is, forward_is}
 use Rattle.aml_load.proofs.bodies.read_body.Goals as goal
 

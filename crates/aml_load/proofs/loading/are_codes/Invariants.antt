@@ -1,5 +1,5 @@
 use Rattle.std.proofs.Common.{drop}
-use Rattle.aml_load.specs.Views.{codes_view}
+use Rattle.aml_set.specs.Views.{codes_view}
 use Rattle.aml_load.specs.Walking.{AreCodes}
 use Rattle.aml_load.proofs.loading.are_codes.Given as goal
 

@@ -1,4 +1,4 @@
-use Rattle.aml_load.specs.Views.{codes_view}
+use Rattle.aml_set.specs.Views.{codes_view}
 use Rattle.aml_load.proofs.Outcome.{given_sound, given_few, given_one, given_complete, given_true}
 use Rattle.aml_load.proofs.loading.load.Goals as goal
 

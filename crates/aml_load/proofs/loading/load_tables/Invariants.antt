@@ -1,7 +1,7 @@
 use Rattle.std.proofs.Common.{◌≡◌, drop, []}
 use Rattle.aml_load.specs.Loading.{Listed}
 use Rattle.aml_load.specs.Walking.{tables_at, Holds}
-use Rattle.aml_load.specs.Views.{codes_view, trees_view}
+use Rattle.aml_set.specs.Views.{codes_view, trees_view}
 use Rattle.aml_load.proofs.loading.load_tables.Given as goal
 
 abbrev pub invariant-loop-table : goal.invariant-loop-table

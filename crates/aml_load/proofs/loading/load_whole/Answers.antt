@@ -1,6 +1,6 @@
 use Rattle.std.proofs.Common.{ap, ◌∙◌, ◌++◌, refl}
 use Rattle.aml_load.specs.Loading.{first_listed}
-use Rattle.aml_load.specs.Views.{codes_view, trees_view}
+use Rattle.aml_set.specs.Views.{codes_view, trees_view}
 use Rattle.aml_load.proofs.Outcome.{load_gives}
 use Rattle.aml_load.proofs.loading.load_whole.Goals as goal
 
