@@ -17,7 +17,7 @@ There are three verdicts, each printed with its reason:
 
 A function is proved from its own body and the contracts of what it calls. So wrong bodies of different functions don't touch
 each other, and one check of a crate with all of them says of each function whether it is proved. For the same reason the bodies
-of the other functions are left out at first, with a hole for the proof of each, unless out/ has kept proofs of the crate. A
+of the other functions and cycles are left out at first, with a hole for each proof, unless out/ has kept proofs of the crate. A
 further wrong body of one function stands in a copy of it, behind it, with a copy of its proofs. A method of a trait and a
 function of a cycle of calls have no copies: their wrong bodies are tried in different checks. What such checks don't refuse is
 tried with all bodies, and at last alone, as one is at once that stands in no function, as in a table. `rt must-fail CRATE` tries
@@ -48,8 +48,8 @@ Place = collections.namedtuple("Place", "module name cycle")
 Function = collections.namedtuple("Function", "place start begin end")
 # The number of the copy that it stands in, and 0 for the function itself
 WrongBody = collections.namedtuple("WrongBody", "name changes places copy", defaults=[0])
-# A function that can have copies: its source, and the path of its name below the crate
-Lone = collections.namedtuple("Lone", "file function path")
+# A function that is no method of a trait: its source, and the path of its name below the crate
+Own = collections.namedtuple("Own", "file function path")
 # Refused by which goals, or undecided or proved, and why
 Verdict = collections.namedtuple("Verdict", "kind reason")
 
@@ -155,9 +155,8 @@ def sources_in(folder):
     return {os.path.relpath(file, folder): read(file) for file in glob.glob(f"{folder}/src/**/*.rt", recursive=True)}
 
 
-def lone_functions(sources):
-    """The functions that are neither of a cycle nor methods of a trait: those that can have copies, and whose bodies can be
-    left out. Those of one source come from its end on.
+def own_functions(sources):
+    """The functions that are no methods of a trait. Those of one source come from its end on.
 
     A method stands below its type, wherever its impl stands.
     """
@@ -167,12 +166,31 @@ def lone_functions(sources):
             *above, name = it.place.name.split("::")
             if above and above[0] in types:
                 above = [*filter(None, types[above[0]].split("::")), *above]
-            is_known = above == list(filter(None, it.place.module.split("::"))) or it.place.name.split("::")[0] in types
-            called_on = re.findall(rf"([\w.:]*)\b{name}\(", text[it.begin : it.end])
-            # A field's method of the same name is another one.
-            calls_itself = any(not re.fullmatch(r"self\.\w+\.", on) for on in called_on)
-            if is_known and not (it.place.cycle or calls_itself):
-                yield Lone(file, it, [*above, name])
+            if above == list(filter(None, it.place.module.split("::"))) or it.place.name.split("::")[0] in types:
+                yield Own(file, it, [*above, name])
+
+
+def lone_functions(sources):
+    """Those that neither are of a cycle nor call themselves: they can have copies."""
+    for own in own_functions(sources):
+        it = own.function
+        called_on = re.findall(rf"([\w.:]*)\b{own.path[-1]}\(", sources[own.file][it.begin : it.end])
+        # A field's method of the same name is another one.
+        if not it.place.cycle and all(re.fullmatch(r"self\.\w+\.", on) for on in called_on):
+            yield own
+
+
+def spare_functions(sources, batch):
+    """Those whose bodies can be left out: that have no wrong body, and are lone or of a cycle without any."""
+    tried = {key for it in batch for place in it.places for key in (place.name, place.cycle)}
+    lone, own = list(lone_functions(sources)), list(own_functions(sources))
+    of_cycles = collections.Counter(it.place.cycle for file, text in sources.items() for it in functions_of(file, text))
+    of_cycles.subtract(it.function.place.cycle for it in own)
+    for it in own:
+        place = it.function.place
+        # A cycle that a method of a trait belongs to is left in whole.
+        if place.name not in tried and (it in lone or place.cycle and place.cycle not in tried and not of_cycles[place.cycle]):
+            yield it
 
 
 def name_of_copy(name, number):
@@ -248,14 +266,15 @@ def leave_out_bodies(crate, room, batch):
 
     What they state is left, which is all that the others know of them.
     """
-    tried = {place.name for it in batch for place in it.places}
     sources = sources_in(room)
-    for file, it, path in lone_functions(sources):
-        if it.place.name in tried:
-            continue
-        sources[file] = f"{sources[file][: it.begin]}loop {{}}\n{sources[file][it.end :]}"
+    for file, it, path in list(spare_functions(sources, batch)):
+        text = sources[file]
+        # Without its body a function of a cycle calls no other.
+        head = re.sub(r" *#\[cycle\(\w+\)\]\n", "", text[it.start : it.begin])
+        sources[file] = f"{text[: it.start]}{head}loop {{}}\n{text[it.end :]}"
         folder = f"{room}/proofs/{'/'.join(path)}"
         shutil.rmtree(folder, ignore_errors=True)
+        shutil.rmtree(f"{room}/proofs/{'/'.join(path[:-1])}/+{it.place.cycle}", ignore_errors=True)
         os.makedirs(folder)
         statement, name = ".".join(["Rattle", crate, "proofs", *path, "Statement"]), f"{path[-1]}_spec"
         write(f"{folder}/Proof.antt", f"use {statement}.{{statement}}\n\npub {name} : {{M : Type 1}} → statement M\n{name} = ?\n")
