@@ -1,9 +1,9 @@
 -- What a set means is the same when it is made anew: what was read encodes to the bytes that it was read from, so no
 -- table of a listing that dumps mean differs.
 use Rattle.acpidis.proofs.Common.{◌&&◌, filter, list_all, All-filter, AllPass-from_list_all, list_all-from_AllPass, ◌≡◌, ℕ, suc, Bool, true, List, [], ◌∷◌}
-use Rattle.acpidis.proofs.Common.{refl, ap₂, map, Trees, Entry, AllZip, ReadsModule, methods_of, span_of, Method, OneBody, read, raw, names_in, blocks_of, Dump, Options}
-use Rattle.acpidis.proofs.Common.{Mark, IsEntry, AreEntries, same_bytes, body_same, marks_of, checks_with, tallied, uncounted, all_same, Meaning, Means}
-use Rattle.acpidis.proofs.Common.{order_of, codes_of}
+use Rattle.acpidis.proofs.Common.{refl, ap₂, map, Trees, Entry, AllZip, ReadsModule, methods_of, span_of, Method, OneBody, read, raw, names_in, blocks_of, Dump}
+use Rattle.acpidis.proofs.Common.{Options, Mark, IsEntry, AreEntries, same_bytes, body_same, marks_of, checks_with, tallied, uncounted, all_same, Meaning}
+use Rattle.acpidis.proofs.Common.{Means, order_of, codes_of}
 use Rattle.std.proofs.lemmas.Slice.Eq.{bytes_eq-Decides}
 
 same_if : (xs ys : List ℕ) → xs ≡ ys → same_bytes xs ys ≡ true
@@ -23,8 +23,8 @@ marks_same z es codes [] bs h = refl
 marks_same z es codes (m ∷ ms) [] h = refl
 marks_same z es codes (m ∷ ms) (b ∷ bs) h = ap₂ ◌&&◌ (entry_same z es codes m b h.0) (marks_same z es codes ms bs h.1)
 
-tables_same : (marks : List Mark) (names codes : List (List ℕ)) (trees : List Trees) (t : ℕ) → list_all (λ m. m.same) marks ≡ true → AllZip ReadsModule codes trees
-    → all_same (tallied marks t (map uncounted (blocks_of names codes trees))) ≡ true
+tables_same : (marks : List Mark) (names codes : List (List ℕ)) (trees : List Trees) (t : ℕ) → list_all (λ m. m.same) marks ≡ true
+    → AllZip ReadsModule codes trees → all_same (tallied marks t (map uncounted (blocks_of names codes trees))) ≡ true
 tables_same marks [] codes trees t h r = refl
 tables_same marks (n ∷ names) [] trees t h r = refl
 tables_same marks (n ∷ names) (c ∷ codes) [] t h r = refl

@@ -225,8 +225,8 @@ units_at t l scope (n ∷ ns) = do
   k ← new_at t l scope (Some n) (λ p. declares p kinds.Field None)
   units_at t k scope ns
 
--- What a term of table t does by its role, in a scope, after l. `inside` is what the terms inside it declare, after what is
--- listed then and under a path.
+-- What a term of table t does by its role, in a scope, after l. `inside` is what the terms inside it declare, after
+-- what is listed then and under a path.
 unfoldable pub declare_as : Role → ℕ → Listed → List Seg → Parts → Tail → (Listed → List Seg → Result Listed LoadFault)
     → Result Listed LoadFault
 declare_as (roles.Declares o) t l scope ps r inside = do

@@ -100,8 +100,8 @@ module _ (paths : PathSet) (scope : List Seg) where
       by false is = know s
 
   -- a segment whose depth was changed and set back
-  pub known_back : (known changed new : Seg → Option (Option ℕ)) (e : Seg) (depth back : Option ℕ) → KnowEnds paths scope known → back ≡ option_flatten (known e)
-      → ((q : Seg) → changed q ≡ cond (is_at (seg_cmp e) q) (Some depth) (known q))
+  pub known_back : (known changed new : Seg → Option (Option ℕ)) (e : Seg) (depth back : Option ℕ) → KnowEnds paths scope known
+      → back ≡ option_flatten (known e) → ((q : Seg) → changed q ≡ cond (is_at (seg_cmp e) q) (Some depth) (known q))
       → ((q : Seg) → new q ≡ cond (is_at (seg_cmp e) q) (Some back) (changed q)) → KnowEnds paths scope new
   known_back known changed new e depth back know was change set =
       known_room known new e know (λ q. set q ∙ by q (is_at (seg_cmp e) q) (changed q) (change q))
