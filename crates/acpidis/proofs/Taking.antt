@@ -1,5 +1,5 @@
 -- Terms take as many bodies as stand in them.
-use Rattle.std.proofs.Common.{◌≡◌, ℕ, zero, suc, ◌+◌, List, ◌++◌, length, drop, refl, sym, ap, ◌∙◌}
+use Rattle.std.proofs.Common.{◌≡◌, ℕ, zero, suc, ◌+◌, List, ◌++◌, length, drop, Option, refl, sym, ap, ◌∙◌}
 use Rattle.std.proofs.lemmas.List.{length-append}
 use Rattle.asl_text.specs.Texts.{BodyLines, deeper, levels_in, tail_levels, all_levels, left_all}
 use Rattle.aml_names.specs.Paths.{PathSet}
@@ -22,7 +22,7 @@ mutual
       tail_many s levels (terms_in p (law.row).place) (law.row).tail ls t (deeper n) r law.tail
       ∙ ap (λ xs. length (xs ++ tail_spans t r)) (sym (parts_none s t levels (law.row).parts ls ps law.parts))
 
-  tail_many : (s : Setting) (levels : ℕ) (p : Position) (k : TailKind) (ls : PathSet) (t n : ℕ) (r : Tail) → IsTail s (IsLawful s levels) p k ls r
+  tail_many : (s : Setting) (levels : ℕ) (p : Position) (k : Option TailKind) (ls : PathSet) (t n : ℕ) (r : Tail) → IsTail s (IsLawful s levels) p k ls r
       → length (tail_levels n r) ≡ length (tail_spans t r)
   tail_many s levels p k ls t n empty law = refl
   tail_many s levels p k ls t n (terms xs) law = let e = terms_tail s levels p ls k xs law in all_many s levels p ls t n xs e.1

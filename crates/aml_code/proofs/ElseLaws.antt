@@ -1,6 +1,6 @@
 -- In lawful terms each Else stands right behind an If.
 use Rattle.std.specs.Prelude.{◌==◌}
-use Rattle.std.proofs.Common.{◌≡◌, ℕ, zero, suc, Bool, List, [], ◌∷◌, true, false, cond, not, Some, refl, ap, ◌∙◌}
+use Rattle.std.proofs.Common.{◌≡◌, ℕ, zero, suc, Bool, List, [], ◌∷◌, true, false, cond, not, Option, Some, refl, ap, ◌∙◌}
 use Rattle.aml_names.specs.declared.segments.Seg.{Seg}
 use Rattle.aml_names.specs.Paths.{PathSet}
 use Rattle.aml_code.specs.Opcodes.{Row, rows, row_of, takes}
@@ -95,13 +95,13 @@ module _ (s : Setting) where
     parts_follow levels (_ ∷ ks) ls (part_more (child t) xs) l = absurd l.0
     parts_follow levels (k ∷ ks) ls (part_more _ xs) l = parts_follow levels ks ls xs l.1
 
-    tail_follows : (levels : ℕ) (p : Position) (k : TailKind) (ls : PathSet) (t : Tail) → (is_after_if p ≡ true → false ≡ true)
+    tail_follows : (levels : ℕ) (p : Position) (k : Option TailKind) (ls : PathSet) (t : Tail) → (is_after_if p ≡ true → false ≡ true)
         → IsTail s (IsLawful s levels) p k ls t → FollowInTail t
-    tail_follows levels p tails.Terms ls (terms ts) apart l = elses_follow levels p ls ts false apart l
+    tail_follows levels p (Some tails.Terms) ls (terms ts) apart l = elses_follow levels p ls ts false apart l
     tail_follows levels p _ ls (terms ts) apart l = absurd l
-    tail_follows levels p tails.Elements ls (elements ts) apart l = none_follow levels positions.Data ls ts refl l
+    tail_follows levels p (Some tails.Elements) ls (elements ts) apart l = none_follow levels positions.Data ls ts refl l
     tail_follows levels p _ ls (elements ts) apart l = absurd l
-    tail_follows levels p tails.Fields ls (fields us) apart l = fields_follow levels ls us l
+    tail_follows levels p (Some tails.Fields) ls (fields us) apart l = fields_follow levels ls us l
     tail_follows levels p _ ls (fields us) apart l = absurd l
     tail_follows levels p k ls _ apart l = tt
 

@@ -32,8 +32,8 @@ is_other : Role → Bool
 is_other roles.Other = true
 is_other _ = false
 
-has_terms : TailKind → Bool
-has_terms tails.Terms = true
+has_terms : Option TailKind → Bool
+has_terms (Some tails.Terms) = true
 has_terms _ = false
 
 as_argument : (p : Position) (place : Place) → is_inner p ≡ true → takes p place ≡ true → takes positions.Argument place ≡ true
@@ -55,10 +55,10 @@ none_declared None ls role ps t e = refl
 none_declared (Some path) ls roles.Other ps t e = refl
 none_declared (Some path) ls _ ps t e = absurd cc
 
-tail_unchanged : (s : Setting) (levels : ℕ) (p : Position) (k : TailKind) (ls : PathSet) (t : Tail) → not (has_terms k) ≡ true
+tail_unchanged : (s : Setting) (levels : ℕ) (p : Position) (k : Option TailKind) (ls : PathSet) (t : Tail) → not (has_terms k) ≡ true
     → IsTail s (IsLawful s levels) p k ls t → after_tail s.scope ls t ≡ ls
 unfolding has_terms
-tail_unchanged s levels p tails.Terms ls (terms ts) e h = absurd cc
+tail_unchanged s levels p (Some tails.Terms) ls (terms ts) e h = absurd cc
 tail_unchanged s levels p _ ls (terms ts) e h = absurd h
 tail_unchanged s levels p k ls _ e h = refl
 

@@ -1,5 +1,5 @@
 -- What is lawful stays so where more levels are allowed.
-use Rattle.std.proofs.Common.{◌≡◌, ℕ, zero, suc, ◌+◌, List, [], ◌∷◌, subst, arith}
+use Rattle.std.proofs.Common.{◌≡◌, ℕ, zero, suc, ◌+◌, List, [], ◌∷◌, Option, Some, subst, arith}
 use Rattle.aml_names.specs.Paths.{PathSet}
 use Rattle.aml_code.specs.declared.rows.PartKind.{PartKind}
 use Rattle.aml_code.specs.declared.rows.PartKind.TheVariants as kinds
@@ -39,12 +39,12 @@ module _ (s : Setting) (Is More : Position → PathSet → Tree → Type 0) (mor
   terms_more_so p ls no_trees h = tt
   terms_more_so p ls (tree_more t ts) h = (more p ls t h.0, terms_more_so (next_position p t) (after s.scope ls t) ts h.1)
 
-  tail_more_so : (p : Position) (k : TailKind) (ls : PathSet) (t : Tail) → IsTail s Is p k ls t → IsTail s More p k ls t
-  tail_more_so p tails.Terms ls (terms ts) h = terms_more_so p ls ts h
+  tail_more_so : (p : Position) (k : Option TailKind) (ls : PathSet) (t : Tail) → IsTail s Is p k ls t → IsTail s More p k ls t
+  tail_more_so p (Some tails.Terms) ls (terms ts) h = terms_more_so p ls ts h
   tail_more_so p _ ls (terms ts) h = absurd h
-  tail_more_so p tails.Elements ls (elements ts) h = terms_more_so positions.Data ls ts h
+  tail_more_so p (Some tails.Elements) ls (elements ts) h = terms_more_so positions.Data ls ts h
   tail_more_so p _ ls (elements ts) h = absurd h
-  tail_more_so p tails.Fields ls (fields us) h = fields_more_so (λ q. Is q ls) (λ q. More q ls) (λ q. more q ls) us h
+  tail_more_so p (Some tails.Fields) ls (fields us) h = fields_more_so (λ q. Is q ls) (λ q. More q ls) (λ q. more q ls) us h
   tail_more_so p _ ls (fields us) h = absurd h
   tail_more_so p _ ls _ h = h
 

@@ -85,8 +85,8 @@ unfolding rows
 target_opcode o r e h = subst (λ (n : ℕ). (lead_of n == 0x00) ≡ false) (row_opcode o r e)
     (not_true _ (rows_say (λ r. takes positions.Target r.place) (λ r. not (lead_of r.opcode == 0x00)) refl o r e h))
 
-abbrev pub is_body : TailKind → Bool
-is_body tails.Body = true
+abbrev pub is_body : Option TailKind → Bool
+is_body (Some tails.Body) = true
 is_body _ = false
 
 -- ---- an If has one part, a term, and a package length; the row of 00 has neither

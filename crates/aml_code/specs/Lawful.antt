@@ -192,13 +192,14 @@ abbrev pub TermsStand : Setting → (Position → PathSet → Tree → Type 0) �
 TermsStand s Is p ls no_trees = Unit {0}
 TermsStand s Is p ls (tree_more t ts) = Is p ls t × TermsStand s Is (next_position p t) (after s.scope ls t) ts
 
-abbrev pub IsTail : Setting → (Position → PathSet → Tree → Type 0) → Position → TailKind → PathSet → Tail → Type 0
-IsTail s Is p tails.Empty ls empty = Unit {0}
-IsTail s Is p tails.Terms ls (terms ts) = TermsStand s Is p ls ts
-IsTail s Is p tails.Bytes ls (bytes bs) = All (λ b. b < 256) bs
-IsTail s Is p tails.Elements ls (elements ts) = TermsStand s Is positions.Data ls ts
-IsTail s Is p tails.Fields ls (fields us) = AreFields (λ q. Is q ls) us
-IsTail s Is p tails.Body ls (body start len) = start + len ≤ length s.code
+abbrev pub IsTail : Setting → (Position → PathSet → Tree → Type 0) → Position → Option TailKind → PathSet → Tail
+    → Type 0
+IsTail s Is p None ls empty = Unit {0}
+IsTail s Is p (Some tails.Terms) ls (terms ts) = TermsStand s Is p ls ts
+IsTail s Is p (Some tails.Bytes) ls (bytes bs) = All (λ b. b < 256) bs
+IsTail s Is p (Some tails.Elements) ls (elements ts) = TermsStand s Is positions.Data ls ts
+IsTail s Is p (Some tails.Fields) ls (fields us) = AreFields (λ q. Is q ls) us
+IsTail s Is p (Some tails.Body) ls (body start len) = start + len ≤ length s.code
 IsTail s Is p _ ls _ = ⊥
 
 -- An operation: its opcode has a row that the position takes, with a package length, parts and a tail as the row says.

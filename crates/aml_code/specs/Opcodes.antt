@@ -2,7 +2,8 @@
 -- the mnemonic, its class, what stands behind it in fixed places, what follows up to the end of its package, and what
 -- it does to the namespace. A two-byte opcode `5B xx` is 0x5Bxx.
 use Prim.Native.String.{String}
-use Rattle.std.specs.Prelude.{ℕ, List, [], ◌∷◌, ◌++◌, codes, ◌==◌, Bool, true, false, Option, find}
+use Rattle.std.specs.Prelude.{ℕ, List, [], ◌∷◌, ◌++◌, codes, ◌==◌, Bool, true, false, Option, Some}
+use Rattle.std.specs.Prelude.{None, is_some, find}
 use Rattle.aml_code.specs.declared.rows.Group.{Group}
 use Rattle.aml_code.specs.declared.rows.Group.TheVariants.{Value, Expression, Statement, Declaration}
 use Rattle.aml_code.specs.declared.rows.Object.{Object}
@@ -15,11 +16,10 @@ use Rattle.aml_code.specs.declared.rows.Place.TheVariants as places
 use Rattle.aml_code.specs.declared.rows.Role.{Role}
 use Rattle.aml_code.specs.declared.rows.Role.TheVariants as roles
 use Rattle.aml_code.specs.declared.rows.TailKind.{TailKind}
-use Rattle.aml_code.specs.declared.rows.TailKind.TheVariants.{Empty, Terms, Bytes, Elements, Fields, Body}
+use Rattle.aml_code.specs.declared.rows.TailKind.TheVariants.{Terms, Bytes, Elements, Fields, Body}
 use Rattle.aml_code.specs.declared.rows.OpRow.{OpRow}
 use Rattle.aml_code.specs.declared.rows.Position.{Position}
 use Rattle.aml_code.specs.declared.rows.Position.TheVariants as positions
-use Rattle.aml_code.specs.declared.rows.TailKind.TheVariants as tails
 
 pub record Row : Type 0 where
   pub opcode : ℕ
@@ -27,22 +27,22 @@ pub record Row : Type 0 where
   pub group : Group
   pub place : Place
   pub parts : List PartKind
-  pub tail : TailKind
+  pub tail : Option TailKind
   pub role : Role
 
 -- a row; one without a package that does nothing to the namespace; one without a package that declares an object; one
 -- that opens a scope and declares the object there
-abbrev row : ℕ → String → Group → Place → List PartKind → TailKind → Role → Row
+abbrev row : ℕ → String → Group → Place → List PartKind → Option TailKind → Role → Row
 row o m g p ps t r = record { opcode = o; mnemonic = codes m; group = g; place = p; parts = ps; tail = t; role = r }
 
 abbrev plain : ℕ → String → Group → Place → List PartKind → Row
-plain o m g p ps = row o m g p ps Empty roles.Other
+plain o m g p ps = row o m g p ps None roles.Other
 
 abbrev declares : ℕ → String → Object → List PartKind → Row
-declares o m object ps = row o m Declaration places.Declaration ps Empty (roles.Declares object)
+declares o m object ps = row o m Declaration places.Declaration ps None (roles.Declares object)
 
 abbrev opens : ℕ → String → Object → List PartKind → Row
-opens o m object ps = row o m Declaration places.Scope ps Terms (roles.Declares object)
+opens o m object ps = row o m Declaration places.Scope ps (Some Terms) (roles.Declares object)
 
 -- data objects (20.2.3)
 abbrev data_objects : List Row
@@ -56,23 +56,23 @@ data_objects =
     plain 0x01 "One" Value places.Data [] ∷
     plain 0xFF "Ones" Value places.Data [] ∷
     plain 0x5B30 "Revision" Value places.Data [] ∷
-    row 0x11 "Buffer" Value places.Data (Term ∷ []) Bytes roles.Other ∷
-    row 0x12 "Package" Value places.Data (Byte ∷ []) Elements roles.Other ∷
-    row 0x13 "VarPackage" Value places.Data (Term ∷ []) Elements roles.Other ∷
+    row 0x11 "Buffer" Value places.Data (Term ∷ []) (Some Bytes) roles.Other ∷
+    row 0x12 "Package" Value places.Data (Byte ∷ []) (Some Elements) roles.Other ∷
+    row 0x13 "VarPackage" Value places.Data (Term ∷ []) (Some Elements) roles.Other ∷
     []
 
 -- namespace modifier objects (20.2.5.1)
 abbrev namespace_modifiers : List Row
 namespace_modifiers =
-    row 0x06 "Alias" Declaration places.Declaration (Name ∷ Name ∷ []) Empty roles.Alias ∷
+    row 0x06 "Alias" Declaration places.Declaration (Name ∷ Name ∷ []) None roles.Alias ∷
     declares 0x08 "Name" objects.Name (Name ∷ Data ∷ []) ∷
-    row 0x10 "Scope" Declaration places.Scope (ScopeName ∷ []) Terms roles.Scope ∷
+    row 0x10 "Scope" Declaration places.Scope (ScopeName ∷ []) (Some Terms) roles.Scope ∷
     []
 
 -- named objects (20.2.5.2)
 abbrev named_objects : List Row
 named_objects =
-    row 0x5B87 "BankField" Declaration places.Declaration (Name ∷ Name ∷ Term ∷ Byte ∷ []) Fields roles.Fields ∷
+    row 0x5B87 "BankField" Declaration places.Declaration (Name ∷ Name ∷ Term ∷ Byte ∷ []) (Some Fields) roles.Fields ∷
     declares 0x8D "CreateBitField" objects.BufferField (Term ∷ Term ∷ Name ∷ []) ∷
     declares 0x8C "CreateByteField" objects.BufferField (Term ∷ Term ∷ Name ∷ []) ∷
     declares 0x8A "CreateDWordField" objects.BufferField (Term ∷ Term ∷ Name ∷ []) ∷
@@ -82,10 +82,10 @@ named_objects =
     declares 0x5B88 "DataRegion" objects.DataRegion (Name ∷ Term ∷ Term ∷ Term ∷ []) ∷
     opens 0x5B82 "Device" objects.Device (Name ∷ []) ∷
     declares 0x5B02 "Event" objects.Event (Name ∷ []) ∷
-    row 0x15 "External" Declaration places.External (Name ∷ Byte ∷ Count ∷ []) Empty roles.External ∷
-    row 0x5B81 "Field" Declaration places.Declaration (Name ∷ Byte ∷ []) Fields roles.Fields ∷
-    row 0x5B86 "IndexField" Declaration places.Declaration (Name ∷ Name ∷ Byte ∷ []) Fields roles.Fields ∷
-    row 0x14 "Method" Declaration places.Method (Name ∷ Byte ∷ []) Body roles.Method ∷
+    row 0x15 "External" Declaration places.External (Name ∷ Byte ∷ Count ∷ []) None roles.External ∷
+    row 0x5B81 "Field" Declaration places.Declaration (Name ∷ Byte ∷ []) (Some Fields) roles.Fields ∷
+    row 0x5B86 "IndexField" Declaration places.Declaration (Name ∷ Name ∷ Byte ∷ []) (Some Fields) roles.Fields ∷
+    row 0x14 "Method" Declaration places.Method (Name ∷ Byte ∷ []) (Some Body) roles.Method ∷
     declares 0x5B01 "Mutex" objects.Mutex (Name ∷ Byte ∷ []) ∷
     declares 0x5B80 "OperationRegion" objects.Region (Name ∷ Byte ∷ Term ∷ Term ∷ []) ∷
     opens 0x5B84 "PowerResource" objects.PowerResource (Name ∷ Byte ∷ Word ∷ []) ∷
@@ -100,8 +100,8 @@ statements =
     plain 0xCC "BreakPoint" Statement places.Statement [] ∷
     plain 0x9F "Continue" Statement places.Statement [] ∷
     plain 0x5B32 "Fatal" Statement places.Statement (Byte ∷ Dword ∷ Term ∷ []) ∷
-    row 0xA0 "If" Statement places.If (Term ∷ []) Terms roles.Guard ∷
-    row 0xA1 "Else" Statement places.Else [] Terms roles.Other ∷
+    row 0xA0 "If" Statement places.If (Term ∷ []) (Some Terms) roles.Guard ∷
+    row 0xA1 "Else" Statement places.Else [] (Some Terms) roles.Other ∷
     plain 0xA3 "Noop" Statement places.Statement [] ∷
     plain 0x86 "Notify" Statement places.Statement (Target ∷ Term ∷ []) ∷
     plain 0x5B27 "Release" Statement places.Statement (Target ∷ []) ∷
@@ -111,7 +111,7 @@ statements =
     plain 0x5B22 "Sleep" Statement places.Statement (Term ∷ []) ∷
     plain 0x5B21 "Stall" Statement places.Statement (Term ∷ []) ∷
     plain 0x5B2A "Unload" Statement places.Statement (Target ∷ []) ∷
-    row 0xA2 "While" Statement places.Statement (Term ∷ []) Terms roles.Other ∷
+    row 0xA2 "While" Statement places.Statement (Term ∷ []) (Some Terms) roles.Other ∷
     []
 
 -- expression opcodes (20.2.5.4)
@@ -209,9 +209,8 @@ row_view r = record {
 }
 
 -- a row with a tail has a package length before its parts
-abbrev pub has_length : TailKind → Bool
-has_length tails.Empty = false
-has_length _ = true
+abbrev pub has_length : Option TailKind → Bool
+has_length tail = is_some tail
 
 -- Whether a position takes an opcode of a place: as a term of a table, inside a guard, as a term of a body, right after
 -- an If, as a TermArg, as a SuperName or Target, as data.

@@ -64,8 +64,6 @@ pub enum PartKind {
 /// What follows the parts up to the end of the package.
 #[derive(Clone, Copy)]
 pub enum TailKind {
-    /// Nothing, and there is no package length.
-    Empty,
     Terms,
     Bytes,
     Elements,
@@ -120,7 +118,8 @@ pub struct OpRow {
     pub place: Place,
     /// The kinds of the parts in order.
     pub parts: &'static [PartKind],
-    pub tail: TailKind,
+    /// What follows the parts, where there is a package.
+    pub tail: Option<TailKind>,
     pub role: Role,
 }
 
@@ -129,7 +128,7 @@ impl OpRow {
     pub fn has_length(&self) -> bool
         ensures { result ≡ has_length self.now.tail }
     {
-        self.tail != TailKind::Empty
+        self.tail.is_some()
     }
 }
 

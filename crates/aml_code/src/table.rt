@@ -6,6 +6,15 @@ ghost use Rattle.aml_code.specs.declared.table.TheConstants.{INDEX};
 
 use crate::rows::{Group, Object, OpRow, PartKind, Place, Role, TailKind};
 
+macro_rules! tail {
+    (Empty) => {
+        None
+    };
+    ($tail:ident) => {
+        Some(TailKind::$tail)
+    };
+}
+
 macro_rules! rows {
     ($(
         $opcode:literal $mnemonic:literal $group:ident $place:ident [$($part:ident)*] $tail:ident
@@ -17,7 +26,7 @@ macro_rules! rows {
             group: Group::$group,
             place: Place::$place,
             parts: &[$(PartKind::$part),*],
-            tail: TailKind::$tail,
+            tail: tail!($tail),
             role: Role::$role $((Object::$object))?,
         }),*]
     };

@@ -1,5 +1,5 @@
 -- Where a method can't stand there is no method's body: in a term's parts, in elements, in field lists, in terms of a body.
-use Rattle.std.proofs.Common.{◌≡◌, ℕ, zero, suc, true, List, [], ◌∷◌, ◌++◌, refl, ap, ◌∙◌}
+use Rattle.std.proofs.Common.{◌≡◌, ℕ, zero, suc, true, List, [], ◌∷◌, ◌++◌, Option, Some, refl, ap, ◌∙◌}
 use Rattle.aml_names.specs.Paths.{PathSet}
 use Rattle.aml_code.specs.declared.rows.PartKind.{PartKind}
 use Rattle.aml_code.specs.declared.rows.PartKind.TheVariants as kinds
@@ -17,20 +17,20 @@ use Rattle.aml_load.specs.Spans.{tree_spans, all_spans, part_spans, parts_spans,
 -- ---- a tail is of its kind
 
 module _ (s : Setting) (levels : ℕ) (p : Position) (ls : PathSet) where
-  pub terms_tail : (k : TailKind) (xs : Trees) → IsTail s (IsLawful s levels) p k ls (terms xs) → (k ≡ tails.Terms) × AreTerms s levels p ls xs
-  terms_tail tails.Terms xs h = (refl, h)
+  pub terms_tail : (k : Option TailKind) (xs : Trees) → IsTail s (IsLawful s levels) p k ls (terms xs) → (k ≡ Some tails.Terms) × AreTerms s levels p ls xs
+  terms_tail (Some tails.Terms) xs h = (refl, h)
   terms_tail _ xs h = absurd h
 
-  elements_tail : (k : TailKind) (xs : Trees) → IsTail s (IsLawful s levels) p k ls (elements xs) → AreTerms s levels positions.Data ls xs
-  elements_tail tails.Elements xs h = h
+  elements_tail : (k : Option TailKind) (xs : Trees) → IsTail s (IsLawful s levels) p k ls (elements xs) → AreTerms s levels positions.Data ls xs
+  elements_tail (Some tails.Elements) xs h = h
   elements_tail _ xs h = absurd h
 
-  fields_tail : (k : TailKind) (us : Fields) → IsTail s (IsLawful s levels) p k ls (fields us) → AreFields (λ q. IsLawful s levels q ls) us
-  fields_tail tails.Fields us h = h
+  fields_tail : (k : Option TailKind) (us : Fields) → IsTail s (IsLawful s levels) p k ls (fields us) → AreFields (λ q. IsLawful s levels q ls) us
+  fields_tail (Some tails.Fields) us h = h
   fields_tail _ us h = absurd h
 
-  pub body_tail : (k : TailKind) (start len : ℕ) → IsTail s (IsLawful s levels) p k ls (body start len) → k ≡ tails.Body
-  body_tail tails.Body start len h = refl
+  pub body_tail : (k : Option TailKind) (start len : ℕ) → IsTail s (IsLawful s levels) p k ls (body start len) → k ≡ Some tails.Body
+  body_tail (Some tails.Body) start len h = refl
   body_tail _ start len h = absurd h
 
 -- ---- no bodies
@@ -69,8 +69,8 @@ module _ (s : Setting) (t : ℕ) where
         both_none (part_spans t p) (parts_spans t ps) (part_none levels k ls p l.0) (parts_none levels ks ls ps l.1)
 
     -- a tail that is no body, and whose terms aren't those of a table
-    pub tail_none : (levels : ℕ) (p : Position) (k : TailKind) (ls : PathSet) (r : Tail) → (k ≡ tails.Terms → takes_names p ≡ true) → (k ≡ tails.Body → ⊥)
-        → IsTail s (IsLawful s levels) p k ls r → tail_spans t r ≡ []
+    pub tail_none : (levels : ℕ) (p : Position) (k : Option TailKind) (ls : PathSet) (r : Tail) → (k ≡ Some tails.Terms → takes_names p ≡ true)
+        → (k ≡ Some tails.Body → ⊥) → IsTail s (IsLawful s levels) p k ls r → tail_spans t r ≡ []
     tail_none levels p k ls (terms xs) h other l = let d = terms_tail s levels p ls k xs l in all_none levels p ls xs (h d.0) d.1
     tail_none levels p k ls (elements xs) h other l = all_none levels positions.Data ls xs refl (elements_tail s levels p ls k xs l)
     tail_none levels p k ls (fields us) h other l = fields_none levels ls us (fields_tail s levels p ls k us l)
@@ -87,10 +87,10 @@ module _ (s : Setting) (t : ℕ) where
     fields_none levels ls (field_more u us) l =
         both_none (field_spans t u) (fields_spans t us) (field_none levels ls u l.0) (fields_none levels ls us l.1)
 
-  pub elements_none : (levels : ℕ) (p : Position) (k : TailKind) (ls : PathSet) (xs : Trees) → IsTail s (IsLawful s levels) p k ls (elements xs)
+  pub elements_none : (levels : ℕ) (p : Position) (k : Option TailKind) (ls : PathSet) (xs : Trees) → IsTail s (IsLawful s levels) p k ls (elements xs)
       → all_spans t xs ≡ []
   elements_none levels p k ls xs l = all_none levels positions.Data ls xs refl (elements_tail s levels p ls k xs l)
 
-  pub fields_tail_none : (levels : ℕ) (p : Position) (k : TailKind) (ls : PathSet) (us : Fields) → IsTail s (IsLawful s levels) p k ls (fields us)
+  pub fields_tail_none : (levels : ℕ) (p : Position) (k : Option TailKind) (ls : PathSet) (us : Fields) → IsTail s (IsLawful s levels) p k ls (fields us)
       → fields_spans t us ≡ []
   fields_tail_none levels p k ls us l = fields_none levels ls us (fields_tail s levels p ls k us l)

@@ -39,19 +39,19 @@ use Rattle.aml_load.proofs.NoSpans.{terms_tail, body_tail, parts_none, all_none,
 
 -- ---- what the rows say of the terms of tables, by a test over the whole table of opcodes
 
-is_body : TailKind → Bool
-is_body tails.Body = true
+is_body : Option TailKind → Bool
+is_body (Some tails.Body) = true
 is_body _ = false
 
-is_terms : TailKind → Bool
-is_terms tails.Terms = true
+is_terms : Option TailKind → Bool
+is_terms (Some tails.Terms) = true
 is_terms _ = false
 
-is_flat : TailKind → Bool
+is_flat : Option TailKind → Bool
 is_flat k = not (is_body k) && not (is_terms k)
 
 -- a method has a body, and no other term of a table has one; terms stand in what loading goes into
-fits : Role → TailKind → Bool
+fits : Role → Option TailKind → Bool
 fits (roles.Declares o) k = not (is_body k)
 fits roles.Method k = is_body k
 fits roles.Scope k = not (is_body k)
@@ -61,17 +61,17 @@ fits roles.Fields k = is_flat k
 fits roles.Guard k = not (is_body k)
 fits roles.Other k = is_flat k
 
-flat_terms : (k : TailKind) → is_flat k ≡ true → k ≡ tails.Terms → ⊥
+flat_terms : (k : Option TailKind) → is_flat k ≡ true → k ≡ Some tails.Terms → ⊥
 unfolding is_flat is_body is_terms
-flat_terms k h e = let x : is_flat tails.Terms ≡ true = subst (λ (k : TailKind). is_flat k ≡ true) e h in absurd cc
+flat_terms k h e = let x : is_flat (Some tails.Terms) ≡ true = subst (λ (k : Option TailKind). is_flat k ≡ true) e h in absurd cc
 
-not_body : (k : TailKind) → not (is_body k) ≡ true → k ≡ tails.Body → ⊥
+not_body : (k : Option TailKind) → not (is_body k) ≡ true → k ≡ Some tails.Body → ⊥
 unfolding is_body
-not_body k h e = let x : not (is_body tails.Body) ≡ true = subst (λ (k : TailKind). not (is_body k) ≡ true) e h in absurd cc
+not_body k h e = let x : not (is_body (Some tails.Body)) ≡ true = subst (λ (k : Option TailKind). not (is_body k) ≡ true) e h in absurd cc
 
-the_body : (k : TailKind) → is_body k ≡ true → k ≡ tails.Body
+the_body : (k : Option TailKind) → is_body k ≡ true → k ≡ Some tails.Body
 unfolding is_body
-the_body tails.Body h = refl
+the_body (Some tails.Body) h = refl
 the_body _ h = absurd cc
 
 module_inside : (place : Place) → takes_names (terms_in positions.ModuleTerm place) ≡ false
@@ -80,7 +80,7 @@ module_inside _ = refl
 
 -- a row fits in a position of a table, where the terms inside it are terms of a table too
 abbrev Fits : Position → Row → Type 0
-Fits p r = (fits r.role r.tail ≡ true) × (r.tail ≡ tails.Terms → takes_names (terms_in p r.place) ≡ false)
+Fits p r = (fits r.role r.tail ≡ true) × (r.tail ≡ Some tails.Terms → takes_names (terms_in p r.place) ≡ false)
 
 row_fits : (p : Position) (o : ℕ) (r : Row) → takes_names p ≡ false → row_of o ≡ Some r → takes p r.place ≡ true → Fits p r
 unfolding rows fits is_flat is_body is_terms
@@ -187,7 +187,7 @@ units_add t l scope (n ∷ ns) =
     (new_adds t l scope (Some n) _ [] (λ p. plain_adds l.entries (declares p kinds.Field None) refl)) (λ k. units_add t k scope ns)
 
 -- what a tail of this kind has: no spans, its own body's span, or what the terms inside it add
-record TailSpans (k : TailKind) (t : ℕ) (x : Tail) (inside : Listed → List Seg → Result Listed LoadFault) : Type 0 where
+record TailSpans (k : Option TailKind) (t : ℕ) (x : Tail) (inside : Listed → List Seg → Result Listed LoadFault) : Type 0 where
   flat : is_flat k ≡ true → tail_spans t x ≡ []
   one : is_body k ≡ true → tail_spans t x ≡ one_span t x
   inner : not (is_body k) ≡ true → (l : Listed) (p : List Seg) → GivesMore (inside l p) l (tail_spans t x)
@@ -196,8 +196,9 @@ record TailSpans (k : TailKind) (t : ℕ) (x : Tail) (inside : Listed → List S
 as_spans : (r : Result Listed LoadFault) (l : Listed) (xs ys : List Span) → ys ≡ xs → GivesMore r l xs → GivesMore r l ys
 as_spans r l xs ys e = subst (λ zs. GivesMore r l zs) (sym e)
 
-role_adds : (r : Role) (k : TailKind) (t : ℕ) (l : Listed) (scope : List Seg) (ps : Parts) (x : Tail) (inside : Listed → List Seg → Result Listed LoadFault)
-    → fits r k ≡ true → TailSpans k t x inside → GivesMore (declare_as r t l scope ps x inside) l (tail_spans t x)
+role_adds : (r : Role) (k : Option TailKind) (t : ℕ) (l : Listed) (scope : List Seg) (ps : Parts) (x : Tail)
+    (inside : Listed → List Seg → Result Listed LoadFault) → fits r k ≡ true → TailSpans k t x inside
+    → GivesMore (declare_as r t l scope ps x inside) l (tail_spans t x)
 unfolding fits declare_as method_at alias_at external_at
 role_adds (roles.Declares o) k t l scope ps x inside fit has =
     after_adds (place_at t scope (last_label None ps)) _ l (tail_spans t x) (λ p.
@@ -217,13 +218,13 @@ role_adds roles.Fields k t l scope ps x inside fit has = as_spans _ l [] (tail_s
 role_adds roles.Guard k t l scope ps x inside fit has = has.inner fit l scope
 role_adds roles.Other k t l scope ps x inside fit has = as_spans (Ok l) l [] (tail_spans t x) (has.flat fit) (nothing_more l.entries)
 
-flat_none : (s : Setting) (levels : ℕ) (p : Position) (k : TailKind) (ls : PathSet) (t : ℕ) (x : Tail) → IsTail s (IsLawful s levels) p k ls x
+flat_none : (s : Setting) (levels : ℕ) (p : Position) (k : Option TailKind) (ls : PathSet) (t : ℕ) (x : Tail) → IsTail s (IsLawful s levels) p k ls x
     → is_flat k ≡ true → tail_spans t x ≡ []
 unfolding is_flat
 flat_none s levels p k ls t x l h =
     tail_none s t levels p k ls x (λ e. absurd (flat_terms k h e)) (not_body k (and_left (not (is_body k)) (not (is_terms k)) h)) l
 
-body_one : (s : Setting) (levels : ℕ) (p : Position) (ls : PathSet) (t : ℕ) (x : Tail) → IsTail s (IsLawful s levels) p tails.Body ls x
+body_one : (s : Setting) (levels : ℕ) (p : Position) (ls : PathSet) (t : ℕ) (x : Tail) → IsTail s (IsLawful s levels) p (Some tails.Body) ls x
     → tail_spans t x ≡ one_span t x
 body_one s levels p ls t (body start len) l = refl
 body_one s levels p ls t _ l = absurd l
@@ -247,15 +248,15 @@ module _ (s : Setting) (t : ℕ) where
         let here = subst (λ (x : Role). fits x k ≡ true) (sym (role_is o law.row law.listed)) fit.0 in
         let has : TailSpans k t r (λ l p. declare_inside t l p r) = record {
           flat = flat_none s levels q k ls t r law.tail;
-          one = λ e. body_one s levels q ls t r (subst (λ (k : TailKind). IsTail s (IsLawful s levels) q k ls r) (the_body k e) law.tail);
+          one = λ e. body_one s levels q ls t r (subst (λ (k : Option TailKind). IsTail s (IsLawful s levels) q k ls r) (the_body k e) law.tail);
           inner = λ e l scope. inside_adds levels q k ls l scope r fit.1 (not_body k e) law.tail;
         } in
         let all = role_adds (role_of o) k t (with_uses t l scope o ps r) scope ps r (λ l p. declare_inside t l p r) here has in
         as_spans _ l (tail_spans t r) (parts_spans t ps ++ tail_spans t r)
         (ap (λ zs. zs ++ tail_spans t r) (parts_none s t levels (law.row).parts ls ps law.parts)) all
 
-    inside_adds : (levels : ℕ) (p : Position) (k : TailKind) (ls : PathSet) (l : Listed) (scope : List Seg) (r : Tail)
-        → (k ≡ tails.Terms → takes_names p ≡ false) → (k ≡ tails.Body → ⊥) → IsTail s (IsLawful s levels) p k ls r
+    inside_adds : (levels : ℕ) (p : Position) (k : Option TailKind) (ls : PathSet) (l : Listed) (scope : List Seg) (r : Tail)
+        → (k ≡ Some tails.Terms → takes_names p ≡ false) → (k ≡ Some tails.Body → ⊥) → IsTail s (IsLawful s levels) p k ls r
         → GivesMore (declare_inside t l scope r) l (tail_spans t r)
     inside_adds levels p k ls l scope (terms xs) h other law = let e = terms_tail s levels p ls k xs law in all_add levels p ls l scope xs (h e.0) e.1
     inside_adds levels p k ls l scope (elements xs) h other law =

@@ -74,7 +74,7 @@ module _ (s : Setting) (read : Position → Reader Tree) (p : Position) (end : �
 
   -- an opcode that the position takes, with what follows it
   reach_row : (o : ℕ) (row : Row) (rest : List ℕ) → row_of o ≡ Some row → takes p row.place ≡ true
-      → term_at s.arity s.scope read p end ls (opcode_bytes o ++ rest) ≡ row_at s.scope read p (end - length (opcode_bytes o ++ rest)) row end ls rest
+      → term_at s.arity s.scope read p end ls (opcode_bytes o ++ rest) ≡ row_at s.scope read p (end - length (opcode_bytes o ++ rest)) row row.tail end ls rest
   unfolding operation_at
   reach_row o row rest listed taken =
       let at = end - length (opcode_bytes o ++ rest) in
@@ -83,7 +83,7 @@ module _ (s : Setting) (read : Position → Reader Tree) (p : Position) (end : �
       (term_opcode (lead_of o) l.0 (row_apart o row listed) (taken_target p o row listed taken))
       ∙ read_on _ _ _ _ (opcode_again end o rest (row_is_opcode o row listed))
       (read_on _ _ _ _ (ap (λ (f : Option Row). ok_or f (CodeFault.UnknownOp at)) listed)
-      (ap (λ (b : Bool). cond b (row_at s.scope read p at row end ls rest) (Err (refusal p row.place at))) taken))
+      (ap (λ (b : Bool). cond b (row_at s.scope read p at row row.tail end ls rest) (Err (refusal p row.place at))) taken))
 
 module _ (s : Setting) (levels : ℕ) (read : Position → Reader Tree) (law : IsReader s levels read) where
   -- ---- parts
@@ -210,25 +210,24 @@ module _ (s : Setting) (levels : ℕ) (read : Position → Reader Tree) (law : I
 
   -- ---- tails
 
-  tail_again : (p : Position) (k : TailKind) (end : ℕ) (ls : PathSet) (t : Tail) → IsTail s (IsLawful s levels) p k ls t → (k ≡ TailKind.Empty → ⊥)
-      → Standing ((takes_names p ≡ true) × (k ≡ TailKind.Body → ⊥)) (λ at. TailStands s.code at t) end (tail_encoding s.code t)
+  tail_again : (p : Position) (k : TailKind) (end : ℕ) (ls : PathSet) (t : Tail) → IsTail s (IsLawful s levels) p (Some k) ls t
+      → Standing ((takes_names p ≡ true) × (Some k ≡ Some TailKind.Body → ⊥)) (λ at. TailStands s.code at t) end (tail_encoding s.code t)
       → tail_at read p k end ls (tail_encoding s.code t) ≡ Ok (t, after_tail s.scope ls t)
-  tail_again p TailKind.Empty end ls t h some stand = absurd (some refl)
-  tail_again p TailKind.Fields end ls (fields us) h some stand =
+  tail_again p TailKind.Fields end ls (fields us) h stand =
       read_on _ _ _ _ (fields_again (length (fields_encoding s.code us)) end ls us (omega arith) h) refl
-  tail_again p TailKind.Terms end ls (terms ts) h some stand =
+  tail_again p TailKind.Terms end ls (terms ts) h stand =
       read_on _ _ _ _ (terms_again (length (encodings s.code ts)) p end ls ts (omega arith) h (elim stand [ inl k ↦ inl k.0 | inr k ↦ inr k ])) refl
-  tail_again p TailKind.Bytes end ls (Tail.bytes bs) h some stand = refl
-  tail_again p TailKind.Elements end ls (elements ts) h some stand =
+  tail_again p TailKind.Bytes end ls (Tail.bytes bs) h stand = refl
+  tail_again p TailKind.Elements end ls (elements ts) h stand =
       read_on _ _ _ _ (terms_again (length (encodings s.code ts)) Position.Data end ls ts (omega arith) h (inl refl))
       (ap (λ (m : PathSet). Ok (elements ts, m)) (all_unchanged s levels Position.Data ls ts refl h))
-  tail_again p TailKind.Body end ls (body start len) h some (inl free) = absurd (free.1 refl)
-  tail_again p TailKind.Body end ls (body start len) h some (inr (at, place, stands)) =
+  tail_again p TailKind.Body end ls (body start len) h (inl free) = absurd (free.1 refl)
+  tail_again p TailKind.Body end ls (body start len) h (inr (at, place, stands)) =
       let size : length (slice_of s.code start len) ≡ len = omega (arith, length-take len (drop start s.code), length-drop start s.code, h) in
       let start_is : end - length (slice_of s.code start len) ≡ start = omega (arith, place, stands) in
       let len_is : end - start ≡ len = omega (arith, place, stands, size) in
       ap (λ (n : ℕ). Ok (body_to end n, ls)) start_is ∙ ap (λ (n : ℕ). Ok (body start n, ls)) len_is
-  tail_again p _ end ls _ h some stand = absurd h
+  tail_again p _ end ls _ h stand = absurd h
 
   -- ---- opcodes
 
@@ -238,55 +237,59 @@ module _ (s : Setting) (levels : ℕ) (read : Position → Reader Tree) (law : I
     unfolding plain_at
     plain_again h = read_on _ _ _ _ (parts_again row.parts end ls ps rest h) (ap read_as (by_opcode s.scope o row listed None ps empty ls rest))
 
-    packed_again : (w : PkgWidth) (there : ℕ) (t : Tail) → IsGuarded (is_guard p row.place) ps
+    packed_again : (w : PkgWidth) (k : TailKind) (there : ℕ) (t : Tail) → IsGuarded (is_guard p row.place) ps
         → FitsWidth w (width_len w + length (parts_encoding s.code ps ++ tail_encoding s.code t)) → AreParts (λ q. IsLawful s levels q ls) row.parts ps
-        → IsTail s (IsLawful s levels) (terms_in p row.place) row.tail ls t → (row.tail ≡ TailKind.Empty → ⊥)
-        → Standing ((takes_names (terms_in p row.place) ≡ true) × (row.tail ≡ TailKind.Body → ⊥)) (λ at. TailStands s.code at t) (end - length rest)
+        → IsTail s (IsLawful s levels) (terms_in p row.place) (Some k) ls t
+        → Standing ((takes_names (terms_in p row.place) ≡ true) × (Some k ≡ Some TailKind.Body → ⊥)) (λ at. TailStands s.code at t) (end - length rest)
         (tail_encoding s.code t)
-        → packed_at s.scope read p there row end ls (packed (Some w) (parts_encoding s.code ps ++ tail_encoding s.code t) ++ rest)
+        → packed_at s.scope read p there row k end ls (packed (Some w) (parts_encoding s.code ps ++ tail_encoding s.code t) ++ rest)
         ≡ Ok (op o (Some w) ps t, declared_by s.scope (row_of o) (after_tail s.scope ls t) ps t, rest)
     unfolding packed_at
-    packed_again w there t guarded fits h tail some stand =
+    packed_again w k there t guarded fits h tail stand =
         let back = tail_encoding s.code t in
         let inside = parts_encoding s.code ps ++ back in
         let inner = end - length rest in
-        ap (packed_at s.scope read p there row end ls) (append_assoc (package_bytes w (width_len w + length inside)) inside rest)
+        ap (packed_at s.scope read p there row k end ls) (append_assoc (package_bytes w (width_len w + length inside)) inside rest)
         ∙ read_on _ _ _ _ (span_again end w inside rest fits) (read_on _ _ _ _ (guard_again (is_guard p row.place) there inner s.code ps back guarded)
         (read_on _ _ _ _ (parts_again row.parts inner ls ps back h)
-        (read_on _ _ _ _ (tail_again (terms_in p row.place) row.tail inner ls t tail some stand)
+        (read_on _ _ _ _ (tail_again (terms_in p row.place) k inner ls t tail stand)
         (ap read_as (by_opcode s.scope o row listed (Some w) ps t (after_tail s.scope ls t) rest)))))
 
-  -- by whether the row has a package length
+  -- by the row's tail
   op_again : (p : Position) (o : ℕ) (w : Option PkgWidth) (end : ℕ) (ls : PathSet) (ps : Parts) (t : Tail) (rest : List ℕ)
-      → (h : IsLawful s (suc levels) p ls (op o w ps t)) → (b : Bool) → has_length (h.row).tail ≡ b
+      → (h : IsLawful s (suc levels) p ls (op o w ps t)) → (k : Option TailKind) → (h.row).tail ≡ k
       → Standing (takes_names p ≡ true) (λ at. BodyStands s.code at (op o w ps t)) end (encoding s.code (op o w ps t) ++ rest)
       → term_at s.arity s.scope read p end ls (encoding s.code (op o w ps t) ++ rest) ≡ Ok (op o w ps t, after s.scope ls (op o w ps t), rest)
-  op_again p o None end ls ps t rest h false short stand =
+  op_again p o None end ls ps t rest h None short stand =
       let row = h.row in
       let front = parts_encoding s.code ps in
-      let is_empty : t ≡ empty = tail_is_empty s levels ls (terms_in p row.place) row.tail t short h.tail in
+      let is_empty : t ≡ empty = tail_is_empty s levels ls (terms_in p row.place) row.tail t (ap has_length short) h.tail in
       let spelled : opcode_bytes o ++ (front ++ tail_encoding s.code t) ++ rest ≡ opcode_bytes o ++ (front ++ rest) =
       ap (λ (y : Tail). opcode_bytes o ++ (front ++ tail_encoding s.code y) ++ rest) is_empty
       ∙ ap (λ (b : List ℕ). (opcode_bytes o ++ b) ++ rest) (append-nil front) ∙ append_assoc (opcode_bytes o) front rest in
       let there = end - length (opcode_bytes o ++ (front ++ rest)) in
       ap (term_at s.arity s.scope read p end ls) spelled
       ∙ reach_row s read p end ls o row (front ++ rest) h.listed h.taken
-      ∙ ap (λ (c : Bool). cond c (packed_at s.scope read p there row end ls (front ++ rest)) (plain_at s.scope read row end ls (front ++ rest))) short
+      ∙ ap (λ (k : Option TailKind). row_at s.scope read p there row k end ls (front ++ rest)) short
       ∙ plain_again p o row end ls ps rest h.listed h.parts
       ∙ ap (λ (y : Tail). Ok (op o None ps y, declared_by s.scope (row_of o) (after_tail s.scope ls y) ps y, rest)) (sym is_empty)
-  op_again p o None end ls ps t rest h true long stand = absurd (rw long at h.width)
-  op_again p o (Some w) end ls ps t rest h false short stand = absurd (rw short at h.width)
-  op_again p o (Some w) end ls ps t rest h true long stand =
+  op_again p o None end ls ps t rest h (Some k) long stand = absurd (rw long at h.width)
+  op_again p o (Some w) end ls ps t rest h None short stand = absurd (rw short at h.width)
+  op_again p o (Some w) end ls ps t rest h (Some k) long stand =
       let row = h.row in
       let inside = parts_encoding s.code ps ++ tail_encoding s.code t in
       let back = packed (Some w) inside ++ rest in
       let there = end - length (opcode_bytes o ++ back) in
       let width : FitsWidth w (width_len w + length inside) = rw long at h.width in
+      let tail = subst (λ (k : Option TailKind). IsTail s (IsLawful s levels) (terms_in p row.place) k ls t) long h.tail in
+      let Stands : Option TailKind → Type 0 =
+      λ k. Standing ((takes_names (terms_in p row.place) ≡ true) × (k ≡ Some TailKind.Body → ⊥)) (λ at. TailStands s.code at t) (end - length rest)
+      (tail_encoding s.code t) in
       ap (term_at s.arity s.scope read p end ls) (append_assoc (opcode_bytes o) (packed (Some w) inside) rest)
       ∙ reach_row s read p end ls o row back h.listed h.taken
-      ∙ ap (λ (c : Bool). cond c (packed_at s.scope read p there row end ls back) (plain_at s.scope read row end ls back)) long
-      ∙ packed_again p o row end ls ps rest h.listed w there t h.guarded width h.parts h.tail (λ e. absurd (cc (long, ap has_length e)))
-      (tail_stands s.code p end o row w ps t rest h.listed h.taken stand)
+      ∙ ap (λ (k : Option TailKind). row_at s.scope read p there row k end ls back) long
+      ∙ packed_again p o row end ls ps rest h.listed w k there t h.guarded width h.parts tail
+      (subst Stands long (tail_stands s.code p end o row w ps t rest h.listed h.taken stand))
 
   -- ---- terms
 
@@ -295,4 +298,4 @@ module _ (s : Setting) (levels : ℕ) (read : Position → Reader Tree) (law : I
       → term_at s.arity s.scope read p end ls (encoding s.code t ++ rest) ≡ Ok (t, after s.scope ls t, rest)
   term_again p end ls nothing rest h stand = none_again s read p end ls rest h
   term_again p end ls (named n ts) rest h stand = named_again p end ls n ts rest h
-  term_again p end ls (op o w ps t) rest h stand = op_again p o w end ls ps t rest h (has_length (h.row).tail) refl stand
+  term_again p end ls (op o w ps t) rest h stand = op_again p o w end ls ps t rest h (h.row).tail refl stand

@@ -19,7 +19,7 @@ inner_takes Position.ModuleTerm place h = absurd cc
 inner_takes _ place h = refl
 
 -- outside tables no position takes what has a body
-pub no_body : (p : Position) (o : ℕ) (r : Row) → takes_names p ≡ true → row_of o ≡ Some r → takes p r.place ≡ true → r.tail ≡ TailKind.Body → ⊥
+pub no_body : (p : Position) (o : ℕ) (r : Row) → takes_names p ≡ true → row_of o ≡ Some r → takes p r.place ≡ true → r.tail ≡ Some TailKind.Body → ⊥
 unfolding rows
 no_body Position.ModuleTerm o r h listed taken e = absurd cc
 no_body Position.GuardTerm o r h listed taken e = absurd cc
@@ -45,7 +45,7 @@ module _ (code : List ℕ) (p : Position) (end : ℕ) where
   -- of an operation: its tail
   pub tail_stands : (o : ℕ) (row : Row) (w : PkgWidth) (ps : Parts) (t : Tail) (rest : List ℕ) → row_of o ≡ Some row → takes p row.place ≡ true
       → Standing (takes_names p ≡ true) (λ at. BodyStands code at (op o (Some w) ps t)) end (encoding code (op o (Some w) ps t) ++ rest)
-      → Standing ((takes_names (terms_in p row.place) ≡ true) × (row.tail ≡ TailKind.Body → ⊥)) (λ at. TailStands code at t) (end - length rest)
+      → Standing ((takes_names (terms_in p row.place) ≡ true) × (row.tail ≡ Some TailKind.Body → ⊥)) (λ at. TailStands code at t) (end - length rest)
       (tail_encoding code t)
   tail_stands o row w ps t rest listed taken (inl h) = inl (inner_takes p row.place h, no_body p o row h listed taken)
   tail_stands o row w ps t rest listed taken (inr (at, place, b)) =

@@ -37,9 +37,9 @@ no_width None len h = refl
 no_width (Some w) len h = absurd h
 
 module _ (s : Setting) (levels : ℕ) (ls : PathSet) where
-  pub tail_is_empty : (p : Position) (k : TailKind) (t : Tail) → has_length k ≡ false → IsTail s (IsLawful s levels) p k ls t → t ≡ empty
-  tail_is_empty p TailKind.Empty empty e l = refl
-  tail_is_empty p TailKind.Empty _ e l = absurd l
+  pub tail_is_empty : (p : Position) (k : Option TailKind) (t : Tail) → has_length k ≡ false → IsTail s (IsLawful s levels) p k ls t → t ≡ empty
+  tail_is_empty p None empty e l = refl
+  tail_is_empty p None _ e l = absurd l
   tail_is_empty p _ t e l = absurd cc
 
   none_of_none : (ps : Parts) → AreParts (λ q. IsLawful s levels q ls) [] ps → ps ≡ no_parts

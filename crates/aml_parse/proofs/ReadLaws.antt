@@ -3,22 +3,23 @@
 -- with terms, that follows its steps (`then`): what a step took stands in front of what the next one takes. The reader of the
 -- terms inside is any with that law (`IsReader`).
 use Rattle.aml_parse.proofs.Common.{op, CodeFault, get_or_default, ◌≡◌, ◌≢◌, ℕ, zero, suc, ◌+◌, ◌-◌, ◌≤◌, Bool, true, false, eqb, List, [], ◌∷◌, ◌++◌, length}
-use Rattle.aml_parse.proofs.Common.{Some, None, refl, sym, ap, ◌<◌, subst, ◌∙◌, arith, inl, inr, All, eqb-true, append-nil, Name, spelling, is_name_lead}
-use Rattle.aml_parse.proofs.Common.{PathSet, Left, lead_reads, IsBytes, Takes, Takes-none, Takes-then, PartKind, Place, Position, TailKind, Row, row_of}
-use Rattle.aml_parse.proofs.Common.{has_length, takes, width_len, package_bytes, FitsWidth, Tree, connection, child, label, byte, word, dword, qword, Parts}
-use Rattle.aml_parse.proofs.Common.{empty, target, buffer, opcode_bytes, slice_of, encoding, parts_encoding, tail_encoding, field_encoding, link_encoding}
-use Rattle.aml_parse.proofs.Common.{declared_by, HasWidth, IsGuarded, count_in, is_guard, terms_in, next_position, Setting, IsLawful, AreParts, IsTail}
-use Rattle.aml_parse.proofs.Common.{TailStands, Arities, StandsThere, IsOpcode, StandsAt, is_inner, unchanged, all_unchanged, is_if_place, if_parts}
+use Rattle.aml_parse.proofs.Common.{Option, Some, None, refl, sym, ap, ◌<◌, subst, ◌∙◌, arith, inl, inr, All, eqb-true, append-nil, Name, spelling}
+use Rattle.aml_parse.proofs.Common.{is_name_lead, PathSet, Left, lead_reads, IsBytes, Takes, Takes-none, Takes-then, PartKind, Place, Position, TailKind, Row}
+use Rattle.aml_parse.proofs.Common.{row_of, has_length, takes, width_len, package_bytes, FitsWidth, Tree, connection, child, label, byte, word, dword, qword}
+use Rattle.aml_parse.proofs.Common.{Parts, empty, target, buffer, opcode_bytes, slice_of, encoding, parts_encoding, tail_encoding, field_encoding}
+use Rattle.aml_parse.proofs.Common.{link_encoding, declared_by, HasWidth, IsGuarded, count_in, is_guard, terms_in, next_position, Setting, IsLawful, AreParts}
+use Rattle.aml_parse.proofs.Common.{IsTail, TailStands, Arities, StandsThere, IsOpcode, StandsAt, is_inner, unchanged, all_unchanged, is_if_place, if_parts}
 use Rattle.aml_parse.proofs.Common.{if_has_length, guard_place, opcode_some, Within, onward, inward, text_there, byte_there, slice_there, span_inside}
 use Rattle.aml_parse.proofs.Common.{end_there, offset_is}
 use Rattle.aml_parse.specs.Reading.{Reader, part_at, parts_at, arguments_at, terms_at, to_end_at, flat, held_inside, link_at, field_at, fields_at, call_at}
-use Rattle.aml_parse.specs.Reading.{refused_in_body, refusal, guard_at, tail_at, takes_names, plain_at, packed_at, operation_at, is_absent_target, term_at}
+use Rattle.aml_parse.specs.Reading.{refused_in_body, refusal, guard_at, tail_at, takes_names, plain_at, packed_at, row_at, operation_at, is_absent_target}
+use Rattle.aml_parse.specs.Reading.{term_at}
 use Rattle.aml_parse.proofs.FlatReads.{Answers, answers, fails, then, made, chosen, known, at_offset, TookFlat, byte_reads, little_reads, span_reads}
 use Rattle.aml_parse.proofs.FlatReads.{name_reads, segmented_reads, opcode_reads, held_reads, count_reads, text_reads, behind_lead, named_unit_reads}
 use Rattle.aml_parse.proofs.FlatReads.{reserved_reads, access_reads, extended_reads}
 use Rattle.aml_parse.proofs.Leads.{led_by, guard_holds, not_guarded}
 use Rattle.aml_parse.proofs.Took.{Reads, Took, TookTerm, TookArguments, TookTerms, TookFields, TookTail, TookPart, TookParts, TookLink, TookField, IsLink}
-use Rattle.aml_parse.proofs.Took.{IsReader, by_opcode, name_some, empty_tail}
+use Rattle.aml_parse.proofs.Took.{IsReader, by_opcode, name_some}
 
 -- ---- what holds no terms
 
@@ -191,7 +192,6 @@ module _ (s : Setting) (levels : ℕ) (read : Position → Reader Tree) (law : I
   -- ---- tails
 
   tail_reads : (p : Position) (k : TailKind) → Reads s levels (TookTail s levels p k) (tail_at read p k)
-  tail_reads p TailKind.Empty at end ls bs w deep = fails s _ (CodeFault.Truncated end) (end_there s.code at end bs w)
   tail_reads p TailKind.Terms at end ls bs w deep = made s _ _ _ _ (terms_reads (length bs) p at end ls bs w deep) (λ ts a.
       record { text = a.text; is = a.is; behind_is = a.behind_is })
   tail_reads p TailKind.Bytes at end ls bs w deep = answers s _ _ (record { text = refl; is = (are_bytes bs w.fits, tt); behind_is = refl })
@@ -210,7 +210,7 @@ module _ (s : Setting) (levels : ℕ) (read : Position → Reader Tree) (law : I
 
   module _ (p : Position) (o : ℕ) (row : Row) (at end : ℕ) (ls : PathSet) (bs inside : List ℕ) (w : Within s.code at end bs) (deep : 512 ≤ suc levels + at)
       (t0 : Takes bs (opcode_bytes o) inside) (found : HasFound s.code at o row) (taken : takes p row.place ≡ true) where
-    plain_reads : has_length row.tail ≡ false → Answers s (TookTerm s (suc levels) p at ls bs) (plain_at s.scope read row end ls inside)
+    plain_reads : row.tail ≡ None → Answers s (TookTerm s (suc levels) p at ls bs) (plain_at s.scope read row end ls inside)
     unfolding plain_at
     plain_reads short =
         made s _ _ _ _ (parts_reads row.parts _ end ls inside (onward _ _ _ _ _ _ w t0) (omega (arith, deep, opcode_some o))) (λ ps b.
@@ -218,10 +218,10 @@ module _ (s : Setting) (levels : ℕ) (read : Position → Reader Tree) (law : I
           row = row;
           listed = found.listed;
           taken = taken;
-          width = subst (λ (b : Bool). HasWidth b None (length (parts_encoding s.code ps.0 ++ []))) (sym short) tt;
-          guarded = unguarded o row p ps.0 found.listed short;
+          width = subst (λ (k : Option TailKind). HasWidth (has_length k) None (length (parts_encoding s.code ps.0 ++ []))) (sym short) tt;
+          guarded = unguarded o row p ps.0 found.listed (ap has_length short);
           parts = b.is;
-          tail = subst (λ (k : TailKind). IsTail s (IsLawful s levels) (terms_in p row.place) k ls empty) (sym (empty_tail row.tail short)) tt;
+          tail = subst (λ (k : Option TailKind). IsTail s (IsLawful s levels) (terms_in p row.place) k ls empty) (sym short) tt;
         } in
         subst (TookTerm s (suc levels) p at ls bs) (sym (by_opcode s.scope o row found.listed None ps.0 empty ps.1 ps.2)) (record {
           takes = subst (λ (r : List ℕ). Takes bs (opcode_bytes o ++ r) ps.2) (sym (append-nil (parts_encoding s.code ps.0))) (Takes-then _ _ _ _ _ t0 b.takes);
@@ -238,9 +238,9 @@ module _ (s : Setting) (levels : ℕ) (read : Position → Reader Tree) (law : I
         (λ other. fails s _ (CodeFault.ModuleCode at)
         (inr (o, found.is, found.there, (row, found.listed, λ z. absurd (cc (guard_place p row.place is, ap is_if_place z)))))))
 
-    packed_reads : has_length row.tail ≡ true → Answers s (TookTerm s (suc levels) p at ls bs) (packed_at s.scope read p at row end ls inside)
+    packed_reads : (k : TailKind) → row.tail ≡ Some k → Answers s (TookTerm s (suc levels) p at ls bs) (packed_at s.scope read p at row k end ls inside)
     unfolding packed_at
-    packed_reads long = then s _ _ _ _ (span_reads s _ end inside (onward _ _ _ _ _ _ w t0)) (λ span h1 sp.
+    packed_reads k long = then s _ _ _ _ (span_reads s _ end inside (onward _ _ _ _ _ _ w t0)) (λ span h1 sp.
         let at2 = at + length (opcode_bytes o) + width_len span.0 in
         let w2 = inward s.code (at + length (opcode_bytes o)) end inside span (onward _ _ _ _ _ _ w t0) sp in
         let inner = end - length span.2 in
@@ -248,8 +248,8 @@ module _ (s : Setting) (levels : ℕ) (read : Position → Reader Tree) (law : I
         then s _ _ _ _ (parts_reads row.parts at2 inner ls span.1 w2 (omega (arith, deep, opcode_some o))) (λ ps h3 b.
         let at3 = at2 + length (parts_encoding s.code ps.0) in
         let q = terms_in p row.place in
-        made s _ _ _ _ (tail_reads q row.tail at3 inner ps.1 ps.2 (onward _ _ _ _ _ _ w2 b.takes) (omega (arith, deep, opcode_some o))) (λ t kept.
-        let c = subst (λ (m : PathSet). TookTail s levels q row.tail at3 m ps.2 t) b.behind_is kept in
+        made s _ _ _ _ (tail_reads q k at3 inner ps.1 ps.2 (onward _ _ _ _ _ _ w2 b.takes) (omega (arith, deep, opcode_some o))) (λ t kept.
+        let c = subst (λ (m : PathSet). TookTail s levels q k at3 m ps.2 t) b.behind_is kept in
         let content = parts_encoding s.code ps.0 ++ tail_encoding s.code t.0 in
         let whole : span.1 ≡ content = b.takes.parts ∙ ap (λ (r : List ℕ). parts_encoding s.code ps.0 ++ r) c.text in
         let Spans : List ℕ → Type 0 =
@@ -260,18 +260,22 @@ module _ (s : Setting) (levels : ℕ) (read : Position → Reader Tree) (law : I
           row = row;
           listed = found.listed;
           taken = taken;
-          width = subst (λ (v : Bool). HasWidth v (Some span.0) (length content)) (sym long) spelled.1;
+          width = subst (λ (k : Option TailKind). HasWidth (has_length k) (Some span.0) (length content)) (sym long) spelled.1;
           guarded =
               guard_holds s levels ls (is_guard p row.place) row.parts ps.0 span.1 ps.2
               (λ g. if_parts o row found.listed (guard_place p row.place g)) first b.is b.takes.parts;
           parts = b.is;
-          tail = c.is.0;
+          tail = subst (λ (k : Option TailKind). IsTail s (IsLawful s levels) q k ls t.0) (sym long) c.is.0;
         } in
         subst (TookTerm s (suc levels) p at ls bs) (sym (by_opcode s.scope o row found.listed (Some span.0) ps.0 t.0 t.1 span.2)) (record {
           takes = Takes-then _ _ _ _ _ t0 spelled.0;
           is = (lawful, subst (λ (n : ℕ). TailStands s.code n t.0) offset c.is.1);
           behind_is = ap (λ (m : PathSet). declared_by s.scope (row_of o) m ps.0 t.0) c.behind_is;
         })))))
+
+    row_reads : (k : Option TailKind) → row.tail ≡ k → Answers s (TookTerm s (suc levels) p at ls bs) (row_at s.scope read p at row k end ls inside)
+    row_reads None short = plain_reads short
+    row_reads (Some k) long = packed_reads k long
 
   operation_reads : (p : Position) → Reads s (suc levels) (TookTerm s (suc levels) p) (operation_at s.scope read p)
   unfolding operation_at
@@ -281,9 +285,7 @@ module _ (s : Setting) (levels : ℕ) (read : Position → Reader Tree) (law : I
       (λ none. at_offset s at end bs w (λ n. CodeFault.UnknownOp n) (o.0, t.is, there, none)) (λ row listed. listed)) (λ row h2 listed.
       let f : HasFound s.code at o.0 row = record { is = t.is; there = there; listed = listed } in
       rw (offset_is s.code at end bs w) (chosen s _ (takes p row.place) _ _
-      (λ taken. chosen s _ (has_length row.tail) _ _
-      (λ long. packed_reads p o.0 row at end ls bs o.1 w deep t.takes f taken long)
-      (λ short. plain_reads p o.0 row at end ls bs o.1 w deep t.takes f taken short))
+      (λ taken. row_reads p o.0 row at end ls bs o.1 w deep t.takes f taken row.tail refl)
       (λ other. fails s _ (refusal p row.place at) (refusal_placed s.arity s.code at o.0 row f p other)))))
 
   -- ---- terms

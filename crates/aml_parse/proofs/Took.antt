@@ -1,7 +1,7 @@
 -- What was read from the front of the bytes, and what a reader of terms keeps.
-use Rattle.aml_parse.proofs.Common.{◌≡◌, ℕ, zero, suc, ◌+◌, ◌<◌, ◌≤◌, true, false, List, [], ◌∷◌, ◌++◌, length, Some, Result, Ok, refl, sym, subst, arith}
+use Rattle.aml_parse.proofs.Common.{◌≡◌, ℕ, zero, suc, ◌+◌, ◌<◌, ◌≤◌, true, List, [], ◌∷◌, ◌++◌, length, Some, Result, Ok, refl, sym, subst, arith}
 use Rattle.aml_parse.proofs.Common.{length-append, CodeFault, Name, IsNameSeg, IsName, spelling, PathSet, name_lead, Takes, PartKind, Position, TailKind}
-use Rattle.aml_parse.proofs.Common.{package_bytes, has_length, Tree, nothing, named, op, Trees, Part, Parts, Tail, Field, unit, connection, Fields, Link}
+use Rattle.aml_parse.proofs.Common.{package_bytes, Tree, nothing, named, op, Trees, Part, Parts, Tail, Field, unit, connection, Fields, Link}
 use Rattle.aml_parse.proofs.Common.{tree_count, opcode_bytes, packed, encoding, encodings, part_encoding, parts_encoding, tail_encoding, field_encoding}
 use Rattle.aml_parse.proofs.Common.{fields_encoding, link_encoding, after, after_all, after_tail, count_in, Setting, IsLawful, AreTerms, IsPart, AreParts}
 use Rattle.aml_parse.proofs.Common.{IsTail, IsField, AreFields, BodyStands, BodiesStand, TailStands, Arities, opcode_some, Within, Option, Seg, Row, row_of}
@@ -40,7 +40,7 @@ module _ (s : Setting) (levels : ℕ) where
   TookFields ls = TookAll (fields_encoding s.code) (AreFields (λ q. IsLawful s levels q ls)) (λ us. ls)
 
   abbrev pub TookTail : Position → TailKind → ℕ → PathSet → List ℕ → Tail × PathSet → Type 0
-  TookTail p k at ls = TookAll (tail_encoding s.code) (λ t. IsTail s (IsLawful s levels) p k ls t × TailStands s.code at t) (after_tail s.scope ls)
+  TookTail p k at ls = TookAll (tail_encoding s.code) (λ t. IsTail s (IsLawful s levels) p (Some k) ls t × TailStands s.code at t) (after_tail s.scope ls)
 
   abbrev pub TookPart : PartKind → PathSet → List ℕ → Part × PathSet × List ℕ → Type 0
   TookPart k ls = Took (part_encoding s.code) (IsPart (λ q. IsLawful s levels q ls) k) (λ x. ls)
@@ -104,7 +104,3 @@ pub names_taken : (arity : Arities) (p : Position) (ls : PathSet) (n : Name) (m 
 names_taken arity Position.ModuleTerm ls n m h = absurd cc
 names_taken arity Position.GuardTerm ls n m h = absurd cc
 names_taken arity _ ls n m h = refl
-
-pub empty_tail : (k : TailKind) → has_length k ≡ false → k ≡ TailKind.Empty
-empty_tail TailKind.Empty h = refl
-empty_tail _ h = absurd cc

@@ -11,7 +11,7 @@ use Rattle.aml_names.specs.declared.names.Name.{Name}
 use Rattle.aml_names.specs.Paths.{PathSet}
 use Rattle.aml_names.specs.Names.{is_name_lead}
 use Rattle.aml_names.specs.NameReading.{name_at, segment_at, has_segment, ◌>>=◌, Left, byte_at}
-use Rattle.aml_code.specs.Opcodes.{Row, row_of, has_length, takes}
+use Rattle.aml_code.specs.Opcodes.{Row, row_of, takes}
 use Rattle.aml_code.specs.declared.rows.PartKind.{PartKind}
 use Rattle.aml_code.specs.declared.rows.Place.{Place}
 use Rattle.aml_code.specs.declared.rows.Position.{Position}
@@ -227,7 +227,6 @@ body_to end start = body start (end - start)
 
 -- a tail to the end of its span
 abbrev pub tail_at : (Position → Reader Tree) → Position → TailKind → ReaderToEnd Tail
-tail_at read p TailKind.Empty end ls inside = Err (CodeFault.Truncated end)
 tail_at read p TailKind.Terms end ls inside = held terms (terms_at read (length inside) p end ls inside)
 tail_at read p TailKind.Bytes end ls inside = Ok (Tail.bytes inside, ls)
 tail_at read p TailKind.Elements end ls inside =
@@ -241,24 +240,25 @@ plain_at scope read row end ls bytes = do
   ps ← parts_at read row.parts end ls bytes
   Ok (op row.opcode None ps.0 empty, with_declared scope ps.1 (names_declared row.role ps.0 empty), ps.2)
 
--- an opcode with a package length, which stands at an offset
-unfoldable pub packed_at : Option (List Seg) → (Position → Reader Tree) → Position → ℕ → Row → Reader Tree
-packed_at scope read p at row end ls bytes = do
+-- an opcode with a package length, which stands at an offset and has a tail of this kind
+unfoldable pub packed_at : Option (List Seg) → (Position → Reader Tree) → Position → ℕ → Row → TailKind → Reader Tree
+packed_at scope read p at row k end ls bytes = do
   span ← span_at end bytes
   guarded ← guard_at (is_guard p row.place) at (end - length span.2) span.1
   ps ← parts_at read row.parts (end - length span.2) ls span.1
-  t ← tail_at read (terms_in p row.place) row.tail (end - length span.2) ps.1 ps.2
+  t ← tail_at read (terms_in p row.place) k (end - length span.2) ps.1 ps.2
   Ok (op row.opcode (Some span.0) ps.0 t.0, with_declared scope t.1 (names_declared row.role ps.0 t.0), span.2)
 
-abbrev pub row_at : Option (List Seg) → (Position → Reader Tree) → Position → ℕ → Row → Reader Tree
-row_at scope read p at row end ls bytes =
-    if has_length row.tail then packed_at scope read p at row end ls bytes else plain_at scope read row end ls bytes
+-- one or the other, by the row's tail
+abbrev pub row_at : Option (List Seg) → (Position → Reader Tree) → Position → ℕ → Row → Option TailKind → Reader Tree
+row_at scope read p at row None end ls bytes = plain_at scope read row end ls bytes
+row_at scope read p at row (Some k) end ls bytes = packed_at scope read p at row k end ls bytes
 
 unfoldable pub operation_at : Option (List Seg) → (Position → Reader Tree) → Position → Reader Tree
 operation_at scope read p end ls bytes = do
   o ← opcode_at end bytes
   row ← ok_or (row_of o.0) (CodeFault.UnknownOp (end - length bytes))
-  if takes p row.place then row_at scope read p (end - length bytes) row end ls o.1
+  if takes p row.place then row_at scope read p (end - length bytes) row row.tail end ls o.1
       else Err (refusal p row.place (end - length bytes))
 
 -- 00 where a target is wanted

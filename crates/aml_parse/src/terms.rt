@@ -42,12 +42,13 @@ fn bare(alloc: Global, opcode: u16) -> Node
     }
 }
 
-/// An opcode that stands in a position at an offset, with its row.
+/// An opcode with a package that stands in a position at an offset, with its row and the kind of its tail.
 #[derive(Drop)]
 struct Found<'r> {
     position: Position,
     at: u32,
     row: &'r OpRow,
+    tail: TailKind,
 }
 
 impl<'a, A: Arity> Parser<'a, A> {
@@ -153,10 +154,17 @@ impl<'a, A: Arity> Parser<'a, A> {
                 if !takes(position, row.place) {
                     return Err(refusal(position, row.place, at));
                 }
-                if row.has_length() {
-                    self.packed(&Found { position, at, row }, end, locals, rest)
-                } else {
-                    self.plain(row, end, locals, rest)
+                match row.tail {
+                    None => self.plain(row, end, locals, rest),
+                    Some(tail) => {
+                        let found = Found {
+                            position,
+                            at,
+                            row,
+                            tail,
+                        };
+                        self.packed(&found, end, locals, rest)
+                    }
                 }
             }
         }
@@ -198,7 +206,7 @@ impl<'a, A: Arity> Parser<'a, A> {
     ) -> Result<(Node, &'b [u8]), CodeFault>
         ensures { Gives (λ x. (node_view x.0, locals.new, x.1.now)) result
             (packed_at (scope_of self.now.scope) (read_in A.arity self.now) found.now.position found.now.at
-            (row_view found.now.row.now) end locals.old bytes.now) }
+            (row_view found.now.row.now) found.now.tail end locals.old bytes.now) }
     {
         let row = found.row;
         let (width, inner, inside, behind) = package_of(end, bytes)?;
@@ -287,10 +295,9 @@ impl<'a, A: Arity> Parser<'a, A> {
     ) -> Result<Tail, CodeFault>
         ensures { Gives (λ x. (tail_view x, locals.new)) result
             (tail_at (read_in A.arity self.now) (terms_in found.now.position found.now.row.now.place)
-            found.now.row.now.tail end locals.old inside.now) }
+            found.now.tail end locals.old inside.now) }
     {
-        match found.row.tail {
-            TailKind::Empty => Err(CodeFault::Truncated { at: end }),
+        match found.tail {
             TailKind::Terms => {
                 let position = terms_in(found.position, found.row.place);
                 let nodes = self.terms(position, end, locals, inside)?;
