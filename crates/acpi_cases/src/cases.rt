@@ -3,9 +3,10 @@ ghost use Rattle.std.specs.Prelude.{◌≤◌, length};
 
 use crate::lines::{Line, bytes_of, number_of, split_line};
 use crate::spaces::Names;
-use crate::{code, files, sets, tables};
+use crate::{code, files, sets, spaces, tables};
 use acpi_tables::Dump;
-use aml_names::Path;
+use aml_names::{Locals, Path};
+use aml_space::Space;
 use std::alloc::{AllocError, Global};
 use std::sync::Wait;
 use std::thread::Threads;
@@ -18,7 +19,8 @@ const LIMIT: usize = 16_777_216;
 pub struct Cases {
     dumps: Vec<Dump>,
     givens: Vec<(Path, u8)>,
-    names: Names,
+    space: Space,
+    locals: Locals,
 }
 
 impl Cases {
@@ -26,7 +28,8 @@ impl Cases {
         Ok(Cases {
             dumps: Vec::new(alloc),
             givens: Vec::new(alloc),
-            names: Names::new(alloc)?,
+            space: Space::new(alloc)?,
+            locals: Locals::new(alloc),
         })
     }
 
@@ -59,7 +62,7 @@ impl Cases {
     {
         match line.kind {
             "body" => code::push_body(alloc, out, line.words, bytes),
-            "method" => self.names.push_body(alloc, out, line.words, bytes),
+            "method" => self.names().push_body(alloc, out, line.words, bytes),
             "table" => code::push_table(alloc, out, bytes),
             "cuts" => code::push_cuts(alloc, out, bytes),
             "name" => code::push_name(alloc, out, bytes),
@@ -117,10 +120,12 @@ impl Cases {
         match line.kind {
             "space" => self.begin_names(alloc),
             "given" => self.give(alloc, line),
-            "declare" | "external" | "local" => self.names.change(alloc, out, line),
-            "count" | "kind" | "rows" => self.names.push_known(alloc, out, line),
+            "declare" | "external" | "local" => {
+                spaces::change(alloc, out, &mut self.space, &mut self.locals, line)
+            }
+            "count" | "kind" | "rows" => self.names().push_known(alloc, out, line),
             "place" | "find" | "search" | "arity" | "arity_unknown_zero" => {
-                self.names.push_lead(alloc, out, line)
+                self.names().push_lead(alloc, out, line)
             }
             _ => push_table(alloc, out, line, bytes),
         }
@@ -128,7 +133,7 @@ impl Cases {
 
     /// A count that the user gives: in the namespace, and in the runs over the set.
     fn give(&mut self, alloc: Global, line: Line<'_>) -> Result<(), AllocError> {
-        let (path, count) = self.names.give(alloc, line)?;
+        let (path, count) = spaces::give(alloc, &mut self.space, line)?;
         self.givens.push((path, count))?;
         Ok(())
     }
@@ -142,8 +147,17 @@ impl Cases {
 
     /// The predefined names alone.
     fn begin_names(&mut self, alloc: Global) -> Result<(), AllocError> {
-        self.names = Names::new(alloc)?;
+        self.space = Space::new(alloc)?;
+        self.locals = Locals::new(alloc);
         Ok(())
+    }
+
+    /// The namespace, and what a body has declared.
+    fn names(&self) -> Names<'_> {
+        Names {
+            space: &self.space,
+            locals: &self.locals,
+        }
     }
 }
 

@@ -8,61 +8,54 @@ use aml_space::{BodyScope, Kind, Space};
 use std::alloc::{AllocError, Global};
 use std::fmt::Write;
 
-/// A namespace, and the paths that a body has declared.
-#[derive(Drop)]
-pub struct Names {
-    space: Space,
-    locals: Locals,
+/// Declares a path, or adds an External or a path that a body has declared.
+pub fn change(
+    alloc: Global,
+    out: &mut String,
+    space: &mut Space,
+    locals: &mut Locals,
+    line: Line<'_>,
+) -> Result<(), AllocError> {
+    let (path, more) = first_word(line.words);
+    let path = path_of(alloc, path)?;
+    match line.kind {
+        "declare" => declare(alloc, out, space, path, more),
+        "external" => space.external(path, more.parse::<u8>().unwrap_or(0)),
+        _ => locals.push(path),
+    }
 }
 
-impl Names {
-    /// The predefined names alone.
-    pub fn new(alloc: Global) -> Result<Names, AllocError> {
-        Ok(Names {
-            space: Space::new(alloc)?,
-            locals: Locals::new(alloc),
-        })
-    }
+/// Adds a count that the user gives to a path.
+pub fn give(alloc: Global, space: &mut Space, line: Line<'_>) -> Result<(Path, u8), AllocError> {
+    let (path, count) = first_word(line.words);
+    let path = path_of(alloc, path)?;
+    let count = count.parse::<u8>().unwrap_or(0);
+    space.given(&path, count)?;
+    Ok((path, count))
+}
 
-    /// Declares a path, or adds an External or a path that a body has declared.
-    pub fn change(
-        &mut self,
-        alloc: Global,
-        out: &mut String,
-        line: Line<'_>,
-    ) -> Result<(), AllocError> {
-        let (path, more) = first_word(line.words);
-        let path = path_of(alloc, path)?;
-        match line.kind {
-            "declare" => self.declare(alloc, out, path, more),
-            "external" => self.space.external(path, more.parse::<u8>().unwrap_or(0)),
-            _ => self.locals.push(path),
-        }
+/// Declares a path with the kind of these words.
+fn declare(
+    alloc: Global,
+    out: &mut String,
+    space: &mut Space,
+    path: Path,
+    words: &str,
+) -> Result<(), AllocError> {
+    match space.declare(path, kind_of(alloc, words)?) {
+        Ok(()) => Ok(()),
+        Err(fault) => writeln!(out, "  {fault}"),
     }
+}
 
-    /// Adds a count that the user gives to a path.
-    pub fn give(&mut self, alloc: Global, line: Line<'_>) -> Result<(Path, u8), AllocError> {
-        let (path, count) = first_word(line.words);
-        let path = path_of(alloc, path)?;
-        let count = count.parse::<u8>().unwrap_or(0);
-        self.space.given(&path, count)?;
-        Ok((path, count))
-    }
+/// A namespace, and the paths that a body has declared.
+#[derive(Clone, Copy)]
+pub struct Names<'n> {
+    pub space: &'n Space,
+    pub locals: &'n Locals,
+}
 
-    /// Declares a path with the kind of these words.
-    fn declare(
-        &mut self,
-        alloc: Global,
-        out: &mut String,
-        path: Path,
-        words: &str,
-    ) -> Result<(), AllocError> {
-        match self.space.declare(path, kind_of(alloc, words)?) {
-            Ok(()) => Ok(()),
-            Err(fault) => writeln!(out, "  {fault}"),
-        }
-    }
-
+impl Names<'_> {
     /// Where a name leads from a scope, or how many arguments it takes in a method's body.
     pub fn push_lead(
         &self,
@@ -102,7 +95,7 @@ impl Names {
         match way {
             "place" => place(alloc, scope, name),
             "find" => self.space.find(alloc, scope, name),
-            _ => self.space.search(alloc, &self.locals, scope, name),
+            _ => self.space.search(alloc, self.locals, scope, name),
         }
     }
 
@@ -115,11 +108,11 @@ impl Names {
         unknown_zero: bool,
     ) -> Result<Option<u8>, AllocError> {
         let scope = BodyScope {
-            space: &self.space,
+            space: self.space,
             method,
             unknown_zero,
         };
-        scope.count(alloc, &self.locals, name)
+        scope.count(alloc, self.locals, name)
     }
 
     /// The terms of the body of a method.
@@ -134,7 +127,7 @@ impl Names {
     {
         let method = path_of(alloc, method)?;
         let scope = BodyScope {
-            space: &self.space,
+            space: self.space,
             method: &method,
             unknown_zero: false,
         };
@@ -151,7 +144,7 @@ impl Names {
         match line.kind {
             "count" => push_count(out, self.space.count(&path_of(alloc, line.words)?)),
             "kind" => self.push_kind(out, &path_of(alloc, line.words)?),
-            _ => push_rows(alloc, out, &self.space),
+            _ => push_rows(alloc, out, self.space),
         }
     }
 

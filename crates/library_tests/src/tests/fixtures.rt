@@ -16,8 +16,8 @@ use std::sync::atomic::Ordering::SeqCst;
 use std::sync::atomic::{AtomicBool, AtomicU64};
 use std::thread::{self, Threads};
 
-/// The AML of tables, of which the last five are refused.
-pub fn codes() -> [&'static [u8]; 19] {
+/// The AML of tables that load.
+pub fn codes() -> [&'static [u8]; 14] {
     [
         b"\x14\x08FOO_\x01\xA4h".as_slice(),
         b"\x08BAR_\x0A\x05\x14\x0BFOO_\x02\xA4rhi\x00".as_slice(),
@@ -37,11 +37,6 @@ pub fn codes() -> [&'static [u8]; 19] {
         b"\x15BBBB\x08\x02\x14\x0EAAAA\x00\xA4BBBB\x01\x0A\x05".as_slice(),
         b"\x14\x17AAAA\x00BBBB\x01\x01\x08BBBB\x00\xA4BBBB\x14\x06BBBB\x02".as_slice(),
         b"\x08AAAB\x00[\x82\x0BAAAA\x08ZZZZ\x00\x08AAA_\x00\x08\\_GL_\x00\x14\x07\\_OSI\x02".as_slice(),
-        b"\x10\x0B\\_SB_[\x82\x05DEV0\x00".as_slice(),
-        b"\x14\x06BBBB\x01[\x80REG0\x01BBBB\x01".as_slice(),
-        b"\x08FOO_\x00\x08FOO_\x00".as_slice(),
-        b"\x14\x06MMMM\x03\x06MMM_ALIA".as_slice(),
-        b"\x08FOO_\x00\xA0\x02\x01".as_slice(),
     ]
 }
 

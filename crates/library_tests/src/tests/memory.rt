@@ -161,8 +161,7 @@ fn is_listed<T: Threads + Wait + Sync>(
 
 #[test]
 fn whole_tables_or_no_memory(rt: HostRuntime) -> Result<(), Fail> {
-    // The last five are refused for what they are.
-    for code in codes().iter().take(14) {
+    for code in codes() {
         assert!(rt; is_whole_or_want(&rt, is_listed(&rt, rt.alloc(), code)));
     }
     Ok(())
