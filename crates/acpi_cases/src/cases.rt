@@ -5,11 +5,9 @@ use crate::lines::{Line, bytes_of, number_of, split_line};
 use crate::spaces::Names;
 use crate::{code, files, sets, spaces, tables};
 use acpi_tables::Dump;
-use aml_names::{Locals, Path};
+use aml_names::Locals;
 use aml_space::Space;
 use std::alloc::{AllocError, Global};
-use std::sync::Wait;
-use std::thread::Threads;
 
 /// The greatest number of bytes of a row.
 const LIMIT: usize = 16_777_216;
@@ -18,7 +16,6 @@ const LIMIT: usize = 16_777_216;
 #[derive(Drop)]
 pub struct Cases {
     dumps: Vec<Dump>,
-    givens: Vec<(Path, u8)>,
     space: Space,
     locals: Locals,
 }
@@ -27,32 +24,25 @@ impl Cases {
     pub fn new(alloc: Global) -> Result<Cases, AllocError> {
         Ok(Cases {
             dumps: Vec::new(alloc),
-            givens: Vec::new(alloc),
             space: Space::new(alloc)?,
             locals: Locals::new(alloc),
         })
     }
 
     /// What a row is read as. A row of no kind, as a heading, has no answer.
-    pub fn answer<T: Threads + Wait + Sync>(
-        &mut self,
-        threads: &T,
-        alloc: Global,
-        row: &str,
-    ) -> Result<String, AllocError> {
+    pub fn answer(&mut self, alloc: Global, row: &str) -> Result<String, AllocError> {
         let (line, text) = split_line(row);
         let bytes = bytes_of(alloc, text)?;
         let mut out = String::new(alloc);
         if bytes.len() <= LIMIT {
-            self.push_code(threads, alloc, &mut out, line, &bytes)?;
+            self.push_code(alloc, &mut out, line, &bytes)?;
         }
         Ok(out)
     }
 
     /// What code is read as.
-    fn push_code<T: Threads + Wait + Sync>(
+    fn push_code(
         &mut self,
-        threads: &T,
         alloc: Global,
         out: &mut String,
         line: Line<'_>,
@@ -68,14 +58,13 @@ impl Cases {
             "name" => code::push_name(alloc, out, bytes),
             "length" => code::push_length(out, bytes),
             "terms" => code::push_texts(alloc, out, line.words, bytes),
-            _ => self.change_set(threads, alloc, out, line, bytes),
+            _ => self.change_set(alloc, out, line, bytes),
         }
     }
 
     /// Changes the set.
-    fn change_set<T: Threads + Wait + Sync>(
+    fn change_set(
         &mut self,
-        threads: &T,
         alloc: Global,
         out: &mut String,
         line: Line<'_>,
@@ -85,17 +74,15 @@ impl Cases {
             "set" => self.begin_set(),
             "dump" => sets::push_table(alloc, &mut self.dumps, line.words, bytes),
             "raw" => sets::push_dump(alloc, &mut self.dumps, line.words, bytes),
-            "cut" => sets::cut(&mut self.dumps, number_of(line.words)),
             "put" => sets::put_byte(&mut self.dumps, number_of(line.words), bytes),
             "add" => sets::add_bytes(&mut self.dumps, bytes),
-            _ => self.push_set(threads, alloc, out, line, bytes),
+            _ => self.push_set(alloc, out, line, bytes),
         }
     }
 
     /// What the set is read as.
-    fn push_set<T: Threads + Wait + Sync>(
+    fn push_set(
         &mut self,
-        threads: &T,
         alloc: Global,
         out: &mut String,
         line: Line<'_>,
@@ -104,7 +91,6 @@ impl Cases {
         match line.kind {
             "order" => sets::push_order(alloc, out, line.words, &self.dumps),
             "orders" => sets::push_orders(alloc, out, &mut self.dumps, number_of(line.words)),
-            "run" => sets::push_run(threads, alloc, out, line.words, &self.dumps, &self.givens),
             _ => self.change_names(alloc, out, line, bytes),
         }
     }
@@ -119,8 +105,7 @@ impl Cases {
     ) -> Result<(), AllocError> {
         match line.kind {
             "space" => self.begin_names(alloc),
-            "given" => self.give(alloc, line),
-            "declare" | "external" | "local" => {
+            "declare" | "external" | "given" | "local" => {
                 spaces::change(alloc, out, &mut self.space, &mut self.locals, line)
             }
             "count" | "kind" | "rows" => self.names().push_known(alloc, out, line),
@@ -131,17 +116,9 @@ impl Cases {
         }
     }
 
-    /// A count that the user gives: in the namespace, and in the runs over the set.
-    fn give(&mut self, alloc: Global, line: Line<'_>) -> Result<(), AllocError> {
-        let (path, count) = spaces::give(alloc, &mut self.space, line)?;
-        self.givens.push((path, count))?;
-        Ok(())
-    }
-
     /// No dump.
     fn begin_set(&mut self) -> Result<(), AllocError> {
         self.dumps.clear();
-        self.givens.clear();
         Ok(())
     }
 

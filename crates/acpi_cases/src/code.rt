@@ -8,7 +8,7 @@ use aml_code::{
 };
 use aml_names::read_name;
 use aml_parse::{parse_body, parse_module};
-use aml_text::{Bodies, Body, print_block, term_text};
+use asl_text::{Bodies, Body, print_block, term_text};
 use std::alloc::{AllocError, Global};
 use std::fmt::Write;
 use text_writer::Out;

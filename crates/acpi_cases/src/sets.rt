@@ -1,15 +1,8 @@
-//! Rows of sets of dumps: their order, and whole runs.
-ghost use Rattle.std.specs.Prelude.{◌≤◌};
-
-use crate::lines::{first_word, push_indented};
+//! Rows of sets of dumps, and of their order.
+use crate::lines::first_word;
 use acpi_tables::{Dump, Order, TableFault, load_order, sum};
-use acpidis::{Options, run};
-use aml_names::Path;
-use aml_pool::FreeGate;
 use std::alloc::{AllocError, Global};
 use std::fmt::Write;
-use std::sync::Wait;
-use std::thread::Threads;
 
 /// What stands in a header behind the length: revision, checksum, OEM and creator.
 const HEADER: [u8; 28] = *b"\x02\x00TEST  EXAMPLE \x01\x00\x00\x00TEST\x01\x00\x00\x00";
@@ -63,7 +56,7 @@ pub fn push_table(
 }
 
 /// Cuts the last dump to so many bytes.
-pub fn cut(dumps: &mut [Dump], len: usize) -> Result<(), AllocError> {
+fn cut(dumps: &mut [Dump], len: usize) -> Result<(), AllocError> {
     if let Some(dump) = dumps.last_mut() {
         dump.bytes.truncate(len);
     }
@@ -84,19 +77,6 @@ pub fn add_bytes(dumps: &mut [Dump], bytes: &[u8]) -> Result<(), AllocError> {
         None => Ok(()),
         Some(dump) => dump.bytes.extend_from_slice(bytes),
     }
-}
-
-/// The options that are named, with these counts.
-fn options_of(alloc: Global, words: &str, givens: &[(Path, u8)]) -> Result<Options, AllocError> {
-    let mut externals = Vec::new(alloc);
-    for (path, count) in givens {
-        externals.push((path.clone()?, *count))?;
-    }
-    Ok(Options {
-        any_sum: words.contains("any_sum"),
-        unknown_zero: words.contains("unknown_zero"),
-        externals,
-    })
 }
 
 /// The dumps of the definition blocks in load order, by index and name, or why they have none.
@@ -142,40 +122,4 @@ pub fn push_orders(
         push_order(alloc, out, "", dumps)?;
     }
     Ok(())
-}
-
-/// How many workers the words name, 1 to 64; one where they name none.
-fn workers_of(words: &str) -> u32
-    ensures { (1 ≤ result) × (result ≤ 64) }
-{
-    let (_, count) = words.split_once("workers ").unwrap_or(("", "1"));
-    let (count, _) = first_word(count);
-    count.parse::<u32>().unwrap_or(1).clamp(1, 64)
-}
-
-/// The status of a run, what it writes, and its error lines.
-pub fn push_run<T: Threads + Wait + Sync>(
-    threads: &T,
-    alloc: Global,
-    out: &mut String,
-    words: &str,
-    dumps: &[Dump],
-    givens: &[(Path, u8)],
-) -> Result<(), AllocError> {
-    let mut text = Vec::new(alloc);
-    let mut error = Vec::new(alloc);
-    let status = run(
-        threads,
-        alloc,
-        dumps,
-        options_of(alloc, words, givens)?,
-        workers_of(words),
-        words.contains("check"),
-        &FreeGate,
-        &mut text,
-        &mut error,
-    );
-    writeln!(out, "  status {status}")?;
-    push_indented(out, &text)?;
-    push_indented(out, &error)
 }

@@ -8,7 +8,7 @@ use aml_space::{BodyScope, Kind, Space};
 use std::alloc::{AllocError, Global};
 use std::fmt::Write;
 
-/// Declares a path, or adds an External or a path that a body has declared.
+/// Declares a path, or adds an External, a count that the user gives, or a path that a body has declared.
 pub fn change(
     alloc: Global,
     out: &mut String,
@@ -21,17 +21,9 @@ pub fn change(
     match line.kind {
         "declare" => declare(alloc, out, space, path, more),
         "external" => space.external(path, more.parse::<u8>().unwrap_or(0)),
+        "given" => space.given(&path, more.parse::<u8>().unwrap_or(0)),
         _ => locals.push(path),
     }
-}
-
-/// Adds a count that the user gives to a path.
-pub fn give(alloc: Global, space: &mut Space, line: Line<'_>) -> Result<(Path, u8), AllocError> {
-    let (path, count) = first_word(line.words);
-    let path = path_of(alloc, path)?;
-    let count = count.parse::<u8>().unwrap_or(0);
-    space.given(&path, count)?;
-    Ok((path, count))
 }
 
 /// Declares a path with the kind of these words.

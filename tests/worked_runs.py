@@ -1,0 +1,88 @@
+#!/usr/bin/env python3
+"""Runs acpidis over the sets of tests/worked_runs.txt, and compares status, text and error lines with those below each run.
+
+    python3 tests/worked_runs.py [PROGRAM]
+
+PROGRAM is out/acpidis if left out. The rows are in the language of crates/acpi_cases (docs/testing.md). A row `run` is a run
+over the dumps of the rows before it, from the last `set` on, in a folder of their own; below it, two columns in, stand its
+status, its text and its error lines. Each of them is also what the independent reading of tests/oracle says. The last line
+is 'N passed, N failed'.
+"""
+
+import argparse
+import pathlib
+import subprocess
+import sys
+import tempfile
+
+sys.dont_write_bytecode = True
+sys.path.insert(0, str(pathlib.Path(__file__).resolve().parent / "oracle"))
+
+from cases import Rows, options_of  # noqa: E402
+from compare import PROGRAM  # noqa: E402
+from loading import path_text  # noqa: E402
+
+RUNS = pathlib.Path(__file__).resolve().parent / "worked_runs.txt"
+MARGIN = "  "
+LONGEST_RUN = 60
+
+
+def write_set(folder, dumps):
+    """The files of a set, and the map of their addresses where they have any."""
+    for dump in dumps:
+        (folder / dump.name).write_bytes(dump.data)
+    places = "".join(f"{dump.address:016X} {dump.name}\n" for dump in dumps if dump.address is not None)
+    if places:
+        (folder / "tables.map").write_text(places)
+
+
+class ProgramRows(Rows):
+    """Rows whose runs are those of the program."""
+
+    def __init__(self, program):
+        super().__init__()
+        self.program = program
+
+    def row_run(self, words, _):
+        with tempfile.TemporaryDirectory() as name:
+            folder, counts = pathlib.Path(name, "tables"), pathlib.Path(name, "counts")
+            folder.mkdir()
+            write_set(folder, self.dumps)
+            counts.write_text("".join(f"{path_text(path)} {count}\n" for path, count in self.given))
+            options = [*options_of(words).words(), *(["--externals", counts] if self.given else [])]
+            done = subprocess.run([self.program, *options, folder], capture_output=True, timeout=LONGEST_RUN, check=False)
+        text, errors = (written.decode("latin-1").splitlines() for written in (done.stdout, done.stderr))
+        return [f"status {done.returncode}", *text, *errors]
+
+
+def examples():
+    """Each row with its number and the lines below it."""
+    found = []
+    for number, line in enumerate(RUNS.read_text().splitlines(), 1):
+        if line.startswith(MARGIN):
+            found[-1][2].append(line.removeprefix(MARGIN))
+        else:
+            found.append((number, line, []))
+    return found
+
+
+def main():
+    parser = argparse.ArgumentParser(description=__doc__, formatter_class=argparse.RawDescriptionHelpFormatter)
+    parser.add_argument("program", nargs="?", default=PROGRAM)
+    readers = {"acpidis": ProgramRows(parser.parse_args().program), "tests/oracle": Rows()}
+    passed = failed = 0
+    for number, row, wanted in examples():
+        for name, reader in readers.items():
+            got = reader.answer(row)
+            if got != wanted:
+                failed += 1
+                one, other = next(pair for pair in zip([*got, "the end"], [*wanted, "the end"]) if pair[0] != pair[1])
+                print(f"FAILED {RUNS.name} line {number}, {row}: {name} has {one!r}, not {other!r}")
+            elif wanted:
+                passed += 1
+    print(f"{passed} passed, {failed} failed")
+    return int(failed > 0)
+
+
+if __name__ == "__main__":
+    sys.exit(main())
