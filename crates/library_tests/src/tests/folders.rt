@@ -102,13 +102,8 @@ pub fn are_gathered(dumps: &[Dump]) -> bool {
 }
 
 /// What is printed where so many calls are answered before this fault.
-fn line_of(
-    alloc: Global,
-    files: &[(&str, &[u8])],
-    answered: u32,
-    fault: FolderFault,
-) -> Result<String, Fail> {
-    let mut folder = MemoryFolder::new(alloc, files, answered, fault);
+fn line_of(alloc: Global, answered: u32, fault: FolderFault) -> Result<String, Fail> {
+    let mut folder = MemoryFolder::new(alloc, &FILES, answered, fault);
     match gather(alloc, &mut folder) {
         Ok(dumps) => Ok(format!(in alloc; "{} dumps", dumps.len())?),
         Err(fault) => Ok(format!(in alloc; "{fault}")?),
@@ -117,8 +112,8 @@ fn line_of(
 
 /// Whether this is printed where the call behind so many fails, and the want of memory where it is refused memory.
 fn is_told(alloc: Global, answered: u32, line: &str) -> Result<bool, Fail> {
-    let failed = line_of(alloc, &FILES, answered, FolderFault::Failed)?;
-    let refused = line_of(alloc, &FILES, answered, FolderFault::NoMemory)?;
+    let failed = line_of(alloc, answered, FolderFault::Failed)?;
+    let refused = line_of(alloc, answered, FolderFault::NoMemory)?;
     Ok(failed.as_str() == line && (refused.as_str() == "NoMemory" || answered == 5))
 }
 
@@ -134,39 +129,6 @@ fn each_call_of_a_folder_fails_in_turn(rt: HostRuntime) -> Result<(), Fail> {
     ];
     for (answered, line) in (0..).zip(lines) {
         assert!(rt; is_told(rt.alloc(), answered, line)?, "{line}");
-    }
-    Ok(())
-}
-
-#[test]
-fn what_a_folder_in_memory_has(rt: HostRuntime) -> Result<(), Fail> {
-    let alloc = rt.alloc();
-    let mut folder = MemoryFolder::new(alloc, &FILES, 5, FolderFault::Failed);
-    let Ok(dumps) = gather(alloc, &mut folder) else {
-        panic!(rt; "no call failed")
-    };
-    assert!(rt; are_gathered(&dumps));
-    Ok(())
-}
-
-#[test]
-fn maps_that_are_refused(rt: HostRuntime) -> Result<(), Fail> {
-    let alloc = rt.alloc();
-    let maps = [
-        (b"4000 a.dat\n".as_slice(), "tables.map line 1: BadLine"),
-        (
-            b"0000000000004000 a.dat\n0000000000005000 b.dat".as_slice(),
-            "tables.map line 2: NoSuchFile",
-        ),
-        (
-            b"0000000000004000 a.dat\n0000000000005000 a.dat".as_slice(),
-            "tables.map line 2: Again",
-        ),
-    ];
-    for (map, line) in maps {
-        let files = [("a.dat", b"".as_slice()), ("tables.map", map)];
-        let seen = line_of(alloc, &files, 3, FolderFault::Failed)?;
-        assert_eq!(rt; seen.as_str(), line);
     }
     Ok(())
 }

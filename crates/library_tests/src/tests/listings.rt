@@ -3,7 +3,6 @@ use super::fixtures::{Watch, listing_of, push_table, status_of};
 use acpi_tables::Dump;
 use acpidis::Refusal;
 use aml_code::CodeFault;
-use aml_pool::FreeGate;
 use aml_text::{Body, Listing};
 use std::alloc::{AllocError, Global};
 use std::sync::Wait;
@@ -30,23 +29,6 @@ pub fn has_three_bodies(listing: &Listing<'_>) -> bool {
         return false;
     };
     first.len() == 1 && last.is_empty()
-}
-
-/// Whether the bodies are those, read by so many workers.
-fn is_shared(listing: &Listing<'_>, workers: u32) -> bool {
-    let lists = listing.drawn.iter();
-    let numbers = lists.fold(0, |sum: usize, list| sum.saturating_add(list.len()));
-    has_three_bodies(listing) && listing.drawn.len() == workers as usize && numbers == 3
-}
-
-#[test]
-fn three_bodies_by_any_number_of_workers(rt: HostRuntime) -> Result<(), Fail> {
-    let dumps = three_methods(rt.alloc())?;
-    for workers in [1, 2, 3, 64] {
-        let listing = listing_of(&rt, rt.alloc(), &dumps, workers, &FreeGate)?;
-        assert!(rt; is_shared(&listing, workers));
-    }
-    Ok(())
 }
 
 /// A DSDT of eight methods, each of which returns a constant.
