@@ -32,23 +32,30 @@ impl<'a> From<AllocError> for FileFault<'a> {
     }
 }
 
+impl<'a> From<ExternalsFault> for FileFault<'a> {
+    fn from(fault: ExternalsFault) -> FileFault<'a> {
+        match fault {
+            ExternalsFault::BadLine(number) => FileFault::BadLine(number),
+            ExternalsFault::NoMemory => FileFault::NoMemory,
+        }
+    }
+}
+
 /// The paths and counts of the lines of a file, in their order.
 pub fn read_externals<'a>(
     rt: &HostRuntime,
     file: &'a str,
 ) -> Result<Vec<(Path, u8)>, FileFault<'a>> {
-    let text = match read_file(rt, file) {
-        Ok(text) => text,
-        Err(error) if error.kind() == io::ErrorKind::OutOfMemory => return Err(FileFault::NoMemory),
-        Err(_) => return Err(FileFault::File(file)),
-    };
-    if text.len() > MAX_BYTES {
-        return Err(FileFault::File(file));
-    }
-    match parse_externals(rt.alloc(), &text) {
-        Ok(externals) => Ok(externals),
-        Err(ExternalsFault::BadLine(number)) => Err(FileFault::BadLine(number)),
-        Err(ExternalsFault::NoMemory) => Err(FileFault::NoMemory),
+    let text = read_text(rt, file)?;
+    Ok(parse_externals(rt.alloc(), &text)?)
+}
+
+/// The bytes of a file that isn't too long.
+fn read_text<'a>(rt: &HostRuntime, file: &'a str) -> Result<Vec<u8>, FileFault<'a>> {
+    match read_file(rt, file) {
+        Ok(text) if text.len() <= MAX_BYTES => Ok(text),
+        Err(error) if error.kind() == io::ErrorKind::OutOfMemory => Err(FileFault::NoMemory),
+        _ => Err(FileFault::File(file)),
     }
 }
 
