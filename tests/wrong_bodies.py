@@ -20,8 +20,8 @@ each other, and one check of a crate with all of them says of each function whet
 of the other functions and cycles are left out at first, with a hole for each proof, unless out/ has kept proofs of the crate. A
 further wrong body of one function stands in a copy of it, behind it, with a copy of its proofs. A method of a trait and a
 function of a cycle of calls have no copies: their wrong bodies are tried in different checks. What such checks don't refuse is
-tried with all bodies, and at last alone, as one is at once that stands in no function, as in a table. `rt must-fail CRATE` tries
-one after the other.
+tried with all bodies, and at last alone, as one is at once that stands in no function. A table that one function alone names
+counts as a part of its body. `rt must-fail CRATE` tries one after the other.
 """
 
 import argparse
@@ -41,6 +41,7 @@ FUNCTION = re.compile(r"( {4})?(?:pub(?:\(\w+\))? )?(?:(?:const|final|unsafe|gho
 BLOCK = re.compile(r"(?:unsafe )?(?:pub )?(?:impl|trait)\b(?:<[^{]*?> )?\s*(?:(?P<trait>[\w:]+(?:<[^{]*?>)?) for )?(?P<type>\w+)")
 
 TYPE = re.compile(r"^(?:pub(?:\(\w+\))? )?(?:struct|enum) (\w+)", re.M)
+TABLE = re.compile(r"^(?:pub(?:\(\w+\))? )?static (\w+): .*?^[}\]];$", re.M | re.S)
 
 # A function by the end of its name, and the module that it is written in; without a name the module's other items
 Place = collections.namedtuple("Place", "module name cycle")
@@ -111,8 +112,15 @@ def functions_of(file, text):
 
 
 def place_at(file, text, at):
-    """What stands at an offset of a source: the body of a function, or one of the module's other items."""
-    return next((it.place for it in functions_of(file, text) if it.begin <= at < it.end), Place(module_of(file), None, None))
+    """What stands at an offset of a source: the body of a function, or one of the module's other items.
+
+    A table that one function alone names counts as a part of its body.
+    """
+    functions = list(functions_of(file, text))
+    begun = next((it for it in TABLE.finditer(text) if it.start() <= at < it.end()), None)
+    naming = [it for it in functions if begun and re.search(rf"\b{begun[1]}\b", text[it.begin : it.end])]
+    within = [it for it in functions if it.begin <= at < it.end] or naming
+    return within[0].place if len(within) == 1 else Place(module_of(file), None, None)
 
 
 def read_wrong_body(name, text, folder):
