@@ -10,8 +10,8 @@ is 'N passed, N failed'.
 """
 
 import argparse
+import dataclasses
 import pathlib
-import subprocess
 import sys
 import tempfile
 
@@ -19,12 +19,12 @@ sys.dont_write_bytecode = True
 sys.path.insert(0, str(pathlib.Path(__file__).resolve().parent / "oracle"))
 
 from cases import Rows, options_of  # noqa: E402
-from compare import PROGRAM  # noqa: E402
+from compare import PROGRAM, run_program  # noqa: E402
+from folders import MAP_NAME  # noqa: E402
 from loading import path_text  # noqa: E402
 
 RUNS = pathlib.Path(__file__).resolve().parent / "worked_runs.txt"
 MARGIN = "  "
-LONGEST_RUN = 60
 
 
 def write_set(folder, dumps):
@@ -33,7 +33,7 @@ def write_set(folder, dumps):
         (folder / dump.name).write_bytes(dump.data)
     places = "".join(f"{dump.address:016X} {dump.name}\n" for dump in dumps if dump.address is not None)
     if places:
-        (folder / "tables.map").write_text(places)
+        (folder / MAP_NAME).write_text(places)
 
 
 class ProgramRows(Rows):
@@ -49,10 +49,9 @@ class ProgramRows(Rows):
             folder.mkdir()
             write_set(folder, self.dumps)
             counts.write_text("".join(f"{path_text(path)} {count}\n" for path, count in self.given))
-            options = [*options_of(words).words(), *(["--externals", counts] if self.given else [])]
-            done = subprocess.run([self.program, *options, folder], capture_output=True, timeout=LONGEST_RUN, check=False)
-        text, errors = (written.decode("latin-1").splitlines() for written in (done.stdout, done.stderr))
-        return [f"status {done.returncode}", *text, *errors]
+            options = dataclasses.replace(options_of(words), externals=counts if self.given else None)
+            status, text, errors = run_program(self.program, folder, options)
+        return [f"status {status}", *text.splitlines(), *errors.splitlines()]
 
 
 def examples():
