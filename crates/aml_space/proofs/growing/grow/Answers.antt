@@ -1,4 +1,4 @@
-use Rattle.std.proofs.Common.{◌≡◌, ◌+◌, length, ap, ◌∙◌, arith}
+use Rattle.std.proofs.Common.{◌≡◌, ◌+◌, length, ap, ◌∙◌, arith, rules}
 use Rattle.aml_space.proofs.Paths.{long_path}
 use Rattle.aml_space.proofs.growing.grow.Goals as goal
 use Rattle.aml_space.proofs.growing.grow.Goals.{In-Ok}
@@ -11,3 +11,6 @@ overflow_sub-result c = omega (arith, long (goal.at.overflow_sub-result c).In-Ok
 
 pub returns-in-Ok-clause-node : goal.returns-in-Ok-clause-node
 returns-in-Ok-clause-node c = omega (arith, long (goal.at.returns-in-Ok-clause-node c).In-Ok, c.len.ensures, c.push_below.new.nodes.ok.0)
+
+pub returns-in-Err-clause-err : goal.returns-in-Err-clause-err
+returns-in-Err-clause-err c = search rules

@@ -1,4 +1,4 @@
-use Rattle.std.proofs.Common.{◌≡◌, [], ◌∷◌, Some, None, false, cond, sym, ap, ◌∙◌}
+use Rattle.std.proofs.Common.{◌≡◌, [], ◌∷◌, Some, None, false, cond, sym, ap, ◌∙◌, rules}
 use Rattle.std.specs.Option.{option_or}
 use Rattle.std.specs.FinSet as set
 use Rattle.aml_space.specs.Namespace.{count_at, unknown_count}
@@ -27,3 +27,6 @@ returns-in-None c =
     let counted : count_at n p ≡ None = sym c.count_of.ensures ∙ c.in-None.is in
     c.count_unknown.ensures ∙ ap (λ o. option_or o (cond u (Some 0) None)) (c.given_here.ensures ∙ only_given n p)
     ∙ sym (placed n u c.args.locals.now p ∙ (λ i. cond (asked i) (Some 0) (option_or (counted i) (unknown_count n u (p ∷ [])))))
+
+pub returns-then-has : goal.returns-then-has
+returns-then-has c = search rules
