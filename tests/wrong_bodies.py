@@ -20,8 +20,9 @@ each other, and one check of a crate with all of them says of each function whet
 of the other functions and cycles are left out at first, with a hole for each proof, unless out/ has kept proofs of the crate. A
 further wrong body of one function stands in a copy of it, behind it, with a copy of its proofs. A method of a trait and a
 function of a cycle of calls have no copies: their wrong bodies are tried in different checks. What such checks don't refuse is
-tried with all bodies, and at last alone, as one is at once that stands in no function. A table that one function alone names
-counts as a part of its body. `rt must-fail CRATE` tries one after the other.
+tried with all bodies, and at last alone, as one is at once that stands in no function, over all functions of the crate. A table
+that one function alone names counts as a part of its body. One whose text can't be read is told so, and the others are tried
+without it. `rt must-fail CRATE` tries one after the other.
 """
 
 import argparse
@@ -290,12 +291,20 @@ def leave_out_bodies(crate, room, batch):
         write(f"{room}/{file}", text)
 
 
-def check(rtlib, crate, batch, kept, only_these):
-    """Checks a copy of the crate with these wrong bodies, and returns what was printed and whether there is a verdict.
+# What a check of some functions, or of a whole crate, ends with once it has read all sources
+ENDED = re.compile(r"^(?:only|logic)=", re.M)
+UNREAD = re.compile(r"^(?:\./)?((?:src|specs)/\S+?):(\d+)(?::\d+)?: error.*", re.M)
 
-    `only_these` says that the other functions' bodies are left out.
+
+def check(rtlib, crate, batch, kept, only_these):
+    """Checks a copy of the crate with these wrong bodies, and returns what was printed, and of which of them that says nothing.
+
+    `only_these` says that the other functions' bodies are left out. Where a text can't be read nothing is said of any of them,
+    and where it stands in the functions of some, these come by themselves: the names of the unread, and of those left untried.
     """
-    modules = {place.name or place.module: place.module for it in batch for place in it.places}
+    # What stands in no function, as a constant, is told by all functions of the crate.
+    is_whole = any(not place.name for it in batch for place in it.places)
+    modules = {} if is_whole else {place.name: place.module for it in batch for place in it.places}
     with tempfile.TemporaryDirectory() as room:
         copy_with(crate.name, batch, room)
         if only_these:
@@ -312,8 +321,23 @@ def check(rtlib, crate, batch, kept, only_these):
             if not unknown or not modules.get(unknown[1]):
                 break
             modules[modules.pop(unknown[1])] = None
-    has_read = not re.search(r"^(\./)?(src|specs)/\S+: error", ran.stdout, re.M)
-    return ran.stdout, ran.returncode == 1 and has_read and "\nonly=" in ran.stdout
+        names = {it.name for it in batch}
+        # Status 0 says that all is proved, 1 that something isn't; any other that nothing was judged.
+        if ran.returncode in (0, 1) and not UNREAD.search(ran.stdout) and ENDED.search(ran.stdout):
+            return ran.stdout, set(), set()
+        unread = unread_in(room, batch, ran.stdout)
+        return ran.stdout, unread, names - unread
+
+
+def unread_in(room, batch, printed):
+    """The wrong bodies of a check in whose functions a text can't be read; none where that is told of another place too."""
+    places = set()
+    for file, number in UNREAD.findall(printed):
+        text = read(f"{room}/{file}")
+        places.add(place_at(file, text, sum(map(len, text.splitlines(keepends=True)[: int(number) - 1]))).name)
+    found = {it.name for it in batch if places & {place.name for place in it.places if place.name}}
+    own = {place.name for it in batch if it.name in found for place in it.places}
+    return found if places <= own else set()
 
 
 # What an answer is refused with that was tried at its goal. All else that is said of an answer, as that a name is not in scope
@@ -400,19 +424,21 @@ def verdict_of(wrong, goals, others, printed):
     return Verdict(None, "\n".join(told or elsewhere or printed.rstrip("\n").split("\n")[-20:]))
 
 
-def verdicts_on(batch, printed, has_read, proofs, left_out):
-    """The verdicts that a check gives on some of the wrong bodies in it, by their names."""
+def verdicts_on(batch, checked, proofs, left_out):
+    """The verdicts that a check gives on some of the wrong bodies in it, by their names, from what `check` answers."""
+    printed, unread, untried = checked
     goals, others = read_output(printed, proofs)
     found = {it.name: verdict_of(it, goals, others, printed) for it in batch}
-    if not has_read:
-        unread = re.findall(r"^(?:\./)?(?:src|specs)/\S+: error.*", printed, re.M)
-        found = {it.name: Verdict(None, "\n".join(unread or printed.rstrip("\n").split("\n")[-20:])) for it in batch}
+    told = "\n".join([it[0] for it in UNREAD.finditer(printed)] or printed.rstrip("\n").split("\n")[-20:])
+    found.update({name: Verdict("UNDECIDED", f"it can't be read\n{told}") for name in unread})
+    found.update({name: Verdict(None, told) for name in untried})
     if len(batch) == 1 and not left_out:
         return {name: Verdict(it.kind or "UNDECIDED", it.reason) for name, it in found.items()}
-    # A fault of a function that no wrong body stands in is the check's own, and then nothing is believed.
+    # A fault of a function that no wrong body stands in is the check's own, and then nothing is believed but what is unread.
     in_batch = lambda path: any(stands_at(place, path) for it in batch for place in it.places)
     is_sound = all(map(in_batch, goals))
-    return {name: it for name, it in found.items() if is_sound and it.kind and (it.kind == "refused" or not left_out)}
+    is_told = lambda name, it: name in unread or is_sound and it.kind and (it.kind == "refused" or not left_out)
+    return {name: it for name, it in found.items() if is_told(name, it)}
 
 
 def judged(rtlib, crate, waiting, kept, shown, is_seeded):
@@ -421,15 +447,15 @@ def judged(rtlib, crate, waiting, kept, shown, is_seeded):
     lone = {it.function.place.name for it in lone_functions(sources_in(f"{TOP}/crates/{crate.name}"))}
     while waiting:
         batch = waiting[:1] if alone else first_batch(waiting, lone)
-        left_out = left_out and any(place.name for it in batch for place in it.places)
+        left_out = left_out and all(place.name for it in batch for place in it.places)
         # What is checked is only worth keeping where another check follows.
         is_last = len(batch) == len(waiting) and not os.path.exists(kept)
-        printed, has_read = check(rtlib, crate, batch, None if is_last else kept, left_out)
+        checked = check(rtlib, crate, batch, None if is_last else kept, left_out)
         if shown:
             file = f"{shown}/{crate.name}.{len(waiting)}{'.left_out' if left_out else '.alone' if alone else ''}"
             with open(file, "w", encoding="utf-8") as it:
-                print(*(body.name for body in batch), printed, sep="\n", file=it)
-        found = verdicts_on(batch, printed, has_read, f"{TOP}/crates/{crate.name}/proofs", left_out)
+                print(*(body.name for body in batch), checked[0], sep="\n", file=it)
+        found = verdicts_on(batch, checked, f"{TOP}/crates/{crate.name}/proofs", left_out)
         yield from found.items()
         waiting = [it for it in waiting if it.name not in found]
         left_out, alone = left_out and bool(found), not (left_out or found)
