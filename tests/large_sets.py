@@ -1,9 +1,9 @@
 #!/usr/bin/env python3
 """Runs acpidis over sets that are too many or too large for worked examples, and compares text, error lines and status.
 
-    python3 tests/large_sets.py [PROGRAM]
+    python3 tests/large_sets.py [--stop] [PROGRAM]
 
-PROGRAM is out/acpidis if left out. The independent reading of tests/oracle says what has to come of 19 tables cut at each
+PROGRAM is out/acpidis if left out. With --stop the first cut that fails ends it. The independent reading of tests/oracle says what has to come of 19 tables cut at each
 byte, of all bodies of two bytes, of 20,000 methods in a mixed order with a call of each, and of the most files and bytes.
 For a long body, a name of sixteen million `^` and a million methods it would take too long: what has to come of these is
 written down here, after docs/listing.md, docs/limits.md and docs/loading.md. The last line is 'N passed, N failed'.
@@ -299,6 +299,15 @@ def large_trials():
     yield from the_most_methods()
 
 
+def first_that_fails(program):
+    """Whether each run of the cuts fails, up to and with the first that does."""
+    for trial in cuts():
+        fails = tried(program, trial) is None
+        yield fails
+        if fails:
+            return
+
+
 def fails_of_cuts(program):
     """Whether each run fails, and whether another number of them than it has to be is taken."""
     with concurrent.futures.ThreadPoolExecutor(len(os.sched_getaffinity(0))) as pool:
@@ -311,12 +320,16 @@ def fails_of_cuts(program):
 
 def main():
     words = argparse.ArgumentParser(description=__doc__, formatter_class=argparse.RawDescriptionHelpFormatter)
+    words.add_argument("--stop", action="store_true")
     words.add_argument("program", nargs="?", type=pathlib.Path, default=PROGRAM)
-    program = words.parse_args().program.resolve()
+    asked = words.parse_args()
+    program = asked.program.resolve()
     if not program.exists():
         sys.exit("the program isn't built: ./acpidis demo builds it")
-    fails = fails_of_cuts(program)
-    fails += [tried(program, trial) is None for trial in large_trials()]
+    fails = list(first_that_fails(program)) if asked.stop else []
+    if not any(fails):
+        fails = fails_of_cuts(program)
+        fails += [tried(program, trial) is None for trial in large_trials()]
     print(f"{fails.count(False)} passed, {fails.count(True)} failed")
     sys.exit(any(fails))
 

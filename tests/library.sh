@@ -25,6 +25,13 @@ block() {
     awk -v begin="\`\`\`$1" '$0 == "```" { if (seen) exit } seen { print } $0 == begin { seen = 1 }' "$page"
 }
 
+block sh >"$work/commands.sh"
+if [ ! -s "$work/commands.sh" ]; then
+    echo "FAILED $page has no commands"
+    echo '0 passed, 1 failed'
+    exit 1
+fi
+
 # The page takes what is committed; this takes what is there, so that a change is tried before it is committed.
 mkdir "$work/jigmadder" "$work/mine"
 (cd -- "$top" && tar -cf - --exclude=out HANDLES crates.txt crates) |
@@ -33,7 +40,6 @@ cd -- "$work/jigmadder" && git init -q . && git add -A &&
     git -c user.name=test -c user.email=test@localhost commit -qm all || exit 1
 
 cd -- "$work/mine" || exit 1
-block sh >"$work/commands.sh"
 # shellcheck disable=SC1091
 . "$work/commands.sh"
 is 'the commands of the page' "$?" 0

@@ -1,7 +1,8 @@
 #!/bin/sh
 # Runs the program under limits of memory (ulimit -v) and of the stack (ulimit -s), in small steps, over deep and wide sets,
 # with 1, 4 and 64 workers. Each run gives the whole text, or nothing but 'acpidis: NoMemory' or 'acpidis: NoThread' with
-# status 1; no signal ends it.
+# status 1; no signal ends it. What the whole text is the independent reading of tests/oracle says, and without limits it has
+# to come.
 #
 #     tests/limits.sh [--short] [PROGRAM]
 #
@@ -92,8 +93,17 @@ done
 echo "the program starts with $least KB"
 
 for set in sets/*; do
-    "$program" --any-sum "$set" >whole_text 2>whole_lines
+    python3 "$top/tests/oracle/listing.py" --any-sum "$set" >whole_text 2>whole_lines
     whole=$?
+    "$program" --any-sum "$set" >text 2>lines
+    status=$?
+    if is_right && [ "$complete" = yes ]; then
+        passed=$((passed + 1))
+    else
+        failed=$((failed + 1))
+        echo "FAILED $set without limits: status $status, $(head -n 1 lines)"
+        continue
+    fi
     for count in $workers; do
         limit=$least
         in_a_row=0

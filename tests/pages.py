@@ -1,15 +1,16 @@
 #!/usr/bin/env python3
 """Runs the commands of the pages for users, each as its page prints it, and compares what comes with what stands there.
 
-    python3 tests/pages.py
+    python3 tests/pages.py [--no-scripts]
 
 A block that begins with ```console has commands behind `$ `, more lines of theirs behind `> `, and below what they
 print. They run in a folder with `mine`, the set of docs/listing.md, whose text is the first block of that page, and
 with `examples`. `./acpidis` is the launcher. What README quotes from a source has to stand there, and README has at
-most 2,000 words. Each definition that docs/definitions.md names stands in the file that it names. Then the manual page
-is looked through by mandoc and groff, each where it is installed, and its options are compared with the program's, its
-words and docs/refusals.md's with the sources'. Last, the scripts that the pages speak of are tried. The last line is
-'N passed, N failed'.
+most 2,000 words. Each definition that docs/definitions.md names stands in the file that it names, and each name of the
+sources' kind that a page marks as code stands in some source. Then the manual page is looked through by mandoc and
+groff, each where it is installed, and its options are compared with the program's, its words and docs/refusals.md's
+with the sources'. Last, the scripts that the pages speak of are tried, but with --no-scripts. The last line is 'N
+passed, N failed'.
 """
 
 import os
@@ -29,6 +30,8 @@ REFUSALS = "docs/refusals.md"
 README = "README.md"
 DEFINITIONS = "docs/definitions.md"
 MOST_WORDS = 2000
+# What pages call a thing that no source names
+MADE_UP = {"draw_copy1", "Lts"}
 SCRIPTS = ["tests/survey.sh", "tests/install.sh", "tests/examples.py", "tests/library.sh"]
 DSDT = b"\x08BAR_\x0A\x05" + b"\x14\x0BFOO_\x02\xA4\x72\x68\x69\x00" + b"\x14\x0BCALL\x00\xA4ZZZZ"
 SSDT = b"\x10\x17\\_SB_\x5B\x82\x0FDEV0\x14\x09_STA\x08\xA4\x0A\x0F" + b"\x06FOO_ALIA"
@@ -91,15 +94,19 @@ def commands_of(page):
 def checks_of(page):
     """What has to be run for a page, and what has to come."""
     if page == LISTING:
-        return [("./acpidis mine 2>/dev/null", blocks_of(page, "")[0])]
+        return [("./acpidis mine 2>/dev/null", block) for block in blocks_of(page, "")[:1]]
     return commands_of(page)
 
 
 def fails_of(page):
     """Whether each command of a page fails, in its order."""
+    checks = list(checks_of(page))
+    if not checks:
+        print(f"FAILED {page}: it has no command")
+        yield True
     with tempfile.TemporaryDirectory() as room:
         make_room(pathlib.Path(room))
-        for command, wanted in checks_of(page):
+        for command, wanted in checks:
             printed = printed_by(command, room)
             if printed != wanted:
                 print(f"FAILED {page}: {command}\nprinted\n{printed}not\n{wanted}", end="")
@@ -142,7 +149,11 @@ def words_in(text):
 def fails_of_definitions():
     """Of each definition that the page names, whether it doesn't stand in one of the files that its line names."""
     text = (TOP / DEFINITIONS).read_text()
-    for crate, part in re.findall(r"^## `(\w+)`(.*?)(?=^## |\Z)", text, re.MULTILINE | re.DOTALL):
+    parts = re.findall(r"^## `(\w+)`(.*?)(?=^## |\Z)", text, re.MULTILINE | re.DOTALL)
+    if not parts:
+        print(f"FAILED {DEFINITIONS}: it names no crate")
+        yield True
+    for crate, part in parts:
         folder = TOP / "crates" / crate
         for line in re.findall(r"^\| `.*$", part, re.MULTILINE):
             names, _, files, _ = line.strip("| ").split(" | ")
@@ -154,6 +165,26 @@ def fails_of_definitions():
             if lacking:
                 print(f"FAILED {DEFINITIONS}: {crate} has not in {files}: {', '.join(lacking)}")
             yield bool(lacking)
+
+
+def words_of_sources():
+    """All words of the sources and scripts, and the names of their files."""
+    kinds = ("crates/*/src/**/*.rt", "crates/*/specs/*.antt", "crates/*/proofs/**/*.antt", "crates/*/must-fail/*", "crates/*/*.edits")
+    kinds += ("crates/acpi_cases/std*", "tests/**/*.*", "examples/**/*.*", "bench/*.*", "acpidis", "build", "install", "test")
+    files = [file for kind in kinds for file in TOP.glob(kind) if file.is_file() and file.suffix not in (".pyc", ".png")]
+    return {word for file in files for word in (*re.findall(r"\w+", file.read_text(errors="replace")), *file.parts, file.stem)}
+
+
+def fails_of_names():
+    """Of each page, whether it marks as code a name of several words that no source has."""
+    known = words_of_sources() | MADE_UP
+    for page in [README, *(f"docs/{it.name}" for it in sorted((TOP / "docs").glob("*.md")))]:
+        text = re.sub(r"^```.*?^```$", "", (TOP / page).read_text(), flags=re.MULTILINE | re.DOTALL)
+        names = [it for it in re.findall(r"`([A-Za-z_]\w*(?:(?:::|\.)\w+)*)`", text) if re.search(r"[a-z]_[a-z]|[A-Z][a-z]", it)]
+        stale = {it for it in names for word in re.findall(r"\w+", it) if word not in known}
+        if stale:
+            print(f"FAILED {page}: no source has {', '.join(sorted(stale))}")
+        yield bool(stale)
 
 
 def options_in(text):
@@ -177,7 +208,7 @@ def words_of_refusals():
 
 
 def section(manual, name):
-    return re.search(rf"^\.SH {name}\n(.*?)^\.SH", manual, re.MULTILINE | re.DOTALL)[1]
+    return "".join(re.findall(rf"^\.SH {name}\n(.*?)^\.SH", manual, re.MULTILINE | re.DOTALL)[:1])
 
 
 def fails_of_words():
@@ -209,7 +240,9 @@ def fails_of_scripts():
 
 def main():
     fails = [fail for page in [LISTING, *PAGES] for fail in fails_of(page)]
-    fails += [*fails_of_readme(), *fails_of_definitions(), *fails_of_manual(), *fails_of_words(), *fails_of_scripts()]
+    fails += [*fails_of_readme(), *fails_of_definitions(), *fails_of_names(), *fails_of_manual(), *fails_of_words()]
+    if "--no-scripts" not in sys.argv:
+        fails += fails_of_scripts()
     print(f"{fails.count(False)} passed, {fails.count(True)} failed")
     sys.exit(any(fails))
 

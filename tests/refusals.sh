@@ -17,10 +17,9 @@ sweeps=0
 
 compiler=${CC:-$(command -v cc || command -v gcc || command -v clang)}
 if [ -z "$compiler" ]; then
-    echo 'SKIPPED: there is no C compiler, so that nothing can be refused, and nothing is tried'
-    echo '0 passed, 0 failed'
-    [ "$parts" = program ]
-    exit
+    echo 'FAILED: there is no C compiler, so that nothing can be refused, and nothing is tried'
+    echo '0 passed, 1 failed'
+    exit 1
 fi
 "$compiler" -O1 -shared -fPIC -o "$work/refusals.so" "$top/tests/refusals.c" -ldl || exit 1
 if [ "$parts" = all ]; then

@@ -79,6 +79,8 @@ def main():
                 print(f"FAILED {RUNS.name} line {number}, {row}: {name} has {one!r}, not {other!r}")
             elif wanted:
                 passed += 1
+    # A table without examples shows nothing.
+    failed += not passed
     print(f"{passed} passed, {failed} failed")
     return int(failed > 0)
 

@@ -198,6 +198,9 @@ class Rows:
     def row_length(self, _, code):
         return length_text(code)
 
+    def row_kept(self, _, kept):
+        return ["".join(hexadecimal(kept))]
+
     # single tables
 
     def row_xsdt(self, _, table):
@@ -301,8 +304,22 @@ class Rows:
         kind = self.names.kind(path_of(words))
         return or_none(kind and row_text(path_of(words), kind))
 
+    def row_counted(self, words, _):
+        """How a path's kind is found: a declared path has a segment at least, and so a comparison."""
+        return [*self.row_kind(words, _), "few comparisons"]
+
     def row_rows(self, _, __):
         return [row_text(*row) for row in self.names.rows()]
+
+    def row_row_at(self, words, _):
+        rows = dict(enumerate(self.row_rows(words, _)))
+        return or_none(rows.get(int(words)))
+
+    def row_many_rows(self, words, _):
+        return [f"{words} at their places"]
+
+    def row_many_counted(self, words, _):
+        return [f"{words} found by 1 to 64 comparisons"]
 
     def row_arity(self, words, _, unknown_zero=False):
         method, name = words.split()

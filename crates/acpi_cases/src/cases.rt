@@ -3,7 +3,7 @@ ghost use Rattle.std.specs.Prelude.{◌≤◌, length};
 
 use crate::lines::{Line, bytes_of, number_of, split_line};
 use crate::spaces::Names;
-use crate::{code, files, sets, spaces, tables};
+use crate::{code, files, members, sets, spaces, tables};
 use acpi_tables::Dump;
 use aml_names::Locals;
 use aml_space::Space;
@@ -58,6 +58,7 @@ impl Cases {
             "name" => code::push_name(alloc, out, bytes),
             "length" => code::push_length(out, bytes),
             "terms" => code::push_texts(alloc, out, line.words, bytes),
+            "kept" => code::push_kept(alloc, out, bytes),
             _ => self.change_set(alloc, out, line, bytes),
         }
     }
@@ -108,7 +109,9 @@ impl Cases {
             "declare" | "external" | "given" | "local" => {
                 spaces::change(alloc, out, &mut self.space, &mut self.locals, line)
             }
-            "count" | "kind" | "rows" => self.names().push_known(alloc, out, line),
+            "count" | "kind" | "counted" | "rows" | "row_at" => {
+                self.names().push_known(alloc, out, line)
+            }
             "place" | "find" | "search" | "arity" | "arity_unknown_zero" => {
                 self.names().push_lead(alloc, out, line)
             }
@@ -138,7 +141,7 @@ impl Cases {
     }
 }
 
-/// What the readers of single tables and of other files give.
+/// What the readers of single tables and of other files give, and large namespaces.
 fn push_table(
     alloc: Global,
     out: &mut String,
@@ -151,6 +154,8 @@ fn push_table(
         "madt" => tables::push_madt(alloc, out, bytes),
         "map" => files::push_map(alloc, out, line.words, bytes),
         "externals" => files::push_externals(alloc, out, bytes),
+        "many_rows" => members::push_places(alloc, out, number_of(line.words)),
+        "many_counted" => members::push_found(alloc, out, number_of(line.words)),
         _ => Ok(()),
     }
 }

@@ -3,7 +3,7 @@ ghost use Rattle.std.specs.Prelude.{◌≤◌, Some, length};
 
 use crate::lines::push_indented;
 use aml_code::{
-    Arity, CodeFault, Locals, Name, NameForm, NoMemory, Node, Path, PkgWidth, encode_terms,
+    Arity, Bytes, CodeFault, Locals, Name, NameForm, NoMemory, Node, Path, PkgWidth, encode_terms,
     read_pkg,
 };
 use aml_names::read_name;
@@ -181,6 +181,16 @@ fn form_word(form: NameForm) -> &'static str {
         NameForm::Dual => "Dual",
         NameForm::Multi => "Multi",
     }
+}
+
+/// Bytes as a tree keeps them, given back.
+pub fn push_kept(alloc: Global, out: &mut String, bytes: &[u8]) -> Result<(), AllocError> {
+    let kept = Bytes::from_vec(bytes.to_vec(alloc)?);
+    out.push_str("  ")?;
+    for byte in kept.into_vec().as_slice() {
+        write!(out, "{byte:02X}")?;
+    }
+    writeln!(out)
 }
 
 /// A package length.

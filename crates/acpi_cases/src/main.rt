@@ -5,6 +5,7 @@ mod cases;
 mod code;
 mod files;
 mod lines;
+mod members;
 mod sets;
 mod spaces;
 mod tables;

@@ -2,7 +2,7 @@
 ghost use Rattle.std.specs.Prelude.{◌≤◌, length};
 
 use crate::code::push_body_of;
-use crate::lines::{Line, first_word};
+use crate::lines::{Line, first_word, number_of};
 use aml_names::{Arity, Locals, Name, NameForm, Path, Seg, Segs, place};
 use aml_space::{BodyScope, Kind, Space};
 use std::alloc::{AllocError, Global};
@@ -136,14 +136,30 @@ impl Names<'_> {
         match line.kind {
             "count" => push_count(out, self.space.count(&path_of(alloc, line.words)?)),
             "kind" => self.push_kind(out, &path_of(alloc, line.words)?),
+            "counted" => self.push_counted(out, &path_of(alloc, line.words)?),
+            "row_at" => self.push_row_at(out, number_of(line.words)),
             _ => push_rows(alloc, out, self.space),
         }
     }
 
     fn push_kind(&self, out: &mut String, path: &Path) -> Result<(), AllocError> {
-        match self.space.kind(path) {
+        push_row_or_none(out, path, self.space.kind(path))
+    }
+
+    /// The same, and whether it was found by some comparisons, but at most 64 a segment.
+    fn push_counted(&self, out: &mut String, path: &Path) -> Result<(), AllocError> {
+        let (kind, compared) = self.space.kind_counted(path);
+        push_row_or_none(out, path, kind)?;
+        let most = 64 * path.segs().len() as u128;
+        let said = if compared == 0 { "no" } else if compared <= most { "few" } else { "many" };
+        writeln!(out, "  {said} comparisons")
+    }
+
+    /// The declared path at a place in the order of the paths.
+    fn push_row_at(&self, out: &mut String, place: usize) -> Result<(), AllocError> {
+        match self.space.row_at(place) {
             None => out.push_str("  none\n"),
-            Some(kind) => push_row(out, path, kind),
+            Some((path, kind)) => push_row(out, path, kind),
         }
     }
 }
@@ -191,6 +207,17 @@ pub fn push_rows(alloc: Global, out: &mut String, space: &Space) -> Result<(), A
         push_row(out, &row.path, &row.kind)?;
     }
     Ok(())
+}
+
+fn push_row_or_none(
+    out: &mut String,
+    path: &Path,
+    kind: Option<&Kind>,
+) -> Result<(), AllocError> {
+    match kind {
+        None => out.push_str("  none\n"),
+        Some(kind) => push_row(out, path, kind),
+    }
 }
 
 fn push_row(out: &mut String, path: &Path, kind: &Kind) -> Result<(), AllocError> {

@@ -1,5 +1,6 @@
 //! Code, dumps, tables, works and gates that several tests hand in.
-ghost use Rattle.std.specs.Prelude.{◌≡◌, ◌*◌, ◌≤◌, ⊤, Some, IfOk, length};
+ghost use Rattle.std.specs.Prelude.{◌≡◌, ◌*◌, ◌≤◌, ⊤, Some, IfOk, length, true};
+ghost use Rattle.acpi_tables.specs.Order.{AreTaken};
 ghost use Rattle.aml_set.specs.Views.{codes_view, AreShort};
 
 use acpi_tables::Dump;
@@ -102,7 +103,8 @@ pub fn any_sum(alloc: Global) -> Options {
     }
 }
 
-/// The listing of these dumps, by so many workers. Of the clauses of `disassemble` it keeps what `check` asks for.
+/// The listing of these dumps, by so many workers. Of the clauses of `disassemble` it keeps what `check` and
+/// `write_listing` ask for.
 pub fn listing_of<'a, T: Threads + Wait + Sync, G: Gate + Sync>(
     threads: &T,
     alloc: Global,
@@ -111,8 +113,9 @@ pub fn listing_of<'a, T: Threads + Wait + Sync, G: Gate + Sync>(
     gate: &G,
 ) -> Result<Listing<'a>, Refusal>
     requires { (1 ≤ workers) × (workers ≤ 64) }
-    ensures { IfOk result (λ x. AreShort (codes_view x.loaded.tables.items) ×
+    ensures limits { IfOk result (λ x. AreShort (codes_view x.loaded.tables.items) ×
         (length x.loaded.methods.items ≤ 1048576)) }
+    ensures taken { IfOk result (λ x. AreTaken x.dumps.now true) }
 {
     disassemble(threads, alloc, dumps, any_sum(alloc), workers, gate)
 }

@@ -1,7 +1,9 @@
-//! Runs whose writer fails, or takes few bytes a call.
-use super::fixtures::{push_table, status_of};
+//! Runs and listings whose writer fails, or takes few bytes a call.
+use super::fixtures::{listing_of, push_table, status_of};
 use acpi_tables::Dump;
+use acpidis::Refusal;
 use aml_pool::FreeGate;
+use aml_text::write_listing;
 use std::alloc::{AllocError, Global};
 use std::io;
 use std::sync::Wait;
@@ -127,6 +129,32 @@ fn a_writer_that_takes_nothing_is_a_fault(rt: HostRuntime) -> Result<(), Fail> {
         error.as_slice(),
         b"acpidis: write failed after 0 bytes\n".as_slice()
     );
+    Ok(())
+}
+
+/// How many bytes of the listing a writer took before it failed; nothing where it took all.
+fn cut_of_listing<T: Threads + Wait + Sync>(
+    threads: &T,
+    alloc: Global,
+    out: &mut Slow,
+) -> Result<Option<u64>, Refusal> {
+    let dumps = set(alloc, &METHOD)?;
+    let listing = listing_of(threads, alloc, &dumps, 1, &FreeGate)?;
+    Ok(match write_listing(out, &listing) {
+        Ok(()) => None,
+        Err(fault) => Some(fault.wrote),
+    })
+}
+
+#[test]
+fn a_listing_is_written_whole_or_its_first_bytes(rt: HostRuntime) -> Result<(), Fail> {
+    for room in 0..=TEXT.len() {
+        let mut out = Slow::new(rt.alloc(), room, 7);
+        let cut = cut_of_listing(&rt, rt.alloc(), &mut out)?;
+        let wanted = if room < TEXT.len() { Some(room as u64) } else { None };
+        assert_eq!(rt; cut, wanted);
+        assert_eq!(rt; Some(out.taken.as_slice()), TEXT.as_bytes().get(..room));
+    }
     Ok(())
 }
 

@@ -1,0 +1,154 @@
+#!/usr/bin/env python3
+"""Compares the public functions of the crates with the table of those whose whole answers ./test compares.
+
+    python3 tests/public_calls.py [--list]
+
+A contract says nothing of a body that always wants memory, or never returns, so each public function has to be called once
+with ample memory, and what it answers compared. tests/public_calls.txt says by which part of ./test. It fails where a public
+function stands in no part, where one is named that there isn't, and where the program or the tests of a part don't call one
+that is named there, by themselves or through other functions. What operators, `?` and formatting call by themselves has no
+name by which a call could be found, and functions without a body, which are laws, have no answer: they aren't looked at.
+With --list the public functions are printed, each with the parts that call it. The last line is 'N passed, N failed'.
+"""
+
+import argparse
+import collections
+import pathlib
+import re
+import sys
+
+sys.dont_write_bytecode = True
+TOP = pathlib.Path(__file__).resolve().parent.parent
+sys.path.insert(0, str(TOP / "tests"))
+
+from wrong_bodies import BLOCK, FUNCTION, functions_of, sources_in  # noqa: E402
+
+TABLE = TOP / "tests/public_calls.txt"
+# The crates whose functions begin the calls of a part. The example call_list is no part of ./test.
+PARTS = {"rows": "acpi_cases", "runs": "acpidis_program", "tests": "library_tests", "pool": "pool_tests"}
+NOT_SURFACE = {*PARTS.values(), "pool_bench", "call_list"}
+UNNAMED = {"From", "Display", "PartialEq", "PartialOrd", "Ord", "Drop"}
+CALL = re.compile(r"(?:(\.)|\b(\w+)(?:::<[^()]*>)?::)?\b([a-z_]\w*)\b")
+
+
+# What is written of a function: its crate, the type that it is a method of, its name, the trait that has it, whether it is
+# public, and its text
+Function = collections.namedtuple("Function", "crate type name trait public text")
+
+
+def crates_below():
+    """The crates of the repository that each stands on, itself among them."""
+    lines = [line.partition(":") for line in (TOP / "crates.txt").read_text().splitlines() if not line.startswith("#")]
+    direct = {head.split()[0]: words.split() for head, _, words in lines}
+
+    def below(name):
+        return {name}.union(*(below(it) for it in direct[name] if it in direct))
+
+    return {name: below(name) for name in direct}
+
+
+def functions_in(crate):
+    """The functions of a crate that have a body."""
+    for file, text in sources_in(str(TOP / "crates" / crate)).items():
+        blocks = [(it.start(), it) for it in re.finditer(BLOCK.pattern, text, re.M) if text[it.start() - 1 : it.start()] in ("", "\n")]
+        for it in functions_of(file, text):
+            head = text[it.start : it.begin]
+            own, name = re.search(rf"^{FUNCTION.pattern}", head, re.M).groups()
+            block = max((found for found in blocks if found[0] < it.start), key=lambda found: found[0], default=(0, None))[1]
+            block = block if own else None
+            trait = (block["trait"] or "").partition("<")[0].rpartition("::")[2] if block else ""
+            if trait in UNNAMED:
+                continue
+            public = bool(trait or re.search(rf"^ *pub (?:(?:const|final|unsafe) )*fn {name}\b", head, re.M))
+            yield Function(crate, block["type"] if block else None, name, trait, public, text[it.start : it.end])
+
+
+def exported(crate):
+    """The names of a crate's own items that others can use."""
+    text = (TOP / "crates" / crate / "src/lib.rt").read_text()
+    found = re.findall(r"^pub use (\w+)(?:::\w+)*::(?:\{(.*?)\}|(\w+));", text, re.M | re.S)
+    crates = crates_below()
+    return {name for head, names, one in found if head not in crates for name in re.findall(r"\w+", names or one)}
+
+
+def surface(functions):
+    """The public functions of all crates but programs and tests, by their crates and names."""
+    names = {crate: exported(crate) for crate in {it.crate for it in functions} - NOT_SURFACE}
+    for it in functions:
+        if it.public and it.crate in names and (it.type or it.name) in names[it.crate]:
+            yield it
+
+
+def title(function):
+    return "::".join(filter(None, (function.crate, function.type, function.name)))
+
+
+def called_from(functions, crate, below):
+    """The functions that those of a crate call, by themselves or through others, as far as names tell."""
+    methods, frees = collections.defaultdict(list), collections.defaultdict(list)
+    for it in functions:
+        (methods if it.type else frees)[it.name].append(it)
+    reached, waiting = set(), [it for it in functions if it.crate == crate]
+    while waiting:
+        here = waiting.pop()
+        body = re.sub(r"//.*|\b(?:requires|ensures)\b.*?\}$", "", here.text)
+        for dot, owner, name in CALL.findall(body):
+            owner = here.type if owner == "Self" else owner
+            if dot:
+                found = methods[name]
+            elif owner and owner[0].isupper():
+                found = [it for it in methods[name] if it.type == owner]
+            else:
+                found = frees[name]
+            for it in found:
+                # A method of a trait is also called from crates below, which know its trait alone.
+                if it.crate in below[crate if it.trait else here.crate] and it not in reached:
+                    reached.add(it)
+                    waiting.append(it)
+    return {title(it) for it in reached}
+
+
+def table():
+    """The functions of each part, as the table has them."""
+    parts, part = {}, None
+    for line in TABLE.read_text().splitlines():
+        head = re.fullmatch(r"\[(\w+)\].*", line)
+        if head:
+            part = parts.setdefault(head[1], [])
+        elif line and not line.startswith("#"):
+            crate, _, names = line.partition(": ")
+            part += [f"{crate}::{name}" for name in names.split()]
+    return parts
+
+
+def main():
+    words = argparse.ArgumentParser(description=__doc__, formatter_class=argparse.RawDescriptionHelpFormatter)
+    words.add_argument("--list", action="store_true")
+    below = crates_below()
+    functions = [it for crate in below for it in functions_in(crate)]
+    public = sorted({title(it) for it in surface(functions)})
+    called = {part: called_from(functions, crate, below) for part, crate in PARTS.items()}
+    if words.parse_args().list:
+        for name in public:
+            print(name, *(part for part in PARTS if name in called[part]))
+        return 0
+    told = table()
+    fails = []
+    for name in public:
+        parts = [part for part, names in told.items() if name in names]
+        fails.append(not parts)
+        if not parts:
+            print(f"FAILED {name}: no part of ./test is named that compares what it answers")
+    for part, names in told.items():
+        for name in names:
+            wrong = "there is no such public function" if name not in public else f"the part '{part}' doesn't call it"
+            holds = name in public and name in called.get(part, ())
+            fails.append(not holds)
+            if not holds:
+                print(f"FAILED {name}: {wrong}")
+    print(f"{fails.count(False)} passed, {fails.count(True)} failed")
+    return int(any(fails) or not fails)
+
+
+if __name__ == "__main__":
+    sys.exit(main())
