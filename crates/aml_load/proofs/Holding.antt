@@ -51,13 +51,13 @@ plain_held old new l x none h s ms us = record {
 }
 
 pub method_held : (old new : Progress) (l : Listed) (p : List Seg) (k : Kind) (b : Body) (m : Method) → Holds old l
-    → StandsFor new.space (l.entries ++ declares p k (Some b) ∷ []) → new.methods.items ≡ old.methods.items ++ m ∷ []
+    → StandsFor new.space (l.entries ++ declares p k (Some b) true ∷ []) → new.methods.items ≡ old.methods.items ++ m ∷ []
     → m ≡ record { path = p; table = b.table; start = b.start; len = b.len; flags = b.flags } → new.uses.items ≡ old.uses.items
-    → Holds new (plus l (declares p k (Some b)))
+    → Holds new (plus l (declares p k (Some b) true))
 method_held old new l p k b m h s ms is us = record {
   space = s;
   methods = ms ∙ ap (λ xs. xs ++ m ∷ []) h.methods ∙ ap (λ (x : Method). methods_of l.entries ++ x ∷ []) is
-      ∙ sym (methods_more l.entries (declares p k (Some b)));
+      ∙ sym (methods_more l.entries (declares p k (Some b) true));
   uses = us ∙ h.uses;
 }
 
@@ -111,12 +111,12 @@ field_placed scope s =
     rw (le, all) (ap (λ front. Some (front ++ s ∷ [])) (take_all (length scope) scope (omega arith)))
 
 pub unit_is : (t : ℕ) (l : Listed) (scope p : List Seg) (s : Seg) → p ≡ scope ++ s ∷ []
-    → entry_at t l p (declares p kinds.Field None) ≡ units_at t l scope (plain_name s ∷ [])
+    → entry_at t l p (declares p kinds.Field None true) ≡ units_at t l scope (plain_name s ∷ [])
 unfolding units_at new_at place_at
 unit_is t l scope p s e =
-    ap (λ q. entry_at t l q (declares q kinds.Field None)) e
-    ∙ sym (ap (λ r. r >>= λ q. entry_at t l q (declares q kinds.Field None)) (ap (λ o. ok_or o (loads.Space t faults.AboveRoot)) (field_placed scope s)))
-    ∙ sym (ended (new_at t l scope (Some (plain_name s)) (λ q. declares q kinds.Field None)))
+    ap (λ q. entry_at t l q (declares q kinds.Field None true)) e
+    ∙ sym (ap (λ r. r >>= λ q. entry_at t l q (declares q kinds.Field None true)) (ap (λ o. ok_or o (loads.Space t faults.AboveRoot)) (field_placed scope s)))
+    ∙ sym (ended (new_at t l scope (Some (plain_name s)) (λ q. declares q kinds.Field None true)))
 
 -- where nothing declared the path, the entry is there
 pub entry_again : (t : ℕ) (l : Listed) (p : List Seg) (x : Entry) → declared_at l.entries p ≡ None → entry_at t l p x ≡ Ok (plus l x)

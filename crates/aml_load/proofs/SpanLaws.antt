@@ -183,8 +183,8 @@ units_add : (t : ℕ) (l : Listed) (scope : List Seg) (ns : List Name) → Gives
 unfolding units_at
 units_add t l scope [] = nothing_more l.entries
 units_add t l scope (n ∷ ns) =
-    more_adds (new_at t l scope (Some n) (λ p. declares p kinds.Field None)) _ l [] []
-    (new_adds t l scope (Some n) _ [] (λ p. plain_adds l.entries (declares p kinds.Field None) refl)) (λ k. units_add t k scope ns)
+    more_adds (new_at t l scope (Some n) (λ p. declares p kinds.Field None true)) _ l [] []
+    (new_adds t l scope (Some n) _ [] (λ p. plain_adds l.entries (declares p kinds.Field None true) refl)) (λ k. units_add t k scope ns)
 
 -- what a tail of this kind has: no spans, its own body's span, or what the terms inside it add
 record TailSpans (k : Option TailKind) (t : ℕ) (x : Tail) (inside : Listed → List Seg → Result Listed LoadFault) : Type 0 where
@@ -202,7 +202,7 @@ role_adds : (r : Role) (k : Option TailKind) (t : ℕ) (l : Listed) (scope : Lis
 unfolding fits declare_as method_at alias_at external_at
 role_adds (roles.Declares o) k t l scope ps x inside fit has =
     after_adds (place_at t scope (last_label None ps)) _ l (tail_spans t x) (λ p.
-    let e = declares p (kind_of o) None in
+    let e = declares p (kind_of o) None true in
     more_adds (entry_at t l p e) _ l [] (tail_spans t x) (entry_adds t l p e [] (plain_adds l.entries e refl)) (λ m. has.inner fit m p))
 role_adds roles.Method k t l scope ps x inside fit has =
     as_spans _ l (one_span t x) (tail_spans t x) (has.one fit) (unless_adds (nat_le most_methods (length (methods_of l.entries))) _ _ l _ (λ room.

@@ -124,7 +124,7 @@ with_uses t l scope o ps r = record {
 
 -- the methods, in order
 abbrev pub method_of : Entry → Option Method
-method_of (declares p k (Some b)) =
+method_of (declares p k (Some b) sure) =
     Some (record { path = p; table = b.table; start = b.start; len = b.len; flags = b.flags })
 method_of _ = None
 
@@ -157,7 +157,7 @@ body_len _ = 0
 -- the entry of a method of table t: bits 0 to 2 of its flags are its number of arguments
 abbrev pub method_entry : ℕ → List Seg → ℕ → ℕ → ℕ → Entry
 method_entry t p flags start len = declares p (kinds.Method (flags % 8))
-    (Some (record { table = t; start = start; len = len; flags = flags }))
+    (Some (record { table = t; start = start; len = len; flags = flags })) true
 
 -- what a name leads to in a scope, among the entries so far
 abbrev pub lead_of : List Entry → List Seg → Option Name → Option (List Seg)
@@ -210,7 +210,7 @@ method_at t l scope n flags start len =
 unfoldable pub alias_at : ℕ → Listed → List Seg → Option Name → Option Name → Result Listed LoadFault
 alias_at t l scope source n = do
   q ← lead_at t l.entries scope source (λ p. faults.AliasMissing p)
-  new_at t l scope n (λ p. declares p (kinds.Alias (target_of l.entries q)) None)
+  new_at t l scope n (λ p. declares p (kinds.Alias (target_of l.entries q)) None true)
 
 -- an External, which counts for a path (20.2.5.2)
 unfoldable pub external_at : ℕ → Listed → List Seg → Option Name → ℕ → Result Listed LoadFault
@@ -222,7 +222,7 @@ external_at t l scope n count = do
 unfoldable pub units_at : ℕ → Listed → List Seg → List Name → Result Listed LoadFault
 units_at t l scope [] = Ok l
 units_at t l scope (n ∷ ns) = do
-  k ← new_at t l scope (Some n) (λ p. declares p kinds.Field None)
+  k ← new_at t l scope (Some n) (λ p. declares p kinds.Field None true)
   units_at t k scope ns
 
 -- What a term of table t does by its role, in a scope, after l. `inside` is what the terms inside it declare, after
@@ -231,7 +231,7 @@ unfoldable pub declare_as : Role → ℕ → Listed → List Seg → Parts → T
     → Result Listed LoadFault
 declare_as (roles.Declares o) t l scope ps r inside = do
   p ← place_at t scope (last_label None ps)
-  m ← entry_at t l p (declares p (kind_of o) None)
+  m ← entry_at t l p (declares p (kind_of o) None true)
   inside m p
 declare_as roles.Method t l scope ps r inside =
     method_at t l scope (last_label None ps) (byte_of ps) (body_start r) (body_len r)

@@ -1,5 +1,5 @@
 //! What the terms of a table declare.
-ghost use Rattle.std.specs.Prelude.{◌≡◌, ◌%◌, ◌∷◌, [], None, Ok, IfOk};
+ghost use Rattle.std.specs.Prelude.{◌≡◌, ◌%◌, ◌∷◌, [], None, Ok, IfOk, true};
 ghost use Rattle.std.specs.Option.{option_copied, ok_or};
 ghost use Rattle.aml_code.specs.Lawful.{last_label, field_names, plain_name, unit_names};
 ghost use Rattle.aml_code.specs.Tree.{no_fields, field_more};
@@ -136,7 +136,7 @@ impl Progress {
     /// Declares a path that has no body.
     #[tactic(auto, unfolding(crate::specs::Loading::entry_at))]
     fn declare(&mut self, table: usize, path: Path, kind: Kind) -> Result<(), LoadFault>
-        ensures { Walks self.old self.new result (λ l. entry_at table l path (declares path kind None)) }
+        ensures { Walks self.old self.new result (λ l. entry_at table l path (declares path kind None true)) }
     {
         match self.space.declare(path, kind) {
             Ok(()) => Ok(()),
@@ -153,7 +153,7 @@ impl Progress {
         kind: Kind,
     ) -> Result<(), LoadFault>
         ensures { Walks self.old self.new result (λ l.
-            new_at site.now.table l site.now.scope.now (option_copied name.entry) (λ p. declares p kind None)) }
+            new_at site.now.table l site.now.scope.now (option_copied name.entry) (λ p. declares p kind None true)) }
     {
         let path = self.own_path(site, name)?;
         self.declare(site.table, path, kind)

@@ -12,6 +12,7 @@ mod laws;
 mod listing;
 mod nodes;
 mod predefined;
+mod runs;
 mod scopes;
 mod searching;
 mod spaces;
@@ -22,4 +23,8 @@ pub use faults::SpaceFault;
 pub use kinds::Kind;
 pub use laws::rows_are_declared;
 pub use listing::Rows;
+pub use runs::{
+    every_run_agrees, every_run_leads_there, quick_way_holds, runs_differ, stays_as_it_is,
+    sure_stays,
+};
 pub use spaces::{Space, SpaceRow};

@@ -1,5 +1,5 @@
 //! The namespace that tables make.
-ghost use Rattle.std.specs.Prelude.{◌≡◌, ◌≤◌, ◌*◌, length, slice_get, [], ◌∷◌, ◌++◌, List, Option, ◌⊎◌, OnOk, OnErr, IfOk, IfErr, IsTrue};
+ghost use Rattle.std.specs.Prelude.{◌≡◌, ◌≤◌, ◌*◌, length, slice_get, [], ◌∷◌, ◌++◌, List, Option, ◌⊎◌, OnOk, OnErr, IfOk, IfErr, IsTrue, true};
 ghost use Rattle.std.specs.Option.{option_map, option_copied};
 ghost use Rattle.std.specs.FinMap as map;
 ghost use Rattle.aml_space.specs.Namespace.{Entry, Body, declares, external as outside, given as said, kind_at, count_at, namespace_of};
@@ -71,7 +71,7 @@ impl Space {
     pub fn declare(&mut self, path: Path, kind: Kind) -> Result<(), SpaceFault>
         ensures ok { OnOk result (self.new ≡ with_declared self.old path kind) }
         ensures stands { (es : List Entry) (body : Option Body) → StandsFor self.old es →
-            OnOk result (StandsFor self.new (es ++ declares path kind body ∷ [])) }
+            OnOk result (StandsFor self.new (es ++ declares path kind body true ∷ [])) }
         ensures err { OnErr result (self.new ≡ self.old) }
         ensures only_then { IfErr result (λ e. (e ≡ SpaceFault.NoMemory) ⊎ ((e ≡ SpaceFault.Duplicate path) ×
             IsTrue (declared_yet self.old path))) }
