@@ -19,7 +19,7 @@ mutual
   as_many s (suc levels) p ls t n (named m xs) law = sym (ap length (all_none s t levels positions.Argument ls xs refl law.3))
   as_many s zero p ls t n (op o w ps r) law = absurd law
   as_many s (suc levels) p ls t n (op o w ps r) law =
-      tail_many s levels (terms_in p (law.row).place) (law.row).tail ls t (deeper n) r law.tail
+      tail_many s levels (terms_in p (law.row).place) _ ls t (deeper n) r law.tail
       ∙ ap (λ xs. length (xs ++ tail_spans t r)) (sym (parts_none s t levels (law.row).parts ls ps law.parts))
 
   tail_many : (s : Setting) (levels : ℕ) (p : Position) (k : Option TailKind) (ls : PathSet) (t n : ℕ) (r : Tail) → IsTail s (IsLawful s levels) p k ls r

@@ -22,6 +22,7 @@ use Rattle.aml_code.specs.Tree.{connection, Fields, no_fields, field_more, targe
 
 abbrev pub is_after_if : Position → Bool
 is_after_if positions.AfterIf = true
+is_after_if positions.RunAfterIf = true
 is_after_if _ = false
 
 -- ---- what stands behind an If
@@ -30,9 +31,15 @@ behind_by : (b : Bool) → is_after_if (cond b positions.AfterIf positions.BodyT
 behind_by true e = refl
 behind_by false e = absurd cc
 
+behind_run : (b : Bool) → is_after_if (cond b positions.RunAfterIf positions.RunTerm) ≡ true → b ≡ true
+behind_run true e = refl
+behind_run false e = absurd cc
+
 behind : (p : Position) (t : Tree) → is_after_if (next_position p t) ≡ true → has_opcode 0xA0 t ≡ true
 behind positions.BodyTerm t e = behind_by (has_opcode 0xA0 t) e
 behind positions.AfterIf t e = behind_by (has_opcode 0xA0 t) e
+behind positions.RunTerm t e = behind_run (has_opcode 0xA0 t) e
+behind positions.RunAfterIf t e = behind_run (has_opcode 0xA0 t) e
 behind _ t e = absurd cc
 
 -- ---- the terms of a list, and all that is inside them
@@ -42,18 +49,22 @@ may_follow : (p : Position) (before : Bool) (o : ℕ) (r : Row) → (is_after_if
     → o ≡ 0xA1 → before ≡ true
 unfolding rows
 may_follow positions.AfterIf before o r k listed taken e = k refl
+may_follow positions.RunAfterIf before o r k listed taken e = k refl
 may_follow p before o r k listed taken e =
     let other = rows_say (λ r. r.opcode == 0xA1) (λ r. not (takes p r.place)) refl o r listed (ap (λ n. n == 0xA1) (row_opcode o r listed ∙ e)) in
     absurd (cc (not_true _ other, taken))
 
 none_after : (p : Position) → is_inner p ≡ true → is_after_if p ≡ true → false ≡ true
 none_after positions.AfterIf i e = i
+none_after positions.RunAfterIf i e = i
 none_after _ i e = e
 
 -- a list of terms inside a term begins behind nothing
 inner : (p : Position) (place : Place) → is_after_if (terms_in p place) ≡ true → false ≡ true
 inner positions.ModuleTerm places.If e = e
 inner positions.ModuleTerm _ e = e
+inner positions.RunTerm _ e = e
+inner positions.RunAfterIf _ e = e
 inner _ place e = e
 
 module _ (s : Setting) where
@@ -74,7 +85,7 @@ module _ (s : Setting) where
     else_follows (suc levels) p ls (op o w ps t) before k l = (
       may_follow p before o l.row k l.listed l.taken,
       parts_follow levels (l.row).parts ls ps l.parts,
-      tail_follows levels (terms_in p (l.row).place) (l.row).tail ls t (inner p (l.row).place) l.tail,
+      tail_follows levels (terms_in p (l.row).place) _ ls t (inner p (l.row).place) l.tail,
     )
 
     -- arguments, or elements

@@ -1,5 +1,5 @@
 -- What stands inside a term and not in a list of terms declares nothing: an argument, a target, data.
-use Rattle.std.proofs.Common.{◌≡◌, ℕ, zero, suc, Bool, true, false, not, ◌&&◌, List, Option, Some, None, refl, ap, ◌∙◌}
+use Rattle.std.proofs.Common.{◌≡◌, ℕ, zero, suc, Bool, true, false, not, ◌&&◌, List, Option, Some, None, option_map, refl, ap, subst, ◌∙◌}
 use Rattle.aml_names.specs.declared.segments.Seg.{Seg}
 use Rattle.aml_names.specs.Paths.{PathSet}
 use Rattle.aml_code.specs.declared.rows.Place.{Place}
@@ -13,6 +13,7 @@ use Rattle.aml_code.specs.declared.rows.TailKind.TheVariants as tails
 use Rattle.aml_code.specs.Opcodes.{Row, rows, row_of, takes}
 use Rattle.aml_code.specs.Tree.{Tree, nothing, named, op, Trees, no_trees, tree_more, Parts, Tail, terms}
 use Rattle.aml_code.specs.Lawful.{names_declared, with_declared, declared_by, after, after_all, after_tail, Setting, IsLawful, AreTerms, IsTail, next_position}
+use Rattle.aml_code.specs.Lawful.{terms_in, tail_in}
 use Rattle.aml_code.proofs.RowFacts.{and_left, and_right, rows_say}
 
 abbrev pub is_inner : Position → Bool
@@ -24,6 +25,8 @@ is_inner _ = false
 pub inner_next : (p : Position) (t : Tree) → is_inner p ≡ true → is_inner (next_position p t) ≡ true
 inner_next positions.BodyTerm t i = absurd cc
 inner_next positions.AfterIf t i = absurd cc
+inner_next positions.RunTerm t i = absurd cc
+inner_next positions.RunAfterIf t i = absurd cc
 inner_next _ t i = i
 
 -- ---- by the table: no row that may stand there declares, or has a list of terms
@@ -62,6 +65,13 @@ tail_unchanged s levels p (Some tails.Terms) ls (terms ts) e h = absurd cc
 tail_unchanged s levels p _ ls (terms ts) e h = absurd h
 tail_unchanged s levels p k ls _ e h = refl
 
+-- outside a table that may run each tail is kept
+kept_inside : (p : Position) (k : Option TailKind) → is_inner p ≡ true → option_map (tail_in p) k ≡ k
+kept_inside p None i = refl
+kept_inside positions.RunTerm (Some k) i = absurd cc
+kept_inside positions.RunAfterIf (Some k) i = absurd cc
+kept_inside _ (Some k) i = refl
+
 pub unchanged : (s : Setting) (levels : ℕ) (p : Position) (ls : PathSet) (t : Tree) → is_inner p ≡ true → IsLawful s levels p ls t → after s.scope ls t ≡ ls
 unchanged s zero p ls t i h = absurd h
 unchanged s (suc levels) p ls nothing i h = refl
@@ -71,7 +81,8 @@ unchanged s (suc levels) p ls (op o w ps t) i h =
     let q = quiet o row h.listed (as_argument p row.place i h.taken) in
     ap (λ (f : Option Row). declared_by s.scope f (after_tail s.scope ls t) ps t) h.listed
     ∙ none_declared s.scope (after_tail s.scope ls t) row.role ps t (and_left (is_other row.role) (not (has_terms row.tail)) q)
-    ∙ tail_unchanged s levels _ row.tail ls t (and_right (is_other row.role) (not (has_terms row.tail)) q) h.tail
+    ∙ tail_unchanged s levels _ row.tail ls t (and_right (is_other row.role) (not (has_terms row.tail)) q)
+    (subst (λ (k : Option TailKind). IsTail s (IsLawful s levels) (terms_in p row.place) k ls t) (kept_inside p row.tail i) h.tail)
 
 pub all_unchanged : (s : Setting) (levels : ℕ) (p : Position) (ls : PathSet) (ts : Trees) → is_inner p ≡ true → AreTerms s levels p ls ts
     → after_all s.scope ls ts ≡ ls

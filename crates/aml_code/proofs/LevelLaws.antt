@@ -7,7 +7,7 @@ use Rattle.aml_code.specs.declared.rows.Position.{Position}
 use Rattle.aml_code.specs.declared.rows.Position.TheVariants as positions
 use Rattle.aml_code.specs.declared.rows.TailKind.{TailKind}
 use Rattle.aml_code.specs.declared.rows.TailKind.TheVariants as tails
-use Rattle.aml_code.specs.Lawful.{after, Setting, TermsStand, IsLawful, AreTerms, IsPart, AreParts, IsTail, AreFields, IsField, terms_in, next_position}
+use Rattle.aml_code.specs.Lawful.{after, Setting, TermsStand, IsLawful, AreTerms, IsPart, AreParts, IsTail, AreFields, IsField, next_position}
 use Rattle.aml_code.specs.Tree.{Tree, nothing, named, op, Trees, no_trees, tree_more, Part, child, Parts, no_parts, part_more, Tail, terms, elements}
 use Rattle.aml_code.specs.Tree.{fields, Field, connection, Fields, no_fields, field_more, target, buffer}
 
@@ -60,7 +60,7 @@ module _ (s : Setting) where
     width = h.width;
     guarded = h.guarded;
     parts = parts_more_so _ _ (λ q. deeper levels q ls) (h.row).parts ps h.parts;
-    tail = tail_more_so s _ _ (deeper levels) (terms_in p (h.row).place) (h.row).tail ls t h.tail;
+    tail = tail_more_so s _ _ (deeper levels) _ _ ls t h.tail;
   }
 
   -- by any number of levels

@@ -1,6 +1,6 @@
 -- What a term declares (ACPI 6.5, 5.3 and 20.2.5), and which paths are declared once it was read.
 use Rattle.std.specs.Prelude.{ℕ, false, List, [], ◌∷◌, Option, Some, None, ◌≡◌, zero, suc, ◌+◌, ◌^◌, ◌<◌, ◌≤◌, Bool}
-use Rattle.std.specs.Prelude.{true, cond, ◌++◌, ◌==◌, length, All, option_to_list}
+use Rattle.std.specs.Prelude.{true, cond, ◌++◌, ◌==◌, length, All, option_map, option_to_list}
 use Rattle.std.specs.FinSet as set
 use Rattle.aml_names.specs.declared.segments.Seg.{Seg}
 use Rattle.aml_names.specs.declared.names.Name.{Name}
@@ -26,7 +26,7 @@ use Rattle.aml_code.specs.declared.rows.Position.TheVariants as positions
 use Rattle.aml_code.specs.declared.rows.TailKind.{TailKind}
 use Rattle.aml_code.specs.declared.rows.TailKind.TheVariants as tails
 use Rattle.aml_code.specs.Packages.{width_len, FitsWidth}
-use Rattle.aml_code.specs.Faults.{Arities, most_levels, most_arguments}
+use Rattle.aml_code.specs.Faults.{Arities, StandsThere, most_levels, most_arguments}
 
 -- the last part that is a name, or else this
 abbrev pub last_label : Option Name → Parts → Option Name
@@ -108,8 +108,8 @@ pub record Setting : Type 0 where
   pub arity : Arities
   pub scope : Option (List Seg)
 
--- How many arguments follow a name in a position: its own number where it is a TermArg or a term of a body, none where
--- it is a target or stands in data. As a term of a table no name stands.
+-- How many arguments follow a name in a position: its own number where it is a TermArg or a term of a body or of a
+-- table whose code may run, none where it is a target or stands in data. As another term of a table no name stands.
 abbrev pub count_in : Arities → Position → PathSet → Name → Option ℕ
 count_in arity positions.ModuleTerm ls n = None
 count_in arity positions.GuardTerm ls n = None
@@ -138,7 +138,16 @@ IsGuarded false ps = Unit {0}
 abbrev pub terms_in : Position → Place → Position
 terms_in positions.ModuleTerm places.If = positions.GuardTerm
 terms_in positions.ModuleTerm _ = positions.ModuleTerm
+terms_in positions.RunTerm _ = positions.RunTerm
+terms_in positions.RunAfterIf _ = positions.RunTerm
 terms_in _ _ = positions.BodyTerm
+
+-- What is kept of a tail. A table whose code may run is read from the left, so that how many arguments the names inside
+-- a term take is known when these are reached: of the terms inside a term only their span is kept, as of a body.
+abbrev pub tail_in : Position → TailKind → TailKind
+tail_in positions.RunTerm tails.Terms = tails.Body
+tail_in positions.RunAfterIf tails.Terms = tails.Body
+tail_in _ k = k
 
 -- a term with this opcode
 abbrev pub has_opcode : ℕ → Tree → Bool
@@ -149,6 +158,8 @@ has_opcode o _ = false
 abbrev pub next_position : Position → Tree → Position
 next_position positions.BodyTerm t = cond (has_opcode 0xA0 t) positions.AfterIf positions.BodyTerm
 next_position positions.AfterIf t = cond (has_opcode 0xA0 t) positions.AfterIf positions.BodyTerm
+next_position positions.RunTerm t = cond (has_opcode 0xA0 t) positions.RunAfterIf positions.RunTerm
+next_position positions.RunAfterIf t = cond (has_opcode 0xA0 t) positions.RunAfterIf positions.RunTerm
 next_position p t = p
 
 -- ---- What stands inside a term, by which terms may stand in which positions there.
@@ -211,7 +222,7 @@ pub record IsOperation (s : Setting) (Is : Position → PathSet → Tree → Typ
   pub width : HasWidth (has_length row.tail) w (length (parts_encoding s.code ps ++ tail_encoding s.code t))
   pub guarded : IsGuarded (is_guard p row.place) ps
   pub parts : AreParts (λ q. Is q ls) row.parts ps
-  pub tail : IsTail s Is (terms_in p row.place) row.tail ls t
+  pub tail : IsTail s Is (terms_in p row.place) (option_map (tail_in p) row.tail) ls t
 
 -- IsLawful s levels p ls t: the tree t may stand in the position p, with at most so many levels of nesting, where the
 -- paths ls are declared. What stands inside a term and not in a list of terms declares nothing, so all of it has one
@@ -270,3 +281,16 @@ pub record ReadsModule (code : List ℕ) (ts : Trees) : Type 0 where
   pub lawful : AreTerms (setting_of no_arguments None code) most_levels positions.ModuleTerm set.empty ts
   pub spelled : encodings code ts ≡ code
   pub bodies : BodiesStand code 0 ts
+
+-- ---- A table whose code may run is read from the left, a step at a time.
+
+-- From an offset on, inside a span that ends at another, the code reads as this term, and a third offset is behind it:
+-- the term is lawful, with at most so many levels, its bytes stand there, and what of it is read later, a method's body
+-- or the terms inside it, is the span where it stands.
+pub record ReadsStep (arity : Arities) (levels : ℕ) (p : Position) (code : List ℕ) (at end : ℕ) (t : Tree) (behind : ℕ)
+    : Type 0 where
+  pub lawful : IsLawful (setting_of arity None code) levels p set.empty t
+  pub spelled : StandsThere code at (encoding code t)
+  pub ends : at + length (encoding code t) ≡ behind
+  pub inside : behind ≤ end
+  pub bodies : BodyStands code at t

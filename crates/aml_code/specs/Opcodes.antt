@@ -106,7 +106,7 @@ statements =
     plain 0x86 "Notify" Statement places.Statement (Target ∷ Term ∷ []) ∷
     plain 0x5B27 "Release" Statement places.Statement (Target ∷ []) ∷
     plain 0x5B26 "Reset" Statement places.Statement (Target ∷ []) ∷
-    plain 0xA4 "Return" Statement places.Statement (Term ∷ []) ∷
+    plain 0xA4 "Return" Statement places.Return (Term ∷ []) ∷
     plain 0x5B24 "Signal" Statement places.Statement (Target ∷ []) ∷
     plain 0x5B22 "Sleep" Statement places.Statement (Term ∷ []) ∷
     plain 0x5B21 "Stall" Statement places.Statement (Term ∷ []) ∷
@@ -212,8 +212,9 @@ row_view r = record {
 abbrev pub has_length : Option TailKind → Bool
 has_length tail = is_some tail
 
--- Whether a position takes an opcode of a place: as a term of a table, inside a guard, as a term of a body, right after
--- an If, as a TermArg, as a SuperName or Target, as data.
+-- Whether a position takes an opcode of a place: as a term of a table, inside a guard, as a term of a table whose code
+-- may run, there right after an If, as a term of a body, there right after an If, as a TermArg, as a SuperName or
+-- Target, as data.
 abbrev pub takes : Position → Place → Bool
 takes positions.ModuleTerm places.If = true
 takes positions.ModuleTerm places.Declaration = true
@@ -223,6 +224,11 @@ takes positions.ModuleTerm places.Method = true
 takes positions.ModuleTerm _ = false
 takes positions.GuardTerm places.External = true
 takes positions.GuardTerm _ = false
+takes positions.RunTerm places.Else = false
+takes positions.RunTerm places.Return = false
+takes positions.RunTerm _ = true
+takes positions.RunAfterIf places.Return = false
+takes positions.RunAfterIf _ = true
 takes positions.BodyTerm places.Else = false
 takes positions.BodyTerm places.Scope = false
 takes positions.BodyTerm places.Method = false

@@ -24,6 +24,8 @@ pub enum Place {
     Argument,
     /// As a term of a body.
     Statement,
+    /// As a term of a body, but not of a table whose code may run: Return.
+    Return,
     /// As a term of a body; in a table, as the guard around Externals.
     If,
     /// As a term of a body, right after an If.
@@ -139,6 +141,10 @@ pub enum Position {
     ModuleTerm,
     /// In the list of terms of a guard: an If in a table whose predicate is 00.
     GuardTerm,
+    /// In a list of terms of a table whose code may run. Of the terms inside such a term only the span is kept.
+    RunTerm,
+    /// The same, right after an If.
+    RunAfterIf,
     /// In a list of terms of a method's body.
     BodyTerm,
     /// The same, right after an If.
@@ -161,6 +167,8 @@ pub fn takes(position: Position, place: Place) -> bool
             Place::If | Place::Declaration | Place::External | Place::Scope | Place::Method
         ),
         Position::GuardTerm => matches!(place, Place::External),
+        Position::RunTerm => !matches!(place, Place::Else | Place::Return),
+        Position::RunAfterIf => !matches!(place, Place::Return),
         Position::BodyTerm => !matches!(place, Place::Else | Place::Scope | Place::Method),
         Position::AfterIf => !matches!(place, Place::Scope | Place::Method),
         Position::Argument => matches!(place, Place::Data | Place::Target | Place::Argument),

@@ -83,7 +83,7 @@ static ROWS: [OpRow; 113] = rows! {
     0x86   "Notify"                 Statement   Statement   [Target Term]                    Empty    Other;
     0x5B27 "Release"                Statement   Statement   [Target]                         Empty    Other;
     0x5B26 "Reset"                  Statement   Statement   [Target]                         Empty    Other;
-    0xA4   "Return"                 Statement   Statement   [Term]                           Empty    Other;
+    0xA4   "Return"                 Statement   Return      [Term]                           Empty    Other;
     0x5B24 "Signal"                 Statement   Statement   [Target]                         Empty    Other;
     0x5B22 "Sleep"                  Statement   Statement   [Term]                           Empty    Other;
     0x5B21 "Stall"                  Statement   Statement   [Term]                           Empty    Other;

@@ -10,8 +10,7 @@ use Rattle.aml_code.specs.declared.rows.TailKind.TheVariants as tails
 use Rattle.aml_code.specs.Tree.{Tree, nothing, named, op, Trees, no_trees, tree_more, Part, child, Parts, no_parts, part_more, Tail, terms, elements, fields}
 use Rattle.aml_code.specs.Tree.{body, Field, connection, Fields, no_fields, field_more, target, buffer}
 use Rattle.aml_code.specs.Lawful.{after, Setting, IsLawful, AreTerms, IsPart, AreParts, IsTail, AreFields, IsField, terms_in, next_position}
-use Rattle.aml_parse.specs.Reading.{takes_names}
-use Rattle.aml_parse.proofs.Bodiless.{next_takes, inner_takes, no_body}
+use Rattle.aml_parse.proofs.Bodiless.{is_bodiless, next_bodiless, inner_bodiless, no_body}
 use Rattle.aml_load.specs.Spans.{tree_spans, all_spans, part_spans, parts_spans, tail_spans, field_spans, fields_spans}
 
 -- ---- a tail is of its kind
@@ -40,20 +39,20 @@ both_none xs ys h g = ap (λ zs. zs ++ ys) h ∙ g
 
 module _ (s : Setting) (t : ℕ) where
   mutual
-    pub tree_none : (levels : ℕ) (p : Position) (ls : PathSet) (x : Tree) → takes_names p ≡ true → IsLawful s levels p ls x → tree_spans t x ≡ []
+    pub tree_none : (levels : ℕ) (p : Position) (ls : PathSet) (x : Tree) → is_bodiless p ≡ true → IsLawful s levels p ls x → tree_spans t x ≡ []
     tree_none levels p ls nothing h l = refl
     tree_none zero p ls _ h l = absurd l
     tree_none (suc levels) p ls (named n xs) h l = all_none levels positions.Argument ls xs refl l.3
     tree_none (suc levels) p ls (op o w ps r) h l =
         both_none (parts_spans t ps) (tail_spans t r) (parts_none levels (l.row).parts ls ps l.parts)
-        (tail_none levels (terms_in p (l.row).place) (l.row).tail ls r (λ e. inner_takes p (l.row).place h)
+        (tail_none levels (terms_in p (l.row).place) _ ls r (λ e. inner_bodiless p (l.row).place h)
         (no_body p o l.row h l.listed l.taken) l.tail)
 
-    pub all_none : (levels : ℕ) (p : Position) (ls : PathSet) (xs : Trees) → takes_names p ≡ true → AreTerms s levels p ls xs → all_spans t xs ≡ []
+    pub all_none : (levels : ℕ) (p : Position) (ls : PathSet) (xs : Trees) → is_bodiless p ≡ true → AreTerms s levels p ls xs → all_spans t xs ≡ []
     all_none levels p ls no_trees h l = refl
     all_none levels p ls (tree_more x xs) h l =
         both_none (tree_spans t x) (all_spans t xs) (tree_none levels p ls x h l.0)
-        (all_none levels (next_position p x) (after s.scope ls x) xs (next_takes p x h) l.1)
+        (all_none levels (next_position p x) (after s.scope ls x) xs (next_bodiless p x h) l.1)
 
     part_none : (levels : ℕ) (k : PartKind) (ls : PathSet) (p : Part) → IsPart (λ q. IsLawful s levels q ls) k p → part_spans t p ≡ []
     part_none levels kinds.Term ls (child x) l = tree_none levels positions.Argument ls x refl l
@@ -69,7 +68,7 @@ module _ (s : Setting) (t : ℕ) where
         both_none (part_spans t p) (parts_spans t ps) (part_none levels k ls p l.0) (parts_none levels ks ls ps l.1)
 
     -- a tail that is no body, and whose terms aren't those of a table
-    pub tail_none : (levels : ℕ) (p : Position) (k : Option TailKind) (ls : PathSet) (r : Tail) → (k ≡ Some tails.Terms → takes_names p ≡ true)
+    pub tail_none : (levels : ℕ) (p : Position) (k : Option TailKind) (ls : PathSet) (r : Tail) → (k ≡ Some tails.Terms → is_bodiless p ≡ true)
         → (k ≡ Some tails.Body → ⊥) → IsTail s (IsLawful s levels) p k ls r → tail_spans t r ≡ []
     tail_none levels p k ls (terms xs) h other l = let d = terms_tail s levels p ls k xs l in all_none levels p ls xs (h d.0) d.1
     tail_none levels p k ls (elements xs) h other l = all_none levels positions.Data ls xs refl (elements_tail s levels p ls k xs l)

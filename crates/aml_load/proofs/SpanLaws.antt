@@ -22,7 +22,7 @@ use Rattle.aml_code.specs.declared.rows.TailKind.{TailKind}
 use Rattle.aml_code.specs.declared.rows.TailKind.TheVariants as tails
 use Rattle.aml_code.specs.Opcodes.{Row, rows, row_of, takes}
 use Rattle.aml_code.specs.Tree.{Tree, nothing, named, op, Trees, no_trees, tree_more, Parts, Tail, terms, elements, fields, body}
-use Rattle.aml_code.specs.Lawful.{after, field_names, last_label, Setting, IsLawful, AreTerms, IsTail, ReadsModule, terms_in, next_position, setting_of}
+use Rattle.aml_code.specs.Lawful.{after, field_names, last_label, Setting, IsLawful, AreTerms, IsTail, ReadsModule, terms_in, tail_in, next_position, setting_of}
 use Rattle.aml_code.specs.Lawful.{no_arguments}
 use Rattle.aml_code.proofs.RowFacts.{and_left, and_right, rows_say}
 use Rattle.aml_parse.specs.Reading.{takes_names}
@@ -77,6 +77,13 @@ the_body _ h = absurd cc
 module_inside : (place : Place) → takes_names (terms_in positions.ModuleTerm place) ≡ false
 module_inside places.If = refl
 module_inside _ = refl
+
+-- there each tail is kept
+kept_in_table : (p : Position) (k : Option TailKind) → takes_names p ≡ false → option_map (tail_in p) k ≡ k
+kept_in_table p None h = refl
+kept_in_table positions.ModuleTerm (Some k) h = refl
+kept_in_table positions.GuardTerm (Some k) h = refl
+kept_in_table _ (Some k) h = absurd cc
 
 -- a row fits in a position of a table, where the terms inside it are terms of a table too
 abbrev Fits : Position → Row → Type 0
@@ -244,12 +251,13 @@ module _ (s : Setting) (t : ℕ) where
     tree_adds (suc levels) p ls l scope (op o w ps r) h law =
         let k = (law.row).tail in
         let q = terms_in p (law.row).place in
+        let tail = subst (λ (k : Option TailKind). IsTail s (IsLawful s levels) q k ls r) (kept_in_table p k h) law.tail in
         let fit = row_fits p o law.row h law.listed law.taken in
         let here = subst (λ (x : Role). fits x k ≡ true) (sym (role_is o law.row law.listed)) fit.0 in
         let has : TailSpans k t r (λ l p. declare_inside t l p r) = record {
-          flat = flat_none s levels q k ls t r law.tail;
-          one = λ e. body_one s levels q ls t r (subst (λ (k : Option TailKind). IsTail s (IsLawful s levels) q k ls r) (the_body k e) law.tail);
-          inner = λ e l scope. inside_adds levels q k ls l scope r fit.1 (not_body k e) law.tail;
+          flat = flat_none s levels q k ls t r tail;
+          one = λ e. body_one s levels q ls t r (subst (λ (k : Option TailKind). IsTail s (IsLawful s levels) q k ls r) (the_body k e) tail);
+          inner = λ e l scope. inside_adds levels q k ls l scope r fit.1 (not_body k e) tail;
         } in
         let all = role_adds (role_of o) k t (with_uses t l scope o ps r) scope ps r (λ l p. declare_inside t l p r) here has in
         as_spans _ l (tail_spans t r) (parts_spans t ps ++ tail_spans t r)

@@ -9,7 +9,8 @@ use Rattle.aml_parse.proofs.Common.{takes, width_len, package_bytes, FitsWidth, 
 use Rattle.aml_parse.proofs.Common.{word, dword, qword, text, Parts, no_parts, part_more, tree_count, Tail, empty, terms, elements, fields, body, Field, unit}
 use Rattle.aml_parse.proofs.Common.{reserved, access, connection, extended, Fields, no_fields, field_more, Link, target, buffer, opcode_bytes, packed, slice_of}
 use Rattle.aml_parse.proofs.Common.{encoding, encodings, part_encoding, parts_encoding, tail_encoding, field_encoding, fields_encoding, link_encoding}
-use Rattle.aml_parse.proofs.Common.{declared_by, after, after_all, after_tail, IsGuarded, is_guard, terms_in, next_position, Setting, IsLawful, AreTerms}
+use Rattle.aml_parse.proofs.Common.{declared_by, after, after_all, after_tail, IsGuarded, is_guard, terms_in, tail_in, option_map, next_position, Setting}
+use Rattle.aml_parse.proofs.Common.{IsLawful, AreTerms}
 use Rattle.aml_parse.proofs.Common.{IsPart, AreParts, IsTail, IsField, AreFields, BodyStands, BodiesStand, TailStands, read_on, is_inner, unchanged}
 use Rattle.aml_parse.proofs.Common.{all_unchanged, span_again, row_is_opcode, lead_of, row_apart, target_opcode, opcode_lead}
 use Rattle.aml_parse.specs.Reading.{Reader, flat, held, held_inside, part_at, parts_at, arguments_at, terms_at, to_end_at, segmented_at, named_unit, link_at}
@@ -19,7 +20,7 @@ use Rattle.aml_parse.proofs.FlatLaws.{count_again, text_again, segmented_again, 
 use Rattle.aml_parse.proofs.Loops.{turn}
 use Rattle.aml_parse.proofs.Leads.{tail_is_empty, guard_again}
 use Rattle.aml_parse.proofs.Took.{IsReader, IsLink, by_opcode, nonempty, field_some, names_taken}
-use Rattle.aml_parse.proofs.Bodiless.{Standing, both_stand, tail_stands}
+use Rattle.aml_parse.proofs.Bodiless.{is_bodiless, Standing, both_stand, tail_stands}
 
 -- ---- first bytes
 
@@ -89,7 +90,7 @@ module _ (s : Setting) (levels : ℕ) (read : Position → Reader Tree) (law : I
   -- ---- parts
 
   -- a term that is no term of a list
-  inner_again : (p : Position) (end : ℕ) (ls : PathSet) (t : Tree) (rest : List ℕ) → is_inner p ≡ true → takes_names p ≡ true → IsLawful s levels p ls t
+  inner_again : (p : Position) (end : ℕ) (ls : PathSet) (t : Tree) (rest : List ℕ) → is_inner p ≡ true → is_bodiless p ≡ true → IsLawful s levels p ls t
       → read p end ls (encoding s.code t ++ rest) ≡ Ok (t, ls, rest)
   inner_again p end ls t rest i free h =
       law.again p end ls t rest h (inl free) ∙ ap (λ (m : PathSet). Ok (t, m, rest)) (unchanged s levels p ls t i h)
@@ -130,7 +131,7 @@ module _ (s : Setting) (levels : ℕ) (read : Position → Reader Tree) (law : I
       (read_on _ _ _ _ (arguments_again end (after s.scope ls t) ts rest h.1) refl)
 
   pub terms_again : (n : ℕ) (p : Position) (end : ℕ) (ls : PathSet) (ts : Trees) → length (encodings s.code ts) ≤ n → AreTerms s levels p ls ts
-      → Standing (takes_names p ≡ true) (λ at. BodiesStand s.code at ts) end (encodings s.code ts)
+      → Standing (is_bodiless p ≡ true) (λ at. BodiesStand s.code at ts) end (encodings s.code ts)
       → terms_at read n p end ls (encodings s.code ts) ≡ Ok (ts, after_all s.scope ls ts)
   unfolding to_end_at
   terms_again n p end ls no_trees le h stand = refl
@@ -211,7 +212,7 @@ module _ (s : Setting) (levels : ℕ) (read : Position → Reader Tree) (law : I
   -- ---- tails
 
   tail_again : (p : Position) (k : TailKind) (end : ℕ) (ls : PathSet) (t : Tail) → IsTail s (IsLawful s levels) p (Some k) ls t
-      → Standing ((takes_names p ≡ true) × (Some k ≡ Some TailKind.Body → ⊥)) (λ at. TailStands s.code at t) end (tail_encoding s.code t)
+      → Standing ((is_bodiless p ≡ true) × (Some k ≡ Some TailKind.Body → ⊥)) (λ at. TailStands s.code at t) end (tail_encoding s.code t)
       → tail_at read p k end ls (tail_encoding s.code t) ≡ Ok (t, after_tail s.scope ls t)
   tail_again p TailKind.Fields end ls (fields us) h stand =
       read_on _ _ _ _ (fields_again (length (fields_encoding s.code us)) end ls us (omega arith) h) refl
@@ -239,8 +240,8 @@ module _ (s : Setting) (levels : ℕ) (read : Position → Reader Tree) (law : I
 
     packed_again : (w : PkgWidth) (k : TailKind) (there : ℕ) (t : Tail) → IsGuarded (is_guard p row.place) ps
         → FitsWidth w (width_len w + length (parts_encoding s.code ps ++ tail_encoding s.code t)) → AreParts (λ q. IsLawful s levels q ls) row.parts ps
-        → IsTail s (IsLawful s levels) (terms_in p row.place) (Some k) ls t
-        → Standing ((takes_names (terms_in p row.place) ≡ true) × (Some k ≡ Some TailKind.Body → ⊥)) (λ at. TailStands s.code at t) (end - length rest)
+        → IsTail s (IsLawful s levels) (terms_in p row.place) (Some (tail_in p k)) ls t
+        → Standing ((is_bodiless (terms_in p row.place) ≡ true) × (Some (tail_in p k) ≡ Some TailKind.Body → ⊥)) (λ at. TailStands s.code at t) (end - length rest)
         (tail_encoding s.code t)
         → packed_at s.scope read p there row k end ls (packed (Some w) (parts_encoding s.code ps ++ tail_encoding s.code t) ++ rest)
         ≡ Ok (op o (Some w) ps t, declared_by s.scope (row_of o) (after_tail s.scope ls t) ps t, rest)
@@ -252,18 +253,18 @@ module _ (s : Setting) (levels : ℕ) (read : Position → Reader Tree) (law : I
         ap (packed_at s.scope read p there row k end ls) (append_assoc (package_bytes w (width_len w + length inside)) inside rest)
         ∙ read_on _ _ _ _ (span_again end w inside rest fits) (read_on _ _ _ _ (guard_again (is_guard p row.place) there inner s.code ps back guarded)
         (read_on _ _ _ _ (parts_again row.parts inner ls ps back h)
-        (read_on _ _ _ _ (tail_again (terms_in p row.place) k inner ls t tail stand)
+        (read_on _ _ _ _ (tail_again (terms_in p row.place) (tail_in p k) inner ls t tail stand)
         (ap read_as (by_opcode s.scope o row listed (Some w) ps t (after_tail s.scope ls t) rest)))))
 
   -- by the row's tail
   op_again : (p : Position) (o : ℕ) (w : Option PkgWidth) (end : ℕ) (ls : PathSet) (ps : Parts) (t : Tail) (rest : List ℕ)
       → (h : IsLawful s (suc levels) p ls (op o w ps t)) → (k : Option TailKind) → (h.row).tail ≡ k
-      → Standing (takes_names p ≡ true) (λ at. BodyStands s.code at (op o w ps t)) end (encoding s.code (op o w ps t) ++ rest)
+      → Standing (is_bodiless p ≡ true) (λ at. BodyStands s.code at (op o w ps t)) end (encoding s.code (op o w ps t) ++ rest)
       → term_at s.arity s.scope read p end ls (encoding s.code (op o w ps t) ++ rest) ≡ Ok (op o w ps t, after s.scope ls (op o w ps t), rest)
   op_again p o None end ls ps t rest h None short stand =
       let row = h.row in
       let front = parts_encoding s.code ps in
-      let is_empty : t ≡ empty = tail_is_empty s levels ls (terms_in p row.place) row.tail t (ap has_length short) h.tail in
+      let is_empty : t ≡ empty = tail_is_empty s levels ls p (terms_in p row.place) row.tail t (ap has_length short) h.tail in
       let spelled : opcode_bytes o ++ (front ++ tail_encoding s.code t) ++ rest ≡ opcode_bytes o ++ (front ++ rest) =
       ap (λ (y : Tail). opcode_bytes o ++ (front ++ tail_encoding s.code y) ++ rest) is_empty
       ∙ ap (λ (b : List ℕ). (opcode_bytes o ++ b) ++ rest) (append-nil front) ∙ append_assoc (opcode_bytes o) front rest in
@@ -281,9 +282,9 @@ module _ (s : Setting) (levels : ℕ) (read : Position → Reader Tree) (law : I
       let back = packed (Some w) inside ++ rest in
       let there = end - length (opcode_bytes o ++ back) in
       let width : FitsWidth w (width_len w + length inside) = rw long at h.width in
-      let tail = subst (λ (k : Option TailKind). IsTail s (IsLawful s levels) (terms_in p row.place) k ls t) long h.tail in
+      let tail = subst (λ (k : Option TailKind). IsTail s (IsLawful s levels) (terms_in p row.place) (option_map (tail_in p) k) ls t) long h.tail in
       let Stands : Option TailKind → Type 0 =
-      λ k. Standing ((takes_names (terms_in p row.place) ≡ true) × (k ≡ Some TailKind.Body → ⊥)) (λ at. TailStands s.code at t) (end - length rest)
+      λ k. Standing ((is_bodiless (terms_in p row.place) ≡ true) × (option_map (tail_in p) k ≡ Some TailKind.Body → ⊥)) (λ at. TailStands s.code at t) (end - length rest)
       (tail_encoding s.code t) in
       ap (term_at s.arity s.scope read p end ls) (append_assoc (opcode_bytes o) (packed (Some w) inside) rest)
       ∙ reach_row s read p end ls o row back h.listed h.taken
@@ -294,7 +295,7 @@ module _ (s : Setting) (levels : ℕ) (read : Position → Reader Tree) (law : I
   -- ---- terms
 
   pub term_again : (p : Position) (end : ℕ) (ls : PathSet) (t : Tree) (rest : List ℕ) → IsLawful s (suc levels) p ls t
-      → Standing (takes_names p ≡ true) (λ at. BodyStands s.code at t) end (encoding s.code t ++ rest)
+      → Standing (is_bodiless p ≡ true) (λ at. BodyStands s.code at t) end (encoding s.code t ++ rest)
       → term_at s.arity s.scope read p end ls (encoding s.code t ++ rest) ≡ Ok (t, after s.scope ls t, rest)
   term_again p end ls nothing rest h stand = none_again s read p end ls rest h
   term_again p end ls (named n ts) rest h stand = named_again p end ls n ts rest h

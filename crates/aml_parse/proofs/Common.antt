@@ -8,10 +8,11 @@ pub use Rattle.aml_code.proofs.RowFacts.{zero_bare, lead_of, opcode_lead, row_le
 pub use Rattle.aml_code.proofs.RowFacts.{if_parts, if_has_length, guard_place, opcode_some, is_body, not_true, rows_say}
 pub use Rattle.aml_code.proofs.Within.{Within, onward, text_there, byte_there, end_there, truncated_placed, offset_is, length_placed, past_placed, name_placed}
 pub use Rattle.aml_code.proofs.Within.{inward, slice_there, span_inside, whole}
-pub use Rattle.aml_code.specs.Faults.{Arities, StandsAt, IsOpcode, StandsThere}
+pub use Rattle.aml_code.specs.Faults.{Arities, StandsAt, IsOpcode, StandsThere, IsEnd}
+pub use Rattle.aml_code.specs.Lawful.{tail_in}
 pub use Rattle.aml_code.specs.Lawful.{HasWidth, IsGuarded, terms_in, has_opcode, Setting, IsLawful, AreParts, IsTail, next_position, after, after_all, AreTerms}
 pub use Rattle.aml_code.specs.Lawful.{setting_of, names_declared, with_declared, declared_by, after_tail, is_guard, IsPart, IsField, AreFields, BodyStands}
-pub use Rattle.aml_code.specs.Lawful.{BodiesStand, TailStands, count_in, ReadsBody, ReadsModule, no_arguments, unit_names, with_names}
+pub use Rattle.aml_code.specs.Lawful.{BodiesStand, TailStands, count_in, ReadsBody, ReadsModule, ReadsStep, no_arguments, unit_names, with_names}
 pub use Rattle.aml_code.specs.Laws.{IsTermAt, AreTermsAt, NoProperPrefix, SameByBytes, AllSameByBytes}
 pub use Rattle.aml_code.specs.Opcodes.{row_of, has_length, Row, takes, row_view}
 unfoldable pub use Rattle.aml_code.specs.Opcodes.{rows}
@@ -29,7 +30,7 @@ pub use Rattle.aml_code.specs.declared.rows.Role.{Role}
 pub use Rattle.aml_code.specs.declared.rows.TailKind.{TailKind}
 pub use Rattle.aml_names.proofs.NameFaults.{segment_fault}
 pub use Rattle.aml_names.proofs.NameLaws.{name_lead, name_again, segment_takes, name_takes, name_fault, lead_reads, segment_again}
-pub use Rattle.aml_names.proofs.StepLaws.{err_is, ok_is, IsBytes, IsBytes-drop, Takes, Takes-then, byte_takes, byte_fault, Takes-none}
+pub use Rattle.aml_names.proofs.StepLaws.{err_is, ok_is, IsBytes, IsBytes-drop, IsBytes-take, Takes, Takes-then, byte_takes, byte_fault, Takes-none}
 pub use Rattle.aml_names.specs.NameReading.{is_bare, ◌>>=◌, Fails, name_at, segment_at, has_segment, byte_at, Left}
 pub use Rattle.aml_names.specs.Names.{IsName, spelling, is_name_lead, is_lead_char, IsNameSeg}
 pub use Rattle.aml_names.specs.Paths.{PathSet}
@@ -45,4 +46,4 @@ pub use Rattle.std.proofs.lemmas.List.{nil_from_length, get_or_default, append-n
 pub use Rattle.std.proofs.lemmas.List.{take_at, drop_at}
 pub use Rattle.std.proofs.lemmas.List.Quantifiers.{position-Some}
 pub use Rattle.std.specs.List.{position_or_len}
-pub use Rattle.std.specs.Prelude.{ok_or, position, All}
+pub use Rattle.std.specs.Prelude.{ok_or, position, All, option_map}

@@ -3,7 +3,8 @@ use Rattle.aml_parse.proofs.Common.{◌≡◌, ℕ, zero, suc, Bool, true, false
 use Rattle.aml_parse.proofs.Common.{append_assoc, arith, inl, inr, eqb-true, eq-eqb, append-nil, Name, IsName, spelling, is_name_lead, is_bare, PathSet}
 use Rattle.aml_parse.proofs.Common.{name_lead, PkgWidth, PartKind, Position, TailKind, row_of, has_length, Tree, nothing, named, op, child, Parts, no_parts}
 use Rattle.aml_parse.proofs.Common.{part_more, Tail, empty, opcode_bytes, packed, encoding, encodings, parts_encoding, tail_encoding, HasWidth, IsGuarded}
-use Rattle.aml_parse.proofs.Common.{terms_in, has_opcode, Setting, IsLawful, AreParts, IsTail, zero_bare, lead_of, opcode_lead, row_lead_is}
+use Rattle.aml_parse.proofs.Common.{terms_in, tail_in, option_map, has_opcode, Setting, IsLawful, AreParts, IsTail, zero_bare, lead_of, opcode_lead}
+use Rattle.aml_parse.proofs.Common.{row_lead_is}
 use Rattle.aml_parse.specs.Reading.{guard_at}
 
 name_leads : (n : Name) (behind rest : List ℕ) (b : ℕ) → IsName n → is_bare n ≡ false → spelling n ++ rest ≡ b ∷ behind → is_name_lead b ≡ true
@@ -37,10 +38,11 @@ no_width None len h = refl
 no_width (Some w) len h = absurd h
 
 module _ (s : Setting) (levels : ℕ) (ls : PathSet) where
-  pub tail_is_empty : (p : Position) (k : Option TailKind) (t : Tail) → has_length k ≡ false → IsTail s (IsLawful s levels) p k ls t → t ≡ empty
-  tail_is_empty p None empty e l = refl
-  tail_is_empty p None _ e l = absurd l
-  tail_is_empty p _ t e l = absurd cc
+  pub tail_is_empty : (p q : Position) (k : Option TailKind) (t : Tail) → has_length k ≡ false
+      → IsTail s (IsLawful s levels) q (option_map (tail_in p) k) ls t → t ≡ empty
+  tail_is_empty p q None empty e l = refl
+  tail_is_empty p q None _ e l = absurd l
+  tail_is_empty p q _ t e l = absurd cc
 
   none_of_none : (ps : Parts) → AreParts (λ q. IsLawful s levels q ls) [] ps → ps ≡ no_parts
   none_of_none no_parts h = refl
@@ -66,7 +68,7 @@ zero_alone s (suc levels) p ls (op o w ps t) h e =
     let len = length (parts_encoding s.code ps ++ tail_encoding s.code t) in
     let w_is : w ≡ None = no_width w len (subst (λ (b : Bool). HasWidth b w len) z.1 h.width) in
     let ps_is = none_of_none s levels ls ps (subst (λ (ks : List PartKind). AreParts (λ q. IsLawful s levels q ls) ks ps) z.0 h.parts) in
-    let t_is = tail_is_empty s levels ls (terms_in p row.place) row.tail t z.1 h.tail in
+    let t_is = tail_is_empty s levels ls p (terms_in p row.place) row.tail t z.1 h.tail in
     cc
 
 -- ---- guards

@@ -7,7 +7,10 @@ pub mod Leads
 pub mod ReadLaws
 pub mod Again
 pub mod Readings
+pub mod Steps
+pub mod OneWay
 pub mod PrefixLaws
 pub mod Loops
 pub mod Bare
 pub mod Views
+pub mod Forward

@@ -7,12 +7,14 @@ use Rattle.aml_parse.proofs.Common.{Option, Some, None, refl, sym, ap, ◌<◌, 
 use Rattle.aml_parse.proofs.Common.{is_name_lead, PathSet, Left, lead_reads, IsBytes, Takes, Takes-none, Takes-then, PartKind, Place, Position, TailKind, Row}
 use Rattle.aml_parse.proofs.Common.{row_of, has_length, takes, width_len, package_bytes, FitsWidth, Tree, connection, child, label, byte, word, dword, qword}
 use Rattle.aml_parse.proofs.Common.{Parts, empty, target, buffer, opcode_bytes, slice_of, encoding, parts_encoding, tail_encoding, field_encoding}
-use Rattle.aml_parse.proofs.Common.{link_encoding, declared_by, HasWidth, IsGuarded, count_in, is_guard, terms_in, next_position, Setting, IsLawful, AreParts}
+use Rattle.aml_parse.proofs.Common.{link_encoding, declared_by, HasWidth, IsGuarded, count_in, is_guard, terms_in, tail_in, option_map, next_position, Setting}
+use Rattle.aml_parse.proofs.Common.{IsLawful, AreParts}
 use Rattle.aml_parse.proofs.Common.{IsTail, TailStands, Arities, StandsThere, IsOpcode, StandsAt, is_inner, unchanged, all_unchanged, is_if_place, if_parts}
 use Rattle.aml_parse.proofs.Common.{if_has_length, guard_place, opcode_some, Within, onward, inward, text_there, byte_there, slice_there, span_inside}
 use Rattle.aml_parse.proofs.Common.{end_there, offset_is}
 use Rattle.aml_parse.specs.Reading.{Reader, part_at, parts_at, arguments_at, terms_at, to_end_at, flat, held_inside, link_at, field_at, fields_at, call_at}
-use Rattle.aml_parse.specs.Reading.{refused_in_body, refusal, guard_at, tail_at, takes_names, plain_at, packed_at, row_at, operation_at, is_absent_target}
+use Rattle.aml_parse.specs.Reading.{refused_in_body, refused_in_run, refusal, guard_at, tail_at, takes_names, plain_at, packed_at, row_at, operation_at}
+use Rattle.aml_parse.specs.Reading.{is_absent_target}
 use Rattle.aml_parse.specs.Reading.{term_at}
 use Rattle.aml_parse.proofs.FlatReads.{Answers, answers, fails, then, made, chosen, known, at_offset, TookFlat, byte_reads, little_reads, span_reads}
 use Rattle.aml_parse.proofs.FlatReads.{name_reads, segmented_reads, opcode_reads, held_reads, count_reads, text_reads, behind_lead, named_unit_reads}
@@ -27,6 +29,8 @@ are_bytes : (bs : List ℕ) → IsBytes bs → All (λ b. b < 256) bs
 are_bytes bs fits k d less = subst (λ (n : ℕ). n < 256) (get_or_default bs k 0 d less) (fits k)
 
 asked_none : (arity : Arities) (p : Position) (ls : PathSet) (n : Name) → takes_names p ≡ true → count_in arity p ls n ≡ None → arity ls n ≡ None
+asked_none arity Position.RunTerm ls n h e = e
+asked_none arity Position.RunAfterIf ls n h e = e
 asked_none arity Position.BodyTerm ls n h e = e
 asked_none arity Position.AfterIf ls n h e = e
 asked_none arity Position.Argument ls n h e = e
@@ -57,9 +61,15 @@ module _ (arity : Arities) (code : List ℕ) (at o : ℕ) (row : Row) (f : HasFo
   in_body_placed Place.Else e = (o, f.is, f.there, (row, f.listed, e))
   in_body_placed _ e = (o, f.is, f.there, (row, f.listed, tt))
 
+  in_run_placed : (place : Place) → row.place ≡ place → row.place ≢ Place.External → StandsAt arity code (refused_in_run place at)
+  in_run_placed Place.Else e other = (o, f.is, f.there, (row, f.listed, e))
+  in_run_placed _ e other = inr (o, f.is, f.there, (row, f.listed, other))
+
   refusal_placed : (p : Position) → takes p row.place ≡ false → StandsAt arity code (refusal p row.place at)
   refusal_placed Position.ModuleTerm other = inr (o, f.is, f.there, (row, f.listed, not_external Position.ModuleTerm row.place other refl))
   refusal_placed Position.GuardTerm other = inr (o, f.is, f.there, (row, f.listed, not_external Position.GuardTerm row.place other refl))
+  refusal_placed Position.RunTerm other = in_run_placed row.place refl (not_external Position.RunTerm row.place other refl)
+  refusal_placed Position.RunAfterIf other = in_run_placed row.place refl (not_external Position.RunAfterIf row.place other refl)
   refusal_placed Position.BodyTerm other = in_body_placed row.place refl
   refusal_placed Position.AfterIf other = in_body_placed row.place refl
   refusal_placed _ other = (o, f.is, f.there, (row, f.listed, tt))
@@ -221,7 +231,7 @@ module _ (s : Setting) (levels : ℕ) (read : Position → Reader Tree) (law : I
           width = subst (λ (k : Option TailKind). HasWidth (has_length k) None (length (parts_encoding s.code ps.0 ++ []))) (sym short) tt;
           guarded = unguarded o row p ps.0 found.listed (ap has_length short);
           parts = b.is;
-          tail = subst (λ (k : Option TailKind). IsTail s (IsLawful s levels) (terms_in p row.place) k ls empty) (sym short) tt;
+          tail = subst (λ (k : Option TailKind). IsTail s (IsLawful s levels) (terms_in p row.place) (option_map (tail_in p) k) ls empty) (sym short) tt;
         } in
         subst (TookTerm s (suc levels) p at ls bs) (sym (by_opcode s.scope o row found.listed None ps.0 empty ps.1 ps.2)) (record {
           takes = subst (λ (r : List ℕ). Takes bs (opcode_bytes o ++ r) ps.2) (sym (append-nil (parts_encoding s.code ps.0))) (Takes-then _ _ _ _ _ t0 b.takes);
@@ -248,8 +258,8 @@ module _ (s : Setting) (levels : ℕ) (read : Position → Reader Tree) (law : I
         then s _ _ _ _ (parts_reads row.parts at2 inner ls span.1 w2 (omega (arith, deep, opcode_some o))) (λ ps h3 b.
         let at3 = at2 + length (parts_encoding s.code ps.0) in
         let q = terms_in p row.place in
-        made s _ _ _ _ (tail_reads q k at3 inner ps.1 ps.2 (onward _ _ _ _ _ _ w2 b.takes) (omega (arith, deep, opcode_some o))) (λ t kept.
-        let c = subst (λ (m : PathSet). TookTail s levels q k at3 m ps.2 t) b.behind_is kept in
+        made s _ _ _ _ (tail_reads q (tail_in p k) at3 inner ps.1 ps.2 (onward _ _ _ _ _ _ w2 b.takes) (omega (arith, deep, opcode_some o))) (λ t kept.
+        let c = subst (λ (m : PathSet). TookTail s levels q (tail_in p k) at3 m ps.2 t) b.behind_is kept in
         let content = parts_encoding s.code ps.0 ++ tail_encoding s.code t.0 in
         let whole : span.1 ≡ content = b.takes.parts ∙ ap (λ (r : List ℕ). parts_encoding s.code ps.0 ++ r) c.text in
         let Spans : List ℕ → Type 0 =
@@ -265,7 +275,7 @@ module _ (s : Setting) (levels : ℕ) (read : Position → Reader Tree) (law : I
               guard_holds s levels ls (is_guard p row.place) row.parts ps.0 span.1 ps.2
               (λ g. if_parts o row found.listed (guard_place p row.place g)) first b.is b.takes.parts;
           parts = b.is;
-          tail = subst (λ (k : Option TailKind). IsTail s (IsLawful s levels) q k ls t.0) (sym long) c.is.0;
+          tail = subst (λ (k : Option TailKind). IsTail s (IsLawful s levels) q (option_map (tail_in p) k) ls t.0) (sym long) c.is.0;
         } in
         subst (TookTerm s (suc levels) p at ls bs) (sym (by_opcode s.scope o row found.listed (Some span.0) ps.0 t.0 t.1 span.2)) (record {
           takes = Takes-then _ _ _ _ _ t0 spelled.0;

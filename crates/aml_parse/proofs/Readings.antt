@@ -3,10 +3,10 @@ use Rattle.aml_parse.proofs.Common.{◌≡◌, ℕ, zero, suc, ◌-◌, List, []
 use Rattle.aml_parse.proofs.Common.{CodeFault, Seg, IsBytes, Position, Trees, encodings, Arities, StandsAt, Setting, AreTerms, setting_of, BodiesStand}
 use Rattle.aml_parse.proofs.Common.{ReadsBody, ReadsModule, no_arguments, read_on, whole, end_there, span_inside}
 use Rattle.std.specs.FinSet as set
-use Rattle.aml_parse.specs.Reading.{terms_at, takes_names, too_deep, read_at, all_at}
+use Rattle.aml_parse.specs.Reading.{terms_at, too_deep, read_at, all_at}
 use Rattle.aml_parse.proofs.FlatReads.{Answers, fails, made, at_offset}
 use Rattle.aml_parse.proofs.Took.{Reads, TookTerm, IsReader}
-use Rattle.aml_parse.proofs.Bodiless.{Standing}
+use Rattle.aml_parse.proofs.Bodiless.{is_bodiless, Standing}
 use Rattle.aml_parse.proofs.ReadLaws.{terms_reads, term_reads}
 use Rattle.aml_parse.proofs.Again.{terms_again, term_again}
 
@@ -40,7 +40,7 @@ module _ (arity : Arities) (scope : Option (List Seg)) (p : Position) (code : Li
       (λ x a. (a.is.0, sym a.text, a.is.1))
 
   all_again : (ts : Trees) → AreTerms (setting_of arity scope code) 512 p set.empty ts → encodings code ts ≡ code
-      → Standing (takes_names p ≡ true) (λ at. BodiesStand code at ts) (length code) (encodings code ts) → all_at arity scope p code ≡ Ok ts
+      → Standing (is_bodiless p ≡ true) (λ at. BodiesStand code at ts) (length code) (encodings code ts) → all_at arity scope p code ≡ Ok ts
   unfolding all_at
   all_again ts lawful spelled stand =
       let s = setting_of arity scope code in

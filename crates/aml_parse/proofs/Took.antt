@@ -8,7 +8,7 @@ use Rattle.aml_parse.proofs.Common.{IsTail, IsField, AreFields, BodyStands, Bodi
 use Rattle.aml_parse.proofs.Common.{PkgWidth, with_declared, names_declared, declared_by, row_opcode}
 use Rattle.aml_parse.specs.Reading.{Reader, takes_names}
 use Rattle.aml_parse.proofs.FlatReads.{Answers}
-use Rattle.aml_parse.proofs.Bodiless.{Standing}
+use Rattle.aml_parse.proofs.Bodiless.{is_bodiless, Standing}
 
 -- what was read from the front of the bytes: it is spelled by what was taken, it is so, and this is declared behind it
 pub record Took {A : Type 0} (spelled : A → List ℕ) (Is : A → Type 0) (behind : A → PathSet) (bs : List ℕ) (x : A × PathSet × List ℕ) : Type 0 where
@@ -63,7 +63,7 @@ module _ (s : Setting) (levels : ℕ) where
   pub record IsReader (read : Position → Reader Tree) : Type 0 where
     pub reads : (p : Position) → Reads (TookTerm p) (read p)
     pub again : (p : Position) (end : ℕ) (ls : PathSet) (t : Tree) (rest : List ℕ) → IsLawful s levels p ls t
-        → Standing (takes_names p ≡ true) (λ at. BodyStands s.code at t) end (encoding s.code t ++ rest)
+        → Standing (is_bodiless p ≡ true) (λ at. BodyStands s.code at t) end (encoding s.code t ++ rest)
         → read p end ls (encoding s.code t ++ rest) ≡ Ok (t, after s.scope ls t, rest)
 
 -- ---- what was read by its row is what it is by its opcode

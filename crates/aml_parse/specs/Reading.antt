@@ -20,8 +20,8 @@ use Rattle.aml_code.specs.Packages.{little_at, length_at, span_at}
 use Rattle.aml_code.specs.Tree.{Tree, nothing, named, op, Trees, no_trees, tree_more, Part, child, label, byte, word}
 use Rattle.aml_code.specs.Tree.{dword, qword, text, Parts, no_parts, part_more, Tail, empty, terms, elements, fields}
 use Rattle.aml_code.specs.Tree.{body, Field, unit, reserved, access, connection, extended, Fields, no_fields}
-use Rattle.aml_code.specs.Tree.{field_more, Link, target, buffer}
-use Rattle.aml_code.specs.Lawful.{names_declared, with_declared, count_in, is_guard, terms_in, next_position}
+use Rattle.aml_code.specs.Tree.{field_more, Link, target, buffer, slice_of}
+use Rattle.aml_code.specs.Lawful.{names_declared, with_declared, count_in, is_guard, terms_in, tail_in, next_position}
 use Rattle.aml_code.specs.Faults.{Arities, most_levels, most_arguments}
 use Rattle.aml_parse.specs.declared.positions.Lead.{Lead}
 use denote.Ref.{Bor}
@@ -206,10 +206,17 @@ refused_in_body Place.Scope at = CodeFault.NestedScope at
 refused_in_body Place.Else at = CodeFault.StrayElse at
 refused_in_body _ at = CodeFault.NotHere at
 
+-- why a table whose code may run doesn't take an opcode of a place
+abbrev pub refused_in_run : Place → ℕ → CodeFault
+refused_in_run Place.Else at = CodeFault.StrayElse at
+refused_in_run _ at = CodeFault.ModuleCode at
+
 -- why a position doesn't take an opcode of a place
 abbrev pub refusal : Position → Place → ℕ → CodeFault
 refusal Position.ModuleTerm place at = CodeFault.ModuleCode at
 refusal Position.GuardTerm place at = CodeFault.ModuleCode at
+refusal Position.RunTerm place at = refused_in_run place at
+refusal Position.RunAfterIf place at = refused_in_run place at
 refusal Position.BodyTerm place at = refused_in_body place at
 refusal Position.AfterIf place at = refused_in_body place at
 refusal _ place at = CodeFault.NotHere at
@@ -246,7 +253,7 @@ packed_at scope read p at row k end ls bytes = do
   span ← span_at end bytes
   guarded ← guard_at (is_guard p row.place) at (end - length span.2) span.1
   ps ← parts_at read row.parts (end - length span.2) ls span.1
-  t ← tail_at read (terms_in p row.place) k (end - length span.2) ps.1 ps.2
+  t ← tail_at read (terms_in p row.place) (tail_in p k) (end - length span.2) ps.1 ps.2
   Ok (op row.opcode (Some span.0) ps.0 t.0, with_declared scope t.1 (names_declared row.role ps.0 t.0), span.2)
 
 -- one or the other, by the row's tail
@@ -298,6 +305,14 @@ unfoldable pub all_at : Arities → Option (List Seg) → Position → List ℕ 
 all_at arity scope p code = do
   ts ← terms_at (read_at arity scope most_levels) (length code) p (length code) set.empty code
   Ok ts.0
+
+-- ---- a step through a table whose code may run
+
+-- a term from an offset on, inside a span that ends at another, and where what is behind it begins
+unfoldable pub step_at : Arities → ℕ → Position → List ℕ → ℕ → ℕ → Result (Tree × ℕ) CodeFault
+step_at arity levels p code at end = do
+  x ← read_at arity None levels p end set.empty (slice_of code at (end - at))
+  Ok (x.0, end - length x.2)
 
 -- ---- A stepping stone of the proofs: what a parser takes along, as contracts see it.
 

@@ -10,8 +10,12 @@ mod packages;
 mod parser;
 mod positions;
 mod room;
+mod running;
+mod step;
 mod terms;
 mod units;
 
 pub use body::parse_body;
 pub use module::parse_module;
+pub use running::{reads_forward, reads_one_way, spells_table};
+pub use step::read_step;

@@ -41,7 +41,11 @@ impl<'a, A: Arity> Parser<'a, A> {
         match position {
             Position::Target | Position::Data => Ok(0),
             Position::ModuleTerm | Position::GuardTerm => Err(CodeFault::UnknownName { at }),
-            Position::BodyTerm | Position::AfterIf | Position::Argument => {
+            Position::RunTerm
+            | Position::RunAfterIf
+            | Position::BodyTerm
+            | Position::AfterIf
+            | Position::Argument => {
                 match self.arity.count(self.alloc, locals, name)? {
                     None => Err(CodeFault::UnknownName { at }),
                     Some(count) => Ok(count),

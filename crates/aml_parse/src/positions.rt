@@ -1,11 +1,11 @@
 //! Opcodes, which of them a position takes, and which position comes next.
 ghost use Rattle.std.specs.Prelude.{◌≡◌};
 ghost use Rattle.aml_names.specs.NameReading.{Gives};
-ghost use Rattle.aml_code.specs.Lawful.{has_opcode, is_guard, next_position, terms_in};
+ghost use Rattle.aml_code.specs.Lawful.{has_opcode, is_guard, next_position, tail_in, terms_in};
 ghost use Rattle.aml_code.specs.View.{node_view};
-ghost use Rattle.aml_parse.specs.Reading.{opcode_at, refused_in_body, refusal, is_absent_target, Begins, takes_names, guard_at};
+ghost use Rattle.aml_parse.specs.Reading.{opcode_at, refused_in_body, refused_in_run, refusal, is_absent_target, Begins, takes_names, guard_at};
 
-use aml_code::{CodeFault, Node, Place, Position, byte_of};
+use aml_code::{CodeFault, Node, Place, Position, TailKind, byte_of};
 use aml_names::is_name_lead;
 
 /// An opcode: one byte, or 5B and a second.
@@ -33,12 +33,23 @@ fn refused_in_body(place: Place, at: u32) -> CodeFault
     }
 }
 
+/// Why a table whose code may run doesn't take an opcode of a place.
+fn refused_in_run(place: Place, at: u32) -> CodeFault
+    ensures { result ≡ refused_in_run place at }
+{
+    if place == Place::Else {
+        return CodeFault::StrayElse { at };
+    }
+    CodeFault::ModuleCode { at }
+}
+
 /// Why a position doesn't take an opcode of a place.
 pub fn refusal(position: Position, place: Place, at: u32) -> CodeFault
     ensures { result ≡ refusal position place at }
 {
     match position {
         Position::ModuleTerm | Position::GuardTerm => CodeFault::ModuleCode { at },
+        Position::RunTerm | Position::RunAfterIf => refused_in_run(place, at),
         Position::BodyTerm | Position::AfterIf => refused_in_body(place, at),
         Position::Argument | Position::Target | Position::Data => CodeFault::NotHere { at },
     }
@@ -96,7 +107,21 @@ pub fn terms_in(position: Position, place: Place) -> Position
             Place::If => Position::GuardTerm,
             _ => Position::ModuleTerm,
         },
+        Position::RunTerm | Position::RunAfterIf => Position::RunTerm,
         _ => Position::BodyTerm,
+    }
+}
+
+/// What is kept of a tail: of the terms inside a term of a table whose code may run, only their span.
+pub fn tail_in(position: Position, tail: TailKind) -> TailKind
+    ensures { result ≡ tail_in position tail }
+{
+    match position {
+        Position::RunTerm | Position::RunAfterIf => match tail {
+            TailKind::Terms => TailKind::Body,
+            _ => tail,
+        },
+        _ => tail,
     }
 }
 
@@ -123,6 +148,13 @@ pub fn next_position(position: Position, node: &Node) -> Position
                 Position::AfterIf
             } else {
                 Position::BodyTerm
+            }
+        }
+        Position::RunTerm | Position::RunAfterIf => {
+            if is_if(node) {
+                Position::RunAfterIf
+            } else {
+                Position::RunTerm
             }
         }
         _ => position,

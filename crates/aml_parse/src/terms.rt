@@ -2,7 +2,7 @@
 ghost use Rattle.std.specs.Prelude.{◌≡◌, None, length};
 ghost use Rattle.aml_names.specs.NameReading.{Gives};
 ghost use Rattle.aml_code.specs.Opcodes.{row_view};
-ghost use Rattle.aml_code.specs.Lawful.{terms_in};
+ghost use Rattle.aml_code.specs.Lawful.{tail_in, terms_in};
 ghost use Rattle.aml_code.specs.Tree.{op, child, no_parts, empty};
 ghost use Rattle.aml_code.specs.View.{node_view, nodes_view, part_view, parts_view, tail_view, field_view, fields_view, link_view};
 ghost use Rattle.aml_parse.specs.Reading.{scope_of, held_inside, read_in, part_at, parts_at, arguments_at, terms_at, fields_at, field_at, link_at, call_at, tail_at, plain_at, packed_at, row_at, operation_at};
@@ -14,7 +14,8 @@ use crate::flat::{
 use crate::packages::{body_of, operation_of, package_of};
 use crate::parser::Parser;
 use crate::positions::{
-    Lead, guard_of, is_guard, lead_of, next_position, opcode_of, refusal, takes_names, terms_in,
+    Lead, guard_of, is_guard, lead_of, next_position, opcode_of, refusal, tail_in, takes_names,
+    terms_in,
 };
 use crate::room::without_room;
 use crate::units::{
@@ -56,7 +57,7 @@ impl<'a, A: Arity> Parser<'a, A> {
     /// `ModuleCode` where no name may stand.
     #[cycle(terms)]
     #[tactic(auto, unfolding(crate::specs::Reading::read_at, crate::specs::Reading::term_at, crate::specs::Reading::too_deep))]
-    fn term<'b>(
+    pub fn term<'b>(
         &self,
         position: Position,
         end: u32,
@@ -295,9 +296,9 @@ impl<'a, A: Arity> Parser<'a, A> {
     ) -> Result<Tail, CodeFault>
         ensures { Gives (λ x. (tail_view x, locals.new)) result
             (tail_at (read_in A.arity self.now) (terms_in found.now.position found.now.row.now.place)
-            found.now.tail end locals.old inside.now) }
+            (tail_in found.now.position found.now.tail) end locals.old inside.now) }
     {
-        match found.tail {
+        match tail_in(found.position, found.tail) {
             TailKind::Terms => {
                 let position = terms_in(found.position, found.row.place);
                 let nodes = self.terms(position, end, locals, inside)?;

@@ -1,0 +1,79 @@
+//! A step through a table whose code may run.
+ghost use Rattle.std.specs.Prelude.{◌≡◌, ◌⊎◌, ◌≤◌, ◌+◌, ℕ, None, length, IfOk, IfErr};
+ghost use Rattle.aml_names.specs.NameReading.{Gives};
+ghost use Rattle.aml_code.specs.Faults.{IsEnd, StandsAt, most_levels};
+ghost use Rattle.aml_code.specs.Lawful.{ReadsStep};
+ghost use Rattle.aml_code.specs.Tree.{Tree};
+ghost use Rattle.aml_code.specs.View.{node_view};
+ghost use Rattle.aml_parse.specs.Reading.{step_at};
+
+use crate::parser::Parser;
+use aml_code::{Arity, CodeFault, Locals, Node, Position, offset_of};
+use std::alloc::Global;
+
+/// The term, and the fault that is met first.
+#[tactic(auto, unfolding(crate::specs::Reading::step_at))]
+fn step<A: Arity>(
+    alloc: Global,
+    arity: &A,
+    position: Position,
+    levels: u16,
+    code: &[u8],
+    at: u32,
+    end: u32,
+) -> Result<(Node, u32), CodeFault>
+    requires { (at ≤ end) × (end ≤ length code.now) }
+    ensures { Gives (λ x. (node_view x.0, x.1)) result (step_at (A.arity arity.now) levels position code.now at end) }
+{
+    let parser = Parser {
+        alloc,
+        arity,
+        scope: None,
+        levels,
+    };
+    let mut locals = Locals::new(alloc);
+    let bytes = &code[at as usize..end as usize];
+    let (node, rest) = parser.term(position, end, &mut locals, bytes)?;
+    Ok((node, offset_of(end, rest)))
+}
+
+/// The term that stands in a position at an offset of a table's AML, which `code` holds whole, inside a span that ends
+/// at `end`; and the offset behind it. How many arguments a name takes is asked of `arity`. A term of a table whose
+/// code may run (`Position::RunTerm`) is read without the terms inside it, as a method is without its body: its tail is
+/// the span of `code` in which they stand, since what is declared in front of them counts for the names in them.
+///
+/// A fault's offset is one in `code`, and what the fault says is true there. Which of several faults is answered is the
+/// first that is met in reading forward.
+pub fn read_step<A: Arity>(
+    alloc: Global,
+    arity: &A,
+    position: Position,
+    levels: u16,
+    code: &[u8],
+    at: u32,
+    end: u32,
+) -> Result<(Node, u32), CodeFault>
+    // The limit of a table.
+    requires table { length code.now ≤ 16777216 }
+    // The span ends with the code, or with a package around it; each level that is used up took a byte at least.
+    requires inside { (at ≤ end) × (end ≤ length code.now) }
+    requires ends { IsEnd code.now at end }
+    requires deep { most_levels ≤ levels + at }
+
+    // What is answered is lawful, and stands there.
+    ensures sound { IfOk result (λ x.
+        ReadsStep (A.arity arity.now) levels position code.now at end (node_view x.0) x.1) }
+    // No other term does.
+    ensures one { IfOk result (λ x. (t : Tree) (behind : ℕ) →
+        ReadsStep (A.arity arity.now) levels position code.now at end t behind → (t ≡ node_view x.0) × (behind ≡ x.1)) }
+    // A refusal for another cause than memory comes only where no term does.
+    ensures complete { IfErr result (λ fault. (fault ≡ CodeFault.NoMemory) ⊎ ((t : Tree) (behind : ℕ) →
+        ReadsStep (A.arity arity.now) levels position code.now at end t behind → ⊥)) }
+    // A fault is true of its offset.
+    ensures placed { IfErr result (StandsAt (A.arity arity.now) code.now) }
+    // Which fault it is.
+    ensures forward { Gives (λ x. (node_view x.0, x.1)) result
+        (step_at (A.arity arity.now) levels position code.now at end) }
+{
+    step(alloc, arity, position, levels, code, at, end)
+}
