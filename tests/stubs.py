@@ -74,6 +74,7 @@ def trials(room):
         "tests/worked_runs.py": [],
         "tests/large_sets.py": ["--stop"],
         "tests/oracle/compare.py": ["--sets", "20"],
+        "tests/fuzz.py": ["--count", "2"],
     }
     for script, words in of_program.items():
         for what, text in STUBS.items():
