@@ -86,7 +86,7 @@ def calls(text):
 
 def listing_of(asked):
     words = [listing.program()]
-    words += ["--any-sum"] * asked.any_sum + ["--unknown-zero"] * asked.unknown_zero
+    words += ["--any-sum"] * asked.any_sum + ["--any-run"] * asked.any_run + ["--unknown-zero"] * asked.unknown_zero
     words += ["--externals", asked.externals] if asked.externals else []
     run = listing.run([*words, "--", asked.folder])
     if run.refused:
@@ -104,6 +104,7 @@ def main():
     words = argparse.ArgumentParser(description=__doc__, formatter_class=argparse.RawDescriptionHelpFormatter)
     words.add_argument("folder", metavar="FOLDER")
     words.add_argument("--any-sum", action="store_true", help="as the option of acpidis")
+    words.add_argument("--any-run", action="store_true", help=argparse.SUPPRESS)
     words.add_argument("--unknown-zero", action="store_true", help="as the option of acpidis")
     words.add_argument("--externals", metavar="FILE", help="as the option of acpidis")
     try:

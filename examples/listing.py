@@ -13,7 +13,8 @@ import subprocess
 SEGMENT = r"[A-Z_][A-Z0-9_]{3}"
 NAME = re.compile(rf"(\\|\^*)({SEGMENT}(?:\.{SEGMENT})*|)")
 TOKEN = re.compile(r'"[^"]*"|[\\^A-Za-z0-9_.]+|[(){},]')
-ROW = re.compile(r"  (\\\S*) (\w+)(?: (\S+))?")
+# With --any-run a row may end in marks: one that only may stand, one that is declared several times.
+ROW = re.compile(r"  (\\\S*) (\w+)(?: ([0-7]|\\\S*))?(?: Maybe)?(?: Times \d+)?")
 METHOD = re.compile(r"Method \((\S+), ([0-7]), ")
 RAW = re.compile(r"Raw \{([0-9A-F, ]*)\}")
 FAULT = re.compile(r"acpidis: body (\\\S*): (.*)")

@@ -232,7 +232,8 @@ def search_of(asked):
             given = file.read()
     if given and not given.endswith("\n"):
         given += "\n"
-    return Search(listing.program(), asked.folder, ["--any-sum"] * asked.any_sum, given)
+    options = ["--any-sum"] * asked.any_sum + ["--any-run"] * asked.any_run
+    return Search(listing.program(), asked.folder, options, given)
 
 
 def main():
@@ -240,6 +241,7 @@ def main():
     words.add_argument("folder", metavar="FOLDER")
     words.add_argument("--try", action="store_true", dest="must_be_one", help="lines only where just one count reads")
     words.add_argument("--any-sum", action="store_true", help="as the option of acpidis")
+    words.add_argument("--any-run", action="store_true", help=argparse.SUPPRESS)
     words.add_argument("--externals", metavar="FILE", help="counts that are known already")
     asked = words.parse_args()
     try:

@@ -1,11 +1,12 @@
 #!/usr/bin/env python3
-"""Tries examples/missing.py and examples/calls.py on sets made here.
+"""Tries examples/missing.py, calls.py and refused.py on sets made here.
 
     python3 tests/examples.py
 
 They run the program as they find it: ACPIDIS names another. The last line is 'N passed, N failed'.
 """
 
+import itertools
 import os
 import pathlib
 import subprocess
@@ -53,6 +54,11 @@ TARGETS = (
     + b"\x15EXTM\x08\x02"
     + method(b"MORE", b"\x87EXTM")
 )
+BRANCH = b"\x08CCCC\0" + device(b"DEV0", SUN, block(b"\xa0", b"\x93CCCC\x01" + method(b"FOO_", b"", 1)))
+ANY_RUN = "`--any-run` reads it, as whatever a run would declare"
+IASL = "`iasl -d` reads this table by itself, with guesses"
+WANTS = block(b"\x10", b"\\RP99" + method(b"HOTP", b"", 2))
+REGION = b"\x5b\x80REG0\0"
 BAD_NAME = "a\" {\n      Raw {5A}\n$(touch bad)`touch bad`.dat"
 
 
@@ -64,6 +70,9 @@ class Tries:
         (self.room / name).mkdir()
         (self.room / name / file).write_bytes(table(b"DSDT", code))
         return name
+
+    def add(self, name, code, file):
+        (self.room / name / file).write_bytes(table(b"SSDT", code))
 
     def run(self, script, *words, **variables):
         return subprocess.run(
@@ -84,6 +93,11 @@ class Tries:
             self.failed += 1
             print(f"FAILED {name}: status {run.returncode}, not {status}\n{run.stdout}{run.stderr}", end="")
             print(f"wanted\n{out}{missing}")
+
+    def ways(self, *ways):
+        """The ways on that the program has."""
+        help_text = subprocess.run([TOP / "acpidis", "--help"], capture_output=True, text=True, check=False).stdout
+        return "; or ".join(way for way in ways if way != ANY_RUN or "--any-run" in help_text)
 
     def is_true(self, name, holds):
         self.passed += bool(holds)
@@ -131,6 +145,91 @@ def try_calls(tries):
     tries.row("no calls", tries.run("calls.py", "rounds"), 0, "", "calls: 1 raw body isn't looked through")
     (tries.room / "counts").write_text("\\PCIU 0\n\\_SB_.PCIU 0\n\\_SB_.PCID 0\n")
     tries.row("given counts", tries.run("calls.py", "--externals", "counts", "rounds"), 0, "")
+    text = "Namespace 1\n  \\FOO_ Method 1 Maybe Times 2\nDefinitionBlock (\"a\") {\n  Notify (FOO_, One)\n}\n"
+    fake = tries.room / "marked"
+    fake.write_text(f"#!/bin/sh\ncat <<'END'\n{text}END\n")
+    fake.chmod(0o755)
+    wanted = "\\: FOO_ takes 1, in Notify: Notify (FOO_, One)\n"
+    tries.row("a row with marks", tries.run("calls.py", "rounds", ACPIDIS=str(fake)), 3, wanted)
+
+
+def try_refused(tries):
+    """Each set with the lines that come, the reason first."""
+    wanted = (
+        'table "dsdt.dat": ModuleCode at 20\n'
+        "dsdt.dat, offset 20, byte 56 of the file, in the scope \\DEV0\n"
+        "  bytes A0 40 01 93 43 43 43 43 01 14 47 00 46 4F 4F 5F ..\n"
+        "  If (LEqual (CCCC, One)) {\n"
+        "    Method (FOO_, 1) {..}\n"
+        "  }\n"
+        "  in Device (DEV0), offset 6\n"
+        "  behind Name (_SUN, One), offset 14\n"
+        "Outside the methods this would run while the table is loaded.\n"
+        f"Way on: {tries.ways(ANY_RUN, IASL)}\n"
+    )
+    tries.row("code outside methods", tries.run("refused.py", tries.folder("branch", BRANCH)), 1, wanted)
+    shifted = tries.folder("shifted", method(b"FOO_", b"", 1) + REGION + b"FOO_\x01\x04")
+    told = "  FOO_ takes 1 argument (Method at dsdt.dat, offset 0, byte 36 of the file), and was read without them"
+    tries.is_true("a call that shifts what follows", told in tries.run("refused.py", shifted).stdout)
+    tries.row("a set that is read", tries.run("refused.py", "targets"), 0, "the set isn't refused\n")
+
+
+def try_declarations(tries):
+    """Who declares and who wants the path of a refusal."""
+    tries.folder("twice", SUN)
+    tries.add("twice", SUN, "ssdt1.dat")
+    wanted = (
+        'table "ssdt1.dat": Duplicate \\_SUN\n'
+        "\\_SUN is declared\n"
+        "  as a Name at dsdt.dat, offset 0, byte 36 of the file\n"
+        "  as a Name at ssdt1.dat, offset 0, byte 36 of the file\n"
+        "The path is declared twice.\n"
+        f"Way on: {tries.ways(ANY_RUN, 'take the table out')}\n"
+    )
+    tries.row("a path declared twice", tries.run("refused.py", "twice"), 1, wanted)
+    tries.folder("wants", SUN)
+    tries.add("wants", WANTS, "ssdt1.dat")
+    tries.add("wants", device(b"RP99"), "ssdt2.dat")
+    wanted = (
+        'table "ssdt1.dat": ScopeMissing \\RP99\n'
+        "\\RP99 is wanted by Scope (\\RP99) at ssdt1.dat, offset 0, byte 36 of the file, in \\\n"
+        "  declared: Device at ssdt2.dat, offset 0, byte 36 of the file\n"
+        "A Scope wants a path that nothing declares before it.\n"
+        f"Way on: {tries.ways('add the table that declares it', 'load that table before it', ANY_RUN, 'take the table out')}\n"
+    )
+    tries.row("a path that is missing", tries.run("refused.py", "wants"), 1, wanted)
+    tries.folder("argument", REGION + b"FOO_\x01" + method(b"FOO_", b"", 1))
+    wanted = (
+        'table "dsdt.dat": ModuleCall\n'
+        "FOO_ at dsdt.dat, offset 7, byte 43 of the file, in the scope \\, in OperationRegion (REG0, 0x00, FOO_, One)\n"
+        "  read with 0 arguments; it takes 1 argument: Method at dsdt.dat, offset 12, byte 48 of the file\n"
+        "Outside the methods a name that takes arguments stands where a value is wanted.\n"
+        f"Way on: {tries.ways(ANY_RUN, IASL)}\n"
+    )
+    tries.row("a call in an argument", tries.run("refused.py", "argument"), 1, wanted)
+
+
+def try_damage(tries):
+    """No table is so damaged that there is no answer."""
+    found = tries.run("refused.py", tries.folder("odd", BRANCH, BAD_NAME))
+    place = 'a" {\\x0A      Raw {5A}\\x0A$(touch bad)`touch bad`.dat, offset 20, byte 56 of the file, in the scope \\DEV0'
+    tries.is_true("a file's name", found.returncode == 1 and place in found.stdout.splitlines())
+    (tries.room / "twice/notes.txt").write_text("no table")
+    found = tries.run("refused.py", "twice")
+    tries.is_true("a text", found.returncode == 1 and "  6E 6F 20 74 61 62 6C 65\n" in found.stdout)
+    (tries.room / "twice/notes.txt").unlink()
+    with open("/dev/full", "wb") as full:
+        run = subprocess.run(
+            [sys.executable, TOP / "examples/refused.py", "twice"], cwd=tries.room, stdout=full, stderr=subprocess.PIPE,
+            text=True, check=False,
+        )
+    tries.is_true("a full disk", run.returncode == 2 and run.stderr == "refused: [Errno 28] No space left on device\n")
+    tries.folder("damaged", BRANCH)
+    data, file = table(b"DSDT", BRANCH + REGION), tries.room / "damaged/dsdt.dat"
+    for at, byte in itertools.product(range(36, 86, 7), (0x00, 0x5B, 0xFF)):
+        file.write_bytes(data[:at] + bytes([byte]) + data[at + 1 :])
+        found = tries.run("refused.py", "--any-sum", "damaged")
+        tries.is_true("a damaged table", found.returncode in (0, 1) and not found.stderr)
 
 
 def try_hostile(tries):
@@ -160,6 +259,13 @@ def try_hostile(tries):
         tries.is_true(f"{script}: a signal", tries.run(script, text, ACPIDIS=str(fake)).returncode == 2)
         tries.is_true(f"{script}: no option", tries.run(script, "--none", text).returncode == 2)
         tries.is_true(f"{script}: no folder named", tries.run(script).returncode == 2)
+    none = "refused: no program acpidis: install it, or name it in ACPIDIS"
+    tries.row("refused.py: no program", tries.run("refused.py", text, ACPIDIS="/none/acpidis"), 2, "", none)
+    tries.is_true("refused.py: a signal", tries.run("refused.py", text, ACPIDIS=str(fake)).returncode == 2)
+    wanted = "cannot read folder\nWay on: look at `ls -la` of it\n"
+    tries.row("refused.py: no folder", tries.run("refused.py", "nowhere"), 1, wanted)
+    fake.write_text("#!/bin/sh\necho 'acpidis: table \"dsdt.dat\": BadName at 999999' >&2\nexit 1\n")
+    tries.is_true("refused.py: another program", tries.run("refused.py", text, ACPIDIS=str(fake)).returncode == 1)
     tries.is_true("nothing is executed", not list(tries.room.glob("**/bad")))
 
 
@@ -168,6 +274,9 @@ def main():
         tries = Tries(pathlib.Path(room))
         try_missing(tries)
         try_calls(tries)
+        try_refused(tries)
+        try_declarations(tries)
+        try_damage(tries)
         try_hostile(tries)
     print(f"{tries.passed} passed, {tries.failed} failed")
     sys.exit(tries.failed > 0)

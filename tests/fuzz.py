@@ -1,7 +1,7 @@
 #!/usr/bin/env python3
 """Runs acpidis over mutated sets of tables beside the independent reading of tests/oracle.
 
-    python3 tests/fuzz.py [--seconds N | --count N] [--seed N] [--keep FOLDER] [--with-externals] [SET ..]
+    python3 tests/fuzz.py [--seconds N | --count N] [--seed N] [--keep FOLDER] [--with-externals] [--any-run] [SET ..]
 
 Each set is a made-up one or one of the folders given, with one to four changes: bits, bytes and names; terms that go,
 come from elsewhere or move, with the lengths around them repaired; lengths; cuts; halves of two tables; headers; files.
@@ -103,10 +103,10 @@ def way_of(got, wanted):
 class TrialMaker:
     """Makes the mutated sets of a seed."""
 
-    def __init__(self, chance, known, gives):
+    def __init__(self, chance, known, gives, any_run):
         self.chance, self.known = chance, known
-        self.maker = SetMaker(chance, (), gives)
-        self.mutator = SetMutator(chance)
+        self.maker = SetMaker(chance, (), gives, any_run)
+        self.mutator = SetMutator(chance, any_run)
         self.ways = collections.Counter()
         for files in known:
             self.mutator.learn(files)
@@ -152,12 +152,13 @@ def main():
     words.add_argument("--seed", type=int, default=0)
     words.add_argument("--keep", type=pathlib.Path, help="where failing sets go, else a new folder")
     words.add_argument("--with-externals", action="store_true", help="make up files for the option --externals too")
+    words.add_argument("--any-run", action="store_true", help="make up code outside methods, for this option")
     words.add_argument("--program", type=pathlib.Path, default=PROGRAM, help="another program than out/acpidis")
     asked = words.parse_args()
     if not asked.program.exists():
         sys.exit("the program isn't built: ./acpidis demo builds it")
     trier = Trier(asked.program.resolve())
-    maker = TrialMaker(random.Random(asked.seed), [read_files(one) for one in asked.sets], asked.with_externals)
+    maker = TrialMaker(random.Random(asked.seed), [read_files(one) for one in asked.sets], asked.with_externals, asked.any_run)
     folder = (asked.keep or pathlib.Path(tempfile.mkdtemp())).resolve()
     number, until = 0, time.monotonic() + asked.seconds
     while number < asked.count if asked.count is not None else time.monotonic() < until:

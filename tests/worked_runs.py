@@ -1,12 +1,12 @@
 #!/usr/bin/env python3
-"""Runs acpidis over the sets of tests/worked_runs.txt, and compares status, text and error lines with those below each run.
+"""Runs acpidis over the sets of the files RUNS, and compares status, text and error lines with those below each run.
 
-    python3 tests/worked_runs.py [PROGRAM]
+    python3 tests/worked_runs.py [--read] [PROGRAM]
 
 PROGRAM is out/acpidis if left out. The rows are in the language of crates/acpi_cases (docs/testing.md). A row `run` is a run
 over the dumps of the rows before it, from the last `set` on, in a folder of their own; below it, two columns in, stand its
-status, its text and its error lines. Each of them is also what the independent reading of tests/oracle says. The last line
-is 'N passed, N failed'.
+status, its text and its error lines. Each of them is also what the independent reading of tests/oracle says, which alone
+reads the files READ, and with --read all of them. The last line is 'N passed, N failed'.
 """
 
 import argparse
@@ -23,7 +23,9 @@ from compare import PROGRAM, run_program  # noqa: E402
 from folders import MAP_NAME  # noqa: E402
 from loading import path_text  # noqa: E402
 
-RUNS = pathlib.Path(__file__).resolve().parent / "worked_runs.txt"
+RUNS = ["worked_runs.txt"]
+# What the program can't do yet.
+READ = ["worked_runs_any_run.txt"]
 MARGIN = "  "
 
 
@@ -54,10 +56,10 @@ class ProgramRows(Rows):
         return [f"status {status}", *text.splitlines(), *errors.splitlines()]
 
 
-def examples():
+def examples(file):
     """Each row with its number and the lines below it."""
     found = []
-    for number, line in enumerate(RUNS.read_text().splitlines(), 1):
+    for number, line in enumerate((pathlib.Path(__file__).resolve().parent / file).read_text().splitlines(), 1):
         if line.startswith(MARGIN):
             found[-1][2].append(line.removeprefix(MARGIN))
         else:
@@ -65,24 +67,32 @@ def examples():
     return found
 
 
-def main():
-    parser = argparse.ArgumentParser(description=__doc__, formatter_class=argparse.RawDescriptionHelpFormatter)
-    parser.add_argument("program", nargs="?", default=PROGRAM)
-    readers = {"acpidis": ProgramRows(parser.parse_args().program), "tests/oracle": Rows()}
-    passed = failed = 0
-    for number, row, wanted in examples():
+def fails_of(file, readers):
+    """Of each row of a file that wants lines, and of each reader, whether it has others."""
+    for number, row, wanted in examples(file):
         for name, reader in readers.items():
             got = reader.answer(row)
             if got != wanted:
-                failed += 1
                 one, other = next(pair for pair in zip([*got, "the end"], [*wanted, "the end"]) if pair[0] != pair[1])
-                print(f"FAILED {RUNS.name} line {number}, {row}: {name} has {one!r}, not {other!r}")
-            elif wanted:
-                passed += 1
-    # A table without examples shows nothing.
-    failed += not passed
-    print(f"{passed} passed, {failed} failed")
-    return int(failed > 0)
+                print(f"FAILED {file} line {number}, {row}: {name} has {one!r}, not {other!r}")
+            if wanted or got:
+                yield got != wanted
+
+
+def main():
+    parser = argparse.ArgumentParser(description=__doc__, formatter_class=argparse.RawDescriptionHelpFormatter)
+    parser.add_argument("program", nargs="?", default=PROGRAM)
+    parser.add_argument("--read", action="store_true", help="try the independent reading alone")
+    asked = parser.parse_args()
+    fails = []
+    for file in [*RUNS, *READ]:
+        readers = {"tests/oracle": Rows()}
+        if file in RUNS and not asked.read:
+            readers["acpidis"] = ProgramRows(asked.program)
+        # A file without examples shows nothing.
+        fails += list(fails_of(file, readers)) or [True]
+    print(f"{fails.count(False)} passed, {fails.count(True)} failed")
+    return int(any(fails))
 
 
 if __name__ == "__main__":

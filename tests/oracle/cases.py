@@ -50,10 +50,11 @@ def path_of(text):
 
 
 def options_of(words):
-    """The options of a run: `any_sum`, `unknown_zero`, `check`, `workers N`."""
+    """The options of a run: `any_sum`, `any_run`, `unknown_zero`, `check`, `workers N`."""
     words = words.split()
     workers = int(words[words.index("workers") + 1]) if "workers" in words else None
-    return Options("any_sum" in words, "unknown_zero" in words, "check" in words, workers)
+    flags = {flag: flag in words for flag in ("any_sum", "any_run", "unknown_zero", "check")}
+    return Options(**flags, workers=workers)
 
 
 # ---- code

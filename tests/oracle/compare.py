@@ -1,12 +1,14 @@
 #!/usr/bin/env python3
 """Compares what acpidis prints with an independent reading, over folders that are made up near the grammar and then damaged.
 
-    python3 tests/oracle/compare.py [--seconds N | --sets N] [--seed N] [--with-externals] [--workers N,N..] [FOLDER ..]
+    python3 tests/oracle/compare.py [--seconds N | --sets N] [--seed N] [--with-externals] [--any-run] [--workers N,N..]
+        [--read] [FOLDER ..]
 
 Standard output, standard error and the status are compared whole. A FOLDER of dumps is compared as it stands, and then damaged
 copies of it. The first sets that differ are kept, and the status is 1. With --with-externals most made-up sets come
-with a file for the option --externals. With --workers each set is run by each of these numbers of workers, in place of
-the one that was made up. ./test compares 500 sets of seed 0.
+with a file for the option --externals, and with --any-run with code outside methods and this option, which FOLDERs are run
+with too. With --workers each set is run by each of these numbers of workers, in place of the one that was made up. With
+--read no program is run, and it is only said how the sets end. ./test compares 500 sets of seed 0.
 """
 
 import argparse
@@ -16,6 +18,7 @@ import itertools
 import os
 import pathlib
 import random
+import re
 import shutil
 import subprocess
 import sys
@@ -30,6 +33,7 @@ from made_sets import SetMaker  # noqa: E402
 from running import DONE, RAW, REFUSED, Options, Outcome, run_folder  # noqa: E402
 
 FOLDER, EXTERNALS = "set", "externals.txt"
+MARK = re.compile(r"(?<= )(Maybe|Times)(?= [0-9]+$|$| Times [0-9]+$)", re.MULTILINE)
 PROGRAM = pathlib.Path(__file__).resolve().parents[2] / "out/acpidis"
 LONGEST_RUN = 60
 MOST_DIFFERENCES = 5
@@ -59,7 +63,7 @@ class Comparison:
 
     def __init__(self, program, workers=None):
         self.program, self.workers = program, workers
-        self.ends, self.faults = collections.Counter(), collections.Counter()
+        self.ends, self.faults, self.marks = collections.Counter(), collections.Counter(), collections.Counter()
         self.methods = self.raw = self.differences = self.decided = 0
 
     def compare(self, folder, options):
@@ -67,7 +71,8 @@ class Comparison:
         self.count(wanted)
         if options.externals is not None and wanted.status != REFUSED:
             self.decided += wanted != run_folder(folder, dataclasses.replace(options, externals=None))
-        for asked in [dataclasses.replace(options, workers=it) for it in self.workers or [options.workers]]:
+        runs = [dataclasses.replace(options, workers=it) for it in self.workers or [options.workers]]
+        for asked in runs if self.program else []:
             difference = first_difference(run_program(self.program, folder, asked), wanted)
             if difference:
                 self.differences += 1
@@ -79,6 +84,7 @@ class Comparison:
         if outcome.status in (DONE, RAW):
             self.methods += outcome.out.count("  Method (")
             self.raw += outcome.err.count("\n")
+            self.marks.update(MARK.findall(outcome.out))
         else:
             self.faults[outcome.err.rsplit(": ", 1)[-1].split()[0]] += 1
 
@@ -90,6 +96,8 @@ class Comparison:
         print(f"{self.methods} methods listed, {self.raw} bodies raw")
         if self.decided:
             print(f"{self.decided} sets that a file of externals changes")
+        if self.marks:
+            print(f"{self.marks['Maybe']} paths that only may stand, {self.marks['Times']} that are declared several times")
         print(f"{self.ends.total() - self.differences} passed, {self.differences} failed")
 
 
@@ -125,16 +133,19 @@ def main():
     words.add_argument("--sets", type=int, help="compare so many made-up sets, however long it takes")
     words.add_argument("--seed", type=int, default=0)
     words.add_argument("--with-externals", action="store_true", help="make up files for the option --externals too")
+    words.add_argument("--any-run", action="store_true", help="make up code outside methods, for this option")
+    words.add_argument("--read", action="store_true", help="run no program")
     words.add_argument("--workers", type=lambda text: [int(it) for it in text.split(",")], help="run each set by these")
     words.add_argument("--program", type=pathlib.Path, default=PROGRAM, help="another program than out/acpidis")
     asked = words.parse_args()
-    if not asked.program.exists():
+    if not asked.read and not asked.program.exists():
         sys.exit("the program isn't built: ./acpidis demo builds it")
-    comparison = Comparison(asked.program.resolve(), asked.workers)
+    comparison = Comparison(None if asked.read else asked.program.resolve(), asked.workers)
     for folder in asked.folders:
-        comparison.compare(folder, Options())
-        comparison.compare(folder, Options(check=True))
-    maker = SetMaker(random.Random(asked.seed), [read_files(folder) for folder in asked.folders], asked.with_externals)
+        comparison.compare(folder, Options(any_run=asked.any_run))
+        comparison.compare(folder, Options(any_run=asked.any_run, check=True))
+    known = [read_files(folder) for folder in asked.folders]
+    maker = SetMaker(random.Random(asked.seed), known, asked.with_externals, asked.any_run)
     number, until = 0, time.monotonic() + asked.seconds
     while number < asked.sets if asked.sets is not None else time.monotonic() < until:
         if comparison.differences >= MOST_DIFFERENCES:

@@ -1,7 +1,7 @@
 #!/usr/bin/env python3
 """Prints what acpidis has to print of a folder, by the independent reading, and ends with the same status.
 
-    python3 tests/oracle/listing.py [--workers N] [--any-sum] [--unknown-zero] [--check] [--externals FILE] FOLDER
+    python3 tests/oracle/listing.py [--workers N] [--any-sum] [--any-run] [--unknown-zero] [--check] [--externals FILE] FOLDER
 """
 
 import argparse
@@ -19,6 +19,7 @@ def main():
     words.add_argument("folder")
     words.add_argument("--workers", type=int, choices=range(1, 65), metavar="N", help="makes no difference")
     words.add_argument("--any-sum", action="store_true")
+    words.add_argument("--any-run", action="store_true")
     words.add_argument("--unknown-zero", action="store_true")
     words.add_argument("--check", action="store_true")
     words.add_argument("--externals", metavar="FILE", help="counts for paths that no table says anything of")

@@ -80,6 +80,9 @@ class Maker:
             return b""
         if how < 0.15:
             return b"\x15" + name + b"\x08" + bytes([count])
+        return self.method(name, path, count)
+
+    def method(self, name, path, count):
         content = name + bytes([count | self.chance.choice((0x00, 0x08, 0x30))]) + self.body(path)
         return b"\x14" + self.length(len(content)) + content
 
@@ -119,12 +122,7 @@ class Maker:
         """A name to be declared."""
         if self.is_strange(inside):
             return self.strange_name()
-        ups = self.chance.randrange(len(self.scope) + 1) if self.chance.random() < 0.1 else 0
-        name = Name(False, ups, [self.fresh_segment()])
-        if self.chance.random() < 0.1:
-            name = Name(True, 0, ["_SB_", *name.segs])
-        elif inside == "table" and self.chance.random() < 0.02:
-            name = Name(True, 0, [self.chance.choice(["_GL_", "_OS_", "_REV", "_OSI"])])
+        name = self.fresh_name(inside)
         self.opened = name.placed(self.scope)
         if inside == "body":
             self.locals.append(self.opened)
@@ -132,7 +130,19 @@ class Maker:
             self.known[self.opened] = count
         return spelled(self.chance, name)
 
+    def fresh_name(self, inside):
+        ups = self.chance.randrange(len(self.scope) + 1) if self.chance.random() < 0.1 else 0
+        name = Name(False, ups, [self.fresh_segment()])
+        if self.chance.random() < 0.1:
+            return Name(True, 0, ["_SB_", *name.segs])
+        if inside == "table" and self.chance.random() < 0.02:
+            return Name(True, 0, [self.chance.choice(["_GL_", "_OS_", "_REV", "_OSI"])])
+        return name
+
     def name_to(self, path):
+        return spelled(self.chance, self.leading_name(path))
+
+    def leading_name(self, path):
         """A name that leads to a path from where the code stands."""
         shared = next(length for length in range(len(self.scope), -1, -1) if path[:length] == self.scope[:length])
         names = [Name(True, 0, list(path))]
@@ -141,7 +151,7 @@ class Maker:
         upward = Name(False, 0, list(path[-1:]))
         if path and self.found(upward) == path:
             names += [upward] * 4
-        return spelled(self.chance, self.chance.choice(names))
+        return self.chance.choice(names)
 
     def found(self, name):
         everything = self.known.keys() | self.methods.keys()

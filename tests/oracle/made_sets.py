@@ -7,6 +7,7 @@ from externals import MOST_BYTES as MOST_EXTERNALS_BYTES
 from folders import MAP_NAME
 from loading import path_text
 from made_code import ARGUMENT_COUNTS, STRANGE_SEGMENTS, Maker, damaged
+from made_runs import RunMaker
 from running import Options
 
 ODD_NAMES = ["SSDT", "SSDT10", "SSDT2", 'a"7.dat', "b\\7", "é 03.dat", ".9", "s.11.", "s12\n.aml", "s9000000003.aml"]
@@ -114,10 +115,10 @@ def with_wrong_sum(chance, data):
 
 class SetMaker:
     """Makes one trial after another: of made-up tables, or of the known folders, given by the contents of their files.
-    Where `gives` is set, most of them have a file for `--externals`."""
+    Where `gives` is set, most of them have a file for `--externals`; where `any_run` is, code outside methods and its option."""
 
-    def __init__(self, chance, known=(), gives=False):
-        self.chance, self.known, self.gives = chance, known, gives
+    def __init__(self, chance, known=(), gives=False, any_run=False):
+        self.chance, self.known, self.gives, self.any_run = chance, known, gives, any_run
         self.given, self.paths = {}, []
 
     def happens(self, share):
@@ -146,6 +147,7 @@ class SetMaker:
     def options(self, is_summed):
         return Options(
             any_sum=self.happens(0.2 if is_summed else 0.75),
+            any_run=self.any_run and self.happens(0.95),
             unknown_zero=self.happens(0.25),
             check=self.happens(0.15),
             workers=self.chance.choice((None, 1, 2, 3, 4)),
@@ -164,7 +166,7 @@ class SetMaker:
         return {kept: data for kept, data in files.items() if kept != name}
 
     def made_files(self):
-        maker = Maker(self.chance, self.gives)
+        maker = (RunMaker if self.any_run else Maker)(self.chance, self.gives)
         codes = maker.tables()
         self.given, self.paths = maker.given, [path for path in maker.known if path]
         signatures = [b"DSDT"] + [b"SSDT"] * (len(codes) - 1)

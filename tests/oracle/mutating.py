@@ -5,6 +5,7 @@ import re
 from dataclasses import dataclass, field
 from typing import NamedTuple
 
+from any_run import RunNamespace, RunReader
 from loading import Unloadable, load
 from made_code import LIKELY_BYTES, damaged
 from reading import EXTERNAL, METHOD, ROWS, Reader, Refused, is_name_lead
@@ -40,12 +41,9 @@ class Layout:
     packages: list = field(default_factory=list)
 
 
-@dataclass
-class Surveyor(Reader):
-    """A reader that keeps where terms and packages stand. Its code is that of a table from the byte `base` on."""
-
-    layout: Layout = field(default_factory=Layout)
-    base: int = 0
+class Surveying:
+    """What a reader does that keeps in a `layout` where terms and packages stand. Its code is that of a table from the byte
+    `base` on."""
 
     def survey(self):
         try:
@@ -69,21 +67,45 @@ class Surveyor(Reader):
         return super().operation(start, opcode, at, end, *rest)
 
 
+@dataclass
+class Surveyor(Surveying, Reader):
+    layout: Layout = field(default_factory=Layout)
+    base: int = 0
+
+
+@dataclass
+class RunSurveyor(Surveying, RunReader):
+    layout: Layout = field(default_factory=Layout)
+    base: int = 0
+
+
 @functools.lru_cache(maxsize=32)
-def layouts_of(codes):
-    """The layouts of a tuple of tables in load order, with the bodies of their methods where all of them load."""
+def layouts_of(codes, any_run=False):
+    """The layouts of a tuple of tables in load order, with the bodies of their methods where all of them load; with code
+    outside methods, of the methods before a fault."""
     layouts = [Layout() for _ in codes]
-    for code, layout in zip(codes, layouts):
-        Surveyor(code, layout=layout).survey()
-    try:
-        space = load(codes).space
-    except Unloadable:
-        return layouts
-    for method in space.methods:
+    space = run_space(codes, layouts) if any_run else plain_space(codes, layouts)
+    for method in space.methods if space else []:
         body = codes[method.table][method.start:method.end]
         arity = space.arity(method.path)
         Surveyor(body, arity, method.path, layout=layouts[method.table], base=method.start).survey()
     return layouts
+
+
+def plain_space(codes, layouts):
+    for code, layout in zip(codes, layouts):
+        Surveyor(code, layout=layout).survey()
+    try:
+        return load(codes).space
+    except Unloadable:
+        return None
+
+
+def run_space(codes, layouts):
+    space = RunNamespace()
+    for table, (code, layout) in enumerate(zip(codes, layouts)):
+        RunSurveyor(code, space=space, table=table, layout=layout).survey()
+    return space
 
 
 def package_length(content, least_width):

@@ -98,16 +98,17 @@ def body_lines(body, level):
         yield from term_lines(term, None, level)
 
 
-def row_text(path, kind):
-    """A path of the namespace with its kind."""
+def row_text(path, kind, marks=()):
+    """A path of the namespace with its kind, and with the marks of one that only may stand or is declared several times."""
     word, *more = kind
-    return " ".join([path_text(path), word, *(path_text(one) if isinstance(one, tuple) else str(one) for one in more)])
+    texts = (path_text(one) if isinstance(one, tuple) else str(one) for one in more)
+    return " ".join([path_text(path), word, *texts, *marks])
 
 
 def namespace_lines(space):
     rows = space.rows()
     yield f"Namespace {len(rows)}"
-    yield from (f"  {row_text(path, kind)}" for path, kind in rows)
+    yield from (f"  {row_text(*row)}" for row in rows)
 
 
 def block_lines(names, loaded, bodies):

@@ -79,7 +79,7 @@ ROWS = {
     **rows_of("declaration", DECLARATIONS),
 }
 
-ALIAS, SCOPE, METHOD, EXTERNAL, IF, ELSE, BUFFER = 0x06, 0x10, 0x14, 0x15, 0xA0, 0xA1, 0x11
+ALIAS, SCOPE, METHOD, EXTERNAL, IF, ELSE, RETURN, BUFFER = 0x06, 0x10, 0x14, 0x15, 0xA0, 0xA1, 0xA4, 0x11
 SCOPES = {SCOPE, 0x5B82, 0x5B83, 0x5B84, 0x5B85}
 FIELD_LISTS = {0x5B81, 0x5B86, 0x5B87}
 TARGETS = set(range(0x60, 0x6F)) | {0x5B31, 0x71, 0x83, 0x88}
@@ -253,14 +253,20 @@ class Reader:
     def named(self, at, end, position, level):
         name, rest = self.name(at, end)
         args = []
-        if position in ("T", "body") and not self.is_table:
-            count = self.arity(self.declared, name)
-            if count is None:
-                raise Refused("UnknownName", at)
-            for _ in range(count):
+        if position in ("T", "body", "run"):
+            for _ in range(self.count(name, at)):
                 arg, rest = self.term(rest, end, "T", level + 1)
                 args.append(arg)
         return Named(name, args), rest
+
+    def count(self, name, at):
+        """How many arguments a name has that stands where a value is wanted, or as a term."""
+        if self.is_table:
+            return 0
+        count = self.arity(self.declared, name)
+        if count is None:
+            raise Refused("UnknownName", at)
+        return count
 
     def operation(self, start, opcode, at, end, position, level):
         row = ROWS[opcode]
@@ -279,8 +285,7 @@ class Reader:
             parts.append(part)
         term = Op(opcode, parts)
         if row.tail == "t":
-            inside = "body" if not self.is_table else "guard" if opcode == IF else "module"
-            term.tail = self.terms(at, end_of_span, inside, level + 1)
+            term.tail = self.block(term, at, end_of_span, level)
         elif row.tail == "e":
             term.tail = self.terms(at, end_of_span, "D", level + 1)
         elif row.tail == "y":
@@ -289,9 +294,18 @@ class Reader:
             term.tail = self.units(at, end_of_span, level)
         elif row.tail == "b":
             term.tail = at, end_of_span
+        self.leave(term)
+        return term, end_of_span if row.tail else at
+
+    def block(self, term, at, end, level):
+        """The terms inside a term."""
+        inside = "body" if not self.is_table else "guard" if term.opcode == IF else "module"
+        return self.terms(at, end, inside, level + 1)
+
+    def leave(self, term):
+        """Keeps what a term declares for those behind it."""
         if not self.is_table:
             self.declared |= {name.placed(self.path) for name in term.declared()} - {None}
-        return term, end_of_span if row.tail else at
 
     def part(self, at, end, kind, opcode, number, level):
         if kind in "TSD":
@@ -349,6 +363,10 @@ def misplaced(opcode, position, behind_if):
         return None if group == "declaration" or opcode == IF else "ModuleCode"
     if position == "guard":
         return None if opcode == EXTERNAL else "ModuleCode"
+    if position == "run" and opcode == RETURN:
+        return "ModuleCode"
+    if position == "run":
+        return "StrayElse" if opcode == ELSE and not behind_if else None
     if position == "body":
         if opcode == METHOD:
             return "NestedMethod"

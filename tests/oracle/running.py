@@ -3,6 +3,7 @@
 from dataclasses import dataclass
 from typing import NamedTuple
 
+import any_run
 from dumps import Bad, aml_of, dump_lines, order_of
 from externals import read_externals
 from folders import Unreadable, read_folder
@@ -15,6 +16,7 @@ DONE, REFUSED, RAW = 0, 1, 3
 @dataclass(frozen=True)
 class Options:
     any_sum: bool = False
+    any_run: bool = False
     unknown_zero: bool = False
     check: bool = False
     workers: int | None = None
@@ -22,7 +24,9 @@ class Options:
 
     def words(self):
         """The options as words of the command line."""
-        flags = {"--any-sum": self.any_sum, "--unknown-zero": self.unknown_zero, "--check": self.check}
+        flags = {
+            "--any-sum": self.any_sum, "--any-run": self.any_run, "--unknown-zero": self.unknown_zero, "--check": self.check,
+        }
         values = {"--workers": self.workers, "--externals": self.externals}
         valued = [word for option, value in values.items() if value is not None for word in (option, str(value))]
         return valued + [word for word, is_given in flags.items() if is_given]
@@ -61,8 +65,9 @@ def run(dumps, options, given=()):
         order = order_of(dumps, options.any_sum)
     except Bad as bad:
         return refused_dump(dumps, bad.dump, bad)
+    codes = [aml_of(dumps[index].data) for index in order]
     try:
-        loaded = load([aml_of(dumps[index].data) for index in order], given)
+        loaded = any_run.load(codes, given, options.unknown_zero) if options.any_run else load(codes, given)
     except Unloadable as fault:
         return refused_dump(dumps, None if fault.table is None else order[fault.table], fault)
     bodies = loaded.bodies(options.unknown_zero)

@@ -16,10 +16,11 @@ def is_block(data):
 
 
 class SetMutator:
-    """Changes one set after another, with terms of those that it learned to know."""
+    """Changes one set after another, with terms of those that it learned to know. Where `any_run` is set, their code outside
+    methods is seen too."""
 
-    def __init__(self, chance):
-        self.chance, self.terms = chance, []
+    def __init__(self, chance, any_run=False):
+        self.chance, self.any_run, self.terms = chance, any_run, []
         self.mutator = Mutator(chance, self.terms)
         self.ways = [
             self.file_bytes, self.header, self.file_cut, self.file_more, self.without_file, self.with_copy, self.halves,
@@ -28,7 +29,7 @@ class SetMutator:
     def learn(self, files):
         """Keeps terms of a set to be put into others, in place of some of those kept."""
         _, codes = blocks_of(files)
-        for code, layout in zip(codes, layouts_of(codes)):
+        for code, layout in zip(codes, layouts_of(codes, self.any_run)):
             terms = layout.in_bodies * 3 + layout.terms
             short = [code[start:end] for start, end in terms if end - start <= LONGEST_TERM]
             for term in self.chance.sample(short, min(len(short), 100)):
@@ -48,7 +49,7 @@ class SetMutator:
             way = self.chance.choice(self.ways)
             return (way(dict(files)) if files else {}), way.__name__
         index = self.chance.randrange(len(names))
-        layout = layouts_of(codes)[index]
+        layout = layouts_of(codes, self.any_run)[index]
         code, way = self.mutator.mutated(codes[index], layout)
         return {**files, names[index]: self.summed(files[names[index]][:HEADER_LENGTH] + code)}, way
 

@@ -29,14 +29,14 @@ def steps(trial):
         yield replace(trial, files={kept: data for kept, data in trial.files.items() if kept != name})
     if trial.options != Options():
         yield replace(trial, options=Options())
-        for field in ("workers", "any_sum", "unknown_zero", "check"):
+        for field in ("workers", "any_sum", "any_run", "unknown_zero", "check"):
             if getattr(trial.options, field) != getattr(Options(), field):
                 yield replace(trial, options=replace(trial.options, **{field: getattr(Options(), field)}))
     if trial.externals is not None:
         yield replace(trial, externals=None)
         yield from (replace(trial, externals=text) for text in without_lines(trial.externals))
     names, codes = blocks_of(trial.files)
-    for name, code, layout in zip(names, codes, layouts_of(codes)):
+    for name, code, layout in zip(names, codes, layouts_of(codes, trial.options.any_run)):
         for smaller in smaller_codes(code, layout):
             data = sealed(trial.files[name][:HEADER_LENGTH] + smaller)
             yield replace(trial, files={**trial.files, name: data})

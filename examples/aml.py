@@ -1,0 +1,508 @@
+"""Reads the AML of tables from the left, as far as it can: for the scripts beside this file.
+
+A name has the arguments that the tables told so far, and none where they told nothing. What comes is for looking at; what
+tables mean the program alone says. Each byte is read once, and the search for names has a bound: the cost grows as the bytes.
+"""
+
+import re
+import sys
+
+MOST_LEVELS = 512
+# A level of terms is a few calls deep.
+sys.setrecursionlimit(20_000)
+SEGMENT = re.compile(rb"[A-Z_][A-Z0-9_]{3}")
+STEPS_PER_BYTE = 4
+KEPT_PLACES = 2
+TEXT_LENGTH, TEXT_LINES = 160, 8
+
+# Each opcode with its mnemonic, and in letters: P a package length, T a value, S a target, N a name, D data, 1 2 4 8 bytes, Z a
+# text; then what goes to the end of the package: t terms, y bytes, e elements, f fields, b a method's body.
+OPCODES = (
+    "00 Zero;01 One;FF Ones;5B30 Revision;5B31 Debug;5B33 Timer;0A Byte 1;0B Word 2;0C Dword 4;0E Qword 8;0D Text Z;"
+    "11 Buffer PTy;12 Package P1e;13 VarPackage PTe;72 Add TTS;73 Concatenate TTS;74 Subtract TTS;77 Multiply TTS;"
+    "79 ShiftLeft TTS;7A ShiftRight TTS;7B And TTS;7C NAnd TTS;7D Or TTS;7E NOr TTS;7F XOr TTS;84 ConcatenateResTemplate TTS;"
+    "85 Mod TTS;88 Index TTS;9C ToString TTS;78 Divide TTSS;9E Mid TTTS;70 Store TS;80 Not TS;81 FindSetLeftBit TS;"
+    "82 FindSetRightBit TS;96 ToBuffer TS;97 ToDecimalString TS;98 ToHexString TS;99 ToInteger TS;9D CopyObject TS;"
+    "5B28 FromBCD TS;5B29 ToBCD TS;90 LAnd TT;91 LOr TT;93 LEqual TT;94 LGreater TT;95 LLess TT;83 DerefOf T;92 LNot T;"
+    "71 RefOf S;75 Increment S;76 Decrement S;87 SizeOf S;8E ObjectType S;5B12 CondRefOf SS;5B25 Wait ST;5B23 Acquire S2;"
+    "5B20 Load NS;89 Match T1T1TT;5B1F LoadTable TTTTTT;86 Notify ST;9F Continue;A3 Noop;A5 Break;CC BreakPoint;A0 If PTt;"
+    "A1 Else Pt;A2 While PTt;A4 Return T;5B21 Stall T;5B22 Sleep T;5B24 Signal S;5B26 Reset S;5B27 Release S;5B2A Unload S;"
+    "5B32 Fatal 14T;06 Alias NN;08 Name ND;10 Scope PNt;14 Method PN1b;15 External N11;5B01 Mutex N1;5B02 Event N;"
+    "5B13 CreateField TTTN;5B80 OperationRegion N1TT;5B81 Field PN1f;5B82 Device PNt;5B83 Processor PN141t;"
+    "5B84 PowerResource PN12t;5B85 ThermalZone PNt;5B86 IndexField PNN1f;5B87 BankField PNNT1f;5B88 DataRegion NTTT;"
+    "8A CreateDWordField TTN;8B CreateWordField TTN;8C CreateByteField TTN;8D CreateBitField TTN;8F CreateQWordField TTN;"
+    + ";".join(f"{0x60 + n:02X} Local{n}" for n in range(8)) + ";" + ";".join(f"{0x68 + n:02X} Arg{n}" for n in range(7))
+)
+ROWS = {int(opcode, 16): (word, kinds[0] if kinds else "") for opcode, word, *kinds in map(str.split, OPCODES.split(";"))}
+OPENERS = {"Device", "Processor", "PowerResource", "ThermalZone"}
+FIELD_LISTS = {"Field", "IndexField", "BankField"}
+# The terms that declare the last of their names.
+DECLARERS = OPENERS | {
+    "Name", "Method", "Mutex", "Event", "OperationRegion", "DataRegion", "Alias", "CreateField", "CreateDWordField",
+    "CreateWordField", "CreateByteField", "CreateBitField", "CreateQWordField",
+}
+CONSTANTS = {"Byte", "Word", "Dword", "Qword", "Text"}
+PREDEFINED = {"_GPE": 0, "_PR_": 0, "_SB_": 0, "_SI_": 0, "_TZ_": 0, "_GL_": 0, "_OS_": 0, "_REV": 0, "_OSI": 1}
+
+
+class Stopped(Exception):
+    """The reader came to the offset at which it was to stop, or can't go on there."""
+
+
+class TooManySteps(Exception):
+    """The scopes are so deep that the search for names would take too long."""
+
+
+class Name:
+    __slots__ = ("root", "ups", "segments")
+
+    def __init__(self, root, ups, segments):
+        self.root, self.ups, self.segments = root, ups, segments
+
+    def __str__(self):
+        return "\\" * self.root + "^" * self.ups + ".".join(self.segments)
+
+    def is_searched(self):
+        return not self.root and not self.ups and len(self.segments) == 1
+
+
+class Term:
+    """A term: where it begins, its mnemonic or its name, its parts (terms, names and texts), and what is inside it."""
+
+    __slots__ = ("at", "word", "parts", "tail")
+
+    def __init__(self, at, word):
+        self.at, self.word, self.parts, self.tail = at, word, [], None
+
+    def names(self):
+        return [part for part in self.parts if isinstance(part, Name)]
+
+
+# ---- the namespace
+
+
+class Node:
+    """A path: what declares it, each a table, an offset and a mnemonic; how many arguments it takes, as far as is known."""
+
+    __slots__ = ("above", "segment", "below", "places", "is_predefined", "count", "external", "given", "target")
+
+    def __init__(self, above, segment):
+        self.above, self.segment, self.below, self.places = above, segment, None, None
+        self.is_predefined, self.count, self.target = False, 0, None
+        self.external = self.given = None
+
+    def is_declared(self):
+        return self.is_predefined or bool(self.places)
+
+    def child(self, segment):
+        """The node of a segment below it, made where it isn't there."""
+        if self.below is None:
+            self.below = {}
+        if segment not in self.below:
+            self.below[segment] = Node(self, segment)
+        return self.below[segment]
+
+    def path(self):
+        segments, node = [], self
+        while node.above:
+            segments.append(node.segment)
+            node = node.above
+        return "\\" + ".".join(reversed(segments))
+
+
+class Space:
+    """What the tables declared so far, as a tree."""
+
+    def __init__(self, size):
+        self.root = Node(None, "")
+        self.root.is_predefined = True
+        self.steps = STEPS_PER_BYTE * size + 100_000
+        for segment, count in PREDEFINED.items():
+            node = self.root.child(segment)
+            node.is_predefined, node.count = True, count
+
+    def node(self, path):
+        """The node of a path of the program's text, made where it isn't there."""
+        node = self.root
+        for segment in path[1:].split(".") if len(path) > 1 else []:
+            node = node.child(segment)
+        return node
+
+    def start(self, scope, name):
+        """The node below which the segments of a name are placed; None above the root."""
+        if name.root:
+            return self.root
+        for _ in range(name.ups):
+            if scope.above is None:
+                return None
+            scope = scope.above
+        return scope
+
+    def place(self, scope, name):
+        node = self.start(scope, name)
+        for segment in name.segments if node else ():
+            node = node.child(segment)
+        return node
+
+    def candidates(self, scope, name):
+        """The nodes that are there at the paths that a name may mean, the nearest first."""
+        if name.is_searched():
+            while scope:
+                self.steps -= 1
+                if self.steps < 0:
+                    raise TooManySteps
+                node = scope.below.get(name.segments[0]) if scope.below else None
+                if node:
+                    yield node
+                scope = scope.above
+            return
+        node = self.start(scope, name)
+        for segment in name.segments if node else ():
+            node = node.below.get(segment) if node and node.below else None
+        if node:
+            yield node
+
+    def find(self, scope, name):
+        """What a name leads to: the first that is declared, else the first of an External; None where there is neither."""
+        external = None
+        for node in self.candidates(scope, name):
+            if node.is_declared():
+                return node
+            if external is None and node.external is not None:
+                external = node
+        return external
+
+    def count(self, scope, name):
+        """How many arguments the name takes, and the node that tells; None where nothing tells."""
+        node = self.find(scope, name)
+        if node is None:
+            node = next((one for one in self.candidates(scope, name) if one.given is not None), None)
+            return None if node is None else (node.given, node)
+        node = node.target or node
+        return (node.count, node) if node.is_declared() else (node.external or 0, node)
+
+    def declare(self, node, table, term):
+        if node.places is None:
+            node.places = []
+            if term.word == "Method":
+                node.count = term.parts[1][1] & 7
+        if len(node.places) < KEPT_PLACES:
+            node.places.append((table, term.at, term.word))
+
+
+# ---- reading
+
+
+class Use:
+    """A name where a value is wanted: its term, the scope, the count that is known there, and the terms around it."""
+
+    __slots__ = ("term", "name", "scope", "read", "around")
+
+    def __init__(self, term, name, scope, read, around):
+        self.term, self.name, self.scope, self.read, self.around = term, name, scope, read, around
+
+
+class Reader:
+    """Reads a table up to an offset. Where `has_calls` isn't set no name has arguments.
+
+    When it stops, `open` are the terms that it is in, the outer first, `scope` is where it stands, and `before` the term
+    in front, if it stands among the terms of a block.
+    """
+
+    def __init__(self, table, code, space, stop=None, has_calls=True):
+        self.table, self.code, self.space, self.has_calls = table, code, space, has_calls
+        self.stop = len(code) if stop is None else stop
+        self.scope, self.open, self.uses, self.before, self.missing, self.wanted = space.root, [], [], None, [], []
+        self.keeps = False
+
+    def read(self):
+        """Reads the whole table, and answers where it stopped."""
+        try:
+            self.terms(0, len(self.code), 1)
+        except Stopped as stopped:
+            return stopped.args[0]
+        return len(self.code)
+
+    def term_at(self, at):
+        """The term there, read by itself with what is inside it; and None, or where it can't be read any further."""
+        self.stop, self.keeps, self.has_calls, around = len(self.code), True, True, len(self.open)
+        try:
+            return self.term(at, len(self.code), "R", 1)[0], None
+        except Stopped as stopped:
+            return (self.open[around] if len(self.open) > around else None), stopped.args[0]
+
+    def byte(self, at, end):
+        if at >= end or at >= self.stop:
+            raise Stopped(min(at, end))
+        return self.code[at]
+
+    def span(self, at, count, end):
+        """So many bytes."""
+        if at + count > min(end, self.stop):
+            raise Stopped(min(end, self.stop))
+        return self.code[at : at + count]
+
+    def length(self, at, end):
+        lead = self.byte(at, end)
+        more = lead >> 6
+        if more and lead & 0x30:
+            raise Stopped(at)
+        rest = int.from_bytes(self.span(at + 1, more, end), "little")
+        return (lead & 0x0F | rest << 4 if more else lead & 0x3F), 1 + more
+
+    def name(self, at, end):
+        root = self.byte(at, end) == 0x5C
+        start = at = at + root
+        while not root and self.byte(at, end) == 0x5E:
+            at += 1
+        ups, lead, count = at - start, self.byte(at, end), 1
+        if lead == 0x00:
+            return Name(root, ups, []), at + 1
+        if lead == 0x2E:
+            count, at = 2, at + 1
+        elif lead == 0x2F:
+            count, at = self.byte(at + 1, end), at + 2
+        segments = [self.segment(place, end) for place in range(at, at + 4 * count, 4)]
+        return Name(root, ups, segments), at + 4 * count
+
+    def segment(self, at, end):
+        form = SEGMENT.match(self.code, at, min(end, self.stop))
+        if form:
+            return form[0].decode()
+        raise Stopped(next(place for place in range(at, at + 4) if not self.is_in_segment(place, at, end)))
+
+    def is_in_segment(self, at, first, end):
+        byte = self.byte(at, end)
+        return 0x41 <= byte <= 0x5A or byte == 0x5F or at > first and 0x30 <= byte <= 0x39
+
+    def terms(self, at, end, level):
+        kept = []
+        self.before = None
+        while at < end:
+            term, at = self.term(at, end, "R", level)
+            self.before = term
+            if self.keeps:
+                kept.append(term)
+        return kept
+
+    def term(self, at, end, kind, level):
+        lead = self.byte(at, end)
+        if level > MOST_LEVELS:
+            raise Stopped(at)
+        if is_name_lead(lead):
+            return self.named(at, end, kind, level)
+        if kind == "S" and lead == 0x00:
+            return Term(at, ""), at + 1
+        opcode, rest = (lead << 8 | self.byte(at + 1, end), at + 2) if lead == 0x5B else (lead, at + 1)
+        if opcode not in ROWS:
+            raise Stopped(at)
+        return self.operation(Term(at, ROWS[opcode][0]), ROWS[opcode][1], rest, end, kind, level)
+
+    def named(self, at, end, kind, level):
+        name, rest = self.name(at, end)
+        term = Term(at, str(name))
+        if kind in "TR":
+            told = self.space.count(self.scope, name)
+            count = told[0] if told and self.has_calls else 0
+            self.uses.append(Use(term, name, self.scope, count, self.open[-1] if self.open else None))
+            self.open.append(term)
+            for _ in range(count):
+                argument, rest = self.term(rest, end, "T", level + 1)
+                term.parts.append(argument)
+            self.open.pop()
+        return term, rest
+
+    def operation(self, term, kinds, at, end, kind, level):
+        self.open.append(term)
+        if kinds[:1] == "P":
+            value, width = self.length(at, end)
+            if value < width or at + value > end:
+                raise Stopped(at)
+            at, end, kinds = at + width, at + value, kinds[1:]
+        tail = kinds[-1] if kinds and kinds[-1] in "tyefb" else ""
+        for part in kinds.rstrip("tyefb"):
+            made, at = self.part(part, at, end, level)
+            term.parts.append(made)
+        if tail == "t":
+            self.block(term, at, end, level)
+        elif tail == "e":
+            term.tail = self.elements(at, end, level)
+        elif tail == "f":
+            term.tail = self.units(at, end, level)
+        elif tail:
+            term.tail = end - at
+        if kind == "R" and tail != "t":
+            self.declare(term)
+        self.open.pop()
+        return term, end if tail else at
+
+    def part(self, kind, at, end, level):
+        if kind in "TSD":
+            return self.term(at, end, kind, level + 1)
+        if kind == "N":
+            return self.name(at, end)
+        if kind == "Z":
+            close = self.code.find(0, at, min(end, self.stop))
+            if close < 0:
+                raise Stopped(min(end, self.stop))
+            return self.code[at:close], close + 1
+        width = int(kind)
+        return (width, int.from_bytes(self.span(at, width, end), "little")), at + width
+
+    def elements(self, at, end, level):
+        elements = []
+        while at < end:
+            element, at = self.term(at, end, "D", level + 1)
+            elements.append(element)
+        return elements
+
+    def units(self, at, end, level):
+        """The names of a field list's units."""
+        units = []
+        while at < end:
+            lead = self.byte(at, end)
+            if lead == 0x00:
+                at += 1 + self.length(at + 1, end)[1]
+            elif lead in (0x01, 0x03):
+                width = 2 if lead == 0x01 else 3
+                self.span(at + 1, width, end)
+                at += 1 + width
+            elif lead == 0x02:
+                at = self.link(at + 1, end, level + 1)
+            else:
+                name, at = self.name(at, end)
+                units.append(name)
+                at += self.length(at, end)[1]
+        return units
+
+    def link(self, at, end, level):
+        is_buffer = self.byte(at, end) == 0x11
+        return self.term(at, end, "D", level)[1] if is_buffer else self.name(at, end)[1]
+
+    # ---- what terms do
+
+    def block(self, term, at, end, level):
+        outside = self.scope
+        if term.word == "Scope":
+            self.open_scope(term)
+        elif term.word in OPENERS:
+            self.scope = self.declared(term, term.names()[0]) or outside
+        term.tail = self.terms(at, end, level + 1)
+        self.scope = outside
+
+    def open_scope(self, term):
+        found, place = self.want(term)
+        self.scope = found or place or self.scope
+
+    def want(self, term):
+        """What the first name of a Scope or an Alias leads to, and its place."""
+        name = term.names()[0]
+        found, place = self.space.find(self.scope, name), self.space.place(self.scope, name)
+        self.wanted.append((term, self.scope, place))
+        if found is None:
+            self.missing.append((term, self.scope, place))
+        return found, place
+
+    def declare(self, term):
+        names = term.names()
+        if term.word in FIELD_LISTS:
+            for unit in term.tail:
+                self.declared(term, unit)
+        elif term.word == "External":
+            node = self.placed(term, names[0])
+            if node:
+                node.external = max(node.external or 0, term.parts[2][1] & 7)
+        elif term.word == "Alias":
+            found, _ = self.want(term)
+            node = self.declared(term, names[1])
+            if node and found is not node:
+                node.target = node.target or (found and found.target or found)
+        elif term.word in DECLARERS:
+            self.declared(term, names[-1])
+
+    def declared(self, term, name):
+        node = self.placed(term, name)
+        if node:
+            self.space.declare(node, self.table, term)
+        return node
+
+    def placed(self, term, name):
+        node = self.space.place(self.scope, name)
+        if node is None:
+            self.missing.append((term, self.scope, None))
+        return node
+
+
+def is_name_lead(byte):
+    return 0x41 <= byte <= 0x5A or byte in (0x5F, 0x5C, 0x5E, 0x2E, 0x2F)
+
+
+# ---- text
+
+
+def pieces(part):
+    """The text of a part, bit by bit."""
+    if isinstance(part, bytes):
+        shown = part[:TEXT_LENGTH]
+        yield '"' + "".join(chr(it) if 0x20 <= it <= 0x7E and it not in b'"\\' else f"\\x{it:02X}" for it in shown) + '"'
+    elif isinstance(part, tuple):
+        yield f"0x{part[1]:0{2 * part[0]}X}"
+    elif isinstance(part, Name):
+        yield str(part)
+    elif part.word in CONSTANTS and part.parts:
+        yield from pieces(part.parts[0])
+    else:
+        yield part.word
+        yield from grouped(" (", method_parts(part) if part.word == "Method" else part.parts, ")")
+        if isinstance(part.tail, list) and part.word in ("Package", "VarPackage"):
+            yield from grouped(" {", part.tail, "}")
+        elif part.word == "Buffer" and part.tail is not None:
+            yield f" {{{part.tail} bytes}}"
+
+
+def method_parts(term):
+    return [*term.parts[:1], *(str(flags & 7) for _, flags in term.parts[1:])]
+
+
+def grouped(left, parts, right):
+    for number, part in enumerate(parts):
+        yield ", " if number else left
+        if isinstance(part, str):
+            yield part
+        else:
+            yield from pieces(part)
+    if parts:
+        yield right
+
+
+def text(term):
+    """A term on a line, cut where it is long."""
+    line = ""
+    for piece in pieces(term):
+        line += piece
+        if len(line) > TEXT_LENGTH:
+            break
+    return cut(line)
+
+
+def cut(line):
+    return line if len(line) <= TEXT_LENGTH else line[:TEXT_LENGTH] + " .."
+
+
+def lines(term):
+    """The first lines of a term: a block with the terms inside it."""
+    shown = [line for line, _ in zip(block_lines(term, 0), range(TEXT_LINES + 1))]
+    return shown if len(shown) <= TEXT_LINES else [*shown[:TEXT_LINES], ".."]
+
+
+def block_lines(term, level):
+    indent = "  " * level
+    if term.word in FIELD_LISTS or term.word == "Method":
+        yield f"{indent}{text(term)} {{..}}"
+    elif isinstance(term.tail, list) and term.word not in ("Package", "VarPackage"):
+        yield f"{indent}{text(term)} {{"
+        for inner in term.tail:
+            yield from block_lines(inner, level + 1)
+        yield indent + "}"
+    else:
+        yield indent + text(term)

@@ -1,0 +1,450 @@
+#!/usr/bin/env python3
+"""Says what stands where a set is refused: the term, its scope, both declarations or who wants a name; and the way on.
+
+    python3 examples/refused.py [--any-sum] [--unknown-zero] [--externals FILE] FOLDER
+
+Offsets count from the first byte behind a table's header, bytes from the first of the file. The terms are read by a reader
+of this folder, from the left and as far as it can; what they mean the program alone says. ACPIDIS names another program.
+Status 0 is a set that isn't refused, 1 one that is, 2 a command line, a program or an output that is at fault.
+"""
+
+import argparse
+import os
+import pathlib
+import re
+import shutil
+import subprocess
+import sys
+import tempfile
+
+import aml
+import listing
+
+HEADER, MOST_BYTES, SHOWN_BYTES, MOST_SHOWN = 36, 16_777_216, 16, 5
+BLOCKS = (b"DSDT", b"SSDT")
+CHAIN = (b"RSD PTR ", b"XSDT", b"RSDT", b"FACP")
+LINE = re.compile(r'acpidis: (?:table "(?P<file>[^"]*)": )?(?P<word>\w+)(?: at (?P<at>\d+)| (?P<path>\\\S*))?')
+GIVEN = re.compile(r"(\\[A-Z0-9_.]+) ([0-7])")
+METHOD = re.compile(rb"\x14(?:[\x00-\x3f]|[\x40-\x4f].|[\x80-\x8f]..|[\xc0-\xcf]...)([A-Z_][A-Z0-9_]{3})(.)", re.DOTALL)
+
+AGAIN = "get the table again"
+OUT = "take the table out"
+HEADER_ALONE = "a header alone in its place lists the SSDTs (docs/refusals.md)"
+IASL = "`iasl -d` reads this table by itself, with guesses"
+ANY_RUN = "`--any-run` reads it, as whatever a run would declare"
+EXTERNALS = "`--externals FILE` with its count (docs/externals.md)"
+NO_COUNT = "take its count out of the file of `--externals`"
+
+# What a word says, and the ways on: for an SSDT, for a DSDT.
+WORDS = {
+    "ModuleCode": ("Outside the methods this would run while the table is loaded.", [ANY_RUN, OUT], [ANY_RUN, IASL]),
+    "Truncated": ("The table, or a package in it, ends where more is wanted.", [AGAIN, OUT], [AGAIN, HEADER_ALONE]),
+    "PkgPast": ("A package length leads past the end, or is less than its own bytes.", [AGAIN, OUT], [AGAIN, HEADER_ALONE]),
+    "PkgBits": ("A package length has bits set that the standard wants 0.", [AGAIN, OUT], [AGAIN, HEADER_ALONE]),
+    "BadName": ("The byte can't stand there in a name.", [AGAIN, OUT], [AGAIN, HEADER_ALONE]),
+    "UnknownOp": ("The byte begins no opcode of the standard.", [AGAIN, OUT], [AGAIN, HEADER_ALONE]),
+    "NotHere": ("The opcode may not stand there.", [AGAIN, OUT, IASL], [AGAIN, HEADER_ALONE, IASL]),
+    "StrayElse": ("An Else has no If in front of it.", [AGAIN, OUT, IASL], [AGAIN, HEADER_ALONE, IASL]),
+    "EmptyName": ("What wants a name has none.", [AGAIN, OUT, IASL], [AGAIN, HEADER_ALONE, IASL]),
+    "BadCount": ("An External has more than 7 arguments.", [AGAIN, OUT, IASL], [AGAIN, HEADER_ALONE, IASL]),
+    "TooDeep": ("Terms are nested more than 512 deep.", [OUT, IASL], [HEADER_ALONE, IASL]),
+    "ModuleCall": (
+        "Outside the methods a name that takes arguments stands where a value is wanted.",
+        [ANY_RUN, NO_COUNT, OUT], [ANY_RUN, NO_COUNT, IASL],
+    ),
+    "Duplicate": ("The path is declared twice.", [ANY_RUN, OUT], [ANY_RUN, HEADER_ALONE]),
+    "ScopeMissing": (
+        "A Scope wants a path that nothing declares before it.",
+        ["add the table that declares it", "load that table before it", ANY_RUN, OUT],
+        [ANY_RUN, IASL],
+    ),
+    "AliasMissing": (
+        "An Alias wants a path that nothing declares before it.",
+        ["add the table that declares it", "load that table before it", OUT],
+        [HEADER_ALONE, IASL],
+    ),
+    "AboveRoot": ("A name has more `^` than its scope has segments.", [OUT], [HEADER_ALONE]),
+    "TooManyMethods": ("The set has more than 1,048,576 methods.", ["take tables out"], ["take tables out"]),
+    "Short": ("The file has no header, or is shorter than its Length says.", [AGAIN, OUT], [AGAIN]),
+    "TooLarge": ("The file has more than 16,777,216 bytes.", [OUT], [IASL]),
+    "BadSum": ("The bytes of the table don't sum to 0.", ["`--any-sum` takes it so", AGAIN], ["`--any-sum` takes it so", AGAIN]),
+    "BadRoot": ("The table that leads to the others isn't whole.", [AGAIN, "try without `tables.map` and it"], [AGAIN]),
+    "FadtShort": ("A FADT has less than 116 bytes.", [AGAIN, "try without `tables.map` and it"], [AGAIN]),
+    "MadtRecord": ("A record has no length, one below 2, or ends behind the table.", [AGAIN, OUT], [AGAIN]),
+    "TooManyTables": ("The folder has more than 512 files.", ["take files out"], ["take files out"]),
+    "NoDsdt": ("No table has the signature DSDT, or the FADT leads to none.", ["add it, or try without `tables.map`"], []),
+    "TwoDsdts": ("Two tables are a DSDT, and no address tells which is loaded.", ["take one out"], ["take one out"]),
+    "RootMissing": ("No RSDP, or none of its tables, is there.", ["add it, or try without `tables.map`"], []),
+    "FadtMissing": ("The XSDT, or the RSDT, lists no FADT that is there.", ["add it, or try without `tables.map`"], []),
+    "NoMemory": ("The system refused memory.", ["more memory, or fewer tables"], []),
+    "NoThread": ("The system refused a thread.", ["`--workers 1`"], []),
+}
+# What is said of a byte of a table's AML.
+AT_BYTES = set("ModuleCode Truncated PkgPast PkgBits BadName UnknownOp NotHere StrayElse EmptyName BadCount TooDeep".split())
+# With --any-run given.
+RAN = {
+    "ModuleCode": ("A Return outside the methods: what follows it may not run.", [OUT, IASL], [HEADER_ALONE, IASL]),
+    "ModuleCall": (
+        "Outside the methods stands a name whose count nothing tells, or another at the end than before it.",
+        [EXTERNALS, "`--unknown-zero`, where nothing declares it and it is no call", OUT],
+        [EXTERNALS, "`--unknown-zero`, where nothing declares it and it is no call"],
+    ),
+    "ScopeMissing": (
+        "What a Scope wants only may stand, and a second path that it may mean is there too.", [OUT, IASL], [HEADER_ALONE, IASL]
+    ),
+}
+
+
+class Refusal:
+    """The line of standard error: the file's name, the word, the offset, the path."""
+
+    def __init__(self, line):
+        form = LINE.fullmatch(line)
+        self.line = line.removeprefix("acpidis: ")
+        self.file = unquoted(form["file"]) if form and form["file"] is not None else None
+        self.word = form["word"] if form else ""
+        self.at = int(form["at"]) if form and form["at"] else None
+        self.path = form["path"] if form else None
+
+
+def unquoted(text):
+    """The file's name that the program printed in quotes."""
+    data = re.sub(rb"\\x([0-9A-F]{2})", lambda digits: bytes([int(digits[1], 16)]), text.encode())
+    return os.fsdecode(data)
+
+
+def shown_name(name):
+    """A file's name without what a terminal would act on."""
+    return "".join(chr(byte) if 0x20 <= byte <= 0x7E else f"\\x{byte:02X}" for byte in os.fsencode(name))
+
+
+def refusal_of(program, options, folder):
+    """Why the program refuses the set; None where it doesn't."""
+    words = [program, *options, "--check", "--", folder]
+    try:
+        done = subprocess.run(words, stdin=subprocess.DEVNULL, capture_output=True, check=False)
+        said = done.stderr.decode(errors="surrogateescape").splitlines()
+    except (OSError, ValueError) as fault:
+        raise listing.Unusable(f"cannot run {program}: {fault}") from fault
+    if done.returncode == 1 and len(said) == 1:
+        return Refusal(said[0])
+    if done.returncode not in (0, 3):
+        raise listing.Unusable(f"{program} ended with status {done.returncode}: {' '.join(said[:1])}")
+    return None
+
+
+# ---- the tables
+
+
+def file_names(folder):
+    with os.scandir(folder) as entries:
+        return sorted(entry.name for entry in entries if entry.is_file(follow_symlinks=False) and entry.name != "tables.map")
+
+
+def head_of(data):
+    """A table of the same kind that says nothing but where others are."""
+    if data.startswith(BLOCKS):
+        return data[:4] + HEADER.to_bytes(4, "little") + data[8:HEADER].ljust(HEADER - 8, b"\0")
+    return data if data.startswith(CHAIN) else b"NONE" + HEADER.to_bytes(4, "little") + bytes(HEADER - 8)
+
+
+def load_order(program, folder):
+    """The names of the definition blocks in the order in which they load: the program says it of their headers alone."""
+    names, found = file_names(folder), []
+    with tempfile.TemporaryDirectory() as room:
+        for name in names:
+            (pathlib.Path(room) / name).write_bytes(head_of(read_file(folder, name)))
+        if (pathlib.Path(folder) / "tables.map").is_file():
+            shutil.copy(pathlib.Path(folder) / "tables.map", room)
+        done = subprocess.run([program, "--any-sum", "--", room], stdin=subprocess.DEVNULL, capture_output=True, check=False)
+        if done.returncode == 0:
+            found = re.findall(r'^DefinitionBlock \("(.*)"\) \{$', done.stdout.decode(), re.MULTILINE)
+    return list(map(unquoted, found)) or [name for name in names if read_file(folder, name).startswith(BLOCKS)]
+
+
+def read_file(folder, name):
+    with open(pathlib.Path(folder) / name, "rb") as file:
+        return file.read(MOST_BYTES + 1)
+
+
+def aml_of(data):
+    return data[HEADER : int.from_bytes(data[4:8], "little")]
+
+
+class Set:
+    """The tables in load order, read up to where the set is refused, and where it is asked for behind that too."""
+
+    def __init__(self, asked, program, refusal):
+        self.order = load_order(program, asked.folder)
+        if refusal.file is not None and refusal.file not in self.order:
+            self.order.append(refusal.file)
+        self.codes = [aml_of(read_file(asked.folder, name)) for name in self.order]
+        self.space = aml.Space(sum(map(len, self.codes)))
+        self.any_run, self.at_fault = asked.any_run, None
+        self.wants_any_run = asked.has_any_run and not asked.any_run
+        for path, count in given_counts(asked.externals):
+            node = self.space.node(path)
+            node.given = max(node.given or 0, count)
+
+    def read_to(self, refusal):
+        """Reads the tables in front of the one at fault, and that one to where the fault is."""
+        for number, (name, code) in enumerate(zip(self.order, self.codes)):
+            is_last = name == refusal.file
+            reader = aml.Reader(number, code, self.space, refusal.at if is_last else None, self.any_run)
+            reader.stopped = reader.read()
+            if is_last:
+                self.at_fault = reader
+                break
+
+    def read_rest(self):
+        for number in range(self.at_fault.table + 1, len(self.codes)):
+            aml.Reader(number, self.codes[number], self.space, has_calls=self.any_run).read()
+
+    def place(self, table, at):
+        return f"{shown_name(self.order[table])}, offset {at}, byte {at + HEADER} of the file"
+
+
+def given_counts(file):
+    if not file:
+        return []
+    with open(file, "rb") as opened:
+        return [(path, int(count)) for path, count in GIVEN.findall(opened.read(MOST_BYTES).decode("latin-1"))]
+
+
+# ---- what is said
+
+
+def path_of(node):
+    return aml.cut(node.path())
+
+
+def bytes_at(code, at):
+    shown = code[at : at + SHOWN_BYTES].hex(" ").upper()
+    return shown + (" .." if len(code) > at + SHOWN_BYTES else "") if shown else "the table's end"
+
+
+def around(reader):
+    """A line for each of the terms that the reader is in, the inner first."""
+    return [f"  in {aml.text(term)}, offset {term.at}" for term in reversed(reader.open[-MOST_SHOWN:])]
+
+
+def counted(count):
+    return f"{count} argument" if count == 1 else f"{count} arguments"
+
+
+def told(found, node):
+    """Where a path is declared, in words."""
+    places = [f"{word} at {found.place(table, at)}" for table, at, word in node.places or ()]
+    if not places and node.is_predefined:
+        places = ["predefined"]
+    if not places and node.external is not None:
+        places = ["an External"]
+    return " and ".join(places) or "nowhere in the tables"
+
+
+def say_code(found, refusal):
+    """Of a fault with an offset."""
+    reader = found.at_fault
+    yield f"{found.place(reader.table, refusal.at)}, in the scope {path_of(reader.scope)}"
+    yield f"  bytes {bytes_at(reader.code, refusal.at)}"
+    if reader.stopped != refusal.at:
+        yield f"  the reader of this script came to {reader.stopped} only"
+        return
+    blocks, before, uses = around(reader), reader.before, last_uses(reader)
+    if refusal.word == "ModuleCode":
+        yield from say_term(reader, refusal.at)
+    yield from blocks
+    if before is not None:
+        yield f"  behind {aml.text(before)}, offset {before.at}"
+    yield from say_counts(found, reader, uses)
+
+
+def say_term(reader, at):
+    term, stopped = reader.term_at(at)
+    if term is not None:
+        yield from (f"  {line}" for line in aml.lines(term))
+    if stopped is not None:
+        yield f"  which this script can read to {stopped}"
+
+
+def last_uses(reader):
+    """The last names of the term in front, and of the one that the reader is in."""
+    front = reader.before or next(reversed(reader.open), None)
+    return [use for use in reader.uses[-MOST_SHOWN:] if front is not None and use.term.at >= front.at]
+
+
+def say_counts(found, reader, uses):
+    """Which of the names may be calls with arguments, which would shift all that follows."""
+    ahead = methods_in(reader.code) if found.any_run else {}
+    for use in uses:
+        known = found.space.count(use.scope, use.name)
+        if known and known[0] and use.read == 0:
+            with_them = ": `--any-run` reads calls outside the methods" if found.wants_any_run else ""
+            yield f"  {use.name} takes {counted(known[0])} ({told(found, known[1])}), and was read without them{with_them}"
+        elif found.any_run and not known and use.name.segments and use.name.segments[-1] in ahead:
+            at, count = ahead[use.name.segments[-1]]
+            yield f"  nothing tells of {use.name} before it; a Method of {counted(count)} may stand at offset {at}"
+            yield f"  a line `{path_for_counts(found.space, use)} {count}` in the file of --externals would tell it"
+
+
+def path_for_counts(space, use):
+    """The path of a name as a line for --externals wants it: the root's is found from each scope."""
+    place = space.place(space.root if use.name.is_searched() else use.scope, use.name)
+    return path_of(place) if place else "?"
+
+
+def methods_in(code):
+    """The methods that the bytes seem to declare, by the last segments of their names."""
+    return {form[1].decode(): (form.start(), form[2][0] & 7) for form in METHOD.finditer(code)}
+
+
+def say_duplicate(found, refusal):
+    node = found.space.node(refusal.path)
+    yield f"{path_of(node)} is declared"
+    for table, at, word in node.places or ():
+        yield f"  as a {word} at {found.place(table, at)}"
+    if not node.places:
+        yield "  where this script can't follow"
+
+
+def say_missing(found, refusal):
+    """Who wants a path, and what declares it later."""
+    reader, node = found.at_fault, found.space.node(refusal.path)
+    # With --any-run a path may be refused that leads somewhere, but not in each run to the same.
+    wanted = [(term, scope) for term, scope, place in (reader.wanted if found.any_run else reader.missing) if place is node]
+    for term, scope in wanted[:MOST_SHOWN]:
+        yield f"{path_of(node)} is wanted by {aml.text(term)} at {found.place(reader.table, term.at)}, in {path_of(scope)}"
+    if len(wanted) > MOST_SHOWN:
+        yield f"  and {len(wanted) - MOST_SHOWN} more"
+    for term, scope in wanted[:1] if found.any_run else []:
+        for meant in found.space.candidates(scope, term.names()[0]):
+            if meant.is_declared() or meant.external is not None:
+                yield f"  it may mean {path_of(meant)}: {told(found, meant)}"
+    found.read_rest()
+    yield f"  declared: {told(found, node)}"
+
+
+def say_above(found, _):
+    reader = found.at_fault
+    above = [(term, scope) for term, scope, place in reader.missing if place is None]
+    for term, scope in above[:MOST_SHOWN]:
+        yield f"{aml.text(term)} at {found.place(reader.table, term.at)}, in the scope {path_of(scope)}"
+
+
+def say_calls(found, refusal):
+    """The names outside the methods that take arguments; with --any-run those of the path."""
+    reader, shown = found.at_fault, 0
+    wanted = found.space.node(refusal.path) if refusal.path else None
+    found.read_rest()
+    for use in reader.uses:
+        known = found.space.count(use.scope, use.name)
+        if not (found.space.place(use.scope, use.name) is wanted if wanted else known and known[0]):
+            continue
+        shown += 1
+        if shown > MOST_SHOWN:
+            yield "  and more"
+            return
+        term = f", in {aml.text(use.around)}" if use.around else ""
+        yield f"{use.name} at {found.place(reader.table, use.term.at)}, in the scope {path_of(use.scope)}{term}"
+        takes = f"it takes {counted(known[0])}: {told(found, known[1])}" if known else "nothing tells how many it takes"
+        yield f"  read with {counted(use.read)}; {takes}"
+
+
+SAYERS = {
+    "Duplicate": say_duplicate, "ScopeMissing": say_missing, "AliasMissing": say_missing, "AboveRoot": say_above,
+    "ModuleCall": say_calls,
+}
+
+
+def say_file(asked, refusal):
+    """What a file has that is no whole table."""
+    data = read_file(asked.folder, refusal.file)
+    yield f"{shown_name(refusal.file)} has {len(data)} bytes{' at least' * (len(data) > MOST_BYTES)}, and begins with"
+    yield f"  {bytes_at(data, 0)}"
+    length = int.from_bytes(data[4:8], "little")
+    if len(data) >= 8 and not data.startswith(b"RSD PTR "):
+        yield f"  its Length is {length}" + (f", and so many bytes sum to {sum(data[:length]) % 256}" if length <= len(data) else "")
+    if refusal.at is not None:
+        yield f"  at byte {refusal.at} stands {bytes_at(data, refusal.at)}"
+
+
+def way_of_line(line):
+    """What to do about a line that names no table."""
+    if line.startswith(("tables.map line", "externals line")):
+        return "mend the line"
+    return "look at `ls -la` of it" if line.startswith("cannot read") else "see docs/refusals.md"
+
+
+def say_tables(found, refusal):
+    """What the tables have where the set is refused."""
+    try:
+        found.read_to(refusal)
+        yield from SAYERS.get(refusal.word, say_code)(found, refusal)
+    except aml.TooManySteps:
+        yield "  the scopes are too deep for this script to follow"
+
+
+def is_return(asked, refusal):
+    """Whether the code outside the methods is a Return, which no option takes."""
+    if refusal.word != "ModuleCode" or refusal.file is None or refusal.at is None:
+        return False
+    return aml_of(read_file(asked.folder, refusal.file))[refusal.at : refusal.at + 1] == b"\xa4"
+
+
+def has_any_run(program):
+    """Whether the program has the option that reads code outside the methods."""
+    done = subprocess.run([program, "--help"], stdin=subprocess.DEVNULL, capture_output=True, check=False)
+    return b"--any-run" in done.stdout
+
+
+def say_all(asked, program, refusal):
+    yield refusal.line
+    told_by = {**WORDS, **RAN} if asked.any_run or is_return(asked, refusal) else WORDS
+    what, ways, ways_of_dsdt = told_by.get(refusal.word, ("", [], []))
+    if refusal.file is not None and (refusal.word in AT_BYTES or refusal.word in SAYERS):
+        yield from say_tables(Set(asked, program, refusal), refusal)
+    elif refusal.file is not None:
+        yield from say_file(asked, refusal)
+    if refusal.file is not None and read_file(asked.folder, refusal.file).startswith(b"DSDT"):
+        ways = ways_of_dsdt
+    ways = [way for way in ways if (asked.externals or way != NO_COUNT) and (asked.has_any_run or way != ANY_RUN)]
+    if what:
+        yield what
+    yield "Way on: " + ("; or ".join(ways) or way_of_line(refusal.line))
+
+
+def say(asked):
+    """The lines to print, and the status."""
+    program = listing.program()
+    options = ["--any-sum"] * asked.any_sum + ["--any-run"] * asked.any_run + ["--unknown-zero"] * asked.unknown_zero
+    options += ["--externals", asked.externals] if asked.externals else []
+    refusal = refusal_of(program, options, asked.folder)
+    if refusal is None:
+        return ["the set isn't refused"], 0
+    asked.has_any_run = has_any_run(program)
+    return list(say_all(asked, program, refusal)), 1
+
+
+def main():
+    words = argparse.ArgumentParser(description=__doc__, formatter_class=argparse.RawDescriptionHelpFormatter)
+    words.add_argument("folder", metavar="FOLDER")
+    for option in ("--any-sum", "--unknown-zero"):
+        words.add_argument(option, action="store_true", help="as the option of acpidis")
+    # The program doesn't have it yet.
+    words.add_argument("--any-run", action="store_true", help=argparse.SUPPRESS)
+    words.add_argument("--externals", metavar="FILE", help="as the option of acpidis")
+    sys.stdout.reconfigure(errors="backslashreplace")
+    sys.stderr.reconfigure(errors="backslashreplace")
+    try:
+        said, status = say(words.parse_args())
+        print("\n".join(said), flush=True)
+    except (listing.Unusable, OSError, ValueError, MemoryError) as fault:
+        print(f"refused: {fault}", file=sys.stderr)
+        # What standard output didn't take isn't tried again at the end.
+        os.dup2(os.open(os.devnull, os.O_WRONLY), 1)
+        status = 2
+    sys.exit(status)
+
+
+if __name__ == "__main__":
+    main()

@@ -1,0 +1,218 @@
+"""Code outside methods, as --any-run reads it, after docs/any_run.md: its terms are read from
+the left, each with the counts of what stands before it, and declare what then stands surely or only may stand."""
+
+from dataclasses import dataclass
+from typing import NamedTuple
+
+from loading import MOST_METHODS, PREDEFINED, Loaded, Method, Namespace, Unloadable, path_text, placed
+from reading import ALIAS, EXTERNAL, FIELD_LISTS, KINDS, METHOD, ROWS, SCOPE, SCOPES, Name, Reader, Refused
+
+
+class Use(NamedTuple):
+    """A name where a value is wanted or a term stands, with the number of its arguments that were read."""
+
+    table: int
+    scope: tuple
+    name: Name
+    count: int
+    in_declaration: bool
+
+
+class RunNamespace(Namespace):
+    """What stands after a run, whichever it is. `declarations` are those of a path in their order, each a kind and whether
+    it is sure."""
+
+    def __init__(self, given=()):
+        super().__init__(given)
+        self.declarations = {}
+
+    # ---- paths
+
+    def kinds_of(self, path):
+        """What may stand at a path: the kinds up to the first sure one, or all and the predefined one."""
+        kinds = []
+        for kind, is_sure in self.declarations.get(path, ()):
+            kinds.append(kind)
+            if is_sure:
+                return kinds
+        return kinds + [kind for kind in [PREDEFINED.get(path)] if kind]
+
+    def kind(self, path):
+        return next(iter(self.kinds_of(path)), None)
+
+    def is_sure(self, path):
+        return path in PREDEFINED or any(is_sure for _, is_sure in self.declarations.get(path, ()))
+
+    def is_known(self, path):
+        return bool(self.kinds_of(path)) or path in self.externals
+
+    def rows(self):
+        """The declared paths with the kinds of their first declarations, and their marks."""
+        return sorted((path, found[0][0], marks_of(found)) for path, found in self.declarations.items())
+
+    # ---- counts
+
+    def counts(self, path):
+        """How many arguments each of the kinds takes that may stand at a path."""
+        return [count for kind in self.kinds_of(path) for count in self.counts_of(kind)]
+
+    def counts_of(self, kind):
+        if kind[0] != "Alias":
+            return [own_count(kind)]
+        return list(map(own_count, self.kinds_of(kind[1]))) or [self.externals.get(kind[1], 0)]
+
+    def counts_met(self, scope, name, declared):
+        """The counts of all that a name may mean, whichever run it is."""
+        met = []
+        for path in name.candidates(scope):
+            if path in declared:
+                return [*met, 0]
+            met += self.counts(path)
+            if self.is_sure(path):
+                return met
+        return met
+
+    def arity(self, scope, unknown_zero=False):
+        def count(declared, name):
+            met = self.counts_met(scope, name, declared)
+            if not met:
+                return self.untold_count(scope, name, unknown_zero)
+            return met[0] if len(set(met)) == 1 else self.given_count(scope, name)
+
+        return count
+
+    def untold_count(self, scope, name, unknown_zero):
+        """The count of a name that no declaration tells anything of."""
+        external = next((path for path in name.candidates(scope) if path in self.externals), None)
+        if external is not None:
+            return self.externals[external]
+        given = self.given_count(scope, name)
+        return 0 if given is None and unknown_zero else given
+
+    # ---- declarations
+
+    def find(self, scope, name, declared=()):
+        """Where a name leads in every run, or None."""
+        candidates = name.candidates(scope)
+        for number, path in enumerate(candidates):
+            if path in declared:
+                return path
+            if self.kinds_of(path):
+                is_undecided = not self.is_sure(path) and any(map(self.is_known, candidates[number + 1:]))
+                return None if is_undecided else path
+        return next((path for path in candidates if path in self.externals), None)
+
+    def opened(self, scope, name):
+        """The path that a Scope opens, and whether it is sure to stand."""
+        if not any(map(self.is_known, name.candidates(scope))):
+            return placed(scope, name), False
+        path = self.lead(scope, name, "ScopeMissing")
+        return path, self.is_sure(path)
+
+    def declare_so(self, scope, name, kind, is_sure, method=None):
+        """Declares a path, and says whether it was declared before."""
+        if kind[0] == "Method" and len(self.methods) >= MOST_METHODS:
+            raise Refused("TooManyMethods")
+        path = placed(scope, name)
+        is_again = path in self.declarations
+        self.declarations.setdefault(path, []).append((kind, is_sure))
+        if method:
+            self.methods.append(Method(path, *method))
+        return path, is_again
+
+
+def own_count(kind):
+    """The count of a kind by itself: an Alias takes none."""
+    return kind[1] if kind[0] == "Method" else 0
+
+
+def marks_of(declarations):
+    marks = [] if any(is_sure for _, is_sure in declarations) else ["Maybe"]
+    return marks + ([f"Times {len(declarations)}"] if len(declarations) > 1 else [])
+
+
+@dataclass
+class RunReader(Reader):
+    """Reads a table whose terms may run. `scope` is where the code stands, and `is_sure` whether what it declares is."""
+
+    space: RunNamespace | None = None
+    table: int = 0
+    scope: tuple = ()
+    is_sure: bool = True
+    in_declaration: bool = False
+
+    def read(self):
+        return self.terms(0, len(self.code), "run", 1)
+
+    def named(self, at, end, position, level):
+        if position == "run":
+            self.in_declaration = False
+        return super().named(at, end, position, level)
+
+    def operation(self, start, opcode, at, end, position, level):
+        if position == "run":
+            self.in_declaration = ROWS[opcode].group == "declaration"
+        return super().operation(start, opcode, at, end, position, level)
+
+    def count(self, name, at):
+        """The count that what stands before tells, or none."""
+        count = self.space.arity(self.scope)((), name) or 0
+        self.space.uses.append(Use(self.table, self.scope, name, count, self.in_declaration))
+        return count
+
+    def block(self, term, at, end, level):
+        outside = self.scope, self.is_sure
+        self.scope, self.is_sure = self.inside(term)
+        terms = self.terms(at, end, "run", level + 1)
+        self.scope, self.is_sure = outside
+        return terms
+
+    def inside(self, term):
+        """The scope inside a term, and whether what is declared there is sure."""
+        opcode, names = term.opcode, term.names()
+        if opcode == SCOPE:
+            path, is_sure = self.space.opened(self.scope, names[0])
+            return path, self.is_sure and is_sure
+        if opcode in SCOPES:
+            path, is_again = self.declare(names[0], (KINDS[opcode],))
+            return path, self.is_sure and not is_again
+        return self.scope, False
+
+    def leave(self, term):
+        """Declares what a term without a block declares."""
+        opcode, names = term.opcode, term.names()
+        if opcode == METHOD:
+            self.declare(names[0], ("Method", term.parts[1][1] & 7), (self.table, *term.tail))
+        elif opcode == ALIAS:
+            target = self.space.lead(self.scope, names[0], "AliasMissing")
+            kind = self.space.kind(target)
+            self.declare(names[1], ("Alias", kind[1] if kind and kind[0] == "Alias" else target))
+        elif opcode == EXTERNAL:
+            self.space.add_external(placed(self.scope, names[0]), term.parts[2][1])
+        elif opcode not in SCOPES:
+            for name in term.declared():
+                self.declare(name, ("Field",) if opcode in FIELD_LISTS else (KINDS[opcode],))
+
+    def declare(self, name, kind, method=None):
+        return self.space.declare_so(self.scope, name, kind, self.is_sure, method)
+
+
+def load(codes, given=(), unknown_zero=False):
+    """Reads and loads the AML of tables in load order, from the left, and then looks at each count that was read again."""
+    loaded, table = Loaded(codes, [], RunNamespace(given)), None
+    try:
+        for table, code in enumerate(codes):
+            loaded.trees.append(RunReader(code, space=loaded.space, table=table).read())
+        for use in loaded.space.uses:
+            table = use.table
+            check(loaded.space, use, unknown_zero or use.in_declaration)
+    except Refused as fault:
+        raise Unloadable(fault, None if fault.name == "TooManyMethods" else table) from fault
+    return loaded
+
+
+def check(space, use, unknown_zero):
+    """Refuses a name that has another number of arguments after all tables than where it was read."""
+    if space.arity(use.scope, unknown_zero)((), use.name) != use.count:
+        path = use.name.placed(use.scope)
+        raise Refused("ModuleCall", path=None if path is None else path_text(path))

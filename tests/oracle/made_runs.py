@@ -1,0 +1,276 @@
+"""Makes up the AML of sets with code outside the methods, for --any-run: blocks, branches that declare a path again, calls
+with arguments, Scopes of what nothing declares, inner names that only may stand, and counts that differ."""
+
+from any_run import RunNamespace
+from made_code import ARGUMENT_COUNTS, IN_DEEP_TABLES, IN_TABLES, MOST_DEPTH, Maker, spelled
+from reading import ALIAS, ELSE, EXTERNAL, IF, KINDS, METHOD, MOST_LEVELS, RETURN, ROWS, SCOPES, Name
+
+WHILE, DEVICE, BYTE = 0xA2, 0x5B82, 0x0A
+STATEMENTS = [opcode for opcode, row in ROWS.items() if row.group == "statement" and opcode not in (IF, ELSE, WHILE, RETURN)]
+IN_RUNS = IN_TABLES + [IF] * 14 + [WHILE] * 2 + STATEMENTS + [0x70] * 2
+MOST_TRIES = 5
+
+
+class RunMaker(Maker):
+    """Makes the AML of one set with code outside the methods.
+
+    `space` has what stands where the code does, `is_sure` says whether what is declared there is, and `opened_is_sure` the same
+    of what stands inside the path that was opened last. `opcode` is the term that is being made, `alias_target` an Alias' target;
+    `in_declaration` says whether the term that runs is a declaration.
+    """
+
+    def __init__(self, chance, gives=False):
+        super().__init__(chance, gives)
+        self.space, self.is_sure, self.opened_is_sure = RunNamespace(), True, True
+        self.opcode, self.alias_target, self.in_declaration = None, (), False
+        if gives:
+            self.given = {path: count for path, count in self.methods.items() if self.happens(0.4)}
+        for path, count in self.given.items():
+            self.space.give(path, count)
+
+    def happens(self, share):
+        return self.chance.random() < share
+
+    def tables(self):
+        codes = super().tables()
+        if self.happens(0.04):
+            codes[0] += self.deep_blocks(self.chance.randrange(MOST_LEVELS - 5, MOST_LEVELS + 3))
+        return codes
+
+    def deep_blocks(self, count):
+        code = b"\xA3"
+        for _ in range(count):
+            code = self.packed(b"\xA0", b"\1" + code)
+        return code
+
+    def late_method(self, path, count):
+        """The declaration of a method that bodies call; now and then there is one in each of two branches."""
+        name, how = spelled(self.chance, Name(True, 0, list(path))), self.chance.random()
+        if path in self.given or how < 0.03:
+            return b""
+        if how < 0.1:
+            return b"\x15" + name + b"\x08" + bytes([count])
+        if how < 0.65:
+            return self.method(name, path, count)
+        other = self.same_or_other(count)
+        if self.gives and self.happens(0.5):
+            self.given[path] = self.chance.choice((count, other))
+        first, second = (self.method(name, path, one) for one in (count, other))
+        return self.packed(b"\xA0", b"\1" + first) + self.packed(b"\xA1", second)
+
+    def same_or_other(self, count):
+        return count if self.happens(0.8) else self.chance.choice(ARGUMENT_COUNTS)
+
+    def packed(self, opcode, content):
+        return opcode + self.length(len(content)) + content
+
+    # ---- terms
+
+    def terms(self, depth, inside):
+        if inside != "table":
+            return super().terms(depth, inside)
+        code = b""
+        for _ in range(self.chance.randrange(4) if depth else self.chance.randrange(3, 12)):
+            code += self.run_term(depth)
+        return code
+
+    def run_term(self, depth):
+        self.in_declaration = False
+        if depth < MOST_DEPTH and self.happens(0.06):
+            scenes = (self.shadow, self.shadow, self.aliased, self.imported, self.again, self.predefined)
+            return self.chance.choice(scenes)(depth + 1)
+        if self.happens(0.1):
+            return self.value(depth, "table")
+        if self.is_strange("table") and self.happens(0.4):
+            return self.operation(self.chance.choice((ELSE, RETURN)), depth, "table")
+        opcode = self.chance.choice(IN_RUNS if depth < MOST_DEPTH else IN_DEEP_TABLES)
+        if opcode == IF and self.happens(0.1):
+            return self.guard(depth)
+        self.in_declaration = ROWS[opcode].group == "declaration"
+        code = self.operation(opcode, depth, "table")
+        return code + self.operation(ELSE, depth, "table") if opcode == IF and self.happens(0.5) else code
+
+    def guard(self, depth):
+        content = b"\0" + b"".join(self.operation(EXTERNAL, depth, "table") for _ in range(self.chance.randrange(3)))
+        return self.packed(b"\xA0", content)
+
+    def block(self, opcode, depth, inside):
+        if inside != "table":
+            return super().block(opcode, depth, inside)
+        outside = self.scope, self.is_sure
+        if opcode in SCOPES:
+            self.scope, self.is_sure = self.opened, self.is_sure and self.opened_is_sure
+        else:
+            self.is_sure = False
+        code = self.terms(depth, "table")
+        self.scope, self.is_sure = outside
+        return code
+
+    def parts(self, opcode, depth, inside):
+        self.opcode = opcode
+        if opcode == METHOD and not self.is_strange("table"):
+            return self.method_parts()
+        return super().parts(opcode, depth, inside)
+
+    def part(self, kind, opcode, depth, inside):
+        self.opcode = opcode
+        if kind == "T":
+            return self.value(depth, inside)
+        return super().part(kind, opcode, depth, inside)
+
+    # ---- names
+
+    def method_parts(self):
+        """The name and the flags of a method: mostly with the count that its name has already."""
+        name = self.new_or_known_name()
+        told = self.space.arity(self.scope)((), name)
+        count = self.chance.choice(ARGUMENT_COUNTS) if told is None else self.same_or_other(told)
+        return self.declared_name(name, count) + bytes([count | self.chance.choice((0x00, 0x08, 0xF0))])
+
+    def new_name(self, inside, count=0):
+        if inside != "table" or self.is_strange(inside):
+            return super().new_name(inside, count)
+        return self.declared_name(self.new_or_known_name(), count)
+
+    def new_or_known_name(self):
+        """A name to be declared: a new one, or seldom one of a path declared before, or of the last segment of one."""
+        how, paths = self.chance.random(), [path for path in self.known if path]
+        if how < 0.05:
+            return Name(True, 0, list(self.chance.choice(paths)))
+        if how < 0.09:
+            return Name(False, 0, [self.chance.choice(paths)[-1]])
+        return self.fresh_name("table")
+
+    def declared_name(self, name, count):
+        self.opened = name.placed(self.scope)
+        self.opened_is_sure = self.opened not in self.space.declarations
+        self.known.setdefault(self.opened, count)
+        if self.opcode == EXTERNAL:
+            self.space.add_external(self.opened, count)
+        else:
+            self.space.declare_so(self.scope, name, self.declared_kind(count), self.is_sure)
+        return spelled(self.chance, name)
+
+    def declared_kind(self, count):
+        if self.opcode == METHOD:
+            return "Method", count
+        return ("Alias", self.alias_target) if self.opcode == ALIAS else (KINDS.get(self.opcode, "Name"),)
+
+    def alias_names(self, inside):
+        if inside != "table":
+            return super().alias_names(inside)
+        path = self.chance.choice([path for path in self.known if path])
+        source = self.leading_name(path)
+        found = self.space.find(self.scope, source) or ()
+        if not found and self.happens(0.8):
+            source, found = Name(True, 0, list(path)), path
+        kind = self.space.kind(found)
+        self.alias_target = kind[1] if kind and kind[0] == "Alias" else found
+        return spelled(self.chance, source) + self.new_name(inside)
+
+    def scope_name(self):
+        """The name of the path that a Scope opens: now and then of one that nothing declares."""
+        if self.happens(0.15):
+            self.opened, self.opened_is_sure = (self.fresh_segment(), self.fresh_segment())[:self.chance.choice((1, 2))], False
+            return spelled(self.chance, Name(True, 0, list(self.opened)))
+        code = super().scope_name()
+        self.opened_is_sure = self.space.is_sure(self.opened)
+        return code
+
+    def new_unit(self, inside):
+        code = super().new_unit(inside)
+        if inside == "table":
+            self.space.declare_so(self.scope, Name(False, 0, [code.decode()]), ("Field",), self.is_sure)
+        return code
+
+    def called(self, depth, inside):
+        """A name where a value is wanted, with the arguments that what stands so far tells."""
+        if self.is_strange(inside) or inside == "body" and self.locals and self.happens(0.3):
+            return super().called(depth, inside)
+        if inside == "table" and self.happens(0.1 if self.in_declaration else 0.002):
+            return spelled(self.chance, Name(False, 0, [self.fresh_segment()]))
+        for _ in range(MOST_TRIES):
+            path = self.chance.choice(self.callable_paths(inside))
+            name = self.leading_name(path)
+            count = self.space.arity(self.scope)(self.locals, name)
+            if count is None and inside == "body":
+                count = self.methods.get(path)
+            if count is not None:
+                return spelled(self.chance, name) + b"".join(self.value(depth + 1, inside) for _ in range(count))
+            if self.happens(0.05):
+                return spelled(self.chance, name)
+        return b"\1"
+
+    def callable_paths(self, inside):
+        """The paths to call: more often methods with arguments, and in bodies those that are declared at the end."""
+        if self.happens(0.5):
+            paths = list(self.methods if inside == "body" else self.given if self.happens(0.1) else ())
+            paths += [path for path, count in self.known.items() if path and count and inside != "body"]
+            if paths:
+                return paths
+        return [path for path in self.known if path]
+
+    # ---- scenes
+
+    def maybe_method(self, name, count):
+        """A method in an If."""
+        outside, self.is_sure, self.opcode = self.is_sure, False, METHOD
+        method = self.method(self.declared_name(name, count), self.opened, count)
+        self.is_sure = outside
+        return self.packed(b"\xA0", b"\1" + method)
+
+    def caller(self, depth, name, counts, front=b""):
+        """A method that calls a name with one of these counts of arguments."""
+        self.opcode = METHOD
+        content = self.declared_name(self.fresh_name("table"), 0) + b"\0" + front + spelled(self.chance, name)
+        content += b"".join(self.operation(BYTE, depth, "body") for _ in range(self.chance.choice(counts)))
+        return self.packed(b"\x14", content)
+
+    def shadow(self, depth):
+        """A Device in which a method of an outer name only may stand, and what uses that name there."""
+        outer = self.chance.choice([("_OSI",), *(path for path, count in self.known.items() if path and count)])
+        name, count = Name(False, 0, [outer[-1]]), self.known[outer]
+        other, self.opcode = self.same_or_other(count), DEVICE
+        device, outside = self.declared_name(self.fresh_name("table"), 0), (self.scope, self.is_sure)
+        self.scope, self.is_sure = self.opened, self.is_sure and self.opened_is_sure
+        code = self.maybe_method(name, other)
+        if self.gives and self.happens(0.5):
+            self.given |= {outer: count, name.placed(self.scope): other}
+        local = b"\x08" + spelled(self.chance, Name(True, 0, list(outer))) + b"\0"
+        code += self.caller(depth, name, (count, other, 0), local if self.happens(0.2) else b"")
+        if self.happens(0.06):
+            code += self.packed(b"\x10", spelled(self.chance, name))
+        self.scope, self.is_sure = outside
+        return self.packed(b"\x5B\x82", device + code)
+
+    def aliased(self, depth):
+        """Two branches with a method of one path, an Alias of it, and what calls this one."""
+        name, count = self.fresh_name("table"), self.chance.choice(ARGUMENT_COUNTS)
+        other = self.same_or_other(count)
+        code = self.maybe_method(name, count) + self.packed(b"\xA1", self.maybe_method(name, other))
+        source, alias = name.placed(self.scope), Name(False, 0, [self.fresh_segment()])
+        self.opcode, self.alias_target = ALIAS, source
+        code += b"\x06" + spelled(self.chance, Name(True, 0, list(source))) + self.declared_name(alias, count)
+        return code + self.caller(depth, alias, (count, other))
+
+    def again(self, depth):
+        """A Device of a path that is declared already."""
+        self.opcode = DEVICE
+        device = self.declared_name(Name(True, 0, list(self.chance.choice([path for path in self.known if path]))), 0)
+        return self.packed(b"\x5B\x82", device + self.block(DEVICE, depth, "table"))
+
+    def predefined(self, depth):
+        """A method at a predefined path that only may stand, and what calls it."""
+        name, count = Name(True, 0, ["_OSI"]), self.same_or_other(1)
+        return self.maybe_method(name, count) + self.caller(depth, name, (1, count))
+
+    def imported(self, depth):
+        """A Scope of what only an External names."""
+        self.opcode = EXTERNAL
+        name = self.fresh_name("table")
+        external = b"\x15" + self.declared_name(name, 0) + b"\6\0"
+        outside = self.scope, self.is_sure
+        self.scope, self.is_sure = self.opened, False
+        scope = spelled(self.chance, Name(True, 0, list(self.scope))) + self.terms(depth + 1, "table")
+        self.scope, self.is_sure = outside
+        return external + self.packed(b"\x10", scope)

@@ -1,0 +1,113 @@
+#!/usr/bin/env python3
+"""Tries the promise of --any-run on made-up declarations: where what stands surely or maybe tells a name's count, each run
+that finds the name has this count; and where it tells none, of kinds that are no Alias, two runs differ.
+
+    python3 tests/oracle/runs_agree.py [--lists N] [--seed N]
+
+A run is a selection of the declarations that keeps the sure ones; all are tried. Of a path the first that is kept counts.
+The last line is 'N passed, N failed', by the names that were asked.
+"""
+
+import argparse
+import itertools
+import pathlib
+import random
+import sys
+
+sys.dont_write_bytecode = True
+sys.path.insert(0, str(pathlib.Path(__file__).resolve().parent))
+
+from any_run import RunNamespace  # noqa: E402
+from loading import Namespace, path_text  # noqa: E402
+from reading import Name  # noqa: E402
+
+SEGMENTS = ["AAAA", "BBBB", "_OSI", "_SB_"]
+PATHS = [(one,) for one in SEGMENTS] + [("_SB_", "AAAA"), ("_SB_", "BBBB"), ("_SB_", "AAAA", "BBBB"), ("AAAA", "BBBB")]
+SCOPES = [(), *PATHS, ("_SB_", "AAAA", "AAAA")]
+NAMES = [Name(False, 0, [one]) for one in SEGMENTS[:3]] + [Name(True, 0, ["_SB_", "AAAA"]), Name(False, 1, ["BBBB"])]
+LOCALS = [(), {("AAAA",)}, {("_SB_", "BBBB")}]
+MOST_MAYBES = 7
+
+
+def made_declarations(chance):
+    """Paths with a kind, and whether it is sure."""
+    made, maybes = [], 0
+    for _ in range(chance.randrange(1, 10)):
+        is_sure = maybes == MOST_MAYBES or chance.random() < 0.3
+        maybes += not is_sure
+        kinds = [("Name",), ("Alias", chance.choice(PATHS)), *(("Method", count) for count in (0, 1, 1, 2))]
+        made.append((chance.choice(PATHS), chance.choice(kinds), is_sure))
+    return made
+
+
+def made_counts(chance):
+    """What Externals say of some paths."""
+    return [(chance.choice(PATHS), chance.randrange(3)) for _ in range(chance.choice((0, 0, 1, 3)))]
+
+
+def space_of(declarations, externals):
+    space = RunNamespace()
+    for path, kind, is_sure in declarations:
+        space.declare_so((), Name(True, 0, list(path)), kind, is_sure)
+    for path, count in externals:
+        space.add_external(path, count)
+    return space
+
+
+def runs_of(declarations, externals):
+    """The namespaces of all runs."""
+    for kept in itertools.product(*((True,) if is_sure else (True, False) for _, _, is_sure in declarations)):
+        run = Namespace()
+        for (path, kind, _), is_kept in zip(declarations, kept):
+            if is_kept:
+                run.kinds.setdefault(path, kind)
+        for path, count in externals:
+            run.add_external(path, count)
+        yield run
+
+
+def found_count(run, scope, name, local):
+    """The count that a run has for a name which it finds, by what stands at an Alias' target; else None."""
+    path = run.find(scope, name, local)
+    if path is None or path not in local and run.kind(path) is None:
+        return None
+    if path in local:
+        return 0
+    kind = run.kind(path)
+    return None if kind[0] == "Alias" and run.kind(kind[1]) is None else run.count(path)
+
+
+def has_alias(space, scope, name):
+    return any(kind[0] == "Alias" for path in name.candidates(scope) for kind in space.kinds_of(path))
+
+
+def holds(space, runs, scope, name, local):
+    """Whether the promise and its converse hold of a name."""
+    met = space.counts_met(scope, name, local)
+    counts = {found_count(run, scope, name, local) for run in runs} - {None}
+    if met and len(set(met)) == 1:
+        return counts <= {space.arity(scope)(local, name)} == set(met)
+    return not met or has_alias(space, scope, name) or len(counts) > 1
+
+
+def main():
+    words = argparse.ArgumentParser(description=__doc__, formatter_class=argparse.RawDescriptionHelpFormatter)
+    words.add_argument("--lists", type=int, default=200)
+    words.add_argument("--seed", type=int, default=0)
+    asked = words.parse_args()
+    chance, passed, failed = random.Random(asked.seed), 0, 0
+    for _ in range(asked.lists):
+        declarations, externals = made_declarations(chance), made_counts(chance)
+        space, runs = space_of(declarations, externals), list(runs_of(declarations, externals))
+        for scope, name, local in itertools.product(SCOPES, NAMES, LOCALS):
+            if holds(space, runs, scope, name, local):
+                passed += 1
+            else:
+                failed += 1
+                print(f"FAILED {path_text(scope)}: {name}, with locals {local}, of {declarations}, {externals}")
+    print(f"{passed} passed, {failed} failed")
+    sys.exit(failed > 0)
+
+
+if __name__ == "__main__":
+    main()
