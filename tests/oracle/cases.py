@@ -18,7 +18,7 @@ from externals import ExternalsFault, parse_externals  # noqa: E402
 from folders import MapFault, parse_map  # noqa: E402
 from loading import Body, Namespace, path_text  # noqa: E402
 from printing import hexadecimal, row_text, term_lines  # noqa: E402
-from reading import Name, Reader, Refused  # noqa: E402
+from reading import METHOD, Name, Op, Reader, Refused  # noqa: E402
 from running import Options, run  # noqa: E402
 
 HEADER = b"\x02\0TEST  EXAMPLE \x01\0\0\0TEST\x01\0\0\0"
@@ -88,6 +88,24 @@ def table_text(code):
 
 def cuts_text(code):
     return [line for length in range(len(code)) for line in [f"{length} bytes:", *table_text(code[:length])]]
+
+
+class StepReader(Reader):
+    """Reads a term of a table whose code may run, without the terms inside it: of these it keeps the span."""
+
+    span = None
+
+    def block(self, term, at, end, level):
+        self.span = at, end
+        return []
+
+
+def step_text(code, count, at):
+    """Where the term at an offset ends, and what stands inside it, where each name takes so many arguments."""
+    reader = StepReader(code, lambda _declared, _name: count)
+    term, end = reader.term(at, len(code), "run", 1)
+    span = reader.span or (term.tail if isinstance(term, Op) and term.opcode == METHOD else None)
+    return f"to {end}" + (f", inside {span[1] - span[0]} bytes at {span[0]}" if span else "")
 
 
 def name_text(code):
@@ -189,6 +207,10 @@ class Rows:
 
     def row_table(self, _, code):
         return table_text(code)
+
+    def row_step(self, words, code):
+        count, at = map(int, words.split())
+        return [step_text(code, count, at)]
 
     def row_cuts(self, _, code):
         return cuts_text(code)

@@ -54,6 +54,7 @@ impl Cases {
             "body" => code::push_body(alloc, out, line.words, bytes),
             "method" => self.names().push_body(alloc, out, line.words, bytes),
             "table" => code::push_table(alloc, out, bytes),
+            "step" => code::push_step(alloc, out, line.words, bytes),
             "cuts" => code::push_cuts(alloc, out, bytes),
             "name" => code::push_name(alloc, out, bytes),
             "length" => code::push_length(out, bytes),

@@ -1,13 +1,13 @@
 //! Rows of AML: bodies, tables, names and package lengths.
 ghost use Rattle.std.specs.Prelude.{◌≤◌, Some, length};
 
-use crate::lines::push_indented;
+use crate::lines::{first_word, push_indented};
 use aml_code::{
-    Arity, Bytes, CodeFault, Locals, Name, NameForm, NoMemory, Node, Path, PkgWidth, encode_terms,
-    read_pkg,
+    Arity, Bytes, CodeFault, Locals, Name, NameForm, NoMemory, Node, Path, PkgWidth, Position,
+    Tail, encode_terms, read_pkg,
 };
 use aml_names::read_name;
-use aml_parse::{parse_body, parse_module};
+use aml_parse::{parse_body, parse_module, read_step};
 use asl_text::{Bodies, Body, print_block, term_text};
 use std::alloc::{AllocError, Global};
 use std::fmt::Write;
@@ -93,6 +93,49 @@ pub fn push_body_of<A: Arity>(
         Err(fault) => push_fault(out, fault),
         Ok(nodes) => push_terms(alloc, out, code, &nodes),
     }
+}
+
+/// A term of a table whose code may run: where it ends, and the span of the terms inside it or of its method's body.
+/// The words are how many arguments each name takes, and the offset at which it stands.
+pub fn push_step(
+    alloc: Global,
+    out: &mut String,
+    words: &str,
+    code: &[u8],
+) -> Result<(), AllocError>
+    requires { length code.now ≤ 16777216 }
+{
+    let (count, at) = first_word(words);
+    let count = count.parse::<u8>().unwrap_or(0);
+    let at = at.parse::<u32>().unwrap_or(0);
+    let end = code.len() as u32;
+    if at > end {
+        return Ok(());
+    }
+    match read_step(
+        alloc,
+        &Each { count },
+        Position::RunTerm,
+        512,
+        code,
+        at,
+        end,
+    ) {
+        Err(fault) => push_fault(out, fault),
+        Ok((node, behind)) => push_stepped(out, &node, behind),
+    }
+}
+
+fn push_stepped(out: &mut String, node: &Node, behind: u32) -> Result<(), AllocError> {
+    write!(out, "  to {behind}")?;
+    if let Node::Op {
+        tail: Tail::Body { start, len },
+        ..
+    } = node
+    {
+        write!(out, ", inside {len} bytes at {start}")?;
+    }
+    writeln!(out)
 }
 
 /// The terms of a table, with the bytes of the bodies of its methods.

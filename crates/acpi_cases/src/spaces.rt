@@ -151,7 +151,13 @@ impl Names<'_> {
         let (kind, compared) = self.space.kind_counted(path);
         push_row_or_none(out, path, kind)?;
         let most = 64 * path.segs().len() as u128;
-        let said = if compared == 0 { "no" } else if compared <= most { "few" } else { "many" };
+        let said = if compared == 0 {
+            "no"
+        } else if compared <= most {
+            "few"
+        } else {
+            "many"
+        };
         writeln!(out, "  {said} comparisons")
     }
 
@@ -209,11 +215,7 @@ pub fn push_rows(alloc: Global, out: &mut String, space: &Space) -> Result<(), A
     Ok(())
 }
 
-fn push_row_or_none(
-    out: &mut String,
-    path: &Path,
-    kind: Option<&Kind>,
-) -> Result<(), AllocError> {
+fn push_row_or_none(out: &mut String, path: &Path, kind: Option<&Kind>) -> Result<(), AllocError> {
     match kind {
         None => out.push_str("  none\n"),
         Some(kind) => push_row(out, path, kind),

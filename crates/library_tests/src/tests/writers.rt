@@ -151,7 +151,11 @@ fn a_listing_is_written_whole_or_its_first_bytes(rt: HostRuntime) -> Result<(), 
     for room in 0..=TEXT.len() {
         let mut out = Slow::new(rt.alloc(), room, 7);
         let cut = cut_of_listing(&rt, rt.alloc(), &mut out)?;
-        let wanted = if room < TEXT.len() { Some(room as u64) } else { None };
+        let wanted = if room < TEXT.len() {
+            Some(room as u64)
+        } else {
+            None
+        };
         assert_eq!(rt; cut, wanted);
         assert_eq!(rt; Some(out.taken.as_slice()), TEXT.as_bytes().get(..room));
     }
