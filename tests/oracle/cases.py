@@ -16,9 +16,10 @@ sys.path.insert(0, str(pathlib.Path(__file__).resolve().parent))
 from dumps import HEADER_LENGTH, LISTS, RECORDS, Bad, Dump, little, order_of, records_of  # noqa: E402
 from externals import ExternalsFault, parse_externals  # noqa: E402
 from folders import MapFault, parse_map  # noqa: E402
+from any_run import RunNamespace  # noqa: E402
 from loading import Body, Namespace, path_text  # noqa: E402
 from printing import hexadecimal, row_text, term_lines  # noqa: E402
-from reading import METHOD, Name, Op, Reader, Refused  # noqa: E402
+from reading import IF, METHOD, Name, Op, Reader, Refused  # noqa: E402
 from running import Options, run  # noqa: E402
 
 HEADER = b"\x02\0TEST  EXAMPLE \x01\0\0\0TEST\x01\0\0\0"
@@ -105,7 +106,8 @@ def step_text(code, count, at):
     reader = StepReader(code, lambda _declared, _name: count)
     term, end = reader.term(at, len(code), "run", 1)
     span = reader.span or (term.tail if isinstance(term, Op) and term.opcode == METHOD else None)
-    return f"to {end}" + (f", inside {span[1] - span[0]} bytes at {span[0]}" if span else "")
+    inside = f", inside {span[1] - span[0]} bytes at {span[0]}" if span else ""
+    return f"to {end}{inside}" + (", an Else may follow" if isinstance(term, Op) and term.opcode == IF else "")
 
 
 def name_text(code):
@@ -170,12 +172,18 @@ def path_or_none(path):
     return or_none(None if path is None else path_text(path))
 
 
+def declaration_of(words):
+    """The path and the kind of a declaration."""
+    path, word, *more = words.split()
+    return path_of(path), (word, int(more[0])) if word == "Method" else (word, path_of(more[0])) if word == "Alias" else (word,)
+
+
 class Rows:
     """The answers to rows: a set and a namespace grow until the next begins."""
 
     def __init__(self):
         self.dumps, self.given = [], []
-        self.names, self.declared = Namespace(), set()
+        self.names, self.declared = RunNamespace(), set()
 
     def answer(self, row):
         """The lines that stand below a row."""
@@ -288,12 +296,24 @@ class Rows:
     # namespaces
 
     def row_space(self, _, __):
-        self.names, self.declared = Namespace(), set()
+        self.names, self.declared = RunNamespace(), set()
 
     def row_declare(self, words, _):
-        path, word, *more = words.split()
-        kind = (word, int(more[0])) if word == "Method" else (word, path_of(more[0])) if word == "Alias" else (word,)
-        self.names.declare((), name_of(path), kind)
+        path, kind = declaration_of(words)
+        if path in self.names.declarations:
+            raise Refused("Duplicate", path=path_text(path))
+        self.names.declare_so((), name_of(words.split()[0]), kind, True)
+
+    def row_again(self, words, _):
+        self.names.declare_so((), name_of(words.split()[0]), declaration_of(words)[1], True)
+
+    def row_maybe(self, words, _):
+        self.names.declare_so((), name_of(words.split()[0]), declaration_of(words)[1], False)
+
+    def row_declared(self, words, _):
+        path = path_of(words)
+        declared = "declared" if path in self.names.declarations else "not declared"
+        return [f"{declared}, {'sure' if self.names.is_sure(path) else 'not sure'}"]
 
     def row_external(self, words, _):
         path, count = words.split()
@@ -313,12 +333,18 @@ class Rows:
         return path_or_none(name_of(name).placed(path_of(scope)))
 
     def row_find(self, words, _):
+        """Where a name leads by the first declarations."""
+        scope, name = words.split()
+        return path_or_none(Namespace.find(self.names, path_of(scope), name_of(name)))
+
+    def row_lead(self, words, _):
+        """Where it leads in every run."""
         scope, name = words.split()
         return path_or_none(self.names.find(path_of(scope), name_of(name)))
 
     def row_search(self, words, _):
         scope, name = words.split()
-        return path_or_none(self.names.find(path_of(scope), name_of(name), self.declared))
+        return path_or_none(Namespace.find(self.names, path_of(scope), name_of(name), self.declared))
 
     def row_count(self, words, _):
         return or_none(self.names.count(path_of(words)))

@@ -107,13 +107,13 @@ impl Cases {
     ) -> Result<(), AllocError> {
         match line.kind {
             "space" => self.begin_names(alloc),
-            "declare" | "external" | "given" | "local" => {
+            "declare" | "again" | "maybe" | "external" | "given" | "local" => {
                 spaces::change(alloc, out, &mut self.space, &mut self.locals, line)
             }
-            "count" | "kind" | "counted" | "rows" | "row_at" => {
+            "count" | "kind" | "counted" | "declared" | "rows" | "row_at" => {
                 self.names().push_known(alloc, out, line)
             }
-            "place" | "find" | "search" | "arity" | "arity_unknown_zero" => {
+            "place" | "find" | "lead" | "search" | "arity" | "arity_unknown_zero" => {
                 self.names().push_lead(alloc, out, line)
             }
             _ => push_table(alloc, out, line, bytes),

@@ -7,7 +7,7 @@ use aml_code::{
     Tail, encode_terms, read_pkg,
 };
 use aml_names::read_name;
-use aml_parse::{parse_body, parse_module, read_step};
+use aml_parse::{next_position, parse_body, parse_module, read_step};
 use asl_text::{Bodies, Body, print_block, term_text};
 use std::alloc::{AllocError, Global};
 use std::fmt::Write;
@@ -95,7 +95,8 @@ pub fn push_body_of<A: Arity>(
     }
 }
 
-/// A term of a table whose code may run: where it ends, and the span of the terms inside it or of its method's body.
+/// A term of a table whose code may run: where it ends, the span of the terms inside it or of its method's body, and
+/// whether an Else may follow.
 /// The words are how many arguments each name takes, and the offset at which it stands.
 pub fn push_step(
     alloc: Global,
@@ -134,6 +135,9 @@ fn push_stepped(out: &mut String, node: &Node, behind: u32) -> Result<(), AllocE
     } = node
     {
         write!(out, ", inside {len} bytes at {start}")?;
+    }
+    if next_position(Position::RunTerm, node) == Position::RunAfterIf {
+        out.push_str(", an Else may follow")?;
     }
     writeln!(out)
 }

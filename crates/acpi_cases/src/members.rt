@@ -51,7 +51,8 @@ fn is_kind(kind: &Kind, number: usize) -> bool {
 fn is_at_place(space: &Space, number: usize) -> bool {
     match space.row_at(number) {
         None => false,
-        Some((path, kind)) => path.segs() == [segment(number)].as_slice() && is_kind(kind, number),
+        Some(row) => row.path().segs() == [segment(number)].as_slice()
+            && is_kind(row.kind(), number),
     }
 }
 

@@ -8,7 +8,7 @@ use aml_space::{BodyScope, Kind, Space};
 use std::alloc::{AllocError, Global};
 use std::fmt::Write;
 
-/// Declares a path, or adds an External, a count that the user gives, or a path that a body has declared.
+/// Declares a path, once or again, or adds an External, a count that the user gives, or a path that a body has declared.
 pub fn change(
     alloc: Global,
     out: &mut String,
@@ -20,6 +20,8 @@ pub fn change(
     let path = path_of(alloc, path)?;
     match line.kind {
         "declare" => declare(alloc, out, space, path, more),
+        "again" => space.declare_again(path, kind_of(alloc, more)?, true),
+        "maybe" => space.declare_again(path, kind_of(alloc, more)?, false),
         "external" => space.external(path, more.parse::<u8>().unwrap_or(0)),
         "given" => space.given(&path, more.parse::<u8>().unwrap_or(0)),
         _ => locals.push(path),
@@ -87,6 +89,7 @@ impl Names<'_> {
         match way {
             "place" => place(alloc, scope, name),
             "find" => self.space.find(alloc, scope, name),
+            "lead" => self.space.lead(alloc, scope, name),
             _ => self.space.search(alloc, self.locals, scope, name),
         }
     }
@@ -138,6 +141,7 @@ impl Names<'_> {
             "kind" => self.push_kind(out, &path_of(alloc, line.words)?),
             "counted" => self.push_counted(out, &path_of(alloc, line.words)?),
             "row_at" => self.push_row_at(out, number_of(line.words)),
+            "declared" => self.push_declared(out, &path_of(alloc, line.words)?),
             _ => push_rows(alloc, out, self.space),
         }
     }
@@ -165,8 +169,23 @@ impl Names<'_> {
     fn push_row_at(&self, out: &mut String, place: usize) -> Result<(), AllocError> {
         match self.space.row_at(place) {
             None => out.push_str("  none\n"),
-            Some((path, kind)) => push_row(out, path, kind),
+            Some(row) => push_marked(out, row.path(), row.kind(), row.is_sure(), row.times()),
         }
+    }
+
+    /// Whether a path is declared, and whether it has a kind in every run.
+    fn push_declared(&self, out: &mut String, path: &Path) -> Result<(), AllocError> {
+        let declared = if self.space.is_declared(path) {
+            "declared"
+        } else {
+            "not declared"
+        };
+        let sure = if self.space.is_sure(path) {
+            "sure"
+        } else {
+            "not sure"
+        };
+        writeln!(out, "  {declared}, {sure}")
     }
 }
 
@@ -210,7 +229,7 @@ fn push_count(out: &mut String, count: Option<u8>) -> Result<(), AllocError> {
 /// The declared paths of a namespace in their order, each with its kind.
 pub fn push_rows(alloc: Global, out: &mut String, space: &Space) -> Result<(), AllocError> {
     for row in space.rows(alloc)? {
-        push_row(out, &row.path, &row.kind)?;
+        push_marked(out, &row.path, &row.kind, row.sure, row.times)?;
     }
     Ok(())
 }
@@ -223,12 +242,31 @@ fn push_row_or_none(out: &mut String, path: &Path, kind: Option<&Kind>) -> Resul
 }
 
 fn push_row(out: &mut String, path: &Path, kind: &Kind) -> Result<(), AllocError> {
+    push_marked(out, path, kind, true, 1)
+}
+
+/// A declared path, with the marks of one that only may stand, or that is declared several times.
+fn push_marked(
+    out: &mut String,
+    path: &Path,
+    kind: &Kind,
+    sure: bool,
+    times: usize,
+) -> Result<(), AllocError> {
     let word = kind_word(kind);
+    write!(out, "  {path} {word}")?;
     match kind {
-        Kind::Method { args } => writeln!(out, "  {path} {word} {args}"),
-        Kind::Alias { target } => writeln!(out, "  {path} {word} {target}"),
-        _ => writeln!(out, "  {path} {word}"),
+        Kind::Method { args } => write!(out, " {args}")?,
+        Kind::Alias { target } => write!(out, " {target}")?,
+        _ => {}
     }
+    if !sure {
+        out.push_str(" Maybe")?;
+    }
+    if times > 1 {
+        write!(out, " Times {times}")?;
+    }
+    writeln!(out)
 }
 
 fn kind_word(kind: &Kind) -> &'static str {

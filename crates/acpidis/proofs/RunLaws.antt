@@ -36,7 +36,7 @@ module _ (dumps : List Dump) (order : Order) (x : Loaded) (k : Meaning) (h : Hol
   -- with its bodies its output is printed
   printed_is : (check : Bool) → printed check dumps order x k.bodies ≡ output_of check dumps k
   printed_is false =
-      let rows = ap (λ known. finite.entries known.kinds) (known_alone x.space k.listed.entries h.holds.space) in
+      let rows = ap (λ known. finite.entries known.declarations) (known_alone x.space k.listed.entries h.holds.space) in
       λ i. listing_text dumps (same_order i) (rows i) (h.holds.tables i) (h.holds.trees i) k.bodies
   printed_is true = at_listing (λ blocks codes ms. check_lines blocks (checks_with blocks (marks_of codes ms k.bodies)))
 
@@ -95,7 +95,7 @@ module _ (dumps : List Dump) (options : Options) (order : Order) (x : Loaded) (s
   texts_output levels found ds there is was =
       let kept : AreKeptOf (λ n. IsKept (IsText (get_or (levels_of (trees_view x.trees.items)) n 0))) options.unknown_zero x ds = rw (is, ← there) was in
       let Gives : ℕ → Trees → BodyText → Type 0 = λ n. IsText (get_or (levels_of (trees_view x.trees.items)) n 0) in
-      let front : List ℕ = dumps_text dumps ++ namespace_text (finite.entries x.space.kinds) in
+      let front : List ℕ = dumps_text dumps ++ namespace_text (finite.entries x.space.declarations) in
       let same : text_with dumps order x (map body_lines (map body_view kept.0)) ≡ text_with dumps order x (map printed_lines ds) =
       ap (λ (l : List ℕ). front ++ l) (same_blocks (names_in dumps (indexes_in order)) (codes_view x.tables.items) (trees_view x.trees.items) _ _
       (texts_agree (levels_of (trees_view x.trees.items)) kept.0 ds kept.2)) in

@@ -4,9 +4,8 @@ use Rattle.std.specs.List.{AllZip}
 use Rattle.std.specs.FinMap as finite
 use Rattle.aml_names.specs.declared.segments.Seg.{Seg}
 use Rattle.aml_code.specs.Tree.{Trees}
-use Rattle.aml_space.specs.declared.kinds.Kind.{Kind}
 use Rattle.aml_space.specs.Namespace.{Entry}
-use Rattle.aml_space.specs.Known.{kinds_in}
+use Rattle.aml_space.specs.Known.{Declared, declarations_in}
 use Rattle.aml_load.specs.Loading.{Listed, IsLoad, methods_of}
 use Rattle.aml_load.specs.Views.{HoldsLoad}
 use Rattle.aml_set.specs.declared.loaded.Loaded.{Loaded}
@@ -50,9 +49,9 @@ pub record Means (dumps : List Dump) (options : Options) (k : Meaning) : Type 0 
   pub bodies : AreEntries options.unknown_zero k.listed.entries (codes_of dumps k) (methods_of k.listed.entries)
       k.bodies
 
--- the rows of the namespace: the declared paths in order, each once, with its kind
-abbrev pub rows_of : List Entry → List (List Seg × Kind)
-rows_of es = finite.entries (kinds_in es)
+-- the rows of the namespace: the declared paths in order, each once, with what its declarations say
+abbrev pub rows_of : List Entry → List (List Seg × Declared)
+rows_of es = finite.entries (declarations_in es)
 
 -- the text of a listing
 abbrev pub text_of : List Dump → Meaning → List ℕ

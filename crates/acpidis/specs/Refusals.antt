@@ -23,6 +23,7 @@ abbrev pub in_dump : List ℕ → LoadFault → LoadFault
 in_dump order (loads.Code t f) = loads.Code (get_or order t 0) f
 in_dump order (loads.Space t f) = loads.Space (get_or order t 0) f
 in_dump order (loads.ModuleCall t) = loads.ModuleCall (get_or order t 0)
+in_dump order (loads.RunCall t p) = loads.RunCall (get_or order t 0) p
 in_dump order f = f
 
 -- and the refusal for it

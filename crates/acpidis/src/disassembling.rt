@@ -78,6 +78,10 @@ fn refused_load(order: &Order, fault: LoadFault) -> Refusal
             fault,
         )),
         LoadFault::ModuleCall(table) => Refusal::Load(LoadFault::ModuleCall(dump_at(order, table))),
+        LoadFault::RunCall(table, path) => Refusal::Load(LoadFault::RunCall(
+            dump_at(order, table),
+            path,
+        )),
         LoadFault::TooManyMethods => Refusal::Load(LoadFault::TooManyMethods),
         LoadFault::NoMemory => Refusal::NoMemory,
     }

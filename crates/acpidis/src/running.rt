@@ -210,6 +210,7 @@ fn dump_of(refusal: &Refusal) -> Option<usize> {
         Refusal::Load(LoadFault::Code(dump, _)) => Some(*dump),
         Refusal::Load(LoadFault::Space(dump, _)) => Some(*dump),
         Refusal::Load(LoadFault::ModuleCall(dump)) => Some(*dump),
+        Refusal::Load(LoadFault::RunCall(dump, _)) => Some(*dump),
         _ => None,
     }
 }

@@ -14,9 +14,10 @@ use Rattle.aml_code.specs.Tree.{Trees}
 use Rattle.aml_code.specs.Faults.{StandsAt}
 use Rattle.aml_code.specs.Lawful.{ReadsBody}
 use Rattle.aml_parse.specs.Reading.{all_at}
-use Rattle.aml_space.specs.Known.{BodyView, Known, StandsFor, namespace_in}
-use Rattle.aml_space.specs.Namespace.{Entry, Namespace, namespace_of, arity_of}
-use Rattle.aml_space.proofs.Stands.{same_namespace}
+use Rattle.aml_space.specs.Known.{BodyView, Known, StandsFor, outlook_in}
+use Rattle.aml_space.specs.Namespace.{Entry}
+use Rattle.aml_space.specs.Runs.{Outlook, outlook_of, agreed_arity}
+use Rattle.aml_space.proofs.Stands.{same_outlook}
 use Rattle.aml_set.specs.declared.methods.Method.{Method}
 use Rattle.aml_set.specs.Views.{AreShort, span_in, span_of}
 use Rattle.aml_load.specs.Views.{IsBody, IsUnread, IsReading, GivesBody}
@@ -34,8 +35,8 @@ short_at (x ∷ cs) (suc n) c h e = short_at cs n c h.1 e
 pub short_span : (cs : List (List ℕ)) (m : Method) → AreShort cs → length (span_of cs m) ≤ 16777216
 short_span cs m h = short_in (slice_get cs m.table) m (λ c e. short_at cs m.table c h e)
 
-abbrev Reads : Namespace → Bool → Method → List ℕ → Trees → Type 0
-Reads n z m bytes ts = ReadsBody (arity_of n z m.path) m.path bytes ts
+abbrev Reads : Outlook → Bool → Method → List ℕ → Trees → Type 0
+Reads n z m bytes ts = ReadsBody (agreed_arity n z m.path) m.path bytes ts
 
 -- a fault is want of memory, or it isn't
 want_or : (f : CodeFault) → (f ≡ codes.NoMemory) ⊎ (f ≢ codes.NoMemory)
@@ -67,14 +68,14 @@ Says view path bytes r counts =
 
 unread : {X : Type 0} (view : X → Trees) (es : List Entry) (cs : List (List ℕ)) (m : Method) (z : Bool) (f : CodeFault) → (f ≡ codes.NoMemory)
     ⊎ ((ts : Trees) → IsBody z es cs m ts → ⊥)
-    → StandsAt (arity_of (namespace_of es) z m.path) (span_of cs m) f → (f ≡ codes.NoMemory) ⊎ (f ≢ codes.NoMemory) → (f ≡ codes.NoMemory)
+    → StandsAt (agreed_arity (outlook_of es) z m.path) (span_of cs m) f → (f ≡ codes.NoMemory) ⊎ (f ≢ codes.NoMemory) → (f ≡ codes.NoMemory)
     ⊎ IsUnread z es cs m f
 unread view es cs m z f complete there (inl w) = inl w
 unread view es cs m z f (inl w) there (inr n) = inl w
 unread view es cs m z f (inr none) there (inr n) = inr (record { reason = n; stands = there; none = none })
 
 reading_of : {X : Type 0} (view : X → Trees) (es : List Entry) (cs : List (List ℕ)) (m : Method) (z : Bool) (r : Result X CodeFault)
-    → Says view m.path (span_of cs m) r (arity_of (namespace_of es) z m.path) → IsReading view z es cs m r
+    → Says view m.path (span_of cs m) r (agreed_arity (outlook_of es) z m.path) → IsReading view z es cs m r
 reading_of view es cs m z (Ok x) says = (says.0, says.1)
 reading_of view es cs m z (Err f) says = unread view es cs m z f says.2 says.3 (want_or f)
 
@@ -82,17 +83,17 @@ reading_of view es cs m z (Err f) says = unread view es cs m z f says.2 says.3 (
 -- entries
 said_of_method : (P : Counts → List ℕ → Type 0) (names : BodyView) (k : Known) (es : List Entry) (cs : List (List ℕ)) (m : Method) (z : Bool) (bytes : List ℕ)
     → names ≡ record { known = k; method = m.path; unknown_zero = z } → StandsFor k es → bytes ≡ span_of cs m
-    → P (arity_of (namespace_in names.known) names.unknown_zero names.method) bytes → P (arity_of (namespace_of es) z m.path) (span_of cs m)
+    → P (agreed_arity (outlook_in names.known) names.unknown_zero names.method) bytes → P (agreed_arity (outlook_of es) z m.path) (span_of cs m)
 said_of_method P names k es cs m z bytes named s is says =
-    let here = subst (λ (v : BodyView). P (arity_of (namespace_in v.known) v.unknown_zero v.method) bytes) named says in
-    let there = subst (λ (n : Namespace). P (arity_of n z m.path) bytes) (same_namespace k es s) here in
-    subst (λ (b : List ℕ). P (arity_of (namespace_of es) z m.path) b) is there
+    let here = subst (λ (v : BodyView). P (agreed_arity (outlook_in v.known) v.unknown_zero v.method) bytes) named says in
+    let there = subst (λ (n : Outlook). P (agreed_arity n z m.path) bytes) (same_outlook k es s) here in
+    subst (λ (b : List ℕ). P (agreed_arity (outlook_of es) z m.path) b) is there
 
 -- what `parse_body` answers over the names of a method's body is a reading of this body
 pub reading_is : {X : Type 0} (view : X → Trees) (names : BodyView) (k : Known) (es : List Entry) (cs : List (List ℕ)) (m : Method) (z : Bool) (bytes : List ℕ)
     (r : Result X CodeFault)
     → names ≡ record { known = k; method = m.path; unknown_zero = z } → StandsFor k es → bytes ≡ span_of cs m
-    → Says view m.path bytes r (arity_of (namespace_in names.known) names.unknown_zero names.method) → IsReading view z es cs m r
+    → Says view m.path bytes r (agreed_arity (outlook_in names.known) names.unknown_zero names.method) → IsReading view z es cs m r
 reading_is view names k es cs m z bytes r named s is says =
     reading_of view es cs m z r (said_of_method (λ counts b. Says view m.path b r counts) names k es cs m z bytes named s is says)
 
@@ -100,7 +101,7 @@ reading_is view names k es cs m z bytes r named s is says =
 pub forward_is : {X : Type 0} (view : X → Trees) (names : BodyView) (k : Known) (es : List Entry) (cs : List (List ℕ)) (m : Method) (z : Bool) (bytes : List ℕ)
     (r : Result X CodeFault)
     → names ≡ record { known = k; method = m.path; unknown_zero = z } → StandsFor k es → bytes ≡ span_of cs m
-    → Gives view r (all_at (arity_of (namespace_in names.known) names.unknown_zero names.method) (Some m.path) positions.BodyTerm bytes)
+    → Gives view r (all_at (agreed_arity (outlook_in names.known) names.unknown_zero names.method) (Some m.path) positions.BodyTerm bytes)
     → GivesBody view z es cs m r
 forward_is view names k es cs m z bytes r named s is says =
     said_of_method (λ counts b. Gives view r (all_at counts (Some m.path) positions.BodyTerm b)) names k es cs m z bytes named s is says

@@ -1,17 +1,17 @@
 -- What the progress holds after one entry more.
 use Rattle.std.proofs.Common.{◌≡◌, ℕ, ◌-◌, nat_le, true, cond, List, [], ◌∷◌, ◌++◌, length, Vec, Option, Some, None, is_some, IsTrue, Result, Ok, Err, refl}
-use Rattle.std.proofs.Common.{sym, ap, subst, ◌∙◌, ◌⊎◌, inl, inr, arith}
+use Rattle.std.proofs.Common.{sym, ap, subst, ◌∙◌, ◌⊎◌, inl, inr, arith, Bool, false, not, ◌&&◌}
 use Rattle.std.proofs.lemmas.Bool.Decides.{nat_tests}
 use Rattle.std.proofs.lemmas.List.{append-nil, take_all}
 use Rattle.aml_names.specs.Names.{placed}
 use Rattle.std.specs.declared.alloc.Global.{Global}
-use Rattle.aml_code.specs.Lawful.{plain_name}
+use Rattle.aml_code.specs.Lawful.{plain_name, unit_names}
 use Rattle.aml_code.specs.declared.packages.PkgWidth.{PkgWidth}
 use Rattle.aml_code.specs.declared.rows.Role.{Role}
 use Rattle.aml_code.specs.declared.tree.Node.{Node, Op}
 use Rattle.aml_code.specs.declared.tree.Part.{Part}
 use Rattle.aml_code.specs.declared.tree.Tail.{Tail as CodeTail}
-use Rattle.aml_code.specs.Tree.{Parts, Tail}
+use Rattle.aml_code.specs.Tree.{Tree, op, Field as CodeField, unit, Fields, no_fields, field_more}
 use Rattle.aml_code.specs.View.{node_view, parts_view, tail_view}
 use Rattle.aml_code.proofs.Views.{view-Op}
 use Rattle.std.specs.FinMap as map
@@ -23,14 +23,15 @@ use Rattle.aml_space.specs.declared.kinds.Kind.TheVariants as kinds
 use Rattle.aml_space.specs.declared.faults.SpaceFault.{SpaceFault}
 use Rattle.aml_space.specs.declared.faults.SpaceFault.TheVariants as faults
 use Rattle.aml_space.specs.Namespace.{Entry, Body, declares, declared_at}
-use Rattle.aml_space.specs.Known.{Known, StandsFor, is_declared}
+use Rattle.aml_space.specs.Known.{Known, Declared, StandsFor, is_declared, declared_kind}
+use Rattle.aml_space.proofs.Stands.{first_said, declared_listed}
 use Rattle.aml_load.specs.declared.faults.LoadFault.{LoadFault}
 use Rattle.aml_load.specs.declared.faults.LoadFault.TheVariants as loads
 use Rattle.aml_set.specs.declared.methods.Method.{Method}
 use Rattle.aml_load.specs.declared.walking.Progress.{Progress}
-use Rattle.aml_load.specs.Loading.{◌>>=◌, Listed, plus, with_uses, method_of, methods_of, role_of, kinds_in, parts_uses, tail_uses, place_at, entry_at, new_at}
+use Rattle.aml_load.specs.Loading.{◌>>=◌, Where, strict, Listed, plus, with_uses, term_uses, method_of, methods_of, role_of, place_at, entry_at, new_at}
 use Rattle.aml_load.specs.Loading.{units_at, declare_as, declare, declare_inside}
-use Rattle.aml_load.specs.Walking.{space_fault, Fails, Holds}
+use Rattle.aml_load.specs.Walking.{Fails, Holds, IsFree}
 
 pub methods_more : (es : List Entry) (x : Entry) → methods_of (es ++ x ∷ []) ≡ methods_of es ++ methods_of (x ∷ [])
 methods_more [] x = refl
@@ -50,51 +51,38 @@ plain_held old new l x none h s ms us = record {
   uses = us ∙ h.uses;
 }
 
-pub method_held : (old new : Progress) (l : Listed) (p : List Seg) (k : Kind) (b : Body) (m : Method) → Holds old l
-    → StandsFor new.space (l.entries ++ declares p k (Some b) true ∷ []) → new.methods.items ≡ old.methods.items ++ m ∷ []
+pub method_held : (old new : Progress) (l : Listed) (p : List Seg) (k : Kind) (b : Body) (sure : Bool) (m : Method) → Holds old l
+    → StandsFor new.space (l.entries ++ declares p k (Some b) sure ∷ []) → new.methods.items ≡ old.methods.items ++ m ∷ []
     → m ≡ record { path = p; table = b.table; start = b.start; len = b.len; flags = b.flags } → new.uses.items ≡ old.uses.items
-    → Holds new (plus l (declares p k (Some b) true))
-method_held old new l p k b m h s ms is us = record {
+    → Holds new (plus l (declares p k (Some b) sure))
+method_held old new l p k b sure m h s ms is us = record {
   space = s;
   methods = ms ∙ ap (λ xs. xs ++ m ∷ []) h.methods ∙ ap (λ (x : Method). methods_of l.entries ++ x ∷ []) is
-      ∙ sym (methods_more l.entries (declares p k (Some b) true));
+      ∙ sym (methods_more l.entries (declares p k (Some b) sure));
   uses = us ∙ h.uses;
 }
 
 -- the names of a term more
-pub uses_held : (old new : Progress) (l : Listed) (t : ℕ) (scope : List Seg) (o : ℕ) (ps : Parts) (r : Tail) → Holds old l → new.space ≡ old.space
-    → new.methods.items ≡ old.methods.items
-    → new.uses.items ≡ old.uses.items ++ (parts_uses t scope (kinds_in o) ps ++ tail_uses t scope r) → Holds new (with_uses t l scope o ps r)
-uses_held old new l t scope o ps r h s ms us = record {
+pub uses_held : (old new : Progress) (l : Listed) (site : Where) (x : Tree) → Holds old l → new.space ≡ old.space → new.methods.items ≡ old.methods.items
+    → new.uses.items ≡ old.uses.items ++ term_uses site.table site.scope x → Holds new (with_uses site l x)
+uses_held old new l site x h s ms us = record {
   space = subst (λ k. StandsFor k l.entries) (sym s) h.space;
   methods = ms ∙ h.methods;
-  uses = us ∙ ap (λ us. us ++ (parts_uses t scope (kinds_in o) ps ++ tail_uses t scope r)) h.uses;
+  uses = us ∙ ap (λ us. us ++ term_uses site.table site.scope x) h.uses;
 }
 
 -- what an opcode declares
-pub declare_op : (t : ℕ) (l : Listed) (scope : List Seg) (node : Node) (o : ℕ) (w : Option PkgWidth) (ps : Vec Part Global) (r : CodeTail) (role : Role)
+pub declare_op : (site : Where) (l : Listed) (node : Node) (o : ℕ) (w : Option PkgWidth) (ps : Vec Part Global) (r : CodeTail) (role : Role)
     → node ≡ Op o w ps r → role ≡ role_of o
-    → declare t l scope (node_view node)
-    ≡ declare_as role t (with_uses t l scope o (parts_view ps.items) (tail_view r)) scope (parts_view ps.items) (tail_view r)
-    (λ l p. declare_inside t l p (tail_view r))
+    → declare site l (node_view node)
+    ≡ declare_as role site (with_uses site l (node_view node)) (parts_view ps.items) (tail_view r) (λ l below. declare_inside below l (tail_view r))
 unfolding declare
-declare_op t l scope node o w ps r role e is =
-    ap (λ n. declare t l scope (node_view n)) e
-    ∙ ap (declare t l scope) (view-Op o w ps r)
-    ∙ ap (λ k. declare_as k t (with_uses t l scope o (parts_view ps.items) (tail_view r)) scope (parts_view ps.items) (tail_view r)
-    (λ l p. declare_inside t l p (tail_view r))) (sym is)
-
-fresh_by : (o : Option Kind) (u : Unit {0}) (e : SpaceFault) → (IsTrue (is_some o) → Ok u ≡ Err e) → o ≡ None
-fresh_by None u e h = refl
-fresh_by (Some k) u e h = absurd (differ (h refl))
-  where
-    differ : Ok u ≡ Err e → ⊥
-    differ d = cc
-
--- a path that the space took wasn't declared
-pub fresh : (k : Known) (es : List Entry) (p : List Seg) (u : Unit {0}) → StandsFor k es → (IsTrue (is_declared k p) → Ok u ≡ Err (faults.Duplicate p))
-    → declared_at es p ≡ None
-fresh k es p u s h = sym (s.same_kinds p) ∙ fresh_by (map.get k.kinds p) u (faults.Duplicate p) h
+declare_op site l node o w ps r role e is =
+    let view : node_view node ≡ op o w (parts_view ps.items) (tail_view r) = ap node_view e ∙ view-Op o w ps r in
+    ap (declare site l) view
+    ∙ ap (λ k. declare_as k site (with_uses site l (op o w (parts_view ps.items) (tail_view r))) (parts_view ps.items) (tail_view r)
+    (λ l below. declare_inside below l (tail_view r))) (sym is)
+    ∙ ap (λ x. declare_as role site (with_uses site l x) (parts_view ps.items) (tail_view r) (λ l below. declare_inside below l (tail_view r))) (sym view)
 
 abbrev the_ok : Listed → Result Listed LoadFault
 the_ok l = Ok l
@@ -110,30 +98,33 @@ field_placed scope s =
     let all : length scope - 0 ≡ length scope = omega arith in
     rw (le, all) (ap (λ front. Some (front ++ s ∷ [])) (take_all (length scope) scope (omega arith)))
 
-pub unit_is : (t : ℕ) (l : Listed) (scope p : List Seg) (s : Seg) → p ≡ scope ++ s ∷ []
-    → entry_at t l p (declares p kinds.Field None true) ≡ units_at t l scope (plain_name s ∷ [])
+pub unit_is : (site : Where) (l : Listed) (p : List Seg) (s : Seg) → p ≡ site.scope ++ s ∷ []
+    → entry_at site l p (declares p kinds.Field None site.sure) ≡ units_at site l (plain_name s ∷ [])
 unfolding units_at new_at place_at
-unit_is t l scope p s e =
-    ap (λ q. entry_at t l q (declares q kinds.Field None true)) e
-    ∙ sym (ap (λ r. r >>= λ q. entry_at t l q (declares q kinds.Field None true)) (ap (λ o. ok_or o (loads.Space t faults.AboveRoot)) (field_placed scope s)))
-    ∙ sym (ended (new_at t l scope (Some (plain_name s)) (λ q. declares q kinds.Field None true)))
+unit_is site l p s e =
+    let entry : List Seg → Entry = λ q. declares q kinds.Field None site.sure in
+    ap (λ q. entry_at site l q (entry q)) e
+    ∙ sym (ap (λ r. r >>= λ q. entry_at site l q (entry q)) (ap (λ o. ok_or o (loads.Space site.table faults.AboveRoot)) (field_placed site.scope s)))
+    ∙ sym (ended (new_at site l (Some (plain_name s)) entry))
 
--- where nothing declared the path, the entry is there
-pub entry_again : (t : ℕ) (l : Listed) (p : List Seg) (x : Entry) → declared_at l.entries p ≡ None → entry_at t l p x ≡ Ok (plus l x)
+-- one element of a field list, and those behind it
+pub units_more : (site : Where) (m k : Listed) (u : CodeField) (us : Fields) → units_at site m (unit_names (field_more u no_fields)) ≡ Ok k
+    → units_at site k (unit_names us) ≡ units_at site m (unit_names (field_more u us))
+unfolding units_at
+units_more site m k (unit s w n) us e =
+    let new : Result Listed LoadFault = new_at site m (Some (plain_name s)) (λ p. declares p kinds.Field None site.sure) in
+    sym (ap (λ (r : Result Listed LoadFault). r >>= λ j. units_at site j (unit_names us)) (sym (ended new) ∙ e))
+units_more site m k _ us e = let same : k ≡ m = cc in ap (λ j. units_at site j (unit_names us)) same
+
+-- where an entry may be added, it is there
+pub entry_free : (site : Where) (l : Listed) (p : List Seg) (x : Entry) → (not site.any_run && is_some (declared_at l.entries p)) ≡ false
+    → entry_at site l p x ≡ Ok (plus l x)
 unfolding entry_at
-entry_again t l p x e = ap (λ o. cond (is_some o) (Err (loads.Space t (faults.Duplicate p))) (the_ok (plus l x))) e
+entry_free site l p x free = ap (λ b. cond b (Err (loads.Space site.table (faults.Duplicate p))) (the_ok (plus l x))) free
 
-twice : (o : Option Kind) (p : List Seg) (t : ℕ) (l : Listed) → IsTrue (is_some o)
-    → cond (is_some o) (Err (loads.Space t (faults.Duplicate p))) (the_ok l) ≡ Err (loads.Space t (faults.Duplicate p))
-twice None p t l d = absurd cc
-twice (Some k) p t l d = refl
-
--- what the space refused, loading forward refuses
-pub entry_refused : (t : ℕ) (l : Listed) (k : Known) (p : List Seg) (x : Entry) (f : SpaceFault) (e : LoadFault) → StandsFor k l.entries → (f ≡ faults.NoMemory)
-    ⊎ ((f ≡ faults.Duplicate p) × IsTrue (is_declared k p))
-    → e ≡ space_fault t f → Fails e (entry_at t l p x)
+-- where it may not, loading forward fails as the test for it does
+pub entry_taken : (site : Where) (l : Listed) (p : List Seg) (x : Entry) (e : LoadFault) → IsFree site l.entries p (Err e) → Fails e (entry_at site l p x)
 unfolding entry_at
-entry_refused t l k p x f e s (inl g) is = inl (is ∙ ap (space_fault t) g)
-entry_refused t l k p x f e s (inr g) is =
-    let d : IsTrue (is_some (declared_at l.entries p)) = subst (λ o. IsTrue (is_some o)) (s.same_kinds p) g.1 in
-    inr (twice (declared_at l.entries p) p t (plus l x) d ∙ ap (λ (h : LoadFault). Err h) (sym (is ∙ ap (space_fault t) g.0)))
+entry_taken site l p x e (inl want) = inl want
+entry_taken site l p x e (inr (taken, is)) =
+    inr (ap (λ b. cond b (Err (loads.Space site.table (faults.Duplicate p))) (the_ok (plus l x))) taken ∙ ap (λ (d : LoadFault). Err d) (sym is))

@@ -4,3 +4,7 @@ mod Givens
 pub mod BodyLaws
 pub mod NoSpans
 pub mod SpanLaws
+pub mod Asking
+pub mod RunLoads
+pub mod RunSpans
+pub mod Ran

@@ -6,7 +6,7 @@ use Rattle.std.specs.Prelude.{IfOk, IfErr}
 use Rattle.std.specs.Result.{MatchResult}
 use Rattle.std.specs.List.{AllZip}
 use Rattle.std.proofs.Common.{◌≡◌, ℕ, zero, suc, slice_index_or, ◌≤◌, List, [], ◌∷◌, ◌++◌, length, None, Result, Ok, Err, refl, sym, ap, subst, ◌∙◌}
-use Rattle.std.proofs.Common.{append_assoc, ◌⊎◌, inl, inr}
+use Rattle.std.proofs.Common.{append_assoc, ◌⊎◌, inl, inr, false}
 use Rattle.std.proofs.lemmas.List.{append-nil}
 use Rattle.aml_names.specs.declared.faults.CodeFault.{CodeFault}
 use Rattle.aml_code.specs.declared.rows.Position.TheVariants as positions
@@ -19,7 +19,7 @@ use Rattle.aml_load.specs.declared.faults.LoadFault.{LoadFault}
 use Rattle.aml_load.specs.declared.faults.LoadFault.TheVariants as loads
 use Rattle.aml_set.specs.declared.loaded.Loaded.{Loaded}
 use Rattle.aml_load.specs.declared.used.Use.{Use}
-use Rattle.aml_load.specs.Loading.{◌>>=◌, Listed, first_listed, declare_all, declare_tables, uses_at, IsLoad, StopsTables, StopsLoad, most_methods}
+use Rattle.aml_load.specs.Loading.{◌>>=◌, Listed, first_listed, strict, declare_all, declare_tables, uses_at, IsLoad, StopsTables, StopsLoad, most_methods}
 use Rattle.aml_load.specs.Walking.{in_code, table_at, tables_at, load_at, GivesLoad, AreCodes}
 use Rattle.aml_set.specs.Views.{AreShort, codes_view}
 use Rattle.aml_load.specs.Views.{HoldsLoad}
@@ -44,7 +44,7 @@ module _ (t : ℕ) (l : Listed) (front : List Trees) (c : List ℕ) (cs : List (
   abbrev behind : Trees × Listed → Result (List Trees × Listed) LoadFault
   behind one = tables_at (suc t) (front ++ one.0 ∷ []) one.1 cs
 
-  more_tells : (ts : Trees) (k : Listed) (r : Result (List Trees × Listed) LoadFault) → ReadsModule c ts → declare_all t l [] ts ≡ Ok k
+  more_tells : (ts : Trees) (k : Listed) (r : Result (List Trees × Listed) LoadFault) → ReadsModule c ts → declare_all (strict t []) l ts ≡ Ok k
       → Tells (suc t) k (front ++ ts ∷ []) cs r → Tells t l front (c ∷ cs) r
   unfolding declare_tables
   more_tells ts k (Ok x) law is d =
@@ -52,14 +52,14 @@ module _ (t : ℕ) (l : Listed) (front : List Trees) (c : List ℕ) (cs : List (
   more_tells ts k (Err e) law is stops = inr (ts, law, (k, is, stops))
 
   terms_tell : ((ts : Trees) (k : Listed) → Tells (suc t) k (front ++ ts ∷ []) cs (behind (ts, k))) → (ts : Trees) → ReadsModule c ts
-      → (r : Result Listed LoadFault) → declare_all t l [] ts ≡ r → Tells t l front (c ∷ cs) ((r >>= λ m. Ok (ts, m)) >>= behind)
+      → (r : Result Listed LoadFault) → declare_all (strict t []) l ts ≡ r → Tells t l front (c ∷ cs) ((r >>= λ m. Ok (ts, m)) >>= behind)
   terms_tell rest ts law (Ok k) is = more_tells ts k (behind (ts, k)) law is (rest ts k)
   terms_tell rest ts law (Err e) is = inl (inr (ts, law, is))
 
   code_tells : AreCodes (c ∷ cs) → ((ts : Trees) (k : Listed) → Tells (suc t) k (front ++ ts ∷ []) cs (behind (ts, k)))
       → (r : Result Trees CodeFault) → module_at c ≡ r
-      → Tells t l front (c ∷ cs) ((in_code t r >>= λ ts. declare_all t l [] ts >>= λ m. Ok (ts, m)) >>= behind)
-  code_tells fits rest (Ok ts) is = terms_tell rest ts (module_sound c ts fits.0 is) (declare_all t l [] ts) refl
+      → Tells t l front (c ∷ cs) ((in_code t r >>= λ ts. declare_all (strict t []) l ts >>= λ m. Ok (ts, m)) >>= behind)
+  code_tells fits rest (Ok ts) is = terms_tell rest ts (module_sound c ts fits.0 is) (declare_all (strict t []) l ts) refl
   code_tells fits rest (Err f) is =
       inl (inl (f, all_placed no_arguments None positions.ModuleTerm c f fits.0 is, (λ ts law. never ts f (module_at c) (module_again c ts law) is), refl))
 
@@ -83,8 +83,8 @@ tables_again t l front [] [] m read is =
 tables_again t l front [] (ts ∷ rest) m read is = absurd read
 tables_again t l front (c ∷ cs) [] m read is = absurd read
 tables_again t l front (c ∷ cs) (ts ∷ rest) m read is =
-    ap (λ r. (in_code t r >>= λ ts. declare_all t l [] ts >>= λ m. Ok (ts, m)) >>= behind t l front c cs) (module_again c ts read.0)
-    ∙ terms_again t l front c cs ts rest m (declare_all t l [] ts) is (λ k at. tables_again (suc t) k (front ++ ts ∷ []) cs rest m read.1 at)
+    ap (λ r. (in_code t r >>= λ ts. declare_all (strict t []) l ts >>= λ m. Ok (ts, m)) >>= behind t l front c cs) (module_again c ts read.0)
+    ∙ terms_again t l front c cs ts rest m (declare_all (strict t []) l ts) is (λ k at. tables_again (suc t) k (front ++ ts ∷ []) cs rest m read.1 at)
 
 -- ---- the whole load
 
@@ -92,7 +92,7 @@ module _ (gs : Givens) (cs : List (List ℕ)) where
   abbrev LoadTells : Result (List Trees × Listed) LoadFault → Type 0
   LoadTells r = MatchResult r (λ x. IsLoad gs cs x.0 x.1) (λ e. StopsLoad gs cs e)
 
-  uses_tell : (x : List Trees × Listed) → Declared 0 (first_listed gs) [] cs x → (r : Result (Unit {0}) LoadFault) → uses_at x.1.entries x.1.uses ≡ r
+  uses_tell : (x : List Trees × Listed) → Declared 0 (first_listed gs) [] cs x → (r : Result (Unit {0}) LoadFault) → uses_at false false x.1.entries x.1.uses ≡ r
       → LoadTells (r >>= λ u. Ok x)
   uses_tell x d (Ok u) is = record {
     read = subst (AllZip ReadsModule cs) (sym d.1) d.2;
@@ -102,8 +102,8 @@ module _ (gs : Givens) (cs : List (List ℕ)) where
   uses_tell x d (Err e) is = inr (d.0, d.2, (x.1, d.3, is))
 
   after_tables : (r : Result (List Trees × Listed) LoadFault) → Tells 0 (first_listed gs) [] cs r
-      → LoadTells (r >>= λ x. uses_at x.1.entries x.1.uses >>= λ u. Ok x)
-  after_tables (Ok x) d = uses_tell x d (uses_at x.1.entries x.1.uses) refl
+      → LoadTells (r >>= λ x. uses_at false false x.1.entries x.1.uses >>= λ u. Ok x)
+  after_tables (Ok x) d = uses_tell x d (uses_at false false x.1.entries x.1.uses) refl
   after_tables (Err e) stops = inl stops
 
   load_tells : AreCodes cs → LoadTells (load_at gs cs)
@@ -112,10 +112,10 @@ module _ (gs : Givens) (cs : List (List ℕ)) where
 
 -- the steps of a load put together
 pub load_gives : (gs : Givens) (cs : List (List ℕ)) (ts : List Trees) (m : Listed) (us : List Use) (u : Unit {0})
-    → tables_at 0 [] (first_listed gs) cs ≡ Ok (ts, m) → us ≡ m.uses → uses_at m.entries us ≡ Ok u → load_at gs cs ≡ Ok (ts, m)
+    → tables_at 0 [] (first_listed gs) cs ≡ Ok (ts, m) → us ≡ m.uses → uses_at false false m.entries us ≡ Ok u → load_at gs cs ≡ Ok (ts, m)
 unfolding load_at
 load_gives gs cs ts m us u read is free =
-    ap (λ r. r >>= λ y. uses_at y.1.entries y.1.uses >>= λ u. Ok y) read ∙ ap (λ r. r >>= λ u. Ok (ts, m)) (ap (uses_at m.entries) (sym is) ∙ free)
+    ap (λ r. r >>= λ y. uses_at false false y.1.entries y.1.uses >>= λ u. Ok y) read ∙ ap (λ r. r >>= λ u. Ok (ts, m)) (ap (uses_at false false m.entries) (sym is) ∙ free)
 
 load_again : (gs : Givens) (cs : List (List ℕ)) (ts : List Trees) (m : Listed) → IsLoad gs cs ts m → load_at gs cs ≡ Ok (ts, m)
 load_again gs cs ts m h = load_gives gs cs ts m m.uses tt (tables_again 0 (first_listed gs) [] cs ts m h.read h.declared) refl h.uncalled

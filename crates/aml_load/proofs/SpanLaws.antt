@@ -29,7 +29,7 @@ use Rattle.aml_parse.specs.Reading.{takes_names}
 use Rattle.aml_space.specs.declared.kinds.Kind.TheVariants as kinds
 use Rattle.aml_space.specs.Namespace.{Entry, Givens, declares, external, declared_at, given_entries}
 use Rattle.aml_load.specs.declared.faults.LoadFault.{LoadFault}
-use Rattle.aml_load.specs.Loading.{◌>>=◌, role_of, kind_of, Listed, with_uses, first_listed, first_label, byte_of, body_start, body_len, method_entry}
+use Rattle.aml_load.specs.Loading.{◌>>=◌, role_of, kind_of, Where, strict, under, Listed, with_uses, first_listed, first_label, byte_of, body_start, body_len, method_entry}
 use Rattle.aml_load.specs.Loading.{methods_of, most_methods, place_at, lead_at, entry_at, new_at, method_at, alias_at, external_at, units_at, declare_as}
 use Rattle.aml_load.specs.Loading.{declare, declare_inside, declare_all, declare_tables, IsLoad}
 use Rattle.aml_load.specs.Spans.{Span, method_span, tree_spans, all_spans, parts_spans, tail_spans, fields_spans, tables_spans, InTextOrder}
@@ -39,7 +39,7 @@ use Rattle.aml_load.proofs.NoSpans.{terms_tail, body_tail, parts_none, all_none,
 
 -- ---- what the rows say of the terms of tables, by a test over the whole table of opcodes
 
-is_body : Option TailKind → Bool
+pub is_body : Option TailKind → Bool
 is_body (Some tails.Body) = true
 is_body _ = false
 
@@ -65,11 +65,11 @@ flat_terms : (k : Option TailKind) → is_flat k ≡ true → k ≡ Some tails.T
 unfolding is_flat is_body is_terms
 flat_terms k h e = let x : is_flat (Some tails.Terms) ≡ true = subst (λ (k : Option TailKind). is_flat k ≡ true) e h in absurd cc
 
-not_body : (k : Option TailKind) → not (is_body k) ≡ true → k ≡ Some tails.Body → ⊥
+pub not_body : (k : Option TailKind) → not (is_body k) ≡ true → k ≡ Some tails.Body → ⊥
 unfolding is_body
 not_body k h e = let x : not (is_body (Some tails.Body)) ≡ true = subst (λ (k : Option TailKind). not (is_body k) ≡ true) e h in absurd cc
 
-the_body : (k : Option TailKind) → is_body k ≡ true → k ≡ Some tails.Body
+pub the_body : (k : Option TailKind) → is_body k ≡ true → k ≡ Some tails.Body
 unfolding is_body
 the_body (Some tails.Body) h = refl
 the_body _ h = absurd cc
@@ -103,31 +103,31 @@ next_in_table positions.ModuleTerm x h = refl
 next_in_table positions.GuardTerm x h = refl
 next_in_table _ x h = absurd cc
 
-role_is : (o : ℕ) (r : Row) → row_of o ≡ Some r → role_of o ≡ r.role
+pub role_is : (o : ℕ) (r : Row) → row_of o ≡ Some r → role_of o ≡ r.role
 unfolding role_of
 role_is o r e = ap (λ row. unwrap_or (option_map (λ (r : Row). r.role) row) roles.Other) e
 
 -- ---- what entries add to the methods' spans
 
-abbrev spans_of : List Entry → List Span
+abbrev pub spans_of : List Entry → List Span
 spans_of es = map method_span (methods_of es)
 
 -- From some entries to others the spans become more by these, and there don't become too many methods.
-record Adds (es more : List Entry) (spans : List Span) : Type 0 where
-  grow : spans_of more ≡ spans_of es ++ spans
-  few : length (methods_of es) ≤ most_methods → length (methods_of more) ≤ most_methods
+pub record Adds (es more : List Entry) (spans : List Span) : Type 0 where
+  pub grow : spans_of more ≡ spans_of es ++ spans
+  pub few : length (methods_of es) ≤ most_methods → length (methods_of more) ≤ most_methods
 
-nothing_more : (es : List Entry) → Adds es es []
+pub nothing_more : (es : List Entry) → Adds es es []
 nothing_more es = record { grow = sym (append-nil (spans_of es)); few = λ h. h }
 
-then_adds : (es fs gs : List Entry) (xs ys : List Span) → Adds es fs xs → Adds fs gs ys → Adds es gs (xs ++ ys)
+pub then_adds : (es fs gs : List Entry) (xs ys : List Span) → Adds es fs xs → Adds fs gs ys → Adds es gs (xs ++ ys)
 then_adds es fs gs xs ys h g = record {
   grow = g.grow ∙ ap (λ zs. zs ++ ys) h.grow ∙ append_assoc (spans_of es) xs ys;
   few = λ fits. g.few (h.few fits);
 }
 
 -- an entry without a body
-plain_adds : (es : List Entry) (x : Entry) → methods_of (x ∷ []) ≡ [] → Adds es (es ++ x ∷ []) []
+pub plain_adds : (es : List Entry) (x : Entry) → methods_of (x ∷ []) ≡ [] → Adds es (es ++ x ∷ []) []
 plain_adds es x none =
     let same = methods_more es x ∙ ap (λ ms. methods_of es ++ ms) none in
     record {
@@ -135,13 +135,13 @@ plain_adds es x none =
       few = subst (λ ms. length ms ≤ most_methods) (sym (same ∙ append-nil (methods_of es)));
     }
 
-abbrev one_span : ℕ → Tail → List Span
+abbrev pub one_span : ℕ → Tail → List Span
 one_span t x = record { table = t; start = body_start x; len = body_len x } ∷ []
 
-method_adds : (t : ℕ) (es : List Entry) (p : List Seg) (flags : ℕ) (x : Tail) → nat_le most_methods (length (methods_of es)) ≡ false
-    → Adds es (es ++ method_entry t p flags (body_start x) (body_len x) ∷ []) (one_span t x)
-method_adds t es p flags x room =
-    let e = method_entry t p flags (body_start x) (body_len x) in
+pub method_adds : (site : Where) (es : List Entry) (p : List Seg) (flags : ℕ) (x : Tail) → nat_le most_methods (length (methods_of es)) ≡ false
+    → Adds es (es ++ method_entry site p flags (body_start x) (body_len x) ∷ []) (one_span site.table x)
+method_adds site es p flags x room =
+    let e = method_entry site p flags (body_start x) (body_len x) in
     let less : length (methods_of es) < 1048576 = grind (arith, nat_tests, room) in
     record {
       grow = ap (map method_span) (methods_more es e) ∙ map-append method_span (methods_of es) (methods_of (e ∷ []));
@@ -151,17 +151,17 @@ method_adds t es p flags x room =
 -- ---- what a term adds, by its role
 
 -- what a step gives adds these spans to what was listed
-abbrev GivesMore : Result Listed LoadFault → Listed → List Span → Type 0
+abbrev pub GivesMore : Result Listed LoadFault → Listed → List Span → Type 0
 GivesMore r l spans = IfOk r (λ m. Adds l.entries m.entries spans)
 
 -- a fault where a test holds, else a step
-unless_adds : (b : Bool) (d : LoadFault) (r : Result Listed LoadFault) (l : Listed) (spans : List Span) → (b ≡ false → GivesMore r l spans)
+pub unless_adds : (b : Bool) (d : LoadFault) (r : Result Listed LoadFault) (l : Listed) (spans : List Span) → (b ≡ false → GivesMore r l spans)
     → GivesMore (cond b (Err d) r) l spans
 unless_adds true d r l spans h = tt
 unless_adds false d r l spans h = h refl
 
 -- a step of which nothing is known, and another
-after_adds : {A : Type 0} (r : Result A LoadFault) (f : A → Result Listed LoadFault) (l : Listed) (spans : List Span)
+pub after_adds : {A : Type 0} (r : Result A LoadFault) (f : A → Result Listed LoadFault) (l : Listed) (spans : List Span)
     → ((x : A) → GivesMore (f x) l spans) → GivesMore (r >>= f) l spans
 after_adds (Ok x) f l spans h = h x
 after_adds (Err e) f l spans h = tt
@@ -176,54 +176,54 @@ more_adds (Ok k) f l xs ys h g = by (f k) (g k)
     by (Err e) two = tt
 more_adds (Err e) f l xs ys h g = tt
 
-entry_adds : (t : ℕ) (l : Listed) (p : List Seg) (x : Entry) (spans : List Span) → Adds l.entries (l.entries ++ x ∷ []) spans
-    → GivesMore (entry_at t l p x) l spans
+pub entry_adds : (site : Where) (l : Listed) (p : List Seg) (x : Entry) (spans : List Span) → Adds l.entries (l.entries ++ x ∷ []) spans
+    → GivesMore (entry_at site l p x) l spans
 unfolding entry_at
-entry_adds t l p x spans h = unless_adds (is_some (declared_at l.entries p)) _ _ l spans (λ free. h)
+entry_adds site l p x spans h = unless_adds (not site.any_run && is_some (declared_at l.entries p)) _ _ l spans (λ free. h)
 
-new_adds : (t : ℕ) (l : Listed) (scope : List Seg) (n : Option Name) (x : List Seg → Entry) (spans : List Span)
-    → ((p : List Seg) → Adds l.entries (l.entries ++ x p ∷ []) spans) → GivesMore (new_at t l scope n x) l spans
+pub new_adds : (site : Where) (l : Listed) (n : Option Name) (x : List Seg → Entry) (spans : List Span)
+    → ((p : List Seg) → Adds l.entries (l.entries ++ x p ∷ []) spans) → GivesMore (new_at site l n x) l spans
 unfolding new_at
-new_adds t l scope n x spans h = after_adds (place_at t scope n) _ l spans (λ p. entry_adds t l p (x p) spans (h p))
+new_adds site l n x spans h = after_adds (place_at site n) _ l spans (λ p. entry_adds site l p (x p) spans (h p))
 
-units_add : (t : ℕ) (l : Listed) (scope : List Seg) (ns : List Name) → GivesMore (units_at t l scope ns) l []
+pub units_add : (site : Where) (l : Listed) (ns : List Name) → GivesMore (units_at site l ns) l []
 unfolding units_at
-units_add t l scope [] = nothing_more l.entries
-units_add t l scope (n ∷ ns) =
-    more_adds (new_at t l scope (Some n) (λ p. declares p kinds.Field None true)) _ l [] []
-    (new_adds t l scope (Some n) _ [] (λ p. plain_adds l.entries (declares p kinds.Field None true) refl)) (λ k. units_add t k scope ns)
+units_add site l [] = nothing_more l.entries
+units_add site l (n ∷ ns) =
+    more_adds (new_at site l (Some n) (λ p. declares p kinds.Field None site.sure)) _ l [] []
+    (new_adds site l (Some n) _ [] (λ p. plain_adds l.entries (declares p kinds.Field None site.sure) refl)) (λ k. units_add site k ns)
 
 -- what a tail of this kind has: no spans, its own body's span, or what the terms inside it add
-record TailSpans (k : Option TailKind) (t : ℕ) (x : Tail) (inside : Listed → List Seg → Result Listed LoadFault) : Type 0 where
-  flat : is_flat k ≡ true → tail_spans t x ≡ []
-  one : is_body k ≡ true → tail_spans t x ≡ one_span t x
-  inner : not (is_body k) ≡ true → (l : Listed) (p : List Seg) → GivesMore (inside l p) l (tail_spans t x)
+record TailSpans (k : Option TailKind) (site : Where) (x : Tail) (inside : Listed → Where → Result Listed LoadFault) : Type 0 where
+  flat : is_flat k ≡ true → tail_spans site.table x ≡ []
+  one : is_body k ≡ true → tail_spans site.table x ≡ one_span site.table x
+  inner : not (is_body k) ≡ true → (l : Listed) (p : List Seg) → GivesMore (inside l (under site p)) l (tail_spans site.table x)
 
 -- spans that are these
 as_spans : (r : Result Listed LoadFault) (l : Listed) (xs ys : List Span) → ys ≡ xs → GivesMore r l xs → GivesMore r l ys
 as_spans r l xs ys e = subst (λ zs. GivesMore r l zs) (sym e)
 
-role_adds : (r : Role) (k : Option TailKind) (t : ℕ) (l : Listed) (scope : List Seg) (ps : Parts) (x : Tail)
-    (inside : Listed → List Seg → Result Listed LoadFault) → fits r k ≡ true → TailSpans k t x inside
-    → GivesMore (declare_as r t l scope ps x inside) l (tail_spans t x)
+role_adds : (r : Role) (k : Option TailKind) (site : Where) (l : Listed) (ps : Parts) (x : Tail) (inside : Listed → Where → Result Listed LoadFault)
+    → fits r k ≡ true → TailSpans k site x inside → GivesMore (declare_as r site l ps x inside) l (tail_spans site.table x)
 unfolding fits declare_as method_at alias_at external_at
-role_adds (roles.Declares o) k t l scope ps x inside fit has =
-    after_adds (place_at t scope (last_label None ps)) _ l (tail_spans t x) (λ p.
-    let e = declares p (kind_of o) None true in
-    more_adds (entry_at t l p e) _ l [] (tail_spans t x) (entry_adds t l p e [] (plain_adds l.entries e refl)) (λ m. has.inner fit m p))
-role_adds roles.Method k t l scope ps x inside fit has =
-    as_spans _ l (one_span t x) (tail_spans t x) (has.one fit) (unless_adds (nat_le most_methods (length (methods_of l.entries))) _ _ l _ (λ room.
-    new_adds t l scope (last_label None ps) _ (one_span t x) (λ p. method_adds t l.entries p (byte_of ps) x room)))
-role_adds roles.Scope k t l scope ps x inside fit has = after_adds (lead_at t l.entries scope (last_label None ps) _) _ l _ (λ p. has.inner fit l p)
-role_adds roles.Alias k t l scope ps x inside fit has =
-    as_spans _ l [] (tail_spans t x) (has.flat fit) (after_adds (lead_at t l.entries scope (first_label ps) _) _ l [] (λ q.
-    new_adds t l scope (last_label None ps) _ [] (λ p. plain_adds l.entries _ refl)))
-role_adds roles.External k t l scope ps x inside fit has =
-    as_spans _ l [] (tail_spans t x) (has.flat fit) (after_adds (place_at t scope (last_label None ps)) _ l [] (λ p.
+role_adds (roles.Declares o) k site l ps x inside fit has =
+    after_adds (place_at site (last_label None ps)) _ l (tail_spans site.table x) (λ p.
+    let e = declares p (kind_of o) None site.sure in
+    more_adds (entry_at site l p e) _ l [] (tail_spans site.table x) (entry_adds site l p e [] (plain_adds l.entries e refl)) (λ m. has.inner fit m p))
+role_adds roles.Method k site l ps x inside fit has =
+    as_spans _ l (one_span site.table x) (tail_spans site.table x) (has.one fit)
+    (unless_adds (nat_le most_methods (length (methods_of l.entries))) _ _ l _ (λ room.
+    new_adds site l (last_label None ps) _ (one_span site.table x) (λ p. method_adds site l.entries p (byte_of ps) x room)))
+role_adds roles.Scope k site l ps x inside fit has = after_adds (lead_at site l.entries (last_label None ps) _) _ l _ (λ p. has.inner fit l p)
+role_adds roles.Alias k site l ps x inside fit has =
+    as_spans _ l [] (tail_spans site.table x) (has.flat fit) (after_adds (lead_at site l.entries (first_label ps) _) _ l [] (λ q.
+    new_adds site l (last_label None ps) _ [] (λ p. plain_adds l.entries _ refl)))
+role_adds roles.External k site l ps x inside fit has =
+    as_spans _ l [] (tail_spans site.table x) (has.flat fit) (after_adds (place_at site (last_label None ps)) _ l [] (λ p.
     plain_adds l.entries (external p (byte_of ps)) refl))
-role_adds roles.Fields k t l scope ps x inside fit has = as_spans _ l [] (tail_spans t x) (has.flat fit) (units_add t l scope (field_names x))
-role_adds roles.Guard k t l scope ps x inside fit has = has.inner fit l scope
-role_adds roles.Other k t l scope ps x inside fit has = as_spans (Ok l) l [] (tail_spans t x) (has.flat fit) (nothing_more l.entries)
+role_adds roles.Fields k site l ps x inside fit has = as_spans _ l [] (tail_spans site.table x) (has.flat fit) (units_add site l (field_names x))
+role_adds roles.Guard k site l ps x inside fit has = has.inner fit l site.scope
+role_adds roles.Other k site l ps x inside fit has = as_spans (Ok l) l [] (tail_spans site.table x) (has.flat fit) (nothing_more l.entries)
 
 flat_none : (s : Setting) (levels : ℕ) (p : Position) (k : Option TailKind) (ls : PathSet) (t : ℕ) (x : Tail) → IsTail s (IsLawful s levels) p k ls x
     → is_flat k ≡ true → tail_spans t x ≡ []
@@ -243,7 +243,7 @@ module _ (s : Setting) (t : ℕ) where
     unfolding declare declare_inside declare_all
 
     tree_adds : (levels : ℕ) (p : Position) (ls : PathSet) (l : Listed) (scope : List Seg) (x : Tree) → takes_names p ≡ false → IsLawful s levels p ls x
-        → GivesMore (declare t l scope x) l (tree_spans t x)
+        → GivesMore (declare (strict t scope) l x) l (tree_spans t x)
     tree_adds levels p ls l scope nothing h law = nothing_more l.entries
     tree_adds zero p ls l scope _ h law = absurd law
     tree_adds (suc levels) p ls l scope (named n xs) h law =
@@ -254,18 +254,18 @@ module _ (s : Setting) (t : ℕ) where
         let tail = subst (λ (k : Option TailKind). IsTail s (IsLawful s levels) q k ls r) (kept_in_table p k h) law.tail in
         let fit = row_fits p o law.row h law.listed law.taken in
         let here = subst (λ (x : Role). fits x k ≡ true) (sym (role_is o law.row law.listed)) fit.0 in
-        let has : TailSpans k t r (λ l p. declare_inside t l p r) = record {
+        let has : TailSpans k (strict t scope) r (λ l below. declare_inside below l r) = record {
           flat = flat_none s levels q k ls t r tail;
           one = λ e. body_one s levels q ls t r (subst (λ (k : Option TailKind). IsTail s (IsLawful s levels) q k ls r) (the_body k e) tail);
           inner = λ e l scope. inside_adds levels q k ls l scope r fit.1 (not_body k e) tail;
         } in
-        let all = role_adds (role_of o) k t (with_uses t l scope o ps r) scope ps r (λ l p. declare_inside t l p r) here has in
+        let all = role_adds (role_of o) k (strict t scope) (with_uses (strict t scope) l (op o w ps r)) ps r (λ l below. declare_inside below l r) here has in
         as_spans _ l (tail_spans t r) (parts_spans t ps ++ tail_spans t r)
         (ap (λ zs. zs ++ tail_spans t r) (parts_none s t levels (law.row).parts ls ps law.parts)) all
 
     inside_adds : (levels : ℕ) (p : Position) (k : Option TailKind) (ls : PathSet) (l : Listed) (scope : List Seg) (r : Tail)
         → (k ≡ Some tails.Terms → takes_names p ≡ false) → (k ≡ Some tails.Body → ⊥) → IsTail s (IsLawful s levels) p k ls r
-        → GivesMore (declare_inside t l scope r) l (tail_spans t r)
+        → GivesMore (declare_inside (strict t scope) l r) l (tail_spans t r)
     inside_adds levels p k ls l scope (terms xs) h other law = let e = terms_tail s levels p ls k xs law in all_add levels p ls l scope xs (h e.0) e.1
     inside_adds levels p k ls l scope (elements xs) h other law =
         as_spans (Ok l) l [] (all_spans t xs) (elements_none s t levels p k ls xs law) (nothing_more l.entries)
@@ -275,10 +275,10 @@ module _ (s : Setting) (t : ℕ) where
     inside_adds levels p k ls l scope _ h other law = nothing_more l.entries
 
     all_add : (levels : ℕ) (p : Position) (ls : PathSet) (l : Listed) (scope : List Seg) (xs : Trees) → takes_names p ≡ false → AreTerms s levels p ls xs
-        → GivesMore (declare_all t l scope xs) l (all_spans t xs)
+        → GivesMore (declare_all (strict t scope) l xs) l (all_spans t xs)
     all_add levels p ls l scope no_trees h law = nothing_more l.entries
     all_add levels p ls l scope (tree_more x xs) h law =
-        more_adds (declare t l scope x) _ l (tree_spans t x) (all_spans t xs) (tree_adds levels p ls l scope x h law.0)
+        more_adds (declare (strict t scope) l x) _ l (tree_spans t x) (all_spans t xs) (tree_adds levels p ls l scope x h law.0)
         (λ k. all_add levels (next_position p x) (after s.scope ls x) k scope xs (next_in_table p x h) law.1)
 
 -- ---- the tables, from any list on
@@ -290,7 +290,7 @@ tables_add t l [] [] read = nothing_more l.entries
 tables_add t l (c ∷ codes) [] read = absurd read
 tables_add t l [] (xs ∷ trees) read = absurd read
 tables_add t l (c ∷ codes) (xs ∷ trees) read =
-    more_adds (declare_all t l [] xs) _ l (all_spans t xs) (tables_spans (suc t) trees)
+    more_adds (declare_all (strict t []) l xs) _ l (all_spans t xs) (tables_spans (suc t) trees)
     (all_add (setting_of no_arguments None c) t 512 positions.ModuleTerm set.empty l [] xs refl (read.0).lawful) (λ k. tables_add (suc t) k codes trees read.1)
 
 load_adds : (gs : Givens) (tables : List (List ℕ)) (trees : List Trees) (m : Listed) → IsLoad gs tables trees m

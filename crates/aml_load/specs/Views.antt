@@ -14,7 +14,8 @@ use Rattle.aml_code.specs.declared.rows.Position.TheVariants as positions
 use Rattle.aml_code.specs.Faults.{StandsAt}
 use Rattle.aml_code.specs.Lawful.{ReadsBody}
 use Rattle.aml_parse.specs.Reading.{all_at}
-use Rattle.aml_space.specs.Namespace.{Entry, namespace_of, arity_of}
+use Rattle.aml_space.specs.Namespace.{Entry}
+use Rattle.aml_space.specs.Runs.{outlook_of, agreed_arity}
 
 -- The namespace and the methods of a loaded set are those of these entries.
 pub record HoldsLoad (x : Loaded) (codes : List (List ℕ)) (ts : List Trees) (m : Listed) : Type 0 where
@@ -27,14 +28,14 @@ pub record HoldsLoad (x : Loaded) (codes : List (List ℕ)) (ts : List Trees) (m
 
 -- the body of a method reads as these terms
 abbrev pub IsBody : Bool → List Entry → List (List ℕ) → Method → Trees → Type 0
-IsBody unknown_zero es tables m ts = ReadsBody (arity_of (namespace_of es) unknown_zero m.path) m.path
+IsBody unknown_zero es tables m ts = ReadsBody (agreed_arity (outlook_of es) unknown_zero m.path) m.path
     (span_of tables m) ts
 
 -- the body of a method reads as no terms, for this reason, which is true of the byte at its offset in the body
 pub record IsUnread (unknown_zero : Bool) (es : List Entry) (tables : List (List ℕ)) (m : Method)
     (f : CodeFault) : Type 0 where
   pub reason : f ≢ codes.NoMemory
-  pub stands : StandsAt (arity_of (namespace_of es) unknown_zero m.path) (span_of tables m) f
+  pub stands : StandsAt (agreed_arity (outlook_of es) unknown_zero m.path) (span_of tables m) f
   pub none : (ts : Trees) → IsBody unknown_zero es tables m ts → ⊥
 
 -- the body of a method reads as these terms and as no others, or it reads as none
@@ -47,7 +48,7 @@ IsReading view z es tables m (Err f) = (f ≡ codes.NoMemory) ⊎ IsUnread z es 
 -- Reading the body of a method forward, in the namespace of the entries: its terms, or the first fault that is met.
 abbrev pub body_at : Bool → List Entry → List (List ℕ) → Method → Result Trees CodeFault
 body_at unknown_zero es tables m =
-    all_at (arity_of (namespace_of es) unknown_zero m.path) (Some m.path) positions.BodyTerm (span_of tables m)
+    all_at (agreed_arity (outlook_of es) unknown_zero m.path) (Some m.path) positions.BodyTerm (span_of tables m)
 
 -- What was answered of a method's body, seen by a view, is what reading it forward gives, unless memory was refused.
 abbrev pub GivesBody : {X : Type 0} → (X → Trees) → Bool → List Entry → List (List ℕ) → Method → Result X CodeFault

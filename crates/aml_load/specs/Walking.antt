@@ -1,7 +1,8 @@
 -- Loading tables forward, and the first fault that is met (ACPI 6.5, 5.2.11, 5.3 and 20.2.5): the tables in load order,
 -- each read whole before its terms declare. This says which of several faults a load answers. What it means that tables
 -- load is said without it, by `IsLoad` in `Loading`, and what a fault says of its place by `StopsLoad` there.
-use Rattle.std.specs.Prelude.{◌≡◌, ◌⊎◌, ℕ, suc, List, [], ◌∷◌, ◌++◌, get_or, Result, Ok, Err, None, ◌<◌}
+use Rattle.std.specs.Prelude.{true, not, ◌&&◌, is_some}
+use Rattle.std.specs.Prelude.{◌≡◌, ◌⊎◌, ℕ, suc, false, List, [], ◌∷◌, ◌++◌, get_or, Result, Ok, Err, None, ◌<◌}
 use Rattle.aml_names.specs.declared.faults.CodeFault.{CodeFault}
 use Rattle.aml_code.specs.declared.rows.Position.TheVariants as positions
 use Rattle.aml_code.specs.Lawful.{no_arguments}
@@ -9,19 +10,16 @@ use Rattle.aml_code.specs.Tree.{Trees}
 use Rattle.aml_parse.specs.Reading.{all_at}
 use Rattle.aml_space.specs.declared.faults.SpaceFault.{SpaceFault}
 use Rattle.aml_space.specs.declared.faults.SpaceFault.TheVariants as faults
-use Rattle.aml_space.specs.Namespace.{Givens}
+use Rattle.aml_names.specs.declared.segments.Seg.{Seg}
+use Rattle.aml_space.specs.Namespace.{Entry, Givens, declared_at}
 use Rattle.aml_space.specs.Known.{Known, StandsFor}
 use Rattle.aml_load.specs.declared.faults.LoadFault.{LoadFault}
 use Rattle.aml_load.specs.declared.faults.LoadFault.TheVariants as loads
 use Rattle.aml_set.specs.declared.loaded.Loaded.{Loaded}
+use Rattle.aml_load.specs.declared.uses.Site.{Site}
 use Rattle.aml_load.specs.declared.walking.Progress.{Progress}
-use Rattle.aml_load.specs.Loading.{◌>>=◌, code_fault, Listed, first_listed, methods_of, declare_all, uses_at}
+use Rattle.aml_load.specs.Loading.{◌>>=◌, code_fault, Listed, first_listed, methods_of, Where, strict, declare_all, uses_at}
 use Rattle.aml_load.specs.Views.{HoldsLoad}
-
--- a fault of the namespace in table t
-abbrev pub space_fault : ℕ → SpaceFault → LoadFault
-space_fault t faults.NoMemory = loads.NoMemory
-space_fault t f = loads.Space t f
 
 -- what reading the AML of table t gave
 abbrev pub in_code : ℕ → Result Trees CodeFault → Result Trees LoadFault
@@ -33,7 +31,7 @@ in_code t (Err e) = Err (code_fault t e)
 unfoldable pub table_at : ℕ → Listed → List ℕ → Result (Trees × Listed) LoadFault
 table_at t l code = do
   ts ← in_code t (all_at no_arguments None positions.ModuleTerm code)
-  m ← declare_all t l [] ts
+  m ← declare_all (strict t []) l ts
   Ok (ts, m)
 
 -- the tables from number t on, behind those of these trees: all trees, and what is listed after the last table
@@ -48,7 +46,7 @@ tables_at t front l (c ∷ cs) = do
 unfoldable pub load_at : Givens → List (List ℕ) → Result (List Trees × Listed) LoadFault
 load_at gs codes = do
   x ← tables_at 0 [] (first_listed gs) codes
-  _ ← uses_at x.1.entries x.1.uses
+  _ ← uses_at false false x.1.entries x.1.uses
   Ok x
 
 -- what was refused by this fault: memory was refused, or loading forward meets this fault first
@@ -62,6 +60,16 @@ GivesLoad gs (Ok x) codes =
 GivesLoad gs (Err e) codes = Fails e (load_at gs codes)
 
 -- ---- A stepping stone: what the load holds so far, and what a step of it gives, as `Walking` says it.
+
+-- where a site is
+abbrev pub at_site : Site → Where
+at_site s = record { table = s.table; scope = s.scope.now; any_run = s.any_run; sure = s.sure }
+
+-- whether an entry of a path may be added there, as the definition says it of any entry
+abbrev pub IsFree : Where → List Entry → List Seg → Result (Unit {0}) LoadFault → Type 0
+IsFree site es p (Ok u) = (not site.any_run && is_some (declared_at es p)) ≡ false
+IsFree site es p (Err e) = (e ≡ loads.NoMemory)
+    ⊎ (((not site.any_run && is_some (declared_at es p)) ≡ true) × (e ≡ loads.Space site.table (faults.Duplicate p)))
 
 -- numbers that are bytes
 abbrev pub IsCode : List ℕ → Type 0

@@ -2,9 +2,8 @@
 ghost use Rattle.std.specs.Prelude.{◌≡◌};
 ghost use Rattle.aml_load.specs.declared.faults.LoadFault.TheVariants.{NoMemory as want};
 ghost use Rattle.aml_load.specs.Loading.{code_fault};
-ghost use Rattle.aml_load.specs.Walking.{space_fault};
 
-use aml_code::CodeFault;
+use aml_code::{CodeFault, Path};
 use aml_space::SpaceFault;
 use std::alloc::{AllocError, AllocFailed};
 use thiserror::Error;
@@ -21,6 +20,10 @@ pub enum LoadFault {
     /// A name that takes arguments stands as a TermArg outside the methods.
     #[error("ModuleCall")]
     ModuleCall(usize),
+    /// A name outside the methods that is read with another number of arguments than it takes, by the first path that
+    /// it may mean, where the code outside methods may run.
+    #[error("ModuleCall {1}")]
+    RunCall(usize, Path),
     /// More than 1,048,576 methods.
     #[error("TooManyMethods")]
     TooManyMethods,
@@ -37,16 +40,6 @@ impl LoadFault {
         match fault {
             CodeFault::NoMemory => LoadFault::NoMemory,
             other => LoadFault::Code(table, other),
-        }
-    }
-
-    /// A fault of the namespace in a table.
-    pub fn in_space(table: usize, fault: SpaceFault) -> LoadFault
-        ensures { result ≡ space_fault table fault }
-    {
-        match fault {
-            SpaceFault::NoMemory => LoadFault::NoMemory,
-            other => LoadFault::Space(table, other),
         }
     }
 }

@@ -8,6 +8,8 @@ mod bodies;
 mod faults;
 mod loading;
 mod roles;
+mod runner;
+mod running;
 mod scopes;
 mod used;
 mod uses;
@@ -15,4 +17,5 @@ mod walking;
 
 pub use bodies::read_body;
 pub use faults::LoadFault;
-pub use loading::load;
+pub use loading::{load, load_any_run};
+pub use running::{loads_forward, loads_one_way, runs_in_text_order};

@@ -1,21 +1,22 @@
 //! The load of tables in their order.
-ghost use Rattle.std.specs.Prelude.{◌≡◌, ◌⊎◌, [], List, IfOk, IfErr, length, ◌≤◌};
-ghost use Rattle.std.specs.Option.{unwrap_or};
+ghost use Rattle.std.specs.Prelude.{◌≡◌, ◌⊎◌, false, [], List, IfOk, IfErr, length, ◌≤◌};
 ghost use Rattle.aml_code.specs.Tree.{Trees};
 ghost use Rattle.aml_code.specs.View.{nodes_view};
 ghost use Rattle.aml_space.specs.Namespace.{given_entries};
 ghost use Rattle.aml_space.specs.Known.{StandsFor};
-ghost use Rattle.aml_load.specs.Loading.{Listed, first_listed, IsLoad, StopsLoad, most_methods, use_count, uses_at};
+ghost use Rattle.aml_load.specs.Loading.{Listed, first_listed, IsLoad, StopsLoad, most_methods, use_count, is_count, first_path, call_fault, uses_at};
 ghost use Rattle.aml_load.specs.Walking.{table_at, tables_at, GivesLoad, IsCode, AreCodes, Holds, Gives, TableWalked};
 ghost use Rattle.aml_set.specs.Views.{codes_view, trees_view, AreShort};
 ghost use Rattle.aml_load.specs.Views.{HoldsLoad};
+ghost use Rattle.aml_load.specs.Running.{IsRunLoad, StopsRunLoad, run_tables_at};
+ghost use Rattle.aml_load.specs.Runner.{GivesRunLoad};
 
 use crate::faults::LoadFault;
 use crate::scopes::SharedPath;
 use crate::used::Use;
 use crate::uses::Site;
 use crate::walking::Progress;
-use aml_code::{Locals, NoMemory, Node, Path};
+use aml_code::{Locals, NoMemory, Node, Path, place};
 use aml_names::Arity;
 use aml_parse::parse_module;
 use aml_set::Loaded;
@@ -38,6 +39,8 @@ fn load_table(progress: &mut Progress, table: usize, code: &[u8]) -> Result<Vec<
         &Site {
             table,
             scope: &root,
+            any_run: false,
+            sure: true,
         },
         terms.as_slice(),
     )?;
@@ -58,28 +61,76 @@ fn load_tables(progress: &mut Progress, tables: &[&[u8]]) -> Result<Vec<Vec<Node
     Ok(trees)
 }
 
-/// How many arguments a name takes that stands as a TermArg outside the methods.
-fn count_of(alloc: Global, space: &Space, used: &Use) -> Result<u8, NoMemory>
+/// How many arguments a name takes that stands outside the methods, once all tables are there.
+fn count_of(
+    alloc: Global,
+    space: &Space,
+    any_run: bool,
+    unknown_zero: bool,
+    used: &Use,
+) -> Result<Option<u8>, NoMemory>
     ensures { (l : Listed) → StandsFor space.now l.entries →
-        IfOk result (λ n. n ≡ unwrap_or (use_count l.entries used.now) 0) }
+        IfOk result (λ n. n ≡ use_count any_run unknown_zero l.entries used.now) }
 {
     let scope = BodyScope {
         space,
         method: used.scope.path(),
-        unknown_zero: false,
+        unknown_zero: unknown_zero || used.declaring,
     };
-    let count = scope.count(alloc, &Locals::new(alloc), &used.name)?;
-    Ok(count.unwrap_or(0))
+    scope.count(alloc, &Locals::new(alloc), &used.name)
 }
 
-/// Looks at each name that stands as a TermArg. `ModuleCall` at the first that takes arguments.
+/// Whether a count is this number.
+fn is_count(args: usize, count: Option<u8>) -> bool
+    ensures { result ≡ is_count args count }
+{
+    match count {
+        None => false,
+        Some(count) => count as usize == args,
+    }
+}
+
+/// The first path that a name may mean.
+fn first_path(alloc: Global, used: &Use) -> Result<Path, NoMemory>
+    ensures { IfOk result (λ p. p ≡ first_path used.now.scope used.now.name) }
+{
+    match place(alloc, used.scope.path(), &used.name)? {
+        None => Ok(Path::root(alloc)),
+        Some(path) => Ok(path),
+    }
+}
+
+/// The fault of a name that takes another number of arguments than it was read with.
+fn call_fault(alloc: Global, any_run: bool, used: &Use) -> Result<LoadFault, NoMemory>
+    ensures { IfOk result (λ fault. fault ≡ call_fault any_run used.now) }
+{
+    if any_run {
+        let path = first_path(alloc, used)?;
+        Ok(LoadFault::RunCall(used.table, path))
+    } else {
+        Ok(LoadFault::ModuleCall(used.table))
+    }
+}
+
+/// Looks at each name that stands outside the methods. `ModuleCall` or `RunCall` at the first that takes another number
+/// of arguments than it was read with.
 #[tactic(auto, unfolding(crate::specs::Loading::uses_at))]
-fn check_uses(alloc: Global, space: &Space, uses: &[Use]) -> Result<(), LoadFault>
-    ensures { (l : Listed) → StandsFor space.now l.entries → Gives (λ x. x) result (uses_at l.entries uses.now) }
+fn check_uses(
+    alloc: Global,
+    space: &Space,
+    any_run: bool,
+    unknown_zero: bool,
+    uses: &[Use],
+) -> Result<(), LoadFault>
+    ensures { (l : Listed) → StandsFor space.now l.entries →
+        Gives (λ x. x) result (uses_at any_run unknown_zero l.entries uses.now) }
 {
     for used in uses {
-        if count_of(alloc, space, used)? > 0 {
-            return Err(LoadFault::ModuleCall(used.table));
+        if !is_count(
+            used.args,
+            count_of(alloc, space, any_run, unknown_zero, used)?,
+        ) {
+            return Err(call_fault(alloc, any_run, used)?);
         }
     }
     Ok(())
@@ -121,7 +172,56 @@ fn load_whole<'a>(
     kept.extend_from_slice(tables)?;
     let mut progress = first_progress(alloc, givens)?;
     let trees = load_tables(&mut progress, tables)?;
-    check_uses(alloc, &progress.space, progress.uses.as_slice())?;
+    check_uses(
+        alloc,
+        &progress.space,
+        false,
+        false,
+        progress.uses.as_slice(),
+    )?;
+    Ok(Loaded {
+        tables: kept,
+        trees,
+        space: progress.space,
+        methods: progress.methods,
+    })
+}
+
+#[tactic(auto, unfolding(crate::specs::Running::run_tables_at))]
+fn load_run_tables(progress: &mut Progress, tables: &[&[u8]]) -> Result<Vec<Vec<Node>>, LoadFault>
+    requires { AreShort (codes_view tables.now) }
+    ensures { (l : Listed) → Holds progress.old l →
+        TableWalked (λ x. trees_view x.items) progress.new result (run_tables_at 0 [] l (codes_view tables.now)) }
+{
+    let mut trees = Vec::new(progress.alloc);
+    for table in 0..tables.len() {
+        let terms = progress.run_table(table, tables[table])?;
+        trees.push(terms)?;
+    }
+    Ok(trees)
+}
+
+#[tactic(auto, unfolding(crate::specs::Running::run_load_at))]
+fn load_run_whole<'a>(
+    alloc: Global,
+    tables: &[&'a [u8]],
+    givens: &[(Path, u8)],
+    unknown_zero: bool,
+) -> Result<Loaded<'a>, LoadFault>
+    requires { AreShort (codes_view tables.now) }
+    ensures { GivesRunLoad unknown_zero givens.now result (codes_view tables.now) }
+{
+    let mut kept = Vec::new(alloc);
+    kept.extend_from_slice(tables)?;
+    let mut progress = first_progress(alloc, givens)?;
+    let trees = load_run_tables(&mut progress, tables)?;
+    check_uses(
+        alloc,
+        &progress.space,
+        true,
+        unknown_zero,
+        progress.uses.as_slice(),
+    )?;
     Ok(Loaded {
         tables: kept,
         trees,
@@ -181,4 +281,40 @@ pub fn load<'a>(
 {
     are_codes(tables);
     load_whole(alloc, tables, givens)
+}
+
+/// Loads tables as one, as `load` does, where the code outside methods may run. Each table is read from the left: how
+/// many arguments a name outside methods takes is what every run agrees on by what is declared in front of it, and none
+/// where nothing tells. A path may be declared again. Once all tables are there, each of these names takes as many as
+/// were read with it; one that nothing knows takes none with `unknown_zero`, and in a declaration.
+pub fn load_any_run<'a>(
+    alloc: Global,
+    tables: &[&'a [u8]],
+    givens: &[(Path, u8)],
+    unknown_zero: bool,
+) -> Result<Loaded<'a>, LoadFault>
+    // The limit of a table.
+    requires { AreShort (codes_view tables.now) }
+
+    // The tables' AML reads as the trees, and these load to entries whose namespace and methods are the answer's.
+    ensures sound { IfOk result (λ x. (trees : List Trees) × (m : Listed) ×
+        IsRunLoad unknown_zero givens.now (codes_view tables.now) trees m ×
+        HoldsLoad x (codes_view tables.now) trees m) }
+    // To nothing else.
+    ensures one { IfOk result (λ x. (trees : List Trees) (m : Listed) →
+        IsRunLoad unknown_zero givens.now (codes_view tables.now) trees m →
+        HoldsLoad x (codes_view tables.now) trees m) }
+    // There are at most so many methods.
+    ensures few { IfOk result (λ x. length x.methods.items ≤ most_methods) }
+    // A refusal for another cause than memory comes only where there are no trees and entries that load.
+    ensures complete { IfErr result (λ e. (e ≡ LoadFault.NoMemory) ⊎ ((trees : List Trees) (m : Listed) →
+        IsRunLoad unknown_zero givens.now (codes_view tables.now) trees m → ⊥)) }
+    // A fault is true of its table and of the entries where it stands.
+    ensures true_fault { IfErr result (λ e. (e ≡ LoadFault.NoMemory) ⊎
+        StopsRunLoad unknown_zero givens.now (codes_view tables.now) e) }
+    // Which fault it is: the first that is met in loading forward.
+    ensures forward { GivesRunLoad unknown_zero givens.now result (codes_view tables.now) }
+{
+    are_codes(tables);
+    load_run_whole(alloc, tables, givens, unknown_zero)
 }

@@ -1,8 +1,8 @@
-//! Names that may not take arguments.
+//! The names outside methods whose numbers of arguments are compared.
 use crate::scopes::SharedPath;
 use aml_names::Name;
 
-/// A name that stands as a TermArg outside the methods, and so may not take arguments.
+/// A name that stands as a TermArg outside the methods, or as a term there.
 #[derive(Drop)]
 pub struct Use {
     /// The table, by its place in load order from 0 on.
@@ -10,4 +10,8 @@ pub struct Use {
     /// The scope in which it stands.
     pub scope: SharedPath,
     pub name: Name,
+    /// With how many arguments it was read.
+    pub args: usize,
+    /// Whether the term around it is a declaration.
+    pub declaring: bool,
 }

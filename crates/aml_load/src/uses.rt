@@ -1,18 +1,23 @@
 //! The names that stand as TermArgs outside the methods.
-ghost use Rattle.std.specs.Prelude.{◌≡◌, ◌++◌, ◌∷◌, [], OnOk, false};
+ghost use Rattle.std.specs.Prelude.{◌≡◌, ◌++◌, ◌∷◌, [], OnOk, true, false, cond, length};
 ghost use Rattle.aml_code.specs.View.{node_view, nodes_view, part_view, parts_view, tail_view, field_view, fields_view, link_view};
-ghost use Rattle.aml_load.specs.Loading.{is_argument, kinds_in, use_of, uses_in, part_uses, parts_uses, tail_uses, elements_uses, fields_uses, field_uses, link_uses};
+ghost use Rattle.aml_load.specs.Loading.{is_argument, kinds_in, is_declaration, in_declaration, declares_by, use_of, uses_in, all_uses, part_uses, parts_uses, tail_uses, fields_uses, field_uses, link_uses, term_uses};
 
 use crate::scopes::SharedPath;
 use crate::used::Use;
-use aml_code::{Field, Link, NoMemory, Node, Part, PartKind, Tail, listed_row};
+use aml_code::{Field, Group, Link, NoMemory, Node, Part, PartKind, Tail, listed_row};
 use aml_names::Name;
 
-/// Where a term stands: the table, by its place in load order from 0 on, and the scope.
+/// Where a term stands.
 #[derive(Drop)]
 pub struct Site<'a> {
+    /// The table, by its place in load order from 0 on.
     pub table: usize,
     pub scope: &'a SharedPath,
+    /// Whether the code outside methods may run.
+    pub any_run: bool,
+    /// Whether what the term declares is declared in every run of it. Where it may not run, everything is.
+    pub sure: bool,
 }
 
 fn is_argument(kind: PartKind) -> bool
@@ -31,9 +36,34 @@ fn kinds_of(opcode: u16) -> &'static [PartKind]
     }
 }
 
-fn add_use(site: &Site<'_>, name: &Name, uses: &mut Vec<Use>) -> Result<(), NoMemory>
+fn declares_by(group: Group) -> bool
+    ensures { result ≡ declares_by group }
+{
+    match group {
+        Group::Declaration => true,
+        _ => false,
+    }
+}
+
+/// Whether an opcode is that of a declaration.
+fn is_declaration(opcode: u16) -> bool
+    ensures { result ≡ is_declaration opcode }
+{
+    match listed_row(opcode) {
+        None => false,
+        Some(row) => declares_by(row.group),
+    }
+}
+
+fn add_use(
+    site: &Site<'_>,
+    declaring: bool,
+    name: &Name,
+    args: usize,
+    uses: &mut Vec<Use>,
+) -> Result<(), NoMemory>
     ensures { OnOk result (uses.new.items ≡ uses.old.items ++
-        use_of site.now.table site.now.scope.now name.now ∷ []) }
+        use_of site.now.table site.now.scope.now declaring name.now args ∷ []) }
 {
     let scope = site.scope.share()?;
     let name = name.clone()?;
@@ -41,29 +71,47 @@ fn add_use(site: &Site<'_>, name: &Name, uses: &mut Vec<Use>) -> Result<(), NoMe
         table: site.table,
         scope,
         name,
+        args,
+        declaring,
     })?;
     Ok(())
 }
 
-/// Adds the names of a node, which itself is a TermArg or isn't.
+/// Adds a name that stands as a TermArg or a term.
+fn add_asked(
+    site: &Site<'_>,
+    declaring: bool,
+    argument: bool,
+    name: &Name,
+    args: usize,
+    uses: &mut Vec<Use>,
+) -> Result<(), NoMemory>
+    ensures { OnOk result (uses.new.items ≡ uses.old.items ++
+        cond argument (use_of site.now.table site.now.scope.now declaring name.now args ∷ []) []) }
+{
+    if argument {
+        add_use(site, declaring, name, args, uses)
+    } else {
+        Ok(())
+    }
+}
+
+/// Adds the names of a node, which itself is a TermArg or a term, or isn't.
 #[cycle(uses)]
 fn add_node(
     site: &Site<'_>,
+    declaring: bool,
     argument: bool,
     node: &Node,
     uses: &mut Vec<Use>,
 ) -> Result<(), NoMemory>
     ensures { OnOk result (uses.new.items ≡ uses.old.items ++
-        (uses_in site.now.table site.now.scope.now argument (node_view node.now))) }
+        (uses_in site.now.table site.now.scope.now declaring argument (node_view node.now))) }
 {
     match node {
         Node::Nothing => Ok(()),
-        Node::Named { name, .. } => {
-            if argument {
-                add_use(site, name, uses)
-            } else {
-                Ok(())
-            }
+        Node::Named { name, args } => {
+            add_call(site, declaring, argument, name, args.as_slice(), uses)
         }
         Node::Op {
             opcode,
@@ -71,24 +119,43 @@ fn add_node(
             tail,
             ..
         } => {
-            add_parts(site, kinds_of(*opcode), parts.as_slice(), uses)?;
-            add_tail(site, tail, uses)
+            add_parts(site, declaring, kinds_of(*opcode), parts.as_slice(), uses)?;
+            add_tail(site, declaring, tail, uses)
         }
     }
+}
+
+/// Adds a name, if it is a TermArg or a term, and those of its arguments.
+#[cycle(uses)]
+fn add_call(
+    site: &Site<'_>,
+    declaring: bool,
+    argument: bool,
+    name: &Name,
+    args: &[Node],
+    uses: &mut Vec<Use>,
+) -> Result<(), NoMemory>
+    ensures { OnOk result (uses.new.items ≡ uses.old.items ++
+        (cond argument (use_of site.now.table site.now.scope.now declaring name.now (length args.now) ∷ []) [] ++
+        all_uses site.now.table site.now.scope.now declaring true (nodes_view args.now))) }
+{
+    add_asked(site, declaring, argument, name, args.len(), uses)?;
+    add_nodes(site, declaring, true, args, uses)
 }
 
 #[cycle(uses)]
 fn add_part(
     site: &Site<'_>,
+    declaring: bool,
     argument: bool,
     part: &Part,
     uses: &mut Vec<Use>,
 ) -> Result<(), NoMemory>
     ensures { OnOk result (uses.new.items ≡ uses.old.items ++
-        (part_uses site.now.table site.now.scope.now argument (part_view part.now))) }
+        (part_uses site.now.table site.now.scope.now declaring argument (part_view part.now))) }
 {
     match part {
-        Part::Child(node) => add_node(site, argument, node, uses),
+        Part::Child(node) => add_node(site, declaring, argument, node, uses),
         _ => Ok(()),
     }
 }
@@ -97,19 +164,20 @@ fn add_part(
 #[cycle(uses)]
 fn add_parts(
     site: &Site<'_>,
+    declaring: bool,
     kinds: &[PartKind],
     parts: &[Part],
     uses: &mut Vec<Use>,
 ) -> Result<(), NoMemory>
     ensures { OnOk result (uses.new.items ≡ uses.old.items ++
-        (parts_uses site.now.table site.now.scope.now kinds.now (parts_view parts.now))) }
+        (parts_uses site.now.table site.now.scope.now declaring kinds.now (parts_view parts.now))) }
 {
     let mut left = kinds;
     for part in parts {
         match left {
             [] => return Ok(()),
             [kind, behind @ ..] => {
-                add_part(site, is_argument(*kind), part, uses)?;
+                add_part(site, declaring, is_argument(*kind), part, uses)?;
                 left = behind;
             }
         }
@@ -118,73 +186,102 @@ fn add_parts(
 }
 
 #[cycle(uses)]
-fn add_tail(site: &Site<'_>, tail: &Tail, uses: &mut Vec<Use>) -> Result<(), NoMemory>
-    ensures { OnOk result (uses.new.items ≡ uses.old.items ++
-        (tail_uses site.now.table site.now.scope.now (tail_view tail.now))) }
-{
-    match tail {
-        Tail::Elements(nodes) => add_elements(site, nodes.as_slice(), uses),
-        Tail::Fields(fields) => add_fields(site, fields.as_slice(), uses),
-        _ => Ok(()),
-    }
-}
-
-#[cycle(uses)]
-fn add_elements(site: &Site<'_>, nodes: &[Node], uses: &mut Vec<Use>) -> Result<(), NoMemory>
-    ensures { OnOk result (uses.new.items ≡ uses.old.items ++
-        (elements_uses site.now.table site.now.scope.now (nodes_view nodes.now))) }
-{
-    for node in nodes {
-        add_node(site, false, node, uses)?;
-    }
-    Ok(())
-}
-
-#[cycle(uses)]
-fn add_fields(site: &Site<'_>, fields: &[Field], uses: &mut Vec<Use>) -> Result<(), NoMemory>
-    ensures { OnOk result (uses.new.items ≡ uses.old.items ++
-        (fields_uses site.now.table site.now.scope.now (fields_view fields.now))) }
-{
-    for field in fields {
-        add_field(site, field, uses)?;
-    }
-    Ok(())
-}
-
-#[cycle(uses)]
-fn add_field(site: &Site<'_>, field: &Field, uses: &mut Vec<Use>) -> Result<(), NoMemory>
-    ensures { OnOk result (uses.new.items ≡ uses.old.items ++
-        (field_uses site.now.table site.now.scope.now (field_view field.now))) }
-{
-    match field {
-        Field::Connection(link) => add_link(site, link, uses),
-        _ => Ok(()),
-    }
-}
-
-#[cycle(uses)]
-fn add_link(site: &Site<'_>, link: &Link, uses: &mut Vec<Use>) -> Result<(), NoMemory>
-    ensures { OnOk result (uses.new.items ≡ uses.old.items ++
-        (link_uses site.now.table site.now.scope.now (link_view link.now))) }
-{
-    match link {
-        Link::Target(_) => Ok(()),
-        Link::Buffer(node) => add_node(site, false, node, uses),
-    }
-}
-
-/// Adds the names that stand as TermArgs in a term, outside the terms inside it.
-pub fn add_names(
+fn add_tail(
     site: &Site<'_>,
-    opcode: u16,
-    parts: &[Part],
+    declaring: bool,
     tail: &Tail,
     uses: &mut Vec<Use>,
 ) -> Result<(), NoMemory>
     ensures { OnOk result (uses.new.items ≡ uses.old.items ++
-        (parts_uses site.now.table site.now.scope.now (kinds_in opcode) (parts_view parts.now) ++
-        tail_uses site.now.table site.now.scope.now (tail_view tail.now))) }
+        (tail_uses site.now.table site.now.scope.now declaring (tail_view tail.now))) }
 {
-    add_parts(site, kinds_of(opcode), parts, uses)?;
-    add_tail(site, tail, uses)
+    match tail {
+        Tail::Elements(nodes) => add_nodes(site, declaring, false, nodes.as_slice(), uses),
+        Tail::Fields(fields) => add_fields(site, declaring, fields.as_slice(), uses),
+        _ => Ok(()),
+    }
+}
+
+/// Adds the names of several nodes, all of them TermArgs or none.
+#[cycle(uses)]
+fn add_nodes(
+    site: &Site<'_>,
+    declaring: bool,
+    argument: bool,
+    nodes: &[Node],
+    uses: &mut Vec<Use>,
+) -> Result<(), NoMemory>
+    ensures { OnOk result (uses.new.items ≡ uses.old.items ++
+        (all_uses site.now.table site.now.scope.now declaring argument (nodes_view nodes.now))) }
+{
+    for node in nodes {
+        add_node(site, declaring, argument, node, uses)?;
+    }
+    Ok(())
+}
+
+#[cycle(uses)]
+fn add_fields(
+    site: &Site<'_>,
+    declaring: bool,
+    fields: &[Field],
+    uses: &mut Vec<Use>,
+) -> Result<(), NoMemory>
+    ensures { OnOk result (uses.new.items ≡ uses.old.items ++
+        (fields_uses site.now.table site.now.scope.now declaring (fields_view fields.now))) }
+{
+    for field in fields {
+        add_field(site, declaring, field, uses)?;
+    }
+    Ok(())
+}
+
+#[cycle(uses)]
+fn add_field(
+    site: &Site<'_>,
+    declaring: bool,
+    field: &Field,
+    uses: &mut Vec<Use>,
+) -> Result<(), NoMemory>
+    ensures { OnOk result (uses.new.items ≡ uses.old.items ++
+        (field_uses site.now.table site.now.scope.now declaring (field_view field.now))) }
+{
+    match field {
+        Field::Connection(link) => add_link(site, declaring, link, uses),
+        _ => Ok(()),
+    }
+}
+
+#[cycle(uses)]
+fn add_link(
+    site: &Site<'_>,
+    declaring: bool,
+    link: &Link,
+    uses: &mut Vec<Use>,
+) -> Result<(), NoMemory>
+    ensures { OnOk result (uses.new.items ≡ uses.old.items ++
+        (link_uses site.now.table site.now.scope.now declaring (link_view link.now))) }
+{
+    match link {
+        Link::Target(_) => Ok(()),
+        Link::Buffer(node) => add_node(site, declaring, false, node, uses),
+    }
+}
+
+/// Whether a term is a declaration.
+fn in_declaration(term: &Node) -> bool
+    ensures { result ≡ in_declaration (node_view term.now) }
+{
+    match term {
+        Node::Op { opcode, .. } => is_declaration(*opcode),
+        _ => false,
+    }
+}
+
+/// Adds the names that stand as TermArgs in a term, or as the term, outside the terms inside it.
+pub fn add_names(site: &Site<'_>, term: &Node, uses: &mut Vec<Use>) -> Result<(), NoMemory>
+    ensures { OnOk result (uses.new.items ≡ uses.old.items ++
+        term_uses site.now.table site.now.scope.now (node_view term.now)) }
+{
+    add_node(site, in_declaration(term), true, term, uses)
 }

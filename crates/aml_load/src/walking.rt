@@ -6,8 +6,8 @@ ghost use Rattle.aml_code.specs.Tree.{no_fields, field_more};
 ghost use Rattle.aml_code.specs.View.{node_view, nodes_view, parts_view, tail_view, fields_view, field_view};
 ghost use Rattle.aml_space.specs.Namespace.{declares, external as outside};
 ghost use Rattle.aml_space.specs.Known.{StandsFor};
-ghost use Rattle.aml_load.specs.Loading.{Listed, plus, method_entry, first_label, byte_of, lead_of, target_of, body_start, body_len, place_at, lead_at, entry_at, new_at, method_at, alias_at, external_at, units_at, declare_as, declare, declare_inside, declare_all};
-ghost use Rattle.aml_load.specs.Walking.{Gives, GivesIn, Walks};
+ghost use Rattle.aml_load.specs.Loading.{under, Listed, plus, method_entry, first_label, byte_of, lead_of, target_of, body_start, body_len, place_at, lead_at, entry_at, new_at, method_at, alias_at, external_at, units_at, declare_as, declare, declare_inside, declare_all};
+ghost use Rattle.aml_load.specs.Walking.{at_site, Gives, GivesIn, IsFree, Walks};
 
 use crate::faults::LoadFault;
 use crate::roles::{kind_of, role_of};
@@ -63,8 +63,8 @@ fn first_name(parts: &[Part]) -> Option<&Name>
 impl Progress {
     /// Where a term's name leads from its scope, without a search. `AboveRoot` where that is nowhere.
     #[tactic(auto, unfolding(crate::specs::Loading::place_at))]
-    fn own_path(&self, site: &Site<'_>, name: Option<&Name>) -> Result<Path, LoadFault>
-        ensures { Gives (λ p. p) result (place_at site.now.table site.now.scope.now (option_copied name.entry)) }
+    pub fn own_path(&self, site: &Site<'_>, name: Option<&Name>) -> Result<Path, LoadFault>
+        ensures { Gives (λ p. p) result (place_at (at_site site.now) (option_copied name.entry)) }
     {
         match name {
             None => Err(LoadFault::Space(site.table, SpaceFault::AboveRoot)),
@@ -76,13 +76,19 @@ impl Progress {
     }
 
     /// What a name leads to in its scope.
-    fn found_path(&self, scope: &Path, name: Option<&Name>) -> Result<Option<Path>, NoMemory>
+    pub fn found_path(&self, site: &Site<'_>, name: Option<&Name>) -> Result<Option<Path>, NoMemory>
         ensures { (l : Listed) → StandsFor self.now.space l.entries →
-            IfOk result (λ path. path ≡ lead_of l.entries scope.now (option_copied name.entry)) }
+            IfOk result (λ path. path ≡ lead_of (at_site site.now) l.entries (option_copied name.entry)) }
     {
         match name {
             None => Ok(None),
-            Some(name) => self.space.find(self.alloc, scope, name),
+            Some(name) => {
+                if site.any_run {
+                    self.space.lead(self.alloc, site.scope.path(), name)
+                } else {
+                    self.space.find(self.alloc, site.scope.path(), name)
+                }
+            }
         }
     }
 
@@ -94,9 +100,10 @@ impl Progress {
         missing: SpaceFault,
     ) -> Result<Path, LoadFault>
         ensures { GivesIn (λ p. p) self.now.space result (λ l.
-            ok_or (lead_of l.entries site.now.scope.now (option_copied name.entry)) (LoadFault.Space site.now.table missing)) }
+            ok_or (lead_of (at_site site.now) l.entries (option_copied name.entry))
+            (LoadFault.Space site.now.table missing)) }
     {
-        match self.found_path(site.scope.path(), name)? {
+        match self.found_path(site, name)? {
             None => Err(LoadFault::Space(site.table, missing)),
             Some(found) => Ok(found),
         }
@@ -106,7 +113,7 @@ impl Progress {
     #[tactic(auto, unfolding(crate::specs::Loading::lead_at))]
     fn scope_path(&self, site: &Site<'_>, name: Option<&Name>) -> Result<Path, LoadFault>
         ensures { GivesIn (λ p. p) self.now.space result (λ l.
-            lead_at site.now.table l.entries site.now.scope.now (option_copied name.entry) (λ p. SpaceFault.ScopeMissing p)) }
+            lead_at (at_site site.now) l.entries (option_copied name.entry) (λ p. SpaceFault.ScopeMissing p)) }
     {
         let path = self.own_path(site, name)?;
         self.led_path(site, name, SpaceFault::ScopeMissing(path))
@@ -116,7 +123,7 @@ impl Progress {
     #[tactic(auto, unfolding(crate::specs::Loading::lead_at))]
     fn source_path(&self, site: &Site<'_>, name: Option<&Name>) -> Result<Path, LoadFault>
         ensures { GivesIn (λ p. p) self.now.space result (λ l.
-            lead_at site.now.table l.entries site.now.scope.now (option_copied name.entry) (λ p. SpaceFault.AliasMissing p)) }
+            lead_at (at_site site.now) l.entries (option_copied name.entry) (λ p. SpaceFault.AliasMissing p)) }
     {
         let path = self.own_path(site, name)?;
         self.led_path(site, name, SpaceFault::AliasMissing(path))
@@ -133,15 +140,27 @@ impl Progress {
         }
     }
 
+    /// `Duplicate` where a path is declared already, unless it may be declared again.
+    fn may_declare(&self, site: &Site<'_>, path: &Path) -> Result<(), LoadFault>
+        ensures { (l : Listed) → StandsFor self.now.space l.entries →
+            IsFree (at_site site.now) l.entries path.now result }
+    {
+        if !site.any_run && self.space.is_declared(path) {
+            let path = path.clone()?;
+            return Err(LoadFault::Space(site.table, SpaceFault::Duplicate(path)));
+        }
+        Ok(())
+    }
+
     /// Declares a path that has no body.
     #[tactic(auto, unfolding(crate::specs::Loading::entry_at))]
-    fn declare(&mut self, table: usize, path: Path, kind: Kind) -> Result<(), LoadFault>
-        ensures { Walks self.old self.new result (λ l. entry_at table l path (declares path kind None true)) }
+    pub fn declare(&mut self, site: &Site<'_>, path: Path, kind: Kind) -> Result<(), LoadFault>
+        ensures { Walks self.old self.new result (λ l.
+            entry_at (at_site site.now) l path (declares path kind None site.now.sure)) }
     {
-        match self.space.declare(path, kind) {
-            Ok(()) => Ok(()),
-            Err(fault) => Err(LoadFault::in_space(table, fault)),
-        }
+        self.may_declare(site, &path)?;
+        self.space.declare_again(path, kind, site.sure)?;
+        Ok(())
     }
 
     /// Declares a name with a kind.
@@ -153,25 +172,24 @@ impl Progress {
         kind: Kind,
     ) -> Result<(), LoadFault>
         ensures { Walks self.old self.new result (λ l.
-            new_at site.now.table l site.now.scope.now (option_copied name.entry) (λ p. declares p kind None true)) }
+            new_at (at_site site.now) l (option_copied name.entry) (λ p. declares p kind None site.now.sure)) }
     {
         let path = self.own_path(site, name)?;
-        self.declare(site.table, path, kind)
+        self.declare(site, path, kind)
     }
 
     /// Declares the path of a method with this body.
-    fn declare_body(&mut self, method: Method) -> Result<(), LoadFault>
-        ensures { Walks self.old self.new result (λ l. entry_at method.table l method.path
-            (method_entry method.table method.path method.flags method.start method.len)) }
+    fn declare_body(&mut self, site: &Site<'_>, method: Method) -> Result<(), LoadFault>
+        requires { method.table ≡ site.now.table }
+        ensures { Walks self.old self.new result (λ l. entry_at (at_site site.now) l method.path
+            (method_entry (at_site site.now) method.path method.flags method.start method.len)) }
     {
+        self.may_declare(site, &method.path)?;
         let path = method.path.clone()?;
         let kind = Kind::Method {
             args: method.flags % 8,
         };
-        match self.space.declare(path, kind) {
-            Ok(()) => {}
-            Err(fault) => return Err(LoadFault::in_space(method.table, fault)),
-        }
+        self.space.declare_again(path, kind, site.sure)?;
         self.methods.push(method)?;
         Ok(())
     }
@@ -185,26 +203,34 @@ impl Progress {
         tail: &Tail,
     ) -> Result<(), LoadFault>
         ensures { Walks self.old self.new result (λ l.
-            new_at site.now.table l site.now.scope.now (last_label None (parts_view parts.now)) (λ p.
-            method_entry site.now.table p (byte_of (parts_view parts.now)) (body_start (tail_view tail.now))
+            new_at (at_site site.now) l (last_label None (parts_view parts.now)) (λ p.
+            method_entry (at_site site.now) p (byte_of (parts_view parts.now)) (body_start (tail_view tail.now))
             (body_len (tail_view tail.now)))) }
     {
         let path = self.own_path(site, last_name(parts))?;
         let (start, len) = body_span(tail);
-        self.declare_body(Method {
-            path,
-            table: site.table,
-            start,
-            len,
-            flags: byte_in(parts),
-        })
+        self.declare_body(
+            site,
+            Method {
+                path,
+                table: site.table,
+                start,
+                len,
+                flags: byte_in(parts),
+            },
+        )
     }
 
     /// Declares a method. `TooManyMethods` where as many as there may be are there, whatever its name is.
     #[tactic(auto, unfolding(crate::specs::Loading::method_at))]
-    fn add_method(&mut self, site: &Site<'_>, parts: &[Part], tail: &Tail) -> Result<(), LoadFault>
+    pub fn add_method(
+        &mut self,
+        site: &Site<'_>,
+        parts: &[Part],
+        tail: &Tail,
+    ) -> Result<(), LoadFault>
         ensures { Walks self.old self.new result (λ l.
-            method_at site.now.table l site.now.scope.now (last_label None (parts_view parts.now))
+            method_at (at_site site.now) l (last_label None (parts_view parts.now))
             (byte_of (parts_view parts.now)) (body_start (tail_view tail.now)) (body_len (tail_view tail.now))) }
     {
         if MAX_METHODS <= self.methods.len() {
@@ -214,9 +240,9 @@ impl Progress {
     }
 
     #[tactic(auto, unfolding(crate::specs::Loading::alias_at))]
-    fn add_alias(&mut self, site: &Site<'_>, parts: &[Part]) -> Result<(), LoadFault>
+    pub fn add_alias(&mut self, site: &Site<'_>, parts: &[Part]) -> Result<(), LoadFault>
         ensures { Walks self.old self.new result (λ l.
-            alias_at site.now.table l site.now.scope.now (first_label (parts_view parts.now))
+            alias_at (at_site site.now) l (first_label (parts_view parts.now))
             (last_label None (parts_view parts.now))) }
     {
         let source = self.source_path(site, first_name(parts))?;
@@ -233,9 +259,9 @@ impl Progress {
     }
 
     #[tactic(auto, unfolding(crate::specs::Loading::external_at))]
-    fn add_external(&mut self, site: &Site<'_>, parts: &[Part]) -> Result<(), LoadFault>
+    pub fn add_external(&mut self, site: &Site<'_>, parts: &[Part]) -> Result<(), LoadFault>
         ensures { Walks self.old self.new result (λ l.
-            external_at site.now.table l site.now.scope.now (last_label None (parts_view parts.now))
+            external_at (at_site site.now) l (last_label None (parts_view parts.now))
             (byte_of (parts_view parts.now))) }
     {
         let path = self.own_path(site, last_name(parts))?;
@@ -246,16 +272,16 @@ impl Progress {
     #[tactic(auto, unfolding(crate::specs::Loading::units_at))]
     fn add_unit(&mut self, site: &Site<'_>, seg: Seg) -> Result<(), LoadFault>
         ensures { Walks self.old self.new result (λ l.
-            units_at site.now.table l site.now.scope.now (plain_name seg ∷ [])) }
+            units_at (at_site site.now) l (plain_name seg ∷ [])) }
     {
         let path = Path::below(self.alloc, site.scope.path().segs(), &[seg])?;
-        self.declare(site.table, path, Kind::Field)
+        self.declare(site, path, Kind::Field)
     }
 
     #[tactic(auto, unfolding(crate::specs::Loading::units_at))]
     fn add_field(&mut self, site: &Site<'_>, field: &Field) -> Result<(), LoadFault>
         ensures { Walks self.old self.new result (λ l.
-            units_at site.now.table l site.now.scope.now (unit_names (field_more (field_view field.now) no_fields))) }
+            units_at (at_site site.now) l (unit_names (field_more (field_view field.now) no_fields))) }
     {
         match field {
             Field::NamedUnit { seg, .. } => self.add_unit(site, *seg),
@@ -266,7 +292,7 @@ impl Progress {
     #[tactic(auto, unfolding(crate::specs::Loading::units_at))]
     fn add_fields(&mut self, site: &Site<'_>, fields: &[Field]) -> Result<(), LoadFault>
         ensures { Walks self.old self.new result (λ l.
-            units_at site.now.table l site.now.scope.now (unit_names (fields_view fields.now))) }
+            units_at (at_site site.now) l (unit_names (fields_view fields.now))) }
     {
         for field in fields {
             self.add_field(site, field)?;
@@ -276,9 +302,9 @@ impl Progress {
 
     /// Declares the named units of a field list.
     #[tactic(auto, unfolding(crate::specs::Loading::units_at))]
-    fn add_units(&mut self, site: &Site<'_>, tail: &Tail) -> Result<(), LoadFault>
+    pub fn add_units(&mut self, site: &Site<'_>, tail: &Tail) -> Result<(), LoadFault>
         ensures { Walks self.old self.new result (λ l.
-            units_at site.now.table l site.now.scope.now (field_names (tail_view tail.now))) }
+            units_at (at_site site.now) l (field_names (tail_view tail.now))) }
     {
         match tail {
             Tail::Fields(fields) => self.add_fields(site, fields.as_slice()),
@@ -290,7 +316,7 @@ impl Progress {
     #[cycle(walk)]
     #[tactic(auto, unfolding(crate::specs::Loading::declare))]
     fn walk(&mut self, site: &Site<'_>, node: &Node) -> Result<(), LoadFault>
-        ensures { Walks self.old self.new result (λ l. declare site.now.table l site.now.scope.now (node_view node.now)) }
+        ensures { Walks self.old self.new result (λ l. declare (at_site site.now) l (node_view node.now)) }
     {
         match node {
             Node::Nothing | Node::Named { .. } => Ok(()),
@@ -300,7 +326,7 @@ impl Progress {
                 tail,
                 ..
             } => {
-                add_names(site, *opcode, parts.as_slice(), tail, &mut self.uses)?;
+                add_names(site, node, &mut self.uses)?;
                 self.walk_role(site, role_of(*opcode), tail, parts.as_slice())
             }
         }
@@ -317,19 +343,19 @@ impl Progress {
         parts: &[Part],
     ) -> Result<(), LoadFault>
         ensures { Walks self.old self.new result (λ l.
-            declare_as role site.now.table l site.now.scope.now (parts_view parts.now) (tail_view tail.now)
-            (λ l p. declare_inside site.now.table l p (tail_view tail.now))) }
+            declare_as role (at_site site.now) l (parts_view parts.now) (tail_view tail.now)
+            (λ l below. declare_inside below l (tail_view tail.now))) }
     {
         match role {
             Role::Declares(object) => {
                 let path = self.own_path(site, last_name(parts))?;
-                self.declare(site.table, path.clone()?, kind_of(object))?;
-                self.walk_below(site.table, path, tail)
+                self.declare(site, path.clone()?, kind_of(object))?;
+                self.walk_below(site, path, tail)
             }
             Role::Method => self.add_method(site, parts, tail),
             Role::Scope => {
                 let path = self.scope_path(site, last_name(parts))?;
-                self.walk_below(site.table, path, tail)
+                self.walk_below(site, path, tail)
             }
             Role::Alias => self.add_alias(site, parts),
             Role::External => self.add_external(site, parts),
@@ -341,14 +367,17 @@ impl Progress {
 
     /// Declares what the terms inside a term declare, whose scope is this path.
     #[cycle(walk)]
-    fn walk_below(&mut self, table: usize, path: Path, tail: &Tail) -> Result<(), LoadFault>
-        ensures { Walks self.old self.new result (λ l. declare_inside table l path (tail_view tail.now)) }
+    fn walk_below(&mut self, site: &Site<'_>, path: Path, tail: &Tail) -> Result<(), LoadFault>
+        ensures { Walks self.old self.new result (λ l.
+            declare_inside (under (at_site site.now) path) l (tail_view tail.now)) }
     {
         let scope = SharedPath::new(self.alloc, path)?;
         self.walk_inside(
             &Site {
-                table,
+                table: site.table,
                 scope: &scope,
+                any_run: site.any_run,
+                sure: site.sure,
             },
             tail,
         )
@@ -359,7 +388,7 @@ impl Progress {
     #[tactic(auto, unfolding(crate::specs::Loading::declare_inside))]
     fn walk_inside(&mut self, site: &Site<'_>, tail: &Tail) -> Result<(), LoadFault>
         ensures { Walks self.old self.new result (λ l.
-            declare_inside site.now.table l site.now.scope.now (tail_view tail.now)) }
+            declare_inside (at_site site.now) l (tail_view tail.now)) }
     {
         match tail {
             Tail::Terms(terms) => self.walk_all(site, terms.as_slice()),
@@ -372,7 +401,7 @@ impl Progress {
     #[tactic(auto, unfolding(crate::specs::Loading::declare_all))]
     pub fn walk_all(&mut self, site: &Site<'_>, terms: &[Node]) -> Result<(), LoadFault>
         ensures { Walks self.old self.new result (λ l.
-            declare_all site.now.table l site.now.scope.now (nodes_view terms.now)) }
+            declare_all (at_site site.now) l (nodes_view terms.now)) }
     {
         for term in terms {
             self.walk(site, term)?;

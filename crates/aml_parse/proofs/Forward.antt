@@ -139,11 +139,11 @@ module _ (arity : Arities) (code : List ℕ) (p : Position) (at end : ℕ) where
       width_end code at o ps start len _ w (long_tail (setting_of arity None code) _ _ _ p _ start len (h.lawful).tail) (h.lawful).width
       (span_is_inside (setting_of arity None code) (suc levels) p set.empty o w ps start len h.lawful) h.spelled h.bodies
 
-  level_there : (levels : ℕ) (t : Tree) (behind : ℕ) → ReadsStep arity levels p code at end t behind → 0 < levels
+  pub level_there : (levels : ℕ) (t : Tree) (behind : ℕ) → ReadsStep arity levels p code at end t behind → 0 < levels
   level_there zero t behind h = absurd h.lawful
   level_there (suc levels) t behind h = omega arith
 
-  room_inside : (levels o : ℕ) (w : Option PkgWidth) (ps : Parts) (start len behind : ℕ)
+  pub room_inside : (levels o : ℕ) (w : Option PkgWidth) (ps : Parts) (start len behind : ℕ)
       → ReadsStep arity levels p code at end (op o w ps (body start len)) behind → Room code levels at end → Room code (levels - 1) start (start + len)
   room_inside levels o w ps start len behind h r = record {
     le = omega arith;

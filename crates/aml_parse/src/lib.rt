@@ -17,5 +17,6 @@ mod units;
 
 pub use body::parse_body;
 pub use module::parse_module;
+pub use positions::next_position;
 pub use running::{reads_forward, reads_one_way, spells_table};
 pub use step::read_step;

@@ -14,9 +14,9 @@ use Rattle.aml_names.specs.Paths.{PathSet}
 use Rattle.aml_children.specs.Children.{child_in}
 use Rattle.aml_space.specs.declared.nodes.Node.{Node}
 use Rattle.aml_space.specs.declared.scopes.Level.{Level}
-use Rattle.aml_space.specs.Nodes.{walk, Content, kids_of, content_of, kind_in, part_by, known_by, IsShape}
-use Rattle.aml_space.specs.Known.{namespace_in}
-use Rattle.aml_space.specs.Namespace.{Namespace, decides, is_outside}
+use Rattle.aml_space.specs.Nodes.{walk, Content, kids_of, content_of, declared_in, part_by, known_by, IsShape}
+use Rattle.aml_space.specs.Known.{declared_kind, namespace_in}
+use Rattle.aml_space.specs.Namespace.{Namespace, kind_at, decides, is_outside}
 use Rattle.aml_space.specs.Predefined.{predefined}
 use Rattle.aml_space.specs.Candidates.{IsAlong, IsBare, HasBareChildren, IsSilent, IsNext, AreAsked}
 use Rattle.aml_space.proofs.Along.{along_past}
@@ -36,7 +36,7 @@ module _ (ns : List Node) where
     silent : (o : Option ℕ) → walk (kids_of ns) 0 p ≡ o → ((s : Seg) → IfSome (option_and_then (λ j. child_in (kids_of ns j) s) o) (IsBare ns))
         → IsSilent (namespace_in (known_by ns)) p
     silent o led bare = record {
-      declared = by kind_in (λ j b. b.kind);
+      declared = λ s. ap declared_kind (by declared_in (λ j b. b.declared) s);
       out = by (λ c. c.out) (λ j b. b.out);
       given = by (λ c. c.given) (λ j b. b.given);
     }
@@ -114,6 +114,15 @@ module _ (n : Namespace) (path segment : List Seg) (one : length segment ≡ 1) 
 
   pub none_given_below : (d asked : ℕ) → IsNext n path d asked → (e : ℕ) → asked < e → e ≤ d → n.givens (take e path ++ segment) ≡ None
   none_given_below d asked next e more less = below n.givens (take e path) (next.silent e more less).given
+
+  pub none_known_below : (d asked : ℕ) → d ≤ length path → IsNext n path d asked → (e : ℕ) → asked < e → e ≤ d
+      → (kind_at n (take e path ++ segment) ≡ None) × (n.outs (take e path ++ segment) ≡ None)
+  none_known_below d asked within next e more less =
+      let silent = next.silent e more less in
+      let undeclared = below n.declared (take e path) silent.declared in
+      let no_name : predefined (take e path ++ segment) ≡ None =
+      predefined_deep e path segment (λ root. omega (arith, root, more)) (omega (arith, less, within)) one in
+      ((λ i. option_or (undeclared i) (no_name i)), below n.outs (take e path) silent.out)
 
   pub none_met_below : (locals : PathSet) (d asked : ℕ) → d ≤ length path → IsNext n path d asked →
       ((e : ℕ) → asked < e → e ≤ d → set.contains locals (take e path ++ segment) ≡ false) →

@@ -1,8 +1,9 @@
 -- Steps on lists, options and tests that several proofs take.
 use Rattle.std.specs.Prelude.{◌==◌, slice_get}
-use Rattle.std.proofs.Common.{◌≡◌, ℕ, zero, suc, ◌<◌, Bool, true, false, cond, List, [], ◌∷◌, ◌++◌, length, get_or, Option, Some, None, refl}
-use Rattle.std.proofs.Common.{arith}
-use Rattle.std.specs.Option.{option_or, option_and_then}
+use Rattle.std.proofs.Common.{◌≡◌, ℕ, zero, suc, ◌<◌, Bool, true, false, not, cond, List, [], ◌∷◌, ◌++◌, length, get_or, Option, Some, None, is_some, refl}
+use Rattle.std.proofs.Common.{arith, Bor}
+use Rattle.std.specs.Option.{option_or, option_and_then, option_map, option_copied}
+use Rattle.std.proofs.lemmas.Bool.{false≢true}
 use Rattle.std.proofs.lemmas.Bool.Decides.{nat_tests}
 
 pub suc_eq : (a b : ℕ) → (suc a == suc b) ≡ (a == b)
@@ -15,6 +16,23 @@ cond_of f false x y = refl
 pub or_none : {A : Type 0} (o : Option A) → option_or o None ≡ o
 or_none None = refl
 or_none (Some x) = refl
+
+pub and_then_map : {A B C : Type 0} (f : B → C) (g : A → Option B) (o : Option A) → option_and_then (λ x. option_map f (g x)) o
+    ≡ option_map f (option_and_then g o)
+and_then_map f g None = refl
+and_then_map f g (Some x) = refl
+
+pub not_true : (b : Bool) → not b ≡ true → b ≡ false
+not_true true h = absurd (false≢true h)
+not_true false h = refl
+
+pub copied_some : {A : Type 0} (o : Option (Bor A)) → is_some o ≡ is_some (option_copied o)
+copied_some None = refl
+copied_some (Some x) = refl
+
+pub some_map : {A B : Type 0} (f : A → B) (o : Option A) → is_some (option_map f o) ≡ is_some o
+some_map f None = refl
+some_map f (Some x) = refl
 
 pub and_then_twice : {A B C : Type 0} (f : A → Option B) (g : B → Option C) (o : Option A) → option_and_then g (option_and_then f o)
     ≡ option_and_then (λ x. option_and_then g (f x)) o

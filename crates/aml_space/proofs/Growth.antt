@@ -14,7 +14,7 @@ use Rattle.aml_names.specs.Paths.{seg_cmp, paths_total, exact_paths, exact_segs}
 use Rattle.aml_children.specs.declared.children.Child.{Child}
 use Rattle.aml_children.specs.Children.{child_in, put}
 use Rattle.aml_space.specs.declared.nodes.Node.{Node}
-use Rattle.aml_space.specs.Nodes.{walk, IsFamily, Content, nothing, kids_in, kids_of, links_of, content_of, kind_in, pairs_of, part_by, known_by, IsShape}
+use Rattle.aml_space.specs.Nodes.{walk, IsFamily, Content, nothing, kids_in, kids_of, links_of, content_of, declared_in, rows_of, part_by, known_by, IsShape}
 use Rattle.aml_space.specs.Nodes.{IsNamed, IsLinked, IsIndex}
 use Rattle.aml_space.proofs.Family.{same_itself, found_put, wider_family, family_put}
 use Rattle.aml_space.proofs.Index.{part_at}
@@ -145,7 +145,7 @@ module _ (ns new : List Node) (i : ℕ) (seg : Seg) (is : IsIndex ns) (within : 
     | inl inside ↦ is.named q k e (back q k inside led) (sym (ap (λ c. c.row) (has.contents k inside)) ∙ name)
     | inr past ↦
         let here : k ≡ length ns = omega (arith, past, node_range shape q k led, has.long) in
-        absurd (none-some e (sym (ap (pairs_of new) here ∙ ap (λ c. c.row) has.no_content) ∙ name))
+        absurd (none-some e (sym (ap (rows_of new) here ∙ ap (λ c. c.row) has.no_content) ∙ name))
   ]
 
   lower : (j : ℕ) → 0 < j → j < length new → (links_of new j).0 < j
@@ -186,7 +186,7 @@ module _ (ns new : List Node) (i : ℕ) (seg : Seg) (is : IsIndex ns) (within : 
 
   pub grown_known : known_by new ≡ known_by ns
   grown_known = λ t. record {
-    kinds = grown_part kind_in refl t;
+    declarations = grown_part declared_in refl t;
     outs = grown_part (λ c. c.out) refl t;
     givens = grown_part (λ c. c.given) refl t;
   }

@@ -8,6 +8,7 @@ use Rattle.aml_names.specs.Paths.{PathSet}
 use Rattle.aml_space.specs.declared.kinds.Kind.{Kind}
 use Rattle.aml_space.specs.declared.kinds.Kind.TheVariants.{Name, Method, Alias, Device}
 use Rattle.aml_space.specs.Namespace.{Entry, declares, external, given}
+use Rattle.aml_space.specs.Known.{declaration_at, once, again, row_of}
 use Rattle.aml_space.specs.Runs.{outlook_of, agreed_arity, agreed_path}
 
 abbrev ABCD : Seg
@@ -116,3 +117,16 @@ opened = refl
 
 not_told : agreed_path (outlook_of (declares (BAR_ ∷ DEV0 ∷ []) Device None false ∷ sure DEV0 Device ∷ [])) (BAR_ ∷ []) (name DEV0) ≡ None
 not_told = refl
+
+-- what the declarations of a path say: kinds behind a sure one aren't kept, and all are counted
+said_thrice : declaration_at (maybe FOO_ (Method 1) ∷ sure BAR_ (Method 0) ∷ sure FOO_ Name ∷ maybe FOO_ (Method 2) ∷ []) (FOO_ ∷ [])
+    ≡ Some (record { kind = Method 1; others = Name ∷ []; sure = true; times = 3 })
+said_thrice = refl
+
+said_once : declaration_at (external (FOO_ ∷ []) 1 ∷ sure FOO_ (Method 1) ∷ []) (FOO_ ∷ [])
+    ≡ Some (record { kind = Method 1; others = []; sure = true; times = 1 })
+said_once = refl
+
+-- and its row
+row_of_maybes : row_of (FOO_ ∷ [], again (once (Method 1) false) (Method 1) false) ≡ record { path = FOO_ ∷ []; kind = Method 1; sure = false; times = 2 }
+row_of_maybes = refl

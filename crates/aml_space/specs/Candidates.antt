@@ -1,5 +1,6 @@
 -- A stepping stone of the proofs: the paths that a name of one segment may mean in a scope, by their nodes.
-use Rattle.std.specs.Prelude.{◌≡◌, ℕ, ◌<◌, ◌≤◌, ◌+◌, Bool, false, ◌==◌, List, [], ◌∷◌, ◌++◌, length, take, slice_get}
+use Rattle.std.specs.Prelude.{◌≡◌, ℕ, zero, suc, ◌<◌, ◌≤◌, ◌+◌, Bool, false, ◌==◌, List, [], ◌∷◌, ◌++◌, length, take}
+use Rattle.std.specs.Prelude.{slice_get}
 use Rattle.std.specs.Prelude.{Option, Some, None, IfSome}
 use Rattle.std.specs.Option.{option_map}
 use Rattle.std.specs.FinSet as set
@@ -10,13 +11,20 @@ use Rattle.aml_space.specs.declared.nodes.Node.{Node}
 use Rattle.aml_space.specs.declared.scopes.Scope.{Scope}
 use Rattle.aml_space.specs.declared.scopes.Level.{Level}
 use Rattle.aml_space.specs.declared.scopes.Candidate.{Candidate}
-use Rattle.aml_space.specs.Nodes.{walk, kids_of, kinds_of, outs_of, givens_of, known_by, IsShape}
-use Rattle.aml_space.specs.Known.{namespace_in}
-use Rattle.aml_space.specs.Namespace.{Namespace}
+use Rattle.aml_space.specs.Nodes.{walk, kids_of, declared_of, outs_of, givens_of, known_by, IsShape}
+use Rattle.aml_space.specs.Known.{namespace_in, outlook_in}
+use Rattle.aml_space.specs.Runs.{Outlook, counts_met, arity_met, first_agreed, agreed_or}
+use Rattle.aml_space.specs.Namespace.{Namespace, first_given, arity_at, first_of, is_outside}
+use Rattle.aml_names.specs.Searching.{upward}
+use Rattle.std.specs.List.{find}
 
 -- the namespace in which a scope stands
 abbrev pub names_of : Scope → Namespace
 names_of s = namespace_in (known_by s.nodes.now)
+
+-- and what may stand at each path there
+abbrev pub outlook_at : Scope → Outlook
+outlook_at s = outlook_in (known_by s.nodes.now)
 
 -- the levels of a path have the nodes of its fronts
 abbrev pub IsAlong : List Node → List Seg → List Level → Type 0
@@ -24,9 +32,9 @@ IsAlong ns path levels =
     (d : ℕ) → d ≤ length path →
     option_map (λ (l : Level). l.node) (slice_get levels d) ≡ walk (kids_of ns) 0 (take d path)
 
--- a node has no kind, no External and no given count
+-- a node has no declaration, no External and no given count
 pub record IsBare (ns : List Node) (i : ℕ) : Type 0 where
-  pub kind : kinds_of ns i ≡ None
+  pub declared : declared_of ns i ≡ None
   pub out : outs_of ns i ≡ None
   pub given : givens_of ns i ≡ None
 
@@ -70,3 +78,17 @@ pub record IsCandidate (ns : List Node) (locals : PathSet) (scope segment : List
 abbrev pub stands_at : Option ℕ → ℕ → Bool
 stands_at None d = false
 stands_at (Some n) d = n == d
+
+-- how many arguments a name takes whatever runs, by the paths that it may mean
+abbrev pub agreed_at : Outlook → Bool → PathSet → List (List Seg) → Option ℕ
+agreed_at o unknown_zero locals paths = arity_met (counts_met o locals paths) (first_given o.first paths)
+    (arity_at o.first unknown_zero locals paths (first_of o.first locals paths))
+
+-- and which of them a Scope opens or an Alias names
+abbrev pub agreed_among : Outlook → List (List Seg) → Option (List Seg)
+agreed_among o paths = agreed_or (first_agreed o paths) (find (is_outside o.first) paths)
+
+-- the candidates of a segment further up than a depth
+abbrev pub above : List Seg → List Seg → ℕ → List (List Seg)
+above scope segment zero = []
+above scope segment (suc d) = upward d scope segment

@@ -1,8 +1,9 @@
 -- What a run of the code outside methods may leave of what tables declare: entries that stand in every run or only in
 -- some, and how many arguments a name takes where every run agrees.
 use Rattle.std.specs.Prelude.{◌≡◌, ◌≢◌, ℕ, Bool, true, false, not, cond, List, [], ◌∷◌, ◌++◌, Option, Some, None}
-use Rattle.std.specs.Prelude.{◌||◌, ◌&&◌, ◌==◌, is_some, IfSome, IsSome, IsSomeAnd, IsTrue, map, flat_map, option_to_list}
-use Rattle.std.specs.Prelude.{slice_get}
+use Rattle.std.specs.Prelude.{◌||◌, ◌&&◌, ◌==◌, is_some, IfSome, IsSome, IsSomeAnd, IsTrue, map, flat_map}
+use Rattle.std.specs.Prelude.{option_to_list}
+use Rattle.std.specs.Prelude.{◌+◌, slice_get}
 use Rattle.std.specs.List.{find, list_all, AllByRecursion}
 use Rattle.std.specs.Option.{option_or}
 use Rattle.std.specs.FinSet as set
@@ -24,6 +25,13 @@ surely_declared [] q = false
 surely_declared (declares p k b sure ∷ es) q = (same_path q p && sure) || surely_declared es q
 surely_declared (external p n ∷ es) q = surely_declared es q
 surely_declared (given p n ∷ es) q = surely_declared es q
+
+-- how many declarations a path has
+abbrev pub times_at : List Entry → List Seg → ℕ
+times_at [] q = 0
+times_at (declares p k b sure ∷ es) q = cond (same_path q p) (times_at es q + 1) (times_at es q)
+times_at (external p n ∷ es) q = times_at es q
+times_at (given p n ∷ es) q = times_at es q
 
 -- the kinds that a path has in one run or another, in order: the declared ones up to and with the first that is sure,
 -- and where none is sure the predefined one behind them

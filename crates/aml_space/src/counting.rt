@@ -1,14 +1,19 @@
 //! How many arguments a path takes.
-ghost use Rattle.std.specs.Prelude.{◌≡◌, ◌<◌, length, IfSome};
-ghost use Rattle.std.specs.Option.{option_or, option_and_then, option_copied};
+ghost use Rattle.std.specs.Prelude.{◌≡◌, ◌<◌, ◌∷◌, List, None, cond, length, map, flat_map, option_to_list, IfSome};
+ghost use Rattle.std.specs.Option.{option_or, option_and_then, option_copied, option_map};
+ghost use Rattle.aml_names.specs.declared.segments.Seg.{Seg};
 ghost use Rattle.aml_space.specs.Namespace.{kind_at as kind_of_path, count_at, count_by, target_count};
-ghost use Rattle.aml_space.specs.Known.{namespace_in};
-ghost use Rattle.aml_space.specs.Nodes.{kinds_of, outs_of, known_by, IsShape};
+ghost use Rattle.aml_space.specs.Known.{Declared, namespace_in, outlook_in, kinds_by, sure_by};
+ghost use Rattle.aml_space.specs.Runs.{target_counts, counts_by};
+ghost use Rattle.aml_space.specs.Nodes.{kinds_of, declared_of, outs_of, known_by, IsShape};
+ghost use Rattle.aml_space.specs.Tallies.{joined, counts_in, own_count, is_nothing};
 
 use crate::kinds::Kind;
 use crate::nodes::Node;
 use crate::predefined::Predefined;
-use crate::walking::{kind_at, node_of, out_at};
+use crate::rows::Row;
+use crate::tallies::{Counts, own_counts};
+use crate::walking::{kind_at, node_of, out_at, row_at};
 use aml_names::Path;
 
 /// The kind of a path: the declared one of its node, else the predefined one.
@@ -79,4 +84,138 @@ pub(crate) fn count_of(nodes: &[Node], predefined: &Predefined, path: &Path) -> 
 {
     let node = node_of(nodes, path.segs());
     count_met(nodes, predefined, node, predefined.kind(path.segs()))
+}
+
+// ---- What may stand: the counts of all kinds of a path.
+
+/// What the kinds of a path count as the target of an Alias, if it has any: there an Alias counts no argument.
+fn targets_met(row: Option<&Row>, standing: Option<&Kind>) -> Counts
+    ensures { let said = option_map (λ (r : List Seg × Declared). r.1) (option_copied row.entry) in
+        result ≡ counts_in (map own_count (kinds_by said (option_copied standing.entry))) }
+{
+    match row {
+        None => own_counts(standing),
+        Some(row) => with_standing(row, row.tally().counts, own_counts(standing)),
+    }
+}
+
+/// What the declared kinds of a path come to, and the predefined one behind them unless one of them is sure.
+fn with_standing(row: &Row, counts: Counts, standing: Counts) -> Counts
+    ensures { result ≡ cond row.now.1.sure counts (joined counts standing) }
+{
+    if row.is_sure() {
+        counts
+    } else {
+        counts.joined(standing)
+    }
+}
+
+/// What stands at the target of an Alias counts, and without any kind what Externals say.
+fn or_outside(counts: Counts, out: Option<u8>) -> Counts
+    ensures { result ≡ cond (is_nothing counts) (Counts.One (target_count None out)) counts }
+{
+    match counts {
+        Counts::Nothing => Counts::One(out.unwrap_or(0)),
+        counts => counts,
+    }
+}
+
+/// The counts of what may stand at the target of an Alias.
+fn counts_of_target(nodes: &[Node], predefined: &Predefined, target: &Path) -> Counts
+    requires { IsShape nodes.now }
+    ensures { let outlook = outlook_in (known_by nodes.now) in
+        result ≡ counts_in (target_counts (outlook.kinds target.now) (outlook.first.outs target.now)) }
+{
+    let node = node_of(nodes, target.segs());
+    let counts = targets_met(row_at(nodes, node), predefined.kind(target.segs()));
+    or_outside(counts, out_at(nodes, node))
+}
+
+/// The counts of a kind: a method's own, an Alias's by its target.
+fn counts_of_kind(nodes: &[Node], predefined: &Predefined, kind: &Kind) -> Counts
+    requires { IsShape nodes.now }
+    ensures { result ≡ counts_in (counts_by (outlook_in (known_by nodes.now)) kind.now) }
+{
+    match kind {
+        Kind::Method { args } => Counts::One(*args),
+        Kind::Alias { target } => counts_of_target(nodes, predefined, target),
+        _ => Counts::One(0),
+    }
+}
+
+/// Those of several kinds, behind others.
+fn counts_of_kinds(nodes: &[Node], predefined: &Predefined, first: Counts, kinds: &[Kind]) -> Counts
+    requires { IsShape nodes.now }
+    ensures { result ≡ joined first
+        (counts_in (flat_map (counts_by (outlook_in (known_by nodes.now))) kinds.now)) }
+{
+    let mut counts = first;
+    for kind in kinds {
+        counts = counts.joined(counts_of_kind(nodes, predefined, kind));
+    }
+    counts
+}
+
+/// The counts of the declared kinds of a path. Each kind is looked at only where an Alias is among them.
+fn counts_of_row(nodes: &[Node], predefined: &Predefined, row: &Row) -> Counts
+    requires { IsShape nodes.now }
+    ensures { result ≡ counts_in (flat_map (counts_by (outlook_in (known_by nodes.now)))
+        (row.now.1.kind ∷ row.now.1.others)) }
+{
+    let tally = row.tally();
+    if !tally.aliased {
+        return tally.counts;
+    }
+    let first = counts_of_kind(nodes, predefined, row.kind());
+    counts_of_kinds(nodes, predefined, first, row.others())
+}
+
+/// The counts of a predefined kind, if there is one.
+fn counts_standing(nodes: &[Node], predefined: &Predefined, standing: Option<&Kind>) -> Counts
+    requires { IsShape nodes.now }
+    ensures { result ≡ counts_in (flat_map (counts_by (outlook_in (known_by nodes.now)))
+        (option_to_list (option_copied standing.entry))) }
+{
+    match standing {
+        None => Counts::Nothing,
+        Some(kind) => counts_of_kind(nodes, predefined, kind),
+    }
+}
+
+/// The counts of all kinds that a path may have, by its node and its predefined kind.
+pub(crate) fn counts_met(
+    nodes: &[Node],
+    predefined: &Predefined,
+    node: Option<usize>,
+    standing: Option<&Kind>,
+) -> Counts
+    requires shape { IsShape nodes.now }
+    requires within { IfSome node (λ i. i < length nodes.now) }
+    ensures { result ≡ counts_in (flat_map (counts_by (outlook_in (known_by nodes.now)))
+        (kinds_by (option_and_then (declared_of nodes.now) node) (option_copied standing.entry))) }
+{
+    match row_at(nodes, node) {
+        None => counts_standing(nodes, predefined, standing),
+        Some(row) => {
+            let counts = counts_of_row(nodes, predefined, row);
+            with_standing(row, counts, counts_standing(nodes, predefined, standing))
+        }
+    }
+}
+
+/// Whether a path has a kind in every run, by its node and its predefined kind.
+pub(crate) fn sure_met(nodes: &[Node], node: Option<usize>, standing: Option<&Kind>) -> bool
+    requires { IfSome node (λ i. i < length nodes.now) }
+    ensures { result ≡ sure_by (option_and_then (declared_of nodes.now) node) (option_copied standing.entry) }
+{
+    standing.is_some() || is_sure_row(row_at(nodes, node))
+}
+
+fn is_sure_row(row: Option<&Row>) -> bool
+    ensures { result ≡ sure_by (option_map (λ (r : List Seg × Declared). r.1) (option_copied row.entry)) None }
+{
+    match row {
+        None => false,
+        Some(row) => row.is_sure(),
+    }
 }

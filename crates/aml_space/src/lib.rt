@@ -12,10 +12,12 @@ mod laws;
 mod listing;
 mod nodes;
 mod predefined;
+mod rows;
 mod runs;
 mod scopes;
 mod searching;
 mod spaces;
+mod tallies;
 mod walking;
 
 pub use bodies::{BodyNames, BodyScope};
@@ -23,6 +25,7 @@ pub use faults::SpaceFault;
 pub use kinds::Kind;
 pub use laws::rows_are_declared;
 pub use listing::Rows;
+pub use rows::Row;
 pub use runs::{
     every_run_agrees, every_run_leads_there, quick_way_holds, runs_differ, stays_as_it_is,
     sure_stays,

@@ -2,21 +2,15 @@
 ghost use Rattle.std.specs.Prelude.{◌≡◌};
 ghost use Rattle.aml_space.specs.Nodes.{empty};
 
-use crate::kinds::Kind;
+use crate::rows::Row;
 use aml_children::Children;
-use aml_names::{Path, Seg};
-
-/// What is declared at a node.
-#[derive(Drop)]
-pub(crate) struct Row {
-    pub path: Path,
-    pub kind: Kind,
-}
+use aml_names::Seg;
 
 /// A node of the index. It stands for one path.
 #[derive(Drop)]
 pub(crate) struct Node {
-    /// The path and its kind, where it is declared; in a box, since most nodes of a long path have none.
+    /// The path and what its declarations say, where it is declared; in a box, since most nodes of a long path have
+    /// none.
     pub row: Option<Box<Row>>,
     /// The greatest count of its Externals.
     pub outs: Option<u8>,

@@ -1,19 +1,27 @@
 //! Scopes in the index, and what a name of one segment means in them.
-ghost use Rattle.std.specs.Prelude.{◌≡◌, ◌||◌, ℕ, ◌+◌, ◌<◌, ◌≤◌, ◌++◌, List, cond, length, take, Some, None, is_some, IfOk, IfSome};
+ghost use Rattle.std.specs.Prelude.{◌&&◌, not};
+ghost use Rattle.std.specs.List.{find};
+ghost use Rattle.std.specs.Prelude.{◌≡◌, ◌||◌, ℕ, ◌+◌, ◌<◌, ◌≤◌, ◌++◌, List, cond, length, take, Some, None, is_some};
+ghost use Rattle.std.specs.Prelude.{IfOk, IfSome};
 ghost use Rattle.std.specs.Bool.{OnFalse};
 ghost use Rattle.std.specs.Option.{option_or, option_and_then, option_copied, option_map};
 ghost use Rattle.aml_names.specs.declared.segments.Seg.{Seg};
 ghost use Rattle.aml_names.specs.Searching.{upward};
 ghost use Rattle.aml_space.specs.Predefined.{predefined};
-ghost use Rattle.aml_space.specs.Namespace.{first_of, first_given, count_at};
+ghost use Rattle.aml_space.specs.Namespace.{first_of, first_given, count_at, kind_at as kind_of_path};
 ghost use Rattle.aml_space.specs.Nodes.{walk, kids_of, kinds_of, outs_of, known_by, IsShape};
 ghost use Rattle.aml_space.specs.Known.{namespace_in};
-ghost use Rattle.aml_space.specs.Candidates.{path_at, stands_at, names_of, IsAlong, IsBare, HasBareChildren, IsNext, AreAsked, IsScope, IsCandidate};
+ghost use Rattle.aml_space.specs.Runs.{counts_met as met, counts_of, is_known};
+ghost use Rattle.aml_space.specs.Tallies.{counts_in};
+ghost use Rattle.aml_space.specs.Candidates.{path_at, stands_at, names_of, outlook_at, IsAlong, IsBare};
+ghost use Rattle.aml_space.specs.Candidates.{HasBareChildren};
+ghost use Rattle.aml_space.specs.Candidates.{IsNext, AreAsked, IsScope, IsCandidate, agreed_among, above};
 
-use crate::counting::{count_met, kind_met};
+use crate::counting::{count_met, counts_met, kind_met, sure_met};
 use crate::kinds::Kind;
 use crate::nodes::Node;
 use crate::predefined::Predefined;
+use crate::tallies::Counts;
 use crate::walking::{child, children_at, given_at, kind_at, out_at};
 use aml_names::{Locals, NoMemory, Path, Seg};
 use std::alloc::Global;
@@ -102,6 +110,97 @@ impl<'a> Scope<'a> {
             }
             depth = self.next_depth(nearest, depth - 1);
         }
+    }
+
+    /// The candidate to which a segment leads whatever runs: the first that has a kind, unless a run may be without it
+    /// and another one further up is known; else the first that an External names.
+    pub(crate) fn lead(&self, alloc: Global, segment: &[Seg]) -> Result<Option<Candidate>, NoMemory>
+        requires scope { IsScope self.now }
+        requires one { length segment.now ≡ 1 }
+        ensures led { IfOk result (λ met. option_map (path_at self.now.path.now segment.now) met
+            ≡ agreed_among (outlook_at self.now)
+            (upward (length self.now.path.now) self.now.path.now segment.now)) }
+        ensures within { IfOk result (λ met. IfSome met (λ c. c.depth ≤ length self.now.path.now)) }
+    {
+        let locals = Locals::new(alloc);
+        match self.search(alloc, &locals, segment)? {
+            None => Ok(None),
+            Some(here) => {
+                if self.may_lead_further(segment, here) {
+                    Ok(None)
+                } else {
+                    Ok(Some(here))
+                }
+            }
+        }
+    }
+
+    /// Whether a run may be without a candidate that has a kind, and another one further up is known.
+    fn may_lead_further(&self, segment: &[Seg], here: Candidate) -> bool
+        requires scope { IsScope self.now }
+        requires one { length segment.now ≡ 1 }
+        requires within { here.depth ≤ length self.now.path.now }
+        requires node { here.node ≡ walk (kids_of self.now.nodes.now) 0 (take here.depth self.now.path.now
+            ++ segment.now) }
+        ensures { let path = take here.depth self.now.path.now ++ segment.now in result
+            ≡ (is_some (kind_of_path (names_of self.now) path) && (not ((outlook_at self.now).sure path)
+            && is_some (find (is_known (names_of self.now)) (above self.now.path.now segment.now here.depth)))) }
+    {
+        self.has_kind(segment, here)
+            && !self.is_sure_at(segment, here.depth)
+            && self.is_known_above(segment, here.depth)
+    }
+
+    /// Whether a candidate has a kind.
+    fn has_kind(&self, segment: &[Seg], here: Candidate) -> bool
+        requires scope { IsScope self.now }
+        requires one { length segment.now ≡ 1 }
+        requires within { here.depth ≤ length self.now.path.now }
+        requires node { here.node ≡ walk (kids_of self.now.nodes.now) 0 (take here.depth self.now.path.now
+            ++ segment.now) }
+        ensures { result
+            ≡ is_some (kind_of_path (names_of self.now) (take here.depth self.now.path.now ++ segment.now)) }
+    {
+        kind_met(self.nodes, here.node, self.standing(segment, here.depth)).is_some()
+    }
+
+    /// Whether a candidate further up than a depth has a kind, or an External names it.
+    fn is_known_above(&self, segment: &[Seg], below: usize) -> bool
+        requires scope { IsScope self.now }
+        requires one { length segment.now ≡ 1 }
+        requires within { below ≤ length self.now.path.now }
+        ensures { result
+            ≡ is_some (find (is_known (names_of self.now)) (above self.now.path.now segment.now below)) }
+    {
+        if below == 0 {
+            return false;
+        }
+        let mut depth = self.next_asked(below - 1);
+        'depths: loop {
+            if self.is_known_at(segment, depth) {
+                return true;
+            }
+            if depth == 0 {
+                return false;
+            }
+            depth = self.next_asked(depth - 1);
+        }
+    }
+
+    /// Whether a candidate has a kind, or an External names it.
+    fn is_known_at(&self, segment: &[Seg], depth: usize) -> bool
+        requires scope { IsScope self.now }
+        requires one { length segment.now ≡ 1 }
+        requires within { depth ≤ length self.now.path.now }
+        ensures { result ≡ is_known (names_of self.now) (take depth self.now.path.now ++ segment.now) }
+    {
+        let node = self.node_at(depth, segment);
+        let here = Candidate {
+            depth,
+            node,
+            local: false,
+        };
+        self.has_kind(segment, here) || out_at(self.nodes, node).is_some()
     }
 
     /// The node of a segment at a depth.
@@ -208,6 +307,64 @@ impl<'a> Scope<'a> {
             here.node,
             self.standing(segment, here.depth),
         )
+    }
+
+    /// The counts of all that a segment may mean: of each candidate up to and with the first that is one of the locals,
+    /// whose count is 0, or has a kind in every run.
+    pub(crate) fn counts(
+        &self,
+        alloc: Global,
+        locals: &Locals,
+        segment: &[Seg],
+    ) -> Result<Counts, NoMemory>
+        requires scope { IsScope self.now }
+        requires one { length segment.now ≡ 1 }
+        ensures { IfOk result (λ counts. counts ≡ counts_in (met (outlook_at self.now) locals.now
+            (upward (length self.now.path.now) self.now.path.now segment.now))) }
+    {
+        let nearest = locals.nearest(alloc, self.path, segment[0])?;
+        let mut counts = Counts::Nothing;
+        let mut depth = self.next_depth(nearest, self.path.segs().len());
+        'depths: loop {
+            if stands(nearest, depth) {
+                return Ok(counts.joined(Counts::One(0)));
+            }
+            let (here, sure) = self.counts_at(segment, depth);
+            counts = counts.joined(here);
+            if depth == 0 {
+                return Ok(counts);
+            }
+            if sure {
+                return Ok(counts);
+            }
+            depth = self.next_depth(nearest, depth - 1);
+        }
+    }
+
+    /// The counts of all kinds that a candidate may have, and whether it has one in every run.
+    fn counts_at(&self, segment: &[Seg], depth: usize) -> (Counts, bool)
+        requires scope { IsScope self.now }
+        requires one { length segment.now ≡ 1 }
+        requires within { depth ≤ length self.now.path.now }
+        ensures counts { result.0
+            ≡ counts_in (counts_of (outlook_at self.now) (take depth self.now.path.now ++ segment.now)) }
+        ensures sure { result.1 ≡ (outlook_at self.now).sure (take depth self.now.path.now ++ segment.now) }
+    {
+        let node = self.node_at(depth, segment);
+        let standing = self.standing(segment, depth);
+        let counts = counts_met(self.nodes, self.predefined, node, standing);
+        (counts, sure_met(self.nodes, node, standing))
+    }
+
+    /// Whether a candidate has a kind in every run.
+    fn is_sure_at(&self, segment: &[Seg], depth: usize) -> bool
+        requires scope { IsScope self.now }
+        requires one { length segment.now ≡ 1 }
+        requires within { depth ≤ length self.now.path.now }
+        ensures { result ≡ (outlook_at self.now).sure (take depth self.now.path.now ++ segment.now) }
+    {
+        let node = self.node_at(depth, segment);
+        sure_met(self.nodes, node, self.standing(segment, depth))
     }
 
     /// The count that the user gives to the first candidate of a segment that has one.

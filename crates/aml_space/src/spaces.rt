@@ -1,20 +1,27 @@
 //! The namespace that tables make.
-ghost use Rattle.std.specs.Prelude.{◌≡◌, ◌≤◌, ◌*◌, length, slice_get, [], ◌∷◌, ◌++◌, List, Option, ◌⊎◌, OnOk, OnErr, IfOk, IfErr, IsTrue, true};
-ghost use Rattle.std.specs.Option.{option_map, option_copied};
+ghost use Rattle.std.specs.Prelude.{◌≡◌, ◌≤◌, ◌*◌, length, slice_get, [], ◌∷◌, ◌++◌, List, Option, true, is_some};
+ghost use Rattle.std.specs.Prelude.{map as map_list, ◌⊎◌, OnOk, OnErr, IfOk, IfErr, IsTrue};
+ghost use Rattle.std.specs.Option.{option_copied};
 ghost use Rattle.std.specs.FinMap as map;
-ghost use Rattle.aml_space.specs.Namespace.{Entry, Body, declares, external as outside, given as said, kind_at, count_at, namespace_of};
-ghost use Rattle.aml_space.specs.Known.{StandsFor, nothing_known, with_declared, with_external, with_given, is_declared as declared_yet, namespace_in, row_pair, row_pairs, AreRows};
+ghost use Rattle.aml_space.specs.Namespace.{Entry, Body, declares, external as outside, given as said};
+ghost use Rattle.aml_space.specs.Namespace.{kind_at, count_at, namespace_of, declared_at};
+ghost use Rattle.aml_space.specs.Runs.{sure_at};
+ghost use Rattle.aml_space.specs.Known.{StandsFor, nothing_known, with_declared, with_again, with_external, with_given};
+ghost use Rattle.aml_space.specs.Known.{is_declared as declared_yet, namespace_in, outlook_in, row_of, AreRows};
 
-use crate::counting::count_of;
+use crate::counting::{count_of, sure_met};
 use crate::faults::SpaceFault;
-use crate::growing::{deepest, extend, is_taken, make_node, set_given, set_out, set_row};
+use crate::growing::{
+    declare_again, declare_first, declared_node, deepest, is_taken, make_node, set_given, set_out,
+};
 use crate::kinds::Kind;
 use crate::listing::{Rows, list_rows};
-use crate::nodes::{Node, Row};
+use crate::nodes::Node;
 use crate::predefined::Predefined;
+use crate::rows::Row;
 use crate::walking::{kind_at, node_of, out_at, walk_counted};
 use aml_names::{NoMemory, Path, Seg};
-use std::alloc::Global;
+use std::alloc::{AllocError, Global};
 use std::marker::Model;
 
 /// The namespace of the tables so far: what they declare, and what Externals name, over the predefined names; and the
@@ -43,11 +50,13 @@ impl Model for Space {
     ghost invariant = { λ s. IsSpace s.nodes.items s.rows };
 }
 
-/// A declared path and its kind.
+/// A declared path, the kind of its first declaration, whether a declaration is sure, and how many there are.
 #[derive(Drop)]
 pub struct SpaceRow {
     pub path: Path,
     pub kind: Kind,
+    pub sure: bool,
+    pub times: usize,
 }
 
 impl Space {
@@ -66,8 +75,8 @@ impl Space {
         })
     }
 
-    /// Declares a path. It may be that of a predefined name, once. `Duplicate` where the path is declared already.
-    /// A refused declaration changes nothing.
+    /// Declares a path surely. It may be that of a predefined name, once. `Duplicate` where the path is declared
+    /// already. A refused declaration changes nothing.
     pub fn declare(&mut self, path: Path, kind: Kind) -> Result<(), SpaceFault>
         ensures ok { OnOk result (self.new ≡ with_declared self.old path kind) }
         ensures stands { (es : List Entry) (body : Option Body) → StandsFor self.old es →
@@ -84,9 +93,27 @@ impl Space {
         if self.rows == usize::MAX {
             return Err(SpaceFault::NoMemory);
         }
-        let row = Box::new(self.alloc, Row { path, kind })?;
-        let at = extend(self.alloc, &mut self.nodes, row.path.segs(), reach)?;
-        set_row(&mut self.nodes, at, row);
+        declare_first(self.alloc, &mut self.nodes, path, kind, true, reach)?;
+        self.rows += 1;
+        Ok(())
+    }
+
+    /// Declares a path once more, or for the first time: surely, or so that it stands in some runs of the code outside
+    /// methods alone. A refused declaration changes nothing.
+    pub fn declare_again(&mut self, path: Path, kind: Kind, sure: bool) -> Result<(), NoMemory>
+        ensures ok { OnOk result (self.new ≡ with_again self.old path kind sure) }
+        ensures stands { (es : List Entry) (body : Option Body) → StandsFor self.old es →
+            OnOk result (StandsFor self.new (es ++ declares path kind body sure ∷ [])) }
+        ensures err { OnErr result (self.new ≡ self.old) }
+    {
+        if let Some(at) = declared_node(self.nodes.as_slice(), path.segs()) {
+            return declare_again(self.alloc, &mut self.nodes, path.segs(), at, kind, sure);
+        }
+        if self.rows == usize::MAX {
+            return Err(AllocError);
+        }
+        let reach = deepest(self.nodes.as_slice(), path.segs());
+        declare_first(self.alloc, &mut self.nodes, path, kind, sure, reach)?;
         self.rows += 1;
         Ok(())
     }
@@ -119,7 +146,7 @@ impl Space {
 
     /// The kind with which a path is declared, and the comparisons of segments that were made.
     fn declared_counted(&self, path: &Path) -> (Option<&Kind>, u128)
-        ensures kind { option_copied result.0 ≡ map.get self.now.kinds path.now }
+        ensures kind { option_copied result.0 ≡ (namespace_in self.now).declared path.now }
         ensures few { result.1 ≤ 64 * length path.now }
     {
         let nodes = self.nodes.as_slice();
@@ -129,7 +156,7 @@ impl Space {
 
     /// The kind with which a path is declared.
     fn declared(&self, path: &Path) -> Option<&Kind>
-        ensures { option_copied result ≡ map.get self.now.kinds path.now }
+        ensures { option_copied result ≡ (namespace_in self.now).declared path.now }
     {
         let nodes = self.nodes.as_slice();
         kind_at(nodes, node_of(nodes, path.segs()))
@@ -172,7 +199,26 @@ impl Space {
         }
     }
 
-    /// How many arguments a path takes: those of a method, also through an Alias; none for another kind. Where the path
+    /// Whether a path is declared, by whatever declaration.
+    pub fn is_declared(&self, path: &Path) -> bool
+        ensures known { result ≡ declared_yet self.now path.now }
+        ensures listed { (es : List Entry) → StandsFor self.now es → result ≡ is_some (declared_at es path.now) }
+    {
+        self.declared(path).is_some()
+    }
+
+    /// Whether a path has a kind whatever runs: by a sure declaration, or since it is predefined.
+    pub fn is_sure(&self, path: &Path) -> bool
+        ensures known { result ≡ (outlook_in self.now).sure path.now }
+        ensures listed { (es : List Entry) → StandsFor self.now es → result ≡ sure_at es path.now }
+    {
+        let nodes = self.nodes.as_slice();
+        let node = node_of(nodes, path.segs());
+        sure_met(nodes, node, self.predefined.kind(path.segs()))
+    }
+
+    /// How many arguments a path takes where the first declaration of a path counts: those of a method, also through an
+    /// Alias; none for another kind. Where the path
     /// has no kind, the greatest count of its Externals. Nothing where no table names it.
     #[tactic(auto, using(crate::proofs::Stands::count_listed))]
     pub fn count(&self, path: &Path) -> Option<u8>
@@ -184,23 +230,23 @@ impl Space {
 
     /// How many paths are declared.
     pub fn row_count(&self) -> usize
-        ensures { result ≡ length (map.entries self.now.kinds) }
+        ensures { result ≡ length (map.entries self.now.declarations) }
     {
         self.rows
     }
 
-    /// The declared paths in order, one after the other, each once, with its kind.
+    /// The declared paths in order, one after the other, each once, with what its declarations say.
     pub fn in_order(&self) -> Rows<'_>
-        ensures { result ≡ map.entries self.now.kinds }
+        ensures { result ≡ map.entries self.now.declarations }
     {
         Rows::new(self.nodes.as_slice())
     }
 
-    /// The declared path at a place in the order of the paths, with its kind. Paths are ordered by their segments as
+    /// The declared path at a place in the order of the paths. Paths are ordered by their segments as
     /// bytes, a shorter path before those that it begins. The predefined names that nothing replaced aren't among them.
     /// This goes through all paths before it; `in_order` gives all of them by one walk.
-    pub fn row_at(&self, index: usize) -> Option<(&Path, &Kind)>
-        ensures { option_map row_pair result ≡ slice_get (map.entries self.now.kinds) index }
+    pub fn row_at(&self, index: usize) -> Option<&Row>
+        ensures { option_copied result ≡ slice_get (map.entries self.now.declarations) index }
     {
         let mut rows = self.in_order();
         for _place in 0..index {
@@ -209,11 +255,10 @@ impl Space {
         rows.next()
     }
 
-    /// The declared paths in order, each once, with its kind.
+    /// The declared paths in order, each once, with what its declarations say.
     pub fn rows(&self, alloc: Global) -> Result<Vec<SpaceRow>, NoMemory>
-        ensures known { IfOk result (λ rows. row_pairs rows.items ≡ map.entries self.now.kinds) }
-        ensures listed { (es : List Entry) → StandsFor self.now es →
-            IfOk result (λ rows. AreRows es (row_pairs rows.items)) }
+        ensures known { IfOk result (λ rows. rows.items ≡ map_list row_of (map.entries self.now.declarations)) }
+        ensures listed { (es : List Entry) → StandsFor self.now es → IfOk result (λ rows. AreRows es rows.items) }
     {
         let rows = list_rows(alloc, self.nodes.as_slice())?;
         Ok(rows)

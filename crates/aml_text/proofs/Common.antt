@@ -8,7 +8,6 @@ pub use Rattle.aml_code.specs.declared.tree.Node.{Node}
 pub use Rattle.aml_set.specs.Views.{codes_view, trees_view}
 pub use Rattle.aml_set.specs.declared.loaded.Loaded.{Loaded}
 pub use Rattle.aml_names.specs.declared.segments.Seg.{Seg}
-pub use Rattle.aml_space.specs.Known.{row_pair}
 pub use Rattle.aml_space.specs.declared.kinds.Kind.{Kind}
 pub use Rattle.aml_text.specs.Listing.{blocks_of, names_in, a_block, blocks_with, blocks_at}
 pub use Rattle.asl_text.specs.Bodies.{bodies_lines, block_view}

@@ -7,7 +7,7 @@ use Rattle.acpi_tables.specs.Order.{name_of}
 use Rattle.acpi_text.specs.Dumps.{dumps_text}
 use Rattle.aml_names.specs.declared.segments.Seg.{Seg}
 use Rattle.aml_code.specs.Tree.{Trees}
-use Rattle.aml_space.specs.declared.kinds.Kind.{Kind}
+use Rattle.aml_space.specs.Known.{Declared}
 use Rattle.aml_set.specs.declared.loaded.Loaded.{Loaded}
 use Rattle.aml_set.specs.Views.{codes_view, trees_view}
 use Rattle.asl_text.specs.Texts.{OneBody, OneBlock, BodyLines, body_lines, blocks_text}
@@ -30,13 +30,13 @@ blocks_of names codes terms = map_list a_block (zip names (zip codes terms))
 
 -- The text of dumps whose definition blocks are loaded in this order, by the rows of their namespace, the tables' AML
 -- and terms, and the lines of the bodies of their methods in the order of the text.
-abbrev pub whole_text : List Dump → List ℕ → List (List Seg × Kind) → List (List ℕ) → List Trees → List BodyLines
+abbrev pub whole_text : List Dump → List ℕ → List (List Seg × Declared) → List (List ℕ) → List Trees → List BodyLines
     → List ℕ
 whole_text dumps order rows codes terms bodies =
     dumps_text dumps ++ namespace_text rows ++ blocks_text (blocks_of (names_in dumps order) codes terms) bodies
 
 -- the text of a listing with these bodies
-abbrev pub listing_text : List Dump → List ℕ → List (List Seg × Kind) → List (List ℕ) → List Trees → List OneBody
+abbrev pub listing_text : List Dump → List ℕ → List (List Seg × Declared) → List (List ℕ) → List Trees → List OneBody
     → List ℕ
 listing_text dumps order rows codes terms bodies =
     whole_text dumps order rows codes terms (map_list body_lines bodies)
@@ -51,7 +51,7 @@ blocks_with dumps order loaded =
 -- the text of them with these bodies
 abbrev pub text_with : List Dump → Order → Loaded → List BodyLines → List ℕ
 text_with dumps order loaded bodies =
-    whole_text dumps (indexes_in order) (map.entries loaded.space.kinds) (codes_view loaded.tables.items)
+    whole_text dumps (indexes_in order) (map.entries loaded.space.declarations) (codes_view loaded.tables.items)
     (trees_view loaded.trees.items) bodies
 
 -- the definition blocks of a listing, and its text

@@ -1,10 +1,11 @@
 -- The second part of a listing: the namespace, a line for each declared path.
-use Rattle.std.specs.Prelude.{ℕ, decimal, List, ◌++◌, map, flat_map, length}
+use Rattle.std.specs.Prelude.{ℕ, Bool, nat_lt, decimal, List, [], ◌++◌, map, flat_map, length, cond}
 use Rattle.aml_names.specs.declared.segments.Seg.{Seg}
 use Rattle.aml_space.specs.declared.kinds.Kind.{Kind}
 use Rattle.aml_space.specs.declared.kinds.Kind.TheVariants.{Scope, Name, Method, Alias, Device, Processor}
 use Rattle.aml_space.specs.declared.kinds.Kind.TheVariants.{PowerResource, ThermalZone, Mutex, Event, Region}
 use Rattle.aml_space.specs.declared.kinds.Kind.TheVariants.{DataRegion, Field, BufferField}
+use Rattle.aml_space.specs.Known.{Declared}
 use Rattle.text_writer.specs.Prints.{word}
 use Rattle.asl_text.specs.Texts.{separated, segment_text, line}
 
@@ -29,10 +30,21 @@ kind_text DataRegion = word "DataRegion"
 kind_text Field = word "Field"
 kind_text BufferField = word "BufferField"
 
--- the line of a path with its kind:   \_SB_.PCI0 Device
-unfoldable pub row_line : List Seg × Kind → List ℕ
-row_line row = line 1 (path_text row.0 ++ word " " ++ kind_text row.1)
+-- that no declaration of a path is sure, and that it has several
+abbrev pub maybe_text : Bool → List ℕ
+maybe_text sure = cond sure [] (word " Maybe")
+
+abbrev pub times_text : ℕ → List ℕ
+times_text times = cond (nat_lt 1 times) (word " Times " ++ decimal times) []
+
+-- a path with the kind of its first declaration: \_SB_.PCI0 Device
+abbrev pub marked_text : List Seg × Declared → List ℕ
+marked_text row = path_text row.0 ++ word " " ++ kind_text row.1.kind
+    ++ (maybe_text row.1.sure ++ times_text row.1.times)
+
+unfoldable pub row_line : List Seg × Declared → List ℕ
+row_line row = line 1 (marked_text row)
 
 -- the number of rows, and their lines: Namespace 2
-unfoldable pub namespace_text : List (List Seg × Kind) → List ℕ
+unfoldable pub namespace_text : List (List Seg × Declared) → List ℕ
 namespace_text rows = line 0 (word "Namespace " ++ decimal (length rows)) ++ flat_map row_line rows

@@ -5,10 +5,10 @@ ghost use Rattle.std.specs.Prelude.{◌++◌, decimal};
 ghost use Rattle.std.specs.FinMap as map;
 ghost use Rattle.text_writer.specs.Prints.{Prints, word};
 ghost use Rattle.asl_text.specs.Texts.{line};
-ghost use Rattle.aml_text.specs.Rows.{path_text, kind_text, row_line, namespace_text};
+ghost use Rattle.aml_text.specs.Rows.{path_text, kind_text, maybe_text, times_text, marked_text, row_line, namespace_text};
 
 use aml_code::Path;
-use aml_space::{Kind, Space};
+use aml_space::{Kind, Row, Space};
 use asl_text::{print_indent, print_segments};
 use std::io::Write;
 use text_writer::{Out, print_decimal};
@@ -58,6 +58,33 @@ fn print_kind<W: Write>(out: &mut Out<'_, W>, kind: &Kind)
     }
 }
 
+/// That no declaration of a path is sure.
+fn print_maybe<W: Write>(out: &mut Out<'_, W>, sure: bool)
+    ensures { Prints W.contents out.old out.new (maybe_text sure) }
+{
+    if !sure {
+        out.put(b" Maybe");
+    }
+}
+
+/// That a path has several declarations.
+fn print_times<W: Write>(out: &mut Out<'_, W>, times: usize)
+    ensures { Prints W.contents out.old out.new (times_text times) }
+{
+    if times > 1 {
+        out.put(b" Times ");
+        print_decimal(out, times as u64);
+    }
+}
+
+/// What marks a row that isn't of one sure declaration.
+fn print_marks<W: Write>(out: &mut Out<'_, W>, sure: bool, times: usize)
+    ensures { Prints W.contents out.old out.new (maybe_text sure ++ times_text times) }
+{
+    print_maybe(out, sure);
+    print_times(out, times);
+}
+
 /// A path with its kind.
 fn print_row_text<W: Write>(out: &mut Out<'_, W>, path: &Path, kind: &Kind)
     ensures { Prints W.contents out.old out.new (path_text path.now ++ word " " ++ kind_text kind.now) }
@@ -67,13 +94,21 @@ fn print_row_text<W: Write>(out: &mut Out<'_, W>, path: &Path, kind: &Kind)
     print_kind(out, kind);
 }
 
+/// The same with its marks.
+fn print_marked<W: Write>(out: &mut Out<'_, W>, row: &Row)
+    ensures { Prints W.contents out.old out.new (marked_text row.now) }
+{
+    print_row_text(out, row.path(), row.kind());
+    print_marks(out, row.is_sure(), row.times());
+}
+
 /// The line of a path with its kind.
 #[tactic(auto, using(text_writer::proofs::PrintLaws::straight), unfolding(crate::specs::Rows::row_line, asl_text::specs::Texts::line))]
-fn print_row<W: Write>(out: &mut Out<'_, W>, path: &Path, kind: &Kind)
-    ensures { Prints W.contents out.old out.new (row_line (path.now, kind.now)) }
+fn print_row<W: Write>(out: &mut Out<'_, W>, row: &Row)
+    ensures { Prints W.contents out.old out.new (row_line row.now) }
 {
     print_indent(out, 1);
-    print_row_text(out, path, kind);
+    print_marked(out, row);
     out.put(b"\n");
 }
 
@@ -90,12 +125,12 @@ fn print_count<W: Write>(out: &mut Out<'_, W>, count: usize)
 /// The namespace: how many paths are declared, and a line for each, in the order of the paths.
 #[tactic(auto, using(text_writer::proofs::PrintLaws::straight), unfolding(crate::specs::Rows::namespace_text))]
 pub fn print_rows<W: Write>(out: &mut Out<'_, W>, space: &Space)
-    ensures { Prints W.contents out.old out.new (namespace_text (map.entries space.now.kinds)) }
+    ensures { Prints W.contents out.old out.new (namespace_text (map.entries space.now.declarations)) }
 {
     let count = space.row_count();
     print_count(out, count);
     let mut rows = space.in_order();
-    'rows: while let Some((path, kind)) = rows.next() {
-        print_row(out, path, kind);
+    'rows: while let Some(row) = rows.next() {
+        print_row(out, row);
     }
 }

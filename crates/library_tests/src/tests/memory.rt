@@ -14,7 +14,7 @@ use acpi_folder::{ExternalsFault, FolderFault, GatherFault, gather, parse_extern
 use acpi_tables::{Bad, Dump, load_order};
 use acpidis::{Checked, Refusal, check};
 use aml_code::CodeFault;
-use aml_load::{LoadFault, load};
+use aml_load::{LoadFault, load, load_any_run};
 use aml_names::{Path, Seg};
 use aml_parse::parse_body;
 use aml_pool::{Board, FreeGate, PoolFault, crew, harvest};
@@ -129,9 +129,40 @@ fn has_load(alloc: Global) -> Result<bool, Want> {
     }
 }
 
+/// A table whose code outside methods may run: names, of which one is declared in a branch, and one there and again.
+const BRANCH: &[u8] = b"\x08SS3_\x01\xA0\x12SS3_\x08_S3_\x0A\x05\x08SS1_\x01\x08SS1_\x01";
+
+/// Its declared paths, whether each is sure, and how often it is declared.
+const MARKED: [(&[&str], bool, usize); 3] = [
+    (&["SS1_"], true, 2),
+    (&["SS3_"], true, 1),
+    (&["_S3_"], false, 1),
+];
+
+/// Whether the rows of a namespace are those of that table.
+fn has_marks(alloc: Global, space: &Space) -> Result<bool, Want> {
+    let rows = space.rows(alloc)?;
+    Ok(
+        rows.len() == MARKED.len()
+            && rows.iter().zip(MARKED).all(|(row, (names, sure, times))| {
+                is_path(&row.path, names) && row.sure == sure && row.times == times
+            }),
+    )
+}
+
+/// Whether that table loads as whatever a run of its code may declare, and has its bytes.
+fn has_any_run_load(alloc: Global) -> Result<bool, Want> {
+    match load_any_run(alloc, &[BRANCH], &[], false) {
+        Ok(loaded) => Ok(has_bytes(alloc, &loaded, BRANCH)? && has_marks(alloc, &loaded.space)?),
+        Err(LoadFault::NoMemory) => Err(Want),
+        Err(_) => Ok(false),
+    }
+}
+
 #[test]
 fn whole_load_or_no_memory(rt: HostRuntime) -> Result<(), Fail> {
     assert!(rt; is_whole_or_want(&rt, has_load(rt.alloc())));
+    assert!(rt; is_whole_or_want(&rt, has_any_run_load(rt.alloc())));
     Ok(())
 }
 

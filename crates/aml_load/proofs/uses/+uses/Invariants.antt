@@ -1,19 +1,19 @@
 use Rattle.std.proofs.Common.{◌≡◌, ◌++◌, drop}
 use Rattle.aml_code.specs.View.{nodes_view, parts_view, fields_view}
-use Rattle.aml_load.specs.Loading.{parts_uses, elements_uses, fields_uses}
+use Rattle.aml_load.specs.Loading.{parts_uses, all_uses, fields_uses}
 use Rattle.aml_load.proofs.uses.+uses.Given as goal
 
 abbrev pub invariant-add_parts-loop-part : goal.invariant-add_parts-loop-part
 invariant-add_parts-loop-part l =
-    l.uses.items ++ parts_uses l.site.table l.site.scope.now l.left (parts_view (drop l.part-index l.parts)) ≡ l.initial.uses.items
-    ++ parts_uses l.site.table l.site.scope.now l.initial.left (parts_view l.parts)
+    l.uses.items ++ parts_uses l.site.table l.site.scope.now l.declaring l.left (parts_view (drop l.part-index l.parts)) ≡ l.initial.uses.items
+    ++ parts_uses l.site.table l.site.scope.now l.declaring l.initial.left (parts_view l.parts)
 
-abbrev pub invariant-add_elements-loop-node : goal.invariant-add_elements-loop-node
-invariant-add_elements-loop-node l =
-    l.uses.items ++ elements_uses l.site.table l.site.scope.now (nodes_view (drop l.node-index l.nodes)) ≡ l.initial.uses.items
-    ++ elements_uses l.site.table l.site.scope.now (nodes_view l.nodes)
+abbrev pub invariant-add_nodes-loop-node : goal.invariant-add_nodes-loop-node
+invariant-add_nodes-loop-node l =
+    l.uses.items ++ all_uses l.site.table l.site.scope.now l.declaring l.argument (nodes_view (drop l.node-index l.nodes)) ≡ l.initial.uses.items
+    ++ all_uses l.site.table l.site.scope.now l.declaring l.argument (nodes_view l.nodes)
 
 abbrev pub invariant-add_fields-loop-field : goal.invariant-add_fields-loop-field
 invariant-add_fields-loop-field l =
-    l.uses.items ++ fields_uses l.site.table l.site.scope.now (fields_view (drop l.field-index l.fields)) ≡ l.initial.uses.items
-    ++ fields_uses l.site.table l.site.scope.now (fields_view l.fields)
+    l.uses.items ++ fields_uses l.site.table l.site.scope.now l.declaring (fields_view (drop l.field-index l.fields)) ≡ l.initial.uses.items
+    ++ fields_uses l.site.table l.site.scope.now l.declaring (fields_view l.fields)

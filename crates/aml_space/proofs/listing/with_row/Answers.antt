@@ -1,8 +1,7 @@
 use Rattle.std.specs.Prelude.{IfSome}
 use Rattle.std.proofs.Common.{◌≡◌, ◌++◌, ◌<◌, ◌∷◌, [], None, length, sym, subst, ap, ◌∙◌, arith}
-use Rattle.std.specs.Option.{option_map, option_to_list}
-use Rattle.aml_space.specs.Known.{row_pair}
-use Rattle.aml_space.specs.Nodes.{kids_of, links_of, pairs_of, ahead, rows_ahead, next_node}
+use Rattle.std.specs.Option.{option_copied, option_to_list}
+use Rattle.aml_space.specs.Nodes.{kids_of, links_of, rows_of, ahead, rows_ahead, next_node}
 use Rattle.aml_space.proofs.Stands.{none_from_test}
 use Rattle.aml_space.proofs.Gathered.{rows_on, nodes_on}
 use Rattle.aml_space.proofs.listing.with_row.Goals as goal
@@ -12,7 +11,7 @@ nodes-preserved c =
     let ns = c.args.nodes.now in
     let at = c.in-Some.at in
     let within : at < length ns = subst (λ o. IfSome o (λ i. i < length ns)) c.in-Some.is c.nodes.invariant.within in
-    let none : pairs_of ns at ≡ None = sym c.row_here.ensures ∙ ap (option_map row_pair)
+    let none : rows_of ns at ≡ None = sym c.row_here.ensures ∙ ap option_copied
     (none_from_test c.row_here.result (sym c.is_some.ensures ∙ c.if-is_some.false)) in
     record {
       same = ap (rows_ahead ns) c.node_after-next.ensures.next ∙ ap (λ o. option_to_list o ++ rows_ahead ns (next_node ns at)) (sym none)

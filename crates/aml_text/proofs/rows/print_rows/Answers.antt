@@ -1,7 +1,9 @@
 use Rattle.aml_text.proofs.Common.{true≢false, slice_get, decimal, ◌≡◌, ℕ, List, [], ◌∷◌, ◌++◌, drop, flat_map, length, Some, None, is_some, refl, sym, subst}
-use Rattle.aml_text.proofs.Common.{ap, ◌∙◌, append_assoc, option_map, unwrap_or, append-nil, flat_map_more, Seg, Kind, row_pair, Prints, word, prints_then}
+use Rattle.aml_text.proofs.Common.{ap, ◌∙◌, append_assoc, unwrap_or, append-nil, flat_map_more, Seg, Prints, word, prints_then}
 use Rattle.aml_text.proofs.Common.{line, row_line, namespace_text}
 use Rattle.std.specs.FinMap as map
+use Rattle.std.specs.Option.{option_copied}
+use Rattle.aml_space.specs.Known.{Declared}
 use Rattle.aml_text.proofs.rows.print_rows.Goals as goal
 
 first_split : {X : Type 0} (xs : List X) (x : X) → slice_get xs 0 ≡ Some x → xs ≡ x ∷ drop 1 xs
@@ -14,10 +16,10 @@ no_first (y ∷ xs) is = absurd (true≢false (ap is_some is))
 
 pub rows-preserved : goal.rows-preserved
 rows-preserved g c =
-    let row : List Seg × Kind = (c.in-Some.path.now, c.in-Some.kind.now) in
+    let row : List Seg × Declared = c.in-Some.row.now in
     let done = c.rows.invariant.0 in
     let rest = c.next.new.self in
-    let first : slice_get c.rows.rows 0 ≡ Some row = sym c.next.ensures.row ∙ ap (option_map row_pair) c.in-Some.is in
+    let first : slice_get c.rows.rows 0 ≡ Some row = sym c.next.ensures.row ∙ ap option_copied c.in-Some.is in
     let split : c.rows.rows ≡ row ∷ rest = first_split c.rows.rows row first ∙ ap (λ es. row ∷ es) (sym c.next.ensures.rest) in (
       done ++ row ∷ [],
       (
@@ -34,9 +36,9 @@ count_line n = line 0 (word "Namespace " ++ decimal n)
 pub returns : goal.returns
 unfolding namespace_text
 returns g c =
-    let all = map.entries c.args.space.now.kinds in
+    let all = map.entries c.args.space.now.declarations in
     let done = c.rows.invariant.0 in
-    let none : c.rows.rows ≡ [] = no_first c.rows.rows (sym c.next.ensures.row ∙ ap (option_map row_pair) c.in_default.is) in
+    let none : c.rows.rows ≡ [] = no_first c.rows.rows (sym c.next.ensures.row ∙ ap option_copied c.in_default.is) in
     let whole : done ≡ all = sym (c.rows.invariant.1.0 ∙ ap (λ es. done ++ es) none ∙ append-nil done) in
     prints_then g.W.Write.contents c.args.out.now c.print_count.new.out c.rows.out (count_line (length all)) (flat_map row_line all)
     (subst (λ n. Prints g.W.Write.contents c.args.out.now c.print_count.new.out (count_line n)) c.row_count-count.ensures c.print_count.ensures)

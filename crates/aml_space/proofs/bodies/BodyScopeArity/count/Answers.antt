@@ -1,19 +1,19 @@
 use Rattle.std.proofs.Common.{◌≡◌, IfOk, subst}
-use Rattle.aml_space.specs.Namespace.{arity_of}
-use Rattle.aml_space.specs.Known.{namespace_in}
-use Rattle.aml_space.proofs.Stands.{same_namespace}
+use Rattle.aml_space.specs.Runs.{agreed_arity}
+use Rattle.aml_space.specs.Known.{outlook_in}
+use Rattle.aml_space.proofs.Stands.{same_outlook}
 use Rattle.aml_space.proofs.bodies.BodyScopeArity.count.Goals as goal
 
 pub returns-clause-known : goal.returns-clause-known
 returns-clause-known c =
     let body = c.args.self.now in
-    subst (λ p. IfOk c.count_name.result (λ count. count ≡ arity_of (namespace_in body.space.now) body.unknown_zero p c.args.locals.now c.args.name.now))
+    subst (λ p. IfOk c.count_name.result (λ count. count ≡ agreed_arity (outlook_in body.space.now) body.unknown_zero p c.args.locals.now c.args.name.now))
     c.in_ok-scope.ensures.path
-    (subst (λ k. IfOk c.count_name.result (λ count. count ≡ arity_of (namespace_in k)
+    (subst (λ k. IfOk c.count_name.result (λ count. count ≡ agreed_arity (outlook_in k)
     body.unknown_zero c.in_ok-scope.scope.path.now c.args.locals.now c.args.name.now)) c.in_ok-scope.ensures.known c.count_name.ensures)
 
 pub returns-clause-listed : goal.returns-clause-listed
 returns-clause-listed c = λ es stands.
     let body = c.args.self.now in
-    subst (λ n. IfOk c.count_name.result (λ count. count ≡ arity_of n body.unknown_zero body.method.now c.args.locals.now c.args.name.now))
-    (same_namespace body.space.now es stands) (returns-clause-known c)
+    subst (λ n. IfOk c.count_name.result (λ count. count ≡ agreed_arity n body.unknown_zero body.method.now c.args.locals.now c.args.name.now))
+    (same_outlook body.space.now es stands) (returns-clause-known c)

@@ -1,32 +1,34 @@
-use Rattle.std.proofs.Common.{◌≡◌, [], ◌∷◌, Some, None, false, cond, sym, ap, ◌∙◌, rules}
+use Rattle.std.proofs.Common.{[], ◌∷◌, Some, cond, sym, ap, ◌∙◌}
 use Rattle.std.specs.Option.{option_or}
-use Rattle.std.specs.FinSet as set
 use Rattle.aml_space.specs.Namespace.{count_at, unknown_count}
-use Rattle.aml_space.specs.Candidates.{names_of}
-use Rattle.aml_space.proofs.Meaning.{placed}
+use Rattle.aml_space.specs.Candidates.{names_of, outlook_at}
 use Rattle.aml_space.proofs.Given.{only_given}
+use Rattle.aml_space.proofs.Meaning.{placed}
+use Rattle.aml_space.proofs.Joined.{agreed_by, placed_met}
 use Rattle.aml_space.proofs.scopes.Scope.count_placed.Goals as goal
 
-pub returns-in-Some : goal.returns-in-Some
-returns-in-Some c =
+pub returns-in-Nothing : goal.returns-in-Nothing
+returns-in-Nothing c =
     let s = c.args.self.now in
-    let n = names_of s in
-    let u = c.args.unknown_zero in
     let p = c.args.path.now in
-    let asked : set.contains c.args.locals.now p ≡ false = sym c.has.ensures ∙ c.if-has.false in
-    let counted : count_at n p ≡ Some c.in-Some.count = sym c.count_of.ensures ∙ c.in-Some.is in
-    sym (placed n u c.args.locals.now p ∙ (λ i. cond (asked i) (Some 0) (option_or (counted i) (unknown_count n u (p ∷ [])))))
+    let other = sym c.has.ensures ∙ c.if-has.false in
+    c.count_first_placed.ensures
+    ∙ sym (ap (λ b. cond b (Some 0) (option_or (count_at (names_of s) p) (unknown_count (names_of s) c.args.unknown_zero (p ∷ [])))) other)
+    ∙ sym (placed (names_of s) c.args.unknown_zero c.args.locals.now p)
+    ∙ sym (agreed_by (outlook_at s) c.args.unknown_zero c.args.locals.now (p ∷ []) _ (sym c.in-Nothing.is ∙ c.counts_here.ensures
+    ∙ placed_met (outlook_at s) c.args.unknown_zero c.args.locals.now p (sym c.has.ensures ∙ c.if-has.false)))
 
-pub returns-in-None : goal.returns-in-None
-returns-in-None c =
+pub returns-in-One : goal.returns-in-One
+returns-in-One c =
     let s = c.args.self.now in
-    let n = names_of s in
-    let u = c.args.unknown_zero in
     let p = c.args.path.now in
-    let asked : set.contains c.args.locals.now p ≡ false = sym c.has.ensures ∙ c.if-has.false in
-    let counted : count_at n p ≡ None = sym c.count_of.ensures ∙ c.in-None.is in
-    c.count_unknown.ensures ∙ ap (λ o. option_or o (cond u (Some 0) None)) (c.given_here.ensures ∙ only_given n p)
-    ∙ sym (placed n u c.args.locals.now p ∙ (λ i. cond (asked i) (Some 0) (option_or (counted i) (unknown_count n u (p ∷ [])))))
+    sym (agreed_by (outlook_at s) c.args.unknown_zero c.args.locals.now (p ∷ []) _ (sym c.in-One.is ∙ c.counts_here.ensures
+    ∙ placed_met (outlook_at s) c.args.unknown_zero c.args.locals.now p (sym c.has.ensures ∙ c.if-has.false)))
 
-pub returns-then-has : goal.returns-then-has
-returns-then-has c = search rules
+pub returns-in-Several : goal.returns-in-Several
+returns-in-Several c =
+    let s = c.args.self.now in
+    let p = c.args.path.now in
+    c.given_here.ensures ∙ only_given (names_of s) p
+    ∙ sym (agreed_by (outlook_at s) c.args.unknown_zero c.args.locals.now (p ∷ []) _ (sym c.in-Several.is ∙ c.counts_here.ensures
+    ∙ placed_met (outlook_at s) c.args.unknown_zero c.args.locals.now p (sym c.has.ensures ∙ c.if-has.false)))

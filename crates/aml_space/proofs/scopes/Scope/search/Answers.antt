@@ -1,50 +1,28 @@
-use Rattle.std.proofs.Common.{◌≡◌, ℕ, ◌-◌, ◌<◌, ◌≤◌, List, [], ◌∷◌, ◌++◌, Bool, false, cond, Option, Some, None, is_some, take, get_or, length, refl, sym, ap}
+use Rattle.std.proofs.Common.{◌≡◌, ℕ, ◌-◌, ◌≤◌, List, [], ◌∷◌, ◌++◌, cond, Option, Some, None, is_some, take, get_or, length, refl, sym, ap}
 use Rattle.std.proofs.Common.{◌∙◌}
 use Rattle.std.proofs.Common.{subst, arith, IfSome}
-use Rattle.std.specs.FinSet as set
 use Rattle.std.specs.Option.{option_or, option_and_then, option_map}
-use Rattle.std.proofs.lemmas.Bool.{ne_eqb}
 use Rattle.aml_names.specs.declared.segments.Seg.{Seg}
 use Rattle.aml_names.specs.Paths.{PathSet}
-use Rattle.aml_names.specs.Searching.{upward, greatest, nearest}
-use Rattle.aml_names.proofs.EndLaws.{greatest_within}
+use Rattle.aml_names.specs.Searching.{upward, nearest}
 use Rattle.aml_space.specs.declared.scopes.Candidate.{Candidate}
 use Rattle.aml_space.specs.Namespace.{Namespace, first_of, decides, is_outside}
 use Rattle.aml_space.specs.Nodes.{outs_of}
-use Rattle.aml_space.specs.Candidates.{path_at, stands_at, names_of, IsNext, IsCandidate}
-use Rattle.aml_space.proofs.Basics.{alone}
+use Rattle.aml_space.specs.Candidates.{path_at, names_of, IsNext, IsCandidate}
 use Rattle.aml_space.proofs.Asked.{none_met_below}
-use Rattle.aml_space.proofs.Upward.{rest_of, hit, step, skip, nearest_tells}
+use Rattle.aml_space.proofs.Nearest.{near_within, local_at, passed_by}
+use Rattle.aml_space.proofs.Upward.{rest_of, hit, step, skip}
 use Rattle.aml_space.proofs.Meaning.{meant_path, outside_path, outside_depth, outside_still, ended}
 use Rattle.aml_space.proofs.scopes.Scope.search.Goals as goal
 use Rattle.aml_space.proofs.scopes.Scope.search.Goals.{After-is_meant}
 
--- what the nearest local says of the depths from it on
+-- from a depth up to the next one that is asked, where no local stands between them
 module _ (locals : PathSet) (scope segment : List Seg) (one : length segment ≡ 1) (o : Option ℕ)
     (is : o ≡ nearest locals scope (get_or segment 0 (record { 0 = [] }) ∷ [])) where
-  abbrev is_local : ℕ → Bool
-  is_local d = set.contains locals (take d scope ++ segment)
-
-  is_greatest : o ≡ greatest is_local (length scope)
-  is_greatest = is ∙ ap (nearest locals scope) (alone segment (record { 0 = [] }) one)
-
-  near_within : IfSome o (λ n. n ≤ length scope)
-  near_within = subst (λ o. IfSome o (λ n. n ≤ length scope)) (sym is_greatest) (greatest_within is_local (length scope))
-
-  local_at : (d : ℕ) → d ≤ length scope → IfSome o (λ n. n ≤ d) → stands_at o d ≡ is_local d
-  local_at d within above = ap (λ o. stands_at o d) is_greatest
-      ∙ sym (nearest_tells is_local (length scope) d within (subst (λ o. IfSome o (λ n. n ≤ d)) is_greatest above))
-
-  -- from a depth up to the next one that is asked, where no local stands between them
   further : (n : Namespace) (outside : Option ℕ) (d asked : ℕ) → d ≤ length scope → IsNext n scope d asked → IfSome o (λ n. n ≤ asked) →
       rest_of n locals scope segment outside (upward d scope segment) ≡ rest_of n locals scope segment outside (upward asked scope segment)
   further n outside d asked within next above = skip n locals scope segment asked d outside next.within
-      (none_met_below n scope segment one locals d asked within next
-      (λ e more less. sym (local_at e (omega (arith, less, within)) (passed o e more above).0) ∙ (passed o e more above).1))
-    where
-      passed : (o : Option ℕ) (e : ℕ) → asked < e → IfSome o (λ n. n ≤ asked) → IfSome o (λ n. n ≤ e) × (stands_at o e ≡ false)
-      passed None e more above = (tt, refl)
-      passed (Some n) e more above = (omega (arith, more, above), ne_eqb n e (λ same. omega (arith, same, more, above)))
+      (none_met_below n scope segment one locals d asked within next (passed_by locals scope segment one o is d asked within above))
 
 -- the candidate at hand
 abbrev here : After-is_meant → Candidate

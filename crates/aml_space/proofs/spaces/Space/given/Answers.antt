@@ -19,8 +19,8 @@ put_here c has =
 pub invariant_of-self-2 : goal.invariant_of-self-2
 invariant_of-self-2 c = record {
   index = (put_here (goal.at.invariant_of-self-2 c).After-set_given c.set_given.ensures).0;
-  rows = c.self.invariant.rows ∙ ap (λ (k : Known). length (map.entries k.kinds)) c.self.view_is
-      ∙ ap (λ (k : Known). length (map.entries k.kinds)) (sym (put_here (goal.at.invariant_of-self-2 c).After-set_given c.set_given.ensures).1);
+  rows = c.self.invariant.rows ∙ ap (λ (k : Known). length (map.entries k.declarations)) c.self.view_is
+      ∙ ap (λ (k : Known). length (map.entries k.declarations)) (sym (put_here (goal.at.invariant_of-self-2 c).After-set_given c.set_given.ensures).1);
 }
 
 pub returns-clause-ok : goal.returns-clause-ok

@@ -1,5 +1,6 @@
-use Rattle.std.proofs.Common.{rules}
+use Rattle.aml_space.proofs.Stands.{if_found}
 use Rattle.aml_space.proofs.spaces.Space.search.Goals as goal
 
-pub search_single-requires : goal.search_single-requires
-search_single-requires c = search rules
+pub returns-clause-listed : goal.returns-clause-listed
+returns-clause-listed c = λ es stands. if_found c.args.self.now es c.args.locals.now c.args.scope.now c.args.name.now c.search_known.result stands
+    c.search_known.ensures

@@ -1,0 +1,148 @@
+use Rattle.std.proofs.Common.{◌≡◌, ℕ, suc, ◌+◌, ◌-◌, ◌<◌, ◌≤◌, Ok, Err, refl, sym, ap, subst, ◌∙◌, arith, rules, [], ◌++◌, ◌∷◌}
+use Rattle.aml_code.specs.View.{node_view, nodes_view}
+use Rattle.aml_code.specs.declared.tree.Node.{Node}
+use Rattle.aml_code.specs.Lawful.{next_position}
+use Rattle.aml_code.specs.declared.rows.Position.{Position}
+use Rattle.aml_parse.specs.Running.{run_term_at, run_terms_at, run_span_at}
+use Rattle.aml_load.specs.Loading.{Listed}
+use Rattle.aml_load.specs.Running.{run_names}
+use Rattle.aml_load.specs.Runner.{front_of, below, RoomBy, AllRan, HasRoom}
+use Rattle.aml_load.specs.Walking.{Fails, Holds}
+use Rattle.aml_load.proofs.Ran.{found_then, found_none, span_is, opened_ok, done, fails, goes_on, room_on, room_in, behind_is, term_is, term_fails}
+use Rattle.aml_load.proofs.walking.Progress.+runs.Goals as goal
+
+pub open-returns-in_ok-terms-in-Some : goal.open-returns-in_ok-terms-in-Some
+open-returns-in_ok-terms-in-Some t c l h =
+    let site = c.args.inner.now in
+    let code = c.args.code.now in
+    let is = sym c.span_inside.ensures ∙ c.in-Some.is in
+    let room = subst (RoomBy code c.args.levels) is c.requires in
+    let walk = c.in_ok-terms-in-Some.ensures l h in (
+      walk.0,
+      walk.1,
+      opened_ok site.table code c.args.levels (node_view c.args.head) (front_of site l) (c.in-Some.start, c.in-Some.len) _ _ is room.0 walk.2
+          ∙ ap (λ t. Ok (t, front_of site walk.0)) (sym c.with_terms.ensures),
+    )
+
+pub run_term-open-requires : goal.run_term-open-requires
+run_term-open-requires t c = (search rules, room_in c.args.code.now c.args.rest _ _ c.requires c.in_ok-head.ensures.there)
+
+pub run_term-returns-in_err-node-clause-term : goal.run_term-returns-in_err-node-clause-term
+run_term-returns-in_err-node-clause-term t c l h =
+    let site = c.args.site.now in
+    let code = c.args.code.now in
+    let inner = c.in_ok-inner.ensures l h in
+    let bad = term_fails site code c.args.rest l inner.1.0 c.in_ok-inner.inner _ c.in_err-node.field-0.0 (c.in_ok-head.ensures.step l h) inner.1.2 inner.0
+    (c.in_err-node.ensures inner.1.0 inner.1.1) in
+    search rules
+
+pub run_term-returns-clause-bounds : goal.run_term-returns-clause-bounds
+run_term-returns-clause-bounds t c =
+    behind_is c.args.code.now c.args.rest _ _ c.next_position-position.result c.requires c.in_ok-head.ensures.there c.next_position-position.ensures
+
+pub run_term-returns-clause-term : goal.run_term-returns-clause-term
+run_term-returns-clause-term t c l h =
+    let site = c.args.site.now in
+    let code = c.args.code.now in
+    let inner = c.in_ok-inner.ensures l h in
+    let node = c.in_ok-node.ensures inner.1.0 inner.1.1 in (
+      node.0,
+      node.1,
+      node_view c.in_ok-head.head,
+      term_is site code c.args.rest l inner.1.0 node.0 c.in_ok-inner.inner (node_view c.in_ok-head.head, c.in_ok-head.behind) (node_view c.in_ok-node.node)
+          (c.in_ok-head.ensures.step l h) inner.1.2 inner.0 node.2,
+      c.next_position-position.ensures,
+    )
+
+pub run_terms-loop-turn-init : goal.run_terms-loop-turn-init
+run_terms-loop-turn-init t c =
+    let site = c.args.site.now in
+    let r = c.args.rest in
+    let code = c.args.code.now in (
+      c.requires,
+      refl,
+      refl,
+      omega arith,
+      λ l h. (
+        l,
+        h,
+        ap (λ xs. found_then xs (run_terms_at (run_names site.table) code r.levels (below r.levels site.table code) (r.end - r.at) r.position r.at r.end
+            (front_of site l))) c.new-found.ensures.items
+            ∙ found_none site.table code _ ∙ sym (span_is site.table code r.levels r.position r.at r.end (front_of site l)),
+      ),
+    )
+
+pub run_terms-returns-then-here-rest : goal.run_terms-returns-then-here-rest
+run_terms-returns-then-here-rest t c l h =
+    let site = c.args.site.now in
+    let r = c.args.rest in
+    let here = c.loop-turn.here in
+    let w = c.loop-turn.invariant.4 l h in (
+      w.0,
+      w.1,
+      done site.table c.args.code.now r.levels (below r.levels site.table c.args.code.now) c.loop-turn.found.items _ here.position here.at r.end
+          (front_of site w.0) (r.end - c.loop-turn._turn) (omega (arith, c.if-here-rest.true)) w.2,
+    )
+
+pub run_terms-returns-in_err-term : goal.run_terms-returns-in_err-term
+run_terms-returns-in_err-term t c l h =
+    let site = c.args.site.now in
+    let r = c.args.rest in
+    let here = c.loop-turn.here in
+    let code = c.args.code.now in
+    let inv = c.loop-turn.invariant in
+    let w = inv.4 l h in
+    let e = c.in_err-term.field-0.0 in
+    let term = c.in_err-term.ensures.term w.0 w.1 in
+    let here_fails : Fails e (run_term_at (run_names site.table) code r.levels (below r.levels site.table code) here.position here.at r.end (front_of site w.0)) =
+    subst (λ n. Fails e (run_term_at (run_names site.table) code n (below n site.table code) here.position here.at r.end (front_of site w.0))) inv.2
+    (subst (λ n. Fails e (run_term_at (run_names site.table) code here.levels (below here.levels site.table code) here.position here.at n (front_of site w.0)))
+    inv.1 term) in
+    let n = r.end - c.loop-turn._turn in
+    let all = fails site.table code r.levels (below r.levels site.table code) c.loop-turn.found.items _ here.position here.at r.end (front_of site w.0) n (n - 1) e
+    (omega (arith, c.loop-turn-test.true)) (omega (arith, c.if-here-rest.false)) here_fails w.2 in
+    search rules
+
+pub run_terms-loop-turn-preserved : goal.run_terms-loop-turn-preserved
+run_terms-loop-turn-preserved t c =
+    let site = c.args.site.now in
+    let r = c.args.rest in
+    let here = c.loop-turn.here in
+    let code = c.args.code.now in
+    let inv = c.loop-turn.invariant in
+    let x = c.in_ok-term.term in
+    let on = c.in_ok-term.ensures.bounds in
+    let read = below r.levels site.table code in
+    let n = r.end - c.loop-turn._turn in
+    let less : r.end - (c.loop-turn._turn + 1) ≡ n - 1 = omega arith in (
+      subst (λ k. HasRoom code (record { levels = k; position = x.position; at = x.behind; end = r.end })) inv.2
+          (subst (λ k. HasRoom code (record { levels = here.levels; position = x.position; at = x.behind; end = k })) inv.1
+          (room_on code here x.position x.behind inv.0 on.0 on.1 on.2)),
+      refl,
+      refl,
+      omega (arith, inv.3, on.0),
+      λ l h.
+          let w = inv.4 l h in
+          let term = c.in_ok-term.ensures.term w.0 w.1 in
+          let here_is : run_term_at (run_names site.table) code r.levels read here.position here.at r.end (front_of site w.0)
+          ≡ Ok ((term.2, node_view x.node), (x.behind, front_of site term.0)) =
+          subst (λ k. run_term_at (run_names site.table) code k (below k site.table code) here.position here.at r.end (front_of site w.0)
+          ≡ Ok ((term.2, node_view x.node), (x.behind, front_of site term.0))) inv.2
+          (subst (λ k. run_term_at (run_names site.table) code here.levels (below here.levels site.table code) here.position here.at k (front_of site w.0)
+          ≡ Ok ((term.2, node_view x.node), (x.behind, front_of site term.0))) inv.1 term.3) in
+          let next = goes_on site.table code r.levels read c.loop-turn.found.items _ here.position here.at r.end (front_of site w.0) n (n - 1) x.node term.2
+          x.behind (front_of site term.0) (omega (arith, c.loop-turn-test.true)) (omega (arith, c.if-here-rest.false)) here_is w.2 in
+          (term.0, term.1, rw (c.in_ok-push.ensures.items, less, term.4) next),
+    )
+
+pub run_terms-returns : goal.run_terms-returns
+run_terms-returns t c l h =
+    let site = c.args.site.now in
+    let r = c.args.rest in
+    let here = c.loop-turn.here in
+    let w = c.loop-turn.invariant.4 l h in (
+      w.0,
+      w.1,
+      done site.table c.args.code.now r.levels (below r.levels site.table c.args.code.now) c.loop-turn.found.items _ here.position here.at r.end
+          (front_of site w.0) (r.end - c.loop-turn._turn) (omega (arith, c.loop-turn-test.false, c.loop-turn.invariant.3)) w.2,
+    )

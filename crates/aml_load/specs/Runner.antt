@@ -1,0 +1,171 @@
+-- A stepping stone: what the walk over a table whose code outside methods may run makes of the progress, as `Running`
+-- says it.
+use Rattle.std.specs.Prelude.{◌≡◌, ◌≤◌, ◌<◌, ◌+◌, ◌-◌, ℕ, zero, suc, Bool, true, false, cond, List, length, Option, Some}
+use Rattle.std.specs.Prelude.{None, Result, Ok, Err, option_map}
+use Rattle.std.specs.Prelude.{IsTrue, Vec}
+use Rattle.std.specs.Option.{unwrap_or}
+use Rattle.std.specs.declared.alloc.Global.{Global}
+use Rattle.aml_parse.proofs.Forward.{is_run}
+use Rattle.aml_code.specs.Faults.{Arities, IsEnd, most_levels}
+use Rattle.aml_code.specs.Lawful.{ReadsStep, next_position}
+use Rattle.aml_code.specs.Opcodes.{Row, row_of}
+use Rattle.aml_code.specs.Tree.{Tree, op, Trees, no_trees, terms, body}
+use Rattle.aml_code.specs.View.{node_view, nodes_view}
+use Rattle.aml_code.specs.declared.rows.Position.{Position}
+use Rattle.aml_code.specs.declared.tree.Node.{Node}
+use Rattle.aml_parse.specs.Reading.{step_at}
+use Rattle.aml_parse.specs.Running.{SpanReader, has_terms, is_block, in_step, opened_at, run_term_at, run_terms_at}
+use Rattle.aml_parse.specs.Running.{run_span_at, run_table_at}
+use Rattle.aml_load.specs.declared.faults.LoadFault.{LoadFault}
+use Rattle.aml_load.specs.declared.faults.LoadFault.TheVariants as loads
+use Rattle.aml_load.specs.declared.runner.RunSite.{RunSite}
+use Rattle.aml_load.specs.declared.runner.Rest.{Rest}
+use Rattle.aml_load.specs.declared.runner.Term.{Term}
+use Rattle.aml_load.specs.declared.walking.Progress.{Progress}
+use Rattle.aml_code.specs.declared.rows.Role.{Role}
+use Rattle.aml_code.specs.declared.rows.Role.TheVariants as roles
+use Rattle.aml_load.specs.Loading.{Where, Listed, with_uses}
+use Rattle.aml_load.specs.Running.{Front, table_front, counts_in, entered_at, run_names, run_load_at}
+use Rattle.std.specs.Prelude.{[]}
+use Rattle.aml_space.specs.Namespace.{Givens}
+use Rattle.aml_set.specs.declared.loaded.Loaded.{Loaded}
+use Rattle.aml_load.specs.Views.{HoldsLoad}
+use Rattle.aml_load.specs.Walking.{Gives, Holds, Fails}
+
+-- ---- blocks
+
+abbrev pub opens : ℕ → Bool
+opens o = unwrap_or (option_map (λ (r : Row). has_terms r.tail) (row_of o)) false
+
+-- the span of the terms inside a step
+abbrev pub span_inside : Tree → Option (ℕ × ℕ)
+span_inside (op o w ps (body start len)) = cond (opens o) (Some (start, len)) None
+span_inside _ = None
+
+abbrev pub with_terms : Tree → Trees → Tree
+with_terms (op o w ps t) ts = op o w ps (terms ts)
+with_terms t ts = t
+
+-- ---- spans
+
+-- the span may be read
+pub record HasRoom (code : List ℕ) (r : Rest) : Type 0 where
+  pub short : length code ≤ 16777216
+  pub run : IsTrue (is_run r.position)
+  pub le : r.at ≤ r.end
+  pub inside : r.end ≤ length code
+  pub is_end : IsEnd code r.at r.end
+  pub deep : most_levels ≤ r.levels + r.at
+
+-- and so may that of the terms inside a step
+abbrev pub RoomBy : List ℕ → ℕ → Option (ℕ × ℕ) → Type 0
+RoomBy code levels None = Unit {0}
+RoomBy code levels (Some x) = (0 < levels) × HasRoom code (record {
+  levels = levels - 1;
+  position = Position.RunTerm;
+  at = x.0;
+  end = x.0 + x.1;
+})
+
+abbrev pub HasRoomInside : List ℕ → ℕ → Tree → Type 0
+HasRoomInside code levels head = RoomBy code levels (span_inside head)
+
+-- a step stands there, by some argument counts
+abbrev pub IsThere : List ℕ → Rest → Tree → ℕ → Type 0
+IsThere code r head behind =
+    (arity : Arities) × ReadsStep arity r.levels r.position code r.at r.end head behind
+
+-- what is behind a term of a span
+abbrev pub IsOn : Rest → Term → Type 0
+IsOn r x = (r.at < x.behind) × (x.behind ≤ r.end) × IsTrue (is_run x.position)
+
+-- ---- what the walk makes of the progress
+
+-- where a term at a site stands, and what stands in front of it
+abbrev pub run_site : RunSite → Where
+run_site s = record { table = s.table; scope = s.scope; any_run = true; sure = s.sure }
+
+abbrev pub front_of : RunSite → Listed → Front
+front_of s l = record { listed = l; site = run_site s }
+
+-- reading a step, whatever the progress holds
+abbrev pub Steps : Progress → RunSite → Rest → List ℕ → Result (Node × ℕ) LoadFault → Type 0
+Steps p s r code answer = (l : Listed) → Holds p l → Gives (λ (x : Node × ℕ). (node_view x.0, x.1)) answer
+    (in_step (run_names s.table) code (step_at (counts_in (front_of s l)) r.levels r.position code r.at r.end))
+
+-- what was answered is this site, or memory was refused
+abbrev pub IsSite : Result RunSite LoadFault → RunSite → Type 0
+IsSite (Ok s) t = s ≡ t
+IsSite (Err e) t = e ≡ loads.NoMemory
+
+-- what was made of the progress, and where the terms inside a term stand
+abbrev pub Came : Progress → RunSite → Result RunSite LoadFault → Result Front LoadFault → Type 0
+Came new s (Ok inner) walk = (inner.table ≡ s.table) × ((m : Listed) × Holds new m × (walk ≡ Ok (front_of inner m)))
+Came new s (Err e) walk = Fails e walk
+
+-- the same, whatever the progress holds
+abbrev pub Comes : Progress → Progress → RunSite → Result RunSite LoadFault → (Front → Result Front LoadFault) → Type 0
+Comes old new s answer walk = (l : Listed) → Holds old l → Came new s answer (walk (front_of s l))
+
+-- roles of terms inside which no terms stand
+abbrev pub IsFlat : Role → Type 0
+IsFlat roles.Method = Unit {0}
+IsFlat roles.Alias = Unit {0}
+IsFlat roles.External = Unit {0}
+IsFlat roles.Fields = Unit {0}
+IsFlat _ = ⊥
+
+-- the names of a term more, or memory was refused
+abbrev pub Asked : Progress → RunSite → Listed → Tree → Result (Unit {0}) LoadFault → Type 0
+Asked new s l head (Ok u) = Holds new (with_uses (run_site s) l head)
+Asked new s l head (Err e) = e ≡ loads.NoMemory
+
+abbrev pub Asks : Progress → Progress → RunSite → Tree → Result (Unit {0}) LoadFault → Type 0
+Asks old new s head answer = (l : Listed) → Holds old l → Asked new s l head answer
+
+-- declaring what a term declares itself
+abbrev pub Enters : Progress → Progress → RunSite → Tree → Result RunSite LoadFault → Type 0
+Enters old new s head answer = Comes old new s answer (λ f. entered_at f head)
+
+-- what reads the terms inside a term that has so many levels
+abbrev pub below : ℕ → (t : ℕ) → (code : List ℕ) → SpanReader (run_names t) code
+below zero t code p at end f = Ok (no_trees, f)
+below (suc levels) t code p at end f = run_span_at (run_names t) code levels p at end f
+
+abbrev pub Opened : Progress → RunSite → Result Node LoadFault → Result (Tree × Front) LoadFault → Type 0
+Opened new s (Ok x) walk = (m : Listed) × Holds new m × (walk ≡ Ok (node_view x, front_of s m))
+Opened new s (Err e) walk = Fails e walk
+
+abbrev pub Opens : Progress → Progress → RunSite → ℕ → List ℕ → Tree → Result Node LoadFault → Type 0
+Opens old new s levels code head answer = (l : Listed) → Holds old l → Opened new s answer
+    (opened_at (run_names s.table) code (below levels s.table code) (is_block head) head (front_of s l))
+
+abbrev pub Ran : Progress → RunSite → Position → Result Term LoadFault
+    → Result ((Tree × Tree) × (ℕ × Front)) LoadFault → Type 0
+Ran new s p (Ok x) walk = (m : Listed) × Holds new m × (head : Tree)
+    × (walk ≡ Ok ((head, node_view x.node), (x.behind, front_of s m))) × (x.position ≡ next_position p head)
+Ran new s p (Err e) walk = Fails e walk
+
+abbrev pub Runs : Progress → Progress → RunSite → Rest → List ℕ → Result Term LoadFault → Type 0
+Runs old new s r code answer = (l : Listed) → Holds old l → Ran new s r.position answer
+    (run_term_at (run_names s.table) code r.levels (below r.levels s.table code) r.position r.at r.end (front_of s l))
+
+abbrev pub AllRan : Progress → RunSite → Result (Vec Node Global) LoadFault → Result (Trees × Front) LoadFault → Type 0
+AllRan new s (Ok x) walk = (m : Listed) × Holds new m × (walk ≡ Ok (nodes_view x.items, front_of s m))
+AllRan new s (Err e) walk = Fails e walk
+
+abbrev pub RunsAll : Progress → Progress → RunSite → Rest → List ℕ → Result (Vec Node Global) LoadFault → Type 0
+RunsAll old new s r code answer = (l : Listed) → Holds old l → AllRan new s answer
+    (run_span_at (run_names s.table) code r.levels r.position r.at r.end (front_of s l))
+
+-- a whole table
+abbrev pub RunsTable : Progress → Progress → ℕ → List ℕ → Result (Vec Node Global) LoadFault → Type 0
+RunsTable old new t code answer = (l : Listed) → Holds old l →
+    AllRan new (record { table = t; scope = []; sure = true }) answer
+    (run_table_at (run_names t) code (table_front t l))
+
+-- What a load of such tables answered is what loading them forward gives, unless memory was refused.
+abbrev pub GivesRunLoad : Bool → Givens → Result Loaded LoadFault → List (List ℕ) → Type 0
+GivesRunLoad z gs (Ok x) codes =
+    (trees : List Trees) × (m : Listed) × HoldsLoad x codes trees m × (run_load_at z gs codes ≡ Ok (trees, m))
+GivesRunLoad z gs (Err e) codes = Fails e (run_load_at z gs codes)

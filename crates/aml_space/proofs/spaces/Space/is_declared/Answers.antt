@@ -1,0 +1,12 @@
+use Rattle.std.proofs.Common.{is_some, ap, ◌∙◌}
+use Rattle.std.specs.FinMap as map
+use Rattle.aml_space.proofs.Basics.{some_map, copied_some}
+use Rattle.aml_space.proofs.Stands.{declared_listed}
+use Rattle.aml_space.proofs.spaces.Space.is_declared.Goals as goal
+
+pub returns-clause-known : goal.returns-clause-known
+returns-clause-known c = c.is_some.ensures ∙ copied_some c.declared.result ∙ ap is_some c.declared.ensures
+    ∙ some_map _ (map.get c.args.self.now.declarations c.args.path.now)
+
+pub returns-clause-listed : goal.returns-clause-listed
+returns-clause-listed c = λ es stands. declared_listed c.args.self.now es c.args.path.now _ stands (returns-clause-known c)

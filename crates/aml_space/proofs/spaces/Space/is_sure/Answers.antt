@@ -1,0 +1,16 @@
+use Rattle.std.proofs.Common.{refl, ap, ◌∙◌}
+use Rattle.aml_space.specs.Predefined.{predefined}
+use Rattle.aml_space.specs.Nodes.{declared_in}
+use Rattle.aml_space.specs.Known.{sure_by, outlook_in}
+use Rattle.aml_space.proofs.Index.{part_met}
+use Rattle.aml_space.proofs.Stands.{sure_listed}
+use Rattle.aml_space.proofs.spaces.Space.is_sure.Goals as goal
+
+pub returns-clause-known : goal.returns-clause-known
+returns-clause-known c = c.sure_met.ensures
+    ∙ (λ i. sure_by (part_met declared_in _ _ _ _ _ _ refl c.node_of-node.ensures.node c.as_slice-nodes.ensures.value c.segs.ensures
+    c.self.invariant.index.shape i) ((c.kind.ensures ∙ ap predefined c.segs-2.ensures) i))
+    ∙ ap (λ k. (outlook_in k).sure c.args.path.now) c.self.view_is
+
+pub returns-clause-listed : goal.returns-clause-listed
+returns-clause-listed c = λ es stands. sure_listed c.args.self.now es c.args.path.now _ stands (returns-clause-known c)
