@@ -14,8 +14,12 @@ fn letter(number: usize) -> u8 {
 
 /// Four letters for a number below 456,976, in the order of the numbers.
 fn segment(number: usize) -> Seg {
-    let [first, second, third] = [17_576, 676, 26].map(|unit| number / unit);
-    Seg([letter(first), letter(second), letter(third), letter(number)])
+    Seg([
+        letter(number / 17_576),
+        letter(number / 676),
+        letter(number / 26),
+        letter(number),
+    ])
 }
 
 fn path_of(alloc: Global, number: usize) -> Result<Path, AllocError> {
