@@ -74,7 +74,7 @@ pub fn push_places(alloc: Global, out: &mut String, count: usize) -> Result<(), 
     let space = space_of(alloc, count)?;
     let mut right: usize = 0;
     for number in 0..count {
-        right += usize::from(is_at_place(&space, number));
+        right = right.saturating_add(usize::from(is_at_place(&space, number)));
     }
     writeln!(out, "  {right} at their places")
 }
@@ -84,7 +84,7 @@ pub fn push_found(alloc: Global, out: &mut String, count: usize) -> Result<(), A
     let space = space_of(alloc, count)?;
     let mut right: usize = 0;
     for number in 0..count {
-        right += usize::from(is_found(alloc, &space, number)?);
+        right = right.saturating_add(usize::from(is_found(alloc, &space, number)?));
     }
     writeln!(out, "  {right} found by 1 to 64 comparisons")
 }
