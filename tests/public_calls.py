@@ -7,7 +7,8 @@ A contract says nothing of a body that always wants memory, or never returns, so
 with ample memory, and what it answers compared. tests/public_calls.txt says by which part of ./test. It fails where a public
 function stands in no part, where one is named that there isn't, and where the program or the tests of a part don't call one
 that is named there, by themselves or through other functions. What operators, `?` and formatting call by themselves has no
-name by which a call could be found, and functions without a body, which are laws, have no answer: they aren't looked at.
+name by which a call could be found, and functions that take and answer nothing, which are laws, have no answer: they aren't
+looked at.
 With --list the public functions are printed, each with the parts that call it. The last line is 'N passed, N failed'.
 """
 
@@ -72,10 +73,11 @@ def exported(crate):
 
 
 def surface(functions):
-    """The public functions of all crates but programs and tests, by their crates and names."""
+    """The public functions of all crates but programs and tests, by their crates and names. Laws aren't among them."""
     names = {crate: exported(crate) for crate in {it.crate for it in functions} - NOT_SURFACE}
     for it in functions:
-        if it.public and it.crate in names and (it.type or it.name) in names[it.crate]:
+        is_law = re.search(rf"^pub fn {it.name}\(\)$", it.text, re.M)
+        if it.public and not is_law and it.crate in names and (it.type or it.name) in names[it.crate]:
             yield it
 
 

@@ -5,8 +5,8 @@
 
 PROGRAM is out/acpidis if left out. The rows are in the language of crates/acpi_cases (docs/testing.md). A row `run` is a run
 over the dumps of the rows before it, from the last `set` on, in a folder of their own; below it, two columns in, stand its
-status, its text and its error lines. Each of them is also what the independent reading of tests/oracle says, which alone
-reads the files READ, and with --read all of them. The last line is 'N passed, N failed'.
+status, its text and its error lines. Each of them is also what the independent reading of tests/oracle says; with --read it
+alone is tried. The last line is 'N passed, N failed'.
 """
 
 import argparse
@@ -23,9 +23,7 @@ from compare import PROGRAM, run_program  # noqa: E402
 from folders import MAP_NAME  # noqa: E402
 from loading import path_text  # noqa: E402
 
-RUNS = ["worked_runs.txt"]
-# What the program can't do yet.
-READ = ["worked_runs_any_run.txt"]
+RUNS = ["worked_runs.txt", "worked_runs_any_run.txt"]
 MARGIN = "  "
 
 
@@ -85,9 +83,9 @@ def main():
     parser.add_argument("--read", action="store_true", help="try the independent reading alone")
     asked = parser.parse_args()
     fails = []
-    for file in [*RUNS, *READ]:
+    for file in RUNS:
         readers = {"tests/oracle": Rows()}
-        if file in RUNS and not asked.read:
+        if not asked.read:
             readers["acpidis"] = ProgramRows(asked.program)
         # A file without examples shows nothing.
         fails += list(fails_of(file, readers)) or [True]

@@ -6,13 +6,13 @@ pub use Rattle.acpi_tables.specs.declared.order.Order.{Order}
 pub use Rattle.acpidis.specs.Bodies.{IsEntry, AreEntries, Became, BecameIn, AreBodies, has_raw, codes_in, IsWithinLimits, aml_of}
 pub use Rattle.acpidis.specs.Checks.{mark_of, marks_of, IsKept, AreKept, AreKeptOf, IsSame, has_fault, tried_mark, tried_marks, marks_in, IsUnder, Under, added}
 pub use Rattle.acpidis.specs.Checks.{uncounted, tally, tallied, checks_with, check_lines, all_same, same_bytes, body_same, check_line}
-pub use Rattle.acpidis.specs.Meaning.{Meaning, LoadsSet, HoldsSet, Means, IsSet, codes_of, Shows, order_of}
+pub use Rattle.acpidis.specs.Meaning.{Meaning, LoadsBy, LoadsSet, HoldsSet, Means, IsSet, codes_of, Shows, order_of}
 pub use Rattle.acpidis.specs.declared.checking.Checked.{Checked}
 pub use Rattle.acpidis.specs.declared.checking.Mark.{Mark}
 pub use Rattle.acpidis.specs.declared.options.Options.{Options}
 pub use Rattle.aml_code.specs.Lawful.{ReadsModule}
 pub use Rattle.aml_code.specs.Tree.{Trees, no_trees}
-pub use Rattle.aml_load.specs.Loading.{Listed, IsLoad, methods_of}
+pub use Rattle.aml_load.specs.Loading.{Listed, methods_of}
 pub use Rattle.aml_set.specs.Views.{codes_view, span_of, body_in, AreShort, trees_view, body_of}
 pub use Rattle.aml_load.specs.Views.{OfMethod, HoldsLoad}
 pub use Rattle.aml_set.specs.declared.loaded.Loaded.{Loaded}

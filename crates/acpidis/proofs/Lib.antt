@@ -2,6 +2,7 @@ pub mod Common
 pub mod TableLaws
 pub mod Sharing
 pub mod BodyLaws
+pub mod Spelling
 pub mod MeaningLaws
 pub mod RunLaws
 pub mod CheckLaws

@@ -1,16 +1,17 @@
 -- A set of dumps means one listing: what an order and a load of it give is what the dumps load to, with the bodies that
 -- were read it is what they mean, and whatever they mean is that. What a refused load tells is told of the one order.
-use Rattle.acpidis.proofs.Common.{AllZip, ◌≡◌, ℕ, suc, List, [], ◌∷◌, map, length, refl, sym, ap, ap₂, ◌∙◌, length-map, Trees, Givens, Listed, IsLoad}
-use Rattle.acpidis.proofs.Common.{ReadsModule, methods_of, HoldsLoad, Loaded, Dump, Order, IsOrder, Body, body_view, AreMatched, indexes_in, Options, codes_in}
+use Rattle.acpidis.proofs.Common.{AllZip, ◌≡◌, ℕ, suc, List, [], ◌∷◌, map, length, refl, sym, ap, ap₂, ◌∙◌, length-map, Trees, Listed}
+use Rattle.acpidis.proofs.Common.{LoadsBy, methods_of, HoldsLoad, Loaded, Dump, Order, IsOrder, Body, body_view, AreMatched, indexes_in, Options, codes_in}
 use Rattle.acpidis.proofs.Common.{Became, AreBodies, IsWithinLimits, Meaning, LoadsSet, HoldsSet, Means, IsSet, codes_of}
 use Rattle.std.proofs.Common.{◌⊎◌, inl, inr}
 use Rattle.aml_code.specs.View.{nodes_view}
 use Rattle.acpidis.specs.declared.refusal.Refusal.{Refusal}
 use Rattle.acpidis.specs.Refusals.{IsWant, TellsLoad, TellsBlocks}
+use Rattle.acpidis.proofs.Spelling.{Spells, all_spelled}
 use Rattle.acpidis.proofs.BodyLaws.{are_entries, the_entries, are_told}
 use Rattle.acpidis.specs.declared.refusal.Refusal.TheVariants as refusals
 
-read_each : (codes : List (List ℕ)) (trees : List Trees) → AllZip ReadsModule codes trees → length trees ≡ length codes
+read_each : (codes : List (List ℕ)) (trees : List Trees) → AllZip Spells codes trees → length trees ≡ length codes
 read_each [] [] r = refl
 read_each [] (t ∷ trees) r = absurd r
 read_each (c ∷ codes) [] r = absurd r
@@ -18,14 +19,14 @@ read_each (c ∷ codes) (t ∷ trees) r = ap suc (read_each codes trees r.1)
 
 -- ---- the one order of a set, and the AML of its tables
 
-module _ (dumps : List Dump) (options : Options) (order : Order) (codes : List (List ℕ)) (gs : Givens)
+module _ (dumps : List Dump) (options : Options) (order : Order) (codes : List (List ℕ))
     (there : IsOrder dumps options.any_sum order.dsdt order.ssdts.items)
     (only : (d : ℕ) (s : List ℕ) → IsOrder dumps options.any_sum d s → (d ≡ order.dsdt) × (s ≡ order.ssdts.items))
-    (cs : codes ≡ codes_in dumps (indexes_in order)) (given : gs ≡ options.externals.items) where
+    (cs : codes ≡ codes_in dumps (indexes_in order)) where
   -- what a load refuses is told of it
-  pub tells_blocks : (e : Refusal) → TellsLoad gs codes (indexes_in order) e → TellsBlocks dumps options e
+  pub tells_blocks : (e : Refusal) → TellsLoad options codes (indexes_in order) e → TellsBlocks dumps options e
   tells_blocks (refusals.Load fault) t =
-      record { dsdt = order.dsdt; ssdts = order.ssdts.items; order = there; only = only; load = rw (← given, ← cs) t }
+      record { dsdt = order.dsdt; ssdts = order.ssdts.items; order = there; only = only; load = rw (← cs) t }
   tells_blocks _ t = tt
 
   -- the AML of what the dumps mean is this
@@ -35,18 +36,18 @@ module _ (dumps : List Dump) (options : Options) (order : Order) (codes : List (
       cs ∙ ap₂ (λ (d : ℕ) (s : List ℕ). codes_in dumps (d ∷ s)) (sym same.0) (sym same.1)
 
   -- where nothing loads, the dumps mean nothing
-  pub none_meant : (e : Refusal) → IsWant e ⊎ ((trees : List Trees) (m : Listed) → IsLoad gs codes trees m → ⊥)
+  pub none_meant : (e : Refusal) → IsWant e ⊎ ((trees : List Trees) (m : Listed) → LoadsBy options codes trees m → ⊥)
       → IsWant e ⊎ ((k : Meaning) → LoadsSet dumps options k → ⊥)
   none_meant e (inl want) = inl want
-  none_meant e (inr none) = inr (λ k set. let all = all_codes k set in none k.trees k.listed (rw (given, all) set.loads))
+  none_meant e (inr none) = inr (λ k set. let all = all_codes k set in none k.trees k.listed (rw all set.loads))
 
-  module _ (x : Loaded) (loads : (trees : List Trees) × (m : Listed) × IsLoad gs codes trees m × HoldsLoad x codes trees m)
-      (one : (trees : List Trees) (m : Listed) → IsLoad gs codes trees m → HoldsLoad x codes trees m) (limits : IsWithinLimits x) where
+  module _ (x : Loaded) (loads : (trees : List Trees) × (m : Listed) × LoadsBy options codes trees m × HoldsLoad x codes trees m)
+      (one : (trees : List Trees) (m : Listed) → LoadsBy options codes trees m → HoldsLoad x codes trees m) (limits : IsWithinLimits x) where
     -- the dumps have the order and load to what was loaded
     abbrev loads_so : (k : Meaning) × LoadsSet dumps options k × HoldsSet order x dumps k
     loads_so = (
       record { dsdt = order.dsdt; ssdts = order.ssdts.items; trees = loads.0; listed = loads.1; bodies = [] },
-      record { order = there; loads = rw (← given, ← cs) loads.2 },
+      record { order = there; loads = rw (← cs) loads.2 },
       record { dsdt = refl; ssdts = refl; holds = rw (← cs) loads.3 },
     )
 
@@ -55,7 +56,7 @@ module _ (dumps : List Dump) (options : Options) (order : Order) (codes : List (
     loads_only k set =
         let same = only k.dsdt k.ssdts set.order in
         let all = all_codes k set in
-        record { dsdt = sym same.0; ssdts = sym same.1; holds = rw (← all) (one k.trees k.listed (rw (given, all) set.loads)) }
+        record { dsdt = sym same.0; ssdts = sym same.1; holds = rw (← all) (one k.trees k.listed (rw all set.loads)) }
 
     -- the loaded tables are those of the order
     matched_so : AreMatched order x
@@ -63,7 +64,7 @@ module _ (dumps : List Dump) (options : Options) (order : Order) (codes : List (
         let k = loads_so.0 in
         let holds = loads_so.2.holds in
         let seen = sym (length-map x.tables.items (λ c. c.now)) ∙ ap length holds.tables in
-        let read = read_each (codes_of dumps k) k.trees loads_so.1.loads.read in
+        let read = read_each (codes_of dumps k) k.trees (all_spelled options (codes_of dumps k) k.trees k.listed loads_so.1.loads) in
         let terms = sym (length-map x.trees.items (λ t. nodes_view t.items)) ∙ ap length holds.trees ∙ read in
         (seen ∙ length-map (indexes_in order) _, terms ∙ sym seen)
 

@@ -1,9 +1,10 @@
 -- What a set means is the same when it is made anew: what was read encodes to the bytes that it was read from, so no
 -- table of a listing that dumps mean differs.
 use Rattle.acpidis.proofs.Common.{◌&&◌, filter, list_all, All-filter, AllPass-from_list_all, list_all-from_AllPass, ◌≡◌, ℕ, suc, Bool, true, List, [], ◌∷◌}
-use Rattle.acpidis.proofs.Common.{refl, ap₂, map, Trees, Entry, AllZip, ReadsModule, methods_of, span_of, Method, OneBody, read, raw, names_in, blocks_of, Dump}
+use Rattle.acpidis.proofs.Common.{refl, ap₂, map, Trees, Entry, AllZip, methods_of, span_of, Method, OneBody, read, raw, names_in, blocks_of, Dump}
 use Rattle.acpidis.proofs.Common.{Options, Mark, IsEntry, AreEntries, same_bytes, body_same, marks_of, checks_with, tallied, uncounted, all_same, Meaning}
 use Rattle.acpidis.proofs.Common.{Means, order_of, codes_of}
+use Rattle.acpidis.proofs.Spelling.{Spells, all_spelled}
 use Rattle.std.proofs.lemmas.Slice.Eq.{bytes_eq-Decides}
 
 same_if : (xs ys : List ℕ) → xs ≡ ys → same_bytes xs ys ≡ true
@@ -24,12 +25,12 @@ marks_same z es codes (m ∷ ms) [] h = refl
 marks_same z es codes (m ∷ ms) (b ∷ bs) h = ap₂ ◌&&◌ (entry_same z es codes m b h.0) (marks_same z es codes ms bs h.1)
 
 tables_same : (marks : List Mark) (names codes : List (List ℕ)) (trees : List Trees) (t : ℕ) → list_all (λ m. m.same) marks ≡ true
-    → AllZip ReadsModule codes trees → all_same (tallied marks t (map uncounted (blocks_of names codes trees))) ≡ true
+    → AllZip Spells codes trees → all_same (tallied marks t (map uncounted (blocks_of names codes trees))) ≡ true
 tables_same marks [] codes trees t h r = refl
 tables_same marks (n ∷ names) [] trees t h r = refl
 tables_same marks (n ∷ names) (c ∷ codes) [] t h r = refl
 tables_same marks (n ∷ names) (c ∷ codes) (ts ∷ trees) t h r =
-    ap₂ ◌&&◌ (ap₂ ◌&&◌ (same_if _ _ r.0.spelled) (kept_same _ marks h)) (tables_same marks names codes trees (suc t) h r.1)
+    ap₂ ◌&&◌ (ap₂ ◌&&◌ (same_if _ _ r.0) (kept_same _ marks h)) (tables_same marks names codes trees (suc t) h r.1)
 
 -- all tables of what dumps mean are the same
 pub all_are_same : (dumps : List Dump) (options : Options) (k : Meaning) → Means dumps options k
@@ -37,4 +38,5 @@ pub all_are_same : (dumps : List Dump) (options : Options) (k : Meaning) → Mea
     (marks_of (codes_of dumps k) (methods_of k.listed.entries) k.bodies)) ≡ true
 all_are_same dumps options k means =
     tables_same _ (names_in dumps (order_of k)) (codes_of dumps k) k.trees 0
-    (marks_same options.unknown_zero k.listed.entries (codes_of dumps k) (methods_of k.listed.entries) k.bodies means.bodies) means.set.loads.read
+    (marks_same options.unknown_zero k.listed.entries (codes_of dumps k) (methods_of k.listed.entries) k.bodies means.bodies)
+    (all_spelled options (codes_of dumps k) k.trees k.listed means.set.loads)

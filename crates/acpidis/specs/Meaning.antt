@@ -6,7 +6,8 @@ use Rattle.aml_names.specs.declared.segments.Seg.{Seg}
 use Rattle.aml_code.specs.Tree.{Trees}
 use Rattle.aml_space.specs.Namespace.{Entry}
 use Rattle.aml_space.specs.Known.{Declared, declarations_in}
-use Rattle.aml_load.specs.Loading.{Listed, IsLoad, methods_of}
+use Rattle.aml_load.specs.Loading.{Listed, methods_of}
+use Rattle.aml_load.specs.Running.{LoadsTo}
 use Rattle.aml_load.specs.Views.{HoldsLoad}
 use Rattle.aml_set.specs.declared.loaded.Loaded.{Loaded}
 use Rattle.asl_text.specs.Texts.{OneBody}
@@ -36,11 +37,15 @@ order_of k = k.dsdt ∷ k.ssdts
 abbrev pub codes_of : List Dump → Meaning → List (List ℕ)
 codes_of dumps k = codes_in dumps (order_of k)
 
--- The dumps have this order, and the tables' AML reads as these trees, which load to these entries. Nothing is said of
--- the bodies of methods.
+-- The tables' AML reads as these trees, which load to these entries, with these options.
+abbrev pub LoadsBy : Options → List (List ℕ) → List Trees → Listed → Type 0
+LoadsBy options codes trees m = LoadsTo options.any_run options.unknown_zero options.externals.items codes trees m
+
+-- The dumps have this order, and the AML of its tables loads to these trees and entries. Nothing is said of the bodies
+-- of methods.
 pub record LoadsSet (dumps : List Dump) (options : Options) (k : Meaning) : Type 0 where
   pub order : IsOrder dumps options.any_sum k.dsdt k.ssdts
-  pub loads : IsLoad options.externals.items (codes_of dumps k) k.trees k.listed
+  pub loads : LoadsBy options (codes_of dumps k) k.trees k.listed
 
 -- The dumps mean this listing, with these options: they load to it, and each body is the terms that it reads as in the
 -- namespace of all entries, or raw, where it reads as no terms.

@@ -1,8 +1,6 @@
 -- What a refusal says of a set of dumps.
 use Rattle.std.specs.Prelude.{◌≡◌, ℕ, Bool, List, ◌∷◌, get_or, ⊤, Err, Option, None, Some, codes}
-use Rattle.aml_space.specs.Namespace.{Givens}
-use Rattle.aml_load.specs.Loading.{StopsLoad}
-use Rattle.aml_load.specs.Walking.{load_at}
+use Rattle.aml_load.specs.Running.{StopsFor, loads_at}
 use Rattle.aml_load.specs.declared.faults.LoadFault.{LoadFault}
 use Rattle.aml_load.specs.declared.faults.LoadFault.TheVariants as loads
 use Rattle.acpi_tables.specs.declared.dump.Dump.{Dump}
@@ -36,13 +34,16 @@ abbrev pub TellsTable : List Dump → Bool → Refusal → Type 0
 TellsTable dumps any_sum (refusals.Table fault) = Refuses dumps any_sum fault
 TellsTable dumps any_sum _ = ⊤
 
--- The load of the tables of an order stops for this fault, the first that is met in loading forward. The fault names
--- the dump of the table that it is about.
-pub record StopsInOrder (gs : Givens) (codes : List (List ℕ)) (order : List ℕ) (fault : LoadFault) : Type 0 where
+-- The load of tables with these options stops for this fault, the first that is met in loading forward.
+pub record StopsBy (options : Options) (codes : List (List ℕ)) (fault : LoadFault) : Type 0 where
+  pub stops : StopsFor options.any_run options.unknown_zero options.externals.items codes fault
+  pub first : loads_at options.any_run options.unknown_zero options.externals.items codes ≡ Err fault
+
+-- That of the tables of an order stops for this fault, which names the dump of the table that it is about.
+pub record StopsInOrder (options : Options) (codes : List (List ℕ)) (order : List ℕ) (fault : LoadFault) : Type 0 where
   pub met : LoadFault
   pub named : fault ≡ in_dump order met
-  pub stops : StopsLoad gs codes met
-  pub first : load_at gs codes ≡ Err met
+  pub stops : StopsBy options codes met
 
 -- The dumps have an order, and no other, and the load of its tables stops so.
 pub record StopsSet (dumps : List Dump) (options : Options) (fault : LoadFault) : Type 0 where
@@ -50,12 +51,12 @@ pub record StopsSet (dumps : List Dump) (options : Options) (fault : LoadFault) 
   pub ssdts : List ℕ
   pub order : IsOrder dumps options.any_sum dsdt ssdts
   pub only : (d : ℕ) (s : List ℕ) → IsOrder dumps options.any_sum d s → (d ≡ dsdt) × (s ≡ ssdts)
-  pub load : StopsInOrder options.externals.items (codes_in dumps (dsdt ∷ ssdts)) (dsdt ∷ ssdts) fault
+  pub load : StopsInOrder options (codes_in dumps (dsdt ∷ ssdts)) (dsdt ∷ ssdts) fault
 
 -- a refusal of a load is true of the tables in this order
-abbrev pub TellsLoad : Givens → List (List ℕ) → List ℕ → Refusal → Type 0
-TellsLoad gs codes order (refusals.Load fault) = StopsInOrder gs codes order fault
-TellsLoad gs codes order _ = ⊤
+abbrev pub TellsLoad : Options → List (List ℕ) → List ℕ → Refusal → Type 0
+TellsLoad options codes order (refusals.Load fault) = StopsInOrder options codes order fault
+TellsLoad options codes order _ = ⊤
 
 -- it is true of the set
 abbrev pub TellsBlocks : List Dump → Options → Refusal → Type 0

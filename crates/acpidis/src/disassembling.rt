@@ -1,14 +1,14 @@
 //! From the dumps of a set to its listing, the bodies read by workers.
 ghost use Rattle.std.specs.Prelude.{◌≡◌, ◌⊎◌, ◌≤◌, ℕ, Bool, true, List, IfOk, IfErr, get_or, length};
 ghost use Rattle.aml_code.specs.Tree.{Trees};
-ghost use Rattle.aml_load.specs.Loading.{Listed, IsLoad};
+ghost use Rattle.aml_load.specs.Loading.{Listed, most_methods};
 ghost use Rattle.aml_set.specs.Views.{codes_view, AreShort};
 ghost use Rattle.aml_load.specs.Views.{HoldsLoad};
 ghost use Rattle.acpi_tables.specs.Order.{AreTables, AreTaken, IsOrder};
 ghost use Rattle.acpidis.specs.Bodies.{AreDrawn, IsWithinLimits};
-ghost use Rattle.acpidis.specs.Meaning.{Meaning, LoadsSet, IsSet, Means, Shows, Told};
+ghost use Rattle.acpidis.specs.Meaning.{Meaning, LoadsBy, LoadsSet, IsSet, Means, Shows, Told};
 ghost use Rattle.aml_text.specs.Matched.{indexes_in};
-ghost use Rattle.acpidis.specs.Refusals.{IsWant, load_refusal, TellsTable, TellsLoad, TellsBlocks};
+ghost use Rattle.acpidis.specs.Refusals.{IsWant, load_refusal, StopsBy, TellsTable, TellsLoad, TellsBlocks};
 
 use crate::bodies::read_bodies;
 use crate::crew::Crew;
@@ -16,8 +16,7 @@ use crate::options::Options;
 use crate::refusal::Refusal;
 use crate::tables::codes_of;
 use acpi_tables::{Bad, Dump, Order, TableFault, load_order};
-use aml_load::{LoadFault, load};
-use aml_names::Path;
+use aml_load::{LoadFault, load, load_any_run};
 use aml_pool::Gate;
 use aml_set::Loaded;
 use aml_text::Listing;
@@ -87,27 +86,49 @@ fn refused_load(order: &Order, fault: LoadFault) -> Refusal
     }
 }
 
+/// Loads tables by their AML, as the options say.
+fn load_by<'a>(
+    alloc: Global,
+    codes: &[&'a [u8]],
+    options: &Options,
+) -> Result<Loaded<'a>, LoadFault>
+    requires short { AreShort (codes_view codes.now) }
+    ensures sound { IfOk result (λ x. (trees : List Trees) × (m : Listed) ×
+        LoadsBy options.now (codes_view codes.now) trees m × HoldsLoad x (codes_view codes.now) trees m) }
+    ensures one { IfOk result (λ x. (trees : List Trees) (m : Listed) →
+        LoadsBy options.now (codes_view codes.now) trees m → HoldsLoad x (codes_view codes.now) trees m) }
+    ensures few { IfOk result (λ x. length x.methods.items ≤ most_methods) }
+    ensures complete { IfErr result (λ e. (e ≡ LoadFault.NoMemory) ⊎ ((trees : List Trees) (m : Listed) →
+        LoadsBy options.now (codes_view codes.now) trees m → ⊥)) }
+    ensures stops { IfErr result (λ e. (e ≡ LoadFault.NoMemory) ⊎ StopsBy options.now (codes_view codes.now) e) }
+{
+    let givens = options.externals.as_slice();
+    if options.any_run {
+        load_any_run(alloc, codes, givens, options.unknown_zero)
+    } else {
+        load(alloc, codes, givens)
+    }
+}
+
 /// Loads the tables.
 fn load_in<'a>(
     alloc: Global,
     codes: &[&'a [u8]],
-    givens: &[(Path, u8)],
+    options: &Options,
     order: &Order,
 ) -> Result<Loaded<'a>, Refusal>
     requires short { AreShort (codes_view codes.now) }
     ensures sound { IfOk result (λ x. (trees : List Trees) × (m : Listed) ×
-        IsLoad givens.now (codes_view codes.now) trees m ×
-        HoldsLoad x (codes_view codes.now) trees m) }
+        LoadsBy options.now (codes_view codes.now) trees m × HoldsLoad x (codes_view codes.now) trees m) }
     ensures one { IfOk result (λ x. (trees : List Trees) (m : Listed) →
-        IsLoad givens.now (codes_view codes.now) trees m →
-        HoldsLoad x (codes_view codes.now) trees m) }
+        LoadsBy options.now (codes_view codes.now) trees m → HoldsLoad x (codes_view codes.now) trees m) }
     ensures limits { IfOk result IsWithinLimits }
     ensures complete { IfErr result (λ e. IsWant e ⊎ ((trees : List Trees) (m : Listed) →
-        IsLoad givens.now (codes_view codes.now) trees m → ⊥)) }
-    ensures tells { IfErr result (TellsLoad givens.now (codes_view codes.now) (indexes_in order.now)) }
+        LoadsBy options.now (codes_view codes.now) trees m → ⊥)) }
+    ensures tells { IfErr result (TellsLoad options.now (codes_view codes.now) (indexes_in order.now)) }
     ensures of_load { IfErr result (λ e. (dumps : List Dump) (any_sum : Bool) → TellsTable dumps any_sum e) }
 {
-    match load(alloc, codes, givens) {
+    match load_by(alloc, codes, options) {
         Ok(loaded) => Ok(loaded),
         Err(fault) => Err(refused_load(order, fault)),
     }
@@ -126,12 +147,7 @@ pub(crate) fn load_set<'a>(
 {
     let order = order_in(alloc, dumps, options.any_sum)?;
     let codes = codes_of(alloc, dumps, &order)?;
-    let loaded = match load_in(
-        alloc,
-        codes.as_slice(),
-        options.externals.as_slice(),
-        &order,
-    ) {
+    let loaded = match load_in(alloc, codes.as_slice(), options, &order) {
         Ok(loaded) => loaded,
         Err(refusal) => return Err(refusal),
     };

@@ -6,6 +6,8 @@ use aml_names::Path;
 pub struct Options {
     /// Whether a table with any checksum is taken.
     pub any_sum: bool,
+    /// Whether the code of tables outside methods may run, so that they are read as whatever a run of it would declare.
+    pub any_run: bool,
     /// Whether a name of which nothing tells an argument count is taken to have none.
     pub unknown_zero: bool,
     /// Argument counts, 0 to 7, of paths that no table declares or names by an External. Of a name that leads nowhere,

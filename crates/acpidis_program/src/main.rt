@@ -92,6 +92,7 @@ fn run_folder<T: Threads + Wait + Sync, E: Write>(
         &dumps,
         Options {
             any_sum: line.any_sum,
+            any_run: line.any_run,
             unknown_zero: line.unknown_zero,
             externals,
         },

@@ -8,3 +8,4 @@ pub mod Asking
 pub mod RunLoads
 pub mod RunSpans
 pub mod Ran
+pub mod Strict

@@ -331,13 +331,14 @@ arity_in any_run es = agreed_arity (outlook_of es)
 abbrev pub use_count : Bool → Bool → List Entry → Use → Option ℕ
 use_count any_run unknown_zero es u = arity_in any_run es (unknown_zero || u.declaring) u.scope set.empty u.name
 
--- the first path that a name may mean in a scope
-abbrev pub first_path : List Seg → Name → List Seg
-first_path scope n = unwrap_or (placed scope n) []
+-- the fault of a call in table t, by the first path that its name may mean, if there is one
+abbrev pub call_of : ℕ → Option (List Seg) → LoadFault
+call_of t None = loads.ModuleCall t
+call_of t (Some p) = loads.RunCall t p
 
 abbrev pub call_fault : Bool → Use → LoadFault
 call_fault false u = loads.ModuleCall u.table
-call_fault true u = loads.RunCall u.table (first_path u.scope u.name)
+call_fault true u = call_of u.table (placed u.scope u.name)
 
 -- each takes as many as were read with it; or the fault of the first that doesn't
 unfoldable pub uses_at : Bool → Bool → List Entry → List Use → Result (Unit {0}) LoadFault

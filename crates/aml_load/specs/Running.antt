@@ -20,14 +20,14 @@ use Rattle.aml_parse.specs.Running.{Names, ReadsTable, StopsTerms, run_table_at}
 use Rattle.aml_space.specs.declared.faults.SpaceFault.TheVariants as faults
 use Rattle.aml_space.specs.declared.kinds.Kind.{Kind}
 use Rattle.aml_space.specs.Namespace.{Entry, Givens, declares, declared_at, namespace_of, found}
-use Rattle.aml_space.specs.Runs.{sure_at}
+use Rattle.aml_space.specs.Runs.{sure_at, AreSure, times_at, StaysAsItIs}
 use Rattle.aml_load.specs.declared.faults.LoadFault.{LoadFault}
 use Rattle.aml_load.specs.declared.faults.LoadFault.TheVariants as loads
 use Rattle.aml_load.specs.Loading.{◌>>=◌, role_of, kind_of, Where, Listed, first_listed, with_uses, lead_of, place_at}
 use Rattle.aml_load.specs.Loading.{entry_at, declare_as, arity_in, uses_at, code_fault, IsLoad, StopsLoad}
 use Rattle.aml_load.specs.Loading.{methods_of, most_methods}
 use Rattle.aml_load.specs.Spans.{InTextOrder}
-use Rattle.aml_load.specs.Walking.{AreCodes}
+use Rattle.aml_load.specs.Walking.{AreCodes, load_at}
 
 -- What stands in front of a term: what is listed so far, and where the term stands.
 pub record Front : Type 0 where
@@ -166,6 +166,11 @@ run_load_at unknown_zero gs codes = do
   _ ← uses_at true unknown_zero x.1.entries x.1.uses
   Ok x
 
+-- tables whose code outside methods may run or may not
+abbrev pub loads_at : Bool → Bool → Givens → List (List ℕ) → Result (List Trees × Listed) LoadFault
+loads_at false unknown_zero gs codes = load_at gs codes
+loads_at true unknown_zero gs codes = run_load_at unknown_zero gs codes
+
 -- ---- Laws of such loads.
 
 -- they have one meaning
@@ -192,3 +197,14 @@ AreSpelled z gs tables = (trees : List Trees) (m : Listed) → IsRunLoad z gs ta
 abbrev pub RunsInTextOrder : Bool → Givens → List (List ℕ) → Type 0
 RunsInTextOrder z gs tables = (trees : List Trees) (m : Listed) → IsRunLoad z gs tables trees m →
     InTextOrder trees m × (length (methods_of m.entries) ≤ most_methods)
+
+-- ---- Tables whose code outside methods may not run mean what they mean without what runs may leave: each path is
+-- declared at most once, and surely, and each count is that of the one namespace.
+
+pub record IsStrict (es : List Entry) : Type 0 where
+  pub sure : AreSure es
+  pub once : (q : List Seg) → times_at es q ≤ 1
+  pub counts : StaysAsItIs es
+
+abbrev pub LoadsStrictly : Givens → List (List ℕ) → Type 0
+LoadsStrictly gs tables = (trees : List Trees) (m : Listed) → IsLoad gs tables trees m → IsStrict m.entries

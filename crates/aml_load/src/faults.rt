@@ -17,7 +17,8 @@ pub enum LoadFault {
     /// A name that the namespace refuses.
     #[error("{1}")]
     Space(usize, SpaceFault),
-    /// A name that takes arguments stands as a TermArg outside the methods.
+    /// A name that takes arguments stands as a TermArg outside the methods, or, where the code outside methods may run,
+    /// one that can mean no path.
     #[error("ModuleCall")]
     ModuleCall(usize),
     /// A name outside the methods that is read with another number of arguments than it takes, by the first path that

@@ -18,4 +18,4 @@ mod walking;
 pub use bodies::read_body;
 pub use faults::LoadFault;
 pub use loading::{load, load_any_run};
-pub use running::{loads_forward, loads_one_way, runs_in_text_order};
+pub use running::{loads_forward, loads_one_way, loads_strictly, runs_in_text_order};

@@ -4,7 +4,7 @@ ghost use Rattle.aml_code.specs.Tree.{Trees};
 ghost use Rattle.aml_code.specs.View.{nodes_view};
 ghost use Rattle.aml_space.specs.Namespace.{given_entries};
 ghost use Rattle.aml_space.specs.Known.{StandsFor};
-ghost use Rattle.aml_load.specs.Loading.{Listed, first_listed, IsLoad, StopsLoad, most_methods, use_count, is_count, first_path, call_fault, uses_at};
+ghost use Rattle.aml_load.specs.Loading.{Listed, first_listed, IsLoad, StopsLoad, most_methods, use_count, is_count, call_fault, uses_at};
 ghost use Rattle.aml_load.specs.Walking.{table_at, tables_at, GivesLoad, IsCode, AreCodes, Holds, Gives, TableWalked};
 ghost use Rattle.aml_set.specs.Views.{codes_view, trees_view, AreShort};
 ghost use Rattle.aml_load.specs.Views.{HoldsLoad};
@@ -90,25 +90,16 @@ fn is_count(args: usize, count: Option<u8>) -> bool
     }
 }
 
-/// The first path that a name may mean.
-fn first_path(alloc: Global, used: &Use) -> Result<Path, NoMemory>
-    ensures { IfOk result (λ p. p ≡ first_path used.now.scope used.now.name) }
-{
-    match place(alloc, used.scope.path(), &used.name)? {
-        None => Ok(Path::root(alloc)),
-        Some(path) => Ok(path),
-    }
-}
-
 /// The fault of a name that takes another number of arguments than it was read with.
 fn call_fault(alloc: Global, any_run: bool, used: &Use) -> Result<LoadFault, NoMemory>
     ensures { IfOk result (λ fault. fault ≡ call_fault any_run used.now) }
 {
-    if any_run {
-        let path = first_path(alloc, used)?;
-        Ok(LoadFault::RunCall(used.table, path))
-    } else {
-        Ok(LoadFault::ModuleCall(used.table))
+    if !any_run {
+        return Ok(LoadFault::ModuleCall(used.table));
+    }
+    match place(alloc, used.scope.path(), &used.name)? {
+        None => Ok(LoadFault::ModuleCall(used.table)),
+        Some(path) => Ok(LoadFault::RunCall(used.table, path)),
     }
 }
 

@@ -32,6 +32,7 @@ fn calls_in<R: Threads + Wait + Sync>(
 ) -> Result<String, Refusal> {
     let options = Options {
         any_sum: false,
+        any_run: false,
         unknown_zero: false,
         externals: Vec::new(alloc),
     };

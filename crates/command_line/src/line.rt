@@ -27,6 +27,8 @@ Exit status:
 pub struct CommandLine {
     /// Whether tables with any checksum are taken.
     pub any_sum: bool,
+    /// Whether the code of tables outside methods may run.
+    pub any_run: bool,
     /// Whether an unknown name in a body is read as one without arguments.
     pub unknown_zero: bool,
     /// The file with argument counts of paths that no table declares.
@@ -91,6 +93,11 @@ fn command<'a>(alloc: Global) -> Result<Command<'a>, Error> {
             "any-sum",
             "Take tables with any checksum, and say BadSum behind those whose sum is wrong",
         ),
+        flag(
+            alloc,
+            "any-run",
+            "Read tables whatever a run of their code outside methods would declare",
+        ),
         externals(alloc),
         flag(
             alloc,
@@ -147,6 +154,7 @@ fn parse(alloc: Global, words: &[String]) -> Result<CommandLine, Error> {
     let matches = command(alloc)?.try_get_matches_from(words)?;
     Ok(CommandLine {
         any_sum: matches.get_flag("any-sum"),
+        any_run: matches.get_flag("any-run"),
         unknown_zero: matches.get_flag("unknown-zero"),
         externals: match matches.get_str("externals") {
             Some(file) => Some(String::from_str(alloc, file)?),

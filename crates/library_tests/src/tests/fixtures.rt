@@ -98,6 +98,7 @@ impl Work for Square {
 pub fn any_sum(alloc: Global) -> Options {
     Options {
         any_sum: true,
+        any_run: false,
         unknown_zero: false,
         externals: Vec::new(alloc),
     }

@@ -12,18 +12,18 @@ returns-in-Err-clause-true_table c = c.in-Err.ensures.of_load c.args.dumps.now c
 
 pub returns-in-Err-clause-true_load : goal.returns-in-Err-clause-true_load
 returns-in-Err-clause-true_load c =
-    tells_blocks c.args.dumps.now c.args.options.now c.in_ok-order.order (codes_view c.as_slice.result.now) c.as_slice-2.result.now
-    c.in_ok-order.ensures.order c.in_ok-order.ensures.only (ap codes_view c.as_slice.ensures.value ∙ c.in_ok-codes.ensures.codes) c.as_slice-2.ensures.value
+    tells_blocks c.args.dumps.now c.args.options.now c.in_ok-order.order (codes_view c.as_slice.result.now)
+    c.in_ok-order.ensures.order c.in_ok-order.ensures.only (ap codes_view c.as_slice.ensures.value ∙ c.in_ok-codes.ensures.codes)
     c.in-Err.refusal c.in-Err.ensures.tells
 
 pub returns-in-Err-clause-complete : goal.returns-in-Err-clause-complete
 returns-in-Err-clause-complete c =
-    none_meant c.args.dumps.now c.args.options.now c.in_ok-order.order (codes_view c.as_slice.result.now) c.as_slice-2.result.now
-    c.in_ok-order.ensures.order c.in_ok-order.ensures.only (ap codes_view c.as_slice.ensures.value ∙ c.in_ok-codes.ensures.codes) c.as_slice-2.ensures.value
+    none_meant c.args.dumps.now c.args.options.now c.in_ok-order.order (codes_view c.as_slice.result.now)
+    c.in_ok-order.ensures.order c.in_ok-order.ensures.only (ap codes_view c.as_slice.ensures.value ∙ c.in_ok-codes.ensures.codes)
     c.in-Err.refusal c.in-Err.ensures.complete
 
 pub returns-clause-set : goal.returns-clause-set
 returns-clause-set c =
-    set_so c.args.dumps.now c.args.options.now c.in_ok-order.order (codes_view c.as_slice.result.now) c.as_slice-2.result.now
-    c.in_ok-order.ensures.order c.in_ok-order.ensures.only (ap codes_view c.as_slice.ensures.value ∙ c.in_ok-codes.ensures.codes) c.as_slice-2.ensures.value
+    set_so c.args.dumps.now c.args.options.now c.in_ok-order.order (codes_view c.as_slice.result.now)
+    c.in_ok-order.ensures.order c.in_ok-order.ensures.only (ap codes_view c.as_slice.ensures.value ∙ c.in_ok-codes.ensures.codes)
     c.in-Ok.loaded c.in-Ok.ensures.sound c.in-Ok.ensures.one c.in-Ok.ensures.limits

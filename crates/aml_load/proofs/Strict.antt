@@ -1,0 +1,177 @@
+-- In tables whose code outside methods may not run each declaration is sure, and each path is declared at most once.
+use Rattle.std.proofs.Common.{◌≡◌, ◌≤◌, ℕ, ◌+◌, Bool, true, false, not, ◌&&◌, cond, List, [], ◌∷◌, ◌++◌, Option, Some, None, Result, Ok, Err, is_some}
+use Rattle.std.proofs.Common.{refl, sym, ap, subst, ◌∙◌, arith, is_eq, Ordering, Less, Equal, Greater, nat_le, length}
+use Rattle.std.specs.Prelude.{IfOk}
+use Rattle.aml_names.specs.declared.segments.Seg.{Seg}
+use Rattle.aml_names.specs.declared.names.Name.{Name}
+use Rattle.aml_code.specs.declared.rows.Role.{Role}
+use Rattle.aml_code.specs.declared.rows.Role.TheVariants as roles
+use Rattle.aml_code.specs.Tree.{Tree, op, Trees, no_trees, tree_more, Parts, Tail, terms}
+use Rattle.aml_code.specs.Lawful.{last_label, field_names}
+use Rattle.aml_names.specs.Paths.{path_cmp, exact_paths}
+use Rattle.aml_space.specs.declared.kinds.Kind.{Kind}
+use Rattle.aml_space.specs.declared.kinds.Kind.TheVariants as kinds
+use Rattle.aml_space.specs.Namespace.{Entry, Body, Givens, declares, external, given, given_entries, same_path, declared_at}
+use Rattle.aml_space.specs.Runs.{AreSure, StaysAsItIs, times_at}
+use Rattle.aml_load.specs.declared.faults.LoadFault.{LoadFault}
+use Rattle.aml_load.specs.Loading.{◌>>=◌, role_of, kind_of, Where, strict, under, Listed, first_listed, with_uses, byte_of, body_start, body_len, first_label}
+use Rattle.aml_load.specs.Loading.{most_methods, methods_of, place_at, lead_at, entry_at, new_at, method_at, alias_at, external_at, units_at, declare_as}
+use Rattle.aml_load.specs.Loading.{declare, declare_inside, declare_all, declare_tables, IsLoad}
+use Rattle.aml_load.specs.Running.{IsStrict, LoadsStrictly}
+
+-- ---- entries more
+
+sure_more : (es : List Entry) (x : Entry) → AreSure es → AreSure (x ∷ []) → AreSure (es ++ x ∷ [])
+sure_more [] x h one = one
+sure_more (declares p k b sure ∷ es) x h one = (h.0, sure_more es x h.1 one)
+sure_more (external p n ∷ es) x h one = sure_more es x h one
+sure_more (given p n ∷ es) x h one = sure_more es x h one
+
+one_time : (same : Bool) (a b n : ℕ) → a ≡ b + n → cond same (a + 1) a ≡ cond same (b + 1) b + n
+one_time true a b n h = omega arith
+one_time false a b n h = h
+
+times_more : (es : List Entry) (x : Entry) (q : List Seg) → times_at (es ++ x ∷ []) q ≡ times_at es q + times_at (x ∷ []) q
+times_more [] x q = omega arith
+times_more (declares p k b sure ∷ es) x q = one_time (same_path q p) _ _ (times_at (x ∷ []) q) (times_more es x q)
+times_more (external p n ∷ es) x q = times_more es x q
+times_more (given p n ∷ es) x q = times_more es x q
+
+never : (same : Bool) (k : Kind) (o : Option Kind) (n : ℕ) → is_some (cond same (Some k) o) ≡ false → (is_some o ≡ false → n ≡ 0) → cond same (n + 1) n ≡ 0
+never true k o n h rest = absurd cc
+never false k o n h rest = rest h
+
+undeclared : (es : List Entry) (q : List Seg) → is_some (declared_at es q) ≡ false → times_at es q ≡ 0
+undeclared [] q h = refl
+undeclared (declares p k b sure ∷ es) q h = never (same_path q p) k (declared_at es q) (times_at es q) h (undeclared es q)
+undeclared (external p n ∷ es) q h = undeclared es q h
+undeclared (given p n ∷ es) q h = undeclared es q h
+
+is_equal : (o : Ordering) → is_eq o ≡ true → o ≡ Equal
+is_equal Less h = absurd cc
+is_equal Equal h = refl
+is_equal Greater h = absurd cc
+
+same_is : (p q : List Seg) → same_path p q ≡ true → p ≡ q
+same_is p q h = exact_paths p q (is_equal (path_cmp p q) h)
+
+-- ---- what holds of what is listed
+
+record Plain (es : List Entry) : Type 0 where
+  sure : AreSure es
+  once : (q : List Seg) → times_at es q ≤ 1
+
+-- a path that wasn't declared
+declared_plain : (es : List Entry) (p : List Seg) (k : Kind) (b : Option Body) → is_some (declared_at es p) ≡ false → Plain es
+    → Plain (es ++ declares p k b true ∷ [])
+declared_plain es p k b free h = record {
+  sure = sure_more es (declares p k b true) h.sure (refl, tt);
+  once = λ q. by q (same_path q p) refl;
+}
+  where
+    by : (q : List Seg) (same : Bool) → same_path q p ≡ same → times_at (es ++ declares p k b true ∷ []) q ≤ 1
+    by q true is =
+        let none : times_at es q ≡ 0 = subst (λ (r : List Seg). times_at es r ≡ 0) (sym (same_is q p is)) (undeclared es p free) in
+        let one : times_at (declares p k b true ∷ []) q ≡ 1 = ap (λ (s : Bool). cond s (0 + 1) 0) is in
+        omega (arith, times_more es (declares p k b true) q, none, one)
+    by q false is =
+        let none : times_at (declares p k b true ∷ []) q ≡ 0 = ap (λ (s : Bool). cond s (0 + 1) 0) is in
+        omega (arith, times_more es (declares p k b true) q, none, h.once q)
+
+external_plain : (es : List Entry) (p : List Seg) (n : ℕ) → Plain es → Plain (es ++ external p n ∷ [])
+external_plain es p n h = record {
+  sure = sure_more es (external p n) h.sure tt;
+  once = λ q. omega (arith, times_more es (external p n) q, h.once q);
+}
+
+-- ---- what a term adds, by its role
+
+-- what a step gives is so
+abbrev Keeps : Result Listed LoadFault → Type 0
+Keeps r = IfOk r (λ m. Plain m.entries)
+
+then_keeps : {A : Type 0} (r : Result A LoadFault) (f : A → Result Listed LoadFault) → ((x : A) → Keeps (f x)) → Keeps (r >>= f)
+then_keeps (Ok x) f h = h x
+then_keeps (Err e) f h = tt
+
+more_keeps : (r : Result Listed LoadFault) (f : Listed → Result Listed LoadFault) → Keeps r → ((m : Listed) → Plain m.entries → Keeps (f m))
+    → Keeps (r >>= f)
+more_keeps (Ok m) f first h = h m first
+more_keeps (Err e) f first h = tt
+
+unless_keeps : (b : Bool) (d : LoadFault) (r : Result Listed LoadFault) → (b ≡ false → Keeps r) → Keeps (cond b (Err d) r)
+unless_keeps true d r h = tt
+unless_keeps false d r h = h refl
+
+module _ (t : ℕ) (scope : List Seg) where
+  entry_keeps : (l : Listed) (p : List Seg) (k : Kind) (b : Option Body) → Plain l.entries → Keeps (entry_at (strict t scope) l p (declares p k b true))
+  unfolding entry_at
+  entry_keeps l p k b h = unless_keeps (is_some (declared_at l.entries p)) _ _ (λ free. declared_plain l.entries p k b free h)
+
+  new_keeps : (l : Listed) (n : Option Name) (k : List Seg → Kind) (b : List Seg → Option Body) → Plain l.entries
+      → Keeps (new_at (strict t scope) l n (λ p. declares p (k p) (b p) true))
+  unfolding new_at
+  new_keeps l n k b h = then_keeps (place_at (strict t scope) n) _ (λ p. entry_keeps l p (k p) (b p) h)
+
+  units_keep : (l : Listed) (ns : List Name) → Plain l.entries → Keeps (units_at (strict t scope) l ns)
+  unfolding units_at
+  units_keep l [] h = h
+  units_keep l (n ∷ ns) h =
+      more_keeps (new_at (strict t scope) l (Some n) (λ p. declares p kinds.Field None true)) _ (new_keeps l (Some n) (λ p. kinds.Field) (λ p. None) h)
+      (λ m. units_keep m ns)
+
+  role_keeps : (r : Role) (l : Listed) (ps : Parts) (x : Tail) (inside : Listed → Where → Result Listed LoadFault) → Plain l.entries
+      → ((m : Listed) (p : List Seg) → Plain m.entries → Keeps (inside m (strict t p))) → Keeps (declare_as r (strict t scope) l ps x inside)
+  unfolding declare_as method_at alias_at external_at
+  role_keeps (roles.Declares o) l ps x inside h more = then_keeps (place_at (strict t scope) (last_label None ps)) _ (λ p.
+      more_keeps (entry_at (strict t scope) l p (declares p (kind_of o) None true)) _ (entry_keeps l p (kind_of o) None h) (λ m. more m p))
+  role_keeps roles.Method l ps x inside h more = unless_keeps (nat_le most_methods (length (methods_of l.entries))) _ _ (λ room.
+      new_keeps l (last_label None ps) (λ p. kinds.Method _) (λ p. Some _) h)
+  role_keeps roles.Scope l ps x inside h more = then_keeps (lead_at (strict t scope) l.entries (last_label None ps) _) _ (λ p. more l p h)
+  role_keeps roles.Alias l ps x inside h more =
+      then_keeps (lead_at (strict t scope) l.entries (first_label ps) _) _ (λ q. new_keeps l (last_label None ps) (λ p. kinds.Alias _) (λ p. None) h)
+  role_keeps roles.External l ps x inside h more =
+      then_keeps (place_at (strict t scope) (last_label None ps)) _ (λ p. external_plain l.entries p (byte_of ps) h)
+  role_keeps roles.Fields l ps x inside h more = units_keep l (field_names x) h
+  role_keeps roles.Guard l ps x inside h more = more l scope h
+  role_keeps roles.Other l ps x inside h more = h
+
+-- ---- terms, tables, and the whole load
+
+module _ (t : ℕ) where
+  mutual
+    unfolding declare declare_inside declare_all
+
+    tree_keeps : (scope : List Seg) (l : Listed) (x : Tree) → Plain l.entries → Keeps (declare (strict t scope) l x)
+    tree_keeps scope l (op o w ps r) h =
+        role_keeps t scope (role_of o) (with_uses (strict t scope) l (op o w ps r)) ps r (λ l below. declare_inside below l r) h
+        (λ m p. inside_keeps p m r)
+    tree_keeps scope l _ h = h
+
+    inside_keeps : (scope : List Seg) (l : Listed) (x : Tail) → Plain l.entries → Keeps (declare_inside (strict t scope) l x)
+    inside_keeps scope l (terms xs) h = all_keep scope l xs h
+    inside_keeps scope l _ h = h
+
+    all_keep : (scope : List Seg) (l : Listed) (xs : Trees) → Plain l.entries → Keeps (declare_all (strict t scope) l xs)
+    all_keep scope l no_trees h = h
+    all_keep scope l (tree_more x xs) h =
+        more_keeps (declare (strict t scope) l x) _ (tree_keeps scope l x h) (λ m. all_keep scope m xs)
+
+tables_keep : (t : ℕ) (l : Listed) (trees : List Trees) → Plain l.entries → Keeps (declare_tables t l trees)
+unfolding declare_tables
+tables_keep t l [] h = h
+tables_keep t l (xs ∷ rest) h = more_keeps (declare_all (strict t []) l xs) _ (all_keep t [] l xs h) (λ m. tables_keep _ m rest)
+
+given_sure : (gs : Givens) → AreSure (given_entries gs)
+given_sure [] = tt
+given_sure (g ∷ gs) = given_sure gs
+
+given_times : (gs : Givens) (q : List Seg) → times_at (given_entries gs) q ≡ 0
+given_times [] q = refl
+given_times (g ∷ gs) q = given_times gs q
+
+pub loads_strictly : ((es : List Entry) → AreSure es → StaysAsItIs es) → (gs : Givens) (tables : List (List ℕ)) → LoadsStrictly gs tables
+loads_strictly stays gs tables trees m h =
+    let first : Plain (given_entries gs) = record { sure = given_sure gs; once = λ q. omega (arith, given_times gs q) } in
+    let last = subst Keeps h.declared (tables_keep 0 (first_listed gs) trees first) in
+    record { sure = last.sure; once = last.once; counts = stays m.entries last.sure }
