@@ -1,5 +1,5 @@
 -- What a set of dumps means: one listing, as plain data, and its text.
-use Rattle.std.specs.Prelude.{◌≡◌, ℕ, List, ◌∷◌, map}
+use Rattle.std.specs.Prelude.{◌≡◌, ℕ, Bool, ◌&&◌, List, ◌∷◌, map}
 use Rattle.std.specs.List.{AllZip}
 use Rattle.std.specs.FinMap as finite
 use Rattle.aml_names.specs.declared.segments.Seg.{Seg}
@@ -7,7 +7,7 @@ use Rattle.aml_code.specs.Tree.{Trees}
 use Rattle.aml_space.specs.Namespace.{Entry}
 use Rattle.aml_space.specs.Known.{Declared, declarations_in}
 use Rattle.aml_load.specs.Loading.{Listed, methods_of}
-use Rattle.aml_load.specs.Running.{LoadsTo}
+use Rattle.aml_load.specs.Tables.{LoadsTo}
 use Rattle.aml_load.specs.Views.{HoldsLoad}
 use Rattle.aml_set.specs.declared.loaded.Loaded.{Loaded}
 use Rattle.asl_text.specs.Texts.{OneBody}
@@ -37,9 +37,13 @@ order_of k = k.dsdt ∷ k.ssdts
 abbrev pub codes_of : List Dump → Meaning → List (List ℕ)
 codes_of dumps k = codes_in dumps (order_of k)
 
+-- whether a name outside the methods whose count nothing tells takes none
+abbrev pub none_unknown : Options → Bool
+none_unknown options = options.any_run && options.unknown_zero
+
 -- The tables' AML reads as these trees, which load to these entries, with these options.
 abbrev pub LoadsBy : Options → List (List ℕ) → List Trees → Listed → Type 0
-LoadsBy options codes trees m = LoadsTo options.any_run options.unknown_zero options.externals.items codes trees m
+LoadsBy options codes trees m = LoadsTo options.any_run (none_unknown options) options.externals.items codes trees m
 
 -- The dumps have this order, and the AML of its tables loads to these trees and entries. Nothing is said of the bodies
 -- of methods.

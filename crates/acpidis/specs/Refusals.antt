@@ -1,6 +1,6 @@
 -- What a refusal says of a set of dumps.
 use Rattle.std.specs.Prelude.{◌≡◌, ℕ, Bool, List, ◌∷◌, get_or, ⊤, Err, Option, None, Some, codes}
-use Rattle.aml_load.specs.Running.{StopsFor, loads_at}
+use Rattle.aml_load.specs.Tables.{StopsFor, load_at}
 use Rattle.aml_load.specs.declared.faults.LoadFault.{LoadFault}
 use Rattle.aml_load.specs.declared.faults.LoadFault.TheVariants as loads
 use Rattle.acpi_tables.specs.declared.dump.Dump.{Dump}
@@ -9,6 +9,7 @@ use Rattle.acpidis.specs.declared.options.Options.{Options}
 use Rattle.acpidis.specs.declared.refusal.Refusal.{Refusal}
 use Rattle.acpidis.specs.declared.refusal.Refusal.TheVariants as refusals
 use Rattle.acpidis.specs.Bodies.{codes_in}
+use Rattle.acpidis.specs.Meaning.{none_unknown}
 
 -- memory or a thread was refused, which says nothing of the set
 abbrev pub IsWant : Refusal → Type 0
@@ -36,8 +37,8 @@ TellsTable dumps any_sum _ = ⊤
 
 -- The load of tables with these options stops for this fault, the first that is met in loading forward.
 pub record StopsBy (options : Options) (codes : List (List ℕ)) (fault : LoadFault) : Type 0 where
-  pub stops : StopsFor options.any_run options.unknown_zero options.externals.items codes fault
-  pub first : loads_at options.any_run options.unknown_zero options.externals.items codes ≡ Err fault
+  pub stops : StopsFor options.any_run (none_unknown options) options.externals.items codes fault
+  pub first : load_at options.any_run (none_unknown options) options.externals.items codes ≡ Err fault
 
 -- That of the tables of an order stops for this fault, which names the dump of the table that it is about.
 pub record StopsInOrder (options : Options) (codes : List (List ℕ)) (order : List ℕ) (fault : LoadFault) : Type 0 where

@@ -1,6 +1,6 @@
 -- What the progress holds after one entry more.
-use Rattle.std.proofs.Common.{◌≡◌, ℕ, ◌-◌, nat_le, true, cond, List, [], ◌∷◌, ◌++◌, length, Vec, Option, Some, None, is_some, IsTrue, Result, Ok, Err, refl}
-use Rattle.std.proofs.Common.{sym, ap, subst, ◌∙◌, ◌⊎◌, inl, inr, arith, Bool, false, not, ◌&&◌}
+use Rattle.std.proofs.Common.{◌≡◌, ℕ, ◌-◌, nat_le, true, cond, List, [], ◌∷◌, ◌++◌, length, Vec, Option, Some, None, is_some, Result, Ok, Err, refl}
+use Rattle.std.proofs.Common.{sym, ap, subst, ◌∙◌, inl, inr, arith, Bool, false, not, ◌&&◌}
 use Rattle.std.proofs.lemmas.Bool.Decides.{nat_tests}
 use Rattle.std.proofs.lemmas.List.{append-nil, take_all}
 use Rattle.aml_names.specs.Names.{placed}
@@ -14,24 +14,22 @@ use Rattle.aml_code.specs.declared.tree.Tail.{Tail as CodeTail}
 use Rattle.aml_code.specs.Tree.{Tree, op, Field as CodeField, unit, Fields, no_fields, field_more}
 use Rattle.aml_code.specs.View.{node_view, parts_view, tail_view}
 use Rattle.aml_code.proofs.Views.{view-Op}
-use Rattle.std.specs.FinMap as map
 use Rattle.std.specs.Option.{ok_or}
 use Rattle.std.specs.List.{cons_option}
 use Rattle.aml_names.specs.declared.segments.Seg.{Seg}
 use Rattle.aml_space.specs.declared.kinds.Kind.{Kind}
 use Rattle.aml_space.specs.declared.kinds.Kind.TheVariants as kinds
-use Rattle.aml_space.specs.declared.faults.SpaceFault.{SpaceFault}
 use Rattle.aml_space.specs.declared.faults.SpaceFault.TheVariants as faults
 use Rattle.aml_space.specs.Namespace.{Entry, Body, declares, declared_at}
-use Rattle.aml_space.specs.Known.{Known, Declared, StandsFor, is_declared, declared_kind}
-use Rattle.aml_space.proofs.Stands.{first_said, declared_listed}
+use Rattle.aml_space.specs.Known.{StandsFor}
 use Rattle.aml_load.specs.declared.faults.LoadFault.{LoadFault}
 use Rattle.aml_load.specs.declared.faults.LoadFault.TheVariants as loads
 use Rattle.aml_set.specs.declared.methods.Method.{Method}
 use Rattle.aml_load.specs.declared.walking.Progress.{Progress}
-use Rattle.aml_load.specs.Loading.{◌>>=◌, Where, strict, Listed, plus, with_uses, term_uses, method_of, methods_of, role_of, place_at, entry_at, new_at}
+use Rattle.aml_load.specs.Loading.{◌>>=◌, Where, Listed, plus, with_uses, term_uses, method_of, methods_of, role_of, place_at, entry_at, new_at}
 use Rattle.aml_load.specs.Loading.{units_at, declare_as, declare, declare_inside}
-use Rattle.aml_load.specs.Walking.{Fails, Holds, IsFree}
+use Rattle.aml_load.specs.Tables.{Fails}
+use Rattle.aml_load.specs.Walking.{Holds, IsFree}
 
 pub methods_more : (es : List Entry) (x : Entry) → methods_of (es ++ x ∷ []) ≡ methods_of es ++ methods_of (x ∷ [])
 methods_more [] x = refl

@@ -1,11 +1,10 @@
 pub mod Holding
-pub mod Outcome
+pub mod Loads
 mod Givens
 pub mod BodyLaws
 pub mod NoSpans
 pub mod SpanLaws
 pub mod Asking
-pub mod RunLoads
 pub mod RunSpans
 pub mod Ran
 pub mod Strict

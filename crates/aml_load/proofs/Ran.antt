@@ -1,6 +1,6 @@
 -- The walk over a table whose code outside methods may run, one term after the other: what was found before, and then what is
 -- still read, is all that is read.
-use Rattle.std.proofs.Common.{◌≡◌, ℕ, zero, suc, ◌+◌, ◌-◌, ◌≤◌, ◌<◌, true, false, cond, List, [], ◌∷◌, ◌++◌, length, Result, Ok, Err, refl, sym, ap, subst}
+use Rattle.std.proofs.Common.{◌≡◌, ℕ, zero, suc, ◌+◌, ◌-◌, ◌≤◌, ◌<◌, true, false, cond, List, [], ◌∷◌, ◌++◌, Result, Ok, Err, refl, sym, ap, subst}
 use Rattle.std.proofs.Common.{◌∙◌, arith, nat_le, Bool, inl, inr, ◌⊎◌, Option, Some, None, IsTrue}
 use Rattle.std.proofs.lemmas.Bool.Decides.{nat_tests}
 use Rattle.aml_code.specs.Lawful.{next_position}
@@ -22,7 +22,7 @@ use Rattle.aml_names.specs.declared.segments.Seg.{Seg}
 use Rattle.aml_names.specs.Paths.{PathSet}
 use Rattle.aml_code.specs.Faults.{Arities}
 use Rattle.aml_space.specs.Known.{BodyView, Known, StandsFor, outlook_in}
-use Rattle.aml_space.specs.Runs.{Outlook, outlook_of, agreed_arity}
+use Rattle.aml_space.specs.Runs.{Outlook, agreed_arity}
 use Rattle.aml_space.proofs.Stands.{same_outlook}
 use Rattle.std.specs.Option.{unwrap_or}
 use Rattle.aml_load.specs.declared.faults.LoadFault.{LoadFault}
@@ -31,7 +31,7 @@ use Rattle.aml_load.specs.Running.{Front, counts_in, entered_at, run_names}
 use Rattle.aml_load.specs.declared.runner.Rest.{Rest}
 use Rattle.aml_load.specs.declared.runner.RunSite.{RunSite}
 use Rattle.aml_load.specs.Runner.{below, opens, span_inside, with_terms, front_of, RoomBy, HasRoom, HasRoomInside, IsThere}
-use Rattle.aml_load.specs.Walking.{Fails}
+use Rattle.aml_load.specs.Tables.{Fails}
 
 abbrev Answer : Type 0
 Answer = Result (Trees × Front) LoadFault

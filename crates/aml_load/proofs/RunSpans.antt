@@ -1,5 +1,5 @@
--- The methods of tables whose code outside methods may run stand in the order of the text, each once, and there aren't too
--- many: a term's own body is that of a method, and loading goes into all terms in which one can stand.
+-- The methods of tables stand in the order of the text, each once, and there aren't too many. Where the code outside methods
+-- may run, a term's own body is that of a method, and loading goes into all terms in which one can stand.
 use Rattle.std.proofs.Common.{◌≡◌, ℕ, zero, suc, Bool, true, false, not, cond, List, [], ◌∷◌, ◌++◌, length, map, Option, Some, None, Result, Ok, Err}
 use Rattle.std.proofs.Common.{refl, sym, ap, subst, ◌∙◌, ◌≤◌, arith, nat_le, ◌-◌, ◌+◌}
 use Rattle.std.specs.Prelude.{IfOk}
@@ -24,11 +24,15 @@ use Rattle.aml_load.specs.declared.faults.LoadFault.{LoadFault}
 use Rattle.aml_load.specs.Loading.{◌>>=◌, role_of, kind_of, Listed, first_listed, byte_of, body_start, body_len, first_label, methods_of, most_methods}
 use Rattle.aml_load.specs.Loading.{place_at, lead_at, entry_at, method_at, alias_at, external_at, units_at, declare_as}
 use Rattle.aml_load.specs.Spans.{Span, tree_spans, all_spans, parts_spans, tail_spans, tables_spans, method_span}
-use Rattle.aml_load.specs.Running.{Front, table_front, asked, opened_at, object_at, scope_at, enter_as, entered_at, run_names, ReadTables, RunsInTextOrder}
+use Rattle.aml_load.specs.Running.{Front, table_front, asked, opened_at, object_at, scope_at, enter_as, entered_at, run_names}
+use Rattle.aml_load.specs.Tables.{ReadsOne, ReadTables, LoadsTo, LoadsInTextOrder}
 use Rattle.aml_load.proofs.Givens.{no_methods}
 use Rattle.aml_load.proofs.NoSpans.{parts_none, all_none, tail_none}
 use Rattle.aml_load.proofs.SpanLaws.{role_is, one_span, Adds, nothing_more, then_adds, plain_adds, method_adds, GivesMore}
-use Rattle.aml_load.proofs.SpanLaws.{unless_adds, after_adds, entry_adds, new_adds, units_add}
+use Rattle.aml_load.proofs.SpanLaws.{unless_adds, after_adds, entry_adds, new_adds, units_add, module_adds}
+use Rattle.std.proofs.Common.{slice_get}
+use Rattle.std.proofs.lemmas.List.{length-map}
+use Rattle.std.proofs.lemmas.Option.{slice_get-map}
 
 -- ---- what the rows say of terms of such tables
 
@@ -206,18 +210,38 @@ module _ (t : ℕ) (code : List ℕ) where
 
 -- ---- the tables, and the whole load
 
-tables_add : (t : ℕ) (l : Listed) (codes : List (List ℕ)) (trees : List Trees) (m : Listed) → ReadTables t l codes trees m
-    → Adds l.entries m.entries (tables_spans t trees)
-tables_add t l [] [] m read = subst (λ (k : Listed). Adds l.entries k.entries []) read (nothing_more l.entries)
-tables_add t l (c ∷ codes) [] m read = absurd read
-tables_add t l [] (xs ∷ trees) m read = absurd read
-tables_add t l (c ∷ codes) (xs ∷ trees) m (k, reads, read) =
-    then_adds l.entries k.listed.entries m.entries (all_spans t xs) (tables_spans (suc t) trees)
-    (terms_add t c 512 positions.RunTerm 0 (length c) (table_front t l) xs k refl reads) (tables_add (suc t) k.listed codes trees m read)
+table_adds : (any : Bool) (t : ℕ) (l : Listed) (code : List ℕ) (xs : Trees) (m : Listed) → ReadsOne any t l code xs m
+    → Adds l.entries m.entries (all_spans t xs)
+table_adds false t l code xs m (law, is) = module_adds t l code xs m law is
+table_adds true t l code xs m (k, reads, same) =
+    subst (λ (n : Listed). Adds l.entries n.entries (all_spans t xs)) same
+    (terms_add t code 512 positions.RunTerm 0 (length code) (table_front t l) xs k refl reads)
 
-pub runs_in_text_order : (z : Bool) (gs : Givens) (tables : List (List ℕ)) → RunsInTextOrder z gs tables
-runs_in_text_order z gs tables trees m h =
-    let all = tables_add 0 (first_listed gs) tables trees m h.read in (
-      all.grow ∙ ap (λ ms. map method_span ms ++ tables_spans 0 trees) (no_methods gs),
-      all.few (subst (λ ms. length ms ≤ most_methods) (sym (no_methods gs)) (omega arith)),
-    )
+tables_add : (any : Bool) (t : ℕ) (l : Listed) (codes : List (List ℕ)) (trees : List Trees) (m : Listed) → ReadTables any t l codes trees m
+    → Adds l.entries m.entries (tables_spans t trees)
+tables_add any t l [] [] m read = subst (λ (k : Listed). Adds l.entries k.entries []) read (nothing_more l.entries)
+tables_add any t l (c ∷ codes) [] m read = absurd read
+tables_add any t l [] (xs ∷ trees) m read = absurd read
+tables_add any t l (c ∷ codes) (xs ∷ trees) m (k, reads, read) =
+    then_adds l.entries k.entries m.entries (all_spans t xs) (tables_spans (suc t) trees) (table_adds any t l c xs k reads)
+    (tables_add any (suc t) k codes trees m read)
+
+module _ (any z : Bool) (gs : Givens) (tables : List (List ℕ)) where
+  -- The methods that tables load to are those whose bodies stand in the trees, in load order and in the order of the text,
+  -- and there aren't too many.
+  pub loads_in_text_order : LoadsInTextOrder any z gs tables
+  loads_in_text_order trees m h =
+      let all = tables_add any 0 (first_listed gs) tables trees m h.read in (
+        all.grow ∙ ap (λ ms. map method_span ms ++ tables_spans 0 trees) (no_methods gs),
+        all.few (subst (λ ms. length ms ≤ most_methods) (sym (no_methods gs)) (omega arith)),
+      )
+
+  -- there are as many methods as bodies
+  pub as_many : (trees : List Trees) (m : Listed) → LoadsTo any z gs tables trees m → length (methods_of m.entries) ≡ length (tables_spans 0 trees)
+  as_many trees m h = sym (length-map (methods_of m.entries) method_span) ∙ ap length (loads_in_text_order trees m h).0
+
+  -- the method with a number is that of the body with this number
+  pub body_of_number : (trees : List Trees) (m : Listed) (i : ℕ) → LoadsTo any z gs tables trees m
+      → slice_get (tables_spans 0 trees) i ≡ option_map method_span (slice_get (methods_of m.entries) i)
+  body_of_number trees m i h =
+      ap (λ spans. slice_get spans i) (sym (loads_in_text_order trees m h).0) ∙ slice_get-map method_span (methods_of m.entries) i

@@ -1,14 +1,13 @@
--- The methods of the entries stand in the order of the text, each once, and there aren't too many: where a method can't
--- stand, there is no body, and loading goes into all terms in which one can stand.
+-- The methods that a table declares whose code outside methods may not run stand in the order of the text, each once, and
+-- there don't become too many: where a method can't stand, there is no body, and loading goes into all terms in which one
+-- can stand.
 use Rattle.std.proofs.Common.{◌≡◌, ℕ, zero, suc, Bool, true, false, not, ◌&&◌, List, [], ◌∷◌, ◌++◌, length, map, Option, Some, None, refl, sym, ap, subst, ◌∙◌}
-use Rattle.std.proofs.Common.{append_assoc, slice_get, Result, Ok, Err, is_some, cond, nat_le, ◌≤◌, ◌<◌, arith}
+use Rattle.std.proofs.Common.{append_assoc, Result, Ok, Err, is_some, cond, nat_le, ◌≤◌, ◌<◌, arith}
 use Rattle.std.specs.Prelude.{IfOk}
 use Rattle.std.specs.FinSet as set
-use Rattle.std.specs.List.{AllZip}
 use Rattle.std.specs.Option.{option_map, unwrap_or}
 use Rattle.std.proofs.lemmas.Bool.Decides.{nat_tests}
-use Rattle.std.proofs.lemmas.List.{append-nil, map-append, length-append, length-map}
-use Rattle.std.proofs.lemmas.Option.{slice_get-map}
+use Rattle.std.proofs.lemmas.List.{append-nil, map-append, length-append}
 use Rattle.aml_names.specs.declared.segments.Seg.{Seg}
 use Rattle.aml_names.specs.declared.names.Name.{Name}
 use Rattle.aml_names.specs.Paths.{PathSet}
@@ -27,13 +26,12 @@ use Rattle.aml_code.specs.Lawful.{no_arguments}
 use Rattle.aml_code.proofs.RowFacts.{and_left, and_right, rows_say}
 use Rattle.aml_parse.specs.Reading.{takes_names}
 use Rattle.aml_space.specs.declared.kinds.Kind.TheVariants as kinds
-use Rattle.aml_space.specs.Namespace.{Entry, Givens, declares, external, declared_at, given_entries}
+use Rattle.aml_space.specs.Namespace.{Entry, declares, external, declared_at}
 use Rattle.aml_load.specs.declared.faults.LoadFault.{LoadFault}
-use Rattle.aml_load.specs.Loading.{◌>>=◌, role_of, kind_of, Where, strict, under, Listed, with_uses, first_listed, first_label, byte_of, body_start, body_len, method_entry}
+use Rattle.aml_load.specs.Loading.{◌>>=◌, role_of, kind_of, Where, strict, under, Listed, with_uses, first_label, byte_of, body_start, body_len, method_entry}
 use Rattle.aml_load.specs.Loading.{methods_of, most_methods, place_at, lead_at, entry_at, new_at, method_at, alias_at, external_at, units_at, declare_as}
-use Rattle.aml_load.specs.Loading.{declare, declare_inside, declare_all, declare_tables, IsLoad}
-use Rattle.aml_load.specs.Spans.{Span, method_span, tree_spans, all_spans, parts_spans, tail_spans, fields_spans, tables_spans, InTextOrder}
-use Rattle.aml_load.proofs.Givens.{no_methods}
+use Rattle.aml_load.specs.Loading.{declare, declare_inside, declare_all}
+use Rattle.aml_load.specs.Spans.{Span, method_span, tree_spans, all_spans, parts_spans, tail_spans, fields_spans}
 use Rattle.aml_load.proofs.Holding.{methods_more}
 use Rattle.aml_load.proofs.NoSpans.{terms_tail, body_tail, parts_none, all_none, tail_none, elements_none, fields_tail_none}
 
@@ -281,39 +279,10 @@ module _ (s : Setting) (t : ℕ) where
         more_adds (declare (strict t scope) l x) _ l (tree_spans t x) (all_spans t xs) (tree_adds levels p ls l scope x h law.0)
         (λ k. all_add levels (next_position p x) (after s.scope ls x) k scope xs (next_in_table p x h) law.1)
 
--- ---- the tables, from any list on
+-- ---- a table, from any list on
 
-tables_add : (t : ℕ) (l : Listed) (codes : List (List ℕ)) (trees : List Trees) → AllZip ReadsModule codes trees
-    → GivesMore (declare_tables t l trees) l (tables_spans t trees)
-unfolding declare_tables
-tables_add t l [] [] read = nothing_more l.entries
-tables_add t l (c ∷ codes) [] read = absurd read
-tables_add t l [] (xs ∷ trees) read = absurd read
-tables_add t l (c ∷ codes) (xs ∷ trees) read =
-    more_adds (declare_all (strict t []) l xs) _ l (all_spans t xs) (tables_spans (suc t) trees)
-    (all_add (setting_of no_arguments None c) t 512 positions.ModuleTerm set.empty l [] xs refl (read.0).lawful) (λ k. tables_add (suc t) k codes trees read.1)
-
-load_adds : (gs : Givens) (tables : List (List ℕ)) (trees : List Trees) (m : Listed) → IsLoad gs tables trees m
-    → Adds (given_entries gs) m.entries (tables_spans 0 trees)
-load_adds gs tables trees m h =
-    subst (λ r. GivesMore r (first_listed gs) (tables_spans 0 trees)) h.declared (tables_add 0 (first_listed gs) tables trees h.read)
-
--- The methods that tables load to are those whose bodies stand in the trees, in load order and in the order of the text.
-pub in_text_order : (gs : Givens) (tables : List (List ℕ)) (trees : List Trees) (m : Listed) → IsLoad gs tables trees m → InTextOrder trees m
-in_text_order gs tables trees m h = (load_adds gs tables trees m h).grow ∙ ap (λ ms. map method_span ms ++ tables_spans 0 trees) (no_methods gs)
-
--- there aren't too many
-pub few_methods : (gs : Givens) (tables : List (List ℕ)) (trees : List Trees) (m : Listed) → IsLoad gs tables trees m
-    → length (methods_of m.entries) ≤ most_methods
-few_methods gs tables trees m h = (load_adds gs tables trees m h).few (subst (λ ms. length ms ≤ most_methods) (sym (no_methods gs)) (omega arith))
-
--- there are as many methods as bodies
-pub as_many : (gs : Givens) (tables : List (List ℕ)) (trees : List Trees) (m : Listed) → IsLoad gs tables trees m
-    → length (methods_of m.entries) ≡ length (tables_spans 0 trees)
-as_many gs tables trees m h = sym (length-map (methods_of m.entries) method_span) ∙ ap length (in_text_order gs tables trees m h)
-
--- the method with a number is that of the body with this number
-pub body_of_number : (gs : Givens) (tables : List (List ℕ)) (trees : List Trees) (m : Listed) (i : ℕ)
-    → IsLoad gs tables trees m → slice_get (tables_spans 0 trees) i ≡ option_map method_span (slice_get (methods_of m.entries) i)
-body_of_number gs tables trees m i h =
-    ap (λ spans. slice_get spans i) (sym (in_text_order gs tables trees m h)) ∙ slice_get-map method_span (methods_of m.entries) i
+pub module_adds : (t : ℕ) (l : Listed) (code : List ℕ) (xs : Trees) (m : Listed) → ReadsModule code xs → declare_all (strict t []) l xs ≡ Ok m
+    → Adds l.entries m.entries (all_spans t xs)
+module_adds t l code xs m law is =
+    subst (λ r. GivesMore r l (all_spans t xs)) is
+    (all_add (setting_of no_arguments None code) t 512 positions.ModuleTerm set.empty l [] xs refl law.lawful)

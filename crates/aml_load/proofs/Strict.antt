@@ -1,6 +1,6 @@
 -- In tables whose code outside methods may not run each declaration is sure, and each path is declared at most once.
-use Rattle.std.proofs.Common.{◌≡◌, ◌≤◌, ℕ, ◌+◌, Bool, true, false, not, ◌&&◌, cond, List, [], ◌∷◌, ◌++◌, Option, Some, None, Result, Ok, Err, is_some}
-use Rattle.std.proofs.Common.{refl, sym, ap, subst, ◌∙◌, arith, is_eq, Ordering, Less, Equal, Greater, nat_le, length}
+use Rattle.std.proofs.Common.{◌≡◌, ◌≤◌, ℕ, suc, ◌+◌, Bool, true, false, cond, List, [], ◌∷◌, ◌++◌, Option, Some, None, Result, Ok, Err, is_some}
+use Rattle.std.proofs.Common.{refl, sym, ap, subst, arith, is_eq, Ordering, Less, Equal, Greater, nat_le, length}
 use Rattle.std.specs.Prelude.{IfOk}
 use Rattle.aml_names.specs.declared.segments.Seg.{Seg}
 use Rattle.aml_names.specs.declared.names.Name.{Name}
@@ -14,10 +14,10 @@ use Rattle.aml_space.specs.declared.kinds.Kind.TheVariants as kinds
 use Rattle.aml_space.specs.Namespace.{Entry, Body, Givens, declares, external, given, given_entries, same_path, declared_at}
 use Rattle.aml_space.specs.Runs.{AreSure, StaysAsItIs, times_at}
 use Rattle.aml_load.specs.declared.faults.LoadFault.{LoadFault}
-use Rattle.aml_load.specs.Loading.{◌>>=◌, role_of, kind_of, Where, strict, under, Listed, first_listed, with_uses, byte_of, body_start, body_len, first_label}
+use Rattle.aml_load.specs.Loading.{◌>>=◌, role_of, kind_of, Where, strict, Listed, first_listed, with_uses, byte_of, first_label}
 use Rattle.aml_load.specs.Loading.{most_methods, methods_of, place_at, lead_at, entry_at, new_at, method_at, alias_at, external_at, units_at, declare_as}
-use Rattle.aml_load.specs.Loading.{declare, declare_inside, declare_all, declare_tables, IsLoad}
-use Rattle.aml_load.specs.Running.{IsStrict, LoadsStrictly}
+use Rattle.aml_load.specs.Loading.{declare, declare_inside, declare_all}
+use Rattle.aml_load.specs.Tables.{ReadTables, LoadsStrictly}
 
 -- ---- entries more
 
@@ -157,10 +157,13 @@ module _ (t : ℕ) where
     all_keep scope l (tree_more x xs) h =
         more_keeps (declare (strict t scope) l x) _ (tree_keeps scope l x h) (λ m. all_keep scope m xs)
 
-tables_keep : (t : ℕ) (l : Listed) (trees : List Trees) → Plain l.entries → Keeps (declare_tables t l trees)
-unfolding declare_tables
-tables_keep t l [] h = h
-tables_keep t l (xs ∷ rest) h = more_keeps (declare_all (strict t []) l xs) _ (all_keep t [] l xs h) (λ m. tables_keep _ m rest)
+tables_keep : (t : ℕ) (l : Listed) (codes : List (List ℕ)) (trees : List Trees) (m : Listed) → Plain l.entries → ReadTables false t l codes trees m
+    → Plain m.entries
+tables_keep t l [] [] m h read = subst (λ (k : Listed). Plain k.entries) read h
+tables_keep t l [] (xs ∷ rest) m h read = absurd read
+tables_keep t l (c ∷ codes) [] m h read = absurd read
+tables_keep t l (c ∷ codes) (xs ∷ rest) m h (k, (law, is), read) =
+    tables_keep (suc t) k codes rest m (subst Keeps is (all_keep t [] l xs h)) read
 
 given_sure : (gs : Givens) → AreSure (given_entries gs)
 given_sure [] = tt
@@ -170,8 +173,8 @@ given_times : (gs : Givens) (q : List Seg) → times_at (given_entries gs) q ≡
 given_times [] q = refl
 given_times (g ∷ gs) q = given_times gs q
 
-pub loads_strictly : ((es : List Entry) → AreSure es → StaysAsItIs es) → (gs : Givens) (tables : List (List ℕ)) → LoadsStrictly gs tables
-loads_strictly stays gs tables trees m h =
+pub loads_strictly : ((es : List Entry) → AreSure es → StaysAsItIs es) → (z : Bool) (gs : Givens) (tables : List (List ℕ)) → LoadsStrictly z gs tables
+loads_strictly stays z gs tables trees m h =
     let first : Plain (given_entries gs) = record { sure = given_sure gs; once = λ q. omega (arith, given_times gs q) } in
-    let last = subst Keeps h.declared (tables_keep 0 (first_listed gs) trees first) in
+    let last = tables_keep 0 (first_listed gs) tables trees m first h.read in
     record { sure = last.sure; once = last.once; counts = stays m.entries last.sure }

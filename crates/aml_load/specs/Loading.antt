@@ -1,7 +1,7 @@
 -- What the terms of tables declare, and where a load stops (ACPI 6.5, 5.2.11, 5.3, 20.2.5.1 and 20.2.5.2).
-use Rattle.std.specs.Prelude.{ℕ, Option, Some, None, Bool, true, false, List, [], ◌∷◌, ◌++◌, ◌≡◌, suc, ◌%◌, ◌⊎◌, length}
+use Rattle.std.specs.Prelude.{ℕ, Option, Some, None, Bool, true, false, List, [], ◌∷◌, ◌++◌, ◌≡◌, ◌%◌, length}
 use Rattle.std.specs.Prelude.{Result, Ok, Err, is_some, nat_le, if◌then◌else◌, cond, not, ◌&&◌, ◌||◌, ◌==◌}
-use Rattle.std.specs.List.{AllZip, filter_map}
+use Rattle.std.specs.List.{filter_map}
 use Rattle.std.specs.Option.{unwrap_or, option_map, option_and_then, ok_or}
 use Rattle.std.specs.FinSet as set
 use Rattle.aml_names.specs.declared.faults.CodeFault.{CodeFault}
@@ -9,7 +9,6 @@ use Rattle.aml_names.specs.declared.faults.CodeFault.TheVariants as codes
 use Rattle.aml_names.specs.declared.segments.Seg.{Seg}
 use Rattle.aml_names.specs.declared.names.Name.{Name}
 use Rattle.aml_names.specs.Names.{placed}
-use Rattle.aml_names.specs.Paths.{PathSet}
 use Rattle.aml_code.specs.declared.rows.Group.{Group}
 use Rattle.aml_code.specs.declared.rows.Group.TheVariants as groups
 use Rattle.aml_code.specs.declared.rows.Object.{Object}
@@ -309,27 +308,17 @@ unfoldable mutual
     k ← declare site l x
     declare_all site k xs
 
--- the terms of the tables from number t on, each table from the root
-unfoldable pub declare_tables : ℕ → Listed → List Trees → Result Listed LoadFault
-declare_tables t l [] = Ok l
-declare_tables t l (ts ∷ rest) = do
-  k ← declare_all (strict t []) l ts
-  declare_tables (suc t) k rest
-
--- ---- The whole load.
+-- ---- The names outside methods, once all entries are there.
 
 abbrev pub is_count : ℕ → Option ℕ → Bool
 is_count n None = false
 is_count n (Some m) = m == n
 
--- how many arguments a name takes in a scope; where the code outside methods may run, whatever a run of it does
-abbrev pub arity_in : Bool → List Entry → Bool → List Seg → PathSet → Name → Option ℕ
-arity_in any_run es = agreed_arity (outlook_of es)
-
 -- How many arguments a name takes that stands outside methods, once all entries are there. In a declaration a name that
 -- nothing knows takes none.
-abbrev pub use_count : Bool → Bool → List Entry → Use → Option ℕ
-use_count any_run unknown_zero es u = arity_in any_run es (unknown_zero || u.declaring) u.scope set.empty u.name
+abbrev pub use_count : Bool → List Entry → Use → Option ℕ
+use_count unknown_zero es u =
+    agreed_arity (outlook_of es) (unknown_zero || u.declaring) u.scope set.empty u.name
 
 -- the fault of a call in table t, by the first path that its name may mean, if there is one
 abbrev pub call_of : ℕ → Option (List Seg) → LoadFault
@@ -343,16 +332,10 @@ call_fault true u = call_of u.table (placed u.scope u.name)
 -- each takes as many as were read with it; or the fault of the first that doesn't
 unfoldable pub uses_at : Bool → Bool → List Entry → List Use → Result (Unit {0}) LoadFault
 uses_at any_run unknown_zero es [] = Ok tt
-uses_at any_run unknown_zero es (u ∷ us) = if is_count u.args (use_count any_run unknown_zero es u)
+uses_at any_run unknown_zero es (u ∷ us) = if is_count u.args (use_count unknown_zero es u)
     then uses_at any_run unknown_zero es us else Err (call_fault any_run u)
 
--- The tables' AML reads as these trees, and these load to these entries, where the user gives these counts.
-pub record IsLoad (gs : Givens) (tables : List (List ℕ)) (trees : List Trees) (m : Listed) : Type 0 where
-  pub read : AllZip ReadsModule tables trees
-  pub declared : declare_tables 0 (first_listed gs) trees ≡ Ok m
-  pub uncalled : uses_at false false m.entries m.uses ≡ Ok tt
-
--- ---- Where the load of tables stops, and why.
+-- ---- AML that can't be read.
 
 -- a fault of the AML of table t
 abbrev pub code_fault : ℕ → CodeFault → LoadFault
@@ -363,21 +346,3 @@ code_fault t f = loads.Code t f
 abbrev pub Unread : ℕ → List ℕ → LoadFault → Type 0
 Unread t code e = (f : CodeFault) × StandsAt no_arguments code f × ((ts : Trees) → ReadsModule code ts → ⊥)
     × (e ≡ code_fault t f)
-
--- table t can't be read, or what its terms declare stops
-abbrev pub StopsTable : ℕ → Listed → List ℕ → LoadFault → Type 0
-StopsTable t l code e = Unread t code e
-    ⊎ ((ts : Trees) × ReadsModule code ts × (declare_all (strict t []) l ts ≡ Err e))
-
-abbrev pub StopsTables : ℕ → Listed → List (List ℕ) → LoadFault → Type 0
-StopsTables t l [] e = ⊥
-StopsTables t l (c ∷ cs) e = StopsTable t l c e ⊎ ((ts : Trees) × ReadsModule c ts
-    × ((k : Listed) × (declare_all (strict t []) l ts ≡ Ok k) × StopsTables (suc t) k cs e))
-
--- The load of these tables, where the user gives these counts, stops for this reason: at a table, or behind all of them
--- at a name that takes arguments.
-abbrev pub StopsLoad : Givens → List (List ℕ) → LoadFault → Type 0
-StopsLoad gs tables e = StopsTables 0 (first_listed gs) tables e
-    ⊎ ((trees : List Trees) × AllZip ReadsModule tables trees
-    × ((m : Listed) × (declare_tables 0 (first_listed gs) trees ≡ Ok m)
-    × (uses_at false false m.entries m.uses ≡ Err e)))

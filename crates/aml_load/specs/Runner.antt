@@ -14,7 +14,7 @@ use Rattle.aml_code.specs.View.{node_view, nodes_view}
 use Rattle.aml_code.specs.declared.rows.Position.{Position}
 use Rattle.aml_code.specs.declared.tree.Node.{Node}
 use Rattle.aml_parse.specs.Reading.{step_at}
-use Rattle.aml_parse.specs.Running.{SpanReader, has_terms, is_block, in_step, opened_at, run_term_at, run_terms_at}
+use Rattle.aml_parse.specs.Running.{SpanReader, has_terms, is_block, in_step, opened_at, run_term_at}
 use Rattle.aml_parse.specs.Running.{run_span_at, run_table_at}
 use Rattle.aml_load.specs.declared.faults.LoadFault.{LoadFault}
 use Rattle.aml_load.specs.declared.faults.LoadFault.TheVariants as loads
@@ -25,12 +25,10 @@ use Rattle.aml_load.specs.declared.walking.Progress.{Progress}
 use Rattle.aml_code.specs.declared.rows.Role.{Role}
 use Rattle.aml_code.specs.declared.rows.Role.TheVariants as roles
 use Rattle.aml_load.specs.Loading.{Where, Listed, with_uses}
-use Rattle.aml_load.specs.Running.{Front, table_front, counts_in, entered_at, run_names, run_load_at}
+use Rattle.aml_load.specs.Running.{Front, table_front, counts_in, entered_at, run_names}
 use Rattle.std.specs.Prelude.{[]}
-use Rattle.aml_space.specs.Namespace.{Givens}
-use Rattle.aml_set.specs.declared.loaded.Loaded.{Loaded}
-use Rattle.aml_load.specs.Views.{HoldsLoad}
-use Rattle.aml_load.specs.Walking.{Gives, Holds, Fails}
+use Rattle.aml_load.specs.Tables.{Fails}
+use Rattle.aml_load.specs.Walking.{Gives, Holds}
 
 -- ---- blocks
 
@@ -163,9 +161,3 @@ abbrev pub RunsTable : Progress → Progress → ℕ → List ℕ → Result (Ve
 RunsTable old new t code answer = (l : Listed) → Holds old l →
     AllRan new (record { table = t; scope = []; sure = true }) answer
     (run_table_at (run_names t) code (table_front t l))
-
--- What a load of such tables answered is what loading them forward gives, unless memory was refused.
-abbrev pub GivesRunLoad : Bool → Givens → Result Loaded LoadFault → List (List ℕ) → Type 0
-GivesRunLoad z gs (Ok x) codes =
-    (trees : List Trees) × (m : Listed) × HoldsLoad x codes trees m × (run_load_at z gs codes ≡ Ok (trees, m))
-GivesRunLoad z gs (Err e) codes = Fails e (run_load_at z gs codes)

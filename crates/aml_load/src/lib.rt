@@ -6,10 +6,10 @@
 
 mod bodies;
 mod faults;
+mod laws;
 mod loading;
 mod roles;
 mod runner;
-mod running;
 mod scopes;
 mod used;
 mod uses;
@@ -17,5 +17,5 @@ mod walking;
 
 pub use bodies::read_body;
 pub use faults::LoadFault;
+pub use laws::{loads_forward, loads_in_text_order, loads_one_way, loads_strictly};
 pub use loading::{load, load_any_run};
-pub use running::{loads_forward, loads_one_way, loads_strictly, runs_in_text_order};

@@ -1,15 +1,14 @@
 //! The load of tables in their order.
-ghost use Rattle.std.specs.Prelude.{◌≡◌, ◌⊎◌, false, [], List, IfOk, IfErr, length, ◌≤◌};
+ghost use Rattle.std.specs.Prelude.{◌≡◌, ◌⊎◌, true, false, [], List, IfOk, IfErr, length, ◌≤◌};
 ghost use Rattle.aml_code.specs.Tree.{Trees};
 ghost use Rattle.aml_code.specs.View.{nodes_view};
 ghost use Rattle.aml_space.specs.Namespace.{given_entries};
 ghost use Rattle.aml_space.specs.Known.{StandsFor};
-ghost use Rattle.aml_load.specs.Loading.{Listed, first_listed, IsLoad, StopsLoad, most_methods, use_count, is_count, call_fault, uses_at};
-ghost use Rattle.aml_load.specs.Walking.{table_at, tables_at, GivesLoad, IsCode, AreCodes, Holds, Gives, TableWalked};
+ghost use Rattle.aml_load.specs.Loading.{Listed, first_listed, most_methods, use_count, is_count, call_fault, uses_at};
+ghost use Rattle.aml_load.specs.Tables.{LoadsTo, StopsFor, table_at, tables_at, GivesLoad, IsCode, AreCodes};
+ghost use Rattle.aml_load.specs.Walking.{Holds, Gives, TableWalked};
 ghost use Rattle.aml_set.specs.Views.{codes_view, trees_view, AreShort};
 ghost use Rattle.aml_load.specs.Views.{HoldsLoad};
-ghost use Rattle.aml_load.specs.Running.{IsRunLoad, StopsRunLoad, run_tables_at};
-ghost use Rattle.aml_load.specs.Runner.{GivesRunLoad};
 
 use crate::faults::LoadFault;
 use crate::scopes::SharedPath;
@@ -23,12 +22,16 @@ use aml_set::Loaded;
 use aml_space::{BodyScope, Space};
 use std::alloc::Global;
 
-/// Reads a table, and declares what it declares.
-#[tactic(auto, unfolding(crate::specs::Walking::table_at))]
-fn load_table(progress: &mut Progress, table: usize, code: &[u8]) -> Result<Vec<Node>, LoadFault>
+/// Reads a table whole, and then declares what it declares.
+#[tactic(auto, unfolding(crate::specs::Tables::table_at))]
+fn load_whole_table(
+    progress: &mut Progress,
+    table: usize,
+    code: &[u8],
+) -> Result<Vec<Node>, LoadFault>
     requires { length code.now ≤ 16777216 }
     ensures { (l : Listed) → Holds progress.old l →
-        TableWalked (λ x. nodes_view x.items) progress.new result (table_at table l code.now) }
+        TableWalked (λ x. nodes_view x.items) progress.new result (table_at false table l code.now) }
 {
     let terms = match parse_module(progress.alloc, code) {
         Ok(terms) => terms,
@@ -47,15 +50,37 @@ fn load_table(progress: &mut Progress, table: usize, code: &[u8]) -> Result<Vec<
     Ok(terms)
 }
 
-#[tactic(auto, unfolding(crate::specs::Walking::tables_at))]
-fn load_tables(progress: &mut Progress, tables: &[&[u8]]) -> Result<Vec<Vec<Node>>, LoadFault>
+/// Reads a table, and declares what it declares.
+fn load_table(
+    progress: &mut Progress,
+    any_run: bool,
+    table: usize,
+    code: &[u8],
+) -> Result<Vec<Node>, LoadFault>
+    requires { length code.now ≤ 16777216 }
+    ensures { (l : Listed) → Holds progress.old l →
+        TableWalked (λ x. nodes_view x.items) progress.new result (table_at any_run table l code.now) }
+{
+    if any_run {
+        progress.run_table(table, code)
+    } else {
+        load_whole_table(progress, table, code)
+    }
+}
+
+#[tactic(auto, unfolding(crate::specs::Tables::tables_at))]
+fn load_tables(
+    progress: &mut Progress,
+    any_run: bool,
+    tables: &[&[u8]],
+) -> Result<Vec<Vec<Node>>, LoadFault>
     requires { AreShort (codes_view tables.now) }
     ensures { (l : Listed) → Holds progress.old l →
-        TableWalked (λ x. trees_view x.items) progress.new result (tables_at 0 [] l (codes_view tables.now)) }
+        TableWalked (λ x. trees_view x.items) progress.new result (tables_at any_run 0 [] l (codes_view tables.now)) }
 {
     let mut trees = Vec::new(progress.alloc);
     for table in 0..tables.len() {
-        let terms = load_table(progress, table, tables[table])?;
+        let terms = load_table(progress, any_run, table, tables[table])?;
         trees.push(terms)?;
     }
     Ok(trees)
@@ -65,12 +90,11 @@ fn load_tables(progress: &mut Progress, tables: &[&[u8]]) -> Result<Vec<Vec<Node
 fn count_of(
     alloc: Global,
     space: &Space,
-    any_run: bool,
     unknown_zero: bool,
     used: &Use,
 ) -> Result<Option<u8>, NoMemory>
     ensures { (l : Listed) → StandsFor space.now l.entries →
-        IfOk result (λ n. n ≡ use_count any_run unknown_zero l.entries used.now) }
+        IfOk result (λ n. n ≡ use_count unknown_zero l.entries used.now) }
 {
     let scope = BodyScope {
         space,
@@ -117,10 +141,7 @@ fn check_uses(
         Gives (λ x. x) result (uses_at any_run unknown_zero l.entries uses.now) }
 {
     for used in uses {
-        if !is_count(
-            used.args,
-            count_of(alloc, space, any_run, unknown_zero, used)?,
-        ) {
+        if !is_count(used.args, count_of(alloc, space, unknown_zero, used)?) {
             return Err(call_fault(alloc, any_run, used)?);
         }
     }
@@ -150,66 +171,25 @@ fn first_progress(alloc: Global, givens: &[(Path, u8)]) -> Result<Progress, NoMe
     })
 }
 
-#[tactic(auto, unfolding(crate::specs::Walking::load_at))]
-fn load_whole<'a>(
+#[tactic(auto, unfolding(crate::specs::Tables::load_at))]
+fn load_all<'a>(
     alloc: Global,
     tables: &[&'a [u8]],
     givens: &[(Path, u8)],
-) -> Result<Loaded<'a>, LoadFault>
-    requires { AreShort (codes_view tables.now) }
-    ensures { GivesLoad givens.now result (codes_view tables.now) }
-{
-    let mut kept = Vec::new(alloc);
-    kept.extend_from_slice(tables)?;
-    let mut progress = first_progress(alloc, givens)?;
-    let trees = load_tables(&mut progress, tables)?;
-    check_uses(
-        alloc,
-        &progress.space,
-        false,
-        false,
-        progress.uses.as_slice(),
-    )?;
-    Ok(Loaded {
-        tables: kept,
-        trees,
-        space: progress.space,
-        methods: progress.methods,
-    })
-}
-
-#[tactic(auto, unfolding(crate::specs::Running::run_tables_at))]
-fn load_run_tables(progress: &mut Progress, tables: &[&[u8]]) -> Result<Vec<Vec<Node>>, LoadFault>
-    requires { AreShort (codes_view tables.now) }
-    ensures { (l : Listed) → Holds progress.old l →
-        TableWalked (λ x. trees_view x.items) progress.new result (run_tables_at 0 [] l (codes_view tables.now)) }
-{
-    let mut trees = Vec::new(progress.alloc);
-    for table in 0..tables.len() {
-        let terms = progress.run_table(table, tables[table])?;
-        trees.push(terms)?;
-    }
-    Ok(trees)
-}
-
-#[tactic(auto, unfolding(crate::specs::Running::run_load_at))]
-fn load_run_whole<'a>(
-    alloc: Global,
-    tables: &[&'a [u8]],
-    givens: &[(Path, u8)],
+    any_run: bool,
     unknown_zero: bool,
 ) -> Result<Loaded<'a>, LoadFault>
     requires { AreShort (codes_view tables.now) }
-    ensures { GivesRunLoad unknown_zero givens.now result (codes_view tables.now) }
+    ensures { GivesLoad any_run unknown_zero givens.now result (codes_view tables.now) }
 {
     let mut kept = Vec::new(alloc);
     kept.extend_from_slice(tables)?;
     let mut progress = first_progress(alloc, givens)?;
-    let trees = load_run_tables(&mut progress, tables)?;
+    let trees = load_tables(&mut progress, any_run, tables)?;
     check_uses(
         alloc,
         &progress.space,
-        true,
+        any_run,
         unknown_zero,
         progress.uses.as_slice(),
     )?;
@@ -254,24 +234,25 @@ pub fn load<'a>(
 
     // The tables' AML reads as the trees, and these load to entries whose namespace and methods are the answer's.
     ensures sound { IfOk result (λ x. (trees : List Trees) × (m : Listed) ×
-        IsLoad givens.now (codes_view tables.now) trees m ×
+        LoadsTo false false givens.now (codes_view tables.now) trees m ×
         HoldsLoad x (codes_view tables.now) trees m) }
     // To nothing else.
     ensures one { IfOk result (λ x. (trees : List Trees) (m : Listed) →
-        IsLoad givens.now (codes_view tables.now) trees m →
+        LoadsTo false false givens.now (codes_view tables.now) trees m →
         HoldsLoad x (codes_view tables.now) trees m) }
     // There are at most so many methods.
     ensures few { IfOk result (λ x. length x.methods.items ≤ most_methods) }
     // A refusal for another cause than memory comes only where there are no trees and entries that load.
-    ensures complete { IfErr result (λ e. (e ≡ LoadFault.NoMemory) ⊎
-        ((trees : List Trees) (m : Listed) → IsLoad givens.now (codes_view tables.now) trees m → ⊥)) }
+    ensures complete { IfErr result (λ e. (e ≡ LoadFault.NoMemory) ⊎ ((trees : List Trees) (m : Listed) →
+        LoadsTo false false givens.now (codes_view tables.now) trees m → ⊥)) }
     // A fault is true of its table and of the entries where it stands.
-    ensures true_fault { IfErr result (λ e. (e ≡ LoadFault.NoMemory) ⊎ StopsLoad givens.now (codes_view tables.now) e) }
+    ensures true_fault { IfErr result (λ e. (e ≡ LoadFault.NoMemory) ⊎
+        StopsFor false false givens.now (codes_view tables.now) e) }
     // Which fault it is: the first that is met in loading forward.
-    ensures forward { GivesLoad givens.now result (codes_view tables.now) }
+    ensures forward { GivesLoad false false givens.now result (codes_view tables.now) }
 {
     are_codes(tables);
-    load_whole(alloc, tables, givens)
+    load_all(alloc, tables, givens, false, false)
 }
 
 /// Loads tables as one, as `load` does, where the code outside methods may run. Each table is read from the left: how
@@ -289,23 +270,23 @@ pub fn load_any_run<'a>(
 
     // The tables' AML reads as the trees, and these load to entries whose namespace and methods are the answer's.
     ensures sound { IfOk result (λ x. (trees : List Trees) × (m : Listed) ×
-        IsRunLoad unknown_zero givens.now (codes_view tables.now) trees m ×
+        LoadsTo true unknown_zero givens.now (codes_view tables.now) trees m ×
         HoldsLoad x (codes_view tables.now) trees m) }
     // To nothing else.
     ensures one { IfOk result (λ x. (trees : List Trees) (m : Listed) →
-        IsRunLoad unknown_zero givens.now (codes_view tables.now) trees m →
+        LoadsTo true unknown_zero givens.now (codes_view tables.now) trees m →
         HoldsLoad x (codes_view tables.now) trees m) }
     // There are at most so many methods.
     ensures few { IfOk result (λ x. length x.methods.items ≤ most_methods) }
     // A refusal for another cause than memory comes only where there are no trees and entries that load.
     ensures complete { IfErr result (λ e. (e ≡ LoadFault.NoMemory) ⊎ ((trees : List Trees) (m : Listed) →
-        IsRunLoad unknown_zero givens.now (codes_view tables.now) trees m → ⊥)) }
+        LoadsTo true unknown_zero givens.now (codes_view tables.now) trees m → ⊥)) }
     // A fault is true of its table and of the entries where it stands.
     ensures true_fault { IfErr result (λ e. (e ≡ LoadFault.NoMemory) ⊎
-        StopsRunLoad unknown_zero givens.now (codes_view tables.now) e) }
+        StopsFor true unknown_zero givens.now (codes_view tables.now) e) }
     // Which fault it is: the first that is met in loading forward.
-    ensures forward { GivesRunLoad unknown_zero givens.now result (codes_view tables.now) }
+    ensures forward { GivesLoad true unknown_zero givens.now result (codes_view tables.now) }
 {
     are_codes(tables);
-    load_run_whole(alloc, tables, givens, unknown_zero)
+    load_all(alloc, tables, givens, true, unknown_zero)
 }

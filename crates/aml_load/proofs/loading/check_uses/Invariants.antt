@@ -1,4 +1,4 @@
-use Rattle.std.proofs.Common.{◌≡◌, false, drop}
+use Rattle.std.proofs.Common.{◌≡◌, drop}
 use Rattle.aml_space.specs.Known.{StandsFor}
 use Rattle.aml_load.specs.Loading.{Listed, uses_at}
 use Rattle.aml_load.proofs.loading.check_uses.Given as goal

@@ -1,5 +1,5 @@
 use Rattle.std.proofs.Common.{arith}
-use Rattle.aml_load.proofs.Outcome.{short_code}
+use Rattle.aml_load.proofs.Loads.{short_code}
 use Rattle.aml_load.proofs.loading.load_tables.Goals as goal
 
 pub load_table-requires : goal.load_table-requires

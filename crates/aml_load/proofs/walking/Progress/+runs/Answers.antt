@@ -1,13 +1,9 @@
-use Rattle.std.proofs.Common.{◌≡◌, ℕ, suc, ◌+◌, ◌-◌, ◌<◌, ◌≤◌, Ok, Err, refl, sym, ap, subst, ◌∙◌, arith, rules, [], ◌++◌, ◌∷◌}
-use Rattle.aml_code.specs.View.{node_view, nodes_view}
-use Rattle.aml_code.specs.declared.tree.Node.{Node}
-use Rattle.aml_code.specs.Lawful.{next_position}
-use Rattle.aml_code.specs.declared.rows.Position.{Position}
-use Rattle.aml_parse.specs.Running.{run_term_at, run_terms_at, run_span_at}
-use Rattle.aml_load.specs.Loading.{Listed}
+use Rattle.std.proofs.Common.{◌≡◌, ◌+◌, ◌-◌, Ok, refl, sym, ap, subst, ◌∙◌, arith, rules}
+use Rattle.aml_code.specs.View.{node_view}
+use Rattle.aml_parse.specs.Running.{run_term_at, run_terms_at}
 use Rattle.aml_load.specs.Running.{run_names}
-use Rattle.aml_load.specs.Runner.{front_of, below, RoomBy, AllRan, HasRoom}
-use Rattle.aml_load.specs.Walking.{Fails, Holds}
+use Rattle.aml_load.specs.Runner.{front_of, below, RoomBy, HasRoom}
+use Rattle.aml_load.specs.Tables.{Fails}
 use Rattle.aml_load.proofs.Ran.{found_then, found_none, span_is, opened_ok, done, fails, goes_on, room_on, room_in, behind_is, term_is, term_fails}
 use Rattle.aml_load.proofs.walking.Progress.+runs.Goals as goal
 

@@ -1,4 +1,3 @@
-use Rattle.std.proofs.Common.{false, ap, ◌∙◌}
 use Rattle.aml_load.proofs.Ran.{step_read, step_unread}
 use Rattle.aml_load.proofs.walking.Progress.read_head.Goals as goal
 

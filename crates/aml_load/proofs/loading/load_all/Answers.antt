@@ -1,8 +1,8 @@
 use Rattle.std.proofs.Common.{ap, ◌∙◌, ◌++◌, refl}
 use Rattle.aml_load.specs.Loading.{first_listed}
 use Rattle.aml_set.specs.Views.{codes_view, trees_view}
-use Rattle.aml_load.proofs.RunLoads.{run_load_gives}
-use Rattle.aml_load.proofs.loading.load_run_whole.Goals as goal
+use Rattle.aml_load.proofs.Loads.{load_gives}
+use Rattle.aml_load.proofs.loading.load_all.Goals as goal
 
 pub returns : goal.returns
 returns c =
@@ -17,6 +17,6 @@ returns c =
         space = w.1.space;
         methods = w.1.methods;
       },
-      run_load_gives c.args.unknown_zero gs (codes_view c.args.tables.now) (trees_view c.in_ok-trees.trees.items) w.0 c.as_slice.result.now c.in_ok-check_uses.field-0 w.2
+      load_gives c.args.any_run c.args.unknown_zero gs (codes_view c.args.tables.now) (trees_view c.in_ok-trees.trees.items) w.0 c.as_slice.result.now c.in_ok-check_uses.field-0 w.2
           (c.as_slice.ensures.value ∙ w.1.uses) free,
     )

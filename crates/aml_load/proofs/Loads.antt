@@ -1,0 +1,221 @@
+-- A load gives what its tables load to, refuses only tables that load to nothing, and refuses for a true reason: reading a
+-- table forward gives what it reads as and lists, or why that stops, whether it is read whole or from the left. So the laws
+-- are put together for the tables (`tables_tell`, `tables_again`) and for the load (`loads_forward`, `loads_again`).
+use denote.Ref.{Bor}
+use Rattle.std.specs.Prelude.{IfOk, IfErr}
+use Rattle.std.specs.Result.{MatchResult}
+use Rattle.std.specs.List.{AllZip}
+use Rattle.std.proofs.Common.{◌≡◌, ◌≤◌, ◌⊎◌, ℕ, zero, suc, Bool, true, false, List, [], ◌∷◌, ◌++◌, length, None, Result, Ok, Err, refl, sym, ap, subst, ◌∙◌}
+use Rattle.std.proofs.Common.{append_assoc, inl, inr, slice_index_or}
+use Rattle.std.proofs.lemmas.List.{append-nil}
+use Rattle.aml_names.specs.declared.faults.CodeFault.{CodeFault}
+use Rattle.aml_code.specs.declared.rows.Position.TheVariants as positions
+use Rattle.aml_code.specs.Lawful.{ReadsModule, BodiesStand, no_arguments}
+use Rattle.aml_code.specs.Tree.{Trees, encodings}
+use Rattle.aml_parse.specs.Reading.{all_at}
+use Rattle.aml_parse.specs.Running.{ReadsTable, StopsTerms, run_table_at}
+use Rattle.aml_parse.proofs.Readings.{module_sound, module_again, all_placed}
+use Rattle.aml_parse.proofs.Forward as forward
+use Rattle.aml_space.specs.Namespace.{Givens}
+use Rattle.aml_set.specs.declared.loaded.Loaded.{Loaded}
+use Rattle.aml_set.specs.Views.{AreShort, codes_view}
+use Rattle.aml_load.specs.declared.faults.LoadFault.{LoadFault}
+use Rattle.aml_load.specs.declared.faults.LoadFault.TheVariants as loads
+use Rattle.aml_load.specs.declared.used.Use.{Use}
+use Rattle.aml_load.specs.Loading.{◌>>=◌, Listed, first_listed, strict, declare_all, uses_at, most_methods}
+use Rattle.aml_load.specs.Running.{Front, table_front, run_names}
+use Rattle.aml_load.specs.Tables.{ReadsOne, ReadTables, LoadsTo, StopsOne, StopsTables, StopsFor, in_code, table_at, tables_at, load_at, GivesLoad}
+use Rattle.aml_load.specs.Tables.{IsCode, AreCodes, LoadsOneWay, LoadsForward, LoadsAgain, AreSpelled}
+use Rattle.aml_load.specs.Views.{HoldsLoad}
+use Rattle.aml_load.proofs.RunSpans.{loads_in_text_order}
+
+never : {X E : Type 0} (x : X) (e : E) (r : Result X E) → r ≡ Ok x → r ≡ Err e → ⊥
+never x e r p q = absurd (cc (p, q))
+
+-- ---- one table
+
+abbrev OneTells : Bool → ℕ → Listed → List ℕ → Result (Trees × Listed) LoadFault → Type 0
+OneTells any t l c r = MatchResult r (λ x. ReadsOne any t l c x.0 x.1) (λ e. StopsOne any t l c e)
+
+module _ (t : ℕ) (l : Listed) (c : List ℕ) where
+  -- read whole
+  abbrev module_at : Result Trees CodeFault
+  module_at = all_at no_arguments None positions.ModuleTerm c
+
+  abbrev declared : Trees → Result (Trees × Listed) LoadFault
+  declared ts = declare_all (strict t []) l ts >>= λ m. Ok (ts, m)
+
+  terms_tell : (ts : Trees) → ReadsModule c ts → (r : Result Listed LoadFault) → declare_all (strict t []) l ts ≡ r
+      → OneTells false t l c (r >>= λ m. Ok (ts, m))
+  terms_tell ts law (Ok m) is = (law, is)
+  terms_tell ts law (Err e) is = inr (ts, law, is)
+
+  code_tells : IsCode c → (r : Result Trees CodeFault) → module_at ≡ r → OneTells false t l c (in_code t r >>= declared)
+  code_tells fits (Ok ts) is = terms_tell ts (module_sound c ts fits is) (declare_all (strict t []) l ts) refl
+  code_tells fits (Err f) is =
+      inl (f, all_placed no_arguments None positions.ModuleTerm c f fits is, (λ ts law. never ts f module_at (module_again c ts law) is), refl)
+
+  -- read from the left
+  abbrev from_left : Result (Trees × Front) LoadFault
+  from_left = run_table_at (run_names t) c (table_front t l)
+
+  abbrev listed : Trees × Front → Result (Trees × Listed) LoadFault
+  listed x = Ok (x.0, x.1.listed)
+
+  run_tells : (r : Result (Trees × Front) LoadFault)
+      → MatchResult r (λ x. ReadsTable (run_names t) c (table_front t l) x.0 x.1)
+      (λ e. StopsTerms (run_names t) c 512 positions.RunTerm 0 (length c) (table_front t l) e)
+      → OneTells true t l c (r >>= listed)
+  run_tells (Ok x) reads = (x.1, reads, refl)
+  run_tells (Err e) stops = stops
+
+  table_tells : (any : Bool) → IsCode c → OneTells any t l c (table_at any t l c)
+  unfolding table_at
+  table_tells false fits = code_tells fits module_at refl
+  table_tells true fits = run_tells from_left (forward.table_tells (run_names t) c (table_front t l) fits)
+
+  table_again : (any : Bool) (ts : Trees) (m : Listed) → ReadsOne any t l c ts m → table_at any t l c ≡ Ok (ts, m)
+  unfolding table_at
+  table_again false ts m (law, is) =
+      ap (λ (r : Result Trees CodeFault). in_code t r >>= declared) (module_again c ts law)
+      ∙ ap (λ (r : Result Listed LoadFault). r >>= λ m. Ok (ts, m)) is
+  table_again true ts m (k, reads, same) =
+      ap (λ (r : Result (Trees × Front) LoadFault). r >>= listed) (forward.table_again (run_names t) c (table_front t l) ts k reads)
+      ∙ ap (λ (n : Listed). Ok (ts, n)) same
+
+  table_spelled : (any : Bool) (ts : Trees) (m : Listed) → ReadsOne any t l c ts m → (encodings c ts ≡ c) × BodiesStand c 0 ts
+  table_spelled false ts m (law, is) = (law.spelled, law.bodies)
+  table_spelled true ts m (k, reads, same) = forward.table_spelled (run_names t) c (table_front t l) ts k reads
+
+-- ---- the tables
+
+abbrev Whole : Type 0
+Whole = List Trees × Listed
+
+module _ (any : Bool) where
+  abbrev Told : ℕ → Listed → List Trees → List (List ℕ) → Result Whole LoadFault → Type 0
+  Told t l front cs r =
+      MatchResult r (λ x. (trees : List Trees) × (x.0 ≡ front ++ trees) × ReadTables any t l cs trees x.1) (λ e. StopsTables any t l cs e)
+
+  -- one table, and those behind it
+  module _ (t : ℕ) (l : Listed) (front : List Trees) (c : List ℕ) (cs : List (List ℕ)) where
+    abbrev behind : Trees × Listed → Result Whole LoadFault
+    behind one = tables_at any (suc t) (front ++ one.0 ∷ []) one.1 cs
+
+    more_told : (one : Trees × Listed) → ReadsOne any t l c one.0 one.1 → (r : Result Whole LoadFault)
+        → Told (suc t) one.1 (front ++ one.0 ∷ []) cs r → Told t l front (c ∷ cs) r
+    more_told one reads (Ok x) (trees, is, read) = (one.0 ∷ trees, is ∙ append_assoc front (one.0 ∷ []) trees, (one.1, reads, read))
+    more_told one reads (Err e) stops = inr (one.0, one.1, reads, stops)
+
+    table_told : ((one : Trees × Listed) → Told (suc t) one.1 (front ++ one.0 ∷ []) cs (behind one)) → (r : Result (Trees × Listed) LoadFault)
+        → OneTells any t l c r → Told t l front (c ∷ cs) (r >>= behind)
+    table_told rest (Ok one) reads = more_told one reads (behind one) (rest one)
+    table_told rest (Err e) stops = inl stops
+
+  tables_tell : (t : ℕ) (l : Listed) (front : List Trees) (cs : List (List ℕ)) → AreCodes cs → Told t l front cs (tables_at any t front l cs)
+  unfolding tables_at
+  tables_tell t l front [] fits = ([], sym (append-nil front), refl)
+  tables_tell t l front (c ∷ cs) fits =
+      table_told t l front c cs (λ one. tables_tell (suc t) one.1 (front ++ one.0 ∷ []) cs fits.1) (table_at any t l c) (table_tells t l c any fits.0)
+
+  tables_again : (t : ℕ) (l : Listed) (front : List Trees) (cs : List (List ℕ)) (trees : List Trees) (m : Listed) → ReadTables any t l cs trees m
+      → tables_at any t front l cs ≡ Ok (front ++ trees, m)
+  unfolding tables_at
+  tables_again t l front [] [] m read =
+      ap (λ (k : Listed). Ok (front, k)) read ∙ ap (λ (all : List Trees). Ok (all, m)) (sym (append-nil front))
+  tables_again t l front [] (ts ∷ rest) m read = absurd read
+  tables_again t l front (c ∷ cs) [] m read = absurd read
+  tables_again t l front (c ∷ cs) (ts ∷ rest) m (k, reads, read) =
+      ap (λ (r : Result (Trees × Listed) LoadFault). r >>= behind t l front c cs) (table_again t l c any ts k reads)
+      ∙ tables_again (suc t) k (front ++ ts ∷ []) cs rest m read ∙ ap (λ (all : List Trees). Ok (all, m)) (append_assoc front (ts ∷ []) rest)
+
+  tables_spelled : (t : ℕ) (l : Listed) (cs : List (List ℕ)) (trees : List Trees) (m : Listed) → ReadTables any t l cs trees m
+      → AllZip (λ code ts. (encodings code ts ≡ code) × BodiesStand code 0 ts) cs trees
+  tables_spelled t l [] [] m read = tt
+  tables_spelled t l [] (ts ∷ rest) m read = absurd read
+  tables_spelled t l (c ∷ cs) [] m read = absurd read
+  tables_spelled t l (c ∷ cs) (ts ∷ rest) m (k, reads, read) = (table_spelled t l c any ts k reads, tables_spelled (suc t) k cs rest m read)
+
+-- ---- the whole load
+
+module _ (any z : Bool) (gs : Givens) (cs : List (List ℕ)) where
+  abbrev check : Whole → Result Whole LoadFault
+  check x = uses_at any z x.1.entries x.1.uses >>= λ u. Ok x
+
+  abbrev LoadTells : Result Whole LoadFault → Type 0
+  LoadTells r = MatchResult r (λ x. LoadsTo any z gs cs x.0 x.1) (λ e. StopsFor any z gs cs e)
+
+  uses_told : (x : Whole) (trees : List Trees) → x.0 ≡ trees → ReadTables any 0 (first_listed gs) cs trees x.1 → (r : Result (Unit {0}) LoadFault)
+      → uses_at any z x.1.entries x.1.uses ≡ r → LoadTells (r >>= λ u. Ok x)
+  uses_told x trees same read (Ok u) is =
+      record { read = subst (λ (ts : List Trees). ReadTables any 0 (first_listed gs) cs ts x.1) (sym same) read; agreed = is }
+  uses_told x trees same read (Err e) is = inr (trees, x.1, read, is)
+
+  after_tables : (r : Result Whole LoadFault) → Told any 0 (first_listed gs) [] cs r → LoadTells (r >>= check)
+  after_tables (Ok x) (trees, is, read) = uses_told x trees is read (uses_at any z x.1.entries x.1.uses) refl
+  after_tables (Err e) stops = inl stops
+
+  pub loads_forward : LoadsForward any z gs cs
+  unfolding load_at
+  loads_forward fits = after_tables (tables_at any 0 [] (first_listed gs) cs) (tables_tell any 0 (first_listed gs) [] cs fits)
+
+  -- the steps of a load put together
+  pub load_gives : (ts : List Trees) (m : Listed) (us : List Use) (u : Unit {0}) → tables_at any 0 [] (first_listed gs) cs ≡ Ok (ts, m) → us ≡ m.uses
+      → uses_at any z m.entries us ≡ Ok u → load_at any z gs cs ≡ Ok (ts, m)
+  unfolding load_at
+  load_gives ts m us u read is free =
+      ap (λ (r : Result Whole LoadFault). r >>= check) read
+      ∙ ap (λ (r : Result (Unit {0}) LoadFault). r >>= λ u. Ok (ts, m)) (ap (uses_at any z m.entries) (sym is) ∙ free)
+
+  pub loads_again : LoadsAgain any z gs cs
+  loads_again ts m h = load_gives ts m m.uses tt (tables_again any 0 (first_listed gs) [] cs ts m h.read) refl h.agreed
+
+  same : (x y : Whole) (r : Result Whole LoadFault) → r ≡ Ok x → r ≡ Ok y → x ≡ y
+  same x y r p q = cc
+
+  pub loads_one_way : LoadsOneWay any z gs cs
+  loads_one_way ts us m n h g =
+      let one = same (ts, m) (us, n) (load_at any z gs cs) (loads_again ts m h) (loads_again us n g) in
+      (ap (λ (x : Whole). x.0) one, ap (λ (x : Whole). x.1) one)
+
+  pub are_spelled : AreSpelled any z gs cs
+  are_spelled trees m h = tables_spelled any 0 (first_listed gs) cs trees m h.read
+
+  -- ---- the same of what a function gave
+
+  pub given_sound : (r : Result Loaded LoadFault) → AreCodes cs → GivesLoad any z gs r cs
+      → IfOk r (λ x. (trees : List Trees) × (m : Listed) × LoadsTo any z gs cs trees m × HoldsLoad x cs trees m)
+  given_sound (Ok x) fits g = (g.0, g.1, subst LoadTells g.3 (loads_forward fits), g.2)
+  given_sound (Err e) fits g = tt
+
+  pub given_few : (r : Result Loaded LoadFault) → AreCodes cs → GivesLoad any z gs r cs → IfOk r (λ x. length x.methods.items ≤ most_methods)
+  unfolding given_sound
+  given_few (Ok x) fits g =
+      let load = (given_sound (Ok x) fits g).2 in
+      subst (λ ms. length ms ≤ most_methods) (sym g.2.methods) (loads_in_text_order any z gs cs g.0 g.1 load).1
+  given_few (Err e) fits g = tt
+
+  pub given_one : (r : Result Loaded LoadFault) → GivesLoad any z gs r cs
+      → IfOk r (λ x. (trees : List Trees) (m : Listed) → LoadsTo any z gs cs trees m → HoldsLoad x cs trees m)
+  given_one (Ok x) g = λ trees m h.
+      let is = same (g.0, g.1) (trees, m) (load_at any z gs cs) g.3 (loads_again trees m h) in
+      subst (λ (y : Whole). HoldsLoad x cs y.0 y.1) is g.2
+  given_one (Err e) g = tt
+
+  pub given_complete : (r : Result Loaded LoadFault) → GivesLoad any z gs r cs
+      → IfErr r (λ e. (e ≡ loads.NoMemory) ⊎ ((trees : List Trees) (m : Listed) → LoadsTo any z gs cs trees m → ⊥))
+  given_complete (Ok x) g = tt
+  given_complete (Err e) (inl g) = inl g
+  given_complete (Err e) (inr g) = inr (λ trees m h. never (trees, m) e (load_at any z gs cs) (loads_again trees m h) g)
+
+  pub given_true : (r : Result Loaded LoadFault) → AreCodes cs → GivesLoad any z gs r cs → IfErr r (λ e. (e ≡ loads.NoMemory) ⊎ StopsFor any z gs cs e)
+  given_true (Ok x) fits g = tt
+  given_true (Err e) fits (inl g) = inl g
+  given_true (Err e) fits (inr g) = inr (subst LoadTells g (loads_forward fits))
+
+-- a table by its number is short where all are
+pub short_code : (bs : List (Bor (List ℕ))) (i : ℕ) (other : Bor (List ℕ)) → AreShort (codes_view bs) → length other.now ≤ 16777216
+    → length (slice_index_or bs i other).now ≤ 16777216
+short_code [] i other h o = o
+short_code (b ∷ bs) zero other h o = h.0
+short_code (b ∷ bs) (suc i) other h o = short_code bs i other h.1 o

@@ -1,5 +1,0 @@
-use Rattle.aml_load.proofs.Strict.{loads_strictly}
-use Rattle.aml_load.proofs.running.loads_strictly.Goals as goal
-
-pub returns : goal.returns
-returns c gs tables = loads_strictly c.stays_as_it_is.ensures gs tables
