@@ -9,8 +9,8 @@ line is printed: its size; the shortest time of N runs, 3 if left out, at the wh
 times as much processor time and memory it takes as at half the size; how much text that is, which is thrown away; the
 status; the same of `--check`; and for sets of one table, where it is installed (Debian: apt-get install acpica-tools)
 and answers within 20 seconds, the time of `iasl -d`. A run is stopped after so many seconds, 120 if left out. --large
-adds 512 files of 16 MB each, for which the program needs 9 GB. Shapes of the option --externals are left out where the
-program doesn't have it. The script is no part of the gate.
+adds 512 files of 16 MB each, for which the program needs 9 GB. Shapes of the options --externals and --any-run are left out
+where the program doesn't have them. The script is no part of the gate.
 
 With --instructions the growth is of the instructions that one worker needs, by valgrind, in place of the processor
 time. They don't depend on what else the machine does; the runs take some fifty times as long, so name a shape.
@@ -161,10 +161,10 @@ def main():
     compiler = None if asked.no_iasl else shutil.which("iasl")
     print(f"a load of {os.getloadavg()[0]:.1f} on {len(os.sched_getaffinity(0))} processors", flush=True)
     work = pathlib.Path(asked.keep or tempfile.mkdtemp())
-    known_words = subprocess.run([program, "--help"], capture_output=True, check=True).stdout
-    has_option = hostile_shapes.OPTION.encode() in known_words
+    known_words = subprocess.run([program, "--help"], capture_output=True, check=True, text=True).stdout
     for shape in hostile_shapes.SHAPES:
-        if asked.only in shape.name and (asked.large or not shape.large) and (has_option or not shape.given):
+        is_known = all(option in known_words for option in shape.asked_options())
+        if asked.only in shape.name and (asked.large or not shape.large) and is_known:
             run_shape(shape, program, compiler, work, asked)
     if not asked.keep:
         shutil.rmtree(work)

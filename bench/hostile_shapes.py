@@ -8,6 +8,7 @@ from names import local_names, mixed, package, scopes, segment
 SEGMENTS = 255
 # A file of a set that is no dump, since it lies in a folder of its own.
 OPTION, GIVEN = "--externals", "given/externals.txt"
+ANY_RUN = "--any-run"
 # Names that `segment` gives no number to, below a million.
 RUN, NOTHING = b"_RUN", b"ZZZZ"
 LEAF, NEAR, FRIEND, OTHER = b"LEAF", b"NEAR", b"FRND", b"OTHR"
@@ -16,7 +17,8 @@ DEEPEST = 510 * SEGMENTS
 
 class Shape(NamedTuple):
     """A set by its size, which is doubled; `is_square` where twice the size may take four times as long, `given` where
-    its runs have the option `--externals` with the set's file of that name, `large` where it takes 9 GB of memory."""
+    its runs have the option `--externals` with the set's file of that name, `any_run` where they have that option,
+    `large` where it takes 9 GB of memory."""
 
     name: str
     size: int
@@ -24,10 +26,15 @@ class Shape(NamedTuple):
     make: Callable
     is_square: bool = False
     given: bool = False
+    any_run: bool = False
     large: bool = False
 
     def options(self, folder):
-        return [OPTION, str(folder / GIVEN)] if self.given else []
+        return [OPTION, str(folder / GIVEN)] if self.given else [ANY_RUN] if self.any_run else []
+
+    def asked_options(self):
+        """The options that its runs have, without their values."""
+        return [option for option, is_asked in ((OPTION, self.given), (ANY_RUN, self.any_run)) if is_asked]
 
 
 class Sparse(NamedTuple):
@@ -91,6 +98,54 @@ def named(count, what=b"\x00"):
 
 def uses(count):
     return b"".join(segment(number) for number in mixed(count))
+
+
+# ---- code outside methods
+
+
+def block(code):
+    return package(b"\xa0", b"\x01" + code)
+
+
+def other_branch(code):
+    return package(b"\xa1", code)
+
+
+def blocks(count, levels):
+    """So many names in Ifs that stand one in the other."""
+    code = named(count)
+    for _ in range(levels):
+        code = block(code)
+    return code
+
+
+def branches(count):
+    """Methods that are declared in both branches, and a call of each."""
+    methods = b"".join(method(segment(number), 1, b"") for number in mixed(count))
+    calls = b"".join(segment(number) + b"\x01" for number in mixed(count))
+    return block(methods) + other_branch(methods) + main_method(calls)
+
+
+def devices_in_blocks(count):
+    """Devices with a method and a name, each in an If of its own, and a call of each method."""
+    inside = method(NEAR, 1, b"") + b"\x08" + LEAF + b"\0"
+    devices = (block(package(b"\x5b\x82", segment(number) + inside)) for number in mixed(count))
+    calls = b"".join(b"\x2e" + segment(number) + NEAR + b"\x01" for number in mixed(count))
+    return b"".join(devices) + main_method(calls)
+
+
+def maybes(count, depth):
+    """Uses of a name at the root in a method of a scope of so many segments, in each of which the name may stand too."""
+    code = main_method(LEAF * count)
+    for _ in range(depth):
+        code = package(b"\x5b\x82", NEAR + block(b"\x08" + LEAF + b"\0") + code)
+    return b"\x08" + LEAF + b"\0" + code
+
+
+def again(count):
+    """Two tables that declare one name again and again."""
+    code = (b"\x08" + LEAF + b"\0") * (count // 2)
+    return {"dsdt.dat": table(code), "ssdt1.dat": any_table(b"SSDT", code)}
 
 
 # ---- names and scopes
@@ -375,6 +430,13 @@ SHAPES = (
     Shape("aliases", 1_000_000, "names", one(alias_chain)),
     Shape("external", 1_000_000, "terms", one(one_external)),
     Shape("externals", 1_000_000, "names", one(one_each)),
+    Shape("blocks", 200_000, "names", one(lambda count: blocks(count, 500)), any_run=True),
+    Shape("blocks-deep", 500, "levels", one(lambda count: blocks(200_000, count)), any_run=True),
+    Shape("branches", 200_000, "methods", one(branches), any_run=True),
+    Shape("devices-in-blocks", 200_000, "devices", one(devices_in_blocks), any_run=True),
+    Shape("maybes", 100_000, "names", one(lambda count: maybes(count, 500)), any_run=True),
+    Shape("maybes-deep", 500, "levels", one(lambda count: maybes(100_000, count)), any_run=True),
+    Shape("again", 2_000_000, "names", again, any_run=True),
     Shape("given", 1_000_000, "lines", given, given=True),
     Shape("given-again", 2_000_000, "lines", given_again, given=True),
     Shape("long-names", MOST_BYTES - HEADER_BYTES, "bytes", one(long_names)),

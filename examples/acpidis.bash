@@ -2,7 +2,7 @@
 
 _acpidis() {
     local word=${COMP_WORDS[COMP_CWORD]} before=${COMP_WORDS[COMP_CWORD - 1]}
-    local options='--workers --any-sum --externals --unknown-zero --check --help --version'
+    local options='--workers --any-sum --any-run --externals --unknown-zero --check --help --version'
     COMPREPLY=()
     case $before in
     --workers) mapfile -t COMPREPLY < <(compgen -W '1 2 4 8 16 32 64' -- "$word") ;;

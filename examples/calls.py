@@ -1,7 +1,7 @@
 #!/usr/bin/env python3
 """Lists the names of methods with arguments that stand where this reader gives a name none.
 
-    python3 examples/calls.py [--any-sum] [--unknown-zero] [--externals FILE] FOLDER
+    python3 examples/calls.py [--any-sum] [--any-run] [--unknown-zero] [--externals FILE] FOLDER
 
 Where an operator wants a target or an object, as SizeOf, Notify, Acquire and the last operand of Add do, the grammar
 of docs/grammar.md has no call with arguments. If a compiler wrote one, the arguments stand behind the operator as terms
@@ -76,9 +76,9 @@ def calls(text):
         if method is not own_of:
             own, own_of = set(), method
         for operator, name in targets(line):
-            kind = text.namespace.kind(scope, name, own)
-            if isinstance(kind, int) and kind > 0:
-                yield scope, name, kind, operator, line
+            counts = [kind for kind in text.namespace.may_be(scope, name, own) if isinstance(kind, int)]
+            if any(counts):
+                yield scope, name, max(counts), operator, line
         declared = DECLARED.match(line) if method else None
         if declared:
             own.add(listing.placed(scope, next(filter(None, declared.groups())))[0])
@@ -104,7 +104,7 @@ def main():
     words = argparse.ArgumentParser(description=__doc__, formatter_class=argparse.RawDescriptionHelpFormatter)
     words.add_argument("folder", metavar="FOLDER")
     words.add_argument("--any-sum", action="store_true", help="as the option of acpidis")
-    words.add_argument("--any-run", action="store_true", help=argparse.SUPPRESS)
+    words.add_argument("--any-run", action="store_true", help="as the option of acpidis")
     words.add_argument("--unknown-zero", action="store_true", help="as the option of acpidis")
     words.add_argument("--externals", metavar="FILE", help="as the option of acpidis")
     try:

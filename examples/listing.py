@@ -14,7 +14,9 @@ SEGMENT = r"[A-Z_][A-Z0-9_]{3}"
 NAME = re.compile(rf"(\\|\^*)({SEGMENT}(?:\.{SEGMENT})*|)")
 TOKEN = re.compile(r'"[^"]*"|[\\^A-Za-z0-9_.]+|[(){},]')
 # With --any-run a row may end in marks: one that only may stand, one that is declared several times.
-ROW = re.compile(r"  (\\\S*) (\w+)(?: ([0-7]|\\\S*))?(?: Maybe)?(?: Times \d+)?")
+ROW = re.compile(r"  (\\\S*) (\w+)(?: ([0-7]|\\\S*))?( Maybe)?(?: Times \d+)?")
+# A name is looked for in each scope around it, so that a hostile set could make a script take days.
+MOST_SEGMENTS = 64
 METHOD = re.compile(r"Method \((\S+), ([0-7]), ")
 RAW = re.compile(r"Raw \{([0-9A-F, ]*)\}")
 FAULT = re.compile(r"acpidis: body (\\\S*): (.*)")
@@ -72,28 +74,43 @@ def placed(scope, name):
 
 
 class Namespace:
-    """The kinds of the declared paths, a method's as its count, and the counts of paths that aren't declared."""
+    """The kinds of the declared paths, a method's as its count, the paths that only may stand, the greatest count of
+    the methods that are declared at a path, and the counts of paths that aren't declared."""
 
     def __init__(self):
         self.kinds = dict(PREDEFINED)
+        self.maybes = set()
+        self.most = {}
         self.counts = {}
 
     def add(self, row):
-        path, kind, more = row.groups()
+        path, kind, more, is_maybe = row.groups()
         self.kinds[path] = int(more) if kind == "Method" else more if kind == "Alias" else kind
+        if is_maybe and path not in PREDEFINED:
+            self.maybes.add(path)
 
-    def kind(self, scope, name, own=()):
-        """A method's count, another kind, or None for what nothing declares. `own` are paths that the body declared."""
-        candidates = placed(scope, name)
+    def add_method(self, path, count):
+        """A method of the text, which may be another declaration than the row's."""
+        self.most[path] = max(count, self.most.get(path, 0))
+
+    def may_be(self, scope, name, own=()):
+        """What a name may be: methods' counts and other kinds, those of the nearest path first, up to one that is sure;
+        nothing where no table tells. `own` are paths that the body declared."""
+        candidates, found = placed(scope, name), []
         for path in candidates:
             if path in own:
-                return "Local"
+                return [*found, "Local"]
             kind = self.kinds.get(path)
-            if isinstance(kind, str) and kind.startswith("\\"):
-                kind = self.kinds.get(kind, self.counts.get(kind))
             if kind is not None:
-                return kind
-        return next((self.counts[path] for path in candidates if path in self.counts), None)
+                found += self.kinds_of(path, kind)
+                if path not in self.maybes:
+                    return found
+        return found or [self.counts[path] for path in candidates if path in self.counts][:1]
+
+    def kinds_of(self, path, kind):
+        if isinstance(kind, str) and kind.startswith("\\"):
+            path, kind = kind, self.kinds.get(kind, self.counts.get(kind))
+        return [it for it in (kind, self.most.get(path)) if it is not None]
 
     def found(self, scope, name):
         """The path that a name means, else its nearest place."""
@@ -118,12 +135,15 @@ class Method:
 
     def lone_values(self, namespace):
         """How many of its terms are values that nothing takes."""
-        return sum(self.is_lone(line, namespace) for line in self.lines)
+        return sum(is_lone(line, self.path, namespace) for line in self.lines)
 
-    def is_lone(self, line, namespace):
-        if NAME.fullmatch(line):
-            return isinstance(namespace.kind(self.path, line), str)
-        return bool(CONSTANT.fullmatch(line) or VALUE.fullmatch(line))
+
+def is_lone(line, scope, namespace):
+    """Whether a line is a value that nothing takes."""
+    if line and NAME.fullmatch(line):
+        kinds = namespace.may_be(scope, line)
+        return bool(kinds) and all(isinstance(kind, str) for kind in kinds)
+    return bool(CONSTANT.fullmatch(line) or VALUE.fullmatch(line))
 
 
 class Listing:
@@ -137,6 +157,10 @@ class Listing:
             self.namespace.add(row)
         self.lines, self.methods = [], []
         self.walk(lines[block:])
+
+    def lone_values(self):
+        """How many terms outside the methods are values that nothing takes."""
+        return sum(is_lone(line, scope, self.namespace) for line, scope, method in self.lines if method is None)
 
     @staticmethod
     def rows(lines):
@@ -164,8 +188,13 @@ class Listing:
             return scope, method
         name = re.split(r"[,)]", rest, maxsplit=1)[0]
         path = self.namespace.found(scope, name) if word == "Scope" else placed(scope, name)[0]
+        if path.count(".") >= MOST_SEGMENTS:
+            raise Unusable(f"a scope of more than {MOST_SEGMENTS} segments is too deep for this script")
         if word != "Method":
             return path, None
+        form = METHOD.match(line)
+        if form:
+            self.namespace.add_method(path, int(form[2]))
         self.methods.append(Method(path))
         return path, self.methods[-1]
 

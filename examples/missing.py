@@ -1,14 +1,15 @@
 #!/usr/bin/env python3
 """Names what the bodies of a set wait for: the names that no table declares, each as a line for --externals.
 
-    python3 examples/missing.py [--try] [--any-sum] [--externals FILE] FOLDER >counts
+    python3 examples/missing.py [--try] [--any-sum] [--any-run] [--externals FILE] FOLDER >counts
 
 Standard output has a line for each name, `PATH ?`, where the digit is for you to set. Standard error says of each, in
 lines with #, how many bodies wait for it and with which counts from 0 to 7 they read. With --try the name has its line
 only where just one count reads, and this count on it, so that the lines are a file for --externals as they stand.
 
 A body shows its first such name alone. So the set is read in rounds, each with the counts that fit best so far, until
-no body waits. --externals names counts that you know already. ACPIDIS names another program. Status 1 is a folder that
+no body waits. With --any-run a name outside the methods may be missing too, for which the set is refused as ModuleCall:
+it comes first. --externals names counts that you know already. ACPIDIS names another program. Status 1 is a folder that
 is refused, 2 a command line or a program that is at fault.
 """
 
@@ -23,6 +24,7 @@ import listing
 COUNTS = range(8)
 MOST_NAMES = 1000
 MOST_PASSES = 3
+OUTSIDE = re.compile(r'table "[^"]*": ModuleCall (\\\S+)')
 NAME = re.compile(rb"(\\|\^*)(?:\x2e(.{8})|\x2f(.)|([A-Z_][A-Z0-9_]{3})|\x00)", re.DOTALL)
 
 
@@ -63,13 +65,18 @@ def bodies_of(run):
 
 
 class Trial:
-    """What comes of the bodies that wait for a name, where it has a count."""
+    """What comes of the bodies that wait for a name, where it has a count, or of what stands outside the methods, where
+    the set is refused for the name."""
 
     def __init__(self, run, bodies):
         self.refused = run.refused
         self.read = self.loose = self.values = 0
         self.faults = []
         if run.refused:
+            return
+        if not bodies:
+            self.values = run.listing.lone_values()
+            self.read, self.loose = int(self.values == 0), int(self.values > 0)
             return
         raw = {body.number: body for body in bodies_of(run)}
         for body in bodies:
@@ -117,14 +124,10 @@ class Search:
         """Goes round until no body waits, and answers the bodies that are raw all the same."""
         while True:
             run = self.run(self.counts)
-            if run.refused:
+            bodies = [] if run.refused else bodies_of(run)
+            found = self.found_outside(run.refused) if run.refused else self.found_in(bodies)
+            if run.refused and not found:
                 raise listing.Refused(run.refused)
-            bodies = bodies_of(run)
-            found = {}
-            for body in bodies:
-                name = body.name() if body.word == "UnknownName" else None
-                if name and name not in self.counts:
-                    found.setdefault(name, []).append(body)
             if not found:
                 return bodies
             if len(self.counts) + len(found) > MOST_NAMES:
@@ -134,6 +137,19 @@ class Search:
             for name in self.rounds[-1]:
                 # What stands behind may be unknown still, and is taken to have no arguments meanwhile.
                 self.choose(name, self.trials(name, ["--unknown-zero"]))
+
+    def found_in(self, bodies):
+        found = {}
+        for body in bodies:
+            name = body.name() if body.word == "UnknownName" else None
+            if name and name not in self.counts:
+                found.setdefault(name, []).append(body)
+        return found
+
+    def found_outside(self, refused):
+        """The name outside the methods for which the set is refused, for which no body waits."""
+        form = OUTSIDE.fullmatch(refused)
+        return {form[1]: []} if form and form[1] not in self.counts else {}
 
     def choose(self, name, trials):
         """Keeps the count that fits best, and says whether it is another one."""
@@ -169,10 +185,13 @@ def number_of(count, verb):
     return f"{count} {verb}{'s' if count == 1 else ''}"
 
 
-def outcome(trial):
+def outcome(trial, is_outside):
     """A trial in words."""
     if trial.refused:
         return f"the set is refused: {trial.refused}"
+    if is_outside:
+        loose = ", with values that stand alone as terms outside the methods" if trial.loose else ""
+        return f"the set is read{loose}"
     words = []
     if trial.read:
         words.append(number_of(trial.read, "read"))
@@ -189,10 +208,11 @@ def say(text):
 
 def report(name, bodies, trials):
     waiting = "1 body waits" if len(bodies) == 1 else f"{len(bodies)} bodies wait"
-    say(f"{name}: {waiting}, the first {bodies[0].path} at {bodies[0].at}")
+    first = f"{waiting}, the first {bodies[0].path} at {bodies[0].at}" if bodies else "it stands outside the methods"
+    say(f"{name}: {first}")
     said = {}
     for count in COUNTS:
-        said.setdefault(outcome(trials[count]), []).append(count)
+        said.setdefault(outcome(trials[count], not bodies), []).append(count)
     for words, counts in said.items():
         say(f"  with {spans(counts)}: {words}")
     if trials[0].read:
@@ -241,7 +261,7 @@ def main():
     words.add_argument("folder", metavar="FOLDER")
     words.add_argument("--try", action="store_true", dest="must_be_one", help="lines only where just one count reads")
     words.add_argument("--any-sum", action="store_true", help="as the option of acpidis")
-    words.add_argument("--any-run", action="store_true", help=argparse.SUPPRESS)
+    words.add_argument("--any-run", action="store_true", help="as the option of acpidis")
     words.add_argument("--externals", metavar="FILE", help="counts that are known already")
     asked = words.parse_args()
     try:

@@ -1,7 +1,7 @@
 #!/usr/bin/env python3
 """Says what stands where a set is refused: the term, its scope, both declarations or who wants a name; and the way on.
 
-    python3 examples/refused.py [--any-sum] [--unknown-zero] [--externals FILE] FOLDER
+    python3 examples/refused.py [--any-sum] [--any-run] [--unknown-zero] [--externals FILE] FOLDER
 
 Offsets count from the first byte behind a table's header, bytes from the first of the file. The terms are read by a reader
 of this folder, from the left and as far as it can; what they mean the program alone says. ACPIDIS names another program.
@@ -87,7 +87,7 @@ RAN = {
     "ModuleCall": (
         "Outside the methods stands a name whose count nothing tells, or another at the end than before it.",
         [EXTERNALS, "`--unknown-zero`, where nothing declares it and it is no call", OUT],
-        [EXTERNALS, "`--unknown-zero`, where nothing declares it and it is no call"],
+        [EXTERNALS, "`--unknown-zero`, where nothing declares it and it is no call", HEADER_ALONE],
     ),
     "ScopeMissing": (
         "What a Scope wants only may stand, and a second path that it may mean is there too.", [OUT, IASL], [HEADER_ALONE, IASL]
@@ -428,10 +428,8 @@ def say(asked):
 def main():
     words = argparse.ArgumentParser(description=__doc__, formatter_class=argparse.RawDescriptionHelpFormatter)
     words.add_argument("folder", metavar="FOLDER")
-    for option in ("--any-sum", "--unknown-zero"):
+    for option in ("--any-sum", "--any-run", "--unknown-zero"):
         words.add_argument(option, action="store_true", help="as the option of acpidis")
-    # The program doesn't have it yet.
-    words.add_argument("--any-run", action="store_true", help=argparse.SUPPRESS)
     words.add_argument("--externals", metavar="FILE", help="as the option of acpidis")
     sys.stdout.reconfigure(errors="backslashreplace")
     sys.stderr.reconfigure(errors="backslashreplace")

@@ -123,25 +123,36 @@ oem_of() {
     printf -v oem '"%s" "%s" %02X%02X%02X%02X' "${texts[@]}" "${bytes[17]}" "${bytes[16]}" "${bytes[15]}" "${bytes[14]}"
 }
 
+# is_read WORD..: whether the program takes the set with these words
+is_read() {
+    timeout --foreground -k 5 "${SURVEY_SECONDS:-600}" "$ACPIDIS" --check --workers 1 "$@" >/dev/null 2>&1 </dev/null
+    case $? in 0 | 3) ;; *) return 1 ;; esac
+}
+
 # one SET OPTION..: the line of the set in the folder `folder`
 one() {
-    local from=$EPOCHREALTIME set=$1 until counts status micros oem
+    local from=$EPOCHREALTIME set=$1 until counts status micros oem fault
     shift
     show "$folder"
     if [ "$shown" != "$folder" ] && [ -r "$set" ]; then
         exec 8<"$set" # a name that isn't UTF-8 can be no word of a command line
         set=/dev/fd/8
     fi
-    set -- "$ACPIDIS" --check --workers 1 "$@" "$set"
     counts=$(
-        timeout --foreground -k 5 "${SURVEY_SECONDS:-600}" "$@" 2>&1 </dev/null | count_checks
+        timeout --foreground -k 5 "${SURVEY_SECONDS:-600}" "$ACPIDIS" --check --workers 1 "$@" "$set" 2>&1 </dev/null |
+            count_checks
         exit "${PIPESTATUS[0]}"
     )
     status=$? until=$EPOCHREALTIME
     case $status in 126 | 127) fail "cannot run $ACPIDIS" ;; esac
+    fault=${counts%%$'\t'*} counts=${counts#*$'\t'}
+    case $status$fault in
+    *': Short' | *': TooLarge' | *': Bad'[SR]* | *': FadtShort' | *': MadtRecord at '* | *': TwoDsdts') ;; # of files alone
+    '1table "'*) [[ " $* " == *' --any-run '* ]] || ! is_read --any-run "$@" "$set" || fault+=' (read with --any-run)' ;;
+    esac
     micros=$((${until/./} - ${from/./}))
     oem_of "$set" "${counts##*$'\t'}"
-    printf '%s\t%s\t%s\t%d.%03d\t%s\n' "$shown" "$status" "${counts%$'\t'*}" \
+    printf '%s\t%s\t%s\t%s\t%d.%03d\t%s\n' "$shown" "$status" "$fault" "${counts%$'\t'*}" \
         $((micros / 1000000)) $((micros / 1000 % 1000)) "$oem"
 }
 

@@ -57,6 +57,14 @@ TARGETS = (
 BRANCH = b"\x08CCCC\0" + device(b"DEV0", SUN, block(b"\xa0", b"\x93CCCC\x01" + method(b"FOO_", b"", 1)))
 ANY_RUN = "`--any-run` reads it, as whatever a run would declare"
 IASL = "`iasl -d` reads this table by itself, with guesses"
+# A call in front of its method, with a body that waits too; a name that nothing declares; runs that differ.
+AHEAD = method(b"MAIN", b"QQQQ\x01") + b"PCRB\x0a\xad" + method(b"PCRB", b"", 1)
+PREDICATE = block(b"\xa0", b"ZZZZ\x08WIN_\0")
+DIFFERS = method(b"FOO_", b"", 1) + device(
+    b"DEV0", block(b"\xa0", b"\x01" + method(b"FOO_", b"", 2)), method(b"BAR_", b"FOO_\x01"), method(b"SIZE", b"\x87FOO_")
+)
+SECOND = block(b"\xa0", b"\x01\x08FOO_\0") + method(b"FOO_", b"", 3) + block(b"\xa0", b"\x87FOO_\xa3")
+PROMISED = b"\x15PCRB\x08\x02PCRB\x01\x01" + method(b"PCRB", b"", 1)
 WANTS = block(b"\x10", b"\\RP99" + method(b"HOTP", b"", 2))
 REGION = b"\x5b\x80REG0\0"
 BAD_NAME = "a\" {\n      Raw {5A}\n$(touch bad)`touch bad`.dat"
@@ -94,11 +102,6 @@ class Tries:
             print(f"FAILED {name}: status {run.returncode}, not {status}\n{run.stdout}{run.stderr}", end="")
             print(f"wanted\n{out}{missing}")
 
-    def ways(self, *ways):
-        """The ways on that the program has."""
-        help_text = subprocess.run([TOP / "acpidis", "--help"], capture_output=True, text=True, check=False).stdout
-        return "; or ".join(way for way in ways if way != ANY_RUN or "--any-run" in help_text)
-
     def is_true(self, name, holds):
         self.passed += bool(holds)
         self.failed += not holds
@@ -130,6 +133,35 @@ def try_missing(tries):
     found = tries.run("missing.py", "--try", tries.folder("outside", OUTSIDE))
     refused = '#   with 1 to 7: the set is refused: table "dsdt.dat": ModuleCall'
     tries.row("a value outside the methods", found, 0, "\\VVVV 0\n", refused)
+
+
+def try_missing_outside(tries):
+    """Names that code outside the methods waits for, and those in which runs differ."""
+    found = tries.run("missing.py", "--try", "--any-run", tries.folder("ahead", AHEAD))
+    said = [
+        "# \\PCRB: it stands outside the methods", '#   with 0: the set is refused: table "dsdt.dat": ModuleCall \\PCRB',
+        "#   with 1: the set is read", "# \\QQQQ: 1 body waits, the first \\MAIN at 0",
+    ]
+    tries.row("a call in front of its method", found, 0, "\\PCRB 1\n\\QQQQ 1\n", *said)
+    found = tries.run("missing.py", "--any-run", tries.folder("predicate", PREDICATE))
+    said = ["#   with 0: the set is read", '#   with 1 to 7: the set is refused: table "dsdt.dat": NotHere at 7']
+    tries.row("a predicate", found, 0, "\\ZZZZ ?\n", *said)
+    found = tries.run("missing.py", "--try", "--any-run", tries.folder("differs", DIFFERS))
+    said = ["#   with 0: 1 reads with values that stand alone as terms", "#   with 1: 1 reads"]
+    tries.row("runs that differ", found, 0, "\\FOO_ 1\n", *said)
+    found = tries.run("missing.py", "--any-run", tries.folder("promised", PROMISED))
+    tries.row("no count helps", found, 1, "", 'missing: the set is refused: table "dsdt.dat": ModuleCall \\PCRB')
+
+
+def try_calls_outside(tries):
+    wanted = "\\DEV0.SIZE: FOO_ takes 2, in SizeOf: SizeOf (FOO_)\n"
+    left = "calls: 1 raw body isn't looked through"
+    tries.row("what a name may mean", tries.run("calls.py", "--any-run", "differs"), 3, wanted, left)
+    second = tries.folder("second", SECOND)
+    wanted = "\\: FOO_ takes 3, in SizeOf: If (SizeOf (FOO_)) {\n"
+    tries.row("a second declaration", tries.run("calls.py", "--any-run", second), 3, wanted)
+    refused = 'calls: the set is refused: table "dsdt.dat": ModuleCall \\ZZZZ'
+    tries.row("a name outside the methods", tries.run("calls.py", "--any-run", "predicate"), 1, "", refused)
 
 
 def try_calls(tries):
@@ -165,7 +197,7 @@ def try_refused(tries):
         "  in Device (DEV0), offset 6\n"
         "  behind Name (_SUN, One), offset 14\n"
         "Outside the methods this would run while the table is loaded.\n"
-        f"Way on: {tries.ways(ANY_RUN, IASL)}\n"
+        f"Way on: {ANY_RUN}; or {IASL}\n"
     )
     tries.row("code outside methods", tries.run("refused.py", tries.folder("branch", BRANCH)), 1, wanted)
     shifted = tries.folder("shifted", method(b"FOO_", b"", 1) + REGION + b"FOO_\x01\x04")
@@ -184,7 +216,7 @@ def try_declarations(tries):
         "  as a Name at dsdt.dat, offset 0, byte 36 of the file\n"
         "  as a Name at ssdt1.dat, offset 0, byte 36 of the file\n"
         "The path is declared twice.\n"
-        f"Way on: {tries.ways(ANY_RUN, 'take the table out')}\n"
+        f"Way on: {ANY_RUN}; or take the table out\n"
     )
     tries.row("a path declared twice", tries.run("refused.py", "twice"), 1, wanted)
     tries.folder("wants", SUN)
@@ -195,7 +227,7 @@ def try_declarations(tries):
         "\\RP99 is wanted by Scope (\\RP99) at ssdt1.dat, offset 0, byte 36 of the file, in \\\n"
         "  declared: Device at ssdt2.dat, offset 0, byte 36 of the file\n"
         "A Scope wants a path that nothing declares before it.\n"
-        f"Way on: {tries.ways('add the table that declares it', 'load that table before it', ANY_RUN, 'take the table out')}\n"
+        f"Way on: add the table that declares it; or load that table before it; or {ANY_RUN}; or take the table out\n"
     )
     tries.row("a path that is missing", tries.run("refused.py", "wants"), 1, wanted)
     tries.folder("argument", REGION + b"FOO_\x01" + method(b"FOO_", b"", 1))
@@ -204,9 +236,25 @@ def try_declarations(tries):
         "FOO_ at dsdt.dat, offset 7, byte 43 of the file, in the scope \\, in OperationRegion (REG0, 0x00, FOO_, One)\n"
         "  read with 0 arguments; it takes 1 argument: Method at dsdt.dat, offset 12, byte 48 of the file\n"
         "Outside the methods a name that takes arguments stands where a value is wanted.\n"
-        f"Way on: {tries.ways(ANY_RUN, IASL)}\n"
+        f"Way on: {ANY_RUN}; or {IASL}\n"
     )
     tries.row("a call in an argument", tries.run("refused.py", "argument"), 1, wanted)
+
+
+def try_refused_runs(tries):
+    """What --any-run refuses."""
+    wanted = (
+        'table "dsdt.dat": ModuleCall \\ZZZZ\n'
+        "ZZZZ at dsdt.dat, offset 3, byte 39 of the file, in the scope \\, in If (ZZZZ)\n"
+        "  read with 0 arguments; nothing tells how many it takes\n"
+        "Outside the methods stands a name whose count nothing tells, or another at the end than before it.\n"
+        "Way on: `--externals FILE` with its count (docs/externals.md); or `--unknown-zero`, where nothing declares it and it"
+        " is no call; or a header alone in its place lists the SSDTs (docs/refusals.md)\n"
+    )
+    tries.row("a name that nothing tells of", tries.run("refused.py", "--any-run", "predicate"), 1, wanted)
+    tries.row("a set that it reads", tries.run("refused.py", "--any-run", "twice"), 0, "the set isn't refused\n")
+    found = tries.run("refused.py", tries.folder("returns", b"\xa4\0")).stdout
+    tries.is_true("a Return, which the option doesn't take", ANY_RUN not in found and "A Return outside the methods" in found)
 
 
 def try_damage(tries):
@@ -273,9 +321,12 @@ def main():
     with tempfile.TemporaryDirectory() as room:
         tries = Tries(pathlib.Path(room))
         try_missing(tries)
+        try_missing_outside(tries)
         try_calls(tries)
+        try_calls_outside(tries)
         try_refused(tries)
         try_declarations(tries)
+        try_refused_runs(tries)
         try_damage(tries)
         try_hostile(tries)
     print(f"{tries.passed} passed, {tries.failed} failed")

@@ -52,9 +52,9 @@ fi
 docs=$prefix/share/doc/acpidis
 is 'the examples find the program' \
     "$(ACPIDIS=$prefix/bin/acpidis "$docs/examples/missing.py" "$program/data/demo" 2>&1)" '# no body waits for a name'
-is 'pages that the manual names' "$(sed -n 's|.*doc/acpidis/\([a-z]*\.md\).*|\1|p' "$page" | sort -u |
+is 'pages that the manual names' "$(sed -n 's|.*doc/acpidis/\([a-z_]*\.md\).*|\1|p' "$page" | sort -u |
     while read -r name; do [ -f "$docs/$name" ] || echo "$name"; done)" ''
-is 'links of the pages' "$(cd "$docs" && grep -oh '([a-z]*\.md[)#]' ./*.md | tr -d '(#)' | sort -u |
+is 'links of the pages' "$(cd "$docs" && grep -oh '([a-z_]*\.md[)#]' ./*.md | tr -d '(#)' | sort -u |
     while read -r name; do [ -f "$name" ] || echo "$name"; done)" ''
 is 'a second time' "$(PREFIX=$prefix sorted "$top/install")" "$said"
 touch "$prefix/bin/other"
@@ -69,7 +69,7 @@ completed() {
 }
 options=$("$("$top/acpidis" --program)" --help 2>&1 | grep -o -- '--[a-z][a-z-]*' | sort -u | tr '\n' ' ')
 is 'completion has the options' "$(completed acpidis -- | tr ' ' '\n' | sort | tr '\n' ' ')" "$options"
-is 'a part of an option' "$(completed acpidis --a)" '--any-sum'
+is 'a part of an option' "$(completed acpidis --a)" '--any-sum --any-run'
 mkdir folder && : >file
 is 'a folder' "$(completed acpidis f)" folder
 is 'a file' "$(completed acpidis --externals f | tr ' ' '\n' | sort | tr '\n' ' ')" 'file folder '

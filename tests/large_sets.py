@@ -5,6 +5,7 @@
 
 PROGRAM is out/acpidis if left out. With --stop the first cut that fails ends it. The independent reading of tests/oracle says what has to come of 19 tables cut at each
 byte, of all bodies of two bytes, of 20,000 methods in a mixed order with a call of each, and of the most files and bytes.
+It says it too of blocks outside methods and of a path that is declared again and again, with the option --any-run.
 For a long body, a name of sixteen million `^` and a million methods it would take too long: what has to come of these is
 written down here, after docs/listing.md, docs/limits.md and docs/loading.md. The last line is 'N passed, N failed'.
 """
@@ -33,6 +34,7 @@ from pages import table  # noqa: E402
 from running import DONE, RAW, REFUSED, Options, run, run_folder  # noqa: E402
 
 LIST, CHECK = Options(), Options(check=True)
+LIST_RUNS, CHECK_RUNS = Options(any_run=True), Options(any_run=True, check=True)
 LONGEST_RUN = 120
 MOST_SHOWN = 200
 BLOCK = "dsdt.dat"
@@ -178,10 +180,15 @@ def segment(number):
     return bytes(ord("A") + number // 26 ** place % 26 for place in (3, 2, 1, 0))
 
 
+def with_length(opcode, content):
+    """A package, its length spelled in four bytes."""
+    size = 4 + len(content)
+    return opcode + bytes([0xC0 | size & 15]) + (size >> 4).to_bytes(3, "little") + content
+
+
 def method(name, body):
-    """A method without arguments, its length spelled in four bytes."""
-    size = METHOD_LENGTH - 1 + len(body)
-    return b"\x14" + bytes([0xC0 | size & 15]) + (size >> 4).to_bytes(3, "little") + name + b"\0" + body
+    """A method without arguments."""
+    return with_length(b"\x14", name + b"\0" + body)
 
 
 def bodies_of_two_bytes():
@@ -209,6 +216,28 @@ def tables(count):
     names = [BLOCK, *(f"ssdt{number}.dat" for number in range(1, count))]
     codes = (b"\x08" + segment(number) + b"\0" for number in range(count))
     return {name: table(b"DSDT" if name == BLOCK else b"SSDT", code) for name, code in zip(names, codes)}
+
+
+def blocks(count):
+    """Ifs, one in the other. The predicate of the last one is a level below it."""
+    code = b""
+    for _ in range(count):
+        code = with_length(b"\xA0", b"\x01" + code)
+    return one(code)
+
+
+def nested_blocks():
+    """Code outside methods goes 512 levels deep."""
+    for options in (LIST_RUNS, CHECK_RUNS):
+        yield Trial("511 Ifs", blocks(511), options)
+    yield Trial("512 Ifs", blocks(512), LIST_RUNS)
+
+
+def a_path_declared_again():
+    code = b"\x08AAAA\0" * 100
+    files = {BLOCK: table(b"DSDT", code), "ssdt1.dat": table(b"SSDT", code)}
+    yield Trial("a path declared 200 times", files, LIST_RUNS)
+    yield Trial("a path declared 200 times", files, LIST)
 
 
 def the_most_files():
@@ -291,6 +320,8 @@ def the_most_methods():
 
 def large_trials():
     yield from bodies_of_two_bytes()
+    yield from nested_blocks()
+    yield from a_path_declared_again()
     yield from a_mixed_order()
     yield from the_most_files()
     yield from the_most_bytes()

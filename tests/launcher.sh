@@ -64,6 +64,8 @@ real_rows() {
     row 'a check of the demo' 0 'Check "dsdt.dat" Bytes 9 Methods 1 Raw 0 Same' "$top/acpidis" --check demo
     row 'the demo between options' 0 '    Return (Arg0)' "$top/acpidis" --workers 2 demo --any-sum
     same 'the demo between options, and nothing else'
+    row 'the demo, as any run declares it' 0 '    Return (Arg0)' "$top/acpidis" --any-run demo
+    same 'the demo, as any run declares it, and nothing else'
     row 'a link' 0 '    Return (Arg0)' ./link demo
     same 'a link, and nothing else'
     row 'a file that is named demo' 1 'acpidis: cannot read "demo"' "$top/acpidis" --externals demo demo
@@ -140,7 +142,7 @@ row 'a folder like an option' 1 'acpidis: cannot read folder' env PATH="$none" c
 nokit="acpidis: the Rattle kit isn't there: its command rt proves and builds this program"
 row 'no kit' 127 "$nokit" env PATH="$none" copy/acpidis demo
 row 'all options, and no kit' 127 "$nokit" env PATH="$none" \
-    copy/acpidis --any-sum --workers 64 --workers=1 --externals e --externals=e --unknown-zero --check folder
+    copy/acpidis --any-sum --any-run --workers 64 --workers=1 --externals e --externals=e --unknown-zero --check folder
 
 # a build that fails, with an older program in place
 mkdir copy/crates/acpidis_program/out

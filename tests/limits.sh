@@ -35,6 +35,7 @@ SETS = {
     "operators": lambda: shapes.nots(50, 508),
     "packages": lambda: shapes.packages(50, 508),
     "devices": lambda: shapes.nested(510, 1),
+    "blocks": lambda: shapes.blocks(2_000, 508),
     "methods": lambda: shapes.tiny_methods(20_000),
     "buffer": lambda: shapes.buffer(1 << 20),
 }
@@ -80,6 +81,9 @@ try() {
     fi
 }
 
+# With so many KB each set is read whole.
+most=8000000
+
 # The least memory with which the program starts at all: below it the system doesn't load it.
 least=4000
 until limited -v "$least" "$program" --version && grep -q acpidis text; do
@@ -93,9 +97,13 @@ done
 echo "the program starts with $least KB"
 
 for set in sets/*; do
-    python3 "$top/tests/oracle/listing.py" --any-sum "$set" >whole_text 2>whole_lines
+    case $set in
+    */blocks) reading=--any-run ;;
+    *) reading=--any-sum ;;
+    esac
+    python3 "$top/tests/oracle/listing.py" "$reading" "$set" >whole_text 2>whole_lines
     whole=$?
-    "$program" --any-sum "$set" >text 2>lines
+    "$program" "$reading" "$set" >text 2>lines
     status=$?
     if is_right && [ "$complete" = yes ]; then
         passed=$((passed + 1))
@@ -107,15 +115,20 @@ for set in sets/*; do
     for count in $workers; do
         limit=$least
         in_a_row=0
-        while [ "$in_a_row" -lt 3 ]; do
-            try -v "$limit" "$program" --any-sum --workers "$count" "$set"
+        while [ "$in_a_row" -lt 3 ] && [ "$limit" -lt "$most" ]; do
+            try -v "$limit" "$program" "$reading" --workers "$count" "$set"
             if [ "$complete" = yes ]; then in_a_row=$((in_a_row + 1)); else in_a_row=0; fi
             limit=$((limit + memory_step))
         done
+        if [ "$in_a_row" -lt 3 ]; then
+            failed=$((failed + 1))
+            echo "FAILED $set, $count workers: not whole with $most KB"
+            break
+        fi
         echo "$set, $count workers: whole from $((limit - 3 * memory_step)) KB"
         limit=16
         while [ "$limit" -le 1040 ]; do
-            try -s "$limit" "$program" --any-sum --workers "$count" "$set"
+            try -s "$limit" "$program" "$reading" --workers "$count" "$set"
             limit=$((limit + stack_step))
         done
     done

@@ -4,11 +4,12 @@
     python3 tests/page.py [--sets N] [FOLDER ..]
     python3 tests/page.py --make FOLDER
 
-Of three sample sets, of N made-up sets, 40 if left out, and of each FOLDER of dumps: each name has the target that the
-independent reading says it means, each link leads to an anchor that is there, each declared path has one, each line of
-a definition block stands in the page as it is in the listing, and each declaration lists the lines that use it. Then
-come hostile names, comparisons and texts that are no listing. With --make the third sample set is written to a folder,
-its listing and its errors printed. The last line is 'N passed, N failed'.
+Of four sample sets, of N made-up sets, 40 if left out, of as many with code outside methods, and of each FOLDER of
+dumps: each name has the targets that the independent reading says it means, each link leads to an anchor that is there,
+each declared path has one, and its row has its marks, each line of a definition block stands in the page as it is in
+the listing, and each declaration lists the lines that use it. Then come hostile names, comparisons and texts that are
+no listing. With --make the third sample set is written to a folder, its listing and its errors printed. The last line
+is 'N passed, N failed'.
 """
 
 import argparse
@@ -27,11 +28,13 @@ TOP = pathlib.Path(__file__).resolve().parent.parent
 sys.path.insert(0, str(TOP / "tests/oracle"))
 
 import pages  # noqa: E402
+from any_run import RunNamespace, RunReader  # noqa: E402
 from dumps import aml_of, order_of  # noqa: E402
 from folders import read_folder  # noqa: E402
 from loading import Loaded, Namespace, path_text  # noqa: E402
 from made_sets import SetMaker  # noqa: E402
-from reading import ALIAS, EXTERNAL, FIELD_LISTS, IF, METHOD, SCOPE, SCOPES, Name, Named, Op, Reader  # noqa: E402
+from reading import ALIAS, ELSE, EXTERNAL, FIELD_LISTS, IF, METHOD, ROWS, SCOPE, SCOPES  # noqa: E402
+from reading import Name, Named, Op, Reader  # noqa: E402
 from running import REFUSED, Options, Outcome, run_folder  # noqa: E402
 
 PAGE = TOP / "examples/page.py"
@@ -40,8 +43,10 @@ ELEMENTS = set(
     "table tr th td dfn b i q u em mark pre script".split()
 )
 Path = tuple[str, ...]
-# What a name is, and the path that it declares or leads to; of a body's own name the place of its declaration.
-Told = tuple[str, str, object]
+WHILE, MOST_OTHERS = 0xA2, 3
+# What a name is, the path that it declares or leads to, of a body's own name the place of its declaration, and the
+# paths to which it leads in other runs.
+Told = tuple[str, str, object, tuple]
 
 
 # ---- sample sets
@@ -94,6 +99,18 @@ HOSTILE_FILES = {
 }
 PAGES_FILES = {"dsdt.dat": pages.table(b"DSDT", pages.DSDT), "ssdt1.dat": pages.table(b"SSDT", pages.SSDT)}
 
+# Two branches that declare a method, a nearer one that only may stand, a Device that is declared again, a Scope of what
+# nothing declares, and code that runs in front of a nearer declaration.
+BRANCHES = (
+    packed(b"\xA0", b"COND" + method(b"FOO_", 1, b"\xA4NONE")) + packed(b"\xA1", method(b"FOO_", 1, b"\xA3\xA4NO_2"))
+)
+NEARER = b"\x70COND\x60" + b"\x08COND\1" + packed(b"\xA0", b"COND" + method(b"FOO_", 1, b""))
+RUNS = (
+    b"\x08COND\0" + BRANCHES + device(b"DEV0", NEARER + method(b"CALL", 0, b"FOO_\1"))
+    + device(b"DEV0", b"\x08LATE\0") + packed(b"\x10", b"\\RP99" + b"\x08NEAR\0")
+)
+RUNS_FILES = {"dsdt.dat": pages.table(b"DSDT", RUNS)}
+
 DEMO = TOP / "crates/acpidis_program/data/demo"
 
 
@@ -119,48 +136,131 @@ class Watching(Namespace):
         return self.led[-1]
 
 
+    def is_sure(self, path: Path) -> bool:
+        return self.kind(path) is not None
+
+
+class WatchingReader(RunReader):
+    """Keeps where the names of Scopes and the sources of Aliases led, and what the names meant of terms that aren't
+    declarations, when they were read."""
+
+    def named(self, at: int, end: int, position: str, level: int) -> tuple:
+        term, rest = super().named(at, end, position, level)
+        if position == "run":
+            self.keep(term)
+        return term, rest
+
+    def inside(self, term: Op) -> tuple[Path, bool]:
+        self.keep(term)
+        path, is_sure = super().inside(term)
+        self.space.led.append((term, path))
+        return path, is_sure
+
+    def leave(self, term: Op) -> None:
+        self.keep(term)
+        if term.opcode == ALIAS:
+            self.space.led.append((term, self.space.find(self.scope, term.names()[0])))
+        super().leave(term)
+
+    def keep(self, term: object) -> None:
+        if not isinstance(term, Op) or ROWS[term.opcode].group != "declaration":
+            found = {str(name): may_mean(self.space, self.scope, name, {}) for name in names_in(term)}
+            self.space.then.setdefault(id(term), found)
+
+
+def names_in(term: object) -> list[Name]:
+    """The names of a term that has no names of its own to declare, without those of the terms inside it."""
+    if isinstance(term, Name):
+        return [term]
+    if isinstance(term, Named):
+        return [term.name, *(name for arg in term.args for name in names_in(arg))]
+    if not isinstance(term, Op):
+        return []
+    elements = term.tail if term.row.tail == "e" else []
+    return [name for part in (*term.parts, *elements) for name in names_in(part)]
+
+
+def may_mean(space: Namespace, scope: Path, name: Name, own: dict) -> list[Path]:
+    """The paths that a name may mean, the nearest first, up to one that stands in every run (docs/names.md)."""
+    found = []
+    for path in name.candidates(scope):
+        if path in own or space.kind(path):
+            found.append(path)
+        if path in own or space.is_sure(path):
+            return found
+    return found or [path for path in name.candidates(scope) if path in space.externals][:1]
+
+
 class Teller:
     """Tells the names of a set's definition blocks in the order of the text, and what each is."""
 
-    def __init__(self, codes: list[bytes], unknown_zero: bool):
-        self.space, self.told = Watching(), []
-        trees = [Reader(code).read() for code in codes]
-        for table, terms in enumerate(trees):
-            self.space.load(table, (), terms)
-        bodies = Loaded(codes, trees, self.space).bodies(unknown_zero)
+    def __init__(self, codes: list[bytes], options: Options):
+        self.told: list[Told] = []
+        self.space, trees = self.run(codes) if options.any_run else self.load(codes)
+        bodies = Loaded(codes, trees, self.space).bodies(options.unknown_zero)
         self.bodies = {(body.method.table, body.method.start): body for body in bodies}
-        self.led, self.seen = iter(self.space.led), set()
+        self.seen, self.declared, self.then = set(), set(), {}
         for self.table, terms in enumerate(trees):
             self.tell_terms(terms, ())
 
-    def tell(self, name: Name, what: str, of: object) -> None:
+    def load(self, codes: list[bytes]) -> tuple[Namespace, list]:
+        space, trees = Watching(), [Reader(code).read() for code in codes]
+        for table, terms in enumerate(trees):
+            space.load(table, (), terms)
+        led = iter(space.led)
+        self.led_by, self.then_by = (lambda _: next(led)), {}
+        return space, trees
+
+    def run(self, codes: list[bytes]) -> tuple[Namespace, list]:
+        space = RunNamespace()
+        space.led, space.then = [], {}
+        trees = [WatchingReader(code, space=space, table=table).read() for table, code in enumerate(codes)]
+        led = {id(term): path for term, path in space.led}
+        self.led_by, self.then_by = (lambda term: led[id(term)]), space.then
+        return space, trees
+
+    def tell(self, name: Name, what: str, of: object, others: tuple = ()) -> None:
         if str(name):
-            self.told.append((str(name), what, of))
+            self.told.append((str(name), what, of, others))
 
     def tell_found(self, name: Name, scope: Path, own: dict) -> None:
-        path = self.space.find(scope, name, own)
+        path, *others = self.then.get(str(name)) or may_mean(self.space, scope, name, own) or [None]
         if path in own:
             self.tell(name, "leads in its body", own[path])
         else:
-            self.tell(name, "leads nowhere" if path is None else "leads", path)
+            self.tell(name, "leads nowhere" if path is None else "leads", path, tuple(others[:MOST_OTHERS]))
+
+    def tell_led(self, name: Name, path: Path) -> None:
+        is_known = self.space.kind(path) or path in self.space.externals
+        self.tell(name, "leads" if is_known else "leads nowhere", path if is_known else None)
+
+    def tell_declared(self, name: Name, scope: Path) -> Path:
+        path = name.placed(scope)
+        self.tell(name, "declares again" if path in self.declared else "declares", path)
+        self.declared.add(path)
+        return path
 
     def tell_terms(self, terms: list, scope: Path) -> None:
         for term in terms:
-            names = term.names()
-            if term.opcode == METHOD:
-                path = names[0].placed(scope)
-                self.tell(names[0], "declares", path)
+            opcode, names = (term.opcode, term.names()) if isinstance(term, Op) else (None, [])
+            self.then = self.then_by.get(id(term), {})
+            if opcode == METHOD:
+                path = self.tell_declared(names[0], scope)
                 self.tell_body(self.bodies[self.table, term.tail[0]].terms or [], path)
-            elif term.opcode == SCOPE or term.opcode in SCOPES:
-                path = next(self.led) if term.opcode == SCOPE else names[0].placed(scope)
-                self.tell(names[0], "leads" if term.opcode == SCOPE else "declares", path)
+            elif opcode == SCOPE:
+                path = self.led_by(term)
+                self.tell_led(names[0], path)
                 self.tell_terms(term.tail, path)
-            elif term.opcode == ALIAS:
-                self.tell(names[0], "leads", next(self.led))
-                self.tell(names[1], "declares", names[1].placed(scope))
-            elif term.opcode == EXTERNAL:
+            elif opcode in SCOPES:
+                self.tell_terms(term.tail, self.tell_declared(names[0], scope))
+            elif opcode == ALIAS:
+                self.tell_led(names[0], self.led_by(term))
+                self.tell_declared(names[1], scope)
+            elif opcode == EXTERNAL:
                 self.tell_external(names[0], names[0].placed(scope))
-            elif term.opcode == IF:
+            elif opcode in (IF, ELSE, WHILE):
+                for part in term.parts:
+                    self.tell_term(part, scope, {}, False)
                 self.tell_terms(term.tail, scope)
             else:
                 self.tell_term(term, scope, {}, False)
@@ -180,10 +280,13 @@ class Teller:
         declared: dict[Path, int] = {}
 
         def declare(name: Name) -> None:
+            if not is_body:
+                self.tell_declared(name, scope)
+                return
             path = name.placed(scope)
             if path is not None:
                 declared[path] = len(self.told)
-            self.tell(name, "declares in its body" if is_body else "declares", path)
+            self.tell(name, "declares in its body", path)
 
         if isinstance(term, Name):
             self.tell_found(term, scope, own)
@@ -222,6 +325,7 @@ class Read(HTMLParser):
     names: list = field(default_factory=list)
     lines: dict = field(default_factory=dict)
     notes: list = field(default_factory=list)
+    rows: dict = field(default_factory=dict)
     uses: set = field(default_factory=set)
     cells: list = field(default_factory=list)
     titles: list = field(default_factory=list)
@@ -229,6 +333,7 @@ class Read(HTMLParser):
     def __post_init__(self) -> None:
         super().__init__()
         self.section, self.line, self.name, self.used, self.is_listed, self.note = "", 0, None, "", False, False
+        self.row, self.is_named, self.is_small = None, False, False
 
     def handle_starttag(self, tag: str, attrs: list) -> None:
         found = dict(attrs)
@@ -237,6 +342,12 @@ class Read(HTMLParser):
         self.anchors += [found["id"]] if "id" in found else []
         if tag == "section":
             self.section = found.get("class") or found["id"]
+        elif not self.section and tag in ("p", "summary"):
+            self.row, self.is_named = [found.get("class"), ""], False
+        elif not self.section and tag == "a" and self.row and not self.is_named:
+            self.rows[found["href"][1:]], self.is_named = self.row, True
+        elif not self.section and tag == "small":
+            self.is_small = True
         elif self.section == "block":
             self.start_in_block(tag, found)
         elif self.section == "uses" and tag == "div":
@@ -262,7 +373,9 @@ class Read(HTMLParser):
 
     def handle_endtag(self, tag: str) -> None:
         if tag in ("p", "summary", "section"):
-            self.line = 0
+            self.line, self.row = 0, None
+        if tag == "small":
+            self.is_small = False
         if tag == "section":
             self.section = ""
         if self.note and tag in ("a", "em"):
@@ -280,27 +393,42 @@ class Read(HTMLParser):
                 self.name[2] += data
         elif self.section == "tables" and self.cells:
             self.cells[-1] += data
+        elif self.row and self.is_small and not data.replace(",", "").isdigit():
+            self.row[1] += data
 
     def told(self) -> list[Told]:
         """The names of the blocks as the independent reading tells them."""
         names = enumerate(self.names)
         own_lines = {str(line): place for place, (tag, found, _, line) in names if tag == "dfn" and "id" not in found}
-        return [(text, *self.meaning(tag, found, own_lines)) for tag, found, text, _ in self.names]
+        return [
+            (text, *self.meaning(tag, found, own_lines), others_in(tag, found)) for tag, found, text, _ in self.names
+        ]
 
     def meaning(self, tag: str, found: dict, own_lines: dict) -> tuple[str, object]:
         if tag == "u":
             return "leads nowhere", None
         if tag == "dfn":
             anchor = found.get("id", found.get("title"))
-            return "declares" if "id" in found else "declares in its body", anchor and path_in(anchor)
+            what = "declares again" if found.get("class") == "again" else "declares in its body"
+            return "declares" if "id" in found else what, anchor and path_in(anchor)
         anchor = found["href"][1:]
         return ("leads in its body", own_lines.get(anchor)) if anchor.isdigit() else ("leads", path_in(anchor))
 
     def wanted_uses(self) -> set:
         """The lines that names lead from, each with the entry of the declaration that they lead to."""
-        entries = {found.get("id", str(line)): f"u{line}" for tag, found, _, line in self.names if tag == "dfn"}
-        aims = ((found["href"][1:], str(line)) for tag, found, _, line in self.names if tag == "a")
+        entries = {
+            found.get("id", str(line)): f"u{line}" for tag, found, _, line in self.names
+            if tag == "dfn" and found.get("class") != "again"
+        }
+        aims = [(found["href"][1:], str(line)) for tag, found, _, line in self.names if tag == "a"]
+        aims += [(path_text(path), str(line)) for tag, found, _, line in self.names for path in others_in(tag, found)]
         return {(entries[anchor], line) for anchor, line in aims if anchor in entries}
+
+
+def others_in(tag: str, found: dict) -> tuple:
+    """The paths to which a name leads in other runs."""
+    title = found.get("title", "") if tag == "a" else ""
+    return tuple(map(path_in, title.removeprefix("or ").split(" or "))) if title else ()
 
 
 def path_in(anchor: str) -> Path:
@@ -348,7 +476,7 @@ class Checks:
         read = read_page(self.page(outcome))
         dumps = read_folder(folder)
         codes = [aml_of(dumps[index].data) for index in order_of(dumps, options.any_sum)]
-        teller = Teller(codes, options.unknown_zero)
+        teller = Teller(codes, options)
         self.is_same(f"the names of {what}", first_difference(read.told(), teller.told), None)
         self.is_same(f"the uses of {what}", read.uses, read.wanted_uses())
         self.check_frame(what, read, outcome)
@@ -361,6 +489,9 @@ class Checks:
         self.is_same(f"anchors twice in {what}", [one for one, count in Counter(read.anchors).items() if count > 1], [])
         rows = outcome.out.partition("\nNamespace ")[2].partition("\nDef")[0]
         paths = set(re.findall(r"^  (\\\S*) [A-Z]", rows, re.MULTILINE))
+        marks = {path: marks_of(row) for path, row in re.findall(r"^  (\\\S*) (.*)", rows, re.MULTILINE)}
+        shown_marks = {path: tuple(row) for path, row in read.rows.items() if path in marks}
+        self.is_same(f"marks of rows of {what}", shown_marks, marks)
         declared = {found["id"] for tag, found, *_ in read.names if tag == "dfn" and "id" in found}
         self.is_same(f"declared paths without an anchor in {what}", paths - declared, set())
         self.is_same(f"elements of {what}", read.elements - ELEMENTS, set())
@@ -376,6 +507,13 @@ class Checks:
         self.is_same(f"faults of {what}", shown, faults)
 
 
+def marks_of(row: str) -> tuple[str | None, str]:
+    """The class and the small words of a row of the tree, by the row of the listing."""
+    is_maybe, times = re.search(r"( Maybe)?(?: Times (\d+))?$", row).groups()
+    words = (["maybe"] if is_maybe else []) + ([f"{times} times"] if times else [])
+    return "maybe" if is_maybe else None, ", ".join(words)
+
+
 def first_block(lines: list[str]) -> int:
     return next((at for at, line in enumerate(lines) if line.startswith("DefinitionBlock ")), len(lines))
 
@@ -388,9 +526,9 @@ def first_difference(got: list, wanted: list) -> str | None:
 
 
 
-def check_made_up(checks: Checks, sets: int) -> None:
+def check_made_up(checks: Checks, sets: int, any_run: bool) -> None:
     """Pages of made-up sets, as many as are taken."""
-    maker, number = SetMaker(random.Random(0)), 0
+    maker, number = SetMaker(random.Random(0), any_run=any_run), 0
     while number < sets:
         trial = maker.trial()
         with tempfile.TemporaryDirectory() as room:
@@ -407,6 +545,23 @@ def check_hostile(checks: Checks, read: Read) -> None:
     checks.is_same("hardware names", read.titles, ["PNP0A08", "PNP0A03", "PNP0A03"])
     notes = [note for note in read.notes if note.startswith("raw")]
     checks.is_same("the name at a fault", notes, ["raw: UnknownName at 1, ZZZZ"])
+
+
+def check_runs(checks: Checks, read: Read) -> None:
+    """The names and rows of the set with code outside methods that differ by the run."""
+    wanted = {"\\FOO_": ("maybe", "maybe, 2 times"), "\\DEV0": (None, "2 times"), "\\DEV0.LATE": ("maybe", "maybe")}
+    checks.is_same("rows by the run", {path: tuple(read.rows.get(path, ())) for path in wanted}, wanted)
+    told = [told[1:] for told in read.told() if told[0] == "FOO_"]
+    one, two = ("FOO_",), ("DEV0", "FOO_")
+    wanted = [("declares", one, ()), ("declares again", one, ()), ("declares", two, ()), ("leads", two, (one,))]
+    checks.is_same("a name that means a maybe, or what stands further up", told, wanted)
+    told = [told[1:3] for told in read.told() if told[0] in ("COND", "\\RP99")]
+    one, two = ("COND",), ("DEV0", "COND")
+    wanted = [("declares", one), ("leads", one), ("leads", one), ("declares", two), ("leads", two)]
+    checks.is_same("code in front of a nearer declaration", told, [*wanted, ("leads nowhere", None)])
+    notes = [note for note in read.notes if " of " in note or note.startswith("raw")]
+    wanted = ["1 of 2", "raw: UnknownName at 1, NONE", "2 of 2", "raw: UnknownName at 2, NO_2", "1 of 2", "2 of 2"]
+    checks.is_same("declarations and bodies of one path", notes, wanted)
 
 
 def check_comparison(checks: Checks) -> None:
@@ -456,7 +611,10 @@ def check_all(checks: Checks, asked: argparse.Namespace) -> None:
     check_hostile(checks, read)
     for folder in asked.folders:
         checks.is_same(f"{folder} is taken", checks.check_set(str(folder), folder, Options()) is not None, True)
-    check_made_up(checks, asked.sets)
+    runs = written(checks.room / "runs", RUNS_FILES)
+    check_runs(checks, checks.check_set("the set of runs", runs, Options(any_run=True)))
+    check_made_up(checks, asked.sets, False)
+    check_made_up(checks, asked.sets, True)
     check_comparison(checks)
     check_refusals(checks, run_folder(hostile, Options()))
 

@@ -23,7 +23,7 @@ import tempfile
 
 TOP = pathlib.Path(__file__).resolve().parent.parent
 LISTING = "docs/listing.md"
-PAGES = ["docs/folders.md", "docs/refusals.md", "docs/externals.md", "docs/reading.md", "docs/many.md"]
+PAGES = ["folders", "refusals", "externals", "any_run", "reading", "many"]
 MANUAL = "docs/acpidis.1"
 LINTS = [["mandoc", "-T", "lint"], ["groff", "-ww", "-man", "-z"]]
 REFUSALS = "docs/refusals.md"
@@ -239,7 +239,7 @@ def fails_of_scripts():
 
 
 def main():
-    fails = [fail for page in [LISTING, *PAGES] for fail in fails_of(page)]
+    fails = [fail for page in [LISTING, *(f"docs/{name}.md" for name in PAGES)] for fail in fails_of(page)]
     fails += [*fails_of_readme(), *fails_of_definitions(), *fails_of_names(), *fails_of_manual(), *fails_of_words()]
     if "--no-scripts" not in sys.argv:
         fails += fails_of_scripts()

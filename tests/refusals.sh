@@ -5,10 +5,10 @@
 # usage: tests/refusals.sh [program]
 #
 # The tests of library_tests in `memory` run with each growth refused in turn, by itself and with all later ones, those
-# in `starts` with each start. So does the program, over a set whose first method can't be read. Each thread that was
-# started has to be joined, and a want is an answer only where something was refused. With the word program only the
-# program runs so, as in ./test, in some seconds; the tests are proved and built first. It needs a C compiler, for
-# refusals.c.
+# in `starts` with each start. So does the program, over a set whose first method can't be read, and over one with code
+# outside methods. Each thread that was started has to be joined, and a want is an answer only where something was
+# refused. With the word program only the program runs so, as in ./test, in some seconds; the tests are proved and built
+# first. It needs a C compiler, for refusals.c.
 top=$(CDPATH='' cd -- "$(dirname -- "$0")/.." && pwd) || exit 1
 parts=${1-all}
 work=$(mktemp -d) || exit 1
@@ -93,12 +93,22 @@ mkdir set
 { printf 'DSDT\063\0\0\0' && head -c 28 /dev/zero && printf '\024\016AAAA\0\244BBBB\001\012\005'; } >set/dsdt.dat
 { printf 'SSDT\055\0\0\0' && head -c 28 /dev/zero && printf '\024\010FOO_\001\244h'; } >set/ssdt1.dat
 : >set/tables.map
+# Two branches that declare one method, a call of it, and a body that can't be read.
+mkdir branches
+{
+    printf 'DSDT\135\0\0\0' && head -c 28 /dev/zero &&
+        printf '\010CCCC\0\240\014CCCC\024\006FOO_\001\241\012\024\010FOO_\001\244h\024\013BAR_\0FOO_\001' &&
+        printf '\024\016AAAA\0\244BBBB\001\012\005'
+} >branches/dsdt.dat
 printf '\\CCCC 2\n' >counts_given
 for words in '--workers 1' '--workers 3' --check '--externals ../counts_given'; do
     for how in REFUSE_GROWTH REFUSE_FROM REFUSE_START; do
         # shellcheck disable=SC2086
         sweep is_whole_or_want "$how" "$top/out/acpidis" --any-sum $words ../set
     done
+done
+for how in REFUSE_GROWTH REFUSE_FROM REFUSE_START; do
+    sweep is_whole_or_want "$how" "$top/out/acpidis" --any-sum --any-run ../branches
 done
 wait
 

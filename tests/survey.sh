@@ -101,6 +101,24 @@ printf '\001' | dd of=summed/one/dsdt.dat bs=1 seek=9 conv=notrunc 2>/dev/null
 "$survey" summed lax --any-sum 2>/dev/null
 is 'an option' "$(cut -f 1-3 strict lax)" $'one\t1\ttable "dsdt.dat": BadSum\none\t0\t-'
 
+# a set that is refused, and whether --any-run reads it: an If around a Name, and a Return
+mkdir -p run/if run/return run/short
+printf 'DSDT\66\0\0\0%028d\10CCCC\1\240\13CCCC\10WIN_\0' 0 >run/if/dsdt.dat
+printf 'DSDT\46\0\0\0%028d\244\0' 0 >run/return/dsdt.dat
+printf 'no table' >run/short/dsdt.dat
+wanted=$'if\t1\ttable "dsdt.dat": ModuleCode at 6 (read with --any-run)\t-\t-\t-
+return\t1\ttable "dsdt.dat": ModuleCode at 0\t-\t-\t-
+short\t1\ttable "dsdt.dat": Short\t-\t-\t-'
+"$survey" run refused --any-sum 2>/dev/null
+is 'what --any-run reads' "$(lines refused)" "$wanted"
+wanted=$'if\t0\t-\t1\t0\t0
+return\t1\ttable "dsdt.dat": ModuleCode at 0\t-\t-\t-
+short\t1\ttable "dsdt.dat": Short\t-\t-\t-'
+: >calls
+ACPIDIS=$work/slow.sh "$survey" run taken --any-sum --any-run 2>/dev/null
+is 'the option given' "$(lines taken)" "$wanted"
+is 'no set is run twice' "$(wc -l <calls)" 3
+
 # the OEM of the DSDT, whatever its file is called, with bytes that aren't printable
 mkdir -p named/set
 cp "$demo/dsdt.dat" named/set/$'a "\\b\n'

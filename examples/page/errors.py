@@ -1,11 +1,12 @@
 """The faults of raw bodies, from what acpidis wrote to standard error, and what stands at the byte of a fault."""
 
 import re
+from collections import defaultdict, deque
 from dataclasses import dataclass
 
 from listing import PATH, SEGMENT, Line, Listing, NoListing, Path, path_of, path_text
 
-FAULT = re.compile(rf"acpidis: body ({PATH}): ([A-Z][A-Za-z]+)(?: at ([0-9]+))?")
+FAULT = re.compile(rf"acpidis: body ({PATH}): ([A-Z][A-Za-z]+)(?: at ([0-9]{{1,9}}))?")
 
 
 @dataclass(frozen=True)
@@ -17,21 +18,22 @@ class Fault:
         return self.word if self.at is None else f"{self.word} at {self.at}"
 
 
-def raw_lines(listing: Listing) -> dict[Path, Line]:
-    """The line with the bytes of each raw body, by the method's path."""
-    return {line.method: line for line in listing.lines if line.term == "Raw" and line.method}
+def raw_lines(listing: Listing) -> list[Line]:
+    """The lines with the bytes of raw bodies."""
+    return [line for line in listing.lines if line.term == "Raw" and line.method]
 
 
-def read_errors(text: bytes, listing: Listing) -> dict[Path, Fault]:
-    """The fault of each raw body that the text names. Lines of another form are passed over."""
-    raw, faults = raw_lines(listing), {}
-    for line in text.decode("latin-1").splitlines():
-        form = FAULT.fullmatch(line)
-        if form:
-            path = path_of(form[1])
-            if path not in raw:
-                raise NoListing(f"it isn't of these errors: the body of {path_text(path)} isn't raw")
-            faults[path] = Fault(form[2], int(form[3]) if form[3] else None)
+def read_errors(text: bytes, listing: Listing) -> dict[int, Fault]:
+    """The faults of raw bodies that the text names, by the numbers of their lines: of several bodies of one path in
+    their order. Lines of another form are passed over."""
+    raw, faults = defaultdict(deque), {}
+    for line in raw_lines(listing):
+        raw[line.method].append(line.number)
+    for form in filter(None, map(FAULT.fullmatch, text.decode("latin-1").splitlines())):
+        path = path_of(form[1])
+        if not raw[path]:
+            raise NoListing(f"it isn't of these errors: the body of {path_text(path)} isn't raw")
+        faults[raw[path].popleft()] = Fault(form[2], int(form[3]) if form[3] else None)
     return faults
 
 

@@ -8,10 +8,12 @@ SEGMENT = r"[A-Z_][A-Z0-9_]{3}"
 NAME = rf"(?:\\|\^+)?{SEGMENT}(?:\.{SEGMENT})*(?!\w)|\\|\^+"
 TEXT = r'"[^"]*"'
 # A name has no small letter, and the word of each opcode has one.
-WORD = re.compile(rf"({TEXT}|0x[0-9A-F]+|{NAME}|[A-Z][A-Za-z]*[a-z][A-Za-z]*[0-9]?)")
-BETWEEN = re.compile(r"(?:[ (){},]|[0-9A-F]+)*")
+WORD = re.compile(rf"({TEXT}|0x[0-9A-F]+|{NAME}|[A-Z](?=[A-Z]{{0,30}}[a-z])[A-Za-z]{{1,30}}[0-9]?)")
+BETWEEN = re.compile(r"[ (){},0-9A-F]*")
 PATH = rf"\\(?:{SEGMENT}(?:\.{SEGMENT})*)?"
-ROW = re.compile(rf"  ({PATH}) ([A-Z][A-Za-z]+(?: [0-7]| {PATH})?)")
+# With --any-run a row may have two marks: what only may stand, and what is declared several times.
+ROW = re.compile(rf"  ({PATH}) ([A-Z][A-Za-z]+(?: [0-7]| {PATH})?)( Maybe)?(?: Times ([1-9][0-9]{{0,8}}))?")
+RAW = re.compile(r"Raw \{(?:[0-9A-F]{2}(?:, [0-9A-F]{2})*)?\}")
 DUMP = re.compile(rf'(?:Table|Root) ({TEXT})(?: ({TEXT}) Length| Oem) .*')
 BLOCK = re.compile(rf"DefinitionBlock \(({TEXT})\) {{")
 DEFINITION_BLOCKS = ('"DSDT"', '"SSDT"')
@@ -75,9 +77,19 @@ class Dump:
 
 @dataclass
 class Row:
+    """A declared path: the kind of its first declaration, whether it only may stand, and how often it is declared."""
+
     number: int
     path: Path
     kind: str
+    is_maybe: bool = False
+    times: int = 1
+
+    @property
+    def marks(self) -> str:
+        """What a reader sees of both."""
+        times = f"{self.times:,} times" if self.times > 1 else ""
+        return ", ".join(filter(None, ("maybe" if self.is_maybe else "", times)))
 
 
 @dataclass
@@ -137,7 +149,7 @@ class Reader:
             form = ROW.fullmatch(self.peek())
             if not form:
                 raise self.refuse()
-            rows.append(Row(self.at + 1, path_of(form[1]), form[2]))
+            rows.append(Row(self.at + 1, path_of(form[1]), form[2], bool(form[3]), int(form[4] or 1)))
         self.at += 1
         return rows
 
@@ -164,6 +176,8 @@ class Reader:
             depth -= 1
         pieces = WORD.split(bare)
         if len(text) - len(bare) != 2 * depth or not all(map(BETWEEN.fullmatch, pieces[::2])) or not bare:
+            raise self.refuse()
+        if bare.startswith("Raw") and not RAW.fullmatch(bare):
             raise self.refuse()
         self.at += 1
         return Line(self.at, depth, pieces)

@@ -9,12 +9,13 @@ import hashlib
 import pathlib
 import re
 from collections import Counter
+from collections.abc import Iterable
 from dataclasses import dataclass, field
 from html import escape
 
 from comparison import Comparison, Text
 from errors import Fault, raw_bytes, raw_lines, spelled_name
-from listing import ROOT, TEXT, Block, Dump, Line, Listing, Path, path_of, path_text
+from listing import ROOT, TEXT, Block, Dump, Line, Listing, Path, Row, path_of, path_text
 from names import PREDEFINED, Meaning, Names, Sort, Uses, is_name
 
 HERE = pathlib.Path(__file__).resolve().parent
@@ -43,7 +44,7 @@ class Sheet:
 
     listing: Listing
     names: Names
-    faults: dict[Path, Fault] = field(default_factory=dict)
+    faults: dict[int, Fault] = field(default_factory=dict)
     comparison: Comparison | None = None
 
     def mark(self, path: Path | None) -> str:
@@ -86,13 +87,21 @@ def is_under_hardware_name(line: Line, words: list[str]) -> bool:
 
 def name_html(word: str, meaning: Meaning) -> str:
     if meaning.sort is Sort.LEADS:
-        return f"<a href=#{meaning.anchor}>{word}</a>"
+        return f"<a href=#{meaning.anchor}{others_title(meaning)}>{word}</a>"
     if meaning.sort is Sort.DECLARES:
         return f"<dfn id={meaning.anchor}>{word}</dfn>"
+    if meaning.sort is Sort.AGAIN:
+        return f"<dfn class=again title={meaning.anchor}>{word}</dfn>"
     if meaning.sort is Sort.LOCAL:
         path = f" title={path_text(meaning.path)}" if meaning.path else ""
         return f"<dfn{path}>{word}</dfn>"
     return f'<u title="nothing declares it">{word}</u>'
+
+
+def others_title(meaning: Meaning) -> str:
+    """What a name may mean too, in another run."""
+    paths = [path_text(other.path) for other in meaning.others if other.path is not None]
+    return f' title="or {" or ".join(paths)}"' if paths else ""
 
 
 def number_html(word: str, is_hardware: bool) -> str:
@@ -137,6 +146,7 @@ class BlockWriter:
 
     def __init__(self, sheet: Sheet):
         self.sheet = sheet
+        self.nexts = next_notes(sheet.names)
 
     def write(self, block: Block) -> list[str]:
         written, folds = [], []
@@ -156,7 +166,7 @@ class BlockWriter:
         """A line's text with its notes, and how its path differs from another listing's."""
         meanings = self.sheet.names.meanings[line.number]
         if line.term == "Raw" and line.method:
-            return raw_html(line, self.sheet.faults.get(line.method)), "raw"
+            return raw_html(line, self.sheet.faults.get(line.number)), "raw"
         text, mark = line_html(line, meanings), ""
         for meaning in meanings:
             if meaning.sort in (Sort.DECLARES, Sort.LOCAL):
@@ -167,7 +177,18 @@ class BlockWriter:
                     mark = self.sheet.mark(meaning.path)
         if mark == "changed":
             text += f"<a class=note href=#c{line.number}>changed</a>"
-        return text, mark
+        return text + self.nexts.get(line.number, ""), mark
+
+
+def next_notes(names: Names) -> dict[int, str]:
+    """For each declaration of a path that is declared several times, by its line's number, the link to the next one."""
+    notes = {}
+    for lines in names.declarations.values():
+        if len(lines) > 1:
+            for place, line in enumerate(lines, 1):
+                behind = lines[place % len(lines)]
+                notes[line.number] = f"<a class=note href=#{behind.number}>{place:,} of {len(lines):,}</a>"
+    return notes
 
 
 def folds_here(line: Line) -> bool:
@@ -235,7 +256,10 @@ def raw_list_html(sheet: Sheet) -> list[str]:
     raw = raw_lines(sheet.listing)
     if not raw:
         return []
-    items = [f"<li>{link(path)} {sheet.faults.get(path, '')}</li>\n" for path in raw]
+    items = [
+        f"<li><a href=#{line.number}>{path_text(line.method)}</a> {sheet.faults.get(line.number, '')}</li>\n"
+        for line in raw
+    ]
     head = "1 body is raw" if len(raw) == 1 else f"{len(raw):,} bodies are raw"
     return [f"<section id=raw><details><summary>{head}</summary><ul>\n", *items, "</ul></details></section>\n"]
 
@@ -245,17 +269,20 @@ def raw_list_html(sheet: Sheet) -> list[str]:
 
 @dataclass(slots=True)
 class Node:
-    """A path in the tree: its kind, nothing where it isn't declared, and how many declared paths are below it."""
+    """A path in the tree: its kind, nothing where it isn't declared, how many declared ones are below it, its marks."""
 
     kind: str = ""
     below: int = 0
     has_children: bool = False
+    marks: str = ""
+    is_maybe: bool = False
 
 
-def nodes_of(kinds: dict[Path, str]) -> dict[Path, Node]:
+def nodes_of(rows: list[Row], added: Iterable[Path]) -> dict[Path, Node]:
     """The declared paths and those on the way to them, each before what is below it."""
-    nodes = {path: Node(kind) for path, kind in kinds.items()}
-    for path in kinds:
+    nodes = {row.path: Node(row.kind, marks=row.marks, is_maybe=row.is_maybe) for row in rows}
+    nodes |= {path: Node("added") for path in added}
+    for path in list(nodes):
         for length in range(1, len(path)):
             above = nodes.setdefault(path[:length], Node())
             above.below, above.has_children = above.below + 1, True
@@ -271,10 +298,9 @@ def kind_html(kind: str) -> str:
 class TreeWriter:
     def __init__(self, sheet: Sheet):
         self.sheet = sheet
-        kinds = {row.path: row.kind for row in sheet.listing.rows}
-        self.counts = Counter(kind.split()[0] for kind in kinds.values())
-        self.nodes = nodes_of(kinds | dict.fromkeys(sheet.comparison.adds if sheet.comparison else (), "added"))
-        self.raw = raw_lines(sheet.listing)
+        self.counts = Counter(row.kind.split()[0] for row in sheet.listing.rows)
+        self.nodes = nodes_of(sheet.listing.rows, sheet.comparison.adds if sheet.comparison else ())
+        self.raw = {line.method for line in raw_lines(sheet.listing)}
 
     def write(self) -> list[str]:
         written, opened = [], []
@@ -282,19 +308,21 @@ class TreeWriter:
             while opened and path[:len(opened[-1])] != opened[-1]:
                 opened.pop()
                 written.append("</details>\n")
+            dimmed = classed("maybe" if node.is_maybe else "")
             if node.has_children and len(opened) < DEEPEST_FOLD:
                 opened.append(path)
                 state = " open" if len(path) == 1 else ""
-                written.append(f"<details{state}><summary>{self.node_html(path, node)}</summary>\n")
+                written.append(f"<details{state}><summary{dimmed}>{self.node_html(path, node)}</summary>\n")
             else:
-                written.append(f"<p>{self.node_html(path, node)}</p>\n")
+                written.append(f"<p{dimmed}>{self.node_html(path, node)}</p>\n")
         return written + ["</details>\n"] * len(opened)
 
     def node_html(self, path: Path, node: Node) -> str:
         mark = self.sheet.mark(path) or ("raw" if path in self.raw else "")
         kind = f" {kind_html(node.kind)}" if node.kind else ""
+        marks = f" <small>{node.marks}</small>" if node.marks else ""
         below = f" <small>{node.below:,}</small>" if node.below else ""
-        return f"{self.head_html(path, node, mark)}{kind}{below}"
+        return f"{self.head_html(path, node, mark)}{kind}{marks}{below}"
 
     def head_html(self, path: Path, node: Node, mark: str) -> str:
         if node.kind or path in PREDEFINED or path in self.sheet.names.externals:

@@ -1,7 +1,8 @@
-"""What each name of a listing means, after docs/names.md and docs/loading.md, and where each path is used."""
+"""What each name of a listing means, after docs/names.md, loading.md and any_run.md, and where each path is used."""
 
 from collections import defaultdict
-from dataclasses import dataclass
+from collections.abc import Container
+from dataclasses import dataclass, replace
 from enum import Enum
 from functools import lru_cache
 
@@ -16,6 +17,11 @@ PREDEFINED = {
 }
 SCOPES = {"Device", "Processor", "PowerResource", "ThermalZone"}
 FIELD_LISTS = {"Field", "IndexField", "BankField"}
+# What is declared inside one of these outside the methods only may stand.
+BLOCKS = {"If", "Else", "While"}
+# A name is looked for in each scope around it, so that a hostile listing could make a page take days.
+MOST_SEGMENTS = 32
+MOST_OTHERS = 3
 # The place of the name that a term declares, among the words of its line.
 DECLARED = {
     **dict.fromkeys([*SCOPES, "Name", "Method", "Mutex", "Event", "OperationRegion", "DataRegion"], 1),
@@ -27,6 +33,7 @@ FIRST_WORD = 0
 
 class Sort(Enum):
     DECLARES = "declares the path"
+    AGAIN = "declares it again"
     LOCAL = "declares it in the body alone"
     LEADS = "leads to it"
     NOTHING = "leads nowhere"
@@ -35,11 +42,12 @@ class Sort(Enum):
 @dataclass(frozen=True, slots=True)
 class Meaning:
     """What a name does, with the path, and the anchor at which that stands: the path itself, or a line's number for a
-    name that a body declares."""
+    name that a body declares. `others` are what else it means in another run."""
 
     sort: Sort
     path: Path | None = None
     anchor: str = ""
+    others: tuple["Meaning", ...] = ()
 
 
 NOWHERE = Meaning(Sort.NOTHING)
@@ -77,25 +85,31 @@ def name_of(text: str) -> Name:
 
 @dataclass(slots=True)
 class Open:
-    """A block that is open: the line that ends it, and where the terms inside it stand."""
+    """A block that is open: the line that ends it, where the terms inside it stand, and whether these are sure to."""
 
     end: int
     scope: Path
     method: Path | None
     is_field_list: bool
+    is_sure: bool
 
 
 class Names:
     """The paths of a listing, and the meanings of its names.
 
-    `lines` has the line at which each path is declared, `externals` the first that names it where none declares it,
-    `meanings` the meanings of each line's names in their order, `uses` the lines from which names lead to an anchor, by
-    the method, or the scope, that they stand in, and `strays` the same of names that lead nowhere, by the name."""
+    `lines` has the line at which each path is declared first, `declarations` all of them, `sure` the paths of which one
+    stands in every run, `externals` the first that names a path where none declares it, `led` where Scopes and Aliases
+    lead, `then` what a name that runs outside the methods meant there, `meanings` the meanings of each line's names in
+    their order, `uses` the lines from which names lead to an anchor, by the method, or the scope, that they stand in,
+    and `strays` the same of names that lead nowhere, by the name."""
 
     def __init__(self, listing: Listing):
         self.lines: dict[Path, Line] = {}
+        self.declarations: dict[Path, list[Line]] = defaultdict(list)
+        self.sure: set[Path] = set()
         self.externals: dict[Path, Line] = {}
         self.led: dict[int, Path] = {}
+        self.then: dict[tuple[int, str], list[Path]] = {}
         for block in listing.blocks:
             self.load(block.lines)
         self.check(listing)
@@ -109,24 +123,41 @@ class Names:
     def is_known(self, path: Path) -> bool:
         return path in self.lines or path in PREDEFINED
 
-    def find(self, scope: Path, name: Name) -> Path | None:
-        candidates = name.candidates(scope)
-        known = next(filter(self.is_known, candidates), None)
-        return next((path for path in candidates if path in self.externals), None) if known is None else known
+    def is_sure(self, path: Path) -> bool:
+        return path in self.sure or path in PREDEFINED
+
+    def find(self, scope: Path, name: Name, own: Container[Path] = ()) -> list[Path]:
+        """The paths that a name may mean, the nearest first: those that may stand, up to one that is sure to."""
+        candidates, found = name.candidates(scope), []
+        for path in candidates:
+            if path in own or self.is_known(path):
+                found.append(path)
+            if path in own or self.is_sure(path):
+                return found
+        return found or [path for path in candidates if path in self.externals][:1]
 
     def check(self, listing: Listing) -> None:
-        """Whether the namespace's rows are the declared paths."""
-        rows = {row.path for row in listing.rows}
-        for path in rows ^ self.lines.keys():
+        """Whether the namespace's rows are the declared paths, with their marks."""
+        rows = {row.path: row for row in listing.rows}
+        for path in rows.keys() ^ self.lines.keys():
             if path in rows:
                 raise NoListing(f"it is cut, or changed: none of its definition blocks declares {path_text(path)}")
             raise NoListing(f"line {self.lines[path].number}: {path_text(path)} isn't in its namespace")
+        if not any(row.marks for row in listing.rows):
+            # Without --any-run a Scope of what only an External names is sure.
+            self.sure = set(self.lines)
+        for path, row in rows.items():
+            lines = self.declarations[path]
+            if len(lines) > row.times == 1:
+                raise NoListing(f"line {lines[1].number}: {path_text(path)} is declared twice")
+            if len(lines) != row.times or row.is_maybe == (path in self.sure):
+                raise NoListing(f"line {row.number}: {path_text(path)} is declared otherwise in its definition blocks")
 
     # ---- the load pass
 
     def load(self, lines: list[Line]) -> None:
         """Says of each line where it stands, and what it declares."""
-        opened = [Open(lines[0].end, ROOT, None, False)]
+        opened = [Open(lines[0].end, ROOT, None, False, True)]
         for line in lines[1:]:
             while line.number > opened[-1].end:
                 opened.pop()
@@ -135,40 +166,59 @@ class Names:
             if not line.term:
                 continue
             line.declared = FIRST_WORD if inner.is_field_list and is_name(line.term) else DECLARED.get(line.term)
-            within = inner.scope if line.method else self.declare(line)
+            within, is_sure = (inner.scope, True) if line.method else self.declare(line, inner)
             if line.end:
                 method = within if line.term == "Method" else line.method
-                opened.append(Open(line.end, within, method, line.term in FIELD_LISTS))
+                opened.append(Open(line.end, within, method, line.term in FIELD_LISTS, is_sure))
 
-    def declare(self, line: Line) -> Path:
-        """Declares what a line outside the bodies declares, and says where the terms inside it stand."""
+    def declare(self, line: Line, inner: Open) -> tuple[Path, bool]:
+        """Declares what a line outside the bodies declares, and says where the terms inside it stand, and whether these
+        are sure to."""
         if line.declared is not None:
-            path = self.place(line, line.words[line.declared])
-            if path in self.lines:
-                raise NoListing(f"line {line.number}: {path_text(path)} is declared twice")
-            if line.term == "Alias":
-                self.led[line.number] = self.lead(line, line.words[1])
-            self.lines[path] = line
-            return path if line.term in SCOPES or line.term == "Method" else line.scope
+            return self.declare_path(line, inner.is_sure)
         if line.term == "External":
-            self.externals.setdefault(self.place(line, line.words[1]), line)
-        if line.term == "Scope":
-            self.led[line.number] = self.lead(line, line.words[1] if len(line.words) > 1 else "")
-            return self.led[line.number]
-        return line.scope
+            self.externals.setdefault(self.place(line, word_at(line, 1)), line)
+        elif line.term == "Scope":
+            path = self.led[line.number] = self.opened(line, line.words[1] if len(line.words) > 1 else "")
+            return path, inner.is_sure and self.is_sure(path)
+        elif not inner.is_field_list and line.term not in FIELD_LISTS:
+            for word in filter(is_name, line.words):
+                self.then[line.number, word] = self.find(line.scope, name_of(word))
+        return line.scope, inner.is_sure and line.term not in BLOCKS
+
+    def declare_path(self, line: Line, is_sure: bool) -> tuple[Path, bool]:
+        path = self.place(line, word_at(line, line.declared))
+        is_again = path in self.lines
+        if line.term == "Alias":
+            self.led[line.number] = self.lead(line, line.words[1])
+        self.lines.setdefault(path, line)
+        self.declarations[path].append(line)
+        if is_sure:
+            self.sure.add(path)
+        if line.term in SCOPES:
+            # An interpreter that finds a Device skips all of a second one.
+            return path, is_sure and not is_again
+        return path if line.term == "Method" else line.scope, is_sure
 
     def place(self, line: Line, word: str) -> Path:
         path = name_of(word).placed(line.scope)
-        if path is None or not is_name(word):
+        if path is None or word and not is_name(word):
             raise NoListing(f"line {line.number} declares nothing that a listing of acpidis can")
+        if len(path) > MOST_SEGMENTS:
+            raise NoListing(f"line {line.number}: a path of more than {MOST_SEGMENTS} segments is too much for a page")
         return path
 
     def lead(self, line: Line, word: str) -> Path:
-        """Where the name of a Scope or the source of an Alias leads, by what stands before it."""
-        path = self.find(line.scope, name_of(word))
-        if path is None:
+        """Where the source of an Alias leads, by what stands before it."""
+        found = self.find(line.scope, name_of(word))
+        if not found:
             raise NoListing(f"line {line.number}: {word} leads nowhere")
-        return path
+        return found[0]
+
+    def opened(self, line: Line, word: str) -> Path:
+        """The path that a Scope opens, by what stands before it: where nothing does, the one at which it is placed."""
+        found = self.find(line.scope, name_of(word))
+        return found[0] if found else self.place(line, word)
 
     # ---- meanings
 
@@ -191,7 +241,8 @@ class Names:
                 if meaning.sort is Sort.LOCAL and meaning.path is not None:
                     (units if line.declared == FIRST_WORD else own)[meaning.path] = line.number
                 elif meaning.sort is Sort.LEADS:
-                    add_use(self.uses[meaning.anchor], line)
+                    for meant in (meaning, *meaning.others):
+                        add_use(self.uses[meant.anchor], line)
                 elif meaning.sort is Sort.NOTHING:
                     add_use(self.strays[word], line)
 
@@ -207,26 +258,31 @@ class Names:
         path = name_of(word).placed(line.scope)
         if line.method:
             return Meaning(Sort.LOCAL, path, str(line.number))
-        return Meaning(Sort.DECLARES, path, path_text(path or ROOT))
+        is_first = path is None or self.lines[path] is line
+        return Meaning(Sort.DECLARES if is_first else Sort.AGAIN, path, path_text(path or ROOT))
 
     def meaning(self, line: Line, word: str, own: dict[Path, int]) -> Meaning:
         if line.number in self.led:
-            return leading(self.led[line.number])
+            path = self.led[line.number]
+            return leading(path) if self.is_known(path) or path in self.externals else NOWHERE
         if line.term == "External" and not line.method:
             path = self.place(line, word)
-            is_first = self.externals[path] is line and not self.is_known(path)
+            is_first = self.externals.get(path) is line and not self.is_known(path)
             return Meaning(Sort.DECLARES, path, path_text(path)) if is_first else leading(path)
+        if self.then.get((line.number, word)):
+            return leading_to(self.then[line.number, word], own)
         if own:
-            for path in name_of(word).candidates(line.scope):
-                if path in own:
-                    return Meaning(Sort.LEADS, path, str(own[path]))
-                if self.is_known(path):
-                    return leading(path)
+            return leading_to(self.find(line.scope, name_of(word), own), own)
         key = line.scope, word
         if key not in self.found:
-            path = self.find(line.scope, name_of(word))
-            self.found[key] = NOWHERE if path is None else leading(path)
+            self.found[key] = leading_to(self.find(line.scope, name_of(word)), own)
         return self.found[key]
+
+
+def word_at(line: Line, place: int) -> str:
+    if place >= len(line.words):
+        raise NoListing(f"line {line.number} isn't one of a listing of acpidis")
+    return line.words[place]
 
 
 def add_use(uses: Uses, line: Line) -> None:
@@ -235,5 +291,11 @@ def add_use(uses: Uses, line: Line) -> None:
         numbers.append(line.number)
 
 
-def leading(path: Path) -> Meaning:
-    return Meaning(Sort.LEADS, path, path_text(path))
+def leading(path: Path, anchor: str = "") -> Meaning:
+    return Meaning(Sort.LEADS, path, anchor or path_text(path))
+
+
+def leading_to(paths: list[Path], own: dict[Path, int]) -> Meaning:
+    """What a name does that means the first of the paths, or another one in another run."""
+    first, *others = [leading(path, str(own.get(path, ""))) for path in paths[:1 + MOST_OTHERS]] or [NOWHERE]
+    return replace(first, others=tuple(others)) if others else first

@@ -88,8 +88,8 @@ function showInTree(path) {
 
 function pathAround(inner) {
   for (let fold = inner.closest("details"); fold; fold = fold.parentNode.closest("details")) {
-    const name = fold.querySelector(":scope > summary > dfn[id]");
-    if (name) return name.id;
+    const name = fold.querySelector(":scope > summary > dfn:is([id], .again)");
+    if (name) return name.id || name.title;
     const head = fold.querySelector(":scope > summary");
     const scope = head && head.textContent.trim().startsWith("Scope") && head.querySelector(":scope > a");
     if (scope) return scope.getAttribute("href").slice(1);
