@@ -130,7 +130,7 @@ def devices_in_blocks(count):
     """Devices with a method and a name, each in an If of its own, and a call of each method."""
     inside = method(NEAR, 1, b"") + b"\x08" + LEAF + b"\0"
     devices = (block(package(b"\x5b\x82", segment(number) + inside)) for number in mixed(count))
-    calls = b"".join(b"\x2e" + segment(number) + NEAR + b"\x01" for number in mixed(count))
+    calls = b"".join(b"\\\x2e" + segment(number) + NEAR + b"\x01" for number in mixed(count))
     return b"".join(devices) + main_method(calls)
 
 

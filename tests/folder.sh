@@ -146,8 +146,8 @@ T
 
 # the command line
 cp -r "$demo" folder
-tells --help '--workers' '--any-sum' '--unknown-zero' '--check' 'FOLDER'
-tells -h '--workers' '--any-sum' '--unknown-zero' '--check' 'FOLDER'
+tells --help '--workers' '--any-sum' '--any-run' '--unknown-zero' '--check' 'FOLDER'
+tells -h '--workers' '--any-sum' '--any-run' '--unknown-zero' '--check' 'FOLDER'
 tells --version '^acpidis [0-9]'
 refuses 'no word' FOLDER ./program
 refuses 'options without a folder' FOLDER ./program --check
@@ -164,7 +164,7 @@ refuses 'a check with a value' --check ./program --check=yes folder
 # options
 row 'one table' 0 '' ./program folder
 prints <demo.text
-row 'all options' 0 '' ./program --workers 64 --any-sum --unknown-zero folder
+row 'all options' 0 '' ./program --workers 64 --any-sum --any-run --unknown-zero folder
 prints <demo.text
 row 'options behind the folder' 0 '' ./program folder --workers=2 --any-sum
 prints <demo.text
@@ -183,6 +183,24 @@ row 'a wrong checksum' 1 'acpidis: table "ssdt1.dat": BadSum' ./program summed
 row 'a check of a wrong checksum' 1 'acpidis: table "ssdt1.dat": BadSum' ./program --check summed
 row 'any checksum' 3 "$raw_errors" ./program --any-sum summed
 sed '2s/$/ BadSum/' raw.text | prints
+
+# code outside methods
+mkdir code
+{ printf 'DSDT\055\0\0\0' && head -c 28 /dev/zero && printf '\240\010\001\010WIN_\0'; } >code/dsdt.dat
+row 'code outside methods' 1 'acpidis: table "dsdt.dat": ModuleCode at 0' ./program --any-sum code
+row 'a check of code outside methods' 0 '' ./program --any-sum --any-run --check code
+echo 'Check "dsdt.dat" Bytes 9 Methods 0 Raw 0 Same' | prints
+row 'code that may run' 0 '' ./program --any-run --any-sum --workers 1 code
+tail -n +2 output >rest && mv rest output
+prints <<'T'
+Namespace 1
+  \WIN_ Name Maybe
+DefinitionBlock ("dsdt.dat") {
+  If (One) {
+    Name (WIN_, Zero)
+  }
+}
+T
 
 # a file of argument counts: read, with a line of another form, not there, of as many bytes as may be, of one more
 printf '\\AAAA.BBBB 2\n\\BBBB 0\n' >counts
