@@ -8,7 +8,7 @@ Standard output, standard error and the status are compared whole. A FOLDER of d
 copies of it. The first sets that differ are kept, and the status is 1. With --with-externals most made-up sets come
 with a file for the option --externals, and with --any-run with code outside methods and this option, which FOLDERs are run
 with too. With --workers each set is run by each of these numbers of workers, in place of the one that was made up. With
---read no program is run, and it is only said how the sets end. ./test compares 500 sets of seed 0.
+--read no program is run, and it is only said how the sets end. ./test compares 500 sets of seed 0, and 500 with --any-run.
 """
 
 import argparse
