@@ -7,8 +7,9 @@ A script that takes any refusal for an answer, or compares nothing with nothing,
 in a copy of the repository in which what it tests is a stub: a program that refuses everything, one that prints nothing, and
 one that prints the same text always, two of them with status 0. All of them know their version and the demo, so that no script
 ends before it begins. Each script has to end with another status than 0, and where it prints a last line of counts, some have
-failed. The other trials are a machine without a C compiler, an empty table, empty pages, and a `rt` that proves nothing. With
-words only the trials with one of them in their names are made. The last line is 'N passed, N failed'.
+failed. The other trials are a machine without a C compiler, an empty table, empty pages, a wrong independent reading, and a
+`rt` that proves nothing. With words only the trials with one of them in their names are made. The last line is
+'N passed, N failed'.
 """
 
 import concurrent.futures
@@ -40,6 +41,9 @@ POOL_STUBS = {
     "prints nothing": "#!/bin/sh\n",
     "is always whole": "#!/bin/sh\necho whole\n",
 }
+# A reading by which a declaration that only may stand hides those in the scopes around it
+RUNS = "tests/oracle/any_run.py"
+SURE, ALONE = (f"            if {it}:\n                return met\n" for it in ("self.is_sure(path)", "met"))
 # What is told of pages without a word
 EMPTY_PAGES = {
     "docs/listing.md": "it has no command",
@@ -88,6 +92,8 @@ def trials(room):
         yield Trial(f"tests/page.py, a script that {what}", ["tests/page.py", "--sets", "1"], page)
     yield Trial("tests/refusals.sh, no C compiler", ["tests/refusals.sh", "program"], placed(REFUSES), without_compilers(room))
     yield Trial("tests/worked_runs.py, no examples", ["tests/worked_runs.py"], {"tests/worked_runs.txt": "", **placed(EMPTY)})
+    runs = (TOP / RUNS).read_text().replace(SURE, ALONE)
+    yield Trial("tests/oracle/runs_agree.py, a maybe that decides alone", ["tests/oracle/runs_agree.py"], {RUNS: runs})
     yield Trial("tests/public_calls.py, an empty table", ["tests/public_calls.py"], {"tests/public_calls.txt": ""})
     yield Trial("tests/library.sh, an empty page", ["tests/library.sh"], {"docs/library.md": ""})
     pages = {**dict.fromkeys(EMPTY_PAGES, ""), **placed(ONE_TEXT)}
