@@ -1,11 +1,13 @@
 #!/usr/bin/env python3
 """Tries examples/missing.py, calls.py and refused.py on sets made here.
 
-    python3 tests/examples.py
+    python3 tests/examples.py [--stop]
 
-They run the program as they find it: ACPIDIS names another. The last line is 'N passed, N failed'.
+They run the program as they find it: ACPIDIS names another. With --stop the first row that fails ends it. The last line is
+'N passed, N failed'.
 """
 
+import contextlib
 import itertools
 import os
 import pathlib
@@ -70,9 +72,13 @@ REGION = b"\x5b\x80REG0\0"
 BAD_NAME = "a\" {\n      Raw {5A}\n$(touch bad)`touch bad`.dat"
 
 
+class Stopped(Exception):
+    """A row failed, and no other is wanted."""
+
+
 class Tries:
-    def __init__(self, room):
-        self.room, self.passed, self.failed = room, 0, 0
+    def __init__(self, room, stops):
+        self.room, self.stops, self.passed, self.failed = room, stops, 0, 0
 
     def folder(self, name, code, file="dsdt.dat"):
         (self.room / name).mkdir()
@@ -98,15 +104,20 @@ class Tries:
         if run.returncode == status and run.stdout == out and not missing:
             self.passed += 1
         else:
-            self.failed += 1
-            print(f"FAILED {name}: status {run.returncode}, not {status}\n{run.stdout}{run.stderr}", end="")
-            print(f"wanted\n{out}{missing}")
+            printed = f"{run.stdout}{run.stderr}wanted\n{out}{missing}"
+            self.fail(f"{name}: status {run.returncode}, not {status}\n{printed}")
 
     def is_true(self, name, holds):
-        self.passed += bool(holds)
-        self.failed += not holds
-        if not holds:
-            print(f"FAILED {name}")
+        if holds:
+            self.passed += 1
+        else:
+            self.fail(name)
+
+    def fail(self, text):
+        self.failed += 1
+        print(f"FAILED {text}")
+        if self.stops:
+            raise Stopped
 
 
 def try_missing(tries):
@@ -318,8 +329,8 @@ def try_hostile(tries):
 
 
 def main():
-    with tempfile.TemporaryDirectory() as room:
-        tries = Tries(pathlib.Path(room))
+    with tempfile.TemporaryDirectory() as room, contextlib.suppress(Stopped):
+        tries = Tries(pathlib.Path(room), "--stop" in sys.argv[1:])
         try_missing(tries)
         try_missing_outside(tries)
         try_calls(tries)

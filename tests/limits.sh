@@ -4,9 +4,10 @@
 # status 1; no signal ends it. What the whole text is the independent reading of tests/oracle says, and without limits it has
 # to come.
 #
-#     tests/limits.sh [--short] [PROGRAM]
+#     tests/limits.sh [--short] [--stop] [PROGRAM]
 #
-# PROGRAM is out/acpidis if left out. The sweep takes some minutes, with --short seconds. The last line is 'N passed, N failed'.
+# PROGRAM is out/acpidis if left out. The sweep takes some minutes, with --short seconds. With --stop it ends at the first set
+# that isn't read whole without limits. The last line is 'N passed, N failed'.
 
 top=$(CDPATH='' cd -- "$(dirname -- "$0")/.." && pwd) || exit 1
 memory_step=1000
@@ -16,6 +17,11 @@ if [ "${1-}" = --short ]; then
     memory_step=20000
     stack_step=248
     workers='1 4'
+    shift
+fi
+stop=
+if [ "${1-}" = --stop ]; then
+    stop=yes
     shift
 fi
 program=${1:-$top/out/acpidis}
@@ -110,6 +116,7 @@ for set in sets/*; do
     else
         failed=$((failed + 1))
         echo "FAILED $set without limits: status $status, $(head -n 1 lines)"
+        if [ "$stop" ]; then break; fi
         continue
     fi
     for count in $workers; do

@@ -1,6 +1,6 @@
 #!/usr/bin/env bash
 # examples/survey.sh: odd names, refused sets, sets that end a run, and surveys that are broken off. It runs ./acpidis,
-# which builds the program first. The last line is 'N passed, N failed'.
+# which builds the program first. With the word --stop the first row that fails ends it. The last line is 'N passed, N failed'.
 
 here=$(CDPATH='' cd -- "$(dirname -- "$0")" && pwd) || exit 1
 "$here/../acpidis" --program >/dev/null 2>&1
@@ -10,6 +10,7 @@ program=$here/../out/acpidis
 demo=$here/../crates/acpidis_program/data/demo
 survey=$here/../examples/survey.sh
 cd "$work" || exit 1
+stop=${1-}
 passed=0
 failed=0
 
@@ -20,6 +21,10 @@ is() {
     else
         failed=$((failed + 1))
         printf 'FAILED %s: got\n%s\nnot\n%s\n' "$1" "$2" "$3"
+        if [ "$stop" = --stop ]; then
+            echo "$passed passed, $failed failed"
+            exit 1
+        fi
     fi
 }
 
@@ -148,6 +153,8 @@ for enough in 20 50 80; do
     while [ "$(wc -l <killed)" -lt "$enough" ] && kill -0 "$!" 2>/dev/null; do sleep 0.05; done
     kill -9 -- "-$!" 2>/dev/null && kills=$((kills + 1))
     wait "$!" 2>/dev/null
+    # what it started may hold the lock for a moment longer
+    flock killed true
 done
 before=$(wc -l <killed)
 SLOW=0.02 ACPIDIS=$work/slow.sh "$survey" -j 3 many killed 2>/dev/null
