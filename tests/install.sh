@@ -6,7 +6,7 @@ top=${here%/*}
 work=$(mktemp -d) || exit 1
 trap 'rm -rf "$work"' EXIT
 cd "$work" || exit 1
-unset PREFIX DESTDIR
+unset PREFIX DESTDIR PROGRAM
 passed=0
 failed=0
 
@@ -45,6 +45,8 @@ program=$top/crates/acpidis_program
 is 'it runs' "$("$prefix/bin/acpidis" "$program/data/demo")" "$(cat "$program/stdout")"
 is 'it is what the launcher runs' "$(cksum <"$prefix/bin/acpidis")" "$(cksum <"$("$top/acpidis" --program)")"
 is 'modes, whatever the umask' "$(modes "$prefix/share")" '644f 755d 755f '
+is 'examples that are run' "$(find "$prefix/share" -type f -perm 755 | wc -l)" \
+    "$(find "$top/examples" -type f -perm /111 | wc -l)"
 is 'the mode of the program' "$(stat -c %a "$prefix/bin/acpidis")" 755
 if command -v man >/dev/null; then
     is 'the page is found' "$(man -M "$prefix/share/man" -w acpidis 2>&1)" "$page"
@@ -54,8 +56,15 @@ is 'the examples find the program' \
     "$(ACPIDIS=$prefix/bin/acpidis "$docs/examples/missing.py" "$program/data/demo" 2>&1)" '# no body waits for a name'
 is 'pages that the manual names' "$(sed -n 's|.*doc/acpidis/\([a-z_]*\.md\).*|\1|p' "$page" | sort -u |
     while read -r name; do [ -f "$docs/$name" ] || echo "$name"; done)" ''
-is 'links of the pages' "$(cd "$docs" && grep -oh '([a-z_]*\.md[)#]' ./*.md | tr -d '(#)' | sort -u |
-    while read -r name; do [ -f "$name" ] || echo "$name"; done)" ''
+links() {
+    (cd "$docs" && grep -oh '](\([^)]*\))' ./*.md | sed 's/^](//; s/[#)].*//' | sort -u)
+}
+is 'links of the pages' "$(links | while read -r name; do [ -z "$name" ] || [ -f "$docs/$name" ] || echo "$name"; done)" ''
+is 'links there are' "$(links | grep -cx 'README.md\|page.png\|figures.svg')" 3
+is 'all examples are there' "$(cd "$docs/examples" && find . -type f | sort)" \
+    "$(cd "$top/examples" && find . -type f ! -name '*.pyc' ! -name '*.bash' | sort)"
+is 'the page of a listing' "$("$docs/examples/page.py" "$program/stdout" 2>&1 | cksum)" \
+    "$("$top/examples/page.py" "$program/stdout" | cksum)"
 is 'a second time' "$(PREFIX=$prefix sorted "$top/install")" "$said"
 touch "$prefix/bin/other"
 is 'what is taken away' "$(PREFIX=$prefix sorted "$top/install" --remove)" "$said"
@@ -92,10 +101,12 @@ is 'nothing goes into it' "$(files "$prefix")" ''
 ln -s "$top/install" install
 is 'through a link' "$(PREFIX=$work/linked sorted ./install | head -n 1)" "$work/linked/bin/acpidis"
 
+PREFIX=$work/other PROGRAM=$top/build "$top/install" >/dev/null
+is 'another program' "$(cksum <other/bin/acpidis)" "$(cksum <"$top/build")"
 is 'a package' "$(DESTDIR=$work/package "$top/install" | head -n 1)" "$work/package/usr/local/bin/acpidis"
 DESTDIR=$work/package "$top/install" --remove >/dev/null
 is 'a package that is taken away' "$(files package)" ''
-is 'help' "$("$top/install" --help | head -n 1)" 'Usage: [PREFIX=..] [DESTDIR=..] ./install [--remove]'
+is 'help' "$("$top/install" --help | head -n 1)" 'Usage: [PREFIX=..] [DESTDIR=..] [PROGRAM=..] ./install [--remove]'
 is 'another word' "$("$top/install" --delete 2>&1 | head -n 1 | cut -c 1-6)" 'Usage:'
 "$top/install" --remove more >/dev/null 2>&1
 is 'two words' "$?" 2

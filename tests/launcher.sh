@@ -50,8 +50,7 @@ is() {
 mkdir copy empty commands folder
 cp "$top/acpidis" "$top/build" "$top/crates.txt" copy
 mkdir -p copy/crates/acpidis_program/data/demo
-mkdir -p copy/crates/command_line
-cp -r "$top/crates/command_line/src" copy/crates/command_line
+cp -r "$top/crates/acpidis_program/src" copy/crates/acpidis_program
 sed -n 's/^\([a-z_]*\)[ :].*/\1/p' copy/crates.txt | while read -r crate; do mkdir -p "copy/crates/$crate/src"; done
 path=$work/commands:/usr/bin:/bin
 

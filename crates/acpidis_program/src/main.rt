@@ -1,6 +1,8 @@
 //! Disassembles the ACPI tables of a folder.
 #![tactic(auto)]
 
+mod version;
+
 use acpi_folder::{DiskFolder, gather};
 use acpidis::{Options, run};
 use aml_names::Path;
@@ -45,7 +47,7 @@ fn in_thread<T: Threads + Wait + Sync>(rt: &HostRuntime, threads: &T) -> Option<
 
 /// Does what the command line asks for, and answers the exit status.
 fn status_of<T: Threads + Wait + Sync>(rt: &HostRuntime, threads: &T) -> u8 {
-    match read(rt) {
+    match read(rt, version::VERSION) {
         Ok(line) => match BufWriter::new(rt.alloc(), rt.stderr()) {
             // There may be a line for each of a million methods.
             Ok(mut err) => {

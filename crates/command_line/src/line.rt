@@ -52,8 +52,8 @@ pub enum Stop {
     NoMemory,
 }
 
-/// Reads the command line, and prints the text of a help request or of a fault.
-pub fn read(rt: &HostRuntime) -> Result<CommandLine, Stop> {
+/// Reads the command line, and prints the text of a request for help or the version, or of a fault.
+pub fn read(rt: &HostRuntime, version: &str) -> Result<CommandLine, Stop> {
     let alloc = rt.alloc();
     let words = match env::args(rt) {
         Ok(words) => words,
@@ -66,7 +66,7 @@ pub fn read(rt: &HostRuntime) -> Result<CommandLine, Stop> {
     let Ok(words): Result<Vec<String>, _> = words.collect(alloc) else {
         return Err(Stop::NoMemory);
     };
-    match parse(alloc, words.as_slice()) {
+    match parse(alloc, version, words.as_slice()) {
         Ok(line) => Ok(line),
         Err(error) if error.kind() == ErrorKind::OutOfMemory => Err(Stop::NoMemory),
         Err(error) => {
@@ -81,10 +81,10 @@ pub fn read(rt: &HostRuntime) -> Result<CommandLine, Stop> {
 }
 
 /// The options, and their help.
-fn command<'a>(alloc: Global) -> Result<Command<'a>, Error> {
+fn command<'a>(alloc: Global, version: &'a str) -> Result<Command<'a>, Error> {
     let mut command = Command::new(alloc, "acpidis")
         .about(ABOUT)
-        .version("0.1.0")
+        .version(version)
         .after_help(STATUSES);
     for argument in [
         workers(alloc),
@@ -150,8 +150,8 @@ fn folder<'a>(alloc: Global) -> Arg<'a> {
         .required(true)
 }
 
-fn parse(alloc: Global, words: &[String]) -> Result<CommandLine, Error> {
-    let matches = command(alloc)?.try_get_matches_from(words)?;
+fn parse(alloc: Global, version: &str, words: &[String]) -> Result<CommandLine, Error> {
+    let matches = command(alloc, version)?.try_get_matches_from(words)?;
     Ok(CommandLine {
         any_sum: matches.get_flag("any-sum"),
         any_run: matches.get_flag("any-run"),
