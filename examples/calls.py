@@ -17,10 +17,11 @@ import re
 import sys
 
 import listing
+import output
 
 SHOWN = 100
 COUNT = re.compile(r"(\\\S*) ([0-7])\n?")
-EXTERNAL = re.compile(r"External \((\S+), \S+, (\S+)\)")
+EXTERNAL = re.compile(rf"External \(({listing.NAME.pattern}), \S+, (Zero|One|0x0[0-7])\)")
 NUMBERS = {"Zero": 0, "One": 1}
 TARGETS = {
     (0,): "RefOf Increment Decrement SizeOf ObjectType Wait Acquire Signal Reset Release Unload Notify",
@@ -57,16 +58,12 @@ def targets(line):
         word = token
 
 
-def add_counts(namespace, path, count):
-    namespace.counts[path] = max(count, namespace.counts.get(path, 0))
-
-
 def add_externals(lines, namespace):
     for line, scope, _ in lines:
         form = EXTERNAL.fullmatch(line)
         if form:
-            number = NUMBERS[form[2]] if form[2] in NUMBERS else int(form[2], 0)
-            add_counts(namespace, listing.placed(scope, form[1])[0], number)
+            node = namespace.place(scope, form[1])
+            node.count = max(NUMBERS[form[4]] if form[4] in NUMBERS else int(form[4], 16), node.count or 0)
 
 
 def calls(text):
@@ -78,10 +75,22 @@ def calls(text):
         for operator, name in targets(line):
             counts = [kind for kind in text.namespace.may_be(scope, name, own) if isinstance(kind, int)]
             if any(counts):
-                yield scope, name, max(counts), operator, line
+                yield scope.path(), name, max(counts), operator, line
         declared = DECLARED.match(line) if method else None
         if declared:
-            own.add(listing.placed(scope, next(filter(None, declared.groups())))[0])
+            own.add(text.namespace.place(scope, next(filter(None, declared.groups()))))
+
+
+def add_given(file, namespace):
+    """The counts of the user's file. What a table's External names has the External's count."""
+    with open(file, encoding="ascii") as opened:
+        for number, line in enumerate(opened, 1):
+            form = COUNT.fullmatch(line)
+            if not form or not listing.NAME.fullmatch(form[1]):
+                raise listing.Unusable(f"line {number} of {file} isn't a path and a count")
+            node = namespace.node(form[1])
+            if node.count is None:
+                node.count = int(form[2])
 
 
 def listing_of(asked):
@@ -93,10 +102,7 @@ def listing_of(asked):
         raise listing.Refused(run.refused)
     add_externals(run.listing.lines, run.listing.namespace)
     if asked.externals:
-        with open(asked.externals, encoding="ascii") as file:
-            for path, count in (COUNT.fullmatch(line).groups() for line in file):
-                # What a table's External names has the External's count.
-                run.listing.namespace.counts.setdefault(path, int(count))
+        add_given(asked.externals, run.listing.namespace)
     return run
 
 
@@ -125,4 +131,4 @@ def main():
 
 
 if __name__ == "__main__":
-    main()
+    output.run("calls", main)

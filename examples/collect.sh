@@ -4,28 +4,41 @@
 #   collect.sh HOSTS SETS [JOBS]
 #
 # HOSTS is a file with a host a line. The tables of each come into the folder SETS/HOST, whole or not at all. JOBS machines
-# are asked at a time, 16 if left out, each for COLLECT_SECONDS at most (60). sudo must ask for no password there. SETS/log
-# gets a line for each that was asked: host, status, seconds. What went wrong is said with the host in front, and then the
-# status is 1. Start it again to ask those hosts again that have no folder yet.
+# are asked at a time, 16 if left out, each for COLLECT_SECONDS at most (60), and none may send more than COLLECT_MEGABYTES
+# (64). Of what it sends regular files and folders are kept. sudo must ask for no password there. SETS/log gets a line for
+# each that was asked: host, status, seconds. What went wrong is said with the host in front, and then the status is 1.
+# Start it again to ask those hosts again that have no folder yet.
 
 # one HOST: its tables
 one() {
     : "${SETS:?is to name the folder of the sets}"
     part=$(mktemp -d -- "$SETS/.part.XXXXXX") || exit 1
-    trap 'rm -rf -- "$part"' EXIT
+    trap 'chmod -R u+rwX -- "$part"; rm -rf -- "$part"' EXIT
     start=$(date +%s)
-    said=$(timeout "${COLLECT_SECONDS:-60}" ssh -n -o BatchMode=yes -o ConnectTimeout=10 -- "$1" \
-        sudo -n tar -C /sys/firmware/acpi/tables -cf - . 2>&1 >"$part/tar")
+    # What a host sends may be anything: no file gets larger, and no answer longer.
+    ulimit -f $((${COLLECT_MEGABYTES:-64} * 2048)) || exit 1
+    timeout "${COLLECT_SECONDS:-60}" ssh -n -o BatchMode=yes -o ConnectTimeout=10 -- "$1" \
+        sudo -n tar -C /sys/firmware/acpi/tables -cf - . 2>"$part/said" >"$part/tar"
     status=$?
     if [ "$status" = 0 ]; then
-        mkdir -- "$part/set" && said=$(tar -C "$part/set" -xf "$part/tar" 2>&1) && chmod 755 -- "$part/set" &&
-            mv -T -- "$part/set" "$SETS/$1" || status=1
+        unpack "$part" 2>"$part/said" && mv -T -- "$part/set" "$SETS/$1" 2>"$part/said" || status=1
     fi
     printf '%s\t%s\t%s\n' "$1" "$status" $(($(date +%s) - start)) >>"$SETS/log"
     if [ "$status" = 0 ]; then return; fi
-    if [ "$status" = 124 ]; then said="no answer in ${COLLECT_SECONDS:-60} seconds"; fi
-    printf '%s\n' "$1: $(printf '%s' "${said:-status $status}" | tail -n 1)" >&2
+    case $status in
+    124) said="no answer in ${COLLECT_SECONDS:-60} seconds" ;;
+    153) said="more than ${COLLECT_MEGABYTES:-64} MB" ;;
+    *) said=$(tail -c 500 -- "$part/said" | tail -n 1 | LC_ALL=C tr -dc ' -~') ;;
+    esac
+    printf '%s\n' "$1: ${said:-status $status}" >&2
     exit 1
+}
+
+# unpack FOLDER: the regular files and folders of FOLDER/tar into FOLDER/set, with plain rights
+unpack() {
+    mkdir -- "$1/set" && tar -C "$1/set" --no-same-owner --no-same-permissions -xf "$1/tar" &&
+        chmod -R u=rwX,go=rX,a-s,a-t -- "$1/set" && find "$1/set" ! -type f ! -type d -delete &&
+        find "$1/set" -type f -exec chmod 644 {} +
 }
 
 case ${1-} in

@@ -15,8 +15,9 @@ NAME = re.compile(rf"(\\|\^*)({SEGMENT}(?:\.{SEGMENT})*|)")
 TOKEN = re.compile(r'"[^"]*"|[\\^A-Za-z0-9_.]+|[(){},]')
 # With --any-run a row may end in marks: one that only may stand, one that is declared several times.
 ROW = re.compile(r"  (\\\S*) (\w+)(?: ([0-7]|\\\S*))?( Maybe)?(?: Times \d+)?")
-# A name is looked for in each scope around it, so that a hostile set could make a script take days.
+# A name is looked for in each scope around it, which a hostile set could make many.
 MOST_SEGMENTS = 64
+MOST_SHOWN = 40
 METHOD = re.compile(r"Method \((\S+), ([0-7]), ")
 RAW = re.compile(r"Raw \{([0-9A-F, ]*)\}")
 FAULT = re.compile(r"acpidis: body (\\\S*): (.*)")
@@ -63,68 +64,120 @@ def joined(segments):
     return "\\" + ".".join(segments)
 
 
-def placed(scope, name):
-    """The paths at which a name may stand, the nearest first: one, but for one segment without a prefix."""
-    prefix, text = NAME.fullmatch(name).groups()
-    segments = text.split(".") if text else []
-    above = [] if prefix == "\\" else parts(scope)
-    if prefix == "" and len(segments) == 1:
-        return [joined(above[:levels] + segments) for levels in range(len(above), -1, -1)]
-    return [joined(above[: max(0, len(above) - prefix.count("^"))] + segments)]
+class Node:
+    """A path: its kind, a method's as its count and an Alias's as the path that it stands for, whether it only may stand,
+    the greatest count of the methods that are declared there, and the count of a path that isn't declared."""
+
+    __slots__ = ("above", "segment", "depth", "below", "kind", "is_maybe", "most", "count")
+
+    def __init__(self, above, segment):
+        self.above, self.segment, self.depth = above, segment, above.depth + 1 if above else 0
+        self.below = self.kind = self.most = self.count = None
+        self.is_maybe = False
+
+    def child(self, segment):
+        """The node of a segment below it, made where it isn't there."""
+        if self.below is None:
+            self.below = {}
+        if segment not in self.below:
+            self.below[segment] = Node(self, segment)
+        return self.below[segment]
+
+    def path(self):
+        segments, node = [], self
+        while node.above:
+            segments.append(node.segment)
+            node = node.above
+        return joined(reversed(segments))
 
 
 class Namespace:
-    """The kinds of the declared paths, a method's as its count, the paths that only may stand, the greatest count of
-    the methods that are declared at a path, and the counts of paths that aren't declared."""
+    """The paths of a text, as a tree, so that a name is found without making each path at which it may stand."""
 
     def __init__(self):
-        self.kinds = dict(PREDEFINED)
-        self.maybes = set()
-        self.most = {}
-        self.counts = {}
+        self.root = Node(None, "")
+        for path, kind in PREDEFINED.items():
+            self.node(path).kind = kind
+
+    def node(self, path):
+        """The node of a path, made where it isn't there."""
+        node = self.root
+        for segment in parts(path):
+            node = node.child(segment)
+        return node
+
+    def start(self, scope, name):
+        """The node below which the segments of a name are placed, its segments, and whether they are looked for above."""
+        form = NAME.fullmatch(name)
+        if not form:
+            raise ValueError(f"{name[:MOST_SHOWN]!r} is no name")
+        prefix, text = form.groups()
+        segments = text.split(".") if text else []
+        node = self.root if prefix == "\\" else scope
+        for _ in range(prefix.count("^")):
+            node = node.above or node
+        return node, segments, prefix == "" and len(segments) == 1
+
+    def place(self, scope, name):
+        """The node at which a name is placed, made where it isn't there."""
+        node, segments, _ = self.start(scope, name)
+        for segment in segments:
+            node = node.child(segment)
+        return node
+
+    def candidates(self, scope, name):
+        """The nodes that are there at the paths at which a name may stand, the nearest first."""
+        node, segments, is_searched = self.start(scope, name)
+        while is_searched and node:
+            if node.below and segments[0] in node.below:
+                yield node.below[segments[0]]
+            node = node.above
+        for segment in segments if node else ():
+            node = node.below.get(segment) if node and node.below else None
+        if node:
+            yield node
 
     def add(self, row):
         path, kind, more, is_maybe = row.groups()
-        self.kinds[path] = int(more) if kind == "Method" else more if kind == "Alias" else kind
-        if is_maybe and path not in PREDEFINED:
-            self.maybes.add(path)
-
-    def add_method(self, path, count):
-        """A method of the text, which may be another declaration than the row's."""
-        self.most[path] = max(count, self.most.get(path, 0))
+        node = self.node(path)
+        node.is_maybe = bool(is_maybe) and path not in PREDEFINED
+        node.kind = int(more or 0) if kind == "Method" else more if kind == "Alias" else kind
 
     def may_be(self, scope, name, own=()):
         """What a name may be: methods' counts and other kinds, those of the nearest path first, up to one that is sure;
-        nothing where no table tells. `own` are paths that the body declared."""
-        candidates, found = placed(scope, name), []
-        for path in candidates:
-            if path in own:
+        nothing where no table tells. `own` are nodes that the body declared."""
+        counts, found = [], []
+        for node in self.candidates(scope, name):
+            if node in own:
                 return [*found, "Local"]
-            kind = self.kinds.get(path)
-            if kind is not None:
-                found += self.kinds_of(path, kind)
-                if path not in self.maybes:
+            if node.kind is not None:
+                found += self.kinds_of(node)
+                if not node.is_maybe:
                     return found
-        return found or [self.counts[path] for path in candidates if path in self.counts][:1]
+            elif node.count is not None:
+                counts.append(node.count)
+        return found or counts[:1]
 
-    def kinds_of(self, path, kind):
+    def kinds_of(self, node):
+        kind = node.kind
         if isinstance(kind, str) and kind.startswith("\\"):
-            path, kind = kind, self.kinds.get(kind, self.counts.get(kind))
-        return [it for it in (kind, self.most.get(path)) if it is not None]
+            node = self.node(kind)
+            kind = node.count if node.kind is None else node.kind
+        return [it for it in (kind, node.most) if it is not None]
 
     def found(self, scope, name):
-        """The path that a name means, else its nearest place."""
-        candidates = placed(scope, name)
-        path = next((path for path in candidates if path in self.kinds), candidates[0])
-        target = self.kinds.get(path)
-        return target if isinstance(target, str) and target.startswith("\\") else path
+        """The node that a name means, else its nearest place."""
+        node = next((node for node in self.candidates(scope, name) if node.kind is not None), None)
+        if node and isinstance(node.kind, str) and node.kind.startswith("\\"):
+            return self.node(node.kind)
+        return node or self.place(scope, name)
 
 
 class Method:
-    """A method of the text: its path, its raw bytes or None, and the lines of its body."""
+    """A method of the text: the node of its path, its raw bytes or None, and the lines of its body."""
 
-    def __init__(self, path):
-        self.path, self.raw, self.lines = path, None, []
+    def __init__(self, node):
+        self.node, self.raw, self.lines = node, None, []
 
     def add(self, line):
         raw = RAW.fullmatch(line)
@@ -135,7 +188,7 @@ class Method:
 
     def lone_values(self, namespace):
         """How many of its terms are values that nothing takes."""
-        return sum(is_lone(line, self.path, namespace) for line in self.lines)
+        return sum(is_lone(line, self.node, namespace) for line in self.lines)
 
 
 def is_lone(line, scope, namespace):
@@ -156,7 +209,7 @@ class Listing:
         for row in filter(None, map(ROW.fullmatch, self.rows(lines[:block]))):
             self.namespace.add(row)
         self.lines, self.methods = [], []
-        self.walk(lines[block:])
+        self.walk(lines[block:], block + 1)
 
     def lone_values(self):
         """How many terms outside the methods are values that nothing takes."""
@@ -167,36 +220,39 @@ class Listing:
         start = next((at for at, line in enumerate(lines) if re.fullmatch(r"Namespace \d+", line)), len(lines))
         return lines[start + 1 :]
 
-    def walk(self, lines):
-        """Gives each line its scope, and the method in whose body it stands."""
-        open_blocks = [("\\", None)]
-        for line in lines:
+    def walk(self, lines, first):
+        """Gives each line its scope, and the method in whose body it stands. `first` is the first line's number."""
+        open_blocks = [(self.namespace.root, None)]
+        for number, line in enumerate(lines, first):
             line = line.strip(" ")
             scope, method = open_blocks[-1]
             if line == "}" and len(open_blocks) > 1:
                 open_blocks.pop()
                 continue
-            if method:
-                method.add(line)
-            self.lines.append((line, scope, method))
-            if line.endswith(" {"):
-                open_blocks.append(self.opened(line, scope, method))
+            try:
+                if method:
+                    method.add(line)
+                self.lines.append((line, scope, method))
+                if line.endswith(" {"):
+                    open_blocks.append(self.opened(line, scope, method))
+            except ValueError as fault:
+                raise Unusable(f"line {number} isn't one of a listing of acpidis") from fault
+            if open_blocks[-1][0].depth > MOST_SEGMENTS:
+                raise Unusable(f"line {number}: a scope of more than {MOST_SEGMENTS} segments is too deep for this script")
 
     def opened(self, line, scope, method):
         word, _, rest = line.partition(" (")
         if word not in SCOPES or method:
             return scope, method
         name = re.split(r"[,)]", rest, maxsplit=1)[0]
-        path = self.namespace.found(scope, name) if word == "Scope" else placed(scope, name)[0]
-        if path.count(".") >= MOST_SEGMENTS:
-            raise Unusable(f"a scope of more than {MOST_SEGMENTS} segments is too deep for this script")
+        node = self.namespace.found(scope, name) if word == "Scope" else self.namespace.place(scope, name)
         if word != "Method":
-            return path, None
+            return node, None
         form = METHOD.match(line)
         if form:
-            self.namespace.add_method(path, int(form[2]))
-        self.methods.append(Method(path))
-        return path, self.methods[-1]
+            node.most = max(int(form[2]), node.most or 0)
+        self.methods.append(Method(node))
+        return node, self.methods[-1]
 
 
 class Run:

@@ -20,10 +20,13 @@ import sys
 import tempfile
 
 import listing
+import output
 
 COUNTS = range(8)
 MOST_NAMES = 1000
 MOST_PASSES = 3
+MOST_RUNS = 1000
+SEGMENT = re.compile(listing.SEGMENT)
 OUTSIDE = re.compile(r'table "[^"]*": ModuleCall (\\\S+)')
 NAME = re.compile(rb"(\\|\^*)(?:\x2e(.{8})|\x2f(.)|([A-Z_][A-Z0-9_]{3})|\x00)", re.DOTALL)
 
@@ -68,7 +71,7 @@ class Trial:
     """What comes of the bodies that wait for a name, where it has a count, or of what stands outside the methods, where
     the set is refused for the name."""
 
-    def __init__(self, run, bodies):
+    def __init__(self, run, raw, bodies):
         self.refused = run.refused
         self.read = self.loose = self.values = 0
         self.faults = []
@@ -78,7 +81,6 @@ class Trial:
             self.values = run.listing.lone_values()
             self.read, self.loose = int(self.values == 0), int(self.values > 0)
             return
-        raw = {body.number: body for body in bodies_of(run)}
         for body in bodies:
             if body.number in raw:
                 self.faults.append(raw[body.number].fault)
@@ -96,29 +98,49 @@ class Trial:
 
 
 class Search:
-    """The names in the order of the rounds, each with the count that fits best so far."""
+    """The names in the order of the rounds, each with the count that fits best so far.
+
+    Names that no body has both of are tried in one run, since what comes of one says nothing of the other."""
 
     def __init__(self, program, folder, options, given):
         self.program, self.folder, self.options, self.given = program, folder, options, given
         self.counts = {}
         self.waiting = {}  # the bodies that wait for each name
         self.rounds = []
+        self.runs = 0
+        self.outside = set()  # the segments outside the methods
 
     def run(self, counts, more=()):
+        self.runs += 1
+        if self.runs > MOST_RUNS:
+            raise listing.Unusable(
+                f"more than {MOST_RUNS} runs are wanted: the {len(self.counts)} names that are met so far stand in the same"
+                " bodies; give what you know by --externals"
+            )
         with tempfile.NamedTemporaryFile("w", prefix="counts") as file:
             file.write(self.given)
             file.writelines(f"{path} {count}\n" for path, count in counts.items())
             file.flush()
             return listing.run([self.program, *self.options, *more, "--externals", file.name, "--", self.folder])
 
-    def trials(self, name, more=()):
-        """What comes of each count of a name, with the others as they are."""
+    def trials(self, names, more=()):
+        """What comes of each count of some names, with the others as they are: eight trials for each name."""
 
-        def trial(count):
-            return Trial(self.run({**self.counts, name: count}, more), self.waiting[name])
+        def outcomes(count):
+            return self.outcomes(names, count, more)
 
         with concurrent.futures.ThreadPoolExecutor(4) as pool:
-            return list(pool.map(trial, COUNTS))
+            of_counts = list(pool.map(outcomes, COUNTS))
+        return {name: [found[name] for found in of_counts] for name in names}
+
+    def outcomes(self, names, count, more):
+        """What comes of each name where all of them have this count. A set that is refused for one is tried in halves."""
+        run = self.run({**self.counts, **dict.fromkeys(names, count)}, more)
+        if run.refused and len(names) > 1:
+            half = len(names) // 2
+            return {**self.outcomes(names[:half], count, more), **self.outcomes(names[half:], count, more)}
+        raw = {} if run.refused else {body.number: body for body in bodies_of(run)}
+        return {name: Trial(run, raw, self.waiting[name]) for name in names}
 
     def go(self):
         """Goes round until no body waits, and answers the bodies that are raw all the same."""
@@ -132,11 +154,32 @@ class Search:
                 return bodies
             if len(self.counts) + len(found) > MOST_NAMES:
                 raise listing.Unusable(f"more than {MOST_NAMES} names are missing: a table is, more likely")
+            if not run.refused and "--any-run" in self.options:
+                self.outside = segments_outside(run.listing)
             self.waiting.update(found)
             self.rounds.append(sorted(found, key=lambda name: -len(found[name])))
-            for name in self.rounds[-1]:
+            for names in self.apart(self.rounds[-1]):
                 # What stands behind may be unknown still, and is taken to have no arguments meanwhile.
-                self.choose(name, self.trials(name, ["--unknown-zero"]))
+                for name, trials in self.trials(names, ["--unknown-zero"]).items():
+                    self.choose(name, trials)
+
+    def apart(self, names):
+        """The names in groups, none of which has two that a body has both of."""
+        bodies_with = bodies_by_segment(self.waiting)
+        groups, taken, alone = [], [], []
+        for name in names:
+            segment = listing.parts(name)[-1]
+            bodies = bodies_with.get(segment.encode(), set()) | {body.number for body in self.waiting[name]}
+            if not self.waiting[name] or segment in self.outside:
+                alone.append([name])  # its count may change how the tables themselves are read
+                continue
+            place = next((at for at, other in enumerate(taken) if other.isdisjoint(bodies)), len(groups))
+            if place == len(groups):
+                groups.append([])
+                taken.append(set())
+            groups[place].append(name)
+            taken[place] |= bodies
+        return alone + groups
 
     def found_in(self, bodies):
         found = {}
@@ -159,14 +202,31 @@ class Search:
 
     def settle(self):
         """The trials of each name beside the best counts of the others."""
+        groups = self.apart(list(self.counts))
         for _ in range(MOST_PASSES):
             trials, changed = {}, False
-            for name in self.counts:
-                trials[name] = self.trials(name)
-                changed |= self.choose(name, trials[name])
+            for names in groups:
+                found = self.trials(names)
+                trials.update(found)
+                changed |= any([self.choose(name, found[name]) for name in names])
             if not changed:
                 break
         return trials
+
+
+def segments_outside(text):
+    lines = (line for line, _, method in text.lines if method is None)
+    return {segment for line in lines for segment in SEGMENT.findall(line)}
+
+
+def bodies_by_segment(waiting):
+    """The numbers of the waiting bodies by each segment that may stand in them, at whatever byte."""
+    found = {}
+    for bodies in waiting.values():
+        for body in bodies:
+            for at in range(len(body.raw) - 3):
+                found.setdefault(body.raw[at : at + 4], set()).add(body.number)
+    return found
 
 
 def spans(counts):
@@ -278,4 +338,4 @@ def main():
 
 
 if __name__ == "__main__":
-    main()
+    output.run("missing", main)

@@ -1,56 +1,92 @@
 #!/usr/bin/env python3
 """Makes one HTML page of a listing of acpidis, to be looked at in a browser.
 
-    examples/page.py [--errors FILE] [--compare OTHER] LISTING >page.html
+    examples/page.py [--errors FILE] [--compare OTHER] [--name NAME] [--only WHAT] LISTING >page.html
 
 LISTING is what acpidis wrote to standard output, FILE what it wrote to standard error, OTHER the listing of a second
-machine. The page has the namespace as a tree, the tables, and the definition blocks, where each name leads to what it
-means. It stands alone: it asks no network for anything. Each path is an anchor, as in page.html#\\_SB_.PCI0, and so is
-each line's number.
+machine. NAME stands on top, else the name of LISTING, or of its folder where that is called `text`. With --only the page
+has what stands at and below a path, as \\_SB_.PCI0.LPCB, or in a file, as ssdt3.dat.
+
+The page has the namespace as a tree, the tables, and the definition blocks, where each name leads to what it means, and
+each number and buffer has beside it what it says. It stands alone: it asks no network for anything. Each path is an
+anchor, as in page.html#\\_SB_.PCI0, and so is each line's number.
 """
+
+from __future__ import annotations
 
 import argparse
 import pathlib
 import sys
+from collections.abc import Callable
+from typing import TypeVar
 
 sys.dont_write_bytecode = True
 sys.path.insert(0, str(pathlib.Path(__file__).resolve().parent / "page"))
 
+import output  # noqa: E402
 from comparison import compare  # noqa: E402
+from decoding import Decoder  # noqa: E402
 from errors import read_errors  # noqa: E402
-from listing import Listing, NoListing, read_listing  # noqa: E402
-from markup import Sheet, page  # noqa: E402
+from listing import NoListing, read_listing  # noqa: E402
+from markup import page  # noqa: E402
 from names import Names  # noqa: E402
+from sheet import LONG_TEXT, Sheet  # noqa: E402
 
-# A page has some four times the bytes of its listing, and a browser takes some seconds for each 10 MB.
-MOST_BYTES = 4_000_000
+# A browser opens the page of the first in some seconds. The second can be read, for a part of it.
+MOST_BYTES, MOST_TO_READ = 20_000_000, 256_000_000
+Made = TypeVar("Made")
 
 
-def read(file: str, most: int = MOST_BYTES) -> bytes:
+def read(file: str, most: int) -> bytes:
     with open(file, "rb") as opened:
         text = opened.read(most + 1)
     if len(text) > most:
-        raise NoListing(f"it has more than {most:,} bytes, which is too much for a page")
+        way = "; --only makes one of a path or of a file alone" if most < MOST_TO_READ else ""
+        raise NoListing(f"it has more than {most:,} bytes, which are too many for one page{way}")
     return text
 
 
-def sheet_of(asked: argparse.Namespace) -> Sheet:
-    """What the page is made of. A fault names the file that it is about."""
-    file = asked.listing
+def of_file(file: str, make: Callable[[bytes], Made], most: int, what: str = "is no listing for a page") -> Made:
+    """What is made of a file's text. A fault names the file that it is about."""
     try:
-        listing = read_listing(read(file))
-        sheet = Sheet(listing, Names(listing))
-        if asked.errors:
-            sheet.faults = read_errors(read(asked.errors), listing)
-        if asked.compare:
-            file = asked.compare
-            other: Listing = read_listing(read(file))
-            sheet.comparison = compare(sheet.names, listing, Names(other), other, file)
-        return sheet
+        return make(read(file, most))
     except OSError as error:
-        sys.exit(f"page: cannot read {error.filename!r}: {error.strerror}")
+        sys.exit(f"page: cannot read {file!r}: {error.strerror}")
     except NoListing as fault:
-        sys.exit(f"page: {file!r} is no listing for a page: {fault}")
+        sys.exit(f"page: {file!r} {what}: {fault}")
+
+
+def sheet_in(text: bytes) -> Sheet:
+    listing = read_listing(text)
+    names = Names(listing)
+    return Sheet(listing, names, Decoder(listing, names), is_packed=len(text) > LONG_TEXT)
+
+
+def name_of(file: str) -> str:
+    path = pathlib.Path(file).absolute()
+    return path.parent.name if path.name == "text" else path.name
+
+
+def sheet_of(asked: argparse.Namespace) -> Sheet:
+    """What the page is made of."""
+    most = MOST_TO_READ if asked.only else MOST_BYTES
+
+    def make(text: bytes) -> Sheet:
+        sheet = sheet_in(text)
+        if asked.only:
+            sheet.only(asked.only)
+            sheet.is_packed = len(sheet.shown or ()) > LONG_TEXT // 40
+        return sheet
+
+    sheet = of_file(asked.listing, make, most)
+    sheet.name = asked.name or name_of(asked.listing)
+    if asked.errors:
+        what = "isn't the standard error of this listing"
+        sheet.faults = of_file(asked.errors, lambda text: read_errors(text, sheet.listing), MOST_BYTES, what)
+    if asked.compare:
+        other = of_file(asked.compare, sheet_in, most)
+        sheet.comparison = compare(sheet.names, sheet.listing, other.names, other.listing, asked.compare)
+    return sheet
 
 
 def main() -> None:
@@ -58,8 +94,10 @@ def main() -> None:
     words.add_argument("listing", metavar="LISTING")
     words.add_argument("--errors", metavar="FILE")
     words.add_argument("--compare", metavar="OTHER")
+    words.add_argument("--name", metavar="NAME")
+    words.add_argument("--only", metavar="WHAT")
     sys.stdout.write(page(sheet_of(words.parse_args())))
 
 
 if __name__ == "__main__":
-    main()
+    output.run("page", main)

@@ -19,6 +19,7 @@ import tempfile
 
 import aml
 import listing
+import output
 
 HEADER, MOST_BYTES, SHOWN_BYTES, MOST_SHOWN = 36, 16_777_216, 16, 5
 BLOCKS = (b"DSDT", b"SSDT")
@@ -435,14 +436,12 @@ def main():
     sys.stderr.reconfigure(errors="backslashreplace")
     try:
         said, status = say(words.parse_args())
-        print("\n".join(said), flush=True)
-    except (listing.Unusable, OSError, ValueError, MemoryError) as fault:
+    except (listing.Unusable, OSError, ValueError) as fault:
         print(f"refused: {fault}", file=sys.stderr)
-        # What standard output didn't take isn't tried again at the end.
-        os.dup2(os.open(os.devnull, os.O_WRONLY), 1)
-        status = 2
+        sys.exit(2)
+    print("\n".join(said))
     sys.exit(status)
 
 
 if __name__ == "__main__":
-    main()
+    output.run("refused", main)

@@ -99,6 +99,7 @@ count_checks() {
         fault == "" { sub(/^acpidis: /, ""); fault = $0 }
         END {
             if (fault == "") fault = "-"
+            if (length(fault) > 2000) fault = substr(fault, 1, 2000) " .." # the path of a deep body is long
             if (!tables) tables = methods = raw = "-"
             print fault "\t" tables "\t" methods "\t" raw "\t" dsdt
         }'

@@ -11,6 +11,8 @@ import contextlib
 import itertools
 import os
 import pathlib
+import re
+import resource
 import subprocess
 import sys
 import tempfile
@@ -144,6 +146,30 @@ def try_missing(tries):
     found = tries.run("missing.py", "--try", tries.folder("outside", OUTSIDE))
     refused = '#   with 1 to 7: the set is refused: table "dsdt.dat": ModuleCall'
     tries.row("a value outside the methods", found, 0, "\\VVVV 0\n", refused)
+
+
+def try_many_missing(tries):
+    """Names in bodies of their own are tried together, so that many of them take as many runs as one; names in one body
+    aren't, and end with a word."""
+    names = [b"X%03d" % number for number in range(300)]
+    many = b"".join(method(b"M" + name[1:], b"\xa4" + name) for name in names)
+    found = tries.run("missing.py", "--try", tries.folder("many", many), ACPIDIS=counting(tries, "many"))
+    wanted = "".join(f"\\{name.decode()} 0\n" for name in names)
+    tries.row("300 names", found, 0, wanted, "# \\X299: 1 body waits, the first \\M299 at 1")
+    tries.is_true("few runs", len((tries.room / "many.calls").read_text().splitlines()) < 30)
+    pair = method(b"MAIN", b"\x72AAAA\\BBBB\1\x60") + method(b"NEXT", b"\x70BBBB\x0a\1\x5b\x31")
+    found = tries.run("missing.py", tries.folder("pair", pair))
+    tries.row("two names of one body", found, 0, "\\AAAA ?\n\\BBBB ?\n", "#   with 0: 1 reads")
+
+
+def counting(tries, name):
+    """The program, with a line in a file for each run of it."""
+    file = tries.room / f"{name}.sh"
+    run = subprocess.run([TOP / "acpidis", "--program"], capture_output=True, text=True, check=False)
+    program = os.environ.get("ACPIDIS") or run.stdout.rstrip("\n")
+    file.write_text(f"#!/bin/sh\necho run >>'{tries.room}/{name}.calls'\nexec '{program}' \"$@\"\n")
+    file.chmod(0o755)
+    return str(file)
 
 
 def try_missing_outside(tries):
@@ -282,13 +308,42 @@ def try_damage(tries):
             [sys.executable, TOP / "examples/refused.py", "twice"], cwd=tries.room, stdout=full, stderr=subprocess.PIPE,
             text=True, check=False,
         )
-    tries.is_true("a full disk", run.returncode == 2 and run.stderr == "refused: [Errno 28] No space left on device\n")
+    tries.is_true("a full disk", run.returncode == 2 and run.stderr == "refused: cannot write: No space left on device\n")
     tries.folder("damaged", BRANCH)
     data, file = table(b"DSDT", BRANCH + REGION), tries.room / "damaged/dsdt.dat"
     for at, byte in itertools.product(range(36, 86, 7), (0x00, 0x5B, 0xFF)):
         file.write_bytes(data[:at] + bytes([byte]) + data[at + 1 :])
         found = tries.run("refused.py", "--any-sum", "damaged")
         tries.is_true("a damaged table", found.returncode in (0, 1) and not found.stderr)
+
+
+def nested(levels):
+    """Devices in each other, around a Name."""
+    code = b"\x08DUPE\0"
+    for level in range(levels):
+        size = len(code) + 4
+        length = bytes([size + 1]) if size + 1 < 64 else bytes([0x40 | (size + 2) & 15, size + 2 >> 4])
+        code = b"\x5b\x82" + length + b"S%03d" % level + code
+    return code
+
+
+def try_deep(tries):
+    """Paths of many segments, and many names below them: an answer in time, or a line why not."""
+    deep = b"\\\x2f\xff" + b"".join(b"S%03d" % level for level in range(255))
+    longs = b"".join(b"\x08" + deep[:-4] + b"X%03d\0" % number for number in range(60))
+    tries.folder("nested", nested(480) * 2)
+    tries.folder("long", longs + b"\x08" + deep[:-4] + b"X000\0")
+    tries.folder("below", block(b"\x14", deep + b"\0" + b"\x70XXXX\x60" * 300))
+    for folder in ("nested", "long", "below"):
+        for script, *words in (("refused.py",), ("refused.py", "--any-run"), ("calls.py", "--any-run"), ("missing.py", "--any-run")):
+            before = resource.getrusage(resource.RUSAGE_CHILDREN).ru_utime
+            run = tries.run(script, *words, folder)
+            seconds = resource.getrusage(resource.RUSAGE_CHILDREN).ru_utime - before
+            is_said = run.returncode in (0, 1, 2) and "Traceback" not in run.stderr and len(run.stderr.splitlines()) < 50
+            tries.is_true(f"{script}, {folder}: {run.returncode}, {run.stderr[-300:]}", is_said)
+            tries.is_true(f"{script}, {folder}: {seconds} seconds", seconds < 2)
+    found = tries.run("missing.py", "--any-run", "nested").stderr
+    tries.is_true("the line of a deep scope", re.fullmatch("missing: line [0-9]+: a scope of more than 64 segments.*\n", found))
 
 
 def try_hostile(tries):
@@ -332,6 +387,7 @@ def main():
     with tempfile.TemporaryDirectory() as room, contextlib.suppress(Stopped):
         tries = Tries(pathlib.Path(room), "--stop" in sys.argv[1:])
         try_missing(tries)
+        try_many_missing(tries)
         try_missing_outside(tries)
         try_calls(tries)
         try_calls_outside(tries)
@@ -339,6 +395,7 @@ def main():
         try_declarations(tries)
         try_refused_runs(tries)
         try_damage(tries)
+        try_deep(tries)
         try_hostile(tries)
     print(f"{tries.passed} passed, {tries.failed} failed")
     sys.exit(tries.failed > 0)

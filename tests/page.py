@@ -20,426 +20,35 @@ import subprocess
 import sys
 import tempfile
 from collections import Counter
-from dataclasses import dataclass, field
-from html.parser import HTMLParser
 
 sys.dont_write_bytecode = True
 TOP = pathlib.Path(__file__).resolve().parent.parent
-sys.path.insert(0, str(TOP / "tests/oracle"))
+sys.path[:0] = [str(TOP / "examples/page"), str(TOP / "tests/oracle")]
+sys.path.append(str(TOP / "examples"))
 
+import lines as lines_module  # noqa: E402
 import pages  # noqa: E402
-from any_run import RunNamespace, RunReader  # noqa: E402
+import tree as tree_module  # noqa: E402
+from decoding import Decoder  # noqa: E402
 from dumps import aml_of, order_of  # noqa: E402
+from errors import read_errors  # noqa: E402
 from folders import read_folder  # noqa: E402
-from loading import Loaded, Namespace, path_text  # noqa: E402
+from listing import read_listing  # noqa: E402
 from made_sets import SetMaker  # noqa: E402
-from reading import ALIAS, ELSE, EXTERNAL, FIELD_LISTS, IF, METHOD, ROWS, SCOPE, SCOPES  # noqa: E402
-from reading import Name, Named, Op, Reader  # noqa: E402
+from markup import page  # noqa: E402
+from names import Names  # noqa: E402
+from page_html import Read, read_page  # noqa: E402
 from running import REFUSED, Options, Outcome, run_folder  # noqa: E402
+from sheet import Sheet  # noqa: E402
+from telling import DEMO, HOSTILE_FILES, PAGES_FILES, RUNS_FILES, Teller, method, written  # noqa: E402
 
 PAGE = TOP / "examples/page.py"
 ELEMENTS = set(
     "html head meta title style body nav header h1 h2 h3 p input div span small details summary a main section ul li "
-    "table tr th td dfn b i q u em mark pre script".split()
+    "table tr th td dfn b i q u em mark pre script button ins".split()
 )
-Path = tuple[str, ...]
-WHILE, MOST_OTHERS = 0xA2, 3
-# What a name is, the path that it declares or leads to, of a body's own name the place of its declaration, and the
-# paths to which it leads in other runs.
-Told = tuple[str, str, object, tuple]
-
-
-# ---- sample sets
-
-
-def packed(opcode: bytes, content: bytes) -> bytes:
-    size = len(content) + 2
-    return opcode + bytes([0x40 | size & 15, size >> 4]) + content
-
-
-def method(name: bytes, flags: int, body: bytes) -> bytes:
-    return packed(b"\x14", name + bytes([flags]) + body)
-
-
-def field_list(region: bytes, units: bytes) -> bytes:
-    return b"\x5B\x80" + region + b"\0\0\x0A\x10" + packed(b"\x5B\x81", region + b"\1" + units)
-
-
-def device(name: bytes, terms: bytes) -> bytes:
-    return packed(b"\x5B\x82", name + terms)
-
-
-HOSTILE_TEXT = b"<script>alert(1)</script>&amp;'\"\x01 -->"
-# Names of a body before and behind their declarations, in a block and in a field list, and one that is searched upward.
-CALL = (
-    b"\x70INIT\x60" + b"\\INIT\x01" + packed(b"\xA0", b"\x60" + b"\x08INIT\x01") + b"\x70INIT\x61"
-    + field_list(b"REGN", b"FLD0\x08\0\x04\2FLD0FLD1\x04") + b"\x70FLD0INIT" + b"\x8CINIT\0BYTE" + b"\x70BYTE\x62"
-    + b"\x86^^\0\x0A\x80" + b"\x70\x01QQQQ" + b"\x06INITLOCA" + b"\x08INIT\0" + b"\x70LOCAINIT" + b"\xA4_OSI\x0DLinux\0"
-)
-DEVICE = (
-    b"\x08_HID\x0DACPI0001\0" + field_list(b"REG0", b"UNIT\x08\0\x08NEXT\x04") + method(b"_STA", 0, b"\xA4UNIT")
-    + method(b"CALL", 8, CALL) + method(b"_CID", 0, b"\xA4\x0C\x41\xD0\x0A\x03")
-)
-BUS = b"\x08_HID\x0C\x41\xD0\x0A\x08" + b"\x08_CID" + packed(b"\x12", b"\1\x0C\x41\xD0\x0A\x03") + b"\x08INIT\0"
-DSDT = (
-    b"\x08NAME\x0D" + HOSTILE_TEXT + b"\0" + method(b"INIT", 1, b"\xA4\x68")
-    + packed(b"\x10", b"\\_SB_" + device(b"PCI0", BUS + device(b"DEV0", DEVICE)))
-    + b"\x15\\EXTN\x08\x01" + b"\x15\\EXTN\x08\x01" + method(b"RAWM", 0, b"\xA4ZZZZ\x01") + b"\x06INITALIA"
-)
-SSDT = (
-    packed(b"\xA0", b"\0\x15\\/\3_SB_PCI0DEV0\x06\0") + packed(b"\x10", b"\\/\3_SB_PCI0DEV0" + method(
-        b"_ON_", 0, b"ALIAEXTN\x01" + b"CALL" + b"^_STA" + b"\x70\\/\4_SB_PCI0DEV0UNIT\x60" + b"\x70\x01^^^^NONE",
-    ))
-    + packed(b"\x10", b"\\\0\x08LATE" + packed(b"\x12", b"\4INITLATE.PCI0INIT\\\0"))
-)
-HOSTILE_FILES = {
-    "<script>alert(1)<!--&\"'.dat": pages.table(b"DSDT", DSDT),
-    "ssdt1 \" onload=alert(1) x='&lt;": pages.table(b"SSDT", SSDT),
-    "x\n<b>.dat": pages.table(b"OEM1", b""),
-}
-PAGES_FILES = {"dsdt.dat": pages.table(b"DSDT", pages.DSDT), "ssdt1.dat": pages.table(b"SSDT", pages.SSDT)}
-
-# Two branches that declare a method, a nearer one that only may stand, a Device that is declared again, a Scope of what
-# nothing declares, and code that runs in front of a nearer declaration.
-BRANCHES = (
-    packed(b"\xA0", b"COND" + method(b"FOO_", 1, b"\xA4NONE")) + packed(b"\xA1", method(b"FOO_", 1, b"\xA3\xA4NO_2"))
-)
-NEARER = b"\x70COND\x60" + b"\x08COND\1" + packed(b"\xA0", b"COND" + method(b"FOO_", 1, b""))
-RUNS = (
-    b"\x08COND\0" + BRANCHES + device(b"DEV0", NEARER + method(b"CALL", 0, b"FOO_\1"))
-    + device(b"DEV0", b"\x08LATE\0") + packed(b"\x10", b"\\RP99" + b"\x08NEAR\0")
-)
-RUNS_FILES = {"dsdt.dat": pages.table(b"DSDT", RUNS)}
-
-DEMO = TOP / "crates/acpidis_program/data/demo"
-
-
-def written(folder: pathlib.Path, files: dict[str, bytes]) -> pathlib.Path:
-    folder.mkdir(parents=True)
-    for name, data in files.items():
-        (folder / name).write_bytes(data)
-    return folder
-
-
-# ---- what the independent reading says of each name
-
-
-class Watching(Namespace):
-    """Keeps where the names of Scopes and the sources of Aliases led while the tables were loaded."""
-
-    def __init__(self) -> None:
-        super().__init__()
-        self.led: list[Path] = []
-
-    def lead(self, scope: Path, name: Name, missing: str) -> Path:
-        self.led.append(super().lead(scope, name, missing))
-        return self.led[-1]
-
-
-    def is_sure(self, path: Path) -> bool:
-        return self.kind(path) is not None
-
-
-class WatchingReader(RunReader):
-    """Keeps where the names of Scopes and the sources of Aliases led, and what the names meant of terms that aren't
-    declarations, when they were read."""
-
-    def named(self, at: int, end: int, position: str, level: int) -> tuple:
-        term, rest = super().named(at, end, position, level)
-        if position == "run":
-            self.keep(term)
-        return term, rest
-
-    def inside(self, term: Op) -> tuple[Path, bool]:
-        self.keep(term)
-        path, is_sure = super().inside(term)
-        self.space.led.append((term, path))
-        return path, is_sure
-
-    def leave(self, term: Op) -> None:
-        self.keep(term)
-        if term.opcode == ALIAS:
-            self.space.led.append((term, self.space.find(self.scope, term.names()[0])))
-        super().leave(term)
-
-    def keep(self, term: object) -> None:
-        if not isinstance(term, Op) or ROWS[term.opcode].group != "declaration":
-            found = {str(name): may_mean(self.space, self.scope, name, {}) for name in names_in(term)}
-            self.space.then.setdefault(id(term), found)
-
-
-def names_in(term: object) -> list[Name]:
-    """The names of a term that has no names of its own to declare, without those of the terms inside it."""
-    if isinstance(term, Name):
-        return [term]
-    if isinstance(term, Named):
-        return [term.name, *(name for arg in term.args for name in names_in(arg))]
-    if not isinstance(term, Op):
-        return []
-    elements = term.tail if term.row.tail == "e" else []
-    return [name for part in (*term.parts, *elements) for name in names_in(part)]
-
-
-def may_mean(space: Namespace, scope: Path, name: Name, own: dict) -> list[Path]:
-    """The paths that a name may mean, the nearest first, up to one that stands in every run (docs/names.md)."""
-    found = []
-    for path in name.candidates(scope):
-        if path in own or space.kind(path):
-            found.append(path)
-        if path in own or space.is_sure(path):
-            return found
-    return found or [path for path in name.candidates(scope) if path in space.externals][:1]
-
-
-class Teller:
-    """Tells the names of a set's definition blocks in the order of the text, and what each is."""
-
-    def __init__(self, codes: list[bytes], options: Options):
-        self.told: list[Told] = []
-        self.space, trees = self.run(codes) if options.any_run else self.load(codes)
-        bodies = Loaded(codes, trees, self.space).bodies(options.unknown_zero)
-        self.bodies = {(body.method.table, body.method.start): body for body in bodies}
-        self.seen, self.declared, self.then = set(), set(), {}
-        for self.table, terms in enumerate(trees):
-            self.tell_terms(terms, ())
-
-    def load(self, codes: list[bytes]) -> tuple[Namespace, list]:
-        space, trees = Watching(), [Reader(code).read() for code in codes]
-        for table, terms in enumerate(trees):
-            space.load(table, (), terms)
-        led = iter(space.led)
-        self.led_by, self.then_by = (lambda _: next(led)), {}
-        return space, trees
-
-    def run(self, codes: list[bytes]) -> tuple[Namespace, list]:
-        space = RunNamespace()
-        space.led, space.then = [], {}
-        trees = [WatchingReader(code, space=space, table=table).read() for table, code in enumerate(codes)]
-        led = {id(term): path for term, path in space.led}
-        self.led_by, self.then_by = (lambda term: led[id(term)]), space.then
-        return space, trees
-
-    def tell(self, name: Name, what: str, of: object, others: tuple = ()) -> None:
-        if str(name):
-            self.told.append((str(name), what, of, others))
-
-    def tell_found(self, name: Name, scope: Path, own: dict) -> None:
-        path, *others = self.then.get(str(name)) or may_mean(self.space, scope, name, own) or [None]
-        if path in own:
-            self.tell(name, "leads in its body", own[path])
-        else:
-            self.tell(name, "leads nowhere" if path is None else "leads", path, tuple(others[:MOST_OTHERS]))
-
-    def tell_led(self, name: Name, path: Path) -> None:
-        is_known = self.space.kind(path) or path in self.space.externals
-        self.tell(name, "leads" if is_known else "leads nowhere", path if is_known else None)
-
-    def tell_declared(self, name: Name, scope: Path) -> Path:
-        path = name.placed(scope)
-        self.tell(name, "declares again" if path in self.declared else "declares", path)
-        self.declared.add(path)
-        return path
-
-    def tell_terms(self, terms: list, scope: Path) -> None:
-        for term in terms:
-            opcode, names = (term.opcode, term.names()) if isinstance(term, Op) else (None, [])
-            self.then = self.then_by.get(id(term), {})
-            if opcode == METHOD:
-                path = self.tell_declared(names[0], scope)
-                self.tell_body(self.bodies[self.table, term.tail[0]].terms or [], path)
-            elif opcode == SCOPE:
-                path = self.led_by(term)
-                self.tell_led(names[0], path)
-                self.tell_terms(term.tail, path)
-            elif opcode in SCOPES:
-                self.tell_terms(term.tail, self.tell_declared(names[0], scope))
-            elif opcode == ALIAS:
-                self.tell_led(names[0], self.led_by(term))
-                self.tell_declared(names[1], scope)
-            elif opcode == EXTERNAL:
-                self.tell_external(names[0], names[0].placed(scope))
-            elif opcode in (IF, ELSE, WHILE):
-                for part in term.parts:
-                    self.tell_term(part, scope, {}, False)
-                self.tell_terms(term.tail, scope)
-            else:
-                self.tell_term(term, scope, {}, False)
-
-    def tell_external(self, name: Name, path: Path) -> None:
-        is_first = not self.space.kind(path) and path not in self.seen
-        self.seen.add(path)
-        self.tell(name, "declares" if is_first else "leads", path)
-
-    def tell_body(self, terms: list, path: Path) -> None:
-        own: dict[Path, int] = {}
-        for term in terms:
-            self.tell_term(term, path, own, True)
-
-    def tell_term(self, term: object, scope: Path, own: dict, is_body: bool) -> None:
-        """The names of a term; the paths that it declares in a body are known behind it, with their places."""
-        declared: dict[Path, int] = {}
-
-        def declare(name: Name) -> None:
-            if not is_body:
-                self.tell_declared(name, scope)
-                return
-            path = name.placed(scope)
-            if path is not None:
-                declared[path] = len(self.told)
-            self.tell(name, "declares in its body", path)
-
-        if isinstance(term, Name):
-            self.tell_found(term, scope, own)
-        elif isinstance(term, Named):
-            self.tell_found(term.name, scope, own)
-            for arg in term.args:
-                self.tell_term(arg, scope, own, is_body)
-        elif isinstance(term, Op):
-            its_own = term.declared() if term.opcode not in FIELD_LISTS else []
-            for part in term.parts:
-                if its_own and part is its_own[0]:
-                    declare(part)
-                else:
-                    self.tell_term(part, scope, own, is_body)
-            for inner in term.tail if isinstance(term.tail, list) else []:
-                if term.opcode not in FIELD_LISTS:
-                    self.tell_term(inner, scope, own, is_body)
-                elif inner[0] == "unit":
-                    declare(Name(False, 0, [inner[1]]))
-                elif inner[0] == "connection":
-                    self.tell_term(inner[1], scope, own, is_body)
-            own |= declared if is_body else {}
-
-
-# ---- what the page says
-
-
-@dataclass
-class Read(HTMLParser):
-    """What a page has: its elements, anchors and links, and of the definition blocks the lines, the names with what
-    each is, and the lines in which a path is used."""
-
-    elements: set = field(default_factory=set)
-    attributes: list = field(default_factory=list)
-    anchors: list = field(default_factory=list)
-    names: list = field(default_factory=list)
-    lines: dict = field(default_factory=dict)
-    notes: list = field(default_factory=list)
-    rows: dict = field(default_factory=dict)
-    uses: set = field(default_factory=set)
-    cells: list = field(default_factory=list)
-    titles: list = field(default_factory=list)
-
-    def __post_init__(self) -> None:
-        super().__init__()
-        self.section, self.line, self.name, self.used, self.is_listed, self.note = "", 0, None, "", False, False
-        self.row, self.is_named, self.is_small = None, False, False
-
-    def handle_starttag(self, tag: str, attrs: list) -> None:
-        found = dict(attrs)
-        self.elements.add(tag)
-        self.attributes += attrs
-        self.anchors += [found["id"]] if "id" in found else []
-        if tag == "section":
-            self.section = found.get("class") or found["id"]
-        elif not self.section and tag in ("p", "summary"):
-            self.row, self.is_named = [found.get("class"), ""], False
-        elif not self.section and tag == "a" and self.row and not self.is_named:
-            self.rows[found["href"][1:]], self.is_named = self.row, True
-        elif not self.section and tag == "small":
-            self.is_small = True
-        elif self.section == "block":
-            self.start_in_block(tag, found)
-        elif self.section == "uses" and tag == "div":
-            self.used, self.is_listed = found["id"], False
-        elif self.section == "uses" and tag == "ul":
-            self.is_listed = True
-        elif self.section == "uses" and tag == "a" and self.is_listed:
-            self.uses.add((self.used, found["href"][1:]))
-        elif self.section == "tables" and tag == "td":
-            self.cells.append("")
-
-    def start_in_block(self, tag: str, found: dict) -> None:
-        if tag in ("p", "summary"):
-            self.line = int(found["id"])
-            self.lines[self.line] = ""
-        elif found.get("class") == "note":
-            self.note = True
-            self.notes.append("")
-        elif tag in ("a", "dfn", "u"):
-            self.name = [tag, found, ""]
-        elif tag == "i" and "title" in found:
-            self.titles.append(found["title"])
-
-    def handle_endtag(self, tag: str) -> None:
-        if tag in ("p", "summary", "section"):
-            self.line, self.row = 0, None
-        if tag == "small":
-            self.is_small = False
-        if tag == "section":
-            self.section = ""
-        if self.note and tag in ("a", "em"):
-            self.note = False
-        elif self.name and tag == self.name[0]:
-            self.names.append((*self.name, self.line))
-            self.name = None
-
-    def handle_data(self, data: str) -> None:
-        if self.note:
-            self.notes[-1] += data
-        elif self.line and self.section == "block":
-            self.lines[self.line] += data
-            if self.name:
-                self.name[2] += data
-        elif self.section == "tables" and self.cells:
-            self.cells[-1] += data
-        elif self.row and self.is_small and not data.replace(",", "").isdigit():
-            self.row[1] += data
-
-    def told(self) -> list[Told]:
-        """The names of the blocks as the independent reading tells them."""
-        names = enumerate(self.names)
-        own_lines = {str(line): place for place, (tag, found, _, line) in names if tag == "dfn" and "id" not in found}
-        return [
-            (text, *self.meaning(tag, found, own_lines), others_in(tag, found)) for tag, found, text, _ in self.names
-        ]
-
-    def meaning(self, tag: str, found: dict, own_lines: dict) -> tuple[str, object]:
-        if tag == "u":
-            return "leads nowhere", None
-        if tag == "dfn":
-            anchor = found.get("id", found.get("title"))
-            what = "declares again" if found.get("class") == "again" else "declares in its body"
-            return "declares" if "id" in found else what, anchor and path_in(anchor)
-        anchor = found["href"][1:]
-        return ("leads in its body", own_lines.get(anchor)) if anchor.isdigit() else ("leads", path_in(anchor))
-
-    def wanted_uses(self) -> set:
-        """The lines that names lead from, each with the entry of the declaration that they lead to."""
-        entries = {
-            found.get("id", str(line)): f"u{line}" for tag, found, _, line in self.names
-            if tag == "dfn" and found.get("class") != "again"
-        }
-        aims = [(found["href"][1:], str(line)) for tag, found, _, line in self.names if tag == "a"]
-        aims += [(path_text(path), str(line)) for tag, found, _, line in self.names for path in others_in(tag, found)]
-        return {(entries[anchor], line) for anchor, line in aims if anchor in entries}
-
-
-def others_in(tag: str, found: dict) -> tuple:
-    """The paths to which a name leads in other runs."""
-    title = found.get("title", "") if tag == "a" else ""
-    return tuple(map(path_in, title.removeprefix("or ").split(" or "))) if title else ()
-
-
-def path_in(anchor: str) -> Path:
-    return tuple(anchor[1:].split(".")) if anchor != "\\" else ()
-
-
-def read_page(html: str) -> Read:
-    read = Read()
-    read.feed(html)
-    read.close()
-    return read
+# Few lines and paths make a chunk and a branch, so that small sets have several.
+lines_module.CHUNK, tree_module.MANY = 7, 3
 
 
 # ---- checks
@@ -480,7 +89,19 @@ class Checks:
         self.is_same(f"the names of {what}", first_difference(read.told(), teller.told), None)
         self.is_same(f"the uses of {what}", read.uses, read.wanted_uses())
         self.check_frame(what, read, outcome)
+        self.check_packed(what, read, outcome)
         return read
+
+    def check_packed(self, what: str, read: Read, outcome: Outcome) -> None:
+        """The page of the same listing with packed parts has the same names, lines, uses and rows."""
+        listing = read_listing(outcome.out.encode())
+        names = Names(listing)
+        sheet = Sheet(listing, names, Decoder(listing, names), is_packed=True)
+        sheet.faults = read_errors(outcome.err.encode(), listing) if outcome.err else {}
+        other = read_page(page(sheet))
+        for part in ("names", "lines", "uses", "rows", "notes", "says"):
+            self.is_same(f"the {part} of {what}, packed", getattr(other, part), getattr(read, part))
+        self.is_same(f"the anchors of {what}, packed", sorted({*other.anchors, "uses"}), sorted({*read.anchors, "uses"}))
 
     def check_frame(self, what: str, read: Read, outcome: Outcome) -> None:
         """Anchors, links, elements and lines."""
@@ -542,7 +163,12 @@ def check_hostile(checks: Checks, read: Read) -> None:
     files = [pages_file for pages_file in read.cells if ".dat" in pages_file or "onload" in pages_file]
     wanted = [name.replace("\n", "\\x0A").replace('"', "\\x22") for name in sorted(HOSTILE_FILES)]
     checks.is_same("names of files", files, wanted)
-    checks.is_same("hardware names", read.titles, ["PNP0A08", "PNP0A03", "PNP0A03"])
+    wanted = [
+        "PNP0A08 PCI Express bus", "PNP0A03 PCI bus", "ACPI0001 SMBus host controller", "SystemMemory",
+        "ByteAcc, NoLock, Preserve", "byte 0x00", "byte 0x02, bits 0 to 3", "status", "SystemMemory",
+        "ByteAcc, NoLock, Preserve", "byte 0x00", "byte 0x01, bits 4 to 7", "compatible ID", "PNP0A03 PCI bus", "turn on",
+    ]
+    checks.is_same("what is said of numbers", read.says, wanted)
     notes = [note for note in read.notes if note.startswith("raw")]
     checks.is_same("the name at a fault", notes, ["raw: UnknownName at 1, ZZZZ"])
 
@@ -579,6 +205,58 @@ def check_comparison(checks: Checks) -> None:
     checks.is_same("what differs from itself", re.findall("<li class=", same), [])
 
 
+def check_comparison_lines(checks: Checks) -> None:
+    """The lines that differ, in a method whose middle is another, and in a table."""
+    one = method(b"MAIN", 0, b"\x70\x01\x60" + b"\x70\x0A\x05\x61" + b"\x70\x60\x62" + b"\xA4\x62")
+    other = one.replace(b"\x70\x0A\x05\x61", b"\x70\x0A\x06\x61")
+    texts = []
+    for name, code, count in (("first", one, 5), ("second", other, 6)):
+        files = {"dsdt.dat": pages.table(b"DSDT", code), "ssdt.dat": pages.table(b"OEM%d" % count, b"")}
+        texts.append(run_folder(written(checks.room / name, files), Options()))
+    html = checks.page(texts[0], "--compare", checks.file("other", texts[1].out))
+    lines = texts[0].out.splitlines()
+    marked = [lines[int(number) - 1].strip() for number in re.findall(r"<(?:p|tr|summary) id=(\d+) class=differs>", html)]
+    checks.is_same("the lines that differ", marked, [lines[1], "Store (0x05, Local1)"])
+    checks.is_same("the other's lines", re.findall("<ins>(.*?)</ins>", html), ["  Store (0x06, Local1)"])
+    checks.is_same("the other's tables", "\"OEM6\"" in html.replace("&quot;", '"'), True)
+
+
+def check_only(checks: Checks, outcome: Outcome) -> None:
+    """A page of a path, of a file, and of what isn't there. What stands at the path is told by the levels of the lines."""
+    lines = outcome.out.splitlines()
+    wanted: set[int] = set()
+    for start in (number for number, line in enumerate(lines) if re.search(r"Device \(DEV0\)|Scope \(.*DEV0\)", line)):
+        level = len(lines[start]) - len(lines[start].lstrip())
+        end = next(number for number in range(start + 1, len(lines)) if lines[number] == " " * level + "}")
+        wanted |= set(range(start + 1, end + 2))
+        for above in range(0, level, 2):
+            head = max(number for number in range(start) if re.match(f"(?! {{{above + 1}}}) {{{above}}}\\w.*{{$", lines[number]))
+            wanted |= {head + 1, next(number for number in range(end, len(lines)) if lines[number] == " " * above + "}") + 1}
+    listing = checks.file("whole", outcome.out)
+    for what in ("\\_SB_.PCI0.DEV0", "ssdt1 \\x22 onload=alert(1) x='&lt;"):
+        run = checks.run("--only", what, listing)
+        read = read_page(run.stdout)
+        if what[0] == "\\":
+            checks.is_same(f"the lines of {what}", set(read.lines), wanted)
+        links = {value[1:] for name, value in read.attributes if name == "href" and value.startswith("#")}
+        checks.is_same(f"links without an anchor at {what}", links - set(read.anchors), set())
+        checks.is_same(f"lines of {what}", [text for line, text in read.lines.items() if text != lines[line - 1]], [])
+    run = checks.run("--only", "\\NONE", listing)
+    checks.is_same("only what isn't there", (run.returncode, run.stdout, run.stderr.count("\n")), (1, "", 1))
+
+
+def check_names(checks: Checks, outcome: Outcome) -> None:
+    """What stands on top: a name that is given, or that of the file or of its folder."""
+    text = outcome.out.replace('"EXAMPLE "', '"EX\\x00\\x00\\x00\\x00\\x00\\x00"')
+    (checks.room / "host7").mkdir()
+    for words, title in (
+        ([checks.file("a&b", text)], "a&amp;b: TEST EX"), ([checks.file("host7/text", text)], "host7: TEST EX"),
+        (["--name", "<i>", checks.file("a", text)], "&lt;i&gt;: TEST EX"),
+    ):
+        found = re.findall("<title>(.*)</title>", checks.run(*words).stdout)
+        checks.is_same(f"the title of {words}", found, [title])
+
+
 def check_refusals(checks: Checks, outcome: Outcome) -> None:
     """Texts that are no listing: one line, and status 1."""
     lines = outcome.out.splitlines(keepends=True)
@@ -590,7 +268,7 @@ def check_refusals(checks: Checks, outcome: Outcome) -> None:
         "no ASCII": outcome.out.replace("Return", "R\xE9turn"),
         "a line less": outcome.out.replace("    Device (PCI0) {\n", ""),
         "a line that is cut": outcome.out[:-3],
-        "20 MB": outcome.out + "  \n" * 7_000_000,
+        "21 MB": outcome.out + "  \n" * 7_000_000,
         **{f"the first {count} lines": "".join(lines[:count]) for count in range(1, len(lines), 7)},
     }
     for what, text in texts.items():
@@ -616,6 +294,9 @@ def check_all(checks: Checks, asked: argparse.Namespace) -> None:
     check_made_up(checks, asked.sets, False)
     check_made_up(checks, asked.sets, True)
     check_comparison(checks)
+    check_comparison_lines(checks)
+    check_only(checks, run_folder(hostile, Options()))
+    check_names(checks, run_folder(hostile, Options()))
     check_refusals(checks, run_folder(hostile, Options()))
 
 

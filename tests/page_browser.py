@@ -1,6 +1,8 @@
 """Drives chromium through a page of examples/page.py by the DevTools protocol, for tests/page_browser.sh.
 
-    python3 tests/page_browser.py PAGE PICTURE
+    python3 tests/page_browser.py PAGE PICTURE [COMPARED [SECONDS LARGE]..]
+
+PAGE is looked at in all its parts, COMPARED has a comparison, and each LARGE page has to open in so many seconds.
 """
 
 import base64
@@ -20,7 +22,9 @@ MOST_SECONDS_TO_OPEN = 2
 OPENINGS = 3
 # The ends of the pipes in chromium are by its own rule these two.
 ITS_INPUT, ITS_OUTPUT = 3, 4
-KEYS = {"/": 191, "Enter": 13, "Escape": 27, "ArrowDown": 40}
+KEYS = {"/": 191, "Enter": 13, "Escape": 27, "ArrowDown": 40, "ArrowLeft": 37, "ArrowRight": 39, "ArrowUp": 38, "Tab": 9}
+NARROW = 400
+MOST_JUMPS = 60
 
 
 class Browser:
@@ -80,8 +84,33 @@ class Browser:
         return answer["result"].get("value")
 
     def settle(self) -> None:
-        """Waits for two frames, so that what was changed is drawn."""
-        self.value("new Promise((done) => requestAnimationFrame(() => requestAnimationFrame(() => done(1))))")
+        """Waits for two frames, so that what was changed is drawn, and until what is in sight is unpacked."""
+        frames = "new Promise((done) => requestAnimationFrame(() => requestAnimationFrame(() => done(1))))"
+        for _ in range(50):
+            self.value(frames)
+            if self.value("typeof chunksNear === 'undefined' || !chunksNear().length"):
+                break
+
+    def until(self, expression: str) -> bool:
+        """Waits until it holds: much of the page is done a little later."""
+        for _ in range(100):
+            if self.value(expression):
+                return True
+            time.sleep(0.03)
+        return False
+
+    def jump(self, anchor: str) -> None:
+        """Goes to an anchor of the page that is open, as a link to it does."""
+        self.value(f"location.hash = {json.dumps('#' + anchor)}")
+        self.until("!!jump && jump.line && jump.line.isConnected")
+        self.settle()
+
+    def width(self, pixels: int | None) -> None:
+        if pixels:
+            self.call("Emulation.setDeviceMetricsOverride", width=pixels, height=HEIGHT, deviceScaleFactor=1, mobile=False)
+        else:
+            self.call("Emulation.clearDeviceMetricsOverride")
+        self.settle()
 
     def open(self, url: str) -> float:
         """The seconds until the page is loaded and drawn."""
@@ -148,57 +177,200 @@ USED = "[...document.querySelectorAll('.block summary > .note')].filter((note) =
 NAME = "[...document.querySelectorAll('.block p > a:not(.note)')].filter((link) => link.hash.length > 2).at(-1)"
 
 
+FOUND = "(found.querySelector('a') || { hash: '' }).hash.slice(1)"
+
+
 def seen(path: object) -> str:
     return IS_SEEN % json.dumps(path)
+
+
+def seen_if_there(path: object) -> str:
+    return f"!!byId({json.dumps(path)}) && {seen(path)}"
 
 
 def look(browser: Browser, url: str, picture: pathlib.Path, checks: Checks) -> None:
     seconds = min(browser.open(url) for _ in range(OPENINGS))
     print(f"opened in {seconds:.2f} s")
     checks.is_so(f"it opens in {MOST_SECONDS_TO_OPEN} s", seconds <= MOST_SECONDS_TO_OPEN)
-    wanted = browser.value("[...document.querySelectorAll('#tree p > a:first-child')].at(-1).hash.slice(1)")
-    browser.press("/")
-    checks.is_so("/ leads to the field", browser.value("document.activeElement.id") == "find")
-    browser.type(str(wanted).lower())
-    checks.is_so("the path is found", browser.value("document.querySelector('#found a').hash.slice(1)") == wanted)
-    browser.press("Enter")
-    checks.is_so("Enter leads to it", browser.value("decodeURIComponent(location.hash)") == f"#{wanted}")
-    checks.is_so("it is seen", browser.value(seen(wanted)))
-    browser.press("Escape")
-    checks.is_so("Escape leaves the field", browser.value("document.activeElement.id + find.value") == "")
-    aim = browser.value(f"{NAME}.hash.slice(1)")
-    browser.click(NAME)
-    checks.is_so("a name is followed", browser.value("decodeURIComponent(location.hash)") == f"#{aim}")
-    checks.is_so("what it means is seen", browser.value(seen(aim)))
-    checks.is_so("the tree shows where that is", browser.value("!!tree.querySelector('[aria-current]')"))
-    browser.click("document.querySelector('#where button')")
-    checks.is_so("methods are folded", browser.value("!!document.querySelector('.block details:not([open])')"))
-    browser.value(f"location.hash = {json.dumps(f'#{wanted}')}")
-    browser.settle()
-    checks.is_so("what hides a path opens", browser.value(seen(wanted)))
-    browser.click("document.querySelectorAll('#where button')[1]")
-    browser.value(f"location.hash = {USED}.parentNode.querySelector('dfn').id")
-    browser.settle()
-    browser.click(USED)
-    checks.is_so("uses are shown", browser.value("document.querySelectorAll('#pop code').length"))
-    browser.value("scrollBy(0, 190)")
-    browser.picture(picture)
-    browser.press("Escape")
-    checks.is_so("Escape closes them", browser.value("!document.querySelector('#pop')"))
+    wanted = str(browser.value("[...document.querySelectorAll('#tree p > a:first-child')].at(-1).hash.slice(1)"))
+    look_for(browser, wanted, checks)
+    follow(browser, wanted, picture, checks)
+    look_for_forms(browser, checks)
+    look_at_places(browser, checks)
+    look_at_text(browser, checks)
+    look_by_keys(browser, checks)
+    look_narrow(browser, checks)
     asked = [event["request"]["url"] for event in browser.events_of("Network.requestWillBeSent")]
     checks.is_so(f"it asks for itself alone, not {asked}", {one.partition("#")[0] for one in asked} == {url})
     checks.is_so("it keeps no cookie", not browser.call("Network.getCookies")["cookies"])
+    check_log(browser, checks)
+
+
+def check_log(browser: Browser, checks: Checks) -> None:
     complaints = [*browser.events_of("Log.entryAdded"), *browser.events_of("Runtime.exceptionThrown")]
     checks.is_so(f"the browser's log is empty, not {complaints}", not complaints)
 
 
+def look_for(browser: Browser, wanted: str, checks: Checks) -> None:
+    browser.press("/")
+    checks.is_so("/ leads to the field", browser.value("document.activeElement.id") == "find")
+    browser.type(wanted.lower())
+    checks.is_so("the path is found", browser.until(f"{FOUND} === {json.dumps(wanted)}"))
+    browser.press("Enter")
+    checks.is_so("Enter leads to it", browser.value("decodeURIComponent(location.hash)") == f"#{wanted}")
+    checks.is_so("it is seen", browser.until(seen(wanted)))
+    browser.press("Escape")
+    checks.is_so("Escape leaves the field", browser.value("document.activeElement.id + find.value") == "")
+
+
+def follow(browser: Browser, wanted: str, picture: pathlib.Path, checks: Checks) -> None:
+    """A name, what is folded, and the uses of a declaration."""
+    # More names are there once more is in sight, so the element is kept.
+    browser.value(f"globalThis.chosen = {NAME}; 1")
+    aim = browser.value("chosen.hash.slice(1)")
+    browser.click("chosen")
+    checks.is_so("a name is followed", browser.value("decodeURIComponent(location.hash)") == f"#{aim}")
+    checks.is_so("what it means is seen", browser.until(seen(aim)))
+    checks.is_so("the tree shows where that is", browser.until("!!tree.querySelector('[aria-current]')"))
+    browser.click("document.querySelector('#where button')")
+    checks.is_so("methods are folded", browser.value("!!document.querySelector('.block details:not([open])')"))
+    browser.jump(wanted)
+    checks.is_so("what hides a path opens", browser.until(seen(wanted)))
+    browser.click("document.querySelectorAll('#where button')[1]")
+    browser.value(f"globalThis.chosen = {USED}; 1")
+    browser.jump(str(browser.value("chosen.parentNode.querySelector('dfn').id")))
+    browser.click("chosen")
+    checks.is_so("uses are shown", browser.until("document.querySelectorAll('#pop code').length > 0"))
+    browser.value("scrollBy(0, 190)")
+    browser.picture(picture)
+    browser.press("Escape")
+    checks.is_so("Escape closes them", browser.value("!document.querySelector('#pop')"))
+
+
+def look_for_forms(browser: Browser, checks: Checks) -> None:
+    """A path in the forms that people paste, an identifier, a kind: what is meant comes first."""
+    path, kind, text = browser.value(
+        "(() => { const row = [...document.querySelectorAll('#tree .id')].at(-1).parentNode;"
+        " const path = row.querySelector('a').hash.slice(1);"
+        " return [path, row.childNodes[1].data.trim(), row.querySelector('.id').textContent]; })()"
+    )
+    bare = ".".join(segment.rstrip("_") for segment in path[1:].split("."))
+    tails = path.rpartition(".")[2].rstrip("_").lower()
+    for form in (path, f"\\{bare}", bare, bare.lower(), f"{bare.lower()} {kind.lower()}"):
+        browser.value(f"find.value = {json.dumps(form)}; showFound()")
+        checks.is_so(f"{form} finds {path} first", browser.until(f"{FOUND} === {json.dumps(path)}"))
+    for form in (tails, text.split()[0].lower()):
+        browser.value(f"find.value = {json.dumps(form)}; showFound()")
+        is_first = f"{{0}}.textContent.toUpperCase().includes({json.dumps(form.upper())})".format("found.querySelectorAll('p')[1]")
+        is_there = f"[...found.querySelectorAll('a')].some((link) => link.hash.slice(1) === {json.dumps(path)})"
+        checks.is_so(f"{form} finds {path}", browser.until(f"find.value && {is_there} && {is_first}"))
+    browser.value(f"document.querySelector('.kinds button[value={kind}]').click()")
+    has_kind = f"[...found.querySelectorAll('p:not(:first-child)')].every((row) => row.textContent.includes(' {kind}'))"
+    checks.is_so("a kind on top filters", browser.until(f"!found.hidden && found.querySelectorAll('a').length > 0 && {has_kind}"))
+    browser.press("Escape")
+
+
+def look_at_places(browser: Browser, checks: Checks) -> None:
+    """The bar tells the path and the file after each jump."""
+    paths = browser.value("[...document.querySelectorAll('#tree a:first-child')].map((link) => link.hash.slice(1))")
+    is_there = "!!document.querySelector('.block dfn[id=' + CSS.escape(%s) + ']')"
+    declared = [path for path in paths if browser.value(is_there % json.dumps(path))]
+    wrong = []
+    for path in declared[:: len(declared) // MOST_JUMPS + 1]:
+        browser.jump(path)
+        text = json.dumps(path)
+        if not browser.until(f"here.textContent === {text} && file.textContent === fileOf(lineOf(byId({text})))"):
+            wrong.append((path, browser.value("[file.textContent, here.textContent]")))
+    checks.is_so(f"the bar tells the place of each of {len(declared)} paths, not {wrong[:5]}", declared and not wrong)
+
+
+def look_at_text(browser: Browser, checks: Checks) -> None:
+    """What is said of numbers is text, raw notes are in one piece, and no line of a table has a gap above it."""
+    text = "document.querySelector('main').textContent"
+    checks.is_so("identifiers are text", browser.value(f"/[^\"](PNP|ACPI)[0-9A-F]{{4}}/.test({text})"))
+    printed = "[...document.querySelectorAll('.say')].every((one) => getComputedStyle(one).userSelect !== 'none')"
+    checks.is_so("what is said can be marked", browser.value(printed))
+    notes = "[...document.querySelectorAll('em.note')].map((note) => note.getClientRects().length)"
+    pieces = browser.value(f"Math.max(0, ...{notes})")
+    checks.is_so(f"raw notes are in one piece, not {pieces}", pieces <= 1)
+    browser.value("for (const fold of document.querySelectorAll('#tables details')) fold.open = true")
+    gaps = "[...document.querySelectorAll('#tables details')].every((fold) => fold.getBoundingClientRect().height" \
+        " < 26 * (fold.querySelectorAll('p').length + 1))"
+    checks.is_so("tables aren't double-spaced", browser.value(gaps))
+    title = browser.value("document.title")
+    checks.is_so(f"the title has a name and no NUL: {title}", ": " in title and "\\x00" not in title)
+
+
+def look_by_keys(browser: Browser, checks: Checks) -> None:
+    """The tab key leads over the tree to the text, and arrows through the tree."""
+    browser.value("document.activeElement.blur(); scrollTo(0, 0)")
+    stops = browser.value("[...tree.querySelectorAll('a, summary')].filter((one) => one.tabIndex === 0).length")
+    checks.is_so(f"the tree has one tab stop, not {stops}", stops == 1)
+    checks.is_so("the first link skips to the text", browser.value("document.querySelector('a').hash") == "#main")
+    browser.value("focusStop(treeStops()[0])")
+    wanted = browser.value("treeStops()[1].textContent")
+    browser.press("ArrowDown")
+    checks.is_so("an arrow leads to the next row", browser.value("document.activeElement.textContent") == wanted)
+    closed = "[...tree.querySelectorAll('details')]" \
+        ".find((fold) => fold.firstElementChild.getClientRects().length && fold.querySelector('p'))"
+    browser.value(f"{{ const fold = {closed}; fold.open = false; focusStop(fold.querySelector('a, summary')); }}")
+    browser.press("ArrowRight")
+    checks.is_so("an arrow opens", browser.until("document.activeElement.closest('details').open"))
+    browser.press("ArrowLeft")
+    checks.is_so("an arrow closes", browser.until("!document.activeElement.closest('details').open"))
+
+
+def look_narrow(browser: Browser, checks: Checks) -> None:
+    for width in (NARROW, 320):
+        browser.width(width)
+        wide = browser.value("document.documentElement.scrollWidth")
+        checks.is_so(f"{width} pixels: it isn't wider, as {wide}", wide <= width)
+    browser.width(None)
+
+
+def look_at_comparison(browser: Browser, url: str, checks: Checks) -> None:
+    browser.open(url)
+    marked = browser.value("[...document.querySelectorAll('.block .differs, .block .changed')].length")
+    checks.is_so("lines that differ are marked", marked > 0)
+    rows = browser.value("document.querySelectorAll('#tables .differs').length")
+    checks.is_so("tables that differ are marked", rows > 0)
+    checks.is_so("what the other has is shown", browser.value("document.querySelectorAll('#comparison ins').length") > 0)
+    check_log(browser, checks)
+
+
+def look_at_large(browser: Browser, most: float, file: pathlib.Path, checks: Checks) -> None:
+    """A page with packed parts: it opens in time, a path far down is found, told and shown, and so are its uses."""
+    seconds = min(browser.open(file.resolve().as_uri()) for _ in range(OPENINGS))
+    size = file.stat().st_size / 1e6
+    print(f"a page of {size:.1f} MB opened in {seconds:.2f} s")
+    checks.is_so(f"{size:.1f} MB open in {most} s, not {seconds:.2f}", seconds <= most)
+    path = str(browser.value("allNodes().then((all) => all.filter((node) => node.kind === 'Method 2').at(-3).path)"))
+    browser.value(f"find.value = {json.dumps(path.lower())}; showFound()")
+    checks.is_so("a path is found first", browser.until(f"{FOUND} === {json.dumps(path)}"))
+    browser.value("found.querySelector('a').click()")
+    checks.is_so("it is seen", browser.until(seen_if_there(path)))
+    checks.is_so("the bar tells it", browser.until(f"here.textContent === {json.dumps(path)}"))
+    checks.is_so("the tree shows it", browser.until("(tree.querySelector('[aria-current]') || {}).textContent === 'RDWR'"))
+    note = f"byId({json.dumps(path)}).parentNode.querySelector('.note')"
+    browser.click(note)
+    checks.is_so("its uses are shown", browser.until("document.querySelectorAll('#pop code').length === 2"))
+    text = "document.querySelector('.block').textContent"
+    last = json.dumps(path.split(".")[2])
+    checks.is_so("all of it is text", browser.value(f"{text}.includes('Device (DAAA)') && {text}.includes({last})"))
+    check_log(browser, checks)
+
+
 def main() -> None:
-    file, picture = map(pathlib.Path, sys.argv[1:3])
+    file, picture, *more = map(pathlib.Path, sys.argv[1:])
     checks = Checks()
     with tempfile.TemporaryDirectory(ignore_cleanup_errors=True) as room:
         browser = Browser(room)
         try:
             look(browser, file.resolve().as_uri(), picture, checks)
+            if more:
+                look_at_comparison(browser, more[0].resolve().as_uri(), checks)
+            for seconds, large in zip(more[1::2], more[2::2]):
+                look_at_large(browser, float(str(seconds)), large, checks)
         finally:
             browser.close()
     print(f"{checks.passed} passed, {checks.failed} failed")

@@ -4,13 +4,13 @@
     python3 tests/pages.py [--no-scripts]
 
 A block that begins with ```console has commands behind `$ `, more lines of theirs behind `> `, and below what they
-print. They run in a folder with `mine`, the set of docs/listing.md, whose text is the first block of that page, and
-with `examples`. `./acpidis` is the launcher. What README quotes from a source has to stand there, and README has at
-most 2,000 words. Each definition that docs/definitions.md names stands in the file that it names, and each name of the
-sources' kind that a page marks as code stands in some source. Then the manual page is looked through by mandoc and
-groff, each where it is installed, and its options are compared with the program's, its words and docs/refusals.md's
-with the sources'. Last, the scripts that the pages speak of are tried, but with --no-scripts. The last line is 'N
-passed, N failed'.
+print. They run in a folder with `mine`, the set of docs/listing.md, whose text is the first block of that page, with
+`boards`, the sets of tests/board.py, and with `examples`. `./acpidis` is the launcher. What README quotes from a
+source has to stand there, and README has at most 2,000 words. Each definition that docs/definitions.md names stands in
+the file that it names, each planted fault of docs/planted_faults.md in its crate, and each name of the sources' kind
+that a page marks as code stands in some source. Then the manual page is looked through by mandoc and groff, each where
+it is installed, and its options are compared with the program's, its words and docs/refusals.md's with the sources'.
+Last, the scripts that the pages speak of are tried, but with --no-scripts. The last line is 'N passed, N failed'.
 """
 
 import os
@@ -21,18 +21,21 @@ import subprocess
 import sys
 import tempfile
 
+from board import VERSIONS
+
 TOP = pathlib.Path(__file__).resolve().parent.parent
 LISTING = "docs/listing.md"
-PAGES = ["folders", "refusals", "externals", "any_run", "reading", "many"]
+PAGES = ["folders", "refusals", "externals", "any_run", "reading", "many", "facts"]
 MANUAL = "docs/acpidis.1"
 LINTS = [["mandoc", "-T", "lint"], ["groff", "-ww", "-man", "-z"]]
 REFUSALS = "docs/refusals.md"
 README = "README.md"
 DEFINITIONS = "docs/definitions.md"
+PLANTED = "docs/planted_faults.md"
 MOST_WORDS = 2000
 # What pages call a thing that no source names
 MADE_UP = {"draw_copy1", "Lts"}
-SCRIPTS = ["tests/survey.sh", "tests/install.sh", "tests/examples.py", "tests/library.sh"]
+SCRIPTS = ["tests/meaning.py", "tests/survey.sh", "tests/install.sh", "tests/examples.py", "tests/library.sh"]
 DSDT = b"\x08BAR_\x0A\x05" + b"\x14\x0BFOO_\x02\xA4\x72\x68\x69\x00" + b"\x14\x0BCALL\x00\xA4ZZZZ"
 SSDT = b"\x10\x17\\_SB_\x5B\x82\x0FDEV0\x14\x09_STA\x08\xA4\x0A\x0F" + b"\x06FOO_ALIA"
 
@@ -59,6 +62,10 @@ def make_room(room):
     (room / "mine").mkdir()
     (room / "mine/dsdt.dat").write_bytes(table(b"DSDT", DSDT))
     (room / "mine/ssdt1.dat").write_bytes(table(b"SSDT", SSDT))
+    for version, files in VERSIONS.items():
+        (room / "boards" / version).mkdir(parents=True)
+        for name, data in files.items():
+            (room / "boards" / version / name).write_bytes(data)
     (room / "examples").symlink_to(TOP / "examples")
     (room / "acpidis").write_text(f"#!/bin/sh\nexec '{TOP}/acpidis' \"$@\"\n")
     (room / "acpidis").chmod(0o755)
@@ -170,7 +177,7 @@ def fails_of_definitions():
 def words_of_sources():
     """All words of the sources and scripts, and the names of their files."""
     kinds = ("crates/*/src/**/*.rt", "crates/*/specs/*.antt", "crates/*/proofs/**/*.antt", "crates/*/must-fail/*", "crates/*/*.edits")
-    kinds += ("crates/acpi_cases/std*", "tests/**/*.*", "examples/**/*.*", "bench/*.*", "acpidis", "build", "install", "test")
+    kinds += ("crates/acpi_cases/std*", "tests/**/*.*", "examples/**/*.*", "bench/*.*", "acpidis", "build", "install", "package", "test")
     files = [file for kind in kinds for file in TOP.glob(kind) if file.is_file() and file.suffix not in (".pyc", ".png")]
     return {word for file in files for word in (*re.findall(r"\w+", file.read_text(errors="replace")), *file.parts, file.stem)}
 
@@ -185,6 +192,18 @@ def fails_of_names():
         if stale:
             print(f"FAILED {page}: no source has {', '.join(sorted(stale))}")
         yield bool(stale)
+
+
+def fails_of_planted():
+    """Of each crate, whether the page of the planted faults has one that isn't there."""
+    for crate, part in re.findall(r"^## `(\w+)`\n\n```\n(.*?)^```$", (TOP / PLANTED).read_text(), re.MULTILINE | re.DOTALL):
+        folder = TOP / "crates" / crate
+        there = [it.stem for it in folder.glob("must-fail/*.edit")]
+        there += [name for it in folder.glob("*.edits") for name in re.findall(r"^edit: (\w+)", it.read_text(), re.MULTILINE)]
+        lost = [line.split()[0] for line in part.splitlines() if line.split()[0] not in there]
+        if lost:
+            print(f"FAILED {PLANTED}: {crate} has not {', '.join(lost)}")
+        yield bool(lost)
 
 
 def options_in(text):
@@ -240,7 +259,7 @@ def fails_of_scripts():
 
 def main():
     fails = [fail for page in [LISTING, *(f"docs/{name}.md" for name in PAGES)] for fail in fails_of(page)]
-    fails += [*fails_of_readme(), *fails_of_definitions(), *fails_of_names(), *fails_of_manual(), *fails_of_words()]
+    fails += [*fails_of_readme(), *fails_of_definitions(), *fails_of_names(), *fails_of_planted(), *fails_of_manual(), *fails_of_words()]
     if "--no-scripts" not in sys.argv:
         fails += fails_of_scripts()
     print(f"{fails.count(False)} passed, {fails.count(True)} failed")

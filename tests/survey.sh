@@ -197,10 +197,20 @@ case \$2 in
 good*) exec tar -C '$demo' -cf - . ;;
 half) tar -C '$demo' -cf - . | head -c 1040 ;;
 late) sleep 9 ;;
+large) head -c 3000000 /dev/zero ;;
+loud) head -c 100000 /dev/zero | tr '\\0' x >&2; printf '\\nno \\033[31mway\\007\\n' >&2; exit 1 ;;
+odd*) exec tar -C '$work/odd' -cf - . ;;
 *) echo first >&2; echo "no way to \$2" >&2; exit 255 ;;
 esac
 S
 chmod +x commands/ssh
+mkdir odd odd/shut
+cp "$demo/dsdt.dat" odd
+cp "$demo/dsdt.dat" odd/shut
+ln -s /etc/passwd odd/link
+mkfifo odd/fifo
+chmod 6755 odd/dsdt.dat
+chmod 2000 odd/shut
 # shellcheck disable=SC2016
 printf '%s\n' good1 dead '# a line' '' late half '-oProxyCommand=touch bad' '../out' 'a b' '$(touch bad)' good2 >hosts
 collected() {
@@ -220,6 +230,15 @@ is 'no part is left' "$(ls -A collected | tr '\n' ' ')" 'good1 good2 log '
 collected
 is 'only those are asked again that have none' "$(sort asked | tr '\n' ' ')" 'dead half late '
 is 'nothing ran' "$(find . -name 'bad*')" ''
+
+# what a host sends may be anything: too much, control bytes, links, rights
+printf '%s\n' large loud odd1 >hosts
+PATH=$work/commands:$PATH COLLECT_MEGABYTES=1 "$collect" hosts collected 2>errors
+is 'too much, and control bytes' "$(LC_ALL=C sort errors)" $'large: more than 1 MB\nloud: no [31mway'
+is 'regular files alone' "$(cd collected/odd1 && find . -printf '%p %m|' | tr '|' '\n' | LC_ALL=C sort | tr '\n' ' ')" \
+    '. 755 ./dsdt.dat 644 ./shut 755 ./shut/dsdt.dat 644 '
+# shellcheck disable=SC2012 # the names are known
+is 'no part of these is left' "$(ls -A collected | tr '\n' ' ')" 'good1 good2 log odd1 '
 
 echo "$passed passed, $failed failed"
 [ "$failed" = 0 ]

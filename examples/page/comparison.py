@@ -1,26 +1,35 @@
-"""Compares two listings by path: what each path's declaration says, wherever it stands."""
+"""Compares two listings: what each path's declaration says, wherever it stands, and the lines of the tables."""
+
+from __future__ import annotations
 
 import hashlib
 import re
+from collections import Counter
 from dataclasses import dataclass
+from typing import Optional
 
-from listing import Line, Listing, Path, path_text
+from listing import Dump, Line, Listing, Path, path_text
 from names import FIELD_LISTS, FIRST_WORD, SCOPES, Names
 
 LONGEST = 200
-# The text of a declaration, in lines.
+# The text of a declaration, in lines, each with the number of the line that it is of.
+Said = list[tuple[int, str]]
 Text = tuple[str, ...]
 
 
 @dataclass
 class Comparison:
     """What another listing says: the texts of the paths that it adds and of those that it changes, and the paths that
-    it lacks."""
+    it lacks, with the texts here of those that it changes; the numbers of the lines here that differ; and of the tables,
+    by their files, the lines that it alone has, None where it has no such file."""
 
     other: str
     adds: dict[Path, Text]
     lacks: set[Path]
     changes: dict[Path, Text]
+    here: dict[Path, Text]
+    lines: set[int]
+    tables: dict[str, Optional[Text]]
 
     def mark(self, path: Path) -> str:
         """How a path differs, in a word, and nothing where it doesn't."""
@@ -30,32 +39,57 @@ class Comparison:
 
 def compare(one: Names, one_listing: Listing, other: Names, other_listing: Listing, name: str) -> Comparison:
     here, there = texts_of(one, one_listing), texts_of(other, other_listing)
+    changed = [path for path in sorted(here.keys() & there.keys()) if text_of(here[path]) != text_of(there[path])]
+    lines = {number for path in changed for number in different_lines(here[path], text_of(there[path]))}
+    tables, table_lines = compare_tables(one_listing.dumps, other_listing.dumps)
     return Comparison(
         name,
-        {path: there[path] for path in sorted(there.keys() - here.keys())},
+        {path: text_of(there[path]) for path in sorted(there.keys() - here.keys())},
         here.keys() - there.keys(),
-        {path: there[path] for path in sorted(here.keys() & there.keys()) if here[path] != there[path]},
+        {path: text_of(there[path]) for path in changed},
+        {path: text_of(here[path]) for path in changed},
+        lines | table_lines,
+        tables,
     )
 
 
-def texts_of(names: Names, listing: Listing) -> dict[Path, Text]:
+def text_of(said: Said) -> Text:
+    return tuple(text for _, text in said)
+
+
+def different_lines(here: Said, there: Text) -> list[int]:
+    """The numbers of the lines that the other text hasn't, between what both begin and end with alike."""
+    least = min(len(here), len(there))
+    first = next((place for place in range(least) if here[place][1] != there[place]), least)
+    rest = least - first
+    last = next((place for place in range(rest) if here[-1 - place][1] != there[-1 - place]), rest)
+    others = Counter(there[first:len(there) - last])
+    numbers = []
+    for number, text in here[first:len(here) - last]:
+        others[text] -= 1
+        if others[text] < 0:
+            numbers.append(number)
+    return numbers
+
+
+def texts_of(names: Names, listing: Listing) -> dict[Path, Said]:
     """The marks of each path's row and the text of its declarations, without the paths that are declared inside it."""
-    texts = {row.path: (row.marks,) if row.marks else () for row in listing.rows}
+    texts = {row.path: [(row.number, row.marks)] if row.marks else [] for row in listing.rows}
     places = unit_places(listing)
     by_number = {line.number: line for line in listing.lines}
     for path, lines in names.declarations.items():
-        texts[path] += tuple(text for line in lines for text in declaration_text(line, path, places, by_number))
+        texts[path] += (said for line in lines for said in declaration_text(line, path, places, by_number))
     return texts
 
 
-def declaration_text(line: Line, path: Path, places: dict[int, str], by_number: dict[int, Line]) -> Text:
-    head = head_text(line, path)
+def declaration_text(line: Line, path: Path, places: dict[int, str], by_number: dict[int, Line]) -> Said:
+    head = line.number, head_text(line, path)
     if line.declared == FIRST_WORD:
-        return places[line.number], head
+        return [(line.number, places[line.number]), head]
     if line.end and line.term not in SCOPES:
         inside = (by_number[number] for number in range(line.number + 1, line.end + 1))
-        return head, *(inner.text[2 * line.depth:] for inner in inside)
-    return (head,)
+        return [head, *((inner.number, inner.text[2 * line.depth:]) for inner in inside)]
+    return [head]
 
 
 def head_text(line: Line, path: Path) -> str:
@@ -71,7 +105,8 @@ def unit_places(listing: Listing) -> dict[int, str]:
     for line in listing.lines:
         if line.term in FIELD_LISTS:
             head, access, bits = shortened("".join(line.pieces)), "", 0
-        places[line.number] = f"{head} {access} bit {bits}"
+        if line.declared == FIRST_WORD:
+            places[line.number] = f"{head} {access} bit {bits}"
         size = re.fullmatch(r", ([0-9]{1,9})", line.pieces[-1])
         if size:
             bits += int(size[1])
@@ -83,3 +118,24 @@ def unit_places(listing: Listing) -> dict[int, str]:
 def shortened(text: str) -> str:
     """A text that stands before each unit of a list: a long one by its sum, so that all of them take little room."""
     return text if len(text) <= LONGEST else f"{text[:LONGEST]}.. {hashlib.sha256(text.encode()).hexdigest()}"
+
+
+# ---- tables
+
+
+def compare_tables(here: list[Dump], there: list[Dump]) -> tuple[dict[str, Optional[Text]], set[int]]:
+    """For each file whose lines differ what the other listing alone has of it, None where it has no such file, and the
+    numbers of the lines here that it hasn't."""
+    ours, theirs = ({dump.file: dump_lines(dump) for dump in dumps} for dumps in (here, there))
+    tables, numbers = {}, set()
+    for file in sorted(ours.keys() | theirs.keys()):
+        one, other = ours.get(file, []), theirs.get(file, [])
+        if text_of(one) != text_of(other):
+            numbers.update(different_lines(one, text_of(other)))
+            lacking = set(different_lines(other, text_of(one)))
+            tables[file] = tuple(text for number, text in other if number in lacking) if other else None
+    return tables, numbers
+
+
+def dump_lines(dump: Dump) -> Said:
+    return [(dump.number, dump.text), *dump.notes]

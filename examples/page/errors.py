@@ -1,11 +1,15 @@
 """The faults of raw bodies, from what acpidis wrote to standard error, and what stands at the byte of a fault."""
 
+from __future__ import annotations
+
 import re
 from collections import defaultdict, deque
 from dataclasses import dataclass
 
 from listing import PATH, SEGMENT, Line, Listing, NoListing, Path, path_of, path_text
 
+BODY = "acpidis: body "
+MOST_SHOWN = 80
 FAULT = re.compile(rf"acpidis: body ({PATH}): ([A-Z][A-Za-z]+)(?: at ([0-9]{{1,9}}))?")
 
 
@@ -25,15 +29,26 @@ def raw_lines(listing: Listing) -> list[Line]:
 
 def read_errors(text: bytes, listing: Listing) -> dict[int, Fault]:
     """The faults of raw bodies that the text names, by the numbers of their lines: of several bodies of one path in
-    their order. Lines of another form are passed over."""
+    their order. Lines that don't begin as those of a body do are passed over."""
     raw, faults = defaultdict(deque), {}
     for line in raw_lines(listing):
         raw[line.method].append(line.number)
-    for form in filter(None, map(FAULT.fullmatch, text.decode("latin-1").splitlines())):
+    lines = text.decode("latin-1").splitlines()
+    if lines and not any(line.startswith("acpidis: ") for line in lines):
+        raise NoListing("none of its lines is one of acpidis")
+    for number, line in enumerate(lines, 1):
+        if not line.startswith(BODY):
+            continue
+        form = FAULT.fullmatch(line)
+        if not form:
+            raise NoListing(f"line {number} isn't one of standard error of acpidis")
         path = path_of(form[1])
         if not raw[path]:
-            raise NoListing(f"it isn't of these errors: the body of {path_text(path)} isn't raw")
+            raise NoListing(f"line {number}: the body of {path_text(path)[:MOST_SHOWN]} isn't raw in the listing")
         faults[raw[path].popleft()] = Fault(form[2], int(form[3]) if form[3] else None)
+    left = min((numbers[0] for numbers in raw.values() if numbers), default=None)
+    if left is not None:
+        raise NoListing(f"it says nothing of the raw body in line {left} of the listing")
     return faults
 
 

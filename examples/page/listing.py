@@ -1,6 +1,8 @@
 """Reads a listing of acpidis, after docs/listing.md: the lines of the dumps, the namespace, and the lines of the
 definition blocks as words, each with its depth and the line that closes what it opens."""
 
+from __future__ import annotations
+
 import re
 from dataclasses import dataclass, field
 
@@ -35,20 +37,20 @@ def path_text(path: Path) -> str:
     return "\\" + ".".join(path)
 
 
-@dataclass(slots=True)
 class Line:
     """A line of a definition block: every second of its pieces is a word. It may open a block, up to the line `end`.
 
     `scope` is where its names are read, `method` the path of the method in whose body it stands, `declared` the place
     among its words of the name that it declares."""
 
-    number: int
-    depth: int
-    pieces: list[str]
-    end: int = 0
-    scope: Path = ROOT
-    method: Path | None = None
-    declared: int | None = None
+    __slots__ = ("number", "depth", "pieces", "end", "scope", "method", "declared")
+
+    def __init__(self, number: int, depth: int, pieces: list[str]):
+        self.number, self.depth, self.pieces = number, depth, pieces
+        self.end = 0
+        self.scope: Path = ROOT
+        self.method: Path | None = None
+        self.declared: int | None = None
 
     @property
     def words(self) -> list[str]:
@@ -102,10 +104,13 @@ class Block:
 
 @dataclass
 class Listing:
+    """A listing, with how many lines it has, and how many of these stand above the line `Namespace`."""
+
     dumps: list[Dump]
     rows: list[Row]
     blocks: list[Block]
     line_count: int
+    above: int
 
     @property
     def lines(self) -> list[Line]:
@@ -183,22 +188,35 @@ class Reader:
         return Line(self.at, depth, pieces)
 
 
-def read_listing(text: bytes) -> Listing:
+def reader_of(text: bytes) -> Reader:
+    """Reads a text that begins and ends as a listing does."""
     if not text:
         raise NoListing("it is empty")
     if not text.isascii():
         raise NoListing("it isn't ASCII, as a listing of acpidis is")
     lines = text.decode().split("\n")
-    reader = Reader(lines[:-1])
     if not DUMP.fullmatch(lines[0]):
         raise NoListing("it doesn't begin as a listing of acpidis does, with a line Table or Root")
     if lines[-1]:
         raise NoListing(f"it is cut in line {len(lines)}")
-    dumps, rows, blocks = reader.dumps(), reader.rows(), []
+    return Reader(lines[:-1])
+
+
+def read_dumps(text: bytes) -> tuple[list[Dump], list[str], int]:
+    """The dumps of a listing alone, the files of its definition blocks, and how many lines stand above its namespace."""
+    reader = reader_of(text)
+    dumps = reader.dumps()
+    return dumps, [form[1] for form in map(BLOCK.fullmatch, reader.lines[reader.at:]) if form], reader.at
+
+
+def read_listing(text: bytes) -> Listing:
+    reader = reader_of(text)
+    dumps, above = reader.dumps(), reader.at
+    rows, blocks = reader.rows(), []
     while reader.at < len(reader.lines):
         blocks.append(reader.block())
     check_blocks(dumps, blocks, len(reader.lines))
-    return Listing(dumps, rows, blocks, len(reader.lines))
+    return Listing(dumps, rows, blocks, len(reader.lines), above)
 
 
 def check_blocks(dumps: list[Dump], blocks: list[Block], line_count: int) -> None:

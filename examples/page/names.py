@@ -1,10 +1,12 @@
 """What each name of a listing means, after docs/names.md, loading.md and any_run.md, and where each path is used."""
 
+from __future__ import annotations
+
 from collections import defaultdict
 from collections.abc import Container
-from dataclasses import dataclass, replace
 from enum import Enum
 from functools import lru_cache
+from typing import NamedTuple, Optional
 
 from listing import ROOT, Line, Listing, NoListing, Path, path_text
 
@@ -39,23 +41,21 @@ class Sort(Enum):
     NOTHING = "leads nowhere"
 
 
-@dataclass(frozen=True, slots=True)
-class Meaning:
+class Meaning(NamedTuple):
     """What a name does, with the path, and the anchor at which that stands: the path itself, or a line's number for a
     name that a body declares. `others` are what else it means in another run."""
 
     sort: Sort
-    path: Path | None = None
+    path: Optional[Path] = None
     anchor: str = ""
-    others: tuple["Meaning", ...] = ()
+    others: tuple[Meaning, ...] = ()
 
 
 NOWHERE = Meaning(Sort.NOTHING)
 Uses = dict[Path, list[int]]
 
 
-@dataclass(frozen=True, slots=True)
-class Name:
+class Name(NamedTuple):
     is_rooted: bool
     ups: int
     segments: Path
@@ -83,13 +83,12 @@ def name_of(text: str) -> Name:
     return Name(text.startswith("\\"), ups, tuple(bare.split(".")) if bare else ROOT)
 
 
-@dataclass(slots=True)
-class Open:
+class Open(NamedTuple):
     """A block that is open: the line that ends it, where the terms inside it stand, and whether these are sure to."""
 
     end: int
     scope: Path
-    method: Path | None
+    method: Optional[Path]
     is_field_list: bool
     is_sure: bool
 
@@ -103,7 +102,8 @@ class Names:
     their order, `uses` the lines from which names lead to an anchor, by the method, or the scope, that they stand in,
     and `strays` the same of names that lead nowhere, by the name."""
 
-    def __init__(self, listing: Listing):
+    def __init__(self, listing: Listing, most_others: int = MOST_OTHERS):
+        self.most_others = most_others
         self.lines: dict[Path, Line] = {}
         self.declarations: dict[Path, list[Line]] = defaultdict(list)
         self.sure: set[Path] = set()
@@ -270,13 +270,18 @@ class Names:
             is_first = self.externals.get(path) is line and not self.is_known(path)
             return Meaning(Sort.DECLARES, path, path_text(path)) if is_first else leading(path)
         if self.then.get((line.number, word)):
-            return leading_to(self.then[line.number, word], own)
+            return self.leading_to(self.then[line.number, word], own)
         if own:
-            return leading_to(self.find(line.scope, name_of(word), own), own)
+            return self.leading_to(self.find(line.scope, name_of(word), own), own)
         key = line.scope, word
         if key not in self.found:
-            self.found[key] = leading_to(self.find(line.scope, name_of(word)), own)
+            self.found[key] = self.leading_to(self.find(line.scope, name_of(word)), own)
         return self.found[key]
+
+    def leading_to(self, paths: list[Path], own: dict[Path, int]) -> Meaning:
+        """What a name does that means the first of the paths, or another one in another run."""
+        first, *others = [leading(path, str(own.get(path, ""))) for path in paths[:1 + self.most_others]] or [NOWHERE]
+        return first._replace(others=tuple(others)) if others else first
 
 
 def word_at(line: Line, place: int) -> str:
@@ -293,9 +298,3 @@ def add_use(uses: Uses, line: Line) -> None:
 
 def leading(path: Path, anchor: str = "") -> Meaning:
     return Meaning(Sort.LEADS, path, anchor or path_text(path))
-
-
-def leading_to(paths: list[Path], own: dict[Path, int]) -> Meaning:
-    """What a name does that means the first of the paths, or another one in another run."""
-    first, *others = [leading(path, str(own.get(path, ""))) for path in paths[:1 + MOST_OTHERS]] or [NOWHERE]
-    return replace(first, others=tuple(others)) if others else first

@@ -1,0 +1,42 @@
+#!/usr/bin/env python3
+"""Asks a file of facts by SQL, as sqlite3 does where that is installed.
+
+    examples/ask.py FACTS SQL
+
+FACTS is what examples/facts.py made; it is only read. SQL is one question, or `-` for that of standard input. The first
+line has the names of the columns, the others the rows, with tabs between the values. docs/facts.md has the tables.
+"""
+
+import argparse
+import pathlib
+import sqlite3
+import sys
+
+import output
+
+
+def shown(value):
+    """A value without what a terminal would act on."""
+    text = "" if value is None else str(value)
+    return "".join(char if char.isprintable() else f"\\x{ord(char):02X}" for char in text)
+
+
+def main():
+    words = argparse.ArgumentParser(description=__doc__, formatter_class=argparse.RawDescriptionHelpFormatter)
+    words.add_argument("facts", metavar="FACTS")
+    words.add_argument("sql", metavar="SQL")
+    asked = words.parse_args()
+    sql = sys.stdin.read() if asked.sql == "-" else asked.sql
+    try:
+        connection = sqlite3.connect(pathlib.Path(asked.facts).absolute().as_uri() + "?mode=ro", uri=True)
+        rows = connection.execute(sql)
+        print("\t".join(column[0] for column in rows.description or ()))
+        for row in rows:
+            print("\t".join(map(shown, row)))
+    except (sqlite3.Error, sqlite3.Warning, ValueError) as fault:
+        print(f"ask: {fault}", file=sys.stderr)
+        sys.exit(1)
+
+
+if __name__ == "__main__":
+    output.run("ask", main)

@@ -1,0 +1,291 @@
+#!/usr/bin/env python3
+"""Makes facts of listings of acpidis, to be asked by SQL: names, uses, regions, fields, resources and more.
+
+    examples/facts.py [--errors FILE] [--dumps FOLDER] LISTING FACTS
+    examples/facts.py [--jobs N] [--dumps FOLDER] TEXTS FACTS
+    examples/facts.py --json .. LISTING|TEXTS >facts.jsonl
+
+LISTING is what acpidis wrote to standard output, FILE what it wrote to standard error. TEXTS is a folder of many machines:
+each folder below it with a file `text` is one, and `errors` beside it is its standard error (docs/many.md); so is each
+file in TEXTS itself. FACTS is an SQLite file, which is made anew; with --json each fact is a line of its own on standard
+output. With --dumps each table has the sum of its dump, from FOLDER or the folder of the same name below it. docs/facts.md
+has the tables, and what to ask.
+
+Status 0 is that all machines have facts, 3 that one at least has none: its row says why. 1 is a text that is no listing,
+and 2 a command line or an output that is at fault.
+"""
+
+from __future__ import annotations
+
+import argparse
+import concurrent.futures
+import hashlib
+import json
+import os
+import pathlib
+import re
+import sqlite3
+import sys
+from collections import deque
+from collections.abc import Callable, Iterator
+
+sys.dont_write_bytecode = True
+sys.path.insert(0, str(pathlib.Path(__file__).resolve().parent / "page"))
+
+import output  # noqa: E402
+from collecting import Collector, table_rows  # noqa: E402
+from errors import Fault, read_errors  # noqa: E402
+from listing import Dump, Listing, NoListing, read_dumps, read_listing  # noqa: E402
+from names import Names  # noqa: E402
+from schema import COLUMNS, INDEXES, OF_CODE, SCHEMA, insertion, shifted  # noqa: E402
+
+MOST_BYTES = 256_000_000
+MOST_DUMP = 16_777_216
+ALL_OTHERS = 1_000
+LONGEST_FAULT = 200
+INCOMPLETE = 3
+# So many machines a process wait in their order.
+WAITING = 4
+BLOCKS = re.compile(rb"^Namespace [0-9]", re.MULTILINE)
+
+
+# ---- one machine
+
+
+class Machine:
+    """A machine: its name, its listing, its standard error and the folder of its dumps; what it prints is read once."""
+
+    def __init__(self, name: str, text: pathlib.Path, errors: pathlib.Path | None, dumps: pathlib.Path | None):
+        self.name, self.dumps = name, dumps
+        self.fault, self.text, self.errors, self.tables, self.above = "", b"", b"", [], None
+        try:
+            self.text = read_file(text)
+            self.errors = read_file(errors) if errors else b""
+            if not self.text:
+                raise NoListing(refusal_in(self.errors))
+            found, files, self.above = read_dumps(self.text)
+            self.tables = table_rows(found, files, self.sums(found))
+        except (NoListing, OSError) as fault:
+            self.fault = said(fault)
+
+    def sums(self, found: list[Dump]) -> dict[str, str]:
+        """The sums of the dumps by the names of files as the listing has them."""
+        files = [(dump.file, file_of(self.dumps, dump.file)) for dump in found] if self.dumps else []
+        return {name: hashlib.sha256(file.read_bytes()).hexdigest() for name, file in files if file}
+
+
+def read_file(file: pathlib.Path) -> bytes:
+    with open(file, "rb") as opened:
+        data = opened.read(MOST_BYTES + 1)
+    if len(data) > MOST_BYTES:
+        raise NoListing(f"it has more than {MOST_BYTES:,} bytes")
+    return data
+
+
+def file_of(folder: pathlib.Path, quoted: str) -> pathlib.Path | None:
+    """The dump of a file's name in quotes, if it is a plain file of the folder."""
+    data = re.sub(rb"\\x([0-9A-F]{2})", lambda digits: bytes([int(digits[1], 16)]), quoted[1:-1].encode())
+    if data in (b"", b".", b"..") or b"/" in data or b"\0" in data:
+        return None
+    file = folder / os.fsdecode(data)
+    return file if file.is_file() and not file.is_symlink() and file.stat().st_size <= MOST_DUMP else None
+
+
+def said(fault: Exception) -> str:
+    text = f"cannot read {fault.filename}: {fault.strerror}" if isinstance(fault, OSError) else str(fault)
+    return text[:LONGEST_FAULT]
+
+
+def refusal_in(errors: bytes) -> str:
+    """Why the set was refused, as standard error says it."""
+    line = errors.decode("latin-1").partition("\n")[0]
+    return "refused: " + line[len("acpidis: "):] if line.startswith("acpidis: ") else "it is empty"
+
+
+def sum_of(text: bytes, errors: bytes) -> str:
+    """A sum of what a listing says of the tables' code: all but the lines of the dumps, which differ from machine to
+    machine."""
+    form = BLOCKS.search(text)
+    return hashlib.sha256((text[form.start():] if form else text) + b"\0" + errors).hexdigest()[:32]
+
+
+def faults_in(errors: bytes, listing: Listing) -> dict[int, Fault]:
+    try:
+        return read_errors(errors, listing) if errors else {}
+    except NoListing as fault:
+        raise NoListing(f"its errors aren't those of this listing: {fault}") from fault
+
+
+def facts_of(text: bytes, errors: bytes) -> tuple[str, dict[str, list[list]]]:
+    """The rows of a listing's code by their tables; or why it has none, and no rows. Made in a process of its own."""
+    try:
+        listing = read_listing(text)
+        names = Names(listing, ALL_OTHERS)
+        faults = faults_in(errors, listing)
+        rows = Collector(listing, names, faults).collect()
+    except NoListing as fault:
+        return said(fault), {}
+    rows["code"] = [[1, sum_of(text, errors), listing.line_count - listing.above]]
+    return "", dict(rows)
+
+
+# ---- where facts go
+
+
+class Database:
+    """An SQLite file, which appears when it is whole."""
+
+    def __init__(self, file: str):
+        self.file, self.part = file, f"{file}.part"
+        pathlib.Path(self.part).unlink(missing_ok=True)
+        self.connection = sqlite3.connect(self.part, isolation_level=None)
+        self.connection.executescript(f"PRAGMA journal_mode = OFF; PRAGMA synchronous = OFF; BEGIN; {SCHEMA}")
+
+    def add(self, table: str, rows: list[list]) -> None:
+        self.connection.executemany(insertion(table), rows)
+
+    def close(self) -> None:
+        self.connection.execute("COMMIT")
+        self.connection.executescript(f"{INDEXES} ANALYZE;")
+        self.connection.close()
+        os.replace(self.part, self.file)
+
+
+class Lines:
+    """A line of JSON for each fact, on standard output."""
+
+    def add(self, table: str, rows: list[list]) -> None:
+        for row in rows:
+            pairs = ((column, value) for column, value in zip(COLUMNS[table], row) if value is not None)
+            sys.stdout.write(json.dumps({"fact": table, **dict(pairs)}) + "\n")
+
+    def close(self) -> None:
+        sys.stdout.flush()
+
+
+class Facts:
+    """Numbers the rows of all machines, and hands them on. Code that machines share is kept once: `codes` has its row, or
+    why there is none, by its sum."""
+
+    def __init__(self, sink: Database | Lines):
+        self.sink = sink
+        self.bases = dict.fromkeys(COLUMNS, 0)
+        self.codes: dict[str, tuple[int | None, str]] = {}
+        self.lacking = 0
+
+    def add_code(self, code_sum: str, fault: str, rows: dict[str, list[list]]) -> None:
+        numbered = {table: shifted(rows.get(table, []), table, self.bases) for table in ("code", *OF_CODE)} if rows else {}
+        for table, found in numbered.items():
+            self.sink.add(table, found)
+            self.bases[table] += len(found)
+        self.codes[code_sum] = (self.bases["code"] if rows else None), fault
+
+    def add_machine(self, machine: Machine, code_sum: str) -> str:
+        """Answers why the machine has no facts."""
+        code, fault = self.codes[code_sum] if code_sum else (None, machine.fault)
+        self.bases["machine"] += 1
+        number, before = self.bases["machine"], self.bases["acpi_table"]
+        self.sink.add("machine", [[number, machine.name, code, machine.above, fault or None]])
+        self.sink.add("acpi_table", [[before + place, number, *row] for place, row in enumerate(machine.tables, 1)])
+        self.bases["acpi_table"] += len(machine.tables)
+        self.lacking += bool(fault)
+        return fault
+
+
+# ---- all machines
+
+
+def machines_of(asked: argparse.Namespace) -> Iterator[Machine]:
+    top = pathlib.Path(asked.listing)
+    dumps = pathlib.Path(asked.dumps) if asked.dumps else None
+    if not top.is_dir():
+        yield Machine(asked.listing, top, pathlib.Path(asked.errors) if asked.errors else None, dumps)
+        return
+    for folder, folders, files in os.walk(top):
+        folders.sort()
+        here = pathlib.Path(folder)
+        name = here.relative_to(top)
+        if "text" in files:
+            yield Machine(str(name), here / "text", here / "errors" if "errors" in files else None, dumps and dumps / name)
+        elif here == top:
+            for file in sorted(files):
+                yield Machine(file, here / file, None, dumps and dumps / file)
+
+
+class Here:
+    """In place of a pool, where there is no other process."""
+
+    def __enter__(self) -> Here:
+        return self
+
+    def __exit__(self, *_: object) -> None:
+        pass
+
+    def submit(self, make: Callable, *words: object) -> concurrent.futures.Future:
+        future: concurrent.futures.Future = concurrent.futures.Future()
+        future.set_result(make(*words))
+        return future
+
+
+def add_all(facts: Facts, machines: Iterator[Machine], jobs: int) -> str:
+    """Adds the facts of all machines in their order, and answers why the last one that has none has none."""
+    waiting: deque = deque()
+    fault = ""
+    seen: set[str] = set()
+    with Here() if jobs == 1 else concurrent.futures.ProcessPoolExecutor(jobs) as pool:
+        for machine in machines:
+            code_sum = "" if machine.fault else sum_of(machine.text, machine.errors)
+            future = None
+            if code_sum and code_sum not in seen:
+                seen.add(code_sum)
+                future = pool.submit(facts_of, machine.text, machine.errors)
+            machine.text = machine.errors = b""
+            waiting.append((machine, code_sum, future))
+            while len(waiting) > WAITING * jobs:
+                fault = add_next(facts, *waiting.popleft()) or fault
+        while waiting:
+            fault = add_next(facts, *waiting.popleft()) or fault
+    return fault
+
+
+def add_next(facts: Facts, machine: Machine, code_sum: str, future: concurrent.futures.Future | None) -> str:
+    if future:
+        facts.add_code(code_sum, *future.result())
+    return facts.add_machine(machine, code_sum)
+
+
+def arguments() -> argparse.Namespace:
+    words = argparse.ArgumentParser(description=__doc__, formatter_class=argparse.RawDescriptionHelpFormatter)
+    words.add_argument("listing", metavar="LISTING|TEXTS")
+    words.add_argument("facts", metavar="FACTS", nargs="?")
+    words.add_argument("--json", action="store_true", help="lines of JSON on standard output in place of FACTS")
+    words.add_argument("--errors", metavar="FILE", help="what acpidis wrote to standard error with LISTING")
+    words.add_argument("--dumps", metavar="FOLDER", help="the folder of the dumps, or of all sets")
+    words.add_argument("--jobs", metavar="N", type=int, default=os.cpu_count() or 1, help="processes at a time")
+    asked = words.parse_args()
+    if asked.json == bool(asked.facts):
+        words.error("either FACTS or --json is wanted")
+    if asked.jobs < 1:
+        words.error("--jobs takes a number from 1 on")
+    return asked
+
+
+def main() -> None:
+    asked = arguments()
+    try:
+        facts = Facts(Lines() if asked.json else Database(asked.facts))
+        fault = add_all(facts, machines_of(asked), asked.jobs if os.path.isdir(asked.listing) else 1)
+        facts.sink.close()
+    except sqlite3.Error as error:
+        pathlib.Path(f"{asked.facts}.part").unlink(missing_ok=True)
+        print(f"facts: cannot write {asked.facts!r}: {error}", file=sys.stderr)
+        sys.exit(output.AT_FAULT)
+    if facts.lacking and not os.path.isdir(asked.listing):
+        sys.exit(f"facts: {asked.listing!r}: {fault}")
+    if facts.lacking:
+        print(f"facts: {facts.lacking} of {facts.bases['machine']} machines without facts; the last: {fault}", file=sys.stderr)
+        sys.exit(INCOMPLETE)
+
+
+if __name__ == "__main__":
+    output.run("facts", main)

@@ -1,0 +1,31 @@
+"""Ends a script in one line where standard output takes no more, or memory ends: for the scripts beside this file."""
+
+import os
+import sys
+
+AT_FAULT = 2
+
+
+def run(script, main):
+    """Runs the main function of a script, and writes out what it printed."""
+    try:
+        try:
+            main()
+        finally:
+            sys.stdout.flush()
+    except BrokenPipeError:
+        leave()  # who reads it has enough
+    except OSError as fault:
+        leave(f"{script}: cannot write: {fault.strerror}")
+    except MemoryError:
+        leave(f"{script}: there is not enough memory")
+    except KeyboardInterrupt:
+        leave(f"{script}: interrupted")
+
+
+def leave(text=""):
+    """Ends the script. What standard output didn't take isn't tried again at the end."""
+    if text:
+        print(text, file=sys.stderr)
+    os.dup2(os.open(os.devnull, os.O_WRONLY), 1)
+    sys.exit(AT_FAULT)

@@ -1,0 +1,327 @@
+"""Gathers the facts of a listing as rows of the tables of schema.py."""
+
+from __future__ import annotations
+
+import hashlib
+import re
+from collections import defaultdict
+
+from comparison import Said, text_of, texts_of
+from decoding import Decoder, Template, flag_words, hardware_name
+from errors import Fault
+from identifiers import eisa_number
+from listing import Block, Dump, Line, Listing, Path, path_of, path_text
+from names import FIELD_LISTS, PREDEFINED, Meaning, Names, Sort, name_of
+from schema import COLUMNS
+from standard import DEVICE_NAMES, space_name
+from terms import Place, Term, is_written, places
+
+# SQLite's integers have 64 bits, one of which is the sign.
+TOO_LARGE = 1 << 63
+METHOD_OBJECT = 8
+REGIONS = ("OperationRegion", "DataRegion")
+USING = (Sort.LEADS, Sort.NOTHING)
+FIELD_REGION = COLUMNS["field"].index("region")
+DEVICES = ("Device", "Processor", "ThermalZone")
+HEADER = re.compile(
+    r'(?:Table|Root) "[^"]*"(?: "(?P<signature>[^"]*)" Length (?P<length>\d+))?(?: Revision (?P<before>\d+))?'
+    r'(?: Oem "(?P<oem>[^"]*)"(?: "(?P<table>[^"]*)" (?P<revision>[0-9A-F]{8}))?)?(?: Revision (?P<behind>\d+))?'
+    r'(?: Creator "(?P<creator>[^"]*)" (?P<creator_revision>[0-9A-F]{8}))?'
+    r'(?: Rsdt [0-9A-F]+(?: Length (?P<root_length>\d+) Xsdt [0-9A-F]+)?)?(?: At (?P<address>[0-9A-F]{16}))?(?P<bad> BadSum)?'
+)
+
+
+def small(number: int | None) -> int | None:
+    """A number that SQLite has as an integer."""
+    return number if number is not None and number < TOO_LARGE else None
+
+
+def table_rows(dumps: list[Dump], files: list[str], sums: dict[str, str]) -> list[list]:
+    """The rows of acpi_table, without their first two columns. `files` are those of the definition blocks in load order,
+    `sums` those of the dumps by the names of files."""
+    order = {file: number for number, file in enumerate(files, 1)}
+    return [[*header_of(dump), order.get(dump.file), sums.get(dump.file)] for dump in dumps]
+
+
+def header_of(dump: Dump) -> list:
+    form = HEADER.fullmatch(dump.text)
+    found = form.groupdict() if form else {}
+    length = found.get("length") or found.get("root_length")
+    revision = found.get("before") or found.get("behind")
+    signature = found.get("signature") or ("RSD PTR " if dump.text.startswith("Root") else dump.signature.strip('"'))
+    return [
+        dump.file[1:-1], signature, int(length[:18]) if length else None, int(revision[:9]) if revision else None,
+        *(found.get(word) for word in ("oem", "table", "revision", "creator", "creator_revision", "address")),
+        int(not dump.text.endswith(" BadSum")),
+    ]
+
+
+def sum_of(said: Said) -> str:
+    return hashlib.sha256("\n".join(text_of(said)).encode()).hexdigest()[:16]
+
+
+class Collector:
+    """Gathers the rows of one listing's code. Each row counts its number from 1, and has 1 for its code."""
+
+    def __init__(self, listing: Listing, names: Names, faults: dict[int, Fault]):
+        self.listing, self.names, self.faults = listing, names, faults
+        self.decoder = Decoder(listing, names)
+        self.rows: dict[str, list[list]] = defaultdict(list)
+        self.ids: dict[Path, int] = {}
+        self.kinds: dict[Path, str] = {}
+        self.regions: dict[str, int] = {}
+        self.field_regions: dict[str, int | None] = {}
+        self.waiting: list[tuple[list, str]] = []
+        self.method_ids: dict[int, int] = {}
+        self.method: int | None = None
+        self.file = ""
+
+    def collect(self) -> dict[str, list[list]]:
+        self.add_names()
+        for block in self.listing.blocks:
+            self.file = block.file[1:-1]
+            self.add_regions(block)
+        for block in self.listing.blocks:
+            self.file = block.file[1:-1]
+            self.add_block(block)
+        for row, anchor in self.waiting:
+            row[FIELD_REGION] = self.field_regions.get(anchor)
+        for row in (row for table in self.rows for row in self.rows[table]):
+            # The line is the last column, and the lines above the namespace aren't the code's.
+            if row[-1] is not None:
+                row[-1] -= self.listing.above
+        return self.rows
+
+    def add(self, table: str, *values: object) -> int:
+        rows = self.rows[table]
+        rows.append([len(rows) + 1, 1, *values])
+        return len(rows)
+
+    # ---- names
+
+    def add_names(self) -> None:
+        files = {
+            line.number: block.file[1:-1] for block in self.listing.blocks for line in block.lines
+            if line.declared is not None
+        }
+        sums = {path: sum_of(said) for path, said in texts_of(self.names, self.listing).items()}
+        targets = []
+        for row in self.listing.rows:
+            kind, _, more = row.kind.partition(" ")
+            line = self.names.lines[row.path]
+            count = int(more) if kind == "Method" else None
+            stands = "maybe" if row.is_maybe else "always"
+            value = self.value_of(line) if kind == "Name" else None
+            self.add_name(row.path, kind, count, None, stands, row.times, value, sums[row.path], files[line.number], line.number)
+            if kind == "Alias":
+                targets.append((row.path, path_of(more)))
+        for path, kind in PREDEFINED.items():
+            if path not in self.ids:
+                word, _, count = kind.partition(" ")
+                self.add_name(path, word, int(count) if count else None, None, "predefined", 0, None, None, None, None)
+        for path, (kind, count) in self.externals().items():
+            if path not in self.ids:
+                self.add_name(path, kind, count, None, "external", 0, None, None, None, None)
+        for path, target in targets:
+            self.rows["name"][self.ids[path] - 1][5] = self.ids.get(target)
+            if self.kinds.get(target) == "Method":
+                self.kinds[path] = "Method"
+
+    def value_of(self, line: Line) -> str | None:
+        """The number or the text that a Name has."""
+        value = (*self.decoder.terms(line)[0].arguments, None, None)[1]
+        is_plain = value is not None and not value.arguments and value.braced is None
+        return value.word if is_plain else None
+
+    def add_name(self, path: Path, kind: str, *values: object) -> None:
+        self.ids[path] = self.add("name", path_text(path), kind, *values)
+        self.kinds[path] = kind
+
+    def externals(self) -> dict[Path, tuple[str, int]]:
+        """The paths that Externals outside the bodies name, as a method where one says so, with the greatest count."""
+        found: dict[Path, tuple[str, int]] = {}
+        for line in self.listing.lines:
+            if line.term == "External" and not line.method:
+                _, kind, count = (*self.decoder.terms(line)[0].arguments, None, None, None)[:3]
+                path = name_of(line.words[1]).placed(line.scope) or ()
+                before, most = found.get(path, ("External", 0))
+                is_method = kind is not None and kind.number == METHOD_OBJECT or before == "Method"
+                found[path] = "Method" if is_method else before, max(most, (count.number if count else 0) or 0)
+        return found
+
+    # ---- regions, before what uses them
+
+    def add_regions(self, block: Block) -> None:
+        """The methods and the regions of a block. A field list may stand in front of its region."""
+        end = 0
+        for line in block.lines:
+            if line.number > end:
+                self.method = None
+            if line.term == "Method" and not line.method:
+                self.method, end = self.add_method(block, line), line.end
+                self.method_ids[line.number] = self.method
+            elif line.term in REGIONS:
+                self.add_region(line)
+        self.method = None
+
+    def add_method(self, block: Block, line: Line) -> int:
+        place = line.number - block.lines[0].number + 1
+        body = block.lines[place]
+        flags = [term.word if term else "" for term in self.decoder.terms(line)[0].arguments[1:4]]
+        count, serialized, level = flags if len(flags) == 3 else ("0", "", "0")
+        is_raw = body.term == "Raw" and body.method is not None
+        fault = self.faults.get(body.number) if is_raw else None
+        path = name_of(line.words[1]).placed(line.scope) or ()
+        return self.add(
+            "method", self.ids[path], number_in(count), int(serialized == "Serialized"), number_in(level), int(is_raw),
+            str(fault) if fault else None, self.file, line.number,
+        )
+
+    def add_region(self, line: Line) -> None:
+        texts = argument_texts(line)
+        arguments = self.decoder.terms(line)[0].arguments
+        if line.term == "DataRegion":
+            values = [None, "DataRegion", None, None, ", ".join(texts[1:]), ""]
+        else:
+            space, first, length = (one.number if one else None for one in (*arguments, None, None, None)[1:4])
+            values = [space, space_name(space) if space is not None else "", small(first), small(length), *(*texts, "", "")[2:4]]
+        anchor, name, path = self.declared(line)
+        self.regions.setdefault(anchor, self.add("region", name, self.method, path, *values, self.file, line.number))
+
+    def declared(self, line: Line) -> tuple[str, int | None, str]:
+        """The anchor of the name that a line declares, its row, and its path as text."""
+        place = line.declared % len(line.words) if line.declared is not None else 1
+        meaning = self.decoder.meanings(line).get(place)
+        path = meaning.path if meaning and meaning.path is not None else ()
+        is_local = meaning is None or meaning.sort is Sort.LOCAL
+        return meaning.anchor if meaning else "", None if is_local else self.ids.get(path), path_text(path)
+
+    # ---- the lines of a block
+
+    def add_block(self, block: Block) -> None:
+        end = 0
+        for line in block.lines[1:]:
+            if line.number > end:
+                self.method = None
+            if line.term == "Method" and not line.method:
+                self.method, end = self.method_ids[line.number], line.end
+                continue
+            if not line.term or line.term in ("Raw", "External"):
+                continue
+            self.add_uses(line)
+            self.add_field(line)
+            self.add_resources(line)
+            self.add_identifiers(line)
+        self.method = None
+
+    def add_uses(self, line: Line) -> None:
+        if not any(meaning.sort in USING for meaning in self.names.meanings[line.number]):
+            return
+        meanings = self.decoder.meanings(line)
+        scope = path_text(line.scope)
+        for term, place in places(self.decoder.terms(line)):
+            meaning = meanings.get(term.place)
+            if meaning is None or meaning.sort not in USING:
+                continue
+            for number, meant in enumerate((meaning, *meaning.others)):
+                is_local = meant.anchor.isdigit()
+                name = None if is_local or meant.path is None else self.ids.get(meant.path)
+                how = self.how(term, place, meant, is_local)
+                self.add("use", self.method, scope, term.word, name, int(is_local), number, how, self.file, line.number)
+
+    def how(self, term: Term, place: Place, meant: Meaning, is_local: bool) -> str:
+        """What becomes of what a name means: it is called, read, written, passed on, or named."""
+        is_method = not is_local and self.kinds.get(meant.path) == "Method" or bool(term.arguments)
+        if place.kind in "TR":
+            return "called" if is_method else "read"
+        if place.kind == "A" and place.within and place.within.word != "Connection":
+            return "called" if is_method else "passed"
+        if place.kind == "S":
+            return "written" if is_written(place) else "passed"
+        return "passed" if place.kind == "D" else "named"
+
+    def add_field(self, line: Line) -> None:
+        unit = self.decoder.units.get(line.number)
+        if unit:
+            _, lock, update = flag_words(self.decoder.terms(unit.head))
+            anchor, name, path = self.declared(line)
+            region, behind = self.region_of(unit.head)
+            self.field_regions.setdefault(anchor, region)
+            self.add(
+                "field", name, self.method, path, region, unit.head.term, unit.bit, unit.width, unit.access, lock, update,
+                self.file, line.number,
+            )
+            if behind:
+                self.waiting.append((self.rows["field"][-1], behind))
+        elif line.term.startswith("Create") and line.declared is not None:
+            _, name, path = self.declared(line)
+            bit, width = self.decoder.bits_of(line)
+            self.add(
+                "field", name, self.method, path, None, line.term, small(bit), small(width), None, None, None,
+                self.file, line.number,
+            )
+
+    def region_of(self, head: Line) -> tuple[int | None, str]:
+        """The region of a field list; of an IndexField the anchor of its data, whose region it has."""
+        is_index = head.term == "IndexField"
+        meaning = self.decoder.meanings(head).get(2 if is_index else 1)
+        if meaning is None or is_index:
+            return None, meaning.anchor if meaning else ""
+        return self.regions.get(meaning.anchor), ""
+
+    # ---- what bytes and numbers mean
+
+    def device_of(self, line: Line) -> int | None:
+        """The nearest device around a line."""
+        path = line.scope
+        while path and self.kinds.get(path) not in DEVICES:
+            path = path[:-1]
+        return self.ids.get(path) if path else None
+
+    def object_of(self, line: Line) -> str:
+        """The path of what a line declares, else of its method or scope."""
+        if line.declared is not None and line.term not in FIELD_LISTS:
+            return self.declared(line)[2]
+        return path_text(line.scope)
+
+    def add_resources(self, line: Line) -> None:
+        templates = self.decoder.templates(line)
+        for template in templates:
+            self.add_template(template, line)
+
+    def add_template(self, template: Template, line: Line) -> None:
+        device, object_path = self.device_of(line), self.object_of(line)
+        for one, patches in zip(template.descriptors, template.patches):
+            self.add(
+                "resource", device, object_path, one.kind, small(one.first), small(one.last), small(one.length),
+                ", ".join(map(str, one.lines)) or None, one.text, ", ".join(dict.fromkeys(patches)) or None,
+                self.file, line.number,
+            )
+
+    def add_identifiers(self, line: Line) -> None:
+        name = hardware_name(line)
+        for _, text in self.decoder.identifiers(line):
+            device = self.device_of(line)
+            self.add("identifier", device, name, text, eisa_number(text), DEVICE_NAMES.get(text), self.file, line.number)
+
+
+def number_in(text: str) -> int:
+    return int(text) if re.fullmatch("[0-9]{1,9}", text) else 0
+
+
+def argument_texts(line: Line) -> list[str]:
+    """The texts of the arguments of a line's term."""
+    parts, depth = [""], 0
+    for at, piece in enumerate(line.pieces[2:]):
+        if at % 2:
+            parts[-1] += piece
+            continue
+        for char in piece:
+            depth += (char in "({") - (char in ")}")
+            if char == "(" and depth == 1:
+                continue
+            if char == "," and depth == 1:
+                parts.append("")
+            elif depth:
+                parts[-1] += char
+    return [part.strip() for part in parts]

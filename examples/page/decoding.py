@@ -1,0 +1,250 @@
+"""Says what the numbers and bytes of a listing's lines mean: resources, identifiers, places of field units, flags."""
+
+from __future__ import annotations
+
+import re
+from collections import defaultdict
+from typing import NamedTuple
+
+from identifiers import EISA_NUMBER, eisa_id, uuid_text, uuid_with_name, with_name
+from listing import Line, Listing
+from names import FIELD_LISTS, FIRST_WORD, Meaning, Names, Sort, is_name
+from resources import Descriptor, descriptors
+from standard import ACCESS_TYPES, LOCK_RULES, PREDEFINED_NAMES, UPDATE_RULES, named, space_name, status_words
+from terms import Term, places, terms_of
+
+HARDWARE_NAMES = ("_HID", "_CID")
+# A field over more descriptors is told of these alone.
+MOST_TOUCHED = 16
+UNIT = re.compile(r", ([0-9]{1,9})")
+EVENT = re.compile("_([LEQ])([0-9A-F]{2})")
+EVENTS = {"L": "level event", "E": "edge event", "Q": "query"}
+# The buffer of a Connection may do without.
+END_TAG = b"\x79\0"
+# The bits of what a Create term makes, where they are fixed, and of a unit of its index.
+FIELD_BITS = {
+    "CreateBitField": (1, 1), "CreateByteField": (8, 8), "CreateWordField": (16, 8), "CreateDWordField": (32, 8),
+    "CreateQWordField": (64, 8),
+}
+
+
+class Unit(NamedTuple):
+    """A unit of a field list: the line of the list, its first bit and its width, and how it is accessed."""
+
+    head: Line
+    bit: int
+    width: int
+    access: str
+
+
+class Template(NamedTuple):
+    """A buffer of resources: the place of the word Buffer in its line, its descriptors, and for each the fields that lie in
+    its bytes, by which a run may change it."""
+
+    place: int
+    descriptors: list[Descriptor]
+    patches: list[list[str]]
+
+    def texts(self) -> list[str]:
+        return [
+            one.text + (f" (patched by {', '.join(dict.fromkeys(names))})" if names else "")
+            for one, names in zip(self.descriptors, self.patches)
+        ]
+
+
+class Decoder:
+    """`terms` keeps those of a line that was asked for last, `patches` has the fields that are made of a buffer, by the
+    anchor of its name: first bit, the bit behind the last, and the field's name. `units` are those of field lists by the
+    numbers of their lines, `heads` the flags of the lists."""
+
+    def __init__(self, listing: Listing, names: Names):
+        self.names = names
+        self.patches: dict[str, list[tuple[int, int, str]]] = defaultdict(list)
+        self.units: dict[int, Unit] = {}
+        self.kept: tuple[int, list[Term]] = (0, [])
+        for block in listing.blocks:
+            self.read(block.lines)
+
+    def read(self, lines: list[Line]) -> None:
+        head, access, bit = None, "", 0
+        for line in lines:
+            if head and line.number >= head.end:
+                head = None
+            if line.term in FIELD_LISTS:
+                head, access, bit = line, flag_words(self.terms(line))[0], 0
+            elif head:
+                access = self.access_at(line) or access
+                form = UNIT.fullmatch(line.pieces[-1])
+                width = int(form[1]) if form else 0
+                if line.declared == FIRST_WORD:
+                    self.units[line.number] = Unit(head, bit, width, access)
+                bit += width
+            elif line.term.startswith("Create"):
+                self.add_patch(line)
+
+    def terms(self, line: Line) -> list[Term]:
+        if self.kept[0] != line.number:
+            self.kept = line.number, terms_of(line)
+        return self.kept[1]
+
+    def access_at(self, line: Line) -> str:
+        """The access that the units behind an Access line have."""
+        if line.term not in ("Access", "ExtendedAccess"):
+            return ""
+        kind = self.terms(line)[0].argument(0)
+        return named(ACCESS_TYPES, (kind.number or 0) & 0x0F) if kind else ""
+
+    # ---- meanings of a line's names by the places of its words
+
+    def meanings(self, line: Line) -> dict[int, Meaning]:
+        places_of_names = (place for place, word in enumerate(line.words) if is_name(word))
+        return dict(zip(places_of_names, self.names.meanings[line.number]))
+
+    def add_patch(self, line: Line) -> None:
+        terms = self.terms(line)
+        source = terms[0].argument(0) if terms else None
+        meaning = self.meanings(line).get(source.place) if source else None
+        first, bits = self.bits_of(line)
+        if meaning and meaning.anchor and first is not None and bits is not None:
+            self.patches[meaning.anchor].append((first, first + bits, line.words[-1]))
+
+    def bits_of(self, line: Line) -> tuple[int | None, int | None]:
+        """The first bit and the width of what a Create term makes, each where it is constant."""
+        terms = self.terms(line)
+        index, count = (terms[0].argument(place) if terms else None for place in (1, 2))
+        bits, unit = FIELD_BITS.get(line.term, (None, 1))
+        if line.term == "CreateField" and count:
+            bits = count.number
+        return index.number * unit if index and index.number is not None else None, bits
+
+    # ---- buffers
+
+    def buffers(self, line: Line) -> list[Term]:
+        return buffers_of(self.terms(line)) if "Buffer" in line.pieces else []
+
+    def templates(self, line: Line) -> list[Template]:
+        found = []
+        for term in self.buffers(line):
+            decoded = descriptors(term.braced)
+            if decoded is None and line.term == "Connection":
+                decoded = descriptors(term.braced + END_TAG)
+            if decoded is not None:
+                found.append(Template(term.place, decoded, self.patches_of(decoded, self.anchor_of(line, term))))
+        return found
+
+    def anchor_of(self, line: Line, buffer: Term) -> str:
+        """The anchor of the name that is declared with a buffer as its value."""
+        terms = self.terms(line)
+        if line.term != "Name" or not terms or terms[0].argument(1) is not buffer:
+            return ""
+        meaning = self.meanings(line).get(1)
+        return meaning.anchor if meaning else ""
+
+    def patches_of(self, decoded: list[Descriptor], anchor: str) -> list[list[str]]:
+        """For each descriptor the names of the fields that have bits of it, in the order of the bits."""
+        found: list[list[str]] = [[] for _ in decoded]
+        number = 0
+        for first, behind, name in sorted(self.patches.get(anchor, ())):
+            while number < len(decoded) and 8 * (decoded[number].at + decoded[number].size) <= first:
+                number += 1
+            for place in range(number, min(number + MOST_TOUCHED, len(decoded))):
+                if 8 * decoded[place].at < behind:
+                    found[place].append(name)
+        return found
+
+    def uuids(self, line: Line) -> list[str]:
+        return [text for term in self.buffers(line) for text in [uuid_text(term.braced)] if text]
+
+    # ---- identifiers
+
+    def identifiers(self, line: Line) -> list[tuple[int, str]]:
+        """The identifiers that a line gives a device by _HID or _CID, each with the place of its word."""
+        if hardware_name(line) is None:
+            return []
+        found = []
+        for term, place in places(self.terms(line)):
+            if place.kind not in "DT" or term.place < 0:
+                continue
+            if term.word[0] == '"':
+                found.append((term.place, term.word[1:-1]))
+            elif EISA_NUMBER.fullmatch(term.word) and eisa_id(term.word):
+                found.append((term.place, eisa_id(term.word)))
+        return found
+
+    # ---- notes
+
+    def notes(self, line: Line) -> list[str]:
+        """What to say behind a line, in a few words each."""
+        notes = [with_name(text) for _, text in self.identifiers(line)]
+        notes = [note for note in notes if f'"{note}"' not in line.words]
+        notes += [uuid_with_name(text) for text in self.uuids(line)]
+        if line.number in self.units:
+            unit = self.units[line.number]
+            notes.append(bits_text(unit.bit, unit.width))
+        elif line.term in FIELD_LISTS:
+            notes.append(", ".join(flag_words(self.terms(line))))
+        elif line.term == "OperationRegion":
+            notes += self.space_note(line)
+        elif line.term in ("Name", "Method", "Device", "Return"):
+            notes += self.name_notes(line, bool(notes))
+        return notes
+
+    def space_note(self, line: Line) -> list[str]:
+        space = self.terms(line)[0].argument(1)
+        return [space_name(space.number)] if space and space.number is not None else []
+
+    def name_notes(self, line: Line, has_identifier: bool) -> list[str]:
+        name = declared_name(line)
+        if name == "_STA" or line.term == "Return" and line.method and line.method[-1] == "_STA":
+            return self.status_notes(line, name)
+        form = EVENT.fullmatch(name)
+        if form and line.term == "Method":
+            return [f"{EVENTS[form[1]]} 0x{form[2]}"]
+        return [PREDEFINED_NAMES[name]] if name in PREDEFINED_NAMES and not has_identifier else []
+
+    def status_notes(self, line: Line, name: str) -> list[str]:
+        value = (*self.terms(line)[0].arguments, None)[1 if name else 0] if line.term != "Method" else None
+        if value and value.number is not None:
+            return [status_words(value.number)]
+        return [PREDEFINED_NAMES[name]] if name else []
+
+
+def buffers_of(terms: list[Term]) -> list[Term]:
+    """The buffers of which all bytes stand in the line."""
+    return [
+        term for term, _ in places(terms)
+        if term.word == "Buffer" and isinstance(term.braced, bytes) and term.arguments and term.arguments[0]
+        and term.arguments[0].number == len(term.braced)
+    ]
+
+
+def hardware_name(line: Line) -> str | None:
+    """_HID or _CID, where a line gives the value of such an object: declared so, or returned by such a method."""
+    if line.method:
+        name = line.method[-1] if line.term == "Return" else ""
+    else:
+        name = line.words[1][-4:] if line.term == "Name" and len(line.words) > 1 else ""
+    return name if name in HARDWARE_NAMES else None
+
+
+def declared_name(line: Line) -> str:
+    """The last segment of the name that a line outside the bodies declares."""
+    return line.words[line.declared][-4:] if line.declared is not None and not line.method else ""
+
+
+def flag_words(terms: list[Term]) -> tuple[str, str, str]:
+    """The access, the lock and the update rule of a field list."""
+    last = terms[0].arguments[-1] if terms and terms[0].arguments else None
+    flags = last.number if last and last.number is not None else 0
+    return named(ACCESS_TYPES, flags & 0x0F), LOCK_RULES[flags >> 4 & 1], named(UPDATE_RULES, flags >> 5 & 3)
+
+
+def bits_text(bit: int, width: int) -> str:
+    """Where bits are, in bytes and bits."""
+    last = bit + max(width, 1) - 1
+    if bit % 8 == 0 and width % 8 == 0 and width:
+        return f"byte 0x{bit // 8:02X}" if width == 8 else f"bytes 0x{bit // 8:02X} to 0x{last // 8:02X}"
+    if bit // 8 == last // 8:
+        bits = f"bits {bit % 8} to {last % 8}" if last > bit else f"bit {bit % 8}"
+        return f"byte 0x{bit // 8:02X}, {bits}"
+    return f"byte 0x{bit // 8:02X}, bit {bit % 8} to byte 0x{last // 8:02X}, bit {last % 8}"

@@ -1,0 +1,259 @@
+"""Writes the lines of definition blocks: each is an element with its number as `id`, whose text is the line, but for
+elements of the classes `note` and `say`. What a line means is said behind it, and in rows below it."""
+
+from __future__ import annotations
+
+import re
+from html import escape
+
+from errors import Fault, raw_bytes, spelled_name
+from listing import Block, Line, path_text
+from names import Meaning, Names, Sort, Uses, is_name
+from packing import BETWEEN, chunk_html
+from sheet import Sheet, classed, counted
+
+# A browser's tree of elements ends at 512 levels.
+DEEPEST_FOLD = 60
+# A block of so many lines isn't laid out before it is seen. Its height is known beforehand by its lines.
+LONG_BLOCK = 12
+# So many lines are packed together.
+CHUNK = 300
+NUMBERS = ("Zero", "One", "Ones")
+PLAIN = re.compile("Local[0-7]|Arg[0-6]|(Not)?Serialized")
+
+
+def name_html(word: str, meaning: Meaning, sheet: Sheet) -> str:
+    if meaning.sort is Sort.LEADS:
+        if not sheet.has_anchor(meaning):
+            return f'<span class=out title="{path_text(meaning.path)}, not on this page">{word}</span>'
+        return f"<a href=#{meaning.anchor}{others_title(meaning)}>{word}</a>"
+    if meaning.sort is Sort.DECLARES:
+        return f"<dfn id={meaning.anchor}>{word}</dfn>"
+    if meaning.sort is Sort.AGAIN:
+        return f"<dfn class=again title={meaning.anchor}>{word}</dfn>"
+    if meaning.sort is Sort.LOCAL:
+        path = f" title={path_text(meaning.path)}" if meaning.path else ""
+        return f"<dfn{path}>{word}</dfn>"
+    return f'<u title="nothing declares it">{word}</u>'
+
+
+def others_title(meaning: Meaning) -> str:
+    """What a name may mean too, in another run."""
+    paths = [path_text(other.path) for other in meaning.others if other.path is not None]
+    return f' title="or {" or ".join(paths)}"' if paths else ""
+
+
+def line_html(line: Line, sheet: Sheet) -> str:
+    pieces = line.pieces.copy()
+    next_meaning = iter(sheet.names.meanings[line.number])
+    for place in range(1, len(pieces), 2):
+        word = pieces[place]
+        if word[0] == '"':
+            pieces[place] = f"<q>{escape(word)}</q>"
+        elif word[0] == "0" or word in NUMBERS:
+            pieces[place] = f"<i>{word}</i>"
+        elif is_name(word):
+            pieces[place] = name_html(word, next(next_meaning), sheet)
+        elif not PLAIN.fullmatch(word):
+            pieces[place] = f"<b>{word}</b>"
+    return "  " * line.depth + "".join(pieces)
+
+
+def raw_html(line: Line, fault: Fault | None) -> str:
+    """The bytes of a raw body, the one that the fault is about marked, and the fault."""
+    shown = "".join(line.pieces[2:])
+    code = raw_bytes(line)
+    said = "raw"
+    if fault:
+        said = f"raw: {fault}"
+        at = 2 + 4 * (fault.at if fault.at is not None else len(code))
+        if at < len(shown) - 1:
+            shown = f"{shown[:at]}<mark>{shown[at:at + 2]}</mark>{shown[at + 2:]}"
+            name = spelled_name(code[fault.at:]) if fault.word == "UnknownName" else ""
+            said += f", {name}" if name else ""
+    return f"{'  ' * line.depth}<b>Raw</b>{shown}<em class=note>{said}</em>"
+
+
+def said_html(line: Line, sheet: Sheet) -> str:
+    """What the line's numbers and bytes mean."""
+    notes, rows = said_of(line, sheet)
+    shown = "".join(f"<small class=say>{escape(note)}</small>" for note in notes)
+    return shown + "".join(f'<small class="say row">{escape(row)}</small>' for row in rows)
+
+
+def said_of(line: Line, sheet: Sheet) -> tuple[list[str], list[str]]:
+    """What is said behind a line, and in rows below it."""
+    templates = [template.texts() or ["no resources"] for template in sheet.decoder.templates(line)]
+    return sheet.decoder.notes(line), [text for texts in templates for text in texts]
+
+
+class BlockWriter:
+    """Writes the lines of a definition block, the blocks inside it as elements that fold."""
+
+    def __init__(self, sheet: Sheet):
+        self.sheet = sheet
+        self.nexts = next_notes(sheet.names, sheet)
+        self.uses: list[str] = []
+        self.changed = sheet.comparison.lines if sheet.comparison else set()
+
+    def write(self, block: Block) -> list[str]:
+        lines = [line for line in block.lines if self.sheet.shows(line.number)]
+        return self.packed(lines) if self.sheet.is_packed else self.folded(lines, DEEPEST_FOLD)
+
+    def folded(self, lines: list[Line], deepest: int) -> list[str]:
+        written, folds = [], []
+        last = lines[-1].number if lines else 0
+        for line in lines:
+            if folds_here(line) and len(folds) < deepest and line.end <= last:
+                folds.append(line.end)
+                written.append(self.head(line))
+                continue
+            written.append(self.line(line))
+            if folds and folds[-1] == line.number:
+                folds.pop()
+                written.append("</details>\n")
+        return written
+
+    def head(self, line: Line) -> str:
+        text, mark = self.content(line)
+        return f"{fold_html(line)}<summary id={line.number}{classed(mark)}>{text}</summary>\n"
+
+    def line(self, line: Line) -> str:
+        text, mark = self.content(line)
+        return f"<p id={line.number}{classed(mark)}>{text}</p>\n"
+
+    def packed(self, lines: list[Line]) -> list[str]:
+        """The lines in chunks, and between these what folds more lines than a chunk has."""
+        written: list[str] = []
+        folds: list[int] = []
+        chunk: list[Line] = []
+        kept_to = 0
+
+        def flush() -> None:
+            if chunk:
+                written.append(self.chunk(chunk, DEEPEST_FOLD - len(folds)))
+                chunk.clear()
+
+        for line in lines:
+            is_inside = line.number <= kept_to
+            if not is_inside and folds and line.number == folds[-1]:
+                flush()
+                folds.pop()
+                written += [self.line(line), "</details>\n"]
+                continue
+            if not is_inside and folds_here(line):
+                if line.end - line.number >= CHUNK and len(folds) < DEEPEST_FOLD // 2:
+                    flush()
+                    folds.append(line.end)
+                    written.append(self.head(line))
+                    self.uses += line_uses_html(line, self.sheet)
+                    continue
+                kept_to = line.end if line.end - line.number < CHUNK else 0
+            elif not is_inside and len(chunk) >= CHUNK:
+                flush()
+            chunk.append(line)
+            if len(chunk) >= CHUNK and line.number >= kept_to:
+                flush()
+        flush()
+        return written
+
+    def chunk(self, lines: list[Line], deepest: int) -> str:
+        uses = [html for line in lines for html in line_uses_html(line, self.sheet)]
+        html = "".join(self.folded(lines, deepest)) + BETWEEN + "".join(uses)
+        count = lines[-1].number - lines[0].number + 1
+        return chunk_html(lines[0].number, count, [text for line in lines for text in self.texts(line)], html)
+
+    def texts(self, line: Line) -> list[str]:
+        """A line as plain text, with what its numbers and bytes mean behind and below it."""
+        notes, rows = said_of(line, self.sheet)
+        return ["   ".join([line.text, *notes]), *("  " * (line.depth + 2) + row for row in rows)]
+
+    def content(self, line: Line) -> tuple[str, str]:
+        """A line's text with its notes, and how its path differs from another listing's."""
+        if line.term == "Raw" and line.method:
+            return raw_html(line, self.sheet.faults.get(line.number)), "raw"
+        text, mark = line_html(line, self.sheet), ""
+        for meaning in self.sheet.names.meanings[line.number]:
+            if meaning.sort in (Sort.DECLARES, Sort.LOCAL):
+                uses = self.sheet.names.uses.get(meaning.anchor)
+                if uses:
+                    text += f"<a class=note href=#u{line.number}>{counted(sum(map(len, uses.values())), 'use')}</a>"
+                if meaning.sort is Sort.DECLARES:
+                    mark = self.sheet.mark(meaning.path)
+        if mark == "changed":
+            text += f"<a class=note href=#c{line.number}>changed</a>"
+        elif line.number in self.changed:
+            mark = "differs"
+        return text + self.nexts.get(line.number, "") + said_html(line, self.sheet), mark
+
+
+def next_notes(names: Names, sheet: Sheet) -> dict[int, str]:
+    """For each declaration of a path that is declared several times, by its line's number, the link to the next one."""
+    notes = {}
+    for lines in names.declarations.values():
+        if len(lines) > 1:
+            for place, line in enumerate(lines, 1):
+                behind = lines[place % len(lines)]
+                text = f"{place:,} of {len(lines):,}"
+                start, end = ("<a", "</a>") if sheet.shows(behind.number) else ("<span", "</span>")
+                to = f" href=#{behind.number}" if sheet.shows(behind.number) else ""
+                notes[line.number] = f"{start} class=note{to}>{text}{end}"
+    return notes
+
+
+def folds_here(line: Line) -> bool:
+    """Whether the block of a line folds: a single line does in a method alone, since each fold costs the browser."""
+    return line.end > line.number + 2 or bool(line.end) and line.term == "Method"
+
+
+def fold_html(line: Line) -> str:
+    count = line.end - line.number + 1
+    height = f";--n:{count}" if count >= LONG_BLOCK else ""
+    return f"<details open style=--d:{line.depth + 1}{height}>"
+
+
+def blocks_html(sheet: Sheet) -> list[str]:
+    """The definition blocks, and the uses of what they declare."""
+    writer, written = BlockWriter(sheet), []
+    for block in sheet.listing.blocks:
+        if sheet.shows(block.lines[0].number):
+            head = f'<section class=block data-file="{escape(block.file[1:-1])}">\n'
+            written += [head, *writer.write(block), "</section>\n"]
+    return [*written, *use_list_html(sheet, writer.uses)]
+
+
+# ---- uses
+
+
+def uses_html(uses: Uses, sheet: Sheet) -> str:
+    items = (
+        f"<li>{path_text(path)} " + " ".join(number_html(number, sheet) for number in numbers)
+        for path, numbers in uses.items()
+    )
+    return f"<ul>{''.join(items)}</ul>"
+
+
+def number_html(number: int, sheet: Sheet) -> str:
+    return f"<a href=#{number}>{number}</a>" if sheet.shows(number) else f"<span>{number}</span>"
+
+
+def line_uses_html(line: Line, sheet: Sheet) -> list[str]:
+    """For each declaration of a line that is used, where it is."""
+    written = []
+    for meaning in sheet.names.meanings[line.number]:
+        uses = sheet.names.uses.get(meaning.anchor)
+        if uses and meaning.sort in (Sort.DECLARES, Sort.LOCAL) and meaning.path is not None:
+            head = f"<a href=#{meaning.anchor}>{path_text(meaning.path)}</a>"
+            written.append(f"<div id=u{line.number}>{head}{uses_html(uses, sheet)}</div>\n")
+    return written
+
+
+def use_list_html(sheet: Sheet, uses: list[str]) -> list[str]:
+    """The uses of all declarations, in the order of the text; in a packed page each chunk has those of its lines, and
+    these are the others."""
+    if not sheet.is_packed:
+        uses = [html for line in sheet.listing.lines if sheet.shows(line.number) for html in line_uses_html(line, sheet)]
+    if not uses and not sheet.is_packed:
+        return []
+    state = " hidden" if sheet.is_packed else ""
+    return [f"<section id=uses{state} style=--n:{len(uses)}><h2>Uses</h2>\n", *uses, "</section>\n"]

@@ -1,0 +1,102 @@
+"""What a page is made of, and the small pieces of HTML that all of its parts are written with."""
+
+from __future__ import annotations
+
+from dataclasses import dataclass, field
+from typing import Optional
+
+from comparison import Comparison
+from decoding import Decoder
+from errors import Fault
+from listing import Line, Listing, NoListing, Path, path_of, path_text
+from names import PREDEFINED, Meaning, Names, Sort
+
+# The page of a longer listing has its lines packed.
+LONG_TEXT = 200_000
+
+
+@dataclass
+class Sheet:
+    """What a page is made of. `shown` are the numbers of the lines that it has of the definition blocks, where these
+    aren't all, `paths` the declared paths that it has."""
+
+    listing: Listing
+    names: Names
+    decoder: Decoder
+    name: str = ""
+    faults: dict[int, Fault] = field(default_factory=dict)
+    comparison: Optional[Comparison] = None
+    is_packed: bool = False
+    shown: Optional[set[int]] = None
+    paths: Optional[set[Path]] = None
+
+    def mark(self, path: Optional[Path]) -> str:
+        return self.comparison.mark(path) if self.comparison and path is not None else ""
+
+    def shows(self, number: int) -> bool:
+        return self.shown is None or number in self.shown
+
+    def has_path(self, path: Path) -> bool:
+        return self.paths is None or path in self.paths
+
+    def has_anchor(self, meaning: Meaning) -> bool:
+        """Whether what a name leads to stands on the page."""
+        if meaning.anchor.isdigit() or meaning.path is None:
+            return True
+        line = self.names.lines.get(meaning.path) or self.names.externals.get(meaning.path)
+        return self.shows(line.number) if line else meaning.path in PREDEFINED
+
+    def only(self, wanted: str) -> None:
+        """Leaves what stands at and below a path, or in a file of that name."""
+        path = tuple(segment.ljust(4, "_") for segment in path_of(wanted))
+        lines = self.lines_at(path) if wanted.startswith("\\") else self.lines_of(wanted)
+        if not lines:
+            raise NoListing(f"nothing in it is {wanted[:80]}: --only takes a path like \\_SB_.PCI0 or a file like dsdt.dat")
+        self.shown = lines
+        self.paths = {path for path, line in self.names.lines.items() if line.number in lines}
+
+    def lines_of(self, file: str) -> set[int]:
+        return {line.number for block in self.listing.blocks if block.file == f'"{file}"' for line in block.lines}
+
+    def lines_at(self, wanted: Path) -> set[int]:
+        """The lines at and below a path, with the heads and ends of the blocks that they stand in."""
+        found: set[int] = set()
+        for block in self.listing.blocks:
+            opened: list[Line] = []
+            kept_to = 0
+            for line in block.lines:
+                while opened and line.number > opened[-1].end:
+                    opened.pop()
+                is_there = line.number <= kept_to or is_at(line, self.names.meanings[line.number], wanted)
+                if is_there:
+                    kept_to = max(kept_to, line.end)
+                    found.add(line.number)
+                    found.update(number for head in opened for number in (head.number, head.end))
+                if line.end:
+                    opened.append(line)
+        return found
+
+
+def is_at(line: Line, meanings: list[Meaning], wanted: Path) -> bool:
+    """Whether a line declares a path at or below the wanted one, or opens it."""
+    for meaning in meanings:
+        is_declared = meaning.sort in (Sort.DECLARES, Sort.AGAIN)
+        opens = line.term == "Scope" and meaning.sort is Sort.LEADS
+        if (is_declared or opens) and meaning.path is not None and meaning.path[:len(wanted)] == wanted:
+            return True
+    return False
+
+
+def link(path: Path, text: str = "") -> str:
+    return f"<a href=#{path_text(path)}>{text or path_text(path)}</a>"
+
+
+def classed(*words: str) -> str:
+    words = tuple(filter(None, words))
+    if not words:
+        return ""
+    return f' class="{" ".join(words)}"' if len(words) > 1 else f" class={words[0]}"
+
+
+def counted(count: int, word: str) -> str:
+    return f"{count:,} {word}{'' if count == 1 else 's'}"

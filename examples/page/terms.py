@@ -1,0 +1,146 @@
+"""Reads the words of a line as a term with its arguments (docs/listing.md), and says what becomes of each name in it."""
+
+from __future__ import annotations
+
+import re
+from collections.abc import Iterator
+from typing import NamedTuple, Optional
+
+import aml
+from listing import Line
+
+# Between two words stand parentheses, commas, decimal numbers and the bytes of a buffer.
+MARK = re.compile(r"\{[0-9A-F]{2}(?:, [0-9A-F]{2})*\}|[(){},]|[0-9A-F]+")
+CONSTANTS = {"Zero": 0, "One": 1}
+# The kinds of an operator's parts: T a value, S a target or an object, N a name, and more (aml.py).
+OPERANDS = {word: kinds.lstrip("P").rstrip("tyefb") for word, kinds in aml.ROWS.values()}
+# Those whose last or only target is handed on as an object, or changed in its place.
+OBJECT_OPERATORS = {
+    "RefOf", "SizeOf", "ObjectType", "Wait", "Acquire", "Signal", "Reset", "Release", "Unload", "Notify",
+}
+
+
+class Term:
+    """A word with its arguments in parentheses, None for an empty one, and what stands behind them in braces: the bytes of
+    a buffer or the elements of a package. `place` is the word's place in its line."""
+
+    __slots__ = ("word", "place", "arguments", "braced")
+
+    def __init__(self, word: str, place: int):
+        self.word, self.place = word, place
+        self.arguments: list[Optional[Term]] = []
+        self.braced: bytes | list[Term] | None = None
+
+    @property
+    def number(self) -> int | None:
+        """The value of an integer constant, but for Ones, whose width depends on the table."""
+        if self.word.startswith("0x"):
+            return int(self.word, 16)
+        return CONSTANTS.get(self.word)
+
+    def argument(self, place: int) -> Term | None:
+        return self.arguments[place] if place < len(self.arguments) else None
+
+    def inner(self) -> list[Term]:
+        """The terms in it, those in front first."""
+        elements = self.braced if isinstance(self.braced, list) else []
+        return [term for term in (*self.arguments, *elements) if term is not None]
+
+
+class Reader:
+    """Makes the term of a line, and the terms behind it as its siblings: in `FLD0, 8` stand two."""
+
+    def __init__(self) -> None:
+        self.siblings: list[Optional[Term]] = []
+        self.open: list[list[Optional[Term]]] = [self.siblings]
+        self.is_filled = [False]
+        self.last: Term | None = None
+
+    def word(self, word: str, place: int) -> None:
+        self.last = Term(word, place)
+        self.open[-1].append(self.last)
+        self.is_filled[-1] = True
+
+    def mark(self, mark: str, is_end: bool) -> None:
+        if mark == "," or mark == ")":
+            self.part(mark)
+        elif mark == "(" and self.last:
+            self.enter(self.last.arguments)
+        elif mark == "{" and self.last and not is_end:
+            self.last.braced = []
+            self.enter(self.last.braced)
+        elif mark == "}":
+            self.leave()
+        elif mark[0] == "{" and self.last:
+            self.last.braced = bytes.fromhex(mark[1:-1].replace(",", ""))
+        elif mark[0] not in "({":
+            self.word(mark, -1)
+
+    def part(self, mark: str) -> None:
+        """Ends an argument, which may be empty."""
+        if not self.is_filled[-1]:
+            self.open[-1].append(None)
+        self.is_filled[-1] = False
+        if mark == ")":
+            self.leave()
+
+    def enter(self, parts: list) -> None:
+        self.open.append(parts)
+        self.is_filled.append(False)
+
+    def leave(self) -> None:
+        if len(self.open) > 1:
+            self.open.pop()
+            self.is_filled.pop()
+            above = self.open[-1]
+            self.last = above[-1] if above else None
+
+
+def term_of(line: Line) -> Term | None:
+    """The term of a line; None of one without a word, and of a raw body's."""
+    terms = terms_of(line)
+    return terms[0] if terms else None
+
+
+def terms_of(line: Line) -> list[Term]:
+    if not line.term or line.term == "Raw":
+        return []
+    reader, last = Reader(), len(line.pieces) - 1
+    for at, piece in enumerate(line.pieces):
+        if at % 2:
+            reader.word(piece, at // 2)
+            continue
+        marks = MARK.findall(piece)
+        for place, mark in enumerate(marks):
+            reader.mark(mark, at == last and place == len(marks) - 1)
+    return [term for term in reader.siblings if term is not None]
+
+
+class Place(NamedTuple):
+    """Where a term stands: in which operator or call, as its part of which kind, and whether that is the last one."""
+
+    within: Optional[Term]
+    kind: str
+    number: int
+
+
+def places(terms: list[Term]) -> Iterator[tuple[Term, Place]]:
+    """All terms of a line, each with its place, in the order of the text."""
+    waiting = [(term, Place(None, "R", 0)) for term in reversed(terms)]
+    while waiting:
+        term, place = waiting.pop()
+        yield term, place
+        kinds = OPERANDS.get(term.word, "")
+        parts = [
+            (part, Place(term, kinds[number] if number < len(kinds) else "A", number))
+            for number, part in enumerate(term.arguments) if part is not None
+        ]
+        parts += [(part, Place(term, "D", 0)) for part in term.braced] if isinstance(term.braced, list) else []
+        waiting += reversed(parts)
+
+
+def is_written(place: Place) -> bool:
+    """Whether what stands there is a target of its operator, and not an object that is handed to it."""
+    if place.kind != "S" or place.within is None:
+        return False
+    return place.within.word not in OBJECT_OPERATORS and (place.within.word, place.number) != ("CondRefOf", 0)

@@ -1,0 +1,127 @@
+"""Writes the namespace as a tree, and what its paths are found by."""
+
+from __future__ import annotations
+
+from collections import Counter, defaultdict
+from collections.abc import Iterable
+from dataclasses import dataclass
+from html import escape
+
+from errors import raw_lines
+from listing import Path, Row, path_of, path_text
+from names import PREDEFINED
+from packing import branch_html
+from sheet import Sheet, classed, link
+from standard import DEVICE_NAMES
+
+DEEPEST_FOLD = 60
+# What has so many paths below it is packed.
+MANY = 60
+
+
+@dataclass
+class Node:
+    """A path in the tree: its kind, nothing where it isn't declared, how many declared ones are below it, its marks."""
+
+    kind: str = ""
+    below: int = 0
+    has_children: bool = False
+    marks: str = ""
+    is_maybe: bool = False
+
+
+def nodes_of(rows: Iterable[Row], added: Iterable[Path]) -> dict[Path, Node]:
+    """The declared paths and those on the way to them, each before what is below it."""
+    nodes = {row.path: Node(row.kind, marks=row.marks, is_maybe=row.is_maybe) for row in rows}
+    nodes |= {path: Node("added") for path in added}
+    for path in list(nodes):
+        for length in range(1, len(path)):
+            above = nodes.setdefault(path[:length], Node())
+            above.below, above.has_children = above.below + 1, True
+    return dict(sorted(nodes.items()))
+
+
+def kind_html(kind: str, sheet: Sheet) -> str:
+    """A kind, and what an Alias stands for as a link."""
+    word, target = kind.partition(" \\")[::2]
+    if not target:
+        return kind
+    path = path_of(f"\\{target}")
+    return f"{word} {link(path)}" if sheet.has_path(path) else f"{word} {path_text(path)}"
+
+
+class TreeWriter:
+    """`identifiers` are those of devices by the devices' paths."""
+
+    def __init__(self, sheet: Sheet):
+        self.sheet = sheet
+        rows = [row for row in sheet.listing.rows if sheet.has_path(row.path)]
+        self.counts = Counter(row.kind.split()[0] for row in rows)
+        self.nodes = nodes_of(rows, sheet.comparison.adds if sheet.comparison else ())
+        self.raw = {line.method for line in raw_lines(sheet.listing)}
+        self.identifiers: dict[Path, list[str]] = defaultdict(list)
+        for line in sheet.listing.lines:
+            for _, text in sheet.decoder.identifiers(line):
+                self.identifiers[line.scope[:-1] if line.method else line.scope].append(text)
+
+    def write(self) -> list[str]:
+        """The tree. In a packed page the parts that begin closed are packed, but for small ones."""
+        parts: list[list[str]] = [[]]
+        opened: list[tuple[Path, bool]] = []
+        for path, node in self.nodes.items():
+            while opened and path[:len(opened[-1][0])] != opened[-1][0]:
+                self.close(parts, opened)
+            if not node.has_children or len(opened) >= DEEPEST_FOLD:
+                parts[-1].append(f"<p{self.dimmed(node)}>{self.node_html(path, node)}</p>\n")
+                continue
+            is_open = len(path) == 1
+            is_packed = self.sheet.is_packed and node.below >= MANY and len(path) > 1
+            state = " open" if is_open else ""
+            parts[-1].append(f"<details{state}><summary{self.dimmed(node)}>{self.node_html(path, node)}</summary>\n")
+            opened.append((path, is_packed))
+            if is_packed:
+                parts.append([])
+        while opened:
+            self.close(parts, opened)
+        return parts[0]
+
+    @staticmethod
+    def close(parts: list[list[str]], opened: list[tuple[Path, bool]]) -> None:
+        _, is_packed = opened.pop()
+        if is_packed:
+            inner = "".join(parts.pop())
+            parts[-1].append(branch_html(inner))
+        parts[-1].append("</details>\n")
+
+    def dimmed(self, node: Node) -> str:
+        return classed("maybe" if node.is_maybe else "")
+
+    def node_html(self, path: Path, node: Node) -> str:
+        mark = self.sheet.mark(path) or ("raw" if path in self.raw else "")
+        kind = f" {kind_html(node.kind, self.sheet)}" if node.kind else ""
+        marks = f" <small>{node.marks}</small>" if node.marks else ""
+        below = f" <small>{node.below:,}</small>" if node.below else ""
+        ids = " ".join(dict.fromkeys(self.identifiers.get(path, ())))
+        named = f" <small class=id>{escape(ids)}</small>" if ids else ""
+        return f"{self.head_html(path, node, mark)}{kind}{marks}{below}{named}"
+
+    def head_html(self, path: Path, node: Node, mark: str) -> str:
+        if self.is_linked(path, node):
+            return f"<a{classed(mark)} href=#{path_text(path)}>{path[-1]}</a>"
+        return f"<span id={path_text(path)}>{path[-1]}</span>"
+
+    def is_linked(self, path: Path, node: Node) -> bool:
+        external = None if path in self.sheet.names.lines else self.sheet.names.externals.get(path)
+        return bool(node.kind) or path in PREDEFINED or external is not None and self.sheet.shows(external.number)
+
+    def index(self) -> list[str]:
+        """For each path that the search finds its path, its kind, the line of its declaration, and its identifiers."""
+        lines = []
+        for path, node in self.nodes.items():
+            if self.is_linked(path, node):
+                line = self.sheet.names.lines.get(path) or self.sheet.names.externals.get(path)
+                ids = dict.fromkeys(self.identifiers.get(path, ()))
+                words = [*ids, *(DEVICE_NAMES.get(text, "") for text in ids)]
+                number = line.number if line and self.sheet.shows(line.number) else 0
+                lines.append("\t".join([path_text(path), node.kind, str(number), " ".join(filter(None, words))]))
+        return lines

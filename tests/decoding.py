@@ -1,0 +1,306 @@
+#!/usr/bin/env python3
+"""Checks what examples/page says of numbers and bytes: resources, identifiers, flags, places of field units.
+
+    python3 tests/decoding.py [FOLDER ..]
+
+First come rows that are worked out by hand from chapter 6.4 of the standard, and a set whose lines have to get the notes
+that are written down here. Then what is said of the demo, of that set and of each FOLDER of dumps is compared with
+`iasl -d`, table by table: the resources, the UUIDs, the EISA ids, the regions' spaces, the flags of field lists and the
+places of their units. Where iasl isn't installed that part is left out, and said so. Texts are those of the independent
+reading. The last line is 'N passed, N failed'.
+"""
+
+import difflib
+import pathlib
+import re
+import shutil
+import subprocess
+import sys
+import tempfile
+
+sys.dont_write_bytecode = True
+TOP = pathlib.Path(__file__).resolve().parent.parent
+sys.path[:0] = [str(TOP / "examples/page"), str(TOP / "examples"), str(TOP / "tests/oracle"), str(TOP / "tests")]
+
+from decoding import Decoder, bits_text, flag_words  # noqa: E402
+from dumps import order_of  # noqa: E402
+from folders import read_folder  # noqa: E402
+from identifiers import eisa_id, eisa_number, uuid_text  # noqa: E402
+from iasl import facts_of  # noqa: E402
+from listing import read_listing  # noqa: E402
+from names import FIELD_LISTS, Names  # noqa: E402
+from pages import table  # noqa: E402
+from resources import descriptors  # noqa: E402
+from running import REFUSED, Options, run_folder  # noqa: E402
+from standard import space_name, status_words  # noqa: E402
+
+EISA = re.compile("[A-Z]{3}[0-9A-F]{4}")
+DEMO = TOP / "crates/acpidis_program/data/demo"
+LONG_NAME = "5C 5F 53 42 5F 00"  # \_SB_ and its NUL
+
+# Descriptors with their lines. What is behind a colon are the bytes without the end tag.
+ROWS = """
+IRQ 4 edge: 22 10 00
+IRQ 0, 15 edge: 22 01 80
+IRQ 3 level low shared: 23 08 00 18
+IRQ 3 edge wake: 23 08 00 21
+DMA 2 compatibility 8 bits: 2A 04 00
+DMA 1, 3 type B 16 bits bus master: 2A 0A 46
+StartDependentFnNoPri: 30
+StartDependentFn priority 1 robustness 2: 31 09
+EndDependentFn: 38
+IO 0x03F8 +0x8: 47 01 F8 03 F8 03 01 08
+IO 0x0100 to 0x0200 +0x8 align 0x10 10 bits decoded: 47 00 00 01 00 02 10 08
+FixedIO 0x0CF8 +0x8: 4B F8 0C 08
+FixedDMA 18 channel 4 32 bits: 55 12 00 04 00 02
+VendorShort 3 bytes: 73 01 02 03
+Memory24 0x0C0000 to 0x0D0000 +0x8000 align 0x1000: 81 09 00 01 00 0C 00 0D 00 10 80 00
+Memory32 0xE0000000 to 0xF0000000 +0x100000 align 0x1000 read-only: \
+85 11 00 00 00 00 00 E0 00 00 00 F0 00 10 00 00 00 00 10 00
+Memory32Fixed 0xFED00000 +0x400: 86 09 00 01 00 00 D0 FE 00 04 00 00
+Memory32Fixed 0xFED00000 +0x400 read-only: 86 09 00 00 00 00 D0 FE 00 04 00 00
+Register 0xB2 SystemIO 8 bits: 82 0C 00 01 08 00 00 B2 00 00 00 00 00 00 00
+Register 0x10 FFixedHW 1 bits from bit 2 by bytes: 82 0C 00 7F 01 02 01 10 00 00 00 00 00 00 00
+VendorLong 2 bytes: 84 02 00 AA BB
+WordBusNumber 0x0000 to 0x00FF +0x100: 88 0D 00 02 0C 00 00 00 00 00 FF 00 00 00 00 01
+WordIO 0x0000 to 0x0CF7 +0xCF8: 88 0D 00 01 0C 03 00 00 00 00 F7 0C 00 00 F8 0C
+DWordMemory 0x000A0000 to 0x000BFFFF +0x20000 read-only: \
+87 17 00 00 0C 02 00 00 00 00 00 00 0A 00 FF FF 0B 00 00 00 00 00 00 00 02 00
+DWordMemory 0xC0000000 to 0xFEBFFFFF +0x3EC00000 consumer subtractive first not fixed last not fixed write-combining NVS: \
+87 17 00 00 03 1D 00 00 00 00 00 00 00 C0 FF FF BF FE 00 00 00 00 00 00 C0 3E
+QWordMemory 0x0000000100000000 to 0x00000001FFFFFFFF +0x100000000 prefetchable granularity 0xFFF translation 0x1000 by \\_SB_: \
+8A 32 00 00 0C 07 FF 0F 00 00 00 00 00 00 00 00 00 00 01 00 00 00 FF FF FF FF 01 00 00 00 00 10 00 00 00 00 00 00 \
+00 00 00 00 01 00 00 00 00 LONG
+DWordSpace 0x00000000 to 0x000000FF +0x100 of kind 0xC0: \
+87 17 00 C0 0C 00 00 00 00 00 00 00 00 00 FF 00 00 00 00 00 00 00 00 01 00 00
+ExtendedMemory 0x0000000000001000 to 0x0000000000001FFF +0x1000: \
+8B 35 00 00 0C 03 01 00 00 00 00 00 00 00 00 00 00 10 00 00 00 00 00 00 FF 1F 00 00 00 00 00 00 \
+00 00 00 00 00 00 00 00 00 10 00 00 00 00 00 00 08 00 00 00 00 00 00 00
+Interrupt 33 level: 89 06 00 01 01 21 00 00 00
+Interrupt 14, 15 edge low shared wake: 89 0A 00 1F 02 0E 00 00 00 0F 00 00 00
+Interrupt 33 producer level by \\_SB_: 89 0D 00 00 01 21 00 00 00 00 LONG
+GpioInt 5 level low pull up debounce 100 by \\_SB_: \
+8C 1C 00 01 00 01 00 02 00 01 00 00 64 00 17 00 00 19 00 1F 00 00 00 05 00 LONG
+GpioIo 1, 2 input shared by \\_SB_: 8C 1E 00 01 01 01 00 09 00 00 00 00 00 00 17 00 00 1B 00 21 00 00 00 01 00 02 00 LONG
+I2cSerialBus 0x002C 400000 Hz by \\_SB_: 8E 15 00 01 00 01 02 00 00 01 06 00 80 1A 06 00 2C 00 LONG
+SpiSerialBus 0x0001 1000000 Hz 8 bits 3 wires second phase by \\_SB_: \
+8E 18 00 01 00 02 02 01 00 01 09 00 40 42 0F 00 08 01 00 01 00 LONG
+UartSerialBus 115200 baud by \\_SB_: 8E 19 00 01 00 03 02 00 00 01 0A 00 00 C2 01 00 20 00 20 00 00 00 LONG
+"""
+# Bytes that are no template: each breaks a rule of the standard, or has more behind its end.
+NO_TEMPLATES = """
+22 10 00
+22 10 00 79
+22 10 00 79 00 00
+22 10 00 78
+21 10 79 00
+86 08 00 01 00 00 D0 FE 00 04 00 79 00
+86 09 00 01 00 00 D0 FE 00 04 00 79 00
+0A 01 02 79 00
+80 00 00 79 00
+94 00 00 79 00
+8C 14 00 01 00 01 00 02 00 01 00 00 64 00 17 00 00 19 00 1F 00 00 00 79 00
+89 06 00 01 02 21 00 00 00 79 00
+8E 15 00 01 00 09 02 00 00 01 06 00 80 1A 06 00 2C 00 5C 5F 53 42 5F 00 79 00
+"""
+
+
+def data_of(text: str) -> bytes:
+    return bytes.fromhex(text.replace("LONG", LONG_NAME))
+
+
+class Checks:
+    def __init__(self) -> None:
+        self.passed = self.failed = 0
+
+    def is_same(self, what: str, got: object, wanted: object) -> None:
+        self.passed += got == wanted
+        self.failed += got != wanted
+        if got != wanted:
+            print(f"FAILED {what}: got\n{got}\nnot\n{wanted}")
+
+
+def check_rows(checks: Checks) -> None:
+    whole, texts = b"", []
+    for row in ROWS.strip().splitlines():
+        wanted, _, code = row.rpartition(": ")
+        data = data_of(code)
+        found = descriptors(data + b"\x79\0")
+        checks.is_same(f"the bytes {code}", found and [one.text for one in found], [wanted])
+        whole += data
+        texts.append(wanted)
+        cuts = [descriptors(data[:size] + b"\x79\0") for size in range(1, len(data))]
+        checks.is_same(f"cuts of {code}", [cut for cut in cuts if cut and len(cut) > 1], [])
+    checks.is_same("all of them", [one.text for one in descriptors(whole + b"\x79\0") or []], texts)
+    checks.is_same("none", descriptors(b"\x79\0"), [])
+    for code in NO_TEMPLATES.strip().splitlines():
+        checks.is_same(f"no template: {code}", descriptors(data_of(code)), None)
+
+
+def check_words(checks: Checks) -> None:
+    """Identifiers, spaces, status, places: by the standard's own examples and tables."""
+    ids = [eisa_id(it) for it in ("0x080AD041", "0xD041", "0x00000000", "0xFFFFFFFF")]
+    checks.is_same("EisaId", ids, ["PNP0A08", "PNP0000", "", ""])
+    checks.is_same("its number", [eisa_number("PNP0A08"), eisa_number("ACPI0007")], [0x080AD041, None])
+    host = data_of("5B 4D DB 33 F7 1F 1C 40 96 57 74 41 C0 3D D7 66")
+    texts = [uuid_text(host), uuid_text(bytes(16)), uuid_text(host[:15])]
+    checks.is_same("ToUUID", texts, ["33db4d5b-1ff7-401c-9657-7441c03dd766", "", ""])
+    spaces = ["SystemMemory", "SystemIO", "PlatformRtMechanism", "0x0C", "FFixedHW", "vendor's 0x80"]
+    checks.is_same("spaces", [space_name(number) for number in (0, 1, 11, 12, 0x7F, 0x80)], spaces)
+    wanted = ["present, enabled, not shown, functioning", "not present", "not present, not enabled, not shown, functioning"]
+    checks.is_same("status", [status_words(number) for number in (0x0B, 0, 8)], wanted)
+    wanted = ["byte 0x00", "byte 0x02, bit 1", "byte 0x02, bits 1 to 2", "bytes 0x04 to 0x07"]
+    wanted.append("byte 0x00, bit 7 to byte 0x01, bit 0")
+    got = [bits_text(*it) for it in ((0, 8), (17, 1), (17, 2), (32, 32), (7, 2))]
+    checks.is_same("places", got, wanted)
+
+
+# ---- a set with a bit of everything
+
+
+def packed(opcode: bytes, content: bytes) -> bytes:
+    size = len(content) + 2
+    return opcode + bytes([0x40 | size & 15, size >> 4]) + content
+
+
+def buffer(data: bytes) -> bytes:
+    return packed(b"\x11", b"\x0A" + bytes([len(data)]) + data)
+
+
+def method(name: bytes, body: bytes) -> bytes:
+    return packed(b"\x14", name + b"\0" + body)
+
+
+HPET = buffer(data_of("86 09 00 01 00 00 D0 FE 00 04 00 00 22 01 00 79 00"))
+UUID = buffer(data_of("5B 4D DB 33 F7 1F 1C 40 96 57 74 41 C0 3D D7 66"))
+# CreateDWordField (BUF0, 0x04, BASE), CreateBitField (BUF0, 0x68, BIT0)
+PATCH = b"\x8ABUF0\x0A\x04BASE\x8DBUF0\x0A\x68BIT0"
+UNITS = b"\0\x08" + b"AAAA\1" + b"BBBB\7" + b"\1\3\0" + b"CCCC\x20"
+DEVICE = (
+    b"\x08_HID\x0C\x41\xD0\x0C\x09" + b"\x08_CID" + packed(b"\x12", b"\2\x0DACPI0007\0\x0C\x41\xD0\x01\x03")
+    + b"\x08_STA\x0A\x0F" + b"\x5B\x80REG0\1\x0A\xB2\1" + packed(b"\x5B\x81", b"REG0\x11" + UNITS)
+    + b"\x08BUF0" + HPET + PATCH + method(b"_CRS", b"\x8BBUF0\1WORD" + b"\xA4BUF0") + method(b"_Q13", b"")
+    + method(b"_OSC", packed(b"\xA0", b"\x93\x68" + UUID + b"\xA4\0") + b"\xA4\1")
+    + method(b"_PRS", b"\x08BUF1" + HPET + b"\x8ABUF1\x0A\x08LEN0\xA4BUF1")
+)
+PINS = "8C 1E 00 01 01 01 00 09 00 00 00 00 00 00 17 00 00 1B 00 21 00 00 00 01 00 02 00 LONG"
+LINES = b"\x5B\x80GPO0\x08\0\1" + packed(b"\x5B\x81", b"GPO0\1" + b"\2" + buffer(data_of(PINS)) + b"PIN0\1")
+CODE = packed(b"\x10", b"\\_SB_" + packed(b"\x5B\x82", b"EC0_" + DEVICE + LINES))
+WANTED = """
+Name (_HID, 0x090CD041): PNP0C09 embedded controller
+Name (_CID, Package (0x02) {"ACPI0007", 0x0301D041}): ACPI0007 processor; PNP0103
+Name (_STA, 0x0F): present, enabled, shown, functioning
+OperationRegion (REG0, 0x01, 0xB2, One): SystemIO
+Field (REG0, 0x11) {: ByteAcc, Lock, Preserve
+AAAA, 1: byte 0x01, bit 0
+BBBB, 7: byte 0x01, bits 1 to 7
+CCCC, 32: bytes 0x02 to 0x05
+Name (BUF0,: Memory32Fixed 0xFED00000 +0x400 (patched by WORD, BASE); IRQ 0 edge (patched by BIT0)
+Method (_CRS, 0, NotSerialized, 0) {: current resources
+Method (_Q13, 0, NotSerialized, 0) {: query 0x13
+Method (_OSC, 0, NotSerialized, 0) {: capabilities of the operating system
+If (LEqual (Arg0,: UUID 33db4d5b-1ff7-401c-9657-7441c03dd766 PCI host bridge
+Method (_PRS, 0, NotSerialized, 0) {: possible resources
+Name (BUF1,: Memory32Fixed 0xFED00000 +0x400 (patched by LEN0); IRQ 0 edge
+OperationRegion (GPO0, 0x08, Zero, One): GeneralPurposeIO
+Field (GPO0, 0x01) {: ByteAcc, NoLock, Preserve
+Connection (: GpioIo 1, 2 input shared by \\_SB_
+PIN0, 1: byte 0x00, bit 0
+"""
+
+
+def check_notes(checks: Checks, folder: pathlib.Path) -> None:
+    listing = read_listing(run_folder(folder, Options()).out.encode())
+    decoder = Decoder(listing, Names(listing))
+    said = {}
+    for line in listing.blocks[0].lines:
+        notes = decoder.notes(line) + [text for one in decoder.templates(line) for text in one.texts()]
+        if notes:
+            said["".join(line.pieces)] = "; ".join(notes)
+    wanted = dict(row.rpartition(": ")[::2] for row in WANTED.strip().splitlines())
+    short = {next((head for head in wanted if text.startswith(head)), text): note for text, note in said.items()}
+    checks.is_same("the notes of a set", short, wanted)
+
+
+# ---- beside iasl
+
+
+def our_facts(folder: pathlib.Path) -> dict[str, dict[str, list]] | None:
+    """By each file what the modules say, in the order of the text; None where the set is refused."""
+    outcome = run_folder(folder, Options(any_sum=True, any_run=True))
+    if outcome.status == REFUSED:
+        return None
+    listing = read_listing(outcome.out.encode())
+    decoder, found = Decoder(listing, Names(listing)), {}
+    for block in listing.blocks:
+        facts = found[block.file[1:-1]] = {"resources": [], "UUIDs": [], "EISA ids": [], "spaces": [], "flags": [], "units": []}
+        for line in block.lines:
+            facts["resources"] += [one.text for template in decoder.templates(line) for one in template.descriptors]
+            facts["UUIDs"] += decoder.uuids(line)
+            if line.term == "OperationRegion":
+                facts["spaces"] += [line.words[1][-4:] + " " + note for note in decoder.notes(line)]
+            if line.term in FIELD_LISTS:
+                facts["flags"].append(", ".join(flag_words(decoder.terms(line))))
+            if line.number in decoder.units:
+                unit = decoder.units[line.number]
+                facts["units"].append(f"{line.term} {unit.bit} {unit.width}")
+            ids = [text for _, text in decoder.identifiers(line)]
+            facts["EISA ids"] += [text for text in ids if EISA.fullmatch(text) and f'"{text}"' not in line.words]
+    return found
+
+
+def compare(checks: Checks, what: str, folder: pathlib.Path) -> None:
+    """What is said of a set beside iasl's text of each of its tables."""
+    ours = our_facts(folder)
+    if ours is None:
+        print(f"{what} is refused: nothing is compared")
+        return
+    dumps = read_folder(folder)
+    with tempfile.TemporaryDirectory() as room:
+        for index in order_of(dumps, True):
+            theirs = facts_of(dumps[index].data, pathlib.Path(room))
+            if theirs is None:
+                print(f"{what}, {dumps[index].name}: iasl -d fails, and nothing is compared")
+                continue
+            for kind, facts in ours[dumps[index].name].items():
+                different = differences(facts, theirs[kind])
+                checks.is_same(f"{kind} of {what}, {dumps[index].name}", different, [])
+
+
+def differences(ours: list, theirs: list) -> list:
+    lines = difflib.unified_diff(theirs, ours, "iasl", "here", lineterm="", n=0)
+    return [line for line in lines if not line.startswith(("---", "+++", "@@"))]
+
+
+def made_set(room: pathlib.Path) -> pathlib.Path:
+    """The set of the notes, and an SSDT with a buffer of all descriptors that iasl of 2020 knows."""
+    folder = room / "made"
+    folder.mkdir()
+    rows = [row.rpartition(": ") for row in ROWS.strip().splitlines()]
+    # iasl wants those that begin and end a list of choices in one buffer.
+    choices = [code for text, _, code in rows if "Dependent" in text]
+    codes = [code for text, _, code in rows if "Dependent" not in text] + [" ".join([*choices[:2], rows[0][2], choices[2]])]
+    one = b"".join(b"\x08" + b"R%03d" % number + buffer(data_of(code) + b"\x79\0") for number, code in enumerate(codes))
+    (folder / "dsdt.dat").write_bytes(table(b"DSDT", CODE))
+    (folder / "ssdt1.dat").write_bytes(table(b"SSDT", one))
+    return folder
+
+
+def main() -> None:
+    checks = Checks()
+    check_rows(checks)
+    check_words(checks)
+    with tempfile.TemporaryDirectory() as room:
+        made = made_set(pathlib.Path(room))
+        check_notes(checks, made)
+        if shutil.which("iasl"):
+            for folder in (DEMO, made, *map(pathlib.Path, sys.argv[1:])):
+                compare(checks, folder.name, folder)
+        else:
+            print("iasl is not there, so nothing is compared with it: on Debian, apt-get install acpica-tools")
+    print(f"{checks.passed} passed, {checks.failed} failed")
+    sys.exit(checks.failed > 0)
+
+
+if __name__ == "__main__":
+    main()

@@ -1,0 +1,395 @@
+#!/usr/bin/env python3
+"""Checks the facts that examples/facts.py gathers of a listing, beside the independent reading.
+
+    python3 tests/facts.py [--sets N] [FOLDER ..]
+
+Of four sample sets, of N made-up sets, 40 if left out, of as many with code outside methods, and of each FOLDER of
+dumps: the names with their kinds, the uses of names with what becomes of each, the regions and the units of field lists
+are those that the independent reading says. Then come the tables, resources and identifiers of a set that is written down
+here, many machines with shared code, and what the command line refuses. The last line is 'N passed, N failed'.
+"""
+
+import argparse
+import contextlib
+import hashlib
+import importlib.util
+import json
+import pathlib
+import random
+import sqlite3
+import subprocess
+import sys
+import tempfile
+
+sys.dont_write_bytecode = True
+TOP = pathlib.Path(__file__).resolve().parent.parent
+sys.path[:0] = [str(TOP / "examples/page"), str(TOP / "tests/oracle"), str(TOP / "tests")]
+sys.path.append(str(TOP / "examples"))
+
+from board import VERSIONS, table  # noqa: E402
+from dumps import aml_of, order_of  # noqa: E402
+from facts_picture import picture  # noqa: E402
+from folders import read_folder  # noqa: E402
+from loading import path_text  # noqa: E402
+from made_sets import SetMaker  # noqa: E402
+from page import Checks, first_difference  # noqa: E402
+from reading import EXTERNAL, FIELD_LISTS, Name, Named, Op  # noqa: E402
+from running import REFUSED, Options, run_folder  # noqa: E402
+from schema import COLUMNS  # noqa: E402
+from telling import DEMO, HOSTILE_FILES, PAGES_FILES, RUNS_FILES, Teller, may_mean, written  # noqa: E402
+
+FACTS = TOP / "examples/facts.py"
+SPEC = importlib.util.spec_from_file_location("facts_script", FACTS)
+facts_script = importlib.util.module_from_spec(SPEC)
+SPEC.loader.exec_module(facts_script)
+REGION, DATA_REGION = 0x5B80, 0x5B88
+# What is handed to these by its name isn't written.
+TAKES_OBJECT = {0x71, 0x87, 0x8E, 0x5B25, 0x5B23, 0x5B24, 0x5B26, 0x5B27, 0x5B2A, 0x86}
+CONDREFOF = 0x5B12
+CONSTANTS = {0x00: 0, 0x01: 1}
+NUMBERS = {0x0A, 0x0B, 0x0C, 0x0E}
+
+
+# ---- what the independent reading says
+
+
+class FactTeller(Teller):
+    """Tells of each name that uses something the body or the scope, what it means, and what becomes of that; and the
+    regions and units in the order of the text."""
+
+    def __init__(self, codes: list, options: Options):
+        self.uses, self.regions, self.units, self.body = [], [], [], None
+        super().__init__(codes, options)
+
+    def tell_body(self, terms: list, path: tuple) -> None:
+        self.body = path
+        super().tell_body(terms, path)
+        self.body = None
+
+    def is_method(self, path: tuple) -> bool:
+        kind = self.space.kind(path)
+        if kind and kind[0] == "Alias":
+            kind = self.space.kind(kind[1]) or (("Method",) if kind[1] in self.space.promised else None)
+        return bool(kind) and kind[0] == "Method" or not kind and path in self.space.promised
+
+    def add(self, name: Name, scope: tuple, paths: list, own: dict, how: str, has_arguments: bool = False) -> None:
+        if not str(name):
+            return
+        for number, path in enumerate(paths or [None]):
+            is_own = path in own
+            told = how
+            if how in ("read", "passed by call"):
+                is_method = has_arguments or path is not None and not is_own and self.is_method(path)
+                told = "called" if is_method else how.partition(" ")[0]
+            body = self.body and path_text(self.body)
+            shown = None if is_own or path is None else path_text(path)
+            self.uses.append((body, path_text(scope), str(name), shown, int(is_own), number, told))
+
+    def tell_led(self, name: Name, path: tuple) -> None:
+        super().tell_led(name, path)
+        is_known = self.space.kind(path) or path in self.space.externals
+        self.add(name, self.scope, [path] if is_known else [], {}, "named")
+
+    def tell_terms(self, terms: list, scope: tuple) -> None:
+        for term in terms:
+            # The base tells one term after the other: so the scope is known for what is led.
+            self.scope = scope
+            super().tell_terms([term], scope)
+
+    def tell_term(self, term: object, scope: tuple, own: dict, is_body: bool, how: str = "read") -> None:
+        declared: dict = {}
+        if isinstance(term, Name):
+            self.add(term, scope, self.meant(term, scope, own), own, how)
+        elif isinstance(term, Named):
+            self.add(term.name, scope, self.meant(term.name, scope, own), own, how, bool(term.args))
+            for arg in term.args:
+                self.tell_term(arg, scope, own, is_body, "passed by call")
+        elif isinstance(term, Op):
+            self.tell_op(term, scope, own, is_body, declared)
+        own.update(declared if is_body else {})
+
+    def meant(self, name: Name, scope: tuple, own: dict) -> list:
+        return self.then.get(str(name)) or may_mean(self.space, scope, name, own)
+
+    def tell_op(self, term: Op, scope: tuple, own: dict, is_body: bool, declared: dict) -> None:
+        def declare(name: Name) -> None:
+            path = name.placed(scope)
+            if is_body and path is not None:
+                declared[path] = True
+
+        if term.opcode == EXTERNAL:
+            return
+        its_own = term.declared() if term.opcode not in FIELD_LISTS else []
+        for number, (kind, part) in enumerate(zip(term.row.parts, term.parts)):
+            if its_own and part is its_own[0]:
+                declare(part)
+            else:
+                self.tell_term(part, scope, own, is_body, becomes(term.opcode, kind, number))
+        if term.opcode in (REGION, DATA_REGION):
+            self.regions.append(region_of(term, scope, self.body))
+        if term.opcode in FIELD_LISTS:
+            self.tell_units(term, scope, own, is_body, declare)
+        else:
+            for inner in term.tail if isinstance(term.tail, list) else []:
+                self.tell_term(inner, scope, own, is_body, "passed" if term.row.tail == "e" else "read")
+
+    def tell_units(self, term: Op, scope: tuple, own: dict, is_body: bool, declare: object) -> None:
+        bit = 0
+        for unit in term.tail:
+            if unit[0] == "unit":
+                name = Name(False, 0, [unit[1]])
+                body = self.body and path_text(self.body)
+                self.units.append((body, path_text(name.placed(scope)), term.row.mnemonic, bit, unit[2]))
+                declare(name)
+            elif unit[0] == "connection":
+                self.tell_term(unit[1], scope, own, is_body, "named")
+            bit += unit[-1] if unit[0] in ("unit", "reserved") else 0
+
+    def tell_external(self, name: Name, path: tuple) -> None:
+        """An External uses nothing."""
+
+
+def becomes(opcode: int, kind: str, number: int) -> str:
+    if kind == "S":
+        is_object = opcode in TAKES_OBJECT or opcode == CONDREFOF and number == 0
+        return "passed" if is_object else "written"
+    return {"T": "read", "D": "passed", "N": "named"}.get(kind, "read")
+
+
+def constant(term: object) -> int | None:
+    if not isinstance(term, Op):
+        return None
+    return CONSTANTS.get(term.opcode, term.parts[0][1] if term.opcode in NUMBERS else None)
+
+
+def region_of(term: Op, scope: tuple, body: tuple | None) -> tuple:
+    name = term.names()[0].placed(scope)
+    shown = body and path_text(body), path_text(name if name is not None else ())
+    if term.opcode == DATA_REGION:
+        return *shown, None, None, None
+    numbers = [constant(term.parts[place]) for place in (2, 3)]
+    return *shown, term.parts[1][1], *(number if number is not None and number < 1 << 63 else None for number in numbers)
+
+
+def names_told(teller: FactTeller) -> set:
+    rows = [(path, kind, marks) for path, kind, *rest in teller.space.rows() for marks in [rest[0] if rest else ()]]
+    found = set()
+    for path, kind, marks in rows:
+        text = " ".join(marks)
+        times = int(text.partition("Times ")[2] or 1)
+        count = kind[1] if kind[0] == "Method" else None
+        found.add((path_text(path), kind[0], count, "maybe" if "Maybe" in text else "always", times))
+    return found
+
+
+# ---- what the facts say
+
+
+class Read:
+    """The rows of the facts of a listing by their tables, each as a dictionary."""
+
+    def __init__(self, rows: dict):
+        self.rows = {table: [dict(zip(COLUMNS[table], row)) for row in found] for table, found in rows.items()}
+        self.paths = {row["id"]: row["path"] for row in self.of("name")}
+        self.methods = {row["id"]: self.paths[row["name"]] for row in self.of("method")}
+
+    def of(self, table: str) -> list:
+        return self.rows.get(table, [])
+
+    def names(self) -> set:
+        return {
+            (row["path"], row["kind"], row["arguments"], row["stands"], row["times"]) for row in self.of("name")
+            if row["stands"] in ("always", "maybe")
+        }
+
+    def uses(self) -> list:
+        return [
+            (
+                self.methods.get(row["method"]), row["scope"], row["text"], self.paths.get(row["name"]), row["is_local"],
+                row["place"], row["how"],
+            )
+            for row in self.of("use")
+        ]
+
+    def regions(self) -> list:
+        return [
+            (self.methods.get(row["method"]), row["path"], row["space"], row["first"], row["length"]) for row in self.of("region")
+        ]
+
+    def units(self) -> list:
+        return [
+            (self.methods.get(row["method"]), row["path"], row["made_by"], row["bit"], row["width"]) for row in self.of("field")
+            if not row["made_by"].startswith("Create")
+        ]
+
+
+def check_set(checks: Checks, what: str, folder: pathlib.Path, options: Options) -> Read | None:
+    """Compares the facts of a set; None where it is refused."""
+    outcome = run_folder(folder, options)
+    if outcome.status == REFUSED:
+        return None
+    fault, rows = facts_script.facts_of(outcome.out.encode(), outcome.err.encode())
+    checks.is_same(f"the facts of {what}", fault, "")
+    read, dumps = Read(rows), read_folder(folder)
+    teller = FactTeller([aml_of(dumps[index].data) for index in order_of(dumps, options.any_sum)], options)
+    checks.is_same(f"the names of {what}", sorted(read.names() ^ names_told(teller), key=str), [])
+    checks.is_same(f"the uses of {what}", first_difference(read.uses(), teller.uses), None)
+    checks.is_same(f"the regions of {what}", sorted(read.regions(), key=str), sorted(teller.regions, key=str))
+    checks.is_same(f"the units of {what}", read.units(), teller.units)
+    raw = outcome.err.count("\n")
+    checks.is_same(f"the raw bodies of {what}", sum(row["is_raw"] and row["fault"] is not None for row in read.of("method")), raw)
+    checks.is_same(f"the lines of {what}", wrong_lines(read, outcome.out), [])
+    for table, found in rows.items():
+        checks.is_same(f"the rows of {table} of {what}", [row[0] for row in found], list(range(1, len(found) + 1)))
+    return read
+
+
+def wrong_lines(read: Read, out: str) -> list:
+    """The uses whose line of the text, from its namespace on, doesn't have their name."""
+    lines = out[out.index("\nNamespace ") + 1:].splitlines()
+    return [row for row in read.of("use") if row["text"] not in lines[row["line"] - 1]]
+
+
+def check_made_up(checks: Checks, sets: int, any_run: bool) -> None:
+    maker, number = SetMaker(random.Random(0), any_run=any_run), 0
+    while number < sets:
+        trial = maker.trial()
+        with tempfile.TemporaryDirectory() as room:
+            folder = written(pathlib.Path(room) / "set", trial.files)
+            if not trial.options.check and check_set(checks, f"made-up set {number}", folder, trial.options):
+                number += 1
+
+
+# ---- the rest, as it is run
+
+
+def run(*words: object, **more: object) -> subprocess.CompletedProcess:
+    return subprocess.run([sys.executable, FACTS, *map(str, words)], capture_output=True, text=True, check=False, **more)
+
+
+def rows_of(file: pathlib.Path, sql: str) -> list:
+    with contextlib.closing(sqlite3.connect(file)) as connection:
+        return connection.execute(sql).fetchall()
+
+
+def written_texts(room: pathlib.Path, sets: dict) -> pathlib.Path:
+    """The texts and errors of some sets, as docs/many.md has them."""
+    for name, files in sets.items():
+        outcome = run_folder(written(room / "sets" / name, files), Options())
+        (room / "texts" / name).mkdir(parents=True)
+        (room / "texts" / name / "text").write_text(outcome.out)
+        (room / "texts" / name / "errors").write_text(outcome.err)
+    return room / "texts"
+
+
+def check_many(checks: Checks, room: pathlib.Path) -> None:
+    """Machines with one code, and machines without facts."""
+    first = VERSIONS["first"]
+    sets = {"rack/a": first, "rack/b": {**first, "dmar.dat": first["dmar.dat"][:-1] + b"\7"}, "none": {"notes": b"no table"}}
+    sets["rack/b"]["dmar.dat"] = table(b"DMAR", b"BOARD", b"\7\7")
+    texts = written_texts(room, {**sets, "second": VERSIONS["second"]})
+    (texts / "cut").mkdir()
+    lines = (texts / "second/text").read_text().splitlines(keepends=True)
+    (texts / "cut/text").write_text("".join(lines[:20]))
+    found = run("--jobs", 2, "--dumps", room / "sets", texts, room / "facts")
+    checks.is_same("the status of many machines", (found.returncode, found.stdout), (3, ""))
+    checks.is_same("what is said of them", found.stderr.partition(";")[0], "facts: 2 of 5 machines without facts")
+    wanted = [
+        ("cut", None, "it is cut behind line 20"), ("none", None, 'refused: table "notes": Short'), ("rack/a", 1, None),
+        ("rack/b", 1, None), ("second", 2, None),
+    ]
+    machines = rows_of(room / "facts", "SELECT name, code, fault FROM machine ORDER BY name")
+    checks.is_same("the machines", machines, wanted)
+    sql = "SELECT signature, length, oem_table, is_sum_right, load_order FROM acpi_table WHERE machine = 3"
+    tables = rows_of(room / "facts", sql)
+    wanted = [("DMAR", 38, "BOARD   ", 1, None), ("DSDT", 460, "BOARD   ", 1, 1), ("SSDT", 74, "DbgPort ", 1, 2)]
+    checks.is_same("the tables of one", sorted(tables), wanted)
+    sql = "SELECT dump_sum FROM acpi_table WHERE signature = 'DMAR' AND dump_sum IS NOT NULL"
+    sums = {row[0] for row in rows_of(room / "facts", sql)}
+    wanted = {hashlib.sha256(files["dmar.dat"]).hexdigest() for files in (*list(sets.values())[:2], VERSIONS["second"])}
+    checks.is_same("the sums of dumps", sums, wanted)
+    checks.is_same("keys that lead nowhere", rows_of(room / "facts", "PRAGMA foreign_key_check"), [])
+    counts = {name: len(rows_of(room / "facts", f"SELECT id FROM {name}")) for name in COLUMNS}
+    lines = [json.loads(line) for line in run("--json", "--dumps", room / "sets", texts).stdout.splitlines()]
+    checks.is_same("lines of JSON", {name: sum(line["fact"] == name for line in lines) for name in COLUMNS}, counts)
+    (room / "flat").mkdir()
+    for name in ("one", "two"):
+        (room / "flat" / name).write_text((texts / "rack/a/text").read_text())
+    run(room / "flat", room / "flat.facts")
+    machines = rows_of(room / "flat.facts", "SELECT name, code FROM machine")
+    checks.is_same("machines with a file each", machines, [("one", 1), ("two", 1)])
+    names = {(line["id"], line["path"]) for line in lines if line["fact"] == "name"}
+    checks.is_same("their names", names, set(rows_of(room / "facts", "SELECT id, path FROM name")))
+
+
+def check_board(checks: Checks, room: pathlib.Path) -> None:
+    """The facts of a board that are written down here, by its listing in docs/facts.md."""
+    file = room / "facts"
+    code = "code = (SELECT code FROM machine WHERE name = 'rack/a')"
+    sql = "SELECT path, object, text, patched_by FROM resource JOIN name ON name.id = device WHERE resource."
+    resources = rows_of(file, sql + code)
+    wanted = [
+        ("\\_SB_.PCI0.HPET", "\\_SB_.PCI0.HPET.BUF0", "Memory32Fixed 0xFED00000 +0x400", "BASE"),
+        ("\\_SB_.PCI0.EC0_", "\\_SB_.PCI0.EC0_._CRS", "IO 0x0062 +0x1", None),
+        ("\\_SB_.PCI0.EC0_", "\\_SB_.PCI0.EC0_._CRS", "IO 0x0066 +0x1", None),
+    ]
+    checks.is_same("resources", resources, wanted)
+    identifiers = rows_of(file, f"SELECT object, text, number FROM identifier WHERE {code}")
+    wanted = [
+        ("_HID", "PNP0A08", 0x080AD041), ("_CID", "PNP0A03", 0x030AD041), ("_HID", "PNP0103", 0x0301D041),
+        ("_HID", "PNP0C09", 0x090CD041),
+    ]
+    checks.is_same("identifiers", identifiers, wanted)
+    fields = rows_of(file, f"SELECT path, bit, width, access, locks, updates FROM field WHERE {code} AND region = 2")
+    flags = "DWordAcc", "Lock", "Preserve"
+    wanted = [("\\_SB_.PCI0.HPAS", 0x3404 * 8, 2, *flags), ("\\_SB_.PCI0.HPAE", 0x3404 * 8 + 7, 1, *flags)]
+    checks.is_same("fields", fields, wanted)
+    regions = rows_of(file, f"SELECT path, space_name, first, length, first_text FROM region WHERE {code} AND first IS NULL")
+    checks.is_same("a region by value", regions, [("\\_SB_.PCI0.GNVS", "SystemMemory", None, 0x100, "NVSA")])
+
+
+def check_words(checks: Checks, room: pathlib.Path) -> None:
+    """What the command line refuses, and outputs that take nothing."""
+    text = room / "texts/rack/a/text"
+    for words in ([text], ["--json", text, room / "out"], ["--jobs", "0", text, room / "out"], []):
+        checks.is_same(f"status of {words}", run(*words).returncode, 2)
+    out = room / "out"
+    for words in ([room / "sets/none/notes", out], [room / "nowhere", out], ["--errors", text, text, out]):
+        found = run(*words)
+        checks.is_same(f"{words}: {found.stderr}", (found.returncode, found.stderr.count("\n")), (1, 1))
+    found = run(text, "/dev/full/facts")
+    checks.is_same(f"a file that can't be made: {found.stderr}", (found.returncode, found.stderr.count("\n")), (2, 1))
+    with open("/dev/full", "wb") as full:
+        words = [sys.executable, FACTS, "--json", text]
+        found = subprocess.run(words, stdout=full, stderr=subprocess.PIPE, text=True, check=False)
+    checks.is_same("a full disk", (found.returncode, found.stderr), (2, "facts: cannot write: No space left on device\n"))
+    checks.is_same("the picture", (TOP / "docs/facts.svg").read_text(), picture())
+
+
+def main() -> None:
+    words = argparse.ArgumentParser(description=__doc__, formatter_class=argparse.RawDescriptionHelpFormatter)
+    words.add_argument("folders", nargs="*", type=pathlib.Path)
+    words.add_argument("--sets", type=int, default=40)
+    asked = words.parse_args()
+    with tempfile.TemporaryDirectory() as room:
+        room = pathlib.Path(room)
+        checks = Checks(room)
+        check_set(checks, "the set of docs/listing.md", written(room / "listed", PAGES_FILES), Options())
+        check_set(checks, "the demo", DEMO, Options())
+        check_set(checks, "the hostile set", written(room / "hostile", HOSTILE_FILES), Options())
+        check_set(checks, "the set of runs", written(room / "runs", RUNS_FILES), Options(any_run=True))
+        for folder in asked.folders:
+            is_taken = check_set(checks, str(folder), folder, Options(any_run=True, any_sum=True)) is not None
+            checks.is_same(f"{folder} is taken", is_taken, True)
+        check_made_up(checks, asked.sets, False)
+        check_made_up(checks, asked.sets, True)
+        (room / "many").mkdir()
+        check_many(checks, room / "many")
+        check_board(checks, room / "many")
+        check_words(checks, room / "many")
+    print(f"{checks.passed} passed, {checks.failed} failed")
+    sys.exit(checks.failed > 0)
+
+
+if __name__ == "__main__":
+    main()

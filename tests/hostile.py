@@ -1,0 +1,247 @@
+#!/usr/bin/env python3
+"""Gives the scripts of examples/ texts that no run of acpidis prints: each has to take it in time, or say in a line why not.
+
+    python3 tests/hostile.py [--mutations N]
+
+First come texts that are written down here, for page.py, facts.py, calls.py and missing.py, each with at most 2 seconds of
+processor time and 1 GB of memory; then files of errors that are others, and outputs that take nothing; then N damaged
+listings, 200 if left out, for page.py and facts.py: nothing but a word may come of them. The last line is
+'N passed, N failed'.
+"""
+
+import argparse
+import importlib.util
+import os
+import pathlib
+import random
+import re
+import resource
+import subprocess
+import sys
+import tempfile
+
+sys.dont_write_bytecode = True
+TOP = pathlib.Path(__file__).resolve().parent.parent
+sys.path[:0] = [str(TOP / "examples/page"), str(TOP / "tests/oracle"), str(TOP / "tests")]
+sys.path.append(str(TOP / "examples"))
+
+from decoding import Decoder  # noqa: E402
+from errors import read_errors  # noqa: E402
+from listing import NoListing, read_listing  # noqa: E402
+from markup import page  # noqa: E402
+from names import Names  # noqa: E402
+from running import Options, run_folder  # noqa: E402
+from sheet import Sheet  # noqa: E402
+from telling import HOSTILE_FILES, RUNS_FILES, written  # noqa: E402
+
+SPEC = importlib.util.spec_from_file_location("facts_script", TOP / "examples/facts.py")
+facts_script = importlib.util.module_from_spec(SPEC)
+SPEC.loader.exec_module(facts_script)
+
+HEAD = 'Table "d" "DSDT" Length 67 Revision 2 Oem "TEST  " "EXAMPLE " 00000001 Creator "TEST" 00000001\n'
+SECONDS, MOST_MEMORY = 2, 1_000_000_000
+MANY, LONG = 6_000, 16_000
+
+
+def text_of(rows: list, lines: list) -> str:
+    shown = "".join(f"  {row}\n" for row in rows)
+    return HEAD + f"Namespace {len(rows)}\n{shown}DefinitionBlock (\"d\") {{\n" + "".join(f"  {line}\n" for line in lines) + "}\n"
+
+
+def body(*lines: str, path: str = "\\AAAA", rows: tuple = ()) -> str:
+    """The text of a method with these lines."""
+    head, inside = f"Method ({path}, 0, NotSerialized, 0) {{", [f"  {line}" for line in lines]
+    return text_of([*rows, f"{path} Method 0"], [head, *inside, "}"])
+
+
+def deep(segments: int) -> str:
+    return "\\" + ".".join(f"S{number:03d}" for number in range(segments))
+
+
+NINES = "9" * 5_000
+SEGMENTS = ".".join(["AAAA"] * LONG)
+UNKNOWN = [f"X{number % 1000:03d}" for number in range(MANY)]
+TEXTS = {
+    "a number of 28 digits": body(f"Return ({'9' * 28}x)"),
+    "a number of 5,000 digits": body(f"Return (0x{NINES})", f"Return ({NINES})"),
+    "a unit of 5,000 digits": text_of(["\\FLD0 Field"], ["Field (REG0, 0x01) {", f"  FLD0, {NINES}", "}"]),
+    "a Name of nothing": text_of(["\\AAAA Name"], ["Name ()"]),
+    "an External of nothing": text_of(["\\AAAA Name"], ["External ()", "Name (AAAA, One)"]),
+    "an Alias of nothing": text_of(["\\AAAA Alias \\BBBB"], ["Alias ()"]),
+    "a Field of nothing": text_of(["\\AAAA Field"], ["Field () {", "  AAAA, 1", "}"]),
+    "a region of nothing": text_of(["\\AAAA Region"], ["OperationRegion (AAAA)"]),
+    "a region of too much": text_of(["\\AAAA Region"], ["OperationRegion (AAAA, 0x00, 0xFFFFFFFFFFFFFFFF, 0xFFFFFFFFFFFFFFFF)"]),
+    "a Method of nothing": text_of(["\\AAAA Method 0"], ["Method () {", "}"]),
+    "a Method without flags": text_of(["\\AAAA Method 0"], ["Method (AAAA) {", "}"]),
+    "a Raw of half a byte": body("Raw {A4, 5}"),
+    "a Raw of a name": body("Raw (AAAA)"),
+    "a path of 16,000 segments": text_of([f"\\{SEGMENTS} Name"], [f"Name (\\{SEGMENTS}, One)"]),
+    "blocks that stay open": body(*["If (One) {"] * 3),
+    "200 scopes in each other": text_of([f"{deep(number + 1)} Device" for number in range(200)], [
+        *("  " * number + f"Device (S{number:03d}) {{" for number in range(200)),
+        *("  " * number + "}" for number in range(199, -1, -1)),
+    ]),
+    "thousands of calls in each other": body("Return (" + "AAAA (" * MANY + "One" + ")" * MANY + ")"),
+    "thousands of brackets": body("Return " + "(" * MANY, "(" * MANY + ")" * MANY),
+    "thousands of braces": body("Return (Package (One) " + "{Package (One) " * MANY + "}" * MANY + ")"),
+    "unknown names below 31 segments": body(*UNKNOWN, path=deep(31)),
+    "unknown names beside names of the body's own": body("Name (AAAA, One)", *UNKNOWN, path=deep(31)),
+    "names of the root below 31 segments": body(
+        "Name (AAAA, One)", *["BBBB"] * MANY, path=deep(31), rows=("\\BBBB Name",)
+    ).replace('DefinitionBlock ("d") {\n', 'DefinitionBlock ("d") {\n  Name (\\BBBB, One)\n'),
+    "thousands of fields of one buffer": body(
+        "Name (BUF0, Buffer (0x02) {79, 00})",
+        *(f"CreateField (BUF0, Zero, 0xFFFFFFFF, F{number % 1000:03d})" for number in range(MANY)),
+    ),
+    "thousands of descriptors": body(
+        f"Name (BUF0, Buffer (0x{MANY + 2:X}) {{{'38, ' * MANY}79, 00}})", "CreateField (BUF0, Zero, 0xFFFFFFFF, FLD0)",
+    ),
+    "a row that is long": text_of(["\\AAAA Name", "\\" + "A" * 100_000], ["Name (AAAA, One)"]),
+    "a name in quotes": body('Return ("' + "\\x22" * MANY + '")'),
+}
+# What is for the scripts too that look for names alone.
+LOOKED_FOR = re.compile("names|scopes|calls|brackets|segments|Raw|digits")
+
+
+class Checks:
+    def __init__(self) -> None:
+        self.passed = self.failed = 0
+
+    def is_so(self, what: str, holds: object) -> None:
+        self.passed += bool(holds)
+        self.failed += not holds
+        if not holds:
+            print(f"FAILED {what}")
+
+
+def bounded() -> None:
+    resource.setrlimit(resource.RLIMIT_AS, (MOST_MEMORY, MOST_MEMORY))
+
+
+def run(script: str, *words: str, printed: int = subprocess.DEVNULL, **variables: str) -> tuple:
+    """The status, standard error and the seconds of processor time of a script."""
+    before = resource.getrusage(resource.RUSAGE_CHILDREN)
+    done = subprocess.run(
+        [sys.executable, TOP / "examples" / script, *words], stdout=printed, stderr=subprocess.PIPE, text=True,
+        env={**os.environ, **variables}, preexec_fn=bounded, check=False,
+    )
+    after = resource.getrusage(resource.RUSAGE_CHILDREN)
+    return done.returncode, done.stderr, after.ru_utime + after.ru_stime - before.ru_utime - before.ru_stime
+
+
+def is_word(script: str, status: int, said: str) -> bool:
+    """Whether a script took its text, or said in a line why not."""
+    name = script.partition(".")[0]
+    return status in (0, 3) or status in (1, 2) and said.startswith(f"{name}: ") and said.count("\n") == 1 and len(said) < 500
+
+
+def check_texts(checks: Checks, room: pathlib.Path) -> None:
+    file, fake = room / "text", room / "acpidis"
+    fake.write_text(f"#!/bin/sh\nexec cat '{file}'\n")
+    fake.chmod(0o755)
+    spoken = set()
+    for what, text in TEXTS.items():
+        file.write_text(text)
+        trials = [("page.py", file), ("facts.py", "--jobs", "1", file, room / "facts")]
+        trials += [("calls.py", room), ("missing.py", room)] if LOOKED_FOR.search(what) else []
+        for script, *words in trials:
+            with open(room / "printed", "w+b") as printed:
+                status, said, seconds = run(script, *map(str, words), printed=printed.fileno(), ACPIDIS=str(fake))
+                spoken.update([script] if printed.tell() or (room / "facts").exists() and script == "facts.py" else [])
+            checks.is_so(f"{script}, {what}: status {status}, {said[:500]}", is_word(script, status, said))
+            checks.is_so(f"{script}, {what}: {seconds:.1f} seconds", seconds < SECONDS)
+    for script in ("page.py", "facts.py"):
+        checks.is_so(f"{script} tells of none of the texts", script in spoken)
+
+
+def check_outputs(checks: Checks, room: pathlib.Path) -> None:
+    """Files of errors that are others, and outputs that take nothing."""
+    text, errors = room / "text", room / "errors"
+    text.write_text(body("Raw {A4, 5A, 5A, 5A, 5A}"))
+    lines = {
+        "of another set": "acpidis: body \\BBBB: UnknownName at 0\n", "of another tool": "a line\n" * 9, "empty": "",
+        "twice": "acpidis: body \\AAAA: UnknownName at 1\n" * 2, "changed": "acpidis: body \\AAAA: \n",
+        "large": "x" * 300_000_000,
+    }
+    for what, said_there in lines.items():
+        errors.write_text(said_there)
+        for script, more in (("page.py", []), ("facts.py", [str(room / "facts")])):
+            status, said, _ = run(script, "--errors", str(errors), str(text), *more)
+            is_named = "errors" in said or script == "facts.py"
+            wanted = (0,) if not said_there and script == "facts.py" else (1,)
+            checks.is_so(f"{script}, errors {what}: {status}, {said}", status in wanted and (status == 0 or is_named))
+    for script, *words in (("page.py", text), ("facts.py", "--json", text)):
+        with open("/dev/full", "wb") as full:
+            words = [sys.executable, TOP / "examples" / script, *words]
+            done = subprocess.run(words, stdout=full, stderr=subprocess.PIPE, text=True, check=False)
+        said = f"{script.partition('.')[0]}: cannot write: No space left on device\n"
+        checks.is_so(f"{script}, a full disk: {done.stderr}", (done.returncode, done.stderr) == (2, said))
+
+
+def mutated(lines: list, dice: random.Random) -> str:
+    lines = lines.copy()
+    for _ in range(dice.randint(1, 3)):
+        at = dice.randrange(len(lines))
+        words = re.split(r"(\W)", lines[at])
+        kind = dice.randrange(6)
+        if kind == 0:
+            del lines[at]
+        elif kind == 1:
+            lines.insert(at, dice.choice(lines))
+        elif kind == 2:
+            lines[at] = dice.choice(lines)
+        elif kind == 3:
+            words[dice.randrange(len(words))] = dice.choice(re.split(r"(\W)", dice.choice(lines)))
+            lines[at] = "".join(words)
+        elif kind == 4:
+            place = dice.randrange(len(lines[at]) + 1)
+            lines[at] = lines[at][:place] + dice.choice('(){}\\^",.0AZ_a ') + lines[at][place:]
+        else:
+            place = dice.randrange(len(lines[at]) + 1)
+            lines[at] = lines[at][:place] + lines[at][place + dice.randint(1, 4):]
+        if not lines:
+            return ""
+    return "\n".join(lines) + "\n"
+
+
+def check_mutations(checks: Checks, room: pathlib.Path, count: int) -> None:
+    outcomes = [
+        run_folder(written(room / "hostile", HOSTILE_FILES), Options()),
+        run_folder(written(room / "runs", RUNS_FILES), Options(any_run=True)),
+    ]
+    dice = random.Random(0)
+    for number in range(count):
+        outcome = outcomes[number % 2]
+        text = mutated(outcome.out.splitlines(), dice).encode("ascii", "replace")
+        errors = mutated(outcome.err.splitlines(), dice).encode("ascii", "replace")
+        try:
+            facts_script.facts_of(text, errors)
+            listing = read_listing(text)
+            names = Names(listing)
+            sheet = Sheet(listing, names, Decoder(listing, names), is_packed=number % 3 == 0)
+            sheet.faults = read_errors(errors, listing)
+            page(sheet)
+        except NoListing:
+            pass
+        except Exception as fault:  # whatever it is, it fails the check
+            print(text.decode())
+            checks.is_so(f"mutation {number}: {fault!r}", False)
+            continue
+        checks.is_so(f"mutation {number}", True)
+
+
+def main() -> None:
+    words = argparse.ArgumentParser(description=__doc__, formatter_class=argparse.RawDescriptionHelpFormatter)
+    words.add_argument("--mutations", type=int, default=200)
+    asked = words.parse_args()
+    checks = Checks()
+    with tempfile.TemporaryDirectory() as room:
+        check_texts(checks, pathlib.Path(room))
+        check_outputs(checks, pathlib.Path(room))
+        check_mutations(checks, pathlib.Path(room), asked.mutations)
+    print(f"{checks.passed} passed, {checks.failed} failed")
+    sys.exit(checks.failed > 0)
+
+
+if __name__ == "__main__":
+    main()

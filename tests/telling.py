@@ -1,0 +1,293 @@
+"""Sample sets, and what the independent reading says of the names of a set: for tests/page.py and tests/facts.py."""
+
+import pathlib
+import sys
+
+TOP = pathlib.Path(__file__).resolve().parent.parent
+sys.path.append(str(TOP / "tests/oracle"))
+
+import pages  # noqa: E402
+from any_run import RunNamespace, RunReader  # noqa: E402
+from loading import Loaded, Namespace  # noqa: E402
+from reading import ALIAS, ELSE, EXTERNAL, FIELD_LISTS, IF, METHOD, ROWS, SCOPE, SCOPES  # noqa: E402
+from reading import Name, Named, Op, Reader  # noqa: E402
+from running import Options  # noqa: E402
+
+Path = tuple[str, ...]
+WHILE, MOST_OTHERS, METHOD_OBJECT = 0xA2, 3, 8
+# What a name is, the path that it declares or leads to, of a body's own name the place of its declaration, and the
+# paths to which it leads in other runs.
+Told = tuple[str, str, object, tuple]
+
+
+# ---- sample sets
+
+
+def packed(opcode: bytes, content: bytes) -> bytes:
+    size = len(content) + 2
+    return opcode + bytes([0x40 | size & 15, size >> 4]) + content
+
+
+def method(name: bytes, flags: int, body: bytes) -> bytes:
+    return packed(b"\x14", name + bytes([flags]) + body)
+
+
+def field_list(region: bytes, units: bytes) -> bytes:
+    return b"\x5B\x80" + region + b"\0\0\x0A\x10" + packed(b"\x5B\x81", region + b"\1" + units)
+
+
+def device(name: bytes, terms: bytes) -> bytes:
+    return packed(b"\x5B\x82", name + terms)
+
+
+HOSTILE_TEXT = b"<script>alert(1)</script>&amp;'\"\x01 -->"
+# Names of a body before and behind their declarations, in a block and in a field list, and one that is searched upward.
+CALL = (
+    b"\x70INIT\x60" + b"\\INIT\x01" + packed(b"\xA0", b"\x60" + b"\x08INIT\x01") + b"\x70INIT\x61"
+    + field_list(b"REGN", b"FLD0\x08\0\x04\2FLD0FLD1\x04") + b"\x70FLD0INIT" + b"\x8CINIT\0BYTE" + b"\x70BYTE\x62"
+    + b"\x86^^\0\x0A\x80" + b"\x70\x01QQQQ" + b"\x06INITLOCA" + b"\x08INIT\0" + b"\x70LOCAINIT" + b"\xA4_OSI\x0DLinux\0"
+)
+DEVICE = (
+    b"\x08_HID\x0DACPI0001\0" + field_list(b"REG0", b"UNIT\x08\0\x08NEXT\x04") + method(b"_STA", 0, b"\xA4UNIT")
+    + method(b"CALL", 8, CALL) + method(b"_CID", 0, b"\xA4\x0C\x41\xD0\x0A\x03")
+)
+BUS = b"\x08_HID\x0C\x41\xD0\x0A\x08" + b"\x08_CID" + packed(b"\x12", b"\1\x0C\x41\xD0\x0A\x03") + b"\x08INIT\0"
+DSDT = (
+    b"\x08NAME\x0D" + HOSTILE_TEXT + b"\0" + method(b"INIT", 1, b"\xA4\x68")
+    + packed(b"\x10", b"\\_SB_" + device(b"PCI0", BUS + device(b"DEV0", DEVICE)))
+    + b"\x15\\EXTN\x08\x01" + b"\x15\\EXTN\x08\x01" + method(b"RAWM", 0, b"\xA4ZZZZ\x01") + b"\x06INITALIA"
+)
+SSDT = (
+    packed(b"\xA0", b"\0\x15\\/\3_SB_PCI0DEV0\x06\0") + packed(b"\x10", b"\\/\3_SB_PCI0DEV0" + method(
+        b"_ON_", 0, b"ALIAEXTN\x01" + b"CALL" + b"^_STA" + b"\x70\\/\4_SB_PCI0DEV0UNIT\x60" + b"\x70\x01^^^^NONE",
+    ))
+    + packed(b"\x10", b"\\\0\x08LATE" + packed(b"\x12", b"\4INITLATE.PCI0INIT\\\0"))
+)
+HOSTILE_FILES = {
+    "<script>alert(1)<!--&\"'.dat": pages.table(b"DSDT", DSDT),
+    "ssdt1 \" onload=alert(1) x='&lt;": pages.table(b"SSDT", SSDT),
+    "x\n<b>.dat": pages.table(b"OEM1", b""),
+}
+PAGES_FILES = {"dsdt.dat": pages.table(b"DSDT", pages.DSDT), "ssdt1.dat": pages.table(b"SSDT", pages.SSDT)}
+
+# Two branches that declare a method, a nearer one that only may stand, a Device that is declared again, a Scope of what
+# nothing declares, and code that runs in front of a nearer declaration.
+BRANCHES = (
+    packed(b"\xA0", b"COND" + method(b"FOO_", 1, b"\xA4NONE")) + packed(b"\xA1", method(b"FOO_", 1, b"\xA3\xA4NO_2"))
+)
+NEARER = b"\x70COND\x60" + b"\x08COND\1" + packed(b"\xA0", b"COND" + method(b"FOO_", 1, b""))
+RUNS = (
+    b"\x08COND\0" + BRANCHES + device(b"DEV0", NEARER + method(b"CALL", 0, b"FOO_\1"))
+    + device(b"DEV0", b"\x08LATE\0") + packed(b"\x10", b"\\RP99" + b"\x08NEAR\0")
+)
+RUNS_FILES = {"dsdt.dat": pages.table(b"DSDT", RUNS)}
+
+DEMO = TOP / "crates/acpidis_program/data/demo"
+
+
+def written(folder: pathlib.Path, files: dict[str, bytes]) -> pathlib.Path:
+    folder.mkdir(parents=True)
+    for name, data in files.items():
+        (folder / name).write_bytes(data)
+    return folder
+
+
+# ---- what the independent reading says of each name
+
+
+class Watching(Namespace):
+    """Keeps where the names of Scopes and the sources of Aliases led while the tables were loaded, and the paths of which
+    an External says that they are methods."""
+
+    def __init__(self) -> None:
+        super().__init__()
+        self.led: list[Path] = []
+        self.promised: set[Path] = set()
+
+    def load_term(self, table: int, scope: Path, term: Op) -> None:
+        keep_promise(self, scope, term)
+        super().load_term(table, scope, term)
+
+    def lead(self, scope: Path, name: Name, missing: str) -> Path:
+        self.led.append(super().lead(scope, name, missing))
+        return self.led[-1]
+
+    def is_sure(self, path: Path) -> bool:
+        return self.kind(path) is not None
+
+
+def keep_promise(space: Namespace, scope: Path, term: Op) -> None:
+    if term.opcode == EXTERNAL and term.parts[1][1] == METHOD_OBJECT:
+        space.promised.add(term.names()[0].placed(scope))
+
+
+class WatchingReader(RunReader):
+    """Keeps where the names of Scopes and the sources of Aliases led, and what the names meant of terms that aren't
+    declarations, when they were read."""
+
+    def named(self, at: int, end: int, position: str, level: int) -> tuple:
+        term, rest = super().named(at, end, position, level)
+        if position == "run":
+            self.keep(term)
+        return term, rest
+
+    def inside(self, term: Op) -> tuple[Path, bool]:
+        self.keep(term)
+        path, is_sure = super().inside(term)
+        self.space.led.append((term, path))
+        return path, is_sure
+
+    def leave(self, term: Op) -> None:
+        self.keep(term)
+        keep_promise(self.space, self.scope, term)
+        if term.opcode == ALIAS:
+            self.space.led.append((term, self.space.find(self.scope, term.names()[0])))
+        super().leave(term)
+
+    def keep(self, term: object) -> None:
+        if not isinstance(term, Op) or ROWS[term.opcode].group != "declaration":
+            found = {str(name): may_mean(self.space, self.scope, name, {}) for name in names_in(term)}
+            self.space.then.setdefault(id(term), found)
+
+
+def names_in(term: object) -> list[Name]:
+    """The names of a term that has no names of its own to declare, without those of the terms inside it."""
+    if isinstance(term, Name):
+        return [term]
+    if isinstance(term, Named):
+        return [term.name, *(name for arg in term.args for name in names_in(arg))]
+    if not isinstance(term, Op):
+        return []
+    elements = term.tail if term.row.tail == "e" else []
+    return [name for part in (*term.parts, *elements) for name in names_in(part)]
+
+
+def may_mean(space: Namespace, scope: Path, name: Name, own: dict) -> list[Path]:
+    """The paths that a name may mean, the nearest first, up to one that stands in every run (docs/names.md)."""
+    found = []
+    for path in name.candidates(scope):
+        if path in own or space.kind(path):
+            found.append(path)
+        if path in own or space.is_sure(path):
+            return found
+    return found or [path for path in name.candidates(scope) if path in space.externals][:1]
+
+
+class Teller:
+    """Tells the names of a set's definition blocks in the order of the text, and what each is."""
+
+    def __init__(self, codes: list[bytes], options: Options):
+        self.told: list[Told] = []
+        self.space, trees = self.run(codes) if options.any_run else self.load(codes)
+        bodies = Loaded(codes, trees, self.space).bodies(options.unknown_zero)
+        self.bodies = {(body.method.table, body.method.start): body for body in bodies}
+        self.seen, self.declared, self.then = set(), set(), {}
+        for self.table, terms in enumerate(trees):
+            self.tell_terms(terms, ())
+
+    def load(self, codes: list[bytes]) -> tuple[Namespace, list]:
+        space, trees = Watching(), [Reader(code).read() for code in codes]
+        for table, terms in enumerate(trees):
+            space.load(table, (), terms)
+        led = iter(space.led)
+        self.led_by, self.then_by = (lambda _: next(led)), {}
+        return space, trees
+
+    def run(self, codes: list[bytes]) -> tuple[Namespace, list]:
+        space = RunNamespace()
+        space.led, space.then, space.promised = [], {}, set()
+        trees = [WatchingReader(code, space=space, table=table).read() for table, code in enumerate(codes)]
+        led = {id(term): path for term, path in space.led}
+        self.led_by, self.then_by = (lambda term: led[id(term)]), space.then
+        return space, trees
+
+    def tell(self, name: Name, what: str, of: object, others: tuple = ()) -> None:
+        if str(name):
+            self.told.append((str(name), what, of, others))
+
+    def tell_found(self, name: Name, scope: Path, own: dict) -> None:
+        path, *others = self.then.get(str(name)) or may_mean(self.space, scope, name, own) or [None]
+        if path in own:
+            self.tell(name, "leads in its body", own[path])
+        else:
+            self.tell(name, "leads nowhere" if path is None else "leads", path, tuple(others[:MOST_OTHERS]))
+
+    def tell_led(self, name: Name, path: Path) -> None:
+        is_known = self.space.kind(path) or path in self.space.externals
+        self.tell(name, "leads" if is_known else "leads nowhere", path if is_known else None)
+
+    def tell_declared(self, name: Name, scope: Path) -> Path:
+        path = name.placed(scope)
+        self.tell(name, "declares again" if path in self.declared else "declares", path)
+        self.declared.add(path)
+        return path
+
+    def tell_terms(self, terms: list, scope: Path) -> None:
+        for term in terms:
+            opcode, names = (term.opcode, term.names()) if isinstance(term, Op) else (None, [])
+            self.then = self.then_by.get(id(term), {})
+            if opcode == METHOD:
+                path = self.tell_declared(names[0], scope)
+                self.tell_body(self.bodies[self.table, term.tail[0]].terms or [], path)
+            elif opcode == SCOPE:
+                path = self.led_by(term)
+                self.tell_led(names[0], path)
+                self.tell_terms(term.tail, path)
+            elif opcode in SCOPES:
+                self.tell_terms(term.tail, self.tell_declared(names[0], scope))
+            elif opcode == ALIAS:
+                self.tell_led(names[0], self.led_by(term))
+                self.tell_declared(names[1], scope)
+            elif opcode == EXTERNAL:
+                self.tell_external(names[0], names[0].placed(scope))
+            elif opcode in (IF, ELSE, WHILE):
+                for part in term.parts:
+                    self.tell_term(part, scope, {}, False)
+                self.tell_terms(term.tail, scope)
+            else:
+                self.tell_term(term, scope, {}, False)
+
+    def tell_external(self, name: Name, path: Path) -> None:
+        is_first = not self.space.kind(path) and path not in self.seen
+        self.seen.add(path)
+        self.tell(name, "declares" if is_first else "leads", path)
+
+    def tell_body(self, terms: list, path: Path) -> None:
+        own: dict[Path, int] = {}
+        for term in terms:
+            self.tell_term(term, path, own, True)
+
+    def tell_term(self, term: object, scope: Path, own: dict, is_body: bool) -> None:
+        """The names of a term; the paths that it declares in a body are known behind it, with their places."""
+        declared: dict[Path, int] = {}
+
+        def declare(name: Name) -> None:
+            if not is_body:
+                self.tell_declared(name, scope)
+                return
+            path = name.placed(scope)
+            if path is not None:
+                declared[path] = len(self.told)
+            self.tell(name, "declares in its body", path)
+
+        if isinstance(term, Name):
+            self.tell_found(term, scope, own)
+        elif isinstance(term, Named):
+            self.tell_found(term.name, scope, own)
+            for arg in term.args:
+                self.tell_term(arg, scope, own, is_body)
+        elif isinstance(term, Op):
+            its_own = term.declared() if term.opcode not in FIELD_LISTS else []
+            for part in term.parts:
+                if its_own and part is its_own[0]:
+                    declare(part)
+                else:
+                    self.tell_term(part, scope, own, is_body)
+            for inner in term.tail if isinstance(term.tail, list) else []:
+                if term.opcode not in FIELD_LISTS:
+                    self.tell_term(inner, scope, own, is_body)
+                elif inner[0] == "unit":
+                    declare(Name(False, 0, [inner[1]]))
+                elif inner[0] == "connection":
+                    self.tell_term(inner[1], scope, own, is_body)
+            own |= declared if is_body else {}
