@@ -1,6 +1,6 @@
 //! Rows of tables by themselves: the addresses that an XSDT or an RSDT lists, and the records of a MADT.
 
-use acpi_tables::{Bad, Madt, MadtRecord, Rsdt, Xsdt};
+use acpi_tables::{Bad, Madt, MadtRecord, RecordRow, Rsdt, Xsdt};
 use std::alloc::{AllocError, Global};
 use std::fmt::Write;
 
@@ -54,15 +54,18 @@ fn push_records(out: &mut String, madt: &Madt) -> Result<(), AllocError> {
     Ok(())
 }
 
-/// A record's kind, and its fields or its content in hexadecimal digits.
+/// A record's kind, and the values of its fields or its content, in hexadecimal digits.
 fn push_record(out: &mut String, record: &MadtRecord) -> Result<(), AllocError> {
-    if let MadtRecord::Other { kind, content } = record {
-        return push_other(out, *kind, content);
+    match record {
+        MadtRecord::Known { row, values } => push_known(out, row, values),
+        MadtRecord::Other { kind, content } => push_other(out, *kind, content),
     }
-    let (word, count, fields) = fields_of(record);
-    write!(out, "  {word}")?;
-    for field in fields.iter().take(count) {
-        write!(out, " {field:X}")?;
+}
+
+fn push_known(out: &mut String, row: &RecordRow, values: &[u64]) -> Result<(), AllocError> {
+    write!(out, "  {}", row.name)?;
+    for value in values.iter().take(row.fields.len()) {
+        write!(out, " {value:X}")?;
     }
     writeln!(out)
 }
@@ -73,38 +76,4 @@ fn push_other(out: &mut String, kind: u8, content: &[u8]) -> Result<(), AllocErr
         write!(out, " {byte:02X}")?;
     }
     writeln!(out)
-}
-
-/// The name of a known kind, how many fields it has, and these in the order of their offsets.
-fn fields_of(record: &MadtRecord) -> (&'static str, usize, [u64; 4]) {
-    match *record {
-        MadtRecord::LocalApic { uid, apic, flags } => {
-            ("LocalApic", 3, [uid as u64, apic as u64, flags as u64, 0])
-        }
-        MadtRecord::IoApic { id, address, gsi } => {
-            ("IoApic", 3, [id as u64, address as u64, gsi as u64, 0])
-        }
-        MadtRecord::Override {
-            bus,
-            source,
-            gsi,
-            flags,
-        } => (
-            "Override",
-            4,
-            [bus as u64, source as u64, gsi as u64, flags as u64],
-        ),
-        MadtRecord::NmiSource { flags, gsi } => ("NmiSource", 2, [flags as u64, gsi as u64, 0, 0]),
-        MadtRecord::LocalNmi { uid, flags, lint } => {
-            ("LocalNmi", 3, [uid as u64, flags as u64, lint as u64, 0])
-        }
-        MadtRecord::AddressOverride { address } => ("AddressOverride", 1, [address, 0, 0, 0]),
-        MadtRecord::X2Apic { id, flags, uid } => {
-            ("X2Apic", 3, [id as u64, flags as u64, uid as u64, 0])
-        }
-        MadtRecord::X2Nmi { flags, uid, lint } => {
-            ("X2Nmi", 3, [flags as u64, uid as u64, lint as u64, 0])
-        }
-        MadtRecord::Other { kind, .. } => ("Other", 1, [kind as u64, 0, 0, 0]),
-    }
 }

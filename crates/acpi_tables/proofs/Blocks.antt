@@ -1,22 +1,17 @@
 -- The dumps of an order are tables with their headers: each has the signature of its place, and is taken by itself.
-use Rattle.acpi_tables.proofs.Common.{◌≡◌, ℕ, Bool, true, false, List, [], ◌∷◌, Option, Some, None, option_map, filter, codes, subst, MatchBool, All, All-head}
-use Rattle.acpi_tables.proofs.Common.{All-tail, filter_passes, option_and_then_some, same_Some, Dump, has_signature, indexes_with, listed_by, list_in, fadt_in}
-use Rattle.acpi_tables.proofs.Common.{dsdt_of, IsNamed, IsChained, AreTaken, AreTables}
+use Rattle.acpi_tables.proofs.Common.{◌≡◌, ℕ, Bool, true, false, List, [], ◌∷◌, Ok, codes, subst, MatchBool, All, All-head}
+use Rattle.acpi_tables.proofs.Common.{All-tail, filter_passes, Dump, has_signature, indexes_with}
+use Rattle.acpi_tables.proofs.Common.{chain_of, IsNamed, AreTaken, AreTables}
+use Rattle.acpi_tables.proofs.Chains.{links_of, one_only}
 use Rattle.std.proofs.lemmas.List.Sorted.{All-permutation}
-use Rattle.acpi_tables.proofs.Signatures.{signed_at-signed, dsdt_holds, ssdt_holds}
+use Rattle.acpi_tables.proofs.Signed.{signed_at-signed, dsdt_holds, ssdt_holds}
 
 module _ (dumps : List Dump) (any_sum : Bool) (each : AreTaken dumps any_sum) where
   abbrev HasSignature : List ℕ → ℕ → Type 0
   HasSignature word index = has_signature dumps word index ≡ true
 
   indexes_pass : (word : List ℕ) → All (HasSignature word) (indexes_with dumps word)
-  unfolding indexes_with
   indexes_pass word = filter_passes (has_signature dumps word) _
-
-  listed_pass : (list : Option ℕ) (ssdts : List ℕ) → option_map (λ l. filter (has_signature dumps (codes "SSDT")) (listed_by dumps l)) list ≡ Some ssdts
-      → All (HasSignature (codes "SSDT")) ssdts
-  listed_pass (Some list) ssdts e = subst (All (HasSignature (codes "SSDT"))) (same_Some _ ssdts e) (filter_passes (has_signature dumps (codes "SSDT")) _)
-  listed_pass None ssdts e = absurd cc
 
   tables_there : (indexes : List ℕ) → All (HasSignature (codes "SSDT")) indexes → AreTables dumps indexes
   tables_there [] all = tt
@@ -29,12 +24,12 @@ module _ (dumps : List Dump) (any_sum : Bool) (each : AreTaken dumps any_sum) wh
       let table = dsdt_holds dumps any_sum each dsdt first in
       (table.0, table.1, tables_there ssdts others)
 
-  pub are_tables : (b : Bool) (dsdt : ℕ) (ssdts : List ℕ) → MatchBool b (IsChained dumps dsdt ssdts) (IsNamed dumps dsdt ssdts) → AreTables dumps (dsdt ∷ ssdts)
+  pub are_tables : (b : Bool) (dsdt : ℕ) (ssdts : List ℕ) → MatchBool b (chain_of dumps ≡ Ok (dsdt, ssdts)) (IsNamed dumps dsdt ssdts) → AreTables dumps (dsdt ∷ ssdts)
   are_tables true dsdt ssdts chain =
-      let first : HasSignature (codes "DSDT") dsdt =
-      option_and_then_some (dsdt_of dumps) (fadt_in dumps) dsdt chain.there (λ fadt there. signed_at-signed dumps (codes "DSDT") _ dsdt) in
-      blocks_by dsdt ssdts first (listed_pass (list_in dumps) ssdts chain.listed)
+      let links = links_of dumps dsdt ssdts chain in
+      blocks_by dsdt ssdts (signed_at-signed dumps (codes "DSDT") _ dsdt links.leads)
+      (subst (All (HasSignature (codes "SSDT"))) links.listed (filter_passes (has_signature dumps (codes "SSDT")) _))
   are_tables false dsdt ssdts named =
-      let first : All (HasSignature (codes "DSDT")) (dsdt ∷ []) = rw named.only at (indexes_pass (codes "DSDT")) in
+      let first : All (HasSignature (codes "DSDT")) (dsdt ∷ []) = rw (one_only _ dsdt named.only) at (indexes_pass (codes "DSDT")) in
       blocks_by dsdt ssdts (All-head (HasSignature (codes "DSDT")) dsdt [] first)
       (All-permutation (HasSignature (codes "SSDT")) _ ssdts named.all (indexes_pass (codes "SSDT")))

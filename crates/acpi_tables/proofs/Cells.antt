@@ -13,7 +13,6 @@ address_inside width table index some header inside =
 
 module _ (width : ℕ) (table : List ℕ) (index : ℕ) where
   pub address_in-inside : HoldsAddresses width table → index < address_count width table → address_in width table index ≡ Some (address_at width table index)
-  unfolding addresses_of
   address_in-inside holds inside =
       let long = length-map-range_with_len (address_at width table) 0 (address_count width table) in
       let there = get_or-map-range_with_len (address_at width table) 0 (address_count width table) index index 0 inside (zero-add index) in
@@ -32,7 +31,6 @@ module _ (width : ℕ) (table : List ℕ) (index : ℕ) where
       by_tests false whole e f = refl
 
   pub address_in-past : address_count width table ≤ index → address_in width table index ≡ None
-  unfolding addresses_of
   address_in-past past =
       let long = length-map-range_with_len (address_at width table) 0 (address_count width table) in
       let e = slice_get_past (addresses_of width table) index (omega (arith, long, past)) in

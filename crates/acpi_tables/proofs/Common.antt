@@ -2,9 +2,9 @@
 pub use Rattle.acpi_tables.specs.Bytes.{Field, little_endian}
 unfoldable pub use Rattle.acpi_tables.specs.Bytes.{begins_with, bytes_at, number_at, value_in}
 pub use Rattle.acpi_tables.specs.Fadt.{HoldsFadt, fadt_fields}
-pub use Rattle.acpi_tables.specs.Header.{HoldsAddresses, HoldsRoot, HoldsTable, address_at, address_count, address_in, rsdp_of, table_of}
+pub use Rattle.acpi_tables.specs.Header.{HoldsAddresses, HoldsRoot, HoldsTable, address_at, address_count, address_in, address_width, rsdp_of, table_of}
 unfoldable pub use Rattle.acpi_tables.specs.Header.{addresses_of}
-pub use Rattle.acpi_tables.specs.Order.{AreTables, AreTaken, IsChained, IsNamed, dsdt_of, each_once, ending_digits, fadt_in, has_signature, is_dot, list_in}
+pub use Rattle.acpi_tables.specs.Order.{AreTables, AreTaken, IsNamed, chain_of, dsdt_of, each_once, ending_digits, has_signature, is_dot, only_dsdt, ◌>>=◌}
 pub use Rattle.acpi_tables.specs.Order.{list_of, listed_by, listed_in, rank_cmp, signed_at, width_of, with_more, xsdt_address}
 unfoldable pub use Rattle.acpi_tables.specs.Order.{bytes_of, dump_at, ending_number, indexes_with, name_of, root_of}
 pub use Rattle.acpi_tables.specs.declared.dump.Dump.{Dump}
@@ -15,12 +15,13 @@ pub use Rattle.std.proofs.Common.{take_while, tests, true, zero, zero-add, ℕ, 
 pub use Rattle.std.proofs.lemmas.Bool.{eqb-true, false≢true, ltb-false, true≢false}
 pub use Rattle.std.proofs.lemmas.Bool.Decides.{Decides-eqb, nat_tests}
 pub use Rattle.std.proofs.lemmas.List.{drop-replicate, get_or-map, get_or_past, length-map, length-replicate, length-reverse, map-append, reverse-append}
-pub use Rattle.std.proofs.lemmas.List.{take_more}
+pub use Rattle.std.proofs.lemmas.List.{drop_min, length-set, map_more, map_push, take_all, take_min, take_more, take_more_set}
 pub use Rattle.std.proofs.lemmas.List.Elements.{All-filter, All-head, All-tail, filter_map-append, filter_passes}
 pub use Rattle.std.proofs.lemmas.List.FromFn.{get_or-map-range_with_len, length-map-range_with_len, map-range_with_len_more}
 pub use Rattle.std.proofs.lemmas.List.Sums.{fold-append, length-filter, passes_at_first, sum_by-cons, take_while-cons}
 pub use Rattle.std.proofs.lemmas.Option.{cond_some, get_or_from_slice_get, option_and_then_some, same_Some, slice_get-get_or, slice_get_past, slice_get_within}
 pub use Rattle.std.specs.List.{All, before_last, concat, cons_option, count_by, fold, list_any, position, position_or_len, range_with_len}
 pub use Rattle.std.specs.Ordering.{is_lt, nat_cmp, ordering_reverse, ordering_then}
-pub use Rattle.std.specs.Prelude.{if◌then◌else◌, slice_get}
+pub use Rattle.std.specs.Bool.{then_some}
+pub use Rattle.std.specs.Prelude.{Ok, if◌then◌else◌, slice_get}
 pub use Rattle.std.specs.Str.Parse.{digits_value}

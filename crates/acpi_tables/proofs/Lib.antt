@@ -6,7 +6,8 @@ pub mod Cuts
 pub mod Places
 pub mod Once
 pub mod Digits
-pub mod Signatures
+pub mod Signed
+pub mod Chains
 pub mod Ranks
 pub mod Unique
 pub mod Blocks

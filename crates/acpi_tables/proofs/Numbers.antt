@@ -3,7 +3,6 @@ use Rattle.acpi_tables.proofs.Common.{◌≡◌, ℕ, zero, suc, ◌+◌, ◌*�
 use Rattle.acpi_tables.proofs.Common.{replicate, refl, ap, little_endian, bytes_at, number_at}
 
 pub length-bytes_at : (table : List ℕ) (offset width : ℕ) → offset + width ≤ length table → length (bytes_at table offset width) ≡ width
-unfolding bytes_at
 length-bytes_at table offset width h = simp (length-take, length-drop) (omega arith)
 
 pub spells_two : (bytes : List ℕ) → length bytes ≡ 2 → little_endian bytes ≡ slice_index bytes 0 + slice_index bytes 1 * 256
@@ -23,7 +22,7 @@ spells_eight (a ∷ b ∷ c ∷ d ∷ bytes) h = omega (arith, spells_four bytes
 spells_eight _ h = absurd (omega arith)
 
 pub number_at_one : (table : List ℕ) (offset : ℕ) → offset < length table → number_at table offset 1 ≡ slice_index table offset
-unfolding number_at bytes_at
+unfolding number_at
 number_at_one (byte ∷ bytes) zero h = omega arith
 number_at_one (byte ∷ bytes) (suc offset) h = number_at_one bytes offset (omega arith)
 number_at_one [] offset h = absurd (omega arith)

@@ -8,7 +8,6 @@ abbrev value_by : ℕ → List ℕ → Field → Option ℕ
 value_by least bytes f = if nat_le (f.offset + f.width) least then Some (number_at bytes f.offset f.width) else value_in bytes f
 
 value_in-by : (least : ℕ) (bytes : List ℕ) (f : Field) → least ≤ length bytes → value_in bytes f ≡ value_by least bytes f
-unfolding value_in
 value_in-by least bytes f h = grind (arith, nat_tests)
 
 pub values_in-by : (least : ℕ) (bytes : List ℕ) (fields : List Field) → least ≤ length bytes → map (value_in bytes) fields ≡ map (value_by least bytes) fields

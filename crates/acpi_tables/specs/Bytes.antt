@@ -1,10 +1,11 @@
 -- Fields of a table by their offset, and its checksum (ACPI 6.5, section 5.2: all numbers are little-endian;
 -- section 5.2.6: checksums).
-use Rattle.std.specs.Prelude.{ℕ, ◌+◌, ◌*◌, ◌%◌, ◌≤◌, Bool, List, [], ◌∷◌, length, take, drop, sum, nat_eq, nat_le}
+use Rattle.std.specs.Prelude.{ℕ, ◌+◌, ◌*◌, ◌%◌, ◌≤◌, Bool, List, [], ◌∷◌, length, take, drop, map, sum, nat_eq, nat_le}
 use Rattle.std.specs.Prelude.{Option, Some, None, codes, if◌then◌else◌}
 use Rattle.std.specs.List.{starts_with}
 use Prim.Native.String.{String}
 use Rattle.acpi_tables.specs.declared.fields.Base.{Base}
+use Rattle.acpi_tables.specs.declared.fields.Base.TheVariants.{Decimal, Hexadecimal}
 use Rattle.acpi_tables.specs.declared.fields.TableField.{TableField}
 
 -- the number that these bytes spell, the lowest byte first
@@ -13,7 +14,7 @@ little_endian [] = 0
 little_endian (byte ∷ bytes) = byte + 256 * little_endian bytes
 
 -- the field of so many bytes at this offset
-unfoldable pub bytes_at : List ℕ → ℕ → ℕ → List ℕ
+abbrev pub bytes_at : List ℕ → ℕ → ℕ → List ℕ
 bytes_at table offset width = take width (drop offset table)
 
 -- the same as a number
@@ -43,18 +44,26 @@ pub record Field : Type 0 where
   pub label : List ℕ
   pub base : Base
 
-abbrev pub field : ℕ → ℕ → String → Base → Field
-field offset width label base = record { offset = offset; width = width; label = codes label; base = base }
+-- one that is shown in decimal digits, and one in hexadecimal ones
+abbrev pub dec : ℕ → ℕ → String → Field
+dec offset width label = record { offset = offset; width = width; label = codes label; base = Decimal }
+
+abbrev pub hex : ℕ → ℕ → String → Field
+hex offset width label = record { offset = offset; width = width; label = codes label; base = Hexadecimal }
 
 -- the bytes of a field, in a table that reaches to its end
-unfoldable pub field_bytes : List ℕ → Field → Option (List ℕ)
+abbrev pub field_bytes : List ℕ → Field → Option (List ℕ)
 field_bytes table f =
     if nat_le (f.offset + f.width) (length table) then Some (bytes_at table f.offset f.width) else None
 
 -- its value
-unfoldable pub value_in : List ℕ → Field → Option ℕ
+abbrev pub value_in : List ℕ → Field → Option ℕ
 value_in table f =
     if nat_le (f.offset + f.width) (length table) then Some (number_at table f.offset f.width) else None
+
+-- the values of fields of bytes that reach to their ends
+abbrev pub values_of : List ℕ → List Field → List ℕ
+values_of bytes fields = map (λ f. number_at bytes f.offset f.width) fields
 
 -- a field as the code keeps it
 abbrev pub field_view : TableField → Field

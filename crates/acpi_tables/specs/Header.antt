@@ -2,6 +2,8 @@
 use Rattle.std.specs.Prelude.{ℕ, List, take, ◌≡◌, ◌+◌, ◌-◌, ◌*◌, ◌/◌, ◌%◌, ◌≤◌, ◌&&◌, map, length, nat_eq, nat_le}
 use Rattle.std.specs.Prelude.{slice_get, Option, None, if◌then◌else◌, ◌||◌, not, Bool, true, codes, Some}
 use Rattle.acpi_tables.specs.Bytes.{bytes_at, number_at, HasLength, checksum, begins_with}
+use Rattle.acpi_tables.specs.declared.addresses.AddressWidth.{AddressWidth}
+use Rattle.acpi_tables.specs.declared.addresses.AddressWidth.TheVariants.{Four, Eight}
 use Rattle.acpi_tables.specs.declared.header.Header.{Header}
 use Rattle.std.specs.List.{range_with_len}
 use Rattle.acpi_tables.specs.declared.rsdp.Rsdp.{Rsdp}
@@ -33,6 +35,10 @@ table_of bytes = take (number_at bytes 4 4) bytes
 -- where an address has four bytes, and the Extended one (section 5.2.8), where it has eight. Both are the header, and
 -- then addresses of this width up to the table's end.
 
+abbrev pub address_width : AddressWidth → ℕ
+address_width Four = 4
+address_width Eight = 8
+
 -- what follows the 36 bytes of the header is cut into addresses
 pub record HoldsAddresses (width : ℕ) (table : List ℕ) : Type 0 where
   pub header : 36 ≤ length table
@@ -49,7 +55,7 @@ abbrev pub address_bytes : ℕ → List ℕ → ℕ → List ℕ
 address_bytes width table index = bytes_at table (36 + index * width) width
 
 -- the addresses
-unfoldable pub addresses_of : ℕ → List ℕ → List ℕ
+abbrev pub addresses_of : ℕ → List ℕ → List ℕ
 addresses_of width table = map (address_at width table) (range_with_len 0 (address_count width table))
 
 -- the member of the addresses at this index, in a table that holds them

@@ -3,16 +3,15 @@
 -- 5.2.12.12 and 5.2.12.13).
 use Prim.Native.String.{String}
 use Rattle.std.specs.Prelude.{◌≡◌, ℕ, zero, suc, ◌+◌, ◌<◌, ◌≤◌, ◌&&◌, Bool, List, [], ◌∷◌, codes, length}
-use Rattle.std.specs.Prelude.{drop, map, find, nat_eq, nat_le, Option, Some, None, if◌then◌else◌}
-use Rattle.std.specs.List.{concat}
-use Rattle.acpi_tables.specs.Bytes.{bytes_at, number_at, Field, field, field_view}
+use Rattle.std.specs.Prelude.{take, drop, map, find, nat_eq, nat_le, Option, Some, None, if◌then◌else◌}
+use Rattle.std.specs.List.{All, concat}
+use Rattle.acpi_tables.specs.Bytes.{bytes_at, number_at, Field, dec, hex, field_view, values_of, IsNarrow}
 use Rattle.acpi_tables.specs.declared.faults.Bad.{Bad}
 use Rattle.acpi_tables.specs.declared.faults.Bad.TheVariants.{Short, MadtRecord as BadRecord}
-use Rattle.acpi_tables.specs.declared.fields.Base.TheVariants.{Decimal, Hexadecimal}
 use Rattle.acpi_tables.specs.declared.fields.RecordRow.{RecordRow}
+use Rattle.acpi_tables.specs.declared.fields.TheConstants.{MOST_FIELDS}
 use Rattle.acpi_tables.specs.declared.madt.MadtRecord.{MadtRecord}
-use Rattle.acpi_tables.specs.declared.madt.MadtRecord.TheVariants.{LocalApic, IoApic, Override, NmiSource, LocalNmi}
-use Rattle.acpi_tables.specs.declared.madt.MadtRecord.TheVariants.{AddressOverride, X2Apic, X2Nmi, Other}
+use Rattle.acpi_tables.specs.declared.madt.MadtRecord.TheVariants as records
 
 -- a kind: its type, its length in bytes, how it is called, and its fields
 pub record Row : Type 0 where
@@ -27,17 +26,15 @@ row kind long name fields = record { kind = kind; long = long; name = codes name
 -- the kinds; the field of AddressOverride has no label
 abbrev pub madt_rows : List Row
 madt_rows =
-    row 0 8 "LocalApic" (field 2 1 "Uid" Decimal ∷ field 3 1 "Apic" Decimal ∷ field 4 4 "Flags" Hexadecimal ∷ [])
-    ∷ row 1 12 "IoApic" (field 2 1 "Id" Decimal ∷ field 4 4 "Address" Hexadecimal ∷ field 8 4 "Gsi" Decimal ∷ [])
-    ∷ row 2 10 "Override"
-    (field 2 1 "Bus" Decimal ∷ field 3 1 "Source" Decimal
-    ∷ field 4 4 "Gsi" Decimal ∷ field 8 2 "Flags" Hexadecimal ∷ [])
-    ∷ row 3 8 "NmiSource" (field 2 2 "Flags" Hexadecimal ∷ field 4 4 "Gsi" Decimal ∷ [])
-    ∷ row 4 6 "LocalNmi" (field 2 1 "Uid" Decimal ∷ field 3 2 "Flags" Hexadecimal ∷ field 5 1 "Lint" Decimal ∷ [])
-    ∷ row 5 12 "AddressOverride" (field 4 8 "" Hexadecimal ∷ [])
-    ∷ row 9 16 "X2Apic" (field 4 4 "Id" Decimal ∷ field 8 4 "Flags" Hexadecimal ∷ field 12 4 "Uid" Decimal ∷ [])
-    ∷ row 10 12 "X2Nmi" (field 2 2 "Flags" Hexadecimal ∷ field 4 4 "Uid" Decimal ∷ field 8 1 "Lint" Decimal ∷ [])
-    ∷ []
+    row 0 8 "LocalApic" (dec 2 1 "Uid" ∷ dec 3 1 "Apic" ∷ hex 4 4 "Flags" ∷ []) ∷
+    row 1 12 "IoApic" (dec 2 1 "Id" ∷ hex 4 4 "Address" ∷ dec 8 4 "Gsi" ∷ []) ∷
+    row 2 10 "Override" (dec 2 1 "Bus" ∷ dec 3 1 "Source" ∷ dec 4 4 "Gsi" ∷ hex 8 2 "Flags" ∷ []) ∷
+    row 3 8 "NmiSource" (hex 2 2 "Flags" ∷ dec 4 4 "Gsi" ∷ []) ∷
+    row 4 6 "LocalNmi" (dec 2 1 "Uid" ∷ hex 3 2 "Flags" ∷ dec 5 1 "Lint" ∷ []) ∷
+    row 5 12 "AddressOverride" (hex 4 8 "" ∷ []) ∷
+    row 9 16 "X2Apic" (dec 4 4 "Id" ∷ hex 8 4 "Flags" ∷ dec 12 4 "Uid" ∷ []) ∷
+    row 10 12 "X2Nmi" (hex 2 2 "Flags" ∷ dec 4 4 "Uid" ∷ dec 8 1 "Lint" ∷ []) ∷
+    []
 
 -- a record's first byte is its type
 abbrev pub kind_of : List ℕ → ℕ
@@ -51,6 +48,10 @@ row_of bytes = find (λ r. nat_eq (kind_of bytes) r.kind && nat_eq (length bytes
 abbrev pub row_view : RecordRow → Row
 row_view r = record { kind = r.kind; long = r.length; name = r.name.now; fields = map field_view r.fields.now }
 
+-- a kind of no more fields than a record has room for, each of at most eight bytes
+abbrev pub IsSmall : RecordRow → Type 0
+IsSmall r = (length r.fields.now ≤ MOST_FIELDS) × All IsNarrow r.fields.now
+
 -- What a record says: the name of its kind and the values of the fields, in their order, or for a record of no kind its
 -- type and the bytes behind its length.
 pub data Said : Type 0 where
@@ -58,26 +59,16 @@ pub data Said : Type 0 where
   Unknown : ℕ → List ℕ → Said
 
 abbrev pub said_by : Option Row → List ℕ → Said
-said_by (Some r) bytes = Known r.name (map (λ f. number_at bytes f.offset f.width) r.fields)
+said_by (Some r) bytes = Known r.name (values_of bytes r.fields)
 said_by None bytes = Unknown (kind_of bytes) (drop 2 bytes)
 
-unfoldable pub meaning_of : List ℕ → Said
+abbrev pub meaning_of : List ℕ → Said
 meaning_of bytes = said_by (row_of bytes) bytes
 
 -- what a record in memory says, whose raw content is seen by a function
-abbrev pub known : String → List ℕ → Said
-known name values = Known (codes name) values
-
 abbrev pub said : {C : Type 0} → (C → List ℕ) → MadtRecord C → Said
-said see (LocalApic uid apic flags) = known "LocalApic" (uid ∷ apic ∷ flags ∷ [])
-said see (IoApic id address gsi) = known "IoApic" (id ∷ address ∷ gsi ∷ [])
-said see (Override bus source gsi flags) = known "Override" (bus ∷ source ∷ gsi ∷ flags ∷ [])
-said see (NmiSource flags gsi) = known "NmiSource" (flags ∷ gsi ∷ [])
-said see (LocalNmi uid flags lint) = known "LocalNmi" (uid ∷ flags ∷ lint ∷ [])
-said see (AddressOverride address) = known "AddressOverride" (address ∷ [])
-said see (X2Apic id flags uid) = known "X2Apic" (id ∷ flags ∷ uid ∷ [])
-said see (X2Nmi flags uid lint) = known "X2Nmi" (flags ∷ uid ∷ lint ∷ [])
-said see (Other kind content) = Unknown kind (see content)
+said see (records.Known row values) = Known row.now.name.now (take (length row.now.fields.now) values)
+said see (records.Other kind content) = Unknown kind (see content)
 
 -- the bytes of the record at this offset, by its second byte, and the offset behind it
 abbrev pub record_bytes_at : List ℕ → ℕ → List ℕ

@@ -1,9 +1,10 @@
 -- The order in which the definition blocks of a set of dumps are loaded, and what each refusal of a set says of it.
-use Rattle.std.specs.Prelude.{◌≡◌, ℕ, ◌<◌, ◌≤◌, ◌⊎◌, ◌&&◌, ⊤, not, Bool, true, false, List, [], ◌∷◌, ◌++◌, codes}
-use Rattle.std.specs.Prelude.{length, take, map, reverse, filter, filter_map, find, position, take_while, slice_get}
+use Rattle.std.specs.Prelude.{◌≡◌, ℕ, ◌<◌, ◌≤◌, ◌⊎◌, ◌&&◌, ⊤, not, Bool, List, [], ◌∷◌, ◌++◌, codes}
+use Rattle.std.specs.Prelude.{length, take, map, reverse, filter, filter_map, find, position, take_while}
 use Rattle.std.specs.Prelude.{slice_index_or, nat_eq, nat_le, IsPermutation, IsSorted, string_bytes, if◌then◌else◌}
-use Rattle.std.specs.Prelude.{Option, Some, None, is_some, option_map, option_and_then, MatchBool}
-use Rattle.std.specs.Option.{option_eq, option_map_or}
+use Rattle.std.specs.Prelude.{Option, Some, None, is_some, option_and_then, Result, Ok, Err, MatchBool}
+use Rattle.std.specs.Bool.{then_some}
+use Rattle.std.specs.Option.{ok_or, option_eq, option_map_or}
 use Rattle.std.specs.Char.{is_ascii_digit}
 use Rattle.std.specs.Str.Parse.{digits_value}
 use Rattle.std.specs.List.{before_last, fold, list_any, range_with_len}
@@ -20,6 +21,19 @@ use Rattle.acpi_tables.specs.declared.faults.TableFault.{TableFault}
 use Rattle.acpi_tables.specs.declared.rsdp.Rsdp.{Rsdp}
 use Rattle.acpi_tables.specs.declared.rsdp.Wide.{Wide}
 
+-- for `do`: what follows an Ok
+infixl 10 ◌>>=◌
+abbrev pub ◌>>=◌ : {A B E : Type 0} → Result A E → (A → Result B E) → Result B E
+(Ok x) >>= f = f x
+(Err e) >>= f = Err e
+
+-- a fault of the set, and one of the dump at an index
+abbrev pub of_set : Bad → TableFault
+of_set bad = record { dump = None; bad = bad }
+
+abbrev pub of_dump : ℕ → Bad → TableFault
+of_dump index bad = record { dump = Some index; bad = bad }
+
 -- the bytes of the dump at an index, and its name
 unfoldable pub bytes_of : List Dump → ℕ → List ℕ
 bytes_of dumps index = slice_index_or (map (λ dump. dump.bytes.items) dumps) index []
@@ -32,7 +46,7 @@ abbrev pub has_signature : List Dump → List ℕ → ℕ → Bool
 has_signature dumps signature index = begins_with (bytes_of dumps index) signature
 
 -- the indexes of the dumps that have a signature
-unfoldable pub indexes_with : List Dump → List ℕ → List ℕ
+abbrev pub indexes_with : List Dump → List ℕ → List ℕ
 indexes_with dumps signature = filter (has_signature dumps signature) (range_with_len 0 (length dumps))
 
 -- Where no dump has an address, the names decide.
@@ -49,7 +63,7 @@ abbrev pub ending_digits : ℕ → List ℕ → List ℕ
 ending_digits count bytes = reverse (take count (take_while is_ascii_digit (reverse bytes)))
 
 -- the number that ends the stem, of whose digits the last nine count
-unfoldable pub ending_number : List ℕ → ℕ
+abbrev pub ending_number : List ℕ → ℕ
 ending_number name = digits_value 10 (ending_digits 9 (stem_of name))
 
 -- dumps by that number, then by their names as bytes, then by their indexes
@@ -58,9 +72,15 @@ rank_cmp dumps =
     then_cmp (on (λ index. ending_number (name_of dumps index)) nat_cmp)
     (then_cmp (on (name_of dumps) (slice_cmp nat_cmp)) nat_cmp)
 
+-- The only DSDT, or the fault that there is none or a second one.
+abbrev pub only_dsdt : List ℕ → Result ℕ TableFault
+only_dsdt [] = Err (of_set NoDsdt)
+only_dsdt (dsdt ∷ []) = Ok dsdt
+only_dsdt (_ ∷ second ∷ _) = Err (of_dump second TwoDsdts)
+
 -- The DSDT is the only one, and the SSDTs are all of them, each once, sorted.
 pub record IsNamed (dumps : List Dump) (dsdt : ℕ) (ssdts : List ℕ) : Type 0 where
-  pub only : indexes_with dumps (codes "DSDT") ≡ dsdt ∷ []
+  pub only : only_dsdt (indexes_with dumps (codes "DSDT")) ≡ Ok dsdt
   pub all : IsPermutation (indexes_with dumps (codes "SSDT")) ssdts
   pub sorted : IsSorted (rank_cmp dumps) ssdts
 
@@ -73,16 +93,16 @@ is_addressed dumps = list_any (λ dump. is_some dump.address) dumps
 abbrev pub stands_at : ℕ → Dump → Bool
 stands_at address dump = option_eq nat_eq dump.address (Some address)
 
-unfoldable pub dump_at : List Dump → ℕ → Option ℕ
+abbrev pub dump_at : List Dump → ℕ → Option ℕ
 dump_at dumps address = position (stands_at address) dumps
 
 -- the same, if it has a signature
 abbrev pub signed_at : List Dump → List ℕ → ℕ → Option ℕ
 signed_at dumps signature address =
-    option_and_then (λ index. if has_signature dumps signature index then Some index else None) (dump_at dumps address)
+    option_and_then (λ index. then_some (has_signature dumps signature index) index) (dump_at dumps address)
 
 -- the first RSDP
-unfoldable pub root_of : List Dump → Option ℕ
+abbrev pub root_of : List Dump → Option ℕ
 root_of dumps = find (has_signature dumps (codes "RSD PTR ")) (range_with_len 0 (length dumps))
 
 -- the XSDT's address that an RSDP gives (section 5.2.5.3), from revision 2 on, and 0 where it gives none
@@ -121,28 +141,18 @@ dsdt_address table =
     if nat_le 148 (length table) && not (nat_eq (number_at table 140 8) 0) then number_at table 140 8
     else number_at table 40 4
 
--- The chain: the list that the first RSDP leads to, the first FADT that it lists, the DSDT whose address that FADT
--- gives, and the SSDTs that are listed.
-abbrev pub list_in : List Dump → Option ℕ
-list_in dumps = option_and_then (λ root. list_of dumps (rsdp_of (bytes_of dumps root))) (root_of dumps)
-
-abbrev pub fadt_in : List Dump → Option ℕ
-fadt_in dumps =
-    option_and_then (λ list. find (has_signature dumps (codes "FACP")) (listed_by dumps list)) (list_in dumps)
-
 abbrev pub dsdt_of : List Dump → ℕ → Option ℕ
 dsdt_of dumps fadt = signed_at dumps (codes "DSDT") (dsdt_address (table_of (bytes_of dumps fadt)))
 
-abbrev pub dsdt_in : List Dump → Option ℕ
-dsdt_in dumps = option_and_then (dsdt_of dumps) (fadt_in dumps)
-
-abbrev pub ssdts_in : List Dump → Option (List ℕ)
-ssdts_in dumps =
-    option_map (λ list. filter (has_signature dumps (codes "SSDT")) (listed_by dumps list)) (list_in dumps)
-
-pub record IsChained (dumps : List Dump) (dsdt : ℕ) (ssdts : List ℕ) : Type 0 where
-  pub there : dsdt_in dumps ≡ Some dsdt
-  pub listed : ssdts_in dumps ≡ Some ssdts
+-- The chain: the first RSDP, the list that it leads to, the first FADT that this lists, the DSDT whose address that
+-- gives, and the SSDTs that are listed; or the fault that one of them isn't there.
+abbrev pub chain_of : List Dump → Result (ℕ × List ℕ) TableFault
+chain_of dumps = do
+  root ← ok_or (root_of dumps) (of_set RootMissing)
+  list ← ok_or (list_of dumps (rsdp_of (bytes_of dumps root))) (of_dump root RootMissing)
+  fadt ← ok_or (find (has_signature dumps (codes "FACP")) (listed_by dumps list)) (of_dump list FadtMissing)
+  dsdt ← ok_or (dsdt_of dumps fadt) (of_set NoDsdt)
+  Ok (dsdt, filter (has_signature dumps (codes "SSDT")) (listed_by dumps list))
 
 -- Each dump is taken by itself.
 abbrev pub AreTaken : List Dump → Bool → Type 0
@@ -156,7 +166,7 @@ most_dumps = 512
 pub record IsOrder (dumps : List Dump) (any_sum : Bool) (dsdt : ℕ) (ssdts : List ℕ) : Type 0 where
   pub few : length dumps ≤ most_dumps
   pub each : AreTaken dumps any_sum
-  pub blocks : MatchBool (is_addressed dumps) (IsChained dumps dsdt ssdts) (IsNamed dumps dsdt ssdts)
+  pub blocks : MatchBool (is_addressed dumps) (chain_of dumps ≡ Ok (dsdt, ssdts)) (IsNamed dumps dsdt ssdts)
 
 -- Each of the dumps at these indexes is a table with its header, of no more bytes than a dump may have.
 abbrev pub AreTables : List Dump → List ℕ → Type 0
@@ -164,18 +174,10 @@ AreTables dumps [] = ⊤
 AreTables dumps (index ∷ indexes) =
     HoldsTable (bytes_of dumps index) × (length (bytes_of dumps index) ≤ most_bytes) × AreTables dumps indexes
 
--- Why there is no order of dumps that are all taken: what a refusal says where it names no dump, and of the place of
--- the dump that it names.
-abbrev pub RefusesOrder : List Dump → Option ℕ → Bad → Type 0
-RefusesOrder dumps place RootMissing = (is_addressed dumps ≡ true) × (root_of dumps ≡ place) × (list_in dumps ≡ None)
-RefusesOrder dumps place FadtMissing =
-    (is_addressed dumps ≡ true) × (is_some place ≡ true) × (list_in dumps ≡ place) × (fadt_in dumps ≡ None)
-RefusesOrder dumps place NoDsdt = (place ≡ None)
-    × (((is_addressed dumps ≡ false) × (indexes_with dumps (codes "DSDT") ≡ []))
-    ⊎ ((is_addressed dumps ≡ true) × (is_some (fadt_in dumps) ≡ true) × (dsdt_in dumps ≡ None)))
-RefusesOrder dumps place TwoDsdts =
-    (is_addressed dumps ≡ false) × (is_some place ≡ true) × (slice_get (indexes_with dumps (codes "DSDT")) 1 ≡ place)
-RefusesOrder dumps place _ = ⊥
+-- Why there is no order of dumps that are all taken.
+abbrev pub RefusesOrder : List Dump → TableFault → Type 0
+RefusesOrder dumps fault = MatchBool (is_addressed dumps)
+    (chain_of dumps ≡ Err fault) (only_dsdt (indexes_with dumps (codes "DSDT")) ≡ Err fault)
 
 -- It names the first dump that isn't taken, and says why.
 pub record RefusesBytes (dumps : List Dump) (any_sum : Bool) (fault : TableFault) : Type 0 where
@@ -188,6 +190,6 @@ pub record RefusesBytes (dumps : List Dump) (any_sum : Bool) (fault : TableFault
 -- What a refusal says, the first that is met: there are too many dumps, or one isn't taken, or they have no order.
 abbrev pub Refuses : List Dump → Bool → TableFault → Type 0
 Refuses dumps any_sum fault =
-    ((fault.dump ≡ None) × (fault.bad ≡ TooManyTables) × (most_dumps < length dumps))
+    ((fault ≡ of_set TooManyTables) × (most_dumps < length dumps))
     ⊎ ((length dumps ≤ most_dumps)
-    × (RefusesBytes dumps any_sum fault ⊎ (AreTaken dumps any_sum × RefusesOrder dumps fault.dump fault.bad)))
+    × (RefusesBytes dumps any_sum fault ⊎ (AreTaken dumps any_sum × RefusesOrder dumps fault)))

@@ -1,19 +1,37 @@
 //! The tables that list the addresses of the others: the Root System Description Table, and the Extended one (ACPI 6.5,
 //! sections 5.2.7 and 5.2.8). They differ in how many bytes an address has.
+#![tactic(auto, using(crate::proofs::Cells::cells))]
+
 ghost use Rattle.std.specs.Prelude.{◌≡◌, ◌⊎◌, ◌↔◌, ◌<◌, ◌≤◌, length, IsTrue, IfOk, IfErr, OnOk};
-ghost use Rattle.acpi_tables.specs.Header.{HoldsAddresses, addresses_of, address_count, address_at, address_bytes, address_in};
+ghost use Rattle.acpi_tables.specs.Header.{HoldsAddresses, address_width, addresses_of, address_count, address_at, address_bytes, address_in};
 ghost use Rattle.acpi_tables.specs.declared.faults.Bad.TheVariants.{BadRoot, NoMemory};
 
 use crate::bytes::little_endian;
 use crate::faults::Bad;
 use crate::header::HEADER_LENGTH;
-use std::alloc::{AllocError, Global};
+use std::alloc::Global;
 
-/// How many bytes an address of an RSDT has.
-pub const RSDT_WIDTH: usize = 4;
+/// How many bytes an address has in a table that lists addresses.
+#[derive(Clone, Copy)]
+pub enum AddressWidth {
+    /// Four, in an RSDT.
+    Four,
+    /// Eight, in an XSDT.
+    Eight,
+}
 
-/// How many bytes an address of an XSDT has.
-pub const XSDT_WIDTH: usize = 8;
+impl AddressWidth {
+    fn bytes(self) -> usize
+        ensures is { result ≡ address_width self }
+        ensures some { 0 < result }
+        ensures narrow { result ≤ 8 }
+    {
+        match self {
+            AddressWidth::Four => 4,
+            AddressWidth::Eight => 8,
+        }
+    }
+}
 
 /// The readers of a Root System Description Table.
 pub struct Rsdt;
@@ -32,14 +50,14 @@ impl Rsdt {
         ensures bad_root { IfErr result (λ bad. (bad ≡ NoMemory) ⊎
             ((bad ≡ BadRoot) × ¬ HoldsAddresses 4 table.now)) }
     {
-        addresses_of(alloc, table, RSDT_WIDTH)
+        addresses_of(alloc, table, AddressWidth::Four)
     }
 
     /// The member of `entries` at this index. It takes no memory, and is `None` where `entries` refuses the table.
     pub fn entry(table: &[u8], index: usize) -> Option<u64>
         ensures { result ≡ address_in 4 table.now index }
     {
-        address_in(table, RSDT_WIDTH, index)
+        address_in(table, AddressWidth::Four, index)
     }
 }
 
@@ -54,50 +72,34 @@ impl Xsdt {
         ensures bad_root { IfErr result (λ bad. (bad ≡ NoMemory) ⊎
             ((bad ≡ BadRoot) × ¬ HoldsAddresses 8 table.now)) }
     {
-        addresses_of(alloc, table, XSDT_WIDTH)
+        addresses_of(alloc, table, AddressWidth::Eight)
     }
 
     /// The member of `entries` at this index. It takes no memory, and is `None` where `entries` refuses the table.
     pub fn entry(table: &[u8], index: usize) -> Option<u64>
         ensures { result ≡ address_in 8 table.now index }
     {
-        address_in(table, XSDT_WIDTH, index)
+        address_in(table, AddressWidth::Eight, index)
     }
 }
 
 /// The addresses of this width that a table lists.
-fn addresses_of(alloc: Global, table: &[u8], width: usize) -> Result<Vec<u64>, Bad>
-    requires some { 0 < width }
-    requires narrow { width ≤ 8 }
-    ensures holds { OnOk result (HoldsAddresses width table.now) }
-    ensures entries { IfOk result (λ addresses. addresses.items ≡ addresses_of width table.now) }
+fn addresses_of(alloc: Global, table: &[u8], width: AddressWidth) -> Result<Vec<u64>, Bad>
+    ensures holds { OnOk result (HoldsAddresses (address_width width) table.now) }
+    ensures entries { IfOk result (λ addresses. addresses.items ≡ addresses_of (address_width width) table.now) }
     ensures bad_root { IfErr result (λ bad. (bad ≡ NoMemory) ⊎
-        ((bad ≡ BadRoot) × ¬ HoldsAddresses width table.now)) }
+        ((bad ≡ BadRoot) × ¬ HoldsAddresses (address_width width) table.now)) }
 {
     check_addresses(table, width)?;
-    let addresses = all_addresses(alloc, table, width)?;
+    let addresses = (0..address_count(table, width))
+        .map(|index| address_at(table, width, index))
+        .collect(alloc)?;
     Ok(addresses)
 }
 
-/// The addresses of this width of a table that is cut into them.
-#[tactic(auto, unfolding(crate::specs::Header::addresses_of))]
-fn all_addresses(alloc: Global, table: &[u8], width: usize) -> Result<Vec<u64>, AllocError>
-    requires some { 0 < width }
-    requires narrow { width ≤ 8 }
-    requires holds { HoldsAddresses width table.now }
-    ensures { IfOk result (λ addresses. addresses.items ≡ addresses_of width table.now) }
-{
-    (0..address_count(table, width))
-        .map(|index| address_at(table, width, index))
-        .collect(alloc)
-}
-
 /// The address of this width at this index, if the table lists one there.
-#[tactic(auto, using(crate::proofs::Cells::cells))]
-fn address_in(table: &[u8], width: usize, index: usize) -> Option<u64>
-    requires some { 0 < width }
-    requires narrow { width ≤ 8 }
-    ensures { result ≡ address_in width table.now index }
+fn address_in(table: &[u8], width: AddressWidth, index: usize) -> Option<u64>
+    ensures { result ≡ address_in (address_width width) table.now index }
 {
     if !holds_addresses(table, width) || index >= address_count(table, width) {
         return None;
@@ -106,10 +108,9 @@ fn address_in(table: &[u8], width: usize, index: usize) -> Option<u64>
 }
 
 /// Whether a table is cut into addresses of this width, and else what is wrong with it.
-pub(crate) fn check_addresses(table: &[u8], width: usize) -> Result<(), Bad>
-    requires some { 0 < width }
-    ensures holds { OnOk result (HoldsAddresses width table.now) }
-    ensures bad_root { IfErr result (λ bad. (bad ≡ BadRoot) × (¬ HoldsAddresses width table.now)) }
+pub(crate) fn check_addresses(table: &[u8], width: AddressWidth) -> Result<(), Bad>
+    ensures holds { OnOk result (HoldsAddresses (address_width width) table.now) }
+    ensures bad_root { IfErr result (λ bad. (bad ≡ BadRoot) × (¬ HoldsAddresses (address_width width) table.now)) }
 {
     if !holds_addresses(table, width) {
         return Err(Bad::BadRoot);
@@ -117,43 +118,40 @@ pub(crate) fn check_addresses(table: &[u8], width: usize) -> Result<(), Bad>
     Ok(())
 }
 
-fn holds_addresses(table: &[u8], width: usize) -> bool
-    requires some { 0 < width }
-    ensures { IsTrue result ↔ HoldsAddresses width table.now }
+fn holds_addresses(table: &[u8], width: AddressWidth) -> bool
+    ensures { IsTrue result ↔ HoldsAddresses (address_width width) table.now }
 {
-    table.len() >= HEADER_LENGTH && (table.len() - HEADER_LENGTH) % width == 0
+    table.len() >= HEADER_LENGTH && (table.len() - HEADER_LENGTH) % width.bytes() == 0
 }
 
 /// How many addresses of this width a table lists.
-pub fn address_count(table: &[u8], width: usize) -> usize
-    requires some { 0 < width }
-    requires holds { HoldsAddresses width table.now }
-    ensures { result ≡ address_count width table.now }
+pub fn address_count(table: &[u8], width: AddressWidth) -> usize
+    requires holds { HoldsAddresses (address_width width) table.now }
+    ensures { result ≡ address_count (address_width width) table.now }
 {
-    (table.len() - HEADER_LENGTH) / width
+    (table.len() - HEADER_LENGTH) / width.bytes()
 }
 
 /// The address of this width at this index of a table.
 #[tactic(auto, unfolding(crate::specs::Bytes::number_at))]
-pub(crate) fn address_at(table: &[u8], width: usize, index: usize) -> u64
-    requires some { 0 < width }
-    requires narrow { width ≤ 8 }
-    requires holds { HoldsAddresses width table.now }
-    requires inside { index < address_count width table.now }
-    ensures { result ≡ address_at width table.now index }
+pub(crate) fn address_at(table: &[u8], width: AddressWidth, index: usize) -> u64
+    requires holds { HoldsAddresses (address_width width) table.now }
+    requires inside { index < address_count (address_width width) table.now }
+    ensures { result ≡ address_at (address_width width) table.now index }
 {
     little_endian(address_bytes(table, width, index))
 }
 
 /// The bytes of the address of this width at this index of a table.
-#[tactic(auto, using(crate::proofs::Cells::address_inside), unfolding(crate::specs::Bytes::bytes_at))]
-pub fn address_bytes(table: &[u8], width: usize, index: usize) -> &[u8]
-    requires some { 0 < width }
-    requires holds { HoldsAddresses width table.now }
-    requires inside { index < address_count width table.now }
-    ensures bytes { result.now ≡ address_bytes width table.now index }
-    ensures width { length result.now ≡ width }
+#[tactic(auto, using(crate::proofs::Cells::address_inside))]
+pub fn address_bytes(table: &[u8], width: AddressWidth, index: usize) -> &[u8]
+    requires holds { HoldsAddresses (address_width width) table.now }
+    requires inside { index < address_count (address_width width) table.now }
+    ensures bytes { result.now ≡ address_bytes (address_width width) table.now index }
+    ensures width { length result.now ≡ address_width width }
+    ensures narrow { length result.now ≤ 8 }
 {
+    let width = width.bytes();
     let at = HEADER_LENGTH + index * width;
     &table[at..at + width]
 }

@@ -1,81 +1,45 @@
 //! The order of the definition blocks where addresses lead from the RSDP over the XSDT or RSDT and the FADT to a DSDT.
-ghost use Rattle.std.specs.Prelude.{◌≡◌, ◌⊎◌, ◌<◌, ◌≤◌, None, true, filter, find, IfOk, IfErr};
-ghost use Rattle.acpi_tables.specs.Header.{HoldsTable, table_of, HoldsAddresses, addresses_of};
+ghost use Rattle.std.specs.Prelude.{◌≡◌, ◌⊎◌, ◌<◌, ◌≤◌, None, Ok, Err, true, filter, find, IfOk, IfErr};
+ghost use Rattle.acpi_tables.specs.Header.{HoldsTable, table_of, HoldsAddresses, address_width, addresses_of};
 ghost use Rattle.acpi_tables.specs.Fadt.{HoldsFadt};
-ghost use Rattle.acpi_tables.specs.Order.{AreTaken, IsChained, RefusesOrder, bytes_of, dump_at, signed_at, root_of};
-ghost use Rattle.acpi_tables.specs.Order.{xsdt_address, list_of, list_in, width_of, listed_by, dsdt_of, dsdt_address};
-ghost use Rattle.acpi_tables.specs.Order.{listed_in, has_signature, is_addressed};
+ghost use Rattle.acpi_tables.specs.Order.{AreTaken, bytes_of, chain_of, dump_at, signed_at, root_of};
+ghost use Rattle.acpi_tables.specs.Order.{xsdt_address, list_of, width_of, listed_by, dsdt_of, dsdt_address};
+ghost use Rattle.acpi_tables.specs.Order.{listed_in, has_signature};
 ghost use Rattle.acpi_tables.specs.declared.faults.Bad.TheVariants.{NoMemory};
 
-use crate::addresses::{RSDT_WIDTH, XSDT_WIDTH, address_at, address_count};
+use crate::addresses::{AddressWidth, address_at, address_count};
 use crate::bytes::{begins_with, u32_at, u64_at};
 use crate::dump::{Dump, table_of};
 use crate::fadt::{DSDT_AT, X_DSDT_AT, X_DSDT_END};
 use crate::faults::{Bad, TableFault};
+use crate::indexes::{bytes_of, dump_at, has_signature};
 use crate::order::Order;
-use crate::rsdp::{RSDP_SIGNATURE, Rsdp, Wide};
+use crate::rsdp::{Rsdp, Wide};
+use crate::signatures::{DSDT, FACP, RSDP, RSDT, SSDT, XSDT};
 use std::alloc::{AllocError, Global};
 
 /// The order that the chain gives.
 pub(crate) fn order_by_chain(alloc: Global, dumps: &[Dump]) -> Result<Order, TableFault>
-    requires each { AreTaken dumps.now true }
-    requires addressed { is_addressed dumps.now ≡ true }
-    ensures order { IfOk result (λ order. IsChained dumps.now order.dsdt order.ssdts.items) }
+    requires { AreTaken dumps.now true }
+    ensures order { IfOk result (λ order. chain_of dumps.now ≡ Ok (order.dsdt, order.ssdts.items)) }
     ensures refused { IfErr result (λ fault. (fault ≡ record { dump = None; bad = NoMemory }) ⊎
-        RefusesOrder dumps.now fault.dump fault.bad) }
+        (chain_of dumps.now ≡ Err fault)) }
 {
-    let Some(list) = list_in(dumps) else {
-        return Err(TableFault {
-            dump: root_of(dumps),
-            bad: Bad::RootMissing,
-        });
-    };
+    let root = root_of(dumps).ok_or(TableFault::of_set(Bad::RootMissing))?;
+    let pointer = Rsdp::of(bytes_of(dumps, root));
+    let list = list_of(dumps, &pointer).ok_or(TableFault::of_dump(root, Bad::RootMissing))?;
     let listed = listed_by(alloc, dumps, list)?;
-    let Some(fadt) = first_with(dumps, &listed, b"FACP") else {
-        return Err(TableFault::of_dump(list, Bad::FadtMissing));
-    };
-    let Some(dsdt) = dsdt_of(dumps, fadt) else {
-        return Err(TableFault::of_set(Bad::NoDsdt));
-    };
-    Ok(Order {
-        dsdt,
-        ssdts: each_with(alloc, dumps, &listed, b"SSDT")?,
-    })
-}
-
-/// The bytes of the dump at this index, and none past the last.
-#[tactic(auto, using(crate::proofs::Places::parts), unfolding(crate::specs::Order::bytes_of))]
-pub fn bytes_of(dumps: &[Dump], index: usize) -> &[u8]
-    ensures { result.now ≡ bytes_of dumps.now index }
-{
-    match dumps.get(index) {
-        Some(dump) => &dump.bytes,
-        None => &[],
-    }
-}
-
-/// Whether the dump at this index has this signature.
-pub(crate) fn has_signature(dumps: &[Dump], index: usize, signature: &[u8]) -> bool
-    ensures { result ≡ has_signature dumps.now signature.now index }
-{
-    begins_with(bytes_of(dumps, index), signature)
+    let fadt = first_of(dumps, &listed, &FACP).ok_or(TableFault::of_dump(list, Bad::FadtMissing))?;
+    let dsdt = dsdt_of(dumps, fadt).ok_or(TableFault::of_set(Bad::NoDsdt))?;
+    let ssdts = all_of(alloc, dumps, &listed, &SSDT)?;
+    Ok(Order { dsdt, ssdts })
 }
 
 /// The first RSDP.
-#[tactic(auto, unfolding(crate::specs::Order::root_of))]
 fn root_of(dumps: &[Dump]) -> Option<usize>
     ensures { result ≡ root_of dumps.now }
 {
-    (0..dumps.len()).find(|index| has_signature(dumps, *index, &RSDP_SIGNATURE))
-}
-
-/// The list of the tables that the first RSDP leads to.
-fn list_in(dumps: &[Dump]) -> Option<usize>
-    requires { AreTaken dumps.now true }
-    ensures { result ≡ list_in dumps.now }
-{
-    let root = root_of(dumps)?;
-    list_of(dumps, &Rsdp::of(bytes_of(dumps, root)))
+    (0..dumps.len()).find(|index| has_signature(dumps, *index, &RSDP))
 }
 
 /// The XSDT that an RSDP leads to, or else the RSDT.
@@ -84,9 +48,9 @@ fn list_of(dumps: &[Dump], root: &Rsdp) -> Option<usize>
 {
     let xsdt = xsdt_address(root.wide);
     if xsdt == 0 {
-        signed_at(dumps, b"RSDT", u64::from(root.rsdt))
+        signed_at(dumps, &RSDT, u64::from(root.rsdt))
     } else {
-        signed_at(dumps, b"XSDT", xsdt)
+        signed_at(dumps, &XSDT, xsdt)
     }
 }
 
@@ -97,24 +61,11 @@ fn xsdt_address(wide: Option<Wide>) -> u64
     wide.map_or(0, |wide| wide.xsdt)
 }
 
-/// The index of the first dump that stood at this address.
-#[tactic(auto, unfolding(crate::specs::Order::dump_at))]
-pub fn dump_at(dumps: &[Dump], address: u64) -> Option<usize>
-    ensures { result ≡ dump_at dumps.now address }
-{
-    dumps.iter().position(|dump| dump.stands_at(address))
-}
-
 /// The first dump at this address, if it has this signature.
 fn signed_at(dumps: &[Dump], signature: &[u8], address: u64) -> Option<usize>
     ensures { result ≡ signed_at dumps.now signature.now address }
 {
-    let index = dump_at(dumps, address)?;
-    if has_signature(dumps, index, signature) {
-        Some(index)
-    } else {
-        None
-    }
+    dump_at(dumps, address).filter(|index| has_signature(dumps, *index, signature))
 }
 
 /// The dumps that an XSDT or an RSDT lists, in its order, each where it stands first.
@@ -128,13 +79,13 @@ fn listed_by(alloc: Global, dumps: &[Dump], list: usize) -> Result<Vec<usize>, A
 }
 
 /// How many bytes an address has in a list with this signature.
-fn width_of(list: &[u8]) -> usize
-    ensures { result ≡ width_of list.now }
+fn width_of(list: &[u8]) -> AddressWidth
+    ensures { address_width result ≡ width_of list.now }
 {
-    if begins_with(list, b"XSDT") {
-        XSDT_WIDTH
+    if begins_with(list, &XSDT) {
+        AddressWidth::Eight
     } else {
-        RSDT_WIDTH
+        AddressWidth::Four
     }
 }
 
@@ -143,12 +94,10 @@ fn listed_in(
     alloc: Global,
     dumps: &[Dump],
     table: &[u8],
-    width: usize,
+    width: AddressWidth,
 ) -> Result<Vec<usize>, AllocError>
-    requires some { 0 < width }
-    requires narrow { width ≤ 8 }
-    requires holds { HoldsAddresses width table.now }
-    ensures { IfOk result (λ listed. listed.items ≡ listed_in dumps.now (addresses_of width table.now)) }
+    requires holds { HoldsAddresses (address_width width) table.now }
+    ensures { IfOk result (λ listed. listed.items ≡ listed_in dumps.now (addresses_of (address_width width) table.now)) }
 {
     let mut listed = Vec::new(alloc);
     for index in 0..address_count(table, width) {
@@ -162,7 +111,7 @@ fn listed_in(
 }
 
 /// The first of these dumps that has this signature.
-fn first_with(dumps: &[Dump], listed: &[usize], signature: &[u8]) -> Option<usize>
+fn first_of(dumps: &[Dump], listed: &[usize], signature: &[u8]) -> Option<usize>
     ensures { result ≡ find (has_signature dumps.now signature.now) listed.now }
 {
     listed
@@ -177,11 +126,7 @@ fn dsdt_of(dumps: &[Dump], fadt: usize) -> Option<usize>
     requires holds { HoldsFadt (table_of (bytes_of dumps.now fadt)) }
     ensures { result ≡ dsdt_of dumps.now fadt }
 {
-    signed_at(
-        dumps,
-        b"DSDT",
-        dsdt_address(table_of(bytes_of(dumps, fadt))),
-    )
+    signed_at(dumps, &DSDT, dsdt_address(table_of(bytes_of(dumps, fadt))))
 }
 
 /// The DSDT's address in a FADT.
@@ -199,7 +144,7 @@ fn dsdt_address(table: &[u8]) -> u64
 }
 
 /// Those of these dumps that have this signature.
-fn each_with(
+fn all_of(
     alloc: Global,
     dumps: &[Dump],
     listed: &[usize],

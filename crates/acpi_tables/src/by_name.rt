@@ -1,16 +1,17 @@
 //! The order of the definition blocks where no addresses are known, and the names of the files decide.
-ghost use Rattle.std.specs.Prelude.{◌≡◌, ◌⊎◌, ◌<◌, ◌^◌, None, false, IfOk, IfErr, IfSome};
+ghost use Rattle.std.specs.Prelude.{◌≡◌, ◌⊎◌, ◌<◌, ◌^◌, None, Err, codes, IfOk, IfErr, IfSome};
 ghost use Rattle.std.specs.Prelude.{IsPermutation, IsSorted, length, position, reverse};
 ghost use Rattle.std.specs.List.{before_last};
 ghost use Rattle.std.specs.Str.Parse.{digits_value};
-ghost use Rattle.acpi_tables.specs.Order.{IsNamed, RefusesOrder, indexes_with, name_of, rank_cmp};
-ghost use Rattle.acpi_tables.specs.Order.{is_dot, stem_of, ending_number, ending_digits, is_addressed};
+ghost use Rattle.acpi_tables.specs.Order.{IsNamed, only_dsdt, indexes_with, name_of, rank_cmp};
+ghost use Rattle.acpi_tables.specs.Order.{is_dot, stem_of, ending_number, ending_digits};
 ghost use Rattle.acpi_tables.specs.declared.faults.Bad.TheVariants.{NoMemory};
 
-use crate::by_chain::has_signature;
 use crate::dump::Dump;
 use crate::faults::{Bad, TableFault};
+use crate::indexes::{has_signature, name_of};
 use crate::order::Order;
+use crate::signatures::{DSDT, SSDT};
 use std::alloc::{AllocError, Global};
 use std::cmp::Ordering;
 
@@ -19,24 +20,22 @@ const MAX_DIGITS: u8 = 9;
 
 /// The order that the names give.
 pub(crate) fn order_by_name(alloc: Global, dumps: &[Dump]) -> Result<Order, TableFault>
-    requires { is_addressed dumps.now ≡ false }
     ensures order { IfOk result (λ order. IsNamed dumps.now order.dsdt order.ssdts.items) }
     ensures refused { IfErr result (λ fault. (fault ≡ record { dump = None; bad = NoMemory }) ⊎
-        RefusesOrder dumps.now fault.dump fault.bad) }
+        (only_dsdt (indexes_with dumps.now (codes "DSDT")) ≡ Err fault)) }
 {
-    let dsdts = indexes_with(alloc, dumps, b"DSDT")?;
+    let dsdts = indexes_with(alloc, dumps, &DSDT)?;
     let dsdt = match dsdts.as_slice() {
         [] => return Err(TableFault::of_set(Bad::NoDsdt)),
         [dsdt] => *dsdt,
         [_, second, ..] => return Err(TableFault::of_dump(*second, Bad::TwoDsdts)),
     };
-    let mut ssdts = indexes_with(alloc, dumps, b"SSDT")?;
+    let mut ssdts = indexes_with(alloc, dumps, &SSDT)?;
     ssdts.sort_unstable_by(|a, b| compare(dumps, *a, *b));
     Ok(Order { dsdt, ssdts })
 }
 
 /// The indexes of the dumps with this signature.
-#[tactic(auto, unfolding(crate::specs::Order::indexes_with))]
 fn indexes_with(alloc: Global, dumps: &[Dump], signature: &[u8]) -> Result<Vec<usize>, AllocError>
     ensures { IfOk result (λ indexes. indexes.items ≡ indexes_with dumps.now signature.now) }
 {
@@ -54,19 +53,7 @@ fn compare(dumps: &[Dump], a: usize, b: usize) -> Ordering
     by_number.then(a_name.cmp(&b_name)).then(a.cmp(&b))
 }
 
-/// The name of the dump at this index, and an empty one past the last.
-#[tactic(auto, using(crate::proofs::Places::parts), unfolding(crate::specs::Order::name_of))]
-pub fn name_of(dumps: &[Dump], index: usize) -> &[u8]
-    ensures { result.now ≡ name_of dumps.now index }
-{
-    match dumps.get(index) {
-        Some(dump) => dump.name.as_bytes(),
-        None => &[],
-    }
-}
-
 /// The decimal number that ends the stem of this name, of whose digits the last nine count.
-#[tactic(auto, unfolding(crate::specs::Order::ending_number))]
 fn ending_number(name: &[u8]) -> u32
     ensures { result ≡ ending_number name.now }
 {

@@ -1,5 +1,5 @@
 //! Numbers at an offset of a table, and the sum of its bytes.
-#![tactic(auto, using(crate::proofs::Numbers::numbers))]
+#![tactic(auto, using(crate::proofs::Numbers::numbers), unfolding(crate::specs::Bytes::number_at, crate::specs::Bytes::begins_with))]
 
 ghost use Rattle.std.specs.Prelude.{◌≡◌, ◌↔◌, ◌+◌, ◌<◌, ◌≤◌, length, IsTrue};
 ghost use Rattle.acpi_tables.specs.Bytes.{little_endian, bytes_at, number_at, begins_with, checksum, HasLength};
@@ -26,7 +26,6 @@ pub fn little_endian(bytes: &[u8]) -> u64
 }
 
 /// The bytes at this offset.
-#[tactic(auto, unfolding(crate::specs::Bytes::bytes_at))]
 pub(crate) fn array_at<const N: usize>(bytes: &[u8], at: usize) -> [u8; N]
     requires { at + N ≤ length bytes.now }
     ensures { result ≡ bytes_at bytes.now at N }
@@ -36,7 +35,6 @@ pub(crate) fn array_at<const N: usize>(bytes: &[u8], at: usize) -> [u8; N]
     array
 }
 
-#[tactic(auto, using(crate::proofs::Numbers::numbers), unfolding(crate::specs::Bytes::number_at))]
 pub(crate) fn u16_at(bytes: &[u8], at: usize) -> u16
     requires { at + 2 ≤ length bytes.now }
     ensures { result ≡ number_at bytes.now at 2 }
@@ -45,7 +43,6 @@ pub(crate) fn u16_at(bytes: &[u8], at: usize) -> u16
 }
 
 /// The u32 at this offset, the lowest byte first.
-#[tactic(auto, using(crate::proofs::Numbers::numbers), unfolding(crate::specs::Bytes::number_at))]
 pub fn u32_at(bytes: &[u8], at: usize) -> u32
     requires { at + 4 ≤ length bytes.now }
     ensures { result ≡ number_at bytes.now at 4 }
@@ -53,7 +50,6 @@ pub fn u32_at(bytes: &[u8], at: usize) -> u32
     u32::from_le_bytes(array_at(bytes, at))
 }
 
-#[tactic(auto, using(crate::proofs::Numbers::numbers), unfolding(crate::specs::Bytes::number_at))]
 pub(crate) fn u64_at(bytes: &[u8], at: usize) -> u64
     requires { at + 8 ≤ length bytes.now }
     ensures { result ≡ number_at bytes.now at 8 }
@@ -70,7 +66,6 @@ pub fn u8_at(bytes: &[u8], at: usize) -> u8
 }
 
 /// Whether the bytes begin with this word, as a signature.
-#[tactic(auto, unfolding(crate::specs::Bytes::begins_with))]
 pub fn begins_with(bytes: &[u8], word: &[u8]) -> bool
     ensures { result ≡ begins_with bytes.now word.now }
 {

@@ -4,13 +4,14 @@ ghost use Rattle.acpi_tables.specs.Header.{HoldsTable, table_of};
 ghost use Rattle.acpi_tables.specs.Dumps.{content_of, kind_of, HoldsShape, sums_hold, HoldsContent, HoldsDump};
 ghost use Rattle.acpi_tables.specs.Dumps.{shape_fault, RefusesContent, RefusesDump};
 
-use crate::addresses::{RSDT_WIDTH, XSDT_WIDTH, check_addresses};
+use crate::addresses::{AddressWidth, check_addresses};
 use crate::bytes::{begins_with, has_length, sum, u32_at};
 use crate::fadt::Fadt;
 use crate::faults::Bad;
 use crate::header::{Header, LENGTH_AT};
 use crate::madt::Madt;
-use crate::rsdp::{RSDP_SIGNATURE, Rsdp};
+use crate::rsdp::Rsdp;
+use crate::signatures::{APIC, FACP, FACS, RSDP, RSDT, XSDT};
 
 /// The bytes that every FACS has, at least: its signature and its Length.
 const FACS_FRONT: usize = 8;
@@ -70,13 +71,13 @@ impl Content {
     fn of(bytes: &[u8]) -> Content
         ensures { result ≡ content_of bytes.now }
     {
-        if begins_with(bytes, b"XSDT") {
+        if begins_with(bytes, &XSDT) {
             Content::Xsdt
-        } else if begins_with(bytes, b"RSDT") {
+        } else if begins_with(bytes, &RSDT) {
             Content::Rsdt
-        } else if begins_with(bytes, b"FACP") {
+        } else if begins_with(bytes, &FACP) {
             Content::Fadt
-        } else if begins_with(bytes, b"APIC") {
+        } else if begins_with(bytes, &APIC) {
             Content::Madt
         } else {
             Content::Other
@@ -89,9 +90,9 @@ impl Kind {
     pub fn of(bytes: &[u8]) -> Kind
         ensures { result ≡ kind_of bytes.now }
     {
-        if begins_with(bytes, &RSDP_SIGNATURE) {
+        if begins_with(bytes, &RSDP) {
             Kind::Root
-        } else if begins_with(bytes, b"FACS") {
+        } else if begins_with(bytes, &FACS) {
             Kind::Facs
         } else {
             Kind::Standard(Content::of(bytes))
@@ -140,12 +141,9 @@ impl Kind {
         match self {
             Kind::Root | Kind::Facs => Ok(()),
             Kind::Standard(content) => match content {
-                Content::Xsdt => check_addresses(table_of(bytes), XSDT_WIDTH),
-                Content::Rsdt => check_addresses(table_of(bytes), RSDT_WIDTH),
-                Content::Fadt => {
-                    Fadt::read(table_of(bytes))?;
-                    Ok(())
-                }
+                Content::Xsdt => check_addresses(table_of(bytes), AddressWidth::Eight),
+                Content::Rsdt => check_addresses(table_of(bytes), AddressWidth::Four),
+                Content::Fadt => Fadt::check(table_of(bytes)),
                 Content::Madt => Madt::check(table_of(bytes)),
                 Content::Other => Ok(()),
             },

@@ -1,5 +1,5 @@
 //! The table that names the DSDT (ACPI 6.5, section 5.2.9).
-ghost use Rattle.std.specs.Prelude.{◌≡◌, ◌↔◌, ◌≤◌, map, IsOk, IfOk, IfErr};
+ghost use Rattle.std.specs.Prelude.{◌≡◌, ◌↔◌, ◌≤◌, map, IsOk, IfOk, IfErr, OnOk};
 ghost use Rattle.acpi_tables.specs.declared.faults.Bad.TheVariants.{FadtShort};
 
 use crate::bytes::{u8_at, u16_at, u32_at, u64_at};
@@ -58,18 +58,16 @@ impl Fadt {
     ghost use Rattle.acpi_tables.specs.Fadt.{HoldsFadt, fadt_fields, fadt_values};
 
     /// The fields of a FADT. `table` is the first Length bytes of a dump.
-    #[tactic(auto, using(crate::proofs::Values::values), unfolding(crate::specs::Bytes::value_in))]
     ///
     /// # Errors
     /// `Bad::FadtShort` below 116 bytes.
+    #[tactic(auto, using(crate::proofs::Values::values))]
     pub fn read(table: &[u8]) -> Result<Fadt, Bad>
         ensures holds { IsOk result ↔ HoldsFadt table.now }
         ensures short { IfErr result (λ bad. bad ≡ FadtShort) }
         ensures fields { IfOk result (λ fadt. fadt_values fadt ≡ map (value_in table.now) fadt_fields) }
     {
-        if table.len() < FLAGS_END {
-            return Err(Bad::FadtShort);
-        }
+        Fadt::check(table)?;
         Ok(Fadt {
             firmware_ctrl: u32_at(table, 36),
             dsdt: u32_at(table, DSDT_AT),
@@ -88,6 +86,17 @@ impl Fadt {
             x_firmware_ctrl: address_at(table, 132),
             x_dsdt: address_at(table, X_DSDT_AT),
         })
+    }
+
+    /// Whether `read` takes this table, and else why not.
+    pub(crate) fn check(table: &[u8]) -> Result<(), Bad>
+        ensures holds { OnOk result (HoldsFadt table.now) }
+        ensures short { IfErr result (λ bad. (bad ≡ FadtShort) × (¬ HoldsFadt table.now)) }
+    {
+        if table.len() < FLAGS_END {
+            return Err(Bad::FadtShort);
+        }
+        Ok(())
     }
 }
 

@@ -1,15 +1,15 @@
 //! The table of interrupt controllers (ACPI 6.5, section 5.2.12).
-ghost use Rattle.std.specs.Prelude.{◌≡◌, ◌⊎◌, ◌↔◌, ◌+◌, ◌<◌, ◌≤◌, ◌&&◌, ℕ, length, map, nat_eq};
+ghost use Rattle.std.specs.Prelude.{◌≡◌, ◌⊎◌, ◌↔◌, ◌+◌, ◌<◌, ◌≤◌, ℕ, length, map};
 ghost use Rattle.std.specs.Prelude.{IsSome, IfSome, IfOk, IfErr, OnOk};
-ghost use Rattle.std.specs.Bool.{OnTrue};
 ghost use Rattle.acpi_tables.specs.Bytes.{number_at};
-ghost use Rattle.acpi_tables.specs.Madt.{HoldsRecord, HoldsMadt, kind_of, meaning_of, said};
+ghost use Rattle.acpi_tables.specs.Madt.{HoldsRecord, HoldsMadt, meaning_of, said};
 ghost use Rattle.acpi_tables.specs.Madt.{record_bytes_at, record_end, records_of, RefusesMadt};
 ghost use Rattle.acpi_tables.specs.declared.faults.Bad.{Bad};
 ghost use Rattle.acpi_tables.specs.declared.faults.Bad.TheVariants.{NoMemory};
 
-use crate::bytes::{u8_at, u16_at, u32_at, u64_at};
+use crate::bytes::{u8_at, u32_at};
 use crate::faults::Bad;
+use crate::fields::{MOST_FIELDS, RecordRow};
 use std::alloc::{AllocError, Global};
 
 /// Where the address of the local interrupt controllers stands.
@@ -32,54 +32,14 @@ pub struct Madt {
     pub records: Vec<MadtRecord>,
 }
 
-/// A record of a MADT: the fields of the known kinds, or the bytes behind the length of any other.
+/// A record of a MADT: its kind with the values of its fields, or, of no known kind, the bytes behind its length.
 #[derive(Drop)]
 pub enum MadtRecord<Content = Vec<u8>> {
-    /// Type 0, of 8 bytes.
-    LocalApic {
-        uid: u8,
-        apic: u8,
-        flags: u32,
-    },
-    /// Type 1, of 12 bytes.
-    IoApic {
-        id: u8,
-        address: u32,
-        gsi: u32,
-    },
-    /// Type 2, of 10 bytes.
-    Override {
-        bus: u8,
-        source: u8,
-        gsi: u32,
-        flags: u16,
-    },
-    /// Type 3, of 8 bytes.
-    NmiSource {
-        flags: u16,
-        gsi: u32,
-    },
-    /// Type 4, of 6 bytes.
-    LocalNmi {
-        uid: u8,
-        flags: u16,
-        lint: u8,
-    },
-    /// Type 5, of 12 bytes.
-    AddressOverride {
-        address: u64,
-    },
-    /// Type 9, of 16 bytes.
-    X2Apic {
-        id: u32,
-        flags: u32,
-        uid: u32,
-    },
-    /// Type 10, of 12 bytes.
-    X2Nmi {
-        flags: u16,
-        uid: u32,
-        lint: u8,
+    /// One of the kinds of [`RecordRow::of_madt`].
+    Known {
+        row: &'static RecordRow,
+        /// Those of the row's fields, in their order, before others that say nothing.
+        values: [u64; MOST_FIELDS],
     },
     /// Another type, or another length.
     Other {
@@ -91,73 +51,21 @@ pub enum MadtRecord<Content = Vec<u8>> {
 /// A record that borrows its raw content from the table.
 pub type MadtView<'a> = MadtRecord<&'a [u8]>;
 
-/// Whether a record has this type and so many bytes.
-fn has_kind(bytes: &[u8], kind: u8, long: usize) -> bool
-    requires { 1 ≤ length bytes.now }
-    ensures is { result ≡ (nat_eq (kind_of bytes.now) kind && nat_eq (length bytes.now) long) }
-    ensures long { OnTrue result (length bytes.now ≡ long) }
-{
-    u8_at(bytes, 0) == kind && bytes.len() == long
-}
-
 impl<'a> MadtRecord<&'a [u8]> {
     /// What a whole record says.
-    #[tactic(auto, unfolding(crate::specs::Madt::meaning_of, crate::specs::Madt::row_of))]
     fn of_record(bytes: &'a [u8]) -> MadtView<'a>
         requires { 2 ≤ length bytes.now }
         ensures { said (λ content. content.now) result ≡ meaning_of bytes.now }
     {
-        if has_kind(bytes, 0, 8) {
-            MadtRecord::LocalApic {
-                uid: u8_at(bytes, 2),
-                apic: u8_at(bytes, 3),
-                flags: u32_at(bytes, 4),
-            }
-        } else if has_kind(bytes, 1, 12) {
-            MadtRecord::IoApic {
-                id: u8_at(bytes, 2),
-                address: u32_at(bytes, 4),
-                gsi: u32_at(bytes, 8),
-            }
-        } else if has_kind(bytes, 2, 10) {
-            MadtRecord::Override {
-                bus: u8_at(bytes, 2),
-                source: u8_at(bytes, 3),
-                gsi: u32_at(bytes, 4),
-                flags: u16_at(bytes, 8),
-            }
-        } else if has_kind(bytes, 3, 8) {
-            MadtRecord::NmiSource {
-                flags: u16_at(bytes, 2),
-                gsi: u32_at(bytes, 4),
-            }
-        } else if has_kind(bytes, 4, 6) {
-            MadtRecord::LocalNmi {
-                uid: u8_at(bytes, 2),
-                flags: u16_at(bytes, 3),
-                lint: u8_at(bytes, 5),
-            }
-        } else if has_kind(bytes, 5, 12) {
-            MadtRecord::AddressOverride {
-                address: u64_at(bytes, 4),
-            }
-        } else if has_kind(bytes, 9, 16) {
-            MadtRecord::X2Apic {
-                id: u32_at(bytes, 4),
-                flags: u32_at(bytes, 8),
-                uid: u32_at(bytes, 12),
-            }
-        } else if has_kind(bytes, 10, 12) {
-            MadtRecord::X2Nmi {
-                flags: u16_at(bytes, 2),
-                uid: u32_at(bytes, 4),
-                lint: u8_at(bytes, 8),
-            }
-        } else {
-            MadtRecord::Other {
+        match RecordRow::of_record(bytes) {
+            Some(row) => MadtRecord::Known {
+                row,
+                values: row.values_in(bytes),
+            },
+            None => MadtRecord::Other {
                 kind: u8_at(bytes, 0),
                 content: &bytes[2..],
-            }
+            },
         }
     }
 
@@ -167,28 +75,7 @@ impl<'a> MadtRecord<&'a [u8]> {
             said (λ content. content.items) copy ≡ said (λ content. content.now) self.now) }
     {
         Ok(match *self {
-            MadtRecord::LocalApic { uid, apic, flags } => MadtRecord::LocalApic {
-                uid,
-                apic,
-                flags,
-            },
-            MadtRecord::IoApic { id, address, gsi } => MadtRecord::IoApic { id, address, gsi },
-            MadtRecord::Override {
-                bus,
-                source,
-                gsi,
-                flags,
-            } => MadtRecord::Override {
-                bus,
-                source,
-                gsi,
-                flags,
-            },
-            MadtRecord::NmiSource { flags, gsi } => MadtRecord::NmiSource { flags, gsi },
-            MadtRecord::LocalNmi { uid, flags, lint } => MadtRecord::LocalNmi { uid, flags, lint },
-            MadtRecord::AddressOverride { address } => MadtRecord::AddressOverride { address },
-            MadtRecord::X2Apic { id, flags, uid } => MadtRecord::X2Apic { id, flags, uid },
-            MadtRecord::X2Nmi { flags, uid, lint } => MadtRecord::X2Nmi { flags, uid, lint },
+            MadtRecord::Known { row, values } => MadtRecord::Known { row, values },
             MadtRecord::Other { kind, content } => MadtRecord::Other {
                 kind,
                 content: Vec::from_slice(alloc, content)?,
@@ -264,7 +151,6 @@ impl Madt {
     }
 
     /// The bytes of the record at offset `at` of the table, and `None` where `record_at` is.
-    #[tactic(auto, unfolding(crate::specs::Bytes::bytes_at))]
     pub fn record_bytes(table: &[u8], at: usize) -> Option<&[u8]>
         ensures holds { IsSome result ↔ HoldsRecord table.now at }
         ensures bytes { IfSome result (λ bytes. bytes.now ≡ record_bytes_at table.now at) }

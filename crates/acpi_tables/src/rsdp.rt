@@ -4,9 +4,7 @@ ghost use Rattle.acpi_tables.specs.declared.faults.Bad.TheVariants.{BadRoot};
 
 use crate::bytes::{array_at, begins_with, has_length, sum, u8_at, u32_at, u64_at};
 use crate::faults::Bad;
-
-/// The bytes that every RSDP begins with.
-pub(crate) const RSDP_SIGNATURE: [u8; 8] = *b"RSD PTR ";
+use crate::signatures;
 
 /// The bytes of an RSDP before revision 2.
 const FIRST_LENGTH: usize = 20;
@@ -68,7 +66,7 @@ impl Rsdp {
     pub(crate) fn holds(bytes: &[u8]) -> bool
         ensures { IsTrue result ↔ HoldsRoot bytes.now }
     {
-        if !begins_with(bytes, &RSDP_SIGNATURE) || bytes.len() < FIRST_LENGTH {
+        if !begins_with(bytes, &signatures::RSDP) || bytes.len() < FIRST_LENGTH {
             return false;
         }
         u8_at(bytes, REVISION_AT) < EXTENDED || has_length(bytes, LENGTH_AT, EXTENDED_LENGTH)

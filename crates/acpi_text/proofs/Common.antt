@@ -3,7 +3,7 @@ pub use Rattle.acpi_tables.proofs.Cuts.{WalksTo, walk_start, walk_more, records_
 pub use Rattle.acpi_tables.proofs.Places.{bytes_of-inside}
 pub use Rattle.acpi_tables.specs.Bytes.{field_view}
 pub use Rattle.acpi_tables.specs.Dumps.{HoldsDump}
-pub use Rattle.acpi_tables.specs.Header.{address_bytes, address_count}
+pub use Rattle.acpi_tables.specs.Header.{address_bytes, address_count, address_width}
 pub use Rattle.acpi_text.specs.Dumps.{record_line, spaced_byte, entry_line, dump_lines, field_text}
 unfoldable pub use Rattle.acpi_text.specs.Dumps.{madt_lines, other_text, root_text, header_text, entry_lines, fields_text}
 pub use Rattle.std.proofs.Common.{length, ◌-◌, flat_map, [], refl, ap, sym, subst, take, ◌≡◌, drop, length-drop, arith, map, ◌∙◌, zero-add, true, reverse, ◌<◌}

@@ -1,14 +1,16 @@
 //! The lines below an XSDT or an RSDT: its addresses.
 #![tactic(auto, using(text_writer::proofs::PrintLaws::straight), unfolding(crate::specs::Dumps::entry_text))]
 
-ghost use Rattle.std.specs.Prelude.{◌<◌, ◌≤◌, length};
+ghost use Rattle.std.specs.Prelude.{◌≤◌, length};
 ghost use Rattle.text_writer.specs.Prints.{Prints};
-ghost use Rattle.acpi_tables.specs.Header.{HoldsAddresses};
+ghost use Rattle.acpi_tables.specs.Header.{HoldsAddresses, address_width};
 ghost use Rattle.acpi_text.specs.Dumps.{owner_text, entry_text, entry_line, entry_lines};
 
 use crate::fields::print_reversed;
 use crate::labels::put_quoted;
-use acpi_tables::{Dump, address_bytes, address_count, dump_at, little_endian, name_of};
+use acpi_tables::{
+    AddressWidth, Dump, address_bytes, address_count, dump_at, little_endian, name_of,
+};
 use std::io::Write;
 use text_writer::Out;
 
@@ -44,13 +46,11 @@ fn print_entry<W: Write>(out: &mut Out<'_, W>, dumps: &[Dump], bytes: &[u8])
 pub(crate) fn print_entries<W: Write>(
     out: &mut Out<'_, W>,
     dumps: &[Dump],
-    width: usize,
+    width: AddressWidth,
     table: &[u8],
 )
-    requires some { 0 < width }
-    requires narrow { width ≤ 8 }
-    requires holds { HoldsAddresses width table.now }
-    ensures { Prints W.contents out.old out.new (entry_lines dumps.now width table.now) }
+    requires { HoldsAddresses (address_width width) table.now }
+    ensures { Prints W.contents out.old out.new (entry_lines dumps.now (address_width width) table.now) }
 {
     for index in 0..address_count(table, width) {
         print_entry(out, dumps, address_bytes(table, width, index));

@@ -11,7 +11,7 @@ use crate::content::print_entries;
 use crate::fields::print_fields;
 use crate::heads::print_line;
 use crate::records::print_madt;
-use acpi_tables::{Content, Dump, Kind, RSDT_WIDTH, TableField, XSDT_WIDTH, table_of};
+use acpi_tables::{AddressWidth, Content, Dump, Kind, TableField, table_of};
 use std::io::Write;
 use text_writer::Out;
 
@@ -24,8 +24,8 @@ fn print_below<W: Write>(out: &mut Out<'_, W>, kind: Kind, dumps: &[Dump], bytes
     match kind {
         Kind::Root | Kind::Facs => {}
         Kind::Standard(content) => match content {
-            Content::Xsdt => print_entries(out, dumps, XSDT_WIDTH, table_of(bytes)),
-            Content::Rsdt => print_entries(out, dumps, RSDT_WIDTH, table_of(bytes)),
+            Content::Xsdt => print_entries(out, dumps, AddressWidth::Eight, table_of(bytes)),
+            Content::Rsdt => print_entries(out, dumps, AddressWidth::Four, table_of(bytes)),
             Content::Fadt => print_fields(
                 out,
                 b"  ",

@@ -1,12 +1,12 @@
-use Rattle.acpi_tables.proofs.Common.{◌≡◌, ℕ, Bool, true, false, List, nat_eq, map, ap, sym, ◌∙◌, arith, list_any, range_with_len, address_at, address_count}
-use Rattle.acpi_tables.proofs.Common.{addresses_of, dump_at, listed_in}
+use Rattle.acpi_tables.proofs.Common.{◌≡◌, ℕ, Bool, true, false, List, nat_eq, map, ap, sym, ◌∙◌, arith, list_any, range_with_len, address_at, address_count, address_width}
+use Rattle.acpi_tables.proofs.Common.{dump_at, listed_in}
 use Rattle.acpi_tables.proofs.Once.{listed_none, listed_some}
 use Rattle.acpi_tables.proofs.by_chain.listed_in.Goals as goal
 use Rattle.acpi_tables.proofs.by_chain.listed_in.Goals.{in-Some+then-not-contains+in_ok-push, in-Some+else-not-contains, in_default}
 
 pub loop-index-preserved : goal.loop-index-preserved
 loop-index-preserved c =
-    let at = address_at c.args.width c.args.table.now in
+    let at = address_at (address_width c.args.width) c.args.table.now in
     let old = c.loop-index.listed.items in
     let given = ap (dump_at c.args.dumps.now) (sym c.address_at.ensures) ∙ sym c.dump_at.ensures in
     let some = listed_some c.args.dumps.now at c.loop-index.index old c.loop-index.invariant in
@@ -23,7 +23,6 @@ loop-index-preserved c =
     ]
 
 pub returns : goal.returns
-unfolding addresses_of
 returns c =
-    let all : c.loop-index.index ≡ address_count c.args.width c.args.table.now = omega arith in
-    c.loop-index.invariant ∙ ap (λ n. listed_in c.args.dumps.now (map (address_at c.args.width c.args.table.now) (range_with_len 0 n))) all
+    let all : c.loop-index.index ≡ address_count (address_width c.args.width) c.args.table.now = omega arith in
+    c.loop-index.invariant ∙ ap (λ n. listed_in c.args.dumps.now (map (address_at (address_width c.args.width) c.args.table.now) (range_with_len 0 n))) all

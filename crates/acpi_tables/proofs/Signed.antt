@@ -1,9 +1,9 @@
 -- What a signature tells of a dump: how it is read, since that comes out of a signature by computing, whatever follows it;
 -- and so what holds of one that is taken. What a search for a signature or an address has found has the signature.
-use Rattle.acpi_tables.proofs.Common.{◌≡◌, ℕ, ◌<◌, ◌≤◌, ◌⊎◌, inl, inr, Bool, true, false, List, ◌++◌, length, drop, codes, cond, Some, None, find, ltb, nat_eq}
-use Rattle.acpi_tables.proofs.Common.{refl, sym, ap, ◌∙◌, arith, rules, tests, length-append, Decides-eqb, passes_at_first, option_and_then_some, cond_some}
-use Rattle.acpi_tables.proofs.Common.{slice_get_within, get_or_from_slice_get, Dump, begins_with, HoldsTable, table_of, HoldsRoot, HoldsAddresses, rsdp_of}
-use Rattle.acpi_tables.proofs.Common.{HoldsFadt, AreTaken, bytes_of, has_signature, dump_at, signed_at, root_of, xsdt_address, list_of, list_in, width_of}
+use Rattle.acpi_tables.proofs.Common.{◌≡◌, ℕ, ◌<◌, ◌≤◌, ◌⊎◌, inl, inr, Bool, true, false, List, ◌++◌, length, drop, codes, cond, Some, find, ltb, nat_eq}
+use Rattle.acpi_tables.proofs.Common.{refl, sym, ap, ◌∙◌, arith, rules, tests, length-append, Decides-eqb, passes_at_first, option_and_then_some, same_Some, then_some}
+use Rattle.acpi_tables.proofs.Common.{slice_get_within, get_or_from_slice_get, Dump, begins_with, HoldsTable, table_of, HoldsRoot, HoldsAddresses}
+use Rattle.acpi_tables.proofs.Common.{HoldsFadt, AreTaken, bytes_of, has_signature, dump_at, signed_at, root_of, xsdt_address, list_of, width_of}
 use Rattle.std.proofs.lemmas.Slice.Eq.{starts_is}
 use Rattle.std.proofs.lemmas.List.Folds.{find_at}
 use Rattle.acpi_tables.specs.declared.dump.Content.TheVariants.{Xsdt, Rsdt, Fadt, Other}
@@ -37,11 +37,16 @@ signed_inside dumps word index some is = by_place (ltb index (length dumps)) ref
         let empty = sym none ∙ begins (bytes_of dumps index) word is in
         absurd (omega (arith, ap length empty, length-append word (drop (length word) (bytes_of dumps index))))
 
+-- what then_some gave
+some_then : (b : Bool) (x y : ℕ) → then_some b x ≡ Some y → (b ≡ true) × (x ≡ y)
+some_then true x y e = (refl, same_Some x y e)
+some_then false x y e = absurd cc
+
 pub signed_at-signed : (dumps : List Dump) (word : List ℕ) (address index : ℕ) → signed_at dumps word address ≡ Some index
     → has_signature dumps word index ≡ true
 signed_at-signed dumps word address index e =
-    option_and_then_some (λ i. cond (has_signature dumps word i) (Some i) None) (dump_at dumps address) index e
-    (λ i there some. let h = cond_some (has_signature dumps word i) i index some in ap (has_signature dumps word) (sym h.1) ∙ h.0)
+    option_and_then_some (λ i. then_some (has_signature dumps word i) i) (dump_at dumps address) index e
+    (λ i there some. let h = some_then (has_signature dumps word i) i index some in ap (has_signature dumps word) (sym h.1) ∙ h.0)
 
 -- the list that a root leads to is an XSDT or an RSDT
 list_by : (dumps : List Dump) (root : Rsdp) (index : ℕ) (b : Bool)
@@ -50,13 +55,13 @@ list_by : (dumps : List Dump) (root : Rsdp) (index : ℕ) (b : Bool)
 list_by dumps root index true e = inr (signed_at-signed dumps (codes "RSDT") root.rsdt index e)
 list_by dumps root index false e = inl (signed_at-signed dumps (codes "XSDT") (xsdt_address root.wide) index e)
 
+-- what a search found passes
 pub find-passes : (test : ℕ → Bool) (xs : List ℕ) (x : ℕ) → find test xs ≡ Some x → test x ≡ true
 find-passes test xs x e =
     let there = sym (find_at test xs) ∙ e in
     rw (get_or_from_slice_get xs _ x x there) at (passes_at_first test xs x (slice_get_within xs _ x there))
 
 pub root_of-signed : (dumps : List Dump) (index : ℕ) → root_of dumps ≡ Some index → has_signature dumps (codes "RSD PTR ") index ≡ true
-unfolding root_of
 root_of-signed dumps index e = find-passes (has_signature dumps (codes "RSD PTR ")) _ index e
 
 -- ---- what holds of a dump that is taken, by its signature
@@ -95,7 +100,6 @@ module _ (dumps : List Dump) (any_sum : Bool) (each : AreTaken dumps any_sum) (i
       let h = held (codes "RSDT") (Standard Rsdt) (omega arith) (λ rest. refl) is in
       (h.0, rw (as-word width_of 4 (bytes_of dumps index) (codes "RSDT") (λ rest. refl) is) h.1)
 
-  -- the list that the first root leads to
-  pub list_holds : list_in dumps ≡ Some index → HoldsList
-  list_holds e = option_and_then_some (λ root. list_of dumps (rsdp_of (bytes_of dumps root))) (root_of dumps) index e
-      (λ place there leads. let root = rsdp_of (bytes_of dumps place) in listing (list_by dumps root index (nat_eq (xsdt_address root.wide) 0) leads))
+  -- the list that a root leads to
+  pub list_holds : (root : Rsdp) → list_of dumps root ≡ Some index → HoldsList
+  list_holds root leads = listing (list_by dumps root index (nat_eq (xsdt_address root.wide) 0) leads)
