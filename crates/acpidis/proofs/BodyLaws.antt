@@ -2,7 +2,7 @@
 -- a run keeps of bodies is kept of such bodies, so texts print as they do, faults tell of the raw ones, and trials are
 -- their marks.
 use Rattle.acpidis.proofs.Common.{AllZip, ◌≡◌, ℕ, suc, Bool, false, List, [], ◌∷◌, ◌++◌, map, length, Some, Result, Ok, Err, refl, sym, ap, ap₂, subst, arith}
-use Rattle.acpidis.proofs.Common.{slice_get, map-id, Entry, CodeFault, Trees, OfMethod, codes_view, span_of, body_in, Loaded, Method, Body, AgreeAt, OneBody}
+use Rattle.acpidis.proofs.Common.{slice_get, map-id, Entry, CodeFault, Trees, OfMethod, table_codes, span_of, body_in, TableSet, Method, Body, AgreeAt, OneBody}
 use Rattle.acpidis.proofs.Common.{read, raw, all_lines, body_lines, BodyText, IsText, body_view, printed_lines, IsEntry, AreEntries, Became, BecameIn}
 use Rattle.acpidis.proofs.Common.{AreBodies, has_raw, mark_of, marks_of, IsKept, AreKept, AreKeptOf, IsSame, has_fault, tried_mark, tried_marks, get_or}
 use Rattle.aml_space.specs.Known.{StandsFor}
@@ -17,21 +17,21 @@ all_zip_to R S f to [] (y ∷ ys) h = absurd h
 all_zip_to R S f to (x ∷ xs) [] h = absurd h
 all_zip_to R S f to (x ∷ xs) (y ∷ ys) h = (to x y h.0, all_zip_to R S f to xs ys h.1)
 
-module _ (z : Bool) (x : Loaded) (es : List Entry) (stands : StandsFor x.space es) where
-  is_entry : (m : Method) (d : Body) → BecameIn z x m d → IsEntry z es (codes_view x.tables.items) m (body_view d)
+module _ (z : Bool) (x : TableSet) (es : List Entry) (stands : StandsFor x.space es) where
+  is_entry : (m : Method) (d : Body) → BecameIn z x m d → IsEntry z es (table_codes x.tables.items) m (body_view d)
   is_entry m (bodies.Tree nodes) h = (h es stands).0
   is_entry m (bodies.Raw f) h = (h es stands).unread.none
 
-  the_entry : (m : Method) (d : Body) (b : OneBody) → BecameIn z x m d → IsEntry z es (codes_view x.tables.items) m b → b ≡ body_view d
+  the_entry : (m : Method) (d : Body) (b : OneBody) → BecameIn z x m d → IsEntry z es (table_codes x.tables.items) m b → b ≡ body_view d
   the_entry m (bodies.Tree nodes) (read ts) h e = ap read ((h es stands).1 ts e)
   the_entry m (bodies.Tree nodes) raw h e = absurd (e _ (h es stands).0)
   the_entry m (bodies.Raw f) (read ts) h e = absurd ((h es stands).unread.none ts e)
   the_entry m (bodies.Raw f) raw h e = refl
 
-  pub are_entries : (ms : List Method) (ds : List Body) → AllZip (BecameIn z x) ms ds → AreEntries z es (codes_view x.tables.items) ms (map body_view ds)
-  are_entries ms ds h = all_zip_to (BecameIn z x) (IsEntry z es (codes_view x.tables.items)) body_view is_entry ms ds h
+  pub are_entries : (ms : List Method) (ds : List Body) → AllZip (BecameIn z x) ms ds → AreEntries z es (table_codes x.tables.items) ms (map body_view ds)
+  are_entries ms ds h = all_zip_to (BecameIn z x) (IsEntry z es (table_codes x.tables.items)) body_view is_entry ms ds h
 
-  pub the_entries : (ms : List Method) (ds : List Body) (bs : List OneBody) → AllZip (BecameIn z x) ms ds → AreEntries z es (codes_view x.tables.items) ms bs
+  pub the_entries : (ms : List Method) (ds : List Body) (bs : List OneBody) → AllZip (BecameIn z x) ms ds → AreEntries z es (table_codes x.tables.items) ms bs
       → bs ≡ map body_view ds
   the_entries [] [] [] h e = refl
   the_entries [] [] (b ∷ bs) h e = absurd e
@@ -40,9 +40,9 @@ module _ (z : Bool) (x : Loaded) (es : List Entry) (stands : StandsFor x.space e
   the_entries (m ∷ ms) (d ∷ ds) [] h e = absurd e
   the_entries (m ∷ ms) (d ∷ ds) (b ∷ bs) h e = ap₂ ◌∷◌ (the_entry m d b h.0 e.0) (the_entries ms ds bs h.1 e.1)
 
-  pub are_told : (ms : List Method) (ds : List Body) → AllZip (BecameIn z x) ms ds → AllZip (Became z es (codes_view x.tables.items)) ms ds
+  pub are_told : (ms : List Method) (ds : List Body) → AllZip (BecameIn z x) ms ds → AllZip (Became z es (table_codes x.tables.items)) ms ds
   are_told ms ds h =
-      let Told = Became z es (codes_view x.tables.items) in
+      let Told = Became z es (table_codes x.tables.items) in
       subst (AllZip Told ms) (map-id ds) (all_zip_to (BecameIn z x) Told (λ d. d) (λ m d is. is es stands) ms ds h)
 
 -- ---- what is kept of bodies
@@ -74,7 +74,7 @@ kept_whole [] (d ∷ ds) k = absurd k
 kept_whole (b ∷ bs) [] k = absurd k
 kept_whole (b ∷ bs) (d ∷ ds) k = ap₂ ◌∷◌ (sym k.0) (kept_whole bs ds k.1)
 
-pub whole_kept : (z : Bool) (x : Loaded) (ds : List Body) → AreKeptOf (λ n body kept. kept ≡ body) z x ds → AreBodies z x ds
+pub whole_kept : (z : Bool) (x : TableSet) (ds : List Body) → AreKeptOf (λ n body kept. kept ≡ body) z x ds → AreBodies z x ds
 whole_kept z x ds k = subst (AllZip (BecameIn z x) x.methods.items) (kept_whole k.0 ds k.2) k.1
 
 -- ---- what it says of them

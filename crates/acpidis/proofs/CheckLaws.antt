@@ -1,7 +1,7 @@
 -- The methods of each table are counted, whatever their order: a mark is added to the table that it names, and what the
 -- tables have then, with the marks that are still to come, stays what it was (`counted_more`). The counts begin at
 -- nothing and end where no mark is left (`counted_all`).
-use Rattle.acpidis.proofs.Common.{◌&&◌, list_all, sum_by-cons, at_drop_all, drop_more, get_or_default, set_past, All-get_or, All-map, All-set, All-weaker, ◌≡◌}
+use Rattle.acpidis.proofs.Common.{◌&&◌, list_all, sum_by-cons, at_drop_all, drop_more, get_or_default, set_past, All, All-get_or, All-map, All-set, All-weaker, All-nil, All-cons, ◌≡◌}
 use Rattle.acpidis.proofs.Common.{ℕ, zero, suc, ◌+◌, ◌<◌, ◌≤◌, nat_eq, Bool, true, false, cond, List, [], ◌∷◌, map, drop, length, get_or, set, inl, inr, Result}
 use Rattle.acpidis.proofs.Common.{refl, sym, ap, ap₂, ◌∙◌, arith, CodeFault, Trees, AreShort, Method, OneBlock, blocks_of, marks_in, IsUnder, Under, added}
 use Rattle.acpidis.proofs.Common.{uncounted, tally, tallied, tried_mark, tried_marks, Checked, Mark}
@@ -108,11 +108,11 @@ module _ (ms : List Method) (ds : List (Result Bool CodeFault)) (each : length d
   counted_all n first now past was =
       sym (at_drop_all (λ marks. tallied marks 0 now) (tried_marks ms ds) n (omega (arith, many)) ∙ none_counted 0 now) ∙ was.rest
 
--- the AML of a block is no longer than a table
-pub short_block : (names codes : List (List ℕ)) (terms : List Trees) (t : ℕ) (other : OneBlock) → AreShort codes → length other.code ≤ 16777216
-    → length (get_or (blocks_of names codes terms) t other).code ≤ 16777216
-short_block [] codes terms t other h o = o
-short_block (n ∷ names) [] terms t other h o = o
-short_block (n ∷ names) (c ∷ codes) [] t other h o = o
-short_block (n ∷ names) (c ∷ codes) (ts ∷ terms) zero other h o = h.0
-short_block (n ∷ names) (c ∷ codes) (ts ∷ terms) (suc t) other h o = short_block names codes terms t other h.1 o
+-- the AML of each block is no longer than a table
+pub short_blocks : (names codes : List (List ℕ)) (terms : List Trees) → AreShort codes → All (λ b. length b.code ≤ 16777216) (blocks_of names codes terms)
+short_blocks [] codes terms h = All-nil (λ (b : OneBlock). length b.code ≤ 16777216)
+short_blocks (n ∷ names) [] terms h = All-nil (λ (b : OneBlock). length b.code ≤ 16777216)
+short_blocks (n ∷ names) (c ∷ codes) [] h = All-nil (λ (b : OneBlock). length b.code ≤ 16777216)
+short_blocks (n ∷ names) (c ∷ codes) (ts ∷ terms) h =
+    All-cons (λ (b : OneBlock). length b.code ≤ 16777216) (record { name = n; code = c; terms = ts }) (blocks_of names codes terms) h.0
+    (short_blocks names codes terms h.1)

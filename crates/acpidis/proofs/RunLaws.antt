@@ -1,11 +1,13 @@
 -- A run prints the text of the one listing that the dumps mean: what is kept of the bodies prints as the bodies of
 -- whatever they mean do (`texts_output`), and with `--check` says the same of them (`trials_output`); so the writer has
 -- the whole text, or its first bytes. Two listings in memory of the same dumps print the same (`one_output`).
-use Rattle.acpidis.proofs.Common.{◌≡◌, ℕ, Bool, true, false, cond, List, ◌∷◌, ◌++◌, map, get_or, Result, sym, ap, ap₂, ◌∙◌, methods_of, codes_view, trees_view}
-use Rattle.acpidis.proofs.Common.{body_of, Loaded, Method, CodeFault, Trees, Dump, Order, Body, BodyText, OneBody, OneBlock, levels_of, body_lines, names_in}
-use Rattle.acpidis.proofs.Common.{blocks_of, blocks_with, listing_text, text_with, IsText, body_view, printed_lines, indexes_in, has_raw, AreBodies, marks_of}
-use Rattle.acpidis.proofs.Common.{checks_with, check_lines, all_same, IsKept, AreKeptOf, IsSame, has_fault, tried_marks, Meaning, HoldsSet, Means, Shows}
-use Rattle.acpidis.proofs.Common.{order_of, codes_of, IsSet, Options}
+use Rattle.acpidis.proofs.Common.{◌≡◌, ℕ, Bool, true, false, cond, List, ◌∷◌, ◌++◌, map, get_or, Result, sym, ap, ap₂, ◌∙◌, methods_of, codes_view}
+use Rattle.acpidis.proofs.Common.{table_codes, table_dumps, table_terms, body_in_set, TableSet, Method, CodeFault, Trees, Dump, Body, BodyText, OneBody, OneBlock, levels_of}
+use Rattle.acpidis.proofs.Common.{blocks_of, blocks_in, body_lines, names_in, whole_text, listing_text, IsText, body_view, printed_lines, indexes_in, has_raw}
+use Rattle.acpidis.proofs.Common.{AreBodies, marks_of, checks_with, check_lines, all_same, IsKept, AreKeptOf, IsSame, has_fault, tried_marks, Meaning}
+use Rattle.acpidis.proofs.Common.{Means, Shows, order_of, codes_of, IsSet, Options}
+use Rattle.aml_code.specs.View.{nodes_view}
+use Rattle.aml_space.specs.Known.{Known, StandsFor}
 use Rattle.aml_space.proofs.Stands.{known_alone}
 use Rattle.acpi_text.specs.Dumps.{dumps_text}
 use Rattle.aml_text.specs.declared.listing.Listing.{Listing}
@@ -17,27 +19,25 @@ use Rattle.acpidis.proofs.MeaningLaws.{means_so, means_only}
 use Rattle.acpidis.proofs.SameLaws.{all_are_same}
 use Rattle.std.specs.FinMap as finite
 
--- ---- what is printed of an order and a loaded set with bodies
+-- ---- what is printed of dumps, a namespace, definition blocks and methods, with bodies
 
-abbrev printed : Bool → List Dump → Order → Loaded → List OneBody → List ℕ
-printed false dumps order x bs = text_with dumps order x (map body_lines bs)
-printed true dumps order x bs =
-    let blocks = blocks_with dumps order x in check_lines blocks (checks_with blocks (marks_of (codes_view x.tables.items) x.methods.items bs))
+abbrev printed : Bool → List Dump → Known → List OneBlock → List (List ℕ) → List Method → List OneBody → List ℕ
+printed false dumps known blocks codes ms bs = whole_text dumps (finite.entries known.declarations) blocks (map body_lines bs)
+printed true dumps known blocks codes ms bs = check_lines blocks (checks_with blocks (marks_of codes ms bs))
 
-module _ (dumps : List Dump) (order : Order) (x : Loaded) (k : Meaning) (h : HoldsSet order x dumps k) where
-  same_order : indexes_in order ≡ order_of k
-  same_order = ap₂ ◌∷◌ h.dsdt h.ssdts
-
+module _ (dumps : List Dump) (k : Meaning) (order : List ℕ) (codes : List (List ℕ)) (trees : List Trees) (known : Known) (ms : List Method)
+    (named : order ≡ order_of k) (coded : codes ≡ codes_of dumps k) (read : trees ≡ k.trees) (stands : StandsFor known k.listed.entries)
+    (methods : ms ≡ methods_of k.listed.entries) where
   -- the tables of a listing that they hold, and its methods, are those of that
-  at_listing : {Y : Type 0} (F : List OneBlock → List (List ℕ) → List Method → Y) → F (blocks_with dumps order x) (codes_view x.tables.items) x.methods.items
+  at_listing : {Y : Type 0} (F : List OneBlock → List (List ℕ) → List Method → Y) → F (blocks_of (names_in dumps order) codes trees) codes ms
       ≡ F (blocks_of (names_in dumps (order_of k)) (codes_of dumps k) k.trees) (codes_of dumps k) (methods_of k.listed.entries)
-  at_listing F = λ i. F (blocks_of (names_in dumps (same_order i)) (h.holds.tables i) (h.holds.trees i)) (h.holds.tables i) (h.holds.methods i)
+  at_listing F = λ i. F (blocks_of (names_in dumps (named i)) (coded i) (read i)) (coded i) (methods i)
 
   -- with its bodies its output is printed
-  printed_is : (check : Bool) → printed check dumps order x k.bodies ≡ output_of check dumps k
+  printed_is : (check : Bool) → printed check dumps known (blocks_of (names_in dumps order) codes trees) codes ms k.bodies ≡ output_of check dumps k
   printed_is false =
-      let rows = ap (λ known. finite.entries known.declarations) (known_alone x.space k.listed.entries h.holds.space) in
-      λ i. listing_text dumps (same_order i) (rows i) (h.holds.tables i) (h.holds.trees i) k.bodies
+      let rows = ap (λ known. finite.entries known.declarations) (known_alone known k.listed.entries stands) in
+      λ i. listing_text dumps (named i) (rows i) (coded i) (read i) k.bodies
   printed_is true = at_listing (λ blocks codes ms. check_lines blocks (checks_with blocks (marks_of codes ms k.bodies)))
 
 -- ---- Two listings in memory of the same dumps and options, of which one shows what the dumps mean and the other shows
@@ -49,71 +49,91 @@ module _ (dumps : List Dump) (options : Options) (x y : Listing) (sound : (k : M
   one_listing = (sound.0, sound.1, sound.2, one sound.0 sound.1)
 
   abbrev pub shown : Bool → Listing → List ℕ
-  shown check l = printed check l.dumps.now l.order l.loaded (map body_view l.bodies.items)
+  shown check l =
+      printed check l.dumps.now l.loaded.space (blocks_in l) (codes_view l.loaded.tables.items) l.loaded.methods.items (map body_view l.bodies.items)
 
   shown_is : (check : Bool) (l : Listing) → Shows l dumps sound.0 → shown check l ≡ output_of check dumps sound.0
-  shown_is check l s = (λ i. printed check (s.same_dumps i) l.order l.loaded (s.bodies i)) ∙ printed_is dumps l.order l.loaded sound.0 s.set check
+  shown_is check l s =
+      let holds = s.set.holds in
+      let trees = map (λ v. nodes_view v.items) l.loaded.trees.items in
+      let order = indexes_in l.order in
+      let codes = codes_view l.loaded.tables.items in
+      (λ i. printed check (s.same_dumps i) l.loaded.space (blocks_of (names_in (s.same_dumps i) order) codes trees) codes l.loaded.methods.items (s.bodies i))
+      ∙ printed_is dumps sound.0 order codes trees l.loaded.space l.loaded.methods.items (ap₂ ◌∷◌ s.set.dsdt s.set.ssdts) holds.tables holds.trees holds.space
+      holds.methods check
 
   pub one_output : (check : Bool) → shown check x ≡ shown check y
   one_output check = shown_is check x sound.2 ∙ sym (shown_is check y (one sound.0 sound.1))
 
 -- ---- the output of a set whose bodies were read
 
-module _ (dumps : List Dump) (options : Options) (order : Order) (x : Loaded) (set : IsSet dumps options order x) (bs : List Body)
-    (are : AreBodies options.unknown_zero x bs) where
-  bodies_are : (k : Meaning) → Means dumps options k → map body_view bs ≡ k.bodies
-  bodies_are k means = means_only dumps options order x bs are k means (set.one k means.set)
+module _ (dumps : List Dump) (options : Options) (x : TableSet) where
+  abbrev blocks : List OneBlock
+  blocks = blocks_of (names_in dumps (table_dumps x.tables.items)) (table_codes x.tables.items) (table_terms x.tables.items)
 
-  output_so : (check : Bool) (status : ℕ) (text : List ℕ) → status ≡ cond (has_raw (map body_view bs)) 3 0
-      → text ≡ printed check dumps order x (map body_view bs) → IsOutput dumps options check status text
-  output_so check status text s t =
-      let meant = means_so dumps options order x bs are set.sound in
-      let of : (k : Meaning) → Means dumps options k → (status ≡ status_with k) × (text ≡ output_of check dumps k) = λ k means. (
-        s ∙ ap (λ b. cond (has_raw b) 3 0) (bodies_are k means),
-        t ∙ ap (printed check dumps order x) (bodies_are k means) ∙ printed_is dumps order x k (set.one k means.set) check,
-      ) in
-      let here = of meant.0 meant.1 in
-      record {
-        lists = record { listing = meant.0; means = meant.1; text_is = here.1; status_is = here.0 };
-        one = λ other others l. let so = of l.listing l.means in (l.status_is ∙ sym so.0, l.text_is ∙ sym so.1);
-      }
+  abbrev printed_set : Bool → List OneBody → List ℕ
+  printed_set check bs = printed check dumps x.space blocks (table_codes x.tables.items) x.methods.items bs
 
-  -- no table differs
-  same_so : all_same (checks_with (blocks_with dumps order x) (marks_of (codes_view x.tables.items) x.methods.items (map body_view bs))) ≡ true
-  same_so =
-      let meant = means_so dumps options order x bs are set.sound in
-      ap (λ bs. all_same (checks_with (blocks_with dumps order x) (marks_of (codes_view x.tables.items) x.methods.items bs))) meant.3
-      ∙ at_listing dumps order x meant.0 meant.2 (λ blocks codes ms. all_same (checks_with blocks (marks_of codes ms meant.0.bodies)))
-      ∙ all_are_same dumps options meant.0 meant.1
+  module _ (set : IsSet dumps options x) (bs : List Body) (are : AreBodies options.unknown_zero x bs) where
+    bodies_are : (k : Meaning) → Means dumps options k → map body_view bs ≡ k.bodies
+    bodies_are k means = means_only dumps options x bs are k means (set.one k means.set)
 
--- ---- by what is kept of them: texts at the levels of the tables, or trials
+    output_so : (check : Bool) (status : ℕ) (text : List ℕ) → status ≡ cond (has_raw (map body_view bs)) 3 0
+        → text ≡ printed_set check (map body_view bs) → IsOutput dumps options check status text
+    output_so check status text s t =
+        let meant = means_so dumps options x bs are set.sound in
+        let of : (k : Meaning) → Means dumps options k → (status ≡ status_with k) × (text ≡ output_of check dumps k) = λ k means.
+        let it = set.one k means.set in (
+          s ∙ ap (λ b. cond (has_raw b) 3 0) (bodies_are k means),
+          t ∙ ap (printed_set check) (bodies_are k means)
+              ∙ printed_is dumps k (table_dumps x.tables.items) (table_codes x.tables.items) (table_terms x.tables.items) x.space x.methods.items it.named
+              it.holds.tables it.holds.trees it.holds.space it.holds.methods check,
+        ) in
+        let here = of meant.0 meant.1 in
+        record {
+          lists = record { listing = meant.0; means = meant.1; text_is = here.1; status_is = here.0 };
+          one = λ other others l. let so = of l.listing l.means in (l.status_is ∙ sym so.0, l.text_is ∙ sym so.1);
+        }
 
-module _ (dumps : List Dump) (options : Options) (order : Order) (x : Loaded) (set : IsSet dumps options order x) where
-  pub texts_output : (levels : List ℕ) (found ds : List (Result BodyText CodeFault)) → levels ≡ levels_of (trees_view x.trees.items) → ds ≡ found
-      → AreKeptOf (λ n. IsKept (IsText (get_or levels n 0))) options.unknown_zero x found
-      → IsOutput dumps options false (cond (has_fault ds) 3 0) (text_with dumps order x (map printed_lines ds))
-  texts_output levels found ds there is was =
-      let kept : AreKeptOf (λ n. IsKept (IsText (get_or (levels_of (trees_view x.trees.items)) n 0))) options.unknown_zero x ds = rw (is, ← there) was in
-      let Gives : ℕ → Trees → BodyText → Type 0 = λ n. IsText (get_or (levels_of (trees_view x.trees.items)) n 0) in
-      let front : List ℕ = dumps_text dumps ++ namespace_text (finite.entries x.space.declarations) in
-      let same : text_with dumps order x (map body_lines (map body_view kept.0)) ≡ text_with dumps order x (map printed_lines ds) =
-      ap (λ (l : List ℕ). front ++ l) (same_blocks (names_in dumps (indexes_in order)) (codes_view x.tables.items) (trees_view x.trees.items) _ _
-      (texts_agree (levels_of (trees_view x.trees.items)) kept.0 ds kept.2)) in
-      output_so dumps options order x set kept.0 kept.1 false _ _ (ap (λ b. cond b 3 0) (faults_are Gives kept.0 ds kept.2)) (sym same)
+    -- no table differs
+    same_so : all_same (checks_with blocks (marks_of (table_codes x.tables.items) x.methods.items (map body_view bs))) ≡ true
+    same_so =
+        let meant = means_so dumps options x bs are set.sound in
+        let it = meant.2 in
+        ap (λ bs. all_same (checks_with blocks (marks_of (table_codes x.tables.items) x.methods.items bs))) meant.3
+        ∙ at_listing dumps meant.0 (table_dumps x.tables.items) (table_codes x.tables.items) (table_terms x.tables.items) x.space x.methods.items it.named
+        it.holds.tables it.holds.trees it.holds.space it.holds.methods (λ blocks codes ms. all_same (checks_with blocks (marks_of codes ms meant.0.bodies)))
+        ∙ all_are_same dumps options meant.0 meant.1
 
-  module _ (found ds : List (Result Bool CodeFault)) (is : ds ≡ found)
-      (was : AreKeptOf (λ n. IsKept (IsSame (body_of x n))) options.unknown_zero x found) where
-    kept : AreKeptOf (λ n. IsKept (IsSame (body_of x n))) options.unknown_zero x ds
-    kept = rw is was
+  -- ---- by what is kept of them: texts at the levels of the tables, or trials
 
-    marks_are : tried_marks x.methods.items ds ≡ marks_of (codes_view x.tables.items) x.methods.items (map body_view kept.0)
-    marks_are = trials_are (codes_view x.tables.items) x.methods.items kept.0 ds kept.2
+  module _ (set : IsSet dumps options x) where
+    pub texts_output : (levels : List ℕ) (found ds : List (Result BodyText CodeFault)) → levels ≡ levels_of (table_terms x.tables.items) → ds ≡ found
+        → AreKeptOf (λ n. IsKept (IsText (get_or levels n 0))) options.unknown_zero x found
+        → IsOutput dumps options false (cond (has_fault ds) 3 0) (whole_text dumps (finite.entries x.space.declarations) blocks (map printed_lines ds))
+    texts_output levels found ds there is was =
+        let kept : AreKeptOf (λ n. IsKept (IsText (get_or (levels_of (table_terms x.tables.items)) n 0))) options.unknown_zero x ds = rw (is, ← there) was in
+        let Gives : ℕ → Trees → BodyText → Type 0 = λ n. IsText (get_or (levels_of (table_terms x.tables.items)) n 0) in
+        let front : List ℕ = dumps_text dumps ++ namespace_text (finite.entries x.space.declarations) in
+        let same : whole_text dumps (finite.entries x.space.declarations) blocks (map body_lines (map body_view kept.0))
+        ≡ whole_text dumps (finite.entries x.space.declarations) blocks (map printed_lines ds) =
+        ap (λ (l : List ℕ). front ++ l) (same_blocks (names_in dumps (table_dumps x.tables.items)) (table_codes x.tables.items) (table_terms x.tables.items) _ _
+        (texts_agree (levels_of (table_terms x.tables.items)) kept.0 ds kept.2)) in
+        output_so set kept.0 kept.1 false _ _ (ap (λ b. cond b 3 0) (faults_are Gives kept.0 ds kept.2)) (sym same)
 
-    pub trials_output : IsOutput dumps options true (cond (has_fault ds) 3 0)
-        (check_lines (blocks_with dumps order x) (checks_with (blocks_with dumps order x) (tried_marks x.methods.items ds)))
-    trials_output =
-        output_so dumps options order x set kept.0 kept.1 true _ _ (ap (λ b. cond b 3 0) (faults_are (λ n. IsSame (body_of x n)) kept.0 ds kept.2))
-        (ap (λ marks. check_lines (blocks_with dumps order x) (checks_with (blocks_with dumps order x) marks)) marks_are)
+    module _ (found ds : List (Result Bool CodeFault)) (is : ds ≡ found)
+        (was : AreKeptOf (λ n. IsKept (IsSame (body_in_set x n))) options.unknown_zero x found) where
+      kept : AreKeptOf (λ n. IsKept (IsSame (body_in_set x n))) options.unknown_zero x ds
+      kept = rw is was
 
-    pub trials_same : all_same (checks_with (blocks_with dumps order x) (tried_marks x.methods.items ds)) ≡ true
-    trials_same = ap (λ marks. all_same (checks_with (blocks_with dumps order x) marks)) marks_are ∙ same_so dumps options order x set kept.0 kept.1
+      marks_are : tried_marks x.methods.items ds ≡ marks_of (table_codes x.tables.items) x.methods.items (map body_view kept.0)
+      marks_are = trials_are (table_codes x.tables.items) x.methods.items kept.0 ds kept.2
+
+      pub trials_output : IsOutput dumps options true (cond (has_fault ds) 3 0)
+          (check_lines blocks (checks_with blocks (tried_marks x.methods.items ds)))
+      trials_output =
+          output_so set kept.0 kept.1 true _ _ (ap (λ b. cond b 3 0) (faults_are (λ n. IsSame (body_in_set x n)) kept.0 ds kept.2))
+          (ap (λ marks. check_lines blocks (checks_with blocks marks)) marks_are)
+
+      pub trials_same : all_same (checks_with blocks (tried_marks x.methods.items ds)) ≡ true
+      trials_same = ap (λ marks. all_same (checks_with blocks marks)) marks_are ∙ same_so set kept.0 kept.1

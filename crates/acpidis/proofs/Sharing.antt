@@ -8,7 +8,7 @@ use Rattle.aml_code.proofs.tree.Field.TheLaws.TheKnot as Field
 use Rattle.aml_code.specs.contracts.tree.Node as Node
 use Rattle.aml_names.proofs.paths.Path.TheSendSync as Path
 use Rattle.aml_load.below.aml_children.proofs.trees.Tree.TheLaws.TheKnot as Tree
-use Rattle.aml_set.specs.contracts.loaded.Loaded as Loaded
+use Rattle.aml_set.specs.contracts.tables.TableSet as TableSet
 use Rattle.aml_space.specs.contracts.spaces.Space as Space
 use Rattle.acpidis.specs.contracts.bodies.Keeping as Keeping
 
@@ -18,13 +18,13 @@ space_sync = search (crosses, Tree.crosses, Path.the_sync, sendable) depth 80 fi
 node_sync : IsSync Node.the_row
 node_sync = search (crosses, Field.crosses, sendable) depth 80 fits 60000
 
-loaded_sync : (b : NamedLft) → IsSync (Loaded.the_row b)
-loaded_sync b = search (space_sync, node_sync, crosses, Path.the_sync, sendable) depth 60 fits 40000
+set_sync : (b : NamedLft) → IsSync (TableSet.the_row b)
+set_sync b = search (space_sync, node_sync, crosses, Path.the_sync, sendable) depth 60 fits 40000
 
 pub keeping_sync : (a b : NamedLft) (K : RattleType) → IsSync K → IsSync (Keeping.the_row a b K)
 keeping_sync a b K kept =
     let T = Keeping.the_type a b K in
     recorded_sync _ _ T.to T.to_one (struct_sync (shape T) (
       search (sendable, crosses),
-      (shr_sync _ _ (Loaded.the_row b) (loaded_sync b), (search (sendable, crosses), (shr_sync _ _ K kept, tt))),
+      (shr_sync _ _ (TableSet.the_row b) (set_sync b), (search (sendable, crosses), (shr_sync _ _ K kept, tt))),
     ))

@@ -1,7 +1,8 @@
--- The AML of the tables of an order, one after the other: each is what follows its header, and none is too long.
+-- The tables of an order: each has a header, and no more bytes than a dump may have, and so has its AML.
 use Rattle.acpidis.proofs.Common.{length-append, length-drop, take-append-drop, ℕ, zero, suc, ◌<◌, ◌≤◌, length, get_or, take, drop, arith, List, [], ◌∷◌, sym}
-use Rattle.acpidis.proofs.Common.{ap, ◌∙◌, AreShort, Dump, HoldsTable, table_of, AreTables, bytes_of, aml_of, codes_in}
+use Rattle.acpidis.proofs.Common.{ap, ◌∙◌, Dump, HoldsTable, table_of, AreTables, bytes_of, aml_of}
 use Rattle.acpi_tables.specs.Bytes.{number_at}
+use Rattle.acpi_tables.specs.Dumps.{most_bytes}
 
 -- a table of an order has a header
 pub table_at : (dumps : List Dump) (order : List ℕ) (i : ℕ) → i < length order → AreTables dumps order → HoldsTable (bytes_of dumps (get_or order i 0))
@@ -9,13 +10,15 @@ table_at dumps [] i h t = absurd (omega (arith, h))
 table_at dumps (x ∷ order) zero h t = t.0
 table_at dumps (x ∷ order) (suc i) h t = table_at dumps order i (omega (arith, h)) t.2
 
-aml_within : (bytes : List ℕ) → length (aml_of bytes) ≤ length bytes
+pub aml_within : (bytes : List ℕ) → length (aml_of bytes) ≤ length bytes
 aml_within bytes =
     let n = number_at bytes 4 4 in
     let whole = sym (length-append (take n bytes) (drop n bytes)) ∙ ap length (take-append-drop n bytes) in
     omega (arith, whole, length-drop 36 (table_of bytes))
 
--- and no more AML than a table may have
-pub short_so : (dumps : List Dump) (order : List ℕ) → AreTables dumps order → AreShort (codes_in dumps order)
-short_so dumps [] t = tt
-short_so dumps (x ∷ order) t = (omega (arith, aml_within (bytes_of dumps x), t.1), short_so dumps order t.2)
+-- and no more bytes than a dump may have
+pub short_at : (dumps : List Dump) (order : List ℕ) (i : ℕ) → i < length order → AreTables dumps order
+    → length (bytes_of dumps (get_or order i 0)) ≤ most_bytes
+short_at dumps [] i h t = absurd (omega (arith, h))
+short_at dumps (x ∷ order) zero h t = t.1
+short_at dumps (x ∷ order) (suc i) h t = short_at dumps order i (omega (arith, h)) t.2

@@ -1,5 +1,5 @@
 -- The AML of definition blocks, and what becomes of the bodies of methods: terms, or bytes where a body reads as none.
-use Rattle.std.specs.Prelude.{ℕ, List, drop, map, ◌≡◌, ◌<◌, ◌≤◌, Bool, true, false, length, slice_get, All, Vec, Err}
+use Rattle.std.specs.Prelude.{ℕ, List, drop, map, ◌≡◌, ◌<◌, Bool, true, false, length, slice_get, All, Vec, Err}
 use Rattle.acpi_tables.specs.declared.dump.Dump.{Dump}
 use Rattle.acpi_tables.specs.Header.{table_of}
 use Rattle.acpi_tables.specs.Order.{bytes_of}
@@ -11,9 +11,9 @@ use Rattle.aml_code.specs.Tree.{Trees}
 use Rattle.aml_code.specs.View.{nodes_view}
 use Rattle.aml_space.specs.Namespace.{Entry}
 use Rattle.aml_space.specs.Known.{StandsFor}
-use Rattle.aml_set.specs.Views.{AreShort, codes_view}
+use Rattle.aml_set.specs.Views.{table_codes}
 use Rattle.aml_load.specs.Views.{IsBody, IsUnread, body_at, OfMethod}
-use Rattle.aml_set.specs.declared.loaded.Loaded.{Loaded}
+use Rattle.aml_set.specs.declared.tables.TableSet.{TableSet}
 use Rattle.aml_set.specs.declared.methods.Method.{Method}
 use Rattle.aml_pool.specs.Counting.{IsOnce}
 use Rattle.aml_pool.specs.Seats.{all_of}
@@ -68,21 +68,17 @@ pub record AreDrawn (workers count : ℕ) (drawn : List (Vec ℕ Global)) : Type
 
 -- ---- A stepping stone of the proofs: the bodies of a loaded set.
 
--- the limits of a table and of the methods
-abbrev pub IsWithinLimits : Loaded → Type 0
-IsWithinLimits x = AreShort (codes_view x.tables.items) × (length x.methods.items ≤ 1048576)
-
 -- the body of this number can be read
-abbrev pub CanRead : Loaded → ℕ → Type 0
-CanRead x number = (number < length x.methods.items) × AreShort (codes_view x.tables.items)
+abbrev pub CanRead : TableSet → ℕ → Type 0
+CanRead x number = number < length x.methods.items
 
 -- the body of a method became this, whatever entries the namespace stands for
-abbrev pub BecameIn : Bool → Loaded → Method → Body → Type 0
-BecameIn z x m d = (es : List Entry) → StandsFor x.space es → Became z es (codes_view x.tables.items) m d
+abbrev pub BecameIn : Bool → TableSet → Method → Body → Type 0
+BecameIn z x m d = (es : List Entry) → StandsFor x.space es → Became z es (table_codes x.tables.items) m d
 
 -- that of the method of this number, and those of all
-abbrev pub BecameOf : Bool → Loaded → ℕ → Body → Type 0
+abbrev pub BecameOf : Bool → TableSet → ℕ → Body → Type 0
 BecameOf z x number d = OfMethod (slice_get x.methods.items number) (λ m. BecameIn z x m d)
 
-abbrev pub AreBodies : Bool → Loaded → List Body → Type 0
+abbrev pub AreBodies : Bool → TableSet → List Body → Type 0
 AreBodies z x ds = AllZip (BecameIn z x) x.methods.items ds

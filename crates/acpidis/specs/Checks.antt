@@ -20,7 +20,7 @@ use Rattle.acpidis.specs.declared.checking.Checked.{Checked}
 use Rattle.acpidis.specs.declared.checking.Mark.{Mark}
 use Rattle.aml_names.specs.declared.faults.CodeFault.{CodeFault}
 use Rattle.aml_code.specs.View.{nodes_view}
-use Rattle.aml_set.specs.declared.loaded.Loaded.{Loaded}
+use Rattle.aml_set.specs.declared.tables.TableSet.{TableSet}
 use Rattle.asl_text.specs.declared.bodies.Body.{Body}
 use Rattle.asl_text.specs.declared.bodies.Body.TheVariants as bodies
 
@@ -127,7 +127,7 @@ AreKept Keeps (b ∷ bs) (d ∷ ds) = Keeps 0 b d × AreKept (λ n. Keeps (suc n
 AreKept Keeps _ _ = ⊥
 
 -- of those of a loaded set
-abbrev pub AreKeptOf : {X : Type 0} → (ℕ → Body → X → Type 0) → Bool → Loaded → List X → Type 0
+abbrev pub AreKeptOf : {X : Type 0} → (ℕ → Body → X → Type 0) → Bool → TableSet → List X → Type 0
 AreKeptOf Keeps z x ds = (bs : List Body) × AreBodies z x bs × AreKept Keeps bs ds
 
 -- whether a fault is kept

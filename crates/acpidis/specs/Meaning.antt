@@ -1,5 +1,5 @@
 -- What a set of dumps means: one listing, as plain data, and its text.
-use Rattle.std.specs.Prelude.{◌≡◌, ℕ, Bool, ◌&&◌, List, ◌∷◌, map}
+use Rattle.std.specs.Prelude.{◌≡◌, ◌≤◌, ℕ, Bool, ◌&&◌, List, ◌∷◌, map, length}
 use Rattle.std.specs.List.{AllZip}
 use Rattle.std.specs.FinMap as finite
 use Rattle.aml_names.specs.declared.segments.Seg.{Seg}
@@ -8,18 +8,19 @@ use Rattle.aml_space.specs.Namespace.{Entry}
 use Rattle.aml_space.specs.Known.{Declared, declarations_in}
 use Rattle.aml_load.specs.Loading.{Listed, methods_of}
 use Rattle.aml_load.specs.Tables.{LoadsTo}
-use Rattle.aml_load.specs.Views.{HoldsLoad}
+use Rattle.aml_load.specs.Views.{HoldsLoad, HoldsTables}
+use Rattle.aml_set.specs.Views.{table_dumps}
 use Rattle.aml_set.specs.declared.loaded.Loaded.{Loaded}
+use Rattle.aml_set.specs.declared.tables.TableSet.{TableSet}
 use Rattle.asl_text.specs.Texts.{OneBody}
 use Rattle.asl_text.specs.Bodies.{body_view}
 use Rattle.aml_text.specs.Listing.{listing_text}
-use Rattle.aml_text.specs.Matched.{AreMatched}
 use Rattle.aml_text.specs.declared.listing.Listing.{Listing}
 use Rattle.acpi_tables.specs.declared.dump.Dump.{Dump}
 use Rattle.acpi_tables.specs.declared.order.Order.{Order}
 use Rattle.acpi_tables.specs.Order.{IsOrder}
 use Rattle.acpidis.specs.declared.options.Options.{Options}
-use Rattle.acpidis.specs.Bodies.{codes_in, AreEntries, Became, IsWithinLimits}
+use Rattle.acpidis.specs.Bodies.{codes_in, AreEntries, Became}
 
 -- a listing: the indexes of the definition blocks in load order, their terms, what these declare, and a body for each
 -- method
@@ -90,9 +91,13 @@ Told x dumps options k =
 -- ---- A stepping stone of the proofs: the tables of a set, loaded in their order, before the bodies of their methods
 -- are read.
 
--- an order and a loaded set are what the dumps have and load to, which is nothing else, and they are within the limits
-pub record IsSet (dumps : List Dump) (options : Options) (order : Order) (loaded : Loaded) : Type 0 where
-  pub sound : (k : Meaning) × LoadsSet dumps options k × HoldsSet order loaded dumps k
-  pub one : (k : Meaning) → LoadsSet dumps options k → HoldsSet order loaded dumps k
-  pub matched : AreMatched order loaded
-  pub limits : IsWithinLimits loaded
+-- the tables of a set are those of this listing
+pub record HasTables (set : TableSet) (dumps : List Dump) (k : Meaning) : Type 0 where
+  pub named : table_dumps set.tables.items ≡ order_of k
+  pub holds : HoldsTables set (codes_of dumps k) k.trees k.listed
+
+-- a set is what the dumps load to, which is nothing else, and within the limit of methods
+pub record IsSet (dumps : List Dump) (options : Options) (set : TableSet) : Type 0 where
+  pub sound : (k : Meaning) × LoadsSet dumps options k × HasTables set dumps k
+  pub one : (k : Meaning) → LoadsSet dumps options k → HasTables set dumps k
+  pub few : length set.methods.items ≤ 1048576

@@ -1,17 +1,17 @@
 //! The bodies of all methods, read by workers, and what is kept of them.
 ghost use Rattle.std.specs.Prelude.{◌≡◌, ◌≤◌, ℕ, List, IfOk, IfErr, length};
-ghost use Rattle.aml_set.specs.Views.{body_of};
+ghost use Rattle.aml_set.specs.Views.{body_in_set, span_of, table_codes};
 ghost use Rattle.asl_text.specs.declared.bodies.Body.{Body};
 ghost use Rattle.acpidis.specs.Refusals.{IsWant};
-ghost use Rattle.acpidis.specs.Bodies.{AreBodies, CanRead, BecameOf, AreDrawn, IsWithinLimits};
+ghost use Rattle.acpidis.specs.Bodies.{AreBodies, CanRead, BecameIn, BecameOf, AreDrawn};
 ghost use Rattle.acpidis.specs.Checks.{AreKeptOf};
 
 use crate::crew::Crew;
 use crate::refusal::Refusal;
 use aml_code::CodeFault;
-use aml_load::read_body;
+use aml_load::read_span;
 use aml_pool::{Gate, NoMemory, PoolFault, Results, Work, harvest};
-use aml_set::Loaded;
+use aml_set::{Method, TableSet};
 use asl_text::Body;
 use std::alloc::Global;
 use std::sync::Wait;
@@ -33,22 +33,22 @@ pub(crate) trait Keep {
 #[derive(Drop)]
 struct Keeping<'a, 'b, K> {
     alloc: Global,
-    loaded: &'a Loaded<'b>,
+    set: &'a TableSet<'b>,
     unknown_zero: bool,
     keep: &'a K,
 }
 
 impl<'a, 'b, K> Keeping<'a, 'b, K> {
-    /// What the body of a method becomes: its terms, or why it can't be read.
-    fn read(&self, number: u32) -> Result<Body, NoMemory>
-        requires { CanRead self.now.loaded.now number }
-        ensures { IfOk result (λ body. BecameOf self.now.unknown_zero self.now.loaded.now number body) }
+    /// What the body of a method becomes, by its bytes: its terms, or why it can't be read.
+    fn read(&self, method: &Method, bytes: &[u8]) -> Result<Body, NoMemory>
+        requires short { length bytes.now ≤ 16777216 }
+        requires body { bytes.now ≡ span_of (table_codes self.now.set.now.tables.items) method.now }
+        ensures { IfOk result (BecameIn self.now.unknown_zero self.now.set.now method.now) }
     {
-        let method = &self.loaded.methods[number as usize];
-        match read_body(
+        match read_span(
             self.alloc,
-            self.loaded.tables.as_slice(),
-            &self.loaded.space,
+            bytes,
+            &self.set.space,
             method,
             self.unknown_zero,
         ) {
@@ -62,14 +62,16 @@ impl<'a, 'b, K> Keeping<'a, 'b, K> {
 impl<'a, 'b, K: Keep> Work for Keeping<'a, 'b, K> {
     type Done = K::Kept;
 
-    ghost can_work = { λ w n. CanRead w.loaded.now n };
+    ghost can_work = { λ w n. CanRead w.set.now n };
 
-    ghost gives = { λ w n d. (body : Body) × BecameOf w.unknown_zero w.loaded.now n body ×
-        K.keeps w.keep.now n (body_of w.loaded.now n) body d };
+    ghost gives = { λ w n d. (body : Body) × BecameOf w.unknown_zero w.set.now n body ×
+        K.keeps w.keep.now n (body_in_set w.set.now n) body d };
 
     fn work(&self, number: u32) -> Result<K::Kept, NoMemory> {
-        let body = self.read(number)?;
-        self.keep.keep(number, self.loaded.body(number), body)
+        let method = &self.set.methods[number as usize];
+        let bytes = self.set.span(method);
+        let body = self.read(method, bytes)?;
+        self.keep.keep(number, bytes, body)
     }
 }
 
@@ -77,32 +79,32 @@ impl<'a, 'b, K: Keep> Work for Keeping<'a, 'b, K> {
 /// counts as one without arguments. A body that can't be read is raw, and refuses nothing.
 pub(crate) fn keep_bodies<R: Threads + Wait + Sync, G: Gate + Sync, K: Keep + Sync>(
     crew: &Crew<'_, R, G>,
-    loaded: &Loaded<'_>,
+    set: &TableSet<'_>,
     unknown_zero: bool,
     keep: &K,
 ) -> Result<Results<K::Kept>, Refusal>
 where
     K::Kept: Send + Drop,
     requires workers { (1 ≤ crew.now.workers) × (crew.now.workers ≤ 64) }
-    requires limits { IsWithinLimits loaded.now }
+    requires few { length set.now.methods.items ≤ 1048576 }
 
     // It is kept of the body of each method.
     ensures kept { IfOk result (λ r.
-        AreKeptOf (λ n. K.keeps keep.now n (body_of loaded.now n)) unknown_zero loaded.now r.items.items) }
-    ensures each { IfOk result (λ r. length r.items.items ≡ length loaded.now.methods.items) }
+        AreKeptOf (λ n. K.keeps keep.now n (body_in_set set.now n)) unknown_zero set.now r.items.items) }
+    ensures each { IfOk result (λ r. length r.items.items ≡ length set.now.methods.items) }
     // Each method was drawn by one worker, once.
-    ensures drawn { IfOk result (λ r. AreDrawn crew.now.workers (length loaded.now.methods.items) r.drawn.items) }
+    ensures drawn { IfOk result (λ r. AreDrawn crew.now.workers (length set.now.methods.items) r.drawn.items) }
     // A refusal says nothing of the set; one worker needs no thread.
     ensures want { IfErr result IsWant }
     ensures one_needs_no_thread { crew.now.workers ≡ 1 → IfErr result (λ e. e ≡ Refusal.NoMemory) }
 {
     let work = Keeping {
         alloc: crew.alloc,
-        loaded,
+        set,
         unknown_zero,
         keep,
     };
-    let count = loaded.methods.len() as u32;
+    let count = set.methods.len() as u32;
     match harvest(crew.rt, crew.alloc, crew.workers, count, &work, crew.gate) {
         Ok(found) => Ok(found),
         Err(PoolFault::NoThread) => Err(Refusal::NoThread),
@@ -127,18 +129,18 @@ impl Keep for Whole {
 /// The crew reads the bodies of all methods, and keeps them.
 pub(crate) fn read_bodies<R: Threads + Wait + Sync, G: Gate + Sync>(
     crew: &Crew<'_, R, G>,
-    loaded: &Loaded<'_>,
+    set: &TableSet<'_>,
     unknown_zero: bool,
 ) -> Result<Results<Body>, Refusal>
     requires workers { (1 ≤ crew.now.workers) × (crew.now.workers ≤ 64) }
-    requires limits { IsWithinLimits loaded.now }
+    requires few { length set.now.methods.items ≤ 1048576 }
 
     // Each method has what its body reads as, and no other.
-    ensures bodies { IfOk result (λ r. AreBodies unknown_zero loaded.now r.items.items) }
-    ensures each { IfOk result (λ r. length r.items.items ≡ length loaded.now.methods.items) }
-    ensures drawn { IfOk result (λ r. AreDrawn crew.now.workers (length loaded.now.methods.items) r.drawn.items) }
+    ensures bodies { IfOk result (λ r. AreBodies unknown_zero set.now r.items.items) }
+    ensures each { IfOk result (λ r. length r.items.items ≡ length set.now.methods.items) }
+    ensures drawn { IfOk result (λ r. AreDrawn crew.now.workers (length set.now.methods.items) r.drawn.items) }
     ensures want { IfErr result IsWant }
     ensures one_needs_no_thread { crew.now.workers ≡ 1 → IfErr result (λ e. e ≡ Refusal.NoMemory) }
 {
-    keep_bodies(crew, loaded, unknown_zero, &Whole)
+    keep_bodies(crew, set, unknown_zero, &Whole)
 }

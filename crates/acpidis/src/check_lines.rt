@@ -1,12 +1,12 @@
 //! The lines that `--check` prints.
 ghost use Rattle.std.specs.Prelude.{◌≡◌};
 ghost use Rattle.text_writer.specs.Prints.{Prints, Writes};
-ghost use Rattle.aml_text.specs.Listing.{blocks_at, blocks_in};
+ghost use Rattle.aml_text.specs.Listing.{blocks_in};
 ghost use Rattle.acpidis.specs.Checks.{same_word, check_head, check_line, check_lines, all_same};
 
 use crate::checking::Checked;
 use acpi_text::{put_decimal, put_quoted};
-use aml_text::{Listing, Tables, block_at};
+use aml_text::{Blocks, Listing};
 use std::io::Write;
 use text_writer::{Out, WriteFault};
 
@@ -42,22 +42,22 @@ fn print_check<W: Write>(out: &mut Out<'_, W>, name: &[u8], checked: Checked)
 }
 
 /// The lines of the tables of a set.
-fn print_checks<W: Write>(out: &mut Out<'_, W>, tables: Tables<'_, '_>, checks: &[Checked])
-    ensures { Prints W.contents out.old out.new (check_lines (blocks_at tables.entry) checks.now) }
+fn print_checks<W: Write, T: Blocks>(out: &mut Out<'_, W>, tables: &T, checks: &[Checked])
+    ensures { Prints W.contents out.old out.new (check_lines (T.blocks tables.now) checks.now) }
 {
-    for table in 0..tables.loaded.tables.len().min(checks.len()) {
-        print_check(out, block_at(tables, table).name, checks[table]);
+    for table in 0..tables.count().min(checks.len()) {
+        print_check(out, tables.block(table).name, checks[table]);
     }
 }
 
 /// Writes a line for each table of a set.
-pub(crate) fn write_tables<W: Write>(
+pub(crate) fn write_tables<W: Write, T: Blocks>(
     out: &mut W,
-    tables: Tables<'_, '_>,
+    tables: &T,
     checks: &[Checked],
 ) -> Result<(), WriteFault>
     ensures { Writes (W.contents out.old) (W.contents out.new)
-        (check_lines (blocks_at tables.entry) checks.now) result }
+        (check_lines (T.blocks tables.now) checks.now) result }
 {
     let mut sink = Out::new(out);
     print_checks(&mut sink, tables, checks);
@@ -74,7 +74,7 @@ pub fn write_checks<W: Write>(
 ) -> Result<(), WriteFault>
     ensures { Writes (W.contents out.old) (W.contents out.new) (check_lines (blocks_in listing.now) checks.now) result }
 {
-    write_tables(out, listing.tables(), checks)
+    write_tables(out, listing, checks)
 }
 
 /// Whether all tables are the same.

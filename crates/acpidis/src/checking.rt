@@ -1,15 +1,14 @@
 //! Whether what was read encodes to the same bytes again.
-ghost use Rattle.std.specs.Prelude.{◌≡◌, ◌≤◌, ◌<◌, IfOk, length, map, slice_set, slice_index_or};
-ghost use Rattle.aml_set.specs.Views.{codes_view, AreShort, body_of};
+ghost use Rattle.std.specs.Prelude.{◌≡◌, ◌≤◌, ◌<◌, All, IfOk, length, map, slice_set, slice_index_or};
+ghost use Rattle.aml_set.specs.Code.{AreShort};
+ghost use Rattle.aml_set.specs.Views.{codes_view, body_of};
 ghost use Rattle.asl_text.specs.Bodies.{block_view};
-ghost use Rattle.aml_text.specs.Listing.{blocks_at};
-ghost use Rattle.acpidis.specs.Bodies.{IsWithinLimits};
 ghost use Rattle.acpidis.specs.Checks.{checks_with, checks_of, Under, added, uncounted, tallied, tried_mark, tried_marks, AreKept, IsKept, IsSame};
 
 use crate::trials::{is_encoding, try_body};
 use aml_code::{CodeFault, NoMemory};
 use aml_set::Method;
-use aml_text::{Listing, Tables, block_at};
+use aml_text::{Blocks, Listing};
 use asl_text::Block;
 use std::alloc::Global;
 
@@ -85,13 +84,13 @@ fn check_block(alloc: Global, block: &Block<'_>) -> Result<Checked, NoMemory>
 }
 
 /// What is said of the tables before their methods are counted.
-fn check_blocks(alloc: Global, tables: Tables<'_, '_>) -> Result<Vec<Checked>, NoMemory>
-    requires short { AreShort (codes_view tables.loaded.now.tables.items) }
-    ensures { IfOk result (λ all. all.items ≡ map uncounted (blocks_at tables.entry)) }
+fn check_blocks<T: Blocks>(alloc: Global, tables: &T) -> Result<Vec<Checked>, NoMemory>
+    requires short { All (λ b. length b.code ≤ 16777216) (T.blocks tables.now) }
+    ensures { IfOk result (λ all. all.items ≡ map uncounted (T.blocks tables.now)) }
 {
     let mut all = Vec::new(alloc);
-    for table in 0..tables.loaded.tables.len() {
-        let block = block_at(tables, table);
+    for table in 0..tables.count() {
+        let block = tables.block(table);
         all.push(check_block(alloc, &block)?)?;
     }
     Ok(all)
@@ -121,18 +120,19 @@ fn count_methods(methods: &[Method], tried: &[Result<bool, CodeFault>], all: &mu
 }
 
 /// What is said of the tables, by what was tried of the bodies of their methods.
-pub(crate) fn check_tables(
+pub(crate) fn check_tables<T: Blocks>(
     alloc: Global,
-    tables: Tables<'_, '_>,
+    tables: &T,
+    methods: &[Method],
     tried: &[Result<bool, CodeFault>],
 ) -> Result<Vec<Checked>, NoMemory>
-    requires limits { IsWithinLimits tables.loaded.now }
-    requires each { length tried.now ≡ length tables.loaded.now.methods.items }
-    ensures { IfOk result (λ all. all.items ≡
-        checks_with (blocks_at tables.entry) (tried_marks tables.entry.loaded.now.methods.items tried.now)) }
+    requires short { All (λ b. length b.code ≤ 16777216) (T.blocks tables.now) }
+    requires few { length methods.now ≤ 1048576 }
+    requires each { length tried.now ≡ length methods.now }
+    ensures { IfOk result (λ all. all.items ≡ checks_with (T.blocks tables.now) (tried_marks methods.now tried.now)) }
 {
     let mut all = check_blocks(alloc, tables)?;
-    count_methods(tables.loaded.methods.as_slice(), tried, &mut all);
+    count_methods(methods, tried, &mut all);
     Ok(all)
 }
 
@@ -163,5 +163,6 @@ pub fn check(alloc: Global, listing: &Listing<'_>) -> Result<Vec<Checked>, NoMem
     ensures { IfOk result (λ all. all.items ≡ checks_of listing.now) }
 {
     let tried = try_bodies(alloc, listing)?;
-    check_tables(alloc, listing.tables(), tried.as_slice())
+    let methods = listing.loaded.methods.as_slice();
+    check_tables(alloc, listing, methods, tried.as_slice())
 }

@@ -1,25 +1,26 @@
 //! From the dumps of a set to its listing, the bodies read by workers.
-ghost use Rattle.std.specs.Prelude.{◌≡◌, ◌⊎◌, ◌≤◌, ℕ, Bool, true, List, IfOk, IfErr, get_or, length};
+ghost use Rattle.std.specs.Prelude.{◌≡◌, ◌⊎◌, ◌≤◌, ℕ, Bool, true, List, IfOk, IfErr, length};
 ghost use Rattle.aml_code.specs.Tree.{Trees};
-ghost use Rattle.aml_load.specs.Loading.{Listed, most_methods};
-ghost use Rattle.aml_set.specs.Views.{codes_view, AreShort};
-ghost use Rattle.aml_load.specs.Views.{HoldsLoad};
+ghost use Rattle.aml_load.specs.Loading.{Listed};
+ghost use Rattle.aml_load.specs.Views.{HoldsTables};
+ghost use Rattle.aml_set.specs.Code.{AreShort};
+ghost use Rattle.aml_set.specs.Views.{codes_view, table_codes, table_dumps};
 ghost use Rattle.acpi_tables.specs.Order.{AreTables, AreTaken, IsOrder};
-ghost use Rattle.acpidis.specs.Bodies.{AreDrawn, IsWithinLimits};
-ghost use Rattle.acpidis.specs.Meaning.{Meaning, LoadsBy, LoadsSet, IsSet, Means, Shows, Told};
-ghost use Rattle.aml_text.specs.Matched.{indexes_in};
-ghost use Rattle.acpidis.specs.Refusals.{IsWant, load_refusal, StopsBy, TellsTable, TellsLoad, TellsBlocks};
+ghost use Rattle.acpidis.specs.Bodies.{AreDrawn};
+ghost use Rattle.acpidis.specs.Meaning.{Meaning, LoadsBy, LoadsSet, IsSet, Means, Shows, Told, none_unknown};
+ghost use Rattle.aml_text.specs.Listing.{indexes_in};
+ghost use Rattle.acpidis.specs.Refusals.{IsWant, load_refusal, TellsTable, TellsLoad, TellsBlocks};
 
 use crate::bodies::read_bodies;
 use crate::crew::Crew;
 use crate::options::Options;
 use crate::refusal::Refusal;
-use crate::tables::codes_of;
+use crate::tables::tables_of;
 use acpi_tables::{Bad, Dump, Order, TableFault, load_order};
-use aml_load::{LoadFault, load, load_any_run};
+use aml_load::{LoadFault, load_tables};
 use aml_pool::Gate;
-use aml_set::Loaded;
-use aml_text::Listing;
+use aml_set::{Loaded, Table, TableSet};
+use aml_text::{Listing, dump_of};
 use std::alloc::Global;
 use std::sync::Wait;
 use std::thread::Threads;
@@ -52,33 +53,22 @@ fn order_in(alloc: Global, dumps: &[Dump], any_sum: bool) -> Result<Order, Refus
     }
 }
 
-/// The dump of a table.
-fn dump_at(order: &Order, table: usize) -> usize
-    ensures { result ≡ get_or (indexes_in order.now) table 0 }
-{
-    if table == 0 {
-        order.dsdt
-    } else {
-        order.ssdts.get(table - 1).copied().unwrap_or(0)
-    }
-}
-
 /// Why tables that can't be loaded aren't disassembled, by the dump of the table at fault.
 fn refused_load(order: &Order, fault: LoadFault) -> Refusal
     ensures { result ≡ load_refusal (indexes_in order.now) fault }
 {
     match fault {
         LoadFault::Code(table, fault) => Refusal::Load(LoadFault::Code(
-            dump_at(order, table),
+            dump_of(order, table),
             fault,
         )),
         LoadFault::Space(table, fault) => Refusal::Load(LoadFault::Space(
-            dump_at(order, table),
+            dump_of(order, table),
             fault,
         )),
-        LoadFault::ModuleCall(table) => Refusal::Load(LoadFault::ModuleCall(dump_at(order, table))),
+        LoadFault::ModuleCall(table) => Refusal::Load(LoadFault::ModuleCall(dump_of(order, table))),
         LoadFault::RunCall(table, path) => Refusal::Load(LoadFault::RunCall(
-            dump_at(order, table),
+            dump_of(order, table),
             path,
         )),
         LoadFault::TooManyMethods => Refusal::Load(LoadFault::TooManyMethods),
@@ -86,50 +76,41 @@ fn refused_load(order: &Order, fault: LoadFault) -> Refusal
     }
 }
 
-/// Loads tables by their AML, as the options say.
-fn load_by<'a>(
-    alloc: Global,
-    codes: &[&'a [u8]],
-    options: &Options,
-) -> Result<Loaded<'a>, LoadFault>
-    requires short { AreShort (codes_view codes.now) }
-    ensures sound { IfOk result (λ x. (trees : List Trees) × (m : Listed) ×
-        LoadsBy options.now (codes_view codes.now) trees m × HoldsLoad x (codes_view codes.now) trees m) }
-    ensures one { IfOk result (λ x. (trees : List Trees) (m : Listed) →
-        LoadsBy options.now (codes_view codes.now) trees m → HoldsLoad x (codes_view codes.now) trees m) }
-    ensures few { IfOk result (λ x. length x.methods.items ≤ most_methods) }
-    ensures complete { IfErr result (λ e. (e ≡ LoadFault.NoMemory) ⊎ ((trees : List Trees) (m : Listed) →
-        LoadsBy options.now (codes_view codes.now) trees m → ⊥)) }
-    ensures stops { IfErr result (λ e. (e ≡ LoadFault.NoMemory) ⊎ StopsBy options.now (codes_view codes.now) e) }
+/// Whether a name outside the methods whose count nothing tells takes none.
+fn none_unknown(options: &Options) -> bool
+    ensures { result ≡ none_unknown options.now }
 {
-    let givens = options.externals.as_slice();
-    if options.any_run {
-        load_any_run(alloc, codes, givens, options.unknown_zero)
-    } else {
-        load(alloc, codes, givens)
-    }
+    options.any_run && options.unknown_zero
 }
 
-/// Loads the tables.
+/// Loads tables by their AML, as the options say.
 fn load_in<'a>(
     alloc: Global,
-    codes: &[&'a [u8]],
+    tables: Vec<Table<'a>>,
     options: &Options,
     order: &Order,
-) -> Result<Loaded<'a>, Refusal>
-    requires short { AreShort (codes_view codes.now) }
+) -> Result<TableSet<'a>, Refusal>
+    ensures dumps { IfOk result (λ x. table_dumps x.tables.items ≡ table_dumps tables.entry.items) }
     ensures sound { IfOk result (λ x. (trees : List Trees) × (m : Listed) ×
-        LoadsBy options.now (codes_view codes.now) trees m × HoldsLoad x (codes_view codes.now) trees m) }
+        LoadsBy options.now (table_codes tables.entry.items) trees m ×
+        HoldsTables x (table_codes tables.entry.items) trees m) }
     ensures one { IfOk result (λ x. (trees : List Trees) (m : Listed) →
-        LoadsBy options.now (codes_view codes.now) trees m → HoldsLoad x (codes_view codes.now) trees m) }
-    ensures limits { IfOk result IsWithinLimits }
+        LoadsBy options.now (table_codes tables.entry.items) trees m →
+        HoldsTables x (table_codes tables.entry.items) trees m) }
+    ensures few { IfOk result (λ x. length x.methods.items ≤ 1048576) }
     ensures complete { IfErr result (λ e. IsWant e ⊎ ((trees : List Trees) (m : Listed) →
-        LoadsBy options.now (codes_view codes.now) trees m → ⊥)) }
-    ensures tells { IfErr result (TellsLoad options.now (codes_view codes.now) (indexes_in order.now)) }
+        LoadsBy options.now (table_codes tables.entry.items) trees m → ⊥)) }
+    ensures tells { IfErr result (TellsLoad options.now (table_codes tables.entry.items) (indexes_in order.now)) }
     ensures of_load { IfErr result (λ e. (dumps : List Dump) (any_sum : Bool) → TellsTable dumps any_sum e) }
 {
-    match load_by(alloc, codes, options) {
-        Ok(loaded) => Ok(loaded),
+    match load_tables(
+        alloc,
+        tables,
+        options.externals.as_slice(),
+        options.any_run,
+        none_unknown(options),
+    ) {
+        Ok(set) => Ok(set),
         Err(fault) => Err(refused_load(order, fault)),
     }
 }
@@ -139,19 +120,20 @@ pub(crate) fn load_set<'a>(
     alloc: Global,
     dumps: &'a [Dump],
     options: &Options,
-) -> Result<(Order, Loaded<'a>), Refusal>
-    ensures set { IfOk result (λ x. IsSet dumps.now options.now x.0 x.1) }
+) -> Result<(Order, TableSet<'a>), Refusal>
+    ensures order { IfOk result (λ x. table_dumps x.1.tables.items ≡ indexes_in x.0) }
+    ensures set { IfOk result (λ x. IsSet dumps.now options.now x.1) }
     ensures complete { IfErr result (λ e. IsWant e ⊎ ((k : Meaning) → ¬ LoadsSet dumps.now options.now k)) }
     ensures true_table { IfErr result (TellsTable dumps.now options.now.any_sum) }
     ensures true_load { IfErr result (TellsBlocks dumps.now options.now) }
 {
     let order = order_in(alloc, dumps, options.any_sum)?;
-    let codes = codes_of(alloc, dumps, &order)?;
-    let loaded = match load_in(alloc, codes.as_slice(), options, &order) {
-        Ok(loaded) => loaded,
+    let tables = tables_of(alloc, dumps, &order)?;
+    let set = match load_in(alloc, tables, options, &order) {
+        Ok(set) => set,
         Err(refusal) => return Err(refusal),
     };
-    Ok((order, loaded))
+    Ok((order, set))
 }
 
 /// Disassembles a set of dumps by so many workers, 1 to 64, each on a thread of its own.
@@ -190,7 +172,7 @@ pub fn disassemble<'a, R: Threads + Wait + Sync, G: Gate + Sync>(
     ensures true_table { IfErr result (TellsTable dumps.now options.any_sum) }
     ensures true_load { IfErr result (TellsBlocks dumps.now options) }
 {
-    let (order, loaded) = match load_set(alloc, dumps, &options) {
+    let (order, set) = match load_set(alloc, dumps, &options) {
         Ok(set) => set,
         Err(refusal) => return Err(refusal),
     };
@@ -200,7 +182,8 @@ pub fn disassemble<'a, R: Threads + Wait + Sync, G: Gate + Sync>(
         workers,
         gate,
     };
-    let found = read_bodies(&crew, &loaded, options.unknown_zero)?;
+    let found = read_bodies(&crew, &set, options.unknown_zero)?;
+    let loaded = Loaded::of(alloc, set)?;
     Ok(Listing {
         dumps,
         order,

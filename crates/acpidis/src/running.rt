@@ -98,16 +98,12 @@ fn run_set<R: Threads + Wait + Sync, G: Gate + Sync, O: Write, E: Write>(
     requires workers { (1 ≤ crew.now.workers) × (crew.now.workers ≤ 64) }
     ensures { Ends dumps.now options.now check (O.contents out.old) (O.contents out.new) result }
 {
-    let (order, loaded) = load_set(crew.alloc, dumps, options)?;
-    let set = Tables {
-        dumps,
-        order: &order,
-        loaded: &loaded,
-    };
+    let (_order, set) = load_set(crew.alloc, dumps, options)?;
+    let tables = Tables { dumps, set: &set };
     if check {
-        run_checks(crew, set, options, out, err)
+        run_checks(crew, tables, options, out, err)
     } else {
-        run_listing(crew, set, options, out, err)
+        run_listing(crew, tables, options, out, err)
     }
 }
 
@@ -115,24 +111,25 @@ fn run_set<R: Threads + Wait + Sync, G: Gate + Sync, O: Write, E: Write>(
 /// printed by a worker, which lets its terms go. Answers the status.
 fn run_listing<R: Threads + Wait + Sync, G: Gate + Sync, O: Write, E: Write>(
     crew: &Crew<'_, R, G>,
-    set: Tables<'_, '_>,
+    tables: Tables<'_, '_>,
     options: &Options,
     out: &mut O,
     err: &mut E,
 ) -> Result<u8, RunFault>
     requires workers { (1 ≤ crew.now.workers) × (crew.now.workers ≤ 64) }
-    requires set { IsSet set.dumps.now options.now set.order.now set.loaded.now }
-    ensures { Ends set.entry.dumps.now options.now false (O.contents out.old) (O.contents out.new) result }
+    requires set { IsSet tables.dumps.now options.now tables.set.now }
+    ensures { Ends tables.entry.dumps.now options.now false (O.contents out.old) (O.contents out.new) result }
 {
-    let levels = body_levels(crew.alloc, set.loaded.trees.as_slice())?;
+    let set = tables.set;
+    let levels = body_levels(crew.alloc, set.tables.as_slice())?;
     let keep = Texts {
         alloc: crew.alloc,
         levels: levels.as_slice(),
     };
-    let found = keep_bodies(crew, set.loaded, options.unknown_zero, &keep)?;
+    let found = keep_bodies(crew, set, options.unknown_zero, &keep)?;
     let texts = found.items.as_slice();
-    write_printed(out, set, texts)?;
-    print_raw_bodies(set.loaded.methods.as_slice(), texts, err);
+    write_printed(out, tables, texts)?;
+    print_raw_bodies(set.methods.as_slice(), texts, err);
     Ok(status_of_bodies(texts))
 }
 
@@ -140,24 +137,25 @@ fn run_listing<R: Threads + Wait + Sync, G: Gate + Sync, O: Write, E: Write>(
 /// and tried by a worker, which lets its terms go. Answers the status.
 fn run_checks<R: Threads + Wait + Sync, G: Gate + Sync, O: Write, E: Write>(
     crew: &Crew<'_, R, G>,
-    set: Tables<'_, '_>,
+    tables: Tables<'_, '_>,
     options: &Options,
     out: &mut O,
     err: &mut E,
 ) -> Result<u8, RunFault>
     requires workers { (1 ≤ crew.now.workers) × (crew.now.workers ≤ 64) }
-    requires set { IsSet set.dumps.now options.now set.order.now set.loaded.now }
-    ensures { Ends set.entry.dumps.now options.now true (O.contents out.old) (O.contents out.new) result }
+    requires set { IsSet tables.dumps.now options.now tables.set.now }
+    ensures { Ends tables.entry.dumps.now options.now true (O.contents out.old) (O.contents out.new) result }
 {
     let keep = Trials { alloc: crew.alloc };
-    let found = keep_bodies(crew, set.loaded, options.unknown_zero, &keep)?;
+    let methods = tables.set.methods.as_slice();
+    let found = keep_bodies(crew, tables.set, options.unknown_zero, &keep)?;
     let tried = found.items.as_slice();
-    let checks = check_tables(crew.alloc, set, tried)?;
-    write_tables(out, set, checks.as_slice())?;
+    let checks = check_tables(crew.alloc, &tables, methods, tried)?;
+    write_tables(out, &tables, checks.as_slice())?;
     if !are_same(checks.as_slice()) {
         return Err(RunFault::Differs);
     }
-    print_raw_bodies(set.loaded.methods.as_slice(), tried, err);
+    print_raw_bodies(methods, tried, err);
     Ok(status_of_bodies(tried))
 }
 

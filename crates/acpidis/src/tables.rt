@@ -1,13 +1,15 @@
-//! The AML of the tables of a set.
-ghost use Rattle.std.specs.Prelude.{◌≡◌, IfOk};
-ghost use Rattle.aml_set.specs.Views.{codes_view, AreShort};
+//! The tables of a set, before they are read.
+ghost use Rattle.std.specs.Prelude.{◌≡◌, ◌≤◌, IfOk, length};
+ghost use Rattle.aml_set.specs.Views.{table_codes, table_dumps};
+ghost use Rattle.acpi_tables.specs.Dumps.{most_bytes};
 ghost use Rattle.acpi_tables.specs.Header.{HoldsTable};
-ghost use Rattle.acpi_tables.specs.Order.{AreTables};
-ghost use Rattle.aml_text.specs.Matched.{indexes_in};
+ghost use Rattle.acpi_tables.specs.Order.{AreTables, bytes_of};
+ghost use Rattle.aml_text.specs.Listing.{indexes_in};
 ghost use Rattle.acpidis.specs.Bodies.{aml_of, codes_in};
 
 use acpi_tables::{Dump, HEADER_LENGTH, Order, bytes_of, table_of};
 use aml_code::NoMemory;
+use aml_set::Table;
 use std::alloc::Global;
 
 /// The AML of a definition block: what follows its header, to the end of the table (ACPI 6.5, 5.2.11.1).
@@ -18,20 +20,30 @@ fn aml_in(bytes: &[u8]) -> &[u8]
     &table_of(bytes)[HEADER_LENGTH..]
 }
 
-/// The AML of each definition block, the DSDT's first.
-pub(crate) fn codes_of<'a>(
+/// The table of a dump.
+fn table_at<'a>(alloc: Global, dumps: &'a [Dump], dump: usize) -> Table<'a>
+    requires table { HoldsTable (bytes_of dumps.now dump) }
+    requires short { length (bytes_of dumps.now dump) ≤ most_bytes }
+    ensures of_dump { result.dump ≡ dump }
+    ensures of_code { result.code.now ≡ aml_of (bytes_of dumps.now dump) }
+{
+    Table::unread(alloc, dump, aml_in(bytes_of(dumps, dump)))
+}
+
+/// The tables of an order, the DSDT first, which aren't read yet.
+pub(crate) fn tables_of<'a>(
     alloc: Global,
     dumps: &'a [Dump],
     order: &Order,
-) -> Result<Vec<&'a [u8]>, NoMemory>
+) -> Result<Vec<Table<'a>>, NoMemory>
     requires tables { AreTables dumps.now (indexes_in order.now) }
-    ensures codes { IfOk result (λ codes. codes_view codes.items ≡ codes_in dumps.now (indexes_in order.now)) }
-    ensures short { IfOk result (λ codes. AreShort (codes_view codes.items)) }
+    ensures dumps { IfOk result (λ tables. table_dumps tables.items ≡ indexes_in order.now) }
+    ensures codes { IfOk result (λ tables. table_codes tables.items ≡ codes_in dumps.now (indexes_in order.now)) }
 {
-    let mut codes = Vec::new(alloc);
-    codes.push(aml_in(bytes_of(dumps, order.dsdt)))?;
+    let mut tables = Vec::new(alloc);
+    tables.push(table_at(alloc, dumps, order.dsdt))?;
     for index in &order.ssdts {
-        codes.push(aml_in(bytes_of(dumps, *index)))?;
+        tables.push(table_at(alloc, dumps, *index))?;
     }
-    Ok(codes)
+    Ok(tables)
 }

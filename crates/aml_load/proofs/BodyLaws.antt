@@ -19,7 +19,8 @@ use Rattle.aml_space.specs.Namespace.{Entry}
 use Rattle.aml_space.specs.Runs.{Outlook, outlook_of, agreed_arity}
 use Rattle.aml_space.proofs.Stands.{same_outlook}
 use Rattle.aml_set.specs.declared.methods.Method.{Method}
-use Rattle.aml_set.specs.Views.{AreShort, span_in, span_of}
+use Rattle.aml_set.specs.Code.{AreShort}
+use Rattle.aml_set.specs.Views.{span_in, span_of}
 use Rattle.aml_load.specs.Views.{IsBody, IsUnread, IsReading, GivesBody}
 
 -- a span is no longer than its table

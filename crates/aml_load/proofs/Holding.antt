@@ -29,7 +29,7 @@ use Rattle.aml_load.specs.declared.walking.Progress.{Progress}
 use Rattle.aml_load.specs.Loading.{◌>>=◌, Where, Listed, plus, with_uses, term_uses, method_of, methods_of, role_of, place_at, entry_at, new_at}
 use Rattle.aml_load.specs.Loading.{units_at, declare_as, declare, declare_inside}
 use Rattle.aml_load.specs.Tables.{Fails}
-use Rattle.aml_load.specs.Walking.{Holds, IsFree}
+use Rattle.aml_load.specs.Walking.{Holds, IsFree, IsDeclared, Walked}
 
 pub methods_more : (es : List Entry) (x : Entry) → methods_of (es ++ x ∷ []) ≡ methods_of es ++ methods_of (x ∷ [])
 methods_more [] x = refl
@@ -126,3 +126,10 @@ unfolding entry_at
 entry_taken site l p x e (inl want) = inl want
 entry_taken site l p x e (inr (taken, is)) =
     inr (ap (λ b. cond b (Err (loads.Space site.table (faults.Duplicate p))) (the_ok (plus l x))) taken ∙ ap (λ (d : LoadFault). Err d) (sym is))
+
+-- an entry of a path without a body more, as it is declared
+pub declared_walked : (old new : Progress) (l : Listed) (site : Where) (p : List Seg) (kind : Kind) (r : Result (Unit {0}) LoadFault) → Holds old l
+    → IsDeclared site l.entries p kind None old new r → Walked new r (entry_at site l p (declares p kind None site.sure))
+declared_walked old new l site p kind (Ok u) h d =
+    let x = declares p kind None site.sure in (plus l x, plain_held old new l x refl h d.1 d.2 d.3, entry_free site l p x d.0)
+declared_walked old new l site p kind (Err e) h d = entry_taken site l p (declares p kind None site.sure) e d

@@ -6,8 +6,8 @@ use Rattle.std.specs.Prelude.{IfOk, IfErr}
 use Rattle.std.specs.Result.{MatchResult}
 use Rattle.std.specs.List.{AllZip}
 use Rattle.std.proofs.Common.{◌≡◌, ◌≤◌, ◌⊎◌, ℕ, zero, suc, Bool, true, false, List, [], ◌∷◌, ◌++◌, length, None, Result, Ok, Err, refl, sym, ap, subst, ◌∙◌}
-use Rattle.std.proofs.Common.{append_assoc, inl, inr, slice_index_or}
-use Rattle.std.proofs.lemmas.List.{append-nil}
+use Rattle.std.proofs.Common.{append_assoc, inl, inr, slice_index_or, get_or, drop, ◌+◌, ◌<◌, arith}
+use Rattle.std.proofs.lemmas.List.{append-nil, drop_more}
 use Rattle.aml_names.specs.declared.faults.CodeFault.{CodeFault}
 use Rattle.aml_code.specs.declared.rows.Position.TheVariants as positions
 use Rattle.aml_code.specs.Lawful.{ReadsModule, BodiesStand, no_arguments}
@@ -17,16 +17,17 @@ use Rattle.aml_parse.specs.Running.{ReadsTable, StopsTerms, run_table_at}
 use Rattle.aml_parse.proofs.Readings.{module_sound, module_again, all_placed}
 use Rattle.aml_parse.proofs.Forward as forward
 use Rattle.aml_space.specs.Namespace.{Givens}
+use Rattle.aml_set.specs.Code.{IsCode, AreCodes, AreShort}
+use Rattle.aml_set.specs.Views.{codes_view}
 use Rattle.aml_set.specs.declared.loaded.Loaded.{Loaded}
-use Rattle.aml_set.specs.Views.{AreShort, codes_view}
+use Rattle.aml_set.specs.declared.methods.Method.{Method}
 use Rattle.aml_load.specs.declared.faults.LoadFault.{LoadFault}
 use Rattle.aml_load.specs.declared.faults.LoadFault.TheVariants as loads
 use Rattle.aml_load.specs.declared.used.Use.{Use}
-use Rattle.aml_load.specs.Loading.{◌>>=◌, Listed, first_listed, strict, declare_all, uses_at, most_methods}
+use Rattle.aml_load.specs.Loading.{◌>>=◌, Listed, first_listed, strict, declare_all, uses_at, methods_of, most_methods}
 use Rattle.aml_load.specs.Running.{Front, table_front, run_names}
-use Rattle.aml_load.specs.Tables.{ReadsOne, ReadTables, LoadsTo, StopsOne, StopsTables, StopsFor, in_code, table_at, tables_at, load_at, GivesLoad}
-use Rattle.aml_load.specs.Tables.{IsCode, AreCodes, LoadsOneWay, LoadsForward, LoadsAgain, AreSpelled}
-use Rattle.aml_load.specs.Views.{HoldsLoad}
+use Rattle.aml_load.specs.Tables.{ReadsOne, ReadTables, LoadsTo, StopsOne, StopsTables, StopsFor, in_code, table_at, tables_at, load_at, GivesBy, GivesLoad, Fails}
+use Rattle.aml_load.specs.Tables.{LoadsOneWay, LoadsForward, LoadsAgain, AreSpelled}
 use Rattle.aml_load.proofs.RunSpans.{loads_in_text_order}
 
 never : {X E : Type 0} (x : X) (e : E) (r : Result X E) → r ≡ Ok x → r ≡ Err e → ⊥
@@ -181,37 +182,79 @@ module _ (any z : Bool) (gs : Givens) (cs : List (List ℕ)) where
   pub are_spelled : AreSpelled any z gs cs
   are_spelled trees m h = tables_spelled any 0 (first_listed gs) cs trees m h.read
 
-  -- ---- the same of what a function gave
+  -- ---- the same of what a function gave, whatever holds what was loaded
 
-  pub given_sound : (r : Result Loaded LoadFault) → AreCodes cs → GivesLoad any z gs r cs
-      → IfOk r (λ x. (trees : List Trees) × (m : Listed) × LoadsTo any z gs cs trees m × HoldsLoad x cs trees m)
-  given_sound (Ok x) fits g = (g.0, g.1, subst LoadTells g.3 (loads_forward fits), g.2)
-  given_sound (Err e) fits g = tt
+  module _ {X : Type 0} (HoldsIt : X → List (List ℕ) → List Trees → Listed → Type 0) where
+    -- memory was refused, or the tables are bytes
+    abbrev Fit : Result X LoadFault → Type 0
+    Fit r = (r ≡ Err loads.NoMemory) ⊎ AreCodes cs
 
-  pub given_few : (r : Result Loaded LoadFault) → AreCodes cs → GivesLoad any z gs r cs → IfOk r (λ x. length x.methods.items ≤ most_methods)
-  unfolding given_sound
-  given_few (Ok x) fits g =
-      let load = (given_sound (Ok x) fits g).2 in
-      subst (λ ms. length ms ≤ most_methods) (sym g.2.methods) (loads_in_text_order any z gs cs g.0 g.1 load).1
-  given_few (Err e) fits g = tt
+    fit_so : (x : X) → Fit (Ok x) → AreCodes cs
+    fit_so x (inl want) = absurd cc
+    fit_so x (inr fits) = fits
 
-  pub given_one : (r : Result Loaded LoadFault) → GivesLoad any z gs r cs
-      → IfOk r (λ x. (trees : List Trees) (m : Listed) → LoadsTo any z gs cs trees m → HoldsLoad x cs trees m)
-  given_one (Ok x) g = λ trees m h.
-      let is = same (g.0, g.1) (trees, m) (load_at any z gs cs) g.3 (loads_again trees m h) in
-      subst (λ (y : Whole). HoldsLoad x cs y.0 y.1) is g.2
-  given_one (Err e) g = tt
+    pub given_sound : (r : Result X LoadFault) → Fit r → GivesBy HoldsIt any z gs r cs
+        → IfOk r (λ x. (trees : List Trees) × (m : Listed) × LoadsTo any z gs cs trees m × HoldsIt x cs trees m)
+    given_sound (Ok x) fits g = (g.0, g.1, subst LoadTells g.3 (loads_forward (fit_so x fits)), g.2)
+    given_sound (Err e) fits g = tt
 
-  pub given_complete : (r : Result Loaded LoadFault) → GivesLoad any z gs r cs
-      → IfErr r (λ e. (e ≡ loads.NoMemory) ⊎ ((trees : List Trees) (m : Listed) → LoadsTo any z gs cs trees m → ⊥))
-  given_complete (Ok x) g = tt
-  given_complete (Err e) (inl g) = inl g
-  given_complete (Err e) (inr g) = inr (λ trees m h. never (trees, m) e (load_at any z gs cs) (loads_again trees m h) g)
+    pub given_few : (methods : X → List Method) → ((x : X) (trees : List Trees) (m : Listed) → HoldsIt x cs trees m → methods x ≡ methods_of m.entries)
+        → (r : Result X LoadFault) → Fit r → GivesBy HoldsIt any z gs r cs → IfOk r (λ x. length (methods x) ≤ most_methods)
+    unfolding given_sound
+    given_few methods held (Ok x) fits g =
+        let load = (given_sound (Ok x) fits g).2 in
+        subst (λ ms. length ms ≤ most_methods) (sym (held x g.0 g.1 g.2)) (loads_in_text_order any z gs cs g.0 g.1 load).1
+    given_few methods held (Err e) fits g = tt
 
-  pub given_true : (r : Result Loaded LoadFault) → AreCodes cs → GivesLoad any z gs r cs → IfErr r (λ e. (e ≡ loads.NoMemory) ⊎ StopsFor any z gs cs e)
-  given_true (Ok x) fits g = tt
-  given_true (Err e) fits (inl g) = inl g
-  given_true (Err e) fits (inr g) = inr (subst LoadTells g (loads_forward fits))
+    pub given_one : (r : Result X LoadFault) → GivesBy HoldsIt any z gs r cs
+        → IfOk r (λ x. (trees : List Trees) (m : Listed) → LoadsTo any z gs cs trees m → HoldsIt x cs trees m)
+    given_one (Ok x) g = λ trees m h.
+        let is = same (g.0, g.1) (trees, m) (load_at any z gs cs) g.3 (loads_again trees m h) in
+        subst (λ (y : Whole). HoldsIt x cs y.0 y.1) is g.2
+    given_one (Err e) g = tt
+
+    pub given_complete : (r : Result X LoadFault) → GivesBy HoldsIt any z gs r cs
+        → IfErr r (λ e. (e ≡ loads.NoMemory) ⊎ ((trees : List Trees) (m : Listed) → LoadsTo any z gs cs trees m → ⊥))
+    given_complete (Ok x) g = tt
+    given_complete (Err e) (inl g) = inl g
+    given_complete (Err e) (inr g) = inr (λ trees m h. never (trees, m) e (load_at any z gs cs) (loads_again trees m h) g)
+
+    pub given_true : (r : Result X LoadFault) → Fit r → GivesBy HoldsIt any z gs r cs
+        → IfErr r (λ e. (e ≡ loads.NoMemory) ⊎ StopsFor any z gs cs e)
+    given_true (Ok x) fits g = tt
+    given_true (Err e) fits (inl g) = inl g
+    given_true (Err e) (inl want) (inr g) = inl cc
+    given_true (Err e) (inr fits) (inr g) = inr (subst LoadTells g (loads_forward fits))
+
+  -- the tables are as short as before
+  pub given_short : (r : Result Loaded LoadFault) → AreShort cs → GivesLoad any z gs r cs → IfOk r (λ x. AreShort (codes_view x.tables.items))
+  given_short (Ok x) short g = subst AreShort (sym g.2.tables) short
+  given_short (Err e) short g = tt
+
+-- ---- a table of several, read behind those in front of it
+
+module _ (any : Bool) (n : ℕ) (m : Listed) (front : List Trees) (codes : List (List ℕ)) (code : List ℕ) (inside : n < length codes)
+    (there : code ≡ get_or codes n code) where
+  next : Trees × Listed → Result Whole LoadFault
+  next one = tables_at any (n + 1) (front ++ one.0 ∷ []) one.1 (drop (n + 1) codes)
+
+  steps : tables_at any n front m (drop n codes) ≡ table_at any n m code >>= next
+  unfolding tables_at next
+  steps =
+      let cut : drop n codes ≡ code ∷ drop (n + 1) codes = drop_more codes n code inside ∙ ap (λ c. c ∷ drop (n + 1) codes) (sym there) in
+      let up : suc n ≡ n + 1 = omega arith in
+      ap (tables_at any n front m) cut
+      ∙ (λ i. table_at any n m code >>= λ one. tables_at any (up i) (front ++ one.0 ∷ []) one.1 (drop (n + 1) codes))
+
+  pub read_on : (ts : Trees) (k : Listed) (all : List Trees) (same : List (List ℕ)) (total : Result Whole LoadFault) → table_at any n m code ≡ Ok (ts, k)
+      → all ≡ front ++ ts ∷ [] → same ≡ codes → tables_at any n front m (drop n codes) ≡ total → tables_at any (n + 1) all k (drop (n + 1) same) ≡ total
+  unfolding next
+  read_on ts k all same total is a c was =
+      (λ i. tables_at any (n + 1) (a i) k (drop (n + 1) (c i))) ∙ sym (steps ∙ ap (λ (r : Result (Trees × Listed) LoadFault). r >>= next) is) ∙ was
+
+  pub fails_on : (e : LoadFault) (total : Result Whole LoadFault) → Fails e (table_at any n m code) → tables_at any n front m (drop n codes) ≡ total → Fails e total
+  fails_on e total (inl want) was = inl want
+  fails_on e total (inr is) was = inr (sym was ∙ steps ∙ ap (λ (r : Result (Trees × Listed) LoadFault). r >>= next) is)
 
 -- a table by its number is short where all are
 pub short_code : (bs : List (Bor (List ℕ))) (i : ℕ) (other : Bor (List ℕ)) → AreShort (codes_view bs) → length other.now ≤ 16777216

@@ -1,7 +1,7 @@
 -- The load of tables in their order (ACPI 6.5, 5.2.11, 5.3 and 20.2.5): what tables load to, where a load stops and why, and
 -- loading forward, with the first fault that is met. Where the code outside methods may not run, a table is read whole, and
 -- then its terms declare; where it may run, a table is read from the left. All else is the same.
-use Rattle.std.specs.Prelude.{◌≡◌, ◌≤◌, ◌<◌, ◌⊎◌, ℕ, suc, Bool, true, false, List, [], ◌∷◌, ◌++◌, length, get_or, None}
+use Rattle.std.specs.Prelude.{◌≡◌, ◌≤◌, ◌⊎◌, ℕ, suc, Bool, true, false, List, [], ◌∷◌, ◌++◌, length, None}
 use Rattle.std.specs.Prelude.{Result, Ok, Err}
 use Rattle.std.specs.List.{AllZip}
 use Rattle.std.specs.Result.{MatchResult}
@@ -15,14 +15,16 @@ use Rattle.aml_parse.specs.Reading.{all_at}
 use Rattle.aml_parse.specs.Running.{ReadsTable, StopsTerms, run_table_at}
 use Rattle.aml_space.specs.Namespace.{Entry, Givens}
 use Rattle.aml_space.specs.Runs.{AreSure, times_at, StaysAsItIs}
+use Rattle.aml_set.specs.Code.{AreCodes}
 use Rattle.aml_set.specs.declared.loaded.Loaded.{Loaded}
+use Rattle.aml_set.specs.declared.tables.TableSet.{TableSet}
 use Rattle.aml_load.specs.declared.faults.LoadFault.{LoadFault}
 use Rattle.aml_load.specs.declared.faults.LoadFault.TheVariants as loads
 use Rattle.aml_load.specs.Loading.{◌>>=◌, strict, Listed, first_listed, declare_all, uses_at, code_fault, Unread}
 use Rattle.aml_load.specs.Loading.{methods_of, most_methods}
 use Rattle.aml_load.specs.Running.{Front, table_front, run_names}
 use Rattle.aml_load.specs.Spans.{InTextOrder}
-use Rattle.aml_load.specs.Views.{HoldsLoad}
+use Rattle.aml_load.specs.Views.{HoldsLoad, HoldsTables}
 
 -- ---- What tables load to.
 
@@ -103,11 +105,19 @@ load_at any_run unknown_zero gs codes = do
 abbrev pub Fails : {Y : Type 0} → LoadFault → Result Y LoadFault → Type 0
 Fails e walk = (e ≡ loads.NoMemory) ⊎ (walk ≡ Err e)
 
--- What a load answered is what loading forward gives, unless memory was refused.
-abbrev pub GivesLoad : Bool → Bool → Givens → Result Loaded LoadFault → List (List ℕ) → Type 0
-GivesLoad any_run unknown_zero gs (Ok x) codes = (trees : List Trees) × (m : Listed) × HoldsLoad x codes trees m
+-- What a load answered, of which it is said what it holds, is what loading forward gives, unless memory was refused.
+abbrev pub GivesBy : {X : Type 0} → (X → List (List ℕ) → List Trees → Listed → Type 0) → Bool → Bool → Givens
+    → Result X LoadFault → List (List ℕ) → Type 0
+GivesBy HoldsIt any_run unknown_zero gs (Ok x) codes = (trees : List Trees) × (m : Listed) × HoldsIt x codes trees m
     × (load_at any_run unknown_zero gs codes ≡ Ok (trees, m))
-GivesLoad any_run unknown_zero gs (Err e) codes = Fails e (load_at any_run unknown_zero gs codes)
+GivesBy HoldsIt any_run unknown_zero gs (Err e) codes = Fails e (load_at any_run unknown_zero gs codes)
+
+abbrev pub GivesLoad : Bool → Bool → Givens → Result Loaded LoadFault → List (List ℕ) → Type 0
+GivesLoad any_run unknown_zero gs answer codes = GivesBy HoldsLoad any_run unknown_zero gs answer codes
+
+-- the same of a set of tables in one list
+abbrev pub GivesSet : Bool → Bool → Givens → Result TableSet LoadFault → List (List ℕ) → Type 0
+GivesSet any_run unknown_zero gs answer codes = GivesBy HoldsTables any_run unknown_zero gs answer codes
 
 -- ---- Laws of loads.
 
@@ -115,14 +125,6 @@ GivesLoad any_run unknown_zero gs (Err e) codes = Fails e (load_at any_run unkno
 abbrev pub LoadsOneWay : Bool → Bool → Givens → List (List ℕ) → Type 0
 LoadsOneWay any z gs tables = (ts us : List Trees) (m n : Listed) →
     LoadsTo any z gs tables ts m → LoadsTo any z gs tables us n → (ts ≡ us) × (m ≡ n)
-
--- numbers that are bytes
-abbrev pub IsCode : List ℕ → Type 0
-IsCode code = (i : ℕ) → get_or code i 0 < 256
-
-abbrev pub AreCodes : List (List ℕ) → Type 0
-AreCodes [] = Unit {0}
-AreCodes (c ∷ cs) = IsCode c × AreCodes cs
 
 -- loading tables of bytes forward gives what they load to, or a fault for which their load stops
 abbrev pub LoadsForward : Bool → Bool → Givens → List (List ℕ) → Type 0

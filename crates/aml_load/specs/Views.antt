@@ -5,7 +5,8 @@ use Rattle.aml_code.specs.Tree.{Trees}
 use Rattle.aml_space.specs.Known.{StandsFor}
 use Rattle.aml_set.specs.declared.loaded.Loaded.{Loaded}
 use Rattle.aml_set.specs.declared.methods.Method.{Method}
-use Rattle.aml_set.specs.Views.{codes_view, trees_view, span_of}
+use Rattle.aml_set.specs.declared.tables.TableSet.{TableSet}
+use Rattle.aml_set.specs.Views.{codes_view, trees_view, span_of, table_codes, table_terms}
 use Rattle.aml_load.specs.Loading.{Listed, methods_of}
 use Rattle.aml_names.specs.declared.faults.CodeFault.{CodeFault}
 use Rattle.aml_names.specs.declared.faults.CodeFault.TheVariants as codes
@@ -21,6 +22,13 @@ use Rattle.aml_space.specs.Runs.{outlook_of, agreed_arity}
 pub record HoldsLoad (x : Loaded) (codes : List (List ℕ)) (ts : List Trees) (m : Listed) : Type 0 where
   pub tables : codes_view x.tables.items ≡ codes
   pub trees : trees_view x.trees.items ≡ ts
+  pub space : StandsFor x.space m.entries
+  pub methods : x.methods.items ≡ methods_of m.entries
+
+-- Those of a set of tables in one list are.
+pub record HoldsTables (x : TableSet) (codes : List (List ℕ)) (ts : List Trees) (m : Listed) : Type 0 where
+  pub tables : table_codes x.tables.items ≡ codes
+  pub trees : table_terms x.tables.items ≡ ts
   pub space : StandsFor x.space m.entries
   pub methods : x.methods.items ≡ methods_of m.entries
 

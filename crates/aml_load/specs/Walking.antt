@@ -1,8 +1,9 @@
 -- A stepping stone: what the load holds so far, and what a step of it gives, as `Loading` and `Tables` say it.
-use Rattle.std.specs.Prelude.{◌≡◌, ◌⊎◌, ◌&&◌, true, false, not, List, Result, Ok, Err, is_some}
+use Rattle.std.specs.Prelude.{◌≡◌, ◌⊎◌, ◌&&◌, true, false, not, List, [], ◌∷◌, ◌++◌, Option, Result, Ok, Err, is_some}
 use Rattle.aml_names.specs.declared.segments.Seg.{Seg}
 use Rattle.aml_space.specs.declared.faults.SpaceFault.TheVariants as faults
-use Rattle.aml_space.specs.Namespace.{Entry, declared_at}
+use Rattle.aml_space.specs.declared.kinds.Kind.{Kind}
+use Rattle.aml_space.specs.Namespace.{Entry, Body, declares, declared_at}
 use Rattle.aml_space.specs.Known.{Known, StandsFor}
 use Rattle.aml_load.specs.declared.faults.LoadFault.{LoadFault}
 use Rattle.aml_load.specs.declared.faults.LoadFault.TheVariants as loads
@@ -10,6 +11,9 @@ use Rattle.aml_load.specs.declared.uses.Site.{Site}
 use Rattle.aml_load.specs.declared.walking.Progress.{Progress}
 use Rattle.aml_load.specs.Loading.{Listed, methods_of, Where}
 use Rattle.aml_load.specs.Tables.{Fails}
+use Rattle.aml_code.specs.Tree.{Trees}
+use Rattle.aml_set.specs.declared.tables.Table.{Table}
+use Rattle.aml_set.specs.Views.{table_dumps, table_codes, table_terms}
 
 -- where a site is
 abbrev pub at_site : Site → Where
@@ -20,6 +24,15 @@ abbrev pub IsFree : Where → List Entry → List Seg → Result (Unit {0}) Load
 IsFree site es p (Ok u) = (not site.any_run && is_some (declared_at es p)) ≡ false
 IsFree site es p (Err e) = (e ≡ loads.NoMemory)
     ⊎ (((not site.any_run && is_some (declared_at es p)) ≡ true) × (e ≡ loads.Space site.table (faults.Duplicate p)))
+
+-- What declaring a path made of the progress, whatever entries it held and whatever body the path has: an entry more, and
+-- nothing else; or the fault that it may not be added, or want of memory.
+abbrev pub IsDeclared : Where → List Entry → List Seg → Kind → Option Body → Progress → Progress → Result (Unit {0}) LoadFault
+    → Type 0
+IsDeclared site es p kind body old new (Ok u) = IsFree site es p (Ok u)
+    × StandsFor new.space (es ++ declares p kind body site.sure ∷ [])
+    × (new.methods.items ≡ old.methods.items) × (new.uses.items ≡ old.uses.items)
+IsDeclared site es p kind body old new (Err e) = IsFree site es p (Err e)
 
 -- the namespace, the methods and the uses so far are those of what is listed
 pub record Holds (p : Progress) (l : Listed) : Type 0 where
@@ -50,3 +63,11 @@ abbrev pub TableWalked : {X Y : Type 0} → (X → Y) → Progress → Result X 
     → Type 0
 TableWalked view new (Ok x) walk = (m : Listed) × Holds new m × (walk ≡ Ok (view x, m))
 TableWalked view new (Err e) walk = Fails e walk
+
+-- What a function made of tables and the progress is what the walk gives: the terms of all, and the tables are the same
+-- but for these.
+abbrev pub TablesRead : List Table → List Table → Progress → Result (Unit {0}) LoadFault
+    → Result (List Trees × Listed) LoadFault → Type 0
+TablesRead old now new (Ok u) walk = (table_dumps now ≡ table_dumps old) × (table_codes now ≡ table_codes old)
+    × ((m : Listed) × Holds new m × (walk ≡ Ok (table_terms now, m)))
+TablesRead old now new (Err e) walk = Fails e walk

@@ -1,9 +1,10 @@
 //! The bodies of methods.
-ghost use Rattle.std.specs.Prelude.{List};
+ghost use Rattle.std.specs.Prelude.{◌≡◌, ◌≤◌, ℕ, List, length};
 ghost use Rattle.aml_code.specs.View.{nodes_view};
 ghost use Rattle.aml_space.specs.Namespace.{Entry};
 ghost use Rattle.aml_space.specs.Known.{StandsFor};
-ghost use Rattle.aml_set.specs.Views.{codes_view, AreShort};
+ghost use Rattle.aml_set.specs.Code.{AreShort};
+ghost use Rattle.aml_set.specs.Views.{codes_view, span_of};
 ghost use Rattle.aml_load.specs.Views.{IsReading, GivesBody};
 
 use aml_code::{CodeFault, Node};
@@ -34,11 +35,35 @@ pub fn read_body(
     ensures forward { (es : List Entry) → StandsFor space.now es →
         GivesBody (λ nodes. nodes_view nodes.items) unknown_zero es (codes_view tables.now) method.now result }
 {
+    read_span(alloc, span_of(tables, method), space, method, unknown_zero)
+}
+
+/// The terms of the body of a method, as `read_body`, by the body's bytes.
+pub fn read_span(
+    alloc: Global,
+    bytes: &[u8],
+    space: &Space,
+    method: &Method,
+    unknown_zero: bool,
+) -> Result<Vec<Node>, CodeFault>
+    // The limit of a table.
+    requires { length bytes.now ≤ 16777216 }
+
+    // In whatever tables they are the method's body: it reads as its terms and as no others; or memory was refused; or it
+    // reads as none, and the fault is true of it.
+    ensures reading { (tables : List (List ℕ)) → bytes.now ≡ span_of tables method.now →
+        (es : List Entry) → StandsFor space.now es →
+        IsReading (λ nodes. nodes_view nodes.items) unknown_zero es tables method.now result }
+    // Which fault it is: the first that is met in reading forward.
+    ensures forward { (tables : List (List ℕ)) → bytes.now ≡ span_of tables method.now →
+        (es : List Entry) → StandsFor space.now es →
+        GivesBody (λ nodes. nodes_view nodes.items) unknown_zero es tables method.now result }
+{
     let scope = BodyScope {
         space,
         method: &method.path,
         unknown_zero,
     };
     let names = scope.open(alloc)?;
-    parse_body(alloc, span_of(tables, method), &names, &method.path)
+    parse_body(alloc, bytes, &names, &method.path)
 }

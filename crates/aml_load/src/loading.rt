@@ -1,14 +1,15 @@
 //! The load of tables in their order.
-ghost use Rattle.std.specs.Prelude.{◌≡◌, ◌⊎◌, true, false, [], List, IfOk, IfErr, length, ◌≤◌};
+ghost use Rattle.std.specs.Prelude.{◌≡◌, ◌⊎◌, true, false, [], List, Err, IfOk, IfErr, length, ◌≤◌};
 ghost use Rattle.aml_code.specs.Tree.{Trees};
 ghost use Rattle.aml_code.specs.View.{nodes_view};
 ghost use Rattle.aml_space.specs.Namespace.{given_entries};
 ghost use Rattle.aml_space.specs.Known.{StandsFor};
 ghost use Rattle.aml_load.specs.Loading.{Listed, first_listed, most_methods, use_count, is_count, call_fault, uses_at};
-ghost use Rattle.aml_load.specs.Tables.{LoadsTo, StopsFor, table_at, tables_at, GivesLoad, IsCode, AreCodes};
-ghost use Rattle.aml_load.specs.Walking.{Holds, Gives, TableWalked};
-ghost use Rattle.aml_set.specs.Views.{codes_view, trees_view, AreShort};
-ghost use Rattle.aml_load.specs.Views.{HoldsLoad};
+ghost use Rattle.aml_load.specs.Tables.{LoadsTo, StopsFor, table_at, tables_at, GivesLoad, GivesSet};
+ghost use Rattle.aml_load.specs.Views.{HoldsLoad, HoldsTables};
+ghost use Rattle.aml_load.specs.Walking.{Holds, Gives, TableWalked, TablesRead};
+ghost use Rattle.aml_set.specs.Code.{AreCodes, AreShort};
+ghost use Rattle.aml_set.specs.Views.{codes_view, table_codes, table_dumps};
 
 use crate::faults::LoadFault;
 use crate::scopes::SharedPath;
@@ -18,7 +19,7 @@ use crate::walking::Progress;
 use aml_code::{Locals, NoMemory, Node, Path, place};
 use aml_names::Arity;
 use aml_parse::parse_module;
-use aml_set::Loaded;
+use aml_set::{Loaded, Table, TableSet};
 use aml_space::{BodyScope, Space};
 use std::alloc::Global;
 
@@ -68,22 +69,21 @@ fn load_table(
     }
 }
 
+/// Reads tables that aren't read yet, and declares what they declare.
 #[tactic(auto, unfolding(crate::specs::Tables::tables_at))]
-fn load_tables(
+fn read_tables(
     progress: &mut Progress,
     any_run: bool,
-    tables: &[&[u8]],
-) -> Result<Vec<Vec<Node>>, LoadFault>
-    requires { AreShort (codes_view tables.now) }
-    ensures { (l : Listed) → Holds progress.old l →
-        TableWalked (λ x. trees_view x.items) progress.new result (tables_at any_run 0 [] l (codes_view tables.now)) }
+    tables: &mut Vec<Table<'_>>,
+) -> Result<(), LoadFault>
+    ensures { (l : Listed) → Holds progress.old l → TablesRead tables.old.items tables.new.items progress.new result
+        (tables_at any_run 0 [] l (table_codes tables.old.items)) }
 {
-    let mut trees = Vec::new(progress.alloc);
-    for table in 0..tables.len() {
-        let terms = load_table(progress, any_run, table, tables[table])?;
-        trees.push(terms)?;
+    for number in 0..tables.len() {
+        let table = &mut tables[number];
+        table.terms = load_table(progress, any_run, number, table.code)?;
     }
-    Ok(trees)
+    Ok(())
 }
 
 /// How many arguments a name takes that stands outside the methods, once all tables are there.
@@ -172,20 +172,18 @@ fn first_progress(alloc: Global, givens: &[(Path, u8)]) -> Result<Progress, NoMe
 }
 
 #[tactic(auto, unfolding(crate::specs::Tables::load_at))]
-fn load_all<'a>(
+fn load_each<'a>(
     alloc: Global,
-    tables: &[&'a [u8]],
+    mut tables: Vec<Table<'a>>,
     givens: &[(Path, u8)],
     any_run: bool,
     unknown_zero: bool,
-) -> Result<Loaded<'a>, LoadFault>
-    requires { AreShort (codes_view tables.now) }
-    ensures { GivesLoad any_run unknown_zero givens.now result (codes_view tables.now) }
+) -> Result<TableSet<'a>, LoadFault>
+    ensures dumps { IfOk result (λ x. table_dumps x.tables.items ≡ table_dumps tables.entry.items) }
+    ensures gives { GivesSet any_run unknown_zero givens.now result (table_codes tables.entry.items) }
 {
-    let mut kept = Vec::new(alloc);
-    kept.extend_from_slice(tables)?;
     let mut progress = first_progress(alloc, givens)?;
-    let trees = load_tables(&mut progress, any_run, tables)?;
+    read_tables(&mut progress, any_run, &mut tables)?;
     check_uses(
         alloc,
         &progress.space,
@@ -193,27 +191,74 @@ fn load_all<'a>(
         unknown_zero,
         progress.uses.as_slice(),
     )?;
-    Ok(Loaded {
-        tables: kept,
-        trees,
+    Ok(TableSet {
+        tables,
         space: progress.space,
         methods: progress.methods,
     })
 }
 
-/// What the type of a table's AML says: that it is bytes.
-fn is_code(_code: &[u8])
-    ensures { IsCode _code.now }
-{}
-
-/// That each table's AML is bytes. Nothing happens here; the clauses of `load` rest on it, and the type of the tables
-/// doesn't say it of all at once.
-fn are_codes(tables: &[&[u8]])
-    ensures { AreCodes (codes_view tables.now) }
+/// Loads tables that aren't read yet as one, as `load` does, or as `load_any_run` where `any_run` says so: each keeps its
+/// place, its dump and its AML, and has its terms then.
+pub fn load_tables<'a>(
+    alloc: Global,
+    tables: Vec<Table<'a>>,
+    givens: &[(Path, u8)],
+    any_run: bool,
+    unknown_zero: bool,
+) -> Result<TableSet<'a>, LoadFault>
+    // The tables are the same ones.
+    ensures dumps { IfOk result (λ x. table_dumps x.tables.items ≡ table_dumps tables.entry.items) }
+    // Their AML reads as their terms, and these load to entries whose namespace and methods are the answer's.
+    ensures sound { IfOk result (λ x. (trees : List Trees) × (m : Listed) ×
+        LoadsTo any_run unknown_zero givens.now (table_codes tables.entry.items) trees m ×
+        HoldsTables x (table_codes tables.entry.items) trees m) }
+    // To nothing else.
+    ensures one { IfOk result (λ x. (trees : List Trees) (m : Listed) →
+        LoadsTo any_run unknown_zero givens.now (table_codes tables.entry.items) trees m →
+        HoldsTables x (table_codes tables.entry.items) trees m) }
+    // There are at most so many methods.
+    ensures few { IfOk result (λ x. length x.methods.items ≤ most_methods) }
+    // A refusal for another cause than memory comes only where there are no trees and entries that load.
+    ensures complete { IfErr result (λ e. (e ≡ LoadFault.NoMemory) ⊎ ((trees : List Trees) (m : Listed) →
+        LoadsTo any_run unknown_zero givens.now (table_codes tables.entry.items) trees m → ⊥)) }
+    // A fault is true of its table and of the entries where it stands.
+    ensures true_fault { IfErr result (λ e. (e ≡ LoadFault.NoMemory) ⊎
+        StopsFor any_run unknown_zero givens.now (table_codes tables.entry.items) e) }
+    // Which fault it is: the first that is met in loading forward.
+    ensures forward { GivesSet any_run unknown_zero givens.now result (table_codes tables.entry.items) }
 {
-    for code in tables {
-        is_code(code);
+    load_each(alloc, tables, givens, any_run, unknown_zero)
+}
+
+/// Tables by their AML, which aren't read yet, each with its place for the index of its dump.
+fn unread_tables<'a>(alloc: Global, codes: &[&'a [u8]]) -> Result<Vec<Table<'a>>, NoMemory>
+    requires { AreShort (codes_view codes.now) }
+    ensures { IfOk result (λ tables. table_codes tables.items ≡ codes_view codes.now) }
+{
+    let mut tables = Vec::new(alloc);
+    for number in 0..codes.len() {
+        tables.push(Table::unread(alloc, number, codes[number]))?;
     }
+    Ok(tables)
+}
+
+/// Loads tables, and gives their AML and their terms in lists of their own.
+fn load_lists<'a>(
+    alloc: Global,
+    codes: &[&'a [u8]],
+    givens: &[(Path, u8)],
+    any_run: bool,
+    unknown_zero: bool,
+) -> Result<Loaded<'a>, LoadFault>
+    requires { AreShort (codes_view codes.now) }
+    ensures bytes { (result ≡ Err LoadFault.NoMemory) ⊎ AreCodes (codes_view codes.now) }
+    ensures gives { GivesLoad any_run unknown_zero givens.now result (codes_view codes.now) }
+{
+    let tables = unread_tables(alloc, codes)?;
+    let set = load_each(alloc, tables, givens, any_run, unknown_zero)?;
+    let loaded = Loaded::of(alloc, set)?;
+    Ok(loaded)
 }
 
 /// Loads tables as one, each by its AML, in load order.
@@ -240,7 +285,8 @@ pub fn load<'a>(
     ensures one { IfOk result (λ x. (trees : List Trees) (m : Listed) →
         LoadsTo false false givens.now (codes_view tables.now) trees m →
         HoldsLoad x (codes_view tables.now) trees m) }
-    // There are at most so many methods.
+    // No table is longer than a table may be, and there are at most so many methods.
+    ensures short { IfOk result (λ x. AreShort (codes_view x.tables.items)) }
     ensures few { IfOk result (λ x. length x.methods.items ≤ most_methods) }
     // A refusal for another cause than memory comes only where there are no trees and entries that load.
     ensures complete { IfErr result (λ e. (e ≡ LoadFault.NoMemory) ⊎ ((trees : List Trees) (m : Listed) →
@@ -251,8 +297,7 @@ pub fn load<'a>(
     // Which fault it is: the first that is met in loading forward.
     ensures forward { GivesLoad false false givens.now result (codes_view tables.now) }
 {
-    are_codes(tables);
-    load_all(alloc, tables, givens, false, false)
+    load_lists(alloc, tables, givens, false, false)
 }
 
 /// Loads tables as one, as `load` does, where the code outside methods may run. Each table is read from the left: how
@@ -276,7 +321,8 @@ pub fn load_any_run<'a>(
     ensures one { IfOk result (λ x. (trees : List Trees) (m : Listed) →
         LoadsTo true unknown_zero givens.now (codes_view tables.now) trees m →
         HoldsLoad x (codes_view tables.now) trees m) }
-    // There are at most so many methods.
+    // No table is longer than a table may be, and there are at most so many methods.
+    ensures short { IfOk result (λ x. AreShort (codes_view x.tables.items)) }
     ensures few { IfOk result (λ x. length x.methods.items ≤ most_methods) }
     // A refusal for another cause than memory comes only where there are no trees and entries that load.
     ensures complete { IfErr result (λ e. (e ≡ LoadFault.NoMemory) ⊎ ((trees : List Trees) (m : Listed) →
@@ -287,6 +333,5 @@ pub fn load_any_run<'a>(
     // Which fault it is: the first that is met in loading forward.
     ensures forward { GivesLoad true unknown_zero givens.now result (codes_view tables.now) }
 {
-    are_codes(tables);
-    load_all(alloc, tables, givens, true, unknown_zero)
+    load_lists(alloc, tables, givens, true, unknown_zero)
 }

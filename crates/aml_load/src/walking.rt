@@ -1,13 +1,13 @@
 //! What the terms of a table declare.
-ghost use Rattle.std.specs.Prelude.{◌≡◌, ◌%◌, ◌∷◌, [], None, Ok, IfOk, true};
+ghost use Rattle.std.specs.Prelude.{◌≡◌, ◌%◌, ◌∷◌, [], List, Option, None, Ok, IfOk, true};
 ghost use Rattle.std.specs.Option.{option_copied, ok_or};
 ghost use Rattle.aml_code.specs.Lawful.{last_label, field_names, plain_name, unit_names};
 ghost use Rattle.aml_code.specs.Tree.{no_fields, field_more};
 ghost use Rattle.aml_code.specs.View.{node_view, nodes_view, parts_view, tail_view, fields_view, field_view};
-ghost use Rattle.aml_space.specs.Namespace.{declares, external as outside};
+ghost use Rattle.aml_space.specs.Namespace.{Entry, Body, declares, external as outside};
 ghost use Rattle.aml_space.specs.Known.{StandsFor};
 ghost use Rattle.aml_load.specs.Loading.{under, Listed, plus, method_entry, first_label, byte_of, lead_of, target_of, body_start, body_len, place_at, lead_at, entry_at, new_at, method_at, alias_at, external_at, units_at, declare_as, declare, declare_inside, declare_all};
-ghost use Rattle.aml_load.specs.Walking.{at_site, Gives, GivesIn, IsFree, Walks};
+ghost use Rattle.aml_load.specs.Walking.{at_site, Gives, GivesIn, IsDeclared, Walks};
 
 use crate::faults::LoadFault;
 use crate::roles::{kind_of, role_of};
@@ -140,16 +140,20 @@ impl Progress {
         }
     }
 
-    /// `Duplicate` where a path is declared already, unless it may be declared again.
-    fn may_declare(&self, site: &Site<'_>, path: &Path) -> Result<(), LoadFault>
-        ensures { (l : Listed) → StandsFor self.now.space l.entries →
-            IsFree (at_site site.now) l.entries path.now result }
+    /// Declares a path: once where the code outside methods may not run, else `Duplicate`; and also again where it may.
+    fn declare_path(&mut self, site: &Site<'_>, path: Path, kind: Kind) -> Result<(), LoadFault>
+        ensures { (es : List Entry) (body : Option Body) → StandsFor self.old.space es →
+            IsDeclared (at_site site.now) es path kind body self.old self.new result }
     {
-        if !site.any_run && self.space.is_declared(path) {
-            let path = path.clone()?;
-            return Err(LoadFault::Space(site.table, SpaceFault::Duplicate(path)));
+        if site.any_run {
+            self.space.declare_again(path, kind, site.sure)?;
+            return Ok(());
         }
-        Ok(())
+        match self.space.declare_once(path, kind, site.sure) {
+            Ok(()) => Ok(()),
+            Err(SpaceFault::NoMemory) => Err(LoadFault::NoMemory),
+            Err(fault) => Err(LoadFault::Space(site.table, fault)),
+        }
     }
 
     /// Declares a path that has no body.
@@ -158,9 +162,7 @@ impl Progress {
         ensures { Walks self.old self.new result (λ l.
             entry_at (at_site site.now) l path (declares path kind None site.now.sure)) }
     {
-        self.may_declare(site, &path)?;
-        self.space.declare_again(path, kind, site.sure)?;
-        Ok(())
+        self.declare_path(site, path, kind)
     }
 
     /// Declares a name with a kind.
@@ -184,12 +186,11 @@ impl Progress {
         ensures { Walks self.old self.new result (λ l. entry_at (at_site site.now) l method.path
             (method_entry (at_site site.now) method.path method.flags method.start method.len)) }
     {
-        self.may_declare(site, &method.path)?;
         let path = method.path.clone()?;
         let kind = Kind::Method {
             args: method.flags % 8,
         };
-        self.space.declare_again(path, kind, site.sure)?;
+        self.declare_path(site, path, kind)?;
         self.methods.push(method)?;
         Ok(())
     }

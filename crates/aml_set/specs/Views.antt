@@ -1,5 +1,5 @@
 -- What a loaded set of tables holds, apart from where it lies in memory.
-use Rattle.std.specs.Prelude.{ℕ, List, [], ◌∷◌, map, Option, Some, None, slice_get, ◌≤◌, length}
+use Rattle.std.specs.Prelude.{◌≡◌, ℕ, List, [], map, Option, Some, None, slice_get}
 use Rattle.std.specs.Global.{Vec}
 use denote.Ref.{Bor}
 use Rattle.aml_code.specs.declared.tree.Node.{Node}
@@ -7,17 +7,14 @@ use Rattle.aml_code.specs.Tree.{Trees, slice_of, encodings}
 use Rattle.aml_code.specs.View.{nodes_view}
 use Rattle.aml_set.specs.declared.loaded.Loaded.{Loaded}
 use Rattle.aml_set.specs.declared.methods.Method.{Method}
+use Rattle.aml_set.specs.declared.tables.Table.{Table}
+use Rattle.aml_set.specs.declared.tables.TableSet.{TableSet}
 
 abbrev pub codes_view : List (Bor (List ℕ)) → List (List ℕ)
 codes_view codes = map (λ c. c.now) codes
 
 abbrev pub trees_view : List (Vec Node) → List Trees
 trees_view ts = map (λ t. nodes_view t.items) ts
-
--- no table is longer than 16,777,216 bytes
-abbrev pub AreShort : List (List ℕ) → Type 0
-AreShort [] = Unit {0}
-AreShort (c ∷ cs) = (length c ≤ 16777216) × AreShort cs
 
 abbrev pub span_in : Option (List ℕ) → Method → List ℕ
 span_in None m = []
@@ -34,6 +31,30 @@ body_in tables (Some m) = span_of tables m
 -- the bytes of the body of the method with this number
 abbrev pub body_of : Loaded → ℕ → List ℕ
 body_of x number = body_in (codes_view x.tables.items) (slice_get x.methods.items number)
+
+-- ---- A set of tables in one list: the indexes of their dumps, their AML, and their terms.
+
+abbrev pub table_dumps : List Table → List ℕ
+table_dumps ts = map (λ t. t.dump) ts
+
+abbrev pub table_codes : List Table → List (List ℕ)
+table_codes ts = map (λ t. t.code.now) ts
+
+abbrev pub table_terms : List Table → List Trees
+table_terms ts = map (λ t. nodes_view t.terms.items) ts
+
+-- the bytes of the body of the method with this number
+abbrev pub body_in_set : TableSet → ℕ → List ℕ
+body_in_set x number = body_in (table_codes x.tables.items) (slice_get x.methods.items number)
+
+-- the same tables, with their AML and their terms in lists of their own
+pub record IsListed (x : Loaded) (set : TableSet) : Type 0 where
+  pub tables : codes_view x.tables.items ≡ table_codes set.tables.items
+  pub trees : trees_view x.trees.items ≡ table_terms set.tables.items
+  pub space : x.space ≡ set.space
+  pub methods : x.methods.items ≡ set.methods.items
+
+-- ---- A table made anew.
 
 abbrev pub encoded_in : Option (List ℕ) → Option Trees → List ℕ
 encoded_in (Some code) (Some ts) = encodings code ts

@@ -5,6 +5,8 @@
 
 mod loaded;
 mod methods;
+mod tables;
 
 pub use loaded::{Loaded, rebuild, span_of};
 pub use methods::Method;
+pub use tables::{Table, TableSet};

@@ -3,6 +3,7 @@ ghost use Rattle.std.specs.Prelude.{◌≡◌, IfOk};
 ghost use Rattle.aml_set.specs.Views.{span_of, body_of, codes_view, table_encoding};
 
 use crate::methods::Method;
+use crate::tables::TableSet;
 use aml_code::{NoMemory, Node, encode_terms, slice};
 use aml_space::Space;
 use std::alloc::Global;
@@ -31,6 +32,26 @@ pub fn span_of<'a>(tables: &[&'a [u8]], method: &Method) -> &'a [u8]
 }
 
 impl<'a> Loaded<'a> {
+    ghost use Rattle.aml_set.specs.Views.{IsListed};
+
+    /// A set, with the AML of its tables and their terms in lists of their own.
+    pub fn of(alloc: Global, set: TableSet<'a>) -> Result<Loaded<'a>, NoMemory>
+        ensures { IfOk result (λ x. IsListed x set.entry) }
+    {
+        let mut tables = Vec::new(alloc);
+        let mut trees = Vec::new(alloc);
+        for table in set.tables {
+            tables.push(table.code)?;
+            trees.push(table.terms)?;
+        }
+        Ok(Loaded {
+            tables,
+            trees,
+            space: set.space,
+            methods: set.methods,
+        })
+    }
+
     /// The bytes of the body of a method, by the method's number. Of a number without a method there are none.
     pub fn body(&self, number: u32) -> &'a [u8]
         ensures { result.now ≡ body_of self.now number }

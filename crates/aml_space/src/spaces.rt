@@ -1,12 +1,13 @@
 //! The namespace that tables make.
-ghost use Rattle.std.specs.Prelude.{◌≡◌, ◌≤◌, ◌*◌, length, slice_get, [], ◌∷◌, ◌++◌, List, Option, true, is_some};
+ghost use Rattle.std.specs.Prelude.{◌≡◌, ◌≤◌, ◌*◌, length, slice_get, [], ◌∷◌, ◌++◌, List, Option, true, false, is_some};
 ghost use Rattle.std.specs.Prelude.{map as map_list, ◌⊎◌, OnOk, OnErr, IfOk, IfErr, IsTrue};
 ghost use Rattle.std.specs.Option.{option_copied};
 ghost use Rattle.std.specs.FinMap as map;
 ghost use Rattle.aml_space.specs.Namespace.{Entry, Body, declares, external as outside, given as said};
 ghost use Rattle.aml_space.specs.Namespace.{kind_at, count_at, namespace_of, declared_at};
 ghost use Rattle.aml_space.specs.Runs.{sure_at};
-ghost use Rattle.aml_space.specs.Known.{StandsFor, nothing_known, with_declared, with_again, with_external, with_given};
+ghost use Rattle.aml_space.specs.Known.{StandsFor, nothing_known, once, with_declaration, with_declared, with_again};
+ghost use Rattle.aml_space.specs.Known.{with_external, with_given};
 ghost use Rattle.aml_space.specs.Known.{is_declared as declared_yet, namespace_in, outlook_in, row_of, AreRows};
 
 use crate::counting::{count_of, sure_met};
@@ -86,6 +87,27 @@ impl Space {
             IsTrue (declared_yet self.old path))) }
         ensures duplicate { IsTrue (declared_yet self.old path) → result ≡ Err (SpaceFault.Duplicate path) }
     {
+        self.declare_once(path, kind, true)
+    }
+
+    /// Declares a path that isn't declared yet, surely or not.
+    ///
+    /// # Errors
+    /// `Duplicate` where it is declared already. A refused call changes nothing.
+    pub fn declare_once(&mut self, path: Path, kind: Kind, surely: bool) -> Result<(), SpaceFault>
+        ensures ok { OnOk result (self.new ≡ with_declaration self.old path (once kind surely)) }
+        ensures stands { (es : List Entry) (body : Option Body) → StandsFor self.old es →
+            OnOk result (StandsFor self.new (es ++ declares path kind body surely ∷ [])) }
+        ensures err { OnErr result (self.new ≡ self.old) }
+        ensures only_then { IfErr result (λ e. (e ≡ SpaceFault.NoMemory) ⊎ ((e ≡ SpaceFault.Duplicate path) ×
+            IsTrue (declared_yet self.old path))) }
+        ensures duplicate { IsTrue (declared_yet self.old path) → result ≡ Err (SpaceFault.Duplicate path) }
+        // The same of a list of entries that it stands for.
+        ensures new { (es : List Entry) → StandsFor self.old es →
+            OnOk result (is_some (declared_at es path) ≡ false) }
+        ensures taken { (es : List Entry) → StandsFor self.old es → IfErr result (λ e.
+            (e ≡ SpaceFault.NoMemory) ⊎ ((e ≡ SpaceFault.Duplicate path) × (is_some (declared_at es path) ≡ true))) }
+    {
         let reach = deepest(self.nodes.as_slice(), path.segs());
         if is_taken(self.nodes.as_slice(), path.segs(), reach) {
             return Err(SpaceFault::Duplicate(path));
@@ -93,7 +115,7 @@ impl Space {
         if self.rows == usize::MAX {
             return Err(SpaceFault::NoMemory);
         }
-        declare_first(self.alloc, &mut self.nodes, path, kind, true, reach)?;
+        declare_first(self.alloc, &mut self.nodes, path, kind, surely, reach)?;
         self.rows += 1;
         Ok(())
     }

@@ -1,48 +1,42 @@
--- The definition blocks of tables that go together: as many as the tables, and at each place the block of the name, the
--- AML and the terms there. So a loop over the places prints them all.
-use Rattle.aml_text.proofs.Common.{slice_index, zip, Bor, ◌≡◌, ℕ, ◌+◌, ◌<◌, List, ◌∷◌, ◌++◌, length, get_or, drop, sym, ap, ◌∙◌, append_assoc, arith}
-use Rattle.aml_text.proofs.Common.{length-map, get_or-map, drop_more, length-zip, get_or-zip, Node, nodes_view, Dump, Order, name_of, codes_view, trees_view}
-use Rattle.aml_text.proofs.Common.{Loaded, OneBlock, BodyLines, left_all, block_text, blocks_text, names_in, a_block, blocks_with, indexes_in, AreMatched}
-use Rattle.std.specs.Global.{Vec}
-use Rattle.aml_text.proofs.Pairs.{pairs_many, pair_there}
+-- The definition blocks of tables: as many as each of their lists has, and at each place the block of the name, the AML and
+-- the terms there. So a loop over the places prints them all.
+use Rattle.aml_text.proofs.Common.{◌≡◌, ℕ, zero, suc, ◌+◌, ◌<◌, List, [], ◌∷◌, ◌++◌, length, get_or, zip, min, drop, refl, sym, ap, ◌∙◌, append_assoc, arith}
+use Rattle.aml_text.proofs.Common.{length-map, drop_more, length-zip, nodes_view, Dump, name_of, Table, table_dumps, table_codes, table_terms}
+use Rattle.aml_text.proofs.Common.{OneBlock, BodyLines, left_all, block_text, blocks_text, names_in, a_block, blocks_of}
+use Rattle.aml_code.specs.Tree.{Trees}
 
-module _ (dumps : List Dump) (order : Order) (loaded : Loaded) (matched : AreMatched order loaded) where
-  with_terms : length (trees_view loaded.trees.items) ≡ length (codes_view loaded.tables.items)
-  with_terms = length-map loaded.trees.items (λ t. nodes_view t.items) ∙ matched.1 ∙ sym (length-map loaded.tables.items (λ c. c.now))
+pub blocks_many : (names codes : List (List ℕ)) (terms : List Trees)
+    → length (blocks_of names codes terms) ≡ min (length names) (min (length codes) (length terms))
+blocks_many names codes terms =
+    length-map (zip names (zip codes terms)) a_block ∙ length-zip names (zip codes terms) ∙ ap (min (length names)) (length-zip codes terms)
 
-  named : length (zip (codes_view loaded.tables.items) (trees_view loaded.trees.items)) ≡ length (names_in dumps (indexes_in order))
-  named =
-      omega (
-        arith,
-        length-zip (codes_view loaded.tables.items) (trees_view loaded.trees.items),
-        with_terms,
-        length-map loaded.tables.items (λ c. c.now),
-        matched.0,
-        length-map (indexes_in order) (name_of dumps),
-      )
+-- what a place has is the block there
+pub block_there : (names codes : List (List ℕ)) (terms : List Trees) (i : ℕ) (name code : List ℕ) (ts : Trees) (other : OneBlock)
+    → i < length (blocks_of names codes terms) → name ≡ get_or names i name → code ≡ get_or codes i code → ts ≡ get_or terms i ts
+    → record { name = name; code = code; terms = ts } ≡ get_or (blocks_of names codes terms) i other
+block_there [] codes terms i name code ts other inside p q r = absurd (omega (arith, inside))
+block_there (n ∷ names) [] terms i name code ts other inside p q r = absurd (omega (arith, inside))
+block_there (n ∷ names) (c ∷ codes) [] i name code ts other inside p q r = absurd (omega (arith, inside))
+block_there (n ∷ names) (c ∷ codes) (t ∷ terms) zero name code ts other inside p q r = λ k. record { name = p k; code = q k; terms = r k }
+block_there (n ∷ names) (c ∷ codes) (t ∷ terms) (suc i) name code ts other inside p q r =
+    block_there names codes terms i name code ts other (omega (arith, inside)) p q r
 
-  pub blocks_many : length (blocks_with dumps order loaded) ≡ length loaded.tables.items
-  blocks_many = pairs_many a_block (names_in dumps (indexes_in order)) (zip (codes_view loaded.tables.items) (trees_view loaded.trees.items)) named
-      ∙ length-map (indexes_in order) (name_of dumps) ∙ sym matched.0
+-- those of tables in one list
+module _ (dumps : List Dump) where
+  abbrev of_tables : List Table → List OneBlock
+  of_tables ts = blocks_of (names_in dumps (table_dumps ts)) (table_codes ts) (table_terms ts)
 
-  -- what a place has is the block there
-  pub block_is : (i : ℕ) (name : List ℕ) (code : Bor (List ℕ)) (tree : Vec Node) (other : OneBlock) → i < length loaded.tables.items
-      → name ≡ name_of dumps (slice_index (indexes_in order) i) → code ≡ get_or loaded.tables.items i code → tree ≡ get_or loaded.trees.items i tree
-      → record { name = name; code = code.now; terms = nodes_view tree.items } ≡ get_or (blocks_with dumps order loaded) i other
-  block_is i name code tree other inside n c t =
-      let terms = nodes_view tree.items in
-      let named_so : name ≡ get_or (names_in dumps (indexes_in order)) i name =
-      n ∙ sym (get_or-map (name_of dumps) (indexes_in order) i 0 name (omega (arith, matched.0))) in
-      let coded : code.now ≡ get_or (codes_view loaded.tables.items) i code.now =
-      ap (λ b. b.now) c ∙ sym (get_or-map (λ b. b.now) loaded.tables.items i code code.now inside) in
-      let read : terms ≡ get_or (trees_view loaded.trees.items) i terms =
-      ap (λ v. nodes_view v.items) t ∙ sym (get_or-map (λ v. nodes_view v.items) loaded.trees.items i tree terms (omega (arith, matched.1))) in
-      let pair : (code.now, terms) ≡ (get_or (codes_view loaded.tables.items) i code.now, get_or (trees_view loaded.trees.items) i terms) =
-      λ k. (coded k, read k) in
-      let rest = get_or-zip (codes_view loaded.tables.items) (trees_view loaded.trees.items) i (code.now, terms)
-      (omega (arith, length-map loaded.tables.items (λ b. b.now))) (omega (arith, with_terms, length-map loaded.tables.items (λ b. b.now))) in
-      pair_there a_block (names_in dumps (indexes_in order)) (zip (codes_view loaded.tables.items) (trees_view loaded.trees.items)) named i name
-      (code.now, terms) other (omega (arith, length-map (indexes_in order) (name_of dumps), matched.0)) named_so (pair ∙ sym rest)
+  pub tables_many : (ts : List Table) → length (of_tables ts) ≡ length ts
+  tables_many [] = refl
+  tables_many (t ∷ ts) = ap suc (tables_many ts)
+
+  pub table_there : (ts : List Table) (i : ℕ) (t : Table) (name : List ℕ) (other : OneBlock) → i < length ts → t ≡ get_or ts i t → name ≡ name_of dumps t.dump
+      → record { name = name; code = t.code.now; terms = nodes_view t.terms.items } ≡ get_or (of_tables ts) i other
+  table_there [] i t name other inside is n = absurd (omega (arith, inside))
+  table_there (x ∷ ts) zero t name other inside is n =
+      (λ k. record { name = n k; code = t.code.now; terms = nodes_view t.terms.items })
+      ∙ ap (λ (t : Table). record { name = name_of dumps t.dump; code = t.code.now; terms = nodes_view t.terms.items }) is
+  table_there (x ∷ ts) (suc i) t name other inside is n = table_there ts i t name other (omega (arith, inside)) is n
 
 -- the block at a place is printed, and those behind it are still to be
 pub blocks_turn : (blocks : List OneBlock) (i : ℕ) (b : OneBlock) (bs rest : List BodyLines) (done total : List ℕ) → i < length blocks → b ≡ get_or blocks i b

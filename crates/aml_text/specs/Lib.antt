@@ -1,4 +1,3 @@
 -- The text of a listing, and the tables that it is made of.
 pub mod Rows
-pub mod Matched
 pub mod Listing

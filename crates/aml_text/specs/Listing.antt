@@ -1,5 +1,5 @@
 -- The text of a listing: the dumps, the namespace, and the definition blocks of the loaded tables.
-use Rattle.std.specs.Prelude.{◌≡◌, ℕ, List, ◌++◌, map as map_list, zip}
+use Rattle.std.specs.Prelude.{ℕ, List, ◌∷◌, ◌++◌, map as map_list, zip}
 use Rattle.std.specs.FinMap as map
 use Rattle.acpi_tables.specs.declared.dump.Dump.{Dump}
 use Rattle.acpi_tables.specs.declared.order.Order.{Order}
@@ -8,14 +8,12 @@ use Rattle.acpi_text.specs.Dumps.{dumps_text}
 use Rattle.aml_names.specs.declared.segments.Seg.{Seg}
 use Rattle.aml_code.specs.Tree.{Trees}
 use Rattle.aml_space.specs.Known.{Declared}
-use Rattle.aml_set.specs.declared.loaded.Loaded.{Loaded}
-use Rattle.aml_set.specs.Views.{codes_view, trees_view}
+use Rattle.aml_set.specs.Views.{codes_view, trees_view, table_dumps, table_codes, table_terms}
 use Rattle.asl_text.specs.Texts.{OneBody, OneBlock, BodyLines, body_lines, blocks_text}
 use Rattle.asl_text.specs.Bodies.{body_view}
 use Rattle.aml_text.specs.declared.listing.Listing.{Listing}
 use Rattle.aml_text.specs.declared.listing.Tables.{Tables}
 use Rattle.aml_text.specs.Rows.{namespace_text}
-use Rattle.aml_text.specs.Matched.{indexes_in}
 
 -- the names of the files of the dumps at these indexes
 abbrev pub names_in : List Dump → List ℕ → List (List ℕ)
@@ -28,48 +26,37 @@ a_block t = record { name = t.0; code = t.1.0; terms = t.1.1 }
 abbrev pub blocks_of : List (List ℕ) → List (List ℕ) → List Trees → List OneBlock
 blocks_of names codes terms = map_list a_block (zip names (zip codes terms))
 
--- The text of dumps whose definition blocks are loaded in this order, by the rows of their namespace, the tables' AML
--- and terms, and the lines of the bodies of their methods in the order of the text.
-abbrev pub whole_text : List Dump → List ℕ → List (List Seg × Declared) → List (List ℕ) → List Trees → List BodyLines
-    → List ℕ
-whole_text dumps order rows codes terms bodies =
-    dumps_text dumps ++ namespace_text rows ++ blocks_text (blocks_of (names_in dumps order) codes terms) bodies
+-- The text of dumps, of the rows of a namespace and of definition blocks, with the lines of the bodies of their methods
+-- in the order of the text.
+abbrev pub whole_text : List Dump → List (List Seg × Declared) → List OneBlock → List BodyLines → List ℕ
+whole_text dumps rows blocks bodies = dumps_text dumps ++ namespace_text rows ++ blocks_text blocks bodies
 
--- the text of a listing with these bodies
+-- That of dumps whose definition blocks are loaded in this order, by the rows of their namespace, the tables' AML and
+-- terms, and the bodies of their methods.
 abbrev pub listing_text : List Dump → List ℕ → List (List Seg × Declared) → List (List ℕ) → List Trees → List OneBody
     → List ℕ
 listing_text dumps order rows codes terms bodies =
-    whole_text dumps order rows codes terms (map_list body_lines bodies)
+    whole_text dumps rows (blocks_of (names_in dumps order) codes terms) (map_list body_lines bodies)
 
 -- ---- tables in memory
 
--- the definition blocks of dumps that are loaded in this order
-abbrev pub blocks_with : List Dump → Order → Loaded → List OneBlock
-blocks_with dumps order loaded =
-    blocks_of (names_in dumps (indexes_in order)) (codes_view loaded.tables.items) (trees_view loaded.trees.items)
-
--- the text of them with these bodies
-abbrev pub text_with : List Dump → Order → Loaded → List BodyLines → List ℕ
-text_with dumps order loaded bodies =
-    whole_text dumps (indexes_in order) (map.entries loaded.space.declarations) (codes_view loaded.tables.items)
-    (trees_view loaded.trees.items) bodies
+-- the indexes of the dumps of an order
+abbrev pub indexes_in : Order → List ℕ
+indexes_in order = order.dsdt ∷ order.ssdts.items
 
 -- the definition blocks of a listing, and its text
 abbrev pub blocks_in : Listing → List OneBlock
-blocks_in x = blocks_with x.dumps.now x.order x.loaded
+blocks_in x = blocks_of (names_in x.dumps.now (indexes_in x.order)) (codes_view x.loaded.tables.items)
+    (trees_view x.loaded.trees.items)
 
 abbrev pub shown_text : Listing → List ℕ
-shown_text x = text_with x.dumps.now x.order x.loaded (map_list body_lines (map_list body_view x.bodies.items))
+shown_text x = whole_text x.dumps.now (map.entries x.loaded.space.declarations) (blocks_in x)
+    (map_list body_lines (map_list body_view x.bodies.items))
 
 -- the same of tables without the bodies of their methods
 abbrev pub blocks_at : Tables → List OneBlock
-blocks_at t = blocks_with t.dumps.now t.order.now t.loaded.now
+blocks_at t = blocks_of (names_in t.dumps.now (table_dumps t.set.now.tables.items)) (table_codes t.set.now.tables.items)
+    (table_terms t.set.now.tables.items)
 
 abbrev pub set_text : Tables → List BodyLines → List ℕ
-set_text t bodies = text_with t.dumps.now t.order.now t.loaded.now bodies
-
--- they are those of a listing
-pub record IsOf (t : Tables) (x : Listing) : Type 0 where
-  pub dumps : t.dumps.now ≡ x.dumps.now
-  pub order : t.order.now ≡ x.order
-  pub loaded : t.loaded.now ≡ x.loaded
+set_text t bodies = whole_text t.dumps.now (map.entries t.set.now.space.declarations) (blocks_at t) bodies

@@ -1,10 +1,11 @@
 //! The levels at which the bodies of methods are printed.
 ghost use Rattle.std.specs.Prelude.{◌≡◌, ◌++◌, OnOk, IfOk};
 ghost use Rattle.aml_code.specs.View.{node_view, nodes_view, tail_view};
-ghost use Rattle.aml_set.specs.Views.{trees_view};
+ghost use Rattle.aml_set.specs.Views.{table_terms};
 ghost use Rattle.asl_text.specs.Texts.{levels_in, tail_levels, all_levels, levels_of};
 
 use aml_code::{NoMemory, Node, Tail};
+use aml_set::Table;
 use std::alloc::Global;
 
 /// The levels of the bodies in a term of a table, behind the others.
@@ -45,12 +46,12 @@ fn push_all_levels(levels: &mut Vec<u32>, level: u32, nodes: &[Node]) -> Result<
 }
 
 /// The level at which the body of each method is printed, in the order of the text.
-pub fn body_levels(alloc: Global, trees: &[Vec<Node>]) -> Result<Vec<u32>, NoMemory>
-    ensures { IfOk result (λ levels. levels.items ≡ levels_of (trees_view trees.now)) }
+pub fn body_levels(alloc: Global, tables: &[Table<'_>]) -> Result<Vec<u32>, NoMemory>
+    ensures { IfOk result (λ levels. levels.items ≡ levels_of (table_terms tables.now)) }
 {
     let mut levels = Vec::new(alloc);
-    for nodes in trees {
-        push_all_levels(&mut levels, 1, nodes.as_slice())?;
+    for table in tables {
+        push_all_levels(&mut levels, 1, table.terms.as_slice())?;
     }
     Ok(levels)
 }

@@ -14,5 +14,5 @@ pub use asl_text::{Block, Bodies, Body, BodyText, body_text, print_block, term_t
 pub use levels::body_levels;
 pub use listing::{Listing, Tables};
 pub use rows::print_rows;
-pub use tables::block_at;
+pub use tables::{Blocks, dump_of};
 pub use writing::{write_listing, write_printed};

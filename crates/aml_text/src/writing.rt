@@ -1,50 +1,43 @@
 //! A listing, written whole.
 ghost use Rattle.std.specs.Prelude.{true, map};
+ghost use Rattle.std.specs.FinMap as finite;
 ghost use Rattle.acpi_tables.specs.Order.{AreTaken};
 ghost use Rattle.text_writer.specs.Prints.{Writes};
 ghost use Rattle.asl_text.specs.Bodies.{printed_lines, bodies_lines};
-ghost use Rattle.aml_text.specs.Listing.{set_text, shown_text};
+ghost use Rattle.aml_text.specs.Listing.{whole_text, set_text, shown_text};
 
 use crate::listing::{Listing, Tables};
 use crate::rows::print_rows;
-use crate::tables::print_tables;
+use crate::tables::{Blocks, print_tables};
+use acpi_tables::Dump;
 use acpi_text::print_dumps;
 use aml_code::CodeFault;
+use aml_space::Space;
 use asl_text::{Bodies, BodyText};
 use std::io::Write;
 use text_writer::{Out, Print, WriteFault, write_text};
 
-/// A set of tables with the bodies of their methods.
+/// The parts of a listing: dumps, the namespace of their tables, and these with the bodies of their methods.
 #[derive(Drop)]
-struct Set<'s, 'a, 'b> {
-    tables: Tables<'s, 'a>,
+struct Parts<'s, 'b, T> {
+    dumps: &'s [Dump],
+    space: &'s Space,
+    tables: &'s T,
     bodies: Bodies<'b>,
 }
 
 /// The dumps, the namespace and the definition blocks, in this order.
-impl Print for Set<'_, '_, '_> {
-    ghost can_print = { λ set. AreTaken set.tables.dumps.now true };
+impl<T: Blocks> Print for Parts<'_, '_, T> {
+    ghost can_print = { λ parts. AreTaken parts.dumps.now true };
 
-    ghost text = { λ set. set_text set.tables (bodies_lines set.bodies) };
+    ghost text = { λ parts. whole_text parts.dumps.now (finite.entries parts.space.now.declarations)
+        (T.blocks parts.tables.now) (bodies_lines parts.bodies) };
 
     fn print<W: Write>(&self, out: &mut Out<'_, W>) {
-        print_dumps(out, self.tables.dumps);
-        print_rows(out, &self.tables.loaded.space);
+        print_dumps(out, self.dumps);
+        print_rows(out, self.space);
         print_tables(out, self.tables, self.bodies);
     }
-}
-
-/// Writes a set of tables with the bodies of their methods.
-fn write_set<W: Write>(
-    out: &mut W,
-    tables: Tables<'_, '_>,
-    bodies: Bodies<'_>,
-) -> Result<(), WriteFault>
-    requires taken { AreTaken tables.dumps.now true }
-    ensures { Writes (W.contents out.old) (W.contents out.new) (set_text tables.entry (bodies_lines bodies.entry)) result }
-{
-    let set = Set { tables, bodies };
-    write_text(out, &set)
 }
 
 /// Writes a listing: a line for each dump and what stands below it, then the namespace, then the definition blocks of
@@ -56,11 +49,13 @@ pub fn write_listing<W: Write>(out: &mut W, listing: &Listing<'_>) -> Result<(),
     requires taken { AreTaken listing.now.dumps.now true }
     ensures { Writes (W.contents out.old) (W.contents out.new) (shown_text listing.now) result }
 {
-    write_set(
-        out,
-        listing.tables(),
-        Bodies::Read(listing.bodies.as_slice()),
-    )
+    let parts = Parts {
+        dumps: listing.dumps,
+        space: &listing.loaded.space,
+        tables: listing,
+        bodies: Bodies::Read(listing.bodies.as_slice()),
+    };
+    write_text(out, &parts)
 }
 
 /// Writes the same of tables of whose bodies this is kept, each at its level (`body_levels`), or which can't be read.
@@ -76,5 +71,11 @@ pub fn write_printed<W: Write>(
     ensures { Writes (W.contents out.old) (W.contents out.new)
         (set_text tables.entry (map printed_lines bodies.now)) result }
 {
-    write_set(out, tables, Bodies::Printed(bodies))
+    let parts = Parts {
+        dumps: tables.dumps,
+        space: &tables.set.space,
+        tables: &tables,
+        bodies: Bodies::Printed(bodies),
+    };
+    write_text(out, &parts)
 }

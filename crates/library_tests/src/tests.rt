@@ -2,6 +2,7 @@ mod checks;
 mod fixtures;
 mod folders;
 mod listings;
+mod loads;
 mod memory;
 mod nesting;
 mod starts;

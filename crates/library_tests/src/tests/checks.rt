@@ -1,6 +1,7 @@
 //! A check of a listing in which another body stands than the table's. No run makes such a listing.
 ghost use Rattle.std.specs.Prelude.{◌≤◌, length};
-ghost use Rattle.aml_set.specs.Views.{codes_view, AreShort};
+ghost use Rattle.aml_set.specs.Code.{AreShort};
+ghost use Rattle.aml_set.specs.Views.{codes_view};
 
 use super::fixtures::{Bare, listing_of, push_table};
 use acpi_tables::Dump;

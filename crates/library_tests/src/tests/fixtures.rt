@@ -1,7 +1,8 @@
 //! Code, dumps, tables, works and gates that several tests hand in.
 ghost use Rattle.std.specs.Prelude.{◌≡◌, ◌*◌, ◌≤◌, ⊤, Some, IfOk, length, true};
 ghost use Rattle.acpi_tables.specs.Order.{AreTaken};
-ghost use Rattle.aml_set.specs.Views.{codes_view, AreShort};
+ghost use Rattle.aml_set.specs.Code.{AreShort};
+ghost use Rattle.aml_set.specs.Views.{codes_view};
 
 use acpi_tables::Dump;
 use acpidis::{Options, Refusal, disassemble, run};

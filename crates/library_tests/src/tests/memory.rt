@@ -3,7 +3,8 @@
 //! `tests/refusals.sh` runs each of these tests again and again, with each growth refused in turn. Where none is
 //! refused the answer has to be whole.
 ghost use Rattle.std.specs.Prelude.{◌≤◌, length};
-ghost use Rattle.aml_set.specs.Views.{codes_view, AreShort};
+ghost use Rattle.aml_set.specs.Code.{AreShort};
+ghost use Rattle.aml_set.specs.Views.{codes_view};
 
 use super::fixtures::{
     Bare, Square, Want, codes, is_whole_or_want, listing_of, push_dump, push_table,

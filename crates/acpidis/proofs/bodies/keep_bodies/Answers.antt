@@ -1,4 +1,4 @@
-use Rattle.acpidis.proofs.Common.{◌≡◌, length, arith, param_sync, arg_sync, body_of, BecameIn}
+use Rattle.acpidis.proofs.Common.{◌≡◌, length, arith, param_sync, arg_sync, body_in_set, BecameIn}
 use denote.Exit.{no}
 use Rattle.acpidis.proofs.Sharing.{keeping_sync}
 use Rattle.acpidis.proofs.BodyLaws.{chosen}
@@ -9,8 +9,8 @@ harvest-requires-sync-W g c κs within = param_sync 1 _ (arg_sync _ no _ (keepin
 
 pub returns-in-Ok-clause-kept : goal.returns-in-Ok-clause-kept
 returns-in-Ok-clause-kept g c =
-    let loaded = c.args.loaded.now in
-    let len : length c.in-Ok.found.items.items ≡ length loaded.methods.items =
-    omega (arith, c.in-Ok.ensures.results.items_len, c.len-count.ensures, c.requires.limits.1) in
-    chosen (BecameIn c.args.unknown_zero loaded) (λ n. g.K.Keep.keeps c.args.keep.now n (body_of loaded n)) loaded.methods.items c.in-Ok.found.items.items len
+    let set = c.args.set.now in
+    let len : length c.in-Ok.found.items.items ≡ length set.methods.items =
+    omega (arith, c.in-Ok.ensures.results.items_len, c.len-count.ensures, c.requires.few) in
+    chosen (BecameIn c.args.unknown_zero set) (λ n. g.K.Keep.keeps c.args.keep.now n (body_in_set set n)) set.methods.items c.in-Ok.found.items.items len
     c.in-Ok.ensures.results.results

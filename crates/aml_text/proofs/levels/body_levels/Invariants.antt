@@ -1,5 +1,5 @@
-use Rattle.aml_text.proofs.Common.{◌≡◌, ◌++◌, drop, trees_view, levels_of}
+use Rattle.aml_text.proofs.Common.{◌≡◌, ◌++◌, drop, table_terms, levels_of}
 use Rattle.aml_text.proofs.levels.body_levels.Given as goal
 
-abbrev pub invariant-loop-nodes : goal.invariant-loop-nodes
-invariant-loop-nodes l = l.levels.items ++ levels_of (trees_view (drop l.nodes-index l.trees)) ≡ levels_of (trees_view l.trees)
+abbrev pub invariant-loop-table : goal.invariant-loop-table
+invariant-loop-table l = l.levels.items ++ levels_of (table_terms (drop l.table-index l.tables)) ≡ levels_of (table_terms l.tables)

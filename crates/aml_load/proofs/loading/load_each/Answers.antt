@@ -1,0 +1,22 @@
+use Rattle.std.proofs.Common.{refl, ◌∙◌}
+use Rattle.aml_load.specs.Loading.{first_listed}
+use Rattle.aml_set.specs.Views.{table_codes, table_terms}
+use Rattle.aml_load.proofs.Loads.{load_gives}
+use Rattle.aml_load.proofs.loading.load_each.Goals as goal
+
+pub returns-clause-dumps : goal.returns-clause-dumps
+returns-clause-dumps c = (c.in_ok-read_tables.ensures (first_listed c.args.givens.now) c.in_ok-progress.ensures).0
+
+pub returns-clause-gives : goal.returns-clause-gives
+returns-clause-gives c =
+    let gs = c.args.givens.now in
+    let codes = table_codes c.args.tables.items in
+    let read = c.in_ok-read_tables.ensures (first_listed gs) c.in_ok-progress.ensures in
+    let m = read.2.0 in
+    let free = c.in_ok-check_uses.ensures m read.2.1.space in (
+      table_terms c.read_tables.new.tables.items,
+      m,
+      record { tables = read.1; trees = refl; space = read.2.1.space; methods = read.2.1.methods },
+      load_gives c.args.any_run c.args.unknown_zero gs codes (table_terms c.read_tables.new.tables.items) m c.as_slice.result.now c.in_ok-check_uses.field-0
+          read.2.2 (c.as_slice.ensures.value ∙ read.2.1.uses) free,
+    )
