@@ -1,0 +1,309 @@
+#!/usr/bin/env python3
+"""Prints docs/meaning.md: what an Ok means, on one page that is read from top to bottom.
+
+    python3 tests/meaning.py [--write]
+
+The page has the definitions that `Means` and `Shows` of crates/acpidis/specs/Meaning.antt are made of, as they stand in
+the specs, each before what it is made of, and each type of the sources behind the definition that names it first. What
+only --any-run adds stands apart, cut off at the names of ADDED. The head of the page is tests/meaning_words.md: each
+word of the kit's library that the definitions name has to stand in its last table, and no other. Without --write the
+page is compared with docs/meaning.md. The last line is 'N passed, N failed'.
+"""
+
+import pathlib
+import re
+import sys
+
+TOP = pathlib.Path(__file__).resolve().parent.parent
+PAGE = TOP / "docs/meaning.md"
+HEAD = TOP / "tests/meaning_words.md"
+# The parts of the page: a title, and the crates and names that it begins with. A part has what these are made of, but
+# for what an earlier part has, or what another part begins with.
+PARTS = [
+    ("What a set of dumps means", "acpidis: Means"),
+    ("The order of the definition blocks", "acpi_tables: IsOrder bytes_of table_of"),
+    ("What tables declare", "aml_load: LoadsTo Listed methods_of"),
+    ("Which bytes are terms", "aml_code: ReadsModule ReadsBody row_of"),
+    ("What a name means", "aml_space: found arity_of namespace_of kind_at aml_names: candidates placed IsName spelling PathSet"),
+    ("What a listing in memory shows", "acpidis: Shows"),
+]
+ADDED = ("What `--any-run` adds", "aml_parse: ReadsTable aml_load: run_names table_front Front aml_space: agreed_path agreed_arity outlook_of")
+LINES_A_MINUTE = 22
+ROWS_A_MINUTE = 40
+# So many lines of a definition, or more, that begin or end with ∷ are rows of a table.
+LEAST_ROWS = 3
+WORD = re.compile(r"(?<![\w.\-])(?:([A-Za-z]\w*)\.)?([^\W\d][\w\-×]*)(?![\w\-]*\s=\s)")
+SIGN = re.compile(r"(?<=\s)[^\w\s(){}\[\],.;:\"→λ×∀=|¬⊥_]+(?=\s|\)|$)|(?<=\s)(?:==|\|\|)(?=\s)|\[\]|\bif\b")
+TYPE = re.compile(r"((?:^ *///.*\n|^#\[.*\n)*)^pub (?:struct|enum) (\w+)[^;{]*(?:\{\n(?:.*\n)*?\}|.*;)$", re.MULTILINE)
+
+
+class File:
+    """A file of specs: its definitions, and what its `use` lines bring."""
+
+    def __init__(self, path):
+        self.crate, self.name = path.parts[-3], path.stem
+        self.imports, self.aliases, self.definitions = {}, {}, []
+        lines = path.read_text().split("\n")
+        uses = [line for line in lines if line.startswith("use ")]
+        for line in uses:
+            module, _, words = line[4:].partition(".{")
+            for word in words.rstrip("}").split(", ") if words else []:
+                self.imports[word.split(" as ")[-1]] = (module, word.split(" as ")[0])
+            if not words:
+                self.aliases[module.split(" as ")[1]] = module.split(" as ")[0]
+        first = next(number for number, line in enumerate(lines) if not line.startswith("--"))
+        self.add([line for line in lines[first:] if line not in uses], [], (self, tuple(lines[:first])))
+
+    def add(self, lines, around, section):
+        for block in paragraphs(lines, 2 if around else 0):
+            code = code_of(block)
+            if not code:
+                section = (self, tuple(block))
+            elif code[0].startswith("module _"):
+                self.add(block[block.index(code[0]) + 1 :], [code[0], ""], section)
+            else:
+                self.definitions.append(Definition(self, section, block, around))
+
+
+class Definition:
+    """A paragraph of a file of specs, which may define several names."""
+
+    def __init__(self, file, section, lines, around):
+        self.file, self.section, self.lines, self.around, self.code = file, section, lines, around, code_of(lines)
+        self.names, self.forms = names_in(self.code)
+        self.uses, self.types, self.kit = [], [], []
+        rows = [line for line in self.code if re.match(r"\s+∷ ", line) or line.endswith(" ∷")]
+        self.rows = len(rows) if len(rows) >= LEAST_ROWS else 0
+
+
+class Type:
+    """A struct or an enum of the sources with its texts, and what definitions see in its place."""
+
+    def __init__(self, path, match, text):
+        self.crate, self.name, self.uses = path.relative_to(TOP).parts[1], match[2], text
+        self.lines = [line for line in match[0].split("\n") if not re.match(r"\s*(#\[|// |pub ghost )", line)]
+        self.code = [line for line in self.lines if not line.lstrip().startswith("//")]
+        model = re.search(rf"^impl(?:<.*>)? Model for {self.name}\b.*?Value = \{{ (.*?) \}};", text, re.MULTILINE | re.DOTALL)
+        self.seen = model and model[1]
+
+    def words(self):
+        """The names of types in it, those of its own forms left out."""
+        forms = r"^    [A-Z]\w*" if f"enum {self.name}" in self.code[0] else "$^"
+        return re.findall(r"\b[A-Z]\w+", re.sub(forms, "", "\n".join(self.code[1:] or self.code), flags=re.MULTILINE))
+
+
+def code_of(lines):
+    return [line for line in lines if line.strip() and not line.lstrip().startswith("--")]
+
+
+def paragraphs(lines, indent):
+    """What blank lines part. What stands further in belongs to what is before it."""
+    found = []
+    for text in re.split(r"\n(?:[ \t]*\n)+", "\n".join(lines).strip("\n")):
+        block = text.split("\n")
+        if found and len(block[0]) - len(block[0].lstrip()) > indent:
+            found[-1] += ["", *block]
+        elif text:
+            found.append(block)
+    return found
+
+
+def names_in(code):
+    """The names that some lines define, and the forms of what they define as data."""
+    names, forms, inside, depth = [], [], None, 0
+    for line in code:
+        indent = len(line) - len(line.lstrip())
+        inside = inside if indent > depth else None
+        head = re.match(r"\s*(?:(?:abbrev|unfoldable|pub) )*(?:(record|data) ([^\s{]+)|((?:[^\s:(){}]+ )+): )", line)
+        if head and head[1]:
+            names.append(head[2])
+            inside, depth = head[1], indent
+        elif head and inside == "data":
+            forms += head[3].split()
+        elif head and not inside and len(head[3].split()) == 1:
+            names += head[3].split()
+    return names, forms
+
+
+class Sources:
+    """All definitions by their crates and names, and all types."""
+
+    def __init__(self):
+        files = [File(path) for path in sorted(TOP.glob("crates/*/specs/*.antt"))]
+        self.modules = {(it.crate, it.name): {name: d for d in it.definitions for name in d.names + d.forms} for it in files}
+        texts = {path: path.read_text() for path in sorted(TOP.glob("crates/*/src/**/*.rt"))}
+        types = [Type(path, match, text) for path, text in texts.items() for match in TYPE.finditer(text)]
+        self.types = {(it.crate, it.name): it for it in types}
+        for definition in [definition for file in files for definition in file.definitions]:
+            self.resolve(definition)
+
+    def named(self, roots):
+        """The definitions of these crates with these names, and the names that there are none of."""
+        words = [(crate, name) for crate, names in re.findall(r"(\w+):((?: \w+(?![\w:]))+)", roots) for name in names.split()]
+        found = {word: [m[word[1]] for (crate, _), m in self.modules.items() if crate == word[0] and word[1] in m] for word in words}
+        return [some[0] for some in found.values() if some], [word for word, some in found.items() if not some]
+
+    def resolve(self, definition):
+        """Fills in what a definition names, in the order in which it does."""
+        text = re.sub(r'"[^"]*"', " ", "\n".join([*definition.around, *definition.code]))
+        for match in WORD.finditer(text):
+            self.note(definition, match[1], match[2])
+        infixes = {**definition.file.imports, **self.modules[definition.file.crate, definition.file.name]}
+        for sign in [match[0] for match in SIGN.finditer(text)] + re.findall(r" do$", text, re.MULTILINE):
+            infix = {"if": "if◌then◌else◌", " do": "◌>>=◌"}.get(sign, f"◌{sign}◌")
+            self.note(definition, None, infix if infix in infixes else sign)
+
+    def note(self, definition, prefix, word):
+        file = definition.file
+        if prefix in file.aliases:
+            path, name = file.aliases[prefix], word
+        else:
+            path, name = file.imports.get(prefix or word, (f"Rattle.{file.crate}.specs.{file.name}", prefix or word))
+        _, crate, *module = path.split(".")
+        used = self.modules.get((crate, *module[1:]), {}).get(name)
+        owners = [self.types[crate, it] for it in module if module[1:2] == ["declared"] and (crate, it) in self.types]
+        if owners or used and used is not definition:
+            items, item = (definition.types, owners[0]) if owners else (definition.uses, used)
+        elif (crate, *module[1:]) not in self.modules and (prefix in file.aliases or (prefix or word) in file.imports):
+            name = module[3] if module[1:2] == ["declared"] else name
+            items, item = definition.kit, f"{module[-1]}.{name}" if prefix in file.aliases and name != module[-1] else name
+        else:
+            return
+        items += [item] if item not in items else []
+
+    def types_in(self, it):
+        """The types that a type is made of."""
+        for name in [name for name in it.words() if name != it.name]:
+            form = rf"^(?:pub )?use (\w+)::(?:\w+::)*(?:\{{[^}}]*\b{name}\b[^}}]*\}}|{name};)"
+            crates = [it.crate, *re.findall(form, it.uses, re.MULTILINE), *sorted(crate for crate, n in self.types if n == name)]
+            yield from [self.types[crate, name] for crate in crates if (crate, name) in self.types][:1]
+
+
+def topmost_first(roots, parts_of):
+    """Some things and what they are made of, each before its parts."""
+    done, order = set(), []
+
+    def visit(it):
+        if it not in done:
+            done.add(it)
+            for part in reversed(parts_of(it)):
+                visit(part)
+            order.insert(0, it)
+
+    for root in reversed(roots):
+        visit(root)
+    return order
+
+
+class Page:
+    """The page while it is made: its lines, the definitions and types on it, and what each part has of them."""
+
+    def __init__(self, sources):
+        self.sources, self.lines, self.known, self.shown, self.parts = sources, [], [], [], []
+        roots = [sources.named(names)[0] for _, names in [*PARTS, ADDED]]
+        for number, (title, _) in enumerate([*PARTS, ADDED]):
+            others = {it for other in roots[:number] + roots[number + 1 :] for it in other}
+            self.part(title, roots[number], others.union(self.known))
+
+    def part(self, title, roots, others):
+        definitions = topmost_first(roots, lambda it: [used for used in it.uses if used not in others])
+        shown, file, inside = len(self.shown), None, set(definitions)
+        sections = {it.section: [d for d in definitions if d.section == it.section] for it in definitions}
+        self.lines += [f"## {title}", ""]
+        if title == ADDED[0]:
+            self.lines += ["Cut off at " + ", ".join(f"`{name}`" for it in roots for name in it.names) + ": what is met through these alone.", ""]
+        for section in topmost_first(list(sections), lambda it: [u.section for d in sections[it] for u in d.uses if u in inside]):
+            if section[0] is not file:
+                file = section[0]
+                self.lines += [f"### `{file.name}` of `{file.crate}`", ""]
+            self.section(section[1], sections[section])
+        self.parts.append((title, self.known[-len(definitions) :], [it for it in self.shown[shown:] if not it.seen]))
+
+    def section(self, comment, definitions):
+        block, around = [*comment, ""], []
+        self.known += definitions
+        for definition in definitions:
+            block += [*(definition.around if definition.around != around else []), *definition.lines, ""]
+            around = definition.around
+            types = self.new_types(definition.types)
+            if types:
+                self.block("antt", block)
+                self.block("rust", [line for it in types if not it.seen for line in [*it.lines, ""]])
+                seen = [f"a `{it.name}` as `{it.seen}`" for it in types if it.seen]
+                self.lines += [f"Definitions see {', '.join(seen)}.", ""] if seen else []
+                block = []
+        self.block("antt", block)
+
+    def block(self, kind, lines):
+        self.lines += [f"```{kind}", *lines[:-1], "```", ""] if lines else []
+
+    def new_types(self, types):
+        """Those of some types, and of what they are made of, that no definition named before."""
+        found = [it for it in topmost_first(types, lambda it: [] if it.seen else list(self.sources.types_in(it))) if it not in self.shown]
+        self.shown += found
+        return found
+
+    def kit(self):
+        """The words of the kit's library as they are written: of an operator its sign."""
+        return {re.sub(r"◌.*", "", word.strip("◌")) for definition in self.known for word in definition.kit}
+
+    def counts(self):
+        comments = sum(line.lstrip().startswith("--") for it in self.known for line in it.lines)
+        files = len({(it.file.crate, it.file.name) for it in self.known})
+        *parts, added = self.parts
+        sums = ("All of this", [it for part in parts for it in part[1]], [it for part in parts for it in part[2]])
+        return [
+            "## How much it is",
+            "",
+            f"The definitions stand in {files} files. {comments} lines of comments in them, and the texts of the types, aren't counted. "
+            f"A minute has {LINES_A_MINUTE} lines, or {ROWS_A_MINUTE} rows of tables.",
+            "",
+            "| Part | Names | Lines of definitions | Rows of tables | Lines of types | Minutes |",
+            "|---|---|---|---|---|---|",
+            *[counts_of(*part) for part in (*parts, sums, added)],
+            "",
+        ]
+
+
+def counts_of(title, definitions, types):
+    rows = sum(it.rows for it in definitions)
+    lines = sum(len(it.code) for it in definitions) - rows
+    kinds = sum(len(it.code) for it in types)
+    minutes = round((lines + kinds) / LINES_A_MINUTE + rows / ROWS_A_MINUTE)
+    return f"| {title} | {sum(len(it.names) for it in definitions)} | {lines} | {rows} | {kinds} | {minutes} |"
+
+
+def late_in(parts):
+    """The names that stand behind what they are made of, inside a part."""
+    return [it.names for _, some, _ in parts for number, it in enumerate(some) if set(it.uses) & set(some[:number])]
+
+
+def words_of_head(head):
+    cells = re.findall(r"^\| (`.*?`) \|", head.split("\n## ")[-1], re.MULTILINE)
+    return {word for cell in cells for word in re.findall(r"`([^` ]+)[^`]*`", cell.replace("\\|", "|"))}
+
+
+def main():
+    sources, head = Sources(), HEAD.read_text()
+    page = Page(sources)
+    text = "\n".join([head, *page.lines, *page.counts()])
+    if "--write" in sys.argv:
+        PAGE.write_text(text)
+    there = PAGE.read_text() if PAGE.exists() else ""
+    lines = zip(text.split("\n"), there.split("\n"))
+    other = next((f"{number}: {here}" for number, (here, old) in enumerate(lines, 1) if here != old), "behind its last line")
+    lost = [word for _, names in [*PARTS, ADDED] for word in sources.named(names)[1]]
+    checks = {
+        f"PARTS and ADDED: no specs have {lost}": bool(lost),
+        f"these stand behind what they are made of: {late_in(page.parts)}": bool(late_in(page.parts)),
+        f"tests/meaning_words.md and the definitions: {sorted(words_of_head(head) ^ page.kit())}": words_of_head(head) != page.kit(),
+        f"docs/meaning.md is made anew by --write; it differs in line {other}": there != text,
+    }
+    for message in [message for message, failed in checks.items() if failed]:
+        print(f"FAILED {message}")
+    print(f"{list(checks.values()).count(False)} passed, {list(checks.values()).count(True)} failed")
+    sys.exit(any(checks.values()))
+
+
+if __name__ == "__main__":
+    main()
