@@ -56,8 +56,9 @@ is 'the examples find the program' \
     "$(ACPIDIS=$prefix/bin/acpidis "$docs/examples/missing.py" "$program/data/demo" 2>&1)" '# no body waits for a name'
 is 'pages that the manual names' "$(sed -n 's|.*doc/acpidis/\([a-z_]*\.md\).*|\1|p' "$page" | sort -u |
     while read -r name; do [ -f "$docs/$name" ] || echo "$name"; done)" ''
+# those of a quoted source are its own
 links() {
-    (cd "$docs" && grep -oh '](\([^)]*\))' ./*.md | sed 's/^](//; s/[#)].*//' | sort -u)
+    (cd "$docs" && awk '/^```/ { code = !code; next } !code' ./*.md | grep -o '](\([^)]*\))' | sed 's/^](//; s/[#)].*//' | sort -u)
 }
 is 'links of the pages' "$(links | while read -r name; do [ -z "$name" ] || [ -f "$docs/$name" ] || echo "$name"; done)" ''
 is 'links there are' "$(links | grep -cx 'README.md\|page.png\|figures.svg')" 3
