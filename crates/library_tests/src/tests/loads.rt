@@ -12,7 +12,7 @@ use std::test::Fail;
 /// Two tables of two methods each: empty, `Return (BBBB (Local0))`, and two that call these.
 const CODES: [&[u8]; 2] = [
     b"\x14\x06BBBB\x01\x14\x0CAAAA\x00\xA4BBBB\x60",
-    b"\x14\x0ACCCC\x02AAAA\x14\x0BDDDD\x00CCCC\x68\x60",
+    b"\x14\x0ACCCC\x02AAAA\x14\x0CDDDD\x00CCCC\x68\x60",
 ];
 
 /// The bodies of their methods.
