@@ -33,6 +33,7 @@ from pages import table  # noqa: E402
 from resources import descriptors  # noqa: E402
 from running import REFUSED, Options, run_folder  # noqa: E402
 from standard import space_name, status_words  # noqa: E402
+from telling import method, packed  # noqa: E402
 
 EISA = re.compile("[A-Z]{3}[0-9A-F]{4}")
 DEMO = TOP / "crates/acpidis_program/data/demo"
@@ -158,17 +159,8 @@ def check_words(checks: Checks) -> None:
 # ---- a set with a bit of everything
 
 
-def packed(opcode: bytes, content: bytes) -> bytes:
-    size = len(content) + 2
-    return opcode + bytes([0x40 | size & 15, size >> 4]) + content
-
-
 def buffer(data: bytes) -> bytes:
     return packed(b"\x11", b"\x0A" + bytes([len(data)]) + data)
-
-
-def method(name: bytes, body: bytes) -> bytes:
-    return packed(b"\x14", name + b"\0" + body)
 
 
 HPET = buffer(data_of("86 09 00 01 00 00 D0 FE 00 04 00 00 22 01 00 79 00"))
@@ -179,9 +171,9 @@ UNITS = b"\0\x08" + b"AAAA\1" + b"BBBB\7" + b"\1\3\0" + b"CCCC\x20"
 DEVICE = (
     b"\x08_HID\x0C\x41\xD0\x0C\x09" + b"\x08_CID" + packed(b"\x12", b"\2\x0DACPI0007\0\x0C\x41\xD0\x01\x03")
     + b"\x08_STA\x0A\x0F" + b"\x5B\x80REG0\1\x0A\xB2\1" + packed(b"\x5B\x81", b"REG0\x11" + UNITS)
-    + b"\x08BUF0" + HPET + PATCH + method(b"_CRS", b"\x8BBUF0\1WORD" + b"\xA4BUF0") + method(b"_Q13", b"")
-    + method(b"_OSC", packed(b"\xA0", b"\x93\x68" + UUID + b"\xA4\0") + b"\xA4\1")
-    + method(b"_PRS", b"\x08BUF1" + HPET + b"\x8ABUF1\x0A\x08LEN0\xA4BUF1")
+    + b"\x08BUF0" + HPET + PATCH + method(b"_CRS", 0, b"\x8BBUF0\1WORD" + b"\xA4BUF0") + method(b"_Q13", 0, b"")
+    + method(b"_OSC", 0, packed(b"\xA0", b"\x93\x68" + UUID + b"\xA4\0") + b"\xA4\1")
+    + method(b"_PRS", 0, b"\x08BUF1" + HPET + b"\x8ABUF1\x0A\x08LEN0\xA4BUF1")
 )
 PINS = "8C 1E 00 01 01 01 00 09 00 00 00 00 00 00 17 00 00 1B 00 21 00 00 00 01 00 02 00 LONG"
 LINES = b"\x5B\x80GPO0\x08\0\1" + packed(b"\x5B\x81", b"GPO0\1" + b"\2" + buffer(data_of(PINS)) + b"PIN0\1")
