@@ -214,6 +214,43 @@ def deep_alias(count, depth):
     return within(depth, method(segment(0), 0, b"") + alias) + main_method(b"ALIA" * count)
 
 
+def deep_body(depth, body, beside=b""):
+    """A method of this body in a scope of so many segments, and what stands beside it."""
+    return within(depth, b"\x08" + LEAF + b"\0" + beside + method(RUN, 0, body))
+
+
+def device(code):
+    return package(b"\x5b\x82", b"DEV0" + code)
+
+
+def deep_uses(count, depth):
+    """Uses of a name beside the method, by a prefix."""
+    return deep_body(depth, b"^LEAF" * count)
+
+
+def deep_local_uses(count, depth):
+    """Uses of the last of a thousand names that the method declares beside itself."""
+    declared = b"".join(b"\x08^" + segment(number) + b"\0" for number in range(999))
+    return deep_body(depth, declared + b"\x08^NEAR\0" + b"^NEAR" * count)
+
+
+def deep_units(count, depth):
+    """Units of a Field in the method."""
+    units = b"".join(segment(number) + b"\x08" for number in range(count))
+    return deep_body(depth, package(b"\x5b\x81", LEAF + b"\0" + units))
+
+
+def deep_buffers(count, depth):
+    """Buffers whose sizes are a name, in a package outside the methods."""
+    sizes = b"".join(b"\x11\x06^LEAF" for _ in range(count))
+    return deep_body(depth, b"", device(b"\x08PKG_" + package(b"\x12", b"\0" + sizes)))
+
+
+def deep_scopes(count, depth):
+    """Scopes of the parent that declare nothing."""
+    return deep_body(depth, b"", device(b"\x10\x03^\0" * count))
+
+
 def alias_chain(count):
     chain = b"".join(b"\x06" + segment(number) + segment(number + 1) for number in range(count))
     calls = b"".join(segment(number) + b"\x60" for number in mixed(1000))
@@ -424,6 +461,16 @@ SHAPES = (
     Shape("deep-alias", 100_000, "names", one(lambda count: deep_alias(count, 10_000))),
     Shape("deep-aliases", 2_000, "names", one(lambda count: deep_aliases(count, 10_000))),
     Shape("deep-outside", 2_000, "names", one(lambda count: upward_outside(count // 2, 10_000))),
+    Shape("deep-uses", 200_000, "names", one(lambda count: deep_uses(count, 10_000))),
+    Shape("deep-uses-deep", 10_000, "segments", one(lambda count: deep_uses(200_000, count))),
+    Shape("deep-local-uses", 20_000, "names", one(lambda count: deep_local_uses(count, 10_000))),
+    Shape("deep-local-uses-deep", 10_000, "segments", one(lambda count: deep_local_uses(20_000, count))),
+    Shape("deep-units", 5_000, "units", one(lambda count: deep_units(count, 5_000))),
+    Shape("deep-units-deep", 5_000, "segments", one(lambda count: deep_units(5_000, count))),
+    Shape("deep-buffers", 50_000, "terms", one(lambda count: deep_buffers(count, 10_000))),
+    Shape("deep-buffers-deep", 10_000, "segments", one(lambda count: deep_buffers(50_000, count))),
+    Shape("deep-scopes", 10_000, "terms", one(lambda count: deep_scopes(count, 5_000))),
+    Shape("deep-scopes-deep", 5_000, "segments", one(lambda count: deep_scopes(10_000, count))),
     Shape("locals", 1_000_000, "names", one(local_names)),
     Shape("package", 1_000_000, "names", one(undeclared)),
     Shape("package-body", 1_000_000, "names", one(undeclared_in_body)),

@@ -28,6 +28,8 @@ PARTS = [
     ("What a listing in memory shows", "acpidis: Shows"),
 ]
 ADDED = ("What `--any-run` adds", "aml_parse: ReadsTable aml_load: run_names table_front Front aml_space: agreed_path agreed_arity outlook_of")
+# Types that are met only as the fault of a Result, which no Ok has: they stand in a part of their own.
+FAULTS = ("What a fault can be", ["TableFault", "Bad", "LoadFault", "CodeFault", "SpaceFault"])
 LINES_A_MINUTE = 22
 ROWS_A_MINUTE = 40
 # So many lines of a definition, or more, that begin or end with ∷ are rows of a table.
@@ -204,6 +206,7 @@ class Page:
         for number, (title, _) in enumerate([*PARTS, ADDED]):
             others = {it for other in roots[:number] + roots[number + 1 :] for it in other}
             self.part(title, roots[number], others.union(self.known))
+        self.fault_types()
 
     def part(self, title, roots, others):
         definitions = topmost_first(roots, lambda it: [used for used in it.uses if used not in others])
@@ -218,6 +221,13 @@ class Page:
                 self.lines += [f"### `{file.name}` of `{file.crate}`", ""]
             self.section(section[1], sections[section])
         self.parts.append((title, self.known[-len(definitions) :], [it for it in self.shown[shown:] if not it.seen]))
+
+    def fault_types(self):
+        """The types of FAULTS, behind all that an Ok is made of."""
+        types = [it for name in FAULTS[1] for (_, other), it in self.sources.types.items() if other == name]
+        self.lines += [f"## {FAULTS[0]}", "", "An Ok has none of these: of them its definitions need only that an `Err` is no `Ok`.", ""]
+        self.block("rust", [line for it in types for line in [*it.lines, ""]])
+        self.parts.append((FAULTS[0], [], types))
 
     def section(self, comment, definitions):
         block, around = [*comment, ""], []
@@ -239,7 +249,8 @@ class Page:
 
     def new_types(self, types):
         """Those of some types, and of what they are made of, that no definition named before."""
-        found = [it for it in topmost_first(types, lambda it: [] if it.seen else list(self.sources.types_in(it))) if it not in self.shown]
+        parts_of = lambda it: [] if it.seen or it.name in FAULTS[1] else list(self.sources.types_in(it))
+        found = [it for it in topmost_first(types, parts_of) if it not in self.shown and it.name not in FAULTS[1]]
         self.shown += found
         return found
 
@@ -250,7 +261,7 @@ class Page:
     def counts(self):
         comments = sum(line.lstrip().startswith("--") for it in self.known for line in it.lines)
         files = len({(it.file.crate, it.file.name) for it in self.known})
-        *parts, added = self.parts
+        *parts, added, faults = self.parts
         sums = ("All of this", [it for part in parts for it in part[1]], [it for part in parts for it in part[2]])
         return [
             "## How much it is",
@@ -260,7 +271,7 @@ class Page:
             "",
             "| Part | Names | Lines of definitions | Rows of tables | Lines of types | Minutes |",
             "|---|---|---|---|---|---|",
-            *[counts_of(*part) for part in (*parts, sums, added)],
+            *[counts_of(*part) for part in (*parts, sums, added, faults)],
             "",
         ]
 

@@ -1,6 +1,7 @@
 -- The System Description Table Header (ACPI 6.5, section 5.2.6, table 5.4).
 use Rattle.std.specs.Prelude.{ℕ, List, take, ◌≡◌, ◌+◌, ◌-◌, ◌*◌, ◌/◌, ◌%◌, ◌≤◌, ◌&&◌, map, length, nat_eq, nat_le}
-use Rattle.std.specs.Prelude.{slice_get, Option, None, if◌then◌else◌, ◌||◌, not, Bool, true, codes, Some}
+use Rattle.std.specs.Prelude.{slice_get, Option, None, if◌then◌else◌, ◌||◌, not, Bool, true, codes}
+use Rattle.std.specs.Bool.{then_some}
 use Rattle.acpi_tables.specs.Bytes.{bytes_at, number_at, HasLength, checksum, begins_with}
 use Rattle.acpi_tables.specs.declared.addresses.AddressWidth.{AddressWidth}
 use Rattle.acpi_tables.specs.declared.addresses.AddressWidth.TheVariants.{Four, Eight}
@@ -75,16 +76,13 @@ pub record HoldsRoot (bytes : List ℕ) : Type 0 where
   pub front : 20 ≤ length bytes
   pub extended : 2 ≤ revision_of bytes → HasLength bytes 20 36
 
--- what revision 2 added
-abbrev pub wide_of : List ℕ → Wide
-wide_of bytes = record { length = number_at bytes 20 4; xsdt = number_at bytes 24 8 }
-
+-- the fields of a pointer, with those that revision 2 added
 abbrev pub rsdp_of : List ℕ → Rsdp
 rsdp_of bytes = record {
   oem = bytes_at bytes 9 6;
   revision = revision_of bytes;
   rsdt = number_at bytes 16 4;
-  wide = if nat_le 2 (revision_of bytes) then Some (wide_of bytes) else None;
+  wide = then_some (nat_le 2 (revision_of bytes)) (record { length = number_at bytes 20 4; xsdt = number_at bytes 24 8 });
 }
 
 -- whether its checksums are right: that of the first 20 bytes, and from revision 2 on that of the first Length bytes

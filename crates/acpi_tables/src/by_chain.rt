@@ -97,7 +97,7 @@ fn listed_in(
     width: AddressWidth,
 ) -> Result<Vec<usize>, AllocError>
     requires holds { HoldsAddresses (address_width width) table.now }
-    ensures { IfOk result (λ listed. listed.items ≡ listed_in dumps.now (addresses_of (address_width width) table.now)) }
+    ensures { IfOk result (λ v. v.items ≡ listed_in dumps.now (addresses_of (address_width width) table.now)) }
 {
     let mut listed = Vec::new(alloc);
     for index in 0..address_count(table, width) {

@@ -87,7 +87,8 @@ static FADT_FIELDS: &[TableField] = &fields! {
 static MADT_ROWS: &[RecordRow] = &rows! {
     0  8  "LocalApic"       { 2 1 "Uid"   Decimal;     3 1 "Apic"    Decimal;     4  4 "Flags" Hexadecimal; }
     1  12 "IoApic"          { 2 1 "Id"    Decimal;     4 4 "Address" Hexadecimal; 8  4 "Gsi"   Decimal; }
-    2  10 "Override"        { 2 1 "Bus"   Decimal;     3 1 "Source"  Decimal;     4  4 "Gsi"   Decimal; 8 2 "Flags" Hexadecimal; }
+    2  10 "Override"        { 2 1 "Bus"   Decimal;     3 1 "Source"  Decimal;     4  4 "Gsi"   Decimal;
+                              8 2 "Flags" Hexadecimal; }
     3  8  "NmiSource"       { 2 2 "Flags" Hexadecimal; 4 4 "Gsi"     Decimal; }
     4  6  "LocalNmi"        { 2 1 "Uid"   Decimal;     3 2 "Flags"   Hexadecimal; 5  1 "Lint"  Decimal; }
     5  12 "AddressOverride" { 4 8 ""      Hexadecimal; }

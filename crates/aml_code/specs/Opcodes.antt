@@ -2,7 +2,7 @@
 -- the mnemonic, its class, what stands behind it in fixed places, what follows up to the end of its package, and what
 -- it does to the namespace. A two-byte opcode `5B xx` is 0x5Bxx.
 use Prim.Native.String.{String}
-use Rattle.std.specs.Prelude.{ℕ, List, [], ◌∷◌, ◌++◌, codes, ◌==◌, Bool, true, false, Option, Some}
+use Rattle.std.specs.Prelude.{ℕ, List, [], ◌∷◌, codes, ◌==◌, Bool, true, false, Option, Some}
 use Rattle.std.specs.Prelude.{None, is_some, find}
 use Rattle.aml_code.specs.declared.rows.Group.{Group}
 use Rattle.aml_code.specs.declared.rows.Group.TheVariants.{Value, Expression, Statement, Declaration}
@@ -44,9 +44,9 @@ declares o m object ps = row o m Declaration places.Declaration ps None (roles.D
 abbrev opens : ℕ → String → Object → List PartKind → Row
 opens o m object ps = row o m Declaration places.Scope ps (Some Terms) (roles.Declares object)
 
--- data objects (20.2.3)
-abbrev data_objects : List Row
-data_objects =
+unfoldable pub rows : List Row
+rows =
+    -- data objects (20.2.3)
     plain 0x0A "Byte" Value places.Data (Byte ∷ []) ∷
     plain 0x0B "Word" Value places.Data (Word ∷ []) ∷
     plain 0x0C "Dword" Value places.Data (Dword ∷ []) ∷
@@ -59,19 +59,11 @@ data_objects =
     row 0x11 "Buffer" Value places.Data (Term ∷ []) (Some Bytes) roles.Other ∷
     row 0x12 "Package" Value places.Data (Byte ∷ []) (Some Elements) roles.Other ∷
     row 0x13 "VarPackage" Value places.Data (Term ∷ []) (Some Elements) roles.Other ∷
-    []
-
--- namespace modifier objects (20.2.5.1)
-abbrev namespace_modifiers : List Row
-namespace_modifiers =
+    -- namespace modifier objects (20.2.5.1)
     row 0x06 "Alias" Declaration places.Declaration (Name ∷ Name ∷ []) None roles.Alias ∷
     declares 0x08 "Name" objects.Name (Name ∷ Data ∷ []) ∷
     row 0x10 "Scope" Declaration places.Scope (ScopeName ∷ []) (Some Terms) roles.Scope ∷
-    []
-
--- named objects (20.2.5.2)
-abbrev named_objects : List Row
-named_objects =
+    -- named objects (20.2.5.2)
     row 0x5B87 "BankField" Declaration places.Declaration (Name ∷ Name ∷ Term ∷ Byte ∷ []) (Some Fields) roles.Fields ∷
     declares 0x8D "CreateBitField" objects.BufferField (Term ∷ Term ∷ Name ∷ []) ∷
     declares 0x8C "CreateByteField" objects.BufferField (Term ∷ Term ∷ Name ∷ []) ∷
@@ -91,11 +83,7 @@ named_objects =
     opens 0x5B84 "PowerResource" objects.PowerResource (Name ∷ Byte ∷ Word ∷ []) ∷
     opens 0x5B83 "Processor" objects.Processor (Name ∷ Byte ∷ Dword ∷ Byte ∷ []) ∷
     opens 0x5B85 "ThermalZone" objects.ThermalZone (Name ∷ []) ∷
-    []
-
--- statement opcodes (20.2.5.3)
-abbrev statements : List Row
-statements =
+    -- statement opcodes (20.2.5.3)
     plain 0xA5 "Break" Statement places.Statement [] ∷
     plain 0xCC "BreakPoint" Statement places.Statement [] ∷
     plain 0x9F "Continue" Statement places.Statement [] ∷
@@ -112,11 +100,7 @@ statements =
     plain 0x5B21 "Stall" Statement places.Statement (Term ∷ []) ∷
     plain 0x5B2A "Unload" Statement places.Statement (Target ∷ []) ∷
     row 0xA2 "While" Statement places.Statement (Term ∷ []) (Some Terms) roles.Other ∷
-    []
-
--- expression opcodes (20.2.5.4)
-abbrev expressions : List Row
-expressions =
+    -- expression opcodes (20.2.5.4)
     plain 0x5B23 "Acquire" Expression places.Argument (Target ∷ Word ∷ []) ∷
     plain 0x72 "Add" Expression places.Argument (Term ∷ Term ∷ Target ∷ []) ∷
     plain 0x7B "And" Expression places.Argument (Term ∷ Term ∷ Target ∷ []) ∷
@@ -164,11 +148,7 @@ expressions =
     plain 0x9C "ToString" Expression places.Argument (Term ∷ Term ∷ Target ∷ []) ∷
     plain 0x5B25 "Wait" Expression places.Argument (Target ∷ Term ∷ []) ∷
     plain 0x7F "XOr" Expression places.Argument (Term ∷ Term ∷ Target ∷ []) ∷
-    []
-
--- Args, Locals and Debug (20.2.6)
-abbrev variables : List Row
-variables =
+    -- Args, Locals and Debug (20.2.6)
     plain 0x68 "Arg0" Value places.Target [] ∷
     plain 0x69 "Arg1" Value places.Target [] ∷
     plain 0x6A "Arg2" Value places.Target [] ∷
@@ -186,9 +166,6 @@ variables =
     plain 0x67 "Local7" Value places.Target [] ∷
     plain 0x5B31 "Debug" Value places.Target [] ∷
     []
-
-unfoldable pub rows : List Row
-rows = data_objects ++ namespace_modifiers ++ named_objects ++ statements ++ expressions ++ variables
 
 -- ---- What the table of opcodes says, and which opcodes a position takes (ACPI 6.5, 20.2.5 and 20.3).
 

@@ -12,32 +12,32 @@ use Rattle.aml_code.specs.Tree.{Tree, named, op, tree_count}
 use Rattle.aml_code.specs.View.{node_view, nodes_view, parts_view, tail_view}
 use Rattle.aml_code.proofs.Views.{view-Named, view-Op}
 use Rattle.aml_load.specs.declared.used.Use.{Use}
-use Rattle.aml_load.specs.Loading.{kinds_in, use_of, uses_in, all_uses, parts_uses, tail_uses}
+use Rattle.aml_load.specs.Loading.{kinds_in, uses_in, all_uses, parts_uses, tail_uses}
 
 as_many : (ns : List Node) → tree_count (nodes_view ns) ≡ length ns
 as_many [] = refl
 as_many (n ∷ ns) = ap suc (as_many ns)
 
-module _ (tb : ℕ) (scope : List Seg) (declaring argument : Bool) (node : Node) where
+module _ (ask : Name → ℕ → Use) (argument : Bool) (node : Node) where
   -- of a name and its arguments
   pub named_uses : (n : Name) (args : Vec Node Global) (xs : List Node) → node ≡ Named n args → xs ≡ args.items
-      → cond argument (use_of tb scope declaring n (length xs) ∷ []) [] ++ all_uses tb scope declaring true (nodes_view xs)
-      ≡ uses_in tb scope declaring argument (node_view node)
+      → cond argument (ask n (length xs) ∷ []) [] ++ all_uses ask true (nodes_view xs)
+      ≡ uses_in ask argument (node_view node)
   named_uses n args xs e is =
-      let all : List Use = all_uses tb scope declaring true (nodes_view xs) in
-      ap (λ (k : ℕ). cond argument (use_of tb scope declaring n k ∷ []) [] ++ all) (sym (as_many xs))
-      ∙ ap (λ (ys : List Node). uses_in tb scope declaring argument (named n (nodes_view ys))) is
-      ∙ sym (ap (λ (x : Node). uses_in tb scope declaring argument (node_view x)) e ∙ ap (uses_in tb scope declaring argument) (view-Named n args))
+      let all : List Use = all_uses ask true (nodes_view xs) in
+      ap (λ (k : ℕ). cond argument (ask n k ∷ []) [] ++ all) (sym (as_many xs))
+      ∙ ap (λ (ys : List Node). uses_in ask argument (named n (nodes_view ys))) is
+      ∙ sym (ap (λ (x : Node). uses_in ask argument (node_view x)) e ∙ ap (uses_in ask argument) (view-Named n args))
 
   -- of an opcode, behind other names
   pub op_uses : (old mid : List Use) (o : ℕ) (w : Option PkgWidth) (ps : Vec Part Global) (t : Tail) (ks : List PartKind) (qs : List Part)
-      → node ≡ Op o w ps t → ks ≡ kinds_in o → qs ≡ ps.items → mid ≡ old ++ parts_uses tb scope declaring ks (parts_view qs)
-      → mid ++ tail_uses tb scope declaring (tail_view t) ≡ old ++ uses_in tb scope declaring argument (node_view node)
+      → node ≡ Op o w ps t → ks ≡ kinds_in o → qs ≡ ps.items → mid ≡ old ++ parts_uses ask ks (parts_view qs)
+      → mid ++ tail_uses ask (tail_view t) ≡ old ++ uses_in ask argument (node_view node)
   op_uses old mid o w ps t ks qs e ks_is qs_is mid_is =
       let view : node_view node ≡ op o w (parts_view ps.items) (tail_view t) = ap node_view e ∙ view-Op o w ps t in
-      let tail : List Use = tail_uses tb scope declaring (tail_view t) in
+      let tail : List Use = tail_uses ask (tail_view t) in
       ap (λ (us : List Use). us ++ tail) (mid_is
-      ∙ ap (λ (k : List PartKind). old ++ parts_uses tb scope declaring k (parts_view qs)) ks_is
-      ∙ ap (λ (q : List Part). old ++ parts_uses tb scope declaring (kinds_in o) (parts_view q)) qs_is)
-      ∙ append_assoc old (parts_uses tb scope declaring (kinds_in o) (parts_view ps.items)) tail
-      ∙ ap (λ (x : Tree). old ++ uses_in tb scope declaring argument x) (sym view)
+      ∙ ap (λ (k : List PartKind). old ++ parts_uses ask k (parts_view qs)) ks_is
+      ∙ ap (λ (q : List Part). old ++ parts_uses ask (kinds_in o) (parts_view q)) qs_is)
+      ∙ append_assoc old (parts_uses ask (kinds_in o) (parts_view ps.items)) tail
+      ∙ ap (λ (x : Tree). old ++ uses_in ask argument x) (sym view)

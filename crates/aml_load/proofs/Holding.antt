@@ -62,11 +62,11 @@ method_held old new l p k b sure m h s ms is us = record {
 
 -- the names of a term more
 pub uses_held : (old new : Progress) (l : Listed) (site : Where) (x : Tree) → Holds old l → new.space ≡ old.space → new.methods.items ≡ old.methods.items
-    → new.uses.items ≡ old.uses.items ++ term_uses site.table site.scope x → Holds new (with_uses site l x)
+    → new.uses.items ≡ old.uses.items ++ term_uses site x → Holds new (with_uses site l x)
 uses_held old new l site x h s ms us = record {
   space = subst (λ k. StandsFor k l.entries) (sym s) h.space;
   methods = ms ∙ h.methods;
-  uses = us ∙ ap (λ us. us ++ term_uses site.table site.scope x) h.uses;
+  uses = us ∙ ap (λ us. us ++ term_uses site x) h.uses;
 }
 
 -- what an opcode declares

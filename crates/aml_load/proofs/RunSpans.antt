@@ -21,7 +21,7 @@ use Rattle.aml_parse.specs.Running.{has_terms, is_block, ReadsTerms, Opens}
 use Rattle.aml_parse.proofs.Forward.{is_run, runs_on}
 use Rattle.aml_space.specs.Namespace.{Givens, declares, external}
 use Rattle.aml_load.specs.declared.faults.LoadFault.{LoadFault}
-use Rattle.aml_load.specs.Loading.{◌>>=◌, role_of, kind_of, Listed, first_listed, byte_of, body_start, body_len, first_label, methods_of, most_methods}
+use Rattle.aml_load.specs.Loading.{◌>>=◌, role_of, kind_of, Listed, first_listed, byte_of, body_span, first_label, methods_of, most_methods}
 use Rattle.aml_load.specs.Loading.{place_at, lead_at, entry_at, method_at, alias_at, external_at, units_at, declare_as}
 use Rattle.aml_load.specs.Spans.{Span, tree_spans, all_spans, parts_spans, tail_spans, tables_spans, method_span}
 use Rattle.aml_load.specs.Running.{Front, table_front, asked, opened_at, object_at, scope_at, enter_as, entered_at, run_names}
@@ -85,7 +85,7 @@ enter_adds roles.Other f ps x = (nothing_more f.listed.entries, refl)
 enter_adds roles.Method f ps x =
     let all = unless_adds (nat_le most_methods (length (methods_of f.listed.entries))) _ _ f.listed (one_span f.site.table x) (λ room.
     new_adds f.site f.listed (last_label None ps) _ (one_span f.site.table x) (λ p. method_adds f.site f.listed.entries p (byte_of ps) x room)) in
-    then_enters (method_at f.site f.listed (last_label None ps) (byte_of ps) (body_start x) (body_len x)) _ f _ (λ m is.
+    then_enters (method_at f.site f.listed (last_label None ps) (byte_of ps) (body_span x)) _ f _ (λ m is.
     (more_of _ f.listed m (one_span f.site.table x) all is, refl))
 enter_adds roles.Alias f ps x =
     let all = after_adds (lead_at f.site f.listed.entries (first_label ps) _) _ f.listed [] (λ q.

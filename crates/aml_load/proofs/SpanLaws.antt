@@ -28,7 +28,7 @@ use Rattle.aml_parse.specs.Reading.{takes_names}
 use Rattle.aml_space.specs.declared.kinds.Kind.TheVariants as kinds
 use Rattle.aml_space.specs.Namespace.{Entry, declares, external, declared_at}
 use Rattle.aml_load.specs.declared.faults.LoadFault.{LoadFault}
-use Rattle.aml_load.specs.Loading.{◌>>=◌, role_of, kind_of, Where, strict, under, Listed, with_uses, first_label, byte_of, body_start, body_len, method_entry}
+use Rattle.aml_load.specs.Loading.{◌>>=◌, role_of, kind_of, Where, strict, under, Listed, with_uses, first_label, byte_of, body_span, method_entry}
 use Rattle.aml_load.specs.Loading.{methods_of, most_methods, place_at, lead_at, entry_at, new_at, method_at, alias_at, external_at, units_at, declare_as}
 use Rattle.aml_load.specs.Loading.{declare, declare_inside, declare_all}
 use Rattle.aml_load.specs.Spans.{Span, method_span, tree_spans, all_spans, parts_spans, tail_spans, fields_spans}
@@ -134,12 +134,12 @@ plain_adds es x none =
     }
 
 abbrev pub one_span : ℕ → Tail → List Span
-one_span t x = record { table = t; start = body_start x; len = body_len x } ∷ []
+one_span t x = record { table = t; start = (body_span x).0; len = (body_span x).1 } ∷ []
 
 pub method_adds : (site : Where) (es : List Entry) (p : List Seg) (flags : ℕ) (x : Tail) → nat_le most_methods (length (methods_of es)) ≡ false
-    → Adds es (es ++ method_entry site p flags (body_start x) (body_len x) ∷ []) (one_span site.table x)
+    → Adds es (es ++ method_entry site p flags (body_span x) ∷ []) (one_span site.table x)
 method_adds site es p flags x room =
-    let e = method_entry site p flags (body_start x) (body_len x) in
+    let e = method_entry site p flags (body_span x) in
     let less : length (methods_of es) < 1048576 = grind (arith, nat_tests, room) in
     record {
       grow = ap (map method_span) (methods_more es e) ∙ map-append method_span (methods_of es) (methods_of (e ∷ []));

@@ -1,8 +1,8 @@
 -- What the terms of tables declare, and where a load stops (ACPI 6.5, 5.2.11, 5.3, 20.2.5.1 and 20.2.5.2).
 use Rattle.std.specs.Prelude.{ℕ, Option, Some, None, Bool, true, false, List, [], ◌∷◌, ◌++◌, ◌≡◌, ◌%◌, length}
-use Rattle.std.specs.Prelude.{Result, Ok, Err, is_some, nat_le, if◌then◌else◌, cond, not, ◌&&◌, ◌||◌, ◌==◌}
+use Rattle.std.specs.Prelude.{Result, Ok, Err, is_some, nat_le, if◌then◌else◌, cond, not, ◌&&◌, ◌||◌, nat_eq}
 use Rattle.std.specs.List.{filter_map}
-use Rattle.std.specs.Option.{unwrap_or, option_map, option_and_then, ok_or}
+use Rattle.std.specs.Option.{unwrap_or, option_map, option_and_then, option_eq, ok_or}
 use Rattle.std.specs.FinSet as set
 use Rattle.aml_names.specs.declared.faults.CodeFault.{CodeFault}
 use Rattle.aml_names.specs.declared.faults.CodeFault.TheVariants as codes
@@ -22,7 +22,7 @@ use Rattle.aml_code.specs.Lawful.{last_label, last_byte, field_names, no_argumen
 use Rattle.aml_code.specs.Opcodes.{row_of}
 use Rattle.aml_code.specs.Tree.{Tree, nothing, named, op, Trees, no_trees, tree_more, Part, child, Parts, no_parts}
 use Rattle.aml_code.specs.Tree.{part_more, Tail, elements, fields, Field, connection, Fields, no_fields, field_more}
-use Rattle.aml_code.specs.Tree.{Link, target, buffer, label, terms, body, tree_count}
+use Rattle.aml_code.specs.Tree.{buffer, label, terms, body, tree_count}
 use Rattle.aml_space.specs.declared.faults.SpaceFault.{SpaceFault}
 use Rattle.aml_space.specs.declared.faults.SpaceFault.TheVariants as faults
 use Rattle.aml_space.specs.declared.kinds.Kind.{Kind}
@@ -81,69 +81,57 @@ is_argument _ = false
 abbrev pub kinds_in : ℕ → List PartKind
 kinds_in opcode = unwrap_or (option_map (λ r. r.parts) (row_of opcode)) []
 
+-- whether a group is that of declarations
 abbrev pub declares_by : Group → Bool
 declares_by groups.Declaration = true
 declares_by _ = false
 
--- whether an opcode is that of a declaration
-abbrev pub is_declaration : ℕ → Bool
-is_declaration opcode = unwrap_or (option_map (λ r. declares_by r.group) (row_of opcode)) false
-
-abbrev pub use_of : ℕ → List Seg → Bool → Name → ℕ → Use
-use_of tb scope declaring n args =
-    record { table = tb; scope = scope; name = n; args = args; declaring = declaring }
-
--- The names in a tree of table tb in this scope, in the order of the text. It is said whether the term around it is a
--- declaration, and whether the tree itself is a TermArg or a term.
-abbrev mutual
-  pub uses_in : ℕ → List Seg → Bool → Bool → Tree → List Use
-  uses_in tb scope declaring argument nothing = []
-  uses_in tb scope declaring argument (named n ts) =
-      (if argument then use_of tb scope declaring n (tree_count ts) ∷ [] else []) ++ all_uses tb scope declaring true ts
-  uses_in tb scope declaring argument (op o w ps r) =
-      parts_uses tb scope declaring (kinds_in o) ps ++ tail_uses tb scope declaring r
-
-  pub all_uses : ℕ → List Seg → Bool → Bool → Trees → List Use
-  all_uses tb scope declaring argument no_trees = []
-  all_uses tb scope declaring argument (tree_more t ts) =
-      uses_in tb scope declaring argument t ++ all_uses tb scope declaring argument ts
-
-  pub parts_uses : ℕ → List Seg → Bool → List PartKind → Parts → List Use
-  parts_uses tb scope declaring [] ps = []
-  parts_uses tb scope declaring (k ∷ ks) no_parts = []
-  parts_uses tb scope declaring (k ∷ ks) (part_more p ps) =
-      part_uses tb scope declaring (is_argument k) p ++ parts_uses tb scope declaring ks ps
-
-  pub part_uses : ℕ → List Seg → Bool → Bool → Part → List Use
-  part_uses tb scope declaring argument (child t) = uses_in tb scope declaring argument t
-  part_uses tb scope declaring argument _ = []
-
-  pub tail_uses : ℕ → List Seg → Bool → Tail → List Use
-  tail_uses tb scope declaring (elements ts) = all_uses tb scope declaring false ts
-  tail_uses tb scope declaring (fields us) = fields_uses tb scope declaring us
-  tail_uses tb scope declaring _ = []
-
-  pub fields_uses : ℕ → List Seg → Bool → Fields → List Use
-  fields_uses tb scope declaring no_fields = []
-  fields_uses tb scope declaring (field_more u us) =
-      field_uses tb scope declaring u ++ fields_uses tb scope declaring us
-
-  pub field_uses : ℕ → List Seg → Bool → Field → List Use
-  field_uses tb scope declaring (connection l) = link_uses tb scope declaring l
-  field_uses tb scope declaring _ = []
-
-  pub link_uses : ℕ → List Seg → Bool → Link → List Use
-  link_uses tb scope declaring (target n) = []
-  link_uses tb scope declaring (buffer t) = uses_in tb scope declaring false t
-
 -- whether a term is a declaration
 abbrev pub in_declaration : Tree → Bool
-in_declaration (op o w ps r) = is_declaration o
+in_declaration (op o w ps r) = unwrap_or (option_map (λ r. declares_by r.group) (row_of o)) false
 in_declaration _ = false
 
--- the names of a term
-abbrev pub term_uses : ℕ → List Seg → Tree → List Use
-term_uses tb scope t = uses_in tb scope (in_declaration t) true t
+-- a name at a site, with so many arguments, in a declaration or not
+abbrev pub use_of : Where → Bool → Name → ℕ → Use
+use_of site declaring n args =
+    record { table = site.table; scope = site.scope; name = n; args = args; declaring = declaring }
+
+-- The names in a tree, in the order of the text. It is said what a use of a name is, and whether the tree itself is a
+-- TermArg or a term.
+abbrev mutual
+  pub uses_in : (Name → ℕ → Use) → Bool → Tree → List Use
+  uses_in ask argument nothing = []
+  uses_in ask argument (named n ts) = cond argument (ask n (tree_count ts) ∷ []) [] ++ all_uses ask true ts
+  uses_in ask argument (op o w ps r) = parts_uses ask (kinds_in o) ps ++ tail_uses ask r
+
+  pub all_uses : (Name → ℕ → Use) → Bool → Trees → List Use
+  all_uses ask argument no_trees = []
+  all_uses ask argument (tree_more t ts) = uses_in ask argument t ++ all_uses ask argument ts
+
+  pub parts_uses : (Name → ℕ → Use) → List PartKind → Parts → List Use
+  parts_uses ask (k ∷ ks) (part_more p ps) = part_uses ask (is_argument k) p ++ parts_uses ask ks ps
+  parts_uses ask _ _ = []
+
+  pub part_uses : (Name → ℕ → Use) → Bool → Part → List Use
+  part_uses ask argument (child t) = uses_in ask argument t
+  part_uses ask argument _ = []
+
+  pub tail_uses : (Name → ℕ → Use) → Tail → List Use
+  tail_uses ask (elements ts) = all_uses ask false ts
+  tail_uses ask (fields us) = fields_uses ask us
+  tail_uses ask _ = []
+
+  pub fields_uses : (Name → ℕ → Use) → Fields → List Use
+  fields_uses ask no_fields = []
+  fields_uses ask (field_more u us) = field_uses ask u ++ fields_uses ask us
+
+  pub field_uses : (Name → ℕ → Use) → Field → List Use
+  field_uses ask (connection (buffer t)) = uses_in ask false t
+  field_uses ask _ = []
+
+-- the names of a term at a site
+abbrev pub term_uses : Where → Tree → List Use
+term_uses site t = uses_in (use_of site (in_declaration t)) true t
 
 -- ---- What is listed: one list of entries, in load order and in the order of the text, behind the counts that the user
 -- gives.
@@ -163,7 +151,7 @@ plus l e = record { entries = l.entries ++ e ∷ []; uses = l.uses }
 
 -- the names of a term more
 abbrev pub with_uses : Where → Listed → Tree → Listed
-with_uses site l t = record { entries = l.entries; uses = l.uses ++ term_uses site.table site.scope t }
+with_uses site l t = record { entries = l.entries; uses = l.uses ++ term_uses site t }
 
 -- the methods, in order
 abbrev pub method_of : Entry → Option Method
@@ -189,18 +177,15 @@ first_label _ = None
 abbrev pub byte_of : Parts → ℕ
 byte_of ps = unwrap_or (last_byte None ps) 0
 
-abbrev pub body_start : Tail → ℕ
-body_start (body start len) = start
-body_start _ = 0
-
-abbrev pub body_len : Tail → ℕ
-body_len (body start len) = len
-body_len _ = 0
+-- where a method's body begins, and its length
+abbrev pub body_span : Tail → ℕ × ℕ
+body_span (body start len) = (start, len)
+body_span _ = (0, 0)
 
 -- the entry of a method at a site: bits 0 to 2 of its flags are its number of arguments
-abbrev pub method_entry : Where → List Seg → ℕ → ℕ → ℕ → Entry
-method_entry site p flags start len = declares p (kinds.Method (flags % 8))
-    (Some (record { table = site.table; start = start; len = len; flags = flags })) site.sure
+abbrev pub method_entry : Where → List Seg → ℕ → ℕ × ℕ → Entry
+method_entry site p flags span = declares p (kinds.Method (flags % 8))
+    (Some (record { table = site.table; start = span.0; len = span.1; flags = flags })) site.sure
 
 -- what a name leads to at a site, among the entries so far; where the code outside methods may run, in every run
 abbrev pub lead_of : Where → List Entry → Option Name → Option (List Seg)
@@ -246,10 +231,9 @@ new_at site l n entry = do
   entry_at site l p (entry p)
 
 -- a method, with its flags and the span of its body (20.2.5.2): the limit is met before its name
-unfoldable pub method_at : Where → Listed → Option Name → ℕ → ℕ → ℕ → Result Listed LoadFault
-method_at site l n flags start len =
-    if nat_le most_methods (length (methods_of l.entries)) then Err loads.TooManyMethods else
-    new_at site l n (λ p. method_entry site p flags start len)
+unfoldable pub method_at : Where → Listed → Option Name → ℕ → ℕ × ℕ → Result Listed LoadFault
+method_at site l n flags span = if nat_le most_methods (length (methods_of l.entries))
+    then Err loads.TooManyMethods else new_at site l n (λ p. method_entry site p flags span)
 
 -- an Alias (20.2.5.1): first where its source leads, then its own name
 unfoldable pub alias_at : Where → Listed → Option Name → Option Name → Result Listed LoadFault
@@ -278,8 +262,7 @@ declare_as (roles.Declares o) site l ps r inside = do
   p ← place_at site (last_label None ps)
   m ← entry_at site l p (declares p (kind_of o) None site.sure)
   inside m (under site p)
-declare_as roles.Method site l ps r inside =
-    method_at site l (last_label None ps) (byte_of ps) (body_start r) (body_len r)
+declare_as roles.Method site l ps r inside = method_at site l (last_label None ps) (byte_of ps) (body_span r)
 declare_as roles.Scope site l ps r inside = do
   p ← lead_at site l.entries (last_label None ps) (λ p. faults.ScopeMissing p)
   inside l (under site p)
@@ -310,29 +293,22 @@ unfoldable mutual
 
 -- ---- The names outside methods, once all entries are there.
 
-abbrev pub is_count : ℕ → Option ℕ → Bool
-is_count n None = false
-is_count n (Some m) = m == n
-
 -- How many arguments a name takes that stands outside methods, once all entries are there. In a declaration a name that
 -- nothing knows takes none.
 abbrev pub use_count : Bool → List Entry → Use → Option ℕ
 use_count unknown_zero es u =
     agreed_arity (outlook_of es) (unknown_zero || u.declaring) u.scope set.empty u.name
 
--- the fault of a call in table t, by the first path that its name may mean, if there is one
-abbrev pub call_of : ℕ → Option (List Seg) → LoadFault
-call_of t None = loads.ModuleCall t
-call_of t (Some p) = loads.RunCall t p
-
+-- the fault of a call: where the code outside methods may run by the first path that its name may mean, if there is one
 abbrev pub call_fault : Bool → Use → LoadFault
 call_fault false u = loads.ModuleCall u.table
-call_fault true u = call_of u.table (placed u.scope u.name)
+call_fault true u =
+    unwrap_or (option_map (λ p. loads.RunCall u.table p) (placed u.scope u.name)) (loads.ModuleCall u.table)
 
 -- each takes as many as were read with it; or the fault of the first that doesn't
 unfoldable pub uses_at : Bool → Bool → List Entry → List Use → Result (Unit {0}) LoadFault
 uses_at any_run unknown_zero es [] = Ok tt
-uses_at any_run unknown_zero es (u ∷ us) = if is_count u.args (use_count unknown_zero es u)
+uses_at any_run unknown_zero es (u ∷ us) = if option_eq nat_eq (use_count unknown_zero es u) (Some u.args)
     then uses_at any_run unknown_zero es us else Err (call_fault any_run u)
 
 -- ---- AML that can't be read.

@@ -1,10 +1,11 @@
 //! The load of tables in their order.
-ghost use Rattle.std.specs.Prelude.{◌≡◌, ◌⊎◌, true, false, [], List, Err, IfOk, IfErr, length, ◌≤◌};
+ghost use Rattle.std.specs.Prelude.{◌≡◌, ◌⊎◌, true, false, [], List, Bool, Err, IfOk, IfErr, IfSome, Some, length, nat_eq, ◌≤◌, ◌||◌};
+ghost use Rattle.std.specs.Option.{option_eq};
 ghost use Rattle.aml_code.specs.Tree.{Trees};
 ghost use Rattle.aml_code.specs.View.{nodes_view};
 ghost use Rattle.aml_space.specs.Namespace.{given_entries};
 ghost use Rattle.aml_space.specs.Known.{StandsFor};
-ghost use Rattle.aml_load.specs.Loading.{Listed, first_listed, most_methods, use_count, is_count, call_fault, uses_at};
+ghost use Rattle.aml_load.specs.Loading.{Listed, first_listed, most_methods, use_count, call_fault, uses_at};
 ghost use Rattle.aml_load.specs.Tables.{LoadsTo, StopsFor, table_at, tables_at, GivesLoad, GivesSet};
 ghost use Rattle.aml_load.specs.Views.{HoldsLoad, HoldsTables};
 ghost use Rattle.aml_load.specs.Walking.{Holds, Gives, TableWalked, TablesRead};
@@ -20,7 +21,7 @@ use aml_code::{Locals, NoMemory, Node, Path, place};
 use aml_names::Arity;
 use aml_parse::parse_module;
 use aml_set::{Loaded, Table, TableSet};
-use aml_space::{BodyScope, Space};
+use aml_space::{BodyNames, BodyScope, Space};
 use std::alloc::Global;
 
 /// Reads a table whole, and then declares what it declares.
@@ -86,27 +87,62 @@ fn read_tables(
     Ok(())
 }
 
-/// How many arguments a name takes that stands outside the methods, once all tables are there.
-fn count_of(
-    alloc: Global,
-    space: &Space,
+/// The names of a scope, which serve each name that stands in it.
+#[derive(Drop)]
+struct Opened<'a> {
+    scope: &'a Path,
     unknown_zero: bool,
-    used: &Use,
-) -> Result<Option<u8>, NoMemory>
-    ensures { (l : Listed) → StandsFor space.now l.entries →
+    names: BodyNames<'a>,
+    ghost method: { names.method ≡ scope.now },
+    ghost unknown: { names.unknown_zero ≡ unknown_zero },
+}
+
+/// The names of the scope in which a name stands: those that were opened last, where they are the same.
+fn opened_for<'a>(
+    alloc: Global,
+    space: &'a Space,
+    last: Option<Opened<'a>>,
+    used: &'a Use,
+    unknown_zero: bool,
+) -> Result<Opened<'a>, NoMemory>
+    requires { IfSome last (λ o. o.names.known ≡ space.now) }
+    ensures known { IfOk result (λ o. o.names.known ≡ space.now) }
+    ensures scope { IfOk result (λ o. o.names.method ≡ used.now.scope) }
+    ensures unknown { IfOk result (λ o. o.names.unknown_zero ≡ (unknown_zero || used.now.declaring)) }
+{
+    let scope = used.scope.path();
+    let unknown_zero = unknown_zero || used.declaring;
+    if let Some(open) = last {
+        if open.unknown_zero == unknown_zero && *open.scope == *scope {
+            return Ok(open);
+        }
+    }
+    let names = BodyScope {
+        space,
+        method: scope,
+        unknown_zero,
+    }
+    .open(alloc)?;
+    Ok(Opened {
+        scope,
+        unknown_zero,
+        names,
+    })
+}
+
+/// How many arguments a name takes that stands outside the methods, once all tables are there.
+fn count_of(alloc: Global, opened: &Opened<'_>, used: &Use) -> Result<Option<u8>, NoMemory>
+    ensures { (l : Listed) (unknown_zero : Bool) → StandsFor opened.now.names.known l.entries →
+        opened.now.names.method ≡ used.now.scope →
+        opened.now.names.unknown_zero ≡ (unknown_zero || used.now.declaring) →
         IfOk result (λ n. n ≡ use_count unknown_zero l.entries used.now) }
 {
-    let scope = BodyScope {
-        space,
-        method: used.scope.path(),
-        unknown_zero: unknown_zero || used.declaring,
-    };
-    scope.count(alloc, &Locals::new(alloc), &used.name)
+    opened.names.count(alloc, &Locals::new(alloc), &used.name)
 }
 
 /// Whether a count is this number.
 fn is_count(args: usize, count: Option<u8>) -> bool
-    ensures { result ≡ is_count args count }
+    ensures { result ≡ option_eq nat_eq count (Some args) }
 {
     match count {
         None => false,
@@ -140,8 +176,12 @@ fn check_uses(
     ensures { (l : Listed) → StandsFor space.now l.entries →
         Gives (λ x. x) result (uses_at any_run unknown_zero l.entries uses.now) }
 {
+    let mut last: Option<Opened<'_>> = None;
     for used in uses {
-        if !is_count(used.args, count_of(alloc, space, unknown_zero, used)?) {
+        let opened = opened_for(alloc, space, last, used, unknown_zero)?;
+        let count = count_of(alloc, &opened, used)?;
+        last = Some(opened);
+        if !is_count(used.args, count) {
             return Err(call_fault(alloc, any_run, used)?);
         }
     }

@@ -1,7 +1,8 @@
 //! The names that stand as TermArgs outside the methods.
 ghost use Rattle.std.specs.Prelude.{◌≡◌, ◌++◌, ◌∷◌, [], OnOk, true, false, cond, length};
-ghost use Rattle.aml_code.specs.View.{node_view, nodes_view, part_view, parts_view, tail_view, field_view, fields_view, link_view};
-ghost use Rattle.aml_load.specs.Loading.{is_argument, kinds_in, is_declaration, in_declaration, declares_by, use_of, uses_in, all_uses, part_uses, parts_uses, tail_uses, fields_uses, field_uses, link_uses, term_uses};
+ghost use Rattle.aml_code.specs.View.{node_view, nodes_view, part_view, parts_view, tail_view, field_view, fields_view};
+ghost use Rattle.aml_load.specs.Loading.{is_argument, kinds_in, in_declaration, declares_by, uses_in, all_uses, part_uses, parts_uses, tail_uses, fields_uses, field_uses, term_uses, use_of};
+ghost use Rattle.aml_load.specs.Walking.{at_site};
 
 use crate::scopes::SharedPath;
 use crate::used::Use;
@@ -45,16 +46,6 @@ fn declares_by(group: Group) -> bool
     }
 }
 
-/// Whether an opcode is that of a declaration.
-fn is_declaration(opcode: u16) -> bool
-    ensures { result ≡ is_declaration opcode }
-{
-    match listed_row(opcode) {
-        None => false,
-        Some(row) => declares_by(row.group),
-    }
-}
-
 fn add_use(
     site: &Site<'_>,
     declaring: bool,
@@ -63,7 +54,7 @@ fn add_use(
     uses: &mut Vec<Use>,
 ) -> Result<(), NoMemory>
     ensures { OnOk result (uses.new.items ≡ uses.old.items ++
-        use_of site.now.table site.now.scope.now declaring name.now args ∷ []) }
+        use_of (at_site site.now) declaring name.now args ∷ []) }
 {
     let scope = site.scope.share()?;
     let name = name.clone()?;
@@ -87,7 +78,7 @@ fn add_asked(
     uses: &mut Vec<Use>,
 ) -> Result<(), NoMemory>
     ensures { OnOk result (uses.new.items ≡ uses.old.items ++
-        cond argument (use_of site.now.table site.now.scope.now declaring name.now args ∷ []) []) }
+        cond argument (use_of (at_site site.now) declaring name.now args ∷ []) []) }
 {
     if argument {
         add_use(site, declaring, name, args, uses)
@@ -106,7 +97,7 @@ fn add_node(
     uses: &mut Vec<Use>,
 ) -> Result<(), NoMemory>
     ensures { OnOk result (uses.new.items ≡ uses.old.items ++
-        (uses_in site.now.table site.now.scope.now declaring argument (node_view node.now))) }
+        (uses_in (use_of (at_site site.now) declaring) argument (node_view node.now))) }
 {
     match node {
         Node::Nothing => Ok(()),
@@ -136,8 +127,8 @@ fn add_call(
     uses: &mut Vec<Use>,
 ) -> Result<(), NoMemory>
     ensures { OnOk result (uses.new.items ≡ uses.old.items ++
-        (cond argument (use_of site.now.table site.now.scope.now declaring name.now (length args.now) ∷ []) [] ++
-        all_uses site.now.table site.now.scope.now declaring true (nodes_view args.now))) }
+        (cond argument (use_of (at_site site.now) declaring name.now (length args.now) ∷ []) [] ++
+        all_uses (use_of (at_site site.now) declaring) true (nodes_view args.now))) }
 {
     add_asked(site, declaring, argument, name, args.len(), uses)?;
     add_nodes(site, declaring, true, args, uses)
@@ -152,7 +143,7 @@ fn add_part(
     uses: &mut Vec<Use>,
 ) -> Result<(), NoMemory>
     ensures { OnOk result (uses.new.items ≡ uses.old.items ++
-        (part_uses site.now.table site.now.scope.now declaring argument (part_view part.now))) }
+        (part_uses (use_of (at_site site.now) declaring) argument (part_view part.now))) }
 {
     match part {
         Part::Child(node) => add_node(site, declaring, argument, node, uses),
@@ -170,7 +161,7 @@ fn add_parts(
     uses: &mut Vec<Use>,
 ) -> Result<(), NoMemory>
     ensures { OnOk result (uses.new.items ≡ uses.old.items ++
-        (parts_uses site.now.table site.now.scope.now declaring kinds.now (parts_view parts.now))) }
+        (parts_uses (use_of (at_site site.now) declaring) kinds.now (parts_view parts.now))) }
 {
     let mut left = kinds;
     for part in parts {
@@ -193,7 +184,7 @@ fn add_tail(
     uses: &mut Vec<Use>,
 ) -> Result<(), NoMemory>
     ensures { OnOk result (uses.new.items ≡ uses.old.items ++
-        (tail_uses site.now.table site.now.scope.now declaring (tail_view tail.now))) }
+        (tail_uses (use_of (at_site site.now) declaring) (tail_view tail.now))) }
 {
     match tail {
         Tail::Elements(nodes) => add_nodes(site, declaring, false, nodes.as_slice(), uses),
@@ -212,7 +203,7 @@ fn add_nodes(
     uses: &mut Vec<Use>,
 ) -> Result<(), NoMemory>
     ensures { OnOk result (uses.new.items ≡ uses.old.items ++
-        (all_uses site.now.table site.now.scope.now declaring argument (nodes_view nodes.now))) }
+        (all_uses (use_of (at_site site.now) declaring) argument (nodes_view nodes.now))) }
 {
     for node in nodes {
         add_node(site, declaring, argument, node, uses)?;
@@ -228,7 +219,7 @@ fn add_fields(
     uses: &mut Vec<Use>,
 ) -> Result<(), NoMemory>
     ensures { OnOk result (uses.new.items ≡ uses.old.items ++
-        (fields_uses site.now.table site.now.scope.now declaring (fields_view fields.now))) }
+        (fields_uses (use_of (at_site site.now) declaring) (fields_view fields.now))) }
 {
     for field in fields {
         add_field(site, declaring, field, uses)?;
@@ -244,27 +235,11 @@ fn add_field(
     uses: &mut Vec<Use>,
 ) -> Result<(), NoMemory>
     ensures { OnOk result (uses.new.items ≡ uses.old.items ++
-        (field_uses site.now.table site.now.scope.now declaring (field_view field.now))) }
+        (field_uses (use_of (at_site site.now) declaring) (field_view field.now))) }
 {
     match field {
-        Field::Connection(link) => add_link(site, declaring, link, uses),
+        Field::Connection(Link::Buffer(node)) => add_node(site, declaring, false, node, uses),
         _ => Ok(()),
-    }
-}
-
-#[cycle(uses)]
-fn add_link(
-    site: &Site<'_>,
-    declaring: bool,
-    link: &Link,
-    uses: &mut Vec<Use>,
-) -> Result<(), NoMemory>
-    ensures { OnOk result (uses.new.items ≡ uses.old.items ++
-        (link_uses site.now.table site.now.scope.now declaring (link_view link.now))) }
-{
-    match link {
-        Link::Target(_) => Ok(()),
-        Link::Buffer(node) => add_node(site, declaring, false, node, uses),
     }
 }
 
@@ -273,7 +248,10 @@ fn in_declaration(term: &Node) -> bool
     ensures { result ≡ in_declaration (node_view term.now) }
 {
     match term {
-        Node::Op { opcode, .. } => is_declaration(*opcode),
+        Node::Op { opcode, .. } => match listed_row(*opcode) {
+            None => false,
+            Some(row) => declares_by(row.group),
+        },
         _ => false,
     }
 }
@@ -281,7 +259,7 @@ fn in_declaration(term: &Node) -> bool
 /// Adds the names that stand as TermArgs in a term, or as the term, outside the terms inside it.
 pub fn add_names(site: &Site<'_>, term: &Node, uses: &mut Vec<Use>) -> Result<(), NoMemory>
     ensures { OnOk result (uses.new.items ≡ uses.old.items ++
-        term_uses site.now.table site.now.scope.now (node_view term.now)) }
+        term_uses (at_site site.now) (node_view term.now)) }
 {
     add_node(site, in_declaration(term), true, term, uses)
 }

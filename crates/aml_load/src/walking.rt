@@ -6,7 +6,7 @@ ghost use Rattle.aml_code.specs.Tree.{no_fields, field_more};
 ghost use Rattle.aml_code.specs.View.{node_view, nodes_view, parts_view, tail_view, fields_view, field_view};
 ghost use Rattle.aml_space.specs.Namespace.{Entry, Body, declares, external as outside};
 ghost use Rattle.aml_space.specs.Known.{StandsFor};
-ghost use Rattle.aml_load.specs.Loading.{under, Listed, plus, method_entry, first_label, byte_of, lead_of, target_of, body_start, body_len, place_at, lead_at, entry_at, new_at, method_at, alias_at, external_at, units_at, declare_as, declare, declare_inside, declare_all};
+ghost use Rattle.aml_load.specs.Loading.{under, Listed, plus, method_entry, first_label, byte_of, lead_of, target_of, body_span, place_at, lead_at, entry_at, new_at, method_at, alias_at, external_at, units_at, declare_as, declare, declare_inside, declare_all};
 ghost use Rattle.aml_load.specs.Walking.{at_site, Gives, GivesIn, IsDeclared, Walks};
 
 use crate::faults::LoadFault;
@@ -42,7 +42,7 @@ fn byte_in(parts: &[Part]) -> u8
 
 /// Where a method's body begins, and its length.
 fn body_span(tail: &Tail) -> (u32, u32)
-    ensures { result ≡ (body_start (tail_view tail.now), body_len (tail_view tail.now)) }
+    ensures { result ≡ body_span (tail_view tail.now) }
 {
     match tail {
         Tail::Body { start, len } => (*start, *len),
@@ -184,7 +184,7 @@ impl Progress {
     fn declare_body(&mut self, site: &Site<'_>, method: Method) -> Result<(), LoadFault>
         requires { method.table ≡ site.now.table }
         ensures { Walks self.old self.new result (λ l. entry_at (at_site site.now) l method.path
-            (method_entry (at_site site.now) method.path method.flags method.start method.len)) }
+            (method_entry (at_site site.now) method.path method.flags (method.start, method.len))) }
     {
         let path = method.path.clone()?;
         let kind = Kind::Method {
@@ -205,8 +205,7 @@ impl Progress {
     ) -> Result<(), LoadFault>
         ensures { Walks self.old self.new result (λ l.
             new_at (at_site site.now) l (last_label None (parts_view parts.now)) (λ p.
-            method_entry (at_site site.now) p (byte_of (parts_view parts.now)) (body_start (tail_view tail.now))
-            (body_len (tail_view tail.now)))) }
+            method_entry (at_site site.now) p (byte_of (parts_view parts.now)) (body_span (tail_view tail.now)))) }
     {
         let path = self.own_path(site, last_name(parts))?;
         let (start, len) = body_span(tail);
@@ -232,7 +231,7 @@ impl Progress {
     ) -> Result<(), LoadFault>
         ensures { Walks self.old self.new result (λ l.
             method_at (at_site site.now) l (last_label None (parts_view parts.now))
-            (byte_of (parts_view parts.now)) (body_start (tail_view tail.now)) (body_len (tail_view tail.now))) }
+            (byte_of (parts_view parts.now)) (body_span (tail_view tail.now))) }
     {
         if MAX_METHODS <= self.methods.len() {
             return Err(LoadFault::TooManyMethods);

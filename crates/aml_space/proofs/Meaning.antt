@@ -52,6 +52,16 @@ predefined_deep (suc d) (s ∷ scope) (t ∷ rest) deep within one = by (take d 
     by [] = refl
     by (u ∷ front) = refl
 
+-- nor is one of some segments behind a front, unless it is a segment or none
+pub predefined_behind : (d : ℕ) (scope segs : List Seg) → (d ≡ 0 → ⊥) → ((d ≡ 1) × (segs ≡ []) → ⊥) → d ≤ length scope
+    → predefined (take d scope ++ segs) ≡ None
+predefined_behind zero scope segs deep more within = absurd (deep refl)
+predefined_behind (suc d) [] segs deep more within = absurd (omega (arith, within))
+predefined_behind (suc zero) (s ∷ scope) [] deep more within = absurd (more (refl, refl))
+predefined_behind (suc zero) (s ∷ scope) (t ∷ rest) deep more within = refl
+predefined_behind (suc (suc d)) (s ∷ []) segs deep more within = absurd (omega (arith, within))
+predefined_behind (suc (suc d)) (s ∷ t ∷ scope) segs deep more within = refl
+
 -- a kind has a count
 kind_counts : (n : Namespace) (k : Kind) (o other : Option ℕ) → option_or (count_by n (Some k) o) other ≡ count_by n (Some k) o
 kind_counts n (Method args) o other = refl

@@ -19,7 +19,8 @@ use Rattle.aml_space.specs.Nodes.{walk, IsFamily, IsTree}
 use Rattle.aml_space.proofs.Basics.{and_then_twice}
 
 module _ (kids : ℕ → List Child) where
-  walk_append : (i : ℕ) (p q : List Seg) → walk kids i (p ++ q) ≡ option_and_then (λ j. walk kids j q) (walk kids i p)
+  -- behind a front a path leads where the rest does from there
+  pub walk_append : (i : ℕ) (p q : List Seg) → walk kids i (p ++ q) ≡ option_and_then (λ j. walk kids j q) (walk kids i p)
   walk_append i [] q = refl
   walk_append i (s ∷ p) q = (λ t. option_and_then (λ j. walk_append j p q t) (child_in (kids i) s))
       ∙ sym (and_then_twice (λ j. walk kids j p) (λ j. walk kids j q) (child_in (kids i) s))

@@ -23,8 +23,7 @@ use Rattle.aml_space.specs.Namespace.{decides, is_outside, target_count, first_g
 abbrev pub surely_declared : List Entry → List Seg → Bool
 surely_declared [] q = false
 surely_declared (declares p k b sure ∷ es) q = (same_path q p && sure) || surely_declared es q
-surely_declared (external p n ∷ es) q = surely_declared es q
-surely_declared (given p n ∷ es) q = surely_declared es q
+surely_declared (_ ∷ es) q = surely_declared es q
 
 -- how many declarations a path has
 abbrev pub times_at : List Entry → List Seg → ℕ
@@ -38,8 +37,7 @@ times_at (given p n ∷ es) q = times_at es q
 abbrev pub kinds_at : List Entry → List Seg → List Kind
 kinds_at [] q = option_to_list (predefined q)
 kinds_at (declares p k b sure ∷ es) q = cond (same_path q p) (k ∷ cond sure [] (kinds_at es q)) (kinds_at es q)
-kinds_at (external p n ∷ es) q = kinds_at es q
-kinds_at (given p n ∷ es) q = kinds_at es q
+kinds_at (_ ∷ es) q = kinds_at es q
 
 -- whether a path has a kind in every run
 abbrev pub sure_at : List Entry → List Seg → Bool

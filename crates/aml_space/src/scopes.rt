@@ -3,8 +3,9 @@ ghost use Rattle.std.specs.Prelude.{◌&&◌, not};
 ghost use Rattle.std.specs.List.{find};
 ghost use Rattle.std.specs.Prelude.{◌≡◌, ◌||◌, ℕ, ◌+◌, ◌<◌, ◌≤◌, ◌++◌, List, cond, length, take, Some, None, is_some};
 ghost use Rattle.std.specs.Prelude.{IfOk, IfSome};
-ghost use Rattle.std.specs.Bool.{OnFalse};
+ghost use Rattle.std.specs.Bool.{OnFalse, OnTrue};
 ghost use Rattle.std.specs.Option.{option_or, option_and_then, option_copied, option_map};
+ghost use Rattle.std.specs.FinSet as set;
 ghost use Rattle.aml_names.specs.declared.segments.Seg.{Seg};
 ghost use Rattle.aml_names.specs.Searching.{upward};
 ghost use Rattle.aml_space.specs.Predefined.{predefined};
@@ -22,7 +23,7 @@ use crate::kinds::Kind;
 use crate::nodes::Node;
 use crate::predefined::Predefined;
 use crate::tallies::Counts;
-use crate::walking::{child, children_at, given_at, kind_at, out_at};
+use crate::walking::{child, children_at, given_at, kind_at, node_from, out_at};
 use aml_names::{Locals, NoMemory, Path, Seg};
 use std::alloc::Global;
 
@@ -215,6 +216,17 @@ impl<'a> Scope<'a> {
         child(self.nodes, level.node, segment[0])
     }
 
+    /// The node of some segments behind a front of the scope's path. The path itself isn't walked again.
+    pub(crate) fn node_below(&self, depth: usize, segs: &[Seg]) -> Option<usize>
+        requires scope { IsScope self.now }
+        requires within { depth ≤ length self.now.path.now }
+        ensures node { result ≡ walk (kids_of self.now.nodes.now) 0 (take depth self.now.path.now ++ segs.now) }
+        ensures inside { IfSome result (λ at. at < length self.now.nodes.now) }
+    {
+        let level = self.levels.get(depth)?;
+        node_from(self.nodes, level.node, segs)
+    }
+
     /// The nearest depth from this one up that has to be asked.
     fn next_asked(&self, depth: usize) -> usize
         requires scope { IsScope self.now }
@@ -253,6 +265,65 @@ impl<'a> Scope<'a> {
         } else {
             None
         }
+    }
+
+    /// The predefined kind of some segments behind a front of the scope's path.
+    pub(crate) fn standing_below(&self, depth: usize, segs: &[Seg]) -> Option<&Kind>
+        requires { depth ≤ length self.now.path.now }
+        ensures { option_copied result ≡ predefined (take depth self.now.path.now ++ segs.now) }
+    {
+        if depth == 0 {
+            return self.predefined.kind(segs);
+        }
+        if depth == 1 && segs.is_empty() {
+            return self.predefined.kind(&self.path.segs()[..1]);
+        }
+        None
+    }
+
+    /// Whether some segments behind a front of the scope's path are one of the locals. A path is made only where the nearest
+    /// local that ends so doesn't tell.
+    pub(crate) fn is_local(
+        &self,
+        alloc: Global,
+        locals: &Locals,
+        front: usize,
+        segs: &[Seg],
+    ) -> Result<bool, NoMemory>
+        requires { front ≤ length self.now.path.now }
+        ensures { IfOk result
+            (λ local. local ≡ set.contains locals.now (take front self.now.path.now ++ segs.now)) }
+    {
+        match segs {
+            [end] => {
+                let nearest = locals.nearest(alloc, self.path, *end)?;
+                if is_up_to(nearest, front) {
+                    Ok(stands(nearest, front))
+                } else {
+                    self.has_local(alloc, locals, front, segs)
+                }
+            }
+            _ => self.has_local(alloc, locals, front, segs),
+        }
+    }
+
+    /// The same by the path itself, where there is any local.
+    fn has_local(
+        &self,
+        alloc: Global,
+        locals: &Locals,
+        front: usize,
+        segs: &[Seg],
+    ) -> Result<bool, NoMemory>
+        requires { front ≤ length self.now.path.now }
+        ensures { IfOk result
+            (λ local. local ≡ set.contains locals.now (take front self.now.path.now ++ segs.now)) }
+    {
+        if locals.is_empty() {
+            return Ok(false);
+        }
+        let path = Path::below(alloc, &self.path.segs()[..front], segs)?;
+        Ok(locals.has(&path))
     }
 
     /// Whether a candidate is one of the locals or has a kind.
@@ -449,6 +520,16 @@ fn has_content(nodes: &[Node], at: Option<usize>) -> bool
     ensures { OnFalse result (IfSome at (IsBare nodes.now)) }
 {
     kind_at(nodes, at).is_some() || out_at(nodes, at).is_some() || given_at(nodes, at).is_some()
+}
+
+/// Whether the nearest local, if there is one, stands at this depth or further up.
+fn is_up_to(nearest: Option<usize>, depth: usize) -> bool
+    ensures { OnTrue result (IfSome nearest (λ local. local ≤ depth)) }
+{
+    match nearest {
+        None => true,
+        Some(local) => local <= depth,
+    }
 }
 
 /// Whether the nearest local stands at this depth.

@@ -2,4 +2,4 @@
 use Rattle.std.specs.Prelude.{ℕ}
 
 abbrev pub most_waiting : ℕ
-most_waiting = 4096
+most_waiting = 1024

@@ -3,7 +3,7 @@ ghost use Rattle.std.specs.Prelude.{◌≤◌};
 ghost use Rattle.text_writer.specs.Room.{most_waiting};
 
 /// How many bytes can wait.
-const ROOM: usize = 4096;
+const ROOM: usize = 1024;
 
 /// At most [`ROOM`] bytes, in order.
 #[derive(Drop)]

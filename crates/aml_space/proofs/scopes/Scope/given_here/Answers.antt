@@ -1,6 +1,11 @@
-use Rattle.std.proofs.Common.{refl}
-use Rattle.aml_space.proofs.Index.{part_met}
+use Rattle.std.proofs.Common.{take, ◌++◌, ap, ◌∙◌}
+use Rattle.std.specs.Option.{option_and_then}
+use Rattle.aml_space.specs.Nodes.{givens_of}
+use Rattle.aml_space.proofs.Index.{part_at}
 use Rattle.aml_space.proofs.scopes.Scope.given_here.Goals as goal
 
 pub returns : goal.returns
-returns c = part_met (λ c. c.given) _ _ _ _ _ _ c.given_at.ensures c.node_of-node.ensures.node refl c.segs.ensures c.requires.shape
+returns c =
+    let s = c.args.self.now in
+    c.given_at.ensures ∙ ap (option_and_then (givens_of s.nodes.now)) c.node_below-node.ensures.node
+    ∙ part_at (λ c. c.given) s.nodes.now c.requires.scope.shape (take c.args.front s.path.now ++ c.args.segs.now)

@@ -1,9 +1,9 @@
 use Rattle.std.proofs.Common.{◌≡◌, ◌<◌, length, drop}
 use Rattle.aml_space.specs.Nodes.{walk, kids_of}
-use Rattle.aml_space.proofs.walking.node_of.Given as goal
+use Rattle.aml_space.proofs.walking.node_from.Given as goal
 
 abbrev pub invariant-loop-seg : goal.invariant-loop-seg
 invariant-loop-seg l = record {
-  led : walk (kids_of l.nodes) 0 l.path ≡ walk (kids_of l.nodes) l.at (drop l.seg-index l.path);
+  led : walk (kids_of l.nodes) l.from l.segs ≡ walk (kids_of l.nodes) l.at (drop l.seg-index l.segs);
   within : l.at < length l.nodes;
 }
