@@ -1,0 +1,4 @@
+pub mod FieldViews
+pub mod Fields
+pub mod Numbers
+pub mod Opcodes
