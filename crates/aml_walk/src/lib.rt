@@ -7,7 +7,9 @@ mod fields;
 mod laws;
 mod numbers;
 pub mod opcodes;
+mod units;
 
 pub use fields::{FieldBase, FieldUnit, base_of, units_of};
 pub use laws::opcodes_are_named;
 pub use numbers::number_of;
+pub use units::{UnitPlace, unit_at};
