@@ -7,4 +7,5 @@ pub mod SpanLaws
 pub mod Asking
 pub mod RunSpans
 pub mod Ran
+pub mod Founds
 pub mod Strict

@@ -5,3 +5,5 @@ pub mod Running
 pub mod Tables
 pub mod Walking
 pub mod Runner
+pub mod Standing
+pub mod Standings

@@ -200,7 +200,7 @@ fn space_with(alloc: Global, givens: &[(Path, u8)]) -> Result<Space, NoMemory>
 }
 
 /// What the tables have made before any of them.
-fn first_progress(alloc: Global, givens: &[(Path, u8)]) -> Result<Progress, NoMemory>
+pub fn first_progress(alloc: Global, givens: &[(Path, u8)]) -> Result<Progress, NoMemory>
     ensures { IfOk result (λ progress. Holds progress (first_listed givens.now)) }
 {
     Ok(Progress {

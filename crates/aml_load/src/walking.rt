@@ -111,7 +111,7 @@ impl Progress {
 
     /// The path that a Scope opens. `ScopeMissing` where its name leads to nothing.
     #[tactic(auto, unfolding(crate::specs::Loading::lead_at))]
-    fn scope_path(&self, site: &Site<'_>, name: Option<&Name>) -> Result<Path, LoadFault>
+    pub fn scope_path(&self, site: &Site<'_>, name: Option<&Name>) -> Result<Path, LoadFault>
         ensures { GivesIn (λ p. p) self.now.space result (λ l.
             lead_at (at_site site.now) l.entries (option_copied name.entry) (λ p. SpaceFault.ScopeMissing p)) }
     {

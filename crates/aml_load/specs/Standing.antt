@@ -1,0 +1,66 @@
+-- The terms of tables outside the methods' bodies, each where it stands (ACPI 6.5, 5.3 and 20.2.5), where that code may
+-- not run. A term stands in the scope in which a load places what it declares. So a Scope opens the path that its name
+-- leads to by what is listed in front of it, and not by what is declared later.
+use Rattle.std.specs.Prelude.{ℕ, suc, List, [], ◌∷◌, ◌++◌, None, Result, Ok, Err}
+use Rattle.aml_names.specs.declared.segments.Seg.{Seg}
+use Rattle.aml_code.specs.declared.rows.Role.{Role}
+use Rattle.aml_code.specs.declared.rows.Role.TheVariants as roles
+use Rattle.aml_code.specs.Lawful.{last_label}
+use Rattle.aml_code.specs.Tree.{Tree, op, Trees, no_trees, tree_more, Parts, Tail, terms}
+use Rattle.aml_space.specs.declared.faults.SpaceFault.TheVariants as faults
+use Rattle.aml_space.specs.Namespace.{Givens, declares}
+use Rattle.aml_load.specs.declared.faults.LoadFault.{LoadFault}
+use Rattle.aml_load.specs.Loading.{Where, strict, under, Listed, first_listed, with_uses, role_of, kind_of, place_at}
+use Rattle.aml_load.specs.Loading.{lead_at, entry_at, declare, declare_all}
+
+-- a term, with its table, by the place in load order, and its scope
+pub record Standing : Type 0 where
+  pub table : ℕ
+  pub scope : List Seg
+  pub term : Tree
+
+abbrev pub stands : Where → Tree → Standing
+stands site t = record { table = site.table; scope = site.scope; term = t }
+
+-- the terms behind a step of the load; none where the load stops
+infixl 10 ◌>>>◌
+abbrev pub ◌>>>◌ : {A : Type 0} → Result A LoadFault → (A → List Standing) → List Standing
+(Ok x) >>> f = f x
+(Err e) >>> f = []
+
+-- The terms inside a term at a site, after l, by what the term does. `inside` gives them by what is listed in front of
+-- them and their site. Inside the others no terms stand.
+unfoldable pub inside_as : Role → Where → Listed → Parts → (Listed → Where → List Standing) → List Standing
+inside_as (roles.Declares o) site l ps inside =
+    place_at site (last_label None ps) >>> λ p.
+    entry_at site l p (declares p (kind_of o) None site.sure) >>> λ m. inside m (under site p)
+inside_as roles.Scope site l ps inside =
+    lead_at site l.entries (last_label None ps) (λ p. faults.ScopeMissing p) >>> λ p. inside l (under site p)
+inside_as roles.Guard site l ps inside = inside l site
+inside_as _ site l ps inside = []
+
+unfoldable mutual
+  -- a term at a site, after l, and then those inside it
+  pub term_stands : Where → Listed → Tree → List Standing
+  term_stands site l (op o w ps r) = stands site (op o w ps r) ∷
+      inside_as (role_of o) site (with_uses site l (op o w ps r)) ps (λ l below. inside_stand below l r)
+  term_stands site l t = stands site t ∷ []
+
+  pub inside_stand : Where → Listed → Tail → List Standing
+  inside_stand site l (terms ts) = all_stand site l ts
+  inside_stand site l _ = []
+
+  -- terms in the order of the text, each after what those in front of it declare
+  pub all_stand : Where → Listed → Trees → List Standing
+  all_stand site l no_trees = []
+  all_stand site l (tree_more x xs) = term_stands site l x ++ (declare site l x >>> λ k. all_stand site k xs)
+
+-- those of the tables from number t on, each table from the root
+unfoldable pub tables_stand : ℕ → Listed → List Trees → List Standing
+tables_stand t l [] = []
+tables_stand t l (ts ∷ rest) =
+    all_stand (strict t []) l ts ++ (declare_all (strict t []) l ts >>> λ k. tables_stand (suc t) k rest)
+
+-- those of a set of tables, where the user gives these counts
+abbrev pub set_stands : Givens → List Trees → List Standing
+set_stands gs trees = tables_stand 0 (first_listed gs) trees

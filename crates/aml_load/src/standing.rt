@@ -1,0 +1,246 @@
+//! The terms of a loaded set outside the methods' bodies, each where it stands.
+ghost use Rattle.std.specs.Prelude.{◌≡◌, ◌⊎◌, ◌++◌, ◌∷◌, [], List, ℕ, Bool, false, Ok, IfOk, IfErr, OnOk};
+ghost use Rattle.aml_code.specs.View.{node_view, nodes_view, parts_view, tail_view};
+ghost use Rattle.aml_set.specs.Views.{trees_view};
+ghost use Rattle.aml_load.specs.Loading.{Listed, first_listed, strict, declare_as, declare, declare_inside, declare_all, under};
+ghost use Rattle.aml_load.specs.Standing.{stands, inside_as, term_stands, inside_stand, all_stand, set_stands, tables_stand};
+ghost use Rattle.aml_load.specs.Standings.{standings_view, Finds, Found, declare_tables};
+ghost use Rattle.aml_load.specs.Tables.{LoadsTo};
+ghost use Rattle.aml_load.specs.Walking.{at_site, Holds};
+
+use crate::faults::LoadFault;
+use crate::loading::first_progress;
+use crate::roles::{kind_of, role_of};
+use crate::scopes::SharedPath;
+use crate::uses::{Site, add_names};
+use crate::walking::Progress;
+use aml_code::{NoMemory, Node, Part, Path, Role, Tail, last_name};
+use std::alloc::Global;
+
+/// A term of a table outside the methods' bodies, and where it stands.
+#[derive(Drop)]
+pub struct StandingTerm<'a> {
+    /// The table, by its place in load order from 0 on.
+    pub table: usize,
+    /// The scope in which it stands.
+    pub scope: SharedPath,
+    pub term: &'a Node,
+}
+
+/// Adds a term.
+fn add_term<'a>(
+    site: &Site<'_>,
+    term: &'a Node,
+    found: &mut Vec<StandingTerm<'a>>,
+) -> Result<(), NoMemory>
+    ensures { OnOk result (standings_view found.new.items ≡ standings_view found.old.items ++
+        stands (at_site site.now) (node_view term.now) ∷ []) }
+{
+    let scope = site.scope.share()?;
+    found.push(StandingTerm {
+        table: site.table,
+        scope,
+        term,
+    })?;
+    Ok(())
+}
+
+/// Finds a term and those inside it, and declares what they declare.
+#[cycle(find)]
+#[tactic(auto, unfolding(crate::specs::Loading::declare, crate::specs::Standing::term_stands))]
+fn find_term<'a>(
+    progress: &mut Progress,
+    site: &Site<'_>,
+    term: &'a Node,
+    found: &mut Vec<StandingTerm<'a>>,
+) -> Result<(), LoadFault>
+    ensures { Finds progress.old progress.new found.old.items found.new.items result
+        (λ l. declare (at_site site.now) l (node_view term.now))
+        (λ l. term_stands (at_site site.now) l (node_view term.now)) }
+{
+    add_term(site, term, found)?;
+    match term {
+        Node::Nothing | Node::Named { .. } => Ok(()),
+        Node::Op {
+            opcode,
+            parts,
+            tail,
+            ..
+        } => {
+            add_names(site, term, &mut progress.uses)?;
+            find_by_role(
+                progress,
+                site,
+                role_of(*opcode),
+                tail,
+                parts.as_slice(),
+                found,
+            )
+        }
+    }
+}
+
+/// Does what a role does, and finds the terms inside.
+#[cycle(find)]
+#[tactic(auto, unfolding(crate::specs::Loading::declare_as, crate::specs::Standing::inside_as))]
+fn find_by_role<'a>(
+    progress: &mut Progress,
+    site: &Site<'_>,
+    role: Role,
+    tail: &'a Tail,
+    parts: &[Part],
+    found: &mut Vec<StandingTerm<'a>>,
+) -> Result<(), LoadFault>
+    ensures { Finds progress.old progress.new found.old.items found.new.items result
+        (λ l. declare_as role (at_site site.now) l (parts_view parts.now) (tail_view tail.now)
+        (λ l below. declare_inside below l (tail_view tail.now)))
+        (λ l. inside_as role (at_site site.now) l (parts_view parts.now)
+        (λ l below. inside_stand below l (tail_view tail.now))) }
+{
+    match role {
+        Role::Declares(object) => {
+            let path = progress.own_path(site, last_name(parts))?;
+            progress.declare(site, path.clone()?, kind_of(object))?;
+            find_below(progress, site, path, tail, found)
+        }
+        Role::Scope => {
+            let path = progress.scope_path(site, last_name(parts))?;
+            find_below(progress, site, path, tail, found)
+        }
+        Role::Guard => find_inside(progress, site, tail, found),
+        Role::Method => progress.add_method(site, parts, tail),
+        Role::Alias => progress.add_alias(site, parts),
+        Role::External => progress.add_external(site, parts),
+        Role::Fields => progress.add_units(site, tail),
+        Role::Other => Ok(()),
+    }
+}
+
+/// Finds the terms inside a term, whose scope is this path.
+#[cycle(find)]
+fn find_below<'a>(
+    progress: &mut Progress,
+    site: &Site<'_>,
+    path: Path,
+    tail: &'a Tail,
+    found: &mut Vec<StandingTerm<'a>>,
+) -> Result<(), LoadFault>
+    ensures { Finds progress.old progress.new found.old.items found.new.items result
+        (λ l. declare_inside (under (at_site site.now) path) l (tail_view tail.now))
+        (λ l. inside_stand (under (at_site site.now) path) l (tail_view tail.now)) }
+{
+    let scope = SharedPath::new(progress.alloc, path)?;
+    find_inside(
+        progress,
+        &Site {
+            table: site.table,
+            scope: &scope,
+            any_run: site.any_run,
+            sure: site.sure,
+        },
+        tail,
+        found,
+    )
+}
+
+/// Finds the terms inside a term.
+#[cycle(find)]
+#[tactic(auto, unfolding(crate::specs::Loading::declare_inside, crate::specs::Standing::inside_stand))]
+fn find_inside<'a>(
+    progress: &mut Progress,
+    site: &Site<'_>,
+    tail: &'a Tail,
+    found: &mut Vec<StandingTerm<'a>>,
+) -> Result<(), LoadFault>
+    ensures { Finds progress.old progress.new found.old.items found.new.items result
+        (λ l. declare_inside (at_site site.now) l (tail_view tail.now))
+        (λ l. inside_stand (at_site site.now) l (tail_view tail.now)) }
+{
+    match tail {
+        Tail::Terms(terms) => find_terms(progress, site, terms.as_slice(), found),
+        _ => Ok(()),
+    }
+}
+
+/// Finds terms and those inside them, in the order of the text.
+#[cycle(find)]
+#[tactic(auto, unfolding(crate::specs::Loading::declare_all, crate::specs::Standing::all_stand))]
+fn find_terms<'a>(
+    progress: &mut Progress,
+    site: &Site<'_>,
+    terms: &'a [Node],
+    found: &mut Vec<StandingTerm<'a>>,
+) -> Result<(), LoadFault>
+    ensures { Finds progress.old progress.new found.old.items found.new.items result
+        (λ l. declare_all (at_site site.now) l (nodes_view terms.now))
+        (λ l. all_stand (at_site site.now) l (nodes_view terms.now)) }
+{
+    for term in terms {
+        find_term(progress, site, term, found)?;
+    }
+    Ok(())
+}
+
+/// Finds the terms of a table, from the root.
+fn find_table<'a>(
+    progress: &mut Progress,
+    table: usize,
+    terms: &'a [Node],
+    found: &mut Vec<StandingTerm<'a>>,
+) -> Result<(), LoadFault>
+    ensures { Finds progress.old progress.new found.old.items found.new.items result
+        (λ l. declare_all (strict table []) l (nodes_view terms.now))
+        (λ l. all_stand (strict table []) l (nodes_view terms.now)) }
+{
+    let root = SharedPath::new(progress.alloc, Path::root(progress.alloc))?;
+    find_terms(
+        progress,
+        &Site {
+            table,
+            scope: &root,
+            any_run: false,
+            sure: true,
+        },
+        terms,
+        found,
+    )
+}
+
+/// Finds the terms of all tables.
+#[tactic(auto, unfolding(crate::specs::Standings::declare_tables, crate::specs::Standing::tables_stand))]
+fn find_tables<'a>(
+    progress: &mut Progress,
+    trees: &'a [Vec<Node>],
+    found: &mut Vec<StandingTerm<'a>>,
+) -> Result<(), LoadFault>
+    ensures { Finds progress.old progress.new found.old.items found.new.items result
+        (λ l. declare_tables 0 l (trees_view trees.now))
+        (λ l. tables_stand 0 l (trees_view trees.now)) }
+{
+    for table in 0..trees.len() {
+        find_table(progress, table, trees[table].as_slice(), found)?;
+    }
+    Ok(())
+}
+
+/// The terms of a loaded set outside the methods' bodies, each with the scope in which `load` places what it declares:
+/// in load order and in the order of the text, a term before those inside it.
+///
+/// `trees` are the terms of each table, as a set has them that was loaded by `load` with these counts (`givens`). A set
+/// that `load_any_run` gave is another one: its terms may be refused here.
+pub fn standing_terms<'a>(
+    alloc: Global,
+    trees: &'a [Vec<Node>],
+    givens: &[(Path, u8)],
+) -> Result<Vec<StandingTerm<'a>>, LoadFault>
+    // Just these terms, each where it stands.
+    ensures found { IfOk result (λ x. standings_view x.items ≡ set_stands givens.now (trees_view trees.now)) }
+    // A refusal for another cause than memory comes only where no tables load to these trees.
+    ensures complete { IfErr result (λ e. (e ≡ LoadFault.NoMemory) ⊎ ((unknown_zero : Bool) (tables : List (List ℕ))
+        (m : Listed) → LoadsTo false unknown_zero givens.now tables (trees_view trees.now) m → ⊥)) }
+{
+    let mut progress = first_progress(alloc, givens)?;
+    let mut found = Vec::new(alloc);
+    find_tables(&mut progress, trees, &mut found)?;
+    Ok(found)
+}
