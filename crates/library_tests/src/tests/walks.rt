@@ -101,7 +101,8 @@ fn push_term(
     Ok(out.push_str("\n")?)
 }
 
-/// Where the unit right below the root with this segment is found: the place of its term, its first bit, its number of bits.
+/// Where the unit right below the root with this segment is found: the place of its term, its first bit, its number of
+/// bits.
 fn unit_below_root(
     alloc: Global,
     terms: &[StandingTerm<'_>],
@@ -114,7 +115,8 @@ fn unit_below_root(
     }
 }
 
-/// Whether units are found by their paths: one of the Field, one of the BankField, and none with the name of an External.
+/// Whether units are found by their paths: one of the Field, one of the BankField, and none with the name of an
+/// External.
 fn has_units(alloc: Global, terms: &[StandingTerm<'_>]) -> Result<bool, Want> {
     Ok(
         unit_below_root(alloc, terms, b"FLD1")? == Some((9, 24, 8))
