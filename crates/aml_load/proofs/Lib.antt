@@ -9,3 +9,4 @@ pub mod RunSpans
 pub mod Ran
 pub mod Founds
 pub mod Strict
+pub mod Alone

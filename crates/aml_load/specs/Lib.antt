@@ -7,3 +7,4 @@ pub mod Walking
 pub mod Runner
 pub mod Standing
 pub mod Standings
+pub mod StandingLaws

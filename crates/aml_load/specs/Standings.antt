@@ -19,8 +19,8 @@ standings_view xs = map standing_view xs
 
 -- What a step made of the progress is what loading forward gives, and the terms that it found are those, behind the
 -- ones before; unless memory was refused.
-abbrev pub Found : {X : Type 0} → Progress → List StandingTerm → List StandingTerm → Result X LoadFault → Result Listed LoadFault
-    → List Standing → Type 0
+abbrev pub Found : {X : Type 0} → Progress → List StandingTerm → List StandingTerm → Result X LoadFault
+    → Result Listed LoadFault → List Standing → Type 0
 Found new before after (Ok x) walk list = (m : Listed) × Holds new m × (walk ≡ Ok m)
     × (standings_view after ≡ standings_view before ++ list)
 Found new before after (Err e) walk list = Fails e walk

@@ -1,4 +1,5 @@
--- From a path to the unit of a field list that it names, among terms that stand somewhere (ACPI 6.5, 19.6.48 and 20.2.5.2).
+-- From a path to the unit of a field list that it names, among terms that stand somewhere (ACPI 6.5, 19.6.48 and
+-- 20.2.5.2).
 use Rattle.std.specs.Prelude.{ℕ, suc, Bool, List, [], ◌∷◌, ◌++◌, Option, None}
 use Rattle.std.specs.List.{find}
 use Rattle.std.specs.Option.{option_map, option_or}

@@ -1,4 +1,5 @@
-//! What a program over the crates wants of terms: names for opcodes, and the numbers of constants.
+//! What a program over the crates wants of terms: names for opcodes, the numbers of constants, the units of field
+//! lists.
 //!
 //! It follows the ACPI Specification 6.5, section 20.2.
 #![tactic(auto)]

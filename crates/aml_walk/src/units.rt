@@ -54,8 +54,8 @@ fn unit_in(
     first_unit(alloc, term.scope.path(), path, units.as_slice())
 }
 
-/// The unit with this path of a Field, an IndexField or a BankField among these terms, as `standing_terms` gives them: its
-/// term, its first bit and its number of bits. Of several units with one path it is the first.
+/// The unit with this path of a Field, an IndexField or a BankField among these terms, as `standing_terms` gives them:
+/// its term, its first bit and its number of bits. Of several units with one path it is the first.
 pub fn unit_at(
     alloc: Global,
     terms: &[StandingTerm<'_>],

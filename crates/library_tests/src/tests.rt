@@ -6,4 +6,5 @@ mod loads;
 mod memory;
 mod nesting;
 mod starts;
+mod walks;
 mod writers;
