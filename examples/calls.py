@@ -16,6 +16,7 @@ at fault.
 import re
 import sys
 
+import aml
 import listing
 import output
 import passing
@@ -24,18 +25,8 @@ SHOWN = 100
 COUNT = re.compile(r"(\\\S*) ([0-7])\n?")
 EXTERNAL = re.compile(rf"External \(({listing.NAME.pattern}), \S+, (Zero|One|0x0[0-7])\)")
 NUMBERS = {"Zero": 0, "One": 1}
-TARGETS = {
-    (0,): "RefOf Increment Decrement SizeOf ObjectType Wait Acquire Signal Reset Release Unload Notify",
-    (0, 1): "CondRefOf",
-    (1,): "Store Not FindSetLeftBit FindSetRightBit ToBuffer ToDecimalString ToHexString ToInteger CopyObject FromBCD"
-    " ToBCD Load",
-    (2,): "Add Concatenate Subtract Multiply ShiftLeft ShiftRight And NAnd Or NOr XOr ConcatenateResTemplate Mod Index"
-    " ToString",
-    (2, 3): "Divide",
-    (3,): "Mid",
-}
 # The positions of each operator that take a target or an object.
-PLACES = {word: places for places, words in TARGETS.items() for word in words.split()}
+PLACES = {word: [at for at, kind in enumerate(kinds.lstrip("P")) if kind == "S"] for word, kinds in aml.ROWS.values()}
 # The name that a term of a body declares, a field's unit among them.
 DECLARED = re.compile(
     r"(?:Name|Mutex|Event|OperationRegion|DataRegion) \(([^\s,)]+)|(?:Create\w*Field|Alias) \(.*, ([^\s,)]+)\)"
