@@ -85,6 +85,13 @@ mkdir folder && : >file
 is 'a folder' "$(completed acpidis f)" folder
 is 'a file' "$(completed acpidis --externals f | tr ' ' '\n' | sort | tr '\n' ' ')" 'file folder '
 is 'a number' "$(completed acpidis --workers 3)" 32
+cat >later <<'S'
+#!/bin/sh
+printf '%s\n' 'Usage: later' '' 'Options:' '  -f, --from <FILE>  takes a file' '      --flag' '' 'Others:' '      --other  is none'
+S
+chmod +x later
+is 'options of another help' "$(completed ./later -)" '--from --flag'
+is 'a file for one of them' "$(completed ./later --from fil)" file
 rm -r folder file
 
 # links and folders in the way
