@@ -1,5 +1,5 @@
-# Completion of acpidis for bash. ./install puts it under share/bash-completion/completions. Which options there are, and
-# what they take, the help of the command says.
+# Completion of acpidis for bash. ./install puts it under share/bash-completion/completions. The help of the command
+# says which options there are, and what they take.
 
 _acpidis() {
     local word=${COMP_WORDS[COMP_CWORD]} before=${COMP_WORDS[COMP_CWORD - 1]} command=${COMP_WORDS[0]}

@@ -10,7 +10,8 @@ only where just one count reads, and this count on it, so that the lines are a f
 A body shows its first such name alone. So the set is read in rounds, each with the counts that fit best so far, until
 no body waits. With --any-run a name outside the methods may be missing too, for which the set is refused as ModuleCall:
 it comes first. Each OPTION is one of acpidis, but not --check or --unknown-zero; --externals names counts that you know
-already. ACPIDIS names another program. Status 1 is a folder that is refused, 2 a command line or a program that is at fault.
+already. ACPIDIS names another program. Status 1 is a folder that is refused, 2 a command line or a program that is at
+fault.
 """
 
 import concurrent.futures

@@ -1,4 +1,4 @@
-"""Passes options of acpidis on: for the scripts beside this file. Its help says which there are, and which take a value."""
+"""Passes options of acpidis on: for the scripts beside this file. Its help says which there are, and what they take."""
 
 import argparse
 import re
@@ -24,8 +24,11 @@ def known():
 
 def parser(about, own=""):
     """The command line of a script that reads a folder, with options of its own."""
-    usage = f"%(prog)s {own}[OPTION..] FOLDER"
-    words = argparse.ArgumentParser(usage=usage, description=about, formatter_class=argparse.RawDescriptionHelpFormatter)
+    words = argparse.ArgumentParser(
+        usage=f"%(prog)s {own}[OPTION..] FOLDER",
+        description=about,
+        formatter_class=argparse.RawDescriptionHelpFormatter,
+    )
     words.add_argument("folder", metavar="FOLDER")
     words.set_defaults(options={})
     return words
@@ -40,13 +43,14 @@ class Keep(argparse.Action):
 
 
 def parse(words, but=()):
-    """What the command line asks for, with the options of acpidis in `options`, but for those that the script has itself or
-    can't do with. Only where an option isn't the script's own is acpidis asked which it has."""
+    """What the command line asks for, with the options of acpidis in `options`, but for those that the script has
+    itself or can't do with. Only where an option isn't the script's own is acpidis asked which it has."""
     _, more = words.parse_known_args()
     if any(word.startswith("-") for word in more):
         for option, value in known().items():
             if option not in (*NO_LISTING, *but):
-                words.add_argument(option, action=Keep, dest="options", nargs=None if value else 0, metavar=value or None)
+                takes = {"metavar": value} if value else {"nargs": 0}
+                words.add_argument(option, action=Keep, dest="options", **takes)
     return words.parse_args()
 
 

@@ -87,7 +87,7 @@ is 'a file' "$(completed acpidis --externals f | tr ' ' '\n' | sort | tr '\n' ' 
 is 'a number' "$(completed acpidis --workers 3)" 32
 cat >later <<'S'
 #!/bin/sh
-printf '%s\n' 'Usage: later' '' 'Options:' '  -f, --from <FILE>  takes a file' '      --flag' '' 'Others:' '      --other  is none'
+printf '%s\n' 'Usage: later' '' 'Options:' '  -f, --from <FILE>  a file' '      --flag' '' 'Others:' '      --other'
 S
 chmod +x later
 is 'options of another help' "$(completed ./later -)" '--from --flag'

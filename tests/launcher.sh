@@ -146,7 +146,7 @@ nokit="acpidis: the Rattle kit isn't there: its command rt proves and builds thi
 row 'no kit' 127 "$nokit" env PATH="$none" copy/acpidis demo
 row 'all options, and no kit' 127 "$nokit" env PATH="$none" \
     copy/acpidis --any-sum --any-run --workers 64 --workers=1 --externals e --externals=e --unknown-zero --check folder
-sed 's/^      --check .*/&\n      --later <WORD>  names nothing\n      --latest        says nothing/' copy/acpidis >copy/later
+sed 's/^      --check .*/&\n      --later <WORD>  takes one\n      --latest        takes none/' copy/acpidis >copy/later
 row 'options that stand in the help alone' 127 "$nokit" \
     env PATH="$none" sh copy/later --later --latest --latest --later= folder
 row 'no value for one of them' 2 "error: a value is required for '--later <WORD>' but none was supplied" \

@@ -10,7 +10,8 @@ source has to stand there, and README has at most 2,000 words. Each definition t
 the file that it names, each planted fault of docs/planted_faults.md in its crate, and each name of the sources' kind
 that a page marks as code stands in some source. Then the manual page is looked through by mandoc and groff, each where
 it is installed, and its options and README's are compared with the program's, its words and docs/refusals.md's with the
-sources'. Last, the scripts that the pages speak of are tried, but with --no-scripts. The last line is 'N passed, N failed'.
+sources'. Last, the scripts that the pages speak of are tried, but with --no-scripts. The last line is
+'N passed, N failed'.
 """
 
 import os

@@ -145,7 +145,7 @@ class SetMaker:
         return Trial(files, self.options(True))
 
     def options(self, is_summed):
-        """Flags by their shares; a wrong sum wants its flag more often, and code outside methods its own nearly always."""
+        """Flags by their shares. A wrong sum wants its flag more often, code outside methods its own nearly always."""
         shares = FLAGS | ({} if is_summed else {"any_sum": 0.75}) | ({"any_run": 0.95} if self.any_run else {})
         flags = {flag: share > 0 and self.happens(share) for flag, share in shares.items()}
         return Options(**flags, workers=self.chance.choice((None, 1, 2, 3, 4)))
