@@ -70,9 +70,9 @@ real_rows() {
     row 'a file that is named demo' 1 'acpidis: cannot read "demo"' "$top/acpidis" --externals demo demo
     row 'two folders' 2 "For more information, try '--help'." "$top/acpidis" demo demo
 
-    # the launcher's own help has the options of the program
+    # the launcher's own help has the options of the program, with the same values
     options() {
-        grep -o -- '--[a-z][a-z-]*' | sort -u
+        grep -o -- '--[a-z][a-z-]*\( <[A-Z]*>\)*' | sort -u
     }
     "$top/acpidis" --help | sed '/^Of this launcher alone/,/^$/d' | options >own
     "$top/out/acpidis" --help 2>&1 | options >program
