@@ -1,40 +1,32 @@
 #!/usr/bin/env python3
 """Lists the names of methods with arguments that stand where this reader gives a name none.
 
-    python3 examples/calls.py [--any-sum] [--any-run] [--unknown-zero] [--externals FILE] FOLDER
+    python3 examples/calls.py [OPTION..] FOLDER
 
 Where an operator wants a target or an object, as SizeOf, Notify, Acquire and the last operand of Add do, the grammar
 of docs/grammar.md has no call with arguments. If a compiler wrote one, the arguments stand behind the operator as terms
 of their own, or the body is raw. Each line says where to look: the method or scope, the name, how many arguments its
 method takes, the operator, and the line of the text. CondRefOf, ObjectType and RefOf may name the method itself.
 
-Raw bodies aren't looked through. ACPIDIS names another program. Status 0 is no such name, 3 one at least, 1 a folder
-that is refused, and 2 a command line or a program that is at fault.
+Raw bodies aren't looked through. Each OPTION is one of acpidis, as --any-run, but not --check. ACPIDIS names another
+program. Status 0 is no such name, 3 one at least, 1 a folder that is refused, and 2 a command line or a program that is
+at fault.
 """
 
-import argparse
 import re
 import sys
 
+import aml
 import listing
 import output
+import passing
 
 SHOWN = 100
 COUNT = re.compile(r"(\\\S*) ([0-7])\n?")
 EXTERNAL = re.compile(rf"External \(({listing.NAME.pattern}), \S+, (Zero|One|0x0[0-7])\)")
 NUMBERS = {"Zero": 0, "One": 1}
-TARGETS = {
-    (0,): "RefOf Increment Decrement SizeOf ObjectType Wait Acquire Signal Reset Release Unload Notify",
-    (0, 1): "CondRefOf",
-    (1,): "Store Not FindSetLeftBit FindSetRightBit ToBuffer ToDecimalString ToHexString ToInteger CopyObject FromBCD"
-    " ToBCD Load",
-    (2,): "Add Concatenate Subtract Multiply ShiftLeft ShiftRight And NAnd Or NOr XOr ConcatenateResTemplate Mod Index"
-    " ToString",
-    (2, 3): "Divide",
-    (3,): "Mid",
-}
 # The positions of each operator that take a target or an object.
-PLACES = {word: places for places, words in TARGETS.items() for word in words.split()}
+PLACES = {word: [at for at, kind in enumerate(kinds.lstrip("P")) if kind == "S"] for word, kinds in aml.ROWS.values()}
 # The name that a term of a body declares, a field's unit among them.
 DECLARED = re.compile(
     r"(?:Name|Mutex|Event|OperationRegion|DataRegion) \(([^\s,)]+)|(?:Create\w*Field|Alias) \(.*, ([^\s,)]+)\)"
@@ -94,27 +86,19 @@ def add_given(file, namespace):
 
 
 def listing_of(asked):
-    words = [listing.program()]
-    words += ["--any-sum"] * asked.any_sum + ["--any-run"] * asked.any_run + ["--unknown-zero"] * asked.unknown_zero
-    words += ["--externals", asked.externals] if asked.externals else []
-    run = listing.run([*words, "--", asked.folder])
+    run = listing.run([listing.program(), *passing.words_of(asked.options), "--", asked.folder])
     if run.refused:
         raise listing.Refused(run.refused)
     add_externals(run.listing.lines, run.listing.namespace)
-    if asked.externals:
-        add_given(asked.externals, run.listing.namespace)
+    if "--externals" in asked.options:
+        add_given(asked.options["--externals"], run.listing.namespace)
     return run
 
 
 def main():
-    words = argparse.ArgumentParser(description=__doc__, formatter_class=argparse.RawDescriptionHelpFormatter)
-    words.add_argument("folder", metavar="FOLDER")
-    words.add_argument("--any-sum", action="store_true", help="as the option of acpidis")
-    words.add_argument("--any-run", action="store_true", help="as the option of acpidis")
-    words.add_argument("--unknown-zero", action="store_true", help="as the option of acpidis")
-    words.add_argument("--externals", metavar="FILE", help="as the option of acpidis")
+    words = passing.parser(__doc__)
     try:
-        run = listing_of(words.parse_args())
+        run = listing_of(passing.parse(words))
     except listing.Refused as fault:
         print(f"calls: the set is refused: {fault}", file=sys.stderr)
         sys.exit(1)

@@ -10,6 +10,7 @@ import re
 import shutil
 import subprocess
 
+LAUNCHER = pathlib.Path(__file__).resolve().parent.parent / "acpidis"
 SEGMENT = r"[A-Z_][A-Z0-9_]{3}"
 NAME = re.compile(rf"(\\|\^*)({SEGMENT}(?:\.{SEGMENT})*|)")
 TOKEN = re.compile(r'"[^"]*"|[\\^A-Za-z0-9_.]+|[(){},]')
@@ -41,19 +42,26 @@ class Refused(Exception):
     """The set is refused, for this reason."""
 
 
-def program():
-    """The program that ACPIDIS names, else that of this repository, built where it isn't, else the installed one."""
+def command():
+    """The command that ACPIDIS names, else the launcher of this repository, else the installed program."""
     named = os.environ.get("ACPIDIS")
-    launcher = pathlib.Path(__file__).resolve().parent.parent / "acpidis"
-    if not named and launcher.exists():
-        run = subprocess.run([launcher, "--program"], stdout=subprocess.PIPE, check=False)
-        if run.returncode:
-            raise Unusable("the program couldn't be built")
-        return os.fsdecode(run.stdout.rstrip(b"\n"))
+    if not named and LAUNCHER.exists():
+        return str(LAUNCHER)
     found = shutil.which(named or "acpidis")
     if not found:
         raise Unusable("no program acpidis: install it, or name it in ACPIDIS")
     return found
+
+
+def program():
+    """The program itself, which the launcher builds where it isn't."""
+    found = command()
+    if found != str(LAUNCHER):
+        return found
+    run = subprocess.run([found, "--program"], stdout=subprocess.PIPE, check=False)
+    if run.returncode:
+        raise Unusable("the program couldn't be built")
+    return os.fsdecode(run.stdout.rstrip(b"\n"))
 
 
 def parts(path):

@@ -1,7 +1,7 @@
 #!/usr/bin/env python3
 """Names what the bodies of a set wait for: the names that no table declares, each as a line for --externals.
 
-    python3 examples/missing.py [--try] [--any-sum] [--any-run] [--externals FILE] FOLDER >counts
+    python3 examples/missing.py [--try] [OPTION..] FOLDER >counts
 
 Standard output has a line for each name, `PATH ?`, where the digit is for you to set. Standard error says of each, in
 lines with #, how many bodies wait for it and with which counts from 0 to 7 they read. With --try the name has its line
@@ -9,11 +9,11 @@ only where just one count reads, and this count on it, so that the lines are a f
 
 A body shows its first such name alone. So the set is read in rounds, each with the counts that fit best so far, until
 no body waits. With --any-run a name outside the methods may be missing too, for which the set is refused as ModuleCall:
-it comes first. --externals names counts that you know already. ACPIDIS names another program. Status 1 is a folder that
-is refused, 2 a command line or a program that is at fault.
+it comes first. Each OPTION is one of acpidis, but not --check or --unknown-zero; --externals names counts that you know
+already. ACPIDIS names another program. Status 1 is a folder that is refused, 2 a command line or a program that is at
+fault.
 """
 
-import argparse
 import concurrent.futures
 import re
 import sys
@@ -21,6 +21,7 @@ import tempfile
 
 import listing
 import output
+import passing
 
 COUNTS = range(8)
 MOST_NAMES = 1000
@@ -312,19 +313,16 @@ def search_of(asked):
             given = file.read()
     if given and not given.endswith("\n"):
         given += "\n"
-    options = ["--any-sum"] * asked.any_sum + ["--any-run"] * asked.any_run
-    return Search(listing.program(), asked.folder, options, given)
+    return Search(listing.program(), asked.folder, passing.words_of(asked.options), given)
 
 
 def main():
-    words = argparse.ArgumentParser(description=__doc__, formatter_class=argparse.RawDescriptionHelpFormatter)
-    words.add_argument("folder", metavar="FOLDER")
+    words = passing.parser(__doc__, "[--try] [--externals FILE] ")
     words.add_argument("--try", action="store_true", dest="must_be_one", help="lines only where just one count reads")
-    words.add_argument("--any-sum", action="store_true", help="as the option of acpidis")
-    words.add_argument("--any-run", action="store_true", help="as the option of acpidis")
     words.add_argument("--externals", metavar="FILE", help="counts that are known already")
-    asked = words.parse_args()
     try:
+        # With --unknown-zero no body waits for a name.
+        asked = passing.parse(words, ("--externals", "--unknown-zero"))
         search = search_of(asked)
         left = search.go()
         show(search, asked.must_be_one)

@@ -1,14 +1,14 @@
 #!/usr/bin/env python3
 """Says what stands where a set is refused: the term, its scope, both declarations or who wants a name; and the way on.
 
-    python3 examples/refused.py [--any-sum] [--any-run] [--unknown-zero] [--externals FILE] FOLDER
+    python3 examples/refused.py [OPTION..] FOLDER
 
-Offsets count from the first byte behind a table's header, bytes from the first of the file. The terms are read by a reader
-of this folder, from the left and as far as it can; what they mean the program alone says. ACPIDIS names another program.
-Status 0 is a set that isn't refused, 1 one that is, 2 a command line, a program or an output that is at fault.
+Offsets count from the first byte behind a table's header, bytes from the first of the file. The terms are read by a
+reader of this folder, from the left and as far as it can; what they mean the program alone says. Each OPTION is one of
+acpidis, but not --check. ACPIDIS names another program. Status 0 is a set that isn't refused, 1 one that is, 2 a
+command line, a program or an output that is at fault.
 """
 
-import argparse
 import os
 import pathlib
 import re
@@ -20,6 +20,7 @@ import tempfile
 import aml
 import listing
 import output
+import passing
 
 HEADER, MOST_BYTES, SHOWN_BYTES, MOST_SHOWN = 36, 16_777_216, 16, 5
 BLOCKS = (b"DSDT", b"SSDT")
@@ -392,12 +393,6 @@ def is_return(asked, refusal):
     return aml_of(read_file(asked.folder, refusal.file))[refusal.at : refusal.at + 1] == b"\xa4"
 
 
-def has_any_run(program):
-    """Whether the program has the option that reads code outside the methods."""
-    done = subprocess.run([program, "--help"], stdin=subprocess.DEVNULL, capture_output=True, check=False)
-    return b"--any-run" in done.stdout
-
-
 def say_all(asked, program, refusal):
     yield refusal.line
     told_by = {**WORDS, **RAN} if asked.any_run or is_return(asked, refusal) else WORDS
@@ -417,25 +412,20 @@ def say_all(asked, program, refusal):
 def say(asked):
     """The lines to print, and the status."""
     program = listing.program()
-    options = ["--any-sum"] * asked.any_sum + ["--any-run"] * asked.any_run + ["--unknown-zero"] * asked.unknown_zero
-    options += ["--externals", asked.externals] if asked.externals else []
-    refusal = refusal_of(program, options, asked.folder)
+    refusal = refusal_of(program, passing.words_of(asked.options), asked.folder)
     if refusal is None:
         return ["the set isn't refused"], 0
-    asked.has_any_run = has_any_run(program)
+    asked.any_run, asked.externals = "--any-run" in asked.options, asked.options.get("--externals")
+    asked.has_any_run = "--any-run" in passing.known()
     return list(say_all(asked, program, refusal)), 1
 
 
 def main():
-    words = argparse.ArgumentParser(description=__doc__, formatter_class=argparse.RawDescriptionHelpFormatter)
-    words.add_argument("folder", metavar="FOLDER")
-    for option in ("--any-sum", "--any-run", "--unknown-zero"):
-        words.add_argument(option, action="store_true", help="as the option of acpidis")
-    words.add_argument("--externals", metavar="FILE", help="as the option of acpidis")
+    words = passing.parser(__doc__)
     sys.stdout.reconfigure(errors="backslashreplace")
     sys.stderr.reconfigure(errors="backslashreplace")
     try:
-        said, status = say(words.parse_args())
+        said, status = say(passing.parse(words))
     except (listing.Unusable, OSError, ValueError) as fault:
         print(f"refused: {fault}", file=sys.stderr)
         sys.exit(2)

@@ -294,6 +294,42 @@ def try_refused_runs(tries):
     tries.is_true("a Return, which the option doesn't take", ANY_RUN not in found and "A Return outside the methods" in found)
 
 
+def try_options(tries):
+    """Options that a program's help has are passed on, whatever they are, and others are refused."""
+    said = tries.room / "said"
+    fake = tries.room / "later"
+    fake.write_text(f"""#!/bin/sh
+case $1 in --help) exec cat <<'END'
+Usage: acpidis [OPTIONS] <FOLDER>
+
+Options:
+      --from <FILE>  takes a value
+      --later        takes none
+      --check        gives no listing
+  -V, --version      gives none either
+
+Another part:
+      --other        is none of these
+END
+esac
+printf '%s\\n' "$@" >>'{said}'
+echo 'DefinitionBlock ("a") {{'
+echo }}
+""")
+    fake.chmod(0o755)
+    lines = {"calls.py": "", "missing.py": "", "refused.py": "the set isn't refused\n"}
+    for script, line in lines.items():
+        said.write_text("")
+        found = tries.run(script, "--from", "a file", "rounds", "--later", "--from=--later", ACPIDIS=str(fake))
+        tries.row(f"{script}: options", found, 0, line)
+        passed = said.read_text()
+        tries.is_true(f"{script}: words of options\n{passed}", passed.startswith("--from\n--later\n--later\n"))
+        for option in ("--check", "--version", "--other", "--froma", "--later=1"):
+            found = tries.run(script, option, "rounds", ACPIDIS=str(fake))
+            tries.is_true(f"{script}: {option}", found.returncode == 2 and not found.stdout)
+        tries.is_true(f"{script}: no run with them", said.read_text() == passed)
+
+
 def try_damage(tries):
     """No table is so damaged that there is no answer."""
     found = tries.run("refused.py", tries.folder("odd", BRANCH, BAD_NAME))
@@ -394,6 +430,7 @@ def main():
         try_refused(tries)
         try_declarations(tries)
         try_refused_runs(tries)
+        try_options(tries)
         try_damage(tries)
         try_deep(tries)
         try_hostile(tries)

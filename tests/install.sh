@@ -74,16 +74,24 @@ is 'taken away twice' "$(PREFIX=$prefix "$top/install" --remove)" ''
 
 # completion, as bash calls it
 completed() {
-    bash -c '. "$1"; COMP_WORDS=("${@:2}"); COMP_CWORD=$(($# - 2)); compopt() { :; }
+    PATH=$top:$PATH bash -c '. "$1"; COMP_WORDS=("${@:2}"); COMP_CWORD=$(($# - 2)); compopt() { :; }
         _acpidis; echo "${COMPREPLY[*]}"' - "$top/examples/acpidis.bash" "$@"
 }
 options=$("$("$top/acpidis" --program)" --help 2>&1 | grep -o -- '--[a-z][a-z-]*' | sort -u | tr '\n' ' ')
 is 'completion has the options' "$(completed acpidis -- | tr ' ' '\n' | sort | tr '\n' ' ')" "$options"
 is 'a part of an option' "$(completed acpidis --a)" '--any-sum --any-run'
+is 'a part of an option, by the program itself' "$(completed "$("$top/acpidis" --program)" --a)" '--any-sum --any-run'
 mkdir folder && : >file
 is 'a folder' "$(completed acpidis f)" folder
 is 'a file' "$(completed acpidis --externals f | tr ' ' '\n' | sort | tr '\n' ' ')" 'file folder '
 is 'a number' "$(completed acpidis --workers 3)" 32
+cat >later <<'S'
+#!/bin/sh
+printf '%s\n' 'Usage: later' '' 'Options:' '  -f, --from <FILE>  a file' '      --flag' '' 'Others:' '      --other'
+S
+chmod +x later
+is 'options of another help' "$(completed ./later -)" '--from --flag'
+is 'a file for one of them' "$(completed ./later --from fil)" file
 rm -r folder file
 
 # links and folders in the way

@@ -70,9 +70,9 @@ real_rows() {
     row 'a file that is named demo' 1 'acpidis: cannot read "demo"' "$top/acpidis" --externals demo demo
     row 'two folders' 2 "For more information, try '--help'." "$top/acpidis" demo demo
 
-    # the launcher's own help has the options of the program
+    # the launcher's own help has the options of the program, with the same values
     options() {
-        grep -o -- '--[a-z][a-z-]*' | sort -u
+        grep -o -- '--[a-z][a-z-]*\( <[A-Z]*>\)*' | sort -u
     }
     "$top/acpidis" --help | sed '/^Of this launcher alone/,/^$/d' | options >own
     "$top/out/acpidis" --help 2>&1 | options >program
@@ -128,6 +128,10 @@ done
 row 'no words' 2 "For more information, try '--help'." env PATH="$none" copy/acpidis
 row 'a wrong option' 2 "error: unexpected argument '--wrong' found" env PATH="$none" copy/acpidis --wrong folder
 row 'a wrong short option' 2 "error: unexpected argument '-x' found" env PATH="$none" copy/acpidis folder -x
+row 'an option with its help' 2 "error: unexpected argument '--check  print' found" \
+    env PATH="$none" copy/acpidis '--check  print' folder
+row "the launcher's own option behind others" 2 "error: unexpected argument '--program' found" \
+    env PATH="$none" copy/acpidis folder --program
 row 'two folders' 2 "error: unexpected argument 'other' found" env PATH="$none" copy/acpidis folder other
 row 'no value' 2 "error: a value is required for '--externals <FILE>' but none was supplied" \
     env PATH="$none" copy/acpidis folder --externals
@@ -142,6 +146,12 @@ nokit="acpidis: the Rattle kit isn't there: its command rt proves and builds thi
 row 'no kit' 127 "$nokit" env PATH="$none" copy/acpidis demo
 row 'all options, and no kit' 127 "$nokit" env PATH="$none" \
     copy/acpidis --any-sum --any-run --workers 64 --workers=1 --externals e --externals=e --unknown-zero --check folder
+sed 's/^      --check .*/&\n      --later <WORD>  takes one\n      --latest        takes none/' copy/acpidis >copy/later
+row 'options that stand in the help alone' 127 "$nokit" \
+    env PATH="$none" sh copy/later --later --latest --latest --later= folder
+row 'no value for one of them' 2 "error: a value is required for '--later <WORD>' but none was supplied" \
+    env PATH="$none" sh copy/later folder --latest --later
+rm copy/later
 
 # a build that fails, with an older program in place
 mkdir copy/crates/acpidis_program/out

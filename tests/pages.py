@@ -9,8 +9,9 @@ print. They run in a folder with `mine`, the set of docs/listing.md, whose text 
 source has to stand there, and README has at most 2,000 words. Each definition that docs/definitions.md names stands in
 the file that it names, each planted fault of docs/planted_faults.md in its crate, and each name of the sources' kind
 that a page marks as code stands in some source. Then the manual page is looked through by mandoc and groff, each where
-it is installed, and its options are compared with the program's, its words and docs/refusals.md's with the sources'.
-Last, the scripts that the pages speak of are tried, but with --no-scripts. The last line is 'N passed, N failed'.
+it is installed, and its options and README's are compared with the program's, its words and docs/refusals.md's with the
+sources'. Last, the scripts that the pages speak of are tried, but with --no-scripts. The last line is
+'N passed, N failed'.
 """
 
 import os
@@ -231,7 +232,8 @@ def section(manual, name):
 
 
 def fails_of_words():
-    """Whether the manual has other options than the program, or the manual or refusals.md other words."""
+    """Whether the manual or README has other options than the program, or the manual or refusals.md other words."""
+    readme = (TOP / README).read_text().partition("\n## Options")[2].partition("\n## ")[0]
     manual = (TOP / MANUAL).read_text().replace("\\-", "-")
     options, diagnostics = section(manual, "OPTIONS"), section(manual, "DIAGNOSTICS")
     headings = "\n".join(re.findall(r"^(?:\.BR? |acpidis: )(.*)$", diagnostics, re.MULTILINE))
@@ -239,6 +241,7 @@ def fails_of_words():
     printed = run.stdout.decode()
     for name, got, wanted in [
         ("options of the manual", options_in(options), options_in(printed)),
+        ("options of README", options_in(readme) | {"--help", "--version"}, options_in(printed)),
         ("words of the manual", set(re.findall(r"\b[A-Z][a-z]+[A-Za-z]*\b", headings)), words_of_program()),
         ("words of refusals.md", words_of_refusals(), words_of_program()),
     ]:

@@ -20,7 +20,7 @@ from any_run import RunNamespace  # noqa: E402
 from loading import Body, Namespace, path_text  # noqa: E402
 from printing import hexadecimal, row_text, term_lines  # noqa: E402
 from reading import IF, METHOD, Name, Op, Reader, Refused  # noqa: E402
-from running import Options, run  # noqa: E402
+from running import FLAGS, Options, run  # noqa: E402
 
 HEADER = b"\x02\0TEST  EXAMPLE \x01\0\0\0TEST\x01\0\0\0"
 WIDTHS = {1: "One", 2: "Two", 3: "Three", 4: "Four"}
@@ -51,11 +51,10 @@ def path_of(text):
 
 
 def options_of(words):
-    """The options of a run: `any_sum`, `any_run`, `unknown_zero`, `check`, `workers N`."""
+    """The options of a run: flags by the names of their fields, as `any_sum`, and `workers N`."""
     words = words.split()
     workers = int(words[words.index("workers") + 1]) if "workers" in words else None
-    flags = {flag: flag in words for flag in ("any_sum", "any_run", "unknown_zero", "check")}
-    return Options(**flags, workers=workers)
+    return Options(workers=workers, **{flag: flag in words for flag in FLAGS})
 
 
 # ---- code

@@ -8,7 +8,7 @@ from folders import MAP_NAME
 from loading import path_text
 from made_code import ARGUMENT_COUNTS, STRANGE_SEGMENTS, Maker, damaged
 from made_runs import RunMaker
-from running import Options
+from running import FLAGS, Options
 
 ODD_NAMES = ["SSDT", "SSDT10", "SSDT2", 'a"7.dat', "b\\7", "é 03.dat", ".9", "s.11.", "s12\n.aml", "s9000000003.aml"]
 FADT_LENGTHS = [116, 117, 139, 140, 147, 148, 244, 276]
@@ -145,13 +145,10 @@ class SetMaker:
         return Trial(files, self.options(True))
 
     def options(self, is_summed):
-        return Options(
-            any_sum=self.happens(0.2 if is_summed else 0.75),
-            any_run=self.any_run and self.happens(0.95),
-            unknown_zero=self.happens(0.25),
-            check=self.happens(0.15),
-            workers=self.chance.choice((None, 1, 2, 3, 4)),
-        )
+        """Flags by their shares. A wrong sum wants its flag more often, code outside methods its own nearly always."""
+        shares = FLAGS | ({} if is_summed else {"any_sum": 0.75}) | ({"any_run": 0.95} if self.any_run else {})
+        flags = {flag: share > 0 and self.happens(share) for flag, share in shares.items()}
+        return Options(**flags, workers=self.chance.choice((None, 1, 2, 3, 4)))
 
     def spoiled(self, files):
         """The files with a damage in one of them, most often in AML."""

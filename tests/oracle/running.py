@@ -1,6 +1,6 @@
 """A whole run: what the program prints of some dumps, or of a folder, and its status. After docs/listing.md."""
 
-from dataclasses import dataclass
+from dataclasses import dataclass, field, fields
 from typing import NamedTuple
 
 import any_run
@@ -13,23 +13,41 @@ from printing import block_lines, file_text, namespace_lines
 DONE, REFUSED, RAW = 0, 1, 3
 
 
+def flag(share):
+    """A field for an option without a value, and how many of the made-up sets have it: 0 is none, 1 all."""
+    return field(default=False, metadata={"share": share, "argument": {"action": "store_true"}})
+
+
+def valued(**argument):
+    """A field for an option with a value, which argparse reads so."""
+    return field(default=None, metadata={"argument": argument})
+
+
 @dataclass(frozen=True)
 class Options:
-    any_sum: bool = False
-    any_run: bool = False
-    unknown_zero: bool = False
-    check: bool = False
-    workers: int | None = None
-    externals: str | None = None
+    """The options of a run. What else has to know them goes by these fields, so that none is named twice."""
+
+    workers: int | None = valued(type=int, choices=range(1, 65), metavar="N", help="makes no difference")
+    any_sum: bool = flag(0.2)
+    any_run: bool = flag(0)
+    unknown_zero: bool = flag(0.25)
+    check: bool = flag(0.15)
+    externals: str | None = valued(metavar="FILE", help="counts for paths that no table says anything of")
 
     def words(self):
-        """The options as words of the command line."""
-        flags = {
-            "--any-sum": self.any_sum, "--any-run": self.any_run, "--unknown-zero": self.unknown_zero, "--check": self.check,
-        }
-        values = {"--workers": self.workers, "--externals": self.externals}
-        valued = [word for option, value in values.items() if value is not None for word in (option, str(value))]
-        return valued + [word for word, is_given in flags.items() if is_given]
+        """The options as words of the command line, those with a value first."""
+        given = {it.name: getattr(self, it.name) for it in fields(self) if it.name not in FLAGS}
+        words = [word for name, value in given.items() if value is not None for word in (option_of(name), str(value))]
+        return words + [option_of(name) for name in FLAGS if getattr(self, name)]
+
+
+# The flags, each with its share of the made-up sets.
+FLAGS = {it.name: it.metadata["share"] for it in fields(Options) if "share" in it.metadata}
+
+
+def option_of(name):
+    """A field's name as a word of the command line."""
+    return "--" + name.replace("_", "-")
 
 
 class Outcome(NamedTuple):

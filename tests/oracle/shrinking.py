@@ -2,7 +2,7 @@
 
 import itertools
 import time
-from dataclasses import replace
+from dataclasses import fields, replace
 
 from made_sets import sealed
 from mutating import layouts_of, replaced
@@ -29,9 +29,9 @@ def steps(trial):
         yield replace(trial, files={kept: data for kept, data in trial.files.items() if kept != name})
     if trial.options != Options():
         yield replace(trial, options=Options())
-        for field in ("workers", "any_sum", "any_run", "unknown_zero", "check"):
-            if getattr(trial.options, field) != getattr(Options(), field):
-                yield replace(trial, options=replace(trial.options, **{field: getattr(Options(), field)}))
+        for field in fields(Options):
+            if getattr(trial.options, field.name) != field.default:
+                yield replace(trial, options=replace(trial.options, **{field.name: field.default}))
     if trial.externals is not None:
         yield replace(trial, externals=None)
         yield from (replace(trial, externals=text) for text in without_lines(trial.externals))
