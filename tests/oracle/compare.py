@@ -2,13 +2,14 @@
 """Compares what acpidis prints with an independent reading, over folders that are made up near the grammar and then damaged.
 
     python3 tests/oracle/compare.py [--seconds N | --sets N] [--seed N] [--with-externals] [--any-run] [--workers N,N..]
-        [--read] [FOLDER ..]
+        [--deep] [--read] [FOLDER ..]
 
 Standard output, standard error and the status are compared whole. A FOLDER of dumps is compared as it stands, and then damaged
 copies of it. The first sets that differ are kept, and the status is 1. With --with-externals most made-up sets come
 with a file for the option --externals, and with --any-run with code outside methods and this option, which FOLDERs are run
-with too. With --workers each set is run by each of these numbers of workers, in place of the one that was made up. With
---read no program is run, and it is only said how the sets end. ./test compares 500 sets of seed 0, and 500 with --any-run.
+with too. With --deep the terms of a third of the made-up sets stand in a scope of 100 to 2,000 segments. With --workers
+each set is run by each of these numbers of workers, in place of the one that was made up. With --read no program is run,
+and it is only said how the sets end. ./test compares 500 sets of seed 0, and 500 with --any-run.
 """
 
 import argparse
@@ -134,6 +135,7 @@ def main():
     words.add_argument("--seed", type=int, default=0)
     words.add_argument("--with-externals", action="store_true", help="make up files for the option --externals too")
     words.add_argument("--any-run", action="store_true", help="make up code outside methods, for this option")
+    words.add_argument("--deep", action="store_true", help="make up scopes of 100 to 2,000 segments for a third of the sets")
     words.add_argument("--read", action="store_true", help="run no program")
     words.add_argument("--workers", type=lambda text: [int(it) for it in text.split(",")], help="run each set by these")
     words.add_argument("--program", type=pathlib.Path, default=PROGRAM, help="another program than out/acpidis")
@@ -145,7 +147,7 @@ def main():
         comparison.compare(folder, Options(any_run=asked.any_run))
         comparison.compare(folder, Options(any_run=asked.any_run, check=True))
     known = [read_files(folder) for folder in asked.folders]
-    maker = SetMaker(random.Random(asked.seed), known, asked.with_externals, asked.any_run)
+    maker = SetMaker(random.Random(asked.seed), known, asked.with_externals, asked.any_run, asked.deep)
     number, until = 0, time.monotonic() + asked.seconds
     while number < asked.sets if asked.sets is not None else time.monotonic() < until:
         if comparison.differences >= MOST_DIFFERENCES:

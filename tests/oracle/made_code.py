@@ -21,6 +21,7 @@ LIKELY_BYTES = [
     0x40, 0x50, 0x80, 0xC0,
 ]
 MOST_DEPTH = 6
+MOST_SEGMENTS = 255
 ARGUMENT_COUNTS = [0, 0, 0, 1, 1, 2, 2, 3, 7]
 
 
@@ -47,11 +48,11 @@ class Maker:
     beginning and declared at the end; `given` those of them of which no table says anything, with their counts (none
     where `gives` isn't set); `locals` those that the body declares. `scope` is where the code stands, and `opened` the
     path of the last name that was declared or looked up. `strange_terms` and `strange_calls` are the shares of what may not be
-    lawful, outside the methods and in their bodies.
+    lawful, outside the methods and in their bodies. Where `segments` isn't 0, the tables' terms stand in a scope of so many.
     """
 
-    def __init__(self, chance, gives=False):
-        self.chance, self.gives, self.given = chance, gives, {}
+    def __init__(self, chance, gives=False, segments=0):
+        self.chance, self.gives, self.given, self.segments = chance, gives, {}, segments
         self.strange_terms = chance.choices([0, 0.01, 0.1], [85, 10, 5])[0]
         self.strange_calls = chance.choices([0, 0.02, 0.2], [70, 20, 10])[0]
         self.scope, self.opened, self.fresh_count = (), (), 0
@@ -65,10 +66,24 @@ class Maker:
 
     def tables(self):
         """The AML of the tables of the set, the DSDT's first."""
-        codes = [self.terms(0, "table") for _ in range(self.chance.choice((1, 1, 2, 3)))]
+        codes = [self.table_terms(number == 0) for number in range(self.chance.choice((1, 1, 2, 3)))]
         for path, count in self.methods.items():
             codes[self.chance.randrange(len(codes))] += self.late_method(path, count)
         return codes
+
+    def table_terms(self, is_first):
+        """The terms of a table, which declares the scope where they stand, or opens that of the first."""
+        path = tuple(f"D{number:03X}" for number in range(self.segments))
+        cuts = [*range(0, self.segments, MOST_SEGMENTS), self.segments]
+        if is_first:
+            self.known |= {path[:end]: 0 for end in cuts[1:]}
+        self.scope = path
+        code = self.terms(0, "table")
+        self.scope = ()
+        for begin, end in reversed(list(zip(cuts, cuts[1:]))):
+            code = spelled(self.chance, Name(False, 0, list(path[begin:end]))) + code
+            code = (b"\x5b\x82" if is_first else bytes([SCOPE])) + self.length(len(code)) + code
+        return code
 
     def late_method(self, path, count):
         """The declaration of a method that the set calls; seldom it is an External, or missing, or given."""
@@ -143,15 +158,16 @@ class Maker:
         return spelled(self.chance, self.leading_name(path))
 
     def leading_name(self, path):
-        """A name that leads to a path from where the code stands."""
+        """A name that leads to a path from where the code stands, if there is one."""
         shared = next(length for length in range(len(self.scope), -1, -1) if path[:length] == self.scope[:length])
-        names = [Name(True, 0, list(path))]
-        if path[shared:]:
+        names = [Name(True, 0, list(path))] if len(path) <= MOST_SEGMENTS else []
+        if 0 < len(path) - shared <= MOST_SEGMENTS:
             names.append(Name(False, len(self.scope) - shared, list(path[shared:])))
         upward = Name(False, 0, list(path[-1:]))
         if path and self.found(upward) == path:
             names += [upward] * 4
-        return self.chance.choice(names)
+        # No name leads so deep from elsewhere: this one leads to another path.
+        return self.chance.choice(names or [Name(True, 0, list(path[:MOST_SEGMENTS]))])
 
     def found(self, name):
         everything = self.known.keys() | self.methods.keys()

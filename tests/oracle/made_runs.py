@@ -19,8 +19,8 @@ class RunMaker(Maker):
     `in_declaration` says whether the term that runs is a declaration.
     """
 
-    def __init__(self, chance, gives=False):
-        super().__init__(chance, gives)
+    def __init__(self, chance, gives=False, segments=0):
+        super().__init__(chance, gives, segments)
         self.space, self.is_sure, self.opened_is_sure = RunNamespace(), True, True
         self.opcode, self.alias_target, self.in_declaration = None, (), False
         if gives:

@@ -115,10 +115,11 @@ def with_wrong_sum(chance, data):
 
 class SetMaker:
     """Makes one trial after another: of made-up tables, or of the known folders, given by the contents of their files.
-    Where `gives` is set, most of them have a file for `--externals`; where `any_run` is, code outside methods and its option."""
+    Where `gives` is set, most of them have a file for `--externals`; where `any_run` is, code outside methods and its option;
+    where `is_deep` is, a third has its terms in a scope of 100 to 2,000 segments."""
 
-    def __init__(self, chance, known=(), gives=False, any_run=False):
-        self.chance, self.known, self.gives, self.any_run = chance, known, gives, any_run
+    def __init__(self, chance, known=(), gives=False, any_run=False, is_deep=False):
+        self.chance, self.known, self.gives, self.any_run, self.is_deep = chance, known, gives, any_run, is_deep
         self.given, self.paths = {}, []
 
     def happens(self, share):
@@ -163,7 +164,8 @@ class SetMaker:
         return {kept: data for kept, data in files.items() if kept != name}
 
     def made_files(self):
-        maker = (RunMaker if self.any_run else Maker)(self.chance, self.gives)
+        segments = int(100 * 20 ** self.chance.random()) if self.is_deep and self.happens(1 / 3) else 0
+        maker = (RunMaker if self.any_run else Maker)(self.chance, self.gives, segments)
         codes = maker.tables()
         self.given, self.paths = maker.given, [path for path in maker.known if path]
         signatures = [b"DSDT"] + [b"SSDT"] * (len(codes) - 1)

@@ -2,7 +2,9 @@
 ghost use Rattle.acpi_folder.specs.Folders.{anything};
 
 use crate::folder::{Folder, FolderFault};
+use std::fs::File;
 use std::io::Read;
+use std::os::unix::fs::MetadataExt;
 use std::{fs, io};
 
 /// A folder of the operating system, by its path. What it has isn't known, so that it may answer anything.
@@ -36,9 +38,26 @@ impl<'a> DiskFolder<'a> {
         let alloc = self.rt.alloc();
         let path = format!(in alloc; "{}/{name}", self.path)?;
         let mut bytes = Vec::new(alloc);
-        let file = fs::open(self.rt, path.as_str())?;
+        let file = self.opened(path.as_str())?;
         file.take(limit).read_to_end(&mut bytes)?;
         Ok(bytes)
+    }
+
+    /// The regular file at a path. What stands there may have been swapped since the folder was listed: a link isn't followed,
+    /// and a pipe isn't waited for.
+    fn opened(&self, path: &str) -> io::Result<File> {
+        let looked = fs::symlink_metadata(self.rt, path)?;
+        if !looked.is_file() {
+            return Err(io::ErrorKind::InvalidInput.into());
+        }
+        let file = fs::open(self.rt, path)?;
+        let there = file.metadata()?;
+        // One that is swapped in between is another file.
+        if there.ino() == looked.ino() && there.dev() == looked.dev() {
+            Ok(file)
+        } else {
+            Err(io::ErrorKind::InvalidInput.into())
+        }
     }
 }
 

@@ -334,7 +334,7 @@ impl Progress {
 
     /// Does what a role does.
     #[cycle(walk)]
-    #[tactic(auto, unfolding(crate::specs::Loading::declare_as))]
+    #[tactic(auto, unfolding(crate::specs::Loading::declare_as, crate::specs::Loading::declare_inside))]
     fn walk_role(
         &mut self,
         site: &Site<'_>,
@@ -349,13 +349,21 @@ impl Progress {
         match role {
             Role::Declares(object) => {
                 let path = self.own_path(site, last_name(parts))?;
-                self.declare(site, path.clone()?, kind_of(object))?;
-                self.walk_below(site, path, tail)
+                match tail {
+                    Tail::Terms(terms) => {
+                        self.declare(site, path.clone()?, kind_of(object))?;
+                        self.walk_below(site, path, terms.as_slice())
+                    }
+                    _ => self.declare(site, path, kind_of(object)),
+                }
             }
             Role::Method => self.add_method(site, parts, tail),
             Role::Scope => {
                 let path = self.scope_path(site, last_name(parts))?;
-                self.walk_below(site, path, tail)
+                match tail {
+                    Tail::Terms(terms) => self.walk_below(site, path, terms.as_slice()),
+                    _ => Ok(()),
+                }
             }
             Role::Alias => self.add_alias(site, parts),
             Role::External => self.add_external(site, parts),
@@ -365,21 +373,21 @@ impl Progress {
         }
     }
 
-    /// Declares what the terms inside a term declare, whose scope is this path.
+    /// Declares what these terms declare, whose scope is this path.
     #[cycle(walk)]
-    fn walk_below(&mut self, site: &Site<'_>, path: Path, tail: &Tail) -> Result<(), LoadFault>
+    fn walk_below(&mut self, site: &Site<'_>, path: Path, terms: &[Node]) -> Result<(), LoadFault>
         ensures { Walks self.old self.new result (λ l.
-            declare_inside (under (at_site site.now) path) l (tail_view tail.now)) }
+            declare_all (under (at_site site.now) path) l (nodes_view terms.now)) }
     {
         let scope = SharedPath::new(self.alloc, path)?;
-        self.walk_inside(
+        self.walk_all(
             &Site {
                 table: site.table,
                 scope: &scope,
                 any_run: site.any_run,
                 sure: site.sure,
             },
-            tail,
+            terms,
         )
     }
 

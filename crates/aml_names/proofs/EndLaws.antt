@@ -15,10 +15,9 @@ use Rattle.std.specs.Ordering.{eq_by_cmp}
 use Rattle.std.specs.Cmp.{eq_by_cmp_equiv}
 use Rattle.std.specs.BTreeMap.{BTreeMap, is_at, get}
 use Rattle.std.specs.Map.{lookup}
-use Rattle.std.specs.List.{list_any}
 use Rattle.std.specs.FinSet as set
 use Rattle.aml_names.specs.declared.segments.Seg.{Seg}
-use Rattle.aml_names.specs.Paths.{PathSet, seg_cmp, path_cmp, segs_total, paths_total, exact_segs, exact_paths, HaveLengths}
+use Rattle.aml_names.specs.Paths.{PathSet, seg_cmp, path_cmp, segs_total, paths_total, exact_segs, exact_paths}
 use Rattle.aml_names.specs.Searching.{greatest, nearest, IsKnown, KnowEnds, deeper}
 
 module _ (a b : ℕ → Bool) where
@@ -115,7 +114,7 @@ module _ (paths : PathSet) (scope : List Seg) where
 pub same_path : (a b : List Seg) → eq_by_cmp path_cmp a b ≡ true → a ≡ b
 same_path a b is = tells_apart exact_paths a b is
 
-other_path : (a b : List Seg) → (a ≡ b → ⊥) → eq_by_cmp path_cmp a b ≡ false
+pub other_path : (a b : List Seg) → (a ≡ b → ⊥) → eq_by_cmp path_cmp a b ≡ false
 other_path a b differ = false_from_ne_true (eq_by_cmp path_cmp a b) (λ is. differ (same_path a b is))
 
 -- a path more that doesn't end in a segment
@@ -246,15 +245,5 @@ pub there_is : (paths : PathSet) (new : Seg → Option (Option ℕ)) (e : Seg) (
 there_is paths new e d known is none = let some = is ∙ ap (λ b. cond b (Some d) known) ((eq_by_cmp_equiv segs_total).refl e) in cc
 
 -- no path, and nothing known
-pub nothing_there : (paths : List (List Seg)) (lengths : List ℕ) (ends : BTreeMap Seg (Option ℕ)) (scope : List Seg) → paths ≡ [] → ends.entries ≡ []
-    → HaveLengths paths lengths × KnowEnds (set.from_list paths) scope (get seg_cmp ends)
-nothing_there paths lengths ends scope no_path no_end = (
-  λ q there. absurd (false≢true (sym (ap (list_any (is_at (path_cmp q))) no_path) ∙ there)),
-  subst (λ ps. KnowEnds (set.from_list ps) scope (get seg_cmp ends)) (sym no_path)
-      (known_nothing scope (get seg_cmp ends) (λ q. ap (λ es. lookup (is_at (seg_cmp q)) es) no_end)),
-)
-
--- a front that is longer than a scope doesn't begin it
-pub longer_front : (k : ℕ) (scope p : List Seg) → k ≤ length p → length scope < k → eq_by_cmp path_cmp (take k scope) (take k p) ≡ false
-longer_front k scope p within long =
-    other_path (take k scope) (take k p) (λ same. omega (arith, long, ap length same, length-take-le k p within, take_short k scope))
+pub nothing_there : (ends : BTreeMap Seg (Option ℕ)) (scope : List Seg) → ends.entries ≡ [] → KnowEnds set.empty scope (get seg_cmp ends)
+nothing_there ends scope no_end = known_nothing scope (get seg_cmp ends) (λ q. ap (λ es. lookup (is_at (seg_cmp q)) es) no_end)

@@ -1,8 +1,8 @@
 mod Sets
-mod LengthLaws
 pub mod StepLaws
 mod NameLoops
 pub mod NameFaults
 mod SegmentOrder
 pub mod NameLaws
 pub mod EndLaws
+mod BranchLaws

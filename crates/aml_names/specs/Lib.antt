@@ -1,4 +1,5 @@
 pub mod Names
 pub mod NameReading
 pub mod Paths
+pub mod Branches
 pub mod Searching

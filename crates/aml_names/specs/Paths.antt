@@ -1,5 +1,5 @@
 -- Paths as lists of segments from the root on, and their order (ACPI 6.5, 5.3).
-use Rattle.std.specs.Prelude.{ℕ, Bool, List, Some, bytes_eq, refl, ◌≡◌, true, length, [], ◌∷◌, ◌++◌}
+use Rattle.std.specs.Prelude.{ℕ, Bool, List, Some, bytes_eq, refl, [], ◌∷◌, ◌++◌}
 use Rattle.std.proofs.Common.{ap, subst}
 use Rattle.std.proofs.lemmas.Map.Text.{is_eq-slice_cmp}
 use Rattle.std.specs.declared.cmp.Ordering.{Ordering}
@@ -10,8 +10,7 @@ use Rattle.std.specs.FinMap.{IsAntisymmetric, slice_cmp-IsAntisymmetric, nat_cmp
 use Rattle.std.specs.FinSet.{FinSet}
 use Rattle.std.specs.Coded.{Coded, code_by, coded_ℕ, coded_list}
 use Rattle.aml_names.specs.declared.segments.Seg.{Seg}
-use Rattle.std.specs.List.{list_any, flat_map}
-use Rattle.std.specs.BTreeMap.{is_at}
+use Rattle.std.specs.List.{flat_map}
 use Rattle.std.specs.Char.{encode_utf8}
 
 -- segments compare as bytes
@@ -49,13 +48,6 @@ exact_segs a b e =
 
 pub exact_paths : IsAntisymmetric path_cmp
 exact_paths = slice_cmp-IsAntisymmetric exact_segs
-
--- ---- A stepping stone of the proofs: the lengths of some paths.
-
--- each of the paths has one of these lengths
-abbrev pub HaveLengths : List (List Seg) → List ℕ → Type 0
-HaveLengths paths lengths =
-    (q : List Seg) → list_any (is_at (path_cmp q)) paths ≡ true → list_any (is_at (nat_cmp (length q))) lengths ≡ true
 
 -- ---- How segments and paths are printed.
 

@@ -5,6 +5,7 @@
 #![tactic(auto)]
 
 mod arities;
+mod branches;
 mod faults;
 mod locals;
 mod names;
@@ -19,7 +20,7 @@ pub use faults::{CodeFault, NoMemory};
 pub use locals::Locals;
 pub use names::{Name, NameForm};
 pub use paths::Path;
-pub use placing::place;
+pub use placing::{front_of, place};
 pub use reading::{is_name_lead, name_of, read_name, segment_of};
 pub use segments::{Seg, Segs};
 pub use stepping::{byte_of, offset_of};

@@ -1,5 +1,6 @@
 //! Where a name leads from a scope.
-ghost use Rattle.std.specs.Prelude.{◌≡◌, IfOk};
+ghost use Rattle.std.specs.Prelude.{◌≡◌, ◌≤◌, ◌++◌, length, take, IfOk, IfSome};
+ghost use Rattle.std.specs.Option.{option_map};
 ghost use Rattle.aml_names.specs.Names.{placed};
 
 use crate::faults::NoMemory;
@@ -7,20 +8,28 @@ use crate::names::Name;
 use crate::paths::Path;
 use std::alloc::Global;
 
-/// The path that a name leads to from a scope, without a search: the segments alone after a root prefix, else
-/// the scope without as many last segments as there are parent prefixes, and then the segments (ACPI 6.5, 5.3).
-/// `None` where the prefixes lead above the root.
+/// How many segments of a scope stand before a name's own where the name leads without a search: none after a root prefix,
+/// else all but as many as there are parent prefixes (ACPI 6.5, 5.3). `None` where the prefixes lead above the root.
+pub fn front_of(scope: &Path, name: &Name) -> Option<usize>
+    ensures placed { placed scope.now name.now ≡ option_map (λ front. take front scope.now ++ name.now.segs) result }
+    ensures within { IfSome result (λ front. front ≤ length scope.now) }
+{
+    if name.root {
+        return Some(0);
+    }
+    scope.segs().len().checked_sub(name.ups as usize)
+}
+
+/// The path that a name leads to from a scope, without a search: a front of the scope, and then the name's segments
+/// (ACPI 6.5, 5.3). `None` where the prefixes lead above the root.
 pub fn place(alloc: Global, scope: &Path, name: &Name) -> Result<Option<Path>, NoMemory>
     ensures { IfOk result (λ path. path ≡ placed scope.now name.now) }
 {
-    if name.root {
-        return Ok(Some(Path::below(alloc, &[], name.segs.as_slice())?));
+    match front_of(scope, name) {
+        None => Ok(None),
+        Some(front) => {
+            let path = Path::below(alloc, &scope.segs()[..front], name.segs.as_slice())?;
+            Ok(Some(path))
+        }
     }
-    let scope = scope.segs();
-    let ups = name.ups as usize;
-    if ups > scope.len() {
-        return Ok(None);
-    }
-    let front = &scope[..scope.len() - ups];
-    Ok(Some(Path::below(alloc, front, name.segs.as_slice())?))
 }

@@ -8,8 +8,8 @@ ghost use Rattle.aml_code.specs.View.{field_view, fields_view, parts_view, tail_
 ghost use Rattle.aml_parse.specs.Reading.{scope_of};
 
 use aml_code::{
-    Arity, CodeFault, Field, Locals, Name, NameForm, NoMemory, Part, Path, Position, Role, Segs,
-    Tail, last_name, place,
+    Arity, CodeFault, Field, Locals, Name, NoMemory, Part, Path, Position, Role, Tail, front_of,
+    last_name,
 };
 use std::alloc::Global;
 
@@ -69,97 +69,60 @@ impl<'a, A: Arity> Parser<'a, A> {
             return Ok(());
         };
         match role {
-            Role::Declares(_) | Role::Method | Role::Alias => {
-                declare_last(self.alloc, scope, parts, locals)
-            }
-            Role::Fields => declare_units(self.alloc, scope, tail, locals),
+            Role::Declares(_) | Role::Method | Role::Alias => declare_last(scope, parts, locals),
+            Role::Fields => declare_units(scope, tail, locals),
             Role::Scope | Role::External | Role::Guard | Role::Other => Ok(()),
         }
     }
 }
 
 /// Adds the path of the last part that is a name.
-fn declare_last(
-    alloc: Global,
-    scope: &Path,
-    parts: &[Part],
-    locals: &mut Locals,
-) -> Result<(), NoMemory>
+fn declare_last(scope: &Path, parts: &[Part], locals: &mut Locals) -> Result<(), NoMemory>
     ensures { OnOk result (locals.new ≡ with_names scope.now locals.old
         (option_to_list (last_label None (parts_view parts.now)))) }
 {
     match last_name(parts) {
         None => Ok(()),
-        Some(name) => declare_name(alloc, scope, name, locals),
+        Some(name) => declare_name(scope, name, locals),
     }
 }
 
 /// Adds the path of a name, if there is one.
-fn declare_name(
-    alloc: Global,
-    scope: &Path,
-    name: &Name,
-    locals: &mut Locals,
-) -> Result<(), NoMemory>
+fn declare_name(scope: &Path, name: &Name, locals: &mut Locals) -> Result<(), NoMemory>
     ensures { OnOk result (locals.new ≡ with_path locals.old (placed scope.now name.now)) }
 {
-    if let Some(path) = place(alloc, scope, name)? {
-        locals.push(path)?;
+    match front_of(scope, name) {
+        None => Ok(()),
+        Some(front) => locals.push_below(scope, front, name.segs.as_slice()),
     }
-    Ok(())
 }
 
 /// Adds the paths of the named units of a field list.
-fn declare_units(
-    alloc: Global,
-    scope: &Path,
-    tail: &Tail,
-    locals: &mut Locals,
-) -> Result<(), NoMemory>
+fn declare_units(scope: &Path, tail: &Tail, locals: &mut Locals) -> Result<(), NoMemory>
     ensures { OnOk result (locals.new ≡ with_names scope.now locals.old (field_names (tail_view tail.now))) }
 {
     match tail {
-        Tail::Fields(fields) => declare_fields(alloc, scope, fields.as_slice(), locals),
+        Tail::Fields(fields) => declare_fields(scope, fields.as_slice(), locals),
         _ => Ok(()),
     }
 }
 
-fn declare_fields(
-    alloc: Global,
-    scope: &Path,
-    fields: &[Field],
-    locals: &mut Locals,
-) -> Result<(), NoMemory>
+fn declare_fields(scope: &Path, fields: &[Field], locals: &mut Locals) -> Result<(), NoMemory>
     ensures { OnOk result (locals.new ≡ with_names scope.now locals.old (unit_names (fields_view fields.now))) }
 {
     for field in fields {
-        declare_field(alloc, scope, field, locals)?;
+        declare_field(scope, field, locals)?;
     }
     Ok(())
 }
 
 /// Adds the path of a named unit.
-fn declare_field(
-    alloc: Global,
-    scope: &Path,
-    field: &Field,
-    locals: &mut Locals,
-) -> Result<(), NoMemory>
+fn declare_field(scope: &Path, field: &Field, locals: &mut Locals) -> Result<(), NoMemory>
     ensures { OnOk result (locals.new ≡ with_names scope.now locals.old
         (unit_names (field_more (field_view field.now) no_fields))) }
 {
     match field {
-        Field::NamedUnit { seg, .. } => {
-            let mut segs = Segs::new(alloc);
-            segs.push(*seg)?;
-            let name = Name {
-                root: false,
-                ups: 0,
-                form: NameForm::One,
-                segs,
-            };
-            declare_name(alloc, scope, &name, locals)
-        }
+        Field::NamedUnit { seg, .. } => locals.push_below(scope, scope.segs().len(), &[*seg]),
         _ => Ok(()),
     }
 }

@@ -281,51 +281,6 @@ impl<'a> Scope<'a> {
         None
     }
 
-    /// Whether some segments behind a front of the scope's path are one of the locals. A path is made only where the nearest
-    /// local that ends so doesn't tell.
-    pub(crate) fn is_local(
-        &self,
-        alloc: Global,
-        locals: &Locals,
-        front: usize,
-        segs: &[Seg],
-    ) -> Result<bool, NoMemory>
-        requires { front ≤ length self.now.path.now }
-        ensures { IfOk result
-            (λ local. local ≡ set.contains locals.now (take front self.now.path.now ++ segs.now)) }
-    {
-        match segs {
-            [end] => {
-                let nearest = locals.nearest(alloc, self.path, *end)?;
-                if is_up_to(nearest, front) {
-                    Ok(stands(nearest, front))
-                } else {
-                    self.has_local(alloc, locals, front, segs)
-                }
-            }
-            _ => self.has_local(alloc, locals, front, segs),
-        }
-    }
-
-    /// The same by the path itself, where there is any local.
-    fn has_local(
-        &self,
-        alloc: Global,
-        locals: &Locals,
-        front: usize,
-        segs: &[Seg],
-    ) -> Result<bool, NoMemory>
-        requires { front ≤ length self.now.path.now }
-        ensures { IfOk result
-            (λ local. local ≡ set.contains locals.now (take front self.now.path.now ++ segs.now)) }
-    {
-        if locals.is_empty() {
-            return Ok(false);
-        }
-        let path = Path::below(alloc, &self.path.segs()[..front], segs)?;
-        Ok(locals.has(&path))
-    }
-
     /// Whether a candidate is one of the locals or has a kind.
     fn is_meant(&self, segment: &[Seg], here: Candidate) -> bool
         requires one { length segment.now ≡ 1 }
@@ -485,7 +440,7 @@ fn levels_along(alloc: Global, nodes: &[Node], scope: &[Seg]) -> Result<Vec<Leve
     ensures long { IfOk result (λ levels. length levels.items ≤ length scope.now + 1) }
     ensures asked { IfOk result (λ levels. AreAsked (namespace_in (known_by nodes.now)) scope.now levels.items) }
 {
-    let mut levels = Vec::new(alloc);
+    let mut levels = Vec::with_capacity(alloc, scope.len() + 1)?;
     let mut node: usize = 0;
     let mut asked: usize = 0;
     levels.push(Level { node, asked })?;
@@ -520,16 +475,6 @@ fn has_content(nodes: &[Node], at: Option<usize>) -> bool
     ensures { OnFalse result (IfSome at (IsBare nodes.now)) }
 {
     kind_at(nodes, at).is_some() || out_at(nodes, at).is_some() || given_at(nodes, at).is_some()
-}
-
-/// Whether the nearest local, if there is one, stands at this depth or further up.
-fn is_up_to(nearest: Option<usize>, depth: usize) -> bool
-    ensures { OnTrue result (IfSome nearest (λ local. local ≤ depth)) }
-{
-    match nearest {
-        None => true,
-        Some(local) => local <= depth,
-    }
 }
 
 /// Whether the nearest local stands at this depth.

@@ -1,0 +1,116 @@
+use Rattle.std.specs.Prelude.{slice_get}
+use Rattle.std.proofs.Common.{◌≡◌, ◌+◌, ◌-◌, ◌++◌, true, cond, List, map, length, take, Option, Some, None, OnOk, refl, arith, sym, ap, subst, ◌∙◌}
+use Rattle.std.proofs.lemmas.Option.{slice_get_within}
+use Rattle.std.specs.Option.{option_flatten}
+use Rattle.std.specs.FinSet as set
+use Rattle.std.specs.List.{list_any}
+use Rattle.std.specs.BTreeMap.{is_at, get}
+use Rattle.aml_names.specs.declared.segments.Seg.{Seg}
+use Rattle.aml_names.specs.Paths.{seg_cmp, path_cmp}
+use Rattle.aml_names.specs.Branches.{whole, branch_cmp, IsBranch, AreBranches, Branched}
+use Rattle.aml_names.specs.Searching.{KnowEnds, deeper}
+use Rattle.aml_names.proofs.BranchLaws.{Branch, still_branches, one_kept, met_depth}
+use Rattle.aml_names.proofs.EndLaws.{known_root, known_pushed, known_back, not_refused, there_is}
+use Rattle.aml_names.proofs.branches.Branches.insert.Goals as goal
+use Rattle.aml_names.proofs.branches.Branches.insert.Goals.{in-Ok, in-Err, In_ok-tail}
+
+none_by : (o : Option Seg) → ((x : Seg) → o ≡ Some x → ⊥) → o ≡ None
+none_by None h = refl
+none_by (Some x) h = absurd (h x refl)
+
+-- the branch that is added, and its path
+abbrev added : In_ok-tail → Branch
+added c = (c.branch_of-branch.result.depth, c.branch_of-branch.result.tail.now)
+
+is_branch : (c : In_ok-tail) → IsBranch c.self.inside.scope (added c)
+is_branch c = subst (λ s. IsBranch s (added c)) c.segs.ensures c.branch_of-branch.ensures.branch
+
+abbrev paths_of : List Seg → List Branch → set.FinSet path_cmp
+paths_of scope bs = set.from_list (map (whole scope) bs)
+
+whole_is : (c : In_ok-tail) → whole c.self.inside.scope (added c) ≡ take c.args.front c.args.self.now.scope ++ c.args.segs.now
+whole_is c =
+    (λ i. whole (sym c.segs.ensures i) (added c)) ∙ c.branch_of-branch.ensures.whole ∙ (λ i. take c.args.front (c.segs.ensures i) ++ c.args.segs.now)
+    ∙ ap (λ (b : Branched). take c.args.front b.scope ++ c.args.segs.now) c.self.view_is
+
+-- the keys grow by the branch
+grown : (c : In_ok-tail) (more : List Branch) → ((q : Branch) → list_any (is_at (branch_cmp q)) more
+    ≡ cond (is_at (branch_cmp (c.branch_of-branch.result.depth, c.in_ok-tail.tail)) q) true (list_any (is_at (branch_cmp q)) c.self.inside.kept.keys))
+    → (q : Branch) → list_any (is_at (branch_cmp q)) more ≡ cond (is_at (branch_cmp (added c)) q) true (list_any (is_at (branch_cmp q)) c.self.inside.kept.keys)
+grown c more updated q = updated q
+    ∙ ap (λ t. cond (is_at (branch_cmp (c.branch_of-branch.result.depth, t)) q) true (list_any (is_at (branch_cmp q)) c.self.inside.kept.keys)) c.in_ok-tail.ensures
+
+kept_more : (c : In_ok-tail) (more : List Branch) → ((q : Branch) → list_any (is_at (branch_cmp q)) more
+    ≡ cond (is_at (branch_cmp (c.branch_of-branch.result.depth, c.in_ok-tail.tail)) q) true (list_any (is_at (branch_cmp q)) c.self.inside.kept.keys))
+    → AreBranches c.self.inside.scope more
+    × (paths_of c.self.inside.scope more ≡ set.insert (paths_of c.self.inside.scope c.self.inside.kept.keys) (whole c.self.inside.scope (added c)))
+kept_more c more updated = (
+  still_branches c.self.inside.scope c.self.inside.kept.keys more (added c) c.self.invariant.0 (is_branch c) (grown c more updated),
+  one_kept c.self.inside.scope c.self.inside.kept.keys more (added c) c.self.invariant.0 (is_branch c) (grown c more updated),
+)
+
+pub returns-in_default-clause-ok : goal.returns-in_default-clause-ok
+returns-in_default-clause-ok c =
+    let at = (goal.at.returns-in_default-clause-ok c).In_ok-tail in
+    (kept_more at c.insert.new.self.keys c.in_ok-insert.ensures.updates.0).1
+    ∙ (λ i. set.insert (ap (λ (b : Branched). b.paths) c.self.view_is i) (whole_is at i))
+
+pub invariant_of-self-in_default : goal.invariant_of-self-in_default
+invariant_of-self-in_default c =
+    let at = (goal.at.invariant_of-self-in_default c).In_ok-tail in
+    let own = c.self.inside in
+    let p = whole own.scope (added at) in
+    let more = kept_more at c.insert.new.self.keys c.in_ok-insert.ensures.updates.0 in
+    let none : slice_get p (length p - 1) ≡ None =
+    (λ i. let q = whole (sym c.segs-2.ensures i) (added at) in slice_get q (length q - 1)) ∙ sym c.last_of.ensures ∙ none_by c.last_of.result c.in_default.not-Some in (
+      more.0,
+      subst (λ s. KnowEnds s own.scope (get seg_cmp own.ends)) (sym more.1)
+          (known_root (paths_of own.scope own.kept.keys) own.scope p (get seg_cmp own.ends) c.self.invariant.1 none),
+    )
+
+pub returns-clause-ok : goal.returns-clause-ok
+returns-clause-ok c =
+    let at = (goal.at.returns-clause-ok c).In_ok-tail in
+    let wanted = set.insert c.args.self.now.paths (take c.args.front c.args.self.now.scope ++ c.args.segs.now) in
+    elim c.match-insert.branch [
+      | in-Ok w ↦ subst (λ r. OnOk r (c.match-insert.self.paths ≡ wanted)) (sym w.result-is)
+          (ap (λ (b : Branched). b.paths) w.self-is
+          ∙ (kept_more at c.insert-2.new.self.keys w.in-Ok.ensures.updates.0).1
+          ∙ (λ i. set.insert (ap (λ (b : Branched). b.paths) c.self.view_is i) (whole_is at i)))
+      | in-Err w ↦ subst (λ r. OnOk r (c.match-insert.self.paths ≡ wanted)) (sym w.result-is) tt
+    ]
+
+pub invariant_of-self-in-Err : goal.invariant_of-self-in-Err
+invariant_of-self-in-Err c =
+    let own = c.self.inside in
+    let paths = paths_of own.scope own.kept.keys in
+    let e = c.in-Some.end in
+    let old = get seg_cmp own.ends in
+    let met = get seg_cmp c.deepen.new.ends in
+    let deepened = c.in_ok-known.ensures.ok in
+    let depth = deeper c.depth_of.result (option_flatten (old e)) in
+    let there = there_is paths met e depth (old e) (deepened e) in
+    let back = not_refused c.insert-in-Err.result c.insert-in-Err.ensures.updates c.insert-in-Err.ensures.absent there in (
+      subst (AreBranches own.scope) (sym c.in-Err.ensures.err) c.self.invariant.0,
+      subst (λ ks. KnowEnds (paths_of own.scope ks) own.scope (get seg_cmp c.insert-in-Err.new.self)) (sym c.in-Err.ensures.err)
+          (known_back paths own.scope old met (get seg_cmp c.insert-in-Err.new.self) e depth c.in_ok-known.known c.self.invariant.1
+          c.in_ok-known.ensures.known deepened back.0),
+    )
+
+pub invariant_of-self-in-Ok : goal.invariant_of-self-in-Ok
+invariant_of-self-in-Ok c =
+    let at = (goal.at.invariant_of-self-in-Ok c).In_ok-tail in
+    let own = c.self.inside in
+    let b = added at in
+    let p = whole own.scope b in
+    let e = c.in-Some.end in
+    let k = length p - 1 in
+    let more = kept_more at c.insert-2.new.self.keys c.in-Ok.ensures.updates.0 in
+    let is : slice_get p k ≡ Some e =
+    (λ i. let q = whole (sym c.segs-2.ensures i) b in slice_get q (length q - 1)) ∙ sym c.last_of.ensures ∙ c.in-Some.is in
+    let long : k + 1 ≡ length p = omega (arith, slice_get_within p k e is) in (
+      more.0,
+      subst (λ s. KnowEnds s own.scope (get seg_cmp c.deepen.new.ends)) (sym more.1)
+          (known_pushed (paths_of own.scope own.kept.keys) own.scope p e is k long (get seg_cmp own.ends) (get seg_cmp c.deepen.new.ends)
+          c.depth_of.result c.self.invariant.1 (c.depth_of.ensures ∙ met_depth own.scope b.0 b.1 k (is_branch at) long) c.in_ok-known.ensures.ok),
+    )

@@ -1,0 +1,9 @@
+use Rattle.std.proofs.Common.{◌≡◌, ◌≤◌, ◌+◌, ◌++◌, length, take}
+use Rattle.aml_names.proofs.branches.branch_of.Given as goal
+
+abbrev pub invariant-loop-seg : goal.invariant-loop-seg
+invariant-loop-seg l = record {
+  deep : l.depth ≡ l.front + l.seg-index;
+  within : l.depth ≤ length l.scope;
+  same : take l.depth l.scope ≡ take l.front l.scope ++ take l.seg-index l.segs;
+}
