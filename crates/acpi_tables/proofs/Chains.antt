@@ -1,6 +1,6 @@
 -- The steps of the chain: what each of them found.
-use Rattle.acpi_tables.proofs.Common.{◌≡◌, ℕ, List, [], ◌∷◌, Ok, Option, Some, None, find, filter, codes, refl, ap, ◌∙◌, Dump, bytes_of, rsdp_of, has_signature, root_of, list_of}
-use Rattle.acpi_tables.proofs.Common.{listed_by, dsdt_of, chain_of, only_dsdt, ◌>>=◌}
+use Rattle.acpi_tables.proofs.Common.{◌≡◌, ℕ, List, Ok, Option, Some, None, find, filter, codes, length, range_with_len, refl, ap, ◌∙◌, Dump, bytes_of}
+use Rattle.acpi_tables.proofs.Common.{has_signature, signed_at, list_of, listed_by, dsdt_address, table_of, chain_of, ◌>>=◌}
 use Rattle.std.specs.Prelude.{Result}
 use Rattle.std.specs.Option.{ok_or}
 use Rattle.acpi_tables.specs.declared.faults.TableFault.{TableFault}
@@ -18,21 +18,15 @@ same_ok r x x' y y' is is' = let pair : ◌≡◌ {A = ℕ × List ℕ} (x, y) (
 pub record Links (dumps : List Dump) (dsdt : ℕ) (ssdts : List ℕ) : Type 0 where
   pub list : ℕ
   pub fadt : ℕ
-  pub leads : dsdt_of dumps fadt ≡ Some dsdt
+  pub leads : signed_at dumps (codes "DSDT") (dsdt_address (table_of (bytes_of dumps fadt))) ≡ Some dsdt
   pub listed : filter (has_signature dumps (codes "SSDT")) (listed_by dumps list) ≡ ssdts
 
 -- those of a chain
 pub links_of : (dumps : List Dump) (dsdt : ℕ) (ssdts : List ℕ) → chain_of dumps ≡ Ok (dsdt, ssdts) → Links dumps dsdt ssdts
 links_of dumps dsdt ssdts is =
-    found (root_of dumps) _ _ _ is (λ root there behind.
-    found (list_of dumps (rsdp_of (bytes_of dumps root))) _ _ _ behind (λ list there' behind'.
+    found (find (has_signature dumps (codes "RSD PTR ")) (range_with_len 0 (length dumps))) _ _ _ is (λ root there behind.
+    found (list_of dumps (bytes_of dumps root)) _ _ _ behind (λ list there' behind'.
     found (find (has_signature dumps (codes "FACP")) (listed_by dumps list)) _ _ _ behind' (λ fadt there'' behind''.
-    found (dsdt_of dumps fadt) _ _ _ behind'' (λ dsdt' leads last.
+    found (signed_at dumps (codes "DSDT") (dsdt_address (table_of (bytes_of dumps fadt)))) _ _ _ behind'' (λ dsdt' leads last.
     let same = same_ok (Ok (dsdt', _)) dsdt' dsdt _ ssdts refl last in
     record { list = list; fadt = fadt; leads = leads ∙ ap Some same.0; listed = same.1 }))))
-
--- the only one of some indexes is all of them
-pub one_only : (indexes : List ℕ) (dsdt : ℕ) → only_dsdt indexes ≡ Ok dsdt → indexes ≡ dsdt ∷ []
-one_only [] dsdt is = absurd cc
-one_only (x ∷ []) dsdt is = cc
-one_only (x ∷ y ∷ rest) dsdt is = absurd cc

@@ -57,7 +57,8 @@ address_bytes width table index = bytes_at table (36 + index * width) width
 
 -- the addresses
 abbrev pub addresses_of : ℕ → List ℕ → List ℕ
-addresses_of width table = map (address_at width table) (range_with_len 0 (address_count width table))
+addresses_of width table =
+    map (λ index. number_at table (36 + index * width) width) (range_with_len 0 ((length table - 36) / width))
 
 -- the member of the addresses at this index, in a table that holds them
 abbrev pub address_in : ℕ → List ℕ → ℕ → Option ℕ
