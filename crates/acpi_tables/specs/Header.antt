@@ -8,7 +8,6 @@ use Rattle.acpi_tables.specs.declared.addresses.AddressWidth.TheVariants.{Four, 
 use Rattle.acpi_tables.specs.declared.header.Header.{Header}
 use Rattle.std.specs.List.{range_with_len}
 use Rattle.acpi_tables.specs.declared.rsdp.Rsdp.{Rsdp}
-use Rattle.acpi_tables.specs.declared.rsdp.Wide.{Wide}
 
 -- a table with its header: Length, at 4, covers the 36 bytes of the header and lies within the bytes
 abbrev pub HoldsTable : List ℕ → Type 0

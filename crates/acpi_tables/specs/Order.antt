@@ -19,19 +19,6 @@ use Rattle.acpi_tables.specs.declared.faults.Bad.{Bad}
 use Rattle.acpi_tables.specs.declared.faults.Bad.TheVariants.{TooManyTables, RootMissing, FadtMissing, NoDsdt, TwoDsdts}
 use Rattle.acpi_tables.specs.declared.faults.TableFault.{TableFault}
 
--- for `do`: what follows an Ok
-infixl 10 ◌>>=◌
-abbrev pub ◌>>=◌ : {A B E : Type 0} → Result A E → (A → Result B E) → Result B E
-(Ok x) >>= f = f x
-(Err e) >>= f = Err e
-
--- a fault of the set, and one of the dump at an index
-abbrev pub of_set : Bad → TableFault
-of_set bad = record { dump = None; bad = bad }
-
-abbrev pub of_dump : ℕ → Bad → TableFault
-of_dump index bad = record { dump = Some index; bad = bad }
-
 -- the bytes of the dump at an index, and its name
 unfoldable pub bytes_of : List Dump → ℕ → List ℕ
 bytes_of dumps index = slice_index_or (map (λ dump. dump.bytes.items) dumps) index []
@@ -123,15 +110,17 @@ dsdt_address table =
     if nat_le 148 (length table) && not (nat_eq (number_at table 140 8) 0) then number_at table 140 8
     else number_at table 40 4
 
--- The chain: the first RSDP, the list that it leads to, the first FADT that this lists, the DSDT whose address that
--- gives, and the SSDTs that are listed; or the fault that one of them isn't there.
-abbrev pub chain_of : List Dump → Result (ℕ × List ℕ) TableFault
-chain_of dumps = do
-  root ← ok_or (find (has_signature dumps (codes "RSD PTR ")) (range_with_len 0 (length dumps))) (of_set RootMissing)
-  list ← ok_or (list_of dumps (bytes_of dumps root)) (of_dump root RootMissing)
-  fadt ← ok_or (find (has_signature dumps (codes "FACP")) (listed_by dumps list)) (of_dump list FadtMissing)
-  dsdt ← ok_or (signed_at dumps (codes "DSDT") (dsdt_address (table_of (bytes_of dumps fadt)))) (of_set NoDsdt)
-  Ok (dsdt, filter (has_signature dumps (codes "SSDT")) (listed_by dumps list))
+-- The first RSDP leads to a list, the first FADT that this lists gives the address of the DSDT, and the SSDTs are those
+-- that it lists.
+pub record IsChained (dumps : List Dump) (dsdt : ℕ) (ssdts : List ℕ) : Type 0 where
+  pub root : ℕ
+  pub list : ℕ
+  pub fadt : ℕ
+  pub first : find (has_signature dumps (codes "RSD PTR ")) (range_with_len 0 (length dumps)) ≡ Some root
+  pub leads : list_of dumps (bytes_of dumps root) ≡ Some list
+  pub names : find (has_signature dumps (codes "FACP")) (listed_by dumps list) ≡ Some fadt
+  pub gives : signed_at dumps (codes "DSDT") (dsdt_address (table_of (bytes_of dumps fadt))) ≡ Some dsdt
+  pub all : filter (has_signature dumps (codes "SSDT")) (listed_by dumps list) ≡ ssdts
 
 -- Each dump is taken by itself.
 abbrev pub AreTaken : List Dump → Bool → Type 0
@@ -145,13 +134,37 @@ most_dumps = 512
 pub record IsOrder (dumps : List Dump) (any_sum : Bool) (dsdt : ℕ) (ssdts : List ℕ) : Type 0 where
   pub few : length dumps ≤ most_dumps
   pub each : AreTaken dumps any_sum
-  pub blocks : MatchBool (is_addressed dumps) (chain_of dumps ≡ Ok (dsdt, ssdts)) (IsNamed dumps dsdt ssdts)
+  pub blocks : MatchBool (is_addressed dumps) (IsChained dumps dsdt ssdts) (IsNamed dumps dsdt ssdts)
 
 -- Each of the dumps at these indexes is a table with its header, of no more bytes than a dump may have.
 abbrev pub AreTables : List Dump → List ℕ → Type 0
 AreTables dumps [] = ⊤
 AreTables dumps (index ∷ indexes) =
     HoldsTable (bytes_of dumps index) × (length (bytes_of dumps index) ≤ most_bytes) × AreTables dumps indexes
+
+-- ---- Why dumps are refused.
+
+-- for `do`: what follows an Ok
+infixl 10 ◌>>=◌
+abbrev pub ◌>>=◌ : {A B E : Type 0} → Result A E → (A → Result B E) → Result B E
+(Ok x) >>= f = f x
+(Err e) >>= f = Err e
+
+-- a fault of the set, and one of the dump at an index
+abbrev pub of_set : Bad → TableFault
+of_set bad = record { dump = None; bad = bad }
+
+abbrev pub of_dump : ℕ → Bad → TableFault
+of_dump index bad = record { dump = Some index; bad = bad }
+
+-- What the chain gives, or the fault that a part of it isn't there.
+abbrev pub chain_of : List Dump → Result (ℕ × List ℕ) TableFault
+chain_of dumps = do
+  root ← ok_or (find (has_signature dumps (codes "RSD PTR ")) (range_with_len 0 (length dumps))) (of_set RootMissing)
+  list ← ok_or (list_of dumps (bytes_of dumps root)) (of_dump root RootMissing)
+  fadt ← ok_or (find (has_signature dumps (codes "FACP")) (listed_by dumps list)) (of_dump list FadtMissing)
+  dsdt ← ok_or (signed_at dumps (codes "DSDT") (dsdt_address (table_of (bytes_of dumps fadt)))) (of_set NoDsdt)
+  Ok (dsdt, filter (has_signature dumps (codes "SSDT")) (listed_by dumps list))
 
 -- The only DSDT, or the fault that there is none or a second one.
 abbrev pub only_dsdt : List ℕ → Result ℕ TableFault

@@ -1,9 +1,9 @@
 //! The order of the definition blocks where addresses lead from the RSDP over the XSDT or RSDT and the FADT to a DSDT.
-ghost use Rattle.std.specs.Prelude.{◌≡◌, ◌⊎◌, ◌<◌, ◌≤◌, None, Ok, Err, true, codes, filter, find, length, IfOk, IfErr};
+ghost use Rattle.std.specs.Prelude.{◌≡◌, ◌⊎◌, ◌<◌, ◌≤◌, None, Err, true, codes, filter, find, length, IfOk, IfErr};
 ghost use Rattle.std.specs.List.{range_with_len};
 ghost use Rattle.std.specs.Option.{option_map, unwrap_or};
 ghost use Rattle.acpi_tables.specs.Header.{HoldsRoot, HoldsTable, table_of, HoldsAddresses, address_width, addresses_of};
-ghost use Rattle.acpi_tables.specs.Order.{AreTaken, bytes_of, chain_of, dump_at, signed_at};
+ghost use Rattle.acpi_tables.specs.Order.{AreTaken, IsChained, bytes_of, chain_of, dump_at, signed_at};
 ghost use Rattle.acpi_tables.specs.Order.{list_of, width_of, listed_by, dsdt_address};
 ghost use Rattle.acpi_tables.specs.Order.{listed_in, has_signature};
 ghost use Rattle.acpi_tables.specs.declared.faults.Bad.TheVariants.{NoMemory};
@@ -22,7 +22,7 @@ use std::alloc::{AllocError, Global};
 /// The order that the chain gives.
 pub(crate) fn order_by_chain(alloc: Global, dumps: &[Dump]) -> Result<Order, TableFault>
     requires { AreTaken dumps.now true }
-    ensures order { IfOk result (λ order. chain_of dumps.now ≡ Ok (order.dsdt, order.ssdts.items)) }
+    ensures order { IfOk result (λ order. IsChained dumps.now order.dsdt order.ssdts.items) }
     ensures refused { IfErr result (λ fault. (fault ≡ record { dump = None; bad = NoMemory }) ⊎
         (chain_of dumps.now ≡ Err fault)) }
 {
