@@ -72,7 +72,7 @@ is_addressed dumps = list_any (λ dump. is_some dump.address) dumps
 abbrev pub dump_at : List Dump → ℕ → Option ℕ
 dump_at dumps address = position (λ dump. option_eq nat_eq dump.address (Some address)) dumps
 
--- the same, if it has a signature
+-- the first dump at an address, if it has a signature
 abbrev pub signed_at : List Dump → List ℕ → ℕ → Option ℕ
 signed_at dumps signature address =
     option_and_then (λ index. then_some (has_signature dumps signature index) index) (dump_at dumps address)
@@ -91,11 +91,11 @@ list_of dumps root =
 abbrev pub width_of : List ℕ → ℕ
 width_of list = if begins_with list (codes "XSDT") then 8 else 4
 
--- each number where it stands first
+-- one number more, unless it is there already
 abbrev pub with_more : List ℕ → ℕ → List ℕ
 with_more xs x = if list_any (λ y. nat_eq y x) xs then xs else xs ++ x ∷ []
 
--- the dumps at some addresses; an address with no dump is skipped
+-- the dumps at some addresses, each where it stands first; an address with no dump is skipped
 abbrev pub listed_in : List Dump → List ℕ → List ℕ
 listed_in dumps addresses = fold with_more [] (filter_map (dump_at dumps) addresses)
 
@@ -157,7 +157,7 @@ of_set bad = record { dump = None; bad = bad }
 abbrev pub of_dump : ℕ → Bad → TableFault
 of_dump index bad = record { dump = Some index; bad = bad }
 
--- What the chain gives, or the fault that a part of it isn't there.
+-- What the chain gives as `IsChained` says it, or the fault that a part of it isn't there.
 abbrev pub chain_of : List Dump → Result (ℕ × List ℕ) TableFault
 chain_of dumps = do
   root ← ok_or (find (has_signature dumps (codes "RSD PTR ")) (range_with_len 0 (length dumps))) (of_set RootMissing)

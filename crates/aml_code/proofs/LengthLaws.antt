@@ -95,8 +95,13 @@ pub front_length : (code : List ℕ) (o : ℕ) (w : PkgWidth) (ps : Parts)
 front_length code o w ps =
     let content = parts_encoding code ps ++ [] in
     let bytes = package_bytes w (width_len w + length content) in
-    omega (arith, length-append (opcode_bytes o) (bytes ++ content), length-append bytes content, length-append (parts_encoding code ps) [],
-    length-package_bytes w (width_len w + length content))
+    omega (
+      arith,
+      length-append (opcode_bytes o) (bytes ++ content),
+      length-append bytes content,
+      length-append (parts_encoding code ps) [],
+      length-package_bytes w (width_len w + length content),
+    )
 
 -- ---- package lengths
 

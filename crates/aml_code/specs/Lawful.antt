@@ -215,7 +215,8 @@ pub record IsOperation (s : Setting) (Is : Position → PathSet → Tree → Typ
   pub listed : row_of o ≡ Some row
   pub taken : Contains (takers row.place) p
   pub width : HasWidth row.tail w (length (parts_encoding s.code ps ++ tail_encoding s.code t))
-  pub guarded : terms_in p row.place ≡ positions.GuardTerm → ps ≡ part_more (child (op 0x00 None no_parts empty)) no_parts
+  pub guarded : terms_in p row.place ≡ positions.GuardTerm
+      → ps ≡ part_more (child (op 0x00 None no_parts empty)) no_parts
   pub parts : AreParts (λ q. Is q ls) row.parts ps
   pub tail : IsTail s Is (terms_in p row.place) (option_map (tail_in p) row.tail) ls t
 

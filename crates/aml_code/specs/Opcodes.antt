@@ -189,8 +189,7 @@ row_view r = record {
 abbrev pub has_length : Option TailKind → Bool
 has_length tail = is_some tail
 
--- The positions of code that runs: a term of a table whose code may run, the same right after an If, a term of a body,
--- and the same right after an If.
+-- as a term of a table whose code may run, or of a body, right after an If or not
 abbrev pub running : List Position
 running = positions.RunTerm ∷ positions.RunAfterIf ∷ positions.BodyTerm ∷ positions.AfterIf ∷ []
 

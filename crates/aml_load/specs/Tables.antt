@@ -1,6 +1,6 @@
--- The load of tables in their order (ACPI 6.5, 5.2.11, 5.3 and 20.2.5): what tables load to, where a load stops and why,
--- and loading forward, with the first fault that is met. Where the code outside methods may not run, a table is read
--- whole, and then its terms declare; where it may run, a table is read from the left. All else is the same.
+-- The load of tables in their order (ACPI 6.5, 5.2.11, 5.3 and 20.2.5): what tables load to, where a load stops and
+-- why, and loading forward, with the first fault that is met. Where the code outside methods may not run, a table is
+-- read whole, and then its terms declare; where it may run, a table is read from the left. All else is the same.
 use Rattle.std.specs.Prelude.{◌≡◌, ◌≤◌, ◌⊎◌, ℕ, suc, Bool, true, false, List, [], ◌∷◌, ◌++◌, length, None, Some}
 use Rattle.std.specs.Prelude.{Result, Ok, Err}
 use Rattle.std.specs.List.{All, AllZip}
