@@ -1,8 +1,7 @@
 -- The dumps of an order are tables with their headers: each has the signature of its place, and is taken by itself.
-use Rattle.acpi_tables.proofs.Common.{◌≡◌, ℕ, Bool, true, false, List, [], ◌∷◌, Ok, codes, subst, MatchBool, All, All-head}
+use Rattle.acpi_tables.proofs.Common.{◌≡◌, ℕ, Bool, true, false, List, [], ◌∷◌, codes, subst, MatchBool, All, All-head}
 use Rattle.acpi_tables.proofs.Common.{All-tail, filter_passes, Dump, has_signature, indexes_with}
-use Rattle.acpi_tables.proofs.Common.{chain_of, IsNamed, AreTaken, AreTables}
-use Rattle.acpi_tables.proofs.Chains.{links_of, one_only}
+use Rattle.acpi_tables.proofs.Common.{IsChained, IsNamed, AreTaken, AreTables}
 use Rattle.std.proofs.lemmas.List.Sorted.{All-permutation}
 use Rattle.acpi_tables.proofs.Signed.{signed_at-signed, dsdt_holds, ssdt_holds}
 
@@ -24,12 +23,11 @@ module _ (dumps : List Dump) (any_sum : Bool) (each : AreTaken dumps any_sum) wh
       let table = dsdt_holds dumps any_sum each dsdt first in
       (table.0, table.1, tables_there ssdts others)
 
-  pub are_tables : (b : Bool) (dsdt : ℕ) (ssdts : List ℕ) → MatchBool b (chain_of dumps ≡ Ok (dsdt, ssdts)) (IsNamed dumps dsdt ssdts) → AreTables dumps (dsdt ∷ ssdts)
+  pub are_tables : (b : Bool) (dsdt : ℕ) (ssdts : List ℕ) → MatchBool b (IsChained dumps dsdt ssdts) (IsNamed dumps dsdt ssdts) → AreTables dumps (dsdt ∷ ssdts)
   are_tables true dsdt ssdts chain =
-      let links = links_of dumps dsdt ssdts chain in
-      blocks_by dsdt ssdts (signed_at-signed dumps (codes "DSDT") _ dsdt links.leads)
-      (subst (All (HasSignature (codes "SSDT"))) links.listed (filter_passes (has_signature dumps (codes "SSDT")) _))
+      blocks_by dsdt ssdts (signed_at-signed dumps (codes "DSDT") _ dsdt chain.gives)
+      (subst (All (HasSignature (codes "SSDT"))) chain.all (filter_passes (has_signature dumps (codes "SSDT")) _))
   are_tables false dsdt ssdts named =
-      let first : All (HasSignature (codes "DSDT")) (dsdt ∷ []) = rw (one_only _ dsdt named.only) at (indexes_pass (codes "DSDT")) in
+      let first : All (HasSignature (codes "DSDT")) (dsdt ∷ []) = rw named.only at (indexes_pass (codes "DSDT")) in
       blocks_by dsdt ssdts (All-head (HasSignature (codes "DSDT")) dsdt [] first)
       (All-permutation (HasSignature (codes "SSDT")) _ ssdts named.all (indexes_pass (codes "SSDT")))

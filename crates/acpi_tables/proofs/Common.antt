@@ -1,12 +1,12 @@
 -- The names that the proofs here cite, passed on from one place. Declares nothing.
 pub use Rattle.acpi_tables.specs.Bytes.{Field, little_endian}
 unfoldable pub use Rattle.acpi_tables.specs.Bytes.{begins_with, bytes_at, number_at, value_in}
-pub use Rattle.acpi_tables.specs.Fadt.{HoldsFadt, fadt_fields}
+pub use Rattle.acpi_tables.specs.Fadt.{fadt_fields}
 pub use Rattle.acpi_tables.specs.Header.{HoldsAddresses, HoldsRoot, HoldsTable, address_at, address_count, address_in, address_width, rsdp_of, table_of}
 unfoldable pub use Rattle.acpi_tables.specs.Header.{addresses_of}
-pub use Rattle.acpi_tables.specs.Order.{AreTables, AreTaken, IsNamed, chain_of, dsdt_of, each_once, ending_digits, has_signature, is_dot, only_dsdt, ◌>>=◌}
+pub use Rattle.acpi_tables.specs.Order.{AreTables, AreTaken, IsChained, IsNamed, RefusesOrder, chain_of, dsdt_address, ending_digits, has_signature, is_dot, only_dsdt, ◌>>=◌}
 pub use Rattle.acpi_tables.specs.Order.{list_of, listed_by, listed_in, rank_cmp, signed_at, width_of, with_more, xsdt_address}
-unfoldable pub use Rattle.acpi_tables.specs.Order.{bytes_of, dump_at, ending_number, indexes_with, name_of, root_of}
+unfoldable pub use Rattle.acpi_tables.specs.Order.{bytes_of, dump_at, ending_number, indexes_with, name_of}
 pub use Rattle.acpi_tables.specs.declared.dump.Dump.{Dump}
 pub use Rattle.std.proofs.Common.{Bool, Bor, IsPermutation, List, MatchBool, None, Option, Some, [], ap, append-nil, append_assoc, arith, below_more, codes}
 pub use Rattle.std.proofs.Common.{cond, drop, false, filter, filter_map, find, get_or, inl, inr, length, length-append, length-drop, length-take, ltb, map}

@@ -3,7 +3,7 @@
 use Rattle.acpi_tables.proofs.Common.{◌≡◌, ℕ, zero, suc, ◌+◌, ◌-◌, ◌<◌, ◌≤◌, Bool, true, false, cond, List, [], ◌∷◌, ◌++◌, length, map, refl, sym, ap, ◌∙◌}
 use Rattle.acpi_tables.proofs.Common.{arith, append_assoc, length-append, append-nil, nat_tests, map-append, concat, number_at}
 use Rattle.std.proofs.lemmas.List.Folds.{concat-append}
-use Rattle.acpi_tables.specs.Madt.{HoldsRecord, HoldsMadt, BreaksAt, is_whole, record_bytes_at, record_end, records_from, records_of, records_end}
+use Rattle.acpi_tables.specs.Madt.{HoldsRecord, HoldsMadt, BreaksAt, is_whole, record_bytes_at, record_end, records_from, records_of}
 use Rattle.acpi_tables.specs.Madt.{meaning_of, said, RefusesMadt}
 use Rattle.acpi_tables.specs.declared.madt.MadtRecord.{MadtRecord}
 use Rattle.acpi_tables.specs.declared.faults.Bad.{Bad}
@@ -92,7 +92,7 @@ module _ (table : List ℕ) (at : ℕ) (walk : WalksTo table at) where
       ∙ ap (λ more. walk.records ++ more) (none_from walk.left table at (broken_test table at (is_whole table at) walk.behind_fields broken refl))
       ∙ append-nil walk.records
 
-  records_end-ended : ¬ HoldsRecord table at → records_end table ≡ at
+  records_end-ended : ¬ HoldsRecord table at → 44 + length (concat (records_of table)) ≡ at
   records_end-ended broken = ap (λ records. 44 + length (concat records)) (records_of-ended broken) ∙ walk.long
 
   pub BreaksAt-walk : at < length table → ¬ HoldsRecord table at → BreaksAt table at

@@ -1,7 +1,7 @@
 -- The dumps at some addresses, each where it stands first: one address more adds the dump that stands there, if there is one
 -- and it isn't among them.
 use Rattle.acpi_tables.proofs.Common.{◌≡◌, ℕ, ◌+◌, Bool, List, [], ◌∷◌, ◌++◌, map, cond, filter_map, nat_eq, Option, Some, None, sym, ap, ◌∙◌, zero-add}
-use Rattle.acpi_tables.proofs.Common.{list_any, cons_option, fold, range_with_len, filter_map-append, map-range_with_len_more, fold-append, Dump, each_once}
+use Rattle.acpi_tables.proofs.Common.{list_any, cons_option, fold, range_with_len, filter_map-append, map-range_with_len_more, fold-append, Dump}
 use Rattle.acpi_tables.proofs.Common.{with_more, dump_at, listed_in}
 
 -- those of the values of a function
@@ -10,7 +10,7 @@ module _ (dumps : List Dump) (f : ℕ → ℕ) (i : ℕ) (old : List ℕ) (kept 
       → listed_in dumps (map f (range_with_len 0 (i + 1))) ≡ fold with_more old (cons_option there [])
   listed_more there is =
       ap (listed_in dumps) (map-range_with_len_more f 0 i i (zero-add i))
-      ∙ ap each_once (filter_map-append (dump_at dumps) (map f (range_with_len 0 i)) (f i ∷ []))
+      ∙ ap (fold with_more []) (filter_map-append (dump_at dumps) (map f (range_with_len 0 i)) (f i ∷ []))
       ∙ fold-append with_more [] (filter_map (dump_at dumps) (map f (range_with_len 0 i))) (cons_option (dump_at dumps (f i)) [])
       ∙ ap (λ xs. fold with_more xs (cons_option (dump_at dumps (f i)) [])) (sym kept)
       ∙ ap (λ o. fold with_more old (cons_option o [])) is

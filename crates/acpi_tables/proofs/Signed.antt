@@ -3,13 +3,12 @@
 use Rattle.acpi_tables.proofs.Common.{◌≡◌, ℕ, ◌<◌, ◌≤◌, ◌⊎◌, inl, inr, Bool, true, false, List, ◌++◌, length, drop, codes, cond, Some, find, ltb, nat_eq}
 use Rattle.acpi_tables.proofs.Common.{refl, sym, ap, ◌∙◌, arith, rules, tests, length-append, Decides-eqb, passes_at_first, option_and_then_some, same_Some, then_some}
 use Rattle.acpi_tables.proofs.Common.{slice_get_within, get_or_from_slice_get, Dump, begins_with, HoldsTable, table_of, HoldsRoot, HoldsAddresses}
-use Rattle.acpi_tables.proofs.Common.{HoldsFadt, AreTaken, bytes_of, has_signature, dump_at, signed_at, root_of, xsdt_address, list_of, width_of}
+use Rattle.acpi_tables.proofs.Common.{AreTaken, bytes_of, has_signature, dump_at, signed_at, xsdt_address, list_of, width_of, number_at}
 use Rattle.std.proofs.lemmas.Slice.Eq.{starts_is}
 use Rattle.std.proofs.lemmas.List.Folds.{find_at}
 use Rattle.acpi_tables.specs.declared.dump.Content.TheVariants.{Xsdt, Rsdt, Fadt, Other}
 use Rattle.acpi_tables.specs.declared.dump.Kind.{Kind}
 use Rattle.acpi_tables.specs.declared.dump.Kind.TheVariants.{Root, Standard}
-use Rattle.acpi_tables.specs.declared.rsdp.Rsdp.{Rsdp}
 use Rattle.acpi_tables.specs.Dumps.{kind_of, HoldsShape, HoldsContent, most_bytes}
 use Rattle.acpi_tables.proofs.Places.{part-past}
 
@@ -49,20 +48,17 @@ signed_at-signed dumps word address index e =
     (λ i there some. let h = some_then (has_signature dumps word i) i index some in ap (has_signature dumps word) (sym h.1) ∙ h.0)
 
 -- the list that a root leads to is an XSDT or an RSDT
-list_by : (dumps : List Dump) (root : Rsdp) (index : ℕ) (b : Bool)
-    → cond b (signed_at dumps (codes "RSDT") root.rsdt) (signed_at dumps (codes "XSDT") (xsdt_address root.wide)) ≡ Some index
+list_by : (dumps : List Dump) (root : List ℕ) (index : ℕ) (b : Bool)
+    → cond b (signed_at dumps (codes "RSDT") (number_at root 16 4)) (signed_at dumps (codes "XSDT") (xsdt_address root)) ≡ Some index
     → (has_signature dumps (codes "XSDT") index ≡ true) ⊎ (has_signature dumps (codes "RSDT") index ≡ true)
-list_by dumps root index true e = inr (signed_at-signed dumps (codes "RSDT") root.rsdt index e)
-list_by dumps root index false e = inl (signed_at-signed dumps (codes "XSDT") (xsdt_address root.wide) index e)
+list_by dumps root index true e = inr (signed_at-signed dumps (codes "RSDT") (number_at root 16 4) index e)
+list_by dumps root index false e = inl (signed_at-signed dumps (codes "XSDT") (xsdt_address root) index e)
 
 -- what a search found passes
 pub find-passes : (test : ℕ → Bool) (xs : List ℕ) (x : ℕ) → find test xs ≡ Some x → test x ≡ true
 find-passes test xs x e =
     let there = sym (find_at test xs) ∙ e in
     rw (get_or_from_slice_get xs _ x x there) at (passes_at_first test xs x (slice_get_within xs _ x there))
-
-pub root_of-signed : (dumps : List Dump) (index : ℕ) → root_of dumps ≡ Some index → has_signature dumps (codes "RSD PTR ") index ≡ true
-root_of-signed dumps index e = find-passes (has_signature dumps (codes "RSD PTR ")) _ index e
 
 -- ---- what holds of a dump that is taken, by its signature
 
@@ -86,7 +82,7 @@ module _ (dumps : List Dump) (any_sum : Bool) (each : AreTaken dumps any_sum) (i
   unfolding begins_with
   ssdt_holds is = let h = held (codes "SSDT") (Standard Other) (omega arith) (λ rest. refl) is in (h.0, h.2)
 
-  pub fadt_holds : has_signature dumps (codes "FACP") index ≡ true → HoldsTable (bytes_of dumps index) × HoldsFadt (table_of (bytes_of dumps index))
+  pub fadt_holds : has_signature dumps (codes "FACP") index ≡ true → HoldsTable (bytes_of dumps index) × (116 ≤ length (table_of (bytes_of dumps index)))
   unfolding begins_with
   fadt_holds is = let h = held (codes "FACP") (Standard Fadt) (omega arith) (λ rest. refl) is in (h.0, h.1)
 
@@ -101,5 +97,5 @@ module _ (dumps : List Dump) (any_sum : Bool) (each : AreTaken dumps any_sum) (i
       (h.0, rw (as-word width_of 4 (bytes_of dumps index) (codes "RSDT") (λ rest. refl) is) h.1)
 
   -- the list that a root leads to
-  pub list_holds : (root : Rsdp) → list_of dumps root ≡ Some index → HoldsList
-  list_holds root leads = listing (list_by dumps root index (nat_eq (xsdt_address root.wide) 0) leads)
+  pub list_holds : (root : List ℕ) → list_of dumps root ≡ Some index → HoldsList
+  list_holds root leads = listing (list_by dumps root index (nat_eq (xsdt_address root) 0) leads)

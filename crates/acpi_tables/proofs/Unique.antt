@@ -2,14 +2,16 @@
 -- order, and the SSDTs are sorted by one. By the chain: each step of it has one end.
 use Rattle.acpi_tables.proofs.Common.{◌≡◌, ℕ, suc, ◌+◌, ◌<◌, Bool, true, false, List, [], ◌∷◌, length, get_or, nat_eq, cond, filter, MatchBool, refl, sym, ap}
 use Rattle.acpi_tables.proofs.Common.{◌∙◌, arith, count_by, ordering_then, ordering_reverse, is_lt, nat_cmp, true≢false, eqb-true, nat_tests, All-filter}
-use Rattle.acpi_tables.proofs.Common.{filter_passes, sum_by-cons, length-filter, Dump, Ok, rank_cmp, chain_of, IsNamed}
+use Rattle.acpi_tables.proofs.Common.{filter_passes, sum_by-cons, length-filter, Dump, Ok, rank_cmp, chain_of, IsChained, IsNamed}
+use Rattle.std.specs.Prelude.{Result}
 use Rattle.std.specs.Cmp.{IsStrictWeakOrder}
 use Rattle.std.specs.List.Sorted.{IsSortedBy}
 use Rattle.std.specs.declared.cmp.Ordering.{Ordering}
 use Rattle.std.specs.declared.cmp.Ordering.TheVariants.{Less, Equal, Greater}
 use Rattle.std.specs.FinMap.{nat_cmp-IsAntisymmetric}
 use Rattle.std.proofs.lemmas.List.Sorted.{sorted_far, sum_by-IsPermutation}
-use Rattle.acpi_tables.proofs.Chains.{same_ok}
+use Rattle.acpi_tables.specs.declared.faults.TableFault.{TableFault}
+use Rattle.acpi_tables.proofs.Chains.{chained}
 use Rattle.acpi_tables.proofs.Ranks.{ranks_below, rank_order, rank_total}
 
 -- how often a number stands in a list
@@ -78,8 +80,12 @@ named_unique dumps d d' s s' a b = (
       (λ x. sum_by-IsPermutation (one_if x) _ s a.all ∙ sym (sum_by-IsPermutation (one_if x) _ s' b.all)),
 )
 
--- The chain is a function of the dumps.
+-- two orders that one chain gives are one
+same_ok : (r : Result (ℕ × List ℕ) TableFault) (x x' : ℕ) (y y' : List ℕ) → r ≡ Ok (x, y) → r ≡ Ok (x', y') → (x ≡ x') × (y ≡ y')
+same_ok r x x' y y' is is' = let pair : ◌≡◌ {A = ℕ × List ℕ} (x, y) (x', y') = cc in (ap (λ p. p.0) pair, ap (λ p. p.1) pair)
+
+-- What the chain gives is a function of the dumps.
 pub order_unique : (b : Bool) (dumps : List Dump) (d d' : ℕ) (s s' : List ℕ)
-    → MatchBool b (chain_of dumps ≡ Ok (d, s)) (IsNamed dumps d s) → MatchBool b (chain_of dumps ≡ Ok (d', s')) (IsNamed dumps d' s') → (d ≡ d') × (s ≡ s')
-order_unique true dumps d d' s s' a b = same_ok (chain_of dumps) d d' s s' a b
+    → MatchBool b (IsChained dumps d s) (IsNamed dumps d s) → MatchBool b (IsChained dumps d' s') (IsNamed dumps d' s') → (d ≡ d') × (s ≡ s')
+order_unique true dumps d d' s s' a b = same_ok (chain_of dumps) d d' s s' (chained dumps d s a) (chained dumps d' s' b)
 order_unique false dumps d d' s s' a b = named_unique dumps d d' s s' a b

@@ -1,8 +1,7 @@
 -- Dumps of tables, one at a time: which of them are taken, and what each refusal says of the bytes.
 use Rattle.std.specs.Prelude.{◌≡◌, ℕ, ◌<◌, ◌≤◌, ◌⊎◌, ⊤, Bool, true, false, List, codes, length, nat_eq, if◌then◌else◌}
 use Rattle.acpi_tables.specs.Bytes.{begins_with, checksum, HasLength}
-use Rattle.acpi_tables.specs.Header.{HoldsTable, table_of, HoldsRoot, root_sums, HoldsAddresses}
-use Rattle.acpi_tables.specs.Fadt.{HoldsFadt}
+use Rattle.acpi_tables.specs.Header.{table_of, HoldsRoot, root_sums, HoldsAddresses}
 use Rattle.acpi_tables.specs.Madt.{HoldsMadt, RefusesMadt}
 use Rattle.acpi_tables.specs.declared.dump.Content.{Content}
 use Rattle.acpi_tables.specs.declared.dump.Content.TheVariants.{Xsdt, Rsdt, Fadt, Madt, Other}
@@ -29,7 +28,7 @@ kind_of bytes =
 abbrev pub HoldsShape : Kind → List ℕ → Type 0
 HoldsShape Root bytes = HoldsRoot bytes
 HoldsShape Facs bytes = HasLength bytes 4 8
-HoldsShape (Standard content) bytes = HoldsTable bytes
+HoldsShape (Standard content) bytes = HasLength bytes 4 36
 
 -- whether its checksums are right (the FACS has none)
 abbrev pub sums_hold : Kind → List ℕ → Bool
@@ -37,11 +36,11 @@ sums_hold Root bytes = root_sums bytes
 sums_hold Facs bytes = true
 sums_hold (Standard content) bytes = nat_eq (checksum (table_of bytes)) 0
 
--- What is read of it can be read.
+-- What is read of it can be read: of a FADT the fields up to Flags, which are those of ACPI 1.0.
 abbrev pub HoldsContent : Kind → List ℕ → Type 0
 HoldsContent (Standard Xsdt) bytes = HoldsAddresses 8 (table_of bytes)
 HoldsContent (Standard Rsdt) bytes = HoldsAddresses 4 (table_of bytes)
-HoldsContent (Standard Fadt) bytes = HoldsFadt (table_of bytes)
+HoldsContent (Standard Fadt) bytes = 116 ≤ length (table_of bytes)
 HoldsContent (Standard Madt) bytes = HoldsMadt (table_of bytes)
 HoldsContent _ bytes = ⊤
 
@@ -65,7 +64,7 @@ shape_fault _ = Short
 abbrev pub RefusesContent : Kind → List ℕ → Bad → Type 0
 RefusesContent (Standard Xsdt) bytes bad = (bad ≡ BadRoot) × (¬ HoldsAddresses 8 (table_of bytes))
 RefusesContent (Standard Rsdt) bytes bad = (bad ≡ BadRoot) × (¬ HoldsAddresses 4 (table_of bytes))
-RefusesContent (Standard Fadt) bytes bad = (bad ≡ FadtShort) × (¬ HoldsFadt (table_of bytes))
+RefusesContent (Standard Fadt) bytes bad = (bad ≡ FadtShort) × (length (table_of bytes) < 116)
 RefusesContent (Standard Madt) bytes bad = RefusesMadt (table_of bytes) bad
 RefusesContent _ bytes bad = ⊥
 

@@ -1,5 +1,5 @@
 -- The Fixed ACPI Description Table (ACPI 6.5, section 5.2.9, table 5.9), as far as it is read here.
-use Rattle.std.specs.Prelude.{ℕ, ◌≤◌, List, [], ◌∷◌, length, map, Option, Some}
+use Rattle.std.specs.Prelude.{ℕ, List, [], ◌∷◌, map, Option, Some}
 use Rattle.acpi_tables.specs.Bytes.{Field, hex}
 use Rattle.acpi_tables.specs.declared.fadt.Fadt.{Fadt}
 
@@ -29,7 +29,3 @@ fadt_fields = map (λ row. row.0) fadt_rows
 
 abbrev pub fadt_values : Fadt → List (Option ℕ)
 fadt_values f = map (λ row. row.1 f) fadt_rows
-
--- a table that has the fields up to Flags, which are those of ACPI 1.0
-abbrev pub HoldsFadt : List ℕ → Type 0
-HoldsFadt table = 116 ≤ length table

@@ -8,7 +8,6 @@ use Rattle.acpi_tables.specs.declared.addresses.AddressWidth.TheVariants.{Four, 
 use Rattle.acpi_tables.specs.declared.header.Header.{Header}
 use Rattle.std.specs.List.{range_with_len}
 use Rattle.acpi_tables.specs.declared.rsdp.Rsdp.{Rsdp}
-use Rattle.acpi_tables.specs.declared.rsdp.Wide.{Wide}
 
 -- a table with its header: Length, at 4, covers the 36 bytes of the header and lies within the bytes
 abbrev pub HoldsTable : List ℕ → Type 0
@@ -57,7 +56,8 @@ address_bytes width table index = bytes_at table (36 + index * width) width
 
 -- the addresses
 abbrev pub addresses_of : ℕ → List ℕ → List ℕ
-addresses_of width table = map (address_at width table) (range_with_len 0 (address_count width table))
+addresses_of width table =
+    map (λ index. number_at table (36 + index * width) width) (range_with_len 0 ((length table - 36) / width))
 
 -- the member of the addresses at this index, in a table that holds them
 abbrev pub address_in : ℕ → List ℕ → ℕ → Option ℕ

@@ -93,21 +93,18 @@ records_from zero table at = []
 records_from (suc n) table at =
     if is_whole table at then record_bytes_at table at ∷ records_from n table (record_end table at) else []
 
--- those of a MADT, and the offset behind them
+-- those of a MADT
 abbrev pub records_of : List ℕ → List (List ℕ)
 records_of table = records_from (length table) table 44
-
-abbrev pub records_end : List ℕ → ℕ
-records_end table = 44 + length (concat (records_of table))
 
 -- a table whose bytes from 44 on are whole records
 pub record HoldsMadt (table : List ℕ) : Type 0 where
   pub header : 44 ≤ length table
-  pub whole : records_end table ≡ length table
+  pub whole : 44 + length (concat (records_of table)) ≡ length table
 
 -- whole records stand up to this offset, and a broken one begins there
 pub record BreaksAt (table : List ℕ) (at : ℕ) : Type 0 where
-  pub before : records_end table ≡ at
+  pub before : 44 + length (concat (records_of table)) ≡ at
   pub inside : at < length table
   pub broken : ¬ HoldsRecord table at
 

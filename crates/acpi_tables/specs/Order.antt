@@ -4,7 +4,7 @@ use Rattle.std.specs.Prelude.{length, take, map, reverse, filter, filter_map, fi
 use Rattle.std.specs.Prelude.{slice_index_or, nat_eq, nat_le, IsPermutation, IsSorted, string_bytes, if◌then◌else◌}
 use Rattle.std.specs.Prelude.{Option, Some, None, is_some, option_and_then, Result, Ok, Err, MatchBool}
 use Rattle.std.specs.Bool.{then_some}
-use Rattle.std.specs.Option.{ok_or, option_eq, option_map_or}
+use Rattle.std.specs.Option.{ok_or, option_eq}
 use Rattle.std.specs.Char.{is_ascii_digit}
 use Rattle.std.specs.Str.Parse.{digits_value}
 use Rattle.std.specs.List.{before_last, fold, list_any, range_with_len}
@@ -12,27 +12,12 @@ use Rattle.std.specs.declared.cmp.Ordering.{Ordering}
 use Rattle.std.specs.Ordering.{then_cmp, on, nat_cmp}
 use Rattle.std.specs.Cmp.Lexicographic.{slice_cmp}
 use Rattle.acpi_tables.specs.Bytes.{begins_with, number_at}
-use Rattle.acpi_tables.specs.Header.{HoldsTable, table_of, rsdp_of, addresses_of}
+use Rattle.acpi_tables.specs.Header.{HoldsTable, table_of, revision_of, addresses_of}
 use Rattle.acpi_tables.specs.Dumps.{HoldsDump, RefusesDump, most_bytes}
 use Rattle.acpi_tables.specs.declared.dump.Dump.{Dump}
 use Rattle.acpi_tables.specs.declared.faults.Bad.{Bad}
 use Rattle.acpi_tables.specs.declared.faults.Bad.TheVariants.{TooManyTables, RootMissing, FadtMissing, NoDsdt, TwoDsdts}
 use Rattle.acpi_tables.specs.declared.faults.TableFault.{TableFault}
-use Rattle.acpi_tables.specs.declared.rsdp.Rsdp.{Rsdp}
-use Rattle.acpi_tables.specs.declared.rsdp.Wide.{Wide}
-
--- for `do`: what follows an Ok
-infixl 10 ◌>>=◌
-abbrev pub ◌>>=◌ : {A B E : Type 0} → Result A E → (A → Result B E) → Result B E
-(Ok x) >>= f = f x
-(Err e) >>= f = Err e
-
--- a fault of the set, and one of the dump at an index
-abbrev pub of_set : Bad → TableFault
-of_set bad = record { dump = None; bad = bad }
-
-abbrev pub of_dump : ℕ → Bad → TableFault
-of_dump index bad = record { dump = Some index; bad = bad }
 
 -- the bytes of the dump at an index, and its name
 unfoldable pub bytes_of : List Dump → ℕ → List ℕ
@@ -72,15 +57,9 @@ rank_cmp dumps =
     then_cmp (on (λ index. ending_number (name_of dumps index)) nat_cmp)
     (then_cmp (on (name_of dumps) (slice_cmp nat_cmp)) nat_cmp)
 
--- The only DSDT, or the fault that there is none or a second one.
-abbrev pub only_dsdt : List ℕ → Result ℕ TableFault
-only_dsdt [] = Err (of_set NoDsdt)
-only_dsdt (dsdt ∷ []) = Ok dsdt
-only_dsdt (_ ∷ second ∷ _) = Err (of_dump second TwoDsdts)
-
 -- The DSDT is the only one, and the SSDTs are all of them, each once, sorted.
 pub record IsNamed (dumps : List Dump) (dsdt : ℕ) (ssdts : List ℕ) : Type 0 where
-  pub only : only_dsdt (indexes_with dumps (codes "DSDT")) ≡ Ok dsdt
+  pub only : indexes_with dumps (codes "DSDT") ≡ dsdt ∷ []
   pub all : IsPermutation (indexes_with dumps (codes "SSDT")) ssdts
   pub sorted : IsSorted (rank_cmp dumps) ssdts
 
@@ -90,45 +69,35 @@ abbrev pub is_addressed : List Dump → Bool
 is_addressed dumps = list_any (λ dump. is_some dump.address) dumps
 
 -- the first dump at an address
-abbrev pub stands_at : ℕ → Dump → Bool
-stands_at address dump = option_eq nat_eq dump.address (Some address)
-
 abbrev pub dump_at : List Dump → ℕ → Option ℕ
-dump_at dumps address = position (stands_at address) dumps
+dump_at dumps address = position (λ dump. option_eq nat_eq dump.address (Some address)) dumps
 
--- the same, if it has a signature
+-- the first dump at an address, if it has a signature
 abbrev pub signed_at : List Dump → List ℕ → ℕ → Option ℕ
 signed_at dumps signature address =
     option_and_then (λ index. then_some (has_signature dumps signature index) index) (dump_at dumps address)
 
--- the first RSDP
-abbrev pub root_of : List Dump → Option ℕ
-root_of dumps = find (has_signature dumps (codes "RSD PTR ")) (range_with_len 0 (length dumps))
-
 -- the XSDT's address that an RSDP gives (section 5.2.5.3), from revision 2 on, and 0 where it gives none
-abbrev pub xsdt_address : Option Wide → ℕ
-xsdt_address wide = option_map_or (λ w. w.xsdt) wide 0
+abbrev pub xsdt_address : List ℕ → ℕ
+xsdt_address root = if nat_le 2 (revision_of root) then number_at root 24 8 else 0
 
 -- the list of the tables that an RSDP leads to: the XSDT where it gives that address, else the RSDT
-abbrev pub list_of : List Dump → Rsdp → Option ℕ
+abbrev pub list_of : List Dump → List ℕ → Option ℕ
 list_of dumps root =
-    if nat_eq (xsdt_address root.wide) 0 then signed_at dumps (codes "RSDT") root.rsdt
-    else signed_at dumps (codes "XSDT") (xsdt_address root.wide)
+    if nat_eq (xsdt_address root) 0 then signed_at dumps (codes "RSDT") (number_at root 16 4)
+    else signed_at dumps (codes "XSDT") (xsdt_address root)
 
 -- how many bytes an address has in such a list
 abbrev pub width_of : List ℕ → ℕ
 width_of list = if begins_with list (codes "XSDT") then 8 else 4
 
--- each number where it stands first
+-- one number more, unless it is there already
 abbrev pub with_more : List ℕ → ℕ → List ℕ
 with_more xs x = if list_any (λ y. nat_eq y x) xs then xs else xs ++ x ∷ []
 
-abbrev pub each_once : List ℕ → List ℕ
-each_once = fold with_more []
-
--- the dumps at some addresses; an address with no dump is skipped
+-- the dumps at some addresses, each where it stands first; an address with no dump is skipped
 abbrev pub listed_in : List Dump → List ℕ → List ℕ
-listed_in dumps addresses = each_once (filter_map (dump_at dumps) addresses)
+listed_in dumps addresses = fold with_more [] (filter_map (dump_at dumps) addresses)
 
 -- those that a list gives, in its order
 abbrev pub listed_by : List Dump → ℕ → List ℕ
@@ -141,18 +110,17 @@ dsdt_address table =
     if nat_le 148 (length table) && not (nat_eq (number_at table 140 8) 0) then number_at table 140 8
     else number_at table 40 4
 
-abbrev pub dsdt_of : List Dump → ℕ → Option ℕ
-dsdt_of dumps fadt = signed_at dumps (codes "DSDT") (dsdt_address (table_of (bytes_of dumps fadt)))
-
--- The chain: the first RSDP, the list that it leads to, the first FADT that this lists, the DSDT whose address that
--- gives, and the SSDTs that are listed; or the fault that one of them isn't there.
-abbrev pub chain_of : List Dump → Result (ℕ × List ℕ) TableFault
-chain_of dumps = do
-  root ← ok_or (root_of dumps) (of_set RootMissing)
-  list ← ok_or (list_of dumps (rsdp_of (bytes_of dumps root))) (of_dump root RootMissing)
-  fadt ← ok_or (find (has_signature dumps (codes "FACP")) (listed_by dumps list)) (of_dump list FadtMissing)
-  dsdt ← ok_or (dsdt_of dumps fadt) (of_set NoDsdt)
-  Ok (dsdt, filter (has_signature dumps (codes "SSDT")) (listed_by dumps list))
+-- The first RSDP leads to a list, the first FADT that this lists gives the address of the DSDT, and the SSDTs are those
+-- that it lists.
+pub record IsChained (dumps : List Dump) (dsdt : ℕ) (ssdts : List ℕ) : Type 0 where
+  pub root : ℕ
+  pub list : ℕ
+  pub fadt : ℕ
+  pub first : find (has_signature dumps (codes "RSD PTR ")) (range_with_len 0 (length dumps)) ≡ Some root
+  pub leads : list_of dumps (bytes_of dumps root) ≡ Some list
+  pub names : find (has_signature dumps (codes "FACP")) (listed_by dumps list) ≡ Some fadt
+  pub gives : signed_at dumps (codes "DSDT") (dsdt_address (table_of (bytes_of dumps fadt))) ≡ Some dsdt
+  pub all : filter (has_signature dumps (codes "SSDT")) (listed_by dumps list) ≡ ssdts
 
 -- Each dump is taken by itself.
 abbrev pub AreTaken : List Dump → Bool → Type 0
@@ -166,13 +134,43 @@ most_dumps = 512
 pub record IsOrder (dumps : List Dump) (any_sum : Bool) (dsdt : ℕ) (ssdts : List ℕ) : Type 0 where
   pub few : length dumps ≤ most_dumps
   pub each : AreTaken dumps any_sum
-  pub blocks : MatchBool (is_addressed dumps) (chain_of dumps ≡ Ok (dsdt, ssdts)) (IsNamed dumps dsdt ssdts)
+  pub blocks : MatchBool (is_addressed dumps) (IsChained dumps dsdt ssdts) (IsNamed dumps dsdt ssdts)
 
 -- Each of the dumps at these indexes is a table with its header, of no more bytes than a dump may have.
 abbrev pub AreTables : List Dump → List ℕ → Type 0
 AreTables dumps [] = ⊤
 AreTables dumps (index ∷ indexes) =
     HoldsTable (bytes_of dumps index) × (length (bytes_of dumps index) ≤ most_bytes) × AreTables dumps indexes
+
+-- ---- Why dumps are refused.
+
+-- for `do`: what follows an Ok
+infixl 10 ◌>>=◌
+abbrev pub ◌>>=◌ : {A B E : Type 0} → Result A E → (A → Result B E) → Result B E
+(Ok x) >>= f = f x
+(Err e) >>= f = Err e
+
+-- a fault of the set, and one of the dump at an index
+abbrev pub of_set : Bad → TableFault
+of_set bad = record { dump = None; bad = bad }
+
+abbrev pub of_dump : ℕ → Bad → TableFault
+of_dump index bad = record { dump = Some index; bad = bad }
+
+-- What the chain gives as `IsChained` says it, or the fault that a part of it isn't there.
+abbrev pub chain_of : List Dump → Result (ℕ × List ℕ) TableFault
+chain_of dumps = do
+  root ← ok_or (find (has_signature dumps (codes "RSD PTR ")) (range_with_len 0 (length dumps))) (of_set RootMissing)
+  list ← ok_or (list_of dumps (bytes_of dumps root)) (of_dump root RootMissing)
+  fadt ← ok_or (find (has_signature dumps (codes "FACP")) (listed_by dumps list)) (of_dump list FadtMissing)
+  dsdt ← ok_or (signed_at dumps (codes "DSDT") (dsdt_address (table_of (bytes_of dumps fadt)))) (of_set NoDsdt)
+  Ok (dsdt, filter (has_signature dumps (codes "SSDT")) (listed_by dumps list))
+
+-- The only DSDT, or the fault that there is none or a second one.
+abbrev pub only_dsdt : List ℕ → Result ℕ TableFault
+only_dsdt [] = Err (of_set NoDsdt)
+only_dsdt (dsdt ∷ []) = Ok dsdt
+only_dsdt (_ ∷ second ∷ _) = Err (of_dump second TwoDsdts)
 
 -- Why there is no order of dumps that are all taken.
 abbrev pub RefusesOrder : List Dump → TableFault → Type 0

@@ -1,9 +1,10 @@
 //! The order of the definition blocks where addresses lead from the RSDP over the XSDT or RSDT and the FADT to a DSDT.
-ghost use Rattle.std.specs.Prelude.{◌≡◌, ◌⊎◌, ◌<◌, ◌≤◌, None, Ok, Err, true, filter, find, IfOk, IfErr};
-ghost use Rattle.acpi_tables.specs.Header.{HoldsTable, table_of, HoldsAddresses, address_width, addresses_of};
-ghost use Rattle.acpi_tables.specs.Fadt.{HoldsFadt};
-ghost use Rattle.acpi_tables.specs.Order.{AreTaken, bytes_of, chain_of, dump_at, signed_at, root_of};
-ghost use Rattle.acpi_tables.specs.Order.{xsdt_address, list_of, width_of, listed_by, dsdt_of, dsdt_address};
+ghost use Rattle.std.specs.Prelude.{◌≡◌, ◌⊎◌, ◌<◌, ◌≤◌, None, Err, true, codes, filter, find, length, IfOk, IfErr};
+ghost use Rattle.std.specs.List.{range_with_len};
+ghost use Rattle.std.specs.Option.{option_map, unwrap_or};
+ghost use Rattle.acpi_tables.specs.Header.{HoldsRoot, HoldsTable, table_of, HoldsAddresses, address_width, addresses_of};
+ghost use Rattle.acpi_tables.specs.Order.{AreTaken, IsChained, bytes_of, chain_of, dump_at, signed_at};
+ghost use Rattle.acpi_tables.specs.Order.{list_of, width_of, listed_by, dsdt_address};
 ghost use Rattle.acpi_tables.specs.Order.{listed_in, has_signature};
 ghost use Rattle.acpi_tables.specs.declared.faults.Bad.TheVariants.{NoMemory};
 
@@ -21,13 +22,13 @@ use std::alloc::{AllocError, Global};
 /// The order that the chain gives.
 pub(crate) fn order_by_chain(alloc: Global, dumps: &[Dump]) -> Result<Order, TableFault>
     requires { AreTaken dumps.now true }
-    ensures order { IfOk result (λ order. chain_of dumps.now ≡ Ok (order.dsdt, order.ssdts.items)) }
+    ensures order { IfOk result (λ order. IsChained dumps.now order.dsdt order.ssdts.items) }
     ensures refused { IfErr result (λ fault. (fault ≡ record { dump = None; bad = NoMemory }) ⊎
         (chain_of dumps.now ≡ Err fault)) }
 {
     let root = root_of(dumps).ok_or(TableFault::of_set(Bad::RootMissing))?;
-    let pointer = Rsdp::of(bytes_of(dumps, root));
-    let list = list_of(dumps, &pointer).ok_or(TableFault::of_dump(root, Bad::RootMissing))?;
+    let pointer = bytes_of(dumps, root);
+    let list = list_of(dumps, pointer).ok_or(TableFault::of_dump(root, Bad::RootMissing))?;
     let listed = listed_by(alloc, dumps, list)?;
     let fadt = first_of(dumps, &listed, &FACP).ok_or(TableFault::of_dump(list, Bad::FadtMissing))?;
     let dsdt = dsdt_of(dumps, fadt).ok_or(TableFault::of_set(Bad::NoDsdt))?;
@@ -37,15 +38,17 @@ pub(crate) fn order_by_chain(alloc: Global, dumps: &[Dump]) -> Result<Order, Tab
 
 /// The first RSDP.
 fn root_of(dumps: &[Dump]) -> Option<usize>
-    ensures { result ≡ root_of dumps.now }
+    ensures { result ≡ find (has_signature dumps.now (codes "RSD PTR ")) (range_with_len 0 (length dumps.now)) }
 {
     (0..dumps.len()).find(|index| has_signature(dumps, *index, &RSDP))
 }
 
 /// The XSDT that an RSDP leads to, or else the RSDT.
-fn list_of(dumps: &[Dump], root: &Rsdp) -> Option<usize>
-    ensures { result ≡ list_of dumps.now root.now }
+fn list_of(dumps: &[Dump], pointer: &[u8]) -> Option<usize>
+    requires { HoldsRoot pointer.now }
+    ensures { result ≡ list_of dumps.now pointer.now }
 {
+    let root = Rsdp::of(pointer);
     let xsdt = xsdt_address(root.wide);
     if xsdt == 0 {
         signed_at(dumps, &RSDT, u64::from(root.rsdt))
@@ -56,9 +59,9 @@ fn list_of(dumps: &[Dump], root: &Rsdp) -> Option<usize>
 
 /// The address of the XSDT that an RSDP gives, and 0 where it gives none.
 fn xsdt_address(wide: Option<Wide>) -> u64
-    ensures { result ≡ xsdt_address wide }
+    ensures { result ≡ unwrap_or (option_map (λ w. w.xsdt) wide) 0 }
 {
-    wide.map_or(0, |wide| wide.xsdt)
+    wide.map(|wide| wide.xsdt).unwrap_or(0)
 }
 
 /// The first dump at this address, if it has this signature.
@@ -123,15 +126,15 @@ fn first_of(dumps: &[Dump], listed: &[usize], signature: &[u8]) -> Option<usize>
 /// The DSDT whose address a FADT gives.
 fn dsdt_of(dumps: &[Dump], fadt: usize) -> Option<usize>
     requires table { HoldsTable (bytes_of dumps.now fadt) }
-    requires holds { HoldsFadt (table_of (bytes_of dumps.now fadt)) }
-    ensures { result ≡ dsdt_of dumps.now fadt }
+    requires holds { 116 ≤ length (table_of (bytes_of dumps.now fadt)) }
+    ensures { result ≡ signed_at dumps.now (codes "DSDT") (dsdt_address (table_of (bytes_of dumps.now fadt))) }
 {
     signed_at(dumps, &DSDT, dsdt_address(table_of(bytes_of(dumps, fadt))))
 }
 
 /// The DSDT's address in a FADT.
 fn dsdt_address(table: &[u8]) -> u64
-    requires { HoldsFadt table.now }
+    requires { 116 ≤ length table.now }
     ensures { result ≡ dsdt_address table.now }
 {
     if table.len() >= X_DSDT_END {

@@ -1,5 +1,6 @@
 //! Dumps of tables, and what one dump is refused for by itself.
-ghost use Rattle.std.specs.Prelude.{◌≡◌, ◌↔◌, IsTrue, OnOk, IfErr};
+ghost use Rattle.std.specs.Prelude.{◌≡◌, ◌↔◌, Some, nat_eq, IsTrue, OnOk, IfErr};
+ghost use Rattle.std.specs.Option.{option_eq};
 ghost use Rattle.acpi_tables.specs.Header.{HoldsTable, table_of};
 ghost use Rattle.acpi_tables.specs.Dumps.{content_of, kind_of, HoldsShape, sums_hold, HoldsContent, HoldsDump};
 ghost use Rattle.acpi_tables.specs.Dumps.{shape_fault, RefusesContent, RefusesDump};
@@ -30,11 +31,9 @@ pub struct Dump {
 }
 
 impl Dump {
-    ghost use Rattle.acpi_tables.specs.Order.{stands_at};
-
     /// Whether the table stood at this address.
     pub(crate) fn stands_at(&self, address: u64) -> bool
-        ensures { result ≡ stands_at address self.now }
+        ensures { result ≡ option_eq nat_eq self.now.address (Some address) }
     {
         self.address == Some(address)
     }

@@ -1,5 +1,5 @@
 //! The table that names the DSDT (ACPI 6.5, section 5.2.9).
-ghost use Rattle.std.specs.Prelude.{◌≡◌, ◌↔◌, ◌≤◌, map, IsOk, IfOk, IfErr, OnOk};
+ghost use Rattle.std.specs.Prelude.{◌≡◌, ◌↔◌, ◌<◌, ◌≤◌, length, map, IsOk, IfOk, IfErr, OnOk};
 ghost use Rattle.acpi_tables.specs.declared.faults.Bad.TheVariants.{FadtShort};
 
 use crate::bytes::{u8_at, u16_at, u32_at, u64_at};
@@ -55,7 +55,7 @@ pub struct Fadt {
 
 impl Fadt {
     ghost use Rattle.acpi_tables.specs.Bytes.{value_in};
-    ghost use Rattle.acpi_tables.specs.Fadt.{HoldsFadt, fadt_fields, fadt_values};
+    ghost use Rattle.acpi_tables.specs.Fadt.{fadt_fields, fadt_values};
 
     /// The fields of a FADT. `table` is the first Length bytes of a dump.
     ///
@@ -63,7 +63,7 @@ impl Fadt {
     /// `Bad::FadtShort` below 116 bytes.
     #[tactic(auto, using(crate::proofs::Values::values))]
     pub fn read(table: &[u8]) -> Result<Fadt, Bad>
-        ensures holds { IsOk result ↔ HoldsFadt table.now }
+        ensures holds { IsOk result ↔ (116 ≤ length table.now) }
         ensures short { IfErr result (λ bad. bad ≡ FadtShort) }
         ensures fields { IfOk result (λ fadt. fadt_values fadt ≡ map (value_in table.now) fadt_fields) }
     {
@@ -90,8 +90,8 @@ impl Fadt {
 
     /// Whether `read` takes this table, and else why not.
     pub(crate) fn check(table: &[u8]) -> Result<(), Bad>
-        ensures holds { OnOk result (HoldsFadt table.now) }
-        ensures short { IfErr result (λ bad. (bad ≡ FadtShort) × (¬ HoldsFadt table.now)) }
+        ensures holds { OnOk result (116 ≤ length table.now) }
+        ensures short { IfErr result (λ bad. (bad ≡ FadtShort) × (length table.now < 116)) }
     {
         if table.len() < FLAGS_END {
             return Err(Bad::FadtShort);
@@ -100,7 +100,7 @@ impl Fadt {
     }
 }
 
-ghost use Rattle.std.specs.Prelude.{Some, None, ◌+◌, nat_le, length, if◌then◌else◌};
+ghost use Rattle.std.specs.Prelude.{Some, None, ◌+◌, nat_le, if◌then◌else◌};
 ghost use Rattle.acpi_tables.specs.Bytes.{number_at};
 
 /// The address at this offset, if the table reaches to its end.

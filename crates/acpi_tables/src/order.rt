@@ -1,5 +1,5 @@
 //! The order in which the definition blocks of a set of tables are loaded.
-ghost use Rattle.std.specs.Prelude.{◌≡◌, ◌⊎◌, ◌<◌, ◌≤◌, ◌∷◌, ℕ, List, None, true, Ok, MatchBool, IfOk, IfErr, OnOk, length};
+ghost use Rattle.std.specs.Prelude.{◌≡◌, ◌⊎◌, ◌<◌, ◌≤◌, ◌∷◌, ℕ, List, None, true, MatchBool, IfOk, IfErr, OnOk, length};
 ghost use Rattle.acpi_tables.specs.declared.faults.Bad.TheVariants.{NoMemory};
 ghost use Rattle.acpi_tables.specs.declared.faults.TableFault.{TableFault};
 
@@ -19,7 +19,7 @@ pub struct Order {
     pub ssdts: Vec<usize>,
 }
 
-ghost use Rattle.acpi_tables.specs.Order.{AreTables, AreTaken, IsNamed, IsOrder, Refuses, chain_of};
+ghost use Rattle.acpi_tables.specs.Order.{AreTables, AreTaken, IsChained, IsNamed, IsOrder, Refuses};
 ghost use Rattle.acpi_tables.specs.Order.{RefusesBytes, RefusesOrder, is_addressed};
 
 /// The order of the definition blocks of these dumps.
@@ -58,7 +58,7 @@ pub fn load_order(alloc: Global, dumps: &[Dump], any_sum: bool) -> Result<Order,
 fn find_order(alloc: Global, dumps: &[Dump]) -> Result<Order, TableFault>
     requires { AreTaken dumps.now true }
     ensures blocks { IfOk result (λ order. MatchBool (is_addressed dumps.now)
-        (chain_of dumps.now ≡ Ok (order.dsdt, order.ssdts.items))
+        (IsChained dumps.now order.dsdt order.ssdts.items)
         (IsNamed dumps.now order.dsdt order.ssdts.items)) }
     ensures refused { IfErr result (λ fault. (fault ≡ record { dump = None; bad = NoMemory }) ⊎
         RefusesOrder dumps.now fault) }

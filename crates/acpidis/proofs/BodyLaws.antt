@@ -3,7 +3,7 @@
 -- their marks.
 use Rattle.acpidis.proofs.Common.{AllZip, ◌≡◌, ℕ, suc, Bool, false, List, [], ◌∷◌, ◌++◌, map, length, Some, Result, Ok, Err, refl, sym, ap, ap₂, subst, arith}
 use Rattle.acpidis.proofs.Common.{slice_get, map-id, Entry, CodeFault, Trees, OfMethod, table_codes, span_of, body_in, TableSet, Method, Body, AgreeAt, OneBody}
-use Rattle.acpidis.proofs.Common.{read, raw, all_lines, body_lines, BodyText, IsText, body_view, printed_lines, IsEntry, AreEntries, Became, BecameIn}
+use Rattle.acpidis.proofs.Common.{read, raw, all_lines, body_lines, BodyText, IsText, body_view, printed_lines, IsEntry, Became, BecameIn}
 use Rattle.acpidis.proofs.Common.{AreBodies, has_raw, mark_of, marks_of, IsKept, AreKept, AreKeptOf, IsSame, has_fault, tried_mark, tried_marks, get_or}
 use Rattle.aml_space.specs.Known.{StandsFor}
 use Rattle.asl_text.specs.declared.bodies.Body.TheVariants as bodies
@@ -28,10 +28,10 @@ module _ (z : Bool) (x : TableSet) (es : List Entry) (stands : StandsFor x.space
   the_entry m (bodies.Raw f) (read ts) h e = absurd ((h es stands).unread.none ts e)
   the_entry m (bodies.Raw f) raw h e = refl
 
-  pub are_entries : (ms : List Method) (ds : List Body) → AllZip (BecameIn z x) ms ds → AreEntries z es (table_codes x.tables.items) ms (map body_view ds)
+  pub are_entries : (ms : List Method) (ds : List Body) → AllZip (BecameIn z x) ms ds → AllZip (IsEntry z es (table_codes x.tables.items)) ms (map body_view ds)
   are_entries ms ds h = all_zip_to (BecameIn z x) (IsEntry z es (table_codes x.tables.items)) body_view is_entry ms ds h
 
-  pub the_entries : (ms : List Method) (ds : List Body) (bs : List OneBody) → AllZip (BecameIn z x) ms ds → AreEntries z es (table_codes x.tables.items) ms bs
+  pub the_entries : (ms : List Method) (ds : List Body) (bs : List OneBody) → AllZip (BecameIn z x) ms ds → AllZip (IsEntry z es (table_codes x.tables.items)) ms bs
       → bs ≡ map body_view ds
   the_entries [] [] [] h e = refl
   the_entries [] [] (b ∷ bs) h e = absurd e

@@ -2,7 +2,7 @@
 -- table of a listing that dumps mean differs.
 use Rattle.acpidis.proofs.Common.{◌&&◌, filter, list_all, All-filter, AllPass-from_list_all, list_all-from_AllPass, ◌≡◌, ℕ, suc, Bool, true, List, [], ◌∷◌}
 use Rattle.acpidis.proofs.Common.{refl, ap₂, map, Trees, Entry, AllZip, methods_of, span_of, Method, OneBody, read, raw, names_in, blocks_of, Dump}
-use Rattle.acpidis.proofs.Common.{Options, Mark, IsEntry, AreEntries, same_bytes, body_same, marks_of, checks_with, tallied, uncounted, all_same, Meaning}
+use Rattle.acpidis.proofs.Common.{Options, Mark, IsEntry, same_bytes, body_same, marks_of, checks_with, tallied, uncounted, all_same, Meaning}
 use Rattle.acpidis.proofs.Common.{Means, order_of, codes_of}
 use Rattle.acpidis.proofs.Spelling.{Spells, all_spelled}
 use Rattle.std.proofs.lemmas.Slice.Eq.{bytes_eq-Decides}
@@ -18,7 +18,7 @@ kept_same : (test : Mark → Bool) (marks : List Mark) → list_all (λ m. m.sam
 kept_same test marks h = list_all-from_AllPass (λ m. m.same) (filter test marks)
     (All-filter test (λ m. m.same ≡ true) marks (AllPass-from_list_all (λ m. m.same) marks h))
 
-marks_same : (z : Bool) (es : List Entry) (codes : List (List ℕ)) (ms : List Method) (bs : List OneBody) → AreEntries z es codes ms bs
+marks_same : (z : Bool) (es : List Entry) (codes : List (List ℕ)) (ms : List Method) (bs : List OneBody) → AllZip (IsEntry z es codes) ms bs
     → list_all (λ m. m.same) (marks_of codes ms bs) ≡ true
 marks_same z es codes [] bs h = refl
 marks_same z es codes (m ∷ ms) [] h = refl

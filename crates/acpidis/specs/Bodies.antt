@@ -34,10 +34,6 @@ abbrev pub IsEntry : Bool → List Entry → List (List ℕ) → Method → OneB
 IsEntry unknown_zero es tables m (read ts) = IsBody unknown_zero es tables m ts
 IsEntry unknown_zero es tables m raw = (ts : Trees) → IsBody unknown_zero es tables m ts → ⊥
 
--- one for each method
-abbrev pub AreEntries : Bool → List Entry → List (List ℕ) → List Method → List OneBody → Type 0
-AreEntries unknown_zero es tables ms bodies = AllZip (IsEntry unknown_zero es tables) ms bodies
-
 -- whether a body is raw, and whether one of several is
 abbrev pub is_raw : OneBody → Bool
 is_raw (read ts) = false

@@ -20,7 +20,7 @@ use Rattle.acpi_tables.specs.declared.dump.Dump.{Dump}
 use Rattle.acpi_tables.specs.declared.order.Order.{Order}
 use Rattle.acpi_tables.specs.Order.{IsOrder}
 use Rattle.acpidis.specs.declared.options.Options.{Options}
-use Rattle.acpidis.specs.Bodies.{codes_in, AreEntries, Became}
+use Rattle.acpidis.specs.Bodies.{codes_in, IsEntry, Became}
 
 -- a listing: the indexes of the definition blocks in load order, their terms, what these declare, and a body for each
 -- method
@@ -56,7 +56,7 @@ pub record LoadsSet (dumps : List Dump) (options : Options) (k : Meaning) : Type
 -- namespace of all entries, or raw, where it reads as no terms.
 pub record Means (dumps : List Dump) (options : Options) (k : Meaning) : Type 0 where
   pub set : LoadsSet dumps options k
-  pub bodies : AreEntries options.unknown_zero k.listed.entries (codes_of dumps k) (methods_of k.listed.entries)
+  pub bodies : AllZip (IsEntry options.unknown_zero k.listed.entries (codes_of dumps k)) (methods_of k.listed.entries)
       k.bodies
 
 -- the rows of the namespace: the declared paths in order, each once, with what its declarations say

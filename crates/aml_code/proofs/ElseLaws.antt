@@ -16,6 +16,7 @@ use Rattle.aml_code.specs.Lawful.{after, Setting, IsLawful, AreTerms, AreParts, 
 use Rattle.aml_code.specs.Laws.{ElsesFollow, ElseFollows, NoElses, FollowInParts, FollowInTail, FollowInFields}
 use Rattle.aml_code.specs.Faults.{Arities}
 use Rattle.aml_code.proofs.RowFacts.{row_opcode, not_true, rows_say}
+use Rattle.aml_code.proofs.Takers.{taker_takes}
 use Rattle.aml_code.proofs.InnerLaws.{is_inner, inner_next}
 use Rattle.aml_code.specs.Tree.{Tree, nothing, named, op, Trees, no_trees, tree_more, child, Parts, no_parts, part_more, Tail, terms, elements, fields}
 use Rattle.aml_code.specs.Tree.{connection, Fields, no_fields, field_more, target, buffer}
@@ -83,7 +84,7 @@ module _ (s : Setting) where
     else_follows (suc levels) p ls nothing before k l = tt
     else_follows (suc levels) p ls (named n ts) before k l = none_follow levels positions.Argument ls ts refl l.3
     else_follows (suc levels) p ls (op o w ps t) before k l = (
-      may_follow p before o l.row k l.listed l.taken,
+      may_follow p before o l.row k l.listed (taker_takes p (l.row).place l.taken),
       parts_follow levels (l.row).parts ls ps l.parts,
       tail_follows levels (terms_in p (l.row).place) _ ls t (inner p (l.row).place) l.tail,
     )

@@ -15,6 +15,7 @@ use Rattle.aml_code.specs.Tree.{Tree, nothing, named, op, Trees, no_trees, tree_
 use Rattle.aml_code.specs.Lawful.{names_declared, with_declared, declared_by, after, after_all, after_tail, Setting, IsLawful, AreTerms, IsTail, next_position}
 use Rattle.aml_code.specs.Lawful.{terms_in, tail_in}
 use Rattle.aml_code.proofs.RowFacts.{and_left, and_right, rows_say}
+use Rattle.aml_code.proofs.Takers.{taker_takes}
 
 abbrev pub is_inner : Position → Bool
 is_inner positions.Argument = true
@@ -78,7 +79,7 @@ unchanged s (suc levels) p ls nothing i h = refl
 unchanged s (suc levels) p ls (named n ts) i h = refl
 unchanged s (suc levels) p ls (op o w ps t) i h =
     let row = h.row in
-    let q = quiet o row h.listed (as_argument p row.place i h.taken) in
+    let q = quiet o row h.listed (as_argument p row.place i (taker_takes p row.place h.taken)) in
     ap (λ (f : Option Row). declared_by s.scope f (after_tail s.scope ls t) ps t) h.listed
     ∙ none_declared s.scope (after_tail s.scope ls t) row.role ps t (and_left (is_other row.role) (not (has_terms row.tail)) q)
     ∙ tail_unchanged s levels _ row.tail ls t (and_right (is_other row.role) (not (has_terms row.tail)) q)

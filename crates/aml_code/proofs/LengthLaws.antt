@@ -1,5 +1,5 @@
 -- A package length that is read is the one that is spelled, and one that is spelled is read again.
-use Rattle.std.specs.Prelude.{slice_get}
+use Rattle.std.specs.Prelude.{slice_get, Some}
 use Rattle.std.proofs.Common.{◌≡◌, ℕ, zero, suc, ◌+◌, ◌-◌, ◌*◌, ◌/◌, ◌%◌, ◌^◌, ◌<◌, ◌≤◌, true, false, eqb, ltb, List, [], ◌∷◌, ◌++◌, length, take, drop, Result}
 use Rattle.std.proofs.Common.{Ok, Err, refl, sym, ap, subst, ◌∙◌, ◌⊎◌, arith, inl, inr}
 use Rattle.std.proofs.lemmas.Bool.{ltb-false, le-ltb, ltb-true, eqb-true, eqb-false, eq-eqb, ne_eqb}
@@ -15,6 +15,7 @@ use Rattle.aml_code.specs.declared.packages.PkgWidth.TheVariants as width
 use Rattle.aml_code.specs.Packages.{following_bytes, width_of, width_len, little, spelled, package_bytes, FitsFollowing, FitsWidth, little_at, value_at}
 use Rattle.aml_code.specs.Packages.{length_at, span_at, front_at}
 use Rattle.aml_code.specs.Faults.{HasPkgBits, IsLengthFault}
+use Rattle.aml_code.specs.Tree.{op, Parts, empty, opcode_bytes, encoding, parts_encoding}
 use Rattle.aml_code.proofs.Answered.{answered, not_answered}
 
 -- ---- numbers, the lowest byte first
@@ -87,6 +88,20 @@ length-package_bytes width.One v = refl
 length-package_bytes width.Two v = refl
 length-package_bytes width.Three v = refl
 length-package_bytes width.Four v = refl
+
+-- the bytes of a term in front of its tail
+pub front_length : (code : List ℕ) (o : ℕ) (w : PkgWidth) (ps : Parts)
+    → length (encoding code (op o (Some w) ps empty)) ≡ length (opcode_bytes o) + (width_len w + length (parts_encoding code ps))
+front_length code o w ps =
+    let content = parts_encoding code ps ++ [] in
+    let bytes = package_bytes w (width_len w + length content) in
+    omega (
+      arith,
+      length-append (opcode_bytes o) (bytes ++ content),
+      length-append bytes content,
+      length-append (parts_encoding code ps) [],
+      length-package_bytes w (width_len w + length content),
+    )
 
 -- ---- package lengths
 

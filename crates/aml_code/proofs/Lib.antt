@@ -2,6 +2,7 @@ pub mod LengthLaws
 pub mod Views
 pub mod Within
 pub mod RowFacts
+pub mod Takers
 pub mod InnerLaws
 pub mod Answered
 pub mod ElseLaws

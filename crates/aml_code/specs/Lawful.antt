@@ -1,6 +1,7 @@
 -- What a term declares (ACPI 6.5, 5.3 and 20.2.5), and which paths are declared once it was read.
 use Rattle.std.specs.Prelude.{ℕ, false, List, [], ◌∷◌, Option, Some, None, ◌≡◌, zero, suc, ◌+◌, ◌^◌, ◌<◌, ◌≤◌, Bool}
 use Rattle.std.specs.Prelude.{true, cond, ◌++◌, ◌==◌, length, All, option_map, option_to_list}
+use Rattle.std.specs.List.{Contains, filter_map, fold}
 use Rattle.std.specs.FinSet as set
 use Rattle.aml_names.specs.declared.segments.Seg.{Seg}
 use Rattle.aml_names.specs.declared.names.Name.{Name}
@@ -9,11 +10,11 @@ use Rattle.aml_names.specs.Paths.{PathSet}
 use Rattle.aml_names.specs.Names.{placed, IsNameSeg, IsName}
 use Rattle.aml_code.specs.declared.rows.Role.{Role}
 use Rattle.aml_code.specs.declared.rows.Role.TheVariants as roles
-use Rattle.aml_code.specs.Opcodes.{Row, row_of, has_length, takes}
+use Rattle.aml_code.specs.Opcodes.{Row, row_of, takers}
 use Rattle.aml_code.specs.Tree.{Tree, nothing, named, op, Trees, no_trees, tree_more, label, byte, Parts, no_parts}
 use Rattle.aml_code.specs.Tree.{part_more, Tail, terms, fields, unit, Fields, no_fields, field_more, Part, child, word}
 use Rattle.aml_code.specs.Tree.{dword, qword, text, empty, bytes, elements, body, Field, reserved, access, connection}
-use Rattle.aml_code.specs.Tree.{extended, target, buffer, tree_count, parts_encoding, tail_encoding, opcode_bytes}
+use Rattle.aml_code.specs.Tree.{extended, target, buffer, tree_count, parts_encoding, tail_encoding}
 use Rattle.aml_code.specs.Tree.{encoding, encodings}
 use Rattle.aml_names.specs.NameReading.{has_segment, is_bare}
 use Rattle.aml_code.specs.declared.packages.PkgWidth.{PkgWidth}
@@ -63,15 +64,14 @@ names_declared roles.Alias ps t = option_to_list (last_label None ps)
 names_declared roles.Fields ps t = field_names t
 names_declared _ ps t = []
 
--- A path is added. A name that leads above the root adds nothing.
+-- The paths of names, placed from a scope, are added. A name that leads above the root adds nothing.
+abbrev pub with_names : List Seg → PathSet → List Name → PathSet
+with_names scope ls ns = fold set.insert ls (filter_map (placed scope) ns)
+
+-- the path of one name
 abbrev pub with_path : PathSet → Option (List Seg) → PathSet
 with_path ls None = ls
 with_path ls (Some p) = set.insert ls p
-
--- the names are placed from a scope, one after the other
-abbrev pub with_names : List Seg → PathSet → List Name → PathSet
-with_names scope ls [] = ls
-with_names scope ls (n ∷ ns) = with_names scope (with_path ls (placed scope n)) ns
 
 -- In a method's body the names are placed from the method's path. The terms of a table keep no such paths.
 abbrev pub with_declared : Option (List Seg) → PathSet → List Name → PathSet
@@ -117,30 +117,24 @@ count_in arity positions.Target ls n = Some 0
 count_in arity positions.Data ls n = Some 0
 count_in arity _ ls n = arity ls n
 
--- a package length stands where the row has one, and has room for its own bytes and the content
-abbrev pub HasWidth : Bool → Option PkgWidth → ℕ → Type 0
-HasWidth false None len = Unit {0}
-HasWidth false (Some w) len = ⊥
-HasWidth true None len = ⊥
-HasWidth true (Some w) len = FitsWidth w (width_len w + len)
+-- a package length stands where the row has a tail, and has room for its own bytes and the content
+abbrev pub HasWidth : Option TailKind → Option PkgWidth → ℕ → Type 0
+HasWidth None None len = Unit {0}
+HasWidth (Some k) (Some w) len = FitsWidth w (width_len w + len)
+HasWidth _ _ len = ⊥
 
--- the terms inside an If of a table are those of a guard
-abbrev pub is_guard : Position → Place → Bool
-is_guard positions.ModuleTerm places.If = true
-is_guard _ _ = false
-
--- the predicate of a guard is the byte 00
-abbrev pub IsGuarded : Bool → Parts → Type 0
-IsGuarded true ps = ps ≡ part_more (child (op 0x00 None no_parts empty)) no_parts
-IsGuarded false ps = Unit {0}
-
--- where the terms inside a term stand
+-- where the terms inside a term stand: those inside an If of a table are those of a guard
 abbrev pub terms_in : Position → Place → Position
 terms_in positions.ModuleTerm places.If = positions.GuardTerm
 terms_in positions.ModuleTerm _ = positions.ModuleTerm
 terms_in positions.RunTerm _ = positions.RunTerm
 terms_in positions.RunAfterIf _ = positions.RunTerm
 terms_in _ _ = positions.BodyTerm
+
+-- the same as a test: the terms inside a term are those of a guard
+abbrev pub is_guard : Position → Place → Bool
+is_guard positions.ModuleTerm places.If = true
+is_guard _ _ = false
 
 -- What is kept of a tail. A table whose code may run is read from the left, so that how many arguments the names inside
 -- a term take is known when these are reached: of the terms inside a term only their span is kept, as of a body.
@@ -214,13 +208,15 @@ IsTail s Is p (Some tails.Body) ls (body start len) = start + len ≤ length s.c
 IsTail s Is p _ ls _ = ⊥
 
 -- An operation: its opcode has a row that the position takes, with a package length, parts and a tail as the row says.
+-- The predicate of a guard is the byte 00.
 pub record IsOperation (s : Setting) (Is : Position → PathSet → Tree → Type 0) (p : Position) (ls : PathSet) (o : ℕ)
     (w : Option PkgWidth) (ps : Parts) (t : Tail) : Type 0 where
   pub row : Row
   pub listed : row_of o ≡ Some row
-  pub taken : takes p row.place ≡ true
-  pub width : HasWidth (has_length row.tail) w (length (parts_encoding s.code ps ++ tail_encoding s.code t))
-  pub guarded : IsGuarded (is_guard p row.place) ps
+  pub taken : Contains (takers row.place) p
+  pub width : HasWidth row.tail w (length (parts_encoding s.code ps ++ tail_encoding s.code t))
+  pub guarded : terms_in p row.place ≡ positions.GuardTerm
+      → ps ≡ part_more (child (op 0x00 None no_parts empty)) no_parts
   pub parts : AreParts (λ q. Is q ls) row.parts ps
   pub tail : IsTail s Is (terms_in p row.place) (option_map (tail_in p) row.tail) ls t
 
@@ -255,19 +251,15 @@ pub record ReadsBody (arity : Arities) (method : List Seg) (code : List ℕ) (ts
 abbrev pub no_arguments : Arities
 no_arguments ls n = Some 0
 
-abbrev pub length_bytes : Option PkgWidth → ℕ
-length_bytes None = 0
-length_bytes (Some w) = width_len w
-
--- each method's body begins where it stands in the encoding, if that begins at an offset
+-- each method's body begins where it stands in the encoding, if that begins at an offset: behind what the term is
+-- without its tail
 abbrev mutual
   pub BodiesStand : List ℕ → ℕ → Trees → Type 0
   BodiesStand code at no_trees = Unit {0}
   BodiesStand code at (tree_more t ts) = BodyStands code at t × BodiesStand code (at + length (encoding code t)) ts
 
   pub BodyStands : List ℕ → ℕ → Tree → Type 0
-  BodyStands code at (op o w ps t) =
-      TailStands code (at + (length (opcode_bytes o) + (length_bytes w + length (parts_encoding code ps)))) t
+  BodyStands code at (op o w ps t) = TailStands code (at + length (encoding code (op o w ps empty))) t
   BodyStands code at _ = Unit {0}
 
   pub TailStands : List ℕ → ℕ → Tail → Type 0

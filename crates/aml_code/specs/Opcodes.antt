@@ -189,9 +189,25 @@ row_view r = record {
 abbrev pub has_length : Option TailKind → Bool
 has_length tail = is_some tail
 
--- Whether a position takes an opcode of a place: as a term of a table, inside a guard, as a term of a table whose code
--- may run, there right after an If, as a term of a body, there right after an If, as a TermArg, as a SuperName or
--- Target, as data.
+-- as a term of a table whose code may run, or of a body, right after an If or not
+abbrev pub running : List Position
+running = positions.RunTerm ∷ positions.RunAfterIf ∷ positions.BodyTerm ∷ positions.AfterIf ∷ []
+
+-- the positions that take an opcode of a place
+abbrev pub takers : Place → List Position
+takers places.Data = positions.Data ∷ positions.Argument ∷ running
+takers places.Target = positions.Target ∷ positions.Argument ∷ running
+takers places.Argument = positions.Argument ∷ running
+takers places.Statement = running
+takers places.Return = positions.BodyTerm ∷ positions.AfterIf ∷ []
+takers places.If = positions.ModuleTerm ∷ running
+takers places.Else = positions.RunAfterIf ∷ positions.AfterIf ∷ []
+takers places.Declaration = positions.ModuleTerm ∷ running
+takers places.External = positions.ModuleTerm ∷ positions.GuardTerm ∷ running
+takers places.Scope = positions.ModuleTerm ∷ positions.RunTerm ∷ positions.RunAfterIf ∷ []
+takers places.Method = positions.ModuleTerm ∷ positions.RunTerm ∷ positions.RunAfterIf ∷ []
+
+-- the same as a test: whether a position takes an opcode of a place
 abbrev pub takes : Position → Place → Bool
 takes positions.ModuleTerm places.If = true
 takes positions.ModuleTerm places.Declaration = true

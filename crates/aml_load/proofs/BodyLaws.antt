@@ -1,6 +1,6 @@
 -- The body of a method, read by what the names of its body are read by.
-use Rattle.std.proofs.Common.{◌≡◌, ◌≢◌, ℕ, zero, suc, ◌≤◌, Bool, List, [], ◌∷◌, length, drop, Option, Some, None, Result, Ok, Err, refl, subst, ◌⊎◌, inl, inr}
-use Rattle.std.proofs.Common.{arith, slice_get}
+use Rattle.std.proofs.Common.{◌≡◌, ◌≢◌, ℕ, zero, suc, ◌≤◌, Bool, List, [], ◌∷◌, length, drop, Option, Some, Result, Ok, Err, refl, subst, ◌⊎◌, inl, inr}
+use Rattle.std.proofs.Common.{arith, slice_index_or}
 use Rattle.std.specs.Prelude.{IfOk, IfErr}
 use Rattle.std.proofs.lemmas.List.{length-take, length-drop}
 use Rattle.aml_names.specs.declared.segments.Seg.{Seg}
@@ -20,21 +20,19 @@ use Rattle.aml_space.specs.Runs.{Outlook, outlook_of, agreed_arity}
 use Rattle.aml_space.proofs.Stands.{same_outlook}
 use Rattle.aml_set.specs.declared.methods.Method.{Method}
 use Rattle.aml_set.specs.Code.{AreShort}
-use Rattle.aml_set.specs.Views.{span_in, span_of}
+use Rattle.aml_set.specs.Views.{span_of}
 use Rattle.aml_load.specs.Views.{IsBody, IsUnread, IsReading, GivesBody}
 
+short_at : (cs : List (List ℕ)) (n : ℕ) → AreShort cs → length (slice_index_or cs n []) ≤ 16777216
+short_at [] n h = omega arith
+short_at (x ∷ cs) zero h = h.0
+short_at (x ∷ cs) (suc n) h = short_at cs n h.1
+
 -- a span is no longer than its table
-short_in : (o : Option (List ℕ)) (m : Method) → ((c : List ℕ) → o ≡ Some c → length c ≤ 16777216) → length (span_in o m) ≤ 16777216
-short_in None m h = omega arith
-short_in (Some c) m h = omega (arith, h c refl, length-take m.len (drop m.start c), length-drop m.start c)
-
-short_at : (cs : List (List ℕ)) (n : ℕ) (c : List ℕ) → AreShort cs → slice_get cs n ≡ Some c → length c ≤ 16777216
-short_at [] n c h e = absurd cc
-short_at (x ∷ cs) zero c h e = let is : x ≡ c = cc in subst (λ y. length y ≤ 16777216) is h.0
-short_at (x ∷ cs) (suc n) c h e = short_at cs n c h.1 e
-
 pub short_span : (cs : List (List ℕ)) (m : Method) → AreShort cs → length (span_of cs m) ≤ 16777216
-short_span cs m h = short_in (slice_get cs m.table) m (λ c e. short_at cs m.table c h e)
+short_span cs m h =
+    let code = slice_index_or cs m.table [] in
+    omega (arith, short_at cs m.table h, length-take m.len (drop m.start code), length-drop m.start code)
 
 abbrev Reads : Outlook → Bool → Method → List ℕ → Trees → Type 0
 Reads n z m bytes ts = ReadsBody (agreed_arity n z m.path) m.path bytes ts

@@ -4,10 +4,13 @@
 use denote.Ref.{Bor}
 use Rattle.std.specs.Prelude.{IfOk, IfErr}
 use Rattle.std.specs.Result.{MatchResult}
-use Rattle.std.specs.List.{AllZip}
+use Rattle.std.specs.List.{All, AllZip}
+use Rattle.std.specs.Option.{option_eq}
 use Rattle.std.proofs.Common.{◌≡◌, ◌≤◌, ◌⊎◌, ℕ, zero, suc, Bool, true, false, List, [], ◌∷◌, ◌++◌, length, None, Result, Ok, Err, refl, sym, ap, subst, ◌∙◌}
-use Rattle.std.proofs.Common.{append_assoc, inl, inr, slice_index_or, get_or, drop, ◌+◌, ◌<◌, arith}
+use Rattle.std.proofs.Common.{append_assoc, inl, inr, slice_index_or, get_or, drop, ◌+◌, ◌<◌, arith, cond, nat_eq, Option, Some}
+use Rattle.std.proofs.lemmas.Bool.{eqb-true, eq-eqb}
 use Rattle.std.proofs.lemmas.List.{append-nil, drop_more}
+use Rattle.std.proofs.lemmas.List.Elements.{All-nil, All-cons, All-head, All-tail}
 use Rattle.aml_names.specs.declared.faults.CodeFault.{CodeFault}
 use Rattle.aml_code.specs.declared.rows.Position.TheVariants as positions
 use Rattle.aml_code.specs.Lawful.{ReadsModule, BodiesStand, no_arguments}
@@ -16,7 +19,7 @@ use Rattle.aml_parse.specs.Reading.{all_at}
 use Rattle.aml_parse.specs.Running.{ReadsTable, StopsTerms, run_table_at}
 use Rattle.aml_parse.proofs.Readings.{module_sound, module_again, all_placed}
 use Rattle.aml_parse.proofs.Forward as forward
-use Rattle.aml_space.specs.Namespace.{Givens}
+use Rattle.aml_space.specs.Namespace.{Entry, Givens}
 use Rattle.aml_set.specs.Code.{IsCode, AreCodes, AreShort}
 use Rattle.aml_set.specs.Views.{codes_view}
 use Rattle.aml_set.specs.declared.loaded.Loaded.{Loaded}
@@ -24,7 +27,7 @@ use Rattle.aml_set.specs.declared.methods.Method.{Method}
 use Rattle.aml_load.specs.declared.faults.LoadFault.{LoadFault}
 use Rattle.aml_load.specs.declared.faults.LoadFault.TheVariants as loads
 use Rattle.aml_load.specs.declared.used.Use.{Use}
-use Rattle.aml_load.specs.Loading.{◌>>=◌, Listed, first_listed, strict, declare_all, uses_at, methods_of, most_methods}
+use Rattle.aml_load.specs.Loading.{◌>>=◌, Listed, first_listed, strict, declare_all, use_count, call_fault, uses_at, methods_of, most_methods}
 use Rattle.aml_load.specs.Running.{Front, table_front, run_names}
 use Rattle.aml_load.specs.Tables.{ReadsOne, ReadTables, LoadsTo, StopsOne, StopsTables, StopsFor, in_code, table_at, tables_at, load_at, GivesBy, GivesLoad, Fails}
 use Rattle.aml_load.specs.Tables.{LoadsOneWay, LoadsForward, LoadsAgain, AreSpelled}
@@ -137,6 +140,36 @@ module _ (any : Bool) where
   tables_spelled t l (c ∷ cs) [] m read = absurd read
   tables_spelled t l (c ∷ cs) (ts ∷ rest) m (k, reads, read) = (table_spelled t l c any ts k reads, tables_spelled (suc t) k cs rest m read)
 
+-- ---- the names outside methods: each takes as many arguments as were read with it where none of them is a fault
+
+module _ (any z : Bool) (es : List Entry) where
+  abbrev Agrees : Use → Type 0
+  Agrees u = use_count z es u ≡ Some u.args
+
+  same_count : (o : Option ℕ) (n : ℕ) → option_eq nat_eq o (Some n) ≡ true → o ≡ Some n
+  same_count None n h = absurd cc
+  same_count (Some m) n h = ap Some (eqb-true m n h)
+
+  first_agrees : (u : Use) (us : List Use) (done : Unit {0}) (b : Bool) (rest : Result (Unit {0}) LoadFault)
+      → option_eq nat_eq (use_count z es u) (Some u.args) ≡ b → cond b rest (Err (call_fault any u)) ≡ Ok done → (rest ≡ Ok done → All Agrees us)
+      → All Agrees (u ∷ us)
+  first_agrees u us done true rest same is others = All-cons Agrees u us (same_count (use_count z es u) u.args same) (others is)
+  first_agrees u us done false rest other is others = absurd cc
+
+  uses_agree : (us : List Use) (done : Unit {0}) → uses_at any z es us ≡ Ok done → All Agrees us
+  unfolding uses_at
+  uses_agree [] done is = All-nil Agrees
+  uses_agree (u ∷ us) done is =
+      first_agrees u us done (option_eq nat_eq (use_count z es u) (Some u.args)) (uses_at any z es us) refl is (uses_agree us done)
+
+  agreed_uses : (us : List Use) → All Agrees us → uses_at any z es us ≡ Ok tt
+  unfolding uses_at
+  agreed_uses [] h = refl
+  agreed_uses (u ∷ us) h =
+      let same : option_eq nat_eq (use_count z es u) (Some u.args) ≡ true =
+      ap (λ o. option_eq nat_eq o (Some u.args)) (All-head Agrees u us h) ∙ eq-eqb u.args u.args refl in
+      ap (λ b. cond b (uses_at any z es us) (Err (call_fault any u))) same ∙ agreed_uses us (All-tail Agrees u us h)
+
 -- ---- the whole load
 
 module _ (any z : Bool) (gs : Givens) (cs : List (List ℕ)) where
@@ -149,7 +182,7 @@ module _ (any z : Bool) (gs : Givens) (cs : List (List ℕ)) where
   uses_told : (x : Whole) (trees : List Trees) → x.0 ≡ trees → ReadTables any 0 (first_listed gs) cs trees x.1 → (r : Result (Unit {0}) LoadFault)
       → uses_at any z x.1.entries x.1.uses ≡ r → LoadTells (r >>= λ u. Ok x)
   uses_told x trees same read (Ok u) is =
-      record { read = subst (λ (ts : List Trees). ReadTables any 0 (first_listed gs) cs ts x.1) (sym same) read; agreed = is }
+      record { read = subst (λ (ts : List Trees). ReadTables any 0 (first_listed gs) cs ts x.1) (sym same) read; agreed = uses_agree any z x.1.entries x.1.uses u is }
   uses_told x trees same read (Err e) is = inr (trees, x.1, read, is)
 
   after_tables : (r : Result Whole LoadFault) → Told any 0 (first_listed gs) [] cs r → LoadTells (r >>= check)
@@ -169,7 +202,7 @@ module _ (any z : Bool) (gs : Givens) (cs : List (List ℕ)) where
       ∙ ap (λ (r : Result (Unit {0}) LoadFault). r >>= λ u. Ok (ts, m)) (ap (uses_at any z m.entries) (sym is) ∙ free)
 
   pub loads_again : LoadsAgain any z gs cs
-  loads_again ts m h = load_gives ts m m.uses tt (tables_again any 0 (first_listed gs) [] cs ts m h.read) refl h.agreed
+  loads_again ts m h = load_gives ts m m.uses tt (tables_again any 0 (first_listed gs) [] cs ts m h.read) refl (agreed_uses any z m.entries m.uses h.agreed)
 
   same : (x y : Whole) (r : Result Whole LoadFault) → r ≡ Ok x → r ≡ Ok y → x ≡ y
   same x y r p q = cc

@@ -1,6 +1,7 @@
 -- Where a method can't stand there is no method's body: in a term's parts, in elements, in field lists, in terms of a body.
 use Rattle.std.proofs.Common.{◌≡◌, ℕ, zero, suc, true, List, [], ◌∷◌, ◌++◌, Option, Some, refl, ap, ◌∙◌}
 use Rattle.aml_names.specs.Paths.{PathSet}
+use Rattle.aml_code.proofs.Takers.{taker_takes}
 use Rattle.aml_code.specs.declared.rows.PartKind.{PartKind}
 use Rattle.aml_code.specs.declared.rows.PartKind.TheVariants as kinds
 use Rattle.aml_code.specs.declared.rows.Position.{Position}
@@ -46,7 +47,7 @@ module _ (s : Setting) (t : ℕ) where
     tree_none (suc levels) p ls (op o w ps r) h l =
         both_none (parts_spans t ps) (tail_spans t r) (parts_none levels (l.row).parts ls ps l.parts)
         (tail_none levels (terms_in p (l.row).place) _ ls r (λ e. inner_bodiless p (l.row).place h)
-        (no_body p o l.row h l.listed l.taken) l.tail)
+        (no_body p o l.row h l.listed (taker_takes p (l.row).place l.taken)) l.tail)
 
     pub all_none : (levels : ℕ) (p : Position) (ls : PathSet) (xs : Trees) → is_bodiless p ≡ true → AreTerms s levels p ls xs → all_spans t xs ≡ []
     all_none levels p ls no_trees h l = refl

@@ -11,6 +11,7 @@ use Rattle.std.proofs.lemmas.List.{append-nil, map-append, length-append}
 use Rattle.aml_names.specs.declared.segments.Seg.{Seg}
 use Rattle.aml_names.specs.declared.names.Name.{Name}
 use Rattle.aml_names.specs.Paths.{PathSet}
+use Rattle.aml_code.proofs.Takers.{taker_takes}
 use Rattle.aml_code.specs.declared.rows.Place.{Place}
 use Rattle.aml_code.specs.declared.rows.Place.TheVariants as places
 use Rattle.aml_code.specs.declared.rows.Position.{Position}
@@ -250,7 +251,7 @@ module _ (s : Setting) (t : ℕ) where
         let k = (law.row).tail in
         let q = terms_in p (law.row).place in
         let tail = subst (λ (k : Option TailKind). IsTail s (IsLawful s levels) q k ls r) (kept_in_table p k h) law.tail in
-        let fit = row_fits p o law.row h law.listed law.taken in
+        let fit = row_fits p o law.row h law.listed (taker_takes p (law.row).place law.taken) in
         let here = subst (λ (x : Role). fits x k ≡ true) (sym (role_is o law.row law.listed)) fit.0 in
         let has : TailSpans k (strict t scope) r (λ l below. declare_inside below l r) = record {
           flat = flat_none s levels q k ls t r tail;

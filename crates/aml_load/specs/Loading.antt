@@ -20,7 +20,7 @@ use Rattle.aml_code.specs.declared.rows.Role.TheVariants as roles
 use Rattle.aml_code.specs.Faults.{StandsAt}
 use Rattle.aml_code.specs.Lawful.{last_label, last_byte, field_names, no_arguments, ReadsModule}
 use Rattle.aml_code.specs.Opcodes.{row_of}
-use Rattle.aml_code.specs.Tree.{Tree, nothing, named, op, Trees, no_trees, tree_more, Part, child, Parts, no_parts}
+use Rattle.aml_code.specs.Tree.{Tree, nothing, named, op, Trees, no_trees, tree_more, Part, child, Parts}
 use Rattle.aml_code.specs.Tree.{part_more, Tail, elements, fields, Field, connection, Fields, no_fields, field_more}
 use Rattle.aml_code.specs.Tree.{buffer, label, terms, body, tree_count}
 use Rattle.aml_space.specs.declared.faults.SpaceFault.{SpaceFault}

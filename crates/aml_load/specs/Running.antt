@@ -1,6 +1,7 @@
--- What the terms of tables declare where the code outside methods may run (ACPI 6.5, 5.3, 20.2.1 and 20.2.5). Each table is
--- read from the left: a name outside methods has as many arguments as every run agrees on by what is declared in front of it.
--- What is declared in code that may not run, or under a path that may not be there, is no sure declaration.
+-- What the terms of tables declare where the code outside methods may run (ACPI 6.5, 5.3, 20.2.1 and 20.2.5). Each
+-- table is read from the left: a name outside methods has as many arguments as every run agrees on by what is declared
+-- in front of it. What is declared in code that may not run, or under a path that may not be there, is no sure
+-- declaration.
 use Rattle.std.specs.Prelude.{ℕ, Bool, true, false, not, ◌&&◌, List, [], Option}
 use Rattle.std.specs.Prelude.{Some, None, Result, Ok, Err, is_some}
 use Rattle.std.specs.Option.{unwrap_or, option_and_then}

@@ -1,9 +1,9 @@
--- The load of tables in their order (ACPI 6.5, 5.2.11, 5.3 and 20.2.5): what tables load to, where a load stops and why, and
--- loading forward, with the first fault that is met. Where the code outside methods may not run, a table is read whole, and
--- then its terms declare; where it may run, a table is read from the left. All else is the same.
-use Rattle.std.specs.Prelude.{◌≡◌, ◌≤◌, ◌⊎◌, ℕ, suc, Bool, true, false, List, [], ◌∷◌, ◌++◌, length, None}
+-- The load of tables in their order (ACPI 6.5, 5.2.11, 5.3 and 20.2.5): what tables load to, where a load stops and
+-- why, and loading forward, with the first fault that is met. Where the code outside methods may not run, a table is
+-- read whole, and then its terms declare; where it may run, a table is read from the left. All else is the same.
+use Rattle.std.specs.Prelude.{◌≡◌, ◌≤◌, ◌⊎◌, ℕ, suc, Bool, true, false, List, [], ◌∷◌, ◌++◌, length, None, Some}
 use Rattle.std.specs.Prelude.{Result, Ok, Err}
-use Rattle.std.specs.List.{AllZip}
+use Rattle.std.specs.List.{All, AllZip}
 use Rattle.std.specs.Result.{MatchResult}
 use Rattle.aml_names.specs.declared.faults.CodeFault.{CodeFault}
 use Rattle.aml_names.specs.declared.segments.Seg.{Seg}
@@ -20,7 +20,7 @@ use Rattle.aml_set.specs.declared.loaded.Loaded.{Loaded}
 use Rattle.aml_set.specs.declared.tables.TableSet.{TableSet}
 use Rattle.aml_load.specs.declared.faults.LoadFault.{LoadFault}
 use Rattle.aml_load.specs.declared.faults.LoadFault.TheVariants as loads
-use Rattle.aml_load.specs.Loading.{◌>>=◌, strict, Listed, first_listed, declare_all, uses_at, code_fault, Unread}
+use Rattle.aml_load.specs.Loading.{◌>>=◌, strict, Listed, first_listed, declare_all, use_count, uses_at, code_fault, Unread}
 use Rattle.aml_load.specs.Loading.{methods_of, most_methods}
 use Rattle.aml_load.specs.Running.{Front, table_front, run_names}
 use Rattle.aml_load.specs.Spans.{InTextOrder}
@@ -28,8 +28,8 @@ use Rattle.aml_load.specs.Views.{HoldsLoad, HoldsTables}
 
 -- ---- What tables load to.
 
--- The AML of table t reads as these terms, with these lists in front of them and behind them: by themselves, and then they
--- declare; or, where the code outside methods may run, each by what stands in front of it.
+-- The AML of table t reads as these terms, with these lists in front of them and behind them: by themselves, and then
+-- they declare; or, where the code outside methods may run, each by what stands in front of it.
 abbrev pub ReadsOne : Bool → ℕ → Listed → List ℕ → Trees → Listed → Type 0
 ReadsOne false t l code ts m = ReadsModule code ts × (declare_all (strict t []) l ts ≡ Ok m)
 ReadsOne true t l code ts m = (k : Front) × ReadsTable (run_names t) code (table_front t l) ts k × (k.listed ≡ m)
@@ -41,12 +41,12 @@ ReadTables any_run t l (c ∷ cs) (ts ∷ rest) m =
     (k : Listed) × ReadsOne any_run t l c ts k × ReadTables any_run (suc t) k cs rest m
 ReadTables any_run t l _ _ m = ⊥
 
--- The tables' AML reads as these trees, and these load to these entries, where the user gives these counts; and each name
--- outside methods takes as many arguments once all entries are there as were read with it.
+-- The tables' AML reads as these trees, and these load to these entries, where the user gives these counts; and each
+-- name outside methods takes as many arguments once all entries are there as were read with it.
 pub record LoadsTo (any_run unknown_zero : Bool) (gs : Givens) (tables : List (List ℕ)) (trees : List Trees)
     (m : Listed) : Type 0 where
   pub read : ReadTables any_run 0 (first_listed gs) tables trees m
-  pub agreed : uses_at any_run unknown_zero m.entries m.uses ≡ Ok tt
+  pub agreed : All (λ u. use_count unknown_zero m.entries u ≡ Some u.args) m.uses
 
 -- ---- Where the load of tables stops, and why.
 
@@ -62,8 +62,8 @@ StopsTables any_run t l [] e = ⊥
 StopsTables any_run t l (c ∷ cs) e = StopsOne any_run t l c e
     ⊎ ((ts : Trees) × (k : Listed) × ReadsOne any_run t l c ts k × StopsTables any_run (suc t) k cs e)
 
--- The load stops for this reason: at a table, or behind all of them at a name that takes another number of arguments than
--- it was read with.
+-- The load stops for this reason: at a table, or behind all of them at a name that takes another number of arguments
+-- than it was read with.
 abbrev pub StopsFor : Bool → Bool → Givens → List (List ℕ) → LoadFault → Type 0
 StopsFor any_run unknown_zero gs tables e = StopsTables any_run 0 (first_listed gs) tables e
     ⊎ ((trees : List Trees) × (m : Listed) × ReadTables any_run 0 (first_listed gs) tables trees m

@@ -9,7 +9,7 @@ use Rattle.aml_parse.proofs.Common.{takes, width_len, package_bytes, FitsWidth, 
 use Rattle.aml_parse.proofs.Common.{word, dword, qword, text, Parts, no_parts, part_more, tree_count, Tail, empty, terms, elements, fields, body, Field, unit}
 use Rattle.aml_parse.proofs.Common.{reserved, access, connection, extended, Fields, no_fields, field_more, Link, target, buffer, opcode_bytes, packed, slice_of}
 use Rattle.aml_parse.proofs.Common.{encoding, encodings, part_encoding, parts_encoding, tail_encoding, field_encoding, fields_encoding, link_encoding}
-use Rattle.aml_parse.proofs.Common.{declared_by, after, after_all, after_tail, IsGuarded, is_guard, terms_in, tail_in, option_map, next_position, Setting}
+use Rattle.aml_parse.proofs.Common.{declared_by, after, after_all, after_tail, is_guard, taker_takes, inside_guard, terms_in, tail_in, option_map, next_position, Setting}
 use Rattle.aml_parse.proofs.Common.{IsLawful, AreTerms}
 use Rattle.aml_parse.proofs.Common.{IsPart, AreParts, IsTail, IsField, AreFields, BodyStands, BodiesStand, TailStands, read_on, is_inner, unchanged}
 use Rattle.aml_parse.proofs.Common.{all_unchanged, span_again, row_is_opcode, lead_of, row_apart, target_opcode, opcode_lead}
@@ -18,7 +18,7 @@ use Rattle.aml_parse.specs.Reading.{access_unit, extended_unit, field_at, fields
 use Rattle.aml_parse.specs.Reading.{row_at, operation_at, is_absent_target, term_at}
 use Rattle.aml_parse.proofs.FlatLaws.{count_again, text_again, segmented_again, opcode_again, apart, named_unit_again}
 use Rattle.aml_parse.proofs.Loops.{turn}
-use Rattle.aml_parse.proofs.Leads.{tail_is_empty, guard_again}
+use Rattle.aml_parse.proofs.Leads.{IsGuarded, guarded_so, tail_is_empty, guard_again}
 use Rattle.aml_parse.proofs.Took.{IsReader, IsLink, by_opcode, nonempty, field_some, names_taken}
 use Rattle.aml_parse.proofs.Bodiless.{is_bodiless, Standing, both_stand, tail_stands}
 
@@ -270,7 +270,7 @@ module _ (s : Setting) (levels : ℕ) (read : Position → Reader Tree) (law : I
       ∙ ap (λ (b : List ℕ). (opcode_bytes o ++ b) ++ rest) (append-nil front) ∙ append_assoc (opcode_bytes o) front rest in
       let there = end - length (opcode_bytes o ++ (front ++ rest)) in
       ap (term_at s.arity s.scope read p end ls) spelled
-      ∙ reach_row s read p end ls o row (front ++ rest) h.listed h.taken
+      ∙ reach_row s read p end ls o row (front ++ rest) h.listed (taker_takes p row.place h.taken)
       ∙ ap (λ (k : Option TailKind). row_at s.scope read p there row k end ls (front ++ rest)) short
       ∙ plain_again p o row end ls ps rest h.listed h.parts
       ∙ ap (λ (y : Tail). Ok (op o None ps y, declared_by s.scope (row_of o) (after_tail s.scope ls y) ps y, rest)) (sym is_empty)
@@ -281,16 +281,18 @@ module _ (s : Setting) (levels : ℕ) (read : Position → Reader Tree) (law : I
       let inside = parts_encoding s.code ps ++ tail_encoding s.code t in
       let back = packed (Some w) inside ++ rest in
       let there = end - length (opcode_bytes o ++ back) in
+      let taken = taker_takes p row.place h.taken in
+      let guarded = guarded_so (is_guard p row.place) ps (λ g. h.guarded (inside_guard p row.place g)) in
       let width : FitsWidth w (width_len w + length inside) = rw long at h.width in
       let tail = subst (λ (k : Option TailKind). IsTail s (IsLawful s levels) (terms_in p row.place) (option_map (tail_in p) k) ls t) long h.tail in
       let Stands : Option TailKind → Type 0 =
       λ k. Standing ((is_bodiless (terms_in p row.place) ≡ true) × (option_map (tail_in p) k ≡ Some TailKind.Body → ⊥)) (λ at. TailStands s.code at t) (end - length rest)
       (tail_encoding s.code t) in
       ap (term_at s.arity s.scope read p end ls) (append_assoc (opcode_bytes o) (packed (Some w) inside) rest)
-      ∙ reach_row s read p end ls o row back h.listed h.taken
+      ∙ reach_row s read p end ls o row back h.listed taken
       ∙ ap (λ (k : Option TailKind). row_at s.scope read p there row k end ls back) long
-      ∙ packed_again p o row end ls ps rest h.listed w k there t h.guarded width h.parts tail
-      (subst Stands long (tail_stands s.code p end o row w ps t rest h.listed h.taken stand))
+      ∙ packed_again p o row end ls ps rest h.listed w k there t guarded width h.parts tail
+      (subst Stands long (tail_stands s.code p end o row w ps t rest h.listed taken stand))
 
   -- ---- terms
 

@@ -1,7 +1,7 @@
 -- Outside the terms of a table there is no method's body, and no other span that is read later.
 use Rattle.aml_parse.proofs.Common.{TailKind, ◌≡◌, ℕ, ◌+◌, ◌-◌, Bool, true, false, cond, not, List, ◌++◌, length, Some, refl, ap, ◌⊎◌, inl, inr, arith}
-use Rattle.aml_parse.proofs.Common.{length-append, Place, Position, Row, rows, row_of, takes, PkgWidth, width_len, length-package_bytes, Tree, op, Trees}
-use Rattle.aml_parse.proofs.Common.{tree_more, Parts, Tail, opcode_bytes, encoding, encodings, parts_encoding, tail_encoding, terms_in, has_opcode}
+use Rattle.aml_parse.proofs.Common.{length-append, front_length, empty, Place, Position, Row, rows, row_of, takes, PkgWidth, width_len, length-package_bytes, Tree, op, Trees}
+use Rattle.aml_parse.proofs.Common.{tree_more, Parts, Tail, encoding, encodings, parts_encoding, tail_encoding, terms_in, has_opcode}
 use Rattle.aml_parse.proofs.Common.{next_position, tail_in, option_map, BodyStands, BodiesStand, TailStands, is_body, not_true, rows_say}
 
 -- a position that isn't a term of a table
@@ -64,4 +64,4 @@ module _ (code : List ℕ) (p : Position) (end : ℕ) where
   tail_stands o row w ps t rest listed taken (inl h) = inl (inner_bodiless p row.place h, no_body p o row h listed taken)
   tail_stands o row w ps t rest listed taken (inr (at, place, b)) =
       let size = length-package_bytes w (width_len w + length (parts_encoding code ps ++ tail_encoding code t)) in
-      inr (at + (length (opcode_bytes o) + (width_len w + length (parts_encoding code ps))), omega (arith, place, size, length-append {A = ℕ}), b)
+      inr (at + length (encoding code (op o (Some w) ps empty)), omega (arith, place, size, front_length code o w ps, length-append {A = ℕ}), b)

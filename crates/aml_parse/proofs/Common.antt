@@ -1,16 +1,17 @@
 -- The names that most proofs here cite, passed on from one place. Declares nothing.
 pub use Rattle.aml_code.proofs.Answered.{read_on, given_ok, given_err}
 pub use Rattle.aml_code.proofs.InnerLaws.{is_inner, unchanged, all_unchanged}
-pub use Rattle.aml_code.proofs.LengthLaws.{span_again, length-package_bytes, IsSpan, little_takes, little_fault, length_takes, length_fault, span_takes}
+pub use Rattle.aml_code.proofs.LengthLaws.{span_again, front_length, length-package_bytes, IsSpan, little_takes, little_fault, length_takes, length_fault, span_takes}
 pub use Rattle.aml_code.proofs.LengthLaws.{span_fault, little_again, length_again}
 pub use Rattle.aml_code.proofs.LevelLaws.{deeper_by, terms_deeper_by}
 pub use Rattle.aml_code.proofs.RowFacts.{zero_bare, lead_of, opcode_lead, row_lead_is, row_opcode, row_is_opcode, row_apart, target_opcode, is_if_place}
 pub use Rattle.aml_code.proofs.RowFacts.{if_parts, if_has_length, guard_place, opcode_some, is_body, not_true, rows_say}
+pub use Rattle.aml_code.proofs.Takers.{taker_takes, takes_taker, guard_inside, inside_guard}
 pub use Rattle.aml_code.proofs.Within.{Within, onward, text_there, byte_there, end_there, truncated_placed, offset_is, length_placed, past_placed, name_placed}
 pub use Rattle.aml_code.proofs.Within.{inward, slice_there, span_inside, whole}
 pub use Rattle.aml_code.specs.Faults.{Arities, StandsAt, IsOpcode, StandsThere, IsEnd}
 pub use Rattle.aml_code.specs.Lawful.{tail_in}
-pub use Rattle.aml_code.specs.Lawful.{HasWidth, IsGuarded, terms_in, has_opcode, Setting, IsLawful, AreParts, IsTail, next_position, after, after_all, AreTerms}
+pub use Rattle.aml_code.specs.Lawful.{HasWidth, terms_in, has_opcode, Setting, IsLawful, AreParts, IsTail, next_position, after, after_all, AreTerms}
 pub use Rattle.aml_code.specs.Lawful.{setting_of, names_declared, with_declared, declared_by, after_tail, is_guard, IsPart, IsField, AreFields, BodyStands}
 pub use Rattle.aml_code.specs.Lawful.{BodiesStand, TailStands, count_in, ReadsBody, ReadsModule, ReadsStep, no_arguments, unit_names, with_names}
 pub use Rattle.aml_code.specs.Laws.{IsTermAt, AreTermsAt, NoProperPrefix, SameByBytes, AllSameByBytes}

@@ -5,7 +5,7 @@ use Rattle.aml_parse.proofs.Common.{Position, TailKind, Tree, op, Trees, no_tree
 use Rattle.aml_parse.proofs.Common.{encoding, encodings, parts_encoding, slice_of, package_bytes, width_len}
 use Rattle.aml_parse.proofs.Common.{PathSet, Setting, setting_of, IsLawful, IsTail, HasWidth, has_length, tail_in, option_map, ReadsStep, next_position}
 use Rattle.aml_parse.proofs.Common.{has_opcode, PkgWidth, Arities, StandsThere, IsEnd, Row, opcode_some, BodyStands, take, drop}
-use Rattle.aml_parse.proofs.Common.{BodiesStand, packed, drop_at}
+use Rattle.aml_parse.proofs.Common.{BodiesStand, packed, drop_at, front_length, []}
 use Rattle.aml_code.proofs.LengthLaws.{width_some}
 use Rattle.std.proofs.Math.Seq.{take-append-add}
 use Rattle.std.proofs.lemmas.List.{take_all}
@@ -110,11 +110,11 @@ there_front code at text more h = record {
 }
 
 module _ (code : List ℕ) (at : ℕ) (o : ℕ) (ps : Parts) (start len : ℕ) where
-  width_end : (b : Bool) (w : Option PkgWidth) → b ≡ true → HasWidth b w (length (parts_encoding code ps ++ slice_of code start len))
+  width_end : (k : Option TailKind) (w : Option PkgWidth) → has_length k ≡ true → HasWidth k w (length (parts_encoding code ps ++ slice_of code start len))
       → start + len ≤ length code
       → StandsThere code at (encoding code (op o w ps (body start len))) → BodyStands code at (op o w ps (body start len)) → IsEnd code start (start + len)
-  width_end true None e h le there stand = absurd h
-  width_end true (Some w) e h le there stand =
+  width_end (Some k) None e h le there stand = absurd h
+  width_end (Some k) (Some w) e h le there stand =
       let content = parts_encoding code ps ++ slice_of code start len in
       let v = width_len w + length content in
       let first = there_behind code at (opcode_bytes o) (package_bytes w v ++ content) there in
@@ -125,10 +125,10 @@ module _ (code : List ℕ) (at : ℕ) (o : ℕ) (ps : Parts) (start len : ℕ) w
         w,
         v,
         record { fits = h; there = there_front code (at + length (opcode_bytes o)) (package_bytes w v) content first },
-        omega (arith, size, stand),
-        omega (arith, size, stand, width_some w),
+        omega (arith, size, stand, front_length code o w ps),
+        omega (arith, size, stand, front_length code o w ps, width_some w),
       )
-  width_end false w e h le there stand = absurd cc
+  width_end None w e h le there stand = absurd cc
 
 module _ (arity : Arities) (code : List ℕ) (p : Position) (at end : ℕ) where
   -- the span inside a term
@@ -149,7 +149,14 @@ module _ (arity : Arities) (code : List ℕ) (p : Position) (at end : ℕ) where
     le = omega arith;
     inside = span_is_inside (setting_of arity None code) levels p set.empty o w ps start len h.lawful;
     is_end = body_end levels o w ps start len behind h;
-    deep = omega (arith, r.deep, level_there levels (op o w ps (body start len)) behind h, opcode_some o, h.bodies);
+    deep = omega (
+      arith,
+      r.deep,
+      level_there levels (op o w ps (body start len)) behind h,
+      opcode_some o,
+      h.bodies,
+      length-append (opcode_bytes o) (packed w (parts_encoding code ps ++ [])),
+    );
   }
 
 -- a text that stands there, and the slice behind it, are a slice

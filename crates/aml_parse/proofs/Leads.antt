@@ -2,7 +2,7 @@
 use Rattle.aml_parse.proofs.Common.{◌≡◌, ℕ, zero, suc, Bool, true, false, List, [], ◌∷◌, ◌++◌, length, Option, Some, None, Ok, refl, sym, ap, subst, ◌<◌, ◌∙◌}
 use Rattle.aml_parse.proofs.Common.{append_assoc, arith, inl, inr, eqb-true, eq-eqb, append-nil, Name, IsName, spelling, is_name_lead, is_bare, PathSet}
 use Rattle.aml_parse.proofs.Common.{name_lead, PkgWidth, PartKind, Position, TailKind, row_of, has_length, Tree, nothing, named, op, child, Parts, no_parts}
-use Rattle.aml_parse.proofs.Common.{part_more, Tail, empty, opcode_bytes, packed, encoding, encodings, parts_encoding, tail_encoding, HasWidth, IsGuarded}
+use Rattle.aml_parse.proofs.Common.{part_more, Tail, empty, opcode_bytes, packed, encoding, encodings, parts_encoding, tail_encoding, HasWidth}
 use Rattle.aml_parse.proofs.Common.{terms_in, tail_in, option_map, has_opcode, Setting, IsLawful, AreParts, IsTail, zero_bare, lead_of, opcode_lead}
 use Rattle.aml_parse.proofs.Common.{row_lead_is}
 use Rattle.aml_parse.specs.Reading.{guard_at}
@@ -33,9 +33,10 @@ module _ (s : Setting) where
 
 -- ---- the opcode 00 stands alone
 
-no_width : (w : Option PkgWidth) (len : ℕ) → HasWidth false w len → w ≡ None
-no_width None len h = refl
-no_width (Some w) len h = absurd h
+no_width : (k : Option TailKind) (w : Option PkgWidth) (len : ℕ) → has_length k ≡ false → HasWidth k w len → w ≡ None
+no_width None None len e h = refl
+no_width None (Some w) len e h = absurd h
+no_width (Some k) w len e h = absurd cc
 
 module _ (s : Setting) (levels : ℕ) (ls : PathSet) where
   pub tail_is_empty : (p q : Position) (k : Option TailKind) (t : Tail) → has_length k ≡ false
@@ -66,12 +67,21 @@ zero_alone s (suc levels) p ls (op o w ps t) h e =
     let o_is : o ≡ 0x00 = eqb-true o 0x00 e in
     let z = zero_bare row (subst (λ (n : ℕ). row_of n ≡ Some row) o_is h.listed) in
     let len = length (parts_encoding s.code ps ++ tail_encoding s.code t) in
-    let w_is : w ≡ None = no_width w len (subst (λ (b : Bool). HasWidth b w len) z.1 h.width) in
+    let w_is : w ≡ None = no_width row.tail w len z.1 h.width in
     let ps_is = none_of_none s levels ls ps (subst (λ (ks : List PartKind). AreParts (λ q. IsLawful s levels q ls) ks ps) z.0 h.parts) in
     let t_is = tail_is_empty s levels ls p (terms_in p row.place) row.tail t z.1 h.tail in
     cc
 
 -- ---- guards
+
+-- the predicate of a guard is the byte 00
+abbrev pub IsGuarded : Bool → Parts → Type 0
+IsGuarded true ps = ps ≡ part_more (child (op 0x00 None no_parts empty)) no_parts
+IsGuarded false ps = Unit {0}
+
+pub guarded_so : (guarded : Bool) (ps : Parts) → (guarded ≡ true → ps ≡ part_more (child (op 0x00 None no_parts empty)) no_parts) → IsGuarded guarded ps
+guarded_so true ps h = h refl
+guarded_so false ps h = tt
 
 -- the one part of a guard that was read is the opcode 00
 pub guard_holds : (s : Setting) (levels : ℕ) (ls : PathSet) (guarded : Bool) (ks : List PartKind) (ps : Parts) (inside rest : List ℕ)
@@ -91,7 +101,3 @@ pub guard_again : (guarded : Bool) (at end : ℕ) (code : List ℕ) (ps : Parts)
     → guard_at guarded at end (parts_encoding code ps ++ rest) ≡ Ok guarded
 guard_again false at end code ps rest h = refl
 guard_again true at end code ps rest h = ap (λ (xs : Parts). guard_at true at end (parts_encoding code xs ++ rest)) h
-
-pub not_guarded : (guarded : Bool) (ps : Parts) → (guarded ≡ true → ⊥) → IsGuarded guarded ps
-not_guarded true ps h = absurd (h refl)
-not_guarded false ps h = tt

@@ -6,11 +6,11 @@ use Rattle.aml_parse.proofs.Common.{op, CodeFault, get_or_default, ◌≡◌, �
 use Rattle.aml_parse.proofs.Common.{Option, Some, None, refl, sym, ap, ◌<◌, subst, ◌∙◌, arith, inl, inr, All, eqb-true, append-nil, Name, spelling}
 use Rattle.aml_parse.proofs.Common.{is_name_lead, PathSet, Left, lead_reads, IsBytes, Takes, Takes-none, Takes-then, PartKind, Place, Position, TailKind, Row}
 use Rattle.aml_parse.proofs.Common.{row_of, has_length, takes, width_len, package_bytes, FitsWidth, Tree, connection, child, label, byte, word, dword, qword}
-use Rattle.aml_parse.proofs.Common.{Parts, empty, target, buffer, opcode_bytes, slice_of, encoding, parts_encoding, tail_encoding, field_encoding}
-use Rattle.aml_parse.proofs.Common.{link_encoding, declared_by, HasWidth, IsGuarded, count_in, is_guard, terms_in, tail_in, option_map, next_position, Setting}
+use Rattle.aml_parse.proofs.Common.{empty, target, buffer, opcode_bytes, slice_of, encoding, parts_encoding, tail_encoding, field_encoding}
+use Rattle.aml_parse.proofs.Common.{link_encoding, declared_by, HasWidth, count_in, is_guard, terms_in, tail_in, option_map, next_position, Setting}
 use Rattle.aml_parse.proofs.Common.{IsLawful, AreParts}
 use Rattle.aml_parse.proofs.Common.{IsTail, TailStands, Arities, StandsThere, IsOpcode, StandsAt, is_inner, unchanged, all_unchanged, is_if_place, if_parts}
-use Rattle.aml_parse.proofs.Common.{if_has_length, guard_place, opcode_some, Within, onward, inward, text_there, byte_there, slice_there, span_inside}
+use Rattle.aml_parse.proofs.Common.{if_has_length, guard_place, guard_inside, takes_taker, front_length, opcode_some, Within, onward, inward, text_there, byte_there, slice_there, span_inside}
 use Rattle.aml_parse.proofs.Common.{end_there, offset_is}
 use Rattle.aml_parse.specs.Reading.{Reader, part_at, parts_at, arguments_at, terms_at, to_end_at, flat, held_inside, link_at, field_at, fields_at, call_at}
 use Rattle.aml_parse.specs.Reading.{refused_in_body, refused_in_run, refusal, guard_at, tail_at, takes_names, plain_at, packed_at, row_at, operation_at}
@@ -19,7 +19,7 @@ use Rattle.aml_parse.specs.Reading.{term_at}
 use Rattle.aml_parse.proofs.FlatReads.{Answers, answers, fails, then, made, chosen, known, at_offset, TookFlat, byte_reads, little_reads, span_reads}
 use Rattle.aml_parse.proofs.FlatReads.{name_reads, segmented_reads, opcode_reads, held_reads, count_reads, text_reads, behind_lead, named_unit_reads}
 use Rattle.aml_parse.proofs.FlatReads.{reserved_reads, access_reads, extended_reads}
-use Rattle.aml_parse.proofs.Leads.{led_by, guard_holds, not_guarded}
+use Rattle.aml_parse.proofs.Leads.{IsGuarded, led_by, guard_holds}
 use Rattle.aml_parse.proofs.Took.{Reads, Took, TookTerm, TookArguments, TookTerms, TookFields, TookTail, TookPart, TookParts, TookLink, TookField, IsLink}
 use Rattle.aml_parse.proofs.Took.{IsReader, by_opcode, name_some}
 
@@ -37,9 +37,9 @@ asked_none arity Position.Argument ls n h e = e
 asked_none arity _ ls n h e = absurd cc
 
 -- what has no package length is no guard
-unguarded : (o : ℕ) (row : Row) (p : Position) (ps : Parts) → row_of o ≡ Some row → has_length row.tail ≡ false → IsGuarded (is_guard p row.place) ps
-unguarded o row p ps listed short =
-    not_guarded (is_guard p row.place) ps (λ g. let long = if_has_length o row listed (guard_place p row.place g) in absurd (cc (long, short)))
+unguarded : (o : ℕ) (row : Row) (p : Position) → row_of o ≡ Some row → has_length row.tail ≡ false → terms_in p row.place ≡ Position.GuardTerm → ⊥
+unguarded o row p listed short g =
+    let long = if_has_length o row listed (guard_place p row.place (guard_inside p row.place g)) in absurd (cc (long, short))
 
 is_target : (p : Position) (lead : ℕ) → is_absent_target p lead ≡ true → (p ≡ Position.Target) × (lead ≡ 0)
 is_target Position.Target lead h = (refl, eqb-true lead 0 h)
@@ -227,9 +227,9 @@ module _ (s : Setting) (levels : ℕ) (read : Position → Reader Tree) (law : I
         let lawful : IsLawful s (suc levels) p ls (op o None ps.0 empty) = record {
           row = row;
           listed = found.listed;
-          taken = taken;
-          width = subst (λ (k : Option TailKind). HasWidth (has_length k) None (length (parts_encoding s.code ps.0 ++ []))) (sym short) tt;
-          guarded = unguarded o row p ps.0 found.listed (ap has_length short);
+          taken = takes_taker p row.place taken;
+          width = subst (λ (k : Option TailKind). HasWidth k None (length (parts_encoding s.code ps.0 ++ []))) (sym short) tt;
+          guarded = λ g. absurd (unguarded o row p found.listed (ap has_length short) g);
           parts = b.is;
           tail = subst (λ (k : Option TailKind). IsTail s (IsLawful s levels) (terms_in p row.place) (option_map (tail_in p) k) ls empty) (sym short) tt;
         } in
@@ -265,15 +265,16 @@ module _ (s : Setting) (levels : ℕ) (read : Position → Reader Tree) (law : I
         let Spans : List ℕ → Type 0 =
         λ i. Takes inside (package_bytes span.0 (width_len span.0 + length i) ++ i) span.2 × FitsWidth span.0 (width_len span.0 + length i) in
         let spelled : Spans content = subst Spans whole (sp.0, sp.1) in
-        let offset : at3 ≡ at + (length (opcode_bytes o) + (width_len span.0 + length (parts_encoding s.code ps.0))) = omega arith in
+        let offset : at3 ≡ at + length (encoding s.code (op o (Some span.0) ps.0 empty)) = omega (arith, front_length s.code o span.0 ps.0) in
         let lawful : IsLawful s (suc levels) p ls (op o (Some span.0) ps.0 t.0) = record {
           row = row;
           listed = found.listed;
-          taken = taken;
-          width = subst (λ (k : Option TailKind). HasWidth (has_length k) (Some span.0) (length content)) (sym long) spelled.1;
-          guarded =
-              guard_holds s levels ls (is_guard p row.place) row.parts ps.0 span.1 ps.2
-              (λ g. if_parts o row found.listed (guard_place p row.place g)) first b.is b.takes.parts;
+          taken = takes_taker p row.place taken;
+          width = subst (λ (k : Option TailKind). HasWidth k (Some span.0) (length content)) (sym long) spelled.1;
+          guarded = λ g.
+              subst (λ (b : Bool). IsGuarded b ps.0) (guard_inside p row.place g)
+              (guard_holds s levels ls (is_guard p row.place) row.parts ps.0 span.1 ps.2
+              (λ g. if_parts o row found.listed (guard_place p row.place g)) first b.is b.takes.parts);
           parts = b.is;
           tail = subst (λ (k : Option TailKind). IsTail s (IsLawful s levels) q (option_map (tail_in p) k) ls t.0) (sym long) c.is.0;
         } in

@@ -1,5 +1,5 @@
 -- What a loaded set of tables holds, apart from where it lies in memory.
-use Rattle.std.specs.Prelude.{◌≡◌, ℕ, List, [], map, Option, Some, None, slice_get}
+use Rattle.std.specs.Prelude.{◌≡◌, ℕ, List, [], map, Option, Some, None, slice_get, slice_index_or}
 use Rattle.std.specs.Global.{Vec}
 use denote.Ref.{Bor}
 use Rattle.aml_code.specs.declared.tree.Node.{Node}
@@ -16,13 +16,9 @@ codes_view codes = map (λ c. c.now) codes
 abbrev pub trees_view : List (Vec Node) → List Trees
 trees_view ts = map (λ t. nodes_view t.items) ts
 
-abbrev pub span_in : Option (List ℕ) → Method → List ℕ
-span_in None m = []
-span_in (Some code) m = slice_of code m.start m.len
-
 -- the bytes of a method's body
 abbrev pub span_of : List (List ℕ) → Method → List ℕ
-span_of tables m = span_in (slice_get tables m.table) m
+span_of tables m = slice_of (slice_index_or tables m.table []) m.start m.len
 
 abbrev pub body_in : List (List ℕ) → Option Method → List ℕ
 body_in tables None = []
