@@ -30,14 +30,18 @@ impl Cases {
     }
 
     /// What a row is read as. A row of no kind, as a heading, has no answer.
-    pub fn answer(&mut self, alloc: Global, row: &str) -> Result<String, AllocError> {
+    pub fn push_answer(
+        &mut self,
+        alloc: Global,
+        out: &mut String,
+        row: &str,
+    ) -> Result<(), AllocError> {
         let (line, text) = split_line(row);
         let bytes = bytes_of(alloc, text)?;
-        let mut out = String::new(alloc);
-        if bytes.len() <= LIMIT {
-            self.push_code(alloc, &mut out, line, &bytes)?;
+        if bytes.len() > LIMIT {
+            return Ok(());
         }
-        Ok(out)
+        self.push_code(alloc, out, line, &bytes)
     }
 
     /// What code is read as.
@@ -107,12 +111,17 @@ impl Cases {
     ) -> Result<(), AllocError> {
         match line.kind {
             "space" => self.begin_names(alloc),
-            "declare" | "again" | "maybe" | "external" | "given" | "local" => {
-                spaces::change(alloc, out, &mut self.space, &mut self.locals, line)
+            "declare" | "again" | "maybe" => {
+                spaces::push_declared(alloc, out, &mut self.space, line)
             }
-            "count" | "kind" | "counted" | "declared" | "rows" | "row_at" => {
+            "external" | "given" | "local" => {
+                spaces::add(alloc, &mut self.space, &mut self.locals, line)
+            }
+            "count" | "kind" | "counted" | "declared" => {
                 self.names().push_known(alloc, out, line)
             }
+            "rows" => spaces::push_rows(alloc, out, &self.space),
+            "row_at" => spaces::push_row_at(out, &self.space, number_of(line.words)),
             "place" | "find" | "lead" | "search" | "arity" | "arity_unknown_zero" => {
                 self.names().push_lead(alloc, out, line)
             }
@@ -155,8 +164,9 @@ fn push_table(
         "madt" => tables::push_madt(alloc, out, bytes),
         "map" => files::push_map(alloc, out, line.words, bytes),
         "externals" => files::push_externals(alloc, out, bytes),
-        "many_rows" => members::push_places(alloc, out, number_of(line.words)),
-        "many_counted" => members::push_found(alloc, out, number_of(line.words)),
+        "many_rows" | "many_counted" => {
+            members::push_many(alloc, out, line.kind, number_of(line.words))
+        }
         _ => Ok(()),
     }
 }

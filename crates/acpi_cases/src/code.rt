@@ -1,7 +1,7 @@
 //! Rows of AML: bodies, tables, names and package lengths.
 ghost use Rattle.std.specs.Prelude.{◌≤◌, Some, length};
 
-use crate::lines::{first_word, push_indented};
+use crate::lines::{count_of, first_word, push_bytes, push_indented};
 use aml_code::{
     Arity, Bytes, CodeFault, Locals, Name, NameForm, NoMemory, Node, Path, PkgWidth, Position,
     Tail, encode_terms, read_pkg,
@@ -46,7 +46,7 @@ pub fn push_body(
 ) -> Result<(), AllocError>
     requires { length code.now ≤ 16777216 }
 {
-    let count = count.parse::<u8>().unwrap_or(0);
+    let count = count_of(count);
     push_body_of(alloc, out, &Each { count }, &Path::root(alloc), code)
 }
 
@@ -59,7 +59,7 @@ pub fn push_texts(
 ) -> Result<(), AllocError>
     requires { length code.now ≤ 16777216 }
 {
-    let count = count.parse::<u8>().unwrap_or(0);
+    let count = count_of(count);
     match parse_body(alloc, code, &Each { count }, &Path::root(alloc)) {
         Err(fault) => push_fault(out, fault),
         Ok(nodes) => push_each_text(alloc, out, &nodes),
@@ -107,7 +107,7 @@ pub fn push_step(
     requires { length code.now ≤ 16777216 }
 {
     let (count, at) = first_word(words);
-    let count = count.parse::<u8>().unwrap_or(0);
+    let count = count_of(count);
     let at = at.parse::<u32>().unwrap_or(0);
     let end = code.len() as u32;
     if at > end {
@@ -232,12 +232,9 @@ fn form_word(form: NameForm) -> &'static str {
 
 /// Bytes as a tree keeps them, given back.
 pub fn push_kept(alloc: Global, out: &mut String, bytes: &[u8]) -> Result<(), AllocError> {
-    let kept = Bytes::from_vec(bytes.to_vec(alloc)?);
+    let kept = Bytes::from_vec(bytes.to_vec(alloc)?).into_vec();
     out.push_str("  ")?;
-    for byte in kept.into_vec().as_slice() {
-        write!(out, "{byte:02X}")?;
-    }
-    writeln!(out)
+    push_bytes(out, &kept, "")
 }
 
 /// A package length.

@@ -1,6 +1,7 @@
 //! Rows of files beside the dumps: `tables.map`, and the counts that the user gives.
 
 use acpi_folder::{ExternalsFault, MapFault, parse_externals, parse_map};
+use aml_names::Path;
 use std::alloc::{AllocError, Global};
 use std::fmt::Write;
 
@@ -18,7 +19,8 @@ pub fn push_map(
     words: &str,
     text: &[u8],
 ) -> Result<(), AllocError> {
-    let names = names_of(alloc, words)?;
+    let mut names = Vec::new(alloc);
+    add_names(alloc, &mut names, words)?;
     match parse_map(alloc, text, &names) {
         Err(fault) => push_map_fault(out, fault),
         Ok(addresses) => push_names(out, &names, &addresses),
@@ -27,23 +29,26 @@ pub fn push_map(
 
 /// The paths and counts of a file that the user gives.
 pub fn push_externals(alloc: Global, out: &mut String, text: &[u8]) -> Result<(), AllocError> {
-    let givens = match parse_externals(alloc, text) {
-        Ok(givens) => givens,
-        Err(ExternalsFault::BadLine(line)) => return writeln!(out, "  BadLine in line {line}"),
-        Err(ExternalsFault::NoMemory) => return Err(AllocError),
-    };
-    for (path, count) in &givens {
+    match parse_externals(alloc, text) {
+        Err(ExternalsFault::BadLine(line)) => writeln!(out, "  BadLine in line {line}"),
+        Err(ExternalsFault::NoMemory) => Err(AllocError),
+        Ok(givens) => push_givens(out, &givens),
+    }
+}
+
+fn push_givens(out: &mut String, givens: &[(Path, u8)]) -> Result<(), AllocError> {
+    for (path, count) in givens {
         writeln!(out, "  {path} {count}")?;
     }
     Ok(())
 }
 
-fn names_of(alloc: Global, words: &str) -> Result<Vec<String>, AllocError> {
-    let mut names = Vec::new(alloc);
+/// Adds each word.
+fn add_names(alloc: Global, names: &mut Vec<String>, words: &str) -> Result<(), AllocError> {
     for word in words.split(' ') {
         names.push(String::from_str(alloc, word)?)?;
     }
-    Ok(names)
+    Ok(())
 }
 
 fn push_names(

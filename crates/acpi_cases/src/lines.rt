@@ -27,6 +27,11 @@ pub fn number_of(word: &str) -> usize {
     word.parse::<usize>().unwrap_or(0)
 }
 
+/// A number of arguments, and 0 for what is none.
+pub fn count_of(word: &str) -> u8 {
+    word.parse::<u8>().unwrap_or(0)
+}
+
 /// Bytes as two hexadecimal digits each or as text in single quotes; `*N` behind either repeats it.
 pub fn bytes_of(alloc: Global, text: &str) -> Result<Vec<u8>, AllocError> {
     let mut bytes = Vec::new(alloc);
@@ -75,4 +80,12 @@ pub fn push_indented(out: &mut String, text: &[u8]) -> Result<(), AllocError> {
         writeln!(out, "  {line}")?;
     }
     Ok(())
+}
+
+/// Bytes as two hexadecimal digits each, with a gap before each, to the end of the line.
+pub fn push_bytes(out: &mut String, bytes: &[u8], gap: &str) -> Result<(), AllocError> {
+    for byte in bytes {
+        write!(out, "{gap}{byte:02X}")?;
+    }
+    out.push_str("\n")
 }

@@ -20,18 +20,27 @@ fn main(rt: HostRuntime) -> io::Result<()> {
     for row in rt.lines(rt.alloc()) {
         rows.push(row?)?;
     }
-    let text = text_of(rt.alloc(), rows.as_slice())?;
+    let mut text = String::new(rt.alloc());
+    push_text(rt.alloc(), &mut text, rows.as_slice())?;
     print!(rt; "{text}")
 }
 
 /// Each row, and below it what it is read as.
-fn text_of(alloc: Global, rows: &[String]) -> Result<String, AllocError> {
+fn push_text(alloc: Global, out: &mut String, rows: &[String]) -> Result<(), AllocError> {
     let mut cases = Cases::new(alloc)?;
-    let mut text = String::new(alloc);
+    push_rows(alloc, out, &mut cases, rows)
+}
+
+fn push_rows(
+    alloc: Global,
+    out: &mut String,
+    cases: &mut Cases,
+    rows: &[String],
+) -> Result<(), AllocError> {
     for row in rows {
-        push_row(alloc, &mut text, &mut cases, row)?;
+        push_row(alloc, out, cases, row)?;
     }
-    Ok(text)
+    Ok(())
 }
 
 fn push_row(
@@ -40,7 +49,6 @@ fn push_row(
     cases: &mut Cases,
     row: &str,
 ) -> Result<(), AllocError> {
-    let answer = cases.answer(alloc, row)?;
     writeln!(out, "{row}")?;
-    out.push_str(answer.as_str())
+    cases.push_answer(alloc, out, row)
 }

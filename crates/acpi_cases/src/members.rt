@@ -31,20 +31,25 @@ fn count_of(number: usize) -> u8 {
     (number % 8) as u8
 }
 
-/// A namespace of so many methods.
-fn space_of(alloc: Global, count: usize) -> Result<Space, AllocError> {
-    let mut space = Space::new(alloc)?;
+/// Declares the method with a number.
+fn declare(alloc: Global, space: &mut Space, number: usize) -> Result<(), AllocError> {
+    let kind = Kind::Method {
+        args: count_of(number),
+    };
+    match space.declare(path_of(alloc, number)?, kind) {
+        Ok(()) => Ok(()),
+        Err(_) => Err(AllocError),
+    }
+}
+
+/// Declares so many methods.
+fn declare_all(alloc: Global, space: &mut Space, count: usize) -> Result<(), AllocError> {
     let mut number: usize = 0;
     for _ in 0..count {
         number = number.saturating_add(STEP).checked_rem(count).unwrap_or(0);
-        let kind = Kind::Method {
-            args: count_of(number),
-        };
-        if space.declare(path_of(alloc, number)?, kind).is_err() {
-            return Err(AllocError);
-        }
+        declare(alloc, space, number)?;
     }
-    Ok(space)
+    Ok(())
 }
 
 fn is_kind(kind: &Kind, number: usize) -> bool {
@@ -70,21 +75,50 @@ fn is_found(alloc: Global, space: &Space, number: usize) -> Result<bool, AllocEr
 }
 
 /// How many rows of so many methods are at their places, one asked for after the other.
-pub fn push_places(alloc: Global, out: &mut String, count: usize) -> Result<(), AllocError> {
-    let space = space_of(alloc, count)?;
+fn push_places(out: &mut String, space: &Space, count: usize) -> Result<(), AllocError> {
     let mut right: usize = 0;
     for number in 0..count {
-        right = right.saturating_add(usize::from(is_at_place(&space, number)));
+        right = right.saturating_add(usize::from(is_at_place(space, number)));
     }
     writeln!(out, "  {right} at their places")
 }
 
 /// How many kinds of so many methods are found by few comparisons, but by some.
-pub fn push_found(alloc: Global, out: &mut String, count: usize) -> Result<(), AllocError> {
-    let space = space_of(alloc, count)?;
+fn push_found(
+    alloc: Global,
+    out: &mut String,
+    space: &Space,
+    count: usize,
+) -> Result<(), AllocError> {
     let mut right: usize = 0;
     for number in 0..count {
-        right = right.saturating_add(usize::from(is_found(alloc, &space, number)?));
+        right = right.saturating_add(usize::from(is_found(alloc, space, number)?));
     }
     writeln!(out, "  {right} found by 1 to 64 comparisons")
+}
+
+/// What is asked of so many methods, once this namespace has them.
+fn push_of(
+    alloc: Global,
+    out: &mut String,
+    space: &mut Space,
+    asked: &str,
+    count: usize,
+) -> Result<(), AllocError> {
+    declare_all(alloc, space, count)?;
+    match asked {
+        "many_rows" => push_places(out, space, count),
+        _ => push_found(alloc, out, space, count),
+    }
+}
+
+/// What is asked of a namespace of so many methods.
+pub fn push_many(
+    alloc: Global,
+    out: &mut String,
+    asked: &str,
+    count: usize,
+) -> Result<(), AllocError> {
+    let mut space = Space::new(alloc)?;
+    push_of(alloc, out, &mut space, asked, count)
 }

@@ -2,43 +2,50 @@
 ghost use Rattle.std.specs.Prelude.{◌≤◌, length};
 
 use crate::code::push_body_of;
-use crate::lines::{Line, first_word, number_of};
+use crate::lines::{Line, count_of, first_word};
 use aml_names::{Arity, Locals, Name, NameForm, Path, Seg, Segs, place};
-use aml_space::{BodyScope, Kind, Space};
+use aml_space::{BodyScope, Kind, Space, SpaceRow};
 use std::alloc::{AllocError, Global};
 use std::fmt::Write;
 
-/// Declares a path, once or again, or adds an External, a count that the user gives, or a path that a body has declared.
-pub fn change(
+/// Declares a path, once or again.
+pub fn push_declared(
     alloc: Global,
     out: &mut String,
+    space: &mut Space,
+    line: Line<'_>,
+) -> Result<(), AllocError> {
+    let (path, words) = first_word(line.words);
+    let kind = kind_of(alloc, words)?;
+    let path = path_of(alloc, path)?;
+    match line.kind {
+        "again" => space.declare_again(path, kind, true),
+        "maybe" => space.declare_again(path, kind, false),
+        _ => declare(out, space, path, kind),
+    }
+}
+
+/// Declares a path, or says why it isn't.
+fn declare(out: &mut String, space: &mut Space, path: Path, kind: Kind) -> Result<(), AllocError> {
+    match space.declare(path, kind) {
+        Ok(()) => Ok(()),
+        Err(fault) => writeln!(out, "  {fault}"),
+    }
+}
+
+/// Adds an External, a count that the user gives, or a path that a body has declared.
+pub fn add(
+    alloc: Global,
     space: &mut Space,
     locals: &mut Locals,
     line: Line<'_>,
 ) -> Result<(), AllocError> {
-    let (path, more) = first_word(line.words);
+    let (path, count) = first_word(line.words);
     let path = path_of(alloc, path)?;
     match line.kind {
-        "declare" => declare(alloc, out, space, path, more),
-        "again" => space.declare_again(path, kind_of(alloc, more)?, true),
-        "maybe" => space.declare_again(path, kind_of(alloc, more)?, false),
-        "external" => space.external(path, more.parse::<u8>().unwrap_or(0)),
-        "given" => space.given(&path, more.parse::<u8>().unwrap_or(0)),
+        "external" => space.external(path, count_of(count)),
+        "given" => space.given(&path, count_of(count)),
         _ => locals.push(path),
-    }
-}
-
-/// Declares a path with the kind of these words.
-fn declare(
-    alloc: Global,
-    out: &mut String,
-    space: &mut Space,
-    path: Path,
-    words: &str,
-) -> Result<(), AllocError> {
-    match space.declare(path, kind_of(alloc, words)?) {
-        Ok(()) => Ok(()),
-        Err(fault) => writeln!(out, "  {fault}"),
     }
 }
 
@@ -72,9 +79,12 @@ impl Names<'_> {
         name: &Name,
     ) -> Result<(), AllocError> {
         match asked {
-            "arity" => push_count(out, self.count(alloc, scope, name, false)?),
-            "arity_unknown_zero" => push_count(out, self.count(alloc, scope, name, true)?),
-            way => push_path(out, self.led_path(alloc, way, scope, name)?),
+            "arity" => self.push_arity(alloc, out, scope, name, false),
+            "arity_unknown_zero" => self.push_arity(alloc, out, scope, name, true),
+            way => {
+                let path = self.led_path(alloc, way, scope, name)?;
+                push_path(out, path.as_ref())
+            }
         }
     }
 
@@ -95,19 +105,20 @@ impl Names<'_> {
     }
 
     /// How many arguments a name takes in the body of a method.
-    fn count(
+    fn push_arity(
         &self,
         alloc: Global,
+        out: &mut String,
         method: &Path,
         name: &Name,
         unknown_zero: bool,
-    ) -> Result<Option<u8>, AllocError> {
+    ) -> Result<(), AllocError> {
         let scope = BodyScope {
             space: self.space,
             method,
             unknown_zero,
         };
-        scope.count(alloc, self.locals, name)
+        push_count(out, scope.count(alloc, self.locals, name)?)
     }
 
     /// The terms of the body of a method.
@@ -129,20 +140,19 @@ impl Names<'_> {
         push_body_of(alloc, out, &scope, &method, code)
     }
 
-    /// What is known of a path, or which paths are declared.
+    /// What is known of a path.
     pub fn push_known(
         &self,
         alloc: Global,
         out: &mut String,
         line: Line<'_>,
     ) -> Result<(), AllocError> {
+        let path = path_of(alloc, line.words)?;
         match line.kind {
-            "count" => push_count(out, self.space.count(&path_of(alloc, line.words)?)),
-            "kind" => self.push_kind(out, &path_of(alloc, line.words)?),
-            "counted" => self.push_counted(out, &path_of(alloc, line.words)?),
-            "row_at" => self.push_row_at(out, number_of(line.words)),
-            "declared" => self.push_declared(out, &path_of(alloc, line.words)?),
-            _ => push_rows(alloc, out, self.space),
+            "count" => push_count(out, self.space.count(&path)),
+            "kind" => self.push_kind(out, &path),
+            "counted" => self.push_counted(out, &path),
+            _ => self.push_declared(out, &path),
         }
     }
 
@@ -165,14 +175,6 @@ impl Names<'_> {
         writeln!(out, "  {said} comparisons")
     }
 
-    /// The declared path at a place in the order of the paths.
-    fn push_row_at(&self, out: &mut String, place: usize) -> Result<(), AllocError> {
-        match self.space.row_at(place) {
-            None => out.push_str("  none\n"),
-            Some(row) => push_marked(out, row.path(), row.kind(), row.is_sure(), row.times()),
-        }
-    }
-
     /// Whether a path is declared, and whether it has a kind in every run.
     fn push_declared(&self, out: &mut String, path: &Path) -> Result<(), AllocError> {
         let declared = if self.space.is_declared(path) {
@@ -191,28 +193,34 @@ impl Names<'_> {
 
 /// A name from its text: prefixes, and segments with dots between them.
 fn name_of(alloc: Global, text: &str) -> Result<Name, AllocError> {
-    let ups = text.bytes().filter(|byte| *byte == b'^').count();
     let mut segs = Segs::new(alloc);
-    for part in text.split(['\\', '^', '.']) {
-        if let [a, b, c, d] = part.as_bytes() {
-            segs.push(Seg([*a, *b, *c, *d]))?;
-        }
-    }
+    push_segments(&mut segs, text)?;
     Ok(Name {
         root: text.starts_with('\\'),
-        ups: u32::try_from(ups).unwrap_or(0),
+        ups: u32::try_from(text.matches('^').count()).unwrap_or(0),
         form: NameForm::Multi,
         segs,
     })
 }
 
-/// A path from its text, which begins at the root.
-fn path_of(alloc: Global, text: &str) -> Result<Path, AllocError> {
-    let name = name_of(alloc, text)?;
-    Path::below(alloc, &[], name.segs.as_slice())
+/// Adds the segments of a name.
+fn push_segments(segs: &mut Segs, text: &str) -> Result<(), AllocError> {
+    for part in text.split(['\\', '^', '.']) {
+        if let [a, b, c, d] = part.as_bytes() {
+            segs.push(Seg([*a, *b, *c, *d]))?;
+        }
+    }
+    Ok(())
 }
 
-fn push_path(out: &mut String, path: Option<Path>) -> Result<(), AllocError> {
+/// A path from its text, which begins at the root.
+fn path_of(alloc: Global, text: &str) -> Result<Path, AllocError> {
+    let mut segs = Segs::new(alloc);
+    push_segments(&mut segs, text)?;
+    Path::below(alloc, &[], segs.as_slice())
+}
+
+fn push_path(out: &mut String, path: Option<&Path>) -> Result<(), AllocError> {
     match path {
         None => out.push_str("  none\n"),
         Some(path) => writeln!(out, "  {path}"),
@@ -228,10 +236,23 @@ fn push_count(out: &mut String, count: Option<u8>) -> Result<(), AllocError> {
 
 /// The declared paths of a namespace in their order, each with its kind.
 pub fn push_rows(alloc: Global, out: &mut String, space: &Space) -> Result<(), AllocError> {
-    for row in space.rows(alloc)? {
+    let rows = space.rows(alloc)?;
+    push_each(out, rows.as_slice())
+}
+
+fn push_each(out: &mut String, rows: &[SpaceRow]) -> Result<(), AllocError> {
+    for row in rows {
         push_marked(out, &row.path, &row.kind, row.sure, row.times)?;
     }
     Ok(())
+}
+
+/// The declared path at a place in the order of the paths.
+pub fn push_row_at(out: &mut String, space: &Space, place: usize) -> Result<(), AllocError> {
+    match space.row_at(place) {
+        None => out.push_str("  none\n"),
+        Some(row) => push_marked(out, row.path(), row.kind(), row.is_sure(), row.times()),
+    }
 }
 
 fn push_row_or_none(out: &mut String, path: &Path, kind: Option<&Kind>) -> Result<(), AllocError> {
@@ -253,20 +274,24 @@ fn push_marked(
     sure: bool,
     times: usize,
 ) -> Result<(), AllocError> {
-    let word = kind_word(kind);
-    write!(out, "  {path} {word}")?;
-    match kind {
-        Kind::Method { args } => write!(out, " {args}")?,
-        Kind::Alias { target } => write!(out, " {target}")?,
-        _ => {}
-    }
+    push_kind(out, path, kind)?;
     if !sure {
         out.push_str(" Maybe")?;
     }
     if times > 1 {
         write!(out, " Times {times}")?;
     }
-    writeln!(out)
+    out.push_str("\n")
+}
+
+/// A path and its kind.
+fn push_kind(out: &mut String, path: &Path, kind: &Kind) -> Result<(), AllocError> {
+    let word = kind_word(kind);
+    match kind {
+        Kind::Method { args } => write!(out, "  {path} {word} {args}"),
+        Kind::Alias { target } => write!(out, "  {path} {word} {target}"),
+        _ => write!(out, "  {path} {word}"),
+    }
 }
 
 fn kind_word(kind: &Kind) -> &'static str {
@@ -293,7 +318,7 @@ fn kind_of(alloc: Global, words: &str) -> Result<Kind, AllocError> {
     let (word, more) = first_word(words);
     Ok(match word {
         "Method" => Kind::Method {
-            args: more.parse::<u8>().unwrap_or(0),
+            args: count_of(more),
         },
         "Alias" => Kind::Alias {
             target: path_of(alloc, more)?,

@@ -1,5 +1,6 @@
 //! Rows of tables by themselves: the addresses that an XSDT or an RSDT lists, and the records of a MADT.
 
+use crate::lines::push_bytes;
 use acpi_tables::{Bad, Madt, MadtRecord, RecordRow, Rsdt, Xsdt};
 use std::alloc::{AllocError, Global};
 use std::fmt::Write;
@@ -27,10 +28,15 @@ fn push_addresses(out: &mut String, addresses: &[u64]) -> Result<(), AllocError>
         return out.push_str("  none\n");
     };
     write!(out, "  {first:X}")?;
-    for address in others {
-        write!(out, ", {address:X}")?;
+    push_numbers(out, others, ", ")
+}
+
+/// Numbers in hexadecimal digits, with a gap before each, to the end of the line.
+fn push_numbers(out: &mut String, numbers: &[u64], gap: &str) -> Result<(), AllocError> {
+    for number in numbers {
+        write!(out, "{gap}{number:X}")?;
     }
-    writeln!(out)
+    out.push_str("\n")
 }
 
 /// The fields of a MADT, and a line for each of its records.
@@ -64,16 +70,10 @@ fn push_record(out: &mut String, record: &MadtRecord) -> Result<(), AllocError> 
 
 fn push_known(out: &mut String, row: &RecordRow, values: &[u64]) -> Result<(), AllocError> {
     write!(out, "  {}", row.name)?;
-    for value in values.iter().take(row.fields.len()) {
-        write!(out, " {value:X}")?;
-    }
-    writeln!(out)
+    push_numbers(out, values.get(..row.fields.len()).unwrap_or(values), " ")
 }
 
 fn push_other(out: &mut String, kind: u8, content: &[u8]) -> Result<(), AllocError> {
     write!(out, "  Other {kind:X}:")?;
-    for byte in content {
-        write!(out, " {byte:02X}")?;
-    }
-    writeln!(out)
+    push_bytes(out, content, " ")
 }

@@ -40,10 +40,10 @@ fn turned(mut state: u64, turns: u32) -> u64 {
     state
 }
 
-fn answer(found: Result<Results<u64>, PoolFault>, count: u32) -> &'static str {
+fn answer(found: &Result<Results<u64>, PoolFault>, count: u32) -> &'static str {
     match found {
         Ok(found) => {
-            let same = found.items.iter().copied().eq((0..count).map(u64::from));
+            let same = found.items.iter().copied().eq(0..u64::from(count));
             if same { "whole" } else { "wrong" }
         }
         Err(PoolFault::NoThread) => "no thread",
@@ -71,7 +71,7 @@ fn asked(mut words: env::Args) -> Option<(String, u32, u32)> {
 fn print_found(
     rt: &HostRuntime,
     mode: &str,
-    found: Result<Results<u64>, PoolFault>,
+    found: &Result<Results<u64>, PoolFault>,
     count: u32,
     micros: u128,
 ) -> io::Result<()> {
@@ -97,5 +97,5 @@ fn main(rt: HostRuntime) -> io::Result<()> {
     let start = Instant::now(&rt)?;
     let found = harvest(&rt, rt.alloc(), workers, count, &Turns { turns }, &FreeGate);
     let micros = start.elapsed(&rt)?.as_micros();
-    print_found(&rt, mode.as_str(), found, count, micros)
+    print_found(&rt, mode.as_str(), &found, count, micros)
 }

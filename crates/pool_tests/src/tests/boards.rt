@@ -1,11 +1,11 @@
-ghost use Rattle.std.specs.Prelude.{◌≡◌, IfOk, IfSome};
+ghost use Rattle.std.specs.Prelude.{◌≡◌, ◌+◌, IfOk, IfSome};
 ghost use Rattle.aml_pool.specs.Seats.{weight_of, IsDrawing, IsSeatOf};
 
 use super::fixtures::each_once;
 use aml_pool::{Board, NoMemory, Seat};
 use std::alloc::Global;
+use std::panic::Expect;
 use std::snapshot::Snapshot;
-use std::test::Fail;
 use std::thread;
 use std::thread::Promise;
 
@@ -28,24 +28,22 @@ fn take_turns(board: &Board, mut one: Seat) -> (Seat, [Option<u32>; 3])
 }
 
 #[test]
-fn a_board_of_two_numbers(rt: HostRuntime) -> Result<(), Fail> {
-    let (board, seat) = Board::new(rt.alloc(), 2)?;
+fn a_board_of_two_numbers(rt: HostRuntime) {
+    let (board, seat) = Board::new(rt.alloc(), 2).expect(&rt, "no board");
     let (whole, drawn) = take_turns(&board, seat);
-    assert_eq!(rt; drawn, [Some(0), Some(1), None]);
+    assert!(rt; drawn == [Some(0), Some(1), None]);
     assert!(rt; whole.ended() && whole.weight() == 64);
-    assert_eq!(rt; board.close(whole).numbers, 2);
-    Ok(())
+    assert!(rt; board.close(whole).numbers == 2);
 }
 
 #[test]
-fn a_split_seat_has_its_weight(rt: HostRuntime) -> Result<(), Fail> {
-    let (board, mut seat) = Board::new(rt.alloc(), 1)?;
+fn a_split_seat_has_its_weight(rt: HostRuntime) {
+    let (board, mut seat) = Board::new(rt.alloc(), 1).expect(&rt, "no board");
     let other = board.split(&mut seat, 24);
-    assert_eq!(rt; (seat.weight(), other.weight()), (40, 24));
+    assert!(rt; seat.weight() == 40 && other.weight() == 24);
     assert!(rt; !seat.ended() && !other.ended());
     let whole = board.join(other, seat);
-    assert_eq!(rt; board.close(whole).numbers, 0);
-    Ok(())
+    assert!(rt; board.close(whole).numbers == 0);
 }
 
 /// That a seat of the same board and weight comes back.
@@ -72,10 +70,23 @@ fn drain(alloc: Global, board: &Board, mut seat: Seat) -> Result<(Seat, Vec<u32>
     Ok((seat, numbers))
 }
 
+/// Whether two seats drew the thousand numbers of a board, which is closed.
+fn are_drawn(alloc: Global, board: Board, here: (Seat, Vec<u32>), there: (Seat, Vec<u32>)) -> bool
+    requires seats { IsSeatOf board here.0 × IsSeatOf board there.0 }
+    requires weights { weight_of here.0 + weight_of there.0 ≡ 64 }
+{
+    let (seat, mine) = here;
+    let (other, theirs) = there;
+    let whole = board.join(seat, other);
+    whole.ended()
+        && board.close(whole).numbers == 1000
+        && each_once(alloc, [mine, theirs].as_slice(), 1000)
+}
+
 #[test]
-fn two_threads_drain_a_board(rt: HostRuntime) -> Result<(), Fail> {
+fn two_threads_drain_a_board(rt: HostRuntime) {
     let alloc = rt.alloc();
-    let (board, mut seat) = Board::new(alloc, 1000)?;
+    let (board, mut seat) = Board::new(alloc, 1000).expect(&rt, "no board");
     let other = board.split(&mut seat, 32);
     let shared = &board;
     let both = thread::scope(
@@ -102,12 +113,8 @@ fn two_threads_drain_a_board(rt: HostRuntime) -> Result<(), Fail> {
             Some((here, child.join(&rt)))
         },
     );
-    let (here, there) = both.ok_or("no thread")?;
-    let (seat, mine) = here?;
-    let (other, theirs) = there?;
-    let whole = board.join(seat, other);
-    assert!(rt; whole.ended());
-    assert_eq!(rt; board.close(whole).numbers, 1000);
-    assert!(rt; each_once([mine, theirs].as_slice(), 1000));
-    Ok(())
+    let (here, there) = both.expect(&rt, "no thread");
+    let here = here.expect(&rt, "no memory");
+    let there = there.expect(&rt, "no memory there");
+    assert!(rt; are_drawn(alloc, board, here, there));
 }

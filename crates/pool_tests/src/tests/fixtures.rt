@@ -163,30 +163,27 @@ impl Log {
     }
 
     /// Whether these are the lists of the workers from this one on.
-    pub fn has_lists(
-        &self,
-        alloc: Global,
-        first: u32,
-        lists: &[Vec<u32>],
-    ) -> Result<bool, AllocError> {
+    pub fn has_lists(&self, first: u32, lists: &[Vec<u32>]) -> bool {
         for (worker, list) in (first..64).zip(lists) {
-            if self.numbers_of(alloc, worker)?.as_slice() != list.as_slice() {
-                return Ok(false);
+            if !self.has_list(worker, list.as_slice()) {
+                return false;
             }
         }
-        Ok(true)
+        true
     }
 
-    /// The numbers with which this worker entered, in the order of its calls.
-    pub fn numbers_of(&self, alloc: Global, worker: u32) -> Result<Vec<u32>, AllocError> {
-        let mut numbers = Vec::new(alloc);
+    /// Whether this worker entered with these numbers, in the order of its calls.
+    fn has_list(&self, worker: u32, list: &[u32]) -> bool {
+        let mut left = list.iter();
         for call in &self.calls {
             let call = call.load(SeqCst);
-            if call >> 32 == u64::from(worker) + 1 {
-                numbers.push((call & 0xFFFF_FFFF) as u32)?;
+            if call >> 32 == u64::from(worker) + 1
+                && left.next() != Some(&((call & 0xFFFF_FFFF) as u32))
+            {
+                return false;
             }
         }
-        Ok(numbers)
+        left.next().is_none()
     }
 }
 
@@ -278,16 +275,19 @@ impl Work for Order {
 }
 
 /// Whether each number below `count` stands once in the lists, and nothing else stands there.
-pub fn each_once(drawn: &[Vec<u32>], count: u32) -> bool {
-    let none_else = drawn.iter().all(|list| list.iter().all(|&n| n < count));
-    none_else && (0..count).all(|n| stands_once(drawn, n))
+pub fn each_once(alloc: Global, lists: &[Vec<u32>], count: u32) -> bool {
+    match sorted(alloc, lists) {
+        Ok(numbers) => numbers.iter().copied().eq(0..count),
+        Err(_) => false,
+    }
 }
 
-fn stands_once(drawn: &[Vec<u32>], number: u32) -> bool {
-    drawn.iter().all(|list| times(list, number) <= 1)
-        && drawn.iter().filter(|list| times(list, number) == 1).count() == 1
-}
-
-fn times(list: &Vec<u32>, number: u32) -> usize {
-    list.iter().filter(|&&n| n == number).count()
+/// The numbers of all lists, the smallest first.
+fn sorted(alloc: Global, lists: &[Vec<u32>]) -> Result<Vec<u32>, AllocError> {
+    let mut numbers = Vec::new(alloc);
+    for list in lists {
+        numbers.extend_from_slice(list)?;
+    }
+    numbers.sort_unstable();
+    Ok(numbers)
 }
