@@ -3,31 +3,22 @@ ghost use Rattle.std.specs.Prelude.{◌≤◌, length};
 ghost use Rattle.aml_set.specs.Code.{AreShort};
 ghost use Rattle.aml_set.specs.Views.{codes_view};
 
-use super::fixtures::{Bare, listing_of, push_table};
+use super::fixtures::{Bare, OfListing, Want, dsdt_of, holds_of_listing};
 use acpi_tables::Dump;
-use acpidis::{Checked, Refusal, check, write_checks};
+use acpidis::{Checked, check, write_checks};
 use aml_code::CodeFault;
 use aml_names::Path;
 use aml_parse::parse_body;
 use aml_pool::FreeGate;
 use aml_text::{Body, Listing};
 use std::alloc::{AllocError, Global};
-use std::sync::Wait;
-use std::test::Fail;
-use std::thread::Threads;
+use std::panic::Expect;
 
 /// The DSDT of a method that returns its first argument.
 fn one_method(alloc: Global) -> Result<Vec<Dump>, AllocError> {
-    let mut dumps = Vec::new(alloc);
-    push_table(
-        alloc,
-        &mut dumps,
-        None,
-        b"DSDT",
-        b"\x14\x08FOO_\x01\xA4\x68",
-    )?;
-    for dump in dumps.iter_mut() {
-        dump.name = String::from_str(alloc, "dsdt.dat")?;
+    let mut dumps = dsdt_of(alloc, b"\x14\x08FOO_\x01\xA4\x68")?;
+    for dump in &mut dumps {
+        dump.name.push_str("dsdt.dat")?;
     }
     Ok(dumps)
 }
@@ -55,33 +46,38 @@ fn differs(checks: &[Checked]) -> bool {
     (checked.bytes, checked.methods, checked.raw, checked.same) == (9, 1, 0, false)
 }
 
-/// Whether the table of a listing differs from what was read, once this is its first body.
-fn differs_with(alloc: Global, listing: &mut Listing<'_>, other: Body) -> Result<bool, AllocError>
-    requires { AreShort (codes_view listing.old.loaded.tables.items)
-        × (length listing.old.loaded.methods.items ≤ 1048576) }
+/// Whether the table of a listing differs from what was read.
+fn is_other(alloc: Global, listing: &Listing<'_>) -> Result<bool, AllocError>
+    requires { AreShort (codes_view listing.now.loaded.tables.items)
+        × (length listing.now.loaded.methods.items ≤ 1048576) }
 {
-    if let Some(first) = listing.bodies.first_mut() {
-        *first = other;
-    }
     let checks = check(alloc, listing)?;
     Ok(differs(&checks) && has_line(alloc, listing, &checks))
 }
 
-/// Whether it does in a listing of these dumps.
-fn tells_exchange<T: Threads + Wait + Sync>(
-    threads: &T,
-    alloc: Global,
-    dumps: &[Dump],
-    other: Body,
-) -> Result<bool, Refusal> {
-    let mut listing = listing_of(threads, alloc, dumps, 1, &FreeGate)?;
-    Ok(differs_with(alloc, &mut listing, other)?)
+/// Puts a body in the place of the first.
+fn exchange(bodies: &mut [Body], other: Body) {
+    if let Some(first) = bodies.first_mut() {
+        *first = other;
+    }
+}
+
+/// That the table of a listing differs once another body stands in the place of its first.
+struct Exchanged;
+
+impl OfListing for Exchanged {
+    fn holds(&self, alloc: Global, listing: &mut Listing<'_>) -> Result<bool, Want> {
+        let Ok(other) = other_body(alloc) else {
+            return Ok(false);
+        };
+        exchange(&mut listing.bodies, other);
+        Ok(is_other(alloc, listing)?)
+    }
 }
 
 #[test]
-fn a_body_that_is_exchanged_differs(rt: HostRuntime) -> Result<(), Fail> {
-    let dumps = one_method(rt.alloc())?;
-    let other = other_body(rt.alloc())?;
-    assert!(rt; tells_exchange(&rt, rt.alloc(), &dumps, other)?);
-    Ok(())
+fn a_body_that_is_exchanged_differs(rt: HostRuntime) {
+    let dumps = one_method(rt.alloc()).expect(&rt, "no dumps");
+    let answer = holds_of_listing(&rt, rt.alloc(), &dumps, 1, &FreeGate, &Exchanged);
+    assert!(rt; matches!(answer, Ok(true)));
 }

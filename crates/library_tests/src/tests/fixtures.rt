@@ -1,4 +1,4 @@
-//! Code, dumps, tables, works and gates that several tests hand in.
+//! Code, dumps, tables, works and gates that several tests hand in, and what they ask of a load and of a listing.
 ghost use Rattle.std.specs.Prelude.{◌≡◌, ◌*◌, ◌≤◌, ⊤, Some, IfOk, length, true};
 ghost use Rattle.acpi_tables.specs.Order.{AreTaken};
 ghost use Rattle.aml_set.specs.Code.{AreShort};
@@ -7,9 +7,11 @@ ghost use Rattle.aml_set.specs.Views.{codes_view};
 use acpi_tables::Dump;
 use acpidis::{Options, Refusal, disassemble, run};
 use aml_code::{Arity, Locals};
-use aml_names::Name;
-use aml_pool::{Gate, NoMemory, Work};
-use aml_text::Listing;
+use aml_load::{LoadFault, load};
+use aml_names::{Name, Path};
+use aml_pool::{Board, FreeGate, Gate, NoMemory, PoolFault, Results, Share, Work, crew, harvest};
+use aml_set::Loaded;
+use aml_text::{Body, Listing};
 use std::alloc::{AllocError, Global};
 use std::env::Env;
 use std::io::Write;
@@ -42,25 +44,50 @@ pub fn codes() -> [&'static [u8]; 14] {
     ]
 }
 
-/// Memory or a thread was wanted, and refused.
+/// What was wanted, and refused.
 #[derive(Clone, Copy)]
-pub struct Want;
+pub enum Want {
+    Memory,
+    Thread,
+}
 
 impl From<AllocError> for Want {
     fn from(_: AllocError) -> Want {
-        Want
+        Want::Memory
+    }
+}
+
+impl From<PoolFault> for Want {
+    fn from(fault: PoolFault) -> Want {
+        match fault {
+            PoolFault::NoMemory => Want::Memory,
+            PoolFault::NoThread => Want::Thread,
+        }
     }
 }
 
 /// Whether a growth or the start of a thread was refused. `tests/refusals.c` sets this variable once it refuses one.
-pub fn is_refused<E: Env>(env: &E) -> bool {
+fn is_refused<E: Env>(env: &E) -> bool {
     let mut word = [0];
     matches!(env.var("REFUSED", &mut word), Ok(1)) && word == *b"1"
 }
 
 /// Whether an answer is the whole one, or a want where something was refused.
 pub fn is_whole_or_want<E: Env>(env: &E, answer: Result<bool, Want>) -> bool {
-    answer.unwrap_or_else(|_| is_refused(env))
+    match answer {
+        Ok(whole) => whole,
+        Err(_) => is_refused(env),
+    }
+}
+
+/// Whether an answer is the whole one, or the want of memory where something was refused.
+pub fn is_whole_or_no_memory<E: Env>(env: &E, answer: Result<bool, Want>) -> bool {
+    !matches!(answer, Err(Want::Thread)) && is_whole_or_want(env, answer)
+}
+
+/// Whether an answer is the whole one, or the want of a thread where something was refused.
+pub fn is_whole_or_no_thread<E: Env>(env: &E, answer: Result<bool, Want>) -> bool {
+    !matches!(answer, Err(Want::Memory)) && is_whole_or_want(env, answer)
 }
 
 /// No name takes an argument.
@@ -105,21 +132,89 @@ pub fn any_sum(alloc: Global) -> Options {
     }
 }
 
-/// The listing of these dumps, by so many workers. Of the clauses of `disassemble` it keeps what `check` and
-/// `write_listing` ask for.
-pub fn listing_of<'a, T: Threads + Wait + Sync, G: Gate + Sync>(
+/// What a test asks of a load.
+pub trait OfLoad {
+    fn holds(&self, alloc: Global, loaded: &Loaded<'_>) -> Result<bool, Want>
+        requires { AreShort (codes_view loaded.now.tables.items) };
+}
+
+/// Whether that holds of what a load answers.
+pub fn holds_of_loaded<L: OfLoad>(
+    alloc: Global,
+    answer: &Result<Loaded<'_>, LoadFault>,
+    asked: &L,
+) -> Result<bool, Want>
+    requires { IfOk answer.now (λ x. AreShort (codes_view x.tables.items)) }
+{
+    match answer {
+        Ok(loaded) => asked.holds(alloc, loaded),
+        Err(LoadFault::NoMemory) => Err(Want::Memory),
+        Err(_) => Ok(false),
+    }
+}
+
+/// Whether that holds of the load of these tables.
+pub fn holds_of_load<L: OfLoad>(
+    alloc: Global,
+    codes: &[&[u8]],
+    givens: &[(Path, u8)],
+    asked: &L,
+) -> Result<bool, Want>
+    requires { AreShort (codes_view codes.now) }
+{
+    let answer = load(alloc, codes, givens);
+    holds_of_loaded(alloc, &answer, asked)
+}
+
+/// What a test asks of a listing, in which it may change the bodies.
+pub trait OfListing {
+    fn holds(&self, alloc: Global, listing: &mut Listing<'_>) -> Result<bool, Want>
+        requires short { AreShort (codes_view listing.old.loaded.tables.items) }
+        requires few { length listing.old.loaded.methods.items ≤ 1048576 }
+        requires taken { AreTaken listing.old.dumps.now true };
+}
+
+/// Whether that holds of what `disassemble` answers.
+fn holds_of_listed<L: OfListing>(
+    alloc: Global,
+    answer: &mut Result<Listing<'_>, Refusal>,
+    asked: &L,
+) -> Result<bool, Want>
+    requires limits { IfOk answer.old (λ x. AreShort (codes_view x.loaded.tables.items) ×
+        (length x.loaded.methods.items ≤ 1048576)) }
+    requires taken { IfOk answer.old (λ x. AreTaken x.dumps.now true) }
+{
+    match answer {
+        Ok(listing) => asked.holds(alloc, listing),
+        Err(Refusal::NoMemory) => Err(Want::Memory),
+        Err(Refusal::NoThread) => Err(Want::Thread),
+        Err(_) => Ok(false),
+    }
+}
+
+/// Whether that holds of the listing of these dumps, by so many workers. A listing is let go here alone, since that
+/// makes a long proof.
+pub fn holds_of_listing<T: Threads + Wait + Sync, G: Gate + Sync, L: OfListing>(
     threads: &T,
     alloc: Global,
-    dumps: &'a [Dump],
+    dumps: &[Dump],
     workers: u32,
     gate: &G,
-) -> Result<Listing<'a>, Refusal>
+    asked: &L,
+) -> Result<bool, Want>
     requires { (1 ≤ workers) × (workers ≤ 64) }
-    ensures limits { IfOk result (λ x. AreShort (codes_view x.loaded.tables.items) ×
-        (length x.loaded.methods.items ≤ 1048576)) }
-    ensures taken { IfOk result (λ x. AreTaken x.dumps.now true) }
 {
-    disassemble(threads, alloc, dumps, any_sum(alloc), workers, gate)
+    let mut answer = disassemble(threads, alloc, dumps, any_sum(alloc), workers, gate);
+    holds_of_listed(alloc, &mut answer, asked)
+}
+
+pub fn are_trees(bodies: &[Body]) -> bool {
+    for body in bodies {
+        if !matches!(body, Body::Tree(_)) {
+            return false;
+        }
+    }
+    true
 }
 
 /// The status of a run over these dumps by so many workers, with its text and its error lines to these writers.
@@ -138,6 +233,62 @@ pub fn status_of<T: Threads + Wait + Sync, G: Gate + Sync, W: Write, E: Write>(
     run(
         threads, alloc, dumps, options, workers, false, gate, out, error,
     )
+}
+
+/// Whether a run over these dumps by two workers behind this gate has status 0 and no error line.
+pub fn runs_behind<T: Threads + Wait + Sync>(
+    threads: &T,
+    alloc: Global,
+    dumps: &[Dump],
+    gate: &Watch,
+) -> bool {
+    let mut out = Vec::new(alloc);
+    let mut error = Vec::new(alloc);
+    let status = status_of(threads, alloc, dumps, 2, gate, &mut out, &mut error);
+    status == 0 && error.is_empty()
+}
+
+/// Whether an answer of so many workers has these items.
+fn are_items(
+    answer: &Result<Results<u64>, PoolFault>,
+    workers: u32,
+    items: &[u64],
+) -> Result<bool, Want> {
+    match answer {
+        Ok(found) => Ok(found.items.as_slice() == items && found.drawn.len() == workers as usize),
+        Err(fault) => Err(Want::from(*fault)),
+    }
+}
+
+/// Whether so many workers answer these squares.
+pub fn has_squares<T: Threads + Wait + Sync>(
+    threads: &T,
+    alloc: Global,
+    workers: u32,
+    squares: &[u64],
+) -> Result<bool, Want>
+    requires { (1 ≤ workers) × (workers ≤ 64) × (length squares.now ≤ 64) }
+{
+    let count = squares.len() as u32;
+    let answer = harvest(threads, alloc, workers, count, &Square, &FreeGate);
+    are_items(&answer, workers, squares)
+}
+
+/// Whether so many workers do all of seven pieces of work, after which the board is closed.
+pub fn has_share<T: Threads + Wait + Sync>(
+    threads: &T,
+    alloc: Global,
+    workers: u32,
+) -> Result<bool, Want>
+    requires { (1 ≤ workers) × (workers ≤ 64) }
+{
+    let Ok((board, seat)) = Board::new(alloc, 7) else {
+        return Err(Want::Memory);
+    };
+    let Share { seat, done, drawn } = crew(
+        threads, alloc, &board, seat, 0, workers, &Square, &FreeGate,
+    )?;
+    Ok(done.len() == 7 && drawn.len() == workers as usize && board.close(seat).numbers == 7)
 }
 
 /// Adds a dump.
@@ -172,6 +323,13 @@ pub fn push_table(
     push_dump(alloc, dumps, address, bytes)
 }
 
+/// The set of a DSDT with this AML.
+pub fn dsdt_of(alloc: Global, code: &[u8]) -> Result<Vec<Dump>, AllocError> {
+    let mut dumps = Vec::new(alloc);
+    push_table(alloc, &mut dumps, None, b"DSDT", code)?;
+    Ok(dumps)
+}
+
 /// How often a held call lets other threads run and looks again, before the gate counts as stuck and lets each call
 /// pass: some 20 seconds.
 const TURNS: u32 = 100_000_000;
@@ -204,12 +362,25 @@ impl Watch {
         self.stuck.load(SeqCst)
     }
 
-    /// The numbers with which this worker entered, in the order of its calls.
-    pub fn numbers_of(&self, alloc: Global, worker: u32) -> Result<Vec<u32>, AllocError> {
+    /// Whether this worker entered with these numbers, in the order of its calls.
+    pub fn has_list(&self, worker: u32, list: &[u32]) -> bool {
+        let mut left = list.iter();
+        for call in &self.calls {
+            let call = call.load(SeqCst);
+            let number = (call & 0xFFFF_FFFF) as u32;
+            if call >> 32 == u64::from(worker) + 1 && left.next() != Some(&number) {
+                return false;
+            }
+        }
+        left.next().is_none()
+    }
+
+    /// The numbers with which two workers entered.
+    pub fn numbers(&self, alloc: Global) -> Result<Vec<u32>, AllocError> {
         let mut numbers = Vec::new(alloc);
         for call in &self.calls {
             let call = call.load(SeqCst);
-            if call >> 32 == u64::from(worker) + 1 {
+            if matches!(call >> 32, 1 | 2) {
                 numbers.push((call & 0xFFFF_FFFF) as u32)?;
             }
         }

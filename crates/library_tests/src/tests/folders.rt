@@ -3,10 +3,9 @@ ghost use Rattle.std.specs.Prelude.{◌≡◌, ⊤, IfErr};
 ghost use Rattle.acpi_folder.specs.Folders.{Answers};
 ghost use Rattle.acpi_folder.specs.declared.folder.FolderFault.TheVariants.{Failed};
 
-use acpi_folder::{Folder, FolderFault, gather};
+use acpi_folder::{Folder, FolderFault, GatherFault, gather};
 use acpi_tables::Dump;
-use std::alloc::Global;
-use std::test::Fail;
+use std::alloc::{AllocError, Global};
 
 /// Files by their names, and a fault that comes once so many calls were answered.
 #[derive(Clone, Copy)]
@@ -46,6 +45,23 @@ impl<'a> MemoryFolder<'a> {
             }
         }
     }
+
+    fn push_names(&self, names: &mut Vec<String>) -> Result<(), AllocError> {
+        for (name, _) in self.files {
+            names.push(String::from_str(self.alloc, name)?)?;
+        }
+        Ok(())
+    }
+
+    /// What is in the file with this name, and nothing where there is none.
+    fn content(&self, name: &str) -> &'a [u8] {
+        for (other, content) in self.files {
+            if *other == name {
+                return content;
+            }
+        }
+        &[]
+    }
 }
 
 impl Folder for MemoryFolder<'_> {
@@ -60,20 +76,13 @@ impl Folder for MemoryFolder<'_> {
     fn list(&mut self) -> Result<Vec<String>, FolderFault> {
         self.turn()?;
         let mut names = Vec::new(self.alloc);
-        for (name, _) in self.files {
-            names.push(String::from_str(self.alloc, name)?)?;
-        }
+        self.push_names(&mut names)?;
         Ok(names)
     }
 
     fn read(&mut self, name: &str, limit: u64) -> Result<Vec<u8>, FolderFault> {
         self.turn()?;
-        let mut bytes = Vec::new(self.alloc);
-        for (other, content) in self.files {
-            if *other == name {
-                bytes.extend_from_slice(content)?;
-            }
-        }
+        let mut bytes = self.content(name).to_vec(self.alloc)?;
         bytes.truncate(limit as usize);
         Ok(bytes)
     }
@@ -101,34 +110,57 @@ pub fn are_gathered(dumps: &[Dump]) -> bool {
         && is_dump(second, "ssdt2.dat", None, b"two")
 }
 
-/// What is printed where so many calls are answered before this fault.
-fn line_of(alloc: Global, answered: u32, fault: FolderFault) -> Result<String, Fail> {
-    let mut folder = MemoryFolder::new(alloc, &FILES, answered, fault);
-    match gather(alloc, &mut folder) {
-        Ok(dumps) => Ok(format!(in alloc; "{} dumps", dumps.len())?),
-        Err(fault) => Ok(format!(in alloc; "{fault}")?),
+/// Whether an answer is three dumps, and this says so, or a fault that is printed so.
+fn is_line(
+    alloc: Global,
+    answer: &Result<Vec<Dump>, GatherFault>,
+    line: &str,
+) -> Result<bool, AllocError> {
+    match answer {
+        Ok(dumps) => Ok(dumps.len() == 3 && line == "3 dumps"),
+        Err(fault) => {
+            let text = format!(in alloc; "{fault}")?;
+            Ok(text.as_str() == line)
+        }
     }
+}
+
+/// Whether this is printed where so many calls are answered before this fault.
+fn prints(
+    alloc: Global,
+    answered: u32,
+    fault: FolderFault,
+    line: &str,
+) -> Result<bool, AllocError> {
+    let mut folder = MemoryFolder::new(alloc, &FILES, answered, fault);
+    let answer = gather(alloc, &mut folder);
+    is_line(alloc, &answer, line)
 }
 
 /// Whether this is printed where the call behind so many fails, and the want of memory where it is refused memory.
-fn is_told(alloc: Global, answered: u32, line: &str) -> Result<bool, Fail> {
-    let failed = line_of(alloc, answered, FolderFault::Failed)?;
-    let refused = line_of(alloc, answered, FolderFault::NoMemory)?;
-    Ok(failed.as_str() == line && (refused.as_str() == "NoMemory" || answered == 5))
+fn is_told(alloc: Global, answered: u32, line: &str) -> Result<bool, AllocError> {
+    let failed = prints(alloc, answered, FolderFault::Failed, line)?;
+    let refused = answered == 5 || prints(alloc, answered, FolderFault::NoMemory, "NoMemory")?;
+    Ok(failed && refused)
 }
 
+/// What is printed where so many calls are answered.
+const LINES: [&str; 6] = [
+    "cannot read folder",
+    "cannot read \"dsdt.dat\"",
+    "cannot read \"ssdt1.dat\"",
+    "cannot read \"ssdt2.dat\"",
+    "cannot read \"tables.map\"",
+    "3 dumps",
+];
+
 #[test]
-fn each_call_of_a_folder_fails_in_turn(rt: HostRuntime) -> Result<(), Fail> {
-    let lines = [
-        "cannot read folder",
-        "cannot read \"dsdt.dat\"",
-        "cannot read \"ssdt1.dat\"",
-        "cannot read \"ssdt2.dat\"",
-        "cannot read \"tables.map\"",
-        "3 dumps",
-    ];
-    for (answered, line) in (0..).zip(lines) {
-        assert!(rt; is_told(rt.alloc(), answered, line)?, "{line}");
+fn each_call_of_a_folder_fails_in_turn(rt: HostRuntime) {
+    for answered in 0..6 {
+        let line = LINES[answered as usize];
+        assert!(rt;
+            matches!(is_told(rt.alloc(), answered, line), Ok(true)),
+            "{line}"
+        );
     }
-    Ok(())
 }

@@ -2,56 +2,55 @@
 //!
 //! `tests/refusals.sh` runs each of these tests again and again, with each growth refused in turn. Where none is
 //! refused the answer has to be whole.
-ghost use Rattle.std.specs.Prelude.{◌≤◌, length};
+ghost use Rattle.std.specs.Prelude.{◌≤◌};
 ghost use Rattle.aml_set.specs.Code.{AreShort};
 ghost use Rattle.aml_set.specs.Views.{codes_view};
 
 use super::fixtures::{
-    Bare, Square, Want, codes, is_whole_or_want, listing_of, push_dump, push_table,
+    Bare, OfListing, OfLoad, Want, are_trees, codes, dsdt_of, has_share, has_squares,
+    holds_of_listing, holds_of_load, holds_of_loaded, is_whole_or_no_memory, is_whole_or_want,
+    push_dump, push_table,
 };
 use super::folders::{FILES, MemoryFolder, are_gathered};
-use super::listings::{has_three_bodies, three_methods};
+use super::listings::{ThreeBodies, holds_of_three};
 use acpi_folder::{ExternalsFault, FolderFault, GatherFault, gather, parse_externals};
 use acpi_tables::{Bad, Dump, load_order};
-use acpidis::{Checked, Refusal, check};
-use aml_code::CodeFault;
-use aml_load::{LoadFault, load, load_any_run};
+use acpidis::{Checked, check};
+use aml_code::{CodeFault, Node};
+use aml_load::load_any_run;
 use aml_names::{Path, Seg};
 use aml_parse::parse_body;
-use aml_pool::{Board, FreeGate, PoolFault, crew, harvest};
+use aml_pool::FreeGate;
 use aml_set::{Loaded, rebuild};
-use aml_space::Space;
-use aml_text::{Body, Listing, term_text};
+use aml_space::{Space, SpaceRow};
+use aml_text::{Listing, term_text};
 use std::alloc::{AllocError, Global};
 use std::sync::Wait;
-use std::test::Fail;
 use std::thread::Threads;
 
-/// Whether the dumps of a folder are gathered.
-fn has_dumps(alloc: Global) -> Result<bool, Want> {
-    let mut folder = MemoryFolder::new(alloc, &FILES, 5, FolderFault::Failed);
-    match gather(alloc, &mut folder) {
-        Ok(dumps) => Ok(are_gathered(&dumps)),
-        Err(GatherFault::NoMemory) => Err(Want),
+/// Whether an answer is the dumps where all five calls were answered, and where two were, names the file that can't be
+/// read.
+fn is_gathered(answer: &Result<Vec<Dump>, GatherFault>, answered: u32) -> Result<bool, Want> {
+    match answer {
+        Ok(dumps) => Ok(answered == 5 && are_gathered(dumps)),
+        Err(GatherFault::File(name)) => Ok(answered == 2 && name.as_str() == "ssdt1.dat"),
+        Err(GatherFault::NoMemory) => Err(Want::Memory),
         Err(_) => Ok(false),
     }
 }
 
-/// Whether a file that can't be read is named.
-fn names_file(alloc: Global) -> Result<bool, Want> {
-    let mut folder = MemoryFolder::new(alloc, &FILES, 2, FolderFault::Failed);
-    match gather(alloc, &mut folder) {
-        Err(GatherFault::File(name)) => Ok(name.as_str() == "ssdt1.dat"),
-        Err(GatherFault::NoMemory) => Err(Want),
-        _ => Ok(false),
-    }
+/// Whether it is where so many calls are answered.
+fn gathers(alloc: Global, answered: u32) -> Result<bool, Want> {
+    let mut folder = MemoryFolder::new(alloc, &FILES, answered, FolderFault::Failed);
+    let answer = gather(alloc, &mut folder);
+    is_gathered(&answer, answered)
 }
 
 #[test]
-fn whole_folder_or_no_memory(rt: HostRuntime) -> Result<(), Fail> {
-    assert!(rt; is_whole_or_want(&rt, has_dumps(rt.alloc())));
-    assert!(rt; is_whole_or_want(&rt, names_file(rt.alloc())));
-    Ok(())
+fn whole_folder_or_no_memory(rt: HostRuntime) {
+    for answered in [5, 2] {
+        assert!(rt; is_whole_or_no_memory(&rt, gathers(rt.alloc(), answered)));
+    }
 }
 
 /// Whether these are one argument for a path of three segments, and two for one of one.
@@ -59,174 +58,172 @@ fn are_counts(given: &[(Path, u8)]) -> bool {
     let [(long, one), (short, two)] = given else {
         return false;
     };
-    long.segs().len() == 3 && short.segs().len() == 1 && (*one, *two) == (1, 2)
+    long.segs().len() == 3 && short.segs().len() == 1 && *one == 1 && *two == 2
+}
+
+/// Whether an answer is these counts.
+fn is_counted(answer: &Result<Vec<(Path, u8)>, ExternalsFault>) -> Result<bool, Want> {
+    match answer {
+        Ok(given) => Ok(are_counts(given)),
+        Err(ExternalsFault::NoMemory) => Err(Want::Memory),
+        Err(_) => Ok(false),
+    }
 }
 
 /// Whether the counts of a file are read.
 fn has_counts(alloc: Global) -> Result<bool, Want> {
-    match parse_externals(alloc, b"\\_SB_.PC00._EJ0 1\n\\BBBB 2") {
-        Ok(given) => Ok(are_counts(&given)),
-        Err(ExternalsFault::NoMemory) => Err(Want),
-        Err(_) => Ok(false),
-    }
+    let answer = parse_externals(alloc, b"\\_SB_.PC00._EJ0 1\n\\BBBB 2");
+    is_counted(&answer)
 }
 
 #[test]
-fn whole_counts_or_no_memory(rt: HostRuntime) -> Result<(), Fail> {
-    assert!(rt; is_whole_or_want(&rt, has_counts(rt.alloc())));
-    Ok(())
+fn whole_counts_or_no_memory(rt: HostRuntime) {
+    assert!(rt; is_whole_or_no_memory(&rt, has_counts(rt.alloc())));
 }
 
-/// A table of two methods, a device and a region whose offset is a name.
-const CODE: &[u8] =
-    b"\x14\x06BBBB\x01\x10\x1A\\_SB_\x5B\x82\x12DEV0\x14\x0CAAAA\x00\xA4BBBB\x60\x5B\x80REG0\x01ZZZZ\x01";
+/// What is declared: a path, whether it is in every run, and how often.
+type Declared = (&'static [Seg], bool, usize);
 
-/// The paths that it declares.
-const NAMES: [&[&str]; 4] = [
-    &["BBBB"],
-    &["REG0"],
-    &["_SB_", "DEV0"],
-    &["_SB_", "DEV0", "AAAA"],
-];
-
-/// Whether a path has these segments.
-fn is_path(path: &Path, names: &[&str]) -> bool {
-    path.segs()
-        .iter()
-        .map(|seg| seg.0.as_slice())
-        .eq(names.iter().map(|name| name.as_bytes()))
+fn is_row(row: &SpaceRow, declared: &Declared) -> bool {
+    row.path.segs() == declared.0 && row.sure == declared.1 && row.times == declared.2
 }
 
-/// Whether the rows of a namespace are those of that table.
-fn has_names(alloc: Global, space: &Space) -> Result<bool, Want> {
+fn are_rows(rows: &[SpaceRow], declared: &[Declared]) -> bool {
+    for (row, declared) in rows.iter().zip(declared) {
+        if !is_row(row, declared) {
+            return false;
+        }
+    }
+    rows.len() == declared.len()
+}
+
+/// Whether these are the rows of a namespace.
+fn has_rows(alloc: Global, space: &Space, declared: &[Declared]) -> Result<bool, AllocError> {
     let rows = space.rows(alloc)?;
-    Ok(
-        rows.len() == NAMES.len()
-            && rows
-                .iter()
-                .zip(NAMES)
-                .all(|(row, names)| is_path(&row.path, names)),
-    )
+    Ok(are_rows(&rows, declared))
 }
 
 /// Whether the bytes of a table are made anew.
-fn has_bytes(alloc: Global, loaded: &Loaded<'_>, code: &[u8]) -> Result<bool, Want> {
+fn has_bytes(alloc: Global, loaded: &Loaded<'_>, code: &[u8]) -> Result<bool, AllocError> {
     let bytes = rebuild(alloc, loaded, 0)?;
     Ok(bytes.as_slice() == code)
 }
 
-/// Whether a table that loads has its bytes and its names.
-fn is_whole(alloc: Global, loaded: &Loaded<'_>) -> Result<bool, Want> {
-    Ok(has_bytes(alloc, loaded, CODE)? && has_names(alloc, &loaded.space)?)
+/// A table, and what it declares.
+struct Table {
+    code: &'static [u8],
+    declared: &'static [Declared],
 }
 
-/// Whether a table loads, with a count that is given.
+/// That a table that loads has its bytes and its names.
+impl OfLoad for Table {
+    fn holds(&self, alloc: Global, loaded: &Loaded<'_>) -> Result<bool, Want> {
+        Ok(has_bytes(alloc, loaded, self.code)? && has_rows(alloc, &loaded.space, self.declared)?)
+    }
+}
+
+/// A table of two methods, a device and a region whose offset is a name.
+const PLAIN: Table = Table {
+    code: b"\x14\x06BBBB\x01\x10\x1A\\_SB_\x5B\x82\x12DEV0\x14\x0CAAAA\x00\xA4BBBB\x60\x5B\x80REG0\x01ZZZZ\x01",
+    declared: &[
+        (&[Seg(*b"BBBB")], true, 1),
+        (&[Seg(*b"REG0")], true, 1),
+        (&[Seg(*b"_SB_"), Seg(*b"DEV0")], true, 1),
+        (&[Seg(*b"_SB_"), Seg(*b"DEV0"), Seg(*b"AAAA")], true, 1),
+    ],
+};
+
+/// Whether it loads, with a count that is given.
 fn has_load(alloc: Global) -> Result<bool, Want> {
     let given = [(Path::below(alloc, &[Seg(*b"ZZZZ")], &[])?, 0)];
-    match load(alloc, &[CODE], &given) {
-        Ok(loaded) => is_whole(alloc, &loaded),
-        Err(LoadFault::NoMemory) => Err(Want),
-        Err(_) => Ok(false),
-    }
+    holds_of_load(alloc, &[PLAIN.code], &given, &PLAIN)
 }
 
 /// A table whose code outside methods may run: names, of which one is declared in a branch, and one there and again.
-const BRANCH: &[u8] = b"\x08SS3_\x01\xA0\x12SS3_\x08_S3_\x0A\x05\x08SS1_\x01\x08SS1_\x01";
+const BRANCH: Table = Table {
+    code: b"\x08SS3_\x01\xA0\x12SS3_\x08_S3_\x0A\x05\x08SS1_\x01\x08SS1_\x01",
+    declared: &[
+        (&[Seg(*b"SS1_")], true, 2),
+        (&[Seg(*b"SS3_")], true, 1),
+        (&[Seg(*b"_S3_")], false, 1),
+    ],
+};
 
-/// Its declared paths, whether each is sure, and how often it is declared.
-const MARKED: [(&[&str], bool, usize); 3] = [
-    (&["SS1_"], true, 2),
-    (&["SS3_"], true, 1),
-    (&["_S3_"], false, 1),
-];
-
-/// Whether the rows of a namespace are those of that table.
-fn has_marks(alloc: Global, space: &Space) -> Result<bool, Want> {
-    let rows = space.rows(alloc)?;
-    Ok(
-        rows.len() == MARKED.len()
-            && rows.iter().zip(MARKED).all(|(row, (names, sure, times))| {
-                is_path(&row.path, names) && row.sure == sure && row.times == times
-            }),
-    )
-}
-
-/// Whether that table loads as whatever a run of its code may declare, and has its bytes.
+/// Whether it loads as whatever a run of its code may declare.
 fn has_any_run_load(alloc: Global) -> Result<bool, Want> {
-    match load_any_run(alloc, &[BRANCH], &[], false) {
-        Ok(loaded) => Ok(has_bytes(alloc, &loaded, BRANCH)? && has_marks(alloc, &loaded.space)?),
-        Err(LoadFault::NoMemory) => Err(Want),
-        Err(_) => Ok(false),
-    }
+    let answer = load_any_run(alloc, &[BRANCH.code], &[], false);
+    holds_of_loaded(alloc, &answer, &BRANCH)
 }
 
 #[test]
-fn whole_load_or_no_memory(rt: HostRuntime) -> Result<(), Fail> {
-    assert!(rt; is_whole_or_want(&rt, has_load(rt.alloc())));
-    assert!(rt; is_whole_or_want(&rt, has_any_run_load(rt.alloc())));
-    Ok(())
+fn whole_load_or_no_memory(rt: HostRuntime) {
+    assert!(rt; is_whole_or_no_memory(&rt, has_load(rt.alloc())));
+    assert!(rt; is_whole_or_no_memory(&rt, has_any_run_load(rt.alloc())));
 }
 
-fn are_trees(bodies: &[Body]) -> bool {
-    bodies.iter().all(|body| matches!(body, Body::Tree(_)))
+/// That each body of a listing is read as terms, and its only table has these bytes.
+#[derive(Clone, Copy)]
+struct Whole {
+    code: &'static [u8],
 }
 
-/// Whether each body of a listing is read as terms, and its only table has its bytes.
-fn has_terms(alloc: Global, listing: &Listing<'_>, code: &[u8]) -> Result<bool, Want> {
-    Ok(are_trees(&listing.bodies) && has_bytes(alloc, &listing.loaded, code)?)
+impl OfListing for Whole {
+    fn holds(&self, alloc: Global, listing: &mut Listing<'_>) -> Result<bool, Want> {
+        Ok(are_trees(&listing.bodies) && has_bytes(alloc, &listing.loaded, self.code)?)
+    }
 }
 
 /// Whether a table by itself is listed so.
 fn is_listed<T: Threads + Wait + Sync>(
     threads: &T,
     alloc: Global,
-    code: &[u8],
+    code: &'static [u8],
 ) -> Result<bool, Want> {
-    let mut dumps = Vec::new(alloc);
-    push_table(alloc, &mut dumps, None, b"DSDT", code)?;
-    match listing_of(threads, alloc, &dumps, 1, &FreeGate) {
-        Ok(listing) => has_terms(alloc, &listing, code),
-        Err(Refusal::NoMemory) => Err(Want),
-        Err(_) => Ok(false),
-    }
+    let dumps = dsdt_of(alloc, code)?;
+    holds_of_listing(threads, alloc, &dumps, 1, &FreeGate, &Whole { code })
 }
 
 #[test]
-fn whole_tables_or_no_memory(rt: HostRuntime) -> Result<(), Fail> {
+fn whole_tables_or_no_memory(rt: HostRuntime) {
     for code in codes() {
-        assert!(rt; is_whole_or_want(&rt, is_listed(&rt, rt.alloc(), code)));
+        assert!(rt; is_whole_or_no_memory(&rt, is_listed(&rt, rt.alloc(), code)));
     }
-    Ok(())
 }
 
-/// Whether the text of a term is whole.
-fn has_text(alloc: Global) -> Result<bool, Want> {
-    let code = b"\xA0\x03\x60\xA3".as_slice();
-    let terms = match parse_body(alloc, code, &Bare, &Path::root(alloc)) {
-        Ok(terms) => terms,
-        Err(CodeFault::NoMemory) => return Err(Want),
-        Err(_) => return Ok(false),
-    };
-    let [term] = terms.as_slice() else {
+/// Whether the text of the only term is whole.
+fn is_text(alloc: Global, terms: &[Node]) -> Result<bool, AllocError> {
+    let [term] = terms else {
         return Ok(false);
     };
     let text = term_text(alloc, term)?;
     Ok(text.as_slice() == b"If (Local0) {\n  Noop\n}".as_slice())
 }
 
+/// Whether an answer is that term.
+fn is_term(alloc: Global, answer: &Result<Vec<Node>, CodeFault>) -> Result<bool, Want> {
+    match answer {
+        Ok(terms) => Ok(is_text(alloc, terms)?),
+        Err(CodeFault::NoMemory) => Err(Want::Memory),
+        Err(_) => Ok(false),
+    }
+}
+
+/// Whether the text of a term is whole.
+fn has_text(alloc: Global) -> Result<bool, Want> {
+    let answer = parse_body(alloc, b"\xA0\x03\x60\xA3", &Bare, &Path::root(alloc));
+    is_term(alloc, &answer)
+}
+
 #[test]
-fn whole_text_or_no_memory(rt: HostRuntime) -> Result<(), Fail> {
-    assert!(rt; is_whole_or_want(&rt, has_text(rt.alloc())));
-    Ok(())
+fn whole_text_or_no_memory(rt: HostRuntime) {
+    assert!(rt; is_whole_or_no_memory(&rt, has_text(rt.alloc())));
 }
 
 /// An SSDT, a DSDT and an SSDT without addresses.
-fn named(alloc: Global) -> Result<Vec<Dump>, AllocError> {
-    let mut dumps = Vec::new(alloc);
-    push_table(alloc, &mut dumps, None, b"SSDT", &[])?;
-    push_table(alloc, &mut dumps, None, b"DSDT", &[])?;
-    push_table(alloc, &mut dumps, None, b"SSDT", &[])?;
-    Ok(dumps)
+fn push_named(alloc: Global, dumps: &mut Vec<Dump>) -> Result<(), AllocError> {
+    push_table(alloc, dumps, None, b"SSDT", &[])?;
+    push_table(alloc, dumps, None, b"DSDT", &[])?;
+    push_table(alloc, dumps, None, b"SSDT", &[])
 }
 
 /// A root pointer that leads to the XSDT at 1000.
@@ -244,60 +241,48 @@ fn fadt() -> [u8; 80] {
 const ADDRESSES: [u8; 16] = [0, 0x30, 0, 0, 0, 0, 0, 0, 0, 0x20, 0, 0, 0, 0, 0, 0];
 
 /// A chain from the root pointer to a DSDT and an SSDT.
-fn chained(alloc: Global) -> Result<Vec<Dump>, AllocError> {
-    let mut dumps = Vec::new(alloc);
-    push_table(alloc, &mut dumps, Some(0x2000), b"FACP", &fadt())?;
-    push_table(alloc, &mut dumps, Some(0x4000), b"DSDT", &[])?;
-    push_table(alloc, &mut dumps, Some(0x3000), b"SSDT", &[])?;
-    push_table(alloc, &mut dumps, Some(0x1000), b"XSDT", &ADDRESSES)?;
-    push_dump(alloc, &mut dumps, None, ROOT.to_vec(alloc)?)?;
-    Ok(dumps)
+fn push_chained(alloc: Global, dumps: &mut Vec<Dump>) -> Result<(), AllocError> {
+    push_table(alloc, dumps, Some(0x2000), b"FACP", &fadt())?;
+    push_table(alloc, dumps, Some(0x4000), b"DSDT", &[])?;
+    push_table(alloc, dumps, Some(0x3000), b"SSDT", &[])?;
+    push_table(alloc, dumps, Some(0x1000), b"XSDT", &ADDRESSES)?;
+    push_dump(alloc, dumps, None, ROOT.to_vec(alloc)?)
 }
 
 /// Whether a set has this order.
 fn has_order(alloc: Global, dumps: &[Dump], dsdt: usize, ssdts: &[usize]) -> Result<bool, Want> {
-    match load_order(alloc, dumps, true) {
+    match &load_order(alloc, dumps, true) {
         Ok(order) => Ok(order.dsdt == dsdt && order.ssdts.as_slice() == ssdts),
-        Err(fault) if matches!((fault.dump, fault.bad), (None, Bad::NoMemory)) => Err(Want),
+        Err(fault) if matches!((fault.dump, fault.bad), (None, Bad::NoMemory)) => Err(Want::Memory),
         Err(_) => Ok(false),
     }
 }
 
-/// Whether both sets have their orders.
-fn have_orders(alloc: Global) -> Result<bool, Want> {
-    let by_name = named(alloc)?;
-    let by_chain = chained(alloc)?;
-    Ok(has_order(alloc, &by_name, 1, &[0, 2])? && has_order(alloc, &by_chain, 1, &[2])?)
+/// Whether the set without addresses has its order.
+fn has_order_by_name(alloc: Global) -> Result<bool, Want> {
+    let mut dumps = Vec::new(alloc);
+    push_named(alloc, &mut dumps)?;
+    has_order(alloc, &dumps, 1, &[0, 2])
+}
+
+/// Whether the chain has its order.
+fn has_order_by_chain(alloc: Global) -> Result<bool, Want> {
+    let mut dumps = Vec::new(alloc);
+    push_chained(alloc, &mut dumps)?;
+    has_order(alloc, &dumps, 1, &[2])
 }
 
 #[test]
-fn whole_order_or_no_memory(rt: HostRuntime) -> Result<(), Fail> {
-    assert!(rt; is_whole_or_want(&rt, have_orders(rt.alloc())));
-    Ok(())
-}
-
-/// Whether so many workers answer all three bodies.
-fn has_bodies<T: Threads + Wait + Sync>(
-    threads: &T,
-    alloc: Global,
-    workers: u32,
-) -> Result<bool, Want>
-    requires { (1 ≤ workers) × (workers ≤ 64) }
-{
-    let dumps = three_methods(alloc)?;
-    match listing_of(threads, alloc, &dumps, workers, &FreeGate) {
-        Ok(listing) => Ok(has_three_bodies(&listing)),
-        Err(Refusal::NoMemory | Refusal::NoThread) => Err(Want),
-        Err(_) => Ok(false),
-    }
+fn whole_order_or_no_memory(rt: HostRuntime) {
+    assert!(rt; is_whole_or_no_memory(&rt, has_order_by_name(rt.alloc())));
+    assert!(rt; is_whole_or_no_memory(&rt, has_order_by_chain(rt.alloc())));
 }
 
 #[test]
-fn whole_listing_or_want(rt: HostRuntime) -> Result<(), Fail> {
+fn whole_listing_or_want(rt: HostRuntime) {
     for workers in [1, 2] {
-        assert!(rt; is_whole_or_want(&rt, has_bodies(&rt, rt.alloc(), workers)));
+        assert!(rt; is_whole_or_want(&rt, holds_of_three(&rt, rt.alloc(), workers, &ThreeBodies)));
     }
-    Ok(())
 }
 
 /// Whether these are the checks of three methods in two tables, which are the same when they are made anew.
@@ -308,74 +293,26 @@ fn are_same(checks: &[Checked]) -> bool {
     dsdt.same && ssdt.same && (dsdt.methods, dsdt.raw, ssdt.methods, ssdt.raw) == (2, 1, 1, 0)
 }
 
-/// Whether the tables of a listing have these checks.
-fn is_checked(alloc: Global, listing: &Listing<'_>) -> Result<bool, Want>
-    requires { AreShort (codes_view listing.now.loaded.tables.items)
-        × (length listing.now.loaded.methods.items ≤ 1048576) }
-{
-    let checks = check(alloc, listing)?;
-    Ok(are_same(&checks))
-}
+/// That both tables of a listing are the same when they are made anew.
+struct Same;
 
-/// Whether both tables are the same when they are made anew.
-fn has_checks<T: Threads + Wait + Sync>(threads: &T, alloc: Global) -> Result<bool, Want> {
-    let dumps = three_methods(alloc)?;
-    match listing_of(threads, alloc, &dumps, 1, &FreeGate) {
-        Ok(listing) => is_checked(alloc, &listing),
-        Err(Refusal::NoMemory) => Err(Want),
-        Err(_) => Ok(false),
+impl OfListing for Same {
+    fn holds(&self, alloc: Global, listing: &mut Listing<'_>) -> Result<bool, Want> {
+        let checks = check(alloc, listing)?;
+        Ok(are_same(&checks))
     }
 }
 
 #[test]
-fn whole_check_or_no_memory(rt: HostRuntime) -> Result<(), Fail> {
-    assert!(rt; is_whole_or_want(&rt, has_checks(&rt, rt.alloc())));
-    Ok(())
-}
-
-/// Whether so many workers do all of seven pieces of work.
-fn has_share<T: Threads + Wait + Sync>(
-    threads: &T,
-    alloc: Global,
-    workers: u32,
-) -> Result<bool, Want>
-    requires { (1 ≤ workers) × (workers ≤ 64) }
-{
-    let Ok((board, seat)) = Board::new(alloc, 7) else {
-        return Err(Want);
-    };
-    match crew(threads, alloc, &board, seat, 0, workers, &Square, &FreeGate) {
-        Ok(share) => Ok(
-            share.done.len() == 7
-                && share.drawn.len() == workers as usize
-                && board.close(share.seat).numbers == 7,
-        ),
-        Err(PoolFault::NoThread | PoolFault::NoMemory) => Err(Want),
-    }
-}
-
-/// Whether so many workers answer the squares below seven.
-fn has_squares<T: Threads + Wait + Sync>(
-    threads: &T,
-    alloc: Global,
-    workers: u32,
-) -> Result<bool, Want>
-    requires { (1 ≤ workers) × (workers ≤ 64) }
-{
-    match harvest(threads, alloc, workers, 7, &Square, &FreeGate) {
-        Ok(found) => Ok(
-            found.items.as_slice() == [0, 1, 4, 9, 16, 25, 36].as_slice()
-                && found.drawn.len() == workers as usize,
-        ),
-        Err(PoolFault::NoThread | PoolFault::NoMemory) => Err(Want),
-    }
+fn whole_check_or_no_memory(rt: HostRuntime) {
+    assert!(rt; is_whole_or_no_memory(&rt, holds_of_three(&rt, rt.alloc(), 1, &Same)));
 }
 
 #[test]
-fn whole_work_or_want(rt: HostRuntime) -> Result<(), Fail> {
+fn whole_work_or_want(rt: HostRuntime) {
+    let squares = [0, 1, 4, 9, 16, 25, 36];
     for workers in [1, 2, 3] {
         assert!(rt; is_whole_or_want(&rt, has_share(&rt, rt.alloc(), workers)));
-        assert!(rt; is_whole_or_want(&rt, has_squares(&rt, rt.alloc(), workers)));
+        assert!(rt; is_whole_or_want(&rt, has_squares(&rt, rt.alloc(), workers, &squares)));
     }
-    Ok(())
 }

@@ -1,12 +1,11 @@
 //! The terms of a load, each where it stands, with the constants, the field units and the regions in them.
-use super::fixtures::{Want, is_whole_or_want};
+use super::fixtures::{OfLoad, Want, holds_of_load, is_whole_or_no_memory};
 use aml_code::{Name, Node, Part, Path, Seg, listed_row};
-use aml_load::{LoadFault, StandingTerm, load, standing_terms};
+use aml_load::{LoadFault, StandingTerm, standing_terms};
 use aml_set::Loaded;
-use aml_walk::{FieldBase, base_of, number_of, unit_at, units_of};
-use std::alloc::Global;
+use aml_walk::{FieldBase, FieldUnit, base_of, number_of, unit_at, units_of};
+use std::alloc::{AllocError, Global};
 use std::fmt::Write;
-use std::test::Fail;
 
 /// The first of two Scopes of one name stands before the device that is nearer, the second behind it. And a region with
 /// fields of each kind, a guard, and a method.
@@ -36,7 +35,7 @@ const TERMS: &str = "0 \\ Device
 ";
 
 /// Adds the constants among the parts of a term.
-fn push_numbers(out: &mut String, parts: &[Part]) -> Result<(), Want> {
+fn push_numbers(out: &mut String, parts: &[Part]) -> Result<(), AllocError> {
     for part in parts {
         if let Part::Child(node) = part {
             if let Some(number) = number_of(node) {
@@ -54,9 +53,34 @@ fn push_path(
     loaded: &Loaded<'_>,
     standing: &StandingTerm<'_>,
     name: &Name,
-) -> Result<(), Want> {
+) -> Result<(), AllocError> {
     if let Some(path) = loaded.space.find(alloc, standing.scope.path(), name)? {
         write!(out, " {path}")?;
+    }
+    Ok(())
+}
+
+/// Adds what the field list of a term lies over.
+fn push_base(
+    alloc: Global,
+    out: &mut String,
+    loaded: &Loaded<'_>,
+    standing: &StandingTerm<'_>,
+    base: FieldBase<'_>,
+) -> Result<(), AllocError> {
+    out.push_str(" over")?;
+    match base {
+        FieldBase::Region(region) => push_path(alloc, out, loaded, standing, region),
+        FieldBase::Index(first, second) | FieldBase::Bank(first, second) => {
+            push_path(alloc, out, loaded, standing, first)?;
+            push_path(alloc, out, loaded, standing, second)
+        }
+    }
+}
+
+fn push_units(out: &mut String, units: &[FieldUnit]) -> Result<(), AllocError> {
+    for unit in units {
+        write!(out, " {} {} {}", unit.segment, unit.bit, unit.bits)?;
     }
     Ok(())
 }
@@ -67,22 +91,13 @@ fn push_fields(
     out: &mut String,
     loaded: &Loaded<'_>,
     standing: &StandingTerm<'_>,
-) -> Result<(), Want> {
+) -> Result<(), AllocError> {
     let Some(base) = base_of(standing.term) else {
         return Ok(());
     };
-    out.push_str(" over")?;
-    match base {
-        FieldBase::Region(region) => push_path(alloc, out, loaded, standing, region)?,
-        FieldBase::Index(first, second) | FieldBase::Bank(first, second) => {
-            push_path(alloc, out, loaded, standing, first)?;
-            push_path(alloc, out, loaded, standing, second)?;
-        }
-    }
-    for unit in &units_of(alloc, standing.term)? {
-        write!(out, " {} {} {}", unit.segment, unit.bit, unit.bits)?;
-    }
-    Ok(())
+    push_base(alloc, out, loaded, standing, base)?;
+    let units = units_of(alloc, standing.term)?;
+    push_units(out, &units)
 }
 
 fn push_term(
@@ -90,65 +105,96 @@ fn push_term(
     out: &mut String,
     loaded: &Loaded<'_>,
     standing: &StandingTerm<'_>,
-) -> Result<(), Want> {
+) -> Result<(), AllocError> {
     let Node::Op { opcode, parts, .. } = standing.term else {
         return Ok(());
     };
-    let title = listed_row(*opcode).map(|row| row.mnemonic).unwrap_or("");
+    let title = match listed_row(*opcode) {
+        Some(row) => row.mnemonic,
+        None => "",
+    };
     write!(out, "{} {} {title}", standing.table, standing.scope.path())?;
     push_numbers(out, parts.as_slice())?;
     push_fields(alloc, out, loaded, standing)?;
-    Ok(out.push_str("\n")?)
+    out.push_str("\n")
 }
 
-/// Where the unit right below the root with this segment is found: the place of its term, its first bit, its number of
-/// bits.
-fn unit_below_root(
+fn push_terms(
+    alloc: Global,
+    out: &mut String,
+    loaded: &Loaded<'_>,
+    terms: &[StandingTerm<'_>],
+) -> Result<(), AllocError> {
+    for standing in terms {
+        push_term(alloc, out, loaded, standing)?;
+    }
+    Ok(())
+}
+
+/// Whether the unit right below the root with this segment is found: at the place of its term, with its first bit and
+/// its number of bits.
+fn has_unit(
     alloc: Global,
     terms: &[StandingTerm<'_>],
     segment: &[u8; 4],
-) -> Result<Option<(usize, u64, u32)>, Want> {
+    wanted: Option<(usize, u64, u32)>,
+) -> Result<bool, AllocError> {
     let path = Path::below(alloc, &[], &[Seg(*segment)])?;
-    match unit_at(alloc, terms, &path)? {
-        None => Ok(None),
-        Some(place) => Ok(Some((place.term, place.unit.bit, place.unit.bits))),
-    }
+    Ok(match (unit_at(alloc, terms, &path)?, wanted) {
+        (Some(place), Some((term, bit, bits))) => {
+            place.term == term && place.unit.bit == bit && place.unit.bits == bits
+        }
+        (None, None) => true,
+        _ => false,
+    })
 }
 
 /// Whether units are found by their paths: one of the Field, one of the BankField, and none with the name of an
 /// External.
-fn has_units(alloc: Global, terms: &[StandingTerm<'_>]) -> Result<bool, Want> {
+fn has_units(alloc: Global, terms: &[StandingTerm<'_>]) -> Result<bool, AllocError> {
     Ok(
-        unit_below_root(alloc, terms, b"FLD1")? == Some((9, 24, 8))
-            && unit_below_root(alloc, terms, b"BNKA")? == Some((14, 0, 4))
-            && unit_below_root(alloc, terms, b"CCCC")?.is_none(),
+        has_unit(alloc, terms, b"FLD1", Some((9, 24, 8)))?
+            && has_unit(alloc, terms, b"BNKA", Some((14, 0, 4)))?
+            && has_unit(alloc, terms, b"CCCC", None)?,
     )
 }
 
-/// Whether the terms of a load are the ones above.
-fn are_terms(alloc: Global, loaded: &Loaded<'_>) -> Result<bool, Want> {
-    let terms = match standing_terms(alloc, loaded.trees.as_slice(), &[]) {
-        Ok(terms) => terms,
-        Err(LoadFault::NoMemory) => return Err(Want),
-        Err(_) => return Ok(false),
-    };
+/// Whether these are the terms above.
+fn are_terms(
+    alloc: Global,
+    loaded: &Loaded<'_>,
+    terms: &[StandingTerm<'_>],
+) -> Result<bool, AllocError> {
     let mut text = String::new(alloc);
-    for standing in &terms {
-        push_term(alloc, &mut text, loaded, standing)?;
-    }
-    Ok(text.as_str() == TERMS && has_units(alloc, terms.as_slice())?)
+    push_terms(alloc, &mut text, loaded, terms)?;
+    Ok(text.as_str() == TERMS && has_units(alloc, terms)?)
 }
 
-fn has_terms(alloc: Global) -> Result<bool, Want> {
-    match load(alloc, &CODES, &[]) {
-        Ok(loaded) => are_terms(alloc, &loaded),
-        Err(LoadFault::NoMemory) => Err(Want),
+/// Whether an answer is the terms above.
+fn has_terms(
+    alloc: Global,
+    loaded: &Loaded<'_>,
+    answer: &Result<Vec<StandingTerm<'_>>, LoadFault>,
+) -> Result<bool, Want> {
+    match answer {
+        Ok(terms) => Ok(are_terms(alloc, loaded, terms)?),
+        Err(LoadFault::NoMemory) => Err(Want::Memory),
         Err(_) => Ok(false),
     }
 }
 
+/// That the terms of a load are the ones above.
+struct Terms;
+
+impl OfLoad for Terms {
+    fn holds(&self, alloc: Global, loaded: &Loaded<'_>) -> Result<bool, Want> {
+        let answer = standing_terms(alloc, loaded.trees.as_slice(), &[]);
+        has_terms(alloc, loaded, &answer)
+    }
+}
+
 #[test]
-fn terms_where_they_stand_or_no_memory(rt: HostRuntime) -> Result<(), Fail> {
-    assert!(rt; is_whole_or_want(&rt, has_terms(rt.alloc())));
-    Ok(())
+fn terms_where_they_stand_or_no_memory(rt: HostRuntime) {
+    let answer = holds_of_load(rt.alloc(), &CODES, &[], &Terms);
+    assert!(rt; is_whole_or_no_memory(&rt, answer));
 }

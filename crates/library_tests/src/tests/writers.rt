@@ -1,20 +1,23 @@
 //! Runs and listings whose writer fails, or takes few bytes a call.
-use super::fixtures::{listing_of, push_table, status_of};
+use super::fixtures::{OfListing, Want, holds_of_listing, status_of};
 use acpi_tables::Dump;
-use acpidis::Refusal;
 use aml_pool::FreeGate;
-use aml_text::write_listing;
+use aml_text::{Listing, write_listing};
 use std::alloc::{AllocError, Global};
 use std::io;
+use std::panic::Expect;
 use std::sync::Wait;
-use std::test::Fail;
 use std::thread::Threads;
 
 /// The DSDT of a method that returns its argument.
 const METHOD: [u8; 45] =
     *b"DSDT\x2D\x00\x00\x00\x02\x48TEST  EXAMPLE \x01\x00\x00\x00TEST\x01\x00\x00\x00\x14\x08FOO_\x01\xA4\x68";
 
-/// Its text.
+/// The same of a method whose body calls what no table has.
+const UNREAD: [u8; 48] =
+    *b"DSDT\x30\x00\x00\x00\x02\x48TEST  EXAMPLE \x01\x00\x00\x00TEST\x01\x00\x00\x00\x14\x0BFOO_\x00\xA4BBBB";
+
+/// The text of the first.
 const TEXT: &str = "\
 Table \"a\" \"DSDT\" Length 45 Revision 2 Oem \"TEST  \" \"EXAMPLE \" 00000001 Creator \"TEST\" 00000001
 Namespace 1
@@ -78,101 +81,78 @@ fn set(alloc: Global, bytes: &[u8]) -> Result<[Dump; 1], AllocError> {
     }])
 }
 
-/// The status and the error line of a run to this writer.
-fn run_to<T: Threads + Wait + Sync>(
+/// Whether a run to this writer has this status and this error line.
+fn has_run<T: Threads + Wait + Sync>(
     threads: &T,
     alloc: Global,
     out: &mut Slow,
-) -> Result<(u8, Vec<u8>), AllocError> {
+    status: u8,
+    line: &[u8],
+) -> Result<bool, AllocError> {
     let dumps = set(alloc, &METHOD)?;
     let mut error = Vec::new(alloc);
-    let status = status_of(threads, alloc, &dumps, 1, &FreeGate, out, &mut error);
-    Ok((status, error))
+    let seen = status_of(threads, alloc, &dumps, 1, &FreeGate, out, &mut error);
+    Ok(seen == status && error.as_slice() == line)
 }
 
-/// Whether this is what is said of a write that failed behind so many bytes.
-fn says_failed(alloc: Global, error: &[u8], room: usize) -> Result<bool, AllocError> {
-    let line = format!(in alloc; "acpidis: write failed after {room} bytes\n")?;
-    Ok(error == line.as_bytes())
-}
-
-#[test]
-fn a_writer_that_fails_has_the_first_bytes(rt: HostRuntime) -> Result<(), Fail> {
-    for room in 0..TEXT.len() {
-        let mut out = Slow::new(rt.alloc(), room, usize::MAX);
-        let (status, error) = run_to(&rt, rt.alloc(), &mut out)?;
-        assert!(rt; status == 4 && says_failed(rt.alloc(), error.as_slice(), room)?);
-        assert_eq!(rt; Some(out.taken.as_slice()), TEXT.as_bytes().get(..room));
-    }
-    Ok(())
-}
-
-#[test]
-fn a_writer_that_takes_one_byte_a_call_and_is_interrupted_has_all(
-    rt: HostRuntime,
-) -> Result<(), Fail> {
-    let mut out = Slow::new(rt.alloc(), usize::MAX, 1);
-    out.interrupts = true;
-    let (status, error) = run_to(&rt, rt.alloc(), &mut out)?;
-    assert_eq!(rt; status, 0);
-    assert_eq!(rt; error.len(), 0);
-    assert_eq!(rt; out.taken.as_slice(), TEXT.as_bytes());
-    Ok(())
-}
-
-#[test]
-fn a_writer_that_takes_nothing_is_a_fault(rt: HostRuntime) -> Result<(), Fail> {
-    let mut out = Slow::new(rt.alloc(), usize::MAX, 0);
-    let (status, error) = run_to(&rt, rt.alloc(), &mut out)?;
-    assert_eq!(rt; status, 4);
-    assert_eq!(rt;
-        error.as_slice(),
-        b"acpidis: write failed after 0 bytes\n".as_slice()
-    );
-    Ok(())
-}
-
-/// How many bytes of the listing a writer took before it failed; nothing where it took all.
-fn cut_of_listing<T: Threads + Wait + Sync>(
+/// Whether a run fails behind so many bytes, which are the first of the text.
+fn is_cut<T: Threads + Wait + Sync>(
     threads: &T,
     alloc: Global,
-    out: &mut Slow,
-) -> Result<Option<u64>, Refusal> {
-    let dumps = set(alloc, &METHOD)?;
-    let listing = listing_of(threads, alloc, &dumps, 1, &FreeGate)?;
-    Ok(match write_listing(out, &listing) {
-        Ok(()) => None,
-        Err(fault) => Some(fault.wrote),
-    })
+    room: usize,
+) -> Result<bool, AllocError> {
+    let line = format!(in alloc; "acpidis: write failed after {room} bytes\n")?;
+    let mut out = Slow::new(alloc, room, usize::MAX);
+    let failed = has_run(threads, alloc, &mut out, 4, line.as_bytes())?;
+    Ok(failed && Some(out.taken.as_slice()) == TEXT.as_bytes().get(..room))
 }
 
 #[test]
-fn a_listing_is_written_whole_or_its_first_bytes(rt: HostRuntime) -> Result<(), Fail> {
-    for room in 0..=TEXT.len() {
-        let mut out = Slow::new(rt.alloc(), room, 7);
-        let cut = cut_of_listing(&rt, rt.alloc(), &mut out)?;
-        let wanted = if room < TEXT.len() {
-            Some(room as u64)
-        } else {
-            None
-        };
-        assert_eq!(rt; cut, wanted);
-        assert_eq!(rt; Some(out.taken.as_slice()), TEXT.as_bytes().get(..room));
+fn a_writer_that_fails_has_the_first_bytes(rt: HostRuntime) {
+    for room in 0..TEXT.len() {
+        assert!(rt; matches!(is_cut(&rt, rt.alloc(), room), Ok(true)));
     }
-    Ok(())
 }
 
-/// A DSDT of a method whose body calls what no table has.
-fn unread(alloc: Global) -> Result<Vec<Dump>, AllocError> {
-    let mut dumps = Vec::new(alloc);
-    push_table(
-        alloc,
-        &mut dumps,
-        None,
-        b"DSDT",
-        b"\x14\x0BFOO_\x00\xA4BBBB",
-    )?;
-    Ok(dumps)
+#[test]
+fn a_writer_that_takes_one_byte_a_call_and_is_interrupted_has_all(rt: HostRuntime) {
+    let mut out = Slow::new(rt.alloc(), usize::MAX, 1);
+    out.interrupts = true;
+    assert!(rt; matches!(has_run(&rt, rt.alloc(), &mut out, 0, b""), Ok(true)));
+    assert!(rt; out.taken.as_slice() == TEXT.as_bytes());
+}
+
+#[test]
+fn a_writer_that_takes_nothing_is_a_fault(rt: HostRuntime) {
+    let mut out = Slow::new(rt.alloc(), usize::MAX, 0);
+    let line = b"acpidis: write failed after 0 bytes\n";
+    assert!(rt; matches!(has_run(&rt, rt.alloc(), &mut out, 4, line), Ok(true)));
+}
+
+/// That a writer of any room has all of a listing, or its first bytes.
+struct Cuts;
+
+impl OfListing for Cuts {
+    fn holds(&self, alloc: Global, listing: &mut Listing<'_>) -> Result<bool, Want> {
+        for room in 0..=TEXT.len() {
+            let mut out = Slow::new(alloc, room, 7);
+            let whole = match write_listing(&mut out, listing) {
+                Ok(()) => room == TEXT.len(),
+                Err(fault) => room < TEXT.len() && fault.wrote == room as u64,
+            };
+            if !whole || Some(out.taken.as_slice()) != TEXT.as_bytes().get(..room) {
+                return Ok(false);
+            }
+        }
+        Ok(true)
+    }
+}
+
+#[test]
+fn a_listing_is_written_whole_or_its_first_bytes(rt: HostRuntime) {
+    let dumps = set(rt.alloc(), &METHOD).expect(&rt, "no dumps");
+    let answer = holds_of_listing(&rt, rt.alloc(), &dumps, 1, &FreeGate, &Cuts);
+    assert!(rt; matches!(answer, Ok(true)));
 }
 
 /// The status of a run to a writer of so much room, whose standard error is this one.
@@ -187,38 +167,57 @@ fn status_beside<T: Threads + Wait + Sync>(
     status_of(threads, alloc, dumps, 1, &FreeGate, &mut out, error)
 }
 
-/// Whether a run has this status wherever standard error ends, and that takes the first bytes of this line.
-fn has_status<T: Threads + Wait + Sync>(
+/// Whether a run has this status where standard error takes so many bytes, and these are the first of this line.
+fn has_status_at<T: Threads + Wait + Sync>(
     threads: &T,
     alloc: Global,
     dumps: &[Dump],
     room: usize,
     status: u8,
-    line: &str,
+    line: &[u8],
+    taken: usize,
 ) -> bool {
+    let mut error = Slow::new(alloc, taken, 7);
+    let seen = status_beside(threads, alloc, dumps, room, &mut error);
+    seen == status && Some(error.taken.as_slice()) == line.get(..taken)
+}
+
+/// Whether a run over this dump has this status wherever standard error ends, and that takes the first bytes of this
+/// line.
+fn has_status<T: Threads + Wait + Sync>(
+    threads: &T,
+    alloc: Global,
+    dump: &[u8],
+    room: usize,
+    status: u8,
+    line: &str,
+) -> Result<bool, AllocError> {
+    let dumps = set(alloc, dump)?;
     let line = line.as_bytes();
+    let mut same = true;
     for taken in 0..=line.len() {
-        let mut error = Slow::new(alloc, taken, 7);
-        let seen = status_beside(threads, alloc, dumps, room, &mut error);
-        if seen != status || Some(error.taken.as_slice()) != line.get(..taken) {
-            return false;
-        }
+        same = same && has_status_at(threads, alloc, &dumps, room, status, line, taken);
     }
-    true
+    Ok(same)
 }
 
 /// A set that is refused, one with a body that can't be read, and one whose text isn't taken.
 #[test]
-fn an_error_line_that_fails_changes_no_status(rt: HostRuntime) -> Result<(), Fail> {
-    let alloc = rt.alloc();
-    let refused = set(alloc, b"")?;
+fn an_error_line_that_fails_changes_no_status(rt: HostRuntime) {
     let line = "acpidis: table \"a\": Short\n";
-    assert!(rt; has_status(&rt, alloc, &refused, usize::MAX, 1, line));
-    let raw = unread(alloc)?;
+    assert!(rt;
+        matches!(
+            has_status(&rt, rt.alloc(), b"", usize::MAX, 1, line),
+            Ok(true)
+        )
+    );
     let line = "acpidis: body \\FOO_: UnknownName at 1\n";
-    assert!(rt; has_status(&rt, alloc, &raw, usize::MAX, 3, line));
-    let whole = set(alloc, &METHOD)?;
+    assert!(rt;
+        matches!(
+            has_status(&rt, rt.alloc(), &UNREAD, usize::MAX, 3, line),
+            Ok(true)
+        )
+    );
     let line = "acpidis: write failed after 10 bytes\n";
-    assert!(rt; has_status(&rt, alloc, &whole, 10, 4, line));
-    Ok(())
+    assert!(rt; matches!(has_status(&rt, rt.alloc(), &METHOD, 10, 4, line), Ok(true)));
 }
