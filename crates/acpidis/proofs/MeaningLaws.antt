@@ -5,9 +5,29 @@ use Rattle.acpidis.proofs.Common.{LoadsBy, methods_of, HoldsTables, Loaded, Tabl
 use Rattle.acpidis.proofs.Common.{Became, AreBodies, Meaning, LoadsSet, HoldsSet, HasTables, Means, IsSet, codes_of}
 use Rattle.std.proofs.Common.{◌⊎◌, inl, inr}
 use Rattle.acpidis.specs.declared.refusal.Refusal.{Refusal}
-use Rattle.acpidis.specs.Refusals.{IsWant, TellsLoad, TellsBlocks}
+use Rattle.acpidis.specs.Meaning.{none_unknown}
+use Rattle.acpidis.specs.Refusals.{IsWant, StopsBy, TellsLoad, TellsBlocks, load_refusal}
+use Rattle.aml_load.specs.Tables.{StopsFor, load_at}
+use Rattle.aml_load.specs.declared.faults.LoadFault.{LoadFault}
+use Rattle.aml_load.specs.declared.faults.LoadFault.TheVariants as loads
+use Rattle.aml_space.specs.Namespace.{Givens}
+use Rattle.std.specs.Prelude.{Bool, Err}
 use Rattle.acpidis.proofs.BodyLaws.{are_entries, the_entries, are_told}
 use Rattle.acpidis.specs.declared.refusal.Refusal.TheVariants as refusals
+
+-- ---- a refused load
+
+-- a fault that is true of a load, and the first that is met, is told
+pub tells_load : (options : Options) (codes : List (List ℕ)) (order : List ℕ) (z : Bool) (gs : Givens) (fault : LoadFault)
+    → z ≡ none_unknown options → gs ≡ options.externals.items
+    → (fault ≡ loads.NoMemory) ⊎ StopsFor options.any_run z gs codes fault → (fault ≡ loads.NoMemory) ⊎ (load_at options.any_run z gs codes ≡ Err fault)
+    → TellsLoad options codes order (load_refusal order fault)
+tells_load options codes order z gs loads.NoMemory same given stops first = tt
+tells_load options codes order z gs fault same given (inl want) first = absurd cc
+tells_load options codes order z gs fault same given (inr stops) (inl want) = absurd cc
+tells_load options codes order z gs fault same given (inr stops) (inr first) =
+    let told : StopsBy options codes fault = record { stops = rw (← same, ← given) stops; first = rw (← same, ← given) first } in
+    record { met = fault; named = refl; stops = told }
 
 -- ---- the one order of a set, and the AML of its tables
 
