@@ -234,10 +234,20 @@ def deep_local_uses(count, depth):
     return deep_body(depth, declared + b"\x08^NEAR\0" + b"^NEAR" * count)
 
 
+def field(count):
+    """A Field of so many units."""
+    units = b"".join(segment(number) + b"\x08" for number in range(count))
+    return package(b"\x5b\x81", LEAF + b"\0" + units)
+
+
 def deep_units(count, depth):
     """Units of a Field in the method."""
-    units = b"".join(segment(number) + b"\x08" for number in range(count))
-    return deep_body(depth, package(b"\x5b\x81", LEAF + b"\0" + units))
+    return deep_body(depth, field(count))
+
+
+def deep_units_outside(count, depth):
+    """Units of a Field beside the method."""
+    return deep_body(depth, b"", field(count))
 
 
 def deep_buffers(count, depth):
@@ -460,6 +470,12 @@ SHAPES = (
     Shape("deep-methods", 2_000, "methods", one(lambda count: deep_methods(count, 10_000))),
     Shape("deep-alias", 100_000, "names", one(lambda count: deep_alias(count, 10_000))),
     Shape("deep-aliases", 2_000, "names", one(lambda count: deep_aliases(count, 10_000))),
+    Shape("deep-locals-deep", 10_000, "segments", one(lambda count: deep_locals(2_000, count))),
+    Shape("deep-methods-deep", 10_000, "segments", one(lambda count: deep_methods(2_000, count))),
+    Shape("deep-alias-deep", 10_000, "segments", one(lambda count: deep_alias(100_000, count))),
+    Shape("deep-aliases-deep", 10_000, "segments", one(lambda count: deep_aliases(2_000, count))),
+    Shape("deep-units-outside", 2_000, "units", one(lambda count: deep_units_outside(count, 10_000))),
+    Shape("deep-units-outside-deep", 10_000, "segments", one(lambda count: deep_units_outside(2_000, count))),
     Shape("deep-outside", 2_000, "names", one(lambda count: upward_outside(count // 2, 10_000))),
     Shape("deep-uses", 200_000, "names", one(lambda count: deep_uses(count, 10_000))),
     Shape("deep-uses-deep", 10_000, "segments", one(lambda count: deep_uses(200_000, count))),

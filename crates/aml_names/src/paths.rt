@@ -5,7 +5,7 @@ ghost use Rattle.std.specs.Cmp.{partial_equiv_from_equiv, partial_order_from_tot
 ghost use Rattle.std.specs.Fmt.{WritesOnOk};
 ghost use Rattle.aml_names.specs.Paths.{path_cmp, paths_total, joined_text};
 
-use crate::segments::Seg;
+use crate::segments::{Seg, in_order};
 use smallvec::SmallVec;
 use std::alloc::{AllocError, Global};
 use std::cmp::Ordering;
@@ -128,7 +128,16 @@ impl Clone for Path {
 pub fn same_segs(a: &[Seg], b: &[Seg]) -> bool
     ensures { result ≡ eq_by_cmp path_cmp a.now b.now }
 {
-    a.len() == b.len() && a.cmp(b) == Ordering::Equal
+    if a.len() != b.len() {
+        return false;
+    }
+    // By the segments' numbers, which is several times as fast as by their bytes.
+    for index in 0..a.len() {
+        if in_order(a[index], b[index]).is_ne() {
+            return false;
+        }
+    }
+    true
 }
 
 impl PartialEq for Path {

@@ -48,7 +48,8 @@ impl Ord for Seg {
     }
 }
 
-fn in_order(a: Seg, b: Seg) -> Ordering
+/// How two segments are ordered.
+pub(crate) fn in_order(a: Seg, b: Seg) -> Ordering
     ensures { result ≡ seg_cmp a b }
 {
     a.number().cmp(&b.number())

@@ -1,5 +1,4 @@
-use Rattle.std.proofs.Common.{◌≡◌, Bool, true, false, List, length, refl, sym, ap, ◌∙◌}
-use Rattle.std.proofs.lemmas.Bool.{ne_eqb}
+use Rattle.std.proofs.Common.{◌≡◌, Bool, true, false, List, length, refl, sym, ap}
 use Rattle.std.proofs.lemmas.Map.Views.{tells_apart}
 use Rattle.std.specs.Ordering.{eq_by_cmp}
 use Rattle.aml_names.specs.declared.segments.Seg.{Seg}
@@ -11,5 +10,5 @@ apart : (x : Bool) (a b : List Seg) → x ≡ eq_by_cmp path_cmp a b → (length
 apart false a b e h = refl
 apart true a b e h = absurd (h (ap length (tells_apart exact_paths a b (sym e))))
 
-pub returns-else-a-b : goal.returns-else-a-b
-returns-else-a-b c = ne_eqb _ _ c.if-a-b.false ∙ apart _ c.args.a.now c.args.b.now refl c.if-a-b.false
+pub returns-then-a-b : goal.returns-then-a-b
+returns-then-a-b c = apart _ c.args.a.now c.args.b.now refl c.if-a-b.true
