@@ -43,8 +43,8 @@ impl<'a> DiskFolder<'a> {
         Ok(bytes)
     }
 
-    /// The regular file at a path. What stands there may have been swapped since the folder was listed: a link isn't followed,
-    /// and a pipe isn't waited for.
+    /// The regular file at a path. What stands there may have been swapped since the folder was listed: a link isn't
+    /// followed, and a pipe isn't waited for.
     fn opened(&self, path: &str) -> io::Result<File> {
         let looked = fs::symlink_metadata(self.rt, path)?;
         if !looked.is_file() {

@@ -2,7 +2,8 @@
 ghost use Rattle.std.specs.Prelude.{◌≡◌, ◌⊎◌, ◌<◌, ◌≤◌, None, Err, true, codes, filter, find, length, IfOk, IfErr};
 ghost use Rattle.std.specs.List.{range_with_len};
 ghost use Rattle.std.specs.Option.{option_map, unwrap_or};
-ghost use Rattle.acpi_tables.specs.Header.{HoldsRoot, HoldsTable, table_of, HoldsAddresses, address_width, addresses_of};
+ghost use Rattle.acpi_tables.specs.Header.{HoldsRoot, HoldsTable, table_of, HoldsAddresses};
+ghost use Rattle.acpi_tables.specs.Header.{address_width, addresses_of};
 ghost use Rattle.acpi_tables.specs.Order.{AreTaken, IsChained, bytes_of, chain_of, dump_at, signed_at};
 ghost use Rattle.acpi_tables.specs.Order.{list_of, width_of, listed_by, dsdt_address};
 ghost use Rattle.acpi_tables.specs.Order.{listed_in, has_signature};

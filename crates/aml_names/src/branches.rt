@@ -28,8 +28,8 @@ struct Branch<'a> {
     tail: &'a [Seg],
 }
 
-/// Paths that are placed from one scope. Of each only what lies behind the segments in common with the scope is kept, so
-/// that it costs in a deep scope what it costs in the root.
+/// Paths that are placed from one scope. Of each only what lies behind the segments in common with the scope is kept,
+/// so that it costs in a deep scope what it costs in the root.
 #[derive(Drop)]
 pub(crate) struct Branches {
     alloc: Global,
@@ -112,7 +112,8 @@ impl Branches {
         }
     }
 
-    /// Whether the path of some segments behind a front of the scope is there, in time logarithmic in the number of paths.
+    /// Whether the path of some segments behind a front of the scope is there, in time logarithmic in the number of
+    /// paths.
     pub(crate) fn contains(&self, front: usize, segs: &[Seg]) -> bool
         requires { front ≤ length self.now.scope }
         ensures { result ≡ set.contains self.now.paths (take front self.now.scope ++ segs.now) }
@@ -135,8 +136,8 @@ impl Branches {
         }
     }
 
-    /// The nearest of the paths that are a segment in the scope or in a parent of it: how many segments of the scope stand
-    /// before it.
+    /// The nearest of the paths that are a segment in the scope or in a parent of it: how many segments of the scope
+    /// stand before it.
     pub(crate) fn nearest(&self, segment: Seg) -> Option<usize>
         ensures { result ≡ nearest self.now.paths self.now.scope (segment ∷ []) }
     {

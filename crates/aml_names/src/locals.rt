@@ -59,8 +59,8 @@ impl Locals {
         self.branches.insert(0, path.segs())
     }
 
-    /// Adds the path of some segments behind a front of a scope, without a walk along the front where this is the scope of
-    /// the locals. Where memory is refused the set is as before.
+    /// Adds the path of some segments behind a front of a scope, without a walk along the front where this is the scope
+    /// of the locals. Where memory is refused the set is as before.
     pub fn push_below(&mut self, scope: &Path, front: usize, segs: &[Seg]) -> Result<(), NoMemory>
         requires { front ≤ length scope.now }
         ensures ok { OnOk result (self.new ≡ set.insert self.old (take front scope.now ++ segs.now)) }
@@ -103,8 +103,8 @@ impl Locals {
         Ok(self.has(&path))
     }
 
-    /// The nearest of the paths that are a segment in a scope or in a parent of it: how many segments of the scope stand
-    /// before it.
+    /// The nearest of the paths that are a segment in a scope or in a parent of it: how many segments of the scope
+    /// stand before it.
     pub fn nearest(
         &self,
         alloc: Global,

@@ -8,8 +8,9 @@ use crate::names::Name;
 use crate::paths::Path;
 use std::alloc::Global;
 
-/// How many segments of a scope stand before a name's own where the name leads without a search: none after a root prefix,
-/// else all but as many as there are parent prefixes (ACPI 6.5, 5.3). `None` where the prefixes lead above the root.
+/// How many segments of a scope stand before a name's own where the name leads without a search: none after a root
+/// prefix, else all but as many as there are parent prefixes (ACPI 6.5, 5.3). `None` where the prefixes lead above the
+/// root.
 pub fn front_of(scope: &Path, name: &Name) -> Option<usize>
     ensures placed { placed scope.now name.now ≡ option_map (λ front. take front scope.now ++ name.now.segs) result }
     ensures within { IfSome result (λ front. front ≤ length scope.now) }
