@@ -1,7 +1,7 @@
 //! Rows of large namespaces: methods with a segment each, declared in a mixed order, beside the plain list of them.
 
 use aml_names::{Path, Seg};
-use aml_space::{Kind, Space};
+use aml_space::{Kind, Row, Space};
 use std::alloc::{AllocError, Global};
 use std::fmt::Write;
 
@@ -56,12 +56,17 @@ fn is_kind(kind: &Kind, number: usize) -> bool {
     matches!(kind, Kind::Method { args } if *args == count_of(number))
 }
 
+/// Whether the path of a row is this segment.
+fn is_path(row: &Row<'_>, segment: Seg) -> bool {
+    let mut segs = [Seg::default(); 2];
+    row.copy_segs(0, &mut segs) == 1 && segs[0] == segment
+}
+
 /// Whether the row at a place is that of the method with this number.
 fn is_at_place(space: &Space, number: usize) -> bool {
     match space.row_at(number) {
         None => false,
-        Some(row) => row.path().segs() == [segment(number)].as_slice()
-            && is_kind(row.kind(), number),
+        Some(row) => is_path(&row, segment(number)) && is_kind(row.kind(), number),
     }
 }
 

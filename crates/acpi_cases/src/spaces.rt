@@ -248,10 +248,18 @@ fn push_each(out: &mut String, rows: &[SpaceRow]) -> Result<(), AllocError> {
 }
 
 /// The declared path at a place in the order of the paths.
-pub fn push_row_at(out: &mut String, space: &Space, place: usize) -> Result<(), AllocError> {
+pub fn push_row_at(
+    alloc: Global,
+    out: &mut String,
+    space: &Space,
+    place: usize,
+) -> Result<(), AllocError> {
     match space.row_at(place) {
         None => out.push_str("  none\n"),
-        Some(row) => push_marked(out, row.path(), row.kind(), row.is_sure(), row.times()),
+        Some(row) => {
+            let path = row.path(alloc)?;
+            push_marked(out, &path, row.kind(), row.is_sure(), row.times())
+        }
     }
 }
 

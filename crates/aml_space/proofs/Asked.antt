@@ -14,7 +14,7 @@ use Rattle.aml_names.specs.Paths.{PathSet}
 use Rattle.aml_children.specs.Children.{child_in}
 use Rattle.aml_space.specs.declared.nodes.Node.{Node}
 use Rattle.aml_space.specs.declared.scopes.Level.{Level}
-use Rattle.aml_space.specs.Nodes.{walk, Content, kids_of, content_of, declared_in, part_by, known_by, IsShape}
+use Rattle.aml_space.specs.Nodes.{walk, Content, kids_of, content_of, part_by, known_by, IsShape}
 use Rattle.aml_space.specs.Known.{declared_kind, namespace_in}
 use Rattle.aml_space.specs.Namespace.{Namespace, kind_at, decides, is_outside}
 use Rattle.aml_space.specs.Predefined.{predefined}
@@ -36,7 +36,7 @@ module _ (ns : List Node) where
     silent : (o : Option ℕ) → walk (kids_of ns) 0 p ≡ o → ((s : Seg) → IfSome (option_and_then (λ j. child_in (kids_of ns j) s) o) (IsBare ns))
         → IsSilent (namespace_in (known_by ns)) p
     silent o led bare = record {
-      declared = λ s. ap declared_kind (by declared_in (λ j b. b.declared) s);
+      declared = λ s. ap declared_kind (by (λ c. c.declared) (λ j b. b.declared) s);
       out = by (λ c. c.out) (λ j b. b.out);
       given = by (λ c. c.given) (λ j b. b.given);
     }

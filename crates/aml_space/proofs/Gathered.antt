@@ -1,5 +1,5 @@
--- The rows at and below a node are what is gathered there, with the node's path in front (`rows_after`), since a node
--- keeps the path that leads to it. So the rows from the root on are those that are known (`rows_of_all`).
+-- The rows at and below a node are what is gathered there, with the node's path in front (`rows_after`), since the path
+-- of a node is the one that leads to it. So the rows from the root on are those that are known (`rows_of_all`).
 use Rattle.std.specs.Prelude.{slice_get}
 use Rattle.std.proofs.Common.{◌≡◌, ℕ, zero, suc, ◌<◌, List, [], ◌∷◌, ◌++◌, map as map_list, Option, Some, None, length, refl, sym, ap, ◌∙◌, append_assoc}
 use Rattle.std.specs.List.{flat_map}
@@ -11,11 +11,12 @@ use Rattle.aml_space.specs.Known.{Declared}
 use Rattle.aml_children.specs.declared.children.Child.{Child}
 use Rattle.aml_children.specs.Children.{child_in}
 use Rattle.aml_space.specs.declared.nodes.Node.{Node}
-use Rattle.aml_space.specs.Nodes.{walk, own, under, gather, kids_of, declared_of, rows_of, known_by, visited, ahead, rows_ahead, links_of, next_node}
+use Rattle.aml_space.specs.Nodes.{walk, own, under, gather, kids_of, declared_of, rows_of, path_of, known_by, visited, ahead, rows_ahead, links_of, next_node}
 use Rattle.aml_space.specs.Nodes.{IsIndex}
 use Rattle.aml_space.proofs.Walks.{walk_push}
 use Rattle.aml_space.proofs.Family.{at_found}
 use Rattle.aml_space.proofs.Visiting.{one_on}
+use Rattle.aml_space.proofs.Named.{path_led}
 use Rattle.aml_space.proofs.Order.{rises_gather, entries_of_rising}
 
 -- the rows at and below a node, to a depth
@@ -38,11 +39,11 @@ module _ (ns : List Node) (is : IsIndex ns) where
   after_under q s (e ∷ es) = (λ t. (sym (append_assoc q (s ∷ []) e.0) t, e.1) ∷ after_under q s es t)
 
   own_after : (i : ℕ) (q : List Seg) → walk (kids_of ns) 0 q ≡ Some i → option_to_list (rows_of ns i) ≡ map_list (after q) (own (declared_of ns i))
-  own_after i q led = by (rows_of ns i) refl
+  own_after i q led = by (declared_of ns i)
     where
-      by : (o : Option (List Seg × Declared)) → rows_of ns i ≡ o → option_to_list o ≡ map_list (after q) (own (option_map (λ e. e.1) o))
-      by None e = refl
-      by (Some r) e = (λ t. ((is.named q i r led e ∙ sym (append-nil q)) t, r.1) ∷ [])
+      by : (o : Option Declared) → option_to_list (option_map (λ d. (path_of ns i, d)) o) ≡ map_list (after q) (own o)
+      by None = refl
+      by (Some d) = (λ t. ((path_led ns is q i led ∙ sym (append-nil q)) t, d) ∷ [])
 
   below_after : (n i : ℕ) (q : List Seg) → walk (kids_of ns) 0 q ≡ Some i
       → ((j : ℕ) (p : List Seg) → walk (kids_of ns) 0 p ≡ Some j → rows_below ns n j ≡ map_list (after p) (said_at n j)) →

@@ -14,8 +14,8 @@ use Rattle.aml_names.specs.Paths.{seg_cmp, paths_total, exact_paths, exact_segs}
 use Rattle.aml_children.specs.declared.children.Child.{Child}
 use Rattle.aml_children.specs.Children.{child_in, put}
 use Rattle.aml_space.specs.declared.nodes.Node.{Node}
-use Rattle.aml_space.specs.Nodes.{walk, IsFamily, Content, nothing, kids_in, kids_of, links_of, content_of, declared_in, rows_of, part_by, known_by, IsShape}
-use Rattle.aml_space.specs.Nodes.{IsNamed, IsLinked, IsIndex}
+use Rattle.aml_space.specs.Nodes.{walk, IsFamily, Content, nothing, kids_in, kids_of, links_of, content_of, part_by, known_by, IsShape}
+use Rattle.aml_space.specs.Nodes.{IsLinked, IsIndex}
 use Rattle.aml_space.proofs.Family.{same_itself, found_put, wider_family, family_put}
 use Rattle.aml_space.proofs.Index.{part_at}
 use Rattle.aml_space.proofs.Walks.{kid_range, node_range}
@@ -134,20 +134,6 @@ module _ (ns new : List Node) (i : ℕ) (seg : Seg) (is : IsIndex ns) (within : 
     | inr w ↦ absurd (none-some j (sym w.0 ∙ led))
   ]
 
-  back : (q : List Seg) (j : ℕ) → j < length ns → walk (kids_of new) 0 q ≡ Some j → walk (kids_of ns) 0 q ≡ Some j
-  back q j old led = elim (grown_walk 0 q is.shape.rooted) [
-    | inl same ↦ sym same ∙ led
-    | inr w ↦ absurd (omega (arith, old, same_Some _ _ (sym w.1 ∙ led)))
-  ]
-
-  named : IsNamed new
-  named q k e led name = elim (cases_lt k (length ns)) [
-    | inl inside ↦ is.named q k e (back q k inside led) (sym (ap (λ c. c.row) (has.contents k inside)) ∙ name)
-    | inr past ↦
-        let here : k ≡ length ns = omega (arith, past, node_range shape q k led, has.long) in
-        absurd (none-some e (sym (ap (rows_of new) here ∙ ap (λ c. c.row) has.no_content) ∙ name))
-  ]
-
   lower : (j : ℕ) → 0 < j → j < length new → (links_of new j).0 < j
   lower j some range = elim (cases_lt j (length ns)) [
     | inl inside ↦ subst (λ (l : ℕ × Seg). l.0 < j) (sym (has.links j inside)) (is.linked.lower j some inside)
@@ -166,7 +152,7 @@ module _ (ns new : List Node) (i : ℕ) (seg : Seg) (is : IsIndex ns) (within : 
   }
 
   pub grown_index : IsIndex new
-  grown_index = record { shape = shape; named = named; linked = linked }
+  grown_index = record { shape = shape; linked = linked }
 
   grown_part : {X : Type 0} (part : Content → Option X) → part nothing ≡ None → part_by part new ≡ part_by part ns
   grown_part {X} part none = map.same_map paths_total exact_paths _ _ (λ q. sym (part_at part new shape q) ∙ same q ∙ part_at part ns is.shape q)
@@ -186,7 +172,7 @@ module _ (ns new : List Node) (i : ℕ) (seg : Seg) (is : IsIndex ns) (within : 
 
   pub grown_known : known_by new ≡ known_by ns
   grown_known = λ t. record {
-    declarations = grown_part declared_in refl t;
+    declarations = grown_part (λ c. c.declared) refl t;
     outs = grown_part (λ c. c.out) refl t;
     givens = grown_part (λ c. c.given) refl t;
   }

@@ -16,7 +16,7 @@ use Rattle.aml_space.specs.declared.scopes.Candidate.{Candidate}
 use Rattle.aml_space.specs.Predefined.{predefined}
 use Rattle.aml_space.specs.Namespace.{Namespace, kind_at, count_at, count_by, arity_at, unknown_count, first_of, decides, is_outside}
 use Rattle.aml_space.specs.Known.{Declared, namespace_in}
-use Rattle.aml_space.specs.Nodes.{walk, kids_of, declared_in, kinds_of, declared_of, rows_of, outs_of, known_by, IsShape}
+use Rattle.aml_space.specs.Nodes.{walk, kids_of, kinds_of, declared_of, outs_of, known_by, IsShape}
 use Rattle.aml_space.specs.Candidates.{path_at, IsCandidate}
 use Rattle.aml_space.proofs.Basics.{cond_of, and_then_map}
 use Rattle.aml_space.proofs.Index.{part_at, kind_at_path}
@@ -27,11 +27,8 @@ module _ (ns : List Node) (shape : IsShape ns) (p : List Seg) (node : Option ℕ
       ≡ kind_at (namespace_in (known_by ns)) p
   kind_of_met standing is = ap (λ o. option_or (option_and_then (kinds_of ns) o) standing) met ∙ (λ i. option_or (kind_at_path ns shape p i) (is i))
 
-  pub declared_of_met : option_map (λ (e : List Seg × Declared). e.1) (option_and_then (rows_of ns) node) ≡ map.get (known_by ns).declarations p
-  declared_of_met = sym (and_then_map _ (rows_of ns) node) ∙ ap (option_and_then (declared_of ns)) met ∙ part_at declared_in ns shape p
-
   pub declared_there : option_and_then (declared_of ns) node ≡ map.get (known_by ns).declarations p
-  declared_there = ap (option_and_then (declared_of ns)) met ∙ part_at declared_in ns shape p
+  declared_there = ap (option_and_then (declared_of ns)) met ∙ part_at (λ c. c.declared) ns shape p
 
   pub out_of_met : option_and_then (outs_of ns) node ≡ map.get (known_by ns).outs p
   out_of_met = ap (option_and_then (outs_of ns)) met ∙ part_at (λ c. c.out) ns shape p

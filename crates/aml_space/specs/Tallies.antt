@@ -8,7 +8,7 @@ use Rattle.aml_space.specs.declared.kinds.Kind.TheVariants.{Method, Alias}
 use Rattle.aml_space.specs.declared.tallies.Counts.{Counts}
 use Rattle.aml_space.specs.declared.tallies.Counts.TheVariants.{Nothing, One, Several}
 use Rattle.aml_space.specs.declared.tallies.Tally.{Tally}
-use Rattle.aml_space.specs.declared.rows.Again.{Again}
+use Rattle.aml_space.specs.declared.declarations.Again.{Again}
 use Rattle.aml_space.specs.Known.{Declared, once}
 
 -- what two come to

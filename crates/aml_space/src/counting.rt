@@ -1,19 +1,18 @@
 //! How many arguments a path takes.
-ghost use Rattle.std.specs.Prelude.{◌≡◌, ◌<◌, ◌∷◌, List, None, cond, length, map, flat_map, option_to_list, IfSome};
-ghost use Rattle.std.specs.Option.{option_or, option_and_then, option_copied, option_map};
-ghost use Rattle.aml_names.specs.declared.segments.Seg.{Seg};
+ghost use Rattle.std.specs.Prelude.{◌≡◌, ◌<◌, ◌∷◌, None, cond, length, map, flat_map, option_to_list, IfSome};
+ghost use Rattle.std.specs.Option.{option_or, option_and_then, option_copied};
 ghost use Rattle.aml_space.specs.Namespace.{kind_at as kind_of_path, count_at, count_by, target_count};
-ghost use Rattle.aml_space.specs.Known.{Declared, namespace_in, outlook_in, kinds_by, sure_by};
+ghost use Rattle.aml_space.specs.Known.{namespace_in, outlook_in, kinds_by, sure_by};
 ghost use Rattle.aml_space.specs.Runs.{target_counts, counts_by};
 ghost use Rattle.aml_space.specs.Nodes.{kinds_of, declared_of, outs_of, known_by, IsShape};
 ghost use Rattle.aml_space.specs.Tallies.{joined, counts_in, own_count, is_nothing};
 
+use crate::declarations::Declarations;
 use crate::kinds::Kind;
 use crate::nodes::Node;
 use crate::predefined::Predefined;
-use crate::rows::Row;
 use crate::tallies::{Counts, own_counts};
-use crate::walking::{kind_at, node_of, out_at, row_at};
+use crate::walking::{declared_at, kind_at, node_of, out_at};
 use aml_names::Path;
 
 /// The kind of a path: the declared one of its node, else the predefined one.
@@ -89,21 +88,21 @@ pub(crate) fn count_of(nodes: &[Node], predefined: &Predefined, path: &Path) -> 
 // ---- What may stand: the counts of all kinds of a path.
 
 /// What the kinds of a path count as the target of an Alias, if it has any: there an Alias counts no argument.
-fn targets_met(row: Option<&Row>, standing: Option<&Kind>) -> Counts
-    ensures { let said = option_map (λ (r : List Seg × Declared). r.1) (option_copied row.entry) in
-        result ≡ counts_in (map own_count (kinds_by said (option_copied standing.entry))) }
+fn targets_met(said: Option<&Declarations>, standing: Option<&Kind>) -> Counts
+    ensures { result
+        ≡ counts_in (map own_count (kinds_by (option_copied said.entry) (option_copied standing.entry))) }
 {
-    match row {
+    match said {
         None => own_counts(standing),
-        Some(row) => with_standing(row, row.tally().counts, own_counts(standing)),
+        Some(said) => with_standing(said, said.tally().counts, own_counts(standing)),
     }
 }
 
 /// What the declared kinds of a path come to, and the predefined one behind them unless one of them is sure.
-fn with_standing(row: &Row, counts: Counts, standing: Counts) -> Counts
-    ensures { result ≡ cond row.now.1.sure counts (joined counts standing) }
+fn with_standing(said: &Declarations, counts: Counts, standing: Counts) -> Counts
+    ensures { result ≡ cond said.now.sure counts (joined counts standing) }
 {
-    if row.is_sure() {
+    if said.is_sure() {
         counts
     } else {
         counts.joined(standing)
@@ -127,7 +126,7 @@ fn counts_of_target(nodes: &[Node], predefined: &Predefined, target: &Path) -> C
         result ≡ counts_in (target_counts (outlook.kinds target.now) (outlook.first.outs target.now)) }
 {
     let node = node_of(nodes, target.segs());
-    let counts = targets_met(row_at(nodes, node), predefined.kind(target.segs()));
+    let counts = targets_met(declared_at(nodes, node), predefined.kind(target.segs()));
     or_outside(counts, out_at(nodes, node))
 }
 
@@ -157,17 +156,17 @@ fn counts_of_kinds(nodes: &[Node], predefined: &Predefined, first: Counts, kinds
 }
 
 /// The counts of the declared kinds of a path. Each kind is looked at only where an Alias is among them.
-fn counts_of_row(nodes: &[Node], predefined: &Predefined, row: &Row) -> Counts
+fn counts_of_all(nodes: &[Node], predefined: &Predefined, said: &Declarations) -> Counts
     requires { IsShape nodes.now }
     ensures { result ≡ counts_in (flat_map (counts_by (outlook_in (known_by nodes.now)))
-        (row.now.1.kind ∷ row.now.1.others)) }
+        (said.now.kind ∷ said.now.others)) }
 {
-    let tally = row.tally();
+    let tally = said.tally();
     if !tally.aliased {
         return tally.counts;
     }
-    let first = counts_of_kind(nodes, predefined, row.kind());
-    counts_of_kinds(nodes, predefined, first, row.others())
+    let first = counts_of_kind(nodes, predefined, said.kind());
+    counts_of_kinds(nodes, predefined, first, said.others())
 }
 
 /// The counts of a predefined kind, if there is one.
@@ -194,11 +193,11 @@ pub(crate) fn counts_met(
     ensures { result ≡ counts_in (flat_map (counts_by (outlook_in (known_by nodes.now)))
         (kinds_by (option_and_then (declared_of nodes.now) node) (option_copied standing.entry))) }
 {
-    match row_at(nodes, node) {
+    match declared_at(nodes, node) {
         None => counts_standing(nodes, predefined, standing),
-        Some(row) => {
-            let counts = counts_of_row(nodes, predefined, row);
-            with_standing(row, counts, counts_standing(nodes, predefined, standing))
+        Some(said) => {
+            let counts = counts_of_all(nodes, predefined, said);
+            with_standing(said, counts, counts_standing(nodes, predefined, standing))
         }
     }
 }
@@ -208,14 +207,14 @@ pub(crate) fn sure_met(nodes: &[Node], node: Option<usize>, standing: Option<&Ki
     requires { IfSome node (λ i. i < length nodes.now) }
     ensures { result ≡ sure_by (option_and_then (declared_of nodes.now) node) (option_copied standing.entry) }
 {
-    standing.is_some() || is_sure_row(row_at(nodes, node))
+    standing.is_some() || is_surely_declared(declared_at(nodes, node))
 }
 
-fn is_sure_row(row: Option<&Row>) -> bool
-    ensures { result ≡ sure_by (option_map (λ (r : List Seg × Declared). r.1) (option_copied row.entry)) None }
+fn is_surely_declared(said: Option<&Declarations>) -> bool
+    ensures { result ≡ sure_by (option_copied said.entry) None }
 {
-    match row {
+    match said {
         None => false,
-        Some(row) => row.is_sure(),
+        Some(said) => said.is_sure(),
     }
 }

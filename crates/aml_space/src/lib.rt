@@ -5,12 +5,14 @@
 
 mod bodies;
 mod counting;
+mod declarations;
 mod faults;
 mod growing;
 mod kinds;
 mod laws;
 mod listing;
 mod nodes;
+mod parents;
 mod predefined;
 mod rows;
 mod runs;

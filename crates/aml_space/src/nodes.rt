@@ -2,16 +2,15 @@
 ghost use Rattle.std.specs.Prelude.{◌≡◌};
 ghost use Rattle.aml_space.specs.Nodes.{empty};
 
-use crate::rows::Row;
+use crate::declarations::Declarations;
 use aml_children::Children;
 use aml_names::Seg;
 
 /// A node of the index. It stands for one path.
 #[derive(Drop)]
 pub(crate) struct Node {
-    /// The path and what its declarations say, where it is declared; in a box, since most nodes of a long path have
-    /// none.
-    pub row: Option<Box<Row>>,
+    /// What the declarations of the path say, where it is declared; in a box, since most nodes of a long path have none.
+    pub declared: Option<Box<Declarations>>,
     /// The greatest count of its Externals.
     pub outs: Option<u8>,
     /// The greatest count that the user gives it.
@@ -33,7 +32,7 @@ impl Node {
         ensures { result ≡ empty parent seg }
     {
         Node {
-            row: None,
+            declared: None,
             outs: None,
             given: None,
             seg,

@@ -1,191 +1,99 @@
-//! What the declarations of a path say.
-ghost use Rattle.std.specs.Prelude.{◌≡◌, ◌∷◌, ◌++◌, [], List, OnOk, OnErr, IfOk};
-ghost use Rattle.aml_space.specs.declared.kinds.Kind.{Kind as AnyKind};
-ghost use Rattle.aml_space.specs.Known.{once, again};
-ghost use Rattle.aml_space.specs.Tallies.{tally_of, IsAgain, IsUnchanged};
+//! The declared paths, and what their declarations say.
+ghost use Rattle.std.specs.Prelude.{◌≡◌, ◌<◌, ◌-◌, length, take, drop, min, IfOk};
+ghost use Rattle.aml_space.specs.Nodes.{path_of, IsIndex};
 
+use crate::declarations::Declarations;
 use crate::kinds::Kind;
-use crate::tallies::Tally;
-use aml_names::Path;
-use std::alloc::{AllocError, Global};
+use crate::nodes::Node;
+use crate::parents::{ancestor, depth_of, fill};
+use aml_names::{NoMemory, Path, Seg};
+use std::alloc::Global;
 use std::marker::Model;
 
-/// A declared path, with what its declarations say.
+/// A declared path, with what its declarations say. It keeps no path of its own: each segment is that by which a node is
+/// a child of its parent.
 #[derive(Drop)]
-pub struct Row {
-    path: Path,
-    /// The kind of the first declaration.
-    kind: Kind,
-    /// Most paths are declared once, surely: nothing.
-    again: Option<Box<Again>>,
+pub struct Row<'a> {
+    nodes: &'a [Node],
+    /// The node of the path.
+    at: usize,
+    said: &'a Declarations,
 }
 
-/// What is known of a path beside its first kind, where it isn't declared just once and surely.
-#[derive(Drop)]
-struct Again {
-    /// The kinds of the further declarations, up to and with the first sure one.
-    others: Vec<Kind>,
-    /// Whether a declaration is sure.
-    sure: bool,
-    /// How many declarations there are.
-    times: usize,
-    /// That of all kinds.
-    tally: Tally,
-}
-
-impl Model for Row {
-    ghost use Rattle.std.specs.Prelude.{List};
+impl<'a> Model for Row<'a> {
+    ghost use Rattle.std.specs.Prelude.{List, ◌<◌, length};
     ghost use Rattle.aml_names.specs.declared.segments.Seg.{Seg};
     ghost use Rattle.aml_space.specs.Known.{Declared, coded_row};
-    ghost use Rattle.aml_space.specs.Tallies.{declared_with, IsTallied};
+    ghost use Rattle.aml_space.specs.Nodes.{path_of, IsIndex};
 
     ghost Value = { List Seg × Declared };
 
     ghost coded = { coded_row };
 
-    ghost view = { λ s. (s.path, declared_with s.kind s.again) };
+    ghost view = { λ s. (path_of s.nodes.now s.at, s.said.now) };
 
-    ghost invariant = { λ s. IsTallied s.kind s.again };
+    ghost invariant = { λ s. IsIndex s.nodes.now × (s.at < length s.nodes.now) };
 }
 
-impl Row {
-    /// A path that is declared once.
-    pub(crate) fn new(alloc: Global, path: Path, kind: Kind, sure: bool) -> Result<Row, AllocError>
-        ensures { IfOk result (λ row. row ≡ (path, once kind sure)) }
+impl<'a> Row<'a> {
+    /// The row of a node.
+    pub(crate) fn new(nodes: &'a [Node], at: usize, said: &'a Declarations) -> Row<'a>
+        requires index { IsIndex nodes.now }
+        requires within { at < length nodes.now }
+        ensures { result ≡ (path_of nodes.now at, said.now) }
     {
-        if sure {
-            return Ok(Row {
-                path,
-                kind,
-                again: None,
-            });
-        }
-        let again = Box::new(alloc, Again::first(alloc, &kind, false, 1))?;
-        Ok(Row {
-            path,
-            kind,
-            again: Some(again),
-        })
+        Row { nodes, at, said }
     }
 
-    /// One declaration more. A refused one changes nothing.
-    pub(crate) fn declare(
-        &mut self,
-        alloc: Global,
-        kind: Kind,
-        sure: bool,
-    ) -> Result<(), AllocError>
-        ensures ok { OnOk result (self.new ≡ (self.old.0, again self.old.1 kind sure)) }
-        ensures err { OnErr result (self.new ≡ self.old) }
+    /// How many segments the path has.
+    pub fn depth(&self) -> usize
+        ensures { result ≡ length self.now.0 }
     {
-        match &mut self.again {
-            Some(again) => again.declare(kind, sure),
-            None => {
-                let twice = Box::new(alloc, Again::first(alloc, &self.kind, true, 2))?;
-                self.again = Some(twice);
-                Ok(())
-            }
-        }
+        depth_of(self.nodes, self.at)
     }
 
-    pub fn path(&self) -> &Path
-        ensures { result.now ≡ self.now.0 }
+    /// Copies the segments of the path from one on to the front of a buffer, as many as it takes. The result is how many
+    /// these are.
+    pub fn copy_segs(&self, from: usize, buffer: &mut [Seg]) -> usize
+        ensures count { result ≡ min (length buffer.old) (length self.now.0 - from) }
+        ensures copied { take result buffer.new ≡ take result (drop from self.now.0) }
+        ensures long { length buffer.new ≡ length buffer.old }
     {
-        &self.path
+        let rest = self.depth().saturating_sub(from);
+        let count = buffer.len().min(rest);
+        let last = ancestor(self.nodes, self.at, rest - count);
+        fill(self.nodes, last, count, buffer);
+        count
+    }
+
+    /// The path, which is made anew.
+    pub fn path(&self, alloc: Global) -> Result<Path, NoMemory>
+        ensures { IfOk result (λ path. path ≡ self.now.0) }
+    {
+        let mut segs = Vec::new(alloc);
+        segs.resize(self.depth(), Seg::default())?;
+        let _ = self.copy_segs(0, segs.as_mut_slice());
+        Ok(Path::from_segs(segs))
     }
 
     /// The kind with which the path is declared first.
-    pub fn kind(&self) -> &Kind
+    pub fn kind(&self) -> &'a Kind
         ensures { result.now ≡ self.now.1.kind }
     {
-        &self.kind
+        self.said.kind()
     }
 
     /// Whether a declaration is sure.
     pub fn is_sure(&self) -> bool
         ensures { result ≡ self.now.1.sure }
     {
-        match &self.again {
-            None => true,
-            Some(again) => again.sure,
-        }
+        self.said.is_sure()
     }
 
     /// How many declarations there are.
     pub fn times(&self) -> usize
         ensures { result ≡ self.now.1.times }
     {
-        match &self.again {
-            None => 1,
-            Some(again) => again.times,
-        }
-    }
-
-    /// The kinds of the further declarations, up to and with the first sure one.
-    pub(crate) fn others(&self) -> &[Kind]
-        ensures { result.now ≡ self.now.1.others }
-    {
-        match &self.again {
-            None => &[],
-            Some(again) => again.others.as_slice(),
-        }
-    }
-
-    /// What the kinds come to, without a look at each.
-    pub(crate) fn tally(&self) -> Tally
-        ensures { result ≡ tally_of (self.now.1.kind ∷ self.now.1.others) }
-    {
-        match &self.again {
-            None => Tally::of(&self.kind),
-            Some(again) => again.tally,
-        }
-    }
-}
-
-impl Again {
-    /// No kind but the first.
-    fn first(alloc: Global, kind: &Kind, sure: bool, times: usize) -> Again
-        ensures others { result.others.items ≡ [] }
-        ensures sure { result.sure ≡ sure }
-        ensures times { result.times ≡ times }
-        ensures tally { result.tally ≡ tally_of (kind.now ∷ []) }
-    {
-        Again {
-            others: Vec::new(alloc),
-            sure,
-            times,
-            tally: Tally::of(kind),
-        }
-    }
-
-    /// One declaration more, whose kind counts where none so far is sure. A refused one changes nothing.
-    fn declare(&mut self, kind: Kind, sure: bool) -> Result<(), AllocError>
-        ensures ok { OnOk result (IsAgain self.old self.new kind sure) }
-        ensures err { OnErr result (IsUnchanged self.old self.new) }
-    {
-        if self.times == usize::MAX {
-            return Err(AllocError);
-        }
-        if !self.sure {
-            self.declare_kind(kind, sure)?;
-        }
-        self.times += 1;
-        Ok(())
-    }
-
-    /// One kind more.
-    fn declare_kind(&mut self, kind: Kind, sure: bool) -> Result<(), AllocError>
-        ensures others { OnOk result (self.new.others.items ≡ self.old.others.items ++ kind ∷ []) }
-        ensures sure { OnOk result (self.new.sure ≡ sure) }
-        ensures tally { OnOk result ((first : AnyKind) → self.old.tally ≡ tally_of (first ∷ self.old.others.items) →
-            self.new.tally ≡ tally_of (first ∷ self.new.others.items)) }
-        ensures times { self.new.times ≡ self.old.times }
-        ensures err { OnErr result (IsUnchanged self.old self.new) }
-    {
-        let tally = self.tally.with(&kind);
-        self.others.push(kind)?;
-        self.tally = tally;
-        self.sure = sure;
-        Ok(())
+        self.said.times()
     }
 }

@@ -115,7 +115,14 @@ impl Space {
         if self.rows == usize::MAX {
             return Err(SpaceFault::NoMemory);
         }
-        declare_first(self.alloc, &mut self.nodes, path, kind, surely, reach)?;
+        declare_first(
+            self.alloc,
+            &mut self.nodes,
+            path.segs(),
+            kind,
+            surely,
+            reach,
+        )?;
         self.rows += 1;
         Ok(())
     }
@@ -135,7 +142,7 @@ impl Space {
             return Err(AllocError);
         }
         let reach = deepest(self.nodes.as_slice(), path.segs());
-        declare_first(self.alloc, &mut self.nodes, path, kind, sure, reach)?;
+        declare_first(self.alloc, &mut self.nodes, path.segs(), kind, sure, reach)?;
         self.rows += 1;
         Ok(())
     }
@@ -267,8 +274,8 @@ impl Space {
     /// The declared path at a place in the order of the paths. Paths are ordered by their segments as
     /// bytes, a shorter path before those that it begins. The predefined names that nothing replaced aren't among them.
     /// This goes through all paths before it; `in_order` gives all of them by one walk.
-    pub fn row_at(&self, index: usize) -> Option<&Row>
-        ensures { option_copied result ≡ slice_get (map.entries self.now.declarations) index }
+    pub fn row_at(&self, index: usize) -> Option<Row<'_>>
+        ensures { result ≡ slice_get (map.entries self.now.declarations) index }
     {
         let mut rows = self.in_order();
         for _place in 0..index {

@@ -1,4 +1,5 @@
 pub mod Common
 pub mod Pairs
+mod RowLaws
 pub mod ListingLaws
 pub mod SameBlocks

@@ -1,17 +1,21 @@
 //! The namespace: a line for each declared path.
 #![tactic(auto, using(text_writer::proofs::PrintLaws::straight))]
 
-ghost use Rattle.std.specs.Prelude.{◌++◌, decimal};
+ghost use Rattle.std.specs.Prelude.{◌≡◌, ◌≤◌, ◌++◌, length, decimal};
 ghost use Rattle.std.specs.FinMap as map;
 ghost use Rattle.text_writer.specs.Prints.{Prints, word};
 ghost use Rattle.asl_text.specs.Texts.{line};
 ghost use Rattle.aml_text.specs.Rows.{path_text, kind_text, maybe_text, times_text, marked_text, row_line, namespace_text};
 
-use aml_code::Path;
+use aml_code::{Path, Seg};
 use aml_space::{Kind, Row, Space};
 use asl_text::{print_indent, print_segments};
 use std::io::Write;
 use text_writer::{Out, print_decimal};
+
+/// How many segments of a path are printed at a time, 64 KB of them. A deeper path is gone up once for each so many, and
+/// the deepest that a table of 1 MB can have is eight times as deep.
+const WINDOW: usize = 16_384;
 
 /// A path: `\` and its segments, with a dot between two.
 #[tactic(auto, using(text_writer::proofs::PrintLaws::straight), unfolding(crate::specs::Rows::path_text))]
@@ -85,30 +89,53 @@ fn print_marks<W: Write>(out: &mut Out<'_, W>, sure: bool, times: usize)
     print_times(out, times);
 }
 
-/// A path with its kind.
-fn print_row_text<W: Write>(out: &mut Out<'_, W>, path: &Path, kind: &Kind)
-    ensures { Prints W.contents out.old out.new (path_text path.now ++ word " " ++ kind_text kind.now) }
+/// The path of a row, as many segments at a time as a window takes, so that it needs no memory of its own.
+fn print_row_path<W: Write>(out: &mut Out<'_, W>, row: &Row<'_>, window: &mut [Seg])
+    requires room { 1 ≤ length window.old }
+    ensures text { Prints W.contents out.old out.new (path_text row.now.0) }
+    ensures long { length window.new ≡ length window.old }
 {
-    print_path(out, path);
-    out.put(b" ");
-    print_kind(out, kind);
+    let depth = row.depth();
+    let mut done = row.copy_segs(0, window);
+    out.put(b"\\");
+    print_segments(out, &window[..done]);
+    while done < depth {
+        let count = row.copy_segs(done, window);
+        out.put(b".");
+        print_segments(out, &window[..count]);
+        done += count;
+    }
 }
 
-/// The same with its marks.
-fn print_marked<W: Write>(out: &mut Out<'_, W>, row: &Row)
-    ensures { Prints W.contents out.old out.new (marked_text row.now) }
+/// What a row says of its path.
+fn print_said<W: Write>(out: &mut Out<'_, W>, row: &Row<'_>)
+    ensures { Prints W.contents out.old out.new
+        (word " " ++ kind_text row.now.1.kind ++ (maybe_text row.now.1.sure ++ times_text row.now.1.times)) }
 {
-    print_row_text(out, row.path(), row.kind());
+    out.put(b" ");
+    print_kind(out, row.kind());
     print_marks(out, row.is_sure(), row.times());
+}
+
+/// A path with its kind and its marks.
+fn print_marked<W: Write>(out: &mut Out<'_, W>, row: &Row<'_>, window: &mut [Seg])
+    requires room { 1 ≤ length window.old }
+    ensures text { Prints W.contents out.old out.new (marked_text row.now) }
+    ensures long { length window.new ≡ length window.old }
+{
+    print_row_path(out, row, window);
+    print_said(out, row);
 }
 
 /// The line of a path with its kind.
 #[tactic(auto, using(text_writer::proofs::PrintLaws::straight), unfolding(crate::specs::Rows::row_line, asl_text::specs::Texts::line))]
-fn print_row<W: Write>(out: &mut Out<'_, W>, row: &Row)
-    ensures { Prints W.contents out.old out.new (row_line row.now) }
+fn print_row<W: Write>(out: &mut Out<'_, W>, row: &Row<'_>, window: &mut [Seg])
+    requires room { 1 ≤ length window.old }
+    ensures text { Prints W.contents out.old out.new (row_line row.now) }
+    ensures long { length window.new ≡ length window.old }
 {
     print_indent(out, 1);
-    print_marked(out, row);
+    print_marked(out, row, window);
     out.put(b"\n");
 }
 
@@ -129,8 +156,9 @@ pub fn print_rows<W: Write>(out: &mut Out<'_, W>, space: &Space)
 {
     let count = space.row_count();
     print_count(out, count);
+    let mut window = [Seg::default(); WINDOW];
     let mut rows = space.in_order();
     'rows: while let Some(row) = rows.next() {
-        print_row(out, row);
+        print_row(out, &row, &mut window);
     }
 }

@@ -1,14 +1,12 @@
-use Rattle.std.proofs.Common.{List, None, cond, map, sym, ap, ◌∙◌}
-use Rattle.std.specs.Option.{option_map}
-use Rattle.aml_names.specs.declared.segments.Seg.{Seg}
+use Rattle.std.proofs.Common.{None, cond, map, sym, ap, ◌∙◌}
 use Rattle.aml_space.specs.Predefined.{predefined}
 use Rattle.aml_space.specs.Nodes.{walk, kids_of, known_by}
-use Rattle.aml_space.specs.Known.{Declared, kinds_by, outlook_in}
+use Rattle.aml_space.specs.Known.{kinds_by, outlook_in}
 use Rattle.aml_space.specs.Namespace.{target_count}
 use Rattle.aml_space.specs.declared.tallies.Counts.TheVariants.{One}
 use Rattle.aml_space.specs.Tallies.{counts_in, own_count, is_nothing}
 use Rattle.aml_space.proofs.Joined.{targets}
-use Rattle.aml_space.proofs.Meaning.{declared_of_met, out_of_met}
+use Rattle.aml_space.proofs.Meaning.{declared_there, out_of_met}
 use Rattle.aml_space.proofs.counting.counts_of_target.Goals as goal
 
 pub returns : goal.returns
@@ -18,7 +16,7 @@ returns c =
     let o = outlook_in (known_by ns) in
     let node = c.node_of-node.result in
     let met = c.node_of-node.ensures.node ∙ ap (walk (kids_of ns) 0) c.segs.ensures in
-    let said = ap (option_map (λ (e : List Seg × Declared). e.1)) c.row_at.ensures ∙ declared_of_met ns c.requires p node met in
+    let said = c.declared_at.ensures ∙ declared_there ns c.requires p node met in
     c.or_outside.ensures
     ∙ ap (λ out. cond (is_nothing c.targets_met-counts.result) (One (target_count None out)) c.targets_met-counts.result)
     (c.out_at.ensures ∙ out_of_met ns c.requires p node met)

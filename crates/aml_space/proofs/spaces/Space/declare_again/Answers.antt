@@ -16,7 +16,7 @@ not_declared c = none_undeclared c.args.self.now c.args.path
 
 put_here : (c : In_ok-declare_first) → map.get c.args.self.now.declarations c.args.path ≡ None → known_by c.declare_first.new.nodes.items
     ≡ with_again c.args.self.now c.args.path c.args.kind c.args.sure
-put_here c none = c.in_ok-declare_first.ensures.ok ∙ ap (λ k. with_declaration k c.args.path (once c.args.kind c.args.sure)) c.self.view_is
+put_here c none = c.in_ok-declare_first.ensures.ok ∙ (λ i. with_declaration (c.self.view_is i) (c.segs-3.ensures i) (once c.args.kind c.args.sure))
     ∙ sym (again_first c.args.self.now c.args.path c.args.kind c.args.sure none)
 
 pub invariant_of-self-2 : goal.invariant_of-self-2

@@ -20,7 +20,7 @@ never c free there = absurd (true≢false (sym there ∙ sym (taken c) ∙ free)
 
 put_here : (c : In_ok-declare_first) → known_by c.declare_first.new.nodes.items
     ≡ with_declaration c.args.self.now c.args.path (once c.args.kind c.args.surely)
-put_here c = c.in_ok-declare_first.ensures.ok ∙ ap (λ k. with_declaration k c.args.path (once c.args.kind c.args.surely)) c.self.view_is
+put_here c = c.in_ok-declare_first.ensures.ok ∙ (λ i. with_declaration (c.self.view_is i) (c.segs-3.ensures i) (once c.args.kind c.args.surely))
 
 pub invariant_of-self-2 : goal.invariant_of-self-2
 invariant_of-self-2 c =

@@ -8,11 +8,11 @@ use Rattle.aml_space.specs.Tallies.{joined, counts_in, is_alias}
 use Rattle.aml_space.specs.declared.tallies.Tally.{Tally}
 use Rattle.aml_space.proofs.Basics.{not_true}
 use Rattle.aml_space.proofs.Joined.{counts_plain, counts_more}
-use Rattle.aml_space.proofs.counting.counts_of_row.Goals as goal
+use Rattle.aml_space.proofs.counting.counts_of_all.Goals as goal
 
 pub returns-then-not-tally : goal.returns-then-not-tally
 returns-then-not-tally c =
-    let d = c.args.row.now.1 in
+    let d = c.args.said.now in
     let plain : list_any is_alias (d.kind ∷ d.others) ≡ false =
     sym (ap (λ (t : Tally). t.aliased) c.tally-tally.ensures) ∙ not_true c.tally-tally.result.aliased c.if-not-tally.true in
     ap (λ (t : Tally). t.counts) c.tally-tally.ensures ∙ ap counts_in (sym (counts_plain (outlook_in (known_by c.args.nodes.now)) (d.kind ∷ d.others) plain))
@@ -20,7 +20,7 @@ returns-then-not-tally c =
 pub returns : goal.returns
 returns c =
     let o = outlook_in (known_by c.args.nodes.now) in
-    let d = c.args.row.now.1 in
+    let d = c.args.said.now in
     c.counts_of_kinds.ensures
     ∙ (λ i. joined ((c.counts_of_kind-first.ensures ∙ ap (λ k. counts_in (counts_by o k)) c.kind.ensures) i)
     (counts_in (flat_map (counts_by o) (c.others.ensures i))))

@@ -1,6 +1,6 @@
 use Rattle.std.proofs.Common.{◌∷◌, sym, ap, ◌∙◌}
 use Rattle.aml_space.specs.Tallies.{tally_of}
-use Rattle.aml_space.proofs.rows.Again.declare_kind.Goals as goal
+use Rattle.aml_space.proofs.declarations.Again.declare_kind.Goals as goal
 
 pub returns-clause-tally : goal.returns-clause-tally
 returns-clause-tally c = λ first was.
