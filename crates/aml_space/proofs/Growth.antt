@@ -14,8 +14,9 @@ use Rattle.aml_names.specs.Paths.{seg_cmp, paths_total, exact_paths, exact_segs}
 use Rattle.aml_children.specs.declared.children.Child.{Child}
 use Rattle.aml_children.specs.Children.{child_in, put}
 use Rattle.aml_space.specs.declared.nodes.Node.{Node}
-use Rattle.aml_space.specs.Nodes.{walk, IsFamily, Content, nothing, kids_in, kids_of, links_of, content_of, part_by, known_by, IsShape}
-use Rattle.aml_space.specs.Nodes.{IsLinked, IsIndex}
+use Rattle.aml_space.specs.Nodes.{walk, IsFamily, Content, nothing, kids_in, kids_of, links_of, content_in, content_of, kinds_of, part_by, known_by, IsShape}
+use Rattle.aml_space.specs.Nodes.{IsLinked, IsAim, IsIndex}
+use Rattle.aml_space.specs.Known.{declared_kind}
 use Rattle.aml_space.proofs.Family.{same_itself, found_put, wider_family, family_put}
 use Rattle.aml_space.proofs.Index.{part_at}
 use Rattle.aml_space.proofs.Walks.{kid_range, node_range}
@@ -151,8 +152,21 @@ module _ (ns new : List Node) (i : ℕ) (seg : Seg) (is : IsIndex ns) (within : 
     lower = lower;
   }
 
+  aimed : (k : ℕ) → IsAim new (kinds_of new k) (content_of new k).aim
+  aimed k = elim (cases_lt k (length ns)) [
+    | inl inside ↦ subst (λ (c : Content). IsAim new (declared_kind c.declared) c.aim) (sym (has.contents k inside))
+        (λ some. let a = is.aimed k some in (a.0, a.1, still a.0 (content_of ns k).aim a.2))
+    | inr past ↦ λ some. absurd (omega (arith, some, ap (λ (c : Content). c.aim) (none k past)))
+  ]
+    where
+      none : (k : ℕ) → length ns ≤ k → content_of new k ≡ nothing
+      none k past = elim (cases_lt (length ns) k) [
+        | inl far ↦ ap content_in (slice_get_past new k (omega (arith, far, has.long)))
+        | inr near ↦ ap (content_of new) {x = k} {y = length ns} (omega (arith, near, past)) ∙ has.no_content
+      ]
+
   pub grown_index : IsIndex new
-  grown_index = record { shape = shape; linked = linked }
+  grown_index = record { shape = shape; linked = linked; aimed = aimed }
 
   grown_part : {X : Type 0} (part : Content → Option X) → part nothing ≡ None → part_by part new ≡ part_by part ns
   grown_part {X} part none = map.same_map paths_total exact_paths _ _ (λ q. sym (part_at part new shape q) ∙ same q ∙ part_at part ns is.shape q)

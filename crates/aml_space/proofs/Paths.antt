@@ -8,7 +8,7 @@ use Rattle.aml_names.specs.declared.segments.Seg.{Seg}
 use Rattle.aml_children.specs.declared.children.Child.{Child}
 use Rattle.aml_children.specs.Children.{child_in}
 use Rattle.aml_space.specs.declared.nodes.Node.{Node}
-use Rattle.aml_space.specs.Nodes.{walk, kids_of, known_by, IsIndex, empty, chain, with_child, with_path}
+use Rattle.aml_space.specs.Nodes.{walk, kids_of, known_by, IsIndex, IsKept, empty, chain, with_child, with_path}
 use Rattle.aml_space.proofs.Walks.{walk_push, node_range}
 use Rattle.aml_space.proofs.Grow.{more_if, has_grown, length_with, with_pushed, last_leaf}
 use Rattle.aml_space.proofs.Growth.{grown_index, grown_known, new_child, still}
@@ -18,6 +18,7 @@ pub record Leads (ns new : List Node) (p : List Seg) (at : ℕ) : Type 0 where
   pub index : IsIndex new
   pub known : known_by new ≡ known_by ns
   pub led : walk (kids_of new) 0 p ≡ Some at
+  pub kept : IsKept ns new
 
 pub long_chain : (p first : ℕ) (t : Seg) (q : List Seg) → length (chain p first t q) ≡ length q + 1
 long_chain p first t [] = omega arith
@@ -34,6 +35,7 @@ one_more ns p i s within is led absent =
       known = grown_known ns new i s is within absent has;
       led = walk_push (kids_of new) 0 p s ∙ ap (option_and_then (λ j. child_in (kids_of new j) s)) (still ns new i s is within absent has p i led)
           ∙ new_child ns new i s is within absent has;
+      kept = still ns new i s is within absent has;
     }
 
 -- from an empty node at the end
@@ -44,6 +46,7 @@ rest_more ns new xs top t p [] whole at so nodes path end = subst (λ ms. Leads 
       index = so.index;
       known = so.known;
       led = ap (walk (kids_of (xs ++ empty top t ∷ [])) 0) (path ∙ append-nil p) ∙ so.led ∙ ap Some {x = length xs} {y = at} (omega (arith, end));
+      kept = so.kept;
     })
 rest_more ns new xs top t p (s ∷ q) whole at so nodes path end =
     let before = xs ++ empty top t ∷ [] in
@@ -56,7 +59,7 @@ rest_more ns new xs top t p (s ∷ q) whole at so nodes path end =
     let next : Leads ns ((xs ++ filled ∷ []) ++ empty (length xs) s ∷ []) (p ++ s ∷ []) (length (xs ++ filled ∷ [])) =
     subst (λ ms. Leads ns (ms ++ empty (length xs) s ∷ []) (p ++ s ∷ []) (length (xs ++ filled ∷ []))) is
     (subst (Leads ns (with_child before (length xs) (record { seg = s; node = length before }) ++ empty (length xs) s ∷ []) (p ++ s ∷ []))
-    (long ∙ sym long_next) (record { index = one.index; known = one.known ∙ so.known; led = one.led })) in
+    (long ∙ sym long_next) (record { index = one.index; known = one.known ∙ so.known; led = one.led; kept = λ q j led. one.kept q j (so.kept q j led) })) in
     rest_more ns new (xs ++ filled ∷ []) (length xs) s (p ++ s ∷ []) q whole at next
     (nodes ∙ ap (λ n. xs ++ filled ∷ chain (length xs) n s q) (sym long_next) ∙ sym (append_assoc xs (filled ∷ []) _))
     (path ∙ sym (append_assoc p (s ∷ []) q)) (omega (arith, end, long_next))

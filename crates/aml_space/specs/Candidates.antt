@@ -11,7 +11,7 @@ use Rattle.aml_space.specs.declared.nodes.Node.{Node}
 use Rattle.aml_space.specs.declared.scopes.Scope.{Scope}
 use Rattle.aml_space.specs.declared.scopes.Level.{Level}
 use Rattle.aml_space.specs.declared.scopes.Candidate.{Candidate}
-use Rattle.aml_space.specs.Nodes.{walk, kids_of, declared_of, outs_of, givens_of, known_by, IsShape}
+use Rattle.aml_space.specs.Nodes.{walk, kids_of, declared_of, outs_of, givens_of, known_by, IsShape, IsAimed}
 use Rattle.aml_space.specs.Known.{namespace_in, outlook_in}
 use Rattle.aml_space.specs.Runs.{Outlook, counts_met, arity_met, first_agreed, agreed_or}
 use Rattle.aml_space.specs.Namespace.{Namespace, first_given, arity_at, first_of, is_outside}
@@ -60,6 +60,7 @@ AreAsked n path levels = (d : ℕ) → IfSome (slice_get levels d) (λ (l : Leve
 -- a scope has the levels of its path
 pub record IsScope (s : Scope) : Type 0 where
   pub shape : IsShape s.nodes.now
+  pub aimed : IsAimed s.nodes.now
   pub along : IsAlong s.nodes.now s.path.now s.levels.items
   pub long : length s.levels.items ≤ length s.path.now + 1
   pub asked : AreAsked (names_of s) s.path.now s.levels.items

@@ -1,10 +1,12 @@
 //! How many arguments a path takes.
-ghost use Rattle.std.specs.Prelude.{◌≡◌, ◌<◌, ◌∷◌, None, cond, length, map, flat_map, option_to_list, IfSome};
+ghost use Rattle.std.specs.Prelude.{◌≡◌, ◌<◌, ◌∷◌, List, Some, None, cond, length, map, flat_map, option_to_list, IfSome};
 ghost use Rattle.std.specs.Option.{option_or, option_and_then, option_copied};
 ghost use Rattle.aml_space.specs.Namespace.{kind_at as kind_of_path, count_at, count_by, target_count};
 ghost use Rattle.aml_space.specs.Known.{namespace_in, outlook_in, kinds_by, sure_by};
 ghost use Rattle.aml_space.specs.Runs.{target_counts, counts_by};
-ghost use Rattle.aml_space.specs.Nodes.{kinds_of, declared_of, outs_of, known_by, IsShape};
+ghost use Rattle.aml_space.specs.Nodes.{walk, kids_of, kinds_of, declared_of, outs_of, known_by, IsShape, IsAimed};
+ghost use Rattle.aml_space.specs.declared.kinds.Kind.TheVariants.{Alias};
+ghost use Rattle.aml_names.specs.declared.segments.Seg.{Seg};
 ghost use Rattle.aml_space.specs.Tallies.{joined, counts_in, own_count, is_nothing};
 
 use crate::declarations::Declarations;
@@ -12,7 +14,7 @@ use crate::kinds::Kind;
 use crate::nodes::Node;
 use crate::predefined::Predefined;
 use crate::tallies::{Counts, own_counts};
-use crate::walking::{declared_at, kind_at, node_of, out_at};
+use crate::walking::{aim_at, declared_at, kind_at, node_of, out_at};
 use aml_names::Path;
 
 /// The kind of a path: the declared one of its node, else the predefined one.
@@ -39,6 +41,7 @@ pub(crate) fn count_met(
     standing: Option<&Kind>,
 ) -> Option<u8>
     requires shape { IsShape nodes.now }
+    requires aimed { IsAimed nodes.now }
     requires within { IfSome node (λ i. i < length nodes.now) }
     ensures { result
         ≡ count_by (namespace_in (known_by nodes.now))
@@ -48,18 +51,38 @@ pub(crate) fn count_met(
     match kind_met(nodes, node, standing) {
         None => out_at(nodes, node),
         Some(Kind::Method { args }) => Some(*args),
-        Some(Kind::Alias { target }) => Some(count_target(nodes, predefined, target)),
+        Some(Kind::Alias { target }) => {
+            let at = target_node(nodes, node, target);
+            Some(count_target(nodes, predefined, at, target))
+        }
         Some(_) => Some(0),
     }
 }
 
-/// How many arguments the target of an Alias takes.
-fn count_target(nodes: &[Node], predefined: &Predefined, target: &Path) -> u8
-    requires { IsShape nodes.now }
+/// The node of what an Alias stands for, by the node of the Alias, which keeps it, or by the path.
+fn target_node(nodes: &[Node], alias: Option<usize>, target: &Path) -> Option<usize>
+    requires shape { IsShape nodes.now }
+    requires aimed { IsAimed nodes.now }
+    requires within { IfSome alias (λ i. i < length nodes.now) }
+    requires kind { (t : List Seg) → option_and_then (kinds_of nodes.now) alias ≡ Some (Alias t) → t ≡ target.now }
+    ensures node { result ≡ walk (kids_of nodes.now) 0 target.now }
+    ensures within { IfSome result (λ i. i < length nodes.now) }
+{
+    let aim = aim_at(nodes, alias);
+    if aim == 0 {
+        return node_of(nodes, target.segs());
+    }
+    Some(aim)
+}
+
+/// How many arguments the target of an Alias takes, by its node.
+fn count_target(nodes: &[Node], predefined: &Predefined, node: Option<usize>, target: &Path) -> u8
+    requires shape { IsShape nodes.now }
+    requires within { IfSome node (λ i. i < length nodes.now) }
+    requires node { node ≡ walk (kids_of nodes.now) 0 target.now }
     ensures { let known = namespace_in (known_by nodes.now) in result
         ≡ target_count (kind_of_path known target.now) (known.outs target.now) }
 {
-    let node = node_of(nodes, target.segs());
     let kind = kind_met(nodes, node, predefined.kind(target.segs()));
     count_of_target(kind, out_at(nodes, node))
 }
@@ -78,7 +101,8 @@ fn count_of_target(kind: Option<&Kind>, out: Option<u8>) -> u8
 
 /// How many arguments a path takes.
 pub(crate) fn count_of(nodes: &[Node], predefined: &Predefined, path: &Path) -> Option<u8>
-    requires { IsShape nodes.now }
+    requires shape { IsShape nodes.now }
+    requires aimed { IsAimed nodes.now }
     ensures { result ≡ count_at (namespace_in (known_by nodes.now)) path.now }
 {
     let node = node_of(nodes, path.segs());

@@ -17,6 +17,8 @@ pub(crate) struct Node {
     pub given: Option<u8>,
     /// The segment by which it is a child of its parent.
     pub seg: Seg,
+    /// Of an Alias, the node of what it stands for; 0 where none is kept, since the root's is found at once.
+    pub aim: usize,
     /// The number of its parent; the root is its own.
     pub parent: usize,
     /// The nodes below.
@@ -24,7 +26,7 @@ pub(crate) struct Node {
 }
 
 // Each segment of a path has a node, and a path may have many thousands.
-const _: () = prove!(size_of::<Node>() == 56);
+const _: () = prove!(size_of::<Node>() == 64);
 
 impl Node {
     /// A node without content, a child of its parent by a segment.
@@ -36,6 +38,7 @@ impl Node {
             outs: None,
             given: None,
             seg,
+            aim: 0,
             parent,
             children: Children::new(),
         }

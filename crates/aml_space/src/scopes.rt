@@ -10,7 +10,7 @@ ghost use Rattle.aml_names.specs.declared.segments.Seg.{Seg};
 ghost use Rattle.aml_names.specs.Searching.{upward};
 ghost use Rattle.aml_space.specs.Predefined.{predefined};
 ghost use Rattle.aml_space.specs.Namespace.{first_of, first_given, count_at, kind_at as kind_of_path};
-ghost use Rattle.aml_space.specs.Nodes.{walk, kids_of, kinds_of, outs_of, known_by, IsShape};
+ghost use Rattle.aml_space.specs.Nodes.{walk, kids_of, kinds_of, outs_of, known_by, IsShape, IsAimed};
 ghost use Rattle.aml_space.specs.Known.{namespace_in};
 ghost use Rattle.aml_space.specs.Runs.{counts_met as met, counts_of, is_known};
 ghost use Rattle.aml_space.specs.Tallies.{counts_in};
@@ -65,7 +65,8 @@ impl<'a> Scope<'a> {
         predefined: &'a Predefined,
         path: &'a Path,
     ) -> Result<Scope<'a>, NoMemory>
-        requires { IsShape nodes.now }
+        requires shape { IsShape nodes.now }
+        requires aimed { IsAimed nodes.now }
         ensures scope { IfOk result IsScope }
         ensures nodes { IfOk result (λ scope. scope.nodes.now ≡ nodes.now) }
         ensures path { IfOk result (λ scope. scope.path.now ≡ path.now) }

@@ -1,18 +1,28 @@
-use Rattle.std.proofs.Common.{◌≡◌, sym, subst, ap, ◌∙◌}
-use Rattle.aml_space.specs.Known.{once, with_declaration}
-use Rattle.aml_space.specs.Nodes.{known_by, HasDeclared, IsIndex}
+use Rattle.std.proofs.Common.{◌≡◌, Some, sym, subst, ap, ◌∙◌}
+use Rattle.aml_space.specs.Known.{Declared, once, with_declaration}
+use Rattle.aml_space.specs.Nodes.{walk, kids_of, known_by, IsAim, HasDeclared, IsIndex}
+use Rattle.aml_space.proofs.Walks.{node_range}
 use Rattle.aml_space.proofs.Index.{put_declared}
 use Rattle.aml_space.proofs.growing.declare_first.Goals as goal
 use Rattle.aml_space.proofs.growing.declare_first.Goals.{After-set_declared}
 
-put_here : (c : After-set_declared) → HasDeclared c.extend.new.nodes.items c.set_declared.new.nodes.items c.in_ok-at.at c.in_ok-said.said.value
+pub set_declared-requires : goal.set_declared-requires
+set_declared-requires c = node_range c.aim_of.ensures.index.shape c.args.path.now c.in_ok-at.at
+    (c.aim_of.ensures.kept c.args.path.now c.in_ok-at.at c.in_ok-at.ensures.node)
+
+put_here : (c : After-set_declared) → HasDeclared c.aim_of.new.nodes.items c.set_declared.new.nodes.items c.in_ok-at.at c.in_ok-said.said.value
+    c.in_ok-aim.aim
     → IsIndex c.set_declared.new.nodes.items × (known_by c.set_declared.new.nodes.items
     ≡ with_declaration (known_by c.args.nodes.now.items) c.args.path.now (once c.args.kind c.args.sure))
 put_here c has =
-    let put = put_declared c.extend.new.nodes.items c.set_declared.new.nodes.items c.args.path.now c.in_ok-at.at c.extend.ensures.index
-    c.in_ok-at.ensures.node (once c.args.kind c.args.sure)
-    (subst (HasDeclared c.extend.new.nodes.items c.set_declared.new.nodes.items c.in_ok-at.at) (c.in_ok-said.ensures.ok ∙ c.in_ok-new.ensures) has) in
-    (put.0, put.1 ∙ ap (λ k. with_declaration k c.args.path.now (once c.args.kind c.args.sure)) c.extend.ensures.known)
+    let said : c.in_ok-said.said.value ≡ once c.args.kind c.args.sure = c.in_ok-said.ensures.ok ∙ c.in_ok-new.ensures in
+    let kind = c.kind.ensures ∙ ap (λ (d : Declared). d.kind) (c.deref.ensures ∙ said) in
+    let led = c.aim_of.ensures.kept c.args.path.now c.in_ok-at.at c.in_ok-at.ensures.node in
+    let put = put_declared c.aim_of.new.nodes.items c.set_declared.new.nodes.items c.args.path.now c.in_ok-at.at c.aim_of.ensures.index
+    led (once c.args.kind c.args.sure) c.in_ok-aim.aim
+    (subst (λ k. IsAim c.aim_of.new.nodes.items (Some k) c.in_ok-aim.aim) kind c.in_ok-aim.ensures.aim)
+    (subst (λ d. HasDeclared c.aim_of.new.nodes.items c.set_declared.new.nodes.items c.in_ok-at.at d c.in_ok-aim.aim) said has) in
+    (put.0, put.1 ∙ ap (λ k. with_declaration k c.args.path.now (once c.args.kind c.args.sure)) (c.aim_of.ensures.known ∙ c.extend.ensures.known))
 
 pub returns-clause-index : goal.returns-clause-index
 returns-clause-index c = (put_here (goal.at.returns-clause-index c).After-set_declared c.set_declared.ensures).0

@@ -31,6 +31,9 @@ returns-clause-index c = (grown c).index
 pub returns-clause-known : goal.returns-clause-known
 returns-clause-known c = (grown c).known
 
+pub returns-clause-kept : goal.returns-clause-kept
+returns-clause-kept c = (grown c).kept
+
 pub returns-clause-node : goal.returns-clause-node
 returns-clause-node c = led_there c
 
