@@ -20,6 +20,7 @@ mod scopes;
 mod searching;
 mod spaces;
 mod tallies;
+mod trails;
 mod walking;
 
 pub use bodies::{BodyNames, BodyScope};

@@ -13,14 +13,15 @@ ghost use Rattle.aml_space.specs.Known.{is_declared as declared_yet, namespace_i
 use crate::counting::{count_of, sure_met};
 use crate::faults::SpaceFault;
 use crate::growing::{
-    declare_again, declare_first, declared_node, deepest, is_taken, make_node, set_given, set_out,
+    declare_again, declare_first, declared_node, is_taken, make_node, set_given, set_out,
 };
 use crate::kinds::Kind;
 use crate::listing::{Rows, list_rows};
 use crate::nodes::Node;
 use crate::predefined::Predefined;
 use crate::rows::Row;
-use crate::walking::{kind_at, node_of, out_at, walk_counted};
+use crate::trails::{Step, deepest, node_along};
+use crate::walking::{kind_at, out_at, walk_counted};
 use aml_names::{NoMemory, Path, Seg};
 use std::alloc::{AllocError, Global};
 use std::marker::Model;
@@ -35,6 +36,8 @@ pub struct Space {
     pub(crate) predefined: Predefined,
     /// How many paths are declared.
     rows: usize,
+    /// The way to a path that was looked for, so that the next of the same scope is found soon.
+    trail: Vec<Step>,
 }
 
 impl Model for Space {
@@ -44,11 +47,12 @@ impl Model for Space {
 
     ghost coded = { coded_known };
 
-    ghost use Rattle.aml_space.specs.Nodes.{known_by, IsSpace};
+    ghost use Rattle.aml_space.specs.Nodes.{known_by};
+    ghost use Rattle.aml_space.specs.Trails.{IsSpace};
 
     ghost view = { λ s. known_by s.nodes.items };
 
-    ghost invariant = { λ s. IsSpace s.nodes.items s.rows };
+    ghost invariant = { λ s. IsSpace s.nodes.items s.rows s.trail.items };
 }
 
 /// A declared path, the kind of its first declaration, whether a declaration is sure, and how many there are.
@@ -73,6 +77,7 @@ impl Space {
             nodes,
             predefined: Predefined::new(),
             rows: 0,
+            trail: Vec::new(alloc),
         })
     }
 
@@ -108,7 +113,7 @@ impl Space {
         ensures taken { (es : List Entry) → StandsFor self.old es → IfErr result (λ e.
             (e ≡ SpaceFault.NoMemory) ⊎ ((e ≡ SpaceFault.Duplicate path) × (is_some (declared_at es path) ≡ true))) }
     {
-        let reach = deepest(self.nodes.as_slice(), path.segs());
+        let reach = deepest(self.nodes.as_slice(), &mut self.trail, path.segs());
         if is_taken(self.nodes.as_slice(), path.segs(), reach) {
             return Err(SpaceFault::Duplicate(path));
         }
@@ -118,6 +123,7 @@ impl Space {
         declare_first(
             self.alloc,
             &mut self.nodes,
+            &mut self.trail,
             path.segs(),
             kind,
             surely,
@@ -135,14 +141,22 @@ impl Space {
             OnOk result (StandsFor self.new (es ++ declares path kind body sure ∷ [])) }
         ensures err { OnErr result (self.new ≡ self.old) }
     {
-        if let Some(at) = declared_node(self.nodes.as_slice(), path.segs()) {
+        if let Some(at) = declared_node(self.nodes.as_slice(), self.trail.as_slice(), path.segs()) {
             return declare_again(self.alloc, &mut self.nodes, path.segs(), at, kind, sure);
         }
         if self.rows == usize::MAX {
             return Err(AllocError);
         }
-        let reach = deepest(self.nodes.as_slice(), path.segs());
-        declare_first(self.alloc, &mut self.nodes, path.segs(), kind, sure, reach)?;
+        let reach = deepest(self.nodes.as_slice(), &mut self.trail, path.segs());
+        declare_first(
+            self.alloc,
+            &mut self.nodes,
+            &mut self.trail,
+            path.segs(),
+            kind,
+            sure,
+            reach,
+        )?;
         self.rows += 1;
         Ok(())
     }
@@ -155,7 +169,7 @@ impl Space {
             OnOk result (StandsFor self.new (es ++ outside path count ∷ [])) }
         ensures err { OnErr result (self.new ≡ self.old) }
     {
-        let at = make_node(self.alloc, &mut self.nodes, path.segs())?;
+        let at = make_node(self.alloc, &mut self.nodes, &mut self.trail, path.segs())?;
         set_out(&mut self.nodes, at, count);
         Ok(())
     }
@@ -168,7 +182,7 @@ impl Space {
             OnOk result (StandsFor self.new (es ++ said path.now count ∷ [])) }
         ensures err { OnErr result (self.new ≡ self.old) }
     {
-        let at = make_node(self.alloc, &mut self.nodes, path.segs())?;
+        let at = make_node(self.alloc, &mut self.nodes, &mut self.trail, path.segs())?;
         set_given(&mut self.nodes, at, count);
         Ok(())
     }
@@ -188,7 +202,7 @@ impl Space {
         ensures { option_copied result ≡ (namespace_in self.now).declared path.now }
     {
         let nodes = self.nodes.as_slice();
-        kind_at(nodes, node_of(nodes, path.segs()))
+        kind_at(nodes, node_along(nodes, self.trail.as_slice(), path.segs()))
     }
 
     /// The greatest count of a path's Externals.
@@ -196,7 +210,7 @@ impl Space {
         ensures { result ≡ map.get self.now.outs path.now }
     {
         let nodes = self.nodes.as_slice();
-        let at = node_of(nodes, path.segs());
+        let at = node_along(nodes, self.trail.as_slice(), path.segs());
         out_at(nodes, at)
     }
 
@@ -242,7 +256,7 @@ impl Space {
         ensures listed { (es : List Entry) → StandsFor self.now es → result ≡ sure_at es path.now }
     {
         let nodes = self.nodes.as_slice();
-        let node = node_of(nodes, path.segs());
+        let node = node_along(nodes, self.trail.as_slice(), path.segs());
         sure_met(nodes, node, self.predefined.kind(path.segs()))
     }
 

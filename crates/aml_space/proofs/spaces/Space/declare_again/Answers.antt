@@ -28,7 +28,7 @@ invariant_of-self-2 c =
     ap (λ (k : Known). length (map.entries k.declarations))
     (put_here (goal.at.invariant_of-self-2 c).In_ok-declare_first none ∙ again_first c.args.self.now c.args.path c.args.kind c.args.sure none)
     ∙ one_declared c.args.self.now c.args.path (once c.args.kind c.args.sure) none in
-    record { index = c.declare_first.ensures.index; rows = omega (arith, before, after) }
+    record { index = c.declare_first.ensures.index; rows = omega (arith, before, after); trail = c.declare_first.ensures.trail }
 
 pub returns-clause-ok : goal.returns-clause-ok
 returns-clause-ok c = put_here (goal.at.returns-clause-ok c).In_ok-declare_first (not_declared (goal.at.returns-clause-ok c).In_default)

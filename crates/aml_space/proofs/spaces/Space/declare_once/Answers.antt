@@ -30,7 +30,7 @@ invariant_of-self-2 c =
     ap (λ (k : Known). length (map.entries k.declarations)) (put_here (goal.at.invariant_of-self-2 c).In_ok-declare_first)
     ∙ one_declared c.args.self.now c.args.path (once c.args.kind c.args.surely)
     (not_declared (goal.at.invariant_of-self-2 c).After-is_taken c.if-is_taken.false) in
-    record { index = c.declare_first.ensures.index; rows = omega (arith, before, after) }
+    record { index = c.declare_first.ensures.index; rows = omega (arith, before, after); trail = c.declare_first.ensures.trail }
 
 pub returns-clause-stands : goal.returns-clause-stands
 returns-clause-stands c = λ es body stands. subst (λ k. StandsFor k (es ++ declares c.args.path c.args.kind body c.args.surely ∷ []))

@@ -3,6 +3,7 @@ use Rattle.std.specs.FinMap as map
 use Rattle.aml_space.specs.Namespace.{given as said}
 use Rattle.aml_space.specs.Known.{Known, StandsFor, with_given}
 use Rattle.aml_space.specs.Nodes.{known_by, IsIndex, HasGiven}
+use Rattle.aml_space.proofs.Trailing.{content_trail}
 use Rattle.aml_space.proofs.Stands.{stands_given}
 use Rattle.aml_space.proofs.Index.{put_given}
 use Rattle.aml_space.proofs.spaces.Space.given.Goals as goal
@@ -21,6 +22,8 @@ invariant_of-self-2 c = record {
   index = (put_here (goal.at.invariant_of-self-2 c).After-set_given c.set_given.ensures).0;
   rows = c.self.invariant.rows ∙ ap (λ (k : Known). length (map.entries k.declarations)) c.self.view_is
       ∙ ap (λ (k : Known). length (map.entries k.declarations)) (sym (put_here (goal.at.invariant_of-self-2 c).After-set_given c.set_given.ensures).1);
+  trail = content_trail c.make_node.new.nodes.items c.set_given.new.nodes.items c.in_ok-at.at _ c.make_node.new.trail.items c.set_given.ensures
+      c.make_node.ensures.trail;
 }
 
 pub returns-clause-ok : goal.returns-clause-ok
