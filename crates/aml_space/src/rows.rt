@@ -17,11 +17,13 @@ pub struct Row<'a> {
     nodes: &'a [Node],
     /// The node of the path.
     at: usize,
+    /// How many segments the path has.
+    depth: usize,
     said: &'a Declarations,
 }
 
 impl<'a> Model for Row<'a> {
-    ghost use Rattle.std.specs.Prelude.{List, ◌<◌, length};
+    ghost use Rattle.std.specs.Prelude.{List, ◌≡◌, ◌<◌, length};
     ghost use Rattle.aml_names.specs.declared.segments.Seg.{Seg};
     ghost use Rattle.aml_space.specs.Known.{Declared, coded_row};
     ghost use Rattle.aml_space.specs.Nodes.{path_of, IsIndex};
@@ -32,7 +34,8 @@ impl<'a> Model for Row<'a> {
 
     ghost view = { λ s. (path_of s.nodes.now s.at, s.said.now) };
 
-    ghost invariant = { λ s. IsIndex s.nodes.now × (s.at < length s.nodes.now) };
+    ghost invariant = { λ s. IsIndex s.nodes.now × (s.at < length s.nodes.now)
+        × (s.depth ≡ length (path_of s.nodes.now s.at)) };
 }
 
 impl<'a> Row<'a> {
@@ -42,14 +45,19 @@ impl<'a> Row<'a> {
         requires within { at < length nodes.now }
         ensures { result ≡ (path_of nodes.now at, said.now) }
     {
-        Row { nodes, at, said }
+        Row {
+            nodes,
+            at,
+            depth: depth_of(nodes, at),
+            said,
+        }
     }
 
     /// How many segments the path has.
     pub fn depth(&self) -> usize
         ensures { result ≡ length self.now.0 }
     {
-        depth_of(self.nodes, self.at)
+        self.depth
     }
 
     /// Copies the segments of the path from one on to the front of a buffer, as many as it takes. The result is how many
@@ -59,7 +67,7 @@ impl<'a> Row<'a> {
         ensures copied { take result buffer.new ≡ take result (drop from self.now.0) }
         ensures long { length buffer.new ≡ length buffer.old }
     {
-        let rest = self.depth().saturating_sub(from);
+        let rest = self.depth.saturating_sub(from);
         let count = buffer.len().min(rest);
         let last = ancestor(self.nodes, self.at, rest - count);
         fill(self.nodes, last, count, buffer);
