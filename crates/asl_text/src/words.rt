@@ -1,11 +1,11 @@
 //! The text of names.
 #![tactic(auto, using(text_writer::proofs::PrintLaws::straight))]
 
-ghost use Rattle.std.specs.Prelude.{[], cond, map, replicate};
+ghost use Rattle.std.specs.Prelude.{[], ◌++◌, cond, map, replicate};
 ghost use Rattle.text_writer.specs.Prints.{Prints, word};
 ghost use Rattle.asl_text.specs.Texts.{separated, prefix_text, segment_text, name_text};
 
-use crate::inline::{Inline, print_separated};
+use crate::inline::Inline;
 use aml_code::{Name, Seg};
 use std::io::Write;
 use text_writer::Out;
@@ -45,11 +45,26 @@ impl Inline for Seg {
     }
 }
 
+/// A dot and a segment, put together: a deep path has many thousands of them.
+#[tactic(auto, unfolding(crate::specs::Texts::segment_text))]
+fn print_dotted<W: Write>(out: &mut Out<'_, W>, seg: Seg)
+    ensures { Prints W.contents out.old out.new (word "." ++ segment_text seg) }
+{
+    let [first, second, third, fourth] = seg.0;
+    out.put(&[b'.', first, second, third, fourth]);
+}
+
 /// Segments with a dot between two.
+#[tactic(auto, using(text_writer::proofs::PrintLaws::straight, crate::proofs::TextLaws::separations))]
 pub fn print_segments<W: Write>(out: &mut Out<'_, W>, segs: &[Seg])
     ensures { Prints W.contents out.old out.new (separated (word ".") (map segment_text segs.now)) }
 {
-    print_separated(out, b".", segs);
+    if let Some((first, rest)) = segs.split_first() {
+        first.print(out);
+        for seg in rest {
+            print_dotted(out, *seg);
+        }
+    }
 }
 
 /// A name: its prefix, and its segments with a dot between two.
