@@ -15,10 +15,10 @@ use Rattle.aml_space.specs.declared.nodes.Node.{Node}
 use Rattle.aml_space.specs.declared.scopes.Candidate.{Candidate}
 use Rattle.aml_space.specs.Predefined.{predefined}
 use Rattle.aml_space.specs.Namespace.{Namespace, kind_at, count_at, count_by, arity_at, unknown_count, first_of, decides, is_outside}
-use Rattle.aml_space.specs.Known.{Declared, namespace_in}
+use Rattle.aml_space.specs.Known.{namespace_in}
 use Rattle.aml_space.specs.Nodes.{walk, kids_of, kinds_of, declared_of, outs_of, known_by, IsShape}
 use Rattle.aml_space.specs.Candidates.{path_at, IsCandidate}
-use Rattle.aml_space.proofs.Basics.{cond_of, and_then_map}
+use Rattle.aml_space.proofs.Basics.{cond_of}
 use Rattle.aml_space.proofs.Index.{part_at, kind_at_path}
 use Rattle.aml_space.proofs.Upward.{rest_of}
 

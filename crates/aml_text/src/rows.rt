@@ -17,12 +17,19 @@ use text_writer::{Out, print_decimal};
 /// the deepest that a table of 1 MB can have is eight times as deep.
 const WINDOW: usize = 16_384;
 
+/// What each path begins with.
+fn print_root<W: Write>(out: &mut Out<'_, W>)
+    ensures { Prints W.contents out.old out.new (word "\\") }
+{
+    out.put(b"\\");
+}
+
 /// A path: `\` and its segments, with a dot between two.
 #[tactic(auto, using(text_writer::proofs::PrintLaws::straight), unfolding(crate::specs::Rows::path_text))]
 fn print_path<W: Write>(out: &mut Out<'_, W>, path: &Path)
     ensures { Prints W.contents out.old out.new (path_text path.now) }
 {
-    out.put(b"\\");
+    print_root(out);
     print_segments(out, path.segs());
 }
 
@@ -97,7 +104,7 @@ fn print_row_path<W: Write>(out: &mut Out<'_, W>, row: &Row<'_>, window: &mut [S
 {
     let depth = row.depth();
     let mut done = row.copy_segs(0, window);
-    out.put(b"\\");
+    print_root(out);
     print_segments(out, &window[..done]);
     while done < depth {
         let count = row.copy_segs(done, window);

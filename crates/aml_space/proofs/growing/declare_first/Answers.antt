@@ -1,6 +1,6 @@
-use Rattle.std.proofs.Common.{◌≡◌, Some, sym, subst, ap, ◌∙◌}
+use Rattle.std.proofs.Common.{◌≡◌, Some, subst, ap, ◌∙◌}
 use Rattle.aml_space.specs.Known.{Declared, once, with_declaration}
-use Rattle.aml_space.specs.Nodes.{walk, kids_of, known_by, IsAim, HasDeclared, IsIndex}
+use Rattle.aml_space.specs.Nodes.{known_by, IsAim, HasDeclared, IsIndex}
 use Rattle.aml_space.proofs.Walks.{node_range}
 use Rattle.aml_space.proofs.Index.{put_declared}
 use Rattle.aml_space.proofs.growing.declare_first.Goals as goal

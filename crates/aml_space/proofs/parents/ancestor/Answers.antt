@@ -1,4 +1,4 @@
-use Rattle.std.proofs.Common.{◌≡◌, ◌+◌, ◌<◌, ◌∷◌, length, sym, ap, ◌∙◌, arith, length-append}
+use Rattle.std.proofs.Common.{◌≡◌, ◌+◌, ◌∷◌, length, sym, ap, ◌∙◌, arith, length-append}
 use Rattle.aml_space.specs.Nodes.{path_of}
 use Rattle.aml_space.proofs.Named.{not_root, step_up, lower_up}
 use Rattle.aml_space.proofs.parents.ancestor.Goals as goal

@@ -2,7 +2,6 @@ use Rattle.std.proofs.Common.{◌≡◌, Some, drop, take, sym, ap, ◌∙◌}
 use Rattle.std.specs.Option.{option_and_then}
 use Rattle.std.proofs.lemmas.List.{take-append-drop, take_rest}
 use Rattle.aml_space.specs.Nodes.{walk, kids_of}
-use Rattle.aml_space.specs.Trails.{segs_of}
 use Rattle.aml_space.proofs.Walks.{node_range, walk_append}
 use Rattle.aml_space.proofs.trails.node_along.Goals as goal
 use Rattle.aml_space.proofs.trails.node_along.Goals.{After-node_at}

@@ -1,7 +1,7 @@
 use Rattle.std.specs.Prelude.{take}
 use Rattle.std.proofs.lemmas.List.{length-take, length-drop, take_all}
 use Rattle.std.proofs.Math.Seq.{take-add}
-use Rattle.aml_text.proofs.Common.{◌≡◌, ◌<◌, ◌≤◌, ◌+◌, ◌++◌, length, drop, sym, ap, subst, ◌∙◌, arith, append_assoc, Prints, word, prints_then, prints_word}
+use Rattle.aml_text.proofs.Common.{◌≤◌, ◌+◌, ◌++◌, length, drop, sym, ap, subst, ◌∙◌, arith, append_assoc, Prints, word, prints_then, prints_word}
 unfoldable use Rattle.aml_text.specs.Rows.{path_text}
 use Rattle.aml_text.proofs.RowLaws.{dotted, dotted_join}
 use Rattle.aml_text.proofs.rows.print_row_path.Goals as goal
@@ -28,9 +28,9 @@ loop-done-preserved g c =
           ∙ ap (λ text. word "\\" ++ text) (sym (ap dotted (take-add d n p) ∙ dotted_join (take d p) (take n (drop d p)) front part)))
           (prints_then f c.args.out.now c.loop-done.out c.print_segments-in-loop-done.new.out (word "\\" ++ dotted (take d p))
           (word "." ++ dotted (take n (drop d p))) inv.text
-          (prints_then f c.loop-done.out c.put-in-loop-done.new.self c.print_segments-in-loop-done.new.out (word ".") (dotted (take n (drop d p)))
-          (prints_word f c.loop-done.out c.put-in-loop-done.new.self "." c.put-in-loop-done.ensures)
-          (subst (λ segs. Prints f c.put-in-loop-done.new.self c.print_segments-in-loop-done.new.out (dotted segs)) c.copy_segs-count.ensures.copied
+          (prints_then f c.loop-done.out c.put.new.self c.print_segments-in-loop-done.new.out (word ".") (dotted (take n (drop d p)))
+          (prints_word f c.loop-done.out c.put.new.self "." c.put.ensures)
+          (subst (λ segs. Prints f c.put.new.self c.print_segments-in-loop-done.new.out (dotted segs)) c.copy_segs-count.ensures.copied
           c.print_segments-in-loop-done.ensures)));
     }
 
