@@ -4,7 +4,7 @@ ghost use Rattle.std.specs.Option.{option_or, option_and_then, option_copied};
 ghost use Rattle.aml_space.specs.Namespace.{kind_at as kind_of_path, count_at, count_by, target_count};
 ghost use Rattle.aml_space.specs.Known.{namespace_in, outlook_in, kinds_by, sure_by};
 ghost use Rattle.aml_space.specs.Runs.{target_counts, counts_by};
-ghost use Rattle.aml_space.specs.Nodes.{walk, kids_of, kinds_of, declared_of, outs_of, known_by, IsShape, IsAimed};
+ghost use Rattle.aml_space.specs.Nodes.{walk, kids_of, kinds_of, declared_of, outs_of, known_by, IsShape, IsAim, IsAimed};
 ghost use Rattle.aml_space.specs.declared.kinds.Kind.TheVariants.{Alias};
 ghost use Rattle.aml_names.specs.declared.segments.Seg.{Seg};
 ghost use Rattle.aml_space.specs.Tallies.{joined, counts_in, own_count, is_nothing};
@@ -68,7 +68,16 @@ fn target_node(nodes: &[Node], alias: Option<usize>, target: &Path) -> Option<us
     ensures node { result ≡ walk (kids_of nodes.now) 0 target.now }
     ensures within { IfSome result (λ i. i < length nodes.now) }
 {
-    let aim = aim_at(nodes, alias);
+    aimed_node(nodes, aim_at(nodes, alias), target)
+}
+
+/// The node of a path, which is kept for an Alias of it, or looked up.
+fn aimed_node(nodes: &[Node], aim: usize, target: &Path) -> Option<usize>
+    requires shape { IsShape nodes.now }
+    requires aim { IsAim nodes.now (Some (Alias target.now)) aim }
+    ensures node { result ≡ walk (kids_of nodes.now) 0 target.now }
+    ensures within { IfSome result (λ i. i < length nodes.now) }
+{
     if aim == 0 {
         return node_of(nodes, target.segs());
     }
@@ -143,25 +152,35 @@ fn or_outside(counts: Counts, out: Option<u8>) -> Counts
     }
 }
 
-/// The counts of what may stand at the target of an Alias.
-fn counts_of_target(nodes: &[Node], predefined: &Predefined, target: &Path) -> Counts
-    requires { IsShape nodes.now }
+/// The counts of what may stand at the target of an Alias, by its node.
+fn counts_of_target(
+    nodes: &[Node],
+    predefined: &Predefined,
+    node: Option<usize>,
+    target: &Path,
+) -> Counts
+    requires shape { IsShape nodes.now }
+    requires within { IfSome node (λ i. i < length nodes.now) }
+    requires node { node ≡ walk (kids_of nodes.now) 0 target.now }
     ensures { let outlook = outlook_in (known_by nodes.now) in
         result ≡ counts_in (target_counts (outlook.kinds target.now) (outlook.first.outs target.now)) }
 {
-    let node = node_of(nodes, target.segs());
     let counts = targets_met(declared_at(nodes, node), predefined.kind(target.segs()));
     or_outside(counts, out_at(nodes, node))
 }
 
-/// The counts of a kind: a method's own, an Alias's by its target.
-fn counts_of_kind(nodes: &[Node], predefined: &Predefined, kind: &Kind) -> Counts
-    requires { IsShape nodes.now }
+/// The counts of a kind: a method's own, an Alias's by its target, whose node may be kept for it.
+fn counts_of_kind(nodes: &[Node], predefined: &Predefined, aim: usize, kind: &Kind) -> Counts
+    requires shape { IsShape nodes.now }
+    requires aim { IsAim nodes.now (Some kind.now) aim }
     ensures { result ≡ counts_in (counts_by (outlook_in (known_by nodes.now)) kind.now) }
 {
     match kind {
         Kind::Method { args } => Counts::One(*args),
-        Kind::Alias { target } => counts_of_target(nodes, predefined, target),
+        Kind::Alias { target } => {
+            let at = aimed_node(nodes, aim, target);
+            counts_of_target(nodes, predefined, at, target)
+        }
         _ => Counts::One(0),
     }
 }
@@ -174,14 +193,15 @@ fn counts_of_kinds(nodes: &[Node], predefined: &Predefined, first: Counts, kinds
 {
     let mut counts = first;
     for kind in kinds {
-        counts = counts.joined(counts_of_kind(nodes, predefined, kind));
+        counts = counts.joined(counts_of_kind(nodes, predefined, 0, kind));
     }
     counts
 }
 
 /// The counts of the declared kinds of a path. Each kind is looked at only where an Alias is among them.
-fn counts_of_all(nodes: &[Node], predefined: &Predefined, said: &Declarations) -> Counts
-    requires { IsShape nodes.now }
+fn counts_of_all(nodes: &[Node], predefined: &Predefined, aim: usize, said: &Declarations) -> Counts
+    requires shape { IsShape nodes.now }
+    requires aim { IsAim nodes.now (Some said.now.kind) aim }
     ensures { result ≡ counts_in (flat_map (counts_by (outlook_in (known_by nodes.now)))
         (said.now.kind ∷ said.now.others)) }
 {
@@ -189,7 +209,7 @@ fn counts_of_all(nodes: &[Node], predefined: &Predefined, said: &Declarations) -
     if !tally.aliased {
         return tally.counts;
     }
-    let first = counts_of_kind(nodes, predefined, said.kind());
+    let first = counts_of_kind(nodes, predefined, aim, said.kind());
     counts_of_kinds(nodes, predefined, first, said.others())
 }
 
@@ -201,7 +221,7 @@ fn counts_standing(nodes: &[Node], predefined: &Predefined, standing: Option<&Ki
 {
     match standing {
         None => Counts::Nothing,
-        Some(kind) => counts_of_kind(nodes, predefined, kind),
+        Some(kind) => counts_of_kind(nodes, predefined, 0, kind),
     }
 }
 
@@ -213,6 +233,7 @@ pub(crate) fn counts_met(
     standing: Option<&Kind>,
 ) -> Counts
     requires shape { IsShape nodes.now }
+    requires aimed { IsAimed nodes.now }
     requires within { IfSome node (λ i. i < length nodes.now) }
     ensures { result ≡ counts_in (flat_map (counts_by (outlook_in (known_by nodes.now)))
         (kinds_by (option_and_then (declared_of nodes.now) node) (option_copied standing.entry))) }
@@ -220,7 +241,8 @@ pub(crate) fn counts_met(
     match declared_at(nodes, node) {
         None => counts_standing(nodes, predefined, standing),
         Some(said) => {
-            let counts = counts_of_all(nodes, predefined, said);
+            let aim = aim_at(nodes, node);
+            let counts = counts_of_all(nodes, predefined, aim, said);
             with_standing(said, counts, counts_standing(nodes, predefined, standing))
         }
     }

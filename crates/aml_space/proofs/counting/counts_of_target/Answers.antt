@@ -14,11 +14,11 @@ returns c =
     let ns = c.args.nodes.now in
     let p = c.args.target.now in
     let o = outlook_in (known_by ns) in
-    let node = c.node_of-node.result in
-    let met = c.node_of-node.ensures.node ∙ ap (walk (kids_of ns) 0) c.segs.ensures in
-    let said = c.declared_at.ensures ∙ declared_there ns c.requires p node met in
+    let node = c.args.node in
+    let met = c.requires.node in
+    let said = c.declared_at.ensures ∙ declared_there ns c.requires.shape p node met in
     c.or_outside.ensures
     ∙ ap (λ out. cond (is_nothing c.targets_met-counts.result) (One (target_count None out)) c.targets_met-counts.result)
-    (c.out_at.ensures ∙ out_of_met ns c.requires p node met)
+    (c.out_at.ensures ∙ out_of_met ns c.requires.shape p node met)
     ∙ sym (targets (o.kinds p) (o.first.outs p) c.targets_met-counts.result (c.targets_met-counts.ensures
-    ∙ (λ i. counts_in (map own_count (kinds_by (said i) ((c.kind.ensures ∙ ap predefined c.segs-2.ensures) i))))))
+    ∙ (λ i. counts_in (map own_count (kinds_by (said i) ((c.kind.ensures ∙ ap predefined c.segs.ensures) i))))))

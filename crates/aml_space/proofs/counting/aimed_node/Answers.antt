@@ -1,0 +1,8 @@
+use Rattle.std.proofs.Common.{arith}
+use Rattle.aml_space.proofs.Walks.{node_range}
+use Rattle.aml_space.proofs.counting.aimed_node.Goals as goal
+
+pub returns-clause-within : goal.returns-clause-within
+returns-clause-within c =
+    let a = c.requires.aim (omega (arith, c.if-aim-eq0.false)) in
+    node_range c.requires.shape a.0 c.args.aim a.2
