@@ -59,11 +59,12 @@ pub fn read_span(
         (es : List Entry) → StandsFor space.now es →
         GivesBody (λ nodes. nodes_view nodes.items) unknown_zero es tables method.now result }
 {
+    let path = method.path.to_path(alloc)?;
     let scope = BodyScope {
         space,
-        method: &method.path,
+        method: &path,
         unknown_zero,
     };
     let names = scope.open(alloc)?;
-    parse_body(alloc, bytes, &names, &method.path)
+    parse_body(alloc, bytes, &names, &path)
 }

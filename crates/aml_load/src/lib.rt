@@ -10,17 +10,16 @@ mod laws;
 mod loading;
 mod roles;
 mod runner;
-mod scopes;
 mod standing;
 mod standing_laws;
 mod used;
 mod uses;
 mod walking;
 
+pub use aml_set::SharedPath;
 pub use bodies::{read_body, read_span};
 pub use faults::LoadFault;
 pub use laws::{loads_forward, loads_in_text_order, loads_one_way, loads_strictly};
 pub use loading::{load, load_any_run, load_tables};
-pub use scopes::SharedPath;
 pub use standing::{StandingTerm, standing_terms};
 pub use standing_laws::terms_stand_as_declared;

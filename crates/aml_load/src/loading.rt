@@ -13,14 +13,13 @@ ghost use Rattle.aml_set.specs.Code.{AreCodes, AreShort};
 ghost use Rattle.aml_set.specs.Views.{codes_view, table_codes, table_dumps};
 
 use crate::faults::LoadFault;
-use crate::scopes::SharedPath;
 use crate::used::Use;
 use crate::uses::Site;
 use crate::walking::Progress;
 use aml_code::{Locals, NoMemory, Node, Path, place};
 use aml_names::Arity;
 use aml_parse::parse_module;
-use aml_set::{Loaded, Table, TableSet};
+use aml_set::{Loaded, SharedPath, Table, TableSet};
 use aml_space::{BodyNames, BodyScope, Space};
 use std::alloc::Global;
 

@@ -13,7 +13,6 @@ ghost use Rattle.aml_load.specs.Runner.{IsFlat, Asks, IsSite, Comes, opens, span
 
 use crate::faults::LoadFault;
 use crate::roles::{kind_of, role_of};
-use crate::scopes::SharedPath;
 use crate::uses::{Site, add_names};
 use crate::walking::Progress;
 use aml_code::{
@@ -21,6 +20,7 @@ use aml_code::{
     listed_row,
 };
 use aml_parse::{next_position, read_step};
+use aml_set::SharedPath;
 use aml_space::{BodyNames, BodyScope, Kind, SpaceFault};
 use std::alloc::Global;
 

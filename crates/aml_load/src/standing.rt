@@ -11,10 +11,10 @@ ghost use Rattle.aml_load.specs.Walking.{at_site, Holds};
 use crate::faults::LoadFault;
 use crate::loading::first_progress;
 use crate::roles::{kind_of, role_of};
-use crate::scopes::SharedPath;
 use crate::uses::{Site, add_names};
 use crate::walking::Progress;
 use aml_code::{NoMemory, Node, Part, Path, Role, Tail, last_name};
+use aml_set::SharedPath;
 use std::alloc::Global;
 
 /// A term of a table outside the methods' bodies, and where it stands.

@@ -4,10 +4,10 @@ ghost use Rattle.aml_code.specs.View.{node_view, nodes_view, part_view, parts_vi
 ghost use Rattle.aml_load.specs.Loading.{is_argument, kinds_in, in_declaration, declares_by, uses_in, all_uses, part_uses, parts_uses, tail_uses, fields_uses, field_uses, term_uses, use_of};
 ghost use Rattle.aml_load.specs.Walking.{at_site};
 
-use crate::scopes::SharedPath;
 use crate::used::Use;
 use aml_code::{Field, Group, Link, NoMemory, Node, Part, PartKind, Tail, listed_row};
 use aml_names::Name;
+use aml_set::SharedPath;
 
 /// Where a term stands.
 #[derive(Drop)]

@@ -11,13 +11,12 @@ ghost use Rattle.aml_load.specs.Walking.{at_site, Gives, GivesIn, IsDeclared, Wa
 
 use crate::faults::LoadFault;
 use crate::roles::{kind_of, role_of};
-use crate::scopes::SharedPath;
 use crate::used::Use;
 use crate::uses::{Site, add_names};
 use aml_code::{
-    Field, Name, NoMemory, Node, Part, Path, Role, Seg, Tail, last_byte, last_name, place,
+    Field, Name, NoMemory, Node, Part, Path, Role, Seg, Tail, front_of, last_byte, last_name, place,
 };
-use aml_set::Method;
+use aml_set::{Method, MethodPath, SharedPath};
 use aml_space::{Kind, Space, SpaceFault};
 use std::alloc::Global;
 
@@ -186,13 +185,30 @@ impl Progress {
         ensures { Walks self.old self.new result (λ l. entry_at (at_site site.now) l method.path
             (method_entry (at_site site.now) method.path method.flags (method.start, method.len))) }
     {
-        let path = method.path.clone()?;
+        let path = method.path.to_path(self.alloc)?;
         let kind = Kind::Method {
             args: method.flags % 8,
         };
         self.declare_path(site, path, kind)?;
         self.methods.push(method)?;
         Ok(())
+    }
+
+    /// The path of a method by its name. `AboveRoot` where the name leads nowhere.
+    #[tactic(auto, unfolding(crate::specs::Loading::place_at))]
+    fn method_path(&self, site: &Site<'_>, name: Option<&Name>) -> Result<MethodPath, LoadFault>
+        ensures { Gives (λ p. p) result (place_at (at_site site.now) (option_copied name.entry)) }
+    {
+        match name {
+            None => Err(LoadFault::Space(site.table, SpaceFault::AboveRoot)),
+            Some(name) => match front_of(site.scope.path(), name) {
+                None => Err(LoadFault::Space(site.table, SpaceFault::AboveRoot)),
+                Some(front) => {
+                    let scope = site.scope.share()?;
+                    Ok(MethodPath::new(scope, front, name.segs.clone()?))
+                }
+            },
+        }
     }
 
     /// Declares a method, however many there are.
@@ -207,7 +223,7 @@ impl Progress {
             new_at (at_site site.now) l (last_label None (parts_view parts.now)) (λ p.
             method_entry (at_site site.now) p (byte_of (parts_view parts.now)) (body_span (tail_view tail.now)))) }
     {
-        let path = self.own_path(site, last_name(parts))?;
+        let path = self.method_path(site, last_name(parts))?;
         let (start, len) = body_span(tail);
         self.declare_body(
             site,

@@ -5,8 +5,10 @@
 
 mod loaded;
 mod methods;
+mod paths;
 mod tables;
 
 pub use loaded::{Loaded, rebuild, span_of};
 pub use methods::Method;
+pub use paths::{MethodPath, SharedPath};
 pub use tables::{Table, TableSet};
