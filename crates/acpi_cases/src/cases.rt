@@ -121,9 +121,7 @@ impl Cases {
                 self.names().push_known(alloc, out, line)
             }
             "rows" => spaces::push_rows(alloc, out, &self.space),
-            "row_at" => {
-                spaces::push_row_at(alloc, out, &self.space, number_of(line.words))
-            }
+            "row_at" => { spaces::push_row_at(alloc, out, &self.space, number_of(line.words)) }
             "place" | "find" | "lead" | "search" | "arity" | "arity_unknown_zero" => {
                 self.names().push_lead(alloc, out, line)
             }
