@@ -13,9 +13,9 @@ use asl_text::{print_indent, print_segments};
 use std::io::Write;
 use text_writer::{Out, print_decimal};
 
-/// How many segments of a path are printed at a time, 64 KB of them. A deeper path is gone up once for each so many, and
-/// the deepest that a table of 1 MB can have is eight times as deep.
-const WINDOW: usize = 16_384;
+/// How many segments of a path are printed at a time, 512 KB of them on the stack: a little more than the deepest path has
+/// that 510 Devices of 255 segments make. A deeper path would be gone up once for each so many.
+const WINDOW: usize = 131_072;
 
 /// What each path begins with.
 fn print_root<W: Write>(out: &mut Out<'_, W>)
