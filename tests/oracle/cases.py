@@ -356,6 +356,9 @@ class Rows:
         """How a path's kind is found: a declared path has a segment at least, and so a comparison."""
         return [*self.row_kind(words, _), "few comparisons"]
 
+    def row_locals(self, _, __):
+        return ["some" if self.declared else "none"]
+
     def row_rows(self, _, __):
         return [row_text(*row) for row in self.names.rows()]
 

@@ -120,6 +120,7 @@ impl Cases {
             "count" | "kind" | "counted" | "declared" => {
                 self.names().push_known(alloc, out, line)
             }
+            "locals" => spaces::push_locals(out, &self.locals),
             "rows" => spaces::push_rows(alloc, out, &self.space),
             "row_at" => { spaces::push_row_at(alloc, out, &self.space, number_of(line.words)) }
             "place" | "find" | "lead" | "search" | "arity" | "arity_unknown_zero" => {

@@ -234,6 +234,15 @@ fn push_count(out: &mut String, count: Option<u8>) -> Result<(), AllocError> {
     }
 }
 
+/// Whether there are locals.
+pub fn push_locals(out: &mut String, locals: &Locals) -> Result<(), AllocError> {
+    out.push_str(if locals.is_empty() {
+        "  none\n"
+    } else {
+        "  some\n"
+    })
+}
+
 /// The declared paths of a namespace in their order, each with its kind.
 pub fn push_rows(alloc: Global, out: &mut String, space: &Space) -> Result<(), AllocError> {
     let rows = space.rows(alloc)?;
