@@ -65,6 +65,6 @@ pub fn read_span(
         method: &path,
         unknown_zero,
     };
-    let names = scope.open(alloc)?;
+    let names = scope.open();
     parse_body(alloc, bytes, &names, &path)
 }

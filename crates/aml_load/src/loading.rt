@@ -121,7 +121,7 @@ fn opened_for<'a>(
         method: scope,
         unknown_zero,
     }
-    .open(alloc)?;
+    .open();
     Ok(Opened {
         scope,
         unknown_zero,
@@ -223,6 +223,7 @@ fn load_each<'a>(
 {
     let mut progress = first_progress(alloc, givens)?;
     read_tables(&mut progress, any_run, &mut tables)?;
+    progress.space.settle()?;
     check_uses(
         alloc,
         &progress.space,

@@ -168,7 +168,7 @@ impl Progress {
             unknown_zero: false,
         };
         let names = RunNames {
-            names: scope.open(self.alloc)?,
+            names: scope.open(),
         };
         match read_step(
             self.alloc,

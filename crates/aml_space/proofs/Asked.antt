@@ -1,26 +1,23 @@
 -- Which depths of a scope have to be asked. Where a node has bare children alone, nothing is known of a segment there
 -- (`silent_at`, `silent_past`); such depths are passed over (`next_further`, `next_past`), and no candidate of a segment
 -- stands there (`none_given_below`, `none_met_below`).
-use Rattle.std.specs.Prelude.{slice_get, ◌||◌}
+use Rattle.std.specs.Prelude.{◌||◌}
 use Rattle.std.proofs.Common.{◌≡◌, ℕ, ◌+◌, ◌<◌, ◌≤◌, false, List, [], ◌∷◌, ◌++◌, length, take, get_or, Option, Some, None, IfSome, is_some, inl, inr, refl, sym}
-use Rattle.std.proofs.Common.{ap, subst, ◌∙◌, arith, length-append}
+use Rattle.std.proofs.Common.{ap, subst, ◌∙◌, arith}
 use Rattle.std.specs.FinMap as map
 use Rattle.std.specs.FinSet as set
 use Rattle.std.proofs.lemmas.Bool.{cases_lt}
-use Rattle.std.proofs.lemmas.Option.{slice_get_past}
 use Rattle.std.specs.Option.{option_and_then, option_or}
 use Rattle.aml_names.specs.declared.segments.Seg.{Seg}
 use Rattle.aml_names.specs.Paths.{PathSet}
 use Rattle.aml_children.specs.Children.{child_in}
 use Rattle.aml_space.specs.declared.nodes.Node.{Node}
-use Rattle.aml_space.specs.declared.scopes.Level.{Level}
 use Rattle.aml_space.specs.Nodes.{walk, Content, kids_of, content_of, part_by, known_by, IsShape}
 use Rattle.aml_space.specs.Known.{declared_kind, namespace_in}
 use Rattle.aml_space.specs.Namespace.{Namespace, kind_at, decides, is_outside}
 use Rattle.aml_space.specs.Predefined.{predefined}
-use Rattle.aml_space.specs.Candidates.{IsAlong, IsBare, HasBareChildren, IsSilent, IsNext, AreAsked}
-use Rattle.aml_space.proofs.Along.{along_past}
-use Rattle.aml_space.proofs.Basics.{read_front, read_last, alone}
+use Rattle.aml_space.specs.Candidates.{IsBare, HasBareChildren, IsSilent, IsNext}
+use Rattle.aml_space.proofs.Basics.{alone}
 use Rattle.aml_space.proofs.Walks.{walk_push}
 use Rattle.aml_space.proofs.Index.{part_at}
 use Rattle.aml_space.proofs.Meaning.{predefined_deep}
@@ -79,33 +76,6 @@ module _ (n : Namespace) (path : List Seg) where
       | inr up ↦ is.silent e more (omega (arith, up))
     ];
   }
-
-  pub asked_more : (levels new : List Level) (l : Level) → AreAsked n path levels → IsNext n path (length levels) l.asked → new ≡ levels ++ l ∷ [] →
-      AreAsked n path new
-  asked_more levels new l so_far next is d = subst (λ ls. IfSome (slice_get ls d) (λ (m : Level). IsNext n path d m.asked)) (sym is)
-      (elim (cases_lt d (length levels)) [
-        | inl below ↦ subst (λ o. IfSome o (λ (m : Level). IsNext n path d m.asked)) (sym (read_front levels (l ∷ []) d below)) (so_far d)
-        | inr past ↦ elim (cases_lt (length levels) d) [
-          | inl far ↦ subst (λ o. IfSome o (λ (m : Level). IsNext n path d m.asked))
-              (sym (slice_get_past (levels ++ l ∷ []) d (omega (arith, far, length-append levels (l ∷ []))))) tt
-          | inr near ↦
-              let here : d ≡ length levels = omega (arith, past, near) in
-              subst (λ o. IfSome o (λ (m : Level). IsNext n path d m.asked)) (sym (ap (slice_get (levels ++ l ∷ [])) here ∙ read_last levels l))
-              (subst (λ e. IsNext n path e l.asked) (sym here) next)
-        ]
-      ])
-
--- from any depth of a scope up, the next is that of its level, else that of the last one
-pub next_of_level : (ns : List Node) (path : List Seg) (levels : List Level) → IsShape ns → IsAlong ns path levels →
-    AreAsked (namespace_in (known_by ns)) path levels → (d m : ℕ) → d ≤ length path → m ≤ d → (m < d → length levels ≤ m + 1) → (l : Level) →
-    slice_get levels m ≡ Some l →
-    IsNext (namespace_in (known_by ns)) path d l.asked
-next_of_level ns path levels shape along asked d m within less last l at =
-    let is : IsNext (namespace_in (known_by ns)) path m l.asked =
-    subst (λ o. IfSome o (λ (l : Level). IsNext (namespace_in (known_by ns)) path m l.asked)) at (asked m) in
-    next_past (namespace_in (known_by ns)) path m d l.asked less is
-    (λ e behind to. silent_past ns shape (take e path) (along_past ns path levels e along (omega (arith, to, within))
-    (omega (arith, behind, last (omega (arith, behind, to))))))
 
 -- what silence says of a segment
 module _ (n : Namespace) (path segment : List Seg) (one : length segment ≡ 1) where

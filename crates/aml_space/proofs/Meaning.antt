@@ -79,15 +79,15 @@ placed n u locals p = by (set.contains locals p) refl (kind_at n p) refl (n.outs
     by false a None e (Some x) f = ap (λ b. cond b (Some 0) (count_at n p)) a ∙ (λ i. count_by n (e i) (f i))
     by false a None e None f = refl
 
--- the tests of a candidate are those of its path
-module _ (ns : List Node) (locals : PathSet) (scope segment : List Seg) (shape : IsShape ns) (c : Candidate) (is : IsCandidate ns locals scope segment c) where
-  pub meant_path : (c.local || is_some (option_or (option_and_then (kinds_of ns) c.node) (predefined (take c.depth scope ++ segment))))
+-- the tests of a candidate that is no local are those of its path
+module _ (ns : List Node) (locals : PathSet) (scope segment : List Seg) (shape : IsShape ns) (c : Candidate) (is : IsCandidate ns locals scope segment c)
+    (other : c.local ≡ false) where
+  pub meant_path : is_some (kind_at (namespace_in (known_by ns)) (take c.depth scope ++ segment))
       ≡ decides (namespace_in (known_by ns)) locals (take c.depth scope ++ segment)
-  meant_path =
-      λ i. (is.local i || is_some (kind_of_met ns shape (take c.depth scope ++ segment) c.node is.node (predefined (take c.depth scope ++ segment)) refl i))
+  meant_path = ap (λ b. b || is_some (kind_at (namespace_in (known_by ns)) (take c.depth scope ++ segment))) (sym other ∙ is.local)
 
   pub outside_path : is_some (option_and_then (outs_of ns) c.node) ≡ is_outside (namespace_in (known_by ns)) (take c.depth scope ++ segment)
-  outside_path = ap is_some (out_of_met ns shape (take c.depth scope ++ segment) c.node is.node)
+  outside_path = ap is_some (out_of_met ns shape (take c.depth scope ++ segment) c.node (is.node other))
 
 -- the depth of the first that an External names
 pub outside_depth : (outside : Option Candidate) (out : Bool) (c : Candidate)

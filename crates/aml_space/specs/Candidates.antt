@@ -1,8 +1,7 @@
 -- A stepping stone of the proofs: the paths that a name of one segment may mean in a scope, by their nodes.
-use Rattle.std.specs.Prelude.{◌≡◌, ℕ, zero, suc, ◌<◌, ◌≤◌, ◌+◌, Bool, false, ◌==◌, List, [], ◌∷◌, ◌++◌, length, take}
+use Rattle.std.specs.Prelude.{◌≡◌, ℕ, zero, suc, ◌<◌, ◌≤◌, Bool, false, nat_le, ◌==◌, cond, List, [], ◌∷◌, ◌++◌, length, take}
 use Rattle.std.specs.Prelude.{slice_get}
 use Rattle.std.specs.Prelude.{Option, Some, None, IfSome}
-use Rattle.std.specs.Option.{option_map}
 use Rattle.std.specs.FinSet as set
 use Rattle.aml_names.specs.declared.segments.Seg.{Seg}
 use Rattle.aml_names.specs.Paths.{PathSet}
@@ -11,7 +10,8 @@ use Rattle.aml_space.specs.declared.nodes.Node.{Node}
 use Rattle.aml_space.specs.declared.scopes.Scope.{Scope}
 use Rattle.aml_space.specs.declared.scopes.Level.{Level}
 use Rattle.aml_space.specs.declared.scopes.Candidate.{Candidate}
-use Rattle.aml_space.specs.Nodes.{walk, kids_of, declared_of, outs_of, givens_of, known_by, IsShape, IsAimed}
+use Rattle.aml_space.specs.declared.settling.Settled.{Settled}
+use Rattle.aml_space.specs.Nodes.{walk, kids_of, declared_of, outs_of, givens_of, known_by, IsIndex}
 use Rattle.aml_space.specs.Known.{namespace_in, outlook_in}
 use Rattle.aml_space.specs.Runs.{Outlook, counts_met, arity_met, first_agreed, agreed_or}
 use Rattle.aml_space.specs.Namespace.{Namespace, first_given, arity_at, first_of, is_outside}
@@ -25,12 +25,6 @@ names_of s = namespace_in (known_by s.nodes.now)
 -- and what may stand at each path there
 abbrev pub outlook_at : Scope → Outlook
 outlook_at s = outlook_in (known_by s.nodes.now)
-
--- the levels of a path have the nodes of its fronts
-abbrev pub IsAlong : List Node → List Seg → List Level → Type 0
-IsAlong ns path levels =
-    (d : ℕ) → d ≤ length path →
-    option_map (λ (l : Level). l.node) (slice_get levels d) ≡ walk (kids_of ns) 0 (take d path)
 
 -- a node has no declaration, no External and no given count
 pub record IsBare (ns : List Node) (i : ℕ) : Type 0 where
@@ -53,17 +47,32 @@ pub record IsNext (n : Namespace) (path : List Seg) (from asked : ℕ) : Type 0 
   pub within : asked ≤ from
   pub silent : (d : ℕ) → asked < d → d ≤ from → IsSilent n (take d path)
 
--- each level has the next depth to be asked from its own up
-abbrev pub AreAsked : Namespace → List Seg → List Level → Type 0
-AreAsked n path levels = (d : ℕ) → IfSome (slice_get levels d) (λ (l : Level). IsNext n path d l.asked)
+-- what is kept of the node to which a front of a path leads: its length, and the node of the next one to be asked
+pub record IsSettled (ns : List Node) (path : List Seg) (d : ℕ) (s : Settled) : Type 0 where
+  pub depth : s.depth ≡ d
+  pub asked : (m : ℕ) × IsNext (namespace_in (known_by ns)) path d m × (walk (kids_of ns) 0 (take m path) ≡ Some s.asked)
 
--- a scope has the levels of its path
+-- that of some first nodes
+abbrev pub AreSettled : List Node → List Settled → Type 0
+AreSettled ns settled = (i : ℕ) → IfSome (slice_get settled i) (λ s. (path : List Seg) (d : ℕ) → d ≤ length path →
+    walk (kids_of ns) 0 (take d path) ≡ Some i → IsSettled ns path d s)
+
+-- a level of a scope: a front of its path, and the node to which this leads
+pub record IsLevel (s : Scope) (l : Level) : Type 0 where
+  pub within : l.depth ≤ length s.path.now
+  pub led : walk (kids_of s.nodes.now) 0 (take l.depth s.path.now) ≡ Some l.node
+
+-- behind the last level of a scope the index has no nodes
 pub record IsScope (s : Scope) : Type 0 where
-  pub shape : IsShape s.nodes.now
-  pub aimed : IsAimed s.nodes.now
-  pub along : IsAlong s.nodes.now s.path.now s.levels.items
-  pub long : length s.levels.items ≤ length s.path.now + 1
-  pub asked : AreAsked (names_of s) s.path.now s.levels.items
+  pub index : IsIndex s.nodes.now
+  pub settled : AreSettled s.nodes.now s.settled.now
+  pub last : IsLevel s s.last
+  pub past : (d : ℕ) → s.last.depth < d → d ≤ length s.path.now → walk (kids_of s.nodes.now) 0 (take d s.path.now) ≡ None
+
+-- the next level to be asked, from a depth up
+pub record IsNextFrom (s : Scope) (from : ℕ) (l : Level) : Type 0 where
+  pub level : IsLevel s l
+  pub next : IsNext (names_of s) s.path.now from l.depth
 
 -- the path of a candidate
 abbrev pub path_at : List Seg → List Seg → Candidate → List Seg
@@ -72,8 +81,13 @@ path_at scope segment c = take c.depth scope ++ segment
 -- a candidate of a segment in a scope, with its node
 pub record IsCandidate (ns : List Node) (locals : PathSet) (scope segment : List Seg) (c : Candidate) : Type 0 where
   pub within : c.depth ≤ length scope
-  pub node : c.node ≡ walk (kids_of ns) 0 (take c.depth scope ++ segment)
+  pub node : c.local ≡ false → c.node ≡ walk (kids_of ns) 0 (take c.depth scope ++ segment)
   pub local : c.local ≡ set.contains locals (take c.depth scope ++ segment)
+
+-- the nearest local, where it stands at a depth or further down
+abbrev pub local_from : Option ℕ → ℕ → Option ℕ
+local_from None d = None
+local_from (Some n) d = cond (nat_le d n) (Some n) None
 
 -- whether the nearest local stands at a depth
 abbrev pub stands_at : Option ℕ → ℕ → Bool

@@ -18,6 +18,7 @@ mod rows;
 mod runs;
 mod scopes;
 mod searching;
+mod settling;
 mod spaces;
 mod tallies;
 mod trails;

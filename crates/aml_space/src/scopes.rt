@@ -1,7 +1,7 @@
 //! Scopes in the index, and what a name of one segment means in them.
 ghost use Rattle.std.specs.Prelude.{◌&&◌, not};
 ghost use Rattle.std.specs.List.{find};
-ghost use Rattle.std.specs.Prelude.{◌≡◌, ◌||◌, ℕ, ◌+◌, ◌<◌, ◌≤◌, ◌++◌, List, cond, length, take, Some, None, is_some};
+ghost use Rattle.std.specs.Prelude.{◌≡◌, true, false, ◌+◌, ◌-◌, ◌<◌, ◌≤◌, ◌++◌, cond, length, take, Some, None, is_some};
 ghost use Rattle.std.specs.Prelude.{IfOk, IfSome};
 ghost use Rattle.std.specs.Bool.{OnFalse, OnTrue};
 ghost use Rattle.std.specs.Option.{option_or, option_and_then, option_copied, option_map};
@@ -10,40 +10,44 @@ ghost use Rattle.aml_names.specs.declared.segments.Seg.{Seg};
 ghost use Rattle.aml_names.specs.Searching.{upward};
 ghost use Rattle.aml_space.specs.Predefined.{predefined};
 ghost use Rattle.aml_space.specs.Namespace.{first_of, first_given, count_at, kind_at as kind_of_path};
-ghost use Rattle.aml_space.specs.Nodes.{walk, kids_of, kinds_of, outs_of, known_by, IsShape, IsAimed};
+ghost use Rattle.aml_space.specs.Nodes.{walk, kids_of, outs_of, known_by, IsShape, IsIndex};
+ghost use Rattle.aml_space.specs.Trails.{IsTrail};
 ghost use Rattle.aml_space.specs.Known.{namespace_in};
 ghost use Rattle.aml_space.specs.Runs.{counts_met as met, counts_of, is_known};
 ghost use Rattle.aml_space.specs.Tallies.{counts_in};
-ghost use Rattle.aml_space.specs.Candidates.{path_at, stands_at, names_of, outlook_at, IsAlong, IsBare};
-ghost use Rattle.aml_space.specs.Candidates.{HasBareChildren};
-ghost use Rattle.aml_space.specs.Candidates.{IsNext, AreAsked, IsScope, IsCandidate, agreed_among, above};
+ghost use Rattle.aml_space.specs.Candidates.{path_at, local_from, names_of, outlook_at, agreed_among, above, IsBare, HasBareChildren};
+ghost use Rattle.aml_space.specs.Candidates.{AreSettled, IsLevel, IsScope, IsNextFrom, IsCandidate};
 
 use crate::counting::{count_met, counts_met, kind_met, sure_met};
 use crate::kinds::Kind;
 use crate::nodes::Node;
+use crate::parents::link;
 use crate::predefined::Predefined;
+use crate::settling::Settled;
 use crate::tallies::Counts;
+use crate::trails::{Step, reach_along};
 use crate::walking::{child, children_at, given_at, kind_at, node_from, out_at};
 use aml_names::{Locals, NoMemory, Path, Seg};
 use std::alloc::Global;
 
-/// A scope, with the nodes of its path and of its parents.
+/// A scope, with the way up from it.
 #[derive(Drop)]
 pub(crate) struct Scope<'a> {
     pub nodes: &'a [Node],
+    /// Where the search goes on from each node, if this is kept.
+    pub settled: &'a [Settled],
     pub predefined: &'a Predefined,
     pub path: &'a Path,
-    /// The level of the first `n` segments of the path at `n`, as far as they stand in the index.
-    pub levels: Vec<Level>,
+    /// The last level of the path that stands in the index.
+    pub last: Level,
 }
 
-/// The scope's path or a parent of it.
+/// The scope's path or a parent of it, which stands in the index.
 #[derive(Clone, Copy)]
 pub(crate) struct Level {
     pub node: usize,
-    /// The nearest depth from its own up whose segments have to be asked for: the others have no content. The root's is
-    /// always asked, since it has the predefined names.
-    pub asked: usize,
+    /// How many segments of the scope lead there.
+    pub depth: usize,
 }
 
 /// A path that a name of one segment may mean in a scope.
@@ -53,31 +57,110 @@ pub(crate) struct Candidate {
     pub depth: usize,
     /// The path's node, if it has one.
     pub node: Option<usize>,
-    /// Whether the path is one of the locals.
+    /// Whether the path is one of the locals, whose node isn't looked for.
     pub local: bool,
 }
 
 impl<'a> Scope<'a> {
-    /// Walks the scope once.
+    /// Finds where the path ends in the index.
     pub(crate) fn new(
-        alloc: Global,
         nodes: &'a [Node],
+        settled: &'a [Settled],
         predefined: &'a Predefined,
+        trail: &[Step],
         path: &'a Path,
-    ) -> Result<Scope<'a>, NoMemory>
-        requires shape { IsShape nodes.now }
-        requires aimed { IsAimed nodes.now }
-        ensures scope { IfOk result IsScope }
-        ensures nodes { IfOk result (λ scope. scope.nodes.now ≡ nodes.now) }
-        ensures path { IfOk result (λ scope. scope.path.now ≡ path.now) }
+    ) -> Scope<'a>
+        requires index { IsIndex nodes.now }
+        requires settled { AreSettled nodes.now settled.now }
+        requires trail { IsTrail nodes.now trail.now }
+        ensures scope { IsScope result }
+        ensures nodes { result.nodes.now ≡ nodes.now }
+        ensures path { result.path.now ≡ path.now }
     {
-        let levels = levels_along(alloc, nodes, path.segs())?;
-        Ok(Scope {
+        let reach = reach_along(nodes, trail, path.segs());
+        Scope {
             nodes,
+            settled,
             predefined,
             path,
-            levels,
+            last: Level {
+                node: reach.node,
+                depth: reach.known,
+            },
+        }
+    }
+
+    /// The next level up.
+    fn above(&self, level: Level) -> Level
+        requires scope { IsScope self.now }
+        requires level { IsLevel self.now level }
+        requires deep { 0 < level.depth }
+        ensures level { IsLevel self.now result }
+        ensures depth { result.depth + 1 ≡ level.depth }
+    {
+        let (parent, _) = link(self.nodes, level.node);
+        Level {
+            node: parent,
+            depth: level.depth - 1,
+        }
+    }
+
+    /// The nearest level from this one up that has to be asked, as it is kept.
+    fn settled_from(&self, level: Level) -> Option<Level>
+        requires scope { IsScope self.now }
+        requires level { IsLevel self.now level }
+        ensures { IfSome result (IsNextFrom self.now level.depth) }
+    {
+        let here = self.settled.get(level.node)?;
+        let there = self.settled.get(here.asked)?;
+        Some(Level {
+            node: here.asked,
+            depth: there.depth,
         })
+    }
+
+    /// The same by a look at each level.
+    fn climb(&self, level: Level) -> Level
+        requires scope { IsScope self.now }
+        requires level { IsLevel self.now level }
+        ensures { IsNextFrom self.now level.depth result }
+    {
+        let mut at = level;
+        while at.depth > 0 && !has_to_be_asked(self.nodes, at.node) {
+            at = self.above(at);
+        }
+        at
+    }
+
+    /// The nearest level from this one up that has to be asked.
+    fn next_asked(&self, level: Level) -> Level
+        requires scope { IsScope self.now }
+        requires level { IsLevel self.now level }
+        ensures { IsNextFrom self.now level.depth result }
+    {
+        match self.settled_from(level) {
+            Some(next) => next,
+            None => self.climb(level),
+        }
+    }
+
+    /// The first level that has to be asked, from the scope up.
+    fn first_asked(&self) -> Level
+        requires { IsScope self.now }
+        ensures { IsNextFrom self.now (length self.now.path.now) result }
+    {
+        self.next_asked(self.last)
+    }
+
+    /// The next one, above a level.
+    fn asked_above(&self, level: Level) -> Level
+        requires scope { IsScope self.now }
+        requires level { IsLevel self.now level }
+        requires deep { 0 < level.depth }
+        ensures { IsNextFrom self.now (level.depth - 1) result }
+    {
+        let above = self.above(level);
+        self.next_asked(above)
     }
 
     /// Each candidate is a child of one of the scope's nodes. The first one that decides is meant, else the first one
@@ -98,20 +181,41 @@ impl<'a> Scope<'a> {
     {
         let nearest = locals.nearest(alloc, self.path, segment[0])?;
         let mut outside: Option<Candidate> = None;
-        let mut depth = self.next_depth(nearest, self.path.segs().len());
-        'depths: loop {
-            let node = self.node_at(depth, segment);
-            let local = stands(nearest, depth);
-            let here = Candidate { depth, node, local };
-            if self.is_meant(segment, here) {
+        let mut level = self.first_asked();
+        'levels: loop {
+            if let Some(local) = nearer(nearest, level.depth) {
+                return Ok(Some(Candidate {
+                    depth: local,
+                    node: None,
+                    local: true,
+                }));
+            }
+            let here = Candidate {
+                depth: level.depth,
+                node: self.node_at(segment, level),
+                local: false,
+            };
+            if self.has_kind(segment, here) {
                 return Ok(Some(here));
             }
             outside = self.first_outside(outside, here);
-            if depth == 0 {
+            if level.depth == 0 {
                 return Ok(outside);
             }
-            depth = self.next_depth(nearest, depth - 1);
+            level = self.asked_above(level);
         }
+    }
+
+    /// The node of a segment at a level.
+    fn node_at(&self, segment: &[Seg], level: Level) -> Option<usize>
+        requires scope { IsScope self.now }
+        requires level { IsLevel self.now level }
+        requires one { length segment.now ≡ 1 }
+        ensures node { result ≡ walk (kids_of self.now.nodes.now) 0 (take level.depth self.now.path.now
+            ++ segment.now) }
+        ensures inside { IfSome result (λ at. at < length self.now.nodes.now) }
+    {
+        child(self.nodes, level.node, segment[0])
     }
 
     /// The candidate to which a segment leads whatever runs: the first that has a kind, unless a run may be without it
@@ -149,7 +253,7 @@ impl<'a> Scope<'a> {
             && is_some (find (is_known (names_of self.now)) (above self.now.path.now segment.now here.depth)))) }
     {
         self.has_kind(segment, here)
-            && !self.is_sure_at(segment, here.depth)
+            && !self.is_sure(segment, here)
             && self.is_known_above(segment, here.depth)
     }
 
@@ -166,6 +270,20 @@ impl<'a> Scope<'a> {
         kind_met(self.nodes, here.node, self.standing(segment, here.depth)).is_some()
     }
 
+    /// The first level that has to be asked, above a depth.
+    fn asked_below(&self, depth: usize) -> Level
+        requires scope { IsScope self.now }
+        requires deep { 0 < depth }
+        requires within { depth ≤ length self.now.path.now }
+        ensures { IsNextFrom self.now (depth - 1) result }
+    {
+        let mut level = self.first_asked();
+        while level.depth >= depth {
+            level = self.asked_above(level);
+        }
+        level
+    }
+
     /// Whether a candidate further up than a depth has a kind, or an External names it.
     fn is_known_above(&self, segment: &[Seg], below: usize) -> bool
         requires scope { IsScope self.now }
@@ -177,82 +295,63 @@ impl<'a> Scope<'a> {
         if below == 0 {
             return false;
         }
-        let mut depth = self.next_asked(below - 1);
-        'depths: loop {
-            if self.is_known_at(segment, depth) {
+        let mut level = self.asked_below(below);
+        'levels: loop {
+            if self.is_known_at(segment, level) {
                 return true;
             }
-            if depth == 0 {
+            if level.depth == 0 {
                 return false;
             }
-            depth = self.next_asked(depth - 1);
+            level = self.asked_above(level);
         }
     }
 
     /// Whether a candidate has a kind, or an External names it.
-    fn is_known_at(&self, segment: &[Seg], depth: usize) -> bool
+    fn is_known_at(&self, segment: &[Seg], level: Level) -> bool
         requires scope { IsScope self.now }
+        requires level { IsLevel self.now level }
         requires one { length segment.now ≡ 1 }
-        requires within { depth ≤ length self.now.path.now }
-        ensures { result ≡ is_known (names_of self.now) (take depth self.now.path.now ++ segment.now) }
+        ensures { result ≡ is_known (names_of self.now) (take level.depth self.now.path.now ++ segment.now) }
     {
-        let node = self.node_at(depth, segment);
+        let node = self.node_at(segment, level);
         let here = Candidate {
-            depth,
+            depth: level.depth,
             node,
             local: false,
         };
         self.has_kind(segment, here) || out_at(self.nodes, node).is_some()
     }
 
-    /// The node of a segment at a depth.
-    fn node_at(&self, depth: usize, segment: &[Seg]) -> Option<usize>
+    /// The node of a front of the path, if it stands in the index.
+    fn front_node(&self, depth: usize) -> Option<usize>
         requires scope { IsScope self.now }
-        requires one { length segment.now ≡ 1 }
         requires within { depth ≤ length self.now.path.now }
-        ensures node { result ≡ walk (kids_of self.now.nodes.now) 0 (take depth self.now.path.now ++ segment.now) }
-        ensures inside { IfSome result (λ at. at < length self.now.nodes.now) }
+        ensures { result ≡ walk (kids_of self.now.nodes.now) 0 (take depth self.now.path.now) }
     {
-        let level = self.levels.get(depth)?;
-        child(self.nodes, level.node, segment[0])
+        // Names from the root on may stand far below it.
+        if depth == 0 {
+            return Some(0);
+        }
+        if depth > self.last.depth {
+            return None;
+        }
+        let mut level = self.last;
+        while level.depth > depth {
+            level = self.above(level);
+        }
+        Some(level.node)
     }
 
-    /// The node of some segments behind a front of the scope's path. The path itself isn't walked again.
+    /// The node of some segments behind a front of the scope's path.
     pub(crate) fn node_below(&self, depth: usize, segs: &[Seg]) -> Option<usize>
         requires scope { IsScope self.now }
         requires within { depth ≤ length self.now.path.now }
         ensures node { result ≡ walk (kids_of self.now.nodes.now) 0 (take depth self.now.path.now ++ segs.now) }
         ensures inside { IfSome result (λ at. at < length self.now.nodes.now) }
     {
-        let level = self.levels.get(depth)?;
-        node_from(self.nodes, level.node, segs)
-    }
-
-    /// The nearest depth from this one up that has to be asked.
-    fn next_asked(&self, depth: usize) -> usize
-        requires scope { IsScope self.now }
-        requires within { depth ≤ length self.now.path.now }
-        ensures { IsNext (names_of self.now) self.now.path.now depth result }
-    {
-        let last = self.levels.len() - 1;
-        // Behind the last level the index has no nodes.
-        let level = self.levels[depth.min(last)];
-        level.asked
-    }
-
-    /// The same, or that of the nearest local where this is nearer.
-    fn next_depth(&self, nearest: Option<usize>, depth: usize) -> usize
-        requires scope { IsScope self.now }
-        requires within { depth ≤ length self.now.path.now }
-        requires above { IfSome nearest (λ local. local ≤ depth) }
-        ensures next { IsNext (names_of self.now) self.now.path.now depth result }
-        ensures above { IfSome nearest (λ local. local ≤ result) }
-    {
-        let next = self.next_asked(depth);
-        match nearest {
-            None => next,
-            Some(local) => local.max(next),
-        }
+        let front = self.front_node(depth)?;
+        node_from(self.nodes, front, segs)
     }
 
     /// The predefined kind of a candidate.
@@ -282,19 +381,6 @@ impl<'a> Scope<'a> {
         None
     }
 
-    /// Whether a candidate is one of the locals or has a kind.
-    fn is_meant(&self, segment: &[Seg], here: Candidate) -> bool
-        requires one { length segment.now ≡ 1 }
-        requires within { here.depth ≤ length self.now.path.now }
-        requires node { IfSome here.node (λ i. i < length self.now.nodes.now) }
-        ensures { result
-            ≡ (here.local || is_some (option_or
-            (option_and_then (kinds_of self.now.nodes.now) here.node)
-            (predefined (take here.depth self.now.path.now ++ segment.now)))) }
-    {
-        here.local || kind_met(self.nodes, here.node, self.standing(segment, here.depth)).is_some()
-    }
-
     /// The first candidate that an External names, from what was met so far and one more.
     fn first_outside(&self, outside: Option<Candidate>, here: Candidate) -> Option<Candidate>
         requires { IfSome here.node (λ i. i < length self.now.nodes.now) }
@@ -319,8 +405,8 @@ impl<'a> Scope<'a> {
         requires scope { IsScope self.now }
         requires one { length segment.now ≡ 1 }
         requires within { here.depth ≤ length self.now.path.now }
-        requires node { here.node ≡ walk (kids_of self.now.nodes.now) 0 (take here.depth self.now.path.now
-            ++ segment.now) }
+        requires node { here.local ≡ false → here.node
+            ≡ walk (kids_of self.now.nodes.now) 0 (take here.depth self.now.path.now ++ segment.now) }
         ensures { result
             ≡ cond here.local (Some 0)
             (count_at (names_of self.now) (take here.depth self.now.path.now ++ segment.now)) }
@@ -351,47 +437,48 @@ impl<'a> Scope<'a> {
     {
         let nearest = locals.nearest(alloc, self.path, segment[0])?;
         let mut counts = Counts::Nothing;
-        let mut depth = self.next_depth(nearest, self.path.segs().len());
-        'depths: loop {
-            if stands(nearest, depth) {
+        let mut level = self.first_asked();
+        'levels: loop {
+            if nearer(nearest, level.depth).is_some() {
                 return Ok(counts.joined(Counts::One(0)));
             }
-            let (here, sure) = self.counts_at(segment, depth);
+            let (here, sure) = self.counts_at(segment, level);
             counts = counts.joined(here);
-            if depth == 0 {
+            if level.depth == 0 {
                 return Ok(counts);
             }
             if sure {
                 return Ok(counts);
             }
-            depth = self.next_depth(nearest, depth - 1);
+            level = self.asked_above(level);
         }
     }
 
     /// The counts of all kinds that a candidate may have, and whether it has one in every run.
-    fn counts_at(&self, segment: &[Seg], depth: usize) -> (Counts, bool)
+    fn counts_at(&self, segment: &[Seg], level: Level) -> (Counts, bool)
         requires scope { IsScope self.now }
+        requires level { IsLevel self.now level }
         requires one { length segment.now ≡ 1 }
-        requires within { depth ≤ length self.now.path.now }
         ensures counts { result.0
-            ≡ counts_in (counts_of (outlook_at self.now) (take depth self.now.path.now ++ segment.now)) }
-        ensures sure { result.1 ≡ (outlook_at self.now).sure (take depth self.now.path.now ++ segment.now) }
+            ≡ counts_in (counts_of (outlook_at self.now) (take level.depth self.now.path.now ++ segment.now)) }
+        ensures sure { result.1 ≡ (outlook_at self.now).sure (take level.depth self.now.path.now ++ segment.now) }
     {
-        let node = self.node_at(depth, segment);
-        let standing = self.standing(segment, depth);
+        let node = self.node_at(segment, level);
+        let standing = self.standing(segment, level.depth);
         let counts = counts_met(self.nodes, self.predefined, node, standing);
         (counts, sure_met(self.nodes, node, standing))
     }
 
     /// Whether a candidate has a kind in every run.
-    fn is_sure_at(&self, segment: &[Seg], depth: usize) -> bool
+    fn is_sure(&self, segment: &[Seg], here: Candidate) -> bool
         requires scope { IsScope self.now }
         requires one { length segment.now ≡ 1 }
-        requires within { depth ≤ length self.now.path.now }
-        ensures { result ≡ (outlook_at self.now).sure (take depth self.now.path.now ++ segment.now) }
+        requires within { here.depth ≤ length self.now.path.now }
+        requires node { here.node ≡ walk (kids_of self.now.nodes.now) 0 (take here.depth self.now.path.now
+            ++ segment.now) }
+        ensures { result ≡ (outlook_at self.now).sure (take here.depth self.now.path.now ++ segment.now) }
     {
-        let node = self.node_at(depth, segment);
-        sure_met(self.nodes, node, self.standing(segment, depth))
+        sure_met(self.nodes, here.node, self.standing(segment, here.depth))
     }
 
     /// The count that the user gives to the first candidate of a segment that has one.
@@ -401,16 +488,16 @@ impl<'a> Scope<'a> {
         ensures { result ≡ first_given (names_of self.now)
             (upward (length self.now.path.now) self.now.path.now segment.now) }
     {
-        let mut depth = self.next_asked(self.path.segs().len());
-        'depths: loop {
-            let node = self.node_at(depth, segment);
+        let mut level = self.first_asked();
+        'levels: loop {
+            let node = self.node_at(segment, level);
             if let Some(count) = given_at(self.nodes, node) {
                 return Some(count);
             }
-            if depth == 0 {
+            if level.depth == 0 {
                 return None;
             }
-            depth = self.next_asked(depth - 1);
+            level = self.asked_above(level);
         }
     }
 
@@ -434,34 +521,8 @@ impl<'a> Scope<'a> {
     }
 }
 
-/// The levels of a scope.
-fn levels_along(alloc: Global, nodes: &[Node], scope: &[Seg]) -> Result<Vec<Level>, NoMemory>
-    requires { IsShape nodes.now }
-    ensures along { IfOk result (λ levels. IsAlong nodes.now scope.now levels.items) }
-    ensures long { IfOk result (λ levels. length levels.items ≤ length scope.now + 1) }
-    ensures asked { IfOk result (λ levels. AreAsked (namespace_in (known_by nodes.now)) scope.now levels.items) }
-{
-    let mut levels = Vec::with_capacity(alloc, scope.len() + 1)?;
-    let mut node: usize = 0;
-    let mut asked: usize = 0;
-    levels.push(Level { node, asked })?;
-    for seg in scope {
-        match child(nodes, node, *seg) {
-            None => return Ok(levels),
-            Some(next) => {
-                node = next;
-                if has_to_be_asked(nodes, node) {
-                    asked = levels.len();
-                }
-                levels.push(Level { node, asked })?;
-            }
-        }
-    }
-    Ok(levels)
-}
-
 /// Whether a child of a node may have content. An only child, as each segment of a long path is one, is looked at.
-fn has_to_be_asked(nodes: &[Node], at: usize) -> bool
+pub(crate) fn has_to_be_asked(nodes: &[Node], at: usize) -> bool
     requires within { at < length nodes.now }
     requires shape { IsShape nodes.now }
     ensures { OnFalse result (HasBareChildren nodes.now at) }
@@ -478,12 +539,12 @@ fn has_content(nodes: &[Node], at: Option<usize>) -> bool
     kind_at(nodes, at).is_some() || out_at(nodes, at).is_some() || given_at(nodes, at).is_some()
 }
 
-/// Whether the nearest local stands at this depth.
-fn stands(nearest: Option<usize>, depth: usize) -> bool
-    ensures { result ≡ stands_at nearest depth }
+/// The nearest local, where it stands at this depth or further down.
+fn nearer(nearest: Option<usize>, depth: usize) -> Option<usize>
+    ensures { result ≡ local_from nearest depth }
 {
     match nearest {
-        None => false,
-        Some(local) => local == depth,
+        Some(local) if depth <= local => Some(local),
+        _ => None,
     }
 }

@@ -6,6 +6,8 @@ ghost use Rattle.std.specs.FinMap as map;
 ghost use Rattle.aml_space.specs.Namespace.{Entry, Body, declares, external as outside, given as said};
 ghost use Rattle.aml_space.specs.Namespace.{kind_at, count_at, namespace_of, declared_at};
 ghost use Rattle.aml_space.specs.Runs.{sure_at};
+ghost use Rattle.aml_space.specs.Nodes.{known_by};
+ghost use Rattle.aml_space.specs.Candidates.{IsScope};
 ghost use Rattle.aml_space.specs.Known.{StandsFor, nothing_known, once, with_declaration, with_declared, with_again};
 ghost use Rattle.aml_space.specs.Known.{with_external, with_given};
 ghost use Rattle.aml_space.specs.Known.{is_declared as declared_yet, namespace_in, outlook_in, row_of, AreRows};
@@ -20,6 +22,8 @@ use crate::listing::{Rows, list_rows};
 use crate::nodes::Node;
 use crate::predefined::Predefined;
 use crate::rows::Row;
+use crate::scopes::Scope;
+use crate::settling::{Settled, settled_of};
 use crate::trails::{Step, deepest, node_along};
 use crate::walking::{kind_at, out_at, walk_counted};
 use aml_names::{NoMemory, Path, Seg};
@@ -38,6 +42,8 @@ pub struct Space {
     rows: usize,
     /// The way to a path that was looked for, so that the next of the same scope is found soon.
     trail: Vec<Step>,
+    /// Where the search for a segment goes on from each node, from when this is settled to the next declaration.
+    settled: Vec<Settled>,
 }
 
 impl Model for Space {
@@ -52,7 +58,7 @@ impl Model for Space {
 
     ghost view = { λ s. known_by s.nodes.items };
 
-    ghost invariant = { λ s. IsSpace s.nodes.items s.rows s.trail.items };
+    ghost invariant = { λ s. IsSpace s.nodes.items s.rows s.trail.items s.settled.items };
 }
 
 /// A declared path, the kind of its first declaration, whether a declaration is sure, and how many there are.
@@ -78,6 +84,7 @@ impl Space {
             predefined: Predefined::new(),
             rows: 0,
             trail: Vec::new(alloc),
+            settled: Vec::new(alloc),
         })
     }
 
@@ -113,6 +120,7 @@ impl Space {
         ensures taken { (es : List Entry) → StandsFor self.old es → IfErr result (λ e.
             (e ≡ SpaceFault.NoMemory) ⊎ ((e ≡ SpaceFault.Duplicate path) × (is_some (declared_at es path) ≡ true))) }
     {
+        self.settled.clear();
         let reach = deepest(self.nodes.as_slice(), &mut self.trail, path.segs());
         if is_taken(self.nodes.as_slice(), path.segs(), reach) {
             return Err(SpaceFault::Duplicate(path));
@@ -141,6 +149,7 @@ impl Space {
             OnOk result (StandsFor self.new (es ++ declares path kind body sure ∷ [])) }
         ensures err { OnErr result (self.new ≡ self.old) }
     {
+        self.settled.clear();
         if let Some(at) = declared_node(self.nodes.as_slice(), self.trail.as_slice(), path.segs()) {
             return declare_again(self.alloc, &mut self.nodes, path.segs(), at, kind, sure);
         }
@@ -169,6 +178,7 @@ impl Space {
             OnOk result (StandsFor self.new (es ++ outside path count ∷ [])) }
         ensures err { OnErr result (self.new ≡ self.old) }
     {
+        self.settled.clear();
         let at = make_node(self.alloc, &mut self.nodes, &mut self.trail, path.segs())?;
         set_out(&mut self.nodes, at, count);
         Ok(())
@@ -182,8 +192,18 @@ impl Space {
             OnOk result (StandsFor self.new (es ++ said path.now count ∷ [])) }
         ensures err { OnErr result (self.new ≡ self.old) }
     {
+        self.settled.clear();
         let at = make_node(self.alloc, &mut self.nodes, &mut self.trail, path.segs())?;
         set_given(&mut self.nodes, at, count);
+        Ok(())
+    }
+
+    /// Finds out where the search for a segment goes on from each node, so that names cost the depths alone at which
+    /// something may stand, until the next declaration. What is known stays the same, also where memory is refused.
+    pub fn settle(&mut self) -> Result<(), NoMemory>
+        ensures { self.new ≡ self.old }
+    {
+        self.settled = settled_of(self.alloc, self.nodes.as_slice())?;
         Ok(())
     }
 
@@ -269,6 +289,21 @@ impl Space {
         ensures listed { (es : List Entry) → StandsFor self.now es → result ≡ count_at (namespace_of es) path.now }
     {
         count_of(self.nodes.as_slice(), &self.predefined, path)
+    }
+
+    /// A scope of the space.
+    pub(crate) fn scope<'a>(&'a self, path: &'a Path) -> Scope<'a>
+        ensures scope { IsScope result }
+        ensures known { known_by result.nodes.now ≡ self.now }
+        ensures path { result.path.now ≡ path.now }
+    {
+        Scope::new(
+            self.nodes.as_slice(),
+            self.settled.as_slice(),
+            &self.predefined,
+            self.trail.as_slice(),
+            path,
+        )
     }
 
     /// How many paths are declared.

@@ -6,7 +6,7 @@ ghost use Rattle.aml_space.specs.Trails.{segs_of, IsTrail};
 
 use crate::growing::Reach;
 use crate::nodes::Node;
-use crate::walking::{child, node_from};
+use crate::walking::child;
 use aml_names::Seg;
 
 /// A segment of a path, and the node to which the path leads with it. The steps to a path are a trail: another path that
@@ -42,6 +42,31 @@ fn node_at(trail: &[Step], depth: usize) -> usize
     if depth == 0 { 0 } else { trail[depth - 1].node }
 }
 
+/// How far a path leads.
+pub(crate) fn reach_along(nodes: &[Node], trail: &[Step], path: &[Seg]) -> Reach
+    requires shape { IsShape nodes.now }
+    requires trail { IsTrail nodes.now trail.now }
+    ensures { Reaches nodes.now path.now result }
+{
+    let known = common(trail, path);
+    let mut reach = Reach {
+        node: node_at(trail, known),
+        known,
+    };
+    while reach.known < path.len() {
+        match child(nodes, reach.node, path[reach.known]) {
+            None => return reach,
+            Some(next) => {
+                reach = Reach {
+                    node: next,
+                    known: reach.known + 1,
+                };
+            }
+        }
+    }
+    reach
+}
+
 /// Where a path leads.
 pub(crate) fn node_along(nodes: &[Node], trail: &[Step], path: &[Seg]) -> Option<usize>
     requires shape { IsShape nodes.now }
@@ -49,8 +74,12 @@ pub(crate) fn node_along(nodes: &[Node], trail: &[Step], path: &[Seg]) -> Option
     ensures node { result ≡ walk (kids_of nodes.now) 0 path.now }
     ensures within { IfSome result (λ at. at < length nodes.now) }
 {
-    let known = common(trail, path);
-    node_from(nodes, node_at(trail, known), &path[known..])
+    let reach = reach_along(nodes, trail, path);
+    if reach.known == path.len() {
+        Some(reach.node)
+    } else {
+        None
+    }
 }
 
 /// How far a path leads. The trail is along its front that stands there, as far as there is memory for it.

@@ -19,8 +19,8 @@ unfolding made
 returns-clause-reading c tables is es s =
     let here = (goal.at.returns-clause-reading c).After-parse_body in
     subst (λ m. IsReading (λ nodes. nodes_view nodes.items) c.args.unknown_zero es tables m c.parse_body.result) (same here)
-    (reading_is (λ nodes. nodes_view nodes.items) c.in_ok-names.names c.args.space.now es tables (made here) c.args.unknown_zero
-    c.args.bytes.now c.parse_body.result c.in_ok-names.ensures s is
+    (reading_is (λ nodes. nodes_view nodes.items) c.open-names.result c.args.space.now es tables (made here) c.args.unknown_zero
+    c.args.bytes.now c.parse_body.result c.open-names.ensures s is
     (c.parse_body.ensures.sound, c.parse_body.ensures.one, c.parse_body.ensures.complete, c.parse_body.ensures.placed))
 
 pub returns-clause-forward : goal.returns-clause-forward
@@ -28,5 +28,5 @@ unfolding made
 returns-clause-forward c tables is es s =
     let here = (goal.at.returns-clause-forward c).After-parse_body in
     subst (λ m. GivesBody (λ nodes. nodes_view nodes.items) c.args.unknown_zero es tables m c.parse_body.result) (same here)
-    (forward_is (λ nodes. nodes_view nodes.items) c.in_ok-names.names c.args.space.now es tables (made here) c.args.unknown_zero
-    c.args.bytes.now c.parse_body.result c.in_ok-names.ensures s is c.parse_body.ensures.forward)
+    (forward_is (λ nodes. nodes_view nodes.items) c.open-names.result c.args.space.now es tables (made here) c.args.unknown_zero
+    c.args.bytes.now c.parse_body.result c.open-names.ensures s is c.parse_body.ensures.forward)

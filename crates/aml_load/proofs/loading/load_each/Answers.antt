@@ -1,4 +1,5 @@
-use Rattle.std.proofs.Common.{refl, ◌∙◌}
+use Rattle.std.proofs.Common.{refl, sym, subst, ◌∙◌}
+use Rattle.aml_space.specs.Known.{StandsFor}
 use Rattle.aml_load.specs.Loading.{first_listed}
 use Rattle.aml_set.specs.Views.{table_codes, table_terms}
 use Rattle.aml_load.proofs.Loads.{load_gives}
@@ -13,10 +14,11 @@ returns-clause-gives c =
     let codes = table_codes c.args.tables.items in
     let read = c.in_ok-read_tables.ensures (first_listed gs) c.in_ok-progress.ensures in
     let m = read.2.0 in
-    let free = c.in_ok-check_uses.ensures m read.2.1.space in (
+    let stands = subst (λ k. StandsFor k m.entries) (sym c.settle.ensures) read.2.1.space in
+    let free = c.in_ok-check_uses.ensures m stands in (
       table_terms c.read_tables.new.tables.items,
       m,
-      record { tables = read.1; trees = refl; space = read.2.1.space; methods = read.2.1.methods },
+      record { tables = read.1; trees = refl; space = stands; methods = read.2.1.methods },
       load_gives c.args.any_run c.args.unknown_zero gs codes (table_terms c.read_tables.new.tables.items) m c.as_slice.result.now c.in_ok-check_uses.field-0
           read.2.2 (c.as_slice.ensures.value ∙ read.2.1.uses) free,
     )

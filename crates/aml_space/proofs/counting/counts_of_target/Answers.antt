@@ -1,6 +1,6 @@
 use Rattle.std.proofs.Common.{None, cond, map, sym, ap, ◌∙◌}
 use Rattle.aml_space.specs.Predefined.{predefined}
-use Rattle.aml_space.specs.Nodes.{walk, kids_of, known_by}
+use Rattle.aml_space.specs.Nodes.{known_by}
 use Rattle.aml_space.specs.Known.{kinds_by, outlook_in}
 use Rattle.aml_space.specs.Namespace.{target_count}
 use Rattle.aml_space.specs.declared.tallies.Counts.TheVariants.{One}

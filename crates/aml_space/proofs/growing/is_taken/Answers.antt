@@ -5,7 +5,7 @@ use Rattle.std.specs.Option.{option_and_then}
 use Rattle.aml_names.specs.declared.segments.Seg.{Seg}
 use Rattle.aml_space.specs.Nodes.{walk, kids_of, kinds_of}
 use Rattle.aml_space.proofs.Walks.{node_range}
-use Rattle.aml_space.proofs.Along.{led_no_further}
+use Rattle.aml_space.proofs.Levels.{led_no_further}
 use Rattle.aml_space.proofs.growing.is_taken.Goals as goal
 
 pub kind_at-requires : goal.kind_at-requires

@@ -3,10 +3,10 @@ use Rattle.aml_load.proofs.walking.Progress.read_head.Goals as goal
 
 pub returns-in-Ok-clause-step : goal.returns-in-Ok-clause-step
 returns-in-Ok-clause-step c l h =
-    step_read c.in_ok-open.field-0 c.args.self.now.space c.args.site.now l c.args.code.now c.args.rest (rw c.path.ensures at c.in_ok-open.ensures) h.space _
+    step_read c.open.result c.args.self.now.space c.args.site.now l c.args.code.now c.args.rest (rw c.path.ensures at c.open.ensures) h.space _
     c.in-Ok.ensures.forward
 
-pub returns-clause-step : goal.returns-clause-step
-returns-clause-step c l h =
-    step_unread c.in_ok-open.field-0 c.args.self.now.space c.args.site.now l c.args.code.now c.args.rest (rw c.path.ensures at c.in_ok-open.ensures) h.space
+pub returns-in-Err-clause-step : goal.returns-in-Err-clause-step
+returns-in-Err-clause-step c l h =
+    step_unread c.open.result c.args.self.now.space c.args.site.now l c.args.code.now c.args.rest (rw c.path.ensures at c.open.ensures) h.space
     c.in-Err.fault c.in_code.result c.in-Err.ensures.forward c.in_code.ensures

@@ -1,83 +1,110 @@
-use Rattle.std.proofs.Common.{◌≡◌, ℕ, ◌-◌, ◌≤◌, ◌++◌, take, length, sym, ap, ◌∙◌}
+use Rattle.std.proofs.Common.{◌≡◌, ℕ, ◌-◌, ◌<◌, ◌≤◌, List, [], ◌∷◌, ◌++◌, Option, take, get_or, length, false, refl, sym, ap, ◌∙◌}
 use Rattle.std.proofs.Common.{subst, arith, IfSome}
+use Rattle.std.specs.Prelude.{is_some}
 use Rattle.std.specs.FinSet as set
-use Rattle.aml_names.specs.Searching.{upward}
+use Rattle.aml_names.specs.declared.segments.Seg.{Seg}
+use Rattle.aml_names.specs.Paths.{PathSet}
+use Rattle.aml_names.specs.Searching.{upward, nearest}
+use Rattle.aml_space.specs.declared.scopes.Scope.{Scope}
 use Rattle.aml_space.specs.Nodes.{known_by}
-use Rattle.aml_space.specs.Runs.{counts_met}
+use Rattle.aml_space.specs.Runs.{counts_met, counts_of}
 use Rattle.aml_space.specs.Tallies.{joined, counts_in}
 use Rattle.aml_space.specs.Candidates.{names_of, outlook_at, IsNext}
 use Rattle.aml_space.proofs.Asked.{none_known_below}
-use Rattle.aml_space.proofs.Nearest.{near_within, local_at, passed_by}
+use Rattle.aml_space.proofs.Levels.{next_sooner}
+use Rattle.aml_space.proofs.Nearest.{near_within, passed_by, local_there, other_there, no_local, some_local, less_above, less_here}
 use Rattle.aml_space.proofs.Meeting.{first_in, at_local, at_sure, at_root, on_from, skip_met}
 use Rattle.aml_space.proofs.scopes.Scope.counts.Goals as goal
-use Rattle.aml_space.proofs.scopes.Scope.counts.Goals.{In_ok-nearest, After-stands}
+use Rattle.aml_space.proofs.scopes.Scope.counts.Goals.{After-joined-counts}
 
--- from a depth up to the next one that is asked
-further : (c : In_ok-nearest) (d asked : ℕ) → d ≤ length c.args.self.now.path.now → IsNext (names_of c.args.self.now) c.args.self.now.path.now d asked
-    → IfSome c.in_ok-nearest.nearest (λ n. n ≤ asked)
-    → counts_met (outlook_at c.args.self.now) c.args.locals.now (upward d c.args.self.now.path.now c.args.segment.now)
-    ≡ counts_met (outlook_at c.args.self.now) c.args.locals.now (upward asked c.args.self.now.path.now c.args.segment.now)
-further c d asked within next above =
+-- from a depth up to another, between which nothing stands
+further : (s : Scope) (locals : PathSet) (segment : List Seg) → length segment ≡ 1 → (o : Option ℕ) →
+    o ≡ nearest locals s.path.now (get_or segment 0 (record { 0 = [] }) ∷ []) → (d asked : ℕ) → d ≤ length s.path.now →
+    IsNext (names_of s) s.path.now d asked → IfSome o (λ n. n ≤ asked) →
+    counts_met (outlook_at s) locals (upward d s.path.now segment) ≡ counts_met (outlook_at s) locals (upward asked s.path.now segment)
+further s locals segment one o is d asked within next above = skip_met (outlook_at s) locals s.path.now segment (first_in (known_by s.nodes.now)) asked d
+    next.within (passed_by locals s.path.now segment one o is d asked within above)
+    (λ e more less. (none_known_below (names_of s) s.path.now segment one d asked within next e more less).0)
+
+-- no local stands at the level or further down
+none_here : (c : After-joined-counts) → IfSome c.in_ok-nearest.nearest (λ n. n < c.levels.level.depth)
+none_here c = no_local c.in_ok-nearest.nearest c.levels.level.depth (sym (c.is_some.ensures ∙ ap is_some c.nearer.ensures) ∙ c.if-is_some.false)
+
+other : (c : After-joined-counts)
+    → set.contains c.args.locals.now (take c.levels.level.depth c.args.self.now.path.now ++ c.args.segment.now) ≡ false
+other c = other_there c.args.locals.now c.args.self.now.path.now c.args.segment.now c.requires.one c.in_ok-nearest.nearest c.in_ok-nearest.ensures
+    c.levels.level.depth c.levels.invariant.1.next.level.within (none_here c)
+
+-- what is left to meet, from the level on
+same_here : (c : After-joined-counts)
+    → counts_in (counts_met (outlook_at c.args.self.now) c.args.locals.now (upward (length c.args.self.now.path.now) c.args.self.now.path.now c.args.segment.now))
+    ≡ joined c.levels.counts
+    (counts_in (counts_met (outlook_at c.args.self.now) c.args.locals.now (upward c.levels.level.depth c.args.self.now.path.now c.args.segment.now)))
+same_here c =
+    let inv = c.levels.invariant.1 in
+    inv.same ∙ ap (λ ns. joined c.levels.counts (counts_in ns))
+    (further c.args.self.now c.args.locals.now c.args.segment.now c.requires.one c.in_ok-nearest.nearest c.in_ok-nearest.ensures
+    c.levels.invariant.0 c.levels.level.depth inv.within inv.next.next (less_here c.in_ok-nearest.nearest c.levels.level.depth (none_here c)))
+
+so_far : (c : After-joined-counts) → c.joined-counts.result
+    ≡ joined c.levels.counts (counts_in (counts_of (outlook_at c.args.self.now) (take c.levels.level.depth c.args.self.now.path.now ++ c.args.segment.now)))
+so_far c = c.joined-counts.ensures ∙ ap (joined c.levels.counts) c.counts_at-here.ensures.counts
+
+pub levels-init : goal.levels-init
+levels-init c =
+    let s = c.args.self.now in (
+      length s.path.now,
+      record {
+        within = omega arith;
+        above = near_within c.args.locals.now s.path.now c.args.segment.now c.requires.one c.in_ok-nearest.nearest c.in_ok-nearest.ensures;
+        next = c.first_asked-level.ensures;
+        same = refl;
+      },
+    )
+
+pub returns-then-is_some : goal.returns-then-is_some
+returns-then-is_some c =
     let s = c.args.self.now in
-    skip_met (outlook_at s) c.args.locals.now s.path.now c.args.segment.now (first_in (known_by s.nodes.now)) asked d next.within
-    (passed_by c.args.locals.now s.path.now c.args.segment.now c.requires.one c.in_ok-nearest.nearest c.in_ok-nearest.ensures d asked within above)
-    (λ e more less. (none_known_below (names_of s) s.path.now c.args.segment.now c.requires.one d asked within next e more less).0)
+    let from = c.levels.invariant.0 in
+    let inv = c.levels.invariant.1 in
+    let near = c.in_ok-nearest.nearest in
+    let there = some_local near c.levels.level.depth (sym (c.is_some.ensures ∙ ap is_some c.nearer.ensures) ∙ c.if-is_some.true) in
+    let within : there.0 ≤ from = subst (λ o. IfSome o (λ n. n ≤ from)) there.1 inv.above in
+    c.joined.ensures ∙ sym (inv.same ∙ ap (λ ns. joined c.levels.counts (counts_in ns)) (further s c.args.locals.now c.args.segment.now
+    c.requires.one near c.in_ok-nearest.ensures from there.0
+    inv.within (next_sooner (names_of s) s.path.now from c.levels.level.depth there.0 there.2 within inv.next.next)
+    (subst (λ o. IfSome o (λ n. n ≤ there.0)) (sym there.1) (omega arith)))
+    ∙ at_local (outlook_at s) c.args.locals.now s.path.now c.args.segment.now c.levels.counts there.0
+    (local_there c.args.locals.now s.path.now c.args.segment.now c.requires.one near c.in_ok-nearest.ensures there.0 there.1))
 
--- whether a local stands at the depth
-here : (c : After-stands) → c.stands.result ≡ set.contains c.args.locals.now (take c.depths.depth c.args.self.now.path.now ++ c.args.segment.now)
-here c = c.stands.ensures ∙ local_at c.args.locals.now c.args.self.now.path.now c.args.segment.now c.requires.one c.in_ok-nearest.nearest
-    c.in_ok-nearest.ensures c.depths.depth c.depths.invariant.within c.depths.invariant.above
-
-pub next_depth-depth-requires-clause-above : goal.next_depth-depth-requires-clause-above
-next_depth-depth-requires-clause-above c = subst (λ m. IfSome c.in_ok-nearest.nearest (λ n. n ≤ m)) (ap length (sym c.segs.ensures))
-    (near_within c.args.locals.now c.args.self.now.path.now c.args.segment.now c.requires.one c.in_ok-nearest.nearest c.in_ok-nearest.ensures)
-
-pub depths-init : goal.depths-init
-depths-init c =
+pub returns-then-level-eq0 : goal.returns-then-level-eq0
+returns-then-level-eq0 c =
     let s = c.args.self.now in
-    let long : length c.segs.result.now ≡ length s.path.now = ap length c.segs.ensures in
-    let next = c.next_depth-depth.ensures in
-    record {
-      within = omega (arith, long, next.next.within);
-      above = next.above;
-      same = ap counts_in (ap (λ n. counts_met (outlook_at s) c.args.locals.now (upward n s.path.now c.args.segment.now)) (sym long)
-          ∙ further (goal.at.depths-init c).In_ok-nearest (length c.segs.result.now) c.next_depth-depth.result (omega (arith, long)) next.next next.above);
-    }
-
-pub returns-then-stands : goal.returns-then-stands
-returns-then-stands c =
-    let s = c.args.self.now in
-    c.joined.ensures ∙ sym (c.depths.invariant.same ∙ at_local (outlook_at s) c.args.locals.now s.path.now c.args.segment.now c.depths.counts c.depths.depth
-    (sym (here (goal.at.returns-then-stands c).After-stands) ∙ c.if-stands.true))
-
-pub returns-then-depth-eq0 : goal.returns-then-depth-eq0
-returns-then-depth-eq0 c =
-    let s = c.args.self.now in
-    c.joined-counts.ensures ∙ ap (joined c.depths.counts) c.counts_at-here.ensures.counts
-    ∙ sym (c.depths.invariant.same ∙ at_root (outlook_at s) c.args.locals.now s.path.now c.args.segment.now c.depths.counts c.depths.depth
-    c.if-depth-eq0.true (sym (here (goal.at.returns-then-depth-eq0 c).After-stands) ∙ c.if-stands.false))
+    let b = (goal.at.returns-then-level-eq0 c).After-joined-counts in
+    so_far b ∙ sym (same_here b ∙ at_root (outlook_at s) c.args.locals.now s.path.now c.args.segment.now c.levels.counts c.levels.level.depth
+    c.if-level-eq0.true (other b))
 
 pub returns-then-sure : goal.returns-then-sure
 returns-then-sure c =
     let s = c.args.self.now in
-    c.joined-counts.ensures ∙ ap (joined c.depths.counts) c.counts_at-here.ensures.counts
-    ∙ sym (c.depths.invariant.same ∙ at_sure (outlook_at s) c.args.locals.now s.path.now c.args.segment.now c.depths.counts c.depths.depth
-    (sym (here (goal.at.returns-then-sure c).After-stands) ∙ c.if-stands.false) (sym c.counts_at-here.ensures.sure ∙ c.if-sure.true))
+    let b = (goal.at.returns-then-sure c).After-joined-counts in
+    so_far b ∙ sym (same_here b ∙ at_sure (outlook_at s) c.args.locals.now s.path.now c.args.segment.now c.levels.counts c.levels.level.depth (other b)
+    (sym c.counts_at-here.ensures.sure ∙ c.if-sure.true))
 
-pub depths-preserved : goal.depths-preserved
-depths-preserved c =
+pub levels-preserved : goal.levels-preserved
+levels-preserved c =
     let s = c.args.self.now in
-    let d = c.depths.depth in
-    let inv = c.depths.invariant in
-    let next = c.next_depth-depth-in-depths.ensures in
-    record {
-      within = omega (arith, inv.within, next.next.within);
-      above = next.above;
-      same = inv.same
-          ∙ on_from (outlook_at s) c.args.locals.now s.path.now c.args.segment.now c.depths.counts d
-          (sym (here (goal.at.depths-preserved c).After-stands) ∙ c.if-stands.false) (sym c.counts_at-here.ensures.sure ∙ c.if-sure.false)
-          (omega (arith, c.if-depth-eq0.false))
-          ∙ (λ i. joined (sym (c.joined-counts.ensures ∙ ap (joined c.depths.counts) c.counts_at-here.ensures.counts) i)
-          (counts_in (further (goal.at.depths-preserved c).In_ok-nearest (d - 1) c.next_depth-depth-in-depths.result (omega (arith, inv.within))
-          next.next next.above i)));
-    }
+    let d = c.levels.level.depth in
+    let inv = c.levels.invariant.1 in
+    let b = (goal.at.levels-preserved c).After-joined-counts in
+    let positive : 0 < d = omega (arith, c.if-level-eq0.false) in (
+      d - 1,
+      record {
+        within = omega (arith, inv.next.level.within);
+        above = less_above c.in_ok-nearest.nearest d positive (none_here b);
+        next = c.asked_above-level.ensures;
+        same = same_here b ∙ on_from (outlook_at s) c.args.locals.now s.path.now c.args.segment.now c.levels.counts d (other b)
+            (sym c.counts_at-here.ensures.sure ∙ c.if-sure.false) positive
+            ∙ ap (λ m. joined m (counts_in (counts_met (outlook_at s) c.args.locals.now (upward (d - 1) s.path.now c.args.segment.now)))) (sym (so_far b));
+      },
+    )

@@ -5,11 +5,11 @@ use Rattle.aml_space.proofs.Walks.{node_within}
 use Rattle.aml_space.proofs.scopes.Scope.has_kind.Goals as goal
 
 pub kind_met-requires : goal.kind_met-requires
-kind_met-requires c = node_within c.requires.scope.shape _ c.args.here.node c.requires.node
+kind_met-requires c = node_within c.requires.scope.index.shape _ c.args.here.node c.requires.node
 
 pub returns : goal.returns
 returns c =
     let s = c.args.self.now in
     c.is_some.ensures ∙ copied_some c.kind_met.result ∙ ap is_some (c.kind_met.ensures
-    ∙ kind_of_met s.nodes.now c.requires.scope.shape (take c.args.here.depth s.path.now ++ c.args.segment.now) c.args.here.node c.requires.node _
+    ∙ kind_of_met s.nodes.now c.requires.scope.index.shape (take c.args.here.depth s.path.now ++ c.args.segment.now) c.args.here.node c.requires.node _
     c.standing.ensures)

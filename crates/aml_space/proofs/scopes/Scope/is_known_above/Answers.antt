@@ -9,6 +9,7 @@ use Rattle.aml_space.specs.Candidates.{names_of, above, IsNext}
 use Rattle.aml_space.proofs.Asked.{none_known_below}
 use Rattle.aml_space.proofs.Meeting.{known_here, known_on, known_root, skip_known}
 use Rattle.aml_space.proofs.scopes.Scope.is_known_above.Goals as goal
+use Rattle.aml_space.proofs.scopes.Scope.is_known_above.Goals.{After-is_known_at}
 
 -- from a depth up to the next one that is asked
 further : (s : Scope) (segment : List Seg) → length segment ≡ 1 → (d asked : ℕ) → d ≤ length s.path.now → IsNext (names_of s) s.path.now d asked
@@ -20,38 +21,46 @@ above_on : (scope segment : List Seg) (d : ℕ) → (d ≡ 0 → ⊥) → above 
 above_on scope segment zero some = absurd (some refl)
 above_on scope segment (suc d) some = ap (λ n. upward n scope segment) {x = d} {y = suc d - 1} (omega arith)
 
-pub depths-init : goal.depths-init
-depths-init c =
-    let s = c.args.self.now in
-    let d = c.args.below in
-    let next = c.next_asked-depth.ensures in
-    record {
-      within = omega (arith, c.requires.within, next.within);
-      same = ap (find (is_known (names_of s))) (above_on s.path.now c.args.segment.now d c.if-below-eq0.false)
-          ∙ further s c.args.segment.now c.requires.one (d - 1) c.next_asked-depth.result (omega (arith, c.requires.within)) next;
-    }
+-- what is left to find, from the level on
+same_here : (c : After-is_known_at)
+    → find (is_known (names_of c.args.self.now)) (above c.args.self.now.path.now c.args.segment.now c.args.below)
+    ≡ find (is_known (names_of c.args.self.now)) (upward c.levels.level.depth c.args.self.now.path.now c.args.segment.now)
+same_here c =
+    let inv = c.levels.invariant.1 in
+    inv.same ∙ further c.args.self.now c.args.segment.now c.requires.one c.levels.invariant.0 c.levels.level.depth inv.within inv.next.next
+
+pub levels-init : goal.levels-init
+levels-init c = (
+  c.args.below - 1,
+  record {
+    within = omega (arith, c.requires.within);
+    next = c.asked_below-level.ensures;
+    same = ap (find (is_known (names_of c.args.self.now))) (above_on c.args.self.now.path.now c.args.segment.now c.args.below c.if-below-eq0.false);
+  },
+)
 
 pub returns-then-is_known_at : goal.returns-then-is_known_at
 returns-then-is_known_at c =
     let s = c.args.self.now in
-    sym (ap is_some c.depths.invariant.same ∙ known_here (names_of s) set.empty s.path.now c.args.segment.now c.depths.depth
-    (sym c.is_known_at.ensures ∙ c.if-is_known_at.true))
+    sym (ap is_some (same_here (goal.at.returns-then-is_known_at c).After-is_known_at)
+    ∙ known_here (names_of s) set.empty s.path.now c.args.segment.now c.levels.level.depth (sym c.is_known_at.ensures ∙ c.if-is_known_at.true))
 
-pub returns-then-depth-eq0 : goal.returns-then-depth-eq0
-returns-then-depth-eq0 c =
+pub returns-then-level-eq0 : goal.returns-then-level-eq0
+returns-then-level-eq0 c =
     let s = c.args.self.now in
-    sym (ap is_some c.depths.invariant.same ∙ known_root (names_of s) set.empty s.path.now c.args.segment.now c.depths.depth c.if-depth-eq0.true
+    sym (ap is_some (same_here (goal.at.returns-then-level-eq0 c).After-is_known_at)
+    ∙ known_root (names_of s) set.empty s.path.now c.args.segment.now c.levels.level.depth c.if-level-eq0.true
     (sym c.is_known_at.ensures ∙ c.if-is_known_at.false))
 
-pub depths-preserved : goal.depths-preserved
-depths-preserved c =
+pub levels-preserved : goal.levels-preserved
+levels-preserved c =
     let s = c.args.self.now in
-    let d = c.depths.depth in
-    let inv = c.depths.invariant in
-    let next = c.next_asked-depth-in-depths.ensures in
-    record {
-      within = omega (arith, inv.within, next.within);
-      same = inv.same ∙ known_on (names_of s) set.empty s.path.now c.args.segment.now d (sym c.is_known_at.ensures ∙ c.if-is_known_at.false)
-          (omega (arith, c.if-depth-eq0.false))
-          ∙ further s c.args.segment.now c.requires.one (d - 1) c.next_asked-depth-in-depths.result (omega (arith, inv.within)) next;
-    }
+    let d = c.levels.level.depth in (
+      d - 1,
+      record {
+        within = omega (arith, c.levels.invariant.1.next.level.within);
+        next = c.asked_above-level.ensures;
+        same = same_here (goal.at.levels-preserved c).After-is_known_at ∙ known_on (names_of s) set.empty s.path.now c.args.segment.now d
+            (sym c.is_known_at.ensures ∙ c.if-is_known_at.false) (omega (arith, c.if-level-eq0.false));
+      },
+    )

@@ -1,16 +1,17 @@
-use Rattle.std.proofs.Common.{◌≡◌, ◌≤◌, length}
+use Rattle.std.proofs.Common.{◌≡◌, ℕ, ◌≤◌, length}
 use Rattle.std.specs.List.{find}
 use Rattle.aml_names.specs.Searching.{upward}
-use Rattle.aml_space.specs.Candidates.{names_of, above}
+use Rattle.aml_space.specs.Candidates.{names_of, above, IsNextFrom}
 use Rattle.aml_space.specs.Runs.{is_known}
 use Rattle.aml_space.proofs.scopes.Scope.is_known_above.Given as goal
 
-abbrev pub invariant-depths : goal.invariant-depths
-invariant-depths l = record {
-  within : l.depth ≤ length l.self.path.now;
+abbrev pub invariant-levels : goal.invariant-levels
+invariant-levels l = (from : ℕ) × record {
+  within : from ≤ length l.self.path.now;
+  next : IsNextFrom l.self from l.level;
   same : find (is_known (names_of l.self)) (above l.self.path.now l.segment l.fn.below)
-      ≡ find (is_known (names_of l.self)) (upward l.depth l.self.path.now l.segment);
+      ≡ find (is_known (names_of l.self)) (upward from l.self.path.now l.segment);
 }
 
-abbrev pub decreases-depths : goal.decreases-depths
-decreases-depths l = l.depth
+abbrev pub decreases-levels : goal.decreases-levels
+decreases-levels l = l.level.depth

@@ -1,7 +1,8 @@
 use Rattle.std.proofs.Common.{◌++◌, Some, None, take, length, subst, IfSome, sym, ap, ◌∙◌}
 use Rattle.std.proofs.Common.{cond}
 use Rattle.std.specs.Option.{option_map}
-use Rattle.aml_names.specs.Paths.{PathSet}
+use Rattle.std.specs.FinSet as set
+use Rattle.aml_names.specs.Paths.{PathSet, path_cmp}
 use Rattle.aml_names.specs.Searching.{upward}
 use Rattle.aml_space.specs.Namespace.{first_of}
 use Rattle.aml_space.specs.Candidates.{path_at, names_of, outlook_at, IsCandidate}
@@ -36,3 +37,11 @@ returns-clause-led c =
     ∙ ap (λ (ls : PathSet). first_of (names_of s) ls (upward (length s.path.now) s.path.now c.args.segment.now)) c.new-locals.ensures in
     sym (led (outlook_at s) s.path.now c.args.segment.now d within (sym found)
     ∙ ap (λ b. cond b None (Some (take d s.path.now ++ c.args.segment.now))) (sym c.may_lead_further.ensures ∙ c.if-may_lead_further.false))
+
+pub may_lead_further-requires-clause-node : goal.may_lead_further-requires-clause-node
+may_lead_further-requires-clause-node c =
+    let s = c.args.self.now in
+    let candidate = IsCandidate s.nodes.now c.new-locals.result s.path.now c.args.segment.now in
+    let met = subst (λ o. IfSome o candidate) c.in-Some.is c.in_ok-search.ensures.met in
+    met.node (met.local ∙ ap (λ (ls : PathSet). set.contains ls (take c.in-Some.here.depth s.path.now ++ c.args.segment.now)) c.new-locals.ensures
+    ∙ set.contains-empty path_cmp (take c.in-Some.here.depth s.path.now ++ c.args.segment.now))

@@ -1,119 +1,164 @@
-use Rattle.std.proofs.Common.{◌≡◌, ℕ, ◌-◌, ◌≤◌, List, [], ◌∷◌, ◌++◌, cond, Option, Some, None, is_some, take, get_or, length, refl, sym, ap}
+use Rattle.std.proofs.Common.{◌≡◌, ℕ, ◌-◌, ◌<◌, ◌≤◌, List, [], ◌∷◌, ◌++◌, cond, false, Option, Some, None, is_some, take, get_or, length, refl, sym, ap}
 use Rattle.std.proofs.Common.{◌∙◌}
 use Rattle.std.proofs.Common.{subst, arith, IfSome}
+use Rattle.std.specs.Prelude.{◌||◌}
 use Rattle.std.specs.Option.{option_or, option_and_then, option_map}
+use Rattle.std.specs.FinSet as set
 use Rattle.aml_names.specs.declared.segments.Seg.{Seg}
 use Rattle.aml_names.specs.Paths.{PathSet}
 use Rattle.aml_names.specs.Searching.{upward, nearest}
 use Rattle.aml_space.specs.declared.scopes.Candidate.{Candidate}
-use Rattle.aml_space.specs.Namespace.{Namespace, first_of, decides, is_outside}
+use Rattle.aml_space.specs.declared.scopes.Scope.{Scope}
+use Rattle.aml_space.specs.Namespace.{kind_at, first_of, decides, is_outside}
 use Rattle.aml_space.specs.Nodes.{outs_of}
 use Rattle.aml_space.specs.Candidates.{path_at, names_of, IsNext, IsCandidate}
 use Rattle.aml_space.proofs.Asked.{none_met_below}
-use Rattle.aml_space.proofs.Nearest.{near_within, local_at, passed_by}
+use Rattle.aml_space.proofs.Levels.{next_sooner}
+use Rattle.aml_space.proofs.Nearest.{near_within, passed_by, local_met, local_there, other_there, none_local, less_above, less_here}
 use Rattle.aml_space.proofs.Upward.{rest_of, hit, step, skip}
 use Rattle.aml_space.proofs.Meaning.{meant_path, outside_path, outside_depth, outside_still, ended}
 use Rattle.aml_space.proofs.scopes.Scope.search.Goals as goal
-use Rattle.aml_space.proofs.scopes.Scope.search.Goals.{After-is_meant}
+use Rattle.aml_space.proofs.scopes.Scope.search.Goals.{After-has_kind}
 
--- from a depth up to the next one that is asked, where no local stands between them
-module _ (locals : PathSet) (scope segment : List Seg) (one : length segment ≡ 1) (o : Option ℕ)
-    (is : o ≡ nearest locals scope (get_or segment 0 (record { 0 = [] }) ∷ [])) where
-  further : (n : Namespace) (outside : Option ℕ) (d asked : ℕ) → d ≤ length scope → IsNext n scope d asked → IfSome o (λ n. n ≤ asked) →
-      rest_of n locals scope segment outside (upward d scope segment) ≡ rest_of n locals scope segment outside (upward asked scope segment)
-  further n outside d asked within next above = skip n locals scope segment asked d outside next.within
-      (none_met_below n scope segment one locals d asked within next (passed_by locals scope segment one o is d asked within above))
+-- from a depth up to another, between which nothing stands
+further : (s : Scope) (locals : PathSet) (segment : List Seg) → length segment ≡ 1 → (o : Option ℕ) →
+    o ≡ nearest locals s.path.now (get_or segment 0 (record { 0 = [] }) ∷ []) → (outside : Option ℕ) (d asked : ℕ) → d ≤ length s.path.now →
+    IsNext (names_of s) s.path.now d asked → IfSome o (λ n. n ≤ asked) →
+    rest_of (names_of s) locals s.path.now segment outside (upward d s.path.now segment)
+    ≡ rest_of (names_of s) locals s.path.now segment outside (upward asked s.path.now segment)
+further s locals segment one o is outside d asked within next above = skip (names_of s) locals s.path.now segment asked d outside next.within
+    (none_met_below (names_of s) s.path.now segment one locals d asked within next (passed_by locals s.path.now segment one o is d asked within above))
+
+abbrev depth_of : Option Candidate → Option ℕ
+depth_of o = option_map (λ (c : Candidate). c.depth) o
+
+-- no local stands at the level or further down
+none_here : (c : After-has_kind) → IfSome c.in_ok-nearest.nearest (λ n. n < c.levels.level.depth)
+none_here c = none_local c.in_ok-nearest.nearest c.levels.level.depth c.nearer.result c.nearer.ensures c.in_default.not-Some
+
+other : (c : After-has_kind) → set.contains c.args.locals.now (take c.levels.level.depth c.args.self.now.path.now ++ c.args.segment.now) ≡ false
+other c = other_there c.args.locals.now c.args.self.now.path.now c.args.segment.now c.requires.one c.in_ok-nearest.nearest c.in_ok-nearest.ensures
+    c.levels.level.depth c.levels.invariant.1.next.level.within (none_here c)
+
+-- what is left to find, from the level on
+same_here : (c : After-has_kind)
+    → first_of (names_of c.args.self.now) c.args.locals.now (upward (length c.args.self.now.path.now) c.args.self.now.path.now c.args.segment.now)
+    ≡ rest_of (names_of c.args.self.now) c.args.locals.now c.args.self.now.path.now c.args.segment.now (depth_of c.levels.outside)
+    (upward c.levels.level.depth c.args.self.now.path.now c.args.segment.now)
+same_here c =
+    let inv = c.levels.invariant.1 in
+    inv.same ∙ further c.args.self.now c.args.locals.now c.args.segment.now c.requires.one c.in_ok-nearest.nearest c.in_ok-nearest.ensures
+    (depth_of c.levels.outside) c.levels.invariant.0 c.levels.level.depth inv.within inv.next.next
+    (less_here c.in_ok-nearest.nearest c.levels.level.depth (none_here c))
 
 -- the candidate at hand
-abbrev here : After-is_meant → Candidate
-here c = record { depth = c.depths.depth; node = c.node_at-node.result; local = c.stands-local.result }
+abbrev here : After-has_kind → Candidate
+here c = record { depth = c.levels.level.depth; node = c.node_at.result; local = false }
 
-is_here : (c : After-is_meant) → IsCandidate c.args.self.now.nodes.now c.args.locals.now c.args.self.now.path.now c.args.segment.now (here c)
-is_here c = record {
-  within = c.depths.invariant.within;
-  node = c.node_at-node.ensures.node;
-  local = c.stands-local.ensures ∙ local_at c.args.locals.now c.args.self.now.path.now c.args.segment.now c.requires.one c.in_ok-nearest.nearest
-      c.in_ok-nearest.ensures c.depths.depth c.depths.invariant.within c.depths.invariant.above;
-}
+is_here : (c : After-has_kind) → IsCandidate c.args.self.now.nodes.now c.args.locals.now c.args.self.now.path.now c.args.segment.now (here c)
+is_here c = record { within = c.levels.invariant.1.next.level.within; node = λ same. c.node_at.ensures.node; local = sym (other c) }
 
-meant : (c : After-is_meant)
-    → c.is_meant.result ≡ decides (names_of c.args.self.now) c.args.locals.now (take c.depths.depth c.args.self.now.path.now ++ c.args.segment.now)
-meant c = c.is_meant.ensures ∙ meant_path c.args.self.now.nodes.now c.args.locals.now c.args.self.now.path.now c.args.segment.now
-    c.requires.scope.shape (here c) (is_here c)
+meant : (c : After-has_kind)
+    → c.has_kind.result ≡ decides (names_of c.args.self.now) c.args.locals.now (take c.levels.level.depth c.args.self.now.path.now ++ c.args.segment.now)
+meant c = c.has_kind.ensures ∙ meant_path c.args.self.now.nodes.now c.args.locals.now c.args.self.now.path.now c.args.segment.now
+    c.requires.scope.index.shape (here c) (is_here c) refl
 
 -- the first that an External names, up to here
-first_here : (c : After-is_meant) (o : Option Candidate)
-    → o ≡ option_or c.depths.outside (cond (is_some (option_and_then (outs_of c.args.self.now.nodes.now) c.node_at-node.result)) (Some (here c)) None)
-    → o ≡ option_or c.depths.outside
-    (cond (is_outside (names_of c.args.self.now) (take c.depths.depth c.args.self.now.path.now ++ c.args.segment.now)) (Some (here c)) None)
-first_here c o is = is ∙ ap (λ b. option_or c.depths.outside (cond b (Some (here c)) None))
-    (outside_path c.args.self.now.nodes.now c.args.locals.now c.args.self.now.path.now c.args.segment.now c.requires.scope.shape (here c) (is_here c))
+first_here : (c : After-has_kind) (o : Option Candidate)
+    → o ≡ option_or c.levels.outside (cond (is_some (option_and_then (outs_of c.args.self.now.nodes.now) c.node_at.result)) (Some (here c)) None)
+    → o ≡ option_or c.levels.outside
+    (cond (is_outside (names_of c.args.self.now) (take c.levels.level.depth c.args.self.now.path.now ++ c.args.segment.now)) (Some (here c)) None)
+first_here c o is = is ∙ ap (λ b. option_or c.levels.outside (cond b (Some (here c)) None))
+    (outside_path c.args.self.now.nodes.now c.args.locals.now c.args.self.now.path.now c.args.segment.now c.requires.scope.index.shape (here c)
+    (is_here c) refl)
 
-outside_here : (c : After-is_meant) (o : Option Candidate)
-    → o ≡ option_or c.depths.outside (cond (is_some (option_and_then (outs_of c.args.self.now.nodes.now) c.node_at-node.result)) (Some (here c)) None)
+outside_here : (c : After-has_kind) (o : Option Candidate)
+    → o ≡ option_or c.levels.outside (cond (is_some (option_and_then (outs_of c.args.self.now.nodes.now) c.node_at.result)) (Some (here c)) None)
     → IfSome o (IsCandidate c.args.self.now.nodes.now c.args.locals.now c.args.self.now.path.now c.args.segment.now)
 outside_here c o is =
     let candidate = IsCandidate c.args.self.now.nodes.now c.args.locals.now c.args.self.now.path.now c.args.segment.now in
-    subst (λ o. IfSome o candidate) (sym is) (outside_still candidate c.depths.outside _ (here c) c.depths.invariant.outside (is_here c))
+    subst (λ o. IfSome o candidate) (sym is) (outside_still candidate c.levels.outside _ (here c) c.levels.invariant.1.outside (is_here c))
 
-pub returns-then-is_meant-clause-found : goal.returns-then-is_meant-clause-found
-returns-then-is_meant-clause-found c =
+pub levels-init : goal.levels-init
+levels-init c =
+    let s = c.args.self.now in (
+      length s.path.now,
+      record {
+        within = omega arith;
+        above = near_within c.args.locals.now s.path.now c.args.segment.now c.requires.one c.in_ok-nearest.nearest c.in_ok-nearest.ensures;
+        next = c.first_asked-level.ensures;
+        outside = tt;
+        same = refl;
+      },
+    )
+
+pub returns-in-Some-clause-found : goal.returns-in-Some-clause-found
+returns-in-Some-clause-found c =
     let s = c.args.self.now in
-    sym (c.depths.invariant.same ∙ hit (names_of s) c.args.locals.now s.path.now c.args.segment.now c.depths.depth _ _ refl
-    (sym (meant (goal.at.returns-then-is_meant-clause-found c).After-is_meant) ∙ c.if-is_meant.true))
+    let locals = c.args.locals.now in
+    let from = c.levels.invariant.0 in
+    let inv = c.levels.invariant.1 in
+    let near = c.in_ok-nearest.nearest in
+    let n = c.in-Some.local in
+    let met = local_met near c.levels.level.depth n (sym c.nearer.ensures ∙ c.in-Some.is) in
+    let within : n ≤ from = subst (λ o. IfSome o (λ n. n ≤ from)) met.0 inv.above in
+    let there = local_there locals s.path.now c.args.segment.now c.requires.one near c.in_ok-nearest.ensures n met.0 in
+    sym (inv.same ∙ further s locals c.args.segment.now c.requires.one near c.in_ok-nearest.ensures (depth_of c.levels.outside) from n inv.within
+    (next_sooner (names_of s) s.path.now from c.levels.level.depth n met.1 within inv.next.next) (subst (λ o. IfSome o (λ m. m ≤ n)) (sym met.0) (omega arith))
+    ∙ hit (names_of s) locals s.path.now c.args.segment.now n _ _ refl
+    (ap (λ b. b || is_some (kind_at (names_of s) (take n s.path.now ++ c.args.segment.now))) there))
 
-pub returns-then-is_meant-clause-met : goal.returns-then-is_meant-clause-met
-returns-then-is_meant-clause-met c = is_here (goal.at.returns-then-is_meant-clause-met c).After-is_meant
-
-pub returns-then-depth-eq0-clause-found : goal.returns-then-depth-eq0-clause-found
-returns-then-depth-eq0-clause-found c =
+pub returns-in-Some-clause-met : goal.returns-in-Some-clause-met
+returns-in-Some-clause-met c =
     let s = c.args.self.now in
-    let b = (goal.at.returns-then-depth-eq0-clause-found c).After-is_meant in
+    let near = c.in_ok-nearest.nearest in
+    let n = c.in-Some.local in
+    let met = local_met near c.levels.level.depth n (sym c.nearer.ensures ∙ c.in-Some.is) in
+    record {
+      within = subst (λ o. IfSome o (λ m. m ≤ length s.path.now)) met.0
+          (near_within c.args.locals.now s.path.now c.args.segment.now c.requires.one near c.in_ok-nearest.ensures);
+      node = λ same. absurd (Rattle.std.proofs.lemmas.Bool.false≢true (sym same));
+      local = sym (local_there c.args.locals.now s.path.now c.args.segment.now c.requires.one near c.in_ok-nearest.ensures n met.0);
+    }
+
+pub returns-then-has_kind-clause-found : goal.returns-then-has_kind-clause-found
+returns-then-has_kind-clause-found c =
+    let s = c.args.self.now in
+    let b = (goal.at.returns-then-has_kind-clause-found c).After-has_kind in
+    sym (same_here b ∙ hit (names_of s) c.args.locals.now s.path.now c.args.segment.now c.levels.level.depth _ _ refl (sym (meant b) ∙ c.if-has_kind.true))
+
+pub returns-then-has_kind-clause-met : goal.returns-then-has_kind-clause-met
+returns-then-has_kind-clause-met c = is_here (goal.at.returns-then-has_kind-clause-met c).After-has_kind
+
+pub returns-then-level-eq0-clause-found : goal.returns-then-level-eq0-clause-found
+returns-then-level-eq0-clause-found c =
+    let s = c.args.self.now in
+    let b = (goal.at.returns-then-level-eq0-clause-found c).After-has_kind in
     ap (option_map (path_at s.path.now c.args.segment.now)) (first_here b _ c.first_outside-outside.ensures)
-    ∙ sym (c.depths.invariant.same ∙ ended (names_of s) c.args.locals.now s.path.now c.args.segment.now c.depths.outside c.depths.depth
-    c.node_at-node.result c.stands-local.result c.if-depth-eq0.true (sym (meant b) ∙ c.if-is_meant.false))
+    ∙ sym (same_here b ∙ ended (names_of s) c.args.locals.now s.path.now c.args.segment.now c.levels.outside c.levels.level.depth
+    c.node_at.result false c.if-level-eq0.true (sym (meant b) ∙ c.if-has_kind.false))
 
-pub returns-then-depth-eq0-clause-met : goal.returns-then-depth-eq0-clause-met
-returns-then-depth-eq0-clause-met c =
-    outside_here (goal.at.returns-then-depth-eq0-clause-met c).After-is_meant c.first_outside-outside.result c.first_outside-outside.ensures
+pub returns-then-level-eq0-clause-met : goal.returns-then-level-eq0-clause-met
+returns-then-level-eq0-clause-met c =
+    outside_here (goal.at.returns-then-level-eq0-clause-met c).After-has_kind c.first_outside-outside.result c.first_outside-outside.ensures
 
-pub depths-preserved : goal.depths-preserved
-depths-preserved c =
+pub levels-preserved : goal.levels-preserved
+levels-preserved c =
     let s = c.args.self.now in
-    let k = names_of s in
     let locals = c.args.locals.now in
     let segment = c.args.segment.now in
-    let d = c.depths.depth in
-    let inv = c.depths.invariant in
-    let b = (goal.at.depths-preserved c).After-is_meant in
-    let next = c.next_depth-depth-in-depths.ensures in
-    record {
-      within = omega (arith, inv.within, next.next.within);
-      above = next.above;
-      outside = outside_here b c.first_outside-outside.result c.first_outside-outside.ensures;
-      same = inv.same ∙ step k locals s.path.now segment d (take d s.path.now ++ segment) (option_map (λ (c : Candidate). c.depth) c.depths.outside) refl
-          (sym (meant b) ∙ c.if-is_meant.false) (omega (arith, c.if-depth-eq0.false))
-          ∙ ap (λ o. rest_of k locals s.path.now segment o (upward (d - 1) s.path.now segment))
-          (sym (ap (option_map (λ (c : Candidate). c.depth)) (first_here b _ c.first_outside-outside.ensures) ∙ outside_depth c.depths.outside _ (here b)))
-          ∙ further locals s.path.now segment c.requires.one c.in_ok-nearest.nearest c.in_ok-nearest.ensures k
-          (option_map (λ (c : Candidate). c.depth) c.first_outside-outside.result) (d - 1) c.next_depth-depth-in-depths.result
-          (omega (arith, inv.within)) next.next next.above;
-    }
-
-pub next_depth-depth-requires-clause-above : goal.next_depth-depth-requires-clause-above
-next_depth-depth-requires-clause-above c = subst (λ m. IfSome c.in_ok-nearest.nearest (λ n. n ≤ m)) (ap length (sym c.segs.ensures))
-    (near_within c.args.locals.now c.args.self.now.path.now c.args.segment.now c.requires.one c.in_ok-nearest.nearest c.in_ok-nearest.ensures)
-
-pub depths-init : goal.depths-init
-depths-init c =
-    let s = c.args.self.now in
-    let long : length c.segs.result.now ≡ length s.path.now = ap length c.segs.ensures in
-    let next = c.next_depth-depth.ensures in
-    record {
-      within = omega (arith, long, next.next.within);
-      above = next.above;
-      outside = tt;
-      same = ap (λ n. first_of (names_of s) c.args.locals.now (upward n s.path.now c.args.segment.now)) (sym long)
-          ∙ further c.args.locals.now s.path.now c.args.segment.now c.requires.one c.in_ok-nearest.nearest c.in_ok-nearest.ensures (names_of s) None
-          (length c.segs.result.now) c.next_depth-depth.result (omega (arith, long)) next.next next.above;
-    }
+    let d = c.levels.level.depth in
+    let b = (goal.at.levels-preserved c).After-has_kind in
+    let positive : 0 < d = omega (arith, c.if-level-eq0.false) in (
+      d - 1,
+      record {
+        within = omega (arith, c.levels.invariant.1.next.level.within);
+        above = less_above c.in_ok-nearest.nearest d positive (none_here b);
+        next = c.asked_above-level.ensures;
+        outside = outside_here b c.first_outside-outside.result c.first_outside-outside.ensures;
+        same = same_here b ∙ step (names_of s) locals s.path.now segment d (take d s.path.now ++ segment) (depth_of c.levels.outside) refl
+            (sym (meant b) ∙ c.if-has_kind.false) positive
+            ∙ ap (λ o. rest_of (names_of s) locals s.path.now segment o (upward (d - 1) s.path.now segment))
+            (sym (ap depth_of (first_here b _ c.first_outside-outside.ensures) ∙ outside_depth c.levels.outside _ (here b)));
+      },
+    )

@@ -6,6 +6,7 @@ use Rattle.aml_space.specs.Nodes.{known_by}
 use Rattle.aml_space.specs.Known.{Known, StandsFor, once, namespace_in, with_declaration, with_again}
 use Rattle.aml_space.proofs.Stands.{stands_declared, again_first, none_undeclared}
 use Rattle.aml_space.proofs.Index.{kind_met, one_declared}
+use Rattle.aml_space.proofs.Levels.{settled_none}
 use Rattle.aml_space.proofs.spaces.Space.declare_again.Goals as goal
 use Rattle.aml_space.proofs.spaces.Space.declare_again.Goals.{In_ok-declare_first, In_default}
 
@@ -28,7 +29,12 @@ invariant_of-self-2 c =
     ap (λ (k : Known). length (map.entries k.declarations))
     (put_here (goal.at.invariant_of-self-2 c).In_ok-declare_first none ∙ again_first c.args.self.now c.args.path c.args.kind c.args.sure none)
     ∙ one_declared c.args.self.now c.args.path (once c.args.kind c.args.sure) none in
-    record { index = c.declare_first.ensures.index; rows = omega (arith, before, after); trail = c.declare_first.ensures.trail }
+    record {
+      index = c.declare_first.ensures.index;
+      rows = omega (arith, before, after);
+      trail = c.declare_first.ensures.trail;
+      settled = settled_none c.declare_first.new.nodes.items c.clear.new.self.items c.clear.ensures.items;
+    }
 
 pub returns-clause-ok : goal.returns-clause-ok
 returns-clause-ok c = put_here (goal.at.returns-clause-ok c).In_ok-declare_first (not_declared (goal.at.returns-clause-ok c).In_default)

@@ -6,6 +6,7 @@ use Rattle.aml_space.specs.Nodes.{known_by}
 use Rattle.aml_space.specs.Known.{Known, StandsFor, once, with_declaration, is_declared}
 use Rattle.aml_space.proofs.Stands.{stands_declared, again_first, none_from_test, declared_listed}
 use Rattle.aml_space.proofs.Index.{known_taken, one_declared}
+use Rattle.aml_space.proofs.Levels.{settled_none}
 use Rattle.aml_space.proofs.spaces.Space.declare_once.Goals as goal
 use Rattle.aml_space.proofs.spaces.Space.declare_once.Goals.{After-is_taken, In_ok-declare_first}
 
@@ -30,7 +31,12 @@ invariant_of-self-2 c =
     ap (λ (k : Known). length (map.entries k.declarations)) (put_here (goal.at.invariant_of-self-2 c).In_ok-declare_first)
     ∙ one_declared c.args.self.now c.args.path (once c.args.kind c.args.surely)
     (not_declared (goal.at.invariant_of-self-2 c).After-is_taken c.if-is_taken.false) in
-    record { index = c.declare_first.ensures.index; rows = omega (arith, before, after); trail = c.declare_first.ensures.trail }
+    record {
+      index = c.declare_first.ensures.index;
+      rows = omega (arith, before, after);
+      trail = c.declare_first.ensures.trail;
+      settled = settled_none c.declare_first.new.nodes.items c.clear.new.self.items c.clear.ensures.items;
+    }
 
 pub returns-clause-stands : goal.returns-clause-stands
 returns-clause-stands c = λ es body stands. subst (λ k. StandsFor k (es ++ declares c.args.path c.args.kind body c.args.surely ∷ []))

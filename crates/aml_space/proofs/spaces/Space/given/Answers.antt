@@ -6,6 +6,7 @@ use Rattle.aml_space.specs.Nodes.{known_by, IsIndex, HasGiven}
 use Rattle.aml_space.proofs.Trailing.{content_trail}
 use Rattle.aml_space.proofs.Stands.{stands_given}
 use Rattle.aml_space.proofs.Index.{put_given}
+use Rattle.aml_space.proofs.Levels.{settled_none}
 use Rattle.aml_space.proofs.spaces.Space.given.Goals as goal
 use Rattle.aml_space.proofs.spaces.Space.given.Goals.{After-set_given}
 
@@ -24,6 +25,7 @@ invariant_of-self-2 c = record {
       ∙ ap (λ (k : Known). length (map.entries k.declarations)) (sym (put_here (goal.at.invariant_of-self-2 c).After-set_given c.set_given.ensures).1);
   trail = content_trail c.make_node.new.nodes.items c.set_given.new.nodes.items c.in_ok-at.at _ c.make_node.new.trail.items c.set_given.ensures
       c.make_node.ensures.trail;
+  settled = settled_none _ c.clear.new.self.items c.clear.ensures.items;
 }
 
 pub returns-clause-ok : goal.returns-clause-ok

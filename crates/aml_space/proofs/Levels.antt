@@ -1,0 +1,131 @@
+-- The levels of a scope. A level's parent is the one before it (`led_above`); only the root stands at the depth 0
+-- (`root_depth`). What is kept of a node comes from what is kept of its parent (`settled_on`).
+use Rattle.std.specs.Prelude.{slice_get}
+use Rattle.std.proofs.Common.{◌≡◌, ℕ, zero, suc, ◌+◌, ◌-◌, ◌<◌, ◌≤◌, List, [], ◌++◌, length, take, drop, get_or, Option, Some, None, IfSome, ◌⊎◌, inl, inr, refl, sym, ap, subst}
+use Rattle.std.proofs.Common.{◌∙◌, arith}
+use Rattle.std.specs.Option.{option_and_then}
+use Rattle.std.proofs.lemmas.Bool.{cases_lt}
+use Rattle.std.proofs.lemmas.List.{take_more, take-append-drop, take-take, drop_more}
+use Rattle.std.proofs.lemmas.Option.{same_Some}
+use Rattle.aml_names.specs.declared.segments.Seg.{Seg}
+use Rattle.aml_children.specs.declared.children.Child.{Child}
+use Rattle.aml_children.specs.Children.{child_in}
+use Rattle.aml_space.specs.declared.nodes.Node.{Node}
+use Rattle.aml_space.specs.declared.growing.Reach.{Reach}
+use Rattle.aml_space.specs.declared.settling.Settled.{Settled}
+use Rattle.aml_space.specs.Nodes.{walk, kids_of, links_of, known_by, IsIndex, Reaches}
+use Rattle.aml_space.specs.Known.{namespace_in}
+use Rattle.aml_space.specs.Namespace.{Namespace}
+use Rattle.aml_space.specs.Candidates.{IsNext, IsSilent, IsSettled, AreSettled, HasBareChildren}
+use Rattle.aml_space.proofs.Asked.{next_itself, next_further, silent_at}
+use Rattle.aml_space.proofs.Basics.{alone}
+use Rattle.aml_space.proofs.Walks.{walk_push, walk_none, led_more, kid_range}
+
+none_seg : Seg
+none_seg = record { 0 = [] }
+
+-- a path whose front leads to a node that has no child by the next segment
+pub led_no_further : (kids : ℕ → List Child) (k at : ℕ) (p : List Seg) (e : Seg) → k < length p → walk kids 0 (take k p) ≡ Some at →
+    child_in (kids at) (get_or p k e) ≡ None → walk kids 0 p ≡ None
+led_no_further kids k at p e within led none = ap (walk kids 0) (sym (take-append-drop (k + 1) p))
+    ∙ walk_none kids 0 (take (k + 1) p) (drop (k + 1) p) (led_more kids at k p e None within led none)
+
+module _ (ns : List Node) (scope : List Seg) where
+  -- behind the longest front that leads somewhere nothing does
+  pub reach_past : (r : Reach) → Reaches ns scope r → (d : ℕ) → r.known < d → d ≤ length scope → walk (kids_of ns) 0 (take d scope) ≡ None
+  reach_past r is d more within =
+      let inside : r.known < length scope = omega (arith, more, within) in
+      let none = is.ends (get_or scope r.known none_seg) (drop (r.known + 1) scope) (drop_more scope r.known none_seg inside) in
+      ap (walk (kids_of ns) 0) (sym (take-append-drop (r.known + 1) (take d scope))
+      ∙ ap (λ q. q ++ drop (r.known + 1) (take d scope)) (take-take (r.known + 1) d scope (omega (arith, more))))
+      ∙ walk_none (kids_of ns) 0 (take (r.known + 1) scope) _ (led_more (kids_of ns) r.node r.known scope none_seg None inside is.led none)
+
+  -- the node of a candidate
+  pub candidate_node : (segment : List Seg) (e : Seg) (d at : ℕ) → length segment ≡ 1 → walk (kids_of ns) 0 (take d scope) ≡ Some at →
+      child_in (kids_of ns at) (get_or segment 0 e) ≡ walk (kids_of ns) 0 (take d scope ++ segment)
+  candidate_node segment e d at one led = sym (walk_push (kids_of ns) 0 (take d scope) (get_or segment 0 e)
+      ∙ ap (option_and_then (λ j. child_in (kids_of ns j) (get_or segment 0 e))) led) ∙ ap (λ t. walk (kids_of ns) 0 (take d scope ++ t)) (alone segment e one)
+
+module _ (ns : List Node) (is : IsIndex ns) (path : List Seg) where
+  -- the level before one
+  before : (d j : ℕ) → d < length path → walk (kids_of ns) 0 (take (d + 1) path) ≡ Some j
+      → (i : ℕ) × (walk (kids_of ns) 0 (take d path) ≡ Some i) × (child_in (kids_of ns i) (get_or path d none_seg) ≡ Some j)
+  before d j within led = by (walk (kids_of ns) 0 (take d path)) refl
+      (sym (ap (walk (kids_of ns) 0) (take_more path d none_seg within) ∙ walk_push (kids_of ns) 0 (take d path) (get_or path d none_seg)) ∙ led)
+    where
+      by : (o : Option ℕ) → walk (kids_of ns) 0 (take d path) ≡ o → option_and_then (λ i. child_in (kids_of ns i) (get_or path d none_seg)) o ≡ Some j
+          → (i : ℕ) × (walk (kids_of ns) 0 (take d path) ≡ Some i) × (child_in (kids_of ns i) (get_or path d none_seg) ≡ Some j)
+      by None here found = absurd cc
+      by (Some i) here found = (i, here, found)
+
+  pub led_above : (d j : ℕ) → d < length path → walk (kids_of ns) 0 (take (d + 1) path) ≡ Some j
+      → walk (kids_of ns) 0 (take d path) ≡ Some (links_of ns j).0
+  led_above d j within led =
+      let there = before d j within led in
+      there.1 ∙ ap (λ (l : ℕ × Seg). Some l.0) (sym (is.linked.below there.0 j (get_or path d none_seg) there.2))
+
+  -- each level but the first is below the root
+  pub deep_node : (d j : ℕ) → d < length path → walk (kids_of ns) 0 (take (d + 1) path) ≡ Some j → 0 < j
+  deep_node d j within led =
+      let there = before d j within led in
+      let range = kid_range is.shape there.0 (get_or path d none_seg) j there.2 in
+      omega (arith, range.0)
+
+  -- the root's level
+  pub root_depth : (d : ℕ) → d ≤ length path → walk (kids_of ns) 0 (take d path) ≡ Some 0 → d ≡ 0
+  root_depth zero within led = refl
+  root_depth (suc d) within led =
+      let deep = deep_node d 0 (omega (arith, within)) (ap (λ n. walk (kids_of ns) 0 (take n path)) {x = d + 1} {y = suc d} (omega arith) ∙ led) in
+      absurd (omega (arith, deep))
+
+  -- what is kept of a node, from what is kept of its parent
+  pub settled_on : (d j : ℕ) (above new : Settled) → d < length path → walk (kids_of ns) 0 (take (d + 1) path) ≡ Some j → IsSettled ns path d above
+      → new.depth ≡ above.depth + 1 → (new.asked ≡ j) ⊎ ((new.asked ≡ above.asked) × HasBareChildren ns j) → IsSettled ns path (d + 1) new
+  settled_on d j above new within led so_far deeper which = record {
+    depth = omega (arith, deeper, so_far.depth);
+    asked = elim which [
+      | inl itself ↦ (d + 1, next_itself (namespace_in (known_by ns)) path (d + 1) (d + 1) refl, led ∙ ap (λ i. Some i) (sym itself))
+      | inr w ↦ (
+        so_far.asked.0,
+        next_further (namespace_in (known_by ns)) path d so_far.asked.0 so_far.asked.1 (silent_at ns is.shape (take (d + 1) path) j led w.1),
+        so_far.asked.2 ∙ ap (λ i. Some i) (sym w.0),
+      )
+    ];
+  }
+
+  -- at whatever depth of a path the node stands
+  pub settled_here : (at : ℕ) (above new : Settled) → 0 < at → (up : ℕ) → up ≡ (links_of ns at).0
+      → ((path : List Seg) (d : ℕ) → d ≤ length path → walk (kids_of ns) 0 (take d path) ≡ Some up → IsSettled ns path d above)
+      → new.depth ≡ above.depth + 1 → (new.asked ≡ at) ⊎ ((new.asked ≡ above.asked) × HasBareChildren ns at)
+      → (d : ℕ) → d ≤ length path → walk (kids_of ns) 0 (take d path) ≡ Some at → IsSettled ns path d new
+  settled_here at above new some up is parent deeper which zero within led = absurd (omega (arith, some, same_Some 0 at led))
+  settled_here at above new some up is parent deeper which (suc d) within led =
+      let inside : d < length path = omega (arith, within) in
+      let here : walk (kids_of ns) 0 (take (d + 1) path) ≡ Some at =
+      ap (λ n. walk (kids_of ns) 0 (take n path)) {x = d + 1} {y = suc d} (omega arith) ∙ led in
+      subst (λ n. IsSettled ns path n new) {x = d + 1} {y = suc d} (omega arith) (settled_on d at above new inside here
+      (parent path d (omega (arith, inside)) (led_above d at inside here ∙ ap (λ i. Some i) (sym is))) deeper which)
+
+-- nothing is kept of no node
+pub settled_none : (ns : List Node) (settled : List Settled) → settled ≡ [] → AreSettled ns settled
+settled_none ns settled none i = subst (λ (ss : List Settled). IfSome (slice_get ss i) (λ (s : Settled). (path : List Seg) (d : ℕ) → d ≤ length path
+    → walk (kids_of ns) 0 (take d path) ≡ Some i → IsSettled ns path d s)) (sym none) tt
+
+-- from any nearer depth up the same is the next to be asked
+pub next_nearer : (n : Namespace) (path : List Seg) (from to asked : ℕ) → to ≤ from → asked ≤ to → IsNext n path from asked → IsNext n path to asked
+next_nearer n path from to asked less more is = record { within = more; silent = λ d above below. is.silent d above (omega (arith, below, less)) }
+
+-- where nothing is known at a level, the one above it comes next
+pub next_up : (n : Namespace) (path : List Seg) (from asked : ℕ) → 0 < asked → IsNext n path from asked → IsSilent n (take asked path)
+    → IsNext n path from (asked - 1)
+next_up n path from asked some is here = record {
+  within = omega (arith, is.within);
+  silent = λ d above below. elim (cases_lt asked d) [
+    | inl further ↦ is.silent d further below
+    | inr up ↦ subst (λ m. IsSilent n (take m path)) {x = asked} {y = d} (omega (arith, up, above, some)) here
+  ];
+}
+
+-- a depth between is next as well
+pub next_sooner : (n : Namespace) (path : List Seg) (from asked m : ℕ) → asked ≤ m → m ≤ from → IsNext n path from asked → IsNext n path from m
+next_sooner n path from asked m less within is = record { within = within; silent = λ d above below. is.silent d (omega (arith, above, less)) below }

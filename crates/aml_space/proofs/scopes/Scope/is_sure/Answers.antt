@@ -1,0 +1,14 @@
+use Rattle.std.proofs.Common.{take, ◌++◌, ◌∙◌}
+use Rattle.aml_space.specs.Known.{sure_by}
+use Rattle.aml_space.proofs.Meaning.{declared_there}
+use Rattle.aml_space.proofs.Walks.{node_within}
+use Rattle.aml_space.proofs.scopes.Scope.is_sure.Goals as goal
+
+pub sure_met-requires : goal.sure_met-requires
+sure_met-requires c = node_within c.requires.scope.index.shape _ c.args.here.node c.requires.node
+
+pub returns : goal.returns
+returns c =
+    let s = c.args.self.now in
+    c.sure_met.ensures ∙ (λ i. sure_by (declared_there s.nodes.now c.requires.scope.index.shape
+    (take c.args.here.depth s.path.now ++ c.args.segment.now) c.args.here.node c.requires.node i) (c.standing.ensures i))

@@ -1,0 +1,16 @@
+use Rattle.std.proofs.Common.{subst}
+use Rattle.aml_space.specs.Nodes.{Reaches}
+use Rattle.aml_space.proofs.Levels.{reach_past}
+use Rattle.aml_space.proofs.scopes.Scope.new.Goals as goal
+
+pub returns-clause-scope : goal.returns-clause-scope
+returns-clause-scope c =
+    let ns = c.args.nodes.now in
+    let r = c.reach_along-reach.result in
+    let reach = subst (λ q. Reaches ns q r) c.segs.ensures c.reach_along-reach.ensures in
+    record {
+      index = c.requires.index;
+      settled = c.requires.settled;
+      last = record { within = reach.within; led = reach.led };
+      past = reach_past ns c.args.path.now r reach;
+    }

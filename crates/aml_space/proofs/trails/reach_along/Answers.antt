@@ -1,0 +1,30 @@
+use Rattle.std.proofs.Common.{◌≡◌, Some, get_or, take, sym, ap, ◌∙◌, [], arith}
+use Rattle.aml_children.specs.Children.{child_in}
+use Rattle.aml_space.specs.Nodes.{walk, kids_of}
+use Rattle.aml_space.proofs.Walks.{kid_range, led_more, node_range}
+use Rattle.aml_space.proofs.trails.reach_along.Goals as goal
+
+pub loop-reach-init : goal.loop-reach-init
+loop-reach-init c =
+    let ns = c.args.nodes.now in
+    let led : walk (kids_of ns) 0 (take c.common-known.result c.args.path.now) ≡ Some c.node_at.result =
+    ap (walk (kids_of ns) 0) (sym c.common-known.ensures.same) ∙ c.node_at.ensures ns c.requires.trail in
+    record {
+      led = led;
+      inside = node_range c.requires.shape (take c.common-known.result c.args.path.now) c.node_at.result led;
+      within = c.common-known.ensures.within;
+    }
+
+pub loop-reach-preserved : goal.loop-reach-preserved
+loop-reach-preserved c =
+    let ns = c.args.nodes.now in
+    let inv = c.loop-reach.invariant in
+    let k = c.loop-reach.reach.known in
+    let path = c.args.path.now in
+    let found : child_in (kids_of ns c.loop-reach.reach.node) (get_or path k (record { 0 = [] })) ≡ Some c.in-Some.next =
+    sym c.child.ensures ∙ c.in-Some.is in
+    record {
+      led = led_more (kids_of ns) c.loop-reach.reach.node k path (record { 0 = [] }) (Some c.in-Some.next) c.loop-reach-test.true inv.led found;
+      inside = (kid_range c.requires.shape c.loop-reach.reach.node (get_or path k (record { 0 = [] })) c.in-Some.next found).1;
+      within = omega (arith, c.loop-reach-test.true);
+    }
