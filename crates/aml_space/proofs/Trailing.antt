@@ -1,64 +1,92 @@
 -- The way to a path. A way stays one where paths keep their nodes (`kept_trail`), a front of it is one (`front_trail`),
--- and so is it with a step more that leads on (`longer_trail`).
+-- and so is it with a segment more that leads on (`longer_trail`).
 use Rattle.std.specs.Prelude.{slice_get}
-use Rattle.std.proofs.Common.{◌≡◌, ℕ, zero, suc, ◌+◌, ◌<◌, ◌≤◌, List, [], ◌∷◌, ◌++◌, map as map_list, length, take, Option, Some, None, inl, inr, ◌⊎◌, refl, sym, ap, subst, ◌∙◌, arith}
+use Rattle.std.proofs.Common.{◌≡◌, ℕ, zero, suc, ◌+◌, ◌<◌, ◌≤◌, List, [], ◌∷◌, ◌++◌, length, take, Option, Some, None, IfSome, inl, inr, refl, sym, ap, subst, ◌∙◌, arith}
+use Rattle.std.proofs.Common.{length-append}
 use Rattle.std.proofs.lemmas.Bool.{cases_lt}
-use Rattle.std.proofs.lemmas.List.{map-append, length-map, take-take}
-use Rattle.std.proofs.lemmas.Option.{same_Some, none-some, slice_get_past}
+use Rattle.std.proofs.lemmas.List.{length-take, take-take, take_all}
+use Rattle.std.proofs.lemmas.Option.{none-some, same_Some}
+use Rattle.aml_names.specs.declared.segments.Seg.{Seg}
 use Rattle.aml_space.specs.declared.nodes.Node.{Node}
-use Rattle.aml_space.specs.declared.trails.Step.{Step}
+use Rattle.aml_space.specs.declared.trails.Trail.{Trail}
 use Rattle.aml_space.specs.Nodes.{walk, kids_of, Content, HasContent, IsKept}
-use Rattle.aml_space.specs.Trails.{segs_of, IsTrail}
-use Rattle.aml_space.proofs.Basics.{read_front, read_last}
+use Rattle.aml_space.specs.Trails.{IsTrail}
+use Rattle.aml_space.proofs.Basics.{each_more}
 
-pub kept_trail : (old new : List Node) (steps : List Step) → IsKept old new → IsTrail old steps → IsTrail new steps
-kept_trail old new steps kept is d s at = kept (take (d + 1) (segs_of steps)) s.node (is d s at)
+kept_at : (old new : List Node) (q : List Seg) (o : Option ℕ) → IsKept old new → IfSome o (λ at. walk (kids_of old) 0 q ≡ Some at)
+    → IfSome o (λ at. walk (kids_of new) 0 q ≡ Some at)
+kept_at old new q None kept is = tt
+kept_at old new q (Some at) kept is = kept q at is
+
+pub kept_trail : (old new : List Node) (t : Trail) → IsKept old new → IsTrail old t → IsTrail new t
+kept_trail old new t kept is = record { even = is.even; led = λ d. kept_at old new (take (d + 1) t.segs.items) (slice_get t.nodes.items d) kept (is.led d) }
 
 -- other content of a node changes no way
-pub content_trail : (old new : List Node) (i : ℕ) (x : Content) (steps : List Step) → HasContent old new i x → IsTrail old steps → IsTrail new steps
-content_trail old new i x steps has = kept_trail old new steps (λ q j led. (λ t. walk (λ k. has.kids k t) 0 q) ∙ led)
+pub content_trail : (old new : List Node) (i : ℕ) (x : Content) (t : Trail) → HasContent old new i x → IsTrail old t → IsTrail new t
+content_trail old new i x t has = kept_trail old new t (λ q j led. (λ t. walk (λ k. has.kids k t) 0 q) ∙ led)
 
-read_take : {A : Type 0} (n d : ℕ) (xs : List A) (x : A) → slice_get (take n xs) d ≡ Some x → (d < n) × (slice_get xs d ≡ Some x)
-read_take zero d xs x at = absurd (none-some x at)
-read_take (suc n) d [] x at = absurd (none-some x at)
-read_take (suc n) zero (y ∷ xs) x at = (omega arith, at)
-read_take (suc n) (suc d) (y ∷ xs) x at = let more = read_take n d xs x at in (omega (arith, more.0), more.1)
+-- that of the root
+pub no_trail : (ns : List Node) (t : Trail) → t.segs.items ≡ [] → t.nodes.items ≡ [] → IsTrail ns t
+no_trail ns t segs nodes = record {
+  even = ap length nodes ∙ sym (ap length segs);
+  led = λ d. subst (λ xs. IfSome (slice_get xs d) (λ at. walk (kids_of ns) 0 (take (d + 1) t.segs.items) ≡ Some at)) (sym nodes) tt;
+}
 
-pub take_map : {A B : Type 0} (f : A → B) (n : ℕ) (xs : List A) → take n (map_list f xs) ≡ map_list f (take n xs)
-take_map f zero xs = refl
-take_map f (suc n) [] = refl
-take_map f (suc n) (x ∷ xs) = ap (λ ys. f x ∷ ys) (take_map f n xs)
+-- and so is one of the same segments and nodes
+pub same_trail : (ns : List Node) (t new : Trail) → new.segs.items ≡ t.segs.items → new.nodes.items ≡ t.nodes.items → IsTrail ns t → IsTrail ns new
+same_trail ns t new segs nodes is = record {
+  even = ap length nodes ∙ is.even ∙ sym (ap length segs);
+  led = λ d. subst (λ xs. IfSome (slice_get xs d) (λ at. walk (kids_of ns) 0 (take (d + 1) new.segs.items) ≡ Some at)) (sym nodes)
+      (subst (λ (qs : List Seg). IfSome (slice_get t.nodes.items d) (λ at. walk (kids_of ns) 0 (take (d + 1) qs) ≡ Some at)) (sym segs) (is.led d));
+}
 
-pub front_trail : (ns : List Node) (steps front : List Step) (n : ℕ) → front ≡ take n steps → IsTrail ns steps → IsTrail ns front
-front_trail ns steps front n same is d s at =
-    let there = read_take n d steps s (ap (λ ys. slice_get ys d) (sym same) ∙ at) in
-    ap (walk (kids_of ns) 0) (ap (λ ys. take (d + 1) (segs_of ys)) same ∙ ap (take (d + 1)) (sym (take_map _ n steps))
-    ∙ take-take (d + 1) n (segs_of steps) (omega (arith, there.0))) ∙ is d s there.1
+read_take : {A : Type 0} (P : A → Type 0) (n d : ℕ) (xs : List A) → IfSome (slice_get xs d) P → (d < n → IfSome (slice_get (take n xs) d) P)
+read_take P zero d xs at less = absurd (omega (arith, less))
+read_take P (suc n) d [] at less = tt
+read_take P (suc n) zero (y ∷ xs) at less = at
+read_take P (suc n) (suc d) (y ∷ xs) at less = read_take P n d xs at (omega (arith, less))
+
+read_past : {A : Type 0} (P : A → Type 0) (n d : ℕ) (xs : List A) → n ≤ d → IfSome (slice_get (take n xs) d) P
+read_past P zero d xs less = tt
+read_past P (suc n) d [] less = tt
+read_past P (suc n) zero (y ∷ xs) less = absurd (omega (arith, less))
+read_past P (suc n) (suc d) (y ∷ xs) less = read_past P n d xs (omega (arith, less))
+
+pub front_trail : (ns : List Node) (t front : Trail) (n : ℕ) → front.segs.items ≡ take n t.segs.items → front.nodes.items ≡ take n t.nodes.items
+    → IsTrail ns t → IsTrail ns front
+front_trail ns t front n segs nodes is = record {
+  even = ap length nodes ∙ length-take n t.nodes.items ∙ ap (λ m. Rattle.std.specs.Prelude.min n m) is.even ∙ sym (length-take n t.segs.items) ∙ sym (ap length segs);
+  led = λ d. subst (λ xs. IfSome (slice_get xs d) (λ at. walk (kids_of ns) 0 (take (d + 1) front.segs.items) ≡ Some at)) (sym nodes)
+      (subst (λ (qs : List Seg). IfSome (slice_get (take n t.nodes.items) d) (λ at. walk (kids_of ns) 0 (take (d + 1) qs) ≡ Some at)) (sym segs)
+      (elim (cases_lt d n) [
+        | inl inside ↦ subst (λ (qs : List Seg). IfSome (slice_get (take n t.nodes.items) d) (λ at. walk (kids_of ns) 0 qs ≡ Some at))
+            (sym (take-take (d + 1) n t.segs.items (omega (arith, inside)))) (read_take _ n d t.nodes.items (is.led d) inside)
+        | inr past ↦ read_past _ n d t.nodes.items past
+      ]));
+}
 
 take_front : {A : Type 0} (n : ℕ) (xs ys : List A) → n ≤ length xs → take n (xs ++ ys) ≡ take n xs
 take_front zero xs ys less = refl
 take_front (suc n) [] ys less = absurd (omega (arith, less))
 take_front (suc n) (x ∷ xs) ys less = ap (λ zs. x ∷ zs) (take_front n xs ys (omega (arith, less)))
 
-pub longer_trail : (ns : List Node) (steps : List Step) (new : Step) → IsTrail ns steps → walk (kids_of ns) 0 (segs_of steps ++ new.seg ∷ []) ≡ Some new.node
-    → IsTrail ns (steps ++ new ∷ [])
-longer_trail ns steps new is led d s at = elim (cases_lt d (length steps)) [
-  | inl inside ↦
-      ap (walk (kids_of ns) 0) (ap (take (d + 1)) (map-append (λ (s : Step). s.seg) steps (new ∷ []))
-      ∙ take_front (d + 1) (segs_of steps) (new.seg ∷ []) (omega (arith, inside, length-map steps (λ (s : Step). s.seg))))
-      ∙ is d s (sym (read_front steps (new ∷ []) d inside) ∙ at)
-  | inr past ↦ elim (cases_lt (length steps) d) [
-    | inl far ↦ absurd (none-some s (sym (slice_get_past (steps ++ new ∷ []) d (omega (arith, far, long))) ∙ at))
-    | inr near ↦
-        let here : d ≡ length steps = omega (arith, near, past) in
-        let same : new ≡ s = same_Some new s (sym (ap (slice_get (steps ++ new ∷ [])) here ∙ read_last steps new) ∙ at) in
-        ap (walk (kids_of ns) 0) (whole here ∙ map-append (λ (s : Step). s.seg) steps (new ∷ [])) ∙ led ∙ ap (λ (t : Step). Some t.node) same
-  ]
-]
+pub longer_trail : (ns : List Node) (t new : Trail) (seg : Seg) (node : ℕ) → new.segs.items ≡ t.segs.items ++ seg ∷ []
+    → new.nodes.items ≡ t.nodes.items ++ node ∷ [] → IsTrail ns t → walk (kids_of ns) 0 (t.segs.items ++ seg ∷ []) ≡ Some node → IsTrail ns new
+longer_trail ns t new seg node segs nodes is led = record {
+  even = ap length nodes ∙ length-append t.nodes.items (node ∷ []) ∙ ap (λ n. n + 1) is.even ∙ sym (length-append t.segs.items (seg ∷ [])) ∙ sym (ap length segs);
+  led = λ d. subst (λ xs. IfSome (slice_get xs d) (λ at. walk (kids_of ns) 0 (take (d + 1) new.segs.items) ≡ Some at)) (sym nodes)
+      (subst (λ (qs : List Seg). IfSome (slice_get (t.nodes.items ++ node ∷ []) d) (λ at. walk (kids_of ns) 0 (take (d + 1) qs) ≡ Some at)) (sym segs)
+      (each_more (λ d at. walk (kids_of ns) 0 (take (d + 1) (t.segs.items ++ seg ∷ [])) ≡ Some at) t.nodes.items node inside last d));
+}
   where
-    long : length (steps ++ new ∷ []) ≡ length steps + 1
-    long = Rattle.std.proofs.Common.length-append steps (new ∷ [])
+    inside : (d : ℕ) → IfSome (slice_get t.nodes.items d) (λ at. walk (kids_of ns) 0 (take (d + 1) (t.segs.items ++ seg ∷ [])) ≡ Some at)
+    inside d = elim (cases_lt d (length t.nodes.items)) [
+      | inl here ↦ subst (λ (qs : List Seg). IfSome (slice_get t.nodes.items d) (λ at. walk (kids_of ns) 0 qs ≡ Some at))
+          (sym (take_front (d + 1) t.segs.items (seg ∷ []) (omega (arith, here, is.even)))) (is.led d)
+      | inr past ↦ subst (λ o. IfSome o (λ at. walk (kids_of ns) 0 (take (d + 1) (t.segs.items ++ seg ∷ [])) ≡ Some at))
+          (sym (Rattle.std.proofs.lemmas.Option.slice_get_past t.nodes.items d past)) tt
+    ]
 
-    whole : d ≡ length steps → take (d + 1) (segs_of (steps ++ new ∷ [])) ≡ segs_of (steps ++ new ∷ [])
-    whole here = Rattle.std.proofs.lemmas.List.take_all (d + 1) (segs_of (steps ++ new ∷ []))
-        (omega (arith, here, long, length-map (steps ++ new ∷ []) (λ (s : Step). s.seg)))
+    last : walk (kids_of ns) 0 (take (length t.nodes.items + 1) (t.segs.items ++ seg ∷ [])) ≡ Some node
+    last = ap (walk (kids_of ns) 0) (take_all (length t.nodes.items + 1) (t.segs.items ++ seg ∷ [])
+        (omega (arith, length-append t.segs.items (seg ∷ []), is.even))) ∙ led

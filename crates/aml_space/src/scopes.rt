@@ -25,7 +25,7 @@ use crate::parents::link;
 use crate::predefined::Predefined;
 use crate::settling::Settled;
 use crate::tallies::Counts;
-use crate::trails::{Step, reach_along};
+use crate::trails::{Trail, reach_along};
 use crate::walking::{child, children_at, given_at, kind_at, node_from, out_at};
 use aml_names::{Locals, NoMemory, Path, Seg};
 use std::alloc::Global;
@@ -67,7 +67,7 @@ impl<'a> Scope<'a> {
         nodes: &'a [Node],
         settled: &'a [Settled],
         predefined: &'a Predefined,
-        trail: &[Step],
+        trail: &Trail,
         path: &'a Path,
     ) -> Scope<'a>
         requires index { IsIndex nodes.now }

@@ -24,7 +24,7 @@ use crate::predefined::Predefined;
 use crate::rows::Row;
 use crate::scopes::Scope;
 use crate::settling::{Settled, settled_of};
-use crate::trails::{Step, deepest, node_along};
+use crate::trails::{Trail, deepest, node_along};
 use crate::walking::{kind_at, out_at, walk_counted};
 use aml_names::{NoMemory, Path, Seg};
 use std::alloc::{AllocError, Global};
@@ -41,7 +41,7 @@ pub struct Space {
     /// How many paths are declared.
     rows: usize,
     /// The way to a path that was looked for, so that the next of the same scope is found soon.
-    trail: Vec<Step>,
+    trail: Trail,
     /// Where the search for a segment goes on from each node, from when this is settled to the next declaration.
     settled: Vec<Settled>,
 }
@@ -58,7 +58,7 @@ impl Model for Space {
 
     ghost view = { λ s. known_by s.nodes.items };
 
-    ghost invariant = { λ s. IsSpace s.nodes.items s.rows s.trail.items s.settled.items };
+    ghost invariant = { λ s. IsSpace s.nodes.items s.rows s.trail s.settled.items };
 }
 
 /// A declared path, the kind of its first declaration, whether a declaration is sure, and how many there are.
@@ -83,7 +83,7 @@ impl Space {
             nodes,
             predefined: Predefined::new(),
             rows: 0,
-            trail: Vec::new(alloc),
+            trail: Trail::new(alloc),
             settled: Vec::new(alloc),
         })
     }
@@ -150,7 +150,7 @@ impl Space {
         ensures err { OnErr result (self.new ≡ self.old) }
     {
         self.settled.clear();
-        if let Some(at) = declared_node(self.nodes.as_slice(), self.trail.as_slice(), path.segs()) {
+        if let Some(at) = declared_node(self.nodes.as_slice(), &self.trail, path.segs()) {
             return declare_again(self.alloc, &mut self.nodes, path.segs(), at, kind, sure);
         }
         if self.rows == usize::MAX {
@@ -222,7 +222,7 @@ impl Space {
         ensures { option_copied result ≡ (namespace_in self.now).declared path.now }
     {
         let nodes = self.nodes.as_slice();
-        kind_at(nodes, node_along(nodes, self.trail.as_slice(), path.segs()))
+        kind_at(nodes, node_along(nodes, &self.trail, path.segs()))
     }
 
     /// The greatest count of a path's Externals.
@@ -230,7 +230,7 @@ impl Space {
         ensures { result ≡ map.get self.now.outs path.now }
     {
         let nodes = self.nodes.as_slice();
-        let at = node_along(nodes, self.trail.as_slice(), path.segs());
+        let at = node_along(nodes, &self.trail, path.segs());
         out_at(nodes, at)
     }
 
@@ -276,7 +276,7 @@ impl Space {
         ensures listed { (es : List Entry) → StandsFor self.now es → result ≡ sure_at es path.now }
     {
         let nodes = self.nodes.as_slice();
-        let node = node_along(nodes, self.trail.as_slice(), path.segs());
+        let node = node_along(nodes, &self.trail, path.segs());
         sure_met(nodes, node, self.predefined.kind(path.segs()))
     }
 
@@ -301,7 +301,7 @@ impl Space {
             self.nodes.as_slice(),
             self.settled.as_slice(),
             &self.predefined,
-            self.trail.as_slice(),
+            &self.trail,
             path,
         )
     }

@@ -1,54 +1,94 @@
 //! The way to the path that was looked for last.
-ghost use Rattle.std.specs.Prelude.{◌≡◌, ◌<◌, ◌≤◌, ◌+◌, ◌++◌, ◌∷◌, ◌⊎◌, [], List, Some, length, take, IfSome};
+ghost use Rattle.std.specs.Prelude.{◌≡◌, ◌<◌, ◌≤◌, ◌++◌, ◌∷◌, ◌⊎◌, [], List, Some, length, take, IfSome};
 ghost use Rattle.aml_space.specs.declared.nodes.Node.{Node as AnyNode};
 ghost use Rattle.aml_space.specs.Nodes.{walk, kids_of, IsShape, Reaches};
-ghost use Rattle.aml_space.specs.Trails.{segs_of, IsTrail};
+ghost use Rattle.aml_space.specs.Trails.{IsTrail};
 
 use crate::growing::Reach;
 use crate::nodes::Node;
 use crate::walking::child;
 use aml_names::Seg;
+use std::alloc::Global;
 
-/// A segment of a path, and the node to which the path leads with it. The steps to a path are a trail: another path that
-/// begins alike is followed from where it leaves the trail, so that the paths below one deep scope cost a comparison of
-/// segments each, and not a walk from node to node.
-#[derive(Clone, Copy)]
-pub(crate) struct Step {
-    pub seg: Seg,
-    pub node: usize,
+/// The segments of a path, and the node to which the path leads with each. Another path that begins alike is followed
+/// from where it leaves the trail, so that the paths below one deep scope cost a comparison of segments each, and not a
+/// walk from node to node.
+#[derive(Drop)]
+pub(crate) struct Trail {
+    pub segs: Vec<Seg>,
+    pub nodes: Vec<usize>,
 }
 
-/// How many segments a path has in common with a trail.
-fn common(trail: &[Step], path: &[Seg]) -> usize
-    ensures along { result ≤ length trail.now }
-    ensures within { result ≤ length path.now }
-    ensures same { take result (segs_of trail.now) ≡ take result path.now }
-{
-    let most = trail.len().min(path.len());
-    for index in 0..most {
-        if !path[index].cmp(&trail[index].seg).is_eq() {
-            return index;
+/// So many segments are compared at once.
+const BLOCK: usize = 256;
+
+impl Trail {
+    /// That of the root.
+    pub(crate) fn new(alloc: Global) -> Trail
+        ensures segs { result.segs.items ≡ [] }
+        ensures nodes { result.nodes.items ≡ [] }
+    {
+        Trail {
+            segs: Vec::new(alloc),
+            nodes: Vec::new(alloc),
         }
     }
-    most
 }
 
-/// The node of so many first steps.
-fn node_at(trail: &[Step], depth: usize) -> usize
-    requires { depth ≤ length trail.now }
-    ensures { (nodes : List AnyNode) → IsTrail nodes trail.now →
-        walk (kids_of nodes) 0 (take depth (segs_of trail.now)) ≡ Some result }
+/// How many of so many first segments are the same.
+fn matches(some: &[Seg], others: &[Seg], count: usize) -> usize
+    requires some { count ≤ length some.now }
+    requires others { count ≤ length others.now }
+    ensures within { result ≤ count }
+    ensures all { result ≡ count → take count some.now ≡ take count others.now }
 {
-    if depth == 0 { 0 } else { trail[depth - 1].node }
+    let mut same: usize = 0;
+    for index in 0..count {
+        if some[index].cmp(&others[index]).is_eq() {
+            same += 1;
+        }
+    }
+    same
+}
+
+/// How many segments a path has in common with a trail. By blocks, which are compared as wholes, that is several times
+/// as fast as by one segment after the other.
+fn common(trail: &[Seg], path: &[Seg]) -> usize
+    ensures along { result ≤ length trail.now }
+    ensures within { result ≤ length path.now }
+    ensures same { take result trail.now ≡ take result path.now }
+{
+    let most = trail.len().min(path.len());
+    let mut known: usize = 0;
+    while most - known >= BLOCK && matches(&trail[known..], &path[known..], BLOCK) == BLOCK {
+        known += BLOCK;
+    }
+    while known < most && trail[known].cmp(&path[known]).is_eq() {
+        known += 1;
+    }
+    known
+}
+
+/// The node of so many first segments.
+fn node_at(trail: &Trail, depth: usize) -> usize
+    requires { depth ≤ length trail.now.nodes.items }
+    ensures { (nodes : List AnyNode) → IsTrail nodes trail.now →
+        walk (kids_of nodes) 0 (take depth trail.now.segs.items) ≡ Some result }
+{
+    if depth == 0 {
+        0
+    } else {
+        trail.nodes[depth - 1]
+    }
 }
 
 /// How far a path leads.
-pub(crate) fn reach_along(nodes: &[Node], trail: &[Step], path: &[Seg]) -> Reach
+pub(crate) fn reach_along(nodes: &[Node], trail: &Trail, path: &[Seg]) -> Reach
     requires shape { IsShape nodes.now }
     requires trail { IsTrail nodes.now trail.now }
     ensures { Reaches nodes.now path.now result }
 {
-    let known = common(trail, path);
+    let known = common(trail.segs.as_slice(), path);
     let mut reach = Reach {
         node: node_at(trail, known),
         known,
@@ -68,7 +108,7 @@ pub(crate) fn reach_along(nodes: &[Node], trail: &[Step], path: &[Seg]) -> Reach
 }
 
 /// Where a path leads.
-pub(crate) fn node_along(nodes: &[Node], trail: &[Step], path: &[Seg]) -> Option<usize>
+pub(crate) fn node_along(nodes: &[Node], trail: &Trail, path: &[Seg]) -> Option<usize>
     requires shape { IsShape nodes.now }
     requires trail { IsTrail nodes.now trail.now }
     ensures node { result ≡ walk (kids_of nodes.now) 0 path.now }
@@ -83,15 +123,16 @@ pub(crate) fn node_along(nodes: &[Node], trail: &[Step], path: &[Seg]) -> Option
 }
 
 /// How far a path leads. The trail is along its front that stands there, as far as there is memory for it.
-pub(crate) fn deepest(nodes: &[Node], trail: &mut Vec<Step>, path: &[Seg]) -> Reach
+pub(crate) fn deepest(nodes: &[Node], trail: &mut Trail, path: &[Seg]) -> Reach
     requires shape { IsShape nodes.now }
-    requires trail { IsTrail nodes.now trail.old.items }
+    requires trail { IsTrail nodes.now trail.old }
     ensures reach { Reaches nodes.now path.now result }
-    ensures trail { IsTrail nodes.now trail.new.items }
+    ensures trail { IsTrail nodes.now trail.new }
 {
-    let mut known = common(trail.as_slice(), path);
-    let mut at = node_at(trail.as_slice(), known);
-    trail.truncate(known);
+    let mut known = common(trail.segs.as_slice(), path);
+    let mut at = node_at(trail, known);
+    trail.segs.truncate(known);
+    trail.nodes.truncate(known);
     while known < path.len() {
         match child(nodes, at, path[known]) {
             None => return Reach { node: at, known },
@@ -105,12 +146,17 @@ pub(crate) fn deepest(nodes: &[Node], trail: &mut Vec<Step>, path: &[Seg]) -> Re
     Reach { node: at, known }
 }
 
-/// One step more behind so many. Where there is no memory for it, or was none for one before it, the trail stays as it is.
-fn follow(trail: &mut Vec<Step>, known: usize, seg: Seg, node: usize)
-    ensures { (trail.new.items ≡ trail.old.items) ⊎ ((length trail.old.items ≡ known)
-        × (trail.new.items ≡ trail.old.items ++ record { seg = seg; node = node } ∷ [])) }
+/// One segment more behind so many. Where there is no memory for it, or was none for one before it, the trail stays as
+/// it is.
+fn follow(trail: &mut Trail, known: usize, seg: Seg, node: usize)
+    ensures { ((trail.new.segs.items ≡ trail.old.segs.items) × (trail.new.nodes.items ≡ trail.old.nodes.items))
+        ⊎ ((length trail.old.segs.items ≡ known) × (trail.new.segs.items ≡ trail.old.segs.items ++ seg ∷ [])
+        × (trail.new.nodes.items ≡ trail.old.nodes.items ++ node ∷ [])) }
 {
-    if trail.len() == known {
-        let _ = trail.push(Step { seg, node });
+    if trail.segs.len() == known
+        && trail.segs.push(seg).is_ok()
+        && trail.nodes.push(node).is_err()
+    {
+        trail.segs.pop();
     }
 }

@@ -1,6 +1,6 @@
 use Rattle.std.proofs.Common.{◌≡◌, ◌<◌, ◌≤◌, ◌-◌, length, take, Some}
 use Rattle.aml_space.specs.Nodes.{walk, kids_of}
-use Rattle.aml_space.specs.Trails.{segs_of, IsTrail}
+use Rattle.aml_space.specs.Trails.{IsTrail}
 use Rattle.aml_space.proofs.trails.deepest.Given as goal
 
 abbrev pub invariant-loop-known : goal.invariant-loop-known
@@ -8,9 +8,9 @@ invariant-loop-known l = record {
   led : walk (kids_of l.nodes) 0 (take l.known l.path) ≡ Some l.at;
   inside : l.at < length l.nodes;
   within : l.known ≤ length l.path;
-  trail : IsTrail l.nodes l.trail.items;
-  few : length l.trail.items ≤ l.known;
-  same : length l.trail.items ≡ l.known → segs_of l.trail.items ≡ take l.known l.path;
+  trail : IsTrail l.nodes l.trail;
+  few : length l.trail.segs.items ≤ l.known;
+  same : length l.trail.segs.items ≡ l.known → l.trail.segs.items ≡ take l.known l.path;
 }
 
 abbrev pub decreases-loop-known : goal.decreases-loop-known

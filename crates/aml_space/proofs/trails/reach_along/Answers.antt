@@ -1,4 +1,4 @@
-use Rattle.std.proofs.Common.{◌≡◌, Some, get_or, take, sym, ap, ◌∙◌, [], arith}
+use Rattle.std.proofs.Common.{◌≡◌, Some, get_or, take, [], sym, ap, ◌∙◌, arith}
 use Rattle.aml_children.specs.Children.{child_in}
 use Rattle.aml_space.specs.Nodes.{walk, kids_of}
 use Rattle.aml_space.proofs.Walks.{kid_range, led_more, node_range}
@@ -7,11 +7,12 @@ use Rattle.aml_space.proofs.trails.reach_along.Goals as goal
 pub loop-reach-init : goal.loop-reach-init
 loop-reach-init c =
     let ns = c.args.nodes.now in
-    let led : walk (kids_of ns) 0 (take c.common-known.result c.args.path.now) ≡ Some c.node_at.result =
-    ap (walk (kids_of ns) 0) (sym c.common-known.ensures.same) ∙ c.node_at.ensures ns c.requires.trail in
+    let k = c.common-known.result in
+    let led : walk (kids_of ns) 0 (take k c.args.path.now) ≡ Some c.node_at.result =
+    ap (walk (kids_of ns) 0) (sym c.common-known.ensures.same ∙ ap (take k) c.as_slice.ensures.value) ∙ c.node_at.ensures ns c.requires.trail in
     record {
       led = led;
-      inside = node_range c.requires.shape (take c.common-known.result c.args.path.now) c.node_at.result led;
+      inside = node_range c.requires.shape (take k c.args.path.now) c.node_at.result led;
       within = c.common-known.ensures.within;
     }
 

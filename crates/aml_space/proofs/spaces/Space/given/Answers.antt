@@ -23,7 +23,7 @@ invariant_of-self-2 c = record {
   index = (put_here (goal.at.invariant_of-self-2 c).After-set_given c.set_given.ensures).0;
   rows = c.self.invariant.rows ∙ ap (λ (k : Known). length (map.entries k.declarations)) c.self.view_is
       ∙ ap (λ (k : Known). length (map.entries k.declarations)) (sym (put_here (goal.at.invariant_of-self-2 c).After-set_given c.set_given.ensures).1);
-  trail = content_trail c.make_node.new.nodes.items c.set_given.new.nodes.items c.in_ok-at.at _ c.make_node.new.trail.items c.set_given.ensures
+  trail = content_trail c.make_node.new.nodes.items c.set_given.new.nodes.items c.in_ok-at.at _ c.make_node.new.trail c.set_given.ensures
       c.make_node.ensures.trail;
   settled = settled_none _ c.clear.new.self.items c.clear.ensures.items;
 }
