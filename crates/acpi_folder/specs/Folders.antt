@@ -7,9 +7,13 @@ use Rattle.std.specs.List.Sorted.{IsPermutation, IsSorted}
 use Rattle.std.specs.Ordering.{nat_cmp}
 use Rattle.std.specs.Cmp.Lexicographic.{slice_cmp}
 use Rattle.std.specs.Str.{bytes_eq}
+use Rattle.std.specs.declared.io.ErrorKind.{ErrorKind}
+use Rattle.std.specs.declared.io.ErrorKind.TheVariants as kinds
 use Rattle.acpi_tables.specs.declared.dump.Dump.{Dump}
 use Rattle.acpi_tables.specs.Dumps.{most_bytes}
 use Rattle.acpi_tables.specs.Order.{most_dumps}
+use Rattle.acpi_folder.specs.declared.folder.FolderFault.{FolderFault}
+use Rattle.acpi_folder.specs.declared.folder.FolderFault.TheVariants as answers
 use Rattle.acpi_folder.specs.declared.map.MapFault.{MapFault}
 use Rattle.acpi_folder.specs.declared.gathering.GatherFault.{GatherFault}
 use Rattle.acpi_folder.specs.declared.gathering.GatherFault.TheVariants as faults
@@ -32,6 +36,11 @@ anything = record {
   holds = λ name bytes. Unit {0};
   unread = λ name. Unit {0};
 }
+
+-- why a folder of the operating system doesn't answer, by the kind of its error
+abbrev pub fault_by : ErrorKind → FolderFault
+fault_by kinds.OutOfMemory = answers.NoMemory
+fault_by _ = answers.Failed
 
 -- whatever the one may answer, the other may
 pub record IsWithin (later earlier : Answers) : Type 0 where

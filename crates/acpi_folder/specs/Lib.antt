@@ -1,3 +1,5 @@
 pub mod Map
 pub mod Externals
 pub mod Folders
+pub mod Quoted
+pub mod Faults

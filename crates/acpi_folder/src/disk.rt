@@ -1,5 +1,6 @@
 //! A folder of the operating system.
-ghost use Rattle.acpi_folder.specs.Folders.{anything};
+ghost use Rattle.std.specs.Prelude.{◌≡◌};
+ghost use Rattle.acpi_folder.specs.Folders.{anything, fault_by};
 
 use crate::folder::{Folder, FolderFault};
 use std::fs::File;
@@ -83,11 +84,22 @@ impl Folder for DiskFolder<'_> {
     }
 }
 
+/// Why a folder doesn't answer, by the kind of the call's error.
+fn fault_by(kind: io::ErrorKind) -> FolderFault
+    ensures { result ≡ fault_by kind }
+{
+    match kind {
+        io::ErrorKind::OutOfMemory => FolderFault::NoMemory,
+        _ => FolderFault::Failed,
+    }
+}
+
 impl From<io::Error> for FolderFault {
+    ghost use Rattle.std.specs.IoError.{error_kind};
+
+    ghost from_gives = { λ error fault. fault ≡ fault_by (error_kind error) };
+
     fn from(error: io::Error) -> FolderFault {
-        match error.kind() {
-            io::ErrorKind::OutOfMemory => FolderFault::NoMemory,
-            _ => FolderFault::Failed,
-        }
+        fault_by(error.kind())
     }
 }

@@ -8,18 +8,34 @@ ghost use Rattle.acpi_folder.specs.Externals.{BeginsWith, BeginsWithNone, Refuse
 use crate::lines::first_line;
 use aml_names::{CodeFault, Path, Seg, segment_of};
 use std::alloc::{AllocError, AllocFailed, Global};
-use thiserror::Error;
+use std::error::Error;
+use std::fmt;
 
 /// Why a file of counts is refused. It displays as the variant's name.
-#[derive(Clone, Copy, Debug, Error)]
+#[derive(Clone, Copy, Debug)]
 pub enum ExternalsFault {
     /// A line, by its number from 1, that isn't a path, a space and a digit from 0 to 7.
-    #[error("BadLine")]
     BadLine(usize),
     /// A growth was refused.
-    #[error("NoMemory")]
     NoMemory,
 }
+
+/// The variant's name.
+impl fmt::Display for ExternalsFault {
+    ghost use Rattle.std.specs.Prelude.{Some};
+    ghost use Rattle.acpi_folder.specs.Faults.{counts_word};
+
+    ghost output = { λ fault. Some (counts_word fault) };
+
+    fn fmt<W: fmt::Write>(&self, f: &mut fmt::Formatter<W>) -> fmt::Result {
+        match self {
+            ExternalsFault::BadLine(_) => f.write_str("BadLine"),
+            ExternalsFault::NoMemory => f.write_str("NoMemory"),
+        }
+    }
+}
+
+impl Error for ExternalsFault {}
 
 impl From<AllocError> for ExternalsFault {
     ghost from_gives = { λ _ fault. fault ≡ NoMemory };

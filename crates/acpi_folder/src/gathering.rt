@@ -13,8 +13,8 @@ use crate::map::{MapFault, parse_map};
 use crate::quoted::Quoted;
 use acpi_tables::{Dump, MAX_DUMP_BYTES, MAX_DUMPS};
 use std::alloc::{AllocError, AllocFailed, Global};
+use std::error::Error;
 use std::fmt;
-use thiserror::Error;
 
 /// The file that says at which address each table stood. It is no dump.
 const MAP_NAME: &str = "tables.map";
@@ -26,24 +26,45 @@ const MAX_MAP_BYTES: usize = MAX_DUMP_BYTES;
 const READ_LIMIT: u64 = MAX_DUMP_BYTES as u64 + 1;
 
 /// Why the dumps of a folder can't be gathered. It displays as the program prints it.
-#[derive(Debug, Drop, Error)]
+#[derive(Debug, Drop)]
 pub enum GatherFault {
     /// The folder can't be listed.
-    #[error("cannot read folder")]
     Folder,
     /// A file that can't be read, or a map of more than 16,777,216 bytes.
-    #[error("cannot read {}", Quoted(.0.as_str()))]
     File(String),
     /// A map that is refused.
-    #[error("{}", MapLine(*.0))]
     Map(MapFault),
     /// More than 512 dumps.
-    #[error("TooManyTables")]
     TooManyTables,
     /// A growth was refused.
-    #[error("NoMemory")]
     NoMemory,
 }
+
+/// What the program prints of it.
+impl fmt::Display for GatherFault {
+    ghost use Rattle.std.specs.Prelude.{Some};
+    ghost use Rattle.acpi_folder.specs.Faults.{gather_text};
+
+    ghost output = { λ fault. Some (gather_text fault) };
+
+    fn fmt<W: fmt::Write>(&self, f: &mut fmt::Formatter<W>) -> fmt::Result {
+        match self {
+            GatherFault::Folder => f.write_str("cannot read folder"),
+            GatherFault::File(name) => {
+                let name = Quoted(name.as_str());
+                write!(f, "cannot read {name}")
+            }
+            GatherFault::Map(fault) => {
+                let line = MapLine(*fault);
+                write!(f, "{line}")
+            }
+            GatherFault::TooManyTables => f.write_str("TooManyTables"),
+            GatherFault::NoMemory => f.write_str("NoMemory"),
+        }
+    }
+}
+
+impl Error for GatherFault {}
 
 impl From<AllocError> for GatherFault {
     ghost from_gives = { λ _ fault. fault ≡ NoMemory };
@@ -66,6 +87,11 @@ impl<T: Drop> From<AllocFailed<T>> for GatherFault {
 struct MapLine(MapFault);
 
 impl fmt::Display for MapLine {
+    ghost use Rattle.std.specs.Prelude.{Some};
+    ghost use Rattle.acpi_folder.specs.Faults.{map_text};
+
+    ghost output = { λ line. Some (map_text line.0) };
+
     fn fmt<W: fmt::Write>(&self, f: &mut fmt::Formatter<W>) -> fmt::Result {
         let fault = self.0;
         match fault.line() {

@@ -11,24 +11,40 @@ ghost use Rattle.acpi_folder.specs.Map.{addresses_of, HoldsMap, HasFault, Refuse
 
 use crate::lines::first_line;
 use std::alloc::{AllocError, AllocFailed, Global};
-use thiserror::Error;
+use std::error::Error;
+use std::fmt;
 
 /// Why a map is refused, with the number of the line, counted from 1. It displays as the variant's name.
-#[derive(Clone, Copy, Debug, Error)]
+#[derive(Clone, Copy, Debug)]
 pub enum MapFault {
     /// A line that isn't 16 hexadecimal digits, a space and a name.
-    #[error("BadLine")]
     BadLine(usize),
     /// A name that no file has.
-    #[error("NoSuchFile")]
     NoSuchFile(usize),
     /// A name or an address that an earlier line has.
-    #[error("Again")]
     Again(usize),
     /// A growth was refused.
-    #[error("NoMemory")]
     NoMemory,
 }
+
+/// The variant's name.
+impl fmt::Display for MapFault {
+    ghost use Rattle.std.specs.Prelude.{Some};
+    ghost use Rattle.acpi_folder.specs.Faults.{map_word};
+
+    ghost output = { λ fault. Some (map_word fault) };
+
+    fn fmt<W: fmt::Write>(&self, f: &mut fmt::Formatter<W>) -> fmt::Result {
+        match self {
+            MapFault::BadLine(_) => f.write_str("BadLine"),
+            MapFault::NoSuchFile(_) => f.write_str("NoSuchFile"),
+            MapFault::Again(_) => f.write_str("Again"),
+            MapFault::NoMemory => f.write_str("NoMemory"),
+        }
+    }
+}
+
+impl Error for MapFault {}
 
 impl MapFault {
     /// The number of the line that has the fault, counted from 1, and none for `NoMemory`.
