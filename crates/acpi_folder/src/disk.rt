@@ -20,7 +20,9 @@ pub struct DiskFolder<'a> {
 
 impl<'a> DiskFolder<'a> {
     /// The folder at this path.
-    pub fn new(rt: &'a HostRuntime, path: &'a str) -> DiskFolder<'a> {
+    pub fn new(rt: &'a HostRuntime, path: &'a str) -> DiskFolder<'a>
+        ensures { result.path.now ≡ path.now }
+    {
         DiskFolder { rt, path }
     }
 
