@@ -29,6 +29,7 @@ use std::thread::Threads;
 fn refused_order(fault: TableFault) -> Refusal
     ensures want { fault.bad ≡ Bad.NoMemory → result ≡ Refusal.NoMemory }
     ensures other { (result ≡ Refusal.NoMemory) ⊎ (result ≡ Refusal.Table fault) }
+    ensures told { (fault.bad ≡ Bad.NoMemory) ⊎ (result ≡ Refusal.Table fault) }
 {
     match fault.bad {
         Bad::NoMemory => Refusal::NoMemory,
