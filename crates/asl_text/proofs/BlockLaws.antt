@@ -6,6 +6,12 @@ use Rattle.aml_code.specs.declared.tree.Tail.{Tail}
 use Rattle.aml_code.proofs.Views.{view-Nothing, view-Named, view-Op, view-tail-Empty, view-tail-Terms, view-tail-Bytes, view-tail-Elements, view-tail-Fields}
 use Rattle.aml_code.proofs.Views.{view-tail-Body}
 use Rattle.aml_code.specs.declared.tree.Tail as tails
+use Rattle.text_writer.proofs.PrintLaws.{straight}
+use Rattle.asl_text.proofs.LineLaws.{nodes, tails_with}
+use Rattle.std.specs.Prelude.{◌%◌, ◌/◌}
+use Rattle.asl_text.proofs.Common.{word, decimal, refl}
+use Rattle.asl_text.specs.Texts.{serialized_text}
+unfoldable use Rattle.asl_text.specs.Texts.{flags_text}
 
 pub head_unnamed : (o : Option Name) (f : Option ℕ) (other : List ℕ) → o ≡ None → method_head_by o f other ≡ other
 head_unnamed o f other e = ap (λ (n : Option Name). method_head_by n f other) e
@@ -68,3 +74,11 @@ table_turn code level n ns bs rest done total e so_far =
     let first = term_lines code (Some bs) level (node_view n) in
     ap (λ (r : List BodyLines). (done ++ first) ++ terms_lines code (Some r) level (nodes_view ns)) e
     ∙ append_assoc done first (terms_lines code (Some (behind (levels_in level (node_view n)) bs)) level (nodes_view ns)) ∙ so_far
+
+-- ---- flags
+
+pub flags_are : (flags : ℕ) → flags_text flags ≡ (word ", " ++ decimal (flags % 8)) ++ serialized_text flags ++ (word ", " ++ decimal (flags / 16))
+unfolding flags_text
+flags_are flags = refl
+
+pub ruleset printing = (straight, flags_are, nodes, tails_with, heads, behind_nodes, behind_tails)

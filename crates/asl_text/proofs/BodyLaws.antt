@@ -3,6 +3,7 @@ use Rattle.asl_text.proofs.Common.{◌≡◌, ℕ, List, [], ◌∷◌, length, 
 use Rattle.asl_text.proofs.Common.{line, raw_text, BodyLines, body_lines, first_lines, all_lines, body_view, kept_lines, printed_lines}
 use Rattle.asl_text.specs.declared.bodies.Body.TheVariants as bodies
 use Rattle.asl_text.specs.declared.bodies.BodyText.TheVariants as texts
+use Rattle.text_writer.proofs.PrintLaws.{straight}
 
 pub first_none : {X : Type 0} (f : X → BodyLines) (xs : List X) (level : ℕ) (bs : List ℕ) → length xs ≡ 0 → first_lines (map f xs) level bs ≡ []
 first_none f [] level bs e = refl
@@ -50,3 +51,5 @@ pub of_fault : (level : ℕ) (bs : List ℕ) (kept : Result BodyText CodeFault) 
 of_fault level bs kept fault e = ap (λ (k : Result BodyText CodeFault). printed_lines k level bs) e
 
 pub ruleset printed = (of_kept, of_fault)
+
+pub ruleset printing = (straight, first_of, read_lines, kept, printed)

@@ -12,9 +12,9 @@ pub use Rattle.aml_names.specs.declared.segments.Seg.{Seg}
 pub use Rattle.asl_text.specs.Bodies.{body_view, kept_lines, printed_lines, bodies_lines}
 pub use Rattle.asl_text.specs.Texts.{head_of, inline, tail_text, field_lines, deeper, block, lines, op_lines, all_lines, name_text, joined, is_constant}
 pub use Rattle.asl_text.specs.Texts.{inlines, part_text, part_texts, method_head, BodyLines, first_lines, levels_in, tail_levels, all_levels, behind}
-pub use Rattle.asl_text.specs.Texts.{term_lines, terms_lines, method_head_by, raw_text, body_lines, byte_pair}
-pub use Rattle.asl_text.specs.Texts.{byte_end, field_text, link_text}
-unfoldable pub use Rattle.asl_text.specs.Texts.{braced, indent, line, opening, separated, arguments_text, head_text, method_text}
+pub use Rattle.asl_text.specs.Texts.{term_lines, terms_lines, method_head_by, raw_text, body_lines}
+pub use Rattle.asl_text.specs.Texts.{field_text, link_text}
+unfoldable pub use Rattle.asl_text.specs.Texts.{byte_pair, byte_end, braced, indent, line, opening, separated, arguments_text, head_text, method_text}
 pub use Rattle.asl_text.specs.declared.bodies.Body.{Body}
 pub use Rattle.asl_text.specs.declared.bodies.BodyText.{BodyText}
 pub use Rattle.std.proofs.Common.{◌≡◌, ℕ, ◌<◌, List, length, get_or, map, sym, ap, ◌∙◌, arith, ◌-◌, None, [], ◌++◌, take, append_assoc, refl, Bool, true, false}

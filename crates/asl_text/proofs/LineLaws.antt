@@ -2,7 +2,7 @@
 use Rattle.asl_text.proofs.Common.{◌≡◌, ℕ, ◌+◌, ◌<◌, List, [], ◌∷◌, ◌++◌, append-nil, append_assoc, get_or, take, length, Vec, Option, Some, None, refl, sym}
 use Rattle.asl_text.proofs.Common.{ap, ◌∙◌, decimal, Global, Name, Seg, PkgWidth, Field, Link, Node, Nothing, Named, Op, Part, node_view, nodes_view}
 use Rattle.asl_text.proofs.Common.{parts_view, tail_view, field_view, fields_view, link_view, word, name_text, head_of, method_head, tail_text, inline}
-use Rattle.asl_text.proofs.Common.{byte_pair, byte_end, deeper, line, opening, field_text, field_lines, link_text, BodyLines, first_lines, lines, term_lines}
+use Rattle.asl_text.proofs.Common.{indent, hex2, byte_pair, byte_end, deeper, line, opening, field_text, field_lines, link_text, BodyLines, first_lines, lines, term_lines}
 use Rattle.asl_text.proofs.Common.{op_lines, terms_lines, all_lines}
 use Rattle.aml_code.specs.declared.tree.Tail.{Tail}
 use Rattle.aml_code.specs.Tree.{Parts, slice_of}
@@ -14,6 +14,8 @@ use Rattle.aml_code.specs.declared.tree.Link as joints
 use Rattle.aml_code.specs.declared.tree.Tail as tails
 use Rattle.aml_code.specs.Tree as trees
 use Rattle.asl_text.proofs.TextLaws.{grown}
+use Rattle.text_writer.proofs.PrintLaws.{straight}
+use Rattle.asl_text.proofs.TextLaws.{indents}
 
 -- ---- connections and units
 
@@ -131,3 +133,23 @@ method_whole code bs level o ps tail start len e = ap (op_lines code (Some bs) l
 pub ruleset tail_variants = (tail_empty, tail_bytes, tail_elements, tail_terms, tail_fields, method_alone)
 
 pub ruleset tails_with = (tail_empty, tail_bytes, tail_elements, tail_terms, tail_fields, method_whole)
+
+-- ---- texts by their parts
+
+pub line_is : (level : ℕ) (text : List ℕ) → line level text ≡ indent level ++ text ++ word "\n"
+unfolding line
+line_is level text = refl
+
+pub opening_is : (level : ℕ) (head : List ℕ) → opening level head ≡ indent level ++ head ++ word " {\n"
+unfolding opening
+opening_is level head = refl
+
+pub pair_is : (a b : ℕ) → byte_pair a b ≡ (word "0x" ++ hex2 a) ++ word ", " ++ (word "0x" ++ hex2 b)
+unfolding byte_pair
+pair_is a b = refl
+
+pub end_is : (c : ℕ) → byte_end c ≡ word ", " ++ (word "0x" ++ hex2 c) ++ word ")"
+unfolding byte_end
+end_is c = refl
+
+pub ruleset printing = (straight, indents, line_is, opening_is, pair_is, end_is, links, fields_of, fields_turned, terms_turned, nodes, tail_variants)

@@ -9,6 +9,7 @@ use Rattle.aml_code.proofs.Views.{view-part-Qword, view-part-Text, view-tail-Emp
 use Rattle.aml_code.proofs.Views.{view-tail-Body}
 use Rattle.aml_code.specs.declared.tree.Part as parts
 use Rattle.aml_code.specs.declared.tree.Tail as tails
+use Rattle.text_writer.proofs.PrintLaws.{straight}
 
 -- ---- lists
 
@@ -142,3 +143,5 @@ pub at_tail_body : (tail : Tail) (a n : ℕ) → tail ≡ tails.Body a n → tai
 at_tail_body tail a n e = ap (λ t. tail_text (tail_view t)) e ∙ ap tail_text (view-tail-Body a n)
 
 pub ruleset inline_tails = (at_tail_empty, at_tail_terms, at_tail_bytes, at_tail_elements, at_tail_fields, at_tail_body)
+
+pub ruleset printing = (straight, inline_nodes, arguments, heads, part_arguments, inline_parts, inline_tails, braces)

@@ -1,6 +1,11 @@
 -- Texts of lists, as loops print them.
 use Rattle.asl_text.proofs.Common.{◌≡◌, ℕ, ◌+◌, ◌<◌, add-one, append-nil, List, [], ◌∷◌, ◌++◌, get_or, map, flat_map, length, take, refl, ap, ◌∙◌, take_more}
 use Rattle.asl_text.proofs.Common.{map-append, nil_from_length, flat_map-append, word, indent, separated}
+use Rattle.asl_text.proofs.Common.{Name, cond, replicate}
+use Rattle.asl_text.specs.Texts.{segment_text}
+unfoldable use Rattle.asl_text.specs.Texts.{prefix_text, name_text}
+use Rattle.text_writer.proofs.PrintLaws.{straight}
+use Rattle.std.proofs.lemmas.Grind.{replicate_next}
 
 -- what is made of a list that grows at its end
 pub grown : {X Y : Type 0} (F : List X → List Y) (g : X → List Y) → ((xs : List X) (x : X) → F (xs ++ x ∷ []) ≡ F xs ++ g x) → (xs : List X) (i j : ℕ) (d : X)
@@ -51,3 +56,15 @@ unfolding indent
 indent_more n = rw add-one refl
 
 pub ruleset indents = (indent_none, indent_more)
+
+-- ---- names
+
+pub prefix_is : (n : Name) → prefix_text n ≡ cond n.root (word "\\") [] ++ replicate n.ups 94
+unfolding prefix_text
+prefix_is n = refl
+
+pub name_is : (n : Name) → name_text n ≡ prefix_text n ++ separated (word ".") (map segment_text n.segs)
+unfolding name_text
+name_is n = refl
+
+pub ruleset names = (straight, separations, replicate_next, prefix_is, name_is)

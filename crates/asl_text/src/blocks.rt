@@ -1,5 +1,5 @@
 //! Definition blocks: the terms of a table, with the bodies of its methods in their places.
-#![tactic(auto, using(text_writer::proofs::PrintLaws::straight))]
+#![tactic(auto, using(crate::proofs::BlockLaws::printing), unfolding(crate::specs::Texts::serialized_text))]
 
 ghost use Rattle.std.specs.Prelude.{◌≡◌, ◌++◌, Some, decimal};
 ghost use Rattle.aml_code.specs.View.{node_view, nodes_view, parts_view, tail_view};
@@ -28,7 +28,6 @@ pub struct Block<'a> {
 }
 
 /// Whether a method is serialized: bit 3 of its flags.
-#[tactic(auto, using(text_writer::proofs::PrintLaws::straight), unfolding(crate::specs::Texts::serialized_text))]
 fn print_serialized<W: Write>(out: &mut Out<'_, W>, flags: u8)
     ensures { Prints W.contents out.old out.new (serialized_text flags) }
 {
@@ -48,7 +47,6 @@ fn print_comma_decimal<W: Write>(out: &mut Out<'_, W>, n: u8)
 }
 
 /// The number of arguments, whether the method is serialized, and its sync level.
-#[tactic(auto, using(text_writer::proofs::PrintLaws::straight), unfolding(crate::specs::Texts::flags_text))]
 fn print_flags<W: Write>(out: &mut Out<'_, W>, flags: u8)
     ensures { Prints W.contents out.old out.new (flags_text flags) }
 {
@@ -58,7 +56,6 @@ fn print_flags<W: Write>(out: &mut Out<'_, W>, flags: u8)
 }
 
 /// A method by its name and flags.
-#[tactic(auto, using(text_writer::proofs::PrintLaws::straight), unfolding(crate::specs::Texts::method_text))]
 fn print_method<W: Write>(out: &mut Out<'_, W>, name: &Name, flags: u8)
     ensures { Prints W.contents out.old out.new (method_text name.now flags) }
 {
@@ -75,7 +72,6 @@ struct MethodHead<'n>(Head<'n>);
 impl Inline for MethodHead<'_> {
     ghost text = { λ method. method_head method.0.opcode (parts_view method.0.parts.now.items) };
 
-    #[tactic(auto, using(text_writer::proofs::PrintLaws::straight, crate::proofs::BlockLaws::heads))]
     fn print<W: Write>(&self, out: &mut Out<'_, W>) {
         let parts = self.0.parts.as_slice();
         match last_name(parts) {
@@ -107,7 +103,6 @@ fn print_method_block<W: Write>(
 
 /// The lines of a term of a table. Each method takes the first of the bodies; the others are answered.
 #[cycle(blocks)]
-#[tactic(auto, using(text_writer::proofs::PrintLaws::straight, crate::proofs::LineLaws::nodes, crate::proofs::BlockLaws::behind_nodes))]
 fn print_table_term<'b, W: Write>(
     out: &mut Out<'_, W>,
     code: &[u8],
@@ -145,7 +140,6 @@ fn print_table_term<'b, W: Write>(
 
 /// The lines of an opcode of a table. Bodies are taken and answered as for a term.
 #[cycle(blocks)]
-#[tactic(auto, using(text_writer::proofs::PrintLaws::straight, crate::proofs::LineLaws::tails_with, crate::proofs::BlockLaws::behind_tails))]
 fn print_table_op<'b, W: Write>(
     out: &mut Out<'_, W>,
     code: &[u8],

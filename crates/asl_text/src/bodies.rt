@@ -1,5 +1,5 @@
 //! The bodies of methods, as blocks take them.
-#![tactic(auto, using(text_writer::proofs::PrintLaws::straight))]
+#![tactic(auto, using(crate::proofs::BodyLaws::printing))]
 
 ghost use Rattle.std.specs.Prelude.{◌≡◌, drop, map};
 ghost use Rattle.text_writer.specs.Prints.{Prints};
@@ -63,7 +63,6 @@ pub fn print_first<W: Write>(out: &mut Out<'_, W>, level: u32, bytes: &[u8], bod
     }
 }
 
-#[tactic(auto, using(text_writer::proofs::PrintLaws::straight, crate::proofs::BodyLaws::first_of))]
 fn print_first_read<W: Write>(out: &mut Out<'_, W>, level: u32, bytes: &[u8], bodies: &[Body])
     ensures { Prints W.contents out.old out.new
         (first_lines (map body_lines (map body_view bodies.now)) level bytes.now) }
@@ -73,7 +72,6 @@ fn print_first_read<W: Write>(out: &mut Out<'_, W>, level: u32, bytes: &[u8], bo
     }
 }
 
-#[tactic(auto, using(text_writer::proofs::PrintLaws::straight, crate::proofs::BodyLaws::first_of))]
 fn print_first_printed<W: Write>(
     out: &mut Out<'_, W>,
     level: u32,
@@ -89,7 +87,6 @@ fn print_first_printed<W: Write>(
 }
 
 /// The lines of a body with these bytes.
-#[tactic(auto, using(text_writer::proofs::PrintLaws::straight, crate::proofs::BodyLaws::read_lines))]
 fn print_read<W: Write>(out: &mut Out<'_, W>, level: u32, bytes: &[u8], body: &Body)
     ensures { Prints W.contents out.old out.new (body_lines (body_view body.now) level bytes.now) }
 {
@@ -100,7 +97,6 @@ fn print_read<W: Write>(out: &mut Out<'_, W>, level: u32, bytes: &[u8], body: &B
 }
 
 /// The lines of a body with these bytes, of whose terms this is kept.
-#[tactic(auto, using(text_writer::proofs::PrintLaws::straight, crate::proofs::BodyLaws::printed))]
 fn print_printed<W: Write>(
     out: &mut Out<'_, W>,
     level: u32,
@@ -116,7 +112,6 @@ fn print_printed<W: Write>(
 }
 
 /// The lines of a body of whose terms this is kept.
-#[tactic(auto, using(text_writer::proofs::PrintLaws::straight, crate::proofs::BodyLaws::kept))]
 fn print_kept<W: Write>(out: &mut Out<'_, W>, level: u32, text: &BodyText)
     ensures { Prints W.contents out.old out.new (kept_lines text.now level) }
 {

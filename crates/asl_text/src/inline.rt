@@ -1,5 +1,5 @@
 //! What has a text on one line, and lists of it.
-#![tactic(auto, using(text_writer::proofs::PrintLaws::straight))]
+#![tactic(auto, using(text_writer::proofs::PrintLaws::straight, crate::proofs::TextLaws::separations))]
 
 ghost use Rattle.std.specs.Prelude.{ℕ, List, ◌++◌, map};
 ghost use Rattle.text_writer.specs.Prints.{Prints};
@@ -27,7 +27,6 @@ fn print_next<W: Write, T: Inline>(out: &mut Out<'_, W>, separator: &[u8], item:
 }
 
 /// Items with a separator between two.
-#[tactic(auto, using(text_writer::proofs::PrintLaws::straight, crate::proofs::TextLaws::separations))]
 pub fn print_separated<W: Write, T: Inline>(out: &mut Out<'_, W>, separator: &[u8], items: &[T])
     ensures { Prints W.contents out.old out.new (separated separator.now (map T.text items.now)) }
 {

@@ -1,5 +1,5 @@
 //! The lines of terms and of field lists.
-#![tactic(auto, using(text_writer::proofs::PrintLaws::straight))]
+#![tactic(auto, using(crate::proofs::LineLaws::printing))]
 
 ghost use Rattle.std.specs.Prelude.{◌++◌, [], None, decimal};
 ghost use Rattle.aml_code.specs.View.{node_view, nodes_view, parts_view, tail_view, field_view, fields_view, link_view};
@@ -14,7 +14,6 @@ use std::io::Write;
 use text_writer::{Out, print_decimal};
 
 /// Two spaces for each level.
-#[tactic(auto, using(text_writer::proofs::PrintLaws::straight, crate::proofs::TextLaws::indents))]
 pub fn print_indent<W: Write>(out: &mut Out<'_, W>, level: u32)
     ensures { Prints W.contents out.old out.new (indent level) }
 {
@@ -24,7 +23,6 @@ pub fn print_indent<W: Write>(out: &mut Out<'_, W>, level: u32)
 }
 
 /// The last line of a block.
-#[tactic(auto, using(text_writer::proofs::PrintLaws::straight), unfolding(crate::specs::Texts::line))]
 pub fn print_closing<W: Write>(out: &mut Out<'_, W>, level: u32)
     ensures { Prints W.contents out.old out.new (line level (word "}")) }
 {
@@ -34,7 +32,6 @@ pub fn print_closing<W: Write>(out: &mut Out<'_, W>, level: u32)
 }
 
 /// A line.
-#[tactic(auto, using(text_writer::proofs::PrintLaws::straight), unfolding(crate::specs::Texts::line))]
 pub fn print_line<W: Write, T: Inline>(out: &mut Out<'_, W>, level: u32, item: &T)
     ensures { Prints W.contents out.old out.new (line level (T.text item.now)) }
 {
@@ -44,7 +41,6 @@ pub fn print_line<W: Write, T: Inline>(out: &mut Out<'_, W>, level: u32, item: &
 }
 
 /// The first line of a block.
-#[tactic(auto, using(text_writer::proofs::PrintLaws::straight), unfolding(crate::specs::Texts::opening))]
 pub fn print_opening<W: Write, T: Inline>(out: &mut Out<'_, W>, level: u32, head: &T)
     ensures { Prints W.contents out.old out.new (opening level (T.text head.now)) }
 {
@@ -70,7 +66,6 @@ impl Inline for Op<'_> {
 }
 
 /// What a connection leads to.
-#[tactic(auto, using(text_writer::proofs::PrintLaws::straight, crate::proofs::LineLaws::links))]
 fn print_link<W: Write>(out: &mut Out<'_, W>, link: &Link)
     ensures { Prints W.contents out.old out.new (link_text (link_view link.now)) }
 {
@@ -98,7 +93,6 @@ fn print_reserved<W: Write>(out: &mut Out<'_, W>, bits: u32)
 }
 
 /// Two bytes as constants.
-#[tactic(auto, using(text_writer::proofs::PrintLaws::straight), unfolding(crate::specs::Texts::byte_pair))]
 fn print_byte_pair<W: Write>(out: &mut Out<'_, W>, first: u8, second: u8)
     ensures { Prints W.contents out.old out.new (byte_pair first second) }
 {
@@ -126,7 +120,6 @@ fn print_extended<W: Write>(out: &mut Out<'_, W>, access: u8, attribute: u8, len
     print_byte_end(out, length);
 }
 
-#[tactic(auto, using(text_writer::proofs::PrintLaws::straight), unfolding(crate::specs::Texts::byte_end))]
 fn print_byte_end<W: Write>(out: &mut Out<'_, W>, last: u8)
     ensures { Prints W.contents out.old out.new (byte_end last) }
 {
@@ -148,7 +141,6 @@ fn print_connection<W: Write>(out: &mut Out<'_, W>, link: &Link)
 impl Inline for Field {
     ghost text = { λ field. field_text (field_view field) };
 
-    #[tactic(auto, using(text_writer::proofs::PrintLaws::straight, crate::proofs::LineLaws::fields_of))]
     fn print<W: Write>(&self, out: &mut Out<'_, W>) {
         match self {
             Field::NamedUnit { seg, bits, .. } => print_unit(out, seg, *bits),
@@ -163,7 +155,6 @@ impl Inline for Field {
 }
 
 /// The elements of a field list, a line each.
-#[tactic(auto, using(text_writer::proofs::PrintLaws::straight, crate::proofs::LineLaws::fields_turned))]
 fn print_fields<W: Write>(out: &mut Out<'_, W>, level: u32, fields: &[Field])
     ensures { Prints W.contents out.old out.new (field_lines level (fields_view fields.now)) }
 {
@@ -190,7 +181,6 @@ pub fn print_fields_block<W: Write>(
 
 /// The lines of a term, whose methods stand without their bodies.
 #[cycle(lines)]
-#[tactic(auto, using(text_writer::proofs::PrintLaws::straight, crate::proofs::LineLaws::nodes))]
 fn print_lines<W: Write>(out: &mut Out<'_, W>, level: u32, node: &Node)
     ensures { Prints W.contents out.old out.new (lines level (node_view node.now)) }
 {
@@ -215,7 +205,6 @@ fn print_lines<W: Write>(out: &mut Out<'_, W>, level: u32, node: &Node)
 
 /// The lines of an opcode with its parts and its tail.
 #[cycle(lines)]
-#[tactic(auto, using(text_writer::proofs::PrintLaws::straight, crate::proofs::LineLaws::tail_variants))]
 fn print_op_lines<W: Write>(out: &mut Out<'_, W>, level: u32, tail: &Tail, head: Head<'_>)
     ensures { Prints W.contents out.old out.new
         (op_lines [] None level head.entry.opcode (parts_view head.entry.parts.now.items) (tail_view tail.now)) }
@@ -241,7 +230,6 @@ fn print_terms_block<W: Write>(out: &mut Out<'_, W>, level: u32, nodes: &[Node],
 
 /// The lines of terms, one after the other.
 #[cycle(lines)]
-#[tactic(auto, using(text_writer::proofs::PrintLaws::straight, crate::proofs::LineLaws::terms_turned))]
 pub fn print_terms<W: Write>(out: &mut Out<'_, W>, level: u32, nodes: &[Node])
     ensures { Prints W.contents out.old out.new (all_lines level (nodes_view nodes.now)) }
 {

@@ -1,5 +1,5 @@
 //! The text of a term on one line.
-#![tactic(auto, using(text_writer::proofs::PrintLaws::straight))]
+#![tactic(auto, using(crate::proofs::NodeLaws::printing), unfolding(crate::specs::Texts::braced))]
 
 ghost use Rattle.std.specs.Prelude.{◌≡◌, ◌++◌, Some, map};
 ghost use Rattle.aml_code.specs.Opcodes.{row_view};
@@ -42,7 +42,6 @@ impl Inline for u8 {
 }
 
 /// Bytes in braces.
-#[tactic(auto, using(text_writer::proofs::PrintLaws::straight), unfolding(crate::specs::Texts::braced))]
 pub fn print_braced_bytes<W: Write>(out: &mut Out<'_, W>, bytes: &[u8])
     ensures { Prints W.contents out.old out.new (braced (map hex2 bytes.now)) }
 {
@@ -95,7 +94,6 @@ impl Inline for Node {
     ghost text = { λ node. inline (node_view node) };
 
     #[cycle(inline)]
-    #[tactic(auto, using(text_writer::proofs::PrintLaws::straight, crate::proofs::NodeLaws::inline_nodes))]
     fn print<W: Write>(&self, out: &mut Out<'_, W>) {
         match self {
             Node::Nothing => {}
@@ -124,7 +122,6 @@ fn print_call<W: Write>(out: &mut Out<'_, W>, name: &Name, args: &Vec<Node>)
 
 /// Arguments in parentheses, if there are any.
 #[cycle(inline)]
-#[tactic(auto, using(text_writer::proofs::PrintLaws::straight, crate::proofs::NodeLaws::arguments))]
 fn print_arguments<W: Write>(out: &mut Out<'_, W>, args: &Vec<Node>)
     ensures { Prints W.contents out.old out.new (arguments_text (inlines (nodes_view args.now.items))) }
 {
@@ -137,7 +134,6 @@ fn print_arguments<W: Write>(out: &mut Out<'_, W>, args: &Vec<Node>)
 
 /// An opcode's mnemonic and its parts.
 #[cycle(inline)]
-#[tactic(auto, using(text_writer::proofs::PrintLaws::straight, crate::proofs::NodeLaws::heads))]
 fn print_head<W: Write>(out: &mut Out<'_, W>, opcode: u16, parts: &Parts)
     ensures { Prints W.contents out.old out.new (head_of opcode (parts_view parts.now.items)) }
 {
@@ -149,7 +145,6 @@ fn print_head<W: Write>(out: &mut Out<'_, W>, opcode: u16, parts: &Parts)
 
 /// An opcode with its parts, by its row.
 #[cycle(inline)]
-#[tactic(auto, using(text_writer::proofs::PrintLaws::straight, crate::proofs::NodeLaws::heads))]
 fn print_row_head<W: Write>(out: &mut Out<'_, W>, row: &OpRow, parts: &Parts)
     ensures { Prints W.contents out.old out.new
         (head_text (Some (row_view row.now)) (part_texts (parts_view parts.now.items))) }
@@ -164,7 +159,6 @@ fn print_row_head<W: Write>(out: &mut Out<'_, W>, row: &OpRow, parts: &Parts)
 
 /// Parts in parentheses, if there are any.
 #[cycle(inline)]
-#[tactic(auto, using(text_writer::proofs::PrintLaws::straight, crate::proofs::NodeLaws::part_arguments))]
 fn print_part_arguments<W: Write>(out: &mut Out<'_, W>, parts: &Parts)
     ensures { Prints W.contents out.old out.new (arguments_text (part_texts (parts_view parts.now.items))) }
 {
@@ -180,7 +174,6 @@ impl Inline for Part {
     ghost text = { λ part. part_text (part_view part) };
 
     #[cycle(inline)]
-    #[tactic(auto, using(text_writer::proofs::PrintLaws::straight, crate::proofs::NodeLaws::inline_parts))]
     fn print<W: Write>(&self, out: &mut Out<'_, W>) {
         match self {
             Part::Child(node) => node.print(out),
@@ -196,7 +189,6 @@ impl Inline for Part {
 
 /// The bytes of a Buffer, or the elements of a package.
 #[cycle(inline)]
-#[tactic(auto, using(text_writer::proofs::PrintLaws::straight, crate::proofs::NodeLaws::inline_tails))]
 pub fn print_tail<W: Write>(out: &mut Out<'_, W>, tail: &Tail)
     ensures { Prints W.contents out.old out.new (tail_text (tail_view tail.now)) }
 {
@@ -209,7 +201,6 @@ pub fn print_tail<W: Write>(out: &mut Out<'_, W>, tail: &Tail)
 
 /// Elements in braces.
 #[cycle(inline)]
-#[tactic(auto, using(text_writer::proofs::PrintLaws::straight, crate::proofs::NodeLaws::braces))]
 fn print_braced_nodes<W: Write>(out: &mut Out<'_, W>, nodes: &Vec<Node>)
     ensures { Prints W.contents out.old out.new (braced (inlines (nodes_view nodes.now.items))) }
 {

@@ -1,5 +1,5 @@
 //! The text of names.
-#![tactic(auto, using(text_writer::proofs::PrintLaws::straight))]
+#![tactic(auto, using(crate::proofs::TextLaws::names))]
 
 ghost use Rattle.std.specs.Prelude.{[], ◌++◌, cond, map, replicate};
 ghost use Rattle.text_writer.specs.Prints.{Prints, word};
@@ -11,7 +11,6 @@ use std::io::Write;
 use text_writer::Out;
 
 /// So many `^`.
-#[tactic(auto, using(text_writer::proofs::PrintLaws::straight, std::proofs::lemmas::Grind::replicate_next))]
 fn print_parents<W: Write>(out: &mut Out<'_, W>, ups: u32)
     ensures { Prints W.contents out.old out.new (replicate ups 94) }
 {
@@ -28,7 +27,6 @@ fn print_root<W: Write>(out: &mut Out<'_, W>, root: bool)
     }
 }
 
-#[tactic(auto, using(text_writer::proofs::PrintLaws::straight), unfolding(crate::specs::Texts::prefix_text))]
 fn print_prefix<W: Write>(out: &mut Out<'_, W>, name: &Name)
     ensures { Prints W.contents out.old out.new (prefix_text name.now) }
 {
@@ -39,14 +37,12 @@ fn print_prefix<W: Write>(out: &mut Out<'_, W>, name: &Name)
 impl Inline for Seg {
     ghost text = { segment_text };
 
-    #[tactic(auto, unfolding(crate::specs::Texts::segment_text))]
     fn print<W: Write>(&self, out: &mut Out<'_, W>) {
         out.put(&self.0);
     }
 }
 
 /// A dot and a segment, put together: a deep path has many thousands of them.
-#[tactic(auto, unfolding(crate::specs::Texts::segment_text))]
 fn print_dotted<W: Write>(out: &mut Out<'_, W>, seg: Seg)
     ensures { Prints W.contents out.old out.new (word "." ++ segment_text seg) }
 {
@@ -55,7 +51,6 @@ fn print_dotted<W: Write>(out: &mut Out<'_, W>, seg: Seg)
 }
 
 /// Segments with a dot between two.
-#[tactic(auto, using(text_writer::proofs::PrintLaws::straight, crate::proofs::TextLaws::separations))]
 pub fn print_segments<W: Write>(out: &mut Out<'_, W>, segs: &[Seg])
     ensures { Prints W.contents out.old out.new (separated (word ".") (map segment_text segs.now)) }
 {
@@ -68,7 +63,6 @@ pub fn print_segments<W: Write>(out: &mut Out<'_, W>, segs: &[Seg])
 }
 
 /// A name: its prefix, and its segments with a dot between two.
-#[tactic(auto, using(text_writer::proofs::PrintLaws::straight), unfolding(crate::specs::Texts::name_text))]
 pub fn print_name<W: Write>(out: &mut Out<'_, W>, name: &Name)
     ensures { Prints W.contents out.old out.new (name_text name.now) }
 {
