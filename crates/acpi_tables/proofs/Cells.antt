@@ -1,15 +1,7 @@
 -- The addresses that an XSDT or an RSDT lists.
-use Rattle.acpi_tables.proofs.Common.{◌≡◌, ℕ, ◌+◌, ◌-◌, ◌*◌, ◌/◌, ◌%◌, ◌≤◌, ◌<◌, List, length, Some, None, refl, rules, tests, arith, Bool, true, false, ◌&&◌}
+use Rattle.acpi_tables.proofs.Common.{◌≡◌, ℕ, ◌-◌, ◌%◌, ◌≤◌, ◌<◌, List, length, Some, None, refl, rules, tests, arith, Bool, true, false, ◌&&◌}
 use Rattle.acpi_tables.proofs.Common.{nat_le, nat_eq, zero-add, slice_get, if◌then◌else◌, nat_tests, slice_get-get_or, slice_get_past}
 use Rattle.acpi_tables.proofs.Common.{get_or-map-range_with_len, length-map-range_with_len, HoldsAddresses, addresses_of, address_at, address_in, address_count}
-use Rattle.std.proofs.Math.Nat.{le-div_iff_mul-le}
-
--- an address lies within its table
-pub address_inside : (width : ℕ) (table : List ℕ) (index : ℕ) → 0 < width → 36 ≤ length table → index < (length table - 36) / width
-    → 36 + index * width + width ≤ length table
-address_inside width table index some header inside =
-    let whole : (index + 1) * width ≤ length table - 36 = (le-div_iff_mul-le some).0 (omega (arith, inside)) in
-    omega (arith, whole, header)
 
 module _ (width : ℕ) (table : List ℕ) (index : ℕ) where
   pub address_in-inside : HoldsAddresses width table → index < address_count width table → address_in width table index ≡ Some (address_at width table index)

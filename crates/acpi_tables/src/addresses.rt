@@ -133,7 +133,6 @@ pub fn address_count(table: &[u8], width: AddressWidth) -> usize
 }
 
 /// The address of this width at this index of a table.
-#[tactic(auto, unfolding(crate::specs::Bytes::number_at))]
 pub(crate) fn address_at(table: &[u8], width: AddressWidth, index: usize) -> u64
     requires holds { HoldsAddresses (address_width width) table.now }
     requires inside { index < address_count (address_width width) table.now }
@@ -143,7 +142,6 @@ pub(crate) fn address_at(table: &[u8], width: AddressWidth, index: usize) -> u64
 }
 
 /// The bytes of the address of this width at this index of a table.
-#[tactic(auto, using(crate::proofs::Cells::address_inside))]
 pub fn address_bytes(table: &[u8], width: AddressWidth, index: usize) -> &[u8]
     requires holds { HoldsAddresses (address_width width) table.now }
     requires inside { index < address_count (address_width width) table.now }

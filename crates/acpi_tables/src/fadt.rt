@@ -1,4 +1,6 @@
 //! The table that names the DSDT (ACPI 6.5, section 5.2.9).
+#![tactic(auto, using(crate::proofs::Values::values))]
+
 ghost use Rattle.std.specs.Prelude.{◌≡◌, ◌↔◌, ◌<◌, ◌≤◌, length, map, IsOk, IfOk, IfErr, OnOk};
 ghost use Rattle.acpi_tables.specs.declared.faults.Bad.TheVariants.{FadtShort};
 
@@ -61,7 +63,6 @@ impl Fadt {
     ///
     /// # Errors
     /// `Bad::FadtShort` below 116 bytes.
-    #[tactic(auto, using(crate::proofs::Values::values))]
     pub fn read(table: &[u8]) -> Result<Fadt, Bad>
         ensures holds { IsOk result ↔ (116 ≤ length table.now) }
         ensures short { IfErr result (λ bad. bad ≡ FadtShort) }

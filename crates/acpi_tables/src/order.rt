@@ -1,4 +1,6 @@
 //! The order in which the definition blocks of a set of tables are loaded.
+#![tactic(auto, using(crate::proofs::Places::inside))]
+
 ghost use Rattle.std.specs.Prelude.{◌≡◌, ◌⊎◌, ◌<◌, ◌≤◌, ◌∷◌, ℕ, List, None, true, MatchBool, IfOk, IfErr, OnOk, length};
 ghost use Rattle.acpi_tables.specs.declared.faults.Bad.TheVariants.{NoMemory};
 ghost use Rattle.acpi_tables.specs.declared.faults.TableFault.{TableFault};
@@ -71,7 +73,6 @@ fn find_order(alloc: Global, dumps: &[Dump]) -> Result<Order, TableFault>
 }
 
 /// Whether each dump is taken by itself, and else the first that isn't.
-#[tactic(auto, using(crate::proofs::Places::inside))]
 fn check_dumps(dumps: &[Dump], any_sum: bool) -> Result<(), TableFault>
     ensures taken { OnOk result (AreTaken dumps.now any_sum) }
     ensures refused { IfErr result (RefusesBytes dumps.now any_sum) }
