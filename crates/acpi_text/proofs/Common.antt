@@ -4,8 +4,8 @@ pub use Rattle.acpi_tables.proofs.Places.{bytes_of-inside}
 pub use Rattle.acpi_tables.specs.Bytes.{field_view}
 pub use Rattle.acpi_tables.specs.Dumps.{HoldsDump}
 pub use Rattle.acpi_tables.specs.Header.{address_bytes, address_count, address_width}
-pub use Rattle.acpi_text.specs.Dumps.{record_line, spaced_byte, entry_line, dump_lines, field_text}
-unfoldable pub use Rattle.acpi_text.specs.Dumps.{madt_lines, other_text, root_text, header_text, entry_lines, fields_text}
+pub use Rattle.acpi_text.specs.Dumps.{record_line, entry_line, field_text}
+unfoldable pub use Rattle.acpi_text.specs.Dumps.{dump_lines, spaced_byte, madt_lines, other_text, root_text, header_text, entry_lines, fields_text}
 pub use Rattle.std.proofs.Common.{length, ◌-◌, flat_map, [], refl, ap, sym, subst, take, ◌≡◌, drop, length-drop, arith, map, ◌∙◌, zero-add, true, reverse, ◌<◌}
 pub use Rattle.std.proofs.lemmas.Bool.{false≢true}
 pub use Rattle.std.proofs.lemmas.List.{flat_map_more, take_all, get_or-reverse, length-reverse, get_or_default}

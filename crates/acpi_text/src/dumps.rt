@@ -40,7 +40,6 @@ fn print_below<W: Write>(out: &mut Out<'_, W>, kind: Kind, dumps: &[Dump], bytes
 }
 
 /// The lines of a dump, one of these.
-#[tactic(auto, using(text_writer::proofs::PrintLaws::straight), unfolding(crate::specs::Dumps::dump_lines))]
 fn print_dump<W: Write>(out: &mut Out<'_, W>, dumps: &[Dump], dump: &Dump)
     requires taken { HoldsDump true dump.now.bytes.items }
     ensures { Prints W.contents out.old out.new (dump_lines dumps.now dump.now) }

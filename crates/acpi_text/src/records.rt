@@ -1,5 +1,5 @@
 //! The lines below a MADT: its two fields, and its records.
-#![tactic(auto, using(text_writer::proofs::PrintLaws::straight), unfolding(crate::specs::Dumps::madt_lines))]
+#![tactic(auto, using(text_writer::proofs::PrintLaws::straight))]
 
 ghost use Rattle.std.specs.Prelude.{◌≤◌, Some, flat_map, length};
 ghost use Rattle.std.specs.List.{All};
@@ -23,7 +23,6 @@ fn print_known<W: Write>(out: &mut Out<'_, W>, bytes: &[u8], row: &RecordRow)
     print_fields(out, b" ", b"", bytes, row.fields);
 }
 
-#[tactic(auto, using(text_writer::proofs::PrintLaws::straight), unfolding(crate::specs::Dumps::spaced_byte))]
 fn print_spaced<W: Write>(out: &mut Out<'_, W>, byte: u8)
     ensures { Prints W.contents out.old out.new (spaced_byte byte) }
 {
