@@ -1,4 +1,6 @@
 //! The dumps of a folder: its files, and the addresses that its map gives them.
+#![tactic(auto, using(crate::proofs::Gathered::unmapped))]
+
 ghost use Rattle.std.specs.Prelude.{◌≡◌, ◌⊎◌, true, not, None, map, filter, zip, string_bytes};
 ghost use Rattle.std.specs.Prelude.{string_cmp, IsPermutation, IsSorted, IfOk, IfErr};
 ghost use Rattle.std.specs.List.{list_any};
@@ -217,7 +219,6 @@ fn read_file<F: Folder>(alloc: Global, folder: &mut F, name: &str) -> Result<Vec
 }
 
 /// The addresses of the dumps that are listed, if there is a map.
-#[tactic(auto, using(crate::proofs::Gathered::unmapped))]
 fn find_addresses<F: Folder>(
     alloc: Global,
     folder: &mut F,

@@ -1,9 +1,10 @@
 //! The lines of a text.
+#![tactic(auto, using(crate::proofs::FirstLines::ends))]
+
 ghost use Rattle.std.specs.Prelude.{◌≡◌, ◌<◌, ◌∷◌, length, position};
 ghost use Rattle.acpi_folder.specs.Map.{lines_of, is_line_end};
 
 /// The first line of a text, and what follows it.
-#[tactic(auto, using(crate::proofs::FirstLines::ends))]
 pub(crate) fn first_line(text: &[u8]) -> (&[u8], &[u8])
     requires { 0 < length text.now }
     ensures lines { lines_of text.now ≡ result.0.now ∷ lines_of result.1.now }

@@ -1,4 +1,6 @@
 //! The file `tables.map` of a folder: the physical address at which each table stood.
+#![tactic(auto, using(crate::proofs::Entries::entries))]
+
 ghost use Rattle.std.specs.Prelude.{◌≡◌, ◌⊎◌, true, false, None, Some, MatchOption};
 ghost use Rattle.std.specs.Prelude.{OnOk, IfOk, IfErr, map, find, option_map, length, string_bytes};
 ghost use Rattle.std.specs.List.{list_any};
@@ -145,7 +147,6 @@ fn read_lines<'a>(
 }
 
 /// What the line of this number says, behind these.
-#[tactic(auto, using(crate::proofs::Entries::entries))]
 fn check_line<'a>(
     bytes: &'a [u8],
     number: usize,
@@ -216,7 +217,6 @@ fn hex_number(digits: &[u8]) -> Option<u64>
 }
 
 /// Whether a name is a file's.
-#[tactic(auto, using(crate::proofs::Entries::entries))]
 fn is_listed(names: &[String], name: &[u8]) -> bool
     ensures { result ≡ is_listed (map string_bytes names.now) name.now }
 {
