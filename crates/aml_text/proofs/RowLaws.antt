@@ -2,7 +2,12 @@
 use Rattle.aml_text.proofs.Common.{◌≡◌, ℕ, List, [], ◌∷◌, ◌++◌, map, flat_map, length, sym, ap, ◌∙◌, append_assoc, Seg, word, ◌≤◌, arith}
 use Rattle.std.proofs.lemmas.List.{map-append}
 use Rattle.std.proofs.lemmas.List.Concat.{flat_map-append}
-unfoldable use Rattle.asl_text.specs.Texts.{separated}
+use Rattle.text_writer.proofs.PrintLaws.{straight}
+use Rattle.aml_space.specs.Known.{Declared}
+use Rattle.aml_text.proofs.Common.{refl}
+use Rattle.aml_text.specs.Rows.{marked_text}
+unfoldable use Rattle.aml_text.specs.Rows.{path_text, row_line}
+unfoldable use Rattle.asl_text.specs.Texts.{separated, line, indent}
 use Rattle.asl_text.specs.Texts.{segment_text}
 
 -- segments with a dot between two
@@ -20,3 +25,19 @@ dotted_join (s ∷ p) (t ∷ q) some more =
     ∙ sym (append_assoc (segment_text s) (flat_map each (map segment_text p)) (flat_map each (map segment_text (t ∷ q))))
     ∙ ap (λ text. (segment_text s ++ flat_map each (map segment_text p)) ++ text)
     (append_assoc (word ".") (segment_text t) (flat_map each (map segment_text q)))
+
+-- ---- texts by their parts
+
+pub path_is : (path : List Seg) → path_text path ≡ word "\\" ++ dotted path
+unfolding path_text
+path_is path = refl
+
+pub row_is : (row : List Seg × Declared) → row_line row ≡ indent 1 ++ marked_text row ++ word "\n"
+unfolding row_line line
+row_is row = refl
+
+pub count_is : (text : List ℕ) → line 0 text ≡ text ++ word "\n"
+unfolding line indent
+count_is text = refl
+
+pub ruleset printing = (straight, path_is, row_is, count_is)

@@ -1,5 +1,5 @@
 //! The namespace: a line for each declared path.
-#![tactic(auto, using(text_writer::proofs::PrintLaws::straight))]
+#![tactic(auto, using(crate::proofs::RowLaws::printing))]
 
 ghost use Rattle.std.specs.Prelude.{◌≡◌, ◌≤◌, ◌++◌, length, decimal};
 ghost use Rattle.std.specs.FinMap as map;
@@ -25,7 +25,6 @@ fn print_root<W: Write>(out: &mut Out<'_, W>)
 }
 
 /// A path: `\` and its segments, with a dot between two.
-#[tactic(auto, using(text_writer::proofs::PrintLaws::straight), unfolding(crate::specs::Rows::path_text))]
 fn print_path<W: Write>(out: &mut Out<'_, W>, path: &Path)
     ensures { Prints W.contents out.old out.new (path_text path.now) }
 {
@@ -135,7 +134,6 @@ fn print_marked<W: Write>(out: &mut Out<'_, W>, row: &Row<'_>, window: &mut [Seg
 }
 
 /// The line of a path with its kind.
-#[tactic(auto, using(text_writer::proofs::PrintLaws::straight), unfolding(crate::specs::Rows::row_line, asl_text::specs::Texts::line))]
 fn print_row<W: Write>(out: &mut Out<'_, W>, row: &Row<'_>, window: &mut [Seg])
     requires room { 1 ≤ length window.old }
     ensures text { Prints W.contents out.old out.new (row_line row.now) }
@@ -147,7 +145,6 @@ fn print_row<W: Write>(out: &mut Out<'_, W>, row: &Row<'_>, window: &mut [Seg])
 }
 
 /// The line above the rows.
-#[tactic(auto, using(text_writer::proofs::PrintLaws::straight), unfolding(asl_text::specs::Texts::line, asl_text::specs::Texts::indent))]
 fn print_count<W: Write>(out: &mut Out<'_, W>, count: usize)
     ensures { Prints W.contents out.old out.new (line 0 (word "Namespace " ++ decimal count)) }
 {
@@ -157,7 +154,6 @@ fn print_count<W: Write>(out: &mut Out<'_, W>, count: usize)
 }
 
 /// The namespace: how many paths are declared, and a line for each, in the order of the paths.
-#[tactic(auto, using(text_writer::proofs::PrintLaws::straight), unfolding(crate::specs::Rows::namespace_text))]
 pub fn print_rows<W: Write>(out: &mut Out<'_, W>, space: &Space)
     ensures { Prints W.contents out.old out.new (namespace_text (map.entries space.now.declarations)) }
 {
