@@ -1,4 +1,6 @@
 //! The lines that `--check` prints.
+#![tactic(auto, using(text_writer::proofs::PrintLaws::straight), unfolding(crate::specs::Checks::check_head))]
+
 ghost use Rattle.std.specs.Prelude.{◌≡◌};
 ghost use Rattle.text_writer.specs.Prints.{Prints, Writes};
 ghost use Rattle.aml_text.specs.Listing.{blocks_in};
@@ -11,7 +13,6 @@ use std::io::Write;
 use text_writer::{Out, WriteFault};
 
 /// The file's name, and what is counted first.
-#[tactic(auto, using(text_writer::proofs::PrintLaws::straight), unfolding(crate::specs::Checks::check_head))]
 fn print_check_head<W: Write>(out: &mut Out<'_, W>, name: &[u8], checked: Checked)
     ensures { Prints W.contents out.old out.new (check_head name.now checked) }
 {
@@ -20,7 +21,6 @@ fn print_check_head<W: Write>(out: &mut Out<'_, W>, name: &[u8], checked: Checke
     put_decimal(out, b" Methods ", checked.methods as u64);
 }
 
-#[tactic(auto, using(text_writer::proofs::PrintLaws::straight))]
 fn print_same<W: Write>(out: &mut Out<'_, W>, same: bool)
     ensures { Prints W.contents out.old out.new (same_word same) }
 {
@@ -32,7 +32,6 @@ fn print_same<W: Write>(out: &mut Out<'_, W>, same: bool)
 }
 
 /// The line of a table, by its file's name.
-#[tactic(auto, using(text_writer::proofs::PrintLaws::straight), unfolding(crate::specs::Checks::check_line))]
 fn print_check<W: Write>(out: &mut Out<'_, W>, name: &[u8], checked: Checked)
     ensures { Prints W.contents out.old out.new (check_line name.now checked) }
 {
