@@ -59,6 +59,12 @@ module _ (read : Position → Reader Tree) (front : List Part) (end : ℕ) (ls :
   parts_go_on part k ks ls' rest h so_far =
       sym (rest_regroup part_view part_more front part (parts_at read ks end ls' rest)) ∙ rw h at so_far
 
+  pub parts_fails : (e : CodeFault) (k : PartKind) (ks : List PartKind) → Fails e (part_at read k end ls bs)
+      → then_rest part_view part_more front (parts_at read (k ∷ ks) end ls bs) ≡ total → Fails e total
+  unfolding parts_at
+  parts_fails e k ks (inl h) so_far = inl h
+  parts_fails e k ks (inr h) so_far = inr (sym (rw h at so_far))
+
   pub parts_end : then_rest part_view part_more front (parts_at read [] end ls bs) ≡ total → total ≡ Ok (parts_view front, ls, bs)
   unfolding parts_at
   parts_end so_far = sym so_far ∙ ap (λ (ps : Parts). Ok (ps, ls, bs)) (parts_found front)

@@ -1,4 +1,6 @@
 //! The bytes of a method's body.
+#![tactic(auto, unfolding(crate::specs::Reading::all_at))]
+
 ghost use Rattle.std.specs.Prelude.{◌≡◌, ◌⊎◌, ◌≤◌, ◌<◌, ◌^◌, Some, length, IfOk, IfErr};
 ghost use Rattle.aml_names.specs.NameReading.{Gives};
 ghost use Rattle.aml_code.specs.Faults.{StandsAt};
@@ -13,7 +15,6 @@ use aml_code::{Arity, CodeFault, Locals, Node, Path, Position};
 use std::alloc::Global;
 
 /// The terms, and the fault that is met first.
-#[tactic(auto, unfolding(crate::specs::Reading::all_at))]
 fn body_terms<A: Arity>(
     alloc: Global,
     code: &[u8],

@@ -1,4 +1,6 @@
 //! Parts that hold no terms.
+#![tactic(auto, unfolding(crate::specs::Reading::count_part, crate::specs::Reading::segmented_at))]
+
 ghost use Rattle.std.specs.Prelude.{◌≡◌, ◌<◌, ◌==◌, position, take, drop, suc, IfSome, length};
 ghost use Rattle.aml_names.specs.NameReading.{Gives, name_at};
 ghost use Rattle.aml_code.specs.Packages.{little_at};
@@ -22,7 +24,6 @@ pub fn byte_part_of(end: u32, bytes: &[u8]) -> Result<(Part, &[u8]), CodeFault>
 }
 
 /// A number of arguments. `BadCount` at the byte where there are too many.
-#[tactic(auto, unfolding(crate::specs::Reading::count_part))]
 pub fn count_part_of(end: u32, bytes: &[u8]) -> Result<(Part, &[u8]), CodeFault>
     ensures { Gives (λ x. (part_view x.0, x.1.now)) result (count_part end bytes.now) }
 {
@@ -89,7 +90,6 @@ pub fn any_name_part_of(alloc: Global, end: u32, bytes: &[u8]) -> Result<(Part, 
 }
 
 /// A name with a segment. `EmptyName` at its first byte where it has none.
-#[tactic(auto, unfolding(crate::specs::Reading::segmented_at))]
 pub fn segmented_of(alloc: Global, end: u32, bytes: &[u8]) -> Result<(Name, &[u8]), CodeFault>
     ensures { Gives (λ x. (x.0, x.1.now)) result (segmented_at end bytes.now) }
 {

@@ -1,4 +1,6 @@
 //! The AML of a table.
+#![tactic(auto, unfolding(crate::specs::Reading::all_at))]
+
 ghost use Rattle.std.specs.Prelude.{◌≡◌, ◌⊎◌, ◌≤◌, ◌<◌, ◌^◌, None, Some, length, IfOk, IfErr};
 ghost use Rattle.aml_names.specs.NameReading.{Gives};
 ghost use Rattle.aml_code.specs.Faults.{StandsAt};
@@ -30,7 +32,6 @@ impl Arity for NoArguments {
 }
 
 /// The terms, and the fault that is met first.
-#[tactic(auto, unfolding(crate::specs::Reading::all_at))]
 fn module_terms(alloc: Global, code: &[u8]) -> Result<Vec<Node>, CodeFault>
     requires { length code.now < 2 ^ 32 }
     ensures { Gives (λ x. nodes_view x.items) result (all_at no_arguments None Position.ModuleTerm code.now) }

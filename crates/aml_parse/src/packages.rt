@@ -19,7 +19,6 @@ pub fn package_of(end: u32, bytes: &[u8]) -> Result<(PkgWidth, u32, &[u8], &[u8]
 }
 
 /// A method's body as a tail: from where it begins to the end of its span.
-#[tactic(auto, using(crate::proofs::Views::views))]
 pub fn body_of(end: u32, inside: &[u8]) -> Tail
     ensures { tail_view result ≡ body_to end (end - length inside.now) }
 {
@@ -31,7 +30,6 @@ pub fn body_of(end: u32, inside: &[u8]) -> Tail
 }
 
 /// An opcode with what was read behind it.
-#[tactic(auto, using(crate::proofs::Views::views))]
 pub fn operation_of(opcode: u16, width: Option<PkgWidth>, parts: Vec<Part>, tail: Tail) -> Node
     ensures { node_view result ≡ op opcode width (parts_view parts.items) (tail_view tail) }
 {

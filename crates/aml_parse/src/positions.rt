@@ -1,4 +1,6 @@
 //! Opcodes, which of them a position takes, and which position comes next.
+#![tactic(auto, unfolding(crate::specs::Reading::opcode_at))]
+
 ghost use Rattle.std.specs.Prelude.{◌≡◌};
 ghost use Rattle.aml_names.specs.NameReading.{Gives};
 ghost use Rattle.aml_code.specs.Lawful.{has_opcode, is_guard, next_position, tail_in, terms_in};
@@ -9,7 +11,6 @@ use aml_code::{CodeFault, Node, Place, Position, TailKind, byte_of};
 use aml_names::is_name_lead;
 
 /// An opcode: one byte, or 5B and a second.
-#[tactic(auto, unfolding(crate::specs::Reading::opcode_at))]
 pub fn opcode_of(end: u32, bytes: &[u8]) -> Result<(u16, &[u8]), CodeFault>
     ensures { Gives (λ x. (x.0, x.1.now)) result (opcode_at end bytes.now) }
 {

@@ -1,4 +1,6 @@
 //! A step through a table whose code may run.
+#![tactic(auto, unfolding(crate::specs::Reading::step_at))]
+
 ghost use Rattle.std.specs.Prelude.{◌≡◌, ◌⊎◌, ◌≤◌, ◌+◌, ℕ, None, length, IfOk, IfErr};
 ghost use Rattle.aml_names.specs.NameReading.{Gives};
 ghost use Rattle.aml_code.specs.Faults.{IsEnd, StandsAt, most_levels};
@@ -12,7 +14,6 @@ use aml_code::{Arity, CodeFault, Locals, Node, Position, offset_of};
 use std::alloc::Global;
 
 /// The term, and the fault that is met first.
-#[tactic(auto, unfolding(crate::specs::Reading::step_at))]
 fn step<A: Arity>(
     alloc: Global,
     arity: &A,

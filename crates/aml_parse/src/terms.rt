@@ -52,6 +52,7 @@ struct Found<'r> {
     tail: TailKind,
 }
 
+#[tactic(auto, unfolding(crate::specs::Reading::call_at, crate::specs::Reading::link_at, crate::specs::Reading::plain_at))]
 impl<'a, A: Arity> Parser<'a, A> {
     /// A term: its first byte tells whether it is a name, nothing or an opcode. `TooDeep` where no level is left, and
     /// `ModuleCode` where no name may stand.
@@ -93,7 +94,6 @@ impl<'a, A: Arity> Parser<'a, A> {
 
     /// A name and as many arguments as it takes in its position.
     #[cycle(terms)]
-    #[tactic(auto, unfolding(crate::specs::Reading::call_at))]
     fn call<'b>(
         &self,
         position: Position,
@@ -173,7 +173,6 @@ impl<'a, A: Arity> Parser<'a, A> {
 
     /// An opcode without a package length. Most have no parts, and so need no list of parts.
     #[cycle(terms)]
-    #[tactic(auto, unfolding(crate::specs::Reading::plain_at))]
     fn plain<'b>(
         &self,
         row: &OpRow,
@@ -221,7 +220,6 @@ impl<'a, A: Arity> Parser<'a, A> {
 
     /// The parts of these kinds, in order.
     #[cycle(terms)]
-    #[tactic(auto, unfolding(crate::specs::Reading::parts_at))]
     fn parts<'b>(
         &self,
         kinds: &[PartKind],
@@ -371,7 +369,6 @@ impl<'a, A: Arity> Parser<'a, A> {
 
     /// What a connection leads to: a Buffer, which its lead byte tells, or a name.
     #[cycle(terms)]
-    #[tactic(auto, unfolding(crate::specs::Reading::link_at))]
     fn link<'b>(
         &self,
         end: u32,

@@ -1,7 +1,7 @@
 use Rattle.aml_parse.proofs.Common.{rules, PartKind, ◌≡◌, ◌+◌, ◌-◌, length, drop, get_or, [], ◌∷◌, inr, Ok, ap, sym, ◌∙◌, arith, add-one, drop-cons, drop_all}
 use Rattle.aml_parse.proofs.Common.{row_view, no_trees, tree_more, no_fields, field_more, node_view, field_view}
 use Rattle.aml_parse.proofs.Bare.{plain_bare}
-use Rattle.aml_parse.proofs.Loops.{parts_go_on, parts_end, arguments_go_on, arguments_fails, arguments_end, go_on, fails, runs_out, done, nodes_found}
+use Rattle.aml_parse.proofs.Loops.{parts_go_on, parts_fails, parts_end, arguments_go_on, arguments_fails, arguments_end, go_on, fails, runs_out, done, nodes_found}
 use Rattle.aml_parse.proofs.Loops.{fields_found}
 use Rattle.aml_parse.proofs.parser.Parser.+terms.Goals as goal
 
@@ -27,6 +27,16 @@ arguments-returns g t c =
 pub plain-returns-then-is_empty : goal.plain-returns-then-is_empty
 plain-returns-then-is_empty g t c =
     plain_bare _ _ (row_view c.args.row.now) _ _ _ (grind arith) ∙ ap (λ y. Ok (y, c.args.locals.now, c.args.bytes.now)) (sym c.bare.ensures)
+
+pub parts-returns-in_err-part : goal.parts-returns-in_err-part
+parts-returns-in_err-part g t c =
+    let i = c.loop-kind.kind-index in
+    let ks = c.args.kinds.now in
+    let k = get_or ks i PartKind.Term in
+    let cut : drop i ks ≡ k ∷ drop (i + 1) ks = rw add-one (drop-cons ks i PartKind.Term c.loop-kind-test.true) in
+    let failed =
+    parts_fails _ c.loop-kind.found.items _ _ _ _ c.in_err-part.field-0.0 k (drop (i + 1) ks) c.in_err-part.ensures (rw cut at c.loop-kind.invariant) in
+    search rules
 
 pub parts-loop-kind-preserved : goal.parts-loop-kind-preserved
 parts-loop-kind-preserved g t c =
