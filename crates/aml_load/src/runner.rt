@@ -276,9 +276,11 @@ impl Progress {
             _ => Ok(()),
         }
     }
+}
 
+#[tactic(auto, unfolding(crate::specs::Running::enter_as))]
+impl Progress {
     /// Does what the role of a term does that opens nothing, and stays where it is.
-    #[tactic(auto, unfolding(crate::specs::Running::enter_as))]
     fn enter_flat(
         &mut self,
         here: &RunSite,
@@ -300,7 +302,6 @@ impl Progress {
     }
 
     /// Does what the role of a term does.
-    #[tactic(auto, unfolding(crate::specs::Running::enter_as))]
     fn enter_role(
         &mut self,
         here: &RunSite,
@@ -318,7 +319,9 @@ impl Progress {
             _ => self.enter_flat(here, role, parts, tail),
         }
     }
+}
 
+impl Progress {
     /// Adds the names of a term.
     fn ask(&mut self, here: &RunSite, head: &Node) -> Result<(), LoadFault>
         ensures { Asks self.old self.new here.now (node_view head.now) result }

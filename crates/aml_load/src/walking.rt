@@ -59,9 +59,9 @@ fn first_name(parts: &[Part]) -> Option<&Name>
     }
 }
 
+#[tactic(auto, unfolding(crate::specs::Loading::place_at))]
 impl Progress {
     /// Where a term's name leads from its scope, without a search. `AboveRoot` where that is nowhere.
-    #[tactic(auto, unfolding(crate::specs::Loading::place_at))]
     pub fn own_path(&self, site: &Site<'_>, name: Option<&Name>) -> Result<Path, LoadFault>
         ensures { Gives (λ p. p) result (place_at (at_site site.now) (option_copied name.entry)) }
     {
@@ -74,6 +74,24 @@ impl Progress {
         }
     }
 
+    /// The path of a method by its name. `AboveRoot` where the name leads nowhere.
+    fn method_path(&self, site: &Site<'_>, name: Option<&Name>) -> Result<MethodPath, LoadFault>
+        ensures { Gives (λ p. p) result (place_at (at_site site.now) (option_copied name.entry)) }
+    {
+        match name {
+            None => Err(LoadFault::Space(site.table, SpaceFault::AboveRoot)),
+            Some(name) => match front_of(site.scope.path(), name) {
+                None => Err(LoadFault::Space(site.table, SpaceFault::AboveRoot)),
+                Some(front) => {
+                    let scope = site.scope.share()?;
+                    Ok(MethodPath::new(scope, front, name.segs.clone()?))
+                }
+            },
+        }
+    }
+}
+
+impl Progress {
     /// What a name leads to in its scope.
     pub fn found_path(&self, site: &Site<'_>, name: Option<&Name>) -> Result<Option<Path>, NoMemory>
         ensures { (l : Listed) → StandsFor self.now.space l.entries →
@@ -107,9 +125,11 @@ impl Progress {
             Some(found) => Ok(found),
         }
     }
+}
 
+#[tactic(auto, unfolding(crate::specs::Loading::lead_at))]
+impl Progress {
     /// The path that a Scope opens. `ScopeMissing` where its name leads to nothing.
-    #[tactic(auto, unfolding(crate::specs::Loading::lead_at))]
     pub fn scope_path(&self, site: &Site<'_>, name: Option<&Name>) -> Result<Path, LoadFault>
         ensures { GivesIn (λ p. p) self.now.space result (λ l.
             lead_at (at_site site.now) l.entries (option_copied name.entry) (λ p. SpaceFault.ScopeMissing p)) }
@@ -119,7 +139,6 @@ impl Progress {
     }
 
     /// The path that the source of an Alias leads to. `AliasMissing` where that is nothing.
-    #[tactic(auto, unfolding(crate::specs::Loading::lead_at))]
     fn source_path(&self, site: &Site<'_>, name: Option<&Name>) -> Result<Path, LoadFault>
         ensures { GivesIn (λ p. p) self.now.space result (λ l.
             lead_at (at_site site.now) l.entries (option_copied name.entry) (λ p. SpaceFault.AliasMissing p)) }
@@ -127,7 +146,9 @@ impl Progress {
         let path = self.own_path(site, name)?;
         self.led_path(site, name, SpaceFault::AliasMissing(path))
     }
+}
 
+impl Progress {
     /// What an Alias of a path stands for: an Alias' own target, else the path.
     fn target_of(&self, path: Path) -> Result<Path, NoMemory>
         ensures { (l : Listed) → StandsFor self.now.space l.entries →
@@ -164,21 +185,6 @@ impl Progress {
         self.declare_path(site, path, kind)
     }
 
-    /// Declares a name with a kind.
-    #[tactic(auto, unfolding(crate::specs::Loading::new_at))]
-    fn declare_name(
-        &mut self,
-        site: &Site<'_>,
-        name: Option<&Name>,
-        kind: Kind,
-    ) -> Result<(), LoadFault>
-        ensures { Walks self.old self.new result (λ l.
-            new_at (at_site site.now) l (option_copied name.entry) (λ p. declares p kind None site.now.sure)) }
-    {
-        let path = self.own_path(site, name)?;
-        self.declare(site, path, kind)
-    }
-
     /// Declares the path of a method with this body.
     fn declare_body(&mut self, site: &Site<'_>, method: Method) -> Result<(), LoadFault>
         requires { method.table ≡ site.now.table }
@@ -193,26 +199,25 @@ impl Progress {
         self.methods.push(method)?;
         Ok(())
     }
+}
 
-    /// The path of a method by its name. `AboveRoot` where the name leads nowhere.
-    #[tactic(auto, unfolding(crate::specs::Loading::place_at))]
-    fn method_path(&self, site: &Site<'_>, name: Option<&Name>) -> Result<MethodPath, LoadFault>
-        ensures { Gives (λ p. p) result (place_at (at_site site.now) (option_copied name.entry)) }
+#[tactic(auto, unfolding(crate::specs::Loading::new_at))]
+impl Progress {
+    /// Declares a name with a kind.
+    fn declare_name(
+        &mut self,
+        site: &Site<'_>,
+        name: Option<&Name>,
+        kind: Kind,
+    ) -> Result<(), LoadFault>
+        ensures { Walks self.old self.new result (λ l.
+            new_at (at_site site.now) l (option_copied name.entry) (λ p. declares p kind None site.now.sure)) }
     {
-        match name {
-            None => Err(LoadFault::Space(site.table, SpaceFault::AboveRoot)),
-            Some(name) => match front_of(site.scope.path(), name) {
-                None => Err(LoadFault::Space(site.table, SpaceFault::AboveRoot)),
-                Some(front) => {
-                    let scope = site.scope.share()?;
-                    Ok(MethodPath::new(scope, front, name.segs.clone()?))
-                }
-            },
-        }
+        let path = self.own_path(site, name)?;
+        self.declare(site, path, kind)
     }
 
     /// Declares a method, however many there are.
-    #[tactic(auto, unfolding(crate::specs::Loading::new_at))]
     fn declare_method(
         &mut self,
         site: &Site<'_>,
@@ -236,7 +241,9 @@ impl Progress {
             },
         )
     }
+}
 
+impl Progress {
     /// Declares a method. `TooManyMethods` where as many as there may be are there, whatever its name is.
     #[tactic(auto, unfolding(crate::specs::Loading::method_at))]
     pub fn add_method(
@@ -283,9 +290,11 @@ impl Progress {
         let path = self.own_path(site, last_name(parts))?;
         self.add_count(path, byte_in(parts))
     }
+}
 
+#[tactic(auto, unfolding(crate::specs::Loading::units_at))]
+impl Progress {
     /// Declares the unit of a field list with this segment.
-    #[tactic(auto, unfolding(crate::specs::Loading::units_at))]
     fn add_unit(&mut self, site: &Site<'_>, seg: Seg) -> Result<(), LoadFault>
         ensures { Walks self.old self.new result (λ l.
             units_at (at_site site.now) l (plain_name seg ∷ [])) }
@@ -294,7 +303,6 @@ impl Progress {
         self.declare(site, path, Kind::Field)
     }
 
-    #[tactic(auto, unfolding(crate::specs::Loading::units_at))]
     fn add_field(&mut self, site: &Site<'_>, field: &Field) -> Result<(), LoadFault>
         ensures { Walks self.old self.new result (λ l.
             units_at (at_site site.now) l (unit_names (field_more (field_view field.now) no_fields))) }
@@ -305,7 +313,6 @@ impl Progress {
         }
     }
 
-    #[tactic(auto, unfolding(crate::specs::Loading::units_at))]
     fn add_fields(&mut self, site: &Site<'_>, fields: &[Field]) -> Result<(), LoadFault>
         ensures { Walks self.old self.new result (λ l.
             units_at (at_site site.now) l (unit_names (fields_view fields.now))) }
@@ -317,7 +324,6 @@ impl Progress {
     }
 
     /// Declares the named units of a field list.
-    #[tactic(auto, unfolding(crate::specs::Loading::units_at))]
     pub fn add_units(&mut self, site: &Site<'_>, tail: &Tail) -> Result<(), LoadFault>
         ensures { Walks self.old self.new result (λ l.
             units_at (at_site site.now) l (field_names (tail_view tail.now))) }
@@ -327,7 +333,9 @@ impl Progress {
             _ => Ok(()),
         }
     }
+}
 
+impl Progress {
     /// Declares what a term declares, and what the terms inside it declare.
     #[cycle(walk)]
     #[tactic(auto, unfolding(crate::specs::Loading::declare))]
