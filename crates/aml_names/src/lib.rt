@@ -19,7 +19,7 @@ pub use arities::Arity;
 pub use faults::{CodeFault, NoMemory};
 pub use locals::Locals;
 pub use names::{Name, NameForm};
-pub use paths::Path;
+pub use paths::{Path, common};
 pub use placing::{front_of, place};
 pub use reading::{is_name_lead, name_of, read_name, segment_of};
 pub use segments::{Seg, Segs};

@@ -7,7 +7,7 @@ ghost use Rattle.aml_space.specs.Trails.{IsTrail};
 use crate::growing::Reach;
 use crate::nodes::Node;
 use crate::walking::child;
-use aml_names::Seg;
+use aml_names::{Seg, common};
 use std::alloc::Global;
 
 /// The segments of a path, and the node to which the path leads with each. Another path that begins alike is followed
@@ -18,9 +18,6 @@ pub(crate) struct Trail {
     pub segs: Vec<Seg>,
     pub nodes: Vec<usize>,
 }
-
-/// So many segments are compared at once.
-const BLOCK: usize = 256;
 
 impl Trail {
     /// That of the root.
@@ -33,40 +30,6 @@ impl Trail {
             nodes: Vec::new(alloc),
         }
     }
-}
-
-/// How many of so many first segments are the same.
-fn matches(some: &[Seg], others: &[Seg], count: usize) -> usize
-    requires some { count ≤ length some.now }
-    requires others { count ≤ length others.now }
-    ensures within { result ≤ count }
-    ensures all { result ≡ count → take count some.now ≡ take count others.now }
-{
-    let mut same: usize = 0;
-    for index in 0..count {
-        if some[index].cmp(&others[index]).is_eq() {
-            same += 1;
-        }
-    }
-    same
-}
-
-/// How many segments a path has in common with a trail. By blocks, which are compared as wholes, that is several times
-/// as fast as by one segment after the other.
-fn common(trail: &[Seg], path: &[Seg]) -> usize
-    ensures along { result ≤ length trail.now }
-    ensures within { result ≤ length path.now }
-    ensures same { take result trail.now ≡ take result path.now }
-{
-    let most = trail.len().min(path.len());
-    let mut known: usize = 0;
-    while most - known >= BLOCK && matches(&trail[known..], &path[known..], BLOCK) == BLOCK {
-        known += BLOCK;
-    }
-    while known < most && trail[known].cmp(&path[known]).is_eq() {
-        known += 1;
-    }
-    known
 }
 
 /// The node of so many first segments.

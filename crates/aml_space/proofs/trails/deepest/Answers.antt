@@ -18,7 +18,7 @@ loop-known-init c =
     record {
       led = led;
       inside = node_range c.requires.shape (take k c.args.path.now) c.node_at-at.result led;
-      within = c.common-known.ensures.within;
+      within = c.common-known.ensures.others;
       trail = front_trail ns t _ k c.truncate.ensures.items c.truncate-2.ensures.items c.requires.trail;
       few = omega (arith, ap length c.truncate.ensures.items, length-take k t.segs.items);
       same = λ long. c.truncate.ensures.items ∙ same;

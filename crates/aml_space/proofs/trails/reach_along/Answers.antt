@@ -13,7 +13,7 @@ loop-reach-init c =
     record {
       led = led;
       inside = node_range c.requires.shape (take k c.args.path.now) c.node_at.result led;
-      within = c.common-known.ensures.within;
+      within = c.common-known.ensures.others;
     }
 
 pub loop-reach-preserved : goal.loop-reach-preserved

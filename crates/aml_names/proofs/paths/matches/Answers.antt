@@ -4,8 +4,8 @@ use Rattle.std.proofs.lemmas.List.{take_more}
 use Rattle.std.proofs.lemmas.Map.Views.{tells_apart}
 use Rattle.aml_names.specs.declared.segments.Seg.{Seg}
 use Rattle.aml_names.specs.Paths.{seg_cmp, exact_segs}
-use Rattle.aml_space.proofs.trails.matches.Goals as goal
-use Rattle.aml_space.proofs.trails.matches.Goals.{then-is_eq, else-is_eq}
+use Rattle.aml_names.proofs.paths.matches.Goals as goal
+use Rattle.aml_names.proofs.paths.matches.Goals.{then-is_eq, else-is_eq}
 
 pub loop-index-preserved : goal.loop-index-preserved
 loop-index-preserved c =
@@ -17,7 +17,7 @@ loop-index-preserved c =
     elim c.if-is_eq.branch [
       | then-is_eq w ↦ record {
         few = omega (arith, inv.few, w.same-is);
-        all = λ here. by (inv.all (omega (arith, here, w.same-is))) (ap is_eq (sym c.cmp.ensures) ∙ sym c.is_eq.ensures ∙ w.if-is_eq.true);
+        all = λ here. by (inv.all (omega (arith, here, w.same-is))) (ap is_eq (sym c.in_order.ensures) ∙ sym c.is_eq.ensures ∙ w.if-is_eq.true);
       }
       | else-is_eq w ↦ record {
         few = omega (arith, inv.few, w.same-is);
