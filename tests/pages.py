@@ -216,7 +216,7 @@ def words_of_program():
     messages = [
         message
         for source in (TOP / "crates").glob("*/src/**/*.rt")
-        for message in re.findall(r'(?:#\[error\("|"acpidis: )([^"{]+)', source.read_text())
+        for message in re.findall(r'(?:#\[error\("|"acpidis: |Fault::\w+(?:\(_\))? => f\.write_str\(")([^"{]+)', source.read_text())
     ]
     return {word for message in messages for word in re.findall(r"^[A-Z][A-Za-z]+", message)}
 
