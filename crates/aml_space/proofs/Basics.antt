@@ -1,9 +1,8 @@
 -- Steps on lists, options and tests that several proofs take.
 use Rattle.std.specs.Prelude.{◌==◌, slice_get}
-use Rattle.std.proofs.Common.{◌≡◌, ℕ, zero, suc, ◌<◌, Bool, true, false, not, cond, List, [], ◌∷◌, ◌++◌, ◌+◌, length, take, drop, get_or, Option, Some, None, is_some, refl}
+use Rattle.std.proofs.Common.{◌≡◌, ℕ, zero, suc, ◌<◌, Bool, true, false, not, cond, List, [], ◌∷◌, ◌++◌, length, get_or, Option, Some, None, is_some, refl}
 use Rattle.std.proofs.Common.{arith, Bor, IfSome, inl, inr, subst, sym, ap, ◌∙◌, length-append}
 use Rattle.std.proofs.lemmas.Bool.{cases_lt}
-use Rattle.std.proofs.lemmas.List.{take-append-drop, take-take, drop-take}
 use Rattle.std.proofs.lemmas.Option.{slice_get_past}
 use Rattle.std.specs.Option.{option_or, option_and_then, option_map, option_copied}
 use Rattle.std.proofs.lemmas.Bool.{false≢true}
@@ -52,10 +51,6 @@ module _ {A : Type 0} where
   pub read_last : (xs : List A) (y : A) → slice_get (xs ++ y ∷ []) (length xs) ≡ Some y
   read_last [] y = refl
   read_last (x ∷ xs) y = read_last xs y
-
-  -- a longer front
-  pub take_on : (k n : ℕ) (xs : List A) → take (k + n) xs ≡ take k xs ++ take n (drop k xs)
-  take_on k n xs = sym (take-append-drop k (take (k + n) xs)) ∙ (λ i. take-take k (k + n) xs (omega arith) i ++ drop-take k n xs i)
 
   -- what holds of each by its place, with one more
   pub each_more : (P : ℕ → A → Type 0) (xs : List A) (x : A) → ((i : ℕ) → IfSome (slice_get xs i) (P i)) → P (length xs) x → (i : ℕ)

@@ -111,10 +111,6 @@ pub settled_none : (ns : List Node) (settled : List Settled) → settled ≡ [] 
 settled_none ns settled none i = subst (λ (ss : List Settled). IfSome (slice_get ss i) (λ (s : Settled). (path : List Seg) (d : ℕ) → d ≤ length path
     → walk (kids_of ns) 0 (take d path) ≡ Some i → IsSettled ns path d s)) (sym none) tt
 
--- from any nearer depth up the same is the next to be asked
-pub next_nearer : (n : Namespace) (path : List Seg) (from to asked : ℕ) → to ≤ from → asked ≤ to → IsNext n path from asked → IsNext n path to asked
-next_nearer n path from to asked less more is = record { within = more; silent = λ d above below. is.silent d above (omega (arith, below, less)) }
-
 -- where nothing is known at a level, the one above it comes next
 pub next_up : (n : Namespace) (path : List Seg) (from asked : ℕ) → 0 < asked → IsNext n path from asked → IsSilent n (take asked path)
     → IsNext n path from (asked - 1)
