@@ -3,7 +3,9 @@ ghost use Rattle.std.specs.Prelude.{◌≤◌, length};
 
 use crate::code::push_body_of;
 use crate::lines::{Line, count_of, first_word};
-use aml_names::{Arity, Locals, Name, NameForm, Path, Seg, Segs, place};
+use aml_names::{
+    Arity, Locals, Name, NameForm, Path, ScopedPath, Seg, Segs, SharedPath, place,
+};
 use aml_space::{BodyScope, Kind, Space, SpaceRow};
 use std::alloc::{AllocError, Global};
 use std::fmt::Write;
@@ -99,8 +101,22 @@ impl Names<'_> {
         match way {
             "place" => place(alloc, scope, name),
             "find" => self.space.find(alloc, scope, name),
-            "lead" => self.space.lead(alloc, scope, name),
+            "lead" => self.lead(alloc, scope, name),
             _ => self.space.search(alloc, self.locals, scope, name),
+        }
+    }
+
+    /// The path that a Scope opens, whatever runs.
+    fn lead(
+        &self,
+        alloc: Global,
+        scope: &Path,
+        name: &Name,
+    ) -> Result<Option<Path>, AllocError> {
+        let scope = SharedPath::new(alloc, scope.clone()?)?;
+        match self.space.lead(alloc, &scope, name)? {
+            Some(path) => Ok(Some(path.to_path(alloc)?)),
+            None => Ok(None),
         }
     }
 
@@ -177,12 +193,13 @@ impl Names<'_> {
 
     /// Whether a path is declared, and whether it has a kind in every run.
     fn push_declared(&self, out: &mut String, path: &Path) -> Result<(), AllocError> {
-        let declared = if self.space.is_declared(path) {
+        let parts = path.parts();
+        let declared = if self.space.is_declared(&parts) {
             "declared"
         } else {
             "not declared"
         };
-        let sure = if self.space.is_sure(path) {
+        let sure = if self.space.is_sure(&parts) {
             "sure"
         } else {
             "not sure"
@@ -338,7 +355,7 @@ fn kind_of(alloc: Global, words: &str) -> Result<Kind, AllocError> {
             args: count_of(more),
         },
         "Alias" => Kind::Alias {
-            target: path_of(alloc, more)?,
+            target: ScopedPath::whole(alloc, path_of(alloc, more)?)?,
         },
         "Device" => Kind::Device,
         _ => Kind::Name,

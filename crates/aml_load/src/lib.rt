@@ -16,7 +16,6 @@ mod used;
 mod uses;
 mod walking;
 
-pub use aml_set::SharedPath;
 pub use bodies::{read_body, read_span};
 pub use faults::LoadFault;
 pub use laws::{loads_forward, loads_in_text_order, loads_one_way, loads_strictly};

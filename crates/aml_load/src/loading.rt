@@ -17,9 +17,9 @@ use crate::used::Use;
 use crate::uses::Site;
 use crate::walking::Progress;
 use aml_code::{Locals, NoMemory, Node, Path, place};
-use aml_names::Arity;
+use aml_names::{Arity, SharedPath};
 use aml_parse::parse_module;
-use aml_set::{Loaded, SharedPath, Table, TableSet};
+use aml_set::{Loaded, Table, TableSet};
 use aml_space::{BodyNames, BodyScope, Space};
 use std::alloc::Global;
 

@@ -20,7 +20,7 @@ use aml_code::{
     listed_row,
 };
 use aml_parse::{next_position, read_step};
-use aml_set::SharedPath;
+use aml_names::{ScopedPath, SharedPath};
 use aml_space::{BodyNames, BodyScope, Kind, SpaceFault};
 use std::alloc::Global;
 
@@ -39,10 +39,10 @@ pub struct RunSite {
 
 impl RunSite {
     /// Under a path.
-    fn under(&self, alloc: Global, path: Path, sure: bool) -> Result<RunSite, LoadFault>
-        ensures { IsSite result (record { table = self.now.table; scope = path; sure = sure }) }
+    fn under(&self, alloc: Global, path: &ScopedPath, sure: bool) -> Result<RunSite, LoadFault>
+        ensures { IsSite result (record { table = self.now.table; scope = path.now; sure = sure }) }
     {
-        let scope = SharedPath::new(alloc, path)?;
+        let scope = path.to_scope(alloc)?;
         Ok(RunSite {
             table: self.table,
             scope,
@@ -193,7 +193,7 @@ impl Progress {
         match name {
             None => Ok(false),
             Some(name) => {
-                let path = self.space.find(self.alloc, site.scope.path(), name)?;
+                let path = self.space.find_scoped(self.alloc, site.scope, name)?;
                 Ok(path.is_some())
             }
         }
@@ -201,7 +201,7 @@ impl Progress {
 
     /// The path that a Scope opens. `ScopeMissing` where runs may differ.
     #[tactic(auto, unfolding(crate::specs::Running::opened_at))]
-    fn opened_path(&self, site: &Site<'_>, name: Option<&Name>) -> Result<Path, LoadFault>
+    fn opened_path(&self, site: &Site<'_>, name: Option<&Name>) -> Result<ScopedPath, LoadFault>
         ensures { GivesIn (λ p. p) self.now.space result (λ l.
             opened_at (at_site site.now) l.entries (option_copied name.entry)) }
     {
@@ -210,7 +210,8 @@ impl Progress {
             Some(led) => Ok(led),
             None => {
                 if self.is_known(site, name)? {
-                    Err(LoadFault::Space(site.table, SpaceFault::ScopeMissing(path)))
+                    let missing = SpaceFault::ScopeMissing(path.to_path(self.alloc)?);
+                    Err(LoadFault::Space(site.table, missing))
                 } else {
                     Ok(path)
                 }
@@ -235,9 +236,9 @@ impl Progress {
             sure: here.sure,
         };
         let path = self.own_path(&site, name)?;
-        let declared = self.space.is_declared(&path);
-        self.declare(&site, path.clone()?, kind)?;
-        here.under(self.alloc, path, here.sure && !declared)
+        let declared = self.space.is_declared(&path.parts());
+        self.declare(&site, &path, kind)?;
+        here.under(self.alloc, &path, here.sure && !declared)
     }
 
     /// Opens the path of a Scope.
@@ -252,8 +253,8 @@ impl Progress {
             sure: here.sure,
         };
         let path = self.opened_path(&site, name)?;
-        let sure = here.sure && self.space.is_sure(&path);
-        here.under(self.alloc, path, sure)
+        let sure = here.sure && self.space.is_sure(&path.parts());
+        here.under(self.alloc, &path, sure)
     }
 
     /// Does what the role of a term does that opens nothing.

@@ -14,7 +14,7 @@ use crate::roles::{kind_of, role_of};
 use crate::uses::{Site, add_names};
 use crate::walking::Progress;
 use aml_code::{NoMemory, Node, Part, Path, Role, Tail, last_name};
-use aml_set::SharedPath;
+use aml_names::{ScopedPath, SharedPath};
 use std::alloc::Global;
 
 /// A term of a table outside the methods' bodies, and where it stands.
@@ -100,12 +100,12 @@ fn find_by_role<'a>(
     match role {
         Role::Declares(object) => {
             let path = progress.own_path(site, last_name(parts))?;
-            progress.declare(site, path.clone()?, kind_of(object))?;
-            find_below(progress, site, path, tail, found)
+            progress.declare(site, &path, kind_of(object))?;
+            find_below(progress, site, &path, tail, found)
         }
         Role::Scope => {
             let path = progress.scope_path(site, last_name(parts))?;
-            find_below(progress, site, path, tail, found)
+            find_below(progress, site, &path, tail, found)
         }
         Role::Guard => find_inside(progress, site, tail, found),
         Role::Method => progress.add_method(site, parts, tail),
@@ -121,15 +121,15 @@ fn find_by_role<'a>(
 fn find_below<'a>(
     progress: &mut Progress,
     site: &Site<'_>,
-    path: Path,
+    path: &ScopedPath,
     tail: &'a Tail,
     found: &mut Vec<StandingTerm<'a>>,
 ) -> Result<(), LoadFault>
     ensures { Finds progress.old progress.new found.old.items found.new.items result
-        (λ l. declare_inside (under (at_site site.now) path) l (tail_view tail.now))
-        (λ l. inside_stand (under (at_site site.now) path) l (tail_view tail.now)) }
+        (λ l. declare_inside (under (at_site site.now) path.now) l (tail_view tail.now))
+        (λ l. inside_stand (under (at_site site.now) path.now) l (tail_view tail.now)) }
 {
-    let scope = SharedPath::new(progress.alloc, path)?;
+    let scope = path.to_scope(progress.alloc)?;
     find_inside(
         progress,
         &Site {

@@ -1,6 +1,5 @@
 //! The names outside methods whose numbers of arguments are compared.
-use aml_names::Name;
-use aml_set::SharedPath;
+use aml_names::{Name, SharedPath};
 
 /// A name that stands as a TermArg outside the methods, or as a term there.
 #[derive(Drop)]

@@ -6,8 +6,7 @@ ghost use Rattle.aml_load.specs.Walking.{at_site};
 
 use crate::used::Use;
 use aml_code::{Field, Group, Link, NoMemory, Node, Part, PartKind, Tail, listed_row};
-use aml_names::Name;
-use aml_set::SharedPath;
+use aml_names::{Name, SharedPath};
 
 /// Where a term stands.
 #[derive(Drop)]

@@ -13,10 +13,9 @@ use crate::faults::LoadFault;
 use crate::roles::{kind_of, role_of};
 use crate::used::Use;
 use crate::uses::{Site, add_names};
-use aml_code::{
-    Field, Name, NoMemory, Node, Part, Path, Role, Seg, Tail, front_of, last_byte, last_name, place,
-};
-use aml_set::{Method, MethodPath, SharedPath};
+use aml_code::{Field, Name, NoMemory, Node, Part, Role, Seg, Tail, last_byte, last_name};
+use aml_names::{ScopedPath, Segs};
+use aml_set::Method;
 use aml_space::{Kind, Space, SpaceFault};
 use std::alloc::Global;
 
@@ -62,30 +61,18 @@ fn first_name(parts: &[Part]) -> Option<&Name>
 #[tactic(auto, unfolding(crate::specs::Loading::place_at))]
 impl Progress {
     /// Where a term's name leads from its scope, without a search. `AboveRoot` where that is nowhere.
-    pub fn own_path(&self, site: &Site<'_>, name: Option<&Name>) -> Result<Path, LoadFault>
+    pub fn own_path(
+        &self,
+        site: &Site<'_>,
+        name: Option<&Name>,
+    ) -> Result<ScopedPath, LoadFault>
         ensures { Gives (λ p. p) result (place_at (at_site site.now) (option_copied name.entry)) }
     {
         match name {
             None => Err(LoadFault::Space(site.table, SpaceFault::AboveRoot)),
-            Some(name) => match place(self.alloc, site.scope.path(), name)? {
+            Some(name) => match ScopedPath::placed(site.scope, name)? {
                 None => Err(LoadFault::Space(site.table, SpaceFault::AboveRoot)),
                 Some(path) => Ok(path),
-            },
-        }
-    }
-
-    /// The path of a method by its name. `AboveRoot` where the name leads nowhere.
-    fn method_path(&self, site: &Site<'_>, name: Option<&Name>) -> Result<MethodPath, LoadFault>
-        ensures { Gives (λ p. p) result (place_at (at_site site.now) (option_copied name.entry)) }
-    {
-        match name {
-            None => Err(LoadFault::Space(site.table, SpaceFault::AboveRoot)),
-            Some(name) => match front_of(site.scope.path(), name) {
-                None => Err(LoadFault::Space(site.table, SpaceFault::AboveRoot)),
-                Some(front) => {
-                    let scope = site.scope.share()?;
-                    Ok(MethodPath::new(scope, front, name.segs.clone()?))
-                }
             },
         }
     }
@@ -93,7 +80,11 @@ impl Progress {
 
 impl Progress {
     /// What a name leads to in its scope.
-    pub fn found_path(&self, site: &Site<'_>, name: Option<&Name>) -> Result<Option<Path>, NoMemory>
+    pub fn found_path(
+        &self,
+        site: &Site<'_>,
+        name: Option<&Name>,
+    ) -> Result<Option<ScopedPath>, NoMemory>
         ensures { (l : Listed) → StandsFor self.now.space l.entries →
             IfOk result (λ path. path ≡ lead_of (at_site site.now) l.entries (option_copied name.entry)) }
     {
@@ -101,28 +92,11 @@ impl Progress {
             None => Ok(None),
             Some(name) => {
                 if site.any_run {
-                    self.space.lead(self.alloc, site.scope.path(), name)
+                    self.space.lead(self.alloc, site.scope, name)
                 } else {
-                    self.space.find(self.alloc, site.scope.path(), name)
+                    self.space.find_scoped(self.alloc, site.scope, name)
                 }
             }
-        }
-    }
-
-    /// What a name leads to in its scope. Where that is nothing, this fault.
-    fn led_path(
-        &self,
-        site: &Site<'_>,
-        name: Option<&Name>,
-        missing: SpaceFault,
-    ) -> Result<Path, LoadFault>
-        ensures { GivesIn (λ p. p) self.now.space result (λ l.
-            ok_or (lead_of (at_site site.now) l.entries (option_copied name.entry))
-            (LoadFault.Space site.now.table missing)) }
-    {
-        match self.found_path(site, name)? {
-            None => Err(LoadFault::Space(site.table, missing)),
-            Some(found) => Ok(found),
         }
     }
 }
@@ -130,57 +104,83 @@ impl Progress {
 #[tactic(auto, unfolding(crate::specs::Loading::lead_at))]
 impl Progress {
     /// The path that a Scope opens. `ScopeMissing` where its name leads to nothing.
-    pub fn scope_path(&self, site: &Site<'_>, name: Option<&Name>) -> Result<Path, LoadFault>
+    pub fn scope_path(
+        &self,
+        site: &Site<'_>,
+        name: Option<&Name>,
+    ) -> Result<ScopedPath, LoadFault>
         ensures { GivesIn (λ p. p) self.now.space result (λ l.
             lead_at (at_site site.now) l.entries (option_copied name.entry) (λ p. SpaceFault.ScopeMissing p)) }
     {
         let path = self.own_path(site, name)?;
-        self.led_path(site, name, SpaceFault::ScopeMissing(path))
+        match self.found_path(site, name)? {
+            Some(found) => Ok(found),
+            None => {
+                let missing = SpaceFault::ScopeMissing(path.to_path(self.alloc)?);
+                Err(LoadFault::Space(site.table, missing))
+            }
+        }
     }
 
     /// The path that the source of an Alias leads to. `AliasMissing` where that is nothing.
-    fn source_path(&self, site: &Site<'_>, name: Option<&Name>) -> Result<Path, LoadFault>
+    fn source_path(&self, site: &Site<'_>, name: Option<&Name>) -> Result<ScopedPath, LoadFault>
         ensures { GivesIn (λ p. p) self.now.space result (λ l.
             lead_at (at_site site.now) l.entries (option_copied name.entry) (λ p. SpaceFault.AliasMissing p)) }
     {
         let path = self.own_path(site, name)?;
-        self.led_path(site, name, SpaceFault::AliasMissing(path))
+        match self.found_path(site, name)? {
+            Some(found) => Ok(found),
+            None => {
+                let missing = SpaceFault::AliasMissing(path.to_path(self.alloc)?);
+                Err(LoadFault::Space(site.table, missing))
+            }
+        }
     }
 }
 
 impl Progress {
     /// What an Alias of a path stands for: an Alias' own target, else the path.
-    fn target_of(&self, path: Path) -> Result<Path, NoMemory>
+    fn target_of(&self, path: &ScopedPath) -> Result<ScopedPath, NoMemory>
         ensures { (l : Listed) → StandsFor self.now.space l.entries →
-            IfOk result (λ target. target ≡ target_of l.entries path) }
+            IfOk result (λ target. target ≡ target_of l.entries path.now) }
     {
-        match self.space.kind(&path) {
+        match self.space.kind_of(&path.parts()) {
             Some(Kind::Alias { target }) => target.clone(),
-            _ => Ok(path),
+            _ => path.clone(),
         }
     }
 
     /// Declares a path: once where the code outside methods may not run, else `Duplicate`; and also again where it may.
-    fn declare_path(&mut self, site: &Site<'_>, path: Path, kind: Kind) -> Result<(), LoadFault>
+    fn declare_path(
+        &mut self,
+        site: &Site<'_>,
+        path: &ScopedPath,
+        kind: Kind,
+    ) -> Result<(), LoadFault>
         ensures { (es : List Entry) (body : Option Body) → StandsFor self.old.space es →
-            IsDeclared (at_site site.now) es path kind body self.old self.new result }
+            IsDeclared (at_site site.now) es path.now kind body self.old self.new result }
     {
         if site.any_run {
-            self.space.declare_again(path, kind, site.sure)?;
+            self.space.put_again(&path.parts(), kind, site.sure)?;
             return Ok(());
         }
-        match self.space.declare_once(path, kind, site.sure) {
-            Ok(()) => Ok(()),
-            Err(SpaceFault::NoMemory) => Err(LoadFault::NoMemory),
-            Err(fault) => Err(LoadFault::Space(site.table, fault)),
+        if self.space.put_once(&path.parts(), kind, site.sure)? {
+            return Ok(());
         }
+        let taken = SpaceFault::Duplicate(path.to_path(self.alloc)?);
+        Err(LoadFault::Space(site.table, taken))
     }
 
     /// Declares a path that has no body.
     #[tactic(auto, unfolding(crate::specs::Loading::entry_at))]
-    pub fn declare(&mut self, site: &Site<'_>, path: Path, kind: Kind) -> Result<(), LoadFault>
+    pub fn declare(
+        &mut self,
+        site: &Site<'_>,
+        path: &ScopedPath,
+        kind: Kind,
+    ) -> Result<(), LoadFault>
         ensures { Walks self.old self.new result (λ l.
-            entry_at (at_site site.now) l path (declares path kind None site.now.sure)) }
+            entry_at (at_site site.now) l path.now (declares path.now kind None site.now.sure)) }
     {
         self.declare_path(site, path, kind)
     }
@@ -191,11 +191,10 @@ impl Progress {
         ensures { Walks self.old self.new result (λ l. entry_at (at_site site.now) l method.path
             (method_entry (at_site site.now) method.path method.flags (method.start, method.len))) }
     {
-        let path = method.path.to_path(self.alloc)?;
         let kind = Kind::Method {
             args: method.flags % 8,
         };
-        self.declare_path(site, path, kind)?;
+        self.declare_path(site, &method.path, kind)?;
         self.methods.push(method)?;
         Ok(())
     }
@@ -214,7 +213,7 @@ impl Progress {
             new_at (at_site site.now) l (option_copied name.entry) (λ p. declares p kind None site.now.sure)) }
     {
         let path = self.own_path(site, name)?;
-        self.declare(site, path, kind)
+        self.declare(site, &path, kind)
     }
 
     /// Declares a method, however many there are.
@@ -228,7 +227,7 @@ impl Progress {
             new_at (at_site site.now) l (last_label None (parts_view parts.now)) (λ p.
             method_entry (at_site site.now) p (byte_of (parts_view parts.now)) (body_span (tail_view tail.now)))) }
     {
-        let path = self.method_path(site, last_name(parts))?;
+        let path = self.own_path(site, last_name(parts))?;
         let (start, len) = body_span(tail);
         self.declare_body(
             site,
@@ -269,15 +268,15 @@ impl Progress {
             (last_label None (parts_view parts.now))) }
     {
         let source = self.source_path(site, first_name(parts))?;
-        let target = self.target_of(source)?;
+        let target = self.target_of(&source)?;
         self.declare_name(site, last_name(parts), Kind::Alias { target })
     }
 
     /// Adds an External of a path.
-    fn add_count(&mut self, path: Path, count: u8) -> Result<(), LoadFault>
-        ensures { Walks self.old self.new result (λ l. Ok (plus l (outside path count))) }
+    fn add_count(&mut self, path: &ScopedPath, count: u8) -> Result<(), LoadFault>
+        ensures { Walks self.old self.new result (λ l. Ok (plus l (outside path.now count))) }
     {
-        self.space.external(path, count)?;
+        self.space.put_external(&path.parts(), count)?;
         Ok(())
     }
 
@@ -288,7 +287,7 @@ impl Progress {
             (byte_of (parts_view parts.now))) }
     {
         let path = self.own_path(site, last_name(parts))?;
-        self.add_count(path, byte_in(parts))
+        self.add_count(&path, byte_in(parts))
     }
 }
 
@@ -299,8 +298,9 @@ impl Progress {
         ensures { Walks self.old self.new result (λ l.
             units_at (at_site site.now) l (plain_name seg ∷ [])) }
     {
-        let path = Path::below(self.alloc, site.scope.path().segs(), &[seg])?;
-        self.declare(site, path, Kind::Field)
+        let own = Segs::of(self.alloc, &[seg])?;
+        let path = ScopedPath::below(site.scope, own)?;
+        self.declare(site, &path, Kind::Field)
     }
 
     fn add_field(&mut self, site: &Site<'_>, field: &Field) -> Result<(), LoadFault>
@@ -375,17 +375,17 @@ impl Progress {
                 let path = self.own_path(site, last_name(parts))?;
                 match tail {
                     Tail::Terms(terms) => {
-                        self.declare(site, path.clone()?, kind_of(object))?;
-                        self.walk_below(site, path, terms.as_slice())
+                        self.declare(site, &path, kind_of(object))?;
+                        self.walk_below(site, &path, terms.as_slice())
                     }
-                    _ => self.declare(site, path, kind_of(object)),
+                    _ => self.declare(site, &path, kind_of(object)),
                 }
             }
             Role::Method => self.add_method(site, parts, tail),
             Role::Scope => {
                 let path = self.scope_path(site, last_name(parts))?;
                 match tail {
-                    Tail::Terms(terms) => self.walk_below(site, path, terms.as_slice()),
+                    Tail::Terms(terms) => self.walk_below(site, &path, terms.as_slice()),
                     _ => Ok(()),
                 }
             }
@@ -399,11 +399,20 @@ impl Progress {
 
     /// Declares what these terms declare, whose scope is this path.
     #[cycle(walk)]
-    fn walk_below(&mut self, site: &Site<'_>, path: Path, terms: &[Node]) -> Result<(), LoadFault>
+    fn walk_below(
+        &mut self,
+        site: &Site<'_>,
+        path: &ScopedPath,
+        terms: &[Node],
+    ) -> Result<(), LoadFault>
         ensures { Walks self.old self.new result (λ l.
-            declare_all (under (at_site site.now) path) l (nodes_view terms.now)) }
+            declare_all (under (at_site site.now) path.now) l (nodes_view terms.now)) }
     {
-        let scope = SharedPath::new(self.alloc, path)?;
+        // A scope without terms needs no path of its own.
+        if terms.is_empty() {
+            return Ok(());
+        }
+        let scope = path.to_scope(self.alloc)?;
         self.walk_all(
             &Site {
                 table: site.table,

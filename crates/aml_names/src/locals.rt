@@ -11,6 +11,10 @@ use std::alloc::Global;
 use std::marker::Model;
 
 /// The paths that the terms of a method body have declared so far, as a set. A name among them takes no arguments.
+///
+/// The scope from which `push_below` places the first of them is the scope of all: names that are looked for there are
+/// found in time logarithmic in the number of paths, a single segment in any other by a question for each of its parents;
+/// and paths that are placed from there cost the memory of what they don't have in common with it.
 #[derive(Drop)]
 pub struct Locals {
     alloc: Global,
@@ -39,24 +43,22 @@ impl Locals {
         }
     }
 
-    /// No path. Names that are looked for in this scope are found in time logarithmic in the number of paths, a single
-    /// segment in any other by a question for each of its parents; and paths that are placed from this scope cost the
-    /// memory of what they don't have in common with it.
-    pub fn of_scope(alloc: Global, scope: &Path) -> Result<Locals, NoMemory>
-        ensures { IfOk result (λ locals. locals ≡ set.empty) }
-    {
-        Ok(Locals {
-            alloc,
-            branches: Branches::new(alloc, scope.clone()?),
-        })
-    }
-
     /// Adds a path. Where memory is refused the set is as before.
     pub fn push(&mut self, path: Path) -> Result<(), NoMemory>
         ensures ok { OnOk result (self.new ≡ set.insert self.old path) }
         ensures err { OnErr result (self.new ≡ self.old) }
     {
         self.branches.insert(0, path.segs())
+    }
+
+    /// Takes a scope for that of the locals where no path is there.
+    fn settle(&mut self, scope: &Path) -> Result<(), NoMemory>
+        ensures { self.new ≡ self.old }
+    {
+        if self.branches.is_empty() {
+            self.branches = Branches::new(self.alloc, scope.clone()?);
+        }
+        Ok(())
     }
 
     /// Adds the path of some segments behind a front of a scope, without a walk along the front where this is the scope
@@ -66,6 +68,7 @@ impl Locals {
         ensures ok { OnOk result (self.new ≡ set.insert self.old (take front scope.now ++ segs.now)) }
         ensures err { OnErr result (self.new ≡ self.old) }
     {
+        self.settle(scope)?;
         if self.branches.are_of(scope) {
             return self.branches.insert(front, segs);
         }

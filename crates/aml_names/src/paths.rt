@@ -5,6 +5,7 @@ ghost use Rattle.std.specs.Cmp.{partial_equiv_from_equiv, partial_order_from_tot
 ghost use Rattle.std.specs.Fmt.{WritesOnOk};
 ghost use Rattle.aml_names.specs.Paths.{path_cmp, paths_total, joined_text};
 
+use crate::parts::Parts;
 use crate::segments::{Seg, in_order};
 use smallvec::SmallVec;
 use std::alloc::{AllocError, Global};
@@ -87,6 +88,13 @@ impl Path {
     {
         self.segs.as_slice()
     }
+
+    /// The same as the parts of a path.
+    pub fn parts(&self) -> Parts<'_>
+        ensures { result ≡ self.now }
+    {
+        Parts::whole(self.segs())
+    }
 }
 
 /// `\` and the segments, joined by `.`.
@@ -127,14 +135,16 @@ impl Clone for Path {
 /// So many segments are compared at once.
 const BLOCK: usize = 256;
 
-/// How many of so many first segments are the same.
-fn matches(some: &[Seg], others: &[Seg], count: usize) -> usize
+/// How many of so many first segments are the same. It is counted in a number as wide as a segment, since more of them
+/// are then compared by one instruction.
+fn matches(some: &[Seg], others: &[Seg], count: usize) -> u32
     requires some { count ≤ length some.now }
     requires others { count ≤ length others.now }
+    requires block { count ≤ 256 }
     ensures within { result ≤ count }
     ensures all { result ≡ count → take count some.now ≡ take count others.now }
 {
-    let mut same: usize = 0;
+    let mut same: u32 = 0;
     for index in 0..count {
         if in_order(some[index], others[index]).is_eq() {
             same += 1;
@@ -153,7 +163,9 @@ pub fn common(some: &[Seg], others: &[Seg]) -> usize
 {
     let most = some.len().min(others.len());
     let mut known: usize = 0;
-    while most - known >= BLOCK && matches(&some[known..], &others[known..], BLOCK) == BLOCK {
+    while most - known >= BLOCK
+        && matches(&some[known..], &others[known..], BLOCK) as usize == BLOCK
+    {
         known += BLOCK;
     }
     while known < most && in_order(some[known], others[known]).is_eq() {

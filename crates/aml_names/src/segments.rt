@@ -1,5 +1,5 @@
 //! Segments of names.
-ghost use Rattle.std.specs.Prelude.{◌≡◌, ◌∷◌, ◌++◌, [], length, Some, OnOk, OnErr, refl};
+ghost use Rattle.std.specs.Prelude.{◌≡◌, ◌∷◌, ◌++◌, [], length, Some, IfOk, OnOk, OnErr, refl};
 ghost use Rattle.std.specs.Cmp.Rules.{comparing};
 ghost use Rattle.std.specs.Int.{w32, from_be_bytes};
 ghost use Rattle.aml_names.specs.Paths.{seg_cmp, segs_total, segs_partial};
@@ -92,6 +92,14 @@ impl Segs {
         Segs {
             segs: SmallVec::new(alloc),
         }
+    }
+
+    /// These segments.
+    pub fn of(alloc: Global, segs: &[Seg]) -> Result<Segs, AllocError>
+        ensures { IfOk result (λ all. all ≡ segs.now) }
+    {
+        let segs = SmallVec::from_slice(alloc, segs)?;
+        Ok(Segs { segs })
     }
 
     /// How many segments there are.

@@ -31,7 +31,7 @@ fn body_terms<A: Arity>(
         scope: Some(scope),
         levels: MOST_LEVELS,
     };
-    let mut locals = Locals::of_scope(alloc, scope)?;
+    let mut locals = Locals::new(alloc);
     let end = code.len() as u32;
     let nodes = parser.terms(Position::BodyTerm, end, &mut locals, code)?;
     Ok(without_room(nodes))

@@ -5,10 +5,8 @@
 
 mod loaded;
 mod methods;
-mod paths;
 mod tables;
 
 pub use loaded::{Loaded, rebuild, span_of};
 pub use methods::Method;
-pub use paths::{MethodPath, SharedPath};
 pub use tables::{Table, TableSet};

@@ -1,10 +1,10 @@
 //! The methods that tables declare.
-use crate::paths::MethodPath;
+use aml_names::ScopedPath;
 
 /// A method that a table declares.
 #[derive(Drop)]
 pub struct Method {
-    pub path: MethodPath,
+    pub path: ScopedPath,
     /// The table, by its place in load order from 0 on.
     pub table: usize,
     /// Where its body begins in the table's AML, in bytes.

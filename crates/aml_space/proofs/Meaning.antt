@@ -2,7 +2,8 @@
 -- say of its path (`meant_path`, `outside_path`).
 use Rattle.std.proofs.Common.{◌≡◌, ℕ, zero, suc, ◌≤◌, Bool, true, false, cond, List, [], ◌∷◌, ◌++◌, length, take, Option, Some, None, IfSome, is_some, refl}
 use Rattle.std.proofs.Common.{sym, ap, ◌∙◌, arith}
-use Rattle.std.specs.Prelude.{◌||◌}
+use Rattle.std.specs.Prelude.{◌||◌, ◌==◌}
+use Rattle.std.proofs.lemmas.Bool.{false≢true}
 use Rattle.std.specs.Option.{option_or, option_and_then, option_map}
 use Rattle.std.specs.FinMap as map
 use Rattle.std.specs.FinSet as set
@@ -49,15 +50,12 @@ predefined_deep (suc d) (s ∷ scope) (t ∷ rest) deep within one = by (take d 
     by [] = refl
     by (u ∷ front) = refl
 
--- nor is one of some segments behind a front, unless it is a segment or none
-pub predefined_behind : (d : ℕ) (scope segs : List Seg) → (d ≡ 0 → ⊥) → ((d ≡ 1) × (segs ≡ []) → ⊥) → d ≤ length scope
-    → predefined (take d scope ++ segs) ≡ None
-predefined_behind zero scope segs deep more within = absurd (deep refl)
-predefined_behind (suc d) [] segs deep more within = absurd (omega (arith, within))
-predefined_behind (suc zero) (s ∷ scope) [] deep more within = absurd (more (refl, refl))
-predefined_behind (suc zero) (s ∷ scope) (t ∷ rest) deep more within = refl
-predefined_behind (suc (suc d)) (s ∷ []) segs deep more within = absurd (omega (arith, within))
-predefined_behind (suc (suc d)) (s ∷ t ∷ scope) segs deep more within = refl
+-- nor is one of two parts that have segments both
+pub predefined_parts : (front own : List Seg) → false ≡ (length front == 0) → false ≡ (length own == 0) → predefined (front ++ own) ≡ None
+predefined_parts [] own some more = absurd (false≢true some)
+predefined_parts (s ∷ []) [] some more = absurd (false≢true more)
+predefined_parts (s ∷ []) (t ∷ rest) some more = refl
+predefined_parts (s ∷ t ∷ front) own some more = refl
 
 -- a kind has a count
 kind_counts : (n : Namespace) (k : Kind) (o other : Option ℕ) → option_or (count_by n (Some k) o) other ≡ count_by n (Some k) o

@@ -15,7 +15,7 @@ use crate::nodes::Node;
 use crate::predefined::Predefined;
 use crate::tallies::{Counts, own_counts};
 use crate::walking::{aim_at, declared_at, kind_at, node_of, out_at};
-use aml_names::Path;
+use aml_names::{Path, ScopedPath};
 
 /// The kind of a path: the declared one of its node, else the predefined one.
 pub(crate) fn kind_met<'a>(
@@ -60,7 +60,7 @@ pub(crate) fn count_met(
 }
 
 /// The node of what an Alias stands for, by the node of the Alias, which keeps it, or by the path.
-fn target_node(nodes: &[Node], alias: Option<usize>, target: &Path) -> Option<usize>
+fn target_node(nodes: &[Node], alias: Option<usize>, target: &ScopedPath) -> Option<usize>
     requires shape { IsShape nodes.now }
     requires aimed { IsAimed nodes.now }
     requires within { IfSome alias (λ i. i < length nodes.now) }
@@ -72,27 +72,27 @@ fn target_node(nodes: &[Node], alias: Option<usize>, target: &Path) -> Option<us
 }
 
 /// The node of a path, which is kept for an Alias of it, or looked up.
-fn aimed_node(nodes: &[Node], aim: usize, target: &Path) -> Option<usize>
+fn aimed_node(nodes: &[Node], aim: usize, target: &ScopedPath) -> Option<usize>
     requires shape { IsShape nodes.now }
     requires aim { IsAim nodes.now (Some (Alias target.now)) aim }
     ensures node { result ≡ walk (kids_of nodes.now) 0 target.now }
     ensures within { IfSome result (λ i. i < length nodes.now) }
 {
     if aim == 0 {
-        return node_of(nodes, target.segs());
+        return node_of(nodes, &target.parts());
     }
     Some(aim)
 }
 
 /// How many arguments the target of an Alias takes, by its node.
-fn count_target(nodes: &[Node], predefined: &Predefined, node: Option<usize>, target: &Path) -> u8
+fn count_target(nodes: &[Node], predefined: &Predefined, node: Option<usize>, target: &ScopedPath) -> u8
     requires shape { IsShape nodes.now }
     requires within { IfSome node (λ i. i < length nodes.now) }
     requires node { node ≡ walk (kids_of nodes.now) 0 target.now }
     ensures { let known = namespace_in (known_by nodes.now) in result
         ≡ target_count (kind_of_path known target.now) (known.outs target.now) }
 {
-    let kind = kind_met(nodes, node, predefined.kind(target.segs()));
+    let kind = kind_met(nodes, node, predefined.kind_of(&target.parts()));
     count_of_target(kind, out_at(nodes, node))
 }
 
@@ -114,7 +114,7 @@ pub(crate) fn count_of(nodes: &[Node], predefined: &Predefined, path: &Path) -> 
     requires aimed { IsAimed nodes.now }
     ensures { result ≡ count_at (namespace_in (known_by nodes.now)) path.now }
 {
-    let node = node_of(nodes, path.segs());
+    let node = node_of(nodes, &path.parts());
     count_met(nodes, predefined, node, predefined.kind(path.segs()))
 }
 
@@ -157,7 +157,7 @@ fn counts_of_target(
     nodes: &[Node],
     predefined: &Predefined,
     node: Option<usize>,
-    target: &Path,
+    target: &ScopedPath,
 ) -> Counts
     requires shape { IsShape nodes.now }
     requires within { IfSome node (λ i. i < length nodes.now) }
@@ -165,7 +165,8 @@ fn counts_of_target(
     ensures { let outlook = outlook_in (known_by nodes.now) in
         result ≡ counts_in (target_counts (outlook.kinds target.now) (outlook.first.outs target.now)) }
 {
-    let counts = targets_met(declared_at(nodes, node), predefined.kind(target.segs()));
+    let standing = predefined.kind_of(&target.parts());
+    let counts = targets_met(declared_at(nodes, node), standing);
     or_outside(counts, out_at(nodes, node))
 }
 

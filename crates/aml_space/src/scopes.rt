@@ -27,7 +27,7 @@ use crate::settling::Settled;
 use crate::tallies::Counts;
 use crate::trails::{Trail, reach_along};
 use crate::walking::{child, children_at, given_at, kind_at, node_from, out_at};
-use aml_names::{Locals, NoMemory, Path, Seg};
+use aml_names::{Locals, NoMemory, Parts, Path, Seg};
 use std::alloc::Global;
 
 /// A scope, with the way up from it.
@@ -77,7 +77,7 @@ impl<'a> Scope<'a> {
         ensures nodes { result.nodes.now ≡ nodes.now }
         ensures path { result.path.now ≡ path.now }
     {
-        let reach = reach_along(nodes, trail, path.segs());
+        let reach = reach_along(nodes, trail, &path.parts());
         Scope {
             nodes,
             settled,
@@ -372,13 +372,8 @@ impl<'a> Scope<'a> {
         requires { depth ≤ length self.now.path.now }
         ensures { option_copied result ≡ predefined (take depth self.now.path.now ++ segs.now) }
     {
-        if depth == 0 {
-            return self.predefined.kind(segs);
-        }
-        if depth == 1 && segs.is_empty() {
-            return self.predefined.kind(&self.path.segs()[..1]);
-        }
-        None
+        let path = Parts::new(&self.path.segs()[..depth], segs);
+        self.predefined.kind_of(&path)
     }
 
     /// The first candidate that an External names, from what was met so far and one more.

@@ -1,5 +1,5 @@
 //! The namespace that tables make.
-ghost use Rattle.std.specs.Prelude.{◌≡◌, ◌≤◌, ◌*◌, length, slice_get, [], ◌∷◌, ◌++◌, List, Option, true, false, is_some};
+ghost use Rattle.std.specs.Prelude.{◌≡◌, ◌≤◌, ◌*◌, length, slice_get, [], ◌∷◌, ◌++◌, List, Option, true, false, is_some, not, cond, Ok};
 ghost use Rattle.std.specs.Prelude.{map as map_list, ◌⊎◌, OnOk, OnErr, IfOk, IfErr, IsTrue};
 ghost use Rattle.std.specs.Option.{option_copied};
 ghost use Rattle.std.specs.FinMap as map;
@@ -26,7 +26,7 @@ use crate::scopes::Scope;
 use crate::settling::{Settled, settled_of};
 use crate::trails::{Trail, deepest, node_along};
 use crate::walking::{kind_at, out_at, walk_counted};
-use aml_names::{NoMemory, Path, Seg};
+use aml_names::{NoMemory, Parts, Path, Seg};
 use std::alloc::{AllocError, Global};
 use std::marker::Model;
 
@@ -99,46 +99,52 @@ impl Space {
             IsTrue (declared_yet self.old path))) }
         ensures duplicate { IsTrue (declared_yet self.old path) → result ≡ Err (SpaceFault.Duplicate path) }
     {
-        self.declare_once(path, kind, true)
+        if self.put_once(&path.parts(), kind, true)? {
+            Ok(())
+        } else {
+            Err(SpaceFault::Duplicate(path))
+        }
     }
 
-    /// Declares a path that isn't declared yet, surely or not.
-    ///
-    /// # Errors
-    /// `Duplicate` where it is declared already. A refused call changes nothing.
-    pub fn declare_once(&mut self, path: Path, kind: Kind, surely: bool) -> Result<(), SpaceFault>
-        ensures ok { OnOk result (self.new ≡ with_declaration self.old path (once kind surely)) }
-        ensures stands { (es : List Entry) (body : Option Body) → StandsFor self.old es →
-            OnOk result (StandsFor self.new (es ++ declares path kind body surely ∷ [])) }
+    /// Declares a path that isn't declared yet, surely or not. The answer is whether it wasn't: where it was, nothing
+    /// changes, and there is no want of memory. A refused call changes nothing.
+    pub fn put_once(
+        &mut self,
+        path: &Parts<'_>,
+        kind: Kind,
+        surely: bool,
+    ) -> Result<bool, NoMemory>
+        ensures put { IfOk result (λ put. put ≡ not (declared_yet self.old path.now)) }
+        ensures known { IfOk result (λ put. self.new
+            ≡ cond put (with_declaration self.old path.now (once kind surely)) self.old) }
         ensures err { OnErr result (self.new ≡ self.old) }
-        ensures only_then { IfErr result (λ e. (e ≡ SpaceFault.NoMemory) ⊎ ((e ≡ SpaceFault.Duplicate path) ×
-            IsTrue (declared_yet self.old path))) }
-        ensures duplicate { IsTrue (declared_yet self.old path) → result ≡ Err (SpaceFault.Duplicate path) }
+        ensures taken { IsTrue (declared_yet self.old path.now) → result ≡ Ok false }
         // The same of a list of entries that it stands for.
-        ensures new { (es : List Entry) → StandsFor self.old es →
-            OnOk result (is_some (declared_at es path) ≡ false) }
-        ensures taken { (es : List Entry) → StandsFor self.old es → IfErr result (λ e.
-            (e ≡ SpaceFault.NoMemory) ⊎ ((e ≡ SpaceFault.Duplicate path) × (is_some (declared_at es path) ≡ true))) }
+        ensures listed { (es : List Entry) → StandsFor self.old es →
+            IfOk result (λ put. put ≡ not (is_some (declared_at es path.now))) }
+        ensures stands { (es : List Entry) (body : Option Body) → StandsFor self.old es →
+            IfOk result (λ put. StandsFor self.new
+            (cond put (es ++ declares path.now kind body surely ∷ []) es)) }
     {
         self.settled.clear();
-        let reach = deepest(self.nodes.as_slice(), &mut self.trail, path.segs());
-        if is_taken(self.nodes.as_slice(), path.segs(), reach) {
-            return Err(SpaceFault::Duplicate(path));
+        let reach = deepest(self.nodes.as_slice(), &mut self.trail, path);
+        if is_taken(self.nodes.as_slice(), path, reach) {
+            return Ok(false);
         }
         if self.rows == usize::MAX {
-            return Err(SpaceFault::NoMemory);
+            return Err(AllocError);
         }
         declare_first(
             self.alloc,
             &mut self.nodes,
             &mut self.trail,
-            path.segs(),
+            path,
             kind,
             surely,
             reach,
         )?;
         self.rows += 1;
-        Ok(())
+        Ok(true)
     }
 
     /// Declares a path once more, or for the first time: surely, or so that it stands in some runs of the code outside
@@ -149,19 +155,34 @@ impl Space {
             OnOk result (StandsFor self.new (es ++ declares path kind body sure ∷ [])) }
         ensures err { OnErr result (self.new ≡ self.old) }
     {
+        self.put_again(&path.parts(), kind, sure)
+    }
+
+    /// The same of a path in parts.
+    pub fn put_again(
+        &mut self,
+        path: &Parts<'_>,
+        kind: Kind,
+        sure: bool,
+    ) -> Result<(), NoMemory>
+        ensures ok { OnOk result (self.new ≡ with_again self.old path.now kind sure) }
+        ensures stands { (es : List Entry) (body : Option Body) → StandsFor self.old es →
+            OnOk result (StandsFor self.new (es ++ declares path.now kind body sure ∷ [])) }
+        ensures err { OnErr result (self.new ≡ self.old) }
+    {
         self.settled.clear();
-        if let Some(at) = declared_node(self.nodes.as_slice(), &self.trail, path.segs()) {
-            return declare_again(self.alloc, &mut self.nodes, path.segs(), at, kind, sure);
+        if let Some(at) = declared_node(self.nodes.as_slice(), &self.trail, path) {
+            return declare_again(self.alloc, &mut self.nodes, path, at, kind, sure);
         }
         if self.rows == usize::MAX {
             return Err(AllocError);
         }
-        let reach = deepest(self.nodes.as_slice(), &mut self.trail, path.segs());
+        let reach = deepest(self.nodes.as_slice(), &mut self.trail, path);
         declare_first(
             self.alloc,
             &mut self.nodes,
             &mut self.trail,
-            path.segs(),
+            path,
             kind,
             sure,
             reach,
@@ -178,8 +199,18 @@ impl Space {
             OnOk result (StandsFor self.new (es ++ outside path count ∷ [])) }
         ensures err { OnErr result (self.new ≡ self.old) }
     {
+        self.put_external(&path.parts(), count)
+    }
+
+    /// The same of a path in parts.
+    pub fn put_external(&mut self, path: &Parts<'_>, count: u8) -> Result<(), NoMemory>
+        ensures ok { OnOk result (self.new ≡ with_external self.old path.now count) }
+        ensures stands { (es : List Entry) → StandsFor self.old es →
+            OnOk result (StandsFor self.new (es ++ outside path.now count ∷ [])) }
+        ensures err { OnErr result (self.new ≡ self.old) }
+    {
         self.settled.clear();
-        let at = make_node(self.alloc, &mut self.nodes, &mut self.trail, path.segs())?;
+        let at = make_node(self.alloc, &mut self.nodes, &mut self.trail, path)?;
         set_out(&mut self.nodes, at, count);
         Ok(())
     }
@@ -193,7 +224,8 @@ impl Space {
         ensures err { OnErr result (self.new ≡ self.old) }
     {
         self.settled.clear();
-        let at = make_node(self.alloc, &mut self.nodes, &mut self.trail, path.segs())?;
+        let path = path.parts();
+        let at = make_node(self.alloc, &mut self.nodes, &mut self.trail, &path)?;
         set_given(&mut self.nodes, at, count);
         Ok(())
     }
@@ -218,32 +250,41 @@ impl Space {
     }
 
     /// The kind with which a path is declared.
-    fn declared(&self, path: &Path) -> Option<&Kind>
+    fn declared(&self, path: &Parts<'_>) -> Option<&Kind>
         ensures { option_copied result ≡ (namespace_in self.now).declared path.now }
     {
         let nodes = self.nodes.as_slice();
-        kind_at(nodes, node_along(nodes, &self.trail, path.segs()))
+        kind_at(nodes, node_along(nodes, &self.trail, path))
     }
 
     /// The greatest count of a path's Externals.
-    pub(crate) fn outs(&self, path: &Path) -> Option<u8>
+    pub(crate) fn outs(&self, path: &Parts<'_>) -> Option<u8>
         ensures { result ≡ map.get self.now.outs path.now }
     {
         let nodes = self.nodes.as_slice();
-        let at = node_along(nodes, &self.trail, path.segs());
+        let at = node_along(nodes, &self.trail, path);
         out_at(nodes, at)
     }
 
     /// The kind of a path: the declared one, else the predefined one.
-    #[tactic(auto, using(crate::proofs::Stands::kind_listed))]
     pub fn kind(&self, path: &Path) -> Option<&Kind>
+        ensures known { option_copied result ≡ kind_at (namespace_in self.now) path.now }
+        ensures listed { (es : List Entry) → StandsFor self.now es →
+            option_copied result ≡ kind_at (namespace_of es) path.now }
+    {
+        self.kind_of(&path.parts())
+    }
+
+    /// The same of a path in parts.
+    #[tactic(auto, using(crate::proofs::Stands::kind_listed))]
+    pub fn kind_of(&self, path: &Parts<'_>) -> Option<&Kind>
         ensures known { option_copied result ≡ kind_at (namespace_in self.now) path.now }
         ensures listed { (es : List Entry) → StandsFor self.now es →
             option_copied result ≡ kind_at (namespace_of es) path.now }
     {
         match self.declared(path) {
             Some(kind) => Some(kind),
-            None => self.predefined.kind(path.segs()),
+            None => self.predefined.kind_of(path),
         }
     }
 
@@ -263,7 +304,7 @@ impl Space {
     }
 
     /// Whether a path is declared, by whatever declaration.
-    pub fn is_declared(&self, path: &Path) -> bool
+    pub fn is_declared(&self, path: &Parts<'_>) -> bool
         ensures known { result ≡ declared_yet self.now path.now }
         ensures listed { (es : List Entry) → StandsFor self.now es → result ≡ is_some (declared_at es path.now) }
     {
@@ -271,13 +312,13 @@ impl Space {
     }
 
     /// Whether a path has a kind whatever runs: by a sure declaration, or since it is predefined.
-    pub fn is_sure(&self, path: &Path) -> bool
+    pub fn is_sure(&self, path: &Parts<'_>) -> bool
         ensures known { result ≡ (outlook_in self.now).sure path.now }
         ensures listed { (es : List Entry) → StandsFor self.now es → result ≡ sure_at es path.now }
     {
         let nodes = self.nodes.as_slice();
-        let node = node_along(nodes, &self.trail, path.segs());
-        sure_met(nodes, node, self.predefined.kind(path.segs()))
+        let node = node_along(nodes, &self.trail, path);
+        sure_met(nodes, node, self.predefined.kind_of(path))
     }
 
     /// How many arguments a path takes where the first declaration of a path counts: those of a method, also through an

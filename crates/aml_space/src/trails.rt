@@ -7,7 +7,7 @@ ghost use Rattle.aml_space.specs.Trails.{IsTrail};
 use crate::growing::Reach;
 use crate::nodes::Node;
 use crate::walking::child;
-use aml_names::{Seg, common};
+use aml_names::{Parts, Seg};
 use std::alloc::Global;
 
 /// The segments of a path, and the node to which the path leads with each. Another path that begins alike is followed
@@ -46,18 +46,18 @@ fn node_at(trail: &Trail, depth: usize) -> usize
 }
 
 /// How far a path leads.
-pub(crate) fn reach_along(nodes: &[Node], trail: &Trail, path: &[Seg]) -> Reach
+pub(crate) fn reach_along(nodes: &[Node], trail: &Trail, path: &Parts<'_>) -> Reach
     requires shape { IsShape nodes.now }
     requires trail { IsTrail nodes.now trail.now }
     ensures { Reaches nodes.now path.now result }
 {
-    let known = common(trail.segs.as_slice(), path);
+    let known = path.common(trail.segs.as_slice());
     let mut reach = Reach {
         node: node_at(trail, known),
         known,
     };
     while reach.known < path.len() {
-        match child(nodes, reach.node, path[reach.known]) {
+        match child(nodes, reach.node, path.segment(reach.known)) {
             None => return reach,
             Some(next) => {
                 reach = Reach {
@@ -71,7 +71,7 @@ pub(crate) fn reach_along(nodes: &[Node], trail: &Trail, path: &[Seg]) -> Reach
 }
 
 /// Where a path leads.
-pub(crate) fn node_along(nodes: &[Node], trail: &Trail, path: &[Seg]) -> Option<usize>
+pub(crate) fn node_along(nodes: &[Node], trail: &Trail, path: &Parts<'_>) -> Option<usize>
     requires shape { IsShape nodes.now }
     requires trail { IsTrail nodes.now trail.now }
     ensures node { result ≡ walk (kids_of nodes.now) 0 path.now }
@@ -86,21 +86,22 @@ pub(crate) fn node_along(nodes: &[Node], trail: &Trail, path: &[Seg]) -> Option<
 }
 
 /// How far a path leads. The trail is along its front that stands there, as far as there is memory for it.
-pub(crate) fn deepest(nodes: &[Node], trail: &mut Trail, path: &[Seg]) -> Reach
+pub(crate) fn deepest(nodes: &[Node], trail: &mut Trail, path: &Parts<'_>) -> Reach
     requires shape { IsShape nodes.now }
     requires trail { IsTrail nodes.now trail.old }
     ensures reach { Reaches nodes.now path.now result }
     ensures trail { IsTrail nodes.now trail.new }
 {
-    let mut known = common(trail.segs.as_slice(), path);
+    let mut known = path.common(trail.segs.as_slice());
     let mut at = node_at(trail, known);
     trail.segs.truncate(known);
     trail.nodes.truncate(known);
     while known < path.len() {
-        match child(nodes, at, path[known]) {
+        let seg = path.segment(known);
+        match child(nodes, at, seg) {
             None => return Reach { node: at, known },
             Some(next) => {
-                follow(trail, known, path[known], next);
+                follow(trail, known, seg, next);
                 at = next;
                 known += 1;
             }

@@ -1,13 +1,13 @@
 //! The namespace: a line for each declared path.
 #![tactic(auto, using(crate::proofs::RowLaws::printing))]
 
-ghost use Rattle.std.specs.Prelude.{◌≡◌, ◌≤◌, ◌++◌, length, decimal};
+ghost use Rattle.std.specs.Prelude.{◌≡◌, ◌≤◌, ◌++◌, length, decimal, map as map_list};
 ghost use Rattle.std.specs.FinMap as map;
 ghost use Rattle.text_writer.specs.Prints.{Prints, word};
-ghost use Rattle.asl_text.specs.Texts.{line};
+ghost use Rattle.asl_text.specs.Texts.{line, segment_text, separated};
 ghost use Rattle.aml_text.specs.Rows.{path_text, kind_text, maybe_text, times_text, marked_text, row_line, namespace_text};
 
-use aml_code::{Path, Seg};
+use aml_names::{Parts, ScopedPath, Seg};
 use aml_space::{Kind, Row, Space};
 use asl_text::{print_indent, print_segments};
 use std::io::Write;
@@ -24,12 +24,29 @@ fn print_root<W: Write>(out: &mut Out<'_, W>)
     out.put(b"\\");
 }
 
+/// The segments of two parts of a path, with a dot between two.
+fn print_joined<W: Write>(out: &mut Out<'_, W>, front: &[Seg], own: &[Seg])
+    ensures { Prints W.contents out.old out.new
+        (separated (word ".") (map_list segment_text (front.now ++ own.now))) }
+{
+    if front.is_empty() {
+        return print_segments(out, own);
+    }
+    print_segments(out, front);
+    if own.is_empty() {
+        return;
+    }
+    out.put(b".");
+    print_segments(out, own);
+}
+
 /// A path: `\` and its segments, with a dot between two.
-fn print_path<W: Write>(out: &mut Out<'_, W>, path: &Path)
+fn print_path<W: Write>(out: &mut Out<'_, W>, path: &Parts<'_>)
     ensures { Prints W.contents out.old out.new (path_text path.now) }
 {
     print_root(out);
-    print_segments(out, path.segs());
+    let (front, own) = path.slices();
+    print_joined(out, front, own);
 }
 
 fn print_method<W: Write>(out: &mut Out<'_, W>, args: u8)
@@ -39,11 +56,11 @@ fn print_method<W: Write>(out: &mut Out<'_, W>, args: u8)
     print_decimal(out, args as u64);
 }
 
-fn print_alias<W: Write>(out: &mut Out<'_, W>, target: &Path)
+fn print_alias<W: Write>(out: &mut Out<'_, W>, target: &ScopedPath)
     ensures { Prints W.contents out.old out.new (kind_text (Kind.Alias target.now)) }
 {
     out.put(b"Alias ");
-    print_path(out, target);
+    print_path(out, &target.parts());
 }
 
 /// What a path stands for.

@@ -119,7 +119,7 @@ impl Caller<'_> {
     fn is_method(&self, path: &Path) -> bool {
         match self.space.kind(path) {
             Some(Kind::Alias { target }) => matches!(
-                self.space.kind(target),
+                self.space.kind_of(&target.parts()),
                 Some(Kind::Method { .. })
             ),
             kind => matches!(kind, Some(Kind::Method { .. })),

@@ -6,4 +6,4 @@ pub returns : goal.returns
 unfolding all_at
 returns g c =
     rw c.without_room.ensures
-    (ap (λ r. r >>= λ ts. Ok ts.0) (rw c.in_ok-locals.ensures at c.in_ok-nodes.ensures))
+    (ap (λ r. r >>= λ ts. Ok ts.0) (rw c.new-locals.ensures at c.in_ok-nodes.ensures))

@@ -7,5 +7,5 @@ pub returns : goal.returns
 returns c =
     let ns = c.args.nodes.now in
     c.count_met.ensures ∙ count_of_met ns c.requires.shape c.args.path.now c.node_of-node.result
-    (c.node_of-node.ensures.node ∙ ap (walk (kids_of ns) 0) c.segs.ensures) _
-    (c.kind.ensures ∙ ap Rattle.aml_space.specs.Predefined.predefined c.segs-2.ensures)
+    (c.node_of-node.ensures.node ∙ ap (walk (kids_of ns) 0) c.parts.ensures) _
+    (c.kind.ensures ∙ ap Rattle.aml_space.specs.Predefined.predefined c.segs.ensures)

@@ -10,5 +10,5 @@ returns c =
     let shape = c.requires.shape in
     let met = c.requires.node in
     c.count_of_target.ensures ∙ (λ i. target_count ((c.kind_met-kind.ensures
-    ∙ kind_of_met ns shape c.args.target.now c.args.node met _ (c.kind.ensures ∙ ap predefined c.segs.ensures)) i)
+    ∙ kind_of_met ns shape c.args.target.now c.args.node met _ (c.kind_of.ensures ∙ ap predefined c.parts.ensures)) i)
     ((c.out_at.ensures ∙ out_of_met ns shape c.args.target.now c.args.node met) i))

@@ -21,4 +21,4 @@ returns c =
     ∙ ap (λ out. cond (is_nothing c.targets_met-counts.result) (One (target_count None out)) c.targets_met-counts.result)
     (c.out_at.ensures ∙ out_of_met ns c.requires.shape p node met)
     ∙ sym (targets (o.kinds p) (o.first.outs p) c.targets_met-counts.result (c.targets_met-counts.ensures
-    ∙ (λ i. counts_in (map own_count (kinds_by (said i) ((c.kind.ensures ∙ ap predefined c.segs.ensures) i))))))
+    ∙ (λ i. counts_in (map own_count (kinds_by (said i) ((c.kind_of-standing.ensures ∙ ap predefined c.parts.ensures) i))))))

@@ -12,13 +12,13 @@ pub kind_at-requires : goal.kind_at-requires
 kind_at-requires c =
     node_range c.requires.shape _ c.args.reach.node c.requires.reach.led
 
-pub returns-else-reach-path : goal.returns-else-reach-path
-returns-else-reach-path c =
+pub returns-else-reach-len : goal.returns-else-reach-len
+returns-else-reach-len c =
     let kids = kids_of c.args.nodes.now in
     let p = c.args.path.now in
     let k = c.args.reach.known in
     let e : Seg = record { 0 = [] } in
-    let within : k < length p = omega (arith, c.requires.reach.within, c.if-reach-path.false) in
+    let within : k < length p = omega (arith, c.requires.reach.within, c.len.ensures, c.if-reach-len.false) in
     let none : walk kids 0 p ≡ None = led_no_further kids k c.args.reach.node p e within c.requires.reach.led
     (c.requires.reach.ends (get_or p k e) (drop (k + 1) p) (drop_more p k e within)) in
-    ne_eqb _ _ c.if-reach-path.false ∙ sym (ap (λ o. is_some (option_and_then (kinds_of c.args.nodes.now) o)) none)
+    ne_eqb _ _ c.if-reach-len.false ∙ sym (ap (λ o. is_some (option_and_then (kinds_of c.args.nodes.now) o)) none)

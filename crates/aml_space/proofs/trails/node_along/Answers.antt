@@ -5,15 +5,15 @@ use Rattle.aml_space.proofs.Levels.{reach_past}
 use Rattle.aml_space.proofs.Walks.{node_range}
 use Rattle.aml_space.proofs.trails.node_along.Goals as goal
 
-pub returns-then-reach-path-clause-within : goal.returns-then-reach-path-clause-within
-returns-then-reach-path-clause-within c = node_range c.requires.shape (take c.reach_along-reach.result.known c.args.path.now) c.reach_along-reach.result.node
+pub returns-then-reach-len-clause-within : goal.returns-then-reach-len-clause-within
+returns-then-reach-len-clause-within c = node_range c.requires.shape (take c.reach_along-reach.result.known c.args.path.now) c.reach_along-reach.result.node
     c.reach_along-reach.ensures.led
 
-pub returns-else-reach-path-clause-node : goal.returns-else-reach-path-clause-node
-returns-else-reach-path-clause-node c =
+pub returns-else-reach-len-clause-node : goal.returns-else-reach-len-clause-node
+returns-else-reach-len-clause-node c =
     let ns = c.args.nodes.now in
     let path = c.args.path.now in
     let r = c.reach_along-reach.result in
-    let more : r.known < length path = omega (arith, c.reach_along-reach.ensures.within, c.if-reach-path.false) in
+    let more : r.known < length path = omega (arith, c.reach_along-reach.ensures.within, c.if-reach-len.false, c.len.ensures) in
     sym (ap (walk (kids_of ns) 0) (sym (take_all (length path) path (omega arith)))
     ∙ reach_past ns path r c.reach_along-reach.ensures (length path) more (omega arith))

@@ -1,4 +1,4 @@
-use Rattle.std.proofs.Common.{◌≡◌, Some, get_or, take, [], sym, ap, ◌∙◌, arith}
+use Rattle.std.proofs.Common.{◌≡◌, ◌<◌, length, Some, get_or, take, [], sym, ap, ◌∙◌, arith}
 use Rattle.aml_children.specs.Children.{child_in}
 use Rattle.aml_space.specs.Nodes.{walk, kids_of}
 use Rattle.aml_space.proofs.Walks.{kid_range, led_more, node_range}
@@ -9,11 +9,11 @@ loop-reach-init c =
     let ns = c.args.nodes.now in
     let k = c.common-known.result in
     let led : walk (kids_of ns) 0 (take k c.args.path.now) ≡ Some c.node_at.result =
-    ap (walk (kids_of ns) 0) (sym c.common-known.ensures.same ∙ ap (take k) c.as_slice.ensures.value) ∙ c.node_at.ensures ns c.requires.trail in
+    ap (walk (kids_of ns) 0) (c.common-known.ensures.same ∙ ap (take k) c.as_slice.ensures.value) ∙ c.node_at.ensures ns c.requires.trail in
     record {
       led = led;
       inside = node_range c.requires.shape (take k c.args.path.now) c.node_at.result led;
-      within = c.common-known.ensures.others;
+      within = c.common-known.ensures.own;
     }
 
 pub loop-reach-preserved : goal.loop-reach-preserved
@@ -22,10 +22,11 @@ loop-reach-preserved c =
     let inv = c.loop-reach.invariant in
     let k = c.loop-reach.reach.known in
     let path = c.args.path.now in
+    let inside : k < length path = omega (arith, c.loop-reach-test.true, c.len.ensures) in
     let found : child_in (kids_of ns c.loop-reach.reach.node) (get_or path k (record { 0 = [] })) ≡ Some c.in-Some.next =
-    sym c.child.ensures ∙ c.in-Some.is in
+    ap (child_in (kids_of ns c.loop-reach.reach.node)) (sym c.segment.ensures) ∙ sym c.child.ensures ∙ c.in-Some.is in
     record {
-      led = led_more (kids_of ns) c.loop-reach.reach.node k path (record { 0 = [] }) (Some c.in-Some.next) c.loop-reach-test.true inv.led found;
+      led = led_more (kids_of ns) c.loop-reach.reach.node k path (record { 0 = [] }) (Some c.in-Some.next) inside inv.led found;
       inside = (kid_range c.requires.shape c.loop-reach.reach.node (get_or path k (record { 0 = [] })) c.in-Some.next found).1;
-      within = omega (arith, c.loop-reach-test.true);
+      within = omega (arith, inside);
     }

@@ -1,6 +1,9 @@
-use Rattle.std.proofs.Common.{refl, sym, subst}
-use Rattle.aml_code.specs.View.{node_view}
-use Rattle.aml_load.specs.Loading.{with_uses}
+use Rattle.std.proofs.Common.{◌≡◌, List, [], ◌∷◌, length, true, Ok, refl, sym, subst, arith}
+use Rattle.std.specs.Prelude.{◌==◌}
+use Rattle.std.proofs.lemmas.Bool.{eqb-true}
+use Rattle.aml_code.specs.declared.tree.Node.{Node}
+use Rattle.aml_code.specs.View.{node_view, nodes_view}
+use Rattle.aml_load.specs.Loading.{Listed, Where, under, with_uses, declare_all}
 use Rattle.aml_load.specs.Walking.{at_site, Walked}
 use Rattle.aml_load.proofs.Holding.{uses_held, declare_op}
 use Rattle.aml_load.proofs.walking.Progress.+walk.Goals as goal
@@ -14,3 +17,12 @@ walk-returns-in_ok-add_names-in-Op t c l h =
     subst (Walked c.walk_role.new.self c.walk_role.result)
     (sym (declare_op site l c.args.node.now c.in-Op.opcode c.in-Op.width c.in-Op.parts c.in-Op.tail c.role_of.result c.in-Op.is c.role_of.ensures))
     ((rw c.as_slice.ensures.value at did) (with_uses site l x) held)
+
+nothing_declared : (w : Where) (l : Listed) (ns : List Node) → true ≡ (length ns == 0) → declare_all w l (nodes_view ns) ≡ Ok l
+unfolding declare_all
+nothing_declared w l [] none = refl
+nothing_declared w l (n ∷ ns) none = absurd (omega (arith, eqb-true (length (n ∷ ns)) 0 (sym none)))
+
+pub walk_below-returns-then-is_empty : goal.walk_below-returns-then-is_empty
+walk_below-returns-then-is_empty t c l h =
+    (l, h, nothing_declared (under (at_site c.args.site.now) c.args.path.now) l c.args.terms.now c.if-is_empty.ensures)

@@ -1,13 +1,15 @@
-use Rattle.std.proofs.Common.{refl}
+use Rattle.std.proofs.Common.{◌++◌, ◌∷◌, [], refl, subst}
 use Rattle.aml_space.specs.Namespace.{external}
+use Rattle.aml_space.specs.Known.{StandsFor}
 use Rattle.aml_load.specs.Loading.{plus}
 use Rattle.aml_load.proofs.Holding.{plain_held}
 use Rattle.aml_load.proofs.walking.Progress.add_count.Goals as goal
 
 pub returns : goal.returns
 returns c l h = (
-  plus l (external c.args.path c.args.count),
-  plain_held c.args.self.now _ l (external c.args.path c.args.count) refl h
-      (c.in_ok-external.ensures.stands l.entries h.space) refl refl,
+  plus l (external c.args.path.now c.args.count),
+  plain_held c.args.self.now _ l (external c.args.path.now c.args.count) refl h
+      (subst (λ p. StandsFor c.put_external.new.self (l.entries ++ external p c.args.count ∷ [])) c.parts.ensures
+      (c.in_ok-put_external.ensures.stands l.entries h.space)) refl refl,
   refl,
 )

@@ -5,5 +5,5 @@ use Rattle.aml_load.proofs.walking.Progress.declare.Goals as goal
 
 pub returns : goal.returns
 returns c l h =
-    declared_walked c.args.self.now c.declare_path.new.self l (at_site c.args.site.now) c.args.path c.args.kind c.declare_path.result h
+    declared_walked c.args.self.now c.declare_path.new.self l (at_site c.args.site.now) c.args.path.now c.args.kind c.declare_path.result h
     (c.declare_path.ensures l.entries None h.space)

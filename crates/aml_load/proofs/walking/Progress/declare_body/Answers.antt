@@ -11,7 +11,7 @@ returns-in_err-declare_path c l h =
     let m = c.args.method in
     let site = at_site c.args.site.now in
     let b : Body = record { table = site.table; start = m.start; len = m.len; flags = m.flags } in
-    let bad = rw c.in_ok-path.ensures at c.in_err-declare_path.ensures l.entries (Some b) h.space in
+    let bad = c.in_err-declare_path.ensures l.entries (Some b) h.space in
     let fails = entry_taken site l m.path (method_entry site m.path m.flags (m.start, m.len)) c.in_err-declare_path.field-0.0 bad in
     search rules
 
@@ -23,7 +23,7 @@ returns c l h =
     let b : Body = record { table = site.table; start = m.start; len = m.len; flags = m.flags } in
     let k = kinds.Method (m.flags % 8) in
     let e = method_entry site p m.flags (m.start, m.len) in
-    let d = rw c.in_ok-path.ensures at c.in_ok-declare_path.ensures l.entries (Some b) h.space in (
+    let d = c.in_ok-declare_path.ensures l.entries (Some b) h.space in (
       plus l e,
       method_held c.args.self.now _ l p k b site.sure _ h d.1 (c.in_ok-push.ensures.items ∙ ap (λ xs. xs ++ m ∷ []) d.2)
           (ap (λ n. record { path = p; table = n; start = m.start; len = m.len; flags = m.flags }) c.requires) d.3,

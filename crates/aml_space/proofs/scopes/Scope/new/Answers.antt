@@ -7,7 +7,7 @@ pub returns-clause-scope : goal.returns-clause-scope
 returns-clause-scope c =
     let ns = c.args.nodes.now in
     let r = c.reach_along-reach.result in
-    let reach = subst (λ q. Reaches ns q r) c.segs.ensures c.reach_along-reach.ensures in
+    let reach = subst (λ q. Reaches ns q r) c.parts.ensures c.reach_along-reach.ensures in
     record {
       index = c.requires.index;
       settled = c.requires.settled;

@@ -14,9 +14,9 @@ use Rattle.aml_space.proofs.spaces.Space.given.Goals.{After-set_given}
 put_here : (c : After-set_given) → HasGiven c.make_node.new.nodes.items c.set_given.new.nodes.items c.in_ok-at.at c.args.count
     → IsIndex c.set_given.new.nodes.items × (known_by c.set_given.new.nodes.items ≡ with_given c.args.self.now c.args.path.now c.args.count)
 put_here c has =
-    let put = put_given c.make_node.new.nodes.items c.set_given.new.nodes.items c.segs.result.now c.in_ok-at.at c.make_node.ensures.index
+    let put = put_given c.make_node.new.nodes.items c.set_given.new.nodes.items c.parts-path.result c.in_ok-at.at c.make_node.ensures.index
     c.in_ok-at.ensures.node c.args.count has in
-    (put.0, put.1 ∙ (λ i. with_given ((c.make_node.ensures.known ∙ c.self.view_is) i) (c.segs.ensures i) c.args.count))
+    (put.0, put.1 ∙ (λ i. with_given ((c.make_node.ensures.known ∙ c.self.view_is) i) (c.parts-path.ensures i) c.args.count))
 
 pub invariant_of-self-2 : goal.invariant_of-self-2
 invariant_of-self-2 c = record {

@@ -1,5 +1,4 @@
 use Rattle.std.proofs.Common.{refl, ap, ◌∙◌}
-use Rattle.aml_space.specs.Predefined.{predefined}
 use Rattle.aml_space.specs.Known.{sure_by, outlook_in}
 use Rattle.aml_space.proofs.Index.{part_met}
 use Rattle.aml_space.proofs.Stands.{sure_listed}
@@ -7,8 +6,8 @@ use Rattle.aml_space.proofs.spaces.Space.is_sure.Goals as goal
 
 pub returns-clause-known : goal.returns-clause-known
 returns-clause-known c = c.sure_met.ensures
-    ∙ (λ i. sure_by (part_met (λ c. c.declared) _ _ _ _ _ _ refl c.node_along-node.ensures.node c.as_slice-nodes.ensures.value c.segs.ensures
-    c.self.invariant.index.shape i) ((c.kind.ensures ∙ ap predefined c.segs-2.ensures) i))
+    ∙ (λ i. sure_by (part_met (λ c. c.declared) _ _ _ _ _ _ refl c.node_along-node.ensures.node c.as_slice-nodes.ensures.value refl
+    c.self.invariant.index.shape i) (c.kind_of.ensures i))
     ∙ ap (λ k. (outlook_in k).sure c.args.path.now) c.self.view_is
 
 pub returns-clause-listed : goal.returns-clause-listed

@@ -18,11 +18,11 @@ returns-then-not-is_single-clause-known c =
     let single = sym c.is_single.ensures ∙ c.if-not-is_single.true in
     let one : candidates scope name ≡ option_to_list (placed scope name) =
     ap (λ b. cond b (upward (length scope) scope name.segs) (option_to_list (placed scope name))) single in
-    subst (λ q. IfOk c.find.result (λ path. path ≡ q))
-    (ap (first_of o.first set.empty) one ∙ one_led o scope name.segs (placed scope name) ∙ sym (ap (agreed_among o) one)) c.find.ensures.known
+    subst (λ q. IfOk c.find_scoped.result (λ path. path ≡ q))
+    (ap (first_of o.first set.empty) one ∙ one_led o scope name.segs (placed scope name) ∙ sym (ap (agreed_among o) one)) c.find_scoped.ensures.known
 
 pub returns-then-not-is_single-clause-listed : goal.returns-then-not-is_single-clause-listed
-returns-then-not-is_single-clause-listed c = λ es stands. if_agreed c.args.self.now es c.args.scope.now c.args.name.now c.find.result stands
+returns-then-not-is_single-clause-listed c = λ es stands. if_agreed c.args.self.now es c.args.scope.now c.args.name.now c.find_scoped.result stands
     (returns-then-not-is_single-clause-known c)
 
 pub returns-clause-known : goal.returns-clause-known

@@ -7,18 +7,18 @@ use Rattle.aml_space.specs.Known.{Known, StandsFor, once, namespace_in, with_dec
 use Rattle.aml_space.proofs.Stands.{stands_declared, again_first, none_undeclared}
 use Rattle.aml_space.proofs.Index.{kind_met, one_declared}
 use Rattle.aml_space.proofs.Levels.{settled_none}
-use Rattle.aml_space.proofs.spaces.Space.declare_again.Goals as goal
-use Rattle.aml_space.proofs.spaces.Space.declare_again.Goals.{In_ok-declare_first, In_default}
+use Rattle.aml_space.proofs.spaces.Space.put_again.Goals as goal
+use Rattle.aml_space.proofs.spaces.Space.put_again.Goals.{In_ok-declare_first, In_default}
 
-not_declared : (c : In_default) → map.get c.args.self.now.declarations c.args.path ≡ None
-not_declared c = none_undeclared c.args.self.now c.args.path
-    (sym (kind_met _ _ _ _ _ None (sym c.in_default.ensures.none) refl c.as_slice.ensures.value c.segs.ensures c.self.invariant.index.shape
-    ∙ ap (λ k. (namespace_in k).declared c.args.path) c.self.view_is))
+not_declared : (c : In_default) → map.get c.args.self.now.declarations c.args.path.now ≡ None
+not_declared c = none_undeclared c.args.self.now c.args.path.now
+    (sym (kind_met _ _ _ _ _ None (sym c.in_default.ensures.none) refl c.as_slice.ensures.value refl c.self.invariant.index.shape
+    ∙ ap (λ k. (namespace_in k).declared c.args.path.now) c.self.view_is))
 
-put_here : (c : In_ok-declare_first) → map.get c.args.self.now.declarations c.args.path ≡ None → known_by c.declare_first.new.nodes.items
-    ≡ with_again c.args.self.now c.args.path c.args.kind c.args.sure
-put_here c none = c.in_ok-declare_first.ensures.ok ∙ (λ i. with_declaration (c.self.view_is i) (c.segs-3.ensures i) (once c.args.kind c.args.sure))
-    ∙ sym (again_first c.args.self.now c.args.path c.args.kind c.args.sure none)
+put_here : (c : In_ok-declare_first) → map.get c.args.self.now.declarations c.args.path.now ≡ None → known_by c.declare_first.new.nodes.items
+    ≡ with_again c.args.self.now c.args.path.now c.args.kind c.args.sure
+put_here c none = c.in_ok-declare_first.ensures.ok ∙ ap (λ k. with_declaration k c.args.path.now (once c.args.kind c.args.sure)) c.self.view_is
+    ∙ sym (again_first c.args.self.now c.args.path.now c.args.kind c.args.sure none)
 
 pub invariant_of-self-2 : goal.invariant_of-self-2
 invariant_of-self-2 c =
@@ -27,8 +27,8 @@ invariant_of-self-2 c =
     ∙ ap (λ (k : Known). length (map.entries k.declarations)) c.self.view_is in
     let after : length (map.entries (known_by c.declare_first.new.nodes.items).declarations) ≡ length (map.entries c.args.self.now.declarations) + 1 =
     ap (λ (k : Known). length (map.entries k.declarations))
-    (put_here (goal.at.invariant_of-self-2 c).In_ok-declare_first none ∙ again_first c.args.self.now c.args.path c.args.kind c.args.sure none)
-    ∙ one_declared c.args.self.now c.args.path (once c.args.kind c.args.sure) none in
+    (put_here (goal.at.invariant_of-self-2 c).In_ok-declare_first none ∙ again_first c.args.self.now c.args.path.now c.args.kind c.args.sure none)
+    ∙ one_declared c.args.self.now c.args.path.now (once c.args.kind c.args.sure) none in
     record {
       index = c.declare_first.ensures.index;
       rows = omega (arith, before, after);
@@ -40,18 +40,18 @@ pub returns-clause-ok : goal.returns-clause-ok
 returns-clause-ok c = put_here (goal.at.returns-clause-ok c).In_ok-declare_first (not_declared (goal.at.returns-clause-ok c).In_default)
 
 pub returns-clause-stands : goal.returns-clause-stands
-returns-clause-stands c = λ es body stands. subst (λ k. StandsFor k (es ++ declares c.args.path c.args.kind body c.args.sure ∷ []))
+returns-clause-stands c = λ es body stands. subst (λ k. StandsFor k (es ++ declares c.args.path.now c.args.kind body c.args.sure ∷ []))
     (sym (put_here (goal.at.returns-clause-stands c).In_ok-declare_first (not_declared (goal.at.returns-clause-stands c).In_default)))
-    (stands_declared c.args.self.now es stands c.args.path c.args.kind body c.args.sure)
+    (stands_declared c.args.self.now es stands c.args.path.now c.args.kind body c.args.sure)
 
 pub returns-in-Some-clause-stands : goal.returns-in-Some-clause-stands
 returns-in-Some-clause-stands c = λ es body stands. by c.declare_again.result c.declare_again.ensures.ok es body stands
   where
     by : (r : Result (Unit {0}) AllocError) → OnOk r (known_by c.declare_again.new.nodes.items
-        ≡ with_again (known_by c.self.inside.nodes.items) c.segs-in-Some.result.now c.args.kind c.args.sure)
+        ≡ with_again (known_by c.self.inside.nodes.items) c.args.path.now c.args.kind c.args.sure)
         → (es : List Entry) (body : Option Body) → StandsFor c.args.self.now es
-        → OnOk r (StandsFor (known_by c.declare_again.new.nodes.items) (es ++ declares c.args.path c.args.kind body c.args.sure ∷ []))
+        → OnOk r (StandsFor (known_by c.declare_again.new.nodes.items) (es ++ declares c.args.path.now c.args.kind body c.args.sure ∷ []))
     by (Err e) ok es body stands = tt
-    by (Ok u) ok es body stands = subst (λ k. StandsFor k (es ++ declares c.args.path c.args.kind body c.args.sure ∷ []))
-        (sym (ok ∙ (λ i. with_again (c.self.view_is i) (c.segs-in-Some.ensures i) c.args.kind c.args.sure)))
-        (stands_declared c.args.self.now es stands c.args.path c.args.kind body c.args.sure)
+    by (Ok u) ok es body stands = subst (λ k. StandsFor k (es ++ declares c.args.path.now c.args.kind body c.args.sure ∷ []))
+        (sym (ok ∙ ap (λ k. with_again k c.args.path.now c.args.kind c.args.sure) c.self.view_is))
+        (stands_declared c.args.self.now es stands c.args.path.now c.args.kind body c.args.sure)

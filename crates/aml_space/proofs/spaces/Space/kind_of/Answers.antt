@@ -1,6 +1,6 @@
 use Rattle.std.proofs.Common.{rules}
 use Rattle.aml_space.proofs.Stands.{kind_listed}
-use Rattle.aml_space.proofs.spaces.Space.kind.Goals as goal
+use Rattle.aml_space.proofs.spaces.Space.kind_of.Goals as goal
 
 pub returns-in-None-clause-known : goal.returns-in-None-clause-known
 returns-in-None-clause-known c = search rules

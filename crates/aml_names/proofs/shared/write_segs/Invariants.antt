@@ -2,7 +2,7 @@ use Rattle.std.proofs.Common.{take, ◌∷◌}
 use Rattle.std.specs.List.{flat_map}
 use Rattle.std.specs.Fmt.{HasWritten, IsPlainFormatter}
 use Rattle.aml_names.specs.Paths.{segment_text}
-use Rattle.aml_set.proofs.paths.write_segs.Given as goal
+use Rattle.aml_names.proofs.shared.write_segs.Given as goal
 
 abbrev pub invariant-loop-seg : goal.invariant-loop-seg
 invariant-loop-seg g l =

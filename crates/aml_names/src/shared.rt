@@ -1,9 +1,15 @@
 //! Paths that share what they begin with.
 ghost use Rattle.std.specs.Prelude.{◌≡◌, ◌≤◌, ◌++◌, ◌∷◌, length, take, flat_map, IfOk};
 ghost use Rattle.std.specs.Fmt.{WritesOnOk};
+ghost use Rattle.aml_names.specs.Names.{placed};
 ghost use Rattle.aml_names.specs.Paths.{segment_text};
 
-use aml_names::{NoMemory, Path, Seg, Segs};
+use crate::faults::NoMemory;
+use crate::names::Name;
+use crate::parts::Parts;
+use crate::paths::Path;
+use crate::placing::front_of;
+use crate::segments::{Seg, Segs};
 use std::alloc::{AllocError, Global};
 use std::fmt;
 use std::marker::Model;
@@ -52,17 +58,17 @@ impl SharedPath {
     }
 }
 
-/// The path of a method: a front of the scope in which it is declared, which all methods of the scope share, and the
-/// segments behind it. So a method of a deep scope takes the memory of its own segments.
+/// A path by the scope in which its name stands: a front of the scope, which all paths that are placed from there share,
+/// and the segments behind it. So a path in a deep scope takes the memory and the time of its own segments.
 #[derive(Drop)]
-pub struct MethodPath {
+pub struct ScopedPath {
     scope: SharedPath,
     /// How many segments of the scope begin the path.
     front: usize,
     own: Segs,
 }
 
-impl Model for MethodPath {
+impl Model for ScopedPath {
     ghost use Rattle.std.specs.Prelude.{List, ◌≤◌, ◌++◌, length, take};
     ghost use Rattle.aml_names.specs.declared.segments.Seg.{Seg};
     ghost use Rattle.aml_names.specs.Paths.{coded_path};
@@ -76,24 +82,88 @@ impl Model for MethodPath {
     ghost invariant = { λ s. s.front ≤ length s.scope };
 }
 
-impl MethodPath {
+impl ScopedPath {
     /// The path of some segments behind a front of a scope.
-    pub fn new(scope: SharedPath, front: usize, own: Segs) -> MethodPath
+    pub fn new(scope: SharedPath, front: usize, own: Segs) -> ScopedPath
         requires { front ≤ length scope }
         ensures { result ≡ take front scope ++ own }
     {
-        MethodPath { scope, front, own }
+        ScopedPath { scope, front, own }
+    }
+
+    /// The path that a name leads to from a scope, without a search, as `place` gives it. `None` where the prefixes lead
+    /// above the root.
+    pub fn placed(scope: &SharedPath, name: &Name) -> Result<Option<ScopedPath>, NoMemory>
+        ensures { IfOk result (λ path. path ≡ placed scope.now name.now) }
+    {
+        match front_of(scope.path(), name) {
+            None => Ok(None),
+            Some(front) => {
+                let own = name.segs.clone()?;
+                Ok(Some(ScopedPath::new(scope.share()?, front, own)))
+            }
+        }
+    }
+
+    /// The path of some segments below a scope.
+    pub fn below(scope: &SharedPath, own: Segs) -> Result<ScopedPath, NoMemory>
+        ensures { IfOk result (λ path. path ≡ scope.now ++ own) }
+    {
+        let front = scope.path().segs().len();
+        Ok(ScopedPath {
+            scope: scope.share()?,
+            front,
+            own,
+        })
+    }
+
+    /// The path of these segments.
+    pub fn whole(alloc: Global, path: Path) -> Result<ScopedPath, NoMemory>
+        ensures { IfOk result (λ scoped. scoped ≡ path) }
+    {
+        let front = path.segs().len();
+        Ok(ScopedPath {
+            scope: SharedPath::new(alloc, path)?,
+            front,
+            own: Segs::new(alloc),
+        })
+    }
+
+    /// The front of the scope and the segments behind it.
+    pub fn parts(&self) -> Parts<'_>
+        ensures { result ≡ self.now }
+    {
+        Parts::new(
+            &self.scope.path().segs()[..self.front],
+            self.own.as_slice(),
+        )
     }
 
     /// The path, which is made anew.
     pub fn to_path(&self, alloc: Global) -> Result<Path, NoMemory>
         ensures { IfOk result (λ path. path ≡ self.now) }
     {
-        Path::below(
-            alloc,
-            &self.scope.path().segs()[..self.front],
-            self.own.as_slice(),
-        )
+        self.parts().behind(alloc, 0)
+    }
+
+    /// The path with several owners, which is made anew.
+    pub fn to_scope(&self, alloc: Global) -> Result<SharedPath, NoMemory>
+        ensures { IfOk result (λ scope. scope ≡ self.now) }
+    {
+        SharedPath::new(alloc, self.to_path(alloc)?)
+    }
+}
+
+impl Clone for ScopedPath {
+    ghost is_clone = { λ path copy. copy ≡ path };
+
+    fn clone(&self) -> Result<ScopedPath, AllocError> {
+        let own = self.own.clone()?;
+        Ok(ScopedPath {
+            scope: self.scope.share()?,
+            front: self.front,
+            own,
+        })
     }
 }
 
@@ -108,7 +178,7 @@ fn write_segs<W: fmt::Write>(f: &mut fmt::Formatter<W>, segs: &[Seg]) -> fmt::Re
 }
 
 /// `\` and the segments, joined by `.`.
-impl fmt::Display for MethodPath {
+impl fmt::Display for ScopedPath {
     ghost use Rattle.std.specs.Prelude.{Some};
     ghost use Rattle.aml_names.specs.Paths.{path_text};
 
@@ -116,7 +186,7 @@ impl fmt::Display for MethodPath {
 
     fn fmt<W: fmt::Write>(&self, f: &mut fmt::Formatter<W>) -> fmt::Result {
         f.write_char('\\')?;
-        match (&self.scope.path().segs()[..self.front], self.own.as_slice()) {
+        match self.parts().slices() {
             ([], []) => Ok(()),
             ([], [first, others @ ..]) => {
                 write!(f, "{first}")?;

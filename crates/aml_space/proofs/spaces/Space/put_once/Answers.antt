@@ -1,0 +1,72 @@
+use mathlib.Core.Bool.{true≢false}
+use Rattle.std.proofs.Common.{◌≡◌, ◌+◌, length, List, ◌++◌, ◌∷◌, [], None, is_some, not, true, false, refl, sym, subst, ap, ◌∙◌, arith}
+use Rattle.std.specs.FinMap as map
+use Rattle.aml_space.specs.Namespace.{Entry, declares, declared_at}
+use Rattle.aml_space.specs.Nodes.{known_by}
+use Rattle.aml_space.specs.Known.{Known, StandsFor, once, with_declaration, is_declared}
+use Rattle.aml_space.proofs.Stands.{stands_declared, again_first, none_from_test, declared_listed}
+use Rattle.aml_space.proofs.Index.{known_taken, one_declared}
+use Rattle.aml_space.proofs.Levels.{settled_none}
+use Rattle.aml_space.proofs.spaces.Space.put_once.Goals as goal
+use Rattle.aml_space.proofs.spaces.Space.put_once.Goals.{After-is_taken, In_ok-declare_first}
+
+taken : (c : After-is_taken) → c.is_taken.result ≡ is_declared c.args.self.now c.args.path.now
+taken c = known_taken _ _ _ _ _ _ c.is_taken.ensures c.as_slice-2.ensures.value refl c.self.invariant.index.shape c.self.view_is
+
+not_declared : (c : After-is_taken) → c.is_taken.result ≡ false → map.get c.args.self.now.declarations c.args.path.now ≡ None
+not_declared c free = none_from_test _ (sym (taken c) ∙ free)
+
+never : (c : After-is_taken) → c.is_taken.result ≡ false → {A : Type 0} → is_declared c.args.self.now c.args.path.now ≡ true → A
+never c free there = absurd (true≢false (sym there ∙ sym (taken c) ∙ free))
+
+put_here : (c : In_ok-declare_first) → known_by c.declare_first.new.nodes.items
+    ≡ with_declaration c.args.self.now c.args.path.now (once c.args.kind c.args.surely)
+put_here c = c.in_ok-declare_first.ensures.ok ∙ ap (λ k. with_declaration k c.args.path.now (once c.args.kind c.args.surely)) c.self.view_is
+
+pub invariant_of-self-2 : goal.invariant_of-self-2
+invariant_of-self-2 c =
+    let before : c.self.inside.rows ≡ length (map.entries c.args.self.now.declarations) = c.self.invariant.rows
+    ∙ ap (λ (k : Known). length (map.entries k.declarations)) c.self.view_is in
+    let after : length (map.entries (known_by c.declare_first.new.nodes.items).declarations) ≡ length (map.entries c.args.self.now.declarations) + 1 =
+    ap (λ (k : Known). length (map.entries k.declarations)) (put_here (goal.at.invariant_of-self-2 c).In_ok-declare_first)
+    ∙ one_declared c.args.self.now c.args.path.now (once c.args.kind c.args.surely)
+    (not_declared (goal.at.invariant_of-self-2 c).After-is_taken c.if-is_taken.false) in
+    record {
+      index = c.declare_first.ensures.index;
+      rows = omega (arith, before, after);
+      trail = c.declare_first.ensures.trail;
+      settled = settled_none c.declare_first.new.nodes.items c.clear.new.self.items c.clear.ensures.items;
+    }
+
+pub returns-clause-stands : goal.returns-clause-stands
+returns-clause-stands c = λ es body stands. subst (λ k. StandsFor k (es ++ declares c.args.path.now c.args.kind body c.args.surely ∷ []))
+    (again_first c.args.self.now c.args.path.now c.args.kind c.args.surely (not_declared (goal.at.returns-clause-stands c).After-is_taken c.if-is_taken.false)
+    ∙ sym (put_here (goal.at.returns-clause-stands c).In_ok-declare_first))
+    (stands_declared c.args.self.now es stands c.args.path.now c.args.kind body c.args.surely)
+
+listed : (c : After-is_taken) (es : List Entry) → StandsFor c.args.self.now es → is_some (declared_at es c.args.path.now) ≡ c.is_taken.result
+listed c es stands = sym (declared_listed c.args.self.now es c.args.path.now c.is_taken.result stands (taken c))
+
+pub returns-then-is_taken-clause-put : goal.returns-then-is_taken-clause-put
+returns-then-is_taken-clause-put c = ap not (sym c.if-is_taken.true ∙ taken (goal.at.returns-then-is_taken-clause-put c).After-is_taken)
+
+pub returns-clause-put : goal.returns-clause-put
+returns-clause-put c = ap not (sym c.if-is_taken.false ∙ taken (goal.at.returns-clause-put c).After-is_taken)
+
+pub returns-clause-known : goal.returns-clause-known
+returns-clause-known c = put_here (goal.at.returns-clause-known c).In_ok-declare_first
+
+pub returns-then-self-clause-taken : goal.returns-then-self-clause-taken
+returns-then-self-clause-taken c = never (goal.at.returns-then-self-clause-taken c).After-is_taken c.if-is_taken.false
+
+pub returns-in_err-declare_first-clause-taken : goal.returns-in_err-declare_first-clause-taken
+returns-in_err-declare_first-clause-taken c = never (goal.at.returns-in_err-declare_first-clause-taken c).After-is_taken c.if-is_taken.false
+
+pub returns-clause-taken : goal.returns-clause-taken
+returns-clause-taken c = never (goal.at.returns-clause-taken c).After-is_taken c.if-is_taken.false
+
+pub returns-then-is_taken-clause-listed : goal.returns-then-is_taken-clause-listed
+returns-then-is_taken-clause-listed c = λ es s. ap not (sym c.if-is_taken.true ∙ sym (listed (goal.at.returns-then-is_taken-clause-listed c).After-is_taken es s))
+
+pub returns-clause-listed : goal.returns-clause-listed
+returns-clause-listed c = λ es s. ap not (sym c.if-is_taken.false ∙ sym (listed (goal.at.returns-clause-listed c).After-is_taken es s))
