@@ -47,6 +47,7 @@ fn order_in(alloc: Global, dumps: &[Dump], any_sum: bool) -> Result<Order, Refus
         ¬ IsOrder dumps.now any_sum dsdt ssdts)) }
     ensures tells { IfErr result (TellsTable dumps.now any_sum) }
     ensures of_order { IfErr result (λ e. (dumps : List Dump) (options : Options) → TellsBlocks dumps options e) }
+    ensures no_thread { IfErr result (λ e. ¬ (e ≡ Refusal.NoThread)) }
 {
     match load_order(alloc, dumps, any_sum) {
         Ok(order) => Ok(order),
@@ -103,6 +104,7 @@ fn load_in<'a>(
         LoadsBy options.now (table_codes tables.entry.items) trees m → ⊥)) }
     ensures tells { IfErr result (TellsLoad options.now (table_codes tables.entry.items) (indexes_in order.now)) }
     ensures of_load { IfErr result (λ e. (dumps : List Dump) (any_sum : Bool) → TellsTable dumps any_sum e) }
+    ensures no_thread { IfErr result (λ e. ¬ (e ≡ Refusal.NoThread)) }
 {
     match load_tables(
         alloc,
@@ -127,6 +129,8 @@ pub(crate) fn load_set<'a>(
     ensures complete { IfErr result (λ e. IsWant e ⊎ ((k : Meaning) → ¬ LoadsSet dumps.now options.now k)) }
     ensures true_table { IfErr result (TellsTable dumps.now options.now.any_sum) }
     ensures true_load { IfErr result (TellsBlocks dumps.now options.now) }
+    // No thread is asked for.
+    ensures no_thread { IfErr result (λ e. ¬ (e ≡ Refusal.NoThread)) }
 {
     let order = order_in(alloc, dumps, options.any_sum)?;
     let tables = tables_of(alloc, dumps, &order)?;
@@ -172,6 +176,8 @@ pub fn disassemble<'a, R: Threads + Wait + Sync, G: Gate + Sync>(
         ¬ Means dumps.now options k)) }
     ensures true_table { IfErr result (TellsTable dumps.now options.any_sum) }
     ensures true_load { IfErr result (TellsBlocks dumps.now options) }
+    // One worker needs no thread.
+    ensures one_needs_no_thread { workers ≡ 1 → IfErr result (λ e. ¬ (e ≡ Refusal.NoThread)) }
 {
     let (order, set) = match load_set(alloc, dumps, &options) {
         Ok(set) => set,
