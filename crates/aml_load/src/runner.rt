@@ -19,8 +19,8 @@ use aml_code::{
     Arity, Locals, Name, NoMemory, Node, Part, Path, Position, Role, Tail, TailKind, last_name,
     listed_row,
 };
-use aml_parse::{next_position, read_step};
 use aml_names::{ScopedPath, SharedPath};
+use aml_parse::{next_position, read_step};
 use aml_space::{BodyNames, BodyScope, Kind, SpaceFault};
 use std::alloc::Global;
 

@@ -61,11 +61,7 @@ fn first_name(parts: &[Part]) -> Option<&Name>
 #[tactic(auto, unfolding(crate::specs::Loading::place_at))]
 impl Progress {
     /// Where a term's name leads from its scope, without a search. `AboveRoot` where that is nowhere.
-    pub fn own_path(
-        &self,
-        site: &Site<'_>,
-        name: Option<&Name>,
-    ) -> Result<ScopedPath, LoadFault>
+    pub fn own_path(&self, site: &Site<'_>, name: Option<&Name>) -> Result<ScopedPath, LoadFault>
         ensures { Gives (λ p. p) result (place_at (at_site site.now) (option_copied name.entry)) }
     {
         match name {
@@ -104,11 +100,7 @@ impl Progress {
 #[tactic(auto, unfolding(crate::specs::Loading::lead_at))]
 impl Progress {
     /// The path that a Scope opens. `ScopeMissing` where its name leads to nothing.
-    pub fn scope_path(
-        &self,
-        site: &Site<'_>,
-        name: Option<&Name>,
-    ) -> Result<ScopedPath, LoadFault>
+    pub fn scope_path(&self, site: &Site<'_>, name: Option<&Name>) -> Result<ScopedPath, LoadFault>
         ensures { GivesIn (λ p. p) self.now.space result (λ l.
             lead_at (at_site site.now) l.entries (option_copied name.entry) (λ p. SpaceFault.ScopeMissing p)) }
     {

@@ -133,10 +133,7 @@ impl ScopedPath {
     pub fn parts(&self) -> Parts<'_>
         ensures { result ≡ self.now }
     {
-        Parts::new(
-            &self.scope.path().segs()[..self.front],
-            self.own.as_slice(),
-        )
+        Parts::new(&self.scope.path().segs()[..self.front], self.own.as_slice())
     }
 
     /// The path, which is made anew.

@@ -85,7 +85,12 @@ fn aimed_node(nodes: &[Node], aim: usize, target: &ScopedPath) -> Option<usize>
 }
 
 /// How many arguments the target of an Alias takes, by its node.
-fn count_target(nodes: &[Node], predefined: &Predefined, node: Option<usize>, target: &ScopedPath) -> u8
+fn count_target(
+    nodes: &[Node],
+    predefined: &Predefined,
+    node: Option<usize>,
+    target: &ScopedPath,
+) -> u8
     requires shape { IsShape nodes.now }
     requires within { IfSome node (λ i. i < length nodes.now) }
     requires node { node ≡ walk (kids_of nodes.now) 0 target.now }

@@ -106,14 +106,9 @@ impl Space {
         }
     }
 
-    /// Declares a path that isn't declared yet, surely or not. The answer is whether it wasn't: where it was, nothing
-    /// changes, and there is no want of memory. A refused call changes nothing.
-    pub fn put_once(
-        &mut self,
-        path: &Parts<'_>,
-        kind: Kind,
-        surely: bool,
-    ) -> Result<bool, NoMemory>
+    /// Declares a path that isn't declared yet, surely or not, and answers whether it did: `false` where the path is
+    /// declared already, which takes no memory. A refused call changes nothing.
+    pub fn put_once(&mut self, path: &Parts<'_>, kind: Kind, surely: bool) -> Result<bool, NoMemory>
         ensures put { IfOk result (λ put. put ≡ not (declared_yet self.old path.now)) }
         ensures known { IfOk result (λ put. self.new
             ≡ cond put (with_declaration self.old path.now (once kind surely)) self.old) }
@@ -159,12 +154,7 @@ impl Space {
     }
 
     /// The same of a path in parts.
-    pub fn put_again(
-        &mut self,
-        path: &Parts<'_>,
-        kind: Kind,
-        sure: bool,
-    ) -> Result<(), NoMemory>
+    pub fn put_again(&mut self, path: &Parts<'_>, kind: Kind, sure: bool) -> Result<(), NoMemory>
         ensures ok { OnOk result (self.new ≡ with_again self.old path.now kind sure) }
         ensures stands { (es : List Entry) (body : Option Body) → StandsFor self.old es →
             OnOk result (StandsFor self.new (es ++ declares path.now kind body sure ∷ [])) }
