@@ -1,9 +1,7 @@
 -- The body of a method, read by what the names of its body are read by.
 use Rattle.std.proofs.Common.{◌≡◌, ◌≢◌, ℕ, zero, suc, ◌≤◌, Bool, List, [], ◌∷◌, length, drop, Option, Some, Result, Ok, Err, refl, subst, ◌⊎◌, inl, inr}
 use Rattle.std.proofs.Common.{arith, slice_index_or}
-use Rattle.std.specs.Prelude.{IfOk, IfErr}
 use Rattle.std.proofs.lemmas.List.{length-take, length-drop}
-use Rattle.aml_names.specs.declared.segments.Seg.{Seg}
 use Rattle.aml_names.specs.declared.names.Name.{Name}
 use Rattle.aml_names.specs.Paths.{PathSet}
 use Rattle.aml_names.specs.declared.faults.CodeFault.{CodeFault}
@@ -14,6 +12,8 @@ use Rattle.aml_code.specs.Tree.{Trees}
 use Rattle.aml_code.specs.Faults.{StandsAt}
 use Rattle.aml_code.specs.Lawful.{ReadsBody}
 use Rattle.aml_parse.specs.Reading.{all_at}
+use Rattle.aml_parse.proofs.Readings.{BodySaid, body_said}
+use Rattle.aml_names.proofs.StepLaws.{IsBytes}
 use Rattle.aml_space.specs.Known.{BodyView, Known, StandsFor, outlook_in}
 use Rattle.aml_space.specs.Namespace.{Entry}
 use Rattle.aml_space.specs.Runs.{Outlook, outlook_of, agreed_arity}
@@ -59,12 +59,6 @@ want_or codes.NoMemory = inl refl
 abbrev Counts : Type 0
 Counts = PathSet → Name → Option ℕ
 
--- what `parse_body` says of its answer
-abbrev Says : {X : Type 0} → (X → Trees) → List Seg → List ℕ → Result X CodeFault → Counts → Type 0
-Says view path bytes r counts =
-    IfOk r (λ x. ReadsBody counts path bytes (view x)) × IfOk r (λ x. (ts : Trees) → ReadsBody counts path bytes ts → ts ≡ view x)
-    × IfErr r (λ f. (f ≡ codes.NoMemory) ⊎ ((ts : Trees) → ReadsBody counts path bytes ts → ⊥)) × IfErr r (StandsAt counts bytes)
-
 unread : {X : Type 0} (view : X → Trees) (es : List Entry) (cs : List (List ℕ)) (m : Method) (z : Bool) (f : CodeFault) → (f ≡ codes.NoMemory)
     ⊎ ((ts : Trees) → IsBody z es cs m ts → ⊥)
     → StandsAt (agreed_arity (outlook_of es) z m.path) (span_of cs m) f → (f ≡ codes.NoMemory) ⊎ (f ≢ codes.NoMemory) → (f ≡ codes.NoMemory)
@@ -74,7 +68,7 @@ unread view es cs m z f (inl w) there (inr n) = inl w
 unread view es cs m z f (inr none) there (inr n) = inr (record { reason = n; stands = there; none = none })
 
 reading_of : {X : Type 0} (view : X → Trees) (es : List Entry) (cs : List (List ℕ)) (m : Method) (z : Bool) (r : Result X CodeFault)
-    → Says view m.path (span_of cs m) r (agreed_arity (outlook_of es) z m.path) → IsReading view z es cs m r
+    → BodySaid view (agreed_arity (outlook_of es) z m.path) m.path (span_of cs m) r → IsReading view z es cs m r
 reading_of view es cs m z (Ok x) says = (says.0, says.1)
 reading_of view es cs m z (Err f) says = unread view es cs m z f says.2 says.3 (want_or f)
 
@@ -88,13 +82,15 @@ said_of_method P names k es cs m z bytes named s is says =
     let there = subst (λ (n : Outlook). P (agreed_arity n z m.path) bytes) (same_outlook k es s) here in
     subst (λ (b : List ℕ). P (agreed_arity (outlook_of es) z m.path) b) is there
 
--- what `parse_body` answers over the names of a method's body is a reading of this body
+-- what is answered over the names of a method's body, as reading forward gives it, is a reading of this body
 pub reading_is : {X : Type 0} (view : X → Trees) (names : BodyView) (k : Known) (es : List Entry) (cs : List (List ℕ)) (m : Method) (z : Bool) (bytes : List ℕ)
     (r : Result X CodeFault)
     → names ≡ record { known = k; method = m.path; unknown_zero = z } → StandsFor k es → bytes ≡ span_of cs m
-    → Says view m.path bytes r (agreed_arity (outlook_in names.known) names.unknown_zero names.method) → IsReading view z es cs m r
-reading_is view names k es cs m z bytes r named s is says =
-    reading_of view es cs m z r (said_of_method (λ counts b. Says view m.path b r counts) names k es cs m z bytes named s is says)
+    → IsBytes bytes → Gives view r (all_at (agreed_arity (outlook_in names.known) names.unknown_zero names.method) (Some m.path) positions.BodyTerm bytes)
+    → IsReading view z es cs m r
+reading_is view names k es cs m z bytes r named s is fits gives = reading_of view es cs m z r
+    (said_of_method (λ counts b. BodySaid view counts m.path b r) names k es cs m z bytes named s is
+    (body_said view (agreed_arity (outlook_in names.known) names.unknown_zero names.method) m.path bytes r fits gives))
 
 -- what reading forward gives of its bytes is what it gives of the method's body
 pub forward_is : {X : Type 0} (view : X → Trees) (names : BodyView) (k : Known) (es : List Entry) (cs : List (List ℕ)) (m : Method) (z : Bool) (bytes : List ℕ)

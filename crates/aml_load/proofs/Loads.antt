@@ -201,6 +201,14 @@ module _ (any z : Bool) (gs : Givens) (cs : List (List ℕ)) where
       ap (λ (r : Result Whole LoadFault). r >>= check) read
       ∙ ap (λ (r : Result (Unit {0}) LoadFault). r >>= λ u. Ok (ts, m)) (ap (uses_at any z m.entries) (sym is) ∙ free)
 
+  -- and where the last of them refuses
+  pub load_refused : (ts : List Trees) (m : Listed) (us : List Use) (e : LoadFault) → tables_at any 0 [] (first_listed gs) cs ≡ Ok (ts, m) → us ≡ m.uses
+      → Fails e (uses_at any z m.entries us) → Fails e (load_at any z gs cs)
+  unfolding load_at
+  load_refused ts m us e read is (inl want) = inl want
+  load_refused ts m us e read is (inr refused) = inr (ap (λ (r : Result Whole LoadFault). r >>= check) read
+      ∙ ap (λ (r : Result (Unit {0}) LoadFault). r >>= λ u. Ok (ts, m)) (ap (uses_at any z m.entries) (sym is) ∙ refused))
+
   pub loads_again : LoadsAgain any z gs cs
   loads_again ts m h = load_gives ts m m.uses tt (tables_again any 0 (first_listed gs) [] cs ts m h.read) refl (agreed_uses any z m.entries m.uses h.agreed)
 

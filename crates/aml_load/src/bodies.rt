@@ -8,9 +8,9 @@ ghost use Rattle.aml_set.specs.Views.{codes_view, span_of};
 ghost use Rattle.aml_load.specs.Views.{IsReading, GivesBody};
 
 use aml_code::{CodeFault, Node};
-use aml_parse::parse_body;
+use aml_parse::body_terms;
 use aml_set::{Method, span_of};
-use aml_space::{BodyScope, Space};
+use aml_space::{BodyNames, Space};
 use std::alloc::Global;
 
 /// The terms of the body of a method, in the namespace of all tables (ACPI 6.5, 5.3), by the AML of each table in load
@@ -59,12 +59,6 @@ pub fn read_span(
         (es : List Entry) → StandsFor space.now es →
         GivesBody (λ nodes. nodes_view nodes.items) unknown_zero es tables method.now result }
 {
-    let path = method.path.to_path(alloc)?;
-    let scope = BodyScope {
-        space,
-        method: &path,
-        unknown_zero,
-    };
-    let names = scope.open();
-    parse_body(alloc, bytes, &names, &path)
+    let names = BodyNames::new(space, method.path.parts(), unknown_zero);
+    body_terms(alloc, bytes, &names, &method.path.parts())
 }

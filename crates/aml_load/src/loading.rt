@@ -20,7 +20,7 @@ use aml_code::{Locals, NoMemory, Node, Path, place};
 use aml_names::{Arity, SharedPath};
 use aml_parse::parse_module;
 use aml_set::{Loaded, Table, TableSet};
-use aml_space::{BodyNames, BodyScope, Space};
+use aml_space::{BodyNames, Space};
 use std::alloc::Global;
 
 /// Reads a table whole, and then declares what it declares.
@@ -116,16 +116,10 @@ fn opened_for<'a>(
             return Ok(open);
         }
     }
-    let names = BodyScope {
-        space,
-        method: scope,
-        unknown_zero,
-    }
-    .open();
     Ok(Opened {
         scope,
         unknown_zero,
-        names,
+        names: BodyNames::new(space, used.scope.parts(), unknown_zero),
     })
 }
 

@@ -21,7 +21,7 @@ use aml_code::{
 };
 use aml_names::{ScopedPath, SharedPath};
 use aml_parse::{next_position, read_step};
-use aml_space::{BodyNames, BodyScope, Kind, SpaceFault};
+use aml_space::{BodyNames, Kind, SpaceFault};
 use std::alloc::Global;
 
 /// The most levels of terms inside each other.
@@ -162,13 +162,8 @@ impl Progress {
         ensures there { IfOk result (λ x. IsThere code.now rest (node_view x.0) x.1) }
         ensures step { Steps self.now site.now rest code.now result }
     {
-        let scope = BodyScope {
-            space: &self.space,
-            method: site.scope.path(),
-            unknown_zero: false,
-        };
         let names = RunNames {
-            names: scope.open(),
+            names: BodyNames::new(&self.space, site.scope.parts(), false),
         };
         match read_step(
             self.alloc,

@@ -405,6 +405,7 @@ impl Progress {
             return Ok(());
         }
         let scope = path.to_scope(self.alloc)?;
+        self.space.go_along(&scope);
         self.walk_all(
             &Site {
                 table: site.table,

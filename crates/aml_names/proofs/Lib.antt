@@ -6,3 +6,4 @@ mod SegmentOrder
 pub mod NameLaws
 pub mod EndLaws
 mod BranchLaws
+pub mod PartLaws

@@ -1,8 +1,8 @@
 //! Paths by where they branch off a scope.
-ghost use Rattle.std.specs.Prelude.{◌≡◌, ◌≤◌, ◌+◌, ◌-◌, ◌++◌, [], ◌∷◌, ℕ, List, cond, length, take, slice_get};
+ghost use Rattle.std.specs.Prelude.{◌≡◌, ◌≤◌, ◌<◌, ◌+◌, ◌-◌, ◌^◌, ◌++◌, [], ◌∷◌, ℕ, List, cond, length, take, slice_get};
 ghost use Rattle.std.specs.Prelude.{Some, None, false, IsTrue, ◌↔◌, OnOk, OnErr, IfOk};
 ghost use Rattle.std.specs.Bool.{OnTrue, OnFalse};
-ghost use Rattle.std.specs.Option.{option_flatten};
+ghost use Rattle.std.specs.Option.{option_flatten, unwrap_or};
 ghost use Rattle.std.specs.Ordering.{eq_by_cmp};
 ghost use Rattle.std.specs.List.{list_any};
 ghost use Rattle.std.specs.BTreeMap.{is_at, get, IsUnchanged};
@@ -13,8 +13,10 @@ ghost use Rattle.aml_names.specs.Branches.{whole, goes_on, end_depth, branch_cmp
 ghost use Rattle.aml_names.specs.Searching.{nearest, deeper};
 
 use crate::faults::NoMemory;
+use crate::parts::Parts;
 use crate::paths::{Path, same_segs};
 use crate::segments::Seg;
+use crate::shared::ScopedPath;
 use std::alloc::{AllocError, Global};
 use std::collections::{BTreeMap, BTreeSet};
 use std::marker::Model;
@@ -33,7 +35,8 @@ struct Branch<'a> {
 #[derive(Drop)]
 pub(crate) struct Branches {
     alloc: Global,
-    scope: Path,
+    /// None for the root, which takes no memory.
+    scope: Option<ScopedPath>,
     /// Each path as a branch.
     kept: BTreeSet<(usize, Path)>,
     /// The last segment of each of them, and how many segments of the scope stand before it in the nearest path that is
@@ -43,6 +46,8 @@ pub(crate) struct Branches {
 
 impl Model for Branches {
     ghost use Rattle.std.specs.Prelude.{map};
+    ghost use Rattle.std.specs.Prelude.{[]};
+    ghost use Rattle.std.specs.Option.{unwrap_or};
     ghost use Rattle.std.specs.FinSet as set;
     ghost use Rattle.std.specs.BTreeMap.{get};
     ghost use Rattle.aml_names.specs.Paths.{seg_cmp};
@@ -53,16 +58,17 @@ impl Model for Branches {
 
     ghost coded = { coded_branched };
 
-    ghost view = { λ a. record { scope = a.scope; paths = set.from_list (map (whole a.scope) a.kept.keys) } };
+    ghost view = { λ a. let scope = unwrap_or a.scope [] in
+        record { scope = scope; paths = set.from_list (map (whole scope) a.kept.keys) } };
 
-    ghost invariant = { λ a. AreBranches a.scope a.kept.keys
-        × KnowEnds (set.from_list (map (whole a.scope) a.kept.keys)) a.scope (get seg_cmp a.ends) };
+    ghost invariant = { λ a. let scope = unwrap_or a.scope [] in AreBranches scope a.kept.keys
+        × KnowEnds (set.from_list (map (whole scope) a.kept.keys)) scope (get seg_cmp a.ends) };
 }
 
 impl Branches {
     /// No path.
-    pub(crate) fn new(alloc: Global, scope: Path) -> Branches
-        ensures { result ≡ record { scope = scope; paths = set.empty } }
+    pub(crate) fn new(alloc: Global, scope: Option<ScopedPath>) -> Branches
+        ensures { result ≡ record { scope = unwrap_or scope []; paths = set.empty } }
     {
         Branches {
             alloc,
@@ -73,11 +79,11 @@ impl Branches {
     }
 
     /// Whether the paths are placed from this scope.
-    pub(crate) fn are_of(&self, scope: &Path) -> bool
+    pub(crate) fn are_of(&self, scope: &Parts<'_>) -> bool
         ensures test { result ≡ eq_by_cmp path_cmp self.now.scope scope.now }
         ensures same { OnTrue result (self.now.scope ≡ scope.now) }
     {
-        self.scope == *scope
+        parts_of(&self.scope).is(scope)
     }
 
     /// Whether no path is there.
@@ -95,9 +101,10 @@ impl Branches {
             (self.new.paths ≡ set.insert self.old.paths (take front self.old.scope ++ segs.now)) }
         ensures err { OnErr result (self.new ≡ self.old) }
     {
-        let branch = branch_of(self.scope.segs(), front, segs);
+        let scope = parts_of(&self.scope);
+        let branch = branch_of(&scope, front, segs);
         let tail = Path::below(self.alloc, &[], branch.tail)?;
-        let Some(end) = last_of(self.scope.segs(), branch) else {
+        let Some(end) = last_of(&scope, branch) else {
             self.kept.insert((branch.depth, tail))?;
             return Ok(());
         };
@@ -121,7 +128,7 @@ impl Branches {
         has_branch(
             self.alloc,
             &self.kept,
-            branch_of(self.scope.segs(), front, segs),
+            branch_of(&parts_of(&self.scope), front, segs),
         )
     }
 
@@ -148,18 +155,26 @@ impl Branches {
     }
 }
 
-/// Whether a scope has a segment at a depth.
-fn goes_on(scope: &[Seg], depth: usize, seg: Seg) -> bool
-    ensures { result ≡ goes_on scope.now depth seg }
+/// The scope's path in parts.
+fn parts_of(scope: &Option<ScopedPath>) -> Parts<'_>
+    ensures { result ≡ unwrap_or scope.now [] }
 {
-    match scope.get(depth) {
-        None => false,
-        Some(next) => next.cmp(&seg).is_eq(),
+    match scope {
+        None => Parts::whole(&[]),
+        Some(scope) => scope.parts(),
     }
 }
 
+/// Whether a scope has a segment at a depth.
+fn goes_on(scope: &Parts<'_>, depth: usize, seg: Seg) -> bool
+    ensures test { result ≡ goes_on scope.now depth seg }
+    ensures room { OnTrue result (depth + 1 < 2 ^ 64) }
+{
+    depth < scope.len() && scope.segment(depth).cmp(&seg).is_eq()
+}
+
 /// Where the path of some segments behind a front of a scope branches off this scope.
-fn branch_of<'s>(scope: &[Seg], front: usize, segs: &'s [Seg]) -> Branch<'s>
+fn branch_of<'s>(scope: &Parts<'_>, front: usize, segs: &'s [Seg]) -> Branch<'s>
     requires { front ≤ length scope.now }
     ensures branch { IsBranch scope.now (result.depth, result.tail.now) }
     ensures whole { whole scope.now (result.depth, result.tail.now) ≡ take front scope.now ++ segs.now }
@@ -178,14 +193,14 @@ fn branch_of<'s>(scope: &[Seg], front: usize, segs: &'s [Seg]) -> Branch<'s>
 }
 
 /// The last segment of a path; the root has none.
-fn last_of(scope: &[Seg], branch: Branch<'_>) -> Option<Seg>
+fn last_of(scope: &Parts<'_>, branch: Branch<'_>) -> Option<Seg>
     requires { branch.depth ≤ length scope.now }
     ensures { let path = whole scope.now (branch.entry.depth, branch.entry.tail.now) in
         result ≡ slice_get path (length path - 1) }
 {
     match branch.tail.last() {
         Some(end) => Some(*end),
-        None => scope[..branch.depth].last().copied(),
+        None => scope.first(branch.depth).last(),
     }
 }
 

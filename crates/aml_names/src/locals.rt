@@ -5,6 +5,7 @@ ghost use Rattle.aml_names.specs.Searching.{nearest};
 
 use crate::branches::Branches;
 use crate::faults::NoMemory;
+use crate::parts::Parts;
 use crate::paths::Path;
 use crate::segments::Seg;
 use std::alloc::Global;
@@ -39,7 +40,7 @@ impl Locals {
     {
         Locals {
             alloc,
-            branches: Branches::new(alloc, Path::root(alloc)),
+            branches: Branches::new(alloc, None),
         }
     }
 
@@ -52,18 +53,23 @@ impl Locals {
     }
 
     /// Takes a scope for that of the locals where no path is there.
-    fn settle(&mut self, scope: &Path) -> Result<(), NoMemory>
+    fn settle(&mut self, scope: &Parts<'_>) -> Result<(), NoMemory>
         ensures { self.new ≡ self.old }
     {
         if self.branches.is_empty() {
-            self.branches = Branches::new(self.alloc, scope.clone()?);
+            self.branches = Branches::new(self.alloc, Some(scope.kept(self.alloc)?));
         }
         Ok(())
     }
 
     /// Adds the path of some segments behind a front of a scope, without a walk along the front where this is the scope
     /// of the locals. Where memory is refused the set is as before.
-    pub fn push_below(&mut self, scope: &Path, front: usize, segs: &[Seg]) -> Result<(), NoMemory>
+    pub fn push_below(
+        &mut self,
+        scope: &Parts<'_>,
+        front: usize,
+        segs: &[Seg],
+    ) -> Result<(), NoMemory>
         requires { front ≤ length scope.now }
         ensures ok { OnOk result (self.new ≡ set.insert self.old (take front scope.now ++ segs.now)) }
         ensures err { OnErr result (self.new ≡ self.old) }
@@ -72,7 +78,7 @@ impl Locals {
         if self.branches.are_of(scope) {
             return self.branches.insert(front, segs);
         }
-        let path = Path::below(self.alloc, &scope.segs()[..front], segs)?;
+        let path = scope.first(front).below(self.alloc, segs)?;
         self.push(path)
     }
 
@@ -92,7 +98,7 @@ impl Locals {
     }
 
     /// Whether the path of some segments behind a front of a scope is there.
-    pub fn has_below(&self, scope: &Path, front: usize, segs: &[Seg]) -> Result<bool, NoMemory>
+    pub fn has_below(&self, scope: &Parts<'_>, front: usize, segs: &[Seg]) -> Result<bool, NoMemory>
         requires { front ≤ length scope.now }
         ensures { IfOk result (λ local. local ≡ set.contains self.now (take front scope.now ++ segs.now)) }
     {
@@ -102,7 +108,7 @@ impl Locals {
         if self.branches.are_of(scope) {
             return Ok(self.branches.contains(front, segs));
         }
-        let path = Path::below(self.alloc, &scope.segs()[..front], segs)?;
+        let path = scope.first(front).below(self.alloc, segs)?;
         Ok(self.has(&path))
     }
 
@@ -111,7 +117,7 @@ impl Locals {
     pub fn nearest(
         &self,
         alloc: Global,
-        scope: &Path,
+        scope: &Parts<'_>,
         segment: Seg,
     ) -> Result<Option<usize>, NoMemory>
         ensures { IfOk result (λ depth. depth ≡ nearest self.now scope.now (segment ∷ [])) }
@@ -129,13 +135,13 @@ impl Locals {
     fn nearest_of_all(
         &self,
         alloc: Global,
-        scope: &Path,
+        scope: &Parts<'_>,
         segment: Seg,
     ) -> Result<Option<usize>, NoMemory>
         ensures { IfOk result (λ depth. depth ≡ nearest self.now scope.now (segment ∷ [])) }
     {
-        let mut path = Path::below(alloc, scope.segs(), &[segment])?;
-        let mut depth = scope.segs().len();
+        let mut path = scope.below(alloc, &[segment])?;
+        let mut depth = scope.len();
         'depths: loop {
             if self.has(&path) {
                 return Ok(Some(depth));

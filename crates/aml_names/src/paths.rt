@@ -1,5 +1,5 @@
 //! Absolute paths in the namespace.
-ghost use Rattle.std.specs.Prelude.{◌≡◌, [], ◌++◌, ◌≤◌, ◌-◌, length, take, drop, slice_get, Some, IfOk, refl};
+ghost use Rattle.std.specs.Prelude.{◌≡◌, ℕ, [], ◌++◌, ◌≤◌, ◌-◌, length, take, drop, slice_get, Some, IfOk, OnOk, OnErr, refl};
 ghost use Rattle.std.specs.Ordering.{eq_by_cmp};
 ghost use Rattle.std.specs.Cmp.{partial_equiv_from_equiv, partial_order_from_total, eq_by_cmp_equiv};
 ghost use Rattle.std.specs.Fmt.{WritesOnOk};
@@ -64,6 +64,15 @@ impl Path {
         segs.extend_from_slice(front)?;
         segs.extend_from_slice(tail)?;
         Ok(Path { segs })
+    }
+
+    /// Adds segments at the end. Where memory is refused the path is as before.
+    pub(crate) fn extend(&mut self, tail: &[Seg]) -> Result<(), AllocError>
+        ensures ok { OnOk result (self.new ≡ self.old ++ tail.now) }
+        ensures err { OnErr result (self.new ≡ self.old) }
+    {
+        self.segs.extend_from_slice(tail)?;
+        Ok(())
     }
 
     /// Takes the segment before the last one out: the last one then stands in the parent of its scope.
@@ -159,7 +168,8 @@ pub fn common(some: &[Seg], others: &[Seg]) -> usize
     ensures some { result ≤ length some.now }
     ensures others { result ≤ length others.now }
     ensures same { take result some.now ≡ take result others.now }
-    ensures whole { some.now ≡ others.now → result ≡ length some.now }
+    ensures most { (n : ℕ) → n ≤ length some.now → n ≤ length others.now →
+        take n some.now ≡ take n others.now → n ≤ result }
 {
     let most = some.len().min(others.len());
     let mut known: usize = 0;

@@ -5,20 +5,21 @@ ghost use Rattle.aml_names.specs.Names.{placed};
 
 use crate::faults::NoMemory;
 use crate::names::Name;
+use crate::parts::Parts;
 use crate::paths::Path;
 use std::alloc::Global;
 
 /// How many segments of a scope stand before a name's own where the name leads without a search: none after a root
 /// prefix, else all but as many as there are parent prefixes (ACPI 6.5, 5.3). `None` where the prefixes lead above the
 /// root.
-pub fn front_of(scope: &Path, name: &Name) -> Option<usize>
+pub fn front_of(scope: &Parts<'_>, name: &Name) -> Option<usize>
     ensures placed { placed scope.now name.now ≡ option_map (λ front. take front scope.now ++ name.now.segs) result }
     ensures within { IfSome result (λ front. front ≤ length scope.now) }
 {
     if name.root {
         return Some(0);
     }
-    scope.segs().len().checked_sub(name.ups as usize)
+    scope.len().checked_sub(name.ups as usize)
 }
 
 /// The path that a name leads to from a scope, without a search: a front of the scope, and then the name's segments
@@ -26,7 +27,7 @@ pub fn front_of(scope: &Path, name: &Name) -> Option<usize>
 pub fn place(alloc: Global, scope: &Path, name: &Name) -> Result<Option<Path>, NoMemory>
     ensures { IfOk result (λ path. path ≡ placed scope.now name.now) }
 {
-    match front_of(scope, name) {
+    match front_of(&scope.parts(), name) {
         None => Ok(None),
         Some(front) => {
             let path = Path::below(alloc, &scope.segs()[..front], name.segs.as_slice())?;

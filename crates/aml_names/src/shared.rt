@@ -1,5 +1,5 @@
 //! Paths that share what they begin with.
-ghost use Rattle.std.specs.Prelude.{◌≡◌, ◌≤◌, ◌++◌, ◌∷◌, length, take, flat_map, IfOk};
+ghost use Rattle.std.specs.Prelude.{◌≡◌, ◌≤◌, ◌++◌, ◌∷◌, [], length, take, flat_map, IfOk, OnOk, OnErr};
 ghost use Rattle.std.specs.Fmt.{WritesOnOk};
 ghost use Rattle.aml_names.specs.Names.{placed};
 ghost use Rattle.aml_names.specs.Paths.{segment_text};
@@ -49,6 +49,13 @@ impl SharedPath {
         &self.path
     }
 
+    /// The same in parts: what is kept of it has the scope as one of its owners.
+    pub fn parts(&self) -> Parts<'_>
+        ensures { result ≡ self.now }
+    {
+        Parts::of(self, self.path.segs().len(), &[])
+    }
+
     /// One owner more. It takes no memory.
     pub fn share(&self) -> Result<SharedPath, AllocError>
         ensures { IfOk result (λ shared. shared ≡ self.now) }
@@ -96,7 +103,7 @@ impl ScopedPath {
     pub fn placed(scope: &SharedPath, name: &Name) -> Result<Option<ScopedPath>, NoMemory>
         ensures { IfOk result (λ path. path ≡ placed scope.now name.now) }
     {
-        match front_of(scope.path(), name) {
+        match front_of(&scope.parts(), name) {
             None => Ok(None),
             Some(front) => {
                 let own = name.segs.clone()?;
@@ -110,11 +117,7 @@ impl ScopedPath {
         ensures { IfOk result (λ path. path ≡ scope.now ++ own) }
     {
         let front = scope.path().segs().len();
-        Ok(ScopedPath {
-            scope: scope.share()?,
-            front,
-            own,
-        })
+        Ok(ScopedPath::new(scope.share()?, front, own))
     }
 
     /// The path of these segments.
@@ -122,18 +125,37 @@ impl ScopedPath {
         ensures { IfOk result (λ scoped. scoped ≡ path) }
     {
         let front = path.segs().len();
-        Ok(ScopedPath {
-            scope: SharedPath::new(alloc, path)?,
-            front,
-            own: Segs::new(alloc),
-        })
+        let scope = SharedPath::new(alloc, path)?;
+        Ok(ScopedPath::new(scope, front, Segs::new(alloc)))
     }
 
     /// The front of the scope and the segments behind it.
     pub fn parts(&self) -> Parts<'_>
         ensures { result ≡ self.now }
     {
-        Parts::new(&self.scope.path().segs()[..self.front], self.own.as_slice())
+        Parts::of(&self.scope, self.front, self.own.as_slice())
+    }
+
+    /// Keeps so many first segments.
+    pub fn cut(&mut self, count: usize)
+        requires { count ≤ length self.old }
+        ensures { self.new ≡ take count self.old }
+    {
+        if count < self.front {
+            self.front = count;
+            self.own.truncate(0);
+        } else {
+            self.own.truncate(count - self.front);
+        }
+    }
+
+    /// Adds a segment at the end. Where memory is refused the path is as before.
+    pub fn push(&mut self, seg: Seg) -> Result<(), NoMemory>
+        ensures ok { OnOk result (self.new ≡ self.old ++ seg ∷ []) }
+        ensures err { OnErr result (self.new ≡ self.old) }
+    {
+        self.own.push(seg)?;
+        Ok(())
     }
 
     /// The path, which is made anew.

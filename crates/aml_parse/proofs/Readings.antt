@@ -2,6 +2,9 @@
 use Rattle.aml_parse.proofs.Common.{◌≡◌, ℕ, zero, suc, ◌-◌, List, [], ◌∷◌, length, Option, Some, None, Ok, Err, refl, sym, ap, ◌∙◌, arith, ◌≤◌, true, inl, inr}
 use Rattle.aml_parse.proofs.Common.{CodeFault, Seg, IsBytes, Position, Trees, encodings, Arities, StandsAt, Setting, AreTerms, setting_of, BodiesStand}
 use Rattle.aml_parse.proofs.Common.{ReadsBody, ReadsModule, no_arguments, read_on, whole, end_there, span_inside}
+use Rattle.std.specs.Prelude.{IfOk, IfErr}
+use Rattle.aml_names.specs.NameReading.{Gives}
+use Rattle.aml_parse.proofs.Common.{Result, ok_is, given_ok, given_err, ◌⊎◌}
 use Rattle.std.specs.FinSet as set
 use Rattle.aml_parse.specs.Reading.{terms_at, too_deep, read_at, all_at}
 use Rattle.aml_parse.proofs.FlatReads.{Answers, fails, made, at_offset}
@@ -59,6 +62,21 @@ module _ (arity : Arities) (method : List Seg) (code : List ℕ) (ts : Trees) wh
 
   pub body_again : ReadsBody arity method code ts → all_at arity (Some method) Position.BodyTerm code ≡ Ok ts
   body_again h = all_again arity (Some method) Position.BodyTerm code ts h.lawful h.spelled (inl refl)
+
+-- what is said of an answer that reading forward gives: it is a reading of the code, the only one, or there is none
+abbrev pub BodySaid : {X : Type 0} → (X → Trees) → Arities → List Seg → List ℕ → Result X CodeFault → Type 0
+BodySaid view arity method code r =
+    IfOk r (λ x. ReadsBody arity method code (view x)) × IfOk r (λ x. (ts : Trees) → ReadsBody arity method code ts → ts ≡ view x)
+    × IfErr r (λ f. (f ≡ CodeFault.NoMemory) ⊎ ((ts : Trees) → ReadsBody arity method code ts → ⊥)) × IfErr r (StandsAt arity code)
+
+pub body_said : {X : Type 0} (view : X → Trees) (arity : Arities) (method : List Seg) (code : List ℕ) (r : Result X CodeFault) → IsBytes code
+    → Gives view r (all_at arity (Some method) Position.BodyTerm code) → BodySaid view arity method code r
+body_said view arity method code r fits gives = (
+  given_ok view _ r _ gives (λ x e. body_sound arity method code (view x) fits e),
+  given_ok view _ r _ gives (λ x e ts h. ok_is ts (view x) (sym (body_again arity method code ts h) ∙ e)),
+  given_err view _ r _ gives (inl refl) (λ d e. inr (λ ts h. absurd (cc (body_again arity method code ts h, e)))),
+  given_err view _ r (StandsAt arity code) gives tt (λ d e. all_placed arity (Some method) Position.BodyTerm code d fits e),
+)
 
 pub module_sound : (code : List ℕ) (ts : Trees) → IsBytes code → all_at no_arguments None Position.ModuleTerm code ≡ Ok ts → ReadsModule code ts
 module_sound code ts fits e =

@@ -12,14 +12,15 @@ ghost use Rattle.aml_parse.specs.Reading.{all_at};
 use crate::parser::{MOST_LEVELS, Parser};
 use crate::room::without_room;
 use aml_code::{Arity, CodeFault, Locals, Node, Path, Position};
+use aml_names::Parts;
 use std::alloc::Global;
 
-/// The terms, and the fault that is met first.
-fn body_terms<A: Arity>(
+/// What `parse_body` answers, by the method's path in parts: the terms, and the fault that is met first.
+pub fn body_terms<A: Arity>(
     alloc: Global,
     code: &[u8],
     arity: &A,
-    scope: &Path,
+    scope: &Parts<'_>,
 ) -> Result<Vec<Node>, CodeFault>
     requires { length code.now < 2 ^ 32 }
     ensures { Gives (λ x. nodes_view x.items) result
@@ -65,5 +66,5 @@ pub fn parse_body<A: Arity>(
     ensures forward { Gives (λ nodes. nodes_view nodes.items) result
         (all_at (A.arity arity.now) (Some scope.now) Position.BodyTerm code.now) }
 {
-    body_terms(alloc, code, arity, scope)
+    body_terms(alloc, code, arity, &scope.parts())
 }

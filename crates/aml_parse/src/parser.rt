@@ -8,9 +8,10 @@ ghost use Rattle.aml_code.specs.View.{field_view, fields_view, parts_view, tail_
 ghost use Rattle.aml_parse.specs.Reading.{scope_of};
 
 use aml_code::{
-    Arity, CodeFault, Field, Locals, Name, NoMemory, Part, Path, Position, Role, Tail, front_of,
+    Arity, CodeFault, Field, Locals, Name, NoMemory, Part, Position, Role, Tail, front_of,
     last_name,
 };
+use aml_names::Parts;
 use std::alloc::Global;
 
 /// The most levels of terms inside each other.
@@ -22,7 +23,7 @@ pub const MOST_LEVELS: u16 = 512;
 pub struct Parser<'a, A> {
     pub alloc: Global,
     pub arity: &'a A,
-    pub scope: Option<&'a Path>,
+    pub scope: Option<&'a Parts<'a>>,
     pub levels: u16,
 }
 
@@ -77,7 +78,7 @@ impl<'a, A: Arity> Parser<'a, A> {
 }
 
 /// Adds the path of the last part that is a name.
-fn declare_last(scope: &Path, parts: &[Part], locals: &mut Locals) -> Result<(), NoMemory>
+fn declare_last(scope: &Parts<'_>, parts: &[Part], locals: &mut Locals) -> Result<(), NoMemory>
     ensures { OnOk result (locals.new ≡ with_names scope.now locals.old
         (option_to_list (last_label None (parts_view parts.now)))) }
 {
@@ -88,7 +89,7 @@ fn declare_last(scope: &Path, parts: &[Part], locals: &mut Locals) -> Result<(),
 }
 
 /// Adds the path of a name, if there is one.
-fn declare_name(scope: &Path, name: &Name, locals: &mut Locals) -> Result<(), NoMemory>
+fn declare_name(scope: &Parts<'_>, name: &Name, locals: &mut Locals) -> Result<(), NoMemory>
     ensures { OnOk result (locals.new ≡ with_path locals.old (placed scope.now name.now)) }
 {
     match front_of(scope, name) {
@@ -98,7 +99,7 @@ fn declare_name(scope: &Path, name: &Name, locals: &mut Locals) -> Result<(), No
 }
 
 /// Adds the paths of the named units of a field list.
-fn declare_units(scope: &Path, tail: &Tail, locals: &mut Locals) -> Result<(), NoMemory>
+fn declare_units(scope: &Parts<'_>, tail: &Tail, locals: &mut Locals) -> Result<(), NoMemory>
     ensures { OnOk result (locals.new ≡ with_names scope.now locals.old (field_names (tail_view tail.now))) }
 {
     match tail {
@@ -107,7 +108,7 @@ fn declare_units(scope: &Path, tail: &Tail, locals: &mut Locals) -> Result<(), N
     }
 }
 
-fn declare_fields(scope: &Path, fields: &[Field], locals: &mut Locals) -> Result<(), NoMemory>
+fn declare_fields(scope: &Parts<'_>, fields: &[Field], locals: &mut Locals) -> Result<(), NoMemory>
     ensures { OnOk result (locals.new ≡ with_names scope.now locals.old (unit_names (fields_view fields.now))) }
 {
     for field in fields {
@@ -117,12 +118,12 @@ fn declare_fields(scope: &Path, fields: &[Field], locals: &mut Locals) -> Result
 }
 
 /// Adds the path of a named unit.
-fn declare_field(scope: &Path, field: &Field, locals: &mut Locals) -> Result<(), NoMemory>
+fn declare_field(scope: &Parts<'_>, field: &Field, locals: &mut Locals) -> Result<(), NoMemory>
     ensures { OnOk result (locals.new ≡ with_names scope.now locals.old
         (unit_names (field_more (field_view field.now) no_fields))) }
 {
     match field {
-        Field::NamedUnit { seg, .. } => locals.push_below(scope, scope.segs().len(), &[*seg]),
+        Field::NamedUnit { seg, .. } => locals.push_below(scope, scope.len(), &[*seg]),
         _ => Ok(()),
     }
 }

@@ -59,20 +59,20 @@ AreSettled ns settled = (i : ℕ) → IfSome (slice_get settled i) (λ s. (path 
 
 -- a level of a scope: a front of its path, and the node to which this leads
 pub record IsLevel (s : Scope) (l : Level) : Type 0 where
-  pub within : l.depth ≤ length s.path.now
-  pub led : walk (kids_of s.nodes.now) 0 (take l.depth s.path.now) ≡ Some l.node
+  pub within : l.depth ≤ length s.path
+  pub led : walk (kids_of s.nodes.now) 0 (take l.depth s.path) ≡ Some l.node
 
 -- behind the last level of a scope the index has no nodes
 pub record IsScope (s : Scope) : Type 0 where
   pub index : IsIndex s.nodes.now
   pub settled : AreSettled s.nodes.now s.settled.now
   pub last : IsLevel s s.last
-  pub past : (d : ℕ) → s.last.depth < d → d ≤ length s.path.now → walk (kids_of s.nodes.now) 0 (take d s.path.now) ≡ None
+  pub past : (d : ℕ) → s.last.depth < d → d ≤ length s.path → walk (kids_of s.nodes.now) 0 (take d s.path) ≡ None
 
 -- the next level to be asked, from a depth up
 pub record IsNextFrom (s : Scope) (from : ℕ) (l : Level) : Type 0 where
   pub level : IsLevel s l
-  pub next : IsNext (names_of s) s.path.now from l.depth
+  pub next : IsNext (names_of s) s.path from l.depth
 
 -- the path of a candidate
 abbrev pub path_at : List Seg → List Seg → Candidate → List Seg

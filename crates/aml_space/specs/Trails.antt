@@ -9,8 +9,8 @@ use Rattle.aml_space.specs.Nodes.{walk, kids_of, known_by, IsIndex}
 
 -- each front of a way leads to the node that stands beside its last segment
 pub record IsTrail (ns : List Node) (t : Trail) : Type 0 where
-  pub even : length t.nodes.items ≡ length t.segs.items
-  pub led : (d : ℕ) → IfSome (slice_get t.nodes.items d) (λ at. walk (kids_of ns) 0 (take (d + 1) t.segs.items) ≡ Some at)
+  pub even : length t.nodes.items ≡ length t.way
+  pub led : (d : ℕ) → IfSome (slice_get t.nodes.items d) (λ at. walk (kids_of ns) 0 (take (d + 1) t.way) ≡ Some at)
 
 -- nodes with the number of the paths that are declared, the way to one of the paths, and where searches go on
 pub record IsSpace (ns : List Node) (many : ℕ) (t : Trail) (kept : List Settled) : Type 0 where

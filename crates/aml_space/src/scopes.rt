@@ -37,7 +37,7 @@ pub(crate) struct Scope<'a> {
     /// Where the search goes on from each node, if this is kept.
     pub settled: &'a [Settled],
     pub predefined: &'a Predefined,
-    pub path: &'a Path,
+    pub path: Parts<'a>,
     /// The last level of the path that stands in the index.
     pub last: Level,
 }
@@ -68,16 +68,16 @@ impl<'a> Scope<'a> {
         settled: &'a [Settled],
         predefined: &'a Predefined,
         trail: &Trail,
-        path: &'a Path,
+        path: Parts<'a>,
     ) -> Scope<'a>
         requires index { IsIndex nodes.now }
         requires settled { AreSettled nodes.now settled.now }
         requires trail { IsTrail nodes.now trail.now }
         ensures scope { IsScope result }
         ensures nodes { result.nodes.now ≡ nodes.now }
-        ensures path { result.path.now ≡ path.now }
+        ensures path { result.path ≡ path.entry }
     {
-        let reach = reach_along(nodes, trail, &path.parts());
+        let reach = reach_along(nodes, trail, &path);
         Scope {
             nodes,
             settled,
@@ -147,7 +147,7 @@ impl<'a> Scope<'a> {
     /// The first level that has to be asked, from the scope up.
     fn first_asked(&self) -> Level
         requires { IsScope self.now }
-        ensures { IsNextFrom self.now (length self.now.path.now) result }
+        ensures { IsNextFrom self.now (length self.now.path) result }
     {
         self.next_asked(self.last)
     }
@@ -173,13 +173,13 @@ impl<'a> Scope<'a> {
     ) -> Result<Option<Candidate>, NoMemory>
         requires scope { IsScope self.now }
         requires one { length segment.now ≡ 1 }
-        ensures found { IfOk result (λ met. option_map (path_at self.now.path.now segment.now) met
+        ensures found { IfOk result (λ met. option_map (path_at self.now.path segment.now) met
             ≡ first_of (names_of self.now) locals.now
-            (upward (length self.now.path.now) self.now.path.now segment.now)) }
+            (upward (length self.now.path) self.now.path segment.now)) }
         ensures met { IfOk result
-            (λ met. IfSome met (IsCandidate self.now.nodes.now locals.now self.now.path.now segment.now)) }
+            (λ met. IfSome met (IsCandidate self.now.nodes.now locals.now self.now.path segment.now)) }
     {
-        let nearest = locals.nearest(alloc, self.path, segment[0])?;
+        let nearest = locals.nearest(alloc, &self.path, segment[0])?;
         let mut outside: Option<Candidate> = None;
         let mut level = self.first_asked();
         'levels: loop {
@@ -211,7 +211,7 @@ impl<'a> Scope<'a> {
         requires scope { IsScope self.now }
         requires level { IsLevel self.now level }
         requires one { length segment.now ≡ 1 }
-        ensures node { result ≡ walk (kids_of self.now.nodes.now) 0 (take level.depth self.now.path.now
+        ensures node { result ≡ walk (kids_of self.now.nodes.now) 0 (take level.depth self.now.path
             ++ segment.now) }
         ensures inside { IfSome result (λ at. at < length self.now.nodes.now) }
     {
@@ -223,10 +223,10 @@ impl<'a> Scope<'a> {
     pub(crate) fn lead(&self, alloc: Global, segment: &[Seg]) -> Result<Option<Candidate>, NoMemory>
         requires scope { IsScope self.now }
         requires one { length segment.now ≡ 1 }
-        ensures led { IfOk result (λ met. option_map (path_at self.now.path.now segment.now) met
+        ensures led { IfOk result (λ met. option_map (path_at self.now.path segment.now) met
             ≡ agreed_among (outlook_at self.now)
-            (upward (length self.now.path.now) self.now.path.now segment.now)) }
-        ensures within { IfOk result (λ met. IfSome met (λ c. c.depth ≤ length self.now.path.now)) }
+            (upward (length self.now.path) self.now.path segment.now)) }
+        ensures within { IfOk result (λ met. IfSome met (λ c. c.depth ≤ length self.now.path)) }
     {
         let locals = Locals::new(alloc);
         match self.search(alloc, &locals, segment)? {
@@ -245,12 +245,12 @@ impl<'a> Scope<'a> {
     fn may_lead_further(&self, segment: &[Seg], here: Candidate) -> bool
         requires scope { IsScope self.now }
         requires one { length segment.now ≡ 1 }
-        requires within { here.depth ≤ length self.now.path.now }
-        requires node { here.node ≡ walk (kids_of self.now.nodes.now) 0 (take here.depth self.now.path.now
+        requires within { here.depth ≤ length self.now.path }
+        requires node { here.node ≡ walk (kids_of self.now.nodes.now) 0 (take here.depth self.now.path
             ++ segment.now) }
-        ensures { let path = take here.depth self.now.path.now ++ segment.now in result
+        ensures { let path = take here.depth self.now.path ++ segment.now in result
             ≡ (is_some (kind_of_path (names_of self.now) path) && (not ((outlook_at self.now).sure path)
-            && is_some (find (is_known (names_of self.now)) (above self.now.path.now segment.now here.depth)))) }
+            && is_some (find (is_known (names_of self.now)) (above self.now.path segment.now here.depth)))) }
     {
         self.has_kind(segment, here)
             && !self.is_sure(segment, here)
@@ -261,11 +261,11 @@ impl<'a> Scope<'a> {
     fn has_kind(&self, segment: &[Seg], here: Candidate) -> bool
         requires scope { IsScope self.now }
         requires one { length segment.now ≡ 1 }
-        requires within { here.depth ≤ length self.now.path.now }
-        requires node { here.node ≡ walk (kids_of self.now.nodes.now) 0 (take here.depth self.now.path.now
+        requires within { here.depth ≤ length self.now.path }
+        requires node { here.node ≡ walk (kids_of self.now.nodes.now) 0 (take here.depth self.now.path
             ++ segment.now) }
         ensures { result
-            ≡ is_some (kind_of_path (names_of self.now) (take here.depth self.now.path.now ++ segment.now)) }
+            ≡ is_some (kind_of_path (names_of self.now) (take here.depth self.now.path ++ segment.now)) }
     {
         kind_met(self.nodes, here.node, self.standing(segment, here.depth)).is_some()
     }
@@ -274,7 +274,7 @@ impl<'a> Scope<'a> {
     fn asked_below(&self, depth: usize) -> Level
         requires scope { IsScope self.now }
         requires deep { 0 < depth }
-        requires within { depth ≤ length self.now.path.now }
+        requires within { depth ≤ length self.now.path }
         ensures { IsNextFrom self.now (depth - 1) result }
     {
         let mut level = self.first_asked();
@@ -288,9 +288,9 @@ impl<'a> Scope<'a> {
     fn is_known_above(&self, segment: &[Seg], below: usize) -> bool
         requires scope { IsScope self.now }
         requires one { length segment.now ≡ 1 }
-        requires within { below ≤ length self.now.path.now }
+        requires within { below ≤ length self.now.path }
         ensures { result
-            ≡ is_some (find (is_known (names_of self.now)) (above self.now.path.now segment.now below)) }
+            ≡ is_some (find (is_known (names_of self.now)) (above self.now.path segment.now below)) }
     {
         if below == 0 {
             return false;
@@ -312,7 +312,7 @@ impl<'a> Scope<'a> {
         requires scope { IsScope self.now }
         requires level { IsLevel self.now level }
         requires one { length segment.now ≡ 1 }
-        ensures { result ≡ is_known (names_of self.now) (take level.depth self.now.path.now ++ segment.now) }
+        ensures { result ≡ is_known (names_of self.now) (take level.depth self.now.path ++ segment.now) }
     {
         let node = self.node_at(segment, level);
         let here = Candidate {
@@ -326,8 +326,8 @@ impl<'a> Scope<'a> {
     /// The node of a front of the path, if it stands in the index.
     fn front_node(&self, depth: usize) -> Option<usize>
         requires scope { IsScope self.now }
-        requires within { depth ≤ length self.now.path.now }
-        ensures { result ≡ walk (kids_of self.now.nodes.now) 0 (take depth self.now.path.now) }
+        requires within { depth ≤ length self.now.path }
+        ensures { result ≡ walk (kids_of self.now.nodes.now) 0 (take depth self.now.path) }
     {
         // Names from the root on may stand far below it.
         if depth == 0 {
@@ -346,8 +346,8 @@ impl<'a> Scope<'a> {
     /// The node of some segments behind a front of the scope's path.
     pub(crate) fn node_below(&self, depth: usize, segs: &[Seg]) -> Option<usize>
         requires scope { IsScope self.now }
-        requires within { depth ≤ length self.now.path.now }
-        ensures node { result ≡ walk (kids_of self.now.nodes.now) 0 (take depth self.now.path.now ++ segs.now) }
+        requires within { depth ≤ length self.now.path }
+        ensures node { result ≡ walk (kids_of self.now.nodes.now) 0 (take depth self.now.path ++ segs.now) }
         ensures inside { IfSome result (λ at. at < length self.now.nodes.now) }
     {
         let front = self.front_node(depth)?;
@@ -357,8 +357,8 @@ impl<'a> Scope<'a> {
     /// The predefined kind of a candidate.
     fn standing(&self, segment: &[Seg], depth: usize) -> Option<&Kind>
         requires one { length segment.now ≡ 1 }
-        requires within { depth ≤ length self.now.path.now }
-        ensures { option_copied result ≡ predefined (take depth self.now.path.now ++ segment.now) }
+        requires within { depth ≤ length self.now.path }
+        ensures { option_copied result ≡ predefined (take depth self.now.path ++ segment.now) }
     {
         if depth == 0 {
             self.predefined.kind(segment)
@@ -369,11 +369,16 @@ impl<'a> Scope<'a> {
 
     /// The predefined kind of some segments behind a front of the scope's path.
     pub(crate) fn standing_below(&self, depth: usize, segs: &[Seg]) -> Option<&Kind>
-        requires { depth ≤ length self.now.path.now }
-        ensures { option_copied result ≡ predefined (take depth self.now.path.now ++ segs.now) }
+        requires { depth ≤ length self.now.path }
+        ensures { option_copied result ≡ predefined (take depth self.now.path ++ segs.now) }
     {
-        let path = Parts::new(&self.path.segs()[..depth], segs);
-        self.predefined.kind_of(&path)
+        if depth == 0 {
+            return self.predefined.kind(segs);
+        }
+        if segs.is_empty() {
+            return self.predefined.kind_of(&self.path.first(depth));
+        }
+        None
     }
 
     /// The first candidate that an External names, from what was met so far and one more.
@@ -399,12 +404,12 @@ impl<'a> Scope<'a> {
     pub(crate) fn count(&self, segment: &[Seg], here: Candidate) -> Option<u8>
         requires scope { IsScope self.now }
         requires one { length segment.now ≡ 1 }
-        requires within { here.depth ≤ length self.now.path.now }
+        requires within { here.depth ≤ length self.now.path }
         requires node { here.local ≡ false → here.node
-            ≡ walk (kids_of self.now.nodes.now) 0 (take here.depth self.now.path.now ++ segment.now) }
+            ≡ walk (kids_of self.now.nodes.now) 0 (take here.depth self.now.path ++ segment.now) }
         ensures { result
             ≡ cond here.local (Some 0)
-            (count_at (names_of self.now) (take here.depth self.now.path.now ++ segment.now)) }
+            (count_at (names_of self.now) (take here.depth self.now.path ++ segment.now)) }
     {
         if here.local {
             return Some(0);
@@ -428,9 +433,9 @@ impl<'a> Scope<'a> {
         requires scope { IsScope self.now }
         requires one { length segment.now ≡ 1 }
         ensures { IfOk result (λ counts. counts ≡ counts_in (met (outlook_at self.now) locals.now
-            (upward (length self.now.path.now) self.now.path.now segment.now))) }
+            (upward (length self.now.path) self.now.path segment.now))) }
     {
-        let nearest = locals.nearest(alloc, self.path, segment[0])?;
+        let nearest = locals.nearest(alloc, &self.path, segment[0])?;
         let mut counts = Counts::Nothing;
         let mut level = self.first_asked();
         'levels: loop {
@@ -455,8 +460,8 @@ impl<'a> Scope<'a> {
         requires level { IsLevel self.now level }
         requires one { length segment.now ≡ 1 }
         ensures counts { result.0
-            ≡ counts_in (counts_of (outlook_at self.now) (take level.depth self.now.path.now ++ segment.now)) }
-        ensures sure { result.1 ≡ (outlook_at self.now).sure (take level.depth self.now.path.now ++ segment.now) }
+            ≡ counts_in (counts_of (outlook_at self.now) (take level.depth self.now.path ++ segment.now)) }
+        ensures sure { result.1 ≡ (outlook_at self.now).sure (take level.depth self.now.path ++ segment.now) }
     {
         let node = self.node_at(segment, level);
         let standing = self.standing(segment, level.depth);
@@ -468,10 +473,10 @@ impl<'a> Scope<'a> {
     fn is_sure(&self, segment: &[Seg], here: Candidate) -> bool
         requires scope { IsScope self.now }
         requires one { length segment.now ≡ 1 }
-        requires within { here.depth ≤ length self.now.path.now }
-        requires node { here.node ≡ walk (kids_of self.now.nodes.now) 0 (take here.depth self.now.path.now
+        requires within { here.depth ≤ length self.now.path }
+        requires node { here.node ≡ walk (kids_of self.now.nodes.now) 0 (take here.depth self.now.path
             ++ segment.now) }
-        ensures { result ≡ (outlook_at self.now).sure (take here.depth self.now.path.now ++ segment.now) }
+        ensures { result ≡ (outlook_at self.now).sure (take here.depth self.now.path ++ segment.now) }
     {
         sure_met(self.nodes, here.node, self.standing(segment, here.depth))
     }
@@ -481,7 +486,7 @@ impl<'a> Scope<'a> {
         requires scope { IsScope self.now }
         requires one { length segment.now ≡ 1 }
         ensures { result ≡ first_given (names_of self.now)
-            (upward (length self.now.path.now) self.now.path.now segment.now) }
+            (upward (length self.now.path) self.now.path segment.now) }
     {
         let mut level = self.first_asked();
         'levels: loop {
@@ -503,13 +508,13 @@ impl<'a> Scope<'a> {
         segment: &[Seg],
         met: Option<Candidate>,
     ) -> Result<Option<Path>, NoMemory>
-        requires { IfSome met (λ c. c.depth ≤ length self.now.path.now) }
-        ensures { IfOk result (λ path. path ≡ option_map (path_at self.now.path.now segment.now) met) }
+        requires { IfSome met (λ c. c.depth ≤ length self.now.path) }
+        ensures { IfOk result (λ path. path ≡ option_map (path_at self.now.path segment.now) met) }
     {
         match met {
             None => Ok(None),
             Some(here) => {
-                let path = Path::below(alloc, &self.path.segs()[..here.depth], segment)?;
+                let path = self.path.first(here.depth).below(alloc, segment)?;
                 Ok(Some(path))
             }
         }

@@ -26,7 +26,7 @@ use crate::scopes::Scope;
 use crate::settling::{Settled, settled_of};
 use crate::trails::{Trail, deepest, node_along};
 use crate::walking::{kind_at, out_at, walk_counted};
-use aml_names::{NoMemory, Parts, Path, Seg};
+use aml_names::{NoMemory, Parts, Path, Seg, SharedPath};
 use std::alloc::{AllocError, Global};
 use std::marker::Model;
 
@@ -78,12 +78,13 @@ impl Space {
     {
         let mut nodes = Vec::new(alloc);
         nodes.push(Node::empty(0, Seg::default()))?;
+        let trail = Trail::new(alloc)?;
         Ok(Space {
             alloc,
             nodes,
             predefined: Predefined::new(),
             rows: 0,
-            trail: Trail::new(alloc),
+            trail,
             settled: Vec::new(alloc),
         })
     }
@@ -122,7 +123,7 @@ impl Space {
             (cond put (es ++ declares path.now kind body surely ∷ []) es)) }
     {
         self.settled.clear();
-        let reach = deepest(self.nodes.as_slice(), &mut self.trail, path);
+        let reach = deepest(self.alloc, self.nodes.as_slice(), &mut self.trail, path);
         if is_taken(self.nodes.as_slice(), path, reach) {
             return Ok(false);
         }
@@ -167,7 +168,7 @@ impl Space {
         if self.rows == usize::MAX {
             return Err(AllocError);
         }
-        let reach = deepest(self.nodes.as_slice(), &mut self.trail, path);
+        let reach = deepest(self.alloc, self.nodes.as_slice(), &mut self.trail, path);
         declare_first(
             self.alloc,
             &mut self.nodes,
@@ -218,6 +219,15 @@ impl Space {
         let at = make_node(self.alloc, &mut self.nodes, &mut self.trail, &path)?;
         set_given(&mut self.nodes, at, count);
         Ok(())
+    }
+
+    /// Goes along a scope in which names are declared or looked for next, so that each of them is found soon. What is known
+    /// stays the same.
+    pub fn go_along(&mut self, scope: &SharedPath)
+        ensures { self.new ≡ self.old }
+    {
+        let scope = scope.parts();
+        deepest(self.alloc, self.nodes.as_slice(), &mut self.trail, &scope);
     }
 
     /// Finds out where the search for a segment goes on from each node, so that names cost the depths alone at which
@@ -323,10 +333,10 @@ impl Space {
     }
 
     /// A scope of the space.
-    pub(crate) fn scope<'a>(&'a self, path: &'a Path) -> Scope<'a>
+    pub(crate) fn scope<'a>(&'a self, path: Parts<'a>) -> Scope<'a>
         ensures scope { IsScope result }
         ensures known { known_by result.nodes.now ≡ self.now }
-        ensures path { result.path.now ≡ path.now }
+        ensures path { result.path ≡ path.entry }
     {
         Scope::new(
             self.nodes.as_slice(),

@@ -1,5 +1,5 @@
 //! The way to the path that was looked for last.
-ghost use Rattle.std.specs.Prelude.{◌≡◌, ◌<◌, ◌≤◌, ◌++◌, ◌∷◌, ◌⊎◌, [], List, Some, length, take, IfSome};
+ghost use Rattle.std.specs.Prelude.{◌≡◌, ◌<◌, ◌≤◌, ◌++◌, ◌∷◌, ◌⊎◌, [], List, Some, length, take, IfOk, IfSome};
 ghost use Rattle.aml_space.specs.declared.nodes.Node.{Node as AnyNode};
 ghost use Rattle.aml_space.specs.Nodes.{walk, kids_of, IsShape, Reaches};
 ghost use Rattle.aml_space.specs.Trails.{IsTrail};
@@ -7,7 +7,7 @@ ghost use Rattle.aml_space.specs.Trails.{IsTrail};
 use crate::growing::Reach;
 use crate::nodes::Node;
 use crate::walking::child;
-use aml_names::{Parts, Seg};
+use aml_names::{NoMemory, Parts, Path, ScopedPath, Seg};
 use std::alloc::Global;
 
 /// The segments of a path, and the node to which the path leads with each. Another path that begins alike is followed
@@ -15,20 +15,20 @@ use std::alloc::Global;
 /// walk from node to node.
 #[derive(Drop)]
 pub(crate) struct Trail {
-    pub segs: Vec<Seg>,
+    pub way: ScopedPath,
     pub nodes: Vec<usize>,
 }
 
 impl Trail {
     /// That of the root.
-    pub(crate) fn new(alloc: Global) -> Trail
-        ensures segs { result.segs.items ≡ [] }
-        ensures nodes { result.nodes.items ≡ [] }
+    pub(crate) fn new(alloc: Global) -> Result<Trail, NoMemory>
+        ensures way { IfOk result (λ trail. trail.way ≡ []) }
+        ensures nodes { IfOk result (λ trail. trail.nodes.items ≡ []) }
     {
-        Trail {
-            segs: Vec::new(alloc),
+        Ok(Trail {
+            way: ScopedPath::whole(alloc, Path::root(alloc))?,
             nodes: Vec::new(alloc),
-        }
+        })
     }
 }
 
@@ -36,7 +36,7 @@ impl Trail {
 fn node_at(trail: &Trail, depth: usize) -> usize
     requires { depth ≤ length trail.now.nodes.items }
     ensures { (nodes : List AnyNode) → IsTrail nodes trail.now →
-        walk (kids_of nodes) 0 (take depth trail.now.segs.items) ≡ Some result }
+        walk (kids_of nodes) 0 (take depth trail.now.way) ≡ Some result }
 {
     if depth == 0 {
         0
@@ -51,7 +51,7 @@ pub(crate) fn reach_along(nodes: &[Node], trail: &Trail, path: &Parts<'_>) -> Re
     requires trail { IsTrail nodes.now trail.now }
     ensures { Reaches nodes.now path.now result }
 {
-    let known = path.common(trail.segs.as_slice());
+    let known = path.common(&trail.way.parts());
     let mut reach = Reach {
         node: node_at(trail, known),
         known,
@@ -86,16 +86,15 @@ pub(crate) fn node_along(nodes: &[Node], trail: &Trail, path: &Parts<'_>) -> Opt
 }
 
 /// How far a path leads. The trail is along its front that stands there, as far as there is memory for it.
-pub(crate) fn deepest(nodes: &[Node], trail: &mut Trail, path: &Parts<'_>) -> Reach
+pub(crate) fn deepest(alloc: Global, nodes: &[Node], trail: &mut Trail, path: &Parts<'_>) -> Reach
     requires shape { IsShape nodes.now }
     requires trail { IsTrail nodes.now trail.old }
     ensures reach { Reaches nodes.now path.now result }
     ensures trail { IsTrail nodes.now trail.new }
 {
-    let mut known = path.common(trail.segs.as_slice());
+    let mut known = path.common(&trail.way.parts());
     let mut at = node_at(trail, known);
-    trail.segs.truncate(known);
-    trail.nodes.truncate(known);
+    shorten(alloc, trail, path, known);
     while known < path.len() {
         let seg = path.segment(known);
         match child(nodes, at, seg) {
@@ -110,17 +109,33 @@ pub(crate) fn deepest(nodes: &[Node], trail: &mut Trail, path: &Parts<'_>) -> Re
     Reach { node: at, known }
 }
 
+/// Keeps so many first segments, with which a path begins too: by the path's scope, where this has several owners, so that
+/// the next path of the scope is compared with the same memory.
+fn shorten(alloc: Global, trail: &mut Trail, path: &Parts<'_>, known: usize)
+    requires trail { known ≤ length trail.old.way }
+    requires path { known ≤ length path.now }
+    requires same { take known path.now ≡ take known trail.old.way }
+    ensures way { trail.new.way ≡ take known trail.old.way }
+    ensures nodes { trail.new.nodes.items ≡ take known trail.old.nodes.items }
+{
+    match path.first(known).shared(alloc) {
+        Ok(Some(way)) => trail.way = way,
+        _ => trail.way.cut(known),
+    }
+    trail.nodes.truncate(known);
+}
+
 /// One segment more behind so many. Where there is no memory for it, or was none for one before it, the trail stays as
 /// it is.
 fn follow(trail: &mut Trail, known: usize, seg: Seg, node: usize)
-    ensures { ((trail.new.segs.items ≡ trail.old.segs.items) × (trail.new.nodes.items ≡ trail.old.nodes.items))
-        ⊎ ((length trail.old.segs.items ≡ known) × (trail.new.segs.items ≡ trail.old.segs.items ++ seg ∷ [])
+    ensures { ((trail.new.way ≡ trail.old.way) × (trail.new.nodes.items ≡ trail.old.nodes.items))
+        ⊎ ((length trail.old.nodes.items ≡ known) × (trail.new.way ≡ trail.old.way ++ seg ∷ [])
         × (trail.new.nodes.items ≡ trail.old.nodes.items ++ node ∷ [])) }
 {
-    if trail.segs.len() == known
-        && trail.segs.push(seg).is_ok()
-        && trail.nodes.push(node).is_err()
+    if trail.nodes.len() == known
+        && trail.nodes.push(node).is_ok()
+        && trail.way.push(seg).is_err()
     {
-        trail.segs.pop();
+        trail.nodes.pop();
     }
 }

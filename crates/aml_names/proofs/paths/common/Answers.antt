@@ -1,16 +1,13 @@
-use Rattle.std.proofs.Common.{◌≡◌, ℕ, ◌+◌, ◌<◌, List, ◌∷◌, ◌++◌, [], true, get_or, length, take, drop, sym, ap, ◌∙◌, arith}
+use Rattle.std.proofs.Common.{◌≡◌, ◌<◌, ◌∷◌, ◌++◌, [], true, get_or, length, take, inl, inr, sym, ap, ◌∙◌, arith}
 use Rattle.std.specs.Ordering.{eq_by_cmp, is_eq}
-use Rattle.std.proofs.lemmas.List.{take_more, take_rest, take-append-drop, take-take, drop-take}
-use Rattle.std.proofs.lemmas.Bool.{false≢true}
+use Rattle.std.proofs.lemmas.List.{take_more, take_rest, get_or-take}
+use Rattle.std.proofs.lemmas.Bool.{cases_lt, false≢true}
 use Rattle.std.specs.Cmp.{tied_itself}
 use Rattle.std.proofs.lemmas.Map.Views.{tells_apart}
 use Rattle.aml_names.specs.declared.segments.Seg.{Seg}
 use Rattle.aml_names.specs.Paths.{seg_cmp, exact_segs, segs_total}
+use Rattle.aml_names.proofs.PartLaws.{take_on}
 use Rattle.aml_names.proofs.paths.common.Goals as goal
-
--- a longer front
-take_on : (k n : ℕ) (xs : List Seg) → take (k + n) xs ≡ take k xs ++ take n (drop k xs)
-take_on k n xs = sym (take-append-drop k (take (k + n) xs)) ∙ (λ i. take-take k (k + n) xs (omega arith) i ++ drop-take k n xs i)
 
 pub loop-known-preserved : goal.loop-known-preserved
 loop-known-preserved c =
@@ -37,11 +34,16 @@ loop-known-2-preserved c =
           ∙ sym (take_more others k e inside);
     }
 
-pub returns-else-is_eq-clause-whole : goal.returns-else-is_eq-clause-whole
-returns-else-is_eq-clause-whole c = λ same.
+pub returns-else-is_eq-clause-most : goal.returns-else-is_eq-clause-most
+returns-else-is_eq-clause-most c n a b same =
     let k = c.loop-known-2.known in
     let e : Seg = record { 0 = [] } in
     let here = get_or c.args.some.now k e in
-    let tied : eq_by_cmp seg_cmp here (get_or c.args.others.now k e) ≡ true =
-    ap (λ qs. eq_by_cmp seg_cmp here (get_or qs k e)) (sym same) ∙ ap is_eq (tied_itself segs_total here) in
-    absurd (false≢true (sym (ap is_eq (sym c.in_order.ensures) ∙ sym c.is_eq.ensures ∙ c.if-is_eq.false) ∙ tied))
+    elim (cases_lt k n) [
+      | inl less ↦
+          let tied : eq_by_cmp seg_cmp here (get_or c.args.others.now k e) ≡ true =
+          ap (eq_by_cmp seg_cmp here) (sym (get_or-take n c.args.others.now k e less) ∙ ap (λ qs. get_or qs k e) (sym same) ∙ get_or-take n c.args.some.now k e less)
+          ∙ ap is_eq (tied_itself segs_total here) in
+          absurd (false≢true (sym (ap is_eq (sym c.in_order.ensures) ∙ sym c.is_eq.ensures ∙ c.if-is_eq.false) ∙ tied))
+      | inr few ↦ few
+    ]

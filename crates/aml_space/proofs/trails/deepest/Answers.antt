@@ -12,16 +12,16 @@ loop-known-init c =
     let ns = c.args.nodes.now in
     let k = c.common-known.result in
     let t = c.args.trail.now in
-    let same : take k t.segs.items ≡ take k c.args.path.now = ap (take k) (sym c.as_slice.ensures.value) ∙ sym c.common-known.ensures.same in
+    let same : take k t.way ≡ take k c.args.path.now = ap (take k) (sym c.parts.ensures) ∙ sym c.common-known.ensures.same in
     let led : walk (kids_of ns) 0 (take k c.args.path.now) ≡ Some c.node_at-at.result =
     ap (walk (kids_of ns) 0) (sym same) ∙ c.node_at-at.ensures ns c.requires.trail in
     record {
       led = led;
       inside = node_range c.requires.shape (take k c.args.path.now) c.node_at-at.result led;
       within = c.common-known.ensures.own;
-      trail = front_trail ns t _ k c.truncate.ensures.items c.truncate-2.ensures.items c.requires.trail;
-      few = omega (arith, ap length c.truncate.ensures.items, length-take k t.segs.items);
-      same = λ long. c.truncate.ensures.items ∙ same;
+      trail = front_trail ns t _ k c.shorten.ensures.way c.shorten.ensures.nodes c.requires.trail;
+      few = omega (arith, ap length c.shorten.ensures.way, length-take k t.way);
+      same = λ long. c.shorten.ensures.way ∙ same;
     }
 
 pub loop-known-preserved : goal.loop-known-preserved
@@ -38,7 +38,7 @@ loop-known-preserved c =
     let found : child_in (kids_of ns c.loop-known.at) there ≡ Some c.in-Some.next =
     ap (child_in (kids_of ns c.loop-known.at)) (sym c.segment-seg.ensures) ∙ sym c.child.ensures ∙ c.in-Some.is in
     let led = led_more (kids_of ns) c.loop-known.at k path (record { 0 = [] }) (Some c.in-Some.next) inside inv.led found in
-    let next : length t.segs.items ≡ k → t.segs.items ++ seg ∷ [] ≡ take (k + 1) path = λ long.
+    let next : length t.way ≡ k → t.way ++ seg ∷ [] ≡ take (k + 1) path = λ long.
     ap (λ (q : List Seg). q ++ seg ∷ []) (inv.same long) ∙ ap (λ (s : Seg). take k path ++ s ∷ []) c.segment-seg.ensures
     ∙ sym (take_more path k (record { 0 = [] }) inside) in
     record {
@@ -47,14 +47,14 @@ loop-known-preserved c =
       within = omega (arith, inside);
       trail = elim c.follow.ensures [
         | inl same ↦ same_trail ns t new same.0 same.1 inv.trail
-        | inr w ↦ longer_trail ns t new seg c.in-Some.next w.1 w.2 inv.trail (ap (walk (kids_of ns) 0) (next w.0) ∙ led)
+        | inr w ↦ longer_trail ns t new seg c.in-Some.next w.1 w.2 inv.trail (ap (walk (kids_of ns) 0) (next (sym inv.trail.even ∙ w.0)) ∙ led)
       ];
       few = elim c.follow.ensures [
         | inl same ↦ omega (arith, ap length same.0, inv.few)
-        | inr w ↦ omega (arith, ap length w.1, length-append t.segs.items (seg ∷ []), w.0)
+        | inr w ↦ omega (arith, ap length w.1, length-append t.way (seg ∷ []), inv.trail.even, w.0)
       ];
       same = λ long. elim c.follow.ensures [
         | inl same ↦ absurd (omega (arith, ap length same.0, inv.few, long))
-        | inr w ↦ w.1 ∙ next w.0
+        | inr w ↦ w.1 ∙ next (sym inv.trail.even ∙ w.0)
       ];
     }

@@ -9,8 +9,8 @@ invariant-loop-known l = record {
   inside : l.at < length l.nodes;
   within : l.known ≤ length l.path;
   trail : IsTrail l.nodes l.trail;
-  few : length l.trail.segs.items ≤ l.known;
-  same : length l.trail.segs.items ≡ l.known → l.trail.segs.items ≡ take l.known l.path;
+  few : length l.trail.way ≤ l.known;
+  same : length l.trail.way ≡ l.known → l.trail.way ≡ take l.known l.path;
 }
 
 abbrev pub decreases-loop-known : goal.decreases-loop-known

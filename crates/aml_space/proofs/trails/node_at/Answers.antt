@@ -11,5 +11,5 @@ returns-else-depth-eq0 c nodes is =
     let next : last + 1 ≡ c.args.depth = omega (arith, c.if-depth-eq0.false) in
     let at : slice_get t.nodes.items last ≡ Some c.index.result.now =
     slice_get-get_or t.nodes.items last c.index.result.now (omega (arith, next, c.requires)) ∙ ap (λ n. Some n) (sym c.index.ensures) in
-    ap (λ n. walk (kids_of nodes) 0 (take n t.segs.items)) (sym next)
-    ∙ subst (λ o. IfSome o (λ at. walk (kids_of nodes) 0 (take (last + 1) t.segs.items) ≡ Some at)) at (is.led last)
+    ap (λ n. walk (kids_of nodes) 0 (take n t.way)) (sym next)
+    ∙ subst (λ o. IfSome o (λ at. walk (kids_of nodes) 0 (take (last + 1) t.way) ≡ Some at)) at (is.led last)

@@ -9,7 +9,7 @@ loop-reach-init c =
     let ns = c.args.nodes.now in
     let k = c.common-known.result in
     let led : walk (kids_of ns) 0 (take k c.args.path.now) ≡ Some c.node_at.result =
-    ap (walk (kids_of ns) 0) (c.common-known.ensures.same ∙ ap (take k) c.as_slice.ensures.value) ∙ c.node_at.ensures ns c.requires.trail in
+    ap (walk (kids_of ns) 0) (c.common-known.ensures.same ∙ ap (take k) c.parts.ensures) ∙ c.node_at.ensures ns c.requires.trail in
     record {
       led = led;
       inside = node_range c.requires.shape (take k c.args.path.now) c.node_at.result led;

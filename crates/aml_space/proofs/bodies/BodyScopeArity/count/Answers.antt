@@ -1,4 +1,4 @@
-use Rattle.std.proofs.Common.{◌≡◌, IfOk, subst}
+use Rattle.std.proofs.Common.{◌≡◌, IfOk, subst, ◌∙◌}
 use Rattle.aml_space.specs.Runs.{agreed_arity}
 use Rattle.aml_space.specs.Known.{outlook_in}
 use Rattle.aml_space.proofs.Stands.{same_outlook}
@@ -8,9 +8,9 @@ pub returns-clause-known : goal.returns-clause-known
 returns-clause-known c =
     let body = c.args.self.now in
     subst (λ p. IfOk c.count_name.result (λ count. count ≡ agreed_arity (outlook_in body.space.now) body.unknown_zero p c.args.locals.now c.args.name.now))
-    c.scope-scope.ensures.path
+    (c.scope-scope.ensures.path ∙ c.parts.ensures)
     (subst (λ k. IfOk c.count_name.result (λ count. count ≡ agreed_arity (outlook_in k)
-    body.unknown_zero c.scope-scope.result.path.now c.args.locals.now c.args.name.now)) c.scope-scope.ensures.known c.count_name.ensures)
+    body.unknown_zero c.scope-scope.result.path c.args.locals.now c.args.name.now)) c.scope-scope.ensures.known c.count_name.ensures)
 
 pub returns-clause-listed : goal.returns-clause-listed
 returns-clause-listed c = λ es stands.

@@ -7,7 +7,7 @@ use Rattle.aml_space.proofs.Walks.{node_range}
 use Rattle.aml_space.proofs.scopes.Scope.climb.Goals as goal
 
 pub has_to_be_asked-requires-clause-within : goal.has_to_be_asked-requires-clause-within
-has_to_be_asked-requires-clause-within c = node_range c.requires.scope.index.shape (take c.loop-at.at.depth c.args.self.now.path.now) c.loop-at.at.node
+has_to_be_asked-requires-clause-within c = node_range c.requires.scope.index.shape (take c.loop-at.at.depth c.args.self.now.path) c.loop-at.at.node
     c.loop-at.invariant.level.led
 
 pub loop-at-preserved : goal.loop-at-preserved
@@ -17,7 +17,7 @@ loop-at-preserved c =
     let up : at.depth - 1 ≡ c.above-at.result.depth = omega (arith, c.above-at.ensures.depth) in
     record {
       level = c.above-at.ensures.level;
-      next = subst (IsNext (names_of s) s.path.now c.args.level.depth) up (next_up (names_of s) s.path.now c.args.level.depth at.depth
-          (omega (arith, c.loop-at-test.true)) c.loop-at.invariant.next (silent_at s.nodes.now c.requires.scope.index.shape (take at.depth s.path.now) at.node
+      next = subst (IsNext (names_of s) s.path c.args.level.depth) up (next_up (names_of s) s.path c.args.level.depth at.depth
+          (omega (arith, c.loop-at-test.true)) c.loop-at.invariant.next (silent_at s.nodes.now c.requires.scope.index.shape (take at.depth s.path) at.node
           c.loop-at.invariant.level.led (OnFalse_at c.if-not-has_to_be_asked.true c.has_to_be_asked.ensures)));
     }

@@ -7,12 +7,12 @@ use Rattle.aml_space.proofs.Walks.{node_within}
 use Rattle.aml_space.proofs.scopes.Scope.count.Goals as goal
 
 pub count_met-requires-clause-within : goal.count_met-requires-clause-within
-count_met-requires-clause-within c = node_within c.requires.scope.index.shape (take c.args.here.depth c.args.self.now.path.now ++ c.args.segment.now)
+count_met-requires-clause-within c = node_within c.requires.scope.index.shape (take c.args.here.depth c.args.self.now.path ++ c.args.segment.now)
     c.args.here.node (c.requires.node c.if-here.false)
 
 pub returns : goal.returns
 returns c =
     c.count_met.ensures ∙ count_of_met c.args.self.now.nodes.now c.requires.scope.index.shape
-    (take c.args.here.depth c.args.self.now.path.now ++ c.args.segment.now) c.args.here.node (c.requires.node c.if-here.false) _ c.standing.ensures
+    (take c.args.here.depth c.args.self.now.path ++ c.args.segment.now) c.args.here.node (c.requires.node c.if-here.false) _ c.standing.ensures
     ∙ sym (ap (λ b. cond b (Some 0) (count_at (namespace_in (known_by c.args.self.now.nodes.now))
-    (take c.args.here.depth c.args.self.now.path.now ++ c.args.segment.now))) c.if-here.false)
+    (take c.args.here.depth c.args.self.now.path ++ c.args.segment.now))) c.if-here.false)

@@ -9,7 +9,7 @@ use Rattle.aml_space.proofs.scopes.Scope.count_name.Goals as goal
 pub returns-in-Some : goal.returns-in-Some
 returns-in-Some c =
     let s = c.args.self.now in
-    let scope = s.path.now in
+    let scope = s.path in
     let name = c.args.name.now in
     let single = sym c.is_single.ensures ∙ c.if-is_single.false in
     let led = c.front_of.ensures.placed ∙ ap (option_map (λ front. take front scope ++ name.segs)) c.in-Some.is in

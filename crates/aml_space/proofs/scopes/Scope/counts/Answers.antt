@@ -19,27 +19,27 @@ use Rattle.aml_space.proofs.scopes.Scope.counts.Goals.{After-joined-counts}
 
 -- from a depth up to another, between which nothing stands
 further : (s : Scope) (locals : PathSet) (segment : List Seg) → length segment ≡ 1 → (o : Option ℕ) →
-    o ≡ nearest locals s.path.now (get_or segment 0 (record { 0 = [] }) ∷ []) → (d asked : ℕ) → d ≤ length s.path.now →
-    IsNext (names_of s) s.path.now d asked → IfSome o (λ n. n ≤ asked) →
-    counts_met (outlook_at s) locals (upward d s.path.now segment) ≡ counts_met (outlook_at s) locals (upward asked s.path.now segment)
-further s locals segment one o is d asked within next above = skip_met (outlook_at s) locals s.path.now segment (first_in (known_by s.nodes.now)) asked d
-    next.within (passed_by locals s.path.now segment one o is d asked within above)
-    (λ e more less. (none_known_below (names_of s) s.path.now segment one d asked within next e more less).0)
+    o ≡ nearest locals s.path (get_or segment 0 (record { 0 = [] }) ∷ []) → (d asked : ℕ) → d ≤ length s.path →
+    IsNext (names_of s) s.path d asked → IfSome o (λ n. n ≤ asked) →
+    counts_met (outlook_at s) locals (upward d s.path segment) ≡ counts_met (outlook_at s) locals (upward asked s.path segment)
+further s locals segment one o is d asked within next above = skip_met (outlook_at s) locals s.path segment (first_in (known_by s.nodes.now)) asked d
+    next.within (passed_by locals s.path segment one o is d asked within above)
+    (λ e more less. (none_known_below (names_of s) s.path segment one d asked within next e more less).0)
 
 -- no local stands at the level or further down
 none_here : (c : After-joined-counts) → IfSome c.in_ok-nearest.nearest (λ n. n < c.levels.level.depth)
 none_here c = no_local c.in_ok-nearest.nearest c.levels.level.depth (sym (c.is_some.ensures ∙ ap is_some c.nearer.ensures) ∙ c.if-is_some.false)
 
 other : (c : After-joined-counts)
-    → set.contains c.args.locals.now (take c.levels.level.depth c.args.self.now.path.now ++ c.args.segment.now) ≡ false
-other c = other_there c.args.locals.now c.args.self.now.path.now c.args.segment.now c.requires.one c.in_ok-nearest.nearest c.in_ok-nearest.ensures
+    → set.contains c.args.locals.now (take c.levels.level.depth c.args.self.now.path ++ c.args.segment.now) ≡ false
+other c = other_there c.args.locals.now c.args.self.now.path c.args.segment.now c.requires.one c.in_ok-nearest.nearest c.in_ok-nearest.ensures
     c.levels.level.depth c.levels.invariant.1.next.level.within (none_here c)
 
 -- what is left to meet, from the level on
 same_here : (c : After-joined-counts)
-    → counts_in (counts_met (outlook_at c.args.self.now) c.args.locals.now (upward (length c.args.self.now.path.now) c.args.self.now.path.now c.args.segment.now))
+    → counts_in (counts_met (outlook_at c.args.self.now) c.args.locals.now (upward (length c.args.self.now.path) c.args.self.now.path c.args.segment.now))
     ≡ joined c.levels.counts
-    (counts_in (counts_met (outlook_at c.args.self.now) c.args.locals.now (upward c.levels.level.depth c.args.self.now.path.now c.args.segment.now)))
+    (counts_in (counts_met (outlook_at c.args.self.now) c.args.locals.now (upward c.levels.level.depth c.args.self.now.path c.args.segment.now)))
 same_here c =
     let inv = c.levels.invariant.1 in
     inv.same ∙ ap (λ ns. joined c.levels.counts (counts_in ns))
@@ -47,16 +47,16 @@ same_here c =
     c.levels.invariant.0 c.levels.level.depth inv.within inv.next.next (less_here c.in_ok-nearest.nearest c.levels.level.depth (none_here c)))
 
 so_far : (c : After-joined-counts) → c.joined-counts.result
-    ≡ joined c.levels.counts (counts_in (counts_of (outlook_at c.args.self.now) (take c.levels.level.depth c.args.self.now.path.now ++ c.args.segment.now)))
+    ≡ joined c.levels.counts (counts_in (counts_of (outlook_at c.args.self.now) (take c.levels.level.depth c.args.self.now.path ++ c.args.segment.now)))
 so_far c = c.joined-counts.ensures ∙ ap (joined c.levels.counts) c.counts_at-here.ensures.counts
 
 pub levels-init : goal.levels-init
 levels-init c =
     let s = c.args.self.now in (
-      length s.path.now,
+      length s.path,
       record {
         within = omega arith;
-        above = near_within c.args.locals.now s.path.now c.args.segment.now c.requires.one c.in_ok-nearest.nearest c.in_ok-nearest.ensures;
+        above = near_within c.args.locals.now s.path c.args.segment.now c.requires.one c.in_ok-nearest.nearest c.in_ok-nearest.ensures;
         next = c.first_asked-level.ensures;
         same = refl;
       },
@@ -72,23 +72,23 @@ returns-then-is_some c =
     let within : there.0 ≤ from = subst (λ o. IfSome o (λ n. n ≤ from)) there.1 inv.above in
     c.joined.ensures ∙ sym (inv.same ∙ ap (λ ns. joined c.levels.counts (counts_in ns)) (further s c.args.locals.now c.args.segment.now
     c.requires.one near c.in_ok-nearest.ensures from there.0
-    inv.within (next_sooner (names_of s) s.path.now from c.levels.level.depth there.0 there.2 within inv.next.next)
+    inv.within (next_sooner (names_of s) s.path from c.levels.level.depth there.0 there.2 within inv.next.next)
     (subst (λ o. IfSome o (λ n. n ≤ there.0)) (sym there.1) (omega arith)))
-    ∙ at_local (outlook_at s) c.args.locals.now s.path.now c.args.segment.now c.levels.counts there.0
-    (local_there c.args.locals.now s.path.now c.args.segment.now c.requires.one near c.in_ok-nearest.ensures there.0 there.1))
+    ∙ at_local (outlook_at s) c.args.locals.now s.path c.args.segment.now c.levels.counts there.0
+    (local_there c.args.locals.now s.path c.args.segment.now c.requires.one near c.in_ok-nearest.ensures there.0 there.1))
 
 pub returns-then-level-eq0 : goal.returns-then-level-eq0
 returns-then-level-eq0 c =
     let s = c.args.self.now in
     let b = (goal.at.returns-then-level-eq0 c).After-joined-counts in
-    so_far b ∙ sym (same_here b ∙ at_root (outlook_at s) c.args.locals.now s.path.now c.args.segment.now c.levels.counts c.levels.level.depth
+    so_far b ∙ sym (same_here b ∙ at_root (outlook_at s) c.args.locals.now s.path c.args.segment.now c.levels.counts c.levels.level.depth
     c.if-level-eq0.true (other b))
 
 pub returns-then-sure : goal.returns-then-sure
 returns-then-sure c =
     let s = c.args.self.now in
     let b = (goal.at.returns-then-sure c).After-joined-counts in
-    so_far b ∙ sym (same_here b ∙ at_sure (outlook_at s) c.args.locals.now s.path.now c.args.segment.now c.levels.counts c.levels.level.depth (other b)
+    so_far b ∙ sym (same_here b ∙ at_sure (outlook_at s) c.args.locals.now s.path c.args.segment.now c.levels.counts c.levels.level.depth (other b)
     (sym c.counts_at-here.ensures.sure ∙ c.if-sure.true))
 
 pub levels-preserved : goal.levels-preserved
@@ -103,8 +103,8 @@ levels-preserved c =
         within = omega (arith, inv.next.level.within);
         above = less_above c.in_ok-nearest.nearest d positive (none_here b);
         next = c.asked_above-level.ensures;
-        same = same_here b ∙ on_from (outlook_at s) c.args.locals.now s.path.now c.args.segment.now c.levels.counts d (other b)
+        same = same_here b ∙ on_from (outlook_at s) c.args.locals.now s.path c.args.segment.now c.levels.counts d (other b)
             (sym c.counts_at-here.ensures.sure ∙ c.if-sure.false) positive
-            ∙ ap (λ m. joined m (counts_in (counts_met (outlook_at s) c.args.locals.now (upward (d - 1) s.path.now c.args.segment.now)))) (sym (so_far b));
+            ∙ ap (λ m. joined m (counts_in (counts_met (outlook_at s) c.args.locals.now (upward (d - 1) s.path c.args.segment.now)))) (sym (so_far b));
       },
     )

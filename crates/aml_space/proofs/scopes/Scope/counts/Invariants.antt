@@ -7,11 +7,11 @@ use Rattle.aml_space.proofs.scopes.Scope.counts.Given as goal
 
 abbrev pub invariant-levels : goal.invariant-levels
 invariant-levels l = (from : ℕ) × record {
-  within : from ≤ length l.self.path.now;
+  within : from ≤ length l.self.path;
   above : IfSome l.nearest (λ n. n ≤ from);
   next : IsNextFrom l.self from l.level;
-  same : counts_in (counts_met (outlook_at l.self) l.locals (upward (length l.self.path.now) l.self.path.now l.segment))
-      ≡ joined l.counts (counts_in (counts_met (outlook_at l.self) l.locals (upward from l.self.path.now l.segment)));
+  same : counts_in (counts_met (outlook_at l.self) l.locals (upward (length l.self.path) l.self.path l.segment))
+      ≡ joined l.counts (counts_in (counts_met (outlook_at l.self) l.locals (upward from l.self.path l.segment)));
 }
 
 abbrev pub decreases-levels : goal.decreases-levels

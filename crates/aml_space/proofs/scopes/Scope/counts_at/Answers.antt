@@ -11,10 +11,10 @@ pub returns-clause-counts : goal.returns-clause-counts
 returns-clause-counts c =
     let s = c.args.self.now in
     c.counts_met-counts.ensures ∙ (λ i. counts_in (flat_map (counts_by (outlook_at s)) (kinds_by (declared_there s.nodes.now c.requires.scope.index.shape
-    (take c.args.level.depth s.path.now ++ c.args.segment.now) c.node_at-node.result c.node_at-node.ensures.node i) (c.standing-standing.ensures i))))
+    (take c.args.level.depth s.path ++ c.args.segment.now) c.node_at-node.result c.node_at-node.ensures.node i) (c.standing-standing.ensures i))))
 
 pub returns-clause-sure : goal.returns-clause-sure
 returns-clause-sure c =
     let s = c.args.self.now in
     c.sure_met.ensures ∙ (λ i. sure_by (declared_there s.nodes.now c.requires.scope.index.shape
-    (take c.args.level.depth s.path.now ++ c.args.segment.now) c.node_at-node.result c.node_at-node.ensures.node i) (c.standing-standing.ensures i))
+    (take c.args.level.depth s.path ++ c.args.segment.now) c.node_at-node.result c.node_at-node.ensures.node i) (c.standing-standing.ensures i))

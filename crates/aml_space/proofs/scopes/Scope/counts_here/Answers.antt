@@ -11,4 +11,4 @@ pub returns : goal.returns
 returns c =
     let s = c.args.self.now in
     c.counts_met.ensures ∙ (λ i. counts_in (flat_map (counts_by (outlook_at s)) (kinds_by (declared_there s.nodes.now c.requires.scope.index.shape
-    (take c.args.front s.path.now ++ c.args.segs.now) c.node_below-node.result c.node_below-node.ensures.node i) (c.standing_below-standing.ensures i))))
+    (take c.args.front s.path ++ c.args.segs.now) c.node_below-node.result c.node_below-node.ensures.node i) (c.standing_below-standing.ensures i))))

@@ -9,6 +9,6 @@ returns c =
     let next = c.next_asked.ensures in
     record {
       level = next.level;
-      next = next_past (names_of s) s.path.now s.last.depth (length s.path.now) c.next_asked.result.depth c.requires.last.within next.next
-          (λ e behind to. silent_past s.nodes.now c.requires.index.shape (take e s.path.now) (c.requires.past e behind to));
+      next = next_past (names_of s) s.path s.last.depth (length s.path) c.next_asked.result.depth c.requires.last.within next.next
+          (λ e behind to. silent_past s.nodes.now c.requires.index.shape (take e s.path) (c.requires.past e behind to));
     }

@@ -6,10 +6,10 @@ use Rattle.aml_space.proofs.scopes.Scope.given.Given as goal
 
 abbrev pub invariant-levels : goal.invariant-levels
 invariant-levels l = (from : ℕ) × record {
-  within : from ≤ length l.self.path.now;
+  within : from ≤ length l.self.path;
   next : IsNextFrom l.self from l.level;
-  same : first_given (names_of l.self) (upward (length l.self.path.now) l.self.path.now l.segment)
-      ≡ first_given (names_of l.self) (upward from l.self.path.now l.segment);
+  same : first_given (names_of l.self) (upward (length l.self.path) l.self.path l.segment)
+      ≡ first_given (names_of l.self) (upward from l.self.path l.segment);
 }
 
 abbrev pub decreases-levels : goal.decreases-levels

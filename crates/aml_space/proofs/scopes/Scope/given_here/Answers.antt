@@ -8,4 +8,4 @@ pub returns : goal.returns
 returns c =
     let s = c.args.self.now in
     c.given_at.ensures ∙ ap (option_and_then (givens_of s.nodes.now)) c.node_below-node.ensures.node
-    ∙ part_at (λ c. c.given) s.nodes.now c.requires.scope.index.shape (take c.args.front s.path.now ++ c.args.segs.now)
+    ∙ part_at (λ c. c.given) s.nodes.now c.requires.scope.index.shape (take c.args.front s.path ++ c.args.segs.now)

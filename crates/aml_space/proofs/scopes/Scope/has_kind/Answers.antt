@@ -11,5 +11,5 @@ pub returns : goal.returns
 returns c =
     let s = c.args.self.now in
     c.is_some.ensures ∙ copied_some c.kind_met.result ∙ ap is_some (c.kind_met.ensures
-    ∙ kind_of_met s.nodes.now c.requires.scope.index.shape (take c.args.here.depth s.path.now ++ c.args.segment.now) c.args.here.node c.requires.node _
+    ∙ kind_of_met s.nodes.now c.requires.scope.index.shape (take c.args.here.depth s.path ++ c.args.segment.now) c.args.here.node c.requires.node _
     c.standing.ensures)

@@ -7,10 +7,10 @@ use Rattle.aml_space.proofs.scopes.Scope.is_known_above.Given as goal
 
 abbrev pub invariant-levels : goal.invariant-levels
 invariant-levels l = (from : ℕ) × record {
-  within : from ≤ length l.self.path.now;
+  within : from ≤ length l.self.path;
   next : IsNextFrom l.self from l.level;
-  same : find (is_known (names_of l.self)) (above l.self.path.now l.segment l.fn.below)
-      ≡ find (is_known (names_of l.self)) (upward from l.self.path.now l.segment);
+  same : find (is_known (names_of l.self)) (above l.self.path l.segment l.fn.below)
+      ≡ find (is_known (names_of l.self)) (upward from l.self.path l.segment);
 }
 
 abbrev pub decreases-levels : goal.decreases-levels

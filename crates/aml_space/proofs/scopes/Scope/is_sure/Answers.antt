@@ -11,4 +11,4 @@ pub returns : goal.returns
 returns c =
     let s = c.args.self.now in
     c.sure_met.ensures ∙ (λ i. sure_by (declared_there s.nodes.now c.requires.scope.index.shape
-    (take c.args.here.depth s.path.now ++ c.args.segment.now) c.args.here.node c.requires.node i) (c.standing.ensures i))
+    (take c.args.here.depth s.path ++ c.args.segment.now) c.args.here.node c.requires.node i) (c.standing.ensures i))

@@ -12,36 +12,36 @@ use Rattle.aml_space.proofs.scopes.Scope.lead.Goals as goal
 pub returns-in-None-clause-led : goal.returns-in-None-clause-led
 returns-in-None-clause-led c =
     let s = c.args.self.now in
-    let found = ap (option_map (path_at s.path.now c.args.segment.now)) (sym c.in-None.is) ∙ c.in_ok-search.ensures.found
-    ∙ ap (λ (ls : PathSet). first_of (names_of s) ls (upward (length s.path.now) s.path.now c.args.segment.now)) c.new-locals.ensures in
-    sym (led_nowhere (outlook_at s) s.path.now c.args.segment.now (sym found))
+    let found = ap (option_map (path_at s.path c.args.segment.now)) (sym c.in-None.is) ∙ c.in_ok-search.ensures.found
+    ∙ ap (λ (ls : PathSet). first_of (names_of s) ls (upward (length s.path) s.path c.args.segment.now)) c.new-locals.ensures in
+    sym (led_nowhere (outlook_at s) s.path c.args.segment.now (sym found))
 
 pub returns-then-may_lead_further-clause-led : goal.returns-then-may_lead_further-clause-led
 returns-then-may_lead_further-clause-led c =
     let s = c.args.self.now in
     let d = c.in-Some.here.depth in
-    let candidate = IsCandidate s.nodes.now c.new-locals.result s.path.now c.args.segment.now in
+    let candidate = IsCandidate s.nodes.now c.new-locals.result s.path c.args.segment.now in
     let within = (subst (λ o. IfSome o candidate) c.in-Some.is c.in_ok-search.ensures.met).within in
-    let found = ap (option_map (path_at s.path.now c.args.segment.now)) (sym c.in-Some.is) ∙ c.in_ok-search.ensures.found
-    ∙ ap (λ (ls : PathSet). first_of (names_of s) ls (upward (length s.path.now) s.path.now c.args.segment.now)) c.new-locals.ensures in
-    sym (led (outlook_at s) s.path.now c.args.segment.now d within (sym found)
-    ∙ ap (λ b. cond b None (Some (take d s.path.now ++ c.args.segment.now))) (sym c.may_lead_further.ensures ∙ c.if-may_lead_further.true))
+    let found = ap (option_map (path_at s.path c.args.segment.now)) (sym c.in-Some.is) ∙ c.in_ok-search.ensures.found
+    ∙ ap (λ (ls : PathSet). first_of (names_of s) ls (upward (length s.path) s.path c.args.segment.now)) c.new-locals.ensures in
+    sym (led (outlook_at s) s.path c.args.segment.now d within (sym found)
+    ∙ ap (λ b. cond b None (Some (take d s.path ++ c.args.segment.now))) (sym c.may_lead_further.ensures ∙ c.if-may_lead_further.true))
 
 pub returns-clause-led : goal.returns-clause-led
 returns-clause-led c =
     let s = c.args.self.now in
     let d = c.in-Some.here.depth in
-    let candidate = IsCandidate s.nodes.now c.new-locals.result s.path.now c.args.segment.now in
+    let candidate = IsCandidate s.nodes.now c.new-locals.result s.path c.args.segment.now in
     let within = (subst (λ o. IfSome o candidate) c.in-Some.is c.in_ok-search.ensures.met).within in
-    let found = ap (option_map (path_at s.path.now c.args.segment.now)) (sym c.in-Some.is) ∙ c.in_ok-search.ensures.found
-    ∙ ap (λ (ls : PathSet). first_of (names_of s) ls (upward (length s.path.now) s.path.now c.args.segment.now)) c.new-locals.ensures in
-    sym (led (outlook_at s) s.path.now c.args.segment.now d within (sym found)
-    ∙ ap (λ b. cond b None (Some (take d s.path.now ++ c.args.segment.now))) (sym c.may_lead_further.ensures ∙ c.if-may_lead_further.false))
+    let found = ap (option_map (path_at s.path c.args.segment.now)) (sym c.in-Some.is) ∙ c.in_ok-search.ensures.found
+    ∙ ap (λ (ls : PathSet). first_of (names_of s) ls (upward (length s.path) s.path c.args.segment.now)) c.new-locals.ensures in
+    sym (led (outlook_at s) s.path c.args.segment.now d within (sym found)
+    ∙ ap (λ b. cond b None (Some (take d s.path ++ c.args.segment.now))) (sym c.may_lead_further.ensures ∙ c.if-may_lead_further.false))
 
 pub may_lead_further-requires-clause-node : goal.may_lead_further-requires-clause-node
 may_lead_further-requires-clause-node c =
     let s = c.args.self.now in
-    let candidate = IsCandidate s.nodes.now c.new-locals.result s.path.now c.args.segment.now in
+    let candidate = IsCandidate s.nodes.now c.new-locals.result s.path c.args.segment.now in
     let met = subst (λ o. IfSome o candidate) c.in-Some.is c.in_ok-search.ensures.met in
-    met.node (met.local ∙ ap (λ (ls : PathSet). set.contains ls (take c.in-Some.here.depth s.path.now ++ c.args.segment.now)) c.new-locals.ensures
-    ∙ set.contains-empty path_cmp (take c.in-Some.here.depth s.path.now ++ c.args.segment.now))
+    met.node (met.local ∙ ap (λ (ls : PathSet). set.contains ls (take c.in-Some.here.depth s.path ++ c.args.segment.now)) c.new-locals.ensures
+    ∙ set.contains-empty path_cmp (take c.in-Some.here.depth s.path ++ c.args.segment.now))

@@ -1,4 +1,3 @@
-use Rattle.std.proofs.Common.{subst}
 use Rattle.aml_space.specs.Nodes.{Reaches}
 use Rattle.aml_space.proofs.Levels.{reach_past}
 use Rattle.aml_space.proofs.scopes.Scope.new.Goals as goal
@@ -7,10 +6,10 @@ pub returns-clause-scope : goal.returns-clause-scope
 returns-clause-scope c =
     let ns = c.args.nodes.now in
     let r = c.reach_along-reach.result in
-    let reach = subst (λ q. Reaches ns q r) c.parts.ensures c.reach_along-reach.ensures in
+    let reach : Reaches ns c.args.path r = c.reach_along-reach.ensures in
     record {
       index = c.requires.index;
       settled = c.requires.settled;
       last = record { within = reach.within; led = reach.led };
-      past = reach_past ns c.args.path.now r reach;
+      past = reach_past ns c.args.path r reach;
     }

@@ -22,12 +22,12 @@ use Rattle.aml_space.proofs.scopes.Scope.search.Goals.{After-has_kind}
 
 -- from a depth up to another, between which nothing stands
 further : (s : Scope) (locals : PathSet) (segment : List Seg) → length segment ≡ 1 → (o : Option ℕ) →
-    o ≡ nearest locals s.path.now (get_or segment 0 (record { 0 = [] }) ∷ []) → (outside : Option ℕ) (d asked : ℕ) → d ≤ length s.path.now →
-    IsNext (names_of s) s.path.now d asked → IfSome o (λ n. n ≤ asked) →
-    rest_of (names_of s) locals s.path.now segment outside (upward d s.path.now segment)
-    ≡ rest_of (names_of s) locals s.path.now segment outside (upward asked s.path.now segment)
-further s locals segment one o is outside d asked within next above = skip (names_of s) locals s.path.now segment asked d outside next.within
-    (none_met_below (names_of s) s.path.now segment one locals d asked within next (passed_by locals s.path.now segment one o is d asked within above))
+    o ≡ nearest locals s.path (get_or segment 0 (record { 0 = [] }) ∷ []) → (outside : Option ℕ) (d asked : ℕ) → d ≤ length s.path →
+    IsNext (names_of s) s.path d asked → IfSome o (λ n. n ≤ asked) →
+    rest_of (names_of s) locals s.path segment outside (upward d s.path segment)
+    ≡ rest_of (names_of s) locals s.path segment outside (upward asked s.path segment)
+further s locals segment one o is outside d asked within next above = skip (names_of s) locals s.path segment asked d outside next.within
+    (none_met_below (names_of s) s.path segment one locals d asked within next (passed_by locals s.path segment one o is d asked within above))
 
 abbrev depth_of : Option Candidate → Option ℕ
 depth_of o = option_map (λ (c : Candidate). c.depth) o
@@ -36,15 +36,15 @@ depth_of o = option_map (λ (c : Candidate). c.depth) o
 none_here : (c : After-has_kind) → IfSome c.in_ok-nearest.nearest (λ n. n < c.levels.level.depth)
 none_here c = none_local c.in_ok-nearest.nearest c.levels.level.depth c.nearer.result c.nearer.ensures c.in_default.not-Some
 
-other : (c : After-has_kind) → set.contains c.args.locals.now (take c.levels.level.depth c.args.self.now.path.now ++ c.args.segment.now) ≡ false
-other c = other_there c.args.locals.now c.args.self.now.path.now c.args.segment.now c.requires.one c.in_ok-nearest.nearest c.in_ok-nearest.ensures
+other : (c : After-has_kind) → set.contains c.args.locals.now (take c.levels.level.depth c.args.self.now.path ++ c.args.segment.now) ≡ false
+other c = other_there c.args.locals.now c.args.self.now.path c.args.segment.now c.requires.one c.in_ok-nearest.nearest c.in_ok-nearest.ensures
     c.levels.level.depth c.levels.invariant.1.next.level.within (none_here c)
 
 -- what is left to find, from the level on
 same_here : (c : After-has_kind)
-    → first_of (names_of c.args.self.now) c.args.locals.now (upward (length c.args.self.now.path.now) c.args.self.now.path.now c.args.segment.now)
-    ≡ rest_of (names_of c.args.self.now) c.args.locals.now c.args.self.now.path.now c.args.segment.now (depth_of c.levels.outside)
-    (upward c.levels.level.depth c.args.self.now.path.now c.args.segment.now)
+    → first_of (names_of c.args.self.now) c.args.locals.now (upward (length c.args.self.now.path) c.args.self.now.path c.args.segment.now)
+    ≡ rest_of (names_of c.args.self.now) c.args.locals.now c.args.self.now.path c.args.segment.now (depth_of c.levels.outside)
+    (upward c.levels.level.depth c.args.self.now.path c.args.segment.now)
 same_here c =
     let inv = c.levels.invariant.1 in
     inv.same ∙ further c.args.self.now c.args.locals.now c.args.segment.now c.requires.one c.in_ok-nearest.nearest c.in_ok-nearest.ensures
@@ -55,37 +55,37 @@ same_here c =
 abbrev here : After-has_kind → Candidate
 here c = record { depth = c.levels.level.depth; node = c.node_at.result; local = false }
 
-is_here : (c : After-has_kind) → IsCandidate c.args.self.now.nodes.now c.args.locals.now c.args.self.now.path.now c.args.segment.now (here c)
+is_here : (c : After-has_kind) → IsCandidate c.args.self.now.nodes.now c.args.locals.now c.args.self.now.path c.args.segment.now (here c)
 is_here c = record { within = c.levels.invariant.1.next.level.within; node = λ same. c.node_at.ensures.node; local = sym (other c) }
 
 meant : (c : After-has_kind)
-    → c.has_kind.result ≡ decides (names_of c.args.self.now) c.args.locals.now (take c.levels.level.depth c.args.self.now.path.now ++ c.args.segment.now)
-meant c = c.has_kind.ensures ∙ meant_path c.args.self.now.nodes.now c.args.locals.now c.args.self.now.path.now c.args.segment.now
+    → c.has_kind.result ≡ decides (names_of c.args.self.now) c.args.locals.now (take c.levels.level.depth c.args.self.now.path ++ c.args.segment.now)
+meant c = c.has_kind.ensures ∙ meant_path c.args.self.now.nodes.now c.args.locals.now c.args.self.now.path c.args.segment.now
     c.requires.scope.index.shape (here c) (is_here c) refl
 
 -- the first that an External names, up to here
 first_here : (c : After-has_kind) (o : Option Candidate)
     → o ≡ option_or c.levels.outside (cond (is_some (option_and_then (outs_of c.args.self.now.nodes.now) c.node_at.result)) (Some (here c)) None)
     → o ≡ option_or c.levels.outside
-    (cond (is_outside (names_of c.args.self.now) (take c.levels.level.depth c.args.self.now.path.now ++ c.args.segment.now)) (Some (here c)) None)
+    (cond (is_outside (names_of c.args.self.now) (take c.levels.level.depth c.args.self.now.path ++ c.args.segment.now)) (Some (here c)) None)
 first_here c o is = is ∙ ap (λ b. option_or c.levels.outside (cond b (Some (here c)) None))
-    (outside_path c.args.self.now.nodes.now c.args.locals.now c.args.self.now.path.now c.args.segment.now c.requires.scope.index.shape (here c)
+    (outside_path c.args.self.now.nodes.now c.args.locals.now c.args.self.now.path c.args.segment.now c.requires.scope.index.shape (here c)
     (is_here c) refl)
 
 outside_here : (c : After-has_kind) (o : Option Candidate)
     → o ≡ option_or c.levels.outside (cond (is_some (option_and_then (outs_of c.args.self.now.nodes.now) c.node_at.result)) (Some (here c)) None)
-    → IfSome o (IsCandidate c.args.self.now.nodes.now c.args.locals.now c.args.self.now.path.now c.args.segment.now)
+    → IfSome o (IsCandidate c.args.self.now.nodes.now c.args.locals.now c.args.self.now.path c.args.segment.now)
 outside_here c o is =
-    let candidate = IsCandidate c.args.self.now.nodes.now c.args.locals.now c.args.self.now.path.now c.args.segment.now in
+    let candidate = IsCandidate c.args.self.now.nodes.now c.args.locals.now c.args.self.now.path c.args.segment.now in
     subst (λ o. IfSome o candidate) (sym is) (outside_still candidate c.levels.outside _ (here c) c.levels.invariant.1.outside (is_here c))
 
 pub levels-init : goal.levels-init
 levels-init c =
     let s = c.args.self.now in (
-      length s.path.now,
+      length s.path,
       record {
         within = omega arith;
-        above = near_within c.args.locals.now s.path.now c.args.segment.now c.requires.one c.in_ok-nearest.nearest c.in_ok-nearest.ensures;
+        above = near_within c.args.locals.now s.path c.args.segment.now c.requires.one c.in_ok-nearest.nearest c.in_ok-nearest.ensures;
         next = c.first_asked-level.ensures;
         outside = tt;
         same = refl;
@@ -102,11 +102,11 @@ returns-in-Some-clause-found c =
     let n = c.in-Some.local in
     let met = local_met near c.levels.level.depth n (sym c.nearer.ensures ∙ c.in-Some.is) in
     let within : n ≤ from = subst (λ o. IfSome o (λ n. n ≤ from)) met.0 inv.above in
-    let there = local_there locals s.path.now c.args.segment.now c.requires.one near c.in_ok-nearest.ensures n met.0 in
+    let there = local_there locals s.path c.args.segment.now c.requires.one near c.in_ok-nearest.ensures n met.0 in
     sym (inv.same ∙ further s locals c.args.segment.now c.requires.one near c.in_ok-nearest.ensures (depth_of c.levels.outside) from n inv.within
-    (next_sooner (names_of s) s.path.now from c.levels.level.depth n met.1 within inv.next.next) (subst (λ o. IfSome o (λ m. m ≤ n)) (sym met.0) (omega arith))
-    ∙ hit (names_of s) locals s.path.now c.args.segment.now n _ _ refl
-    (ap (λ b. b || is_some (kind_at (names_of s) (take n s.path.now ++ c.args.segment.now))) there))
+    (next_sooner (names_of s) s.path from c.levels.level.depth n met.1 within inv.next.next) (subst (λ o. IfSome o (λ m. m ≤ n)) (sym met.0) (omega arith))
+    ∙ hit (names_of s) locals s.path c.args.segment.now n _ _ refl
+    (ap (λ b. b || is_some (kind_at (names_of s) (take n s.path ++ c.args.segment.now))) there))
 
 pub returns-in-Some-clause-met : goal.returns-in-Some-clause-met
 returns-in-Some-clause-met c =
@@ -115,17 +115,17 @@ returns-in-Some-clause-met c =
     let n = c.in-Some.local in
     let met = local_met near c.levels.level.depth n (sym c.nearer.ensures ∙ c.in-Some.is) in
     record {
-      within = subst (λ o. IfSome o (λ m. m ≤ length s.path.now)) met.0
-          (near_within c.args.locals.now s.path.now c.args.segment.now c.requires.one near c.in_ok-nearest.ensures);
+      within = subst (λ o. IfSome o (λ m. m ≤ length s.path)) met.0
+          (near_within c.args.locals.now s.path c.args.segment.now c.requires.one near c.in_ok-nearest.ensures);
       node = λ same. absurd (Rattle.std.proofs.lemmas.Bool.false≢true (sym same));
-      local = sym (local_there c.args.locals.now s.path.now c.args.segment.now c.requires.one near c.in_ok-nearest.ensures n met.0);
+      local = sym (local_there c.args.locals.now s.path c.args.segment.now c.requires.one near c.in_ok-nearest.ensures n met.0);
     }
 
 pub returns-then-has_kind-clause-found : goal.returns-then-has_kind-clause-found
 returns-then-has_kind-clause-found c =
     let s = c.args.self.now in
     let b = (goal.at.returns-then-has_kind-clause-found c).After-has_kind in
-    sym (same_here b ∙ hit (names_of s) c.args.locals.now s.path.now c.args.segment.now c.levels.level.depth _ _ refl (sym (meant b) ∙ c.if-has_kind.true))
+    sym (same_here b ∙ hit (names_of s) c.args.locals.now s.path c.args.segment.now c.levels.level.depth _ _ refl (sym (meant b) ∙ c.if-has_kind.true))
 
 pub returns-then-has_kind-clause-met : goal.returns-then-has_kind-clause-met
 returns-then-has_kind-clause-met c = is_here (goal.at.returns-then-has_kind-clause-met c).After-has_kind
@@ -134,8 +134,8 @@ pub returns-then-level-eq0-clause-found : goal.returns-then-level-eq0-clause-fou
 returns-then-level-eq0-clause-found c =
     let s = c.args.self.now in
     let b = (goal.at.returns-then-level-eq0-clause-found c).After-has_kind in
-    ap (option_map (path_at s.path.now c.args.segment.now)) (first_here b _ c.first_outside-outside.ensures)
-    ∙ sym (same_here b ∙ ended (names_of s) c.args.locals.now s.path.now c.args.segment.now c.levels.outside c.levels.level.depth
+    ap (option_map (path_at s.path c.args.segment.now)) (first_here b _ c.first_outside-outside.ensures)
+    ∙ sym (same_here b ∙ ended (names_of s) c.args.locals.now s.path c.args.segment.now c.levels.outside c.levels.level.depth
     c.node_at.result false c.if-level-eq0.true (sym (meant b) ∙ c.if-has_kind.false))
 
 pub returns-then-level-eq0-clause-met : goal.returns-then-level-eq0-clause-met
@@ -156,9 +156,9 @@ levels-preserved c =
         above = less_above c.in_ok-nearest.nearest d positive (none_here b);
         next = c.asked_above-level.ensures;
         outside = outside_here b c.first_outside-outside.result c.first_outside-outside.ensures;
-        same = same_here b ∙ step (names_of s) locals s.path.now segment d (take d s.path.now ++ segment) (depth_of c.levels.outside) refl
+        same = same_here b ∙ step (names_of s) locals s.path segment d (take d s.path ++ segment) (depth_of c.levels.outside) refl
             (sym (meant b) ∙ c.if-has_kind.false) positive
-            ∙ ap (λ o. rest_of (names_of s) locals s.path.now segment o (upward (d - 1) s.path.now segment))
+            ∙ ap (λ o. rest_of (names_of s) locals s.path segment o (upward (d - 1) s.path segment))
             (sym (ap depth_of (first_here b _ c.first_outside-outside.ensures) ∙ outside_depth c.levels.outside _ (here b)));
       },
     )

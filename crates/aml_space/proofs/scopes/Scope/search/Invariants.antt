@@ -9,13 +9,13 @@ use Rattle.aml_space.proofs.scopes.Scope.search.Given as goal
 
 abbrev pub invariant-levels : goal.invariant-levels
 invariant-levels l = (from : ℕ) × record {
-  within : from ≤ length l.self.path.now;
+  within : from ≤ length l.self.path;
   above : IfSome l.nearest (λ n. n ≤ from);
   next : IsNextFrom l.self from l.level;
-  outside : IfSome l.outside (IsCandidate l.self.nodes.now l.locals l.self.path.now l.segment);
-  same : first_of (names_of l.self) l.locals (upward (length l.self.path.now) l.self.path.now l.segment)
-      ≡ rest_of (names_of l.self) l.locals l.self.path.now l.segment (option_map (λ (c : Candidate). c.depth) l.outside)
-      (upward from l.self.path.now l.segment);
+  outside : IfSome l.outside (IsCandidate l.self.nodes.now l.locals l.self.path l.segment);
+  same : first_of (names_of l.self) l.locals (upward (length l.self.path) l.self.path l.segment)
+      ≡ rest_of (names_of l.self) l.locals l.self.path l.segment (option_map (λ (c : Candidate). c.depth) l.outside)
+      (upward from l.self.path l.segment);
 }
 
 abbrev pub decreases-levels : goal.decreases-levels
