@@ -87,7 +87,7 @@ class Maker:
 
     def late_method(self, path, count):
         """The declaration of a method that the set calls; seldom it is an External, or missing, or given."""
-        name, how = spelled(self.chance, Name(True, 0, list(path))), self.chance.random()
+        name, how = spelled(self.chance, self.root_name(path)), self.chance.random()
         if self.gives and self.chance.random() < 0.4:
             self.given[path] = count
             return b""
@@ -154,20 +154,23 @@ class Maker:
             return Name(True, 0, [self.chance.choice(["_GL_", "_OS_", "_REV", "_OSI"])])
         return name
 
+    def root_name(self, path):
+        """A name that leads to a path from the root, or to another one where no name leads so deep."""
+        return Name(True, 0, list(path[:MOST_SEGMENTS]))
+
     def name_to(self, path):
         return spelled(self.chance, self.leading_name(path))
 
     def leading_name(self, path):
         """A name that leads to a path from where the code stands, if there is one."""
         shared = next(length for length in range(len(self.scope), -1, -1) if path[:length] == self.scope[:length])
-        names = [Name(True, 0, list(path))] if len(path) <= MOST_SEGMENTS else []
+        names = [self.root_name(path)] if len(path) <= MOST_SEGMENTS else []
         if 0 < len(path) - shared <= MOST_SEGMENTS:
             names.append(Name(False, len(self.scope) - shared, list(path[shared:])))
         upward = Name(False, 0, list(path[-1:]))
         if path and self.found(upward) == path:
             names += [upward] * 4
-        # No name leads so deep from elsewhere: this one leads to another path.
-        return self.chance.choice(names or [Name(True, 0, list(path[:MOST_SEGMENTS]))])
+        return self.chance.choice(names or [self.root_name(path)])
 
     def found(self, name):
         everything = self.known.keys() | self.methods.keys()

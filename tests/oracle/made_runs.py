@@ -45,7 +45,7 @@ class RunMaker(Maker):
 
     def late_method(self, path, count):
         """The declaration of a method that bodies call; now and then there is one in each of two branches."""
-        name, how = spelled(self.chance, Name(True, 0, list(path))), self.chance.random()
+        name, how = spelled(self.chance, self.root_name(path)), self.chance.random()
         if path in self.given or how < 0.03:
             return b""
         if how < 0.1:
@@ -136,7 +136,7 @@ class RunMaker(Maker):
         """A name to be declared: a new one, or seldom one of a path declared before, or of the last segment of one."""
         how, paths = self.chance.random(), [path for path in self.known if path]
         if how < 0.05:
-            return Name(True, 0, list(self.chance.choice(paths)))
+            return self.root_name(self.chance.choice(paths))
         if how < 0.09:
             return Name(False, 0, [self.chance.choice(paths)[-1]])
         return self.fresh_name("table")
@@ -163,7 +163,7 @@ class RunMaker(Maker):
         source = self.leading_name(path)
         found = self.space.find(self.scope, source) or ()
         if not found and self.happens(0.8):
-            source, found = Name(True, 0, list(path)), path
+            source, found = self.root_name(path), path
         kind = self.space.kind(found)
         self.alias_target = kind[1] if kind and kind[0] == "Alias" else found
         return spelled(self.chance, source) + self.new_name(inside)
@@ -172,7 +172,7 @@ class RunMaker(Maker):
         """The name of the path that a Scope opens: now and then of one that nothing declares."""
         if self.happens(0.15):
             self.opened, self.opened_is_sure = (self.fresh_segment(), self.fresh_segment())[:self.chance.choice((1, 2))], False
-            return spelled(self.chance, Name(True, 0, list(self.opened)))
+            return spelled(self.chance, self.root_name(self.opened))
         code = super().scope_name()
         self.opened_is_sure = self.space.is_sure(self.opened)
         return code
@@ -236,7 +236,7 @@ class RunMaker(Maker):
         code = self.maybe_method(name, other)
         if self.gives and self.happens(0.5):
             self.given |= {outer: count, name.placed(self.scope): other}
-        local = b"\x08" + spelled(self.chance, Name(True, 0, list(outer))) + b"\0"
+        local = b"\x08" + spelled(self.chance, self.root_name(outer)) + b"\0"
         code += self.caller(depth, name, (count, other, 0), local if self.happens(0.2) else b"")
         if self.happens(0.06):
             code += self.packed(b"\x10", spelled(self.chance, name))
@@ -250,13 +250,13 @@ class RunMaker(Maker):
         code = self.maybe_method(name, count) + self.packed(b"\xA1", self.maybe_method(name, other))
         source, alias = name.placed(self.scope), Name(False, 0, [self.fresh_segment()])
         self.opcode, self.alias_target = ALIAS, source
-        code += b"\x06" + spelled(self.chance, Name(True, 0, list(source))) + self.declared_name(alias, count)
+        code += b"\x06" + spelled(self.chance, self.root_name(source)) + self.declared_name(alias, count)
         return code + self.caller(depth, alias, (count, other))
 
     def again(self, depth):
         """A Device of a path that is declared already."""
         self.opcode = DEVICE
-        device = self.declared_name(Name(True, 0, list(self.chance.choice([path for path in self.known if path]))), 0)
+        device = self.declared_name(self.root_name(self.chance.choice([path for path in self.known if path])), 0)
         return self.packed(b"\x5B\x82", device + self.block(DEVICE, depth, "table"))
 
     def predefined(self, depth):
@@ -271,6 +271,6 @@ class RunMaker(Maker):
         external = b"\x15" + self.declared_name(name, 0) + b"\6\0"
         outside = self.scope, self.is_sure
         self.scope, self.is_sure = self.opened, False
-        scope = spelled(self.chance, Name(True, 0, list(self.scope))) + self.terms(depth + 1, "table")
+        scope = spelled(self.chance, self.root_name(self.scope)) + self.terms(depth + 1, "table")
         self.scope, self.is_sure = outside
         return external + self.packed(b"\x10", scope)
