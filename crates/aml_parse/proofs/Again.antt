@@ -15,7 +15,7 @@ use Rattle.aml_parse.proofs.Common.{IsPart, AreParts, IsTail, IsField, AreFields
 use Rattle.aml_parse.proofs.Common.{all_unchanged, span_again, row_is_opcode, lead_of, row_apart, target_opcode, opcode_lead}
 use Rattle.aml_parse.specs.Reading.{Reader, flat, held, held_inside, part_at, parts_at, arguments_at, terms_at, to_end_at, segmented_at, named_unit, link_at}
 use Rattle.aml_parse.specs.Reading.{access_unit, extended_unit, field_at, fields_at, call_at, takes_names, refusal, body_to, tail_at, plain_at, packed_at}
-use Rattle.aml_parse.specs.Reading.{row_at, operation_at, is_absent_target, term_at}
+use Rattle.aml_parse.specs.Reading.{row_at, taken_at, operation_at, is_absent_target, term_at}
 use Rattle.aml_parse.proofs.FlatLaws.{count_again, text_again, segmented_again, opcode_again, apart, named_unit_again}
 use Rattle.aml_parse.proofs.Loops.{turn}
 use Rattle.aml_parse.proofs.Leads.{IsGuarded, guarded_so, tail_is_empty, guard_again}
@@ -74,17 +74,23 @@ module _ (s : Setting) (read : Position → Reader Tree) (p : Position) (end : �
   none_again rest h = ap (λ (q : Position). term_at s.arity s.scope read q end ls (0x00 ∷ rest)) h
 
   -- an opcode that the position takes, with what follows it
+  taken_again : (o : ℕ) (row : Row) (rest : List ℕ) → row_of o ≡ Some row → takes p row.place ≡ true
+      → taken_at p end (opcode_bytes o ++ rest) ≡ Ok (row, rest)
+  unfolding taken_at
+  taken_again o row rest listed taken =
+      let at = end - length (opcode_bytes o ++ rest) in
+      read_on _ _ _ _ (opcode_again end o rest (row_is_opcode o row listed))
+      (read_on _ _ _ _ (ap (λ (f : Option Row). ok_or f (CodeFault.UnknownOp at)) listed)
+      (ap (λ (b : Bool). cond b (Ok (row, rest)) (Err (refusal p row.place at))) taken))
+
   reach_row : (o : ℕ) (row : Row) (rest : List ℕ) → row_of o ≡ Some row → takes p row.place ≡ true
       → term_at s.arity s.scope read p end ls (opcode_bytes o ++ rest) ≡ row_at s.scope read p (end - length (opcode_bytes o ++ rest)) row row.tail end ls rest
   unfolding operation_at
   reach_row o row rest listed taken =
-      let at = end - length (opcode_bytes o ++ rest) in
       let l = opcode_lead o rest in
       subst (λ (b : List ℕ). term_at s.arity s.scope read p end ls b ≡ operation_at s.scope read p end ls b) (sym l.1)
       (term_opcode (lead_of o) l.0 (row_apart o row listed) (taken_target p o row listed taken))
-      ∙ read_on _ _ _ _ (opcode_again end o rest (row_is_opcode o row listed))
-      (read_on _ _ _ _ (ap (λ (f : Option Row). ok_or f (CodeFault.UnknownOp at)) listed)
-      (ap (λ (b : Bool). cond b (row_at s.scope read p at row row.tail end ls rest) (Err (refusal p row.place at))) taken))
+      ∙ read_on _ _ _ _ (taken_again o row rest listed taken) refl
 
 module _ (s : Setting) (levels : ℕ) (read : Position → Reader Tree) (law : IsReader s levels read) where
   -- ---- parts

@@ -12,5 +12,6 @@ pub mod OneWay
 pub mod PrefixLaws
 pub mod Loops
 pub mod Bare
+pub mod Opened
 pub mod Views
 pub mod Forward

@@ -13,7 +13,7 @@ use Rattle.aml_parse.proofs.Common.{IsTail, TailStands, Arities, StandsThere, Is
 use Rattle.aml_parse.proofs.Common.{if_has_length, guard_place, guard_inside, takes_taker, front_length, opcode_some, Within, onward, inward, text_there, byte_there, slice_there, span_inside}
 use Rattle.aml_parse.proofs.Common.{end_there, offset_is}
 use Rattle.aml_parse.specs.Reading.{Reader, part_at, parts_at, arguments_at, terms_at, to_end_at, flat, held_inside, link_at, field_at, fields_at, call_at}
-use Rattle.aml_parse.specs.Reading.{refused_in_body, refused_in_run, refusal, guard_at, tail_at, takes_names, plain_at, packed_at, row_at, operation_at}
+use Rattle.aml_parse.specs.Reading.{refused_in_body, refused_in_run, refusal, guard_at, tail_at, takes_names, plain_at, packed_at, row_at, taken_at, operation_at}
 use Rattle.aml_parse.specs.Reading.{is_absent_target}
 use Rattle.aml_parse.specs.Reading.{term_at}
 use Rattle.aml_parse.proofs.FlatReads.{Answers, answers, fails, then, made, chosen, known, at_offset, TookFlat, byte_reads, little_reads, span_reads}
@@ -53,6 +53,10 @@ record HasFound (code : List ℕ) (at o : ℕ) (row : Row) : Type 0 where
 
 not_external : (p : Position) (place : Place) → takes p place ≡ false → takes p Place.External ≡ true → place ≢ Place.External
 not_external p place not_taken taken = λ e. absurd (cc (not_taken, taken, ap (takes p) e))
+
+-- an opcode that the position takes: its number, the bytes behind it, and its row
+abbrev TookRow : List ℕ → Position → ℕ → List ℕ → Row × List ℕ → Type 0
+TookRow code p at bs r = (o : ℕ) × (Takes bs (opcode_bytes o) r.1 × (HasFound code at o r.0 × (takes p (r.0).place ≡ true)))
 
 module _ (arity : Arities) (code : List ℕ) (at o : ℕ) (row : Row) (f : HasFound code at o row) where
   in_body_placed : (place : Place) → row.place ≡ place → StandsAt arity code (refused_in_body place at)
@@ -288,16 +292,21 @@ module _ (s : Setting) (levels : ℕ) (read : Position → Reader Tree) (law : I
     row_reads None short = plain_reads short
     row_reads (Some k) long = packed_reads k long
 
-  operation_reads : (p : Position) → Reads s (suc levels) (TookTerm s (suc levels) p) (operation_at s.scope read p)
-  unfolding operation_at
-  operation_reads p at end ls bs w deep = then s _ _ _ _ (opcode_reads s at end bs w) (λ o h1 t.
+  -- an opcode that the position takes
+  taken_reads : (p : Position) (at end : ℕ) (bs : List ℕ) → Within s.code at end bs → Answers s (TookRow s.code p at bs) (taken_at p end bs)
+  unfolding taken_at
+  taken_reads p at end bs w = then s _ _ _ _ (opcode_reads s at end bs w) (λ o h1 t.
       let there = text_there s.code at end bs (opcode_bytes o.0) o.1 w t.takes.parts in
       then s _ _ _ _ (known s (λ row. row_of o.0 ≡ Some row) (row_of o.0) (CodeFault.UnknownOp (end - length bs))
       (λ none. at_offset s at end bs w (λ n. CodeFault.UnknownOp n) (o.0, t.is, there, none)) (λ row listed. listed)) (λ row h2 listed.
       let f : HasFound s.code at o.0 row = record { is = t.is; there = there; listed = listed } in
-      rw (offset_is s.code at end bs w) (chosen s _ (takes p row.place) _ _
-      (λ taken. row_reads p o.0 row at end ls bs o.1 w deep t.takes f taken row.tail refl)
-      (λ other. fails s _ (refusal p row.place at) (refusal_placed s.arity s.code at o.0 row f p other)))))
+      chosen s _ (takes p row.place) _ _ (λ taken. answers s _ (row, o.1) (o.0, (t.takes, (f, taken))))
+      (λ other. rw (offset_is s.code at end bs w) (fails s _ (refusal p row.place at) (refusal_placed s.arity s.code at o.0 row f p other)))))
+
+  operation_reads : (p : Position) → Reads s (suc levels) (TookTerm s (suc levels) p) (operation_at s.scope read p)
+  unfolding operation_at
+  operation_reads p at end ls bs w deep = then s _ _ _ _ (taken_reads p at end bs w) (λ r h t.
+      rw (offset_is s.code at end bs w) (row_reads p t.0 r.0 at end ls bs r.1 w deep t.1.0 t.1.1.0 t.1.1.1 (r.0).tail refl))
 
   -- ---- terms
 

@@ -3,7 +3,7 @@
 -- answers. What it means that code reads as terms is said without it, by `ReadsModule` and `ReadsBody` of aml_code, and
 -- what a fault says of the byte at its offset by `StandsAt`.
 use Rattle.std.specs.Prelude.{◌≡◌, ℕ, zero, suc, ◌+◌, ◌-◌, Bool, true, false, ◌==◌, if◌then◌else◌, nat_lt, List, []}
-use Rattle.std.specs.Prelude.{◌∷◌, length, take, drop, position, Option, Some, None, Result, Ok, Err, option_map, ok_or}
+use Rattle.std.specs.Prelude.{◌∷◌, ◌++◌, length, take, drop, position, Option, Some, None, Result, Ok, Err, option_map, ok_or}
 use Rattle.std.specs.FinSet as set
 use Rattle.aml_names.specs.declared.faults.CodeFault.{CodeFault}
 use Rattle.aml_names.specs.declared.segments.Seg.{Seg}
@@ -261,12 +261,17 @@ abbrev pub row_at : Option (List Seg) → (Position → Reader Tree) → Positio
 row_at scope read p at row None end ls bytes = plain_at scope read row end ls bytes
 row_at scope read p at row (Some k) end ls bytes = packed_at scope read p at row k end ls bytes
 
-unfoldable pub operation_at : Option (List Seg) → (Position → Reader Tree) → Position → Reader Tree
-operation_at scope read p end ls bytes = do
+-- an opcode that the position takes, by its row
+unfoldable pub taken_at : Position → ℕ → List ℕ → Left Row
+taken_at p end bytes = do
   o ← opcode_at end bytes
   row ← ok_or (row_of o.0) (CodeFault.UnknownOp (end - length bytes))
-  if takes p row.place then row_at scope read p (end - length bytes) row row.tail end ls o.1
-      else Err (refusal p row.place (end - length bytes))
+  if takes p row.place then Ok (row, o.1) else Err (refusal p row.place (end - length bytes))
+
+unfoldable pub operation_at : Option (List Seg) → (Position → Reader Tree) → Position → Reader Tree
+operation_at scope read p end ls bytes = do
+  row ← taken_at p end bytes
+  row_at scope read p (end - length bytes) row.0 row.0.tail end ls row.1
 
 -- 00 where a target is wanted
 abbrev pub is_absent_target : Position → ℕ → Bool
@@ -319,6 +324,11 @@ step_at arity levels p code at end = do
 -- the path that a reference points to, if there is one
 abbrev pub scope_of : Option (Bor (List Seg)) → Option (List Seg)
 scope_of scope = option_map (λ b. b.now) scope
+
+-- what was added to some elements, seen by a view, is what reading gives, with the paths declared then and what is left
+abbrev pub Adds : {X A : Type 0} → (X → A) → List X → List X → PathSet → List ℕ → Result (A × PathSet × List ℕ) CodeFault
+    → Type 0
+Adds {X = X} see old new ls rest read = (x : X) × ((new ≡ old ++ x ∷ []) × (read ≡ Ok (see x, ls, rest)))
 
 -- a term, as a parser reads it
 abbrev pub read_in : {A : Type 0} → (A → Arities) → Parser A → Position → Reader Tree

@@ -1,13 +1,16 @@
 //! Opcodes, which of them a position takes, and which position comes next.
-#![tactic(auto, unfolding(crate::specs::Reading::opcode_at))]
+#![tactic(auto, unfolding(crate::specs::Reading::opcode_at, crate::specs::Reading::taken_at))]
 
 ghost use Rattle.std.specs.Prelude.{◌≡◌};
 ghost use Rattle.aml_names.specs.NameReading.{Gives};
 ghost use Rattle.aml_code.specs.Lawful.{has_opcode, is_guard, next_position, tail_in, terms_in};
+ghost use Rattle.aml_code.specs.Opcodes.{row_view};
 ghost use Rattle.aml_code.specs.View.{node_view};
-ghost use Rattle.aml_parse.specs.Reading.{opcode_at, refused_in_body, refused_in_run, refusal, is_absent_target, Begins, takes_names, guard_at};
+ghost use Rattle.aml_parse.specs.Reading.{opcode_at, taken_at, refused_in_body, refused_in_run, refusal, is_absent_target, Begins, takes_names, guard_at};
 
-use aml_code::{CodeFault, Node, Place, Position, TailKind, byte_of};
+use aml_code::{
+    CodeFault, Node, OpRow, Place, Position, TailKind, byte_of, listed_row, offset_of, takes,
+};
 use aml_names::is_name_lead;
 
 /// An opcode: one byte, or 5B and a second.
@@ -53,6 +56,29 @@ pub fn refusal(position: Position, place: Place, at: u32) -> CodeFault
         Position::RunTerm | Position::RunAfterIf => refused_in_run(place, at),
         Position::BodyTerm | Position::AfterIf => refused_in_body(place, at),
         Position::Argument | Position::Target | Position::Data => CodeFault::NotHere { at },
+    }
+}
+
+/// The row of an opcode in its position, and what is left behind the opcode. `UnknownOp` where it has no row, and a fault
+/// where the position does not take it.
+#[inline]
+pub fn row_of(
+    position: Position,
+    end: u32,
+    bytes: &[u8],
+) -> Result<(&'static OpRow, &[u8]), CodeFault>
+    ensures { Gives (λ x. (row_view x.0.now, x.1.now)) result (taken_at position end bytes.now) }
+{
+    let (opcode, rest) = opcode_of(end, bytes)?;
+    let at = offset_of(end, bytes);
+    match listed_row(opcode) {
+        None => Err(CodeFault::UnknownOp { at }),
+        Some(row) => {
+            if !takes(position, row.place) {
+                return Err(refusal(position, row.place, at));
+            }
+            Ok((row, rest))
+        }
     }
 }
 

@@ -1,11 +1,11 @@
 //! Terms, and what is inside them.
-ghost use Rattle.std.specs.Prelude.{◌≡◌, None, length};
-ghost use Rattle.aml_names.specs.NameReading.{Gives};
+ghost use Rattle.std.specs.Prelude.{◌≡◌, None, length, IfOk, IfErr};
+ghost use Rattle.aml_names.specs.NameReading.{Gives, Fails};
 ghost use Rattle.aml_code.specs.Opcodes.{row_view};
 ghost use Rattle.aml_code.specs.Lawful.{tail_in, terms_in};
 ghost use Rattle.aml_code.specs.Tree.{op, child, no_parts, empty};
 ghost use Rattle.aml_code.specs.View.{node_view, nodes_view, part_view, parts_view, tail_view, field_view, fields_view, link_view};
-ghost use Rattle.aml_parse.specs.Reading.{scope_of, held_inside, read_in, part_at, parts_at, arguments_at, terms_at, fields_at, field_at, link_at, call_at, tail_at, plain_at, packed_at, row_at, operation_at};
+ghost use Rattle.aml_parse.specs.Reading.{scope_of, held_inside, read_in, part_at, parts_at, arguments_at, terms_at, fields_at, field_at, link_at, call_at, tail_at, plain_at, packed_at, row_at, Adds};
 
 use crate::flat::{
     any_name_part_of, byte_part_of, count_part_of, dword_part_of, name_part_of, qword_part_of,
@@ -14,16 +14,15 @@ use crate::flat::{
 use crate::packages::{body_of, operation_of, package_of};
 use crate::parser::Parser;
 use crate::positions::{
-    Lead, guard_of, is_guard, lead_of, next_position, opcode_of, refusal, tail_in, takes_names,
-    terms_in,
+    Lead, guard_of, is_guard, lead_of, next_position, row_of, tail_in, takes_names, terms_in,
 };
-use crate::room::without_room;
+use crate::room::{make_room, without_room};
 use crate::units::{
     access_unit_of, extended_unit_of, named_link_of, named_unit_of, reserved_unit_of,
 };
 use aml_code::{
     Arity, Bytes, CodeFault, Field, Link, Locals, Node, OpRow, Part, PartKind, Position, Tail,
-    TailKind, byte_of, listed_row, offset_of, takes,
+    TailKind, byte_of, offset_of,
 };
 use aml_names::name_of;
 use std::alloc::Global;
@@ -31,7 +30,7 @@ use std::alloc::Global;
 /// The opcode of a Buffer.
 const BUFFER: u8 = 0x11;
 
-/// An opcode with nothing behind it.
+/// An opcode with nothing behind it, as most are, which needs no list of parts.
 fn bare(alloc: Global, opcode: u16) -> Node
     ensures { node_view result ≡ op opcode None no_parts empty }
 {
@@ -57,7 +56,7 @@ impl<'a, A: Arity> Parser<'a, A> {
     /// A term: its first byte tells whether it is a name, nothing or an opcode. `TooDeep` where no level is left, and
     /// `ModuleCode` where no name may stand.
     #[cycle(terms)]
-    #[tactic(auto, unfolding(crate::specs::Reading::read_at, crate::specs::Reading::term_at, crate::specs::Reading::too_deep))]
+    #[tactic(auto, unfolding(crate::specs::Reading::read_at, crate::specs::Reading::term_at, crate::specs::Reading::too_deep, crate::specs::Reading::operation_at))]
     pub fn term<'b>(
         &self,
         position: Position,
@@ -69,10 +68,9 @@ impl<'a, A: Arity> Parser<'a, A> {
             (read_in A.arity self.now position end locals.old bytes.now) }
     {
         let (lead, rest) = byte_of(end, bytes)?;
+        let at = offset_of(end, bytes);
         if self.levels == 0 {
-            return Err(CodeFault::TooDeep {
-                at: offset_of(end, bytes),
-            });
+            return Err(CodeFault::TooDeep { at });
         }
         let inside = Parser {
             levels: self.levels - 1,
@@ -81,14 +79,31 @@ impl<'a, A: Arity> Parser<'a, A> {
         match lead_of(position, lead) {
             Lead::Name => {
                 if !takes_names(position) {
-                    return Err(CodeFault::ModuleCode {
-                        at: offset_of(end, bytes),
-                    });
+                    return Err(CodeFault::ModuleCode { at });
                 }
                 inside.call(position, end, locals, bytes)
             }
             Lead::Nothing => Ok((Node::Nothing, rest)),
-            Lead::Opcode => inside.operation(position, end, locals, bytes),
+            Lead::Opcode => {
+                let (row, behind) = row_of(position, end, bytes)?;
+                match row.tail {
+                    None => {
+                        if row.parts.is_empty() {
+                            return Ok((bare(self.alloc, row.opcode), behind));
+                        }
+                        inside.plain(row, end, locals, behind)
+                    }
+                    Some(tail) => {
+                        let found = Found {
+                            position,
+                            at,
+                            row,
+                            tail,
+                        };
+                        inside.packed(&found, end, locals, behind)
+                    }
+                }
+            }
         }
     }
 
@@ -133,45 +148,7 @@ impl<'a, A: Arity> Parser<'a, A> {
         Ok((found, rest))
     }
 
-    /// An opcode and what its row says. `UnknownOp` where it has no row, and a fault where the position does not take it.
-    #[cycle(terms)]
-    #[tactic(auto, unfolding(crate::specs::Reading::operation_at))]
-    fn operation<'b>(
-        &self,
-        position: Position,
-        end: u32,
-        locals: &mut Locals,
-        bytes: &'b [u8],
-    ) -> Result<(Node, &'b [u8]), CodeFault>
-        ensures { Gives (λ x. (node_view x.0, locals.new, x.1.now)) result
-            (operation_at (scope_of self.now.scope) (read_in A.arity self.now) position end locals.old
-            bytes.now) }
-    {
-        let (opcode, rest) = opcode_of(end, bytes)?;
-        let at = offset_of(end, bytes);
-        match listed_row(opcode) {
-            None => Err(CodeFault::UnknownOp { at }),
-            Some(row) => {
-                if !takes(position, row.place) {
-                    return Err(refusal(position, row.place, at));
-                }
-                match row.tail {
-                    None => self.plain(row, end, locals, rest),
-                    Some(tail) => {
-                        let found = Found {
-                            position,
-                            at,
-                            row,
-                            tail,
-                        };
-                        self.packed(&found, end, locals, rest)
-                    }
-                }
-            }
-        }
-    }
-
-    /// An opcode without a package length. Most have no parts, and so need no list of parts.
+    /// An opcode without a package length.
     #[cycle(terms)]
     fn plain<'b>(
         &self,
@@ -184,9 +161,6 @@ impl<'a, A: Arity> Parser<'a, A> {
             (plain_at (scope_of self.now.scope) (read_in A.arity self.now)
             (row_view row.now) end locals.old bytes.now) }
     {
-        if row.parts.is_empty() {
-            return Ok((bare(self.alloc, row.opcode), bytes));
-        }
         let (parts, rest) = self.parts(row.parts, end, locals, bytes)?;
         let tail = Tail::Empty;
         self.declare(row.role, parts.as_slice(), &tail, locals)?;
@@ -233,54 +207,66 @@ impl<'a, A: Arity> Parser<'a, A> {
         let mut found = Vec::with_capacity(self.alloc, kinds.len())?;
         let mut rest = bytes;
         for kind in kinds {
-            let (part, behind) = self.part(*kind, end, locals, rest)?;
-            found.push(part)?;
-            rest = behind;
+            rest = self.push_part(*kind, end, locals, &mut found, rest)?;
         }
         Ok((found, rest))
     }
 
-    /// A part of this kind.
+    /// Adds a part of this kind to those before it, and gives what is left.
     #[cycle(terms)]
-    fn part<'b>(
+    fn push_part<'b>(
         &self,
         kind: PartKind,
         end: u32,
         locals: &mut Locals,
+        found: &mut Vec<Part>,
         bytes: &'b [u8],
-    ) -> Result<(Part, &'b [u8]), CodeFault>
-        ensures { Gives (λ x. (part_view x.0, locals.new, x.1.now)) result
-            (part_at (read_in A.arity self.now) kind end locals.old bytes.now) }
+    ) -> Result<&'b [u8], CodeFault>
+        ensures added { IfOk result (λ rest. Adds part_view found.old.items found.new.items locals.new rest.now
+            (part_at (read_in A.arity self.now) kind end locals.old bytes.now)) }
+        ensures fails { IfErr result (λ e. Fails e
+            (part_at (read_in A.arity self.now) kind end locals.old bytes.now)) }
     {
-        match kind {
-            PartKind::Term => self.child(Position::Argument, end, locals, bytes),
-            PartKind::Target => self.child(Position::Target, end, locals, bytes),
-            PartKind::Data => self.child(Position::Data, end, locals, bytes),
-            PartKind::Name => Ok(name_part_of(self.alloc, end, bytes)?),
-            PartKind::ScopeName => Ok(any_name_part_of(self.alloc, end, bytes)?),
-            PartKind::Byte => Ok(byte_part_of(end, bytes)?),
-            PartKind::Count => Ok(count_part_of(end, bytes)?),
-            PartKind::Word => Ok(word_part_of(end, bytes)?),
-            PartKind::Dword => Ok(dword_part_of(end, bytes)?),
-            PartKind::Qword => Ok(qword_part_of(end, bytes)?),
-            PartKind::Text => Ok(text_part_of(self.alloc, end, bytes)?),
-        }
+        let (part, rest) = match kind {
+            PartKind::Term => {
+                return self.push_child(Position::Argument, end, locals, found, bytes);
+            }
+            PartKind::Target => {
+                return self.push_child(Position::Target, end, locals, found, bytes);
+            }
+            PartKind::Data => return self.push_child(Position::Data, end, locals, found, bytes),
+            PartKind::Name => name_part_of(self.alloc, end, bytes)?,
+            PartKind::ScopeName => any_name_part_of(self.alloc, end, bytes)?,
+            PartKind::Byte => byte_part_of(end, bytes)?,
+            PartKind::Count => count_part_of(end, bytes)?,
+            PartKind::Word => word_part_of(end, bytes)?,
+            PartKind::Dword => dword_part_of(end, bytes)?,
+            PartKind::Qword => qword_part_of(end, bytes)?,
+            PartKind::Text => text_part_of(self.alloc, end, bytes)?,
+        };
+        found.push(part)?;
+        Ok(rest)
     }
 
-    /// A term as a part.
+    /// Adds a term as a part.
+    #[inline(always)]
     #[cycle(terms)]
-    fn child<'b>(
+    fn push_child<'b>(
         &self,
         position: Position,
         end: u32,
         locals: &mut Locals,
+        found: &mut Vec<Part>,
         bytes: &'b [u8],
-    ) -> Result<(Part, &'b [u8]), CodeFault>
-        ensures { Gives (λ x. (part_view x.0, locals.new, x.1.now)) result
-            (held_inside child (read_in A.arity self.now position end locals.old bytes.now)) }
+    ) -> Result<&'b [u8], CodeFault>
+        ensures added { IfOk result (λ rest. Adds part_view found.old.items found.new.items locals.new rest.now
+            (held_inside child (read_in A.arity self.now position end locals.old bytes.now))) }
+        ensures fails { IfErr result (λ e. Fails e
+            (held_inside child (read_in A.arity self.now position end locals.old bytes.now))) }
     {
         let (node, rest) = self.term(position, end, locals, bytes)?;
-        Ok((Part::Child(node), rest))
+        found.push(Part::Child(node))?;
+        Ok(rest)
     }
 
     /// What follows the parts, to the end of the span.
@@ -407,6 +393,7 @@ impl<'a, A: Arity> Parser<'a, A> {
             }
             let (node, behind) = self.term(here, end, locals, rest)?;
             here = next_position(here, &node);
+            make_room(&mut found, behind.is_empty())?;
             found.push(node)?;
             rest = behind;
         }

@@ -1,8 +1,10 @@
-use Rattle.aml_parse.proofs.Common.{rules, PartKind, ◌≡◌, ◌+◌, ◌-◌, length, drop, get_or, [], ◌∷◌, inr, Ok, ap, sym, ◌∙◌, arith, add-one, drop-cons, drop_all}
+use Rattle.aml_parse.proofs.Common.{rules, PartKind, ◌≡◌, ◌+◌, ◌-◌, length, drop, get_or, [], ◌∷◌, inr, Some, None, Ok, ap, sym, ◌∙◌, arith, add-one, drop-cons, drop_all}
 use Rattle.aml_parse.proofs.Common.{row_view, no_trees, tree_more, no_fields, field_more, node_view, field_view}
 use Rattle.aml_parse.proofs.Bare.{plain_bare}
+use Rattle.aml_parse.proofs.Opened.{opcode_read}
 use Rattle.aml_parse.proofs.Loops.{parts_go_on, parts_fails, parts_end, arguments_go_on, arguments_fails, arguments_end, go_on, fails, runs_out, done, nodes_found}
 use Rattle.aml_parse.proofs.Loops.{fields_found}
+use Rattle.aml_parse.specs.Reading.{scope_of}
 use Rattle.aml_parse.proofs.parser.Parser.+terms.Goals as goal
 
 pub arguments-returns-in_err-node : goal.arguments-returns-in_err-node
@@ -24,18 +26,14 @@ pub arguments-returns : goal.arguments-returns
 arguments-returns g t c =
     arguments_end _ c.loop-i.found.items _ _ _ _ (c.args.count - c.loop-i._i) (omega (arith, c.loop-i-test.false)) c.loop-i.invariant
 
-pub plain-returns-then-is_empty : goal.plain-returns-then-is_empty
-plain-returns-then-is_empty g t c =
-    plain_bare _ _ (row_view c.args.row.now) _ _ _ (grind arith) ∙ ap (λ y. Ok (y, c.args.locals.now, c.args.bytes.now)) (sym c.bare.ensures)
-
-pub parts-returns-in_err-part : goal.parts-returns-in_err-part
-parts-returns-in_err-part g t c =
+pub parts-returns-in_err-rest : goal.parts-returns-in_err-rest
+parts-returns-in_err-rest g t c =
     let i = c.loop-kind.kind-index in
     let ks = c.args.kinds.now in
     let k = get_or ks i PartKind.Term in
     let cut : drop i ks ≡ k ∷ drop (i + 1) ks = rw add-one (drop-cons ks i PartKind.Term c.loop-kind-test.true) in
     let failed =
-    parts_fails _ c.loop-kind.found.items _ _ _ _ c.in_err-part.field-0.0 k (drop (i + 1) ks) c.in_err-part.ensures (rw cut at c.loop-kind.invariant) in
+    parts_fails _ c.loop-kind.found.items _ _ _ _ c.in_err-rest.field-0.0 k (drop (i + 1) ks) c.in_err-rest.ensures.fails (rw cut at c.loop-kind.invariant) in
     search rules
 
 pub parts-loop-kind-preserved : goal.parts-loop-kind-preserved
@@ -44,8 +42,9 @@ parts-loop-kind-preserved g t c =
     let ks = c.args.kinds.now in
     let k = get_or ks i PartKind.Term in
     let cut : drop i ks ≡ k ∷ drop (i + 1) ks = rw add-one (drop-cons ks i PartKind.Term c.loop-kind-test.true) in
-    rw c.in_ok-push.ensures.items
-    (parts_go_on _ c.loop-kind.found.items _ _ _ _ c.in_ok-part.part k (drop (i + 1) ks) _ _ c.in_ok-part.ensures (rw cut at c.loop-kind.invariant))
+    let added = c.in_ok-rest.ensures.added in
+    rw added.1.0
+    (parts_go_on _ c.loop-kind.found.items _ _ _ _ added.0 k (drop (i + 1) ks) _ _ added.1.1 (rw cut at c.loop-kind.invariant))
 
 pub parts-returns : goal.parts-returns
 parts-returns g t c =
@@ -69,7 +68,7 @@ terms-loop-turn-preserved g t c =
     let next =
     go_on no_trees tree_more _ _ node_view c.loop-turn.found.items c.loop-turn.here _ _ _ (length c.args.bytes.now - c.loop-turn._turn)
     c.loop-turn.rest.now c.in_ok-node.node _ _ (grind arith) (omega (arith, c.loop-turn-test.true)) c.in_ok-node.ensures c.loop-turn.invariant in
-    rw (c.in_ok-push.ensures.items, c.next_position-here.ensures) (rw less at next)
+    rw (c.in_ok-push.ensures.items, c.in_ok-make_room.ensures, c.next_position-here.ensures) (rw less at next)
 
 pub terms-returns-then-is_empty-2 : goal.terms-returns-then-is_empty-2
 terms-returns-then-is_empty-2 g t c =
@@ -107,3 +106,18 @@ pub fields-returns-else-is_empty-2 : goal.fields-returns-else-is_empty-2
 fields-returns-else-is_empty-2 g t c =
     inr (runs_out no_fields field_more _ _ field_view c.loop-turn.found.items _ _ _ _ (length c.args.bytes.now - c.loop-turn._turn)
     c.loop-turn.rest.now (omega (arith, c.loop-turn-test.false)) (grind arith) c.loop-turn.invariant)
+
+pub term-returns-in-Some : goal.term-returns-in-Some
+term-returns-in-Some g t c =
+    let is = opcode_read (g.A.Arity.arity c.args.self.now.arity.now) (scope_of c.args.self.now.scope) c.args.self.now.levels c.args.position c.args.end c.args.locals.now c.args.bytes.now (c.in_ok-lead.lead, c.in_ok-lead.rest.now)
+    (row_view c.in_ok-row-in-Opcode.row.now, c.in_ok-row-in-Opcode.behind.now) (Some c.in-Some.tail) (omega (arith, c.if-self-eq0.false)) c.in_ok-lead.ensures.exact
+    (search rules) (search rules) c.in_ok-row-in-Opcode.ensures (search rules) in
+    rw is (search rules)
+
+pub term-returns-then-is_empty : goal.term-returns-then-is_empty
+term-returns-then-is_empty g t c =
+    let is = opcode_read (g.A.Arity.arity c.args.self.now.arity.now) (scope_of c.args.self.now.scope) c.args.self.now.levels c.args.position c.args.end c.args.locals.now c.args.bytes.now
+    (c.in_ok-lead.lead, c.in_ok-lead.rest.now) (row_view c.in_ok-row-in-Opcode.row.now, c.in_ok-row-in-Opcode.behind.now) None
+    (omega (arith, c.if-self-eq0.false)) c.in_ok-lead.ensures.exact (search rules) (search rules) c.in_ok-row-in-Opcode.ensures (search rules) in
+    is ∙ plain_bare _ _ (row_view c.in_ok-row-in-Opcode.row.now) _ _ _ (grind arith)
+    ∙ ap (λ y. Ok (y, c.args.locals.now, c.in_ok-row-in-Opcode.behind.now)) (sym c.bare.ensures)

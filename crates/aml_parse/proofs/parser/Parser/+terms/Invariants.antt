@@ -12,9 +12,6 @@ decreases-call g l = 8 * l.self.now.levels + 6
 abbrev pub decreases-arguments : goal.decreases-arguments
 decreases-arguments g l = 8 * l.self.now.levels + 5
 
-abbrev pub decreases-operation : goal.decreases-operation
-decreases-operation g l = 8 * l.self.now.levels + 7
-
 abbrev pub decreases-plain : goal.decreases-plain
 decreases-plain g l = 8 * l.self.now.levels + 6
 
@@ -24,11 +21,11 @@ decreases-packed g l = 8 * l.self.now.levels + 6
 abbrev pub decreases-parts : goal.decreases-parts
 decreases-parts g l = 8 * l.self.now.levels + 5
 
-abbrev pub decreases-part : goal.decreases-part
-decreases-part g l = 8 * l.self.now.levels + 4
+abbrev pub decreases-push_part : goal.decreases-push_part
+decreases-push_part g l = 8 * l.self.now.levels + 4
 
-abbrev pub decreases-child : goal.decreases-child
-decreases-child g l = 8 * l.self.now.levels + 3
+abbrev pub decreases-push_child : goal.decreases-push_child
+decreases-push_child g l = 8 * l.self.now.levels + 3
 
 abbrev pub decreases-tail : goal.decreases-tail
 decreases-tail g l = 8 * l.self.now.levels + 5
