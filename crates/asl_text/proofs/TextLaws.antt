@@ -1,4 +1,5 @@
 -- Texts of lists, as loops print them.
+use Rattle.std.proofs.Common.{◌≤◌, ◌-◌, drop, sym, arith}
 use Rattle.asl_text.proofs.Common.{◌≡◌, ℕ, ◌+◌, ◌<◌, add-one, append-nil, List, [], ◌∷◌, ◌++◌, get_or, map, flat_map, length, take, refl, ap, ◌∙◌, take_more}
 use Rattle.asl_text.proofs.Common.{map-append, nil_from_length, flat_map-append, word, indent, separated}
 use Rattle.asl_text.proofs.Common.{Name, cond, replicate}
@@ -6,6 +7,8 @@ use Rattle.asl_text.specs.Texts.{segment_text}
 unfoldable use Rattle.asl_text.specs.Texts.{prefix_text, name_text}
 use Rattle.text_writer.proofs.PrintLaws.{straight}
 use Rattle.std.proofs.lemmas.Grind.{replicate_next}
+use Rattle.std.proofs.lemmas.List.{take_all}
+use Rattle.std.proofs.Math.Seq.{take-add}
 
 -- what is made of a list that grows at its end
 pub grown : {X Y : Type 0} (F : List X → List Y) (g : X → List Y) → ((xs : List X) (x : X) → F (xs ++ x ∷ []) ≡ F xs ++ g x) → (xs : List X) (i j : ℕ) (d : X)
@@ -42,6 +45,19 @@ module _ {X : Type 0} (separator : List ℕ) (g : X → List ℕ) (xs : List X) 
   separated-turn i j d e h =
       grown (λ ys. continued separator (map g ys)) (λ x. separator ++ g x)
       (λ ys x. ap (continued separator) (map-append g ys (x ∷ [])) ∙ continued_more separator (map g ys) (g x)) xs i j d e h
+
+  pub continued-all : (i : ℕ) → length xs ≤ i → continued separator (map g (take i xs)) ≡ flat_map (λ text. separator ++ text) (map g xs)
+  unfolding continued
+  continued-all i e = ap (λ ys. flat_map (λ text. separator ++ text) (map g ys)) (take_all i xs e)
+
+  pub continued-on : (done n : ℕ) → continued separator (map g (take (done + n) xs)) ≡ continued separator (map g (take done xs))
+      ++ flat_map (λ text. separator ++ text) (map g (take ((done + n) - done) (drop done xs)))
+  unfolding continued
+  continued-on done n =
+      let count : (done + n) - done ≡ n = omega arith in
+      ap (λ ys. flat_map (λ text. separator ++ text) (map g ys)) (take-add done n xs ∙ ap (λ m. take done xs ++ take m (drop done xs)) (sym count))
+      ∙ ap (flat_map (λ text. separator ++ text)) (map-append g (take done xs) (take ((done + n) - done) (drop done xs)))
+      ∙ flat_map-append (λ text. separator ++ text) (map g (take done xs)) (map g (take ((done + n) - done) (drop done xs)))
 
 pub ruleset separations = (separated-nil, separated-cons, separated-turn, continued_none)
 

@@ -1,7 +1,7 @@
 //! The text of names.
 #![tactic(auto, using(crate::proofs::TextLaws::names))]
 
-ghost use Rattle.std.specs.Prelude.{[], ◌++◌, cond, map, replicate};
+ghost use Rattle.std.specs.Prelude.{◌≡◌, ◌≤◌, [], ◌++◌, cond, flat_map, length, map, replicate};
 ghost use Rattle.text_writer.specs.Prints.{Prints, word};
 ghost use Rattle.asl_text.specs.Texts.{separated, prefix_text, segment_text, name_text};
 
@@ -42,12 +42,51 @@ impl Inline for Seg {
     }
 }
 
-/// A dot and a segment, put together: a deep path has many thousands of them.
-fn print_dotted<W: Write>(out: &mut Out<'_, W>, seg: Seg)
-    ensures { Prints W.contents out.old out.new (word "." ++ segment_text seg) }
+/// A dot and a segment.
+fn dotted(seg: Seg) -> [u8; 5]
+    ensures { result ≡ word "." ++ segment_text seg }
 {
     let [first, second, third, fourth] = seg.0;
-    out.put(&[b'.', first, second, third, fourth]);
+    [b'.', first, second, third, fourth]
+}
+
+/// So many segments are put together at once, 20 KB of text.
+const BLOCK: usize = 4096;
+
+/// With fewer segments a block costs more than it saves.
+const FEW: usize = 512;
+
+/// As many segments as a block takes at most, each behind a dot.
+fn print_block<W: Write>(out: &mut Out<'_, W>, segs: &[Seg])
+    requires { length segs.now ≤ 4096 }
+    ensures { Prints W.contents out.old out.new (flat_map (λ text. word "." ++ text) (map segment_text segs.now)) }
+{
+    let mut block = [[0; 5]; BLOCK];
+    for place in 0..segs.len() {
+        block[place] = dotted(segs[place]);
+    }
+    out.put(block[..segs.len()].as_flattened());
+}
+
+/// Many segments, each behind a dot, a block at a time: a deep path has many thousands of them.
+fn print_blocks<W: Write>(out: &mut Out<'_, W>, segs: &[Seg])
+    ensures { Prints W.contents out.old out.new (flat_map (λ text. word "." ++ text) (map segment_text segs.now)) }
+{
+    let mut done = 0;
+    while done < segs.len() {
+        let count = BLOCK.min(segs.len() - done);
+        print_block(out, &segs[done..done + count]);
+        done += count;
+    }
+}
+
+/// A few segments, each behind a dot.
+fn print_few<W: Write>(out: &mut Out<'_, W>, segs: &[Seg])
+    ensures { Prints W.contents out.old out.new (flat_map (λ text. word "." ++ text) (map segment_text segs.now)) }
+{
+    for seg in segs {
+        out.put(&dotted(*seg));
+    }
 }
 
 /// Segments with a dot between two.
@@ -56,8 +95,10 @@ pub fn print_segments<W: Write>(out: &mut Out<'_, W>, segs: &[Seg])
 {
     if let Some((first, rest)) = segs.split_first() {
         first.print(out);
-        for seg in rest {
-            print_dotted(out, *seg);
+        if rest.len() < FEW {
+            print_few(out, rest);
+        } else {
+            print_blocks(out, rest);
         }
     }
 }

@@ -1,8 +1,7 @@
-use Rattle.std.proofs.Common.{rules, ◌≡◌, ℕ, List, [], ◌∷◌, length, slice_index_or, ap, subst, refl, arith}
-use Rattle.text_writer.specs.Prints.{Prints}
+use Rattle.std.proofs.Common.{rules, ◌≡◌, ℕ, List, [], ◌∷◌, length, slice_index_or, ap, refl, arith}
 unfoldable use Rattle.text_writer.specs.Prints.{word}
 unfoldable use Rattle.asl_text.specs.Texts.{segment_text}
-use Rattle.asl_text.proofs.words.print_dotted.Goals as goal
+use Rattle.asl_text.proofs.words.dotted.Goals as goal
 
 four : (bytes : List ℕ) → length bytes ≡ 4
     → slice_index_or bytes 0 0 ∷ slice_index_or bytes 1 0 ∷ slice_index_or bytes 2 0 ∷ slice_index_or bytes 3 0 ∷ [] ≡ bytes
@@ -11,4 +10,4 @@ four _ h = absurd (omega (arith, h))
 
 pub returns : goal.returns
 unfolding word segment_text
-returns g c = subst (Prints g.W.Write.contents c.args.out.now c.put.new.self) (ap (λ bytes. 46 ∷ bytes) (four c.args.seg.0 (search rules))) c.put.ensures
+returns c = ap (λ bytes. 46 ∷ bytes) (four c.args.seg.0 (search rules))
