@@ -4,7 +4,7 @@ ghost use Rattle.std.specs.Prelude.{◌≤◌, length};
 use crate::code::push_body_of;
 use crate::lines::{Line, count_of, first_word};
 use aml_names::{Arity, Locals, Name, NameForm, Path, ScopedPath, Seg, Segs, SharedPath, place};
-use aml_space::{BodyScope, Kind, Space, SpaceRow};
+use aml_space::{BodyScope, Kind, Space, SpaceRow, Target};
 use std::alloc::{AllocError, Global};
 use std::fmt::Write;
 
@@ -348,7 +348,7 @@ fn kind_of(alloc: Global, words: &str) -> Result<Kind, AllocError> {
             args: count_of(more),
         },
         "Alias" => Kind::Alias {
-            target: ScopedPath::whole(alloc, path_of(alloc, more)?)?,
+            target: Target::new(alloc, ScopedPath::whole(alloc, path_of(alloc, more)?)?)?,
         },
         "Device" => Kind::Device,
         _ => Kind::Name,

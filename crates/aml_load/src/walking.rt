@@ -16,7 +16,7 @@ use crate::uses::{Site, add_names};
 use aml_code::{Field, Name, NoMemory, Node, Part, Role, Seg, Tail, last_byte, last_name};
 use aml_names::{ScopedPath, Segs};
 use aml_set::Method;
-use aml_space::{Kind, Space, SpaceFault};
+use aml_space::{Kind, Space, SpaceFault, Target};
 use std::alloc::Global;
 
 /// The most methods that a set of tables may have.
@@ -132,13 +132,16 @@ impl Progress {
 
 impl Progress {
     /// What an Alias of a path stands for: an Alias' own target, else the path.
-    fn target_of(&self, path: &ScopedPath) -> Result<ScopedPath, NoMemory>
+    fn target_of(&self, path: &ScopedPath) -> Result<Target, NoMemory>
         ensures { (l : Listed) → StandsFor self.now.space l.entries →
             IfOk result (λ target. target ≡ target_of l.entries path.now) }
     {
         match self.space.kind_of(&path.parts()) {
             Some(Kind::Alias { target }) => target.clone(),
-            _ => path.clone(),
+            _ => {
+                let path = path.clone()?;
+                Target::new(self.alloc, path)
+            }
         }
     }
 

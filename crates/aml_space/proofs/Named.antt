@@ -1,7 +1,7 @@
 -- The path of a node is that of its parent, and the segment by which it is a child there (`path_on`). So it is the path
 -- that leads to the node (`path_led`), and it is read from the node up (`step_up`).
 use Rattle.std.proofs.Common.{◌≡◌, ℕ, zero, suc, ◌+◌, ◌-◌, ◌<◌, ◌≤◌, List, [], ◌∷◌, ◌++◌, length, take, drop, Option, Some, None, inl, inr, refl, sym, ap}
-use Rattle.std.proofs.Common.{subst, ◌∙◌, arith, append_assoc}
+use Rattle.std.proofs.Common.{subst, ◌∙◌, arith, append_assoc, length-append}
 use Rattle.std.specs.Option.{option_and_then}
 use Rattle.std.proofs.lemmas.Bool.{cases_lt}
 use Rattle.std.proofs.lemmas.List.{append-nil, drop-take, length-take}
@@ -10,7 +10,7 @@ use Rattle.std.proofs.lemmas.Option.{same_Some}
 use Rattle.aml_names.specs.declared.segments.Seg.{Seg}
 use Rattle.aml_children.specs.Children.{child_in}
 use Rattle.aml_space.specs.declared.nodes.Node.{Node}
-use Rattle.aml_space.specs.Nodes.{walk, kids_of, links_of, path_of, segs_down, IsIndex}
+use Rattle.aml_space.specs.Nodes.{walk, kids_of, links_of, path_of, segs_down, links_up, IsIndex}
 use Rattle.aml_space.proofs.Visiting.{links_on}
 use Rattle.aml_space.proofs.Walks.{kid_range}
 
@@ -18,6 +18,19 @@ use Rattle.aml_space.proofs.Walks.{kid_range}
 pub not_root : (ns : List Node) (j : ℕ) → 0 < length (path_of ns j) → 0 < j
 not_root ns zero some = absurd (omega (arith, some))
 not_root ns (suc j) some = omega arith
+
+-- a path is no longer than its node's number
+segs_length : (ls : List (ℕ × Seg)) → length (segs_down ls) ≡ length ls
+segs_length [] = refl
+segs_length (l ∷ ls) = length-append (segs_down ls) (l.1 ∷ []) ∙ omega (arith, segs_length ls)
+
+links_short : (link : ℕ → ℕ × Seg) (n i : ℕ) → length (links_up link n i) ≤ n
+links_short link zero i = omega arith
+links_short link (suc n) zero = omega arith
+links_short link (suc n) (suc i) = omega (arith, links_short link n (link (suc i)).0)
+
+pub path_short : (ns : List Node) (j : ℕ) → length (path_of ns j) ≤ j
+path_short ns j = subst (λ n. n ≤ j) (sym (segs_length (links_up (links_of ns) j j))) (links_short (links_of ns) j j)
 
 -- so many last segments of a front are those from a place on
 pub last_part : (p : List Seg) (from n : ℕ) (front : List Seg) → n ≤ length p - from → front ≡ take (length p - (length p - from - n)) p
@@ -45,6 +58,10 @@ module _ (ns : List Node) (is : IsIndex ns) where
 
   pub lower_up : (j : ℕ) (l : ℕ × Seg) → 0 < j → j < length ns → l ≡ links_of ns j → l.0 < j
   lower_up j l some within here = subst (λ (l : ℕ × Seg). l.0 < j) (sym here) (is.linked.lower j some within)
+
+  pub one_longer : (j : ℕ) (l : ℕ × Seg) → 0 < j → j < length ns → l ≡ links_of ns j → length (path_of ns j) ≡ length (path_of ns l.0) + 1
+  one_longer j l some within here = ap length (sym (step_up j l [] some within here ∙ append-nil (path_of ns j)))
+      ∙ length-append (path_of ns l.0) (l.1 ∷ [])
 
   led_on : (i : ℕ) (q : List Seg) (j : ℕ) → walk (kids_of ns) i q ≡ Some j → path_of ns j ≡ path_of ns i ++ q
   led_on i [] j led = ap (path_of ns) (sym (same_Some i j led)) ∙ sym (append-nil (path_of ns i))

@@ -10,12 +10,12 @@ ghost use Rattle.aml_names.specs.declared.segments.Seg.{Seg};
 ghost use Rattle.aml_space.specs.Tallies.{joined, counts_in, own_count, is_nothing};
 
 use crate::declarations::Declarations;
-use crate::kinds::Kind;
+use crate::kinds::{Kind, Target};
 use crate::nodes::Node;
 use crate::predefined::Predefined;
 use crate::tallies::{Counts, own_counts};
 use crate::walking::{aim_at, declared_at, kind_at, node_of, out_at};
-use aml_names::{Path, ScopedPath};
+use aml_names::Path;
 
 /// The kind of a path: the declared one of its node, else the predefined one.
 pub(crate) fn kind_met<'a>(
@@ -60,7 +60,7 @@ pub(crate) fn count_met(
 }
 
 /// The node of what an Alias stands for, by the node of the Alias, which keeps it, or by the path.
-fn target_node(nodes: &[Node], alias: Option<usize>, target: &ScopedPath) -> Option<usize>
+fn target_node(nodes: &[Node], alias: Option<usize>, target: &Target) -> Option<usize>
     requires shape { IsShape nodes.now }
     requires aimed { IsAimed nodes.now }
     requires within { IfSome alias (λ i. i < length nodes.now) }
@@ -72,7 +72,7 @@ fn target_node(nodes: &[Node], alias: Option<usize>, target: &ScopedPath) -> Opt
 }
 
 /// The node of a path, which is kept for an Alias of it, or looked up.
-fn aimed_node(nodes: &[Node], aim: usize, target: &ScopedPath) -> Option<usize>
+fn aimed_node(nodes: &[Node], aim: usize, target: &Target) -> Option<usize>
     requires shape { IsShape nodes.now }
     requires aim { IsAim nodes.now (Some (Alias target.now)) aim }
     ensures node { result ≡ walk (kids_of nodes.now) 0 target.now }
@@ -85,12 +85,7 @@ fn aimed_node(nodes: &[Node], aim: usize, target: &ScopedPath) -> Option<usize>
 }
 
 /// How many arguments the target of an Alias takes, by its node.
-fn count_target(
-    nodes: &[Node],
-    predefined: &Predefined,
-    node: Option<usize>,
-    target: &ScopedPath,
-) -> u8
+fn count_target(nodes: &[Node], predefined: &Predefined, node: Option<usize>, target: &Target) -> u8
     requires shape { IsShape nodes.now }
     requires within { IfSome node (λ i. i < length nodes.now) }
     requires node { node ≡ walk (kids_of nodes.now) 0 target.now }
@@ -162,7 +157,7 @@ fn counts_of_target(
     nodes: &[Node],
     predefined: &Predefined,
     node: Option<usize>,
-    target: &ScopedPath,
+    target: &Target,
 ) -> Counts
     requires shape { IsShape nodes.now }
     requires within { IfSome node (λ i. i < length nodes.now) }

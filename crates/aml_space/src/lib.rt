@@ -26,7 +26,7 @@ mod walking;
 
 pub use bodies::{BodyNames, BodyScope};
 pub use faults::SpaceFault;
-pub use kinds::Kind;
+pub use kinds::{Kind, Target};
 pub use laws::rows_are_declared;
 pub use listing::Rows;
 pub use rows::Row;

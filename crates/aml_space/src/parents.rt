@@ -1,6 +1,6 @@
 //! The path of a node, from the node up.
 ghost use Rattle.std.specs.Prelude.{◌≡◌, ◌<◌, ◌≤◌, ◌-◌, length, take, drop};
-ghost use Rattle.aml_space.specs.Nodes.{links_of, path_of, IsIndex};
+ghost use Rattle.aml_space.specs.Nodes.{links_of, path_of, IsIndex, IsPlace};
 
 use crate::nodes::Node;
 use aml_names::Seg;
@@ -14,20 +14,41 @@ pub(crate) fn link(nodes: &[Node], at: usize) -> (usize, Seg)
     (node.parent, node.seg)
 }
 
-/// How many segments the path of a node has.
-pub(crate) fn depth_of(nodes: &[Node], from: usize) -> usize
+/// A node, and how many segments its path has.
+#[derive(Clone, Copy)]
+pub(crate) struct Place {
+    pub node: usize,
+    pub depth: usize,
+}
+
+/// The place of a node, by that of another: the nearer they are, the sooner. A parent has a smaller number, so the greater
+/// number goes up until both meet.
+pub(crate) fn place_by(nodes: &[Node], node: usize, near: Place) -> Place
     requires index { IsIndex nodes.now }
-    requires within { from < length nodes.now }
-    ensures { result ≡ length (path_of nodes.now from) }
+    requires within { node < length nodes.now }
+    requires near { IsPlace nodes.now near }
+    ensures place { IsPlace nodes.now result }
+    ensures node { result.node ≡ node }
 {
-    let mut at = from;
-    let mut depth: usize = 0;
-    while at != 0 {
-        let (parent, _) = link(nodes, at);
-        at = parent;
-        depth += 1;
+    let mut here = node;
+    let mut there = near.node;
+    let mut up: usize = 0;
+    let mut down = near.depth;
+    while here != there {
+        if here > there {
+            let (parent, _) = link(nodes, here);
+            here = parent;
+            up += 1;
+        } else {
+            let (parent, _) = link(nodes, there);
+            there = parent;
+            down -= 1;
+        }
     }
-    depth
+    Place {
+        node,
+        depth: down + up,
+    }
 }
 
 /// The node so many levels above another.

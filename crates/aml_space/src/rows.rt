@@ -1,11 +1,11 @@
 //! The declared paths, and what their declarations say.
 ghost use Rattle.std.specs.Prelude.{◌≡◌, ◌<◌, ◌-◌, length, take, drop, min, IfOk};
-ghost use Rattle.aml_space.specs.Nodes.{path_of, IsIndex};
+ghost use Rattle.aml_space.specs.Nodes.{path_of, IsIndex, IsPlace};
 
 use crate::declarations::Declarations;
 use crate::kinds::Kind;
 use crate::nodes::Node;
-use crate::parents::{ancestor, depth_of, fill};
+use crate::parents::{Place, ancestor, fill};
 use aml_names::{NoMemory, Path, Seg};
 use std::alloc::Global;
 use std::marker::Model;
@@ -16,48 +16,40 @@ use std::marker::Model;
 pub struct Row<'a> {
     nodes: &'a [Node],
     /// The node of the path.
-    at: usize,
-    /// How many segments the path has.
-    depth: usize,
+    at: Place,
     said: &'a Declarations,
 }
 
 impl<'a> Model for Row<'a> {
-    ghost use Rattle.std.specs.Prelude.{List, ◌≡◌, ◌<◌, length};
+    ghost use Rattle.std.specs.Prelude.{List};
     ghost use Rattle.aml_names.specs.declared.segments.Seg.{Seg};
     ghost use Rattle.aml_space.specs.Known.{Declared, coded_row};
-    ghost use Rattle.aml_space.specs.Nodes.{path_of, IsIndex};
+    ghost use Rattle.aml_space.specs.Nodes.{path_of, IsIndex, IsPlace};
 
     ghost Value = { List Seg × Declared };
 
     ghost coded = { coded_row };
 
-    ghost view = { λ s. (path_of s.nodes.now s.at, s.said.now) };
+    ghost view = { λ s. (path_of s.nodes.now s.at.node, s.said.now) };
 
-    ghost invariant = { λ s. IsIndex s.nodes.now × (s.at < length s.nodes.now)
-        × (s.depth ≡ length (path_of s.nodes.now s.at)) };
+    ghost invariant = { λ s. IsIndex s.nodes.now × IsPlace s.nodes.now s.at };
 }
 
 impl<'a> Row<'a> {
     /// The row of a node.
-    pub(crate) fn new(nodes: &'a [Node], at: usize, said: &'a Declarations) -> Row<'a>
+    pub(crate) fn new(nodes: &'a [Node], at: Place, said: &'a Declarations) -> Row<'a>
         requires index { IsIndex nodes.now }
-        requires within { at < length nodes.now }
-        ensures { result ≡ (path_of nodes.now at, said.now) }
+        requires at { IsPlace nodes.now at }
+        ensures { result ≡ (path_of nodes.now at.node, said.now) }
     {
-        Row {
-            nodes,
-            at,
-            depth: depth_of(nodes, at),
-            said,
-        }
+        Row { nodes, at, said }
     }
 
     /// How many segments the path has.
     pub fn depth(&self) -> usize
         ensures { result ≡ length self.now.0 }
     {
-        self.depth
+        self.at.depth
     }
 
     /// Copies the segments of the path from one on to the front of a buffer, as many as it takes. The result is how many
@@ -67,9 +59,9 @@ impl<'a> Row<'a> {
         ensures copied { take result buffer.new ≡ take result (drop from self.now.0) }
         ensures long { length buffer.new ≡ length buffer.old }
     {
-        let rest = self.depth.saturating_sub(from);
+        let rest = self.at.depth.saturating_sub(from);
         let count = buffer.len().min(rest);
-        let last = ancestor(self.nodes, self.at, rest - count);
+        let last = ancestor(self.nodes, self.at.node, rest - count);
         fill(self.nodes, last, count, buffer);
         count
     }

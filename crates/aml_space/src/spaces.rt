@@ -14,9 +14,7 @@ ghost use Rattle.aml_space.specs.Known.{is_declared as declared_yet, namespace_i
 
 use crate::counting::{count_of, sure_met};
 use crate::faults::SpaceFault;
-use crate::growing::{
-    declare_again, declare_first, declared_node, is_taken, make_node, set_given, set_out,
-};
+use crate::growing::{declare_again, declare_first, is_taken, make_node, set_given, set_out};
 use crate::kinds::Kind;
 use crate::listing::{Rows, list_rows};
 use crate::nodes::Node;
@@ -162,13 +160,13 @@ impl Space {
         ensures err { OnErr result (self.new ≡ self.old) }
     {
         self.settled.clear();
-        if let Some(at) = declared_node(self.nodes.as_slice(), &self.trail, path) {
-            return declare_again(self.alloc, &mut self.nodes, path, at, kind, sure);
+        let reach = deepest(self.alloc, self.nodes.as_slice(), &mut self.trail, path);
+        if is_taken(self.nodes.as_slice(), path, reach) {
+            return declare_again(self.alloc, &mut self.nodes, path, reach.node, kind, sure);
         }
         if self.rows == usize::MAX {
             return Err(AllocError);
         }
-        let reach = deepest(self.alloc, self.nodes.as_slice(), &mut self.trail, path);
         declare_first(
             self.alloc,
             &mut self.nodes,

@@ -7,8 +7,8 @@ ghost use Rattle.text_writer.specs.Prints.{Prints, word};
 ghost use Rattle.asl_text.specs.Texts.{line, segment_text, separated};
 ghost use Rattle.aml_text.specs.Rows.{path_text, kind_text, maybe_text, times_text, marked_text, row_line, namespace_text};
 
-use aml_names::{Parts, ScopedPath, Seg};
-use aml_space::{Kind, Row, Space};
+use aml_names::{Parts, Seg};
+use aml_space::{Kind, Row, Space, Target};
 use asl_text::{print_indent, print_segments};
 use std::io::Write;
 use text_writer::{Out, print_decimal};
@@ -56,7 +56,7 @@ fn print_method<W: Write>(out: &mut Out<'_, W>, args: u8)
     print_decimal(out, args as u64);
 }
 
-fn print_alias<W: Write>(out: &mut Out<'_, W>, target: &ScopedPath)
+fn print_alias<W: Write>(out: &mut Out<'_, W>, target: &Target)
     ensures { Prints W.contents out.old out.new (kind_text (Kind.Alias target.now)) }
 {
     out.put(b"Alias ");

@@ -12,8 +12,8 @@ pub kind_at-requires : goal.kind_at-requires
 kind_at-requires c =
     node_range c.requires.shape _ c.args.reach.node c.requires.reach.led
 
-pub returns-else-reach-len : goal.returns-else-reach-len
-returns-else-reach-len c =
+pub returns-else-reach-len-clause-taken : goal.returns-else-reach-len-clause-taken
+returns-else-reach-len-clause-taken c =
     let kids = kids_of c.args.nodes.now in
     let p = c.args.path.now in
     let k = c.args.reach.known in

@@ -1,6 +1,6 @@
 use Rattle.std.proofs.Common.{◌≡◌, ◌++◌, Some, sym, ap, ◌∙◌}
 use Rattle.std.specs.Option.{option_copied, option_map, option_to_list}
-use Rattle.aml_space.specs.Nodes.{rows_of, path_of, rows_ahead}
+use Rattle.aml_space.specs.Nodes.{rows_of, path_of, rows_ahead, next_node}
 use Rattle.aml_space.proofs.Gathered.{rows_on}
 use Rattle.aml_space.proofs.listing.first_row.Goals as goal
 
@@ -11,4 +11,4 @@ returns-clause-some c =
     let here : rows_of ns at ≡ Some (path_of ns at, c.in_ok-said.said.now) =
     ap (option_map (λ d. (path_of ns at, d))) (sym c.declared_here.ensures ∙ ap option_copied c.in_ok-said.was) in
     sym c.in_ok-at.ensures.same ∙ rows_on ns c.requires.index at c.in_ok-at.ensures.within
-    ∙ (λ i. option_to_list ((here ∙ ap Some (sym c.new.ensures)) i) ++ rows_ahead ns (sym c.node_after.ensures.next i))
+    ∙ ap (λ o. option_to_list o ++ rows_ahead ns (next_node ns at)) here

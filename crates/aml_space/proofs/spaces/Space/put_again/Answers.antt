@@ -1,19 +1,17 @@
-use Rattle.std.proofs.Common.{◌≡◌, ◌+◌, length, ◌++◌, ◌∷◌, [], List, Option, None, OnOk, Result, Ok, Err, refl, sym, subst, ap, ◌∙◌, arith}
+use Rattle.std.proofs.Common.{◌≡◌, false, ◌+◌, length, ◌++◌, ◌∷◌, [], List, Option, None, OnOk, Result, Ok, Err, refl, sym, subst, ap, ◌∙◌, arith}
 use Rattle.std.specs.FinMap as map
 use Rattle.std.specs.declared.alloc.AllocError.{AllocError}
 use Rattle.aml_space.specs.Namespace.{Entry, Body, declares}
 use Rattle.aml_space.specs.Nodes.{known_by}
-use Rattle.aml_space.specs.Known.{Known, StandsFor, once, namespace_in, with_declaration, with_again}
-use Rattle.aml_space.proofs.Stands.{stands_declared, again_first, none_undeclared}
-use Rattle.aml_space.proofs.Index.{kind_met, one_declared}
+use Rattle.aml_space.specs.Known.{Known, StandsFor, once, with_declaration, with_again}
+use Rattle.aml_space.proofs.Stands.{stands_declared, again_first, none_from_test}
+use Rattle.aml_space.proofs.Index.{known_taken, one_declared}
 use Rattle.aml_space.proofs.Levels.{settled_none}
 use Rattle.aml_space.proofs.spaces.Space.put_again.Goals as goal
-use Rattle.aml_space.proofs.spaces.Space.put_again.Goals.{In_ok-declare_first, In_default}
+use Rattle.aml_space.proofs.spaces.Space.put_again.Goals.{In_ok-declare_first, After-is_taken}
 
-not_declared : (c : In_default) → map.get c.args.self.now.declarations c.args.path.now ≡ None
-not_declared c = none_undeclared c.args.self.now c.args.path.now
-    (sym (kind_met _ _ _ _ _ None (sym c.in_default.ensures.none) refl c.as_slice.ensures.value refl c.self.invariant.index.shape
-    ∙ ap (λ k. (namespace_in k).declared c.args.path.now) c.self.view_is))
+not_declared : (c : After-is_taken) → c.is_taken.result ≡ false → map.get c.args.self.now.declarations c.args.path.now ≡ None
+not_declared c free = none_from_test _ (sym (known_taken _ _ _ _ _ _ c.is_taken.ensures.taken c.as_slice-2.ensures.value refl c.self.invariant.index.shape c.self.view_is) ∙ free)
 
 put_here : (c : In_ok-declare_first) → map.get c.args.self.now.declarations c.args.path.now ≡ None → known_by c.declare_first.new.nodes.items
     ≡ with_again c.args.self.now c.args.path.now c.args.kind c.args.sure
@@ -22,7 +20,7 @@ put_here c none = c.in_ok-declare_first.ensures.ok ∙ ap (λ k. with_declaratio
 
 pub invariant_of-self-2 : goal.invariant_of-self-2
 invariant_of-self-2 c =
-    let none = not_declared (goal.at.invariant_of-self-2 c).In_default in
+    let none = not_declared (goal.at.invariant_of-self-2 c).After-is_taken c.if-is_taken.false in
     let before : c.self.inside.rows ≡ length (map.entries c.args.self.now.declarations) = c.self.invariant.rows
     ∙ ap (λ (k : Known). length (map.entries k.declarations)) c.self.view_is in
     let after : length (map.entries (known_by c.declare_first.new.nodes.items).declarations) ≡ length (map.entries c.args.self.now.declarations) + 1 =
@@ -37,15 +35,15 @@ invariant_of-self-2 c =
     }
 
 pub returns-clause-ok : goal.returns-clause-ok
-returns-clause-ok c = put_here (goal.at.returns-clause-ok c).In_ok-declare_first (not_declared (goal.at.returns-clause-ok c).In_default)
+returns-clause-ok c = put_here (goal.at.returns-clause-ok c).In_ok-declare_first (not_declared (goal.at.returns-clause-ok c).After-is_taken c.if-is_taken.false)
 
 pub returns-clause-stands : goal.returns-clause-stands
 returns-clause-stands c = λ es body stands. subst (λ k. StandsFor k (es ++ declares c.args.path.now c.args.kind body c.args.sure ∷ []))
-    (sym (put_here (goal.at.returns-clause-stands c).In_ok-declare_first (not_declared (goal.at.returns-clause-stands c).In_default)))
+    (sym (put_here (goal.at.returns-clause-stands c).In_ok-declare_first (not_declared (goal.at.returns-clause-stands c).After-is_taken c.if-is_taken.false)))
     (stands_declared c.args.self.now es stands c.args.path.now c.args.kind body c.args.sure)
 
-pub returns-in-Some-clause-stands : goal.returns-in-Some-clause-stands
-returns-in-Some-clause-stands c = λ es body stands. by c.declare_again.result c.declare_again.ensures.ok es body stands
+pub returns-then-is_taken-clause-stands : goal.returns-then-is_taken-clause-stands
+returns-then-is_taken-clause-stands c = λ es body stands. by c.declare_again.result c.declare_again.ensures.ok es body stands
   where
     by : (r : Result (Unit {0}) AllocError) → OnOk r (known_by c.declare_again.new.nodes.items
         ≡ with_again (known_by c.self.inside.nodes.items) c.args.path.now c.args.kind c.args.sure)

@@ -11,7 +11,7 @@ use Rattle.aml_space.proofs.spaces.Space.put_once.Goals as goal
 use Rattle.aml_space.proofs.spaces.Space.put_once.Goals.{After-is_taken, In_ok-declare_first}
 
 taken : (c : After-is_taken) → c.is_taken.result ≡ is_declared c.args.self.now c.args.path.now
-taken c = known_taken _ _ _ _ _ _ c.is_taken.ensures c.as_slice-2.ensures.value refl c.self.invariant.index.shape c.self.view_is
+taken c = known_taken _ _ _ _ _ _ c.is_taken.ensures.taken c.as_slice-2.ensures.value refl c.self.invariant.index.shape c.self.view_is
 
 not_declared : (c : After-is_taken) → c.is_taken.result ≡ false → map.get c.args.self.now.declarations c.args.path.now ≡ None
 not_declared c free = none_from_test _ (sym (taken c) ∙ free)
