@@ -203,6 +203,23 @@ def deep_methods(count, depth):
     return within(depth, b"".join(calls))
 
 
+def deep_methods_left(count, depth):
+    """The same, and a Device at the root behind the scope, which is then no more the last that was opened."""
+    return deep_methods(count, depth) + device(named(1))
+
+
+def deep_devices(count, depth):
+    """Devices there, each with a method."""
+    devices = (package(b"\x5b\x82", segment(number) + method(RUN, 0, b"")) for number in range(count))
+    return within(depth, b"".join(devices))
+
+
+def deep_returns(count, depth):
+    """Names there, each behind a Scope of a Device at the root with such a name."""
+    names = (b"\x08" + segment(number) + b"\0" for number in range(count))
+    return device(b"") + within(depth, b"".join(package(b"\x10", b"\x5cDEV0" + name) + name for name in names))
+
+
 def deep_aliases(count, depth):
     aliases = b"".join(b"\x06" + segment(number) + segment(number + 1) for number in range(count))
     return within(depth, b"\x08" + segment(0) + b"\0" + aliases)
@@ -468,10 +485,16 @@ SHAPES = (
     Shape("deep-scope", 10_000, "segments", one(lambda count: deep_names(2000, count))),
     Shape("deep-locals", 2_000, "names", one(lambda count: deep_locals(count, 10_000))),
     Shape("deep-methods", 2_000, "methods", one(lambda count: deep_methods(count, 10_000))),
+    Shape("deep-methods-left", 2_000, "methods", one(lambda count: deep_methods_left(count, 10_000))),
+    Shape("deep-devices", 2_000, "devices", one(lambda count: deep_devices(count, 10_000))),
+    Shape("deep-returns", 2_000, "names", one(lambda count: deep_returns(count, 10_000))),
     Shape("deep-alias", 100_000, "names", one(lambda count: deep_alias(count, 10_000))),
     Shape("deep-aliases", 2_000, "names", one(lambda count: deep_aliases(count, 10_000))),
     Shape("deep-locals-deep", 10_000, "segments", one(lambda count: deep_locals(2_000, count))),
     Shape("deep-methods-deep", 10_000, "segments", one(lambda count: deep_methods(2_000, count))),
+    Shape("deep-methods-left-deep", 10_000, "segments", one(lambda count: deep_methods_left(2_000, count))),
+    Shape("deep-devices-deep", 10_000, "segments", one(lambda count: deep_devices(2_000, count))),
+    Shape("deep-returns-deep", 10_000, "segments", one(lambda count: deep_returns(2_000, count))),
     Shape("deep-alias-deep", 10_000, "segments", one(lambda count: deep_alias(100_000, count))),
     Shape("deep-aliases-deep", 10_000, "segments", one(lambda count: deep_aliases(2_000, count))),
     Shape("deep-units-outside", 2_000, "units", one(lambda count: deep_units_outside(count, 10_000))),

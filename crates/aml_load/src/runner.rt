@@ -21,7 +21,7 @@ use aml_code::{
 };
 use aml_names::{ScopedPath, SharedPath};
 use aml_parse::{next_position, read_step};
-use aml_space::{BodyNames, Kind, SpaceFault};
+use aml_space::{BodyNames, Kind, Space, SpaceFault};
 use std::alloc::Global;
 
 /// The most levels of terms inside each other.
@@ -38,11 +38,12 @@ pub struct RunSite {
 }
 
 impl RunSite {
-    /// Under a path.
-    fn under(&self, alloc: Global, path: &ScopedPath, sure: bool) -> Result<RunSite, LoadFault>
-        ensures { IsSite result (record { table = self.now.table; scope = path.now; sure = sure }) }
+    /// Under a path, which is opened.
+    fn under(&self, space: &mut Space, path: &ScopedPath, sure: bool) -> Result<RunSite, LoadFault>
+        ensures site { IsSite result (record { table = self.now.table; scope = path.now; sure = sure }) }
+        ensures same { space.new ≡ space.old }
     {
-        let scope = path.to_scope(alloc)?;
+        let scope = space.open(path)?;
         Ok(RunSite {
             table: self.table,
             scope,
@@ -233,13 +234,13 @@ impl Progress {
         let path = self.own_path(&site, name)?;
         let declared = self.space.is_declared(&path.parts());
         self.declare(&site, &path, kind)?;
-        here.under(self.alloc, &path, here.sure && !declared)
+        here.under(&mut self.space, &path, here.sure && !declared)
     }
 
     /// Opens the path of a Scope.
     #[tactic(auto, unfolding(crate::specs::Running::scope_at))]
-    fn enter_scope(&self, here: &RunSite, name: Option<&Name>) -> Result<RunSite, LoadFault>
-        ensures { Comes self.now self.now here.now result (λ f. scope_at f (option_copied name.entry)) }
+    fn enter_scope(&mut self, here: &RunSite, name: Option<&Name>) -> Result<RunSite, LoadFault>
+        ensures { Comes self.old self.new here.now result (λ f. scope_at f (option_copied name.entry)) }
     {
         let site = Site {
             table: here.table,
@@ -249,7 +250,7 @@ impl Progress {
         };
         let path = self.opened_path(&site, name)?;
         let sure = here.sure && self.space.is_sure(&path.parts());
-        here.under(self.alloc, &path, sure)
+        here.under(&mut self.space, &path, sure)
     }
 
     /// Does what the role of a term does that opens nothing.
@@ -371,6 +372,7 @@ impl Progress {
                     end: start + len,
                 };
                 let terms = self.run_terms(inner, inside, code)?;
+                self.space.close(&inner.scope);
                 Ok(with_terms(head, terms))
             }
         }

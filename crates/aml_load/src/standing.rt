@@ -129,7 +129,7 @@ fn find_below<'a>(
         (λ l. declare_inside (under (at_site site.now) path.now) l (tail_view tail.now))
         (λ l. inside_stand (under (at_site site.now) path.now) l (tail_view tail.now)) }
 {
-    let scope = path.to_scope(progress.alloc)?;
+    let scope = progress.space.open(path)?;
     find_inside(
         progress,
         &Site {
@@ -140,7 +140,9 @@ fn find_below<'a>(
         },
         tail,
         found,
-    )
+    )?;
+    progress.space.close(&scope);
+    Ok(())
 }
 
 /// Finds the terms inside a term.

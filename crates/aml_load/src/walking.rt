@@ -407,8 +407,7 @@ impl Progress {
         if terms.is_empty() {
             return Ok(());
         }
-        let scope = path.to_scope(self.alloc)?;
-        self.space.go_along(&scope);
+        let scope = self.space.open(path)?;
         self.walk_all(
             &Site {
                 table: site.table,
@@ -417,7 +416,9 @@ impl Progress {
                 sure: site.sure,
             },
             terms,
-        )
+        )?;
+        self.space.close(&scope);
+        Ok(())
     }
 
     /// Declares what the terms inside a term declare.

@@ -1,5 +1,5 @@
 //! Paths in two parts.
-ghost use Rattle.std.specs.Prelude.{◌≡◌, ◌<◌, ◌≤◌, ◌++◌, ◌-◌, ℕ, [], length, take, drop, get_or, slice_get, IfOk, IfSome};
+ghost use Rattle.std.specs.Prelude.{◌≡◌, ◌<◌, ◌≤◌, ◌++◌, ◌-◌, ℕ, [], length, take, drop, get_or, slice_get, IfOk};
 ghost use Rattle.std.specs.Ordering.{eq_by_cmp};
 ghost use Rattle.aml_names.specs.Paths.{path_cmp};
 
@@ -133,27 +133,24 @@ impl<'a> Parts<'a> {
         }
     }
 
-    /// The path that keeps its segments, where the scope of its front has several owners: one more then.
-    pub fn shared(&self, alloc: Global) -> Result<Option<ScopedPath>, NoMemory>
-        ensures { IfOk result (λ path. IfSome path (λ path. path ≡ self.now)) }
+    /// The path that keeps its segments: where the scope of its front has several owners, one more of them.
+    pub fn kept(&self, alloc: Global) -> Result<ScopedPath, NoMemory>
+        ensures { IfOk result (λ path. path ≡ self.now) }
     {
         match self.scope {
-            None => Ok(None),
+            None => ScopedPath::whole(alloc, self.behind(alloc, 0)?),
             Some(scope) => {
                 let own = Segs::of(alloc, self.own)?;
-                let path = ScopedPath::new(scope.share()?, self.front.len(), own);
-                Ok(Some(path))
+                Ok(ScopedPath::new(scope.share()?, self.front.len(), own))
             }
         }
     }
 
-    /// The path that keeps its segments.
-    pub fn kept(&self, alloc: Global) -> Result<ScopedPath, NoMemory>
-        ensures { IfOk result (λ path. path ≡ self.now) }
-    {
-        match self.shared(alloc)? {
-            Some(path) => Ok(path),
-            None => ScopedPath::whole(alloc, self.behind(alloc, 0)?),
+    /// The mark of the scope whose front it is, or 0. No clause speaks of it.
+    pub fn mark(&self) -> usize {
+        match self.scope {
+            None => 0,
+            Some(scope) => scope.mark(),
         }
     }
 

@@ -1,5 +1,5 @@
 //! Segments of names.
-ghost use Rattle.std.specs.Prelude.{◌≡◌, ◌∷◌, ◌++◌, [], length, take, Some, IfOk, OnOk, OnErr, refl};
+ghost use Rattle.std.specs.Prelude.{◌≡◌, ◌∷◌, ◌++◌, [], length, Some, IfOk, OnOk, OnErr, refl};
 ghost use Rattle.std.specs.Cmp.Rules.{comparing};
 ghost use Rattle.std.specs.Int.{w32, from_be_bytes};
 ghost use Rattle.aml_names.specs.Paths.{seg_cmp, segs_total, segs_partial};
@@ -114,13 +114,6 @@ impl Segs {
         ensures { result.now ≡ self.now }
     {
         self.segs.as_slice()
-    }
-
-    /// Keeps so many first segments, or all where there are fewer.
-    pub(crate) fn truncate(&mut self, count: usize)
-        ensures { self.new ≡ take count self.old }
-    {
-        self.segs.truncate(count);
     }
 
     /// Adds a segment at the end. Where memory is refused the segments are as before.

@@ -1,5 +1,5 @@
 //! Paths that share what they begin with.
-ghost use Rattle.std.specs.Prelude.{◌≡◌, ◌≤◌, ◌++◌, ◌∷◌, [], length, take, flat_map, IfOk, OnOk, OnErr};
+ghost use Rattle.std.specs.Prelude.{◌≡◌, ◌<◌, ◌≤◌, ◌++◌, ◌∷◌, length, take, flat_map, IfOk};
 ghost use Rattle.std.specs.Fmt.{WritesOnOk};
 ghost use Rattle.aml_names.specs.Names.{placed};
 ghost use Rattle.aml_names.specs.Paths.{segment_text};
@@ -19,6 +19,8 @@ use std::sync::Arc;
 #[derive(Drop)]
 pub struct SharedPath {
     path: Arc<Path, Global>,
+    /// Where one who keeps something by this path has it in a list, or 0: what is looked up there has to be this path's.
+    mark: usize,
 }
 
 impl Model for SharedPath {
@@ -38,7 +40,7 @@ impl SharedPath {
         ensures { IfOk result (λ shared. shared ≡ path) }
     {
         match Arc::new(alloc, path) {
-            Ok(path) => Ok(SharedPath { path }),
+            Ok(path) => Ok(SharedPath { path, mark: 0 }),
             Err(_) => Err(AllocError),
         }
     }
@@ -61,7 +63,32 @@ impl SharedPath {
         ensures { IfOk result (λ shared. shared ≡ self.now) }
     {
         let path = self.path.clone()?;
-        Ok(SharedPath { path })
+        Ok(SharedPath {
+            path,
+            mark: self.mark,
+        })
+    }
+
+    /// The same with a mark, which the owners that are made from it have too.
+    pub fn marked(self, mark: usize) -> SharedPath
+        ensures { result ≡ self }
+    {
+        SharedPath {
+            path: self.path,
+            mark,
+        }
+    }
+
+    /// The mark that was given to it, else 0. No clause speaks of it.
+    pub fn mark(&self) -> usize {
+        self.mark
+    }
+
+    /// How many owners there are.
+    pub fn owners(&self) -> usize
+        ensures { 0 < result }
+    {
+        Arc::strong_count(&self.path)
     }
 }
 
@@ -134,28 +161,6 @@ impl ScopedPath {
         ensures { result ≡ self.now }
     {
         Parts::of(&self.scope, self.front, self.own.as_slice())
-    }
-
-    /// Keeps so many first segments.
-    pub fn cut(&mut self, count: usize)
-        requires { count ≤ length self.old }
-        ensures { self.new ≡ take count self.old }
-    {
-        if count < self.front {
-            self.front = count;
-            self.own.truncate(0);
-        } else {
-            self.own.truncate(count - self.front);
-        }
-    }
-
-    /// Adds a segment at the end. Where memory is refused the path is as before.
-    pub fn push(&mut self, seg: Seg) -> Result<(), NoMemory>
-        ensures ok { OnOk result (self.new ≡ self.old ++ seg ∷ []) }
-        ensures err { OnErr result (self.new ≡ self.old) }
-    {
-        self.own.push(seg)?;
-        Ok(())
     }
 
     /// The path, which is made anew.

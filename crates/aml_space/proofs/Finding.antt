@@ -1,4 +1,4 @@
--- One path is meant where it is known (`named_first`). Which candidate a Scope opens, or an Alias names (`led`): the one that a search finds, unless it has a kind that isn't
+-- One path is meant where it is one of the locals or is known (`meant_first`, `placed_first`). Which candidate a Scope opens, or an Alias names (`led`): the one that a search finds, unless it has a kind that isn't
 -- sure, and another one further up is known.
 use Rattle.std.specs.Prelude.{◌||◌, ◌&&◌, option_to_list}
 use Rattle.std.proofs.Common.{◌≡◌, ℕ, zero, suc, ◌≤◌, Bool, true, false, not, cond, List, [], ◌∷◌, ◌++◌, take, length, Option, Some, None, is_some, refl}
@@ -10,7 +10,9 @@ use Rattle.std.specs.List.{find}
 use Rattle.std.specs.Option.{option_or}
 use Rattle.std.specs.FinSet as set
 use Rattle.aml_names.specs.declared.segments.Seg.{Seg}
-use Rattle.aml_names.specs.Paths.{path_cmp}
+use Rattle.aml_names.specs.Paths.{PathSet, path_cmp}
+use Rattle.aml_names.specs.declared.names.Name.{Name}
+use Rattle.aml_names.specs.Names.{placed}
 use Rattle.aml_names.specs.Searching.{upward}
 use Rattle.aml_space.specs.Namespace.{Namespace, kind_at, decides, is_outside, first_of}
 use Rattle.aml_space.specs.Runs.{Outlook, is_known, first_agreed, agreed_or}
@@ -46,15 +48,23 @@ one_depth scope segment a b within_a within_b same = omega (
   length-take-le b scope within_b,
 )
 
--- one path is meant where it is known
-pub named_first : (n : Namespace) (p : List Seg) → cond (is_known n p) (Some p) None ≡ first_of n set.empty (p ∷ [])
-named_first n p = by (is_some (kind_at n p)) (is_outside n p)
-    ∙ ap (λ b. option_or (cond (b || is_some (kind_at n p)) (Some p) None) (cond (is_outside n p) (Some p) None)) (sym (set.contains-empty path_cmp p))
+-- one path is meant where it is one of the locals or is known
+pub meant_first : (n : Namespace) (locals : PathSet) (p : List Seg)
+    → cond (set.contains locals p || is_known n p) (Some p) None ≡ first_of n locals (p ∷ [])
+meant_first n locals p = by (set.contains locals p) (is_some (kind_at n p)) (is_outside n p)
   where
-    by : (kind outside : Bool) → cond (kind || outside) (Some p) None ≡ option_or (cond kind (Some p) None) (cond outside (Some p) None)
-    by true outside = refl
-    by false true = refl
-    by false false = refl
+    by : (local kind outside : Bool) → cond (local || (kind || outside)) (Some p) None
+        ≡ option_or (cond (local || kind) (Some p) None) (cond outside (Some p) None)
+    by true kind outside = refl
+    by false true outside = refl
+    by false false true = refl
+    by false false false = refl
+
+-- and of a name that leads to one place
+pub placed_first : (n : Namespace) (locals : PathSet) (scope : List Seg) (name : Name) (p : List Seg) (meant : Bool) → placed scope name ≡ Some p
+    → meant ≡ (set.contains locals p || is_known n p) → cond meant (Some p) None ≡ first_of n locals (option_to_list (placed scope name))
+placed_first n locals scope name p meant led is = ap (λ b. cond b (Some p) None) is ∙ meant_first n locals p
+    ∙ ap (λ o. first_of n locals (option_to_list o)) (sym led)
 
 module _ (o : Outlook) (scope segment : List Seg) where
   decided : (p : List Seg) → decides o.first set.empty p ≡ is_some (kind_at o.first p)

@@ -17,6 +17,7 @@ use Rattle.aml_space.specs.declared.scopes.Candidate.{Candidate}
 use Rattle.aml_space.specs.Predefined.{predefined}
 use Rattle.aml_space.specs.Namespace.{Namespace, kind_at, count_at, count_by, arity_at, unknown_count, first_of, decides, is_outside}
 use Rattle.aml_space.specs.Known.{namespace_in}
+use Rattle.aml_space.specs.Runs.{is_known}
 use Rattle.aml_space.specs.Nodes.{walk, kids_of, kinds_of, declared_of, outs_of, known_by, IsShape}
 use Rattle.aml_space.specs.Candidates.{path_at, IsCandidate}
 use Rattle.aml_space.proofs.Basics.{cond_of}
@@ -33,6 +34,11 @@ module _ (ns : List Node) (shape : IsShape ns) (p : List Seg) (node : Option ℕ
 
   pub out_of_met : option_and_then (outs_of ns) node ≡ map.get (known_by ns).outs p
   out_of_met = ap (option_and_then (outs_of ns)) met ∙ part_at (λ c. c.out) ns shape p
+
+  pub known_of_met : (standing : Option Kind) → standing ≡ predefined p →
+      (is_some (option_or (option_and_then (kinds_of ns) node) standing) || is_some (option_and_then (outs_of ns) node))
+      ≡ is_known (namespace_in (known_by ns)) p
+  known_of_met standing is = λ i. is_some (kind_of_met standing is i) || is_some (out_of_met i)
 
   pub count_of_met : (standing : Option Kind) → standing ≡ predefined p →
       count_by (namespace_in (known_by ns)) (option_or (option_and_then (kinds_of ns) node) standing) (option_and_then (outs_of ns) node)

@@ -1,5 +1,5 @@
 //! How many arguments a path takes.
-ghost use Rattle.std.specs.Prelude.{◌≡◌, ◌<◌, ◌∷◌, List, Some, None, cond, length, map, flat_map, option_to_list, IfSome};
+ghost use Rattle.std.specs.Prelude.{◌≡◌, ◌<◌, ◌∷◌, ◌||◌, List, Some, None, cond, is_some, length, map, flat_map, option_to_list, IfSome};
 ghost use Rattle.std.specs.Option.{option_or, option_and_then, option_copied};
 ghost use Rattle.aml_space.specs.Namespace.{kind_at as kind_of_path, count_at, count_by, target_count};
 ghost use Rattle.aml_space.specs.Known.{namespace_in, outlook_in, kinds_by, sure_by};
@@ -31,6 +31,15 @@ pub(crate) fn kind_met<'a>(
         Some(kind) => Some(kind),
         None => standing,
     }
+}
+
+/// Whether a path has a kind, or an External names it, by its node and its predefined kind.
+pub(crate) fn known_met(nodes: &[Node], node: Option<usize>, standing: Option<&Kind>) -> bool
+    requires { IfSome node (λ i. i < length nodes.now) }
+    ensures { result ≡ (is_some (option_or (option_and_then (kinds_of nodes.now) node) (option_copied standing.entry))
+        || is_some (option_and_then (outs_of nodes.now) node)) }
+{
+    kind_met(nodes, node, standing).is_some() || out_at(nodes, node).is_some()
 }
 
 /// How many arguments a path takes, by its node and its predefined kind.

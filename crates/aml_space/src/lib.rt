@@ -12,6 +12,7 @@ mod kinds;
 mod laws;
 mod listing;
 mod nodes;
+mod opened;
 mod parents;
 mod predefined;
 mod rows;
@@ -21,7 +22,6 @@ mod searching;
 mod settling;
 mod spaces;
 mod tallies;
-mod trails;
 mod walking;
 
 pub use bodies::{BodyNames, BodyScope};

@@ -11,21 +11,21 @@ ghost use Rattle.aml_names.specs.Searching.{upward};
 ghost use Rattle.aml_space.specs.Predefined.{predefined};
 ghost use Rattle.aml_space.specs.Namespace.{first_of, first_given, count_at, kind_at as kind_of_path};
 ghost use Rattle.aml_space.specs.Nodes.{walk, kids_of, outs_of, known_by, IsShape, IsIndex};
-ghost use Rattle.aml_space.specs.Trails.{IsTrail};
+ghost use Rattle.aml_space.specs.Opened.{AreOpened};
 ghost use Rattle.aml_space.specs.Known.{namespace_in};
 ghost use Rattle.aml_space.specs.Runs.{counts_met as met, counts_of, is_known};
 ghost use Rattle.aml_space.specs.Tallies.{counts_in};
 ghost use Rattle.aml_space.specs.Candidates.{path_at, local_from, names_of, outlook_at, agreed_among, above, IsBare, HasBareChildren};
 ghost use Rattle.aml_space.specs.Candidates.{AreSettled, IsLevel, IsScope, IsNextFrom, IsCandidate};
 
-use crate::counting::{count_met, counts_met, kind_met, sure_met};
+use crate::counting::{count_met, counts_met, kind_met, known_met, sure_met};
 use crate::kinds::Kind;
 use crate::nodes::Node;
+use crate::opened::{Opened, reach_along};
 use crate::parents::link;
 use crate::predefined::Predefined;
 use crate::settling::Settled;
 use crate::tallies::Counts;
-use crate::trails::{Trail, reach_along};
 use crate::walking::{child, children_at, given_at, kind_at, node_from, out_at};
 use aml_names::{Locals, NoMemory, Parts, Path, Seg};
 use std::alloc::Global;
@@ -67,17 +67,17 @@ impl<'a> Scope<'a> {
         nodes: &'a [Node],
         settled: &'a [Settled],
         predefined: &'a Predefined,
-        trail: &Trail,
+        opened: &[Opened],
         path: Parts<'a>,
     ) -> Scope<'a>
         requires index { IsIndex nodes.now }
         requires settled { AreSettled nodes.now settled.now }
-        requires trail { IsTrail nodes.now trail.now }
+        requires opened { AreOpened nodes.now opened.now }
         ensures scope { IsScope result }
         ensures nodes { result.nodes.now ≡ nodes.now }
         ensures path { result.path ≡ path.entry }
     {
-        let reach = reach_along(nodes, trail, &path);
+        let reach = reach_along(nodes, opened, &path);
         Scope {
             nodes,
             settled,
@@ -315,12 +315,7 @@ impl<'a> Scope<'a> {
         ensures { result ≡ is_known (names_of self.now) (take level.depth self.now.path ++ segment.now) }
     {
         let node = self.node_at(segment, level);
-        let here = Candidate {
-            depth: level.depth,
-            node,
-            local: false,
-        };
-        self.has_kind(segment, here) || out_at(self.nodes, node).is_some()
+        known_met(self.nodes, node, self.standing(segment, level.depth))
     }
 
     /// The node of a front of the path, if it stands in the index.
@@ -498,25 +493,6 @@ impl<'a> Scope<'a> {
                 return None;
             }
             level = self.asked_above(level);
-        }
-    }
-
-    /// The path of a candidate.
-    pub(crate) fn path_of(
-        &self,
-        alloc: Global,
-        segment: &[Seg],
-        met: Option<Candidate>,
-    ) -> Result<Option<Path>, NoMemory>
-        requires { IfSome met (λ c. c.depth ≤ length self.now.path) }
-        ensures { IfOk result (λ path. path ≡ option_map (path_at self.now.path segment.now) met) }
-    {
-        match met {
-            None => Ok(None),
-            Some(here) => {
-                let path = self.path.first(here.depth).below(alloc, segment)?;
-                Ok(Some(path))
-            }
         }
     }
 }

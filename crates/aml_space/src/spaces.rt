@@ -18,13 +18,13 @@ use crate::growing::{declare_again, declare_first, is_taken, make_node, set_give
 use crate::kinds::Kind;
 use crate::listing::{Rows, list_rows};
 use crate::nodes::Node;
+use crate::opened::{Opened, node_along, reach_along};
 use crate::predefined::Predefined;
 use crate::rows::Row;
 use crate::scopes::Scope;
 use crate::settling::{Settled, settled_of};
-use crate::trails::{Trail, deepest, node_along};
-use crate::walking::{kind_at, out_at, walk_counted};
-use aml_names::{NoMemory, Parts, Path, Seg, SharedPath};
+use crate::walking::{kind_at, walk_counted};
+use aml_names::{NoMemory, Parts, Path, ScopedPath, Seg, SharedPath};
 use std::alloc::{AllocError, Global};
 use std::marker::Model;
 
@@ -38,8 +38,8 @@ pub struct Space {
     pub(crate) predefined: Predefined,
     /// How many paths are declared.
     rows: usize,
-    /// The way to a path that was looked for, so that the next of the same scope is found soon.
-    trail: Trail,
+    /// The scopes that are open, and those by which something is kept, so that what stands in them is found soon.
+    opened: Vec<Opened>,
     /// Where the search for a segment goes on from each node, from when this is settled to the next declaration.
     settled: Vec<Settled>,
 }
@@ -52,11 +52,11 @@ impl Model for Space {
     ghost coded = { coded_known };
 
     ghost use Rattle.aml_space.specs.Nodes.{known_by};
-    ghost use Rattle.aml_space.specs.Trails.{IsSpace};
+    ghost use Rattle.aml_space.specs.Opened.{IsSpace};
 
     ghost view = { λ s. known_by s.nodes.items };
 
-    ghost invariant = { λ s. IsSpace s.nodes.items s.rows s.trail s.settled.items };
+    ghost invariant = { λ s. IsSpace s.nodes.items s.rows s.opened.items s.settled.items };
 }
 
 /// A declared path, the kind of its first declaration, whether a declaration is sure, and how many there are.
@@ -76,13 +76,14 @@ impl Space {
     {
         let mut nodes = Vec::new(alloc);
         nodes.push(Node::empty(0, Seg::default()))?;
-        let trail = Trail::new(alloc)?;
+        let mut opened = Vec::new(alloc);
+        opened.push(Opened::root(alloc)?)?;
         Ok(Space {
             alloc,
             nodes,
             predefined: Predefined::new(),
             rows: 0,
-            trail,
+            opened,
             settled: Vec::new(alloc),
         })
     }
@@ -121,7 +122,7 @@ impl Space {
             (cond put (es ++ declares path.now kind body surely ∷ []) es)) }
     {
         self.settled.clear();
-        let reach = deepest(self.alloc, self.nodes.as_slice(), &mut self.trail, path);
+        let reach = reach_along(self.nodes.as_slice(), self.opened.as_slice(), path);
         if is_taken(self.nodes.as_slice(), path, reach) {
             return Ok(false);
         }
@@ -131,7 +132,7 @@ impl Space {
         declare_first(
             self.alloc,
             &mut self.nodes,
-            &mut self.trail,
+            self.opened.as_slice(),
             path,
             kind,
             surely,
@@ -160,7 +161,7 @@ impl Space {
         ensures err { OnErr result (self.new ≡ self.old) }
     {
         self.settled.clear();
-        let reach = deepest(self.alloc, self.nodes.as_slice(), &mut self.trail, path);
+        let reach = reach_along(self.nodes.as_slice(), self.opened.as_slice(), path);
         if is_taken(self.nodes.as_slice(), path, reach) {
             return declare_again(self.alloc, &mut self.nodes, path, reach.node, kind, sure);
         }
@@ -170,7 +171,7 @@ impl Space {
         declare_first(
             self.alloc,
             &mut self.nodes,
-            &mut self.trail,
+            self.opened.as_slice(),
             path,
             kind,
             sure,
@@ -199,7 +200,8 @@ impl Space {
         ensures err { OnErr result (self.new ≡ self.old) }
     {
         self.settled.clear();
-        let at = make_node(self.alloc, &mut self.nodes, &mut self.trail, path)?;
+        let opened = self.opened.as_slice();
+        let at = make_node(self.alloc, &mut self.nodes, opened, path)?;
         set_out(&mut self.nodes, at, count);
         Ok(())
     }
@@ -214,18 +216,40 @@ impl Space {
     {
         self.settled.clear();
         let path = path.parts();
-        let at = make_node(self.alloc, &mut self.nodes, &mut self.trail, &path)?;
+        let opened = self.opened.as_slice();
+        let at = make_node(self.alloc, &mut self.nodes, opened, &path)?;
         set_given(&mut self.nodes, at, count);
         Ok(())
     }
 
-    /// Goes along a scope in which names are declared or looked for next, so that each of them is found soon. What is known
-    /// stays the same.
-    pub fn go_along(&mut self, scope: &SharedPath)
+    /// Opens a path as a scope: what stands in it is found by its node from now on, also where other scopes are opened. What
+    /// is known stays the same.
+    pub fn open(&mut self, path: &ScopedPath) -> Result<SharedPath, NoMemory>
+        ensures same { self.new ≡ self.old }
+        ensures scope { IfOk result (λ scope. scope ≡ path.now) }
+    {
+        let scope = path.to_scope(self.alloc)?;
+        let opened = self.opened.as_slice();
+        match node_along(self.nodes.as_slice(), opened, &path.parts()) {
+            None => Ok(scope),
+            Some(node) => {
+                let marked = scope.marked(self.opened.len());
+                let scope = marked.share()?;
+                self.opened.push(Opened { scope, node })?;
+                Ok(marked)
+            }
+        }
+    }
+
+    /// Closes the scope that was opened last, unless something is kept by it: a method's path, or a name that is looked at
+    /// when all tables are there. What is known stays the same.
+    pub fn close(&mut self, scope: &SharedPath)
         ensures { self.new ≡ self.old }
     {
-        let scope = scope.parts();
-        deepest(self.alloc, self.nodes.as_slice(), &mut self.trail, &scope);
+        // One owner is the space, and another who closes it.
+        if scope.mark() == self.opened.len().saturating_sub(1) && scope.owners() <= 2 {
+            self.opened.truncate(scope.mark());
+        }
     }
 
     /// Finds out where the search for a segment goes on from each node, so that names cost the depths alone at which
@@ -252,16 +276,7 @@ impl Space {
         ensures { option_copied result ≡ (namespace_in self.now).declared path.now }
     {
         let nodes = self.nodes.as_slice();
-        kind_at(nodes, node_along(nodes, &self.trail, path))
-    }
-
-    /// The greatest count of a path's Externals.
-    pub(crate) fn outs(&self, path: &Parts<'_>) -> Option<u8>
-        ensures { result ≡ map.get self.now.outs path.now }
-    {
-        let nodes = self.nodes.as_slice();
-        let at = node_along(nodes, &self.trail, path);
-        out_at(nodes, at)
+        kind_at(nodes, node_along(nodes, self.opened.as_slice(), path))
     }
 
     /// The kind of a path: the declared one, else the predefined one.
@@ -315,7 +330,7 @@ impl Space {
         ensures listed { (es : List Entry) → StandsFor self.now es → result ≡ sure_at es path.now }
     {
         let nodes = self.nodes.as_slice();
-        let node = node_along(nodes, &self.trail, path);
+        let node = node_along(nodes, self.opened.as_slice(), path);
         sure_met(nodes, node, self.predefined.kind_of(path))
     }
 
@@ -340,7 +355,7 @@ impl Space {
             self.nodes.as_slice(),
             self.settled.as_slice(),
             &self.predefined,
-            &self.trail,
+            self.opened.as_slice(),
             path,
         )
     }

@@ -3,6 +3,7 @@ use Rattle.aml_space.specs.Known.{Declared, once, with_declaration}
 use Rattle.aml_space.specs.Nodes.{known_by, IsAim, HasDeclared, IsIndex}
 use Rattle.aml_space.proofs.Walks.{node_range}
 use Rattle.aml_space.proofs.Index.{put_declared}
+use Rattle.aml_space.proofs.Opening.{content_kept}
 use Rattle.aml_space.proofs.growing.declare_first.Goals as goal
 use Rattle.aml_space.proofs.growing.declare_first.Goals.{After-set_declared}
 
@@ -29,3 +30,7 @@ returns-clause-index c = (put_here (goal.at.returns-clause-index c).After-set_de
 
 pub returns-clause-ok : goal.returns-clause-ok
 returns-clause-ok c = (put_here (goal.at.returns-clause-ok c).After-set_declared c.set_declared.ensures).1
+
+pub returns-clause-kept : goal.returns-clause-kept
+returns-clause-kept c = λ q j led. content_kept c.aim_of.new.nodes.items c.set_declared.new.nodes.items c.in_ok-at.at _ c.set_declared.ensures q j
+    (c.aim_of.ensures.kept q j (c.extend.ensures.kept q j led))

@@ -1,6 +1,4 @@
-use Rattle.std.proofs.Common.{◌+◌, ◌<◌, ap, arith}
-use Rattle.std.specs.Prelude.{length}
-use Rattle.aml_space.specs.Nodes.{path_of}
+use Rattle.std.proofs.Common.{◌<◌, arith}
 use Rattle.aml_space.proofs.Named.{lower_up, one_longer, path_short}
 use Rattle.aml_space.proofs.parents.place_by.Goals as goal
 

@@ -1,6 +1,7 @@
 use Rattle.std.proofs.Common.{◌≡◌, ◌+◌, ◌-◌, Ok, refl, sym, ap, subst, ◌∙◌, arith, rules}
 use Rattle.aml_code.specs.View.{node_view}
 use Rattle.aml_parse.specs.Running.{run_term_at, run_terms_at}
+use Rattle.aml_space.specs.Known.{StandsFor}
 use Rattle.aml_load.specs.Running.{run_names}
 use Rattle.aml_load.specs.Runner.{front_of, below, RoomBy, HasRoom}
 use Rattle.aml_load.specs.Tables.{Fails}
@@ -15,7 +16,11 @@ open-returns-in_ok-terms-in-Some t c l h =
     let room = subst (RoomBy code c.args.levels) is c.requires in
     let walk = c.in_ok-terms-in-Some.ensures l h in (
       walk.0,
-      walk.1,
+      record {
+        space = subst (λ k. StandsFor k walk.0.entries) (sym c.close.ensures) walk.1.space;
+        methods = walk.1.methods;
+        uses = walk.1.uses;
+      },
       opened_ok site.table code c.args.levels (node_view c.args.head) (front_of site l) (c.in-Some.start, c.in-Some.len) _ _ is room.0 walk.2
           ∙ ap (λ t. Ok (t, front_of site walk.0)) (sym c.with_terms.ensures),
     )

@@ -3,7 +3,7 @@ use Rattle.std.specs.FinMap as map
 use Rattle.aml_space.specs.Namespace.{given as said}
 use Rattle.aml_space.specs.Known.{Known, StandsFor, with_given}
 use Rattle.aml_space.specs.Nodes.{known_by, IsIndex, HasGiven}
-use Rattle.aml_space.proofs.Trailing.{content_trail}
+use Rattle.aml_space.proofs.Opening.{kept_opened, content_kept}
 use Rattle.aml_space.proofs.Stands.{stands_given}
 use Rattle.aml_space.proofs.Index.{put_given}
 use Rattle.aml_space.proofs.Levels.{settled_none}
@@ -23,8 +23,9 @@ invariant_of-self-2 c = record {
   index = (put_here (goal.at.invariant_of-self-2 c).After-set_given c.set_given.ensures).0;
   rows = c.self.invariant.rows ∙ ap (λ (k : Known). length (map.entries k.declarations)) c.self.view_is
       ∙ ap (λ (k : Known). length (map.entries k.declarations)) (sym (put_here (goal.at.invariant_of-self-2 c).After-set_given c.set_given.ensures).1);
-  trail = content_trail c.make_node.new.nodes.items c.set_given.new.nodes.items c.in_ok-at.at _ c.make_node.new.trail c.set_given.ensures
-      c.make_node.ensures.trail;
+  opened = kept_opened c.make_node.new.nodes.items c.set_given.new.nodes.items c.self.inside.opened.items
+      (content_kept c.make_node.new.nodes.items c.set_given.new.nodes.items c.in_ok-at.at _ c.set_given.ensures)
+      (kept_opened c.self.inside.nodes.items c.make_node.new.nodes.items c.self.inside.opened.items c.make_node.ensures.kept c.self.invariant.opened);
   settled = settled_none _ c.clear.new.self.items c.clear.ensures.items;
 }
 

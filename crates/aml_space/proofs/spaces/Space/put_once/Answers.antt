@@ -7,11 +7,12 @@ use Rattle.aml_space.specs.Known.{Known, StandsFor, once, with_declaration, is_d
 use Rattle.aml_space.proofs.Stands.{stands_declared, again_first, none_from_test, declared_listed}
 use Rattle.aml_space.proofs.Index.{known_taken, one_declared}
 use Rattle.aml_space.proofs.Levels.{settled_none}
+use Rattle.aml_space.proofs.Opening.{kept_opened}
 use Rattle.aml_space.proofs.spaces.Space.put_once.Goals as goal
 use Rattle.aml_space.proofs.spaces.Space.put_once.Goals.{After-is_taken, In_ok-declare_first}
 
 taken : (c : After-is_taken) → c.is_taken.result ≡ is_declared c.args.self.now c.args.path.now
-taken c = known_taken _ _ _ _ _ _ c.is_taken.ensures.taken c.as_slice-2.ensures.value refl c.self.invariant.index.shape c.self.view_is
+taken c = known_taken _ _ _ _ _ _ c.is_taken.ensures.taken c.as_slice-3.ensures.value refl c.self.invariant.index.shape c.self.view_is
 
 not_declared : (c : After-is_taken) → c.is_taken.result ≡ false → map.get c.args.self.now.declarations c.args.path.now ≡ None
 not_declared c free = none_from_test _ (sym (taken c) ∙ free)
@@ -34,7 +35,8 @@ invariant_of-self-2 c =
     record {
       index = c.declare_first.ensures.index;
       rows = omega (arith, before, after);
-      trail = c.declare_first.ensures.trail;
+      opened = kept_opened c.self.inside.nodes.items c.declare_first.new.nodes.items c.self.inside.opened.items c.declare_first.ensures.kept
+          c.self.invariant.opened;
       settled = settled_none c.declare_first.new.nodes.items c.clear.new.self.items c.clear.ensures.items;
     }
 

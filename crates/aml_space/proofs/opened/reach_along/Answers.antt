@@ -1,20 +1,16 @@
 use Rattle.std.proofs.Common.{◌≡◌, ◌<◌, length, Some, get_or, take, [], sym, ap, ◌∙◌, arith}
 use Rattle.aml_children.specs.Children.{child_in}
-use Rattle.aml_space.specs.Nodes.{walk, kids_of}
+use Rattle.aml_space.specs.Nodes.{kids_of}
 use Rattle.aml_space.proofs.Walks.{kid_range, led_more, node_range}
-use Rattle.aml_space.proofs.trails.reach_along.Goals as goal
+use Rattle.aml_space.proofs.opened.reach_along.Goals as goal
 
 pub loop-reach-init : goal.loop-reach-init
-loop-reach-init c =
-    let ns = c.args.nodes.now in
-    let k = c.common-known.result in
-    let led : walk (kids_of ns) 0 (take k c.args.path.now) ≡ Some c.node_at.result =
-    ap (walk (kids_of ns) 0) (c.common-known.ensures.same ∙ ap (take k) c.parts.ensures) ∙ c.node_at.ensures ns c.requires.trail in
-    record {
-      led = led;
-      inside = node_range c.requires.shape (take k c.args.path.now) c.node_at.result led;
-      within = c.common-known.ensures.own;
-    }
+loop-reach-init c = record {
+  led = c.reach_of_scope-reach.ensures.led;
+  inside = node_range c.requires.index.shape (take c.reach_of_scope-reach.result.known c.args.path.now) c.reach_of_scope-reach.result.node
+      c.reach_of_scope-reach.ensures.led;
+  within = c.reach_of_scope-reach.ensures.within;
+}
 
 pub loop-reach-preserved : goal.loop-reach-preserved
 loop-reach-preserved c =
@@ -27,6 +23,6 @@ loop-reach-preserved c =
     ap (child_in (kids_of ns c.loop-reach.reach.node)) (sym c.segment.ensures) ∙ sym c.child.ensures ∙ c.in-Some.is in
     record {
       led = led_more (kids_of ns) c.loop-reach.reach.node k path (record { 0 = [] }) (Some c.in-Some.next) inside inv.led found;
-      inside = (kid_range c.requires.shape c.loop-reach.reach.node (get_or path k (record { 0 = [] })) c.in-Some.next found).1;
+      inside = (kid_range c.requires.index.shape c.loop-reach.reach.node (get_or path k (record { 0 = [] })) c.in-Some.next found).1;
       within = omega (arith, inside);
     }

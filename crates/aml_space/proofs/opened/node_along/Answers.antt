@@ -3,10 +3,10 @@ use Rattle.std.proofs.lemmas.List.{take_all}
 use Rattle.aml_space.specs.Nodes.{walk, kids_of}
 use Rattle.aml_space.proofs.Levels.{reach_past}
 use Rattle.aml_space.proofs.Walks.{node_range}
-use Rattle.aml_space.proofs.trails.node_along.Goals as goal
+use Rattle.aml_space.proofs.opened.node_along.Goals as goal
 
 pub returns-then-reach-len-clause-within : goal.returns-then-reach-len-clause-within
-returns-then-reach-len-clause-within c = node_range c.requires.shape (take c.reach_along-reach.result.known c.args.path.now) c.reach_along-reach.result.node
+returns-then-reach-len-clause-within c = node_range c.requires.index.shape (take c.reach_along-reach.result.known c.args.path.now) c.reach_along-reach.result.node
     c.reach_along-reach.ensures.led
 
 pub returns-else-reach-len-clause-node : goal.returns-else-reach-len-clause-node
