@@ -102,6 +102,9 @@ impl Locals {
         requires { front ≤ length scope.now }
         ensures { IfOk result (λ local. local ≡ set.contains self.now (take front scope.now ++ segs.now)) }
     {
+        if self.is_empty() {
+            return Ok(false);
+        }
         if !self.branches.may_end(segs) {
             return Ok(false);
         }
