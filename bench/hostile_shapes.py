@@ -220,6 +220,18 @@ def deep_returns(count, depth):
     return device(b"") + within(depth, b"".join(package(b"\x10", b"\x5cDEV0" + name) + name for name in names))
 
 
+def deep_aliases_upward(count, depth):
+    """Aliases there of a name at the root."""
+    aliases = b"".join(b"\x06" + LEAF + segment(number) for number in range(count))
+    return b"\x08" + LEAF + b"\0" + within(depth, aliases)
+
+
+def deep_scopes_upward(count, depth):
+    """Scopes there of a Device at the root, each with a name."""
+    names = (b"\x08" + segment(number) + b"\0" for number in range(count))
+    return device(b"") + within(depth, b"".join(package(b"\x10", b"DEV0" + name) for name in names))
+
+
 def deep_aliases(count, depth):
     aliases = b"".join(b"\x06" + segment(number) + segment(number + 1) for number in range(count))
     return within(depth, b"\x08" + segment(0) + b"\0" + aliases)
@@ -488,6 +500,8 @@ SHAPES = (
     Shape("deep-methods-left", 2_000, "methods", one(lambda count: deep_methods_left(count, 10_000))),
     Shape("deep-devices", 2_000, "devices", one(lambda count: deep_devices(count, 10_000))),
     Shape("deep-returns", 2_000, "names", one(lambda count: deep_returns(count, 10_000))),
+    Shape("deep-aliases-upward", 2_000, "names", one(lambda count: deep_aliases_upward(count, 10_000))),
+    Shape("deep-scopes-upward", 2_000, "terms", one(lambda count: deep_scopes_upward(count, 10_000))),
     Shape("deep-alias", 100_000, "names", one(lambda count: deep_alias(count, 10_000))),
     Shape("deep-aliases", 2_000, "names", one(lambda count: deep_aliases(count, 10_000))),
     Shape("deep-locals-deep", 10_000, "segments", one(lambda count: deep_locals(2_000, count))),
@@ -495,6 +509,8 @@ SHAPES = (
     Shape("deep-methods-left-deep", 10_000, "segments", one(lambda count: deep_methods_left(2_000, count))),
     Shape("deep-devices-deep", 10_000, "segments", one(lambda count: deep_devices(2_000, count))),
     Shape("deep-returns-deep", 10_000, "segments", one(lambda count: deep_returns(2_000, count))),
+    Shape("deep-aliases-upward-deep", 10_000, "segments", one(lambda count: deep_aliases_upward(2_000, count))),
+    Shape("deep-scopes-upward-deep", 10_000, "segments", one(lambda count: deep_scopes_upward(2_000, count))),
     Shape("deep-alias-deep", 10_000, "segments", one(lambda count: deep_alias(100_000, count))),
     Shape("deep-aliases-deep", 10_000, "segments", one(lambda count: deep_aliases(2_000, count))),
     Shape("deep-units-outside", 2_000, "units", one(lambda count: deep_units_outside(count, 10_000))),
