@@ -248,6 +248,7 @@ impl Progress {
             any_run: true,
             sure: here.sure,
         };
+        self.expect_search(&site, name);
         let path = self.opened_path(&site, name)?;
         let sure = here.sure && self.space.is_sure(&path.parts());
         here.under(&mut self.space, &path, sure)

@@ -97,6 +97,18 @@ impl Progress {
     }
 }
 
+impl Progress {
+    /// Gets ready for the search of a name, which may look at each level of its scope.
+    pub fn expect_search(&mut self, site: &Site<'_>, name: Option<&Name>)
+        ensures { self.new ≡ self.old }
+    {
+        match name {
+            Some(name) if name.is_single() => self.space.expect_search(site.scope.path().segs().len()),
+            _ => {}
+        }
+    }
+}
+
 #[tactic(auto, unfolding(crate::specs::Loading::lead_at))]
 impl Progress {
     /// The path that a Scope opens. `ScopeMissing` where its name leads to nothing.
@@ -262,6 +274,7 @@ impl Progress {
             alias_at (at_site site.now) l (first_label (parts_view parts.now))
             (last_label None (parts_view parts.now))) }
     {
+        self.expect_search(site, first_name(parts));
         let source = self.source_path(site, first_name(parts))?;
         let target = self.target_of(&source)?;
         self.declare_name(site, last_name(parts), Kind::Alias { target })
@@ -378,6 +391,7 @@ impl Progress {
             }
             Role::Method => self.add_method(site, parts, tail),
             Role::Scope => {
+                self.expect_search(site, last_name(parts));
                 let path = self.scope_path(site, last_name(parts))?;
                 match tail {
                     Tail::Terms(terms) => self.walk_below(site, &path, terms.as_slice()),

@@ -15,7 +15,7 @@ use Rattle.aml_children.specs.declared.children.Child.{Child}
 use Rattle.aml_children.specs.Children.{child_in, put}
 use Rattle.aml_space.specs.declared.nodes.Node.{Node}
 use Rattle.aml_space.specs.Nodes.{walk, IsFamily, Content, nothing, kids_in, kids_of, links_of, content_in, content_of, kinds_of, part_by, known_by, IsShape}
-use Rattle.aml_space.specs.Nodes.{IsLinked, IsAim, IsIndex}
+use Rattle.aml_space.specs.Nodes.{IsLinked, IsAim, IsIndex, IsKept}
 use Rattle.aml_space.specs.Known.{declared_kind}
 use Rattle.aml_space.proofs.Family.{same_itself, found_put, wider_family, family_put}
 use Rattle.aml_space.proofs.Index.{part_at}
@@ -134,6 +134,15 @@ module _ (ns new : List Node) (i : ℕ) (seg : Seg) (is : IsIndex ns) (within : 
     | inl same ↦ same ∙ led
     | inr w ↦ absurd (none-some j (sym w.0 ∙ led))
   ]
+
+  back : (q : List Seg) (j : ℕ) → j < length ns → walk (kids_of new) 0 q ≡ Some j → walk (kids_of ns) 0 q ≡ Some j
+  back q j old led = elim (grown_walk 0 q is.shape.rooted) [
+    | inl same ↦ sym same ∙ led
+    | inr w ↦ absurd (omega (arith, old, same_Some (length ns) j (sym w.1 ∙ led)))
+  ]
+
+  pub grown_kept : IsKept ns new
+  grown_kept = record { there = still; back = back; long = omega (arith, has.long) }
 
   lower : (j : ℕ) → 0 < j → j < length new → (links_of new j).0 < j
   lower j some range = elim (cases_lt j (length ns)) [

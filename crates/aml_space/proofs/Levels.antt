@@ -1,7 +1,7 @@
 -- The levels of a scope. A level's parent is the one before it (`led_above`); only the root stands at the depth 0
--- (`root_depth`). What is kept of a node comes from what is kept of its parent (`settled_on`).
+-- (`root_depth`).
 use Rattle.std.specs.Prelude.{slice_get}
-use Rattle.std.proofs.Common.{◌≡◌, ℕ, zero, suc, ◌+◌, ◌-◌, ◌<◌, ◌≤◌, List, [], ◌++◌, length, take, drop, get_or, Option, Some, None, IfSome, ◌⊎◌, inl, inr, refl, sym, ap, subst}
+use Rattle.std.proofs.Common.{◌≡◌, ℕ, zero, suc, ◌+◌, ◌-◌, ◌<◌, ◌≤◌, List, [], ◌∷◌, ◌++◌, length, take, drop, get_or, Option, Some, None, IfSome, ◌⊎◌, inl, inr, refl, sym, ap, subst}
 use Rattle.std.proofs.Common.{◌∙◌, arith}
 use Rattle.std.specs.Option.{option_and_then}
 use Rattle.std.proofs.lemmas.Bool.{cases_lt}
@@ -47,22 +47,31 @@ module _ (ns : List Node) (scope : List Seg) where
       ∙ ap (option_and_then (λ j. child_in (kids_of ns j) (get_or segment 0 e))) led) ∙ ap (λ t. walk (kids_of ns) 0 (take d scope ++ t)) (alone segment e one)
 
 module _ (ns : List Node) (is : IsIndex ns) (path : List Seg) where
+  -- the step before the end of a path
+  pub step_above : (q : List Seg) (s : Seg) (j : ℕ) → walk (kids_of ns) 0 (q ++ s ∷ []) ≡ Some j
+      → (i : ℕ) × (walk (kids_of ns) 0 q ≡ Some i) × (child_in (kids_of ns i) s ≡ Some j)
+  step_above q s j led = by (walk (kids_of ns) 0 q) refl (sym (walk_push (kids_of ns) 0 q s) ∙ led)
+    where
+      by : (o : Option ℕ) → walk (kids_of ns) 0 q ≡ o → option_and_then (λ i. child_in (kids_of ns i) s) o ≡ Some j
+          → (i : ℕ) × (walk (kids_of ns) 0 q ≡ Some i) × (child_in (kids_of ns i) s ≡ Some j)
+      by None here found = absurd cc
+      by (Some i) here found = (i, here, found)
+
   -- the level before one
   before : (d j : ℕ) → d < length path → walk (kids_of ns) 0 (take (d + 1) path) ≡ Some j
       → (i : ℕ) × (walk (kids_of ns) 0 (take d path) ≡ Some i) × (child_in (kids_of ns i) (get_or path d none_seg) ≡ Some j)
-  before d j within led = by (walk (kids_of ns) 0 (take d path)) refl
-      (sym (ap (walk (kids_of ns) 0) (take_more path d none_seg within) ∙ walk_push (kids_of ns) 0 (take d path) (get_or path d none_seg)) ∙ led)
-    where
-      by : (o : Option ℕ) → walk (kids_of ns) 0 (take d path) ≡ o → option_and_then (λ i. child_in (kids_of ns i) (get_or path d none_seg)) o ≡ Some j
-          → (i : ℕ) × (walk (kids_of ns) 0 (take d path) ≡ Some i) × (child_in (kids_of ns i) (get_or path d none_seg) ≡ Some j)
-      by None here found = absurd cc
-      by (Some i) here found = (i, here, found)
+  before d j within led =
+      step_above (take d path) (get_or path d none_seg) j (sym (ap (walk (kids_of ns) 0) (take_more path d none_seg within)) ∙ led)
+
+  pub parent_led : (q : List Seg) (s : Seg) (j : ℕ) → walk (kids_of ns) 0 (q ++ s ∷ []) ≡ Some j → walk (kids_of ns) 0 q ≡ Some (links_of ns j).0
+  parent_led q s j led =
+      let there = step_above q s j led in
+      there.1 ∙ ap (λ (l : ℕ × Seg). Some l.0) (sym (is.linked.below there.0 j s there.2))
 
   pub led_above : (d j : ℕ) → d < length path → walk (kids_of ns) 0 (take (d + 1) path) ≡ Some j
       → walk (kids_of ns) 0 (take d path) ≡ Some (links_of ns j).0
   led_above d j within led =
-      let there = before d j within led in
-      there.1 ∙ ap (λ (l : ℕ × Seg). Some l.0) (sym (is.linked.below there.0 j (get_or path d none_seg) there.2))
+      parent_led (take d path) (get_or path d none_seg) j (sym (ap (walk (kids_of ns) 0) (take_more path d none_seg within)) ∙ led)
 
   -- each level but the first is below the root
   pub deep_node : (d j : ℕ) → d < length path → walk (kids_of ns) 0 (take (d + 1) path) ≡ Some j → 0 < j
@@ -77,39 +86,6 @@ module _ (ns : List Node) (is : IsIndex ns) (path : List Seg) where
   root_depth (suc d) within led =
       let deep = deep_node d 0 (omega (arith, within)) (ap (λ n. walk (kids_of ns) 0 (take n path)) {x = d + 1} {y = suc d} (omega arith) ∙ led) in
       absurd (omega (arith, deep))
-
-  -- what is kept of a node, from what is kept of its parent
-  pub settled_on : (d j : ℕ) (above new : Settled) → d < length path → walk (kids_of ns) 0 (take (d + 1) path) ≡ Some j → IsSettled ns path d above
-      → new.depth ≡ above.depth + 1 → (new.asked ≡ j) ⊎ ((new.asked ≡ above.asked) × HasBareChildren ns j) → IsSettled ns path (d + 1) new
-  settled_on d j above new within led so_far deeper which = record {
-    depth = omega (arith, deeper, so_far.depth);
-    asked = elim which [
-      | inl itself ↦ (d + 1, next_itself (namespace_in (known_by ns)) path (d + 1) (d + 1) refl, led ∙ ap (λ i. Some i) (sym itself))
-      | inr w ↦ (
-        so_far.asked.0,
-        next_further (namespace_in (known_by ns)) path d so_far.asked.0 so_far.asked.1 (silent_at ns is.shape (take (d + 1) path) j led w.1),
-        so_far.asked.2 ∙ ap (λ i. Some i) (sym w.0),
-      )
-    ];
-  }
-
-  -- at whatever depth of a path the node stands
-  pub settled_here : (at : ℕ) (above new : Settled) → 0 < at → (up : ℕ) → up ≡ (links_of ns at).0
-      → ((path : List Seg) (d : ℕ) → d ≤ length path → walk (kids_of ns) 0 (take d path) ≡ Some up → IsSettled ns path d above)
-      → new.depth ≡ above.depth + 1 → (new.asked ≡ at) ⊎ ((new.asked ≡ above.asked) × HasBareChildren ns at)
-      → (d : ℕ) → d ≤ length path → walk (kids_of ns) 0 (take d path) ≡ Some at → IsSettled ns path d new
-  settled_here at above new some up is parent deeper which zero within led = absurd (omega (arith, some, same_Some 0 at led))
-  settled_here at above new some up is parent deeper which (suc d) within led =
-      let inside : d < length path = omega (arith, within) in
-      let here : walk (kids_of ns) 0 (take (d + 1) path) ≡ Some at =
-      ap (λ n. walk (kids_of ns) 0 (take n path)) {x = d + 1} {y = suc d} (omega arith) ∙ led in
-      subst (λ n. IsSettled ns path n new) {x = d + 1} {y = suc d} (omega arith) (settled_on d at above new inside here
-      (parent path d (omega (arith, inside)) (led_above d at inside here ∙ ap (λ i. Some i) (sym is))) deeper which)
-
--- nothing is kept of no node
-pub settled_none : (ns : List Node) (settled : List Settled) → settled ≡ [] → AreSettled ns settled
-settled_none ns settled none i = subst (λ (ss : List Settled). IfSome (slice_get ss i) (λ (s : Settled). (path : List Seg) (d : ℕ) → d ≤ length path
-    → walk (kids_of ns) 0 (take d path) ≡ Some i → IsSettled ns path d s)) (sym none) tt
 
 -- where nothing is known at a level, the one above it comes next
 pub next_up : (n : Namespace) (path : List Seg) (from asked : ℕ) → 0 < asked → IsNext n path from asked → IsSilent n (take asked path)

@@ -1,7 +1,8 @@
 -- Scopes that were opened lead to their nodes also where paths keep theirs (`kept_opened`), as they do where other
--- content comes to a node (`content_kept`); and so does one more (`more_opened`), and the root (`root_opened`).
+-- content comes to a node (`content_kept`), and by one step behind another (`kept_on`); and so does one more (`more_opened`), and the root (`root_opened`).
 use Rattle.std.specs.Prelude.{slice_get}
-use Rattle.std.proofs.Common.{◌≡◌, ℕ, zero, suc, List, [], ◌∷◌, ◌++◌, Option, Some, None, IfSome, sym, ap, subst, ◌∙◌}
+use Rattle.std.proofs.Common.{◌≡◌, ℕ, zero, suc, List, [], ◌∷◌, ◌++◌, Option, Some, None, IfSome, sym, ap, subst, ◌∙◌, arith}
+use Rattle.aml_names.specs.declared.segments.Seg.{Seg}
 use Rattle.aml_space.specs.declared.nodes.Node.{Node}
 use Rattle.aml_space.specs.declared.opened.Opened.{Opened}
 use Rattle.aml_space.specs.Nodes.{walk, kids_of, Content, HasContent, IsKept}
@@ -11,14 +12,29 @@ use Rattle.aml_space.proofs.Basics.{each_more}
 kept_at : (old new : List Node) (o : Option Opened) → IsKept old new → IfSome o (λ o. walk (kids_of old) 0 o.scope ≡ Some o.node)
     → IfSome o (λ o. walk (kids_of new) 0 o.scope ≡ Some o.node)
 kept_at old new None kept is = tt
-kept_at old new (Some o) kept is = kept o.scope o.node is
+kept_at old new (Some o) kept is = kept.there o.scope o.node is
 
 pub kept_opened : (old new : List Node) (opened : List Opened) → IsKept old new → AreOpened old opened → AreOpened new opened
 kept_opened old new opened kept are = λ i. kept_at old new (slice_get opened i) kept (are i)
 
 -- other content of a node changes no way
 pub content_kept : (old new : List Node) (i : ℕ) (x : Content) → HasContent old new i x → IsKept old new
-content_kept old new i x has = λ q j led. (λ t. walk (λ k. has.kids k t) 0 q) ∙ led
+content_kept old new i x has = record {
+  there = λ q j led. same q ∙ led;
+  back = λ q j within led. sym (same q) ∙ led;
+  long = omega (arith, has.long);
+}
+  where
+    same : (q : List Seg) → walk (kids_of new) 0 q ≡ walk (kids_of old) 0 q
+    same q = λ t. walk (λ k. has.kids k t) 0 q
+
+-- one step behind another
+pub kept_on : (old new later : List Node) → IsKept old new → IsKept new later → IsKept old later
+kept_on old new later one two = record {
+  there = λ q j led. two.there q j (one.there q j led);
+  back = λ q j within led. one.back q j within (two.back q j (omega (arith, within, one.long)) led);
+  long = omega (arith, one.long, two.long);
+}
 
 pub more_opened : (ns : List Node) (opened more : List Opened) (o : Opened) → more ≡ opened ++ o ∷ [] → AreOpened ns opened
     → walk (kids_of ns) 0 o.scope ≡ Some o.node → AreOpened ns more

@@ -11,7 +11,8 @@ use Rattle.aml_space.specs.declared.nodes.Node.{Node}
 use Rattle.aml_space.specs.Nodes.{walk, kids_of, known_by, IsIndex, IsKept, empty, chain, with_child, with_path}
 use Rattle.aml_space.proofs.Walks.{walk_push, node_range}
 use Rattle.aml_space.proofs.Grow.{more_if, has_grown, length_with, with_pushed, last_leaf}
-use Rattle.aml_space.proofs.Growth.{grown_index, grown_known, new_child, still}
+use Rattle.aml_space.proofs.Growth.{grown_index, grown_known, grown_kept, new_child, still}
+use Rattle.aml_space.proofs.Opening.{kept_on}
 
 -- an index that knows the same, in which a path leads to a node
 pub record Leads (ns new : List Node) (p : List Seg) (at : ℕ) : Type 0 where
@@ -35,7 +36,7 @@ one_more ns p i s within is led absent =
       known = grown_known ns new i s is within absent has;
       led = walk_push (kids_of new) 0 p s ∙ ap (option_and_then (λ j. child_in (kids_of new j) s)) (still ns new i s is within absent has p i led)
           ∙ new_child ns new i s is within absent has;
-      kept = still ns new i s is within absent has;
+      kept = grown_kept ns new i s is within absent has;
     }
 
 -- from an empty node at the end
@@ -59,7 +60,7 @@ rest_more ns new xs top t p (s ∷ q) whole at so nodes path end =
     let next : Leads ns ((xs ++ filled ∷ []) ++ empty (length xs) s ∷ []) (p ++ s ∷ []) (length (xs ++ filled ∷ [])) =
     subst (λ ms. Leads ns (ms ++ empty (length xs) s ∷ []) (p ++ s ∷ []) (length (xs ++ filled ∷ []))) is
     (subst (Leads ns (with_child before (length xs) (record { seg = s; node = length before }) ++ empty (length xs) s ∷ []) (p ++ s ∷ []))
-    (long ∙ sym long_next) (record { index = one.index; known = one.known ∙ so.known; led = one.led; kept = λ q j led. one.kept q j (so.kept q j led) })) in
+    (long ∙ sym long_next) (record { index = one.index; known = one.known ∙ so.known; led = one.led; kept = kept_on ns before _ so.kept one.kept })) in
     rest_more ns new (xs ++ filled ∷ []) (length xs) s (p ++ s ∷ []) q whole at next
     (nodes ∙ ap (λ n. xs ++ filled ∷ chain (length xs) n s q) (sym long_next) ∙ sym (append_assoc xs (filled ∷ []) _))
     (path ∙ sym (append_assoc p (s ∷ []) q)) (omega (arith, end, long_next))

@@ -1,12 +1,12 @@
 -- Where paths lead in a tree of nodes: step by step along a path (`led_step`, `led_more`), and to nodes in range
 -- (`node_range`). No two paths lead to one node (`one_path`), so new content of a node is that of one path (`put_path`).
 use Rattle.std.specs.Prelude.{◌==◌}
-use Rattle.std.proofs.Common.{◌≡◌, ℕ, ◌+◌, ◌<◌, Bool, true, false, cond, List, [], ◌∷◌, ◌++◌, length, take, drop, get_or, Option, Some, None, IfSome, inl, inr}
+use Rattle.std.proofs.Common.{◌≡◌, ℕ, ◌+◌, ◌<◌, ◌≤◌, Bool, true, false, cond, List, [], ◌∷◌, ◌++◌, length, take, drop, get_or, Option, Some, None, IfSome, inl, inr}
 use Rattle.std.proofs.Common.{refl, sym, ap, ◌∙◌, arith, append_assoc}
 use Rattle.std.specs.Option.{option_and_then}
 use Rattle.std.specs.Ordering.{eq_by_cmp, is_eq}
 use Rattle.std.specs.Cmp.{tied_itself}
-use Rattle.std.proofs.lemmas.List.{append-nil, take_more, drop_more}
+use Rattle.std.proofs.lemmas.List.{append-nil, take_more, drop_more, take-append-drop, take-take}
 use Rattle.std.proofs.lemmas.Option.{same_Some}
 use Rattle.std.proofs.lemmas.Map.Views.{tells_apart}
 use Rattle.std.proofs.lemmas.Bool.{eq-eqb, ne_eqb, cases_Bool, false≢true, false_from_ne_true}
@@ -75,6 +75,27 @@ module _ {len : ℕ} {kids : ℕ → List Child} (is : IsTree len kids) where
 
   pub node_range : (q : List Seg) (j : ℕ) → walk kids 0 q ≡ Some j → j < len
   node_range q j led = range_from 0 q j is.rooted led
+
+  -- and to one whose number is not lower
+  rise_from : (i : ℕ) (q : List Seg) (j : ℕ) → walk kids i q ≡ Some j → i ≤ j
+  rise_from i [] j led = omega (arith, same_Some i j led)
+  rise_from i (s ∷ q) j led = by (child_in (kids i) s) refl led (λ k. rise_from k q j)
+    where
+      by : (o : Option ℕ) → child_in (kids i) s ≡ o → option_and_then (λ k. walk kids k q) o ≡ Some j
+          → ((k : ℕ) → walk kids k q ≡ Some j → k ≤ j) → i ≤ j
+      by None e led each = absurd cc
+      by (Some k) e led each = omega (arith, each k led, (kid_range i s k e).0)
+
+  -- a shorter front leads to a node before it
+  pub front_led : (path : List Seg) (e d i : ℕ) → e ≤ d → walk kids 0 (take d path) ≡ Some i → (j : ℕ) × (walk kids 0 (take e path) ≡ Some j) × (j ≤ i)
+  front_led path e d i less led = by (walk kids 0 (take e path)) refl
+      (sym (ap (walk kids 0) (sym (take-append-drop e (take d path)) ∙ ap (λ q. q ++ drop e (take d path)) (take-take e d path less))
+      ∙ walk_append kids 0 (take e path) (drop e (take d path))) ∙ led)
+    where
+      by : (o : Option ℕ) → walk kids 0 (take e path) ≡ o → option_and_then (λ j. walk kids j (drop e (take d path))) o ≡ Some i
+          → (j : ℕ) × (walk kids 0 (take e path) ≡ Some j) × (j ≤ i)
+      by None here found = absurd cc
+      by (Some j) here found = (j, here, rise_from j (drop e (take d path)) i found)
 
   pub node_within : (q : List Seg) (o : Option ℕ) → o ≡ walk kids 0 q → IfSome o (λ j. j < len)
   node_within q None e = tt

@@ -47,15 +47,30 @@ pub record IsNext (n : Namespace) (path : List Seg) (from asked : ℕ) : Type 0 
   pub within : asked ≤ from
   pub silent : (d : ℕ) → asked < d → d ≤ from → IsSilent n (take d path)
 
--- what is kept of the node to which a front of a path leads: its length, and the node of the next one to be asked
-pub record IsSettled (ns : List Node) (path : List Seg) (d : ℕ) (s : Settled) : Type 0 where
+-- where a path leads to a node of which something is kept, this goes on further up
+abbrev pub IsPassed : List Node → List Settled → List Seg → Type 0
+IsPassed ns settled q = (i : ℕ) → walk (kids_of ns) 0 q ≡ Some i → IfSome (slice_get settled i) (λ s. s.asked < i)
+
+-- What is kept of the node to which a front of a path leads: its length, and the node of the next one to be asked. What is
+-- kept of the nodes between them goes on there too.
+pub record IsSettled (ns : List Node) (settled : List Settled) (path : List Seg) (d : ℕ) (s : Settled) : Type 0 where
   pub depth : s.depth ≡ d
-  pub asked : (m : ℕ) × IsNext (namespace_in (known_by ns)) path d m × (walk (kids_of ns) 0 (take m path) ≡ Some s.asked)
+  pub asked : ℕ
+  pub next : IsNext (namespace_in (known_by ns)) path d asked
+  pub led : walk (kids_of ns) 0 (take asked path) ≡ Some s.asked
+  pub passed : (e : ℕ) → asked < e → e ≤ d → IsPassed ns settled (take e path)
 
 -- that of some first nodes
-abbrev pub AreSettled : List Node → List Settled → Type 0
-AreSettled ns settled = (i : ℕ) → IfSome (slice_get settled i) (λ s. (path : List Seg) (d : ℕ) → d ≤ length path →
-    walk (kids_of ns) 0 (take d path) ≡ Some i → IsSettled ns path d s)
+pub record AreSettled (ns : List Node) (settled : List Settled) : Type 0 where
+  pub long : length settled ≤ length ns
+  pub shallow : (i : ℕ) → IfSome (slice_get settled i) (λ s. s.depth ≤ i)
+  pub each : (i : ℕ) → IfSome (slice_get settled i) (λ s. (path : List Seg) (d : ℕ) → d ≤ length path →
+      walk (kids_of ns) 0 (take d path) ≡ Some i → IsSettled ns settled path d s)
+
+-- nothing that is kept passes over the node above a path
+abbrev pub IsReady : List Node → List Settled → List Seg → Type 0
+IsReady ns settled path = (q : List Seg) (s : Seg) (i : ℕ) → path ≡ q ++ s ∷ [] → walk (kids_of ns) 0 q ≡ Some i →
+    IfSome (slice_get settled i) (λ here. here.asked ≡ i)
 
 -- a level of a scope: a front of its path, and the node to which this leads
 pub record IsLevel (s : Scope) (l : Level) : Type 0 where

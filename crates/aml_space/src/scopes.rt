@@ -497,14 +497,18 @@ impl<'a> Scope<'a> {
     }
 }
 
-/// Whether a child of a node may have content. An only child, as each segment of a long path is one, is looked at.
+/// Whether a child of a node may have content, or comes to have it first. An only child, as each segment of a long path is
+/// one, is looked at.
 pub(crate) fn has_to_be_asked(nodes: &[Node], at: usize) -> bool
     requires within { at < length nodes.now }
     requires shape { IsShape nodes.now }
     ensures { OnFalse result (HasBareChildren nodes.now at) }
 {
     let children = children_at(nodes, at);
-    children.are_several() || has_content(nodes, children.first())
+    match children.first() {
+        None => true,
+        only => children.are_several() || has_content(nodes, only),
+    }
 }
 
 /// Whether a node has a kind, an External or a given count.

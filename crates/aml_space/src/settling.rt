@@ -1,13 +1,15 @@
-//! Where the search for a segment goes on, from each node, once no declaration comes any more.
-ghost use Rattle.std.specs.Prelude.{IfOk};
-ghost use Rattle.aml_space.specs.Nodes.{IsIndex};
-ghost use Rattle.aml_space.specs.Candidates.{AreSettled};
+//! Where the search for a segment goes on, from each node.
+ghost use Rattle.std.specs.Prelude.{◌≡◌, ◌<◌, ◌∷◌, ◌++◌, [], List, length, slice_get, IfSome};
+ghost use Rattle.std.specs.Bool.{OnTrue};
+ghost use Rattle.aml_names.specs.declared.segments.Seg.{Seg};
+ghost use Rattle.aml_space.specs.Nodes.{walk, kids_of, IsIndex, Reaches};
+ghost use Rattle.aml_space.specs.Candidates.{AreSettled, IsReady};
 
+use crate::growing::Reach;
 use crate::nodes::Node;
 use crate::parents::link;
 use crate::scopes::has_to_be_asked;
-use aml_names::NoMemory;
-use std::alloc::Global;
+use aml_names::{NoMemory, Parts};
 
 /// What is kept of a node for the search of a segment.
 #[derive(Clone, Copy)]
@@ -19,25 +21,87 @@ pub(crate) struct Settled {
     pub asked: usize,
 }
 
-/// What is kept of each node.
-pub(crate) fn settled_of(alloc: Global, nodes: &[Node]) -> Result<Vec<Settled>, NoMemory>
-    requires { IsIndex nodes.now }
-    ensures { IfOk result (λ settled. AreSettled nodes.now settled.items) }
+/// What is kept of the next node.
+fn settled_next(settled: &[Settled], nodes: &[Node]) -> Settled
+    requires index { IsIndex nodes.now }
+    requires settled { AreSettled nodes.now settled.now }
+    requires more { length settled.now < length nodes.now }
+    ensures { AreSettled nodes.now (settled.now ++ result ∷ []) }
 {
-    let mut settled: Vec<Settled> = Vec::with_capacity(alloc, nodes.len())?;
-    settled.push(Settled { depth: 0, asked: 0 })?;
-    for at in 1..nodes.len() {
-        let (parent, _) = link(nodes, at);
-        let above: Settled = settled[parent];
-        let asked = if has_to_be_asked(nodes, at) {
-            at
-        } else {
-            above.asked
-        };
-        settled.push(Settled {
-            depth: above.depth + 1,
-            asked,
-        })?;
+    let at = settled.len();
+    if at == 0 {
+        return Settled { depth: 0, asked: 0 };
     }
-    Ok(settled)
+    let (parent, _) = link(nodes, at);
+    let above: Settled = settled[parent];
+    let asked = if has_to_be_asked(nodes, at) {
+        at
+    } else {
+        above.asked
+    };
+    Settled {
+        depth: above.depth + 1,
+        asked,
+    }
+}
+
+/// Keeps it of all nodes of which it isn't kept yet. Where memory is refused, of some of them.
+pub(crate) fn settle(settled: &mut Vec<Settled>, nodes: &[Node]) -> Result<(), NoMemory>
+    requires index { IsIndex nodes.now }
+    requires settled { AreSettled nodes.now settled.old.items }
+    ensures { AreSettled nodes.now settled.new.items }
+{
+    settled.reserve_exact(nodes.len() - settled.len())?;
+    while settled.len() < nodes.len() {
+        let next = settled_next(settled.as_slice(), nodes);
+        settled.push(next)?;
+    }
+    Ok(())
+}
+
+/// The node above a path that leads this far: that of its front without the last segment.
+fn node_above(nodes: &[Node], path: &Parts<'_>, reach: Reach) -> Option<usize>
+    requires index { IsIndex nodes.now }
+    requires reach { Reaches nodes.now path.now reach }
+    ensures { (q : List Seg) (s : Seg) → path.now ≡ q ++ s ∷ [] → result ≡ walk (kids_of nodes.now) 0 q }
+{
+    if reach.known == path.len() {
+        let (parent, _) = link(nodes, reach.node);
+        return Some(parent);
+    }
+    if reach.known + 1 == path.len() {
+        Some(reach.node)
+    } else {
+        None
+    }
+}
+
+/// Whether what is kept of a node doesn't pass over it, if anything is.
+fn is_asked(settled: &[Settled], at: usize) -> bool
+    ensures { OnTrue result (IfSome (slice_get settled.now at) (λ here. here.asked ≡ at)) }
+{
+    match settled.get(at) {
+        None => true,
+        Some(here) => here.asked == at,
+    }
+}
+
+/// Drops what may pass over the node above a path that leads this far, of which something will be said.
+pub(crate) fn unsettle(
+    settled: &mut Vec<Settled>,
+    nodes: &[Node],
+    path: &Parts<'_>,
+    reach: Reach,
+)
+    requires index { IsIndex nodes.now }
+    requires reach { Reaches nodes.now path.now reach }
+    requires settled { AreSettled nodes.now settled.old.items }
+    ensures settled { AreSettled nodes.now settled.new.items }
+    ensures ready { IsReady nodes.now settled.new.items path.now }
+{
+    if let Some(above) = node_above(nodes, path, reach) {
+        if !is_asked(settled.as_slice(), above) {
+            settled.truncate(above);
+        }
+    }
 }

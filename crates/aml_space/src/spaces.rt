@@ -14,7 +14,7 @@ ghost use Rattle.aml_space.specs.Known.{is_declared as declared_yet, namespace_i
 
 use crate::counting::{count_of, sure_met};
 use crate::faults::SpaceFault;
-use crate::growing::{declare_again, declare_first, is_taken, make_node, set_given, set_out};
+use crate::growing::{declare_again, declare_first, extend, is_taken, set_given, set_out};
 use crate::kinds::Kind;
 use crate::listing::{Rows, list_rows};
 use crate::nodes::Node;
@@ -22,7 +22,7 @@ use crate::opened::{Opened, node_along, reach_along};
 use crate::predefined::Predefined;
 use crate::rows::Row;
 use crate::scopes::Scope;
-use crate::settling::{Settled, settled_of};
+use crate::settling::{Settled, settle, unsettle};
 use crate::walking::{kind_at, walk_counted};
 use aml_names::{NoMemory, Parts, Path, ScopedPath, Seg, SharedPath};
 use std::alloc::{AllocError, Global};
@@ -40,8 +40,10 @@ pub struct Space {
     rows: usize,
     /// The scopes that are open, and those by which something is kept, so that what stands in them is found soon.
     opened: Vec<Opened>,
-    /// Where the search for a segment goes on from each node, from when this is settled to the next declaration.
+    /// Where the search for a segment goes on from some first nodes.
     settled: Vec<Settled>,
+    /// How many levels were looked at at most since the last time that this was found out.
+    looked: usize,
 }
 
 impl Model for Space {
@@ -85,6 +87,7 @@ impl Space {
             rows: 0,
             opened,
             settled: Vec::new(alloc),
+            looked: 0,
         })
     }
 
@@ -121,8 +124,8 @@ impl Space {
             IfOk result (λ put. StandsFor self.new
             (cond put (es ++ declares path.now kind body surely ∷ []) es)) }
     {
-        self.settled.clear();
         let reach = reach_along(self.nodes.as_slice(), self.opened.as_slice(), path);
+        unsettle(&mut self.settled, self.nodes.as_slice(), path, reach);
         if is_taken(self.nodes.as_slice(), path, reach) {
             return Ok(false);
         }
@@ -160,8 +163,8 @@ impl Space {
             OnOk result (StandsFor self.new (es ++ declares path.now kind body sure ∷ [])) }
         ensures err { OnErr result (self.new ≡ self.old) }
     {
-        self.settled.clear();
         let reach = reach_along(self.nodes.as_slice(), self.opened.as_slice(), path);
+        unsettle(&mut self.settled, self.nodes.as_slice(), path, reach);
         if is_taken(self.nodes.as_slice(), path, reach) {
             return declare_again(self.alloc, &mut self.nodes, path, reach.node, kind, sure);
         }
@@ -199,9 +202,9 @@ impl Space {
             OnOk result (StandsFor self.new (es ++ outside path.now count ∷ [])) }
         ensures err { OnErr result (self.new ≡ self.old) }
     {
-        self.settled.clear();
-        let opened = self.opened.as_slice();
-        let at = make_node(self.alloc, &mut self.nodes, opened, path)?;
+        let reach = reach_along(self.nodes.as_slice(), self.opened.as_slice(), path);
+        unsettle(&mut self.settled, self.nodes.as_slice(), path, reach);
+        let at = extend(self.alloc, &mut self.nodes, path, reach)?;
         set_out(&mut self.nodes, at, count);
         Ok(())
     }
@@ -214,10 +217,10 @@ impl Space {
             OnOk result (StandsFor self.new (es ++ said path.now count ∷ [])) }
         ensures err { OnErr result (self.new ≡ self.old) }
     {
-        self.settled.clear();
         let path = path.parts();
-        let opened = self.opened.as_slice();
-        let at = make_node(self.alloc, &mut self.nodes, opened, &path)?;
+        let reach = reach_along(self.nodes.as_slice(), self.opened.as_slice(), &path);
+        unsettle(&mut self.settled, self.nodes.as_slice(), &path, reach);
+        let at = extend(self.alloc, &mut self.nodes, &path, reach)?;
         set_given(&mut self.nodes, at, count);
         Ok(())
     }
@@ -253,12 +256,23 @@ impl Space {
     }
 
     /// Finds out where the search for a segment goes on from each node, so that names cost the depths alone at which
-    /// something may stand, until the next declaration. What is known stays the same, also where memory is refused.
+    /// something may stand. What is known stays the same, also where memory is refused.
     pub fn settle(&mut self) -> Result<(), NoMemory>
         ensures { self.new ≡ self.old }
     {
-        self.settled = settled_of(self.alloc, self.nodes.as_slice())?;
-        Ok(())
+        self.looked = 0;
+        settle(&mut self.settled, self.nodes.as_slice())
+    }
+
+    /// Does this once as many levels may have been looked at as it takes steps, with those of a search that comes next.
+    /// Where memory is refused, each level is looked at.
+    pub fn expect_search(&mut self, levels: usize)
+        ensures { self.new ≡ self.old }
+    {
+        self.looked = self.looked.saturating_add(levels);
+        if self.looked >= self.nodes.len() - self.settled.len() {
+            let _settled = self.settle();
+        }
     }
 
     /// The kind with which a path is declared, and the comparisons of segments that were made.

@@ -3,13 +3,13 @@ use Rattle.aml_space.specs.Known.{Declared, once, with_declaration}
 use Rattle.aml_space.specs.Nodes.{known_by, IsAim, HasDeclared, IsIndex}
 use Rattle.aml_space.proofs.Walks.{node_range}
 use Rattle.aml_space.proofs.Index.{put_declared}
-use Rattle.aml_space.proofs.Opening.{content_kept}
+use Rattle.aml_space.proofs.Opening.{content_kept, kept_on}
 use Rattle.aml_space.proofs.growing.declare_first.Goals as goal
 use Rattle.aml_space.proofs.growing.declare_first.Goals.{After-set_declared}
 
 pub set_declared-requires : goal.set_declared-requires
 set_declared-requires c = node_range c.aim_of.ensures.index.shape c.args.path.now c.in_ok-at.at
-    (c.aim_of.ensures.kept c.args.path.now c.in_ok-at.at c.in_ok-at.ensures.node)
+    (c.aim_of.ensures.kept.there c.args.path.now c.in_ok-at.at c.in_ok-at.ensures.node)
 
 put_here : (c : After-set_declared) → HasDeclared c.aim_of.new.nodes.items c.set_declared.new.nodes.items c.in_ok-at.at c.in_ok-said.said.value
     c.in_ok-aim.aim
@@ -18,7 +18,7 @@ put_here : (c : After-set_declared) → HasDeclared c.aim_of.new.nodes.items c.s
 put_here c has =
     let said : c.in_ok-said.said.value ≡ once c.args.kind c.args.sure = c.in_ok-said.ensures.ok ∙ c.in_ok-new.ensures in
     let kind = c.kind.ensures ∙ ap (λ (d : Declared). d.kind) (c.deref.ensures ∙ said) in
-    let led = c.aim_of.ensures.kept c.args.path.now c.in_ok-at.at c.in_ok-at.ensures.node in
+    let led = c.aim_of.ensures.kept.there c.args.path.now c.in_ok-at.at c.in_ok-at.ensures.node in
     let put = put_declared c.aim_of.new.nodes.items c.set_declared.new.nodes.items c.args.path.now c.in_ok-at.at c.aim_of.ensures.index
     led (once c.args.kind c.args.sure) c.in_ok-aim.aim
     (subst (λ k. IsAim c.aim_of.new.nodes.items (Some k) c.in_ok-aim.aim) kind c.in_ok-aim.ensures.aim)
@@ -32,5 +32,6 @@ pub returns-clause-ok : goal.returns-clause-ok
 returns-clause-ok c = (put_here (goal.at.returns-clause-ok c).After-set_declared c.set_declared.ensures).1
 
 pub returns-clause-kept : goal.returns-clause-kept
-returns-clause-kept c = λ q j led. content_kept c.aim_of.new.nodes.items c.set_declared.new.nodes.items c.in_ok-at.at _ c.set_declared.ensures q j
-    (c.aim_of.ensures.kept q j (c.extend.ensures.kept q j led))
+returns-clause-kept c = kept_on c.args.nodes.now.items c.extend.new.nodes.items c.set_declared.new.nodes.items c.extend.ensures.kept
+    (kept_on c.extend.new.nodes.items c.aim_of.new.nodes.items c.set_declared.new.nodes.items c.aim_of.ensures.kept
+    (content_kept c.aim_of.new.nodes.items c.set_declared.new.nodes.items c.in_ok-at.at _ c.set_declared.ensures))

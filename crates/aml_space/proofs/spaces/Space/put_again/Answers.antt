@@ -1,4 +1,4 @@
-use Rattle.std.proofs.Common.{◌≡◌, false, ◌+◌, length, ◌++◌, ◌∷◌, [], List, Option, None, OnOk, Result, Ok, Err, refl, sym, subst, ap, ◌∙◌, arith}
+use Rattle.std.proofs.Common.{◌≡◌, false, ◌+◌, length, ◌++◌, ◌∷◌, [], List, Option, None, OnOk, OnErr, Result, Ok, Err, refl, sym, subst, ap, ◌∙◌, arith}
 use Rattle.std.specs.FinMap as map
 use Rattle.std.specs.declared.alloc.AllocError.{AllocError}
 use Rattle.aml_space.specs.Namespace.{Entry, Body, declares}
@@ -6,18 +6,54 @@ use Rattle.aml_space.specs.Nodes.{known_by}
 use Rattle.aml_space.specs.Known.{Known, StandsFor, once, with_declaration, with_again}
 use Rattle.aml_space.proofs.Stands.{stands_declared, again_first, none_from_test}
 use Rattle.aml_space.proofs.Index.{known_taken, one_declared}
-use Rattle.aml_space.proofs.Levels.{settled_none}
+use Rattle.aml_space.specs.Candidates.{AreSettled}
+use Rattle.aml_space.proofs.Resting.{IsSaidOf, said_declared, said_nothing, settled_kept}
 use Rattle.aml_space.proofs.Opening.{kept_opened}
 use Rattle.aml_space.proofs.spaces.Space.put_again.Goals as goal
-use Rattle.aml_space.proofs.spaces.Space.put_again.Goals.{In_ok-declare_first, After-is_taken}
+use Rattle.aml_space.proofs.spaces.Space.put_again.Goals.{In_ok-declare_first, After-declare_first, After-is_taken}
 
 not_declared : (c : After-is_taken) → c.is_taken.result ≡ false → map.get c.args.self.now.declarations c.args.path.now ≡ None
-not_declared c free = none_from_test _ (sym (known_taken _ _ _ _ _ _ c.is_taken.ensures.taken c.as_slice-3.ensures.value refl c.self.invariant.index.shape c.self.view_is) ∙ free)
+not_declared c free = none_from_test _ (sym (known_taken _ _ _ _ _ _ c.is_taken.ensures.taken c.as_slice-4.ensures.value refl c.self.invariant.index.shape c.self.view_is) ∙ free)
 
 put_here : (c : In_ok-declare_first) → map.get c.args.self.now.declarations c.args.path.now ≡ None → known_by c.declare_first.new.nodes.items
     ≡ with_again c.args.self.now c.args.path.now c.args.kind c.args.sure
 put_here c none = c.in_ok-declare_first.ensures.ok ∙ ap (λ k. with_declaration k c.args.path.now (once c.args.kind c.args.sure)) c.self.view_is
     ∙ sym (again_first c.args.self.now c.args.path.now c.args.kind c.args.sure none)
+
+-- what is kept for searches stays right
+still_settled : (c : After-declare_first) → IsSaidOf (known_by c.self.inside.nodes.items) (known_by c.declare_first.new.nodes.items) c.args.path.now
+    → AreSettled c.declare_first.new.nodes.items c.unsettle.new.settled.items
+still_settled c said = settled_kept c.self.inside.nodes.items c.declare_first.new.nodes.items c.as_slice-3.result.now
+    c.unsettle.new.settled.items c.args.path.now c.as_slice-3.ensures.value
+    c.self.invariant.index c.declare_first.ensures.kept said c.unsettle.ensures.ready c.unsettle.ensures.settled
+
+pub invariant_of-self-in_err-declare_first : goal.invariant_of-self-in_err-declare_first
+invariant_of-self-in_err-declare_first c = record {
+  index = c.declare_first.ensures.index;
+  rows = c.self.invariant.rows ∙ ap (λ (k : Known). length (map.entries k.declarations)) (sym c.in_err-declare_first.ensures.err);
+  opened = kept_opened c.self.inside.nodes.items c.declare_first.new.nodes.items c.self.inside.opened.items c.declare_first.ensures.kept
+      c.self.invariant.opened;
+  settled = still_settled (goal.at.invariant_of-self-in_err-declare_first c).After-declare_first
+      (said_nothing _ _ c.args.path.now c.in_err-declare_first.ensures.err);
+}
+
+pub invariant_of-self : goal.invariant_of-self
+invariant_of-self c = record {
+  index = c.declare_again.ensures.index;
+  rows = c.self.invariant.rows ∙ sym c.declare_again.ensures.rows;
+  opened = kept_opened c.self.inside.nodes.items c.declare_again.new.nodes.items c.self.inside.opened.items c.declare_again.ensures.kept
+      c.self.invariant.opened;
+  settled = settled_kept c.self.inside.nodes.items c.declare_again.new.nodes.items c.as_slice-3.result.now
+      c.unsettle.new.settled.items c.args.path.now c.as_slice-3.ensures.value c.self.invariant.index c.declare_again.ensures.kept (said c.declare_again.result c.declare_again.ensures.ok c.declare_again.ensures.err)
+      c.unsettle.ensures.ready c.unsettle.ensures.settled;
+}
+  where
+    said : (r : Result (Unit {0}) AllocError) → OnOk r (known_by c.declare_again.new.nodes.items
+        ≡ with_again (known_by c.self.inside.nodes.items) c.args.path.now c.args.kind c.args.sure)
+        → OnErr r (known_by c.declare_again.new.nodes.items ≡ known_by c.self.inside.nodes.items)
+        → IsSaidOf (known_by c.self.inside.nodes.items) (known_by c.declare_again.new.nodes.items) c.args.path.now
+    said (Ok u) ok err = said_declared _ _ c.args.path.now _ ok
+    said (Err e) ok err = said_nothing _ _ c.args.path.now err
 
 pub invariant_of-self-2 : goal.invariant_of-self-2
 invariant_of-self-2 c =
@@ -33,7 +69,8 @@ invariant_of-self-2 c =
       rows = omega (arith, before, after);
       opened = kept_opened c.self.inside.nodes.items c.declare_first.new.nodes.items c.self.inside.opened.items c.declare_first.ensures.kept
           c.self.invariant.opened;
-      settled = settled_none c.declare_first.new.nodes.items c.clear.new.self.items c.clear.ensures.items;
+      settled = still_settled (goal.at.invariant_of-self-2 c).After-declare_first
+          (said_declared _ _ c.args.path.now (once c.args.kind c.args.sure) c.in_ok-declare_first.ensures.ok);
     }
 
 pub returns-clause-ok : goal.returns-clause-ok

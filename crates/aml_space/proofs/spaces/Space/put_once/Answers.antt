@@ -6,13 +6,14 @@ use Rattle.aml_space.specs.Nodes.{known_by}
 use Rattle.aml_space.specs.Known.{Known, StandsFor, once, with_declaration, is_declared}
 use Rattle.aml_space.proofs.Stands.{stands_declared, again_first, none_from_test, declared_listed}
 use Rattle.aml_space.proofs.Index.{known_taken, one_declared}
-use Rattle.aml_space.proofs.Levels.{settled_none}
+use Rattle.aml_space.specs.Candidates.{AreSettled}
+use Rattle.aml_space.proofs.Resting.{IsSaidOf, said_declared, said_nothing, settled_kept}
 use Rattle.aml_space.proofs.Opening.{kept_opened}
 use Rattle.aml_space.proofs.spaces.Space.put_once.Goals as goal
-use Rattle.aml_space.proofs.spaces.Space.put_once.Goals.{After-is_taken, In_ok-declare_first}
+use Rattle.aml_space.proofs.spaces.Space.put_once.Goals.{After-is_taken, After-declare_first, In_ok-declare_first}
 
 taken : (c : After-is_taken) → c.is_taken.result ≡ is_declared c.args.self.now c.args.path.now
-taken c = known_taken _ _ _ _ _ _ c.is_taken.ensures.taken c.as_slice-3.ensures.value refl c.self.invariant.index.shape c.self.view_is
+taken c = known_taken _ _ _ _ _ _ c.is_taken.ensures.taken c.as_slice-4.ensures.value refl c.self.invariant.index.shape c.self.view_is
 
 not_declared : (c : After-is_taken) → c.is_taken.result ≡ false → map.get c.args.self.now.declarations c.args.path.now ≡ None
 not_declared c free = none_from_test _ (sym (taken c) ∙ free)
@@ -23,6 +24,23 @@ never c free there = absurd (true≢false (sym there ∙ sym (taken c) ∙ free)
 put_here : (c : In_ok-declare_first) → known_by c.declare_first.new.nodes.items
     ≡ with_declaration c.args.self.now c.args.path.now (once c.args.kind c.args.surely)
 put_here c = c.in_ok-declare_first.ensures.ok ∙ ap (λ k. with_declaration k c.args.path.now (once c.args.kind c.args.surely)) c.self.view_is
+
+-- what is kept for searches stays right
+still_settled : (c : After-declare_first) → IsSaidOf (known_by c.self.inside.nodes.items) (known_by c.declare_first.new.nodes.items) c.args.path.now
+    → AreSettled c.declare_first.new.nodes.items c.unsettle.new.settled.items
+still_settled c said = settled_kept c.self.inside.nodes.items c.declare_first.new.nodes.items c.as_slice-3.result.now
+    c.unsettle.new.settled.items c.args.path.now c.as_slice-3.ensures.value
+    c.self.invariant.index c.declare_first.ensures.kept said c.unsettle.ensures.ready c.unsettle.ensures.settled
+
+pub invariant_of-self-in_err-declare_first : goal.invariant_of-self-in_err-declare_first
+invariant_of-self-in_err-declare_first c = record {
+  index = c.declare_first.ensures.index;
+  rows = c.self.invariant.rows ∙ ap (λ (k : Known). length (map.entries k.declarations)) (sym c.in_err-declare_first.ensures.err);
+  opened = kept_opened c.self.inside.nodes.items c.declare_first.new.nodes.items c.self.inside.opened.items c.declare_first.ensures.kept
+      c.self.invariant.opened;
+  settled = still_settled (goal.at.invariant_of-self-in_err-declare_first c).After-declare_first
+      (said_nothing _ _ c.args.path.now c.in_err-declare_first.ensures.err);
+}
 
 pub invariant_of-self-2 : goal.invariant_of-self-2
 invariant_of-self-2 c =
@@ -37,7 +55,8 @@ invariant_of-self-2 c =
       rows = omega (arith, before, after);
       opened = kept_opened c.self.inside.nodes.items c.declare_first.new.nodes.items c.self.inside.opened.items c.declare_first.ensures.kept
           c.self.invariant.opened;
-      settled = settled_none c.declare_first.new.nodes.items c.clear.new.self.items c.clear.ensures.items;
+      settled = still_settled (goal.at.invariant_of-self-2 c).After-declare_first
+          (said_declared _ _ c.args.path.now (once c.args.kind c.args.surely) c.in_ok-declare_first.ensures.ok);
     }
 
 pub returns-clause-stands : goal.returns-clause-stands
