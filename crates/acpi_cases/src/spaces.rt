@@ -3,7 +3,7 @@ ghost use Rattle.std.specs.Prelude.{◌≤◌, length};
 
 use crate::code::push_body_of;
 use crate::lines::{Line, count_of, first_word};
-use aml_names::{Arity, Locals, Name, NameForm, Path, ScopedPath, Seg, Segs, SharedPath, place};
+use aml_names::{Arity, Locals, Name, NameForm, Path, ScopedPath, Seg, Segs, place};
 use aml_space::{BodyScope, Kind, Space, SpaceRow, Target};
 use std::alloc::{AllocError, Global};
 use std::fmt::Write;
@@ -106,7 +106,7 @@ impl Names<'_> {
 
     /// The path that a Scope opens, whatever runs.
     fn lead(&self, alloc: Global, scope: &Path, name: &Name) -> Result<Option<Path>, AllocError> {
-        let scope = SharedPath::new(alloc, scope.clone()?)?;
+        let scope = ScopedPath::whole(alloc, scope.clone()?)?;
         match self.space.lead(alloc, &scope, name)? {
             Some(path) => Ok(Some(path.to_path(alloc)?)),
             None => Ok(None),

@@ -16,8 +16,8 @@ use crate::faults::LoadFault;
 use crate::used::Use;
 use crate::uses::Site;
 use crate::walking::Progress;
-use aml_code::{Locals, NoMemory, Node, Path, place};
-use aml_names::{Arity, SharedPath};
+use aml_code::{Locals, NoMemory, Node, Path};
+use aml_names::{Arity, Parts, ScopedPath};
 use aml_parse::parse_module;
 use aml_set::{Loaded, Table, TableSet};
 use aml_space::{BodyNames, Space};
@@ -38,7 +38,7 @@ fn load_whole_table(
         Ok(terms) => terms,
         Err(fault) => return Err(LoadFault::in_code(table, fault)),
     };
-    let root = SharedPath::new(progress.alloc, Path::root(progress.alloc))?;
+    let root = ScopedPath::whole(progress.alloc, Path::root(progress.alloc))?;
     progress.walk_all(
         &Site {
             table,
@@ -89,10 +89,10 @@ fn read_tables(
 /// The names of a scope, which serve each name that stands in it.
 #[derive(Drop)]
 struct Opened<'a> {
-    scope: &'a Path,
+    scope: Parts<'a>,
     unknown_zero: bool,
     names: BodyNames<'a>,
-    ghost method: { names.method ≡ scope.now },
+    ghost method: { names.method ≡ scope },
     ghost unknown: { names.unknown_zero ≡ unknown_zero },
 }
 
@@ -109,10 +109,10 @@ fn opened_for<'a>(
     ensures scope { IfOk result (λ o. o.names.method ≡ used.now.scope) }
     ensures unknown { IfOk result (λ o. o.names.unknown_zero ≡ (unknown_zero || used.now.declaring)) }
 {
-    let scope = used.scope.path();
+    let scope = used.scope.parts();
     let unknown_zero = unknown_zero || used.declaring;
     if let Some(open) = last {
-        if open.unknown_zero == unknown_zero && *open.scope == *scope {
+        if open.unknown_zero == unknown_zero && open.scope.is(&scope) {
             return Ok(open);
         }
     }
@@ -150,9 +150,9 @@ fn call_fault(alloc: Global, any_run: bool, used: &Use) -> Result<LoadFault, NoM
     if !any_run {
         return Ok(LoadFault::ModuleCall(used.table));
     }
-    match place(alloc, used.scope.path(), &used.name)? {
+    match ScopedPath::placed(alloc, &used.scope, &used.name)? {
         None => Ok(LoadFault::ModuleCall(used.table)),
-        Some(path) => Ok(LoadFault::RunCall(used.table, path)),
+        Some(path) => Ok(LoadFault::RunCall(used.table, path.to_path(alloc)?)),
     }
 }
 

@@ -19,7 +19,7 @@ use aml_code::{
     Arity, Locals, Name, NoMemory, Node, Part, Path, Position, Role, Tail, TailKind, last_name,
     listed_row,
 };
-use aml_names::{ScopedPath, SharedPath};
+use aml_names::ScopedPath;
 use aml_parse::{next_position, read_step};
 use aml_space::{BodyNames, Kind, Space, SpaceFault};
 use std::alloc::Global;
@@ -32,7 +32,7 @@ const MOST_LEVELS: u16 = 512;
 pub struct RunSite {
     /// The table, by its place in load order from 0 on.
     pub table: usize,
-    pub scope: SharedPath,
+    pub scope: ScopedPath,
     /// Whether what the term declares is declared in every run.
     pub sure: bool,
 }
@@ -56,7 +56,7 @@ impl RunSite {
         ensures { IsSite result
             (record { table = self.now.table; scope = self.now.scope; sure = self.now.sure && sure }) }
     {
-        let scope = self.scope.share()?;
+        let scope = self.scope.clone()?;
         Ok(RunSite {
             table: self.table,
             scope,
@@ -434,7 +434,7 @@ impl Progress {
     {
         let root = RunSite {
             table,
-            scope: SharedPath::new(self.alloc, Path::root(self.alloc))?,
+            scope: ScopedPath::whole(self.alloc, Path::root(self.alloc))?,
             sure: true,
         };
         let whole = Rest {

@@ -14,7 +14,7 @@ use crate::roles::{kind_of, role_of};
 use crate::uses::{Site, add_names};
 use crate::walking::Progress;
 use aml_code::{NoMemory, Node, Part, Path, Role, Tail, last_name};
-use aml_names::{ScopedPath, SharedPath};
+use aml_names::ScopedPath;
 use std::alloc::Global;
 
 /// A term of a table outside the methods' bodies, and where it stands.
@@ -23,7 +23,7 @@ pub struct StandingTerm<'a> {
     /// The table, by its place in load order from 0 on.
     pub table: usize,
     /// The scope in which it stands.
-    pub scope: SharedPath,
+    pub scope: ScopedPath,
     pub term: &'a Node,
 }
 
@@ -36,7 +36,7 @@ fn add_term<'a>(
     ensures { OnOk result (standings_view found.new.items ≡ standings_view found.old.items ++
         stands (at_site site.now) (node_view term.now) ∷ []) }
 {
-    let scope = site.scope.share()?;
+    let scope = site.scope.clone()?;
     found.push(StandingTerm {
         table: site.table,
         scope,
@@ -104,6 +104,7 @@ fn find_by_role<'a>(
             find_below(progress, site, &path, tail, found)
         }
         Role::Scope => {
+            progress.expect_search(site, last_name(parts));
             let path = progress.scope_path(site, last_name(parts))?;
             find_below(progress, site, &path, tail, found)
         }
@@ -194,7 +195,7 @@ fn find_table<'a>(
         (λ l. declare_all (strict table []) l (nodes_view terms.now))
         (λ l. all_stand (strict table []) l (nodes_view terms.now)) }
 {
-    let root = SharedPath::new(progress.alloc, Path::root(progress.alloc))?;
+    let root = ScopedPath::whole(progress.alloc, Path::root(progress.alloc))?;
     find_terms(
         progress,
         &Site {

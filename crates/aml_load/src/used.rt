@@ -1,5 +1,5 @@
 //! The names outside methods whose numbers of arguments are compared.
-use aml_names::{Name, SharedPath};
+use aml_names::{Name, ScopedPath};
 
 /// A name that stands as a TermArg outside the methods, or as a term there.
 #[derive(Drop)]
@@ -7,7 +7,7 @@ pub struct Use {
     /// The table, by its place in load order from 0 on.
     pub table: usize,
     /// The scope in which it stands.
-    pub scope: SharedPath,
+    pub scope: ScopedPath,
     pub name: Name,
     /// With how many arguments it was read.
     pub args: usize,

@@ -6,14 +6,14 @@ ghost use Rattle.aml_load.specs.Walking.{at_site};
 
 use crate::used::Use;
 use aml_code::{Field, Group, Link, NoMemory, Node, Part, PartKind, Tail, listed_row};
-use aml_names::{Name, SharedPath};
+use aml_names::{Name, ScopedPath};
 
 /// Where a term stands.
 #[derive(Drop)]
 pub struct Site<'a> {
     /// The table, by its place in load order from 0 on.
     pub table: usize,
-    pub scope: &'a SharedPath,
+    pub scope: &'a ScopedPath,
     /// Whether the code outside methods may run.
     pub any_run: bool,
     /// Whether what the term declares is declared in every run of it. Where it may not run, everything is.
@@ -55,7 +55,7 @@ fn add_use(
     ensures { OnOk result (uses.new.items ≡ uses.old.items ++
         use_of (at_site site.now) declaring name.now args ∷ []) }
 {
-    let scope = site.scope.share()?;
+    let scope = site.scope.clone()?;
     let name = name.clone()?;
     uses.push(Use {
         table: site.table,

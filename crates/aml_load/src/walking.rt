@@ -14,7 +14,7 @@ use crate::roles::{kind_of, role_of};
 use crate::used::Use;
 use crate::uses::{Site, add_names};
 use aml_code::{Field, Name, NoMemory, Node, Part, Role, Seg, Tail, last_byte, last_name};
-use aml_names::{ScopedPath, Segs};
+use aml_names::ScopedPath;
 use aml_set::Method;
 use aml_space::{Kind, Space, SpaceFault, Target};
 use std::alloc::Global;
@@ -66,7 +66,7 @@ impl Progress {
     {
         match name {
             None => Err(LoadFault::Space(site.table, SpaceFault::AboveRoot)),
-            Some(name) => match ScopedPath::placed(site.scope, name)? {
+            Some(name) => match ScopedPath::placed(self.alloc, site.scope, name)? {
                 None => Err(LoadFault::Space(site.table, SpaceFault::AboveRoot)),
                 Some(path) => Ok(path),
             },
@@ -103,7 +103,7 @@ impl Progress {
         ensures { self.new ≡ self.old }
     {
         match name {
-            Some(name) if name.is_single() => self.space.expect_search(site.scope.path().segs().len()),
+            Some(name) if name.is_single() => self.space.expect_search(site.scope.parts().len()),
             _ => {}
         }
     }
@@ -306,8 +306,7 @@ impl Progress {
         ensures { Walks self.old self.new result (λ l.
             units_at (at_site site.now) l (plain_name seg ∷ [])) }
     {
-        let own = Segs::of(self.alloc, &[seg])?;
-        let path = ScopedPath::below(site.scope, own)?;
+        let path = ScopedPath::below(self.alloc, site.scope, &[seg])?;
         self.declare(site, &path, Kind::Field)
     }
 

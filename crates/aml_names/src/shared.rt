@@ -125,35 +125,70 @@ impl ScopedPath {
         ScopedPath { scope, front, own }
     }
 
+    /// The path of some segments behind so many of this one's.
+    pub fn extended(&self, alloc: Global, front: usize, own: &[Seg]) -> Result<ScopedPath, NoMemory>
+        requires { front ≤ length self.now }
+        ensures { IfOk result (λ path. path ≡ take front self.now ++ own.now) }
+    {
+        let scope = self.scope.share()?;
+        if front <= self.front {
+            return Ok(ScopedPath::new(scope, front, Segs::of(alloc, own)?));
+        }
+        let kept = &self.own.as_slice()[..front - self.front];
+        Ok(ScopedPath::new(scope, self.front, Segs::joined(alloc, kept, own)?))
+    }
+
     /// The path that a name leads to from a scope, without a search, as `place` gives it. `None` where the prefixes lead
     /// above the root.
-    pub fn placed(scope: &SharedPath, name: &Name) -> Result<Option<ScopedPath>, NoMemory>
+    pub fn placed(
+        alloc: Global,
+        scope: &ScopedPath,
+        name: &Name,
+    ) -> Result<Option<ScopedPath>, NoMemory>
         ensures { IfOk result (λ path. path ≡ placed scope.now name.now) }
     {
         match front_of(&scope.parts(), name) {
             None => Ok(None),
             Some(front) => {
-                let own = name.segs.clone()?;
-                Ok(Some(ScopedPath::new(scope.share()?, front, own)))
+                let path = scope.extended(alloc, front, name.segs.as_slice())?;
+                Ok(Some(path))
             }
         }
     }
 
     /// The path of some segments below a scope.
-    pub fn below(scope: &SharedPath, own: Segs) -> Result<ScopedPath, NoMemory>
-        ensures { IfOk result (λ path. path ≡ scope.now ++ own) }
+    pub fn below(alloc: Global, scope: &ScopedPath, own: &[Seg]) -> Result<ScopedPath, NoMemory>
+        ensures { IfOk result (λ path. path ≡ scope.now ++ own.now) }
+    {
+        scope.extended(alloc, scope.parts().len(), own)
+    }
+
+    /// The whole of a path with several owners.
+    pub fn of(alloc: Global, scope: SharedPath) -> ScopedPath
+        ensures { result ≡ scope }
     {
         let front = scope.path().segs().len();
-        Ok(ScopedPath::new(scope.share()?, front, own))
+        ScopedPath::new(scope, front, Segs::new(alloc))
     }
 
     /// The path of these segments.
     pub fn whole(alloc: Global, path: Path) -> Result<ScopedPath, NoMemory>
         ensures { IfOk result (λ scoped. scoped ≡ path) }
     {
-        let front = path.segs().len();
         let scope = SharedPath::new(alloc, path)?;
-        Ok(ScopedPath::new(scope, front, Segs::new(alloc)))
+        Ok(ScopedPath::of(alloc, scope))
+    }
+
+    /// The mark of the scope whose front it has. No clause speaks of it.
+    pub fn mark(&self) -> usize {
+        self.scope.mark()
+    }
+
+    /// How many owners this scope has.
+    pub fn owners(&self) -> usize
+        ensures { 0 < result }
+    {
+        self.scope.owners()
     }
 
     /// The front of the scope and the segments behind it.

@@ -7,7 +7,7 @@ use crate::growing::Reach;
 use crate::nodes::Node;
 use crate::parents::link;
 use crate::walking::child;
-use aml_names::{NoMemory, Parts, Path, SharedPath};
+use aml_names::{NoMemory, Parts, Path, ScopedPath, SharedPath};
 use std::alloc::Global;
 
 /// A scope that was opened, and its node.
@@ -26,6 +26,18 @@ impl Opened {
         let scope = SharedPath::new(alloc, Path::root(alloc))?;
         Ok(Opened { scope, node: 0 })
     }
+}
+
+/// Paths of so many segments are copied: names below them are found the sooner.
+const FEW: usize = 64;
+
+/// A name has so many segments at most.
+const NAME: usize = 255;
+
+/// Whether a path is opened as a scope without a copy. What is kept in it, a method's path say, has its own segments.
+pub(crate) fn shares_its_scope(path: &ScopedPath) -> bool {
+    let (front, own) = path.parts().slices();
+    FEW < front.len() && own.len() <= NAME
 }
 
 /// How far a path leads with what it has in common with a scope. Where that is less than half of the scope, it is sooner

@@ -87,12 +87,7 @@ fn is_asked(settled: &[Settled], at: usize) -> bool
 }
 
 /// Drops what may pass over the node above a path that leads this far, of which something will be said.
-pub(crate) fn unsettle(
-    settled: &mut Vec<Settled>,
-    nodes: &[Node],
-    path: &Parts<'_>,
-    reach: Reach,
-)
+pub(crate) fn unsettle(settled: &mut Vec<Settled>, nodes: &[Node], path: &Parts<'_>, reach: Reach)
     requires index { IsIndex nodes.now }
     requires reach { Reaches nodes.now path.now reach }
     requires settled { AreSettled nodes.now settled.old.items }

@@ -18,13 +18,13 @@ use crate::growing::{declare_again, declare_first, extend, is_taken, set_given, 
 use crate::kinds::Kind;
 use crate::listing::{Rows, list_rows};
 use crate::nodes::Node;
-use crate::opened::{Opened, node_along, reach_along};
+use crate::opened::{Opened, node_along, reach_along, shares_its_scope};
 use crate::predefined::Predefined;
 use crate::rows::Row;
 use crate::scopes::Scope;
 use crate::settling::{Settled, settle, unsettle};
 use crate::walking::{kind_at, walk_counted};
-use aml_names::{NoMemory, Parts, Path, ScopedPath, Seg, SharedPath};
+use aml_names::{NoMemory, Parts, Path, ScopedPath, Seg};
 use std::alloc::{AllocError, Global};
 use std::marker::Model;
 
@@ -225,28 +225,31 @@ impl Space {
         Ok(())
     }
 
-    /// Opens a path as a scope: what stands in it is found by its node from now on, also where other scopes are opened. What
-    /// is known stays the same.
-    pub fn open(&mut self, path: &ScopedPath) -> Result<SharedPath, NoMemory>
+    /// Opens a path as a scope: what stands in it is found by its node from now on, also where other scopes are opened. A
+    /// long path with a few segments of its own keeps its scope's, so that nothing is copied. What is known stays the same.
+    pub fn open(&mut self, path: &ScopedPath) -> Result<ScopedPath, NoMemory>
         ensures same { self.new ≡ self.old }
         ensures scope { IfOk result (λ scope. scope ≡ path.now) }
     {
+        if shares_its_scope(path) {
+            return path.clone();
+        }
         let scope = path.to_scope(self.alloc)?;
         let opened = self.opened.as_slice();
         match node_along(self.nodes.as_slice(), opened, &path.parts()) {
-            None => Ok(scope),
+            None => Ok(ScopedPath::of(self.alloc, scope)),
             Some(node) => {
                 let marked = scope.marked(self.opened.len());
                 let scope = marked.share()?;
                 self.opened.push(Opened { scope, node })?;
-                Ok(marked)
+                Ok(ScopedPath::of(self.alloc, marked))
             }
         }
     }
 
     /// Closes the scope that was opened last, unless something is kept by it: a method's path, or a name that is looked at
     /// when all tables are there. What is known stays the same.
-    pub fn close(&mut self, scope: &SharedPath)
+    pub fn close(&mut self, scope: &ScopedPath)
         ensures { self.new ≡ self.old }
     {
         // One owner is the space, and another who closes it.
