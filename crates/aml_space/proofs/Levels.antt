@@ -1,23 +1,18 @@
 -- The levels of a scope. A level's parent is the one before it (`led_above`); only the root stands at the depth 0
 -- (`root_depth`).
-use Rattle.std.specs.Prelude.{slice_get}
-use Rattle.std.proofs.Common.{◌≡◌, ℕ, zero, suc, ◌+◌, ◌-◌, ◌<◌, ◌≤◌, List, [], ◌∷◌, ◌++◌, length, take, drop, get_or, Option, Some, None, IfSome, ◌⊎◌, inl, inr, refl, sym, ap, subst}
+use Rattle.std.proofs.Common.{◌≡◌, ℕ, zero, suc, ◌+◌, ◌-◌, ◌<◌, ◌≤◌, List, [], ◌∷◌, ◌++◌, length, take, drop, get_or, Option, Some, None, inl, inr, refl, sym, ap, subst}
 use Rattle.std.proofs.Common.{◌∙◌, arith}
 use Rattle.std.specs.Option.{option_and_then}
 use Rattle.std.proofs.lemmas.Bool.{cases_lt}
 use Rattle.std.proofs.lemmas.List.{take_more, take-append-drop, take-take, drop_more}
-use Rattle.std.proofs.lemmas.Option.{same_Some}
 use Rattle.aml_names.specs.declared.segments.Seg.{Seg}
 use Rattle.aml_children.specs.declared.children.Child.{Child}
 use Rattle.aml_children.specs.Children.{child_in}
 use Rattle.aml_space.specs.declared.nodes.Node.{Node}
 use Rattle.aml_space.specs.declared.growing.Reach.{Reach}
-use Rattle.aml_space.specs.declared.settling.Settled.{Settled}
-use Rattle.aml_space.specs.Nodes.{walk, kids_of, links_of, known_by, IsIndex, Reaches}
-use Rattle.aml_space.specs.Known.{namespace_in}
+use Rattle.aml_space.specs.Nodes.{walk, kids_of, links_of, IsIndex, Reaches}
 use Rattle.aml_space.specs.Namespace.{Namespace}
-use Rattle.aml_space.specs.Candidates.{IsNext, IsSilent, IsSettled, AreSettled, HasBareChildren}
-use Rattle.aml_space.proofs.Asked.{next_itself, next_further, silent_at}
+use Rattle.aml_space.specs.Candidates.{IsNext, IsSilent}
 use Rattle.aml_space.proofs.Basics.{alone}
 use Rattle.aml_space.proofs.Walks.{walk_push, walk_none, led_more, kid_range}
 

@@ -5,12 +5,14 @@ use Rattle.std.specs.Prelude.{slice_get}
 use Rattle.std.proofs.Common.{◌≡◌, ℕ, zero, suc, ◌+◌, ◌<◌, ◌≤◌, true, false, List, [], ◌∷◌, ◌++◌, length, take, Option, Some, None, IfSome, ◌⊎◌, inl, inr, refl, sym}
 use Rattle.std.proofs.Common.{ap, subst, ◌∙◌, arith, cond, length-append, is_some}
 use Rattle.std.specs.FinMap as map
+use Rattle.std.specs.Option.{option_map}
 use Rattle.std.proofs.lemmas.Bool.{cases_lt, false_from_ne_true, false≢true}
 use Rattle.std.proofs.lemmas.Option.{same_Some, slice_get_within, slice_get_past}
 use Rattle.std.proofs.lemmas.Map.Views.{tells_apart}
 use Rattle.aml_names.specs.declared.segments.Seg.{Seg}
 use Rattle.aml_names.specs.Paths.{path_cmp, exact_paths, paths_total}
 use Rattle.aml_space.specs.declared.nodes.Node.{Node}
+use Rattle.aml_space.specs.declared.growing.Reach.{Reach}
 use Rattle.aml_space.specs.declared.settling.Settled.{Settled}
 use Rattle.aml_space.specs.Nodes.{walk, kids_of, links_of, known_by, IsIndex, IsKept}
 use Rattle.aml_space.specs.Namespace.{same_path, greater}
@@ -64,6 +66,9 @@ settled_fewer ns settled fewer n is are = subst (AreSettled ns) (sym is) (record
           next = so.next;
           led = so.led;
           passed = λ e more less j there. fewer_if _ n j settled (so.passed e more less j there);
+          over = so.over;
+          shorter = so.shorter;
+          skipped = so.skipped;
         }
 
 -- a node of which nothing is kept any more is ready
@@ -97,6 +102,9 @@ module _ (ns : List Node) (is : IsIndex ns) (settled : List Settled) (are : AreS
         passed = λ e above below.
             let front = front_led is.shape path e d i below led in
             passed_before (take e path) front.0 (omega (arith, front.2, slice_get_within settled i s here)) front.1 (so.passed e above below);
+        over = so.over;
+        shorter = so.shorter;
+        skipped = so.skipped;
       }
 
   all : new.depth ≤ at → at < length ns → Keeps ns more at new → AreSettled ns more
@@ -107,8 +115,8 @@ module _ (ns : List Node) (is : IsIndex ns) (settled : List Settled) (are : AreS
   }
 
   -- the root
-  pub settled_root : at ≡ 0 → at < length ns → new.depth ≡ 0 → new.asked ≡ 0 → AreSettled ns more
-  settled_root first within depth asked = all (omega (arith, first, depth)) within (λ path d long led.
+  pub settled_root : at ≡ 0 → at < length ns → new.depth ≡ 0 → new.asked ≡ 0 → new.skip ≡ 0 → AreSettled ns more
+  settled_root first within depth asked skip = all (omega (arith, first, depth)) within (λ path d long led.
       let root = root_depth ns is path d long (led ∙ ap (λ (i : ℕ). Some i) first) in
       record {
         depth = omega (arith, depth, root);
@@ -116,23 +124,34 @@ module _ (ns : List Node) (is : IsIndex ns) (settled : List Settled) (are : AreS
         next = next_itself (namespace_in (known_by ns)) path d d refl;
         led = led ∙ ap (λ (i : ℕ). Some i) {x = at} {y = new.asked} (omega (arith, first, asked));
         passed = λ e above below. absurd (omega (arith, above, below));
+        over = d;
+        shorter = omega arith;
+        skipped = led ∙ ap (λ (i : ℕ). Some i) {x = at} {y = new.skip} (omega (arith, first, skip));
       })
 
+  -- a node that a shorter front leads to
+  abbrev IsHigher : List Seg → ℕ → ℕ → Type 0
+  IsHigher path d i = (m : ℕ) × (m ≤ d) × (walk (kids_of ns) 0 (take m path) ≡ Some i)
+
   -- one that is asked itself
-  itself : (path : List Seg) (d : ℕ) → new.depth ≡ d → new.asked ≡ at → walk (kids_of ns) 0 (take d path) ≡ Some at → IsSettled ns more path d new
-  itself path d depth asked led = record {
+  itself : (path : List Seg) (d : ℕ) → new.depth ≡ d → new.asked ≡ at → walk (kids_of ns) 0 (take d path) ≡ Some at → IsHigher path d new.skip
+      → IsSettled ns more path d new
+  itself path d depth asked led higher = record {
     depth = depth;
     asked = d;
     next = next_itself (namespace_in (known_by ns)) path d d refl;
     led = led ∙ ap (λ (i : ℕ). Some i) (sym asked);
     passed = λ e above below. absurd (omega (arith, above, below));
+    over = higher.0;
+    shorter = higher.1;
+    skipped = higher.2;
   }
 
   -- one that isn't, from what is kept of its parent
   further : (up : ℕ) (above : Settled) (path : List Seg) (d : ℕ) → up < at → walk (kids_of ns) 0 (take d path) ≡ Some up
       → walk (kids_of ns) 0 (take (d + 1) path) ≡ Some at → IsSettled ns settled path d above → new.depth ≡ above.depth + 1
-      → new.asked ≡ above.asked → HasBareChildren ns at → IsSettled ns more path (d + 1) new
-  further up above path d lower up_led led so deeper same bare =
+      → new.asked ≡ above.asked → HasBareChildren ns at → IsHigher path (d + 1) new.skip → IsSettled ns more path (d + 1) new
+  further up above path d lower up_led led so deeper same bare higher =
       let far = front_led is.shape path so.asked d up so.next.within up_led in
       let asked : new.asked < at = omega (arith, same, same_Some above.asked far.0 (sym so.led ∙ far.1), far.2, lower) in
       record {
@@ -148,16 +167,33 @@ module _ (ns : List Node) (is : IsIndex ns) (settled : List Settled) (are : AreS
               let here : i ≡ at = same_Some i at (sym there ∙ ap (λ n. walk (kids_of ns) 0 (take n path)) {x = e} {y = d + 1} (omega (arith, past, below)) ∙ led) in
               subst (λ o. IfSome o (λ (s : Settled). s.asked < i)) (sym (ap (slice_get more) here ∙ read_last settled new)) (omega (arith, here, asked))
         ];
+        over = higher.0;
+        shorter = higher.1;
+        skipped = higher.2;
       }
 
   pub settled_more : (up : ℕ) (above : Settled) → 0 < at → at < length ns → up ≡ (links_of ns at).0 → slice_get settled up ≡ Some above
-      → new.depth ≡ above.depth + 1 → (new.asked ≡ at) ⊎ ((new.asked ≡ above.asked) × HasBareChildren ns at) → AreSettled ns more
-  settled_more up above some within parent kept deeper which =
+      → new.depth ≡ above.depth + 1 → (new.asked ≡ at) ⊎ ((new.asked ≡ above.asked) × HasBareChildren ns at)
+      → (new.skip ≡ up) ⊎ (option_map (λ (s : Settled). s.skip) (slice_get settled above.skip) ≡ Some new.skip) → AreSettled ns more
+  settled_more up above some within parent kept deeper which skips =
       let lower : up < at = omega (arith, parent, is.linked.lower at some within) in
       let shallow : above.depth ≤ up = subst (λ o. IfSome o (λ (s : Settled). s.depth ≤ up)) kept (are.shallow up) in
       let was : Keeps ns settled up above = subst (λ o. IfSome o (Keeps ns settled up)) kept (are.each up) in
       all (omega (arith, deeper, shallow, lower)) within (here lower was)
     where
+      higher : (path : List Seg) (d : ℕ) → d ≤ length path → walk (kids_of ns) 0 (take d path) ≡ Some up → IsSettled ns settled path d above
+          → IsHigher path (d + 1) new.skip
+      higher path d long up_led so = elim skips [
+        | inl parent ↦ (d, omega arith, up_led ∙ ap (λ (i : ℕ). Some i) (sym parent))
+        | inr over ↦ by (slice_get settled above.skip) (are.each above.skip) over
+      ]
+        where
+          by : (o : Option Settled) → IfSome o (Keeps ns settled above.skip) → option_map (λ (s : Settled). s.skip) o ≡ Some new.skip → IsHigher path (d + 1) new.skip
+          by None was over = absurd cc
+          by (Some middle) was over =
+              let next = was path so.over (omega (arith, so.shorter, long)) so.skipped in
+              (next.over, omega (arith, next.shorter, so.shorter), next.skipped ∙ over)
+
       here : up < at → Keeps ns settled up above → Keeps ns more at new
       here lower was path zero long led = absurd (omega (arith, some, same_Some 0 at led))
       here lower was path (suc d) long led =
@@ -167,8 +203,8 @@ module _ (ns : List Node) (is : IsIndex ns) (settled : List Settled) (are : AreS
           let up_led : walk (kids_of ns) 0 (take d path) ≡ Some up = led_above ns is path d at inside deep ∙ ap (λ (i : ℕ). Some i) (sym parent) in
           let so = was path d (omega (arith, inside)) up_led in
           subst (λ n. IsSettled ns more path n new) {x = d + 1} {y = suc d} (omega arith) (elim which [
-            | inl same ↦ itself path (d + 1) (omega (arith, deeper, so.depth)) same deep
-            | inr w ↦ further up above path d lower up_led deep so deeper w.0 w.1
+            | inl same ↦ itself path (d + 1) (omega (arith, deeper, so.depth)) same deep (higher path d (omega (arith, inside)) up_led so)
+            | inr w ↦ further up above path d lower up_led deep so deeper w.0 w.1 (higher path d (omega (arith, inside)) up_led so)
           ])
 
 -- nothing is said of other paths than one
@@ -203,22 +239,25 @@ silent_still k l path q said other silent = record {
   given = λ s. said.given (q ++ s ∷ []) (other s) ∙ silent.given s;
 }
 
-module _ (old new : List Node) (settled : List Settled) (path : List Seg) (is : IsIndex old) (kept : IsKept old new)
-    (said : IsSaidOf (known_by old) (known_by new) path) (ready : IsReady old settled path) (are : AreSettled old settled) where
-  -- the path doesn't stand below a front that is passed over
-  elsewhere : (q : List Seg) (s : Seg) (j : ℕ) → walk (kids_of old) 0 q ≡ Some j → j < length settled → IsPassed old settled q → same_path (q ++ s ∷ []) path ≡ false
-  elsewhere q s j led within passed = false_from_ne_true _ (λ same.
-      both (slice_get settled j) (slice_get-some settled j within) (passed j led) (ready q s j (sym (tells_apart exact_paths (q ++ s ∷ []) path same)) led))
-    where
-      both : (o : Option Settled) → is_some o ≡ true → IfSome o (λ s. s.asked < j) → IfSome o (λ s. s.asked ≡ j) → ⊥
-      both None some less here = absurd (false≢true some)
-      both (Some s) some less here = absurd (omega (arith, less, here))
+-- a path doesn't stand below a front that is passed over, where nothing passes over the node above it
+elsewhere : (ns : List Node) (settled : List Settled) (path : List Seg) → IsReady ns settled path → (q : List Seg) (s : Seg) (j : ℕ)
+    → walk (kids_of ns) 0 q ≡ Some j → j < length settled → IsPassed ns settled q → same_path (q ++ s ∷ []) path ≡ false
+elsewhere ns settled path ready q s j led within passed = false_from_ne_true _ (λ same.
+    both (slice_get settled j) (slice_get-some settled j within) (passed j led) (ready q s j (sym (tells_apart exact_paths (q ++ s ∷ []) path same)) led))
+  where
+    both : (o : Option Settled) → is_some o ≡ true → IfSome o (λ s. s.asked < j) → IfSome o (λ s. s.asked ≡ j) → ⊥
+    both None some less here = absurd (false≢true some)
+    both (Some s) some less here = absurd (omega (arith, less, here))
 
-      slice_get-some : (ss : List Settled) (j : ℕ) → j < length ss → is_some (slice_get ss j) ≡ true
-      slice_get-some [] j within = absurd (omega (arith, within))
-      slice_get-some (s ∷ ss) zero within = refl
-      slice_get-some (s ∷ ss) (suc j) within = slice_get-some ss j (omega (arith, within))
+    slice_get-some : (ss : List Settled) (j : ℕ) → j < length ss → is_some (slice_get ss j) ≡ true
+    slice_get-some [] j within = absurd (omega (arith, within))
+    slice_get-some (s ∷ ss) zero within = refl
+    slice_get-some (s ∷ ss) (suc j) within = slice_get-some ss j (omega (arith, within))
 
+-- where what is passed over stays silent
+module _ (old new : List Node) (settled : List Settled) (is : IsIndex old) (kept : IsKept old new)
+    (still : (q : List Seg) (j : ℕ) → walk (kids_of old) 0 q ≡ Some j → j < length settled → IsPassed old settled q
+    → IsSilent (namespace_in (known_by old)) q → IsSilent (namespace_in (known_by new)) q) (are : AreSettled old settled) where
   each : (i : ℕ) (o : Option Settled) → slice_get settled i ≡ o → IfSome o (Keeps old settled i) → IfSome o (Keeps new settled i)
   each i None here was = tt
   each i (Some s) here was = λ q d within led.
@@ -232,15 +271,16 @@ module _ (old new : List Node) (settled : List Settled) (path : List Seg) (is : 
           within = so.next.within;
           silent = λ e above below.
               let front = front_led is.shape q e d i below before in
-              silent_still (known_by old) (known_by new) path (take e q) said
-              (λ s. elsewhere (take e q) s front.0 front.1 (omega (arith, front.2, inside)) (so.passed e above below))
-              (so.next.silent e above below);
+              still (take e q) front.0 front.1 (omega (arith, front.2, inside)) (so.passed e above below) (so.next.silent e above below);
         };
         led = kept.there (take so.asked q) s.asked so.led;
         passed = λ e above below j there.
             let front = front_led is.shape q e d i below before in
             let same : j ≡ front.0 = same_Some j front.0 (sym there ∙ kept.there (take e q) front.0 front.1) in
             so.passed e above below j (front.1 ∙ ap (λ (i : ℕ). Some i) (sym same));
+        over = so.over;
+        shorter = so.shorter;
+        skipped = kept.there (take so.over q) s.skip so.skipped;
       }
 
   kept_there : AreSettled new settled
@@ -249,5 +289,33 @@ module _ (old new : List Node) (settled : List Settled) (path : List Seg) (is : 
 -- what is kept of the same nodes
 pub settled_kept : (old new looked : List Node) (settled : List Settled) (path : List Seg) → looked ≡ old → IsIndex old → IsKept old new
     → IsSaidOf (known_by old) (known_by new) path → IsReady looked settled path → AreSettled looked settled → AreSettled new settled
-settled_kept old new looked settled path same is kept said ready are = kept_there old new settled path is kept said
-    (subst (λ ns. IsReady ns settled path) same ready) (subst (λ ns. AreSettled ns settled) same are)
+settled_kept old new looked settled path same is kept said ready are = kept_there old new settled is kept
+    (λ q j led within passed. silent_still (known_by old) (known_by new) path q said
+    (λ s. elsewhere old settled path (subst (λ ns. IsReady ns settled path) same ready) q s j led within passed))
+    (subst (λ ns. AreSettled ns settled) same are)
+
+-- and where nothing more is known
+pub settled_grown : (old new : List Node) (settled : List Settled) → IsIndex old → IsKept old new → known_by new ≡ known_by old → AreSettled old settled
+    → AreSettled new settled
+settled_grown old new settled is kept same are = kept_there old new settled is kept
+    (λ q j led within passed. subst (λ k. IsSilent (namespace_in k) q) (sym same)) are
+
+-- a step up that is kept leads to the front of that depth
+pub skip_led : (ns : List Node) (settled : List Settled) → AreSettled ns settled → (path : List Seg) (d : ℕ) (from to : Reach) → d ≤ length path
+    → walk (kids_of ns) 0 (take d path) ≡ Some from.node → option_map (λ (s : Settled). s.skip) (slice_get settled from.node) ≡ Some to.node
+    → option_map (λ (s : Settled). s.depth) (slice_get settled to.node) ≡ Some to.known → walk (kids_of ns) 0 (take to.known path) ≡ Some to.node
+skip_led ns settled are path d from to within led skip depth = by (slice_get settled from.node) (are.each from.node) skip
+  where
+    there : (o : Option Settled) (over : ℕ) → over ≤ length path → walk (kids_of ns) 0 (take over path) ≡ Some to.node → IfSome o (Keeps ns settled to.node)
+        → option_map (λ (s : Settled). s.depth) o ≡ Some to.known → to.known ≡ over
+    there None over long at was is = absurd cc
+    there (Some s) over long at was is = sym (same_Some s.depth to.known is) ∙ (was path over long at).depth
+
+    by : (o : Option Settled) → IfSome o (Keeps ns settled from.node) → option_map (λ (s : Settled). s.skip) o ≡ Some to.node
+        → walk (kids_of ns) 0 (take to.known path) ≡ Some to.node
+    by None was is = absurd cc
+    by (Some s) was is =
+        let so = was path d within led in
+        let long : so.over ≤ length path = omega (arith, so.shorter, within) in
+        let at = so.skipped ∙ is in
+        ap (λ m. walk (kids_of ns) 0 (take m path)) (there (slice_get settled to.node) so.over long at (are.each to.node) depth) ∙ at

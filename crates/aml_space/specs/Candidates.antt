@@ -51,14 +51,17 @@ pub record IsNext (n : Namespace) (path : List Seg) (from asked : ℕ) : Type 0 
 abbrev pub IsPassed : List Node → List Settled → List Seg → Type 0
 IsPassed ns settled q = (i : ℕ) → walk (kids_of ns) 0 q ≡ Some i → IfSome (slice_get settled i) (λ s. s.asked < i)
 
--- What is kept of the node to which a front of a path leads: its length, and the node of the next one to be asked. What is
--- kept of the nodes between them goes on there too.
+-- What is kept of the node to which a front of a path leads: its length, the node of the next one to be asked, and that of
+-- a shorter one. What is kept of the nodes between it and the next goes on there too.
 pub record IsSettled (ns : List Node) (settled : List Settled) (path : List Seg) (d : ℕ) (s : Settled) : Type 0 where
   pub depth : s.depth ≡ d
   pub asked : ℕ
   pub next : IsNext (namespace_in (known_by ns)) path d asked
   pub led : walk (kids_of ns) 0 (take asked path) ≡ Some s.asked
   pub passed : (e : ℕ) → asked < e → e ≤ d → IsPassed ns settled (take e path)
+  pub over : ℕ
+  pub shorter : over ≤ d
+  pub skipped : walk (kids_of ns) 0 (take over path) ≡ Some s.skip
 
 -- that of some first nodes
 pub record AreSettled (ns : List Node) (settled : List Settled) : Type 0 where

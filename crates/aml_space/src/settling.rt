@@ -1,5 +1,6 @@
 //! Where the search for a segment goes on, from each node.
-ghost use Rattle.std.specs.Prelude.{◌≡◌, ◌<◌, ◌∷◌, ◌++◌, [], List, length, slice_get, IfSome};
+ghost use Rattle.std.specs.Prelude.{◌≡◌, ◌<◌, ◌≤◌, ◌∷◌, ◌++◌, [], List, length, slice_get, Some, IfSome};
+ghost use Rattle.std.specs.Option.{option_map};
 ghost use Rattle.std.specs.Bool.{OnTrue};
 ghost use Rattle.aml_names.specs.declared.segments.Seg.{Seg};
 ghost use Rattle.aml_space.specs.Nodes.{walk, kids_of, IsIndex, Reaches};
@@ -19,6 +20,22 @@ pub(crate) struct Settled {
     /// The nearest node from it up whose children have to be asked for a segment: those of the others have no content.
     /// Those of the root always have to be, since it has the predefined names.
     pub asked: usize,
+    /// A node further up, by which each one above is found in few steps; the root's is itself.
+    pub skip: usize,
+}
+
+/// The node to which the next one skips, where its parent and the node to which that skips do so as far as each other. So
+/// from each node up steps of all lengths come.
+fn skip_over(settled: &[Settled], above: Settled) -> Option<usize>
+    ensures { IfSome result (λ n. option_map (λ s. s.skip) (slice_get settled.now above.skip) ≡ Some n) }
+{
+    let middle = settled.get(above.skip)?;
+    let far = settled.get(middle.skip)?;
+    if above.depth.saturating_sub(middle.depth) == middle.depth.saturating_sub(far.depth) {
+        Some(middle.skip)
+    } else {
+        None
+    }
 }
 
 /// What is kept of the next node.
@@ -30,7 +47,11 @@ fn settled_next(settled: &[Settled], nodes: &[Node]) -> Settled
 {
     let at = settled.len();
     if at == 0 {
-        return Settled { depth: 0, asked: 0 };
+        return Settled {
+            depth: 0,
+            asked: 0,
+            skip: 0,
+        };
     }
     let (parent, _) = link(nodes, at);
     let above: Settled = settled[parent];
@@ -42,6 +63,25 @@ fn settled_next(settled: &[Settled], nodes: &[Node]) -> Settled
     Settled {
         depth: above.depth + 1,
         asked,
+        skip: skip_over(settled, above).unwrap_or(parent),
+    }
+}
+
+/// The node to which one skips that stands at this depth, if that isn't above the front of so many segments.
+pub(crate) fn skipped(settled: &[Settled], from: Reach, known: usize) -> Option<Reach>
+    ensures skip { IfSome result (λ r. option_map (λ s. s.skip) (slice_get settled.now from.node) ≡ Some r.node) }
+    ensures depth { IfSome result (λ r. option_map (λ s. s.depth) (slice_get settled.now r.node) ≡ Some r.known) }
+    ensures within { IfSome result (λ r. (known ≤ r.known) × (r.known < from.known)) }
+{
+    let here = settled.get(from.node)?;
+    let there = settled.get(here.skip)?;
+    if known <= there.depth && there.depth < from.known {
+        Some(Reach {
+            node: here.skip,
+            known: there.depth,
+        })
+    } else {
+        None
     }
 }
 

@@ -18,7 +18,7 @@ use crate::growing::{declare_again, declare_first, extend, is_taken, set_given, 
 use crate::kinds::Kind;
 use crate::listing::{Rows, list_rows};
 use crate::nodes::Node;
-use crate::opened::{Opened, node_along, reach_along, shares_its_scope};
+use crate::opened::{Hints, Opened, node_along, reach_along, shares_its_scope};
 use crate::predefined::Predefined;
 use crate::rows::Row;
 use crate::scopes::Scope;
@@ -124,7 +124,8 @@ impl Space {
             IfOk result (λ put. StandsFor self.new
             (cond put (es ++ declares path.now kind body surely ∷ []) es)) }
     {
-        let reach = reach_along(self.nodes.as_slice(), self.opened.as_slice(), path);
+        let hints = Hints::new(self.opened.as_slice(), self.settled.as_slice());
+        let reach = reach_along(self.nodes.as_slice(), hints, path);
         unsettle(&mut self.settled, self.nodes.as_slice(), path, reach);
         if is_taken(self.nodes.as_slice(), path, reach) {
             return Ok(false);
@@ -135,7 +136,7 @@ impl Space {
         declare_first(
             self.alloc,
             &mut self.nodes,
-            self.opened.as_slice(),
+            Hints::new(self.opened.as_slice(), self.settled.as_slice()),
             path,
             kind,
             surely,
@@ -163,7 +164,8 @@ impl Space {
             OnOk result (StandsFor self.new (es ++ declares path.now kind body sure ∷ [])) }
         ensures err { OnErr result (self.new ≡ self.old) }
     {
-        let reach = reach_along(self.nodes.as_slice(), self.opened.as_slice(), path);
+        let hints = Hints::new(self.opened.as_slice(), self.settled.as_slice());
+        let reach = reach_along(self.nodes.as_slice(), hints, path);
         unsettle(&mut self.settled, self.nodes.as_slice(), path, reach);
         if is_taken(self.nodes.as_slice(), path, reach) {
             return declare_again(self.alloc, &mut self.nodes, path, reach.node, kind, sure);
@@ -174,7 +176,7 @@ impl Space {
         declare_first(
             self.alloc,
             &mut self.nodes,
-            self.opened.as_slice(),
+            Hints::new(self.opened.as_slice(), self.settled.as_slice()),
             path,
             kind,
             sure,
@@ -202,7 +204,8 @@ impl Space {
             OnOk result (StandsFor self.new (es ++ outside path.now count ∷ [])) }
         ensures err { OnErr result (self.new ≡ self.old) }
     {
-        let reach = reach_along(self.nodes.as_slice(), self.opened.as_slice(), path);
+        let hints = Hints::new(self.opened.as_slice(), self.settled.as_slice());
+        let reach = reach_along(self.nodes.as_slice(), hints, path);
         unsettle(&mut self.settled, self.nodes.as_slice(), path, reach);
         let at = extend(self.alloc, &mut self.nodes, path, reach)?;
         set_out(&mut self.nodes, at, count);
@@ -218,7 +221,8 @@ impl Space {
         ensures err { OnErr result (self.new ≡ self.old) }
     {
         let path = path.parts();
-        let reach = reach_along(self.nodes.as_slice(), self.opened.as_slice(), &path);
+        let hints = Hints::new(self.opened.as_slice(), self.settled.as_slice());
+        let reach = reach_along(self.nodes.as_slice(), hints, &path);
         unsettle(&mut self.settled, self.nodes.as_slice(), &path, reach);
         let at = extend(self.alloc, &mut self.nodes, &path, reach)?;
         set_given(&mut self.nodes, at, count);
@@ -235,8 +239,8 @@ impl Space {
             return path.clone();
         }
         let scope = path.to_scope(self.alloc)?;
-        let opened = self.opened.as_slice();
-        match node_along(self.nodes.as_slice(), opened, &path.parts()) {
+        let hints = Hints::new(self.opened.as_slice(), self.settled.as_slice());
+        match node_along(self.nodes.as_slice(), hints, &path.parts()) {
             None => Ok(ScopedPath::of(self.alloc, scope)),
             Some(node) => {
                 let marked = scope.marked(self.opened.len());
@@ -293,7 +297,8 @@ impl Space {
         ensures { option_copied result ≡ (namespace_in self.now).declared path.now }
     {
         let nodes = self.nodes.as_slice();
-        kind_at(nodes, node_along(nodes, self.opened.as_slice(), path))
+        let hints = Hints::new(self.opened.as_slice(), self.settled.as_slice());
+        kind_at(nodes, node_along(nodes, hints, path))
     }
 
     /// The kind of a path: the declared one, else the predefined one.
@@ -347,7 +352,8 @@ impl Space {
         ensures listed { (es : List Entry) → StandsFor self.now es → result ≡ sure_at es path.now }
     {
         let nodes = self.nodes.as_slice();
-        let node = node_along(nodes, self.opened.as_slice(), path);
+        let hints = Hints::new(self.opened.as_slice(), self.settled.as_slice());
+        let node = node_along(nodes, hints, path);
         sure_met(nodes, node, self.predefined.kind_of(path))
     }
 
@@ -370,9 +376,8 @@ impl Space {
     {
         Scope::new(
             self.nodes.as_slice(),
-            self.settled.as_slice(),
+            Hints::new(self.opened.as_slice(), self.settled.as_slice()),
             &self.predefined,
-            self.opened.as_slice(),
             path,
         )
     }

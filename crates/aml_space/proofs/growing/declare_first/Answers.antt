@@ -3,9 +3,17 @@ use Rattle.aml_space.specs.Known.{Declared, once, with_declaration}
 use Rattle.aml_space.specs.Nodes.{known_by, IsAim, HasDeclared, IsIndex}
 use Rattle.aml_space.proofs.Walks.{node_range}
 use Rattle.aml_space.proofs.Index.{put_declared}
-use Rattle.aml_space.proofs.Opening.{content_kept, kept_on}
+use Rattle.aml_space.proofs.Opening.{content_kept, kept_on, kept_opened}
+use Rattle.aml_space.proofs.Resting.{settled_grown}
 use Rattle.aml_space.proofs.growing.declare_first.Goals as goal
 use Rattle.aml_space.proofs.growing.declare_first.Goals.{After-set_declared}
+
+pub aim_of-requires-clause-hints : goal.aim_of-requires-clause-hints
+aim_of-requires-clause-hints c = record {
+  opened = kept_opened c.args.nodes.now.items c.extend.new.nodes.items c.args.hints.opened.now c.extend.ensures.kept c.requires.hints.opened;
+  settled = settled_grown c.args.nodes.now.items c.extend.new.nodes.items c.args.hints.settled.now c.requires.index c.extend.ensures.kept
+      c.extend.ensures.known c.requires.hints.settled;
+}
 
 pub set_declared-requires : goal.set_declared-requires
 set_declared-requires c = node_range c.aim_of.ensures.index.shape c.args.path.now c.in_ok-at.at

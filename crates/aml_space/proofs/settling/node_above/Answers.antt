@@ -1,4 +1,4 @@
-use Rattle.std.proofs.Common.{ℕ, Some, ◌≡◌, ◌+◌, ◌∷◌, ◌++◌, [], List, length, take, sym, ap, ◌∙◌, arith, length-append}
+use Rattle.std.proofs.Common.{ℕ, Some, ◌≡◌, ◌+◌, ◌∷◌, [], length, take, sym, ap, ◌∙◌, arith, length-append}
 use Rattle.std.proofs.lemmas.List.{take_all}
 use Rattle.std.proofs.Math.Seq.{take-append_seam}
 use Rattle.aml_names.specs.declared.segments.Seg.{Seg}

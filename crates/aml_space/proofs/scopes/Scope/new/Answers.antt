@@ -9,7 +9,7 @@ returns-clause-scope c =
     let reach : Reaches ns c.args.path r = c.reach_along-reach.ensures in
     record {
       index = c.requires.index;
-      settled = c.requires.settled;
+      settled = c.requires.hints.settled;
       last = record { within = reach.within; led = reach.led };
       past = reach_past ns c.args.path r reach;
     }

@@ -6,7 +6,7 @@ use Rattle.aml_space.specs.Nodes.{known_by, IsIndex}
 use Rattle.aml_space.proofs.Opening.{kept_opened, kept_on, content_kept}
 use Rattle.aml_space.proofs.Stands.{stands_given}
 use Rattle.aml_space.proofs.Index.{put_given}
-use Rattle.aml_space.proofs.Resting.{said_given, said_nothing, settled_kept}
+use Rattle.aml_space.proofs.Resting.{said_given, settled_kept}
 use Rattle.aml_space.proofs.spaces.Space.given.Goals as goal
 use Rattle.aml_space.proofs.spaces.Space.given.Goals.{After-set_given}
 
@@ -29,8 +29,8 @@ invariant_of-self-2 c = record {
   opened = kept_opened c.extend.new.nodes.items c.set_given.new.nodes.items c.self.inside.opened.items
       (content_kept c.extend.new.nodes.items c.set_given.new.nodes.items c.in_ok-at.at _ c.set_given.ensures)
       (kept_opened c.self.inside.nodes.items c.extend.new.nodes.items c.self.inside.opened.items c.extend.ensures.kept c.self.invariant.opened);
-  settled = settled_kept c.self.inside.nodes.items c.set_given.new.nodes.items c.as_slice-3.result.now
-      c.unsettle.new.settled.items c.parts-path.result c.as_slice-3.ensures.value c.self.invariant.index
+  settled = settled_kept c.self.inside.nodes.items c.set_given.new.nodes.items c.as_slice-4.result.now
+      c.unsettle.new.settled.items c.parts-path.result c.as_slice-4.ensures.value c.self.invariant.index
       (kept_on c.self.inside.nodes.items c.extend.new.nodes.items c.set_given.new.nodes.items c.extend.ensures.kept
       (content_kept c.extend.new.nodes.items c.set_given.new.nodes.items c.in_ok-at.at _ c.set_given.ensures))
       (said_given (known_by c.self.inside.nodes.items) _ _ c.args.count (put (goal.at.invariant_of-self-2 c).After-set_given).1)

@@ -13,7 +13,7 @@ use Rattle.aml_space.proofs.spaces.Space.put_again.Goals as goal
 use Rattle.aml_space.proofs.spaces.Space.put_again.Goals.{In_ok-declare_first, After-declare_first, After-is_taken}
 
 not_declared : (c : After-is_taken) → c.is_taken.result ≡ false → map.get c.args.self.now.declarations c.args.path.now ≡ None
-not_declared c free = none_from_test _ (sym (known_taken _ _ _ _ _ _ c.is_taken.ensures.taken c.as_slice-4.ensures.value refl c.self.invariant.index.shape c.self.view_is) ∙ free)
+not_declared c free = none_from_test _ (sym (known_taken _ _ _ _ _ _ c.is_taken.ensures.taken c.as_slice-5.ensures.value refl c.self.invariant.index.shape c.self.view_is) ∙ free)
 
 put_here : (c : In_ok-declare_first) → map.get c.args.self.now.declarations c.args.path.now ≡ None → known_by c.declare_first.new.nodes.items
     ≡ with_again c.args.self.now c.args.path.now c.args.kind c.args.sure
@@ -23,8 +23,8 @@ put_here c none = c.in_ok-declare_first.ensures.ok ∙ ap (λ k. with_declaratio
 -- what is kept for searches stays right
 still_settled : (c : After-declare_first) → IsSaidOf (known_by c.self.inside.nodes.items) (known_by c.declare_first.new.nodes.items) c.args.path.now
     → AreSettled c.declare_first.new.nodes.items c.unsettle.new.settled.items
-still_settled c said = settled_kept c.self.inside.nodes.items c.declare_first.new.nodes.items c.as_slice-3.result.now
-    c.unsettle.new.settled.items c.args.path.now c.as_slice-3.ensures.value
+still_settled c said = settled_kept c.self.inside.nodes.items c.declare_first.new.nodes.items c.as_slice-4.result.now
+    c.unsettle.new.settled.items c.args.path.now c.as_slice-4.ensures.value
     c.self.invariant.index c.declare_first.ensures.kept said c.unsettle.ensures.ready c.unsettle.ensures.settled
 
 pub invariant_of-self-in_err-declare_first : goal.invariant_of-self-in_err-declare_first
@@ -43,8 +43,8 @@ invariant_of-self c = record {
   rows = c.self.invariant.rows ∙ sym c.declare_again.ensures.rows;
   opened = kept_opened c.self.inside.nodes.items c.declare_again.new.nodes.items c.self.inside.opened.items c.declare_again.ensures.kept
       c.self.invariant.opened;
-  settled = settled_kept c.self.inside.nodes.items c.declare_again.new.nodes.items c.as_slice-3.result.now
-      c.unsettle.new.settled.items c.args.path.now c.as_slice-3.ensures.value c.self.invariant.index c.declare_again.ensures.kept (said c.declare_again.result c.declare_again.ensures.ok c.declare_again.ensures.err)
+  settled = settled_kept c.self.inside.nodes.items c.declare_again.new.nodes.items c.as_slice-4.result.now
+      c.unsettle.new.settled.items c.args.path.now c.as_slice-4.ensures.value c.self.invariant.index c.declare_again.ensures.kept (said c.declare_again.result c.declare_again.ensures.ok c.declare_again.ensures.err)
       c.unsettle.ensures.ready c.unsettle.ensures.settled;
 }
   where

@@ -13,7 +13,7 @@ use Rattle.aml_space.proofs.spaces.Space.put_once.Goals as goal
 use Rattle.aml_space.proofs.spaces.Space.put_once.Goals.{After-is_taken, After-declare_first, In_ok-declare_first}
 
 taken : (c : After-is_taken) → c.is_taken.result ≡ is_declared c.args.self.now c.args.path.now
-taken c = known_taken _ _ _ _ _ _ c.is_taken.ensures.taken c.as_slice-4.ensures.value refl c.self.invariant.index.shape c.self.view_is
+taken c = known_taken _ _ _ _ _ _ c.is_taken.ensures.taken c.as_slice-5.ensures.value refl c.self.invariant.index.shape c.self.view_is
 
 not_declared : (c : After-is_taken) → c.is_taken.result ≡ false → map.get c.args.self.now.declarations c.args.path.now ≡ None
 not_declared c free = none_from_test _ (sym (taken c) ∙ free)
@@ -28,8 +28,8 @@ put_here c = c.in_ok-declare_first.ensures.ok ∙ ap (λ k. with_declaration k c
 -- what is kept for searches stays right
 still_settled : (c : After-declare_first) → IsSaidOf (known_by c.self.inside.nodes.items) (known_by c.declare_first.new.nodes.items) c.args.path.now
     → AreSettled c.declare_first.new.nodes.items c.unsettle.new.settled.items
-still_settled c said = settled_kept c.self.inside.nodes.items c.declare_first.new.nodes.items c.as_slice-3.result.now
-    c.unsettle.new.settled.items c.args.path.now c.as_slice-3.ensures.value
+still_settled c said = settled_kept c.self.inside.nodes.items c.declare_first.new.nodes.items c.as_slice-4.result.now
+    c.unsettle.new.settled.items c.args.path.now c.as_slice-4.ensures.value
     c.self.invariant.index c.declare_first.ensures.kept said c.unsettle.ensures.ready c.unsettle.ensures.settled
 
 pub invariant_of-self-in_err-declare_first : goal.invariant_of-self-in_err-declare_first
