@@ -1,8 +1,10 @@
--- Paths as they are printed, and what gives them back. A path is read segment by segment, each with a byte in front: the
--- backslash, and then dots. What is read and what is left are the text, and a path that is printed so goes on with what is
--- left; so there is none where no segment follows.
-use Rattle.acpi_folder.proofs.Common.{◌≡◌, ℕ, ◌-◌, ◌<◌, ◌≤◌, true, List, [], ◌∷◌, ◌++◌, length, take, drop, Ok, refl, sym, ap, ◌∙◌, append_assoc, inl, inr}
-use Rattle.acpi_folder.proofs.Common.{arith, get_or, append-nil, flat_map, encode_utf8, drop_at, take_all, nil_from_length}
+-- Paths as they are printed, and what gives them back. A path is read segment by segment, each with a byte in front:
+-- the backslash, and then dots. What is read and what is left are the text, and a path that is printed so goes on with
+-- what is left; so there is none where no segment follows.
+use Rattle.acpi_folder.proofs.Common.{◌≡◌, ℕ, ◌-◌, ◌<◌, ◌≤◌, true, List, [], ◌∷◌, ◌++◌, length, take, drop, Ok, refl}
+use Rattle.acpi_folder.proofs.Common.{sym, ap, ◌∙◌, append_assoc, inl, inr}
+use Rattle.acpi_folder.proofs.Common.{arith, get_or, append-nil, flat_map, encode_utf8, drop_at, take_all}
+use Rattle.acpi_folder.proofs.Common.{nil_from_length}
 use Rattle.std.proofs.lemmas.Str.{encode_ascii}
 use Rattle.std.proofs.lemmas.List.Concat.{flat_map-append}
 use Rattle.std.proofs.lemmas.Bool.Decides.{nat_tests}
@@ -123,7 +125,8 @@ unfolding after
 stuck lead rest [] named some none same = omega (arith, ap length same)
 stuck lead rest (segment ∷ segments) named some none same = none segment _ (record { named = named.0; parts = same })
 
--- how far a path is read: these segments, this byte in front of the next, and what a path that is printed so goes on with
+-- how far a path is read: these segments, this byte in front of the next, and what a path that is printed so goes on
+-- with
 pub record IsRead (text : List ℕ) (segments : List Seg) (rest : List ℕ) (lead : ℕ) : Type 0 where
   pub same : text ≡ after 92 segments ++ rest
   pub named : AreNameSegs segments

@@ -1,5 +1,6 @@
 -- What the lines of a file of counts give, one after another, and the first line that gives nothing.
-use Rattle.acpi_folder.proofs.Common.{◌≡◌, ℕ, zero, suc, ◌+◌, ◌-◌, ◌<◌, List, [], ◌∷◌, ◌++◌, length, take, drop, get_or, refl, ◌∙◌, arith, lines_of}
+use Rattle.acpi_folder.proofs.Common.{◌≡◌, ℕ, zero, suc, ◌+◌, ◌-◌, ◌<◌, List, [], ◌∷◌, ◌++◌, length, take, drop, get_or}
+use Rattle.acpi_folder.proofs.Common.{refl, ◌∙◌, arith, lines_of}
 use Rattle.std.proofs.lemmas.Slice.Zip.{all_zipped_more}
 use Rattle.acpi_folder.specs.declared.externals.ExternalsFault.{ExternalsFault}
 use Rattle.acpi_folder.specs.declared.externals.ExternalsFault.TheVariants.{BadLine}

@@ -1,9 +1,12 @@
--- The records of a MADT. A walk over whole records takes them one by one. Where it meets none more they have ended: at the
--- table's end, or where a broken one begins. So a table that is read has no fault.
-use Rattle.acpi_tables.proofs.Common.{◌≡◌, ℕ, zero, suc, ◌+◌, ◌-◌, ◌<◌, ◌≤◌, Bool, true, false, cond, List, [], ◌∷◌, ◌++◌, length, map, refl, sym, ap, ◌∙◌}
-use Rattle.acpi_tables.proofs.Common.{arith, append_assoc, length-append, append-nil, nat_tests, map-append, concat, number_at}
+-- The records of a MADT. A walk over whole records takes them one by one. Where it meets none more they have ended: at
+-- the table's end, or where a broken one begins. So a table that is read has no fault.
+use Rattle.acpi_tables.proofs.Common.{◌≡◌, ℕ, zero, suc, ◌+◌, ◌-◌, ◌<◌, ◌≤◌, Bool, true, false, cond, List, [], ◌∷◌}
+use Rattle.acpi_tables.proofs.Common.{◌++◌, length, map, refl, sym, ap, ◌∙◌}
+use Rattle.acpi_tables.proofs.Common.{arith, append_assoc, length-append, append-nil, nat_tests, map-append, concat}
+use Rattle.acpi_tables.proofs.Common.{number_at}
 use Rattle.std.proofs.lemmas.List.Folds.{concat-append}
-use Rattle.acpi_tables.specs.Madt.{HoldsRecord, HoldsMadt, BreaksAt, is_whole, record_bytes_at, record_end, records_from, records_of}
+use Rattle.acpi_tables.specs.Madt.{HoldsRecord, HoldsMadt, BreaksAt, is_whole, record_bytes_at, record_end}
+use Rattle.acpi_tables.specs.Madt.{records_from, records_of}
 use Rattle.acpi_tables.specs.Madt.{meaning_of, said, RefusesMadt}
 use Rattle.acpi_tables.specs.declared.madt.MadtRecord.{MadtRecord}
 use Rattle.acpi_tables.specs.declared.faults.Bad.{Bad}

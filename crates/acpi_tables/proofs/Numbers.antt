@@ -1,5 +1,6 @@
 -- Fields of a table, and the numbers that their bytes spell.
-use Rattle.acpi_tables.proofs.Common.{◌≡◌, ℕ, zero, suc, ◌+◌, ◌*◌, ◌<◌, ◌≤◌, List, [], ◌∷◌, length, slice_index, arith, length-take, length-drop, ◌++◌}
+use Rattle.acpi_tables.proofs.Common.{◌≡◌, ℕ, zero, suc, ◌+◌, ◌*◌, ◌<◌, ◌≤◌, List, [], ◌∷◌, length, slice_index, arith}
+use Rattle.acpi_tables.proofs.Common.{length-take, length-drop, ◌++◌}
 use Rattle.acpi_tables.proofs.Common.{replicate, refl, ap, little_endian, bytes_at, number_at}
 
 pub length-bytes_at : (table : List ℕ) (offset width : ℕ) → offset + width ≤ length table → length (bytes_at table offset width) ≡ width

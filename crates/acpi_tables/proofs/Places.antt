@@ -1,5 +1,6 @@
 -- Dumps by their index.
-use Rattle.acpi_tables.proofs.Common.{◌≡◌, ℕ, ◌<◌, ◌≤◌, List, [], length, map, get_or, sym, ap, ◌∙◌, arith, get_or-map, get_or_past, length-map, Dump, bytes_of}
+use Rattle.acpi_tables.proofs.Common.{◌≡◌, ℕ, ◌<◌, ◌≤◌, List, [], length, map, get_or, sym, ap, ◌∙◌, arith, get_or-map}
+use Rattle.acpi_tables.proofs.Common.{get_or_past, length-map, Dump, bytes_of}
 
 -- a part of the dump at an index, as its bytes or its name
 module _ (part : Dump → List ℕ) (dumps : List Dump) (index : ℕ) where

@@ -1,5 +1,6 @@
 -- The order of the SSDTs by their names is a total order of the indexes, and a list that is sorted by one has one form.
-use Rattle.acpi_tables.proofs.Common.{◌≡◌, ℕ, ◌<◌, ◌≤◌, Bool, List, [], ◌∷◌, length, get_or, refl, arith, is_lt, Dump, name_of, ending_number, rank_cmp}
+use Rattle.acpi_tables.proofs.Common.{◌≡◌, ℕ, ◌<◌, ◌≤◌, Bool, List, [], ◌∷◌, length, get_or, refl, arith, is_lt, Dump}
+use Rattle.acpi_tables.proofs.Common.{name_of, ending_number, rank_cmp}
 use Rattle.std.proofs.lemmas.Cmp.{then_total, on_total, nat_cmp_total}
 use Rattle.std.specs.Cmp.{IsTotalOrder}
 use Rattle.std.specs.Cmp.Lexicographic.{on_texts}

@@ -1,9 +1,13 @@
--- What a signature tells of a dump: how it is read, since that comes out of a signature by computing, whatever follows it;
--- and so what holds of one that is taken. What a search for a signature or an address has found has the signature.
-use Rattle.acpi_tables.proofs.Common.{◌≡◌, ℕ, ◌<◌, ◌≤◌, ◌⊎◌, inl, inr, Bool, true, false, List, ◌++◌, length, drop, codes, cond, Some, find, ltb, nat_eq}
-use Rattle.acpi_tables.proofs.Common.{refl, sym, ap, ◌∙◌, arith, rules, tests, length-append, Decides-eqb, passes_at_first, option_and_then_some, same_Some, then_some}
-use Rattle.acpi_tables.proofs.Common.{slice_get_within, get_or_from_slice_get, Dump, begins_with, HoldsTable, table_of, HoldsRoot, HoldsAddresses}
-use Rattle.acpi_tables.proofs.Common.{AreTaken, bytes_of, has_signature, dump_at, signed_at, xsdt_address, list_of, width_of, number_at}
+-- What a signature tells of a dump: how it is read, since that comes out of a signature by computing, whatever follows
+-- it; and so what holds of one that is taken. What a search for a signature or an address has found has the signature.
+use Rattle.acpi_tables.proofs.Common.{◌≡◌, ℕ, ◌<◌, ◌≤◌, ◌⊎◌, inl, inr, Bool, true, false, List, ◌++◌, length, drop}
+use Rattle.acpi_tables.proofs.Common.{codes, cond, Some, find, ltb, nat_eq}
+use Rattle.acpi_tables.proofs.Common.{refl, sym, ap, ◌∙◌, arith, rules, tests, length-append, Decides-eqb}
+use Rattle.acpi_tables.proofs.Common.{passes_at_first, option_and_then_some, same_Some, then_some}
+use Rattle.acpi_tables.proofs.Common.{slice_get_within, get_or_from_slice_get, Dump, begins_with, HoldsTable, table_of}
+use Rattle.acpi_tables.proofs.Common.{HoldsRoot, HoldsAddresses}
+use Rattle.acpi_tables.proofs.Common.{AreTaken, bytes_of, has_signature, dump_at, signed_at, xsdt_address, list_of}
+use Rattle.acpi_tables.proofs.Common.{width_of, number_at}
 use Rattle.std.proofs.lemmas.Slice.Eq.{starts_is}
 use Rattle.std.proofs.lemmas.List.Folds.{find_at}
 use Rattle.acpi_tables.specs.declared.dump.Content.TheVariants.{Xsdt, Rsdt, Fadt, Other}

@@ -1,6 +1,7 @@
 -- The values of a list of fields: one that ends within the least length that the bytes have is there, so that they come
 -- out by computing, whatever fields the list has.
-use Rattle.acpi_tables.proofs.Common.{◌≡◌, ℕ, ◌+◌, ◌≤◌, Bool, true, false, cond, List, [], ◌∷◌, length, map, find, option_map, Option, Some, nat_le, refl}
+use Rattle.acpi_tables.proofs.Common.{◌≡◌, ℕ, ◌+◌, ◌≤◌, Bool, true, false, cond, List, [], ◌∷◌, length, map, find}
+use Rattle.acpi_tables.proofs.Common.{option_map, Option, Some, nat_le, refl}
 use Rattle.acpi_tables.proofs.Common.{arith, if◌then◌else◌, nat_tests, number_at, Field, value_in}
 
 -- the value of a field of bytes that have at least so many

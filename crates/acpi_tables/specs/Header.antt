@@ -82,7 +82,8 @@ rsdp_of bytes = record {
   oem = bytes_at bytes 9 6;
   revision = revision_of bytes;
   rsdt = number_at bytes 16 4;
-  wide = then_some (nat_le 2 (revision_of bytes)) (record { length = number_at bytes 20 4; xsdt = number_at bytes 24 8 });
+  wide = then_some (nat_le 2 (revision_of bytes))
+      (record { length = number_at bytes 20 4; xsdt = number_at bytes 24 8 });
 }
 
 -- whether its checksums are right: that of the first 20 bytes, and from revision 2 on that of the first Length bytes

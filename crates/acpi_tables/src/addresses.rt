@@ -3,7 +3,8 @@
 #![tactic(auto, using(crate::proofs::Cells::cells))]
 
 ghost use Rattle.std.specs.Prelude.{◌≡◌, ◌⊎◌, ◌↔◌, ◌<◌, ◌≤◌, length, IsTrue, IfOk, IfErr, OnOk};
-ghost use Rattle.acpi_tables.specs.Header.{HoldsAddresses, address_width, addresses_of, address_count, address_at, address_bytes, address_in};
+ghost use Rattle.acpi_tables.specs.Header.{HoldsAddresses, address_width, addresses_of, address_count, address_at};
+ghost use Rattle.acpi_tables.specs.Header.{address_bytes, address_in};
 ghost use Rattle.acpi_tables.specs.declared.faults.Bad.TheVariants.{BadRoot, NoMemory};
 
 use crate::bytes::little_endian;

@@ -4,7 +4,8 @@
 ghost use Rattle.std.specs.Prelude.{◌++◌, codes, decimal};
 ghost use Rattle.text_writer.specs.Prints.{Prints, quoted, word};
 ghost use Rattle.acpi_tables.specs.Dumps.{HoldsShape};
-ghost use Rattle.acpi_text.specs.Dumps.{if_there, wide_text, root_text, header_text, head_by, address_text, sum_text, line_by};
+ghost use Rattle.acpi_text.specs.Dumps.{if_there, wide_text, root_text, header_text, head_by, address_text, sum_text};
+ghost use Rattle.acpi_text.specs.Dumps.{line_by};
 
 use crate::labels::{put_decimal, put_hex8, put_hex16, put_quoted};
 use acpi_tables::{Dump, Header, Kind, LENGTH_AT, Rsdp, Wide, u32_at};

@@ -1,10 +1,14 @@
 -- Bodies that were read are the entries of a listing, and the only ones: by what became of each, method by method. What
 -- a run keeps of bodies is kept of such bodies, so texts print as they do, faults tell of the raw ones, and trials are
 -- their marks.
-use Rattle.acpidis.proofs.Common.{AllZip, ◌≡◌, ℕ, suc, Bool, false, List, [], ◌∷◌, ◌++◌, map, length, Some, Result, Ok, Err, refl, sym, ap, ap₂, subst, arith}
-use Rattle.acpidis.proofs.Common.{slice_get, map-id, Entry, CodeFault, Trees, OfMethod, table_codes, span_of, body_in, TableSet, Method, Body, AgreeAt, OneBody}
-use Rattle.acpidis.proofs.Common.{read, raw, all_lines, body_lines, BodyText, IsText, body_view, printed_lines, IsEntry, Became, BecameIn}
-use Rattle.acpidis.proofs.Common.{AreBodies, has_raw, mark_of, marks_of, IsKept, AreKept, AreKeptOf, IsSame, has_fault, tried_mark, tried_marks, get_or}
+use Rattle.acpidis.proofs.Common.{AllZip, ◌≡◌, ℕ, suc, Bool, false, List, [], ◌∷◌, ◌++◌, map, length, Some, Result, Ok}
+use Rattle.acpidis.proofs.Common.{Err, refl, sym, ap, ap₂, subst, arith}
+use Rattle.acpidis.proofs.Common.{slice_get, map-id, Entry, CodeFault, Trees, OfMethod, table_codes, span_of, body_in}
+use Rattle.acpidis.proofs.Common.{TableSet, Method, Body, AgreeAt, OneBody}
+use Rattle.acpidis.proofs.Common.{read, raw, all_lines, body_lines, BodyText, IsText, body_view, printed_lines, IsEntry}
+use Rattle.acpidis.proofs.Common.{Became, BecameIn}
+use Rattle.acpidis.proofs.Common.{AreBodies, has_raw, mark_of, marks_of, IsKept, AreKept, AreKeptOf, IsSame, has_fault}
+use Rattle.acpidis.proofs.Common.{tried_mark, tried_marks, get_or}
 use Rattle.aml_space.specs.Known.{StandsFor}
 use Rattle.asl_text.specs.declared.bodies.Body.TheVariants as bodies
 use Rattle.asl_text.specs.declared.bodies.BodyText.TheVariants as kept_texts

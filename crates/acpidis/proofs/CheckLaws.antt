@@ -1,9 +1,12 @@
 -- The methods of each table are counted, whatever their order: a mark is added to the table that it names, and what the
 -- tables have then, with the marks that are still to come, stays what it was (`counted_more`). The counts begin at
 -- nothing and end where no mark is left (`counted_all`).
-use Rattle.acpidis.proofs.Common.{◌&&◌, list_all, sum_by-cons, at_drop_all, drop_more, get_or_default, set_past, All, All-get_or, All-map, All-set, All-weaker, All-nil, All-cons, ◌≡◌}
-use Rattle.acpidis.proofs.Common.{ℕ, zero, suc, ◌+◌, ◌<◌, ◌≤◌, nat_eq, Bool, true, false, cond, List, [], ◌∷◌, map, drop, length, get_or, set, inl, inr, Result}
-use Rattle.acpidis.proofs.Common.{refl, sym, ap, ap₂, ◌∙◌, arith, CodeFault, Trees, AreShort, Method, OneBlock, blocks_of, marks_in, IsUnder, Under, added}
+use Rattle.acpidis.proofs.Common.{◌&&◌, list_all, sum_by-cons, at_drop_all, drop_more, get_or_default, set_past, All}
+use Rattle.acpidis.proofs.Common.{All-get_or, All-map, All-set, All-weaker, All-nil, All-cons, ◌≡◌}
+use Rattle.acpidis.proofs.Common.{ℕ, zero, suc, ◌+◌, ◌<◌, ◌≤◌, nat_eq, Bool, true, false, cond, List, [], ◌∷◌, map}
+use Rattle.acpidis.proofs.Common.{drop, length, get_or, set, inl, inr, Result}
+use Rattle.acpidis.proofs.Common.{refl, sym, ap, ap₂, ◌∙◌, arith, CodeFault, Trees, AreShort, Method, OneBlock}
+use Rattle.acpidis.proofs.Common.{blocks_of, marks_in, IsUnder, Under, added}
 use Rattle.acpidis.proofs.Common.{uncounted, tally, tallied, tried_mark, tried_marks, Checked, Mark}
 use Rattle.std.proofs.lemmas.Bool.{cases_lt}
 use Rattle.std.proofs.lemmas.Bool.Decides.{nat_tests}

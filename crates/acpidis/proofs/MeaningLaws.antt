@@ -1,7 +1,9 @@
 -- A set of dumps means one listing: what an order and a load of it give is what the dumps load to, with the bodies that
 -- were read it is what they mean, and whatever they mean is that. What a refused load tells is told of the one order.
-use Rattle.acpidis.proofs.Common.{AllZip, ◌≡◌, ◌≤◌, ℕ, List, [], ◌∷◌, map, length, drop, get_or, refl, sym, ap, ap₂, ◌∙◌, Trees, Listed}
-use Rattle.acpidis.proofs.Common.{LoadsBy, methods_of, HoldsTables, Loaded, TableSet, table_dumps, IsListed, Dump, Order, IsOrder, Body, body_view, indexes_in, Options, codes_in}
+use Rattle.acpidis.proofs.Common.{AllZip, ◌≡◌, ◌≤◌, ℕ, List, [], ◌∷◌, map, length, drop, get_or, refl, sym, ap, ap₂}
+use Rattle.acpidis.proofs.Common.{◌∙◌, Trees, Listed}
+use Rattle.acpidis.proofs.Common.{LoadsBy, methods_of, HoldsTables, Loaded, TableSet, table_dumps, IsListed, Dump}
+use Rattle.acpidis.proofs.Common.{Order, IsOrder, Body, body_view, indexes_in, Options, codes_in}
 use Rattle.acpidis.proofs.Common.{Became, AreBodies, Meaning, LoadsSet, HoldsSet, HasTables, Means, IsSet, codes_of}
 use Rattle.std.proofs.Common.{◌⊎◌, inl, inr}
 use Rattle.acpidis.specs.declared.refusal.Refusal.{Refusal}

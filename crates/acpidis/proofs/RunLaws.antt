@@ -1,10 +1,14 @@
 -- A run prints the text of the one listing that the dumps mean: what is kept of the bodies prints as the bodies of
 -- whatever they mean do (`texts_output`), and with `--check` says the same of them (`trials_output`); so the writer has
 -- the whole text, or its first bytes. Two listings in memory of the same dumps print the same (`one_output`).
-use Rattle.acpidis.proofs.Common.{◌≡◌, ℕ, Bool, true, false, cond, List, ◌∷◌, ◌++◌, map, get_or, Result, sym, ap, ap₂, ◌∙◌, methods_of, codes_view}
-use Rattle.acpidis.proofs.Common.{table_codes, table_dumps, table_terms, body_in_set, TableSet, Method, CodeFault, Trees, Dump, Body, BodyText, OneBody, OneBlock, levels_of}
-use Rattle.acpidis.proofs.Common.{blocks_of, blocks_in, body_lines, names_in, whole_text, listing_text, IsText, body_view, printed_lines, indexes_in, has_raw}
-use Rattle.acpidis.proofs.Common.{AreBodies, marks_of, checks_with, check_lines, all_same, IsKept, AreKeptOf, IsSame, has_fault, tried_marks, Meaning}
+use Rattle.acpidis.proofs.Common.{◌≡◌, ℕ, Bool, true, false, cond, List, ◌∷◌, ◌++◌, map, get_or, Result, sym, ap, ap₂}
+use Rattle.acpidis.proofs.Common.{◌∙◌, methods_of, codes_view}
+use Rattle.acpidis.proofs.Common.{table_codes, table_dumps, table_terms, body_in_set, TableSet, Method, CodeFault}
+use Rattle.acpidis.proofs.Common.{Trees, Dump, Body, BodyText, OneBody, OneBlock, levels_of}
+use Rattle.acpidis.proofs.Common.{blocks_of, blocks_in, body_lines, names_in, whole_text, listing_text, IsText}
+use Rattle.acpidis.proofs.Common.{body_view, printed_lines, indexes_in, has_raw}
+use Rattle.acpidis.proofs.Common.{AreBodies, marks_of, checks_with, check_lines, all_same, IsKept, AreKeptOf, IsSame}
+use Rattle.acpidis.proofs.Common.{has_fault, tried_marks, Meaning}
 use Rattle.acpidis.proofs.Common.{Means, Shows, order_of, codes_of, IsSet, Options}
 use Rattle.aml_code.specs.View.{nodes_view}
 use Rattle.aml_space.specs.Known.{Known, StandsFor}
@@ -41,7 +45,8 @@ module _ (dumps : List Dump) (k : Meaning) (order : List ℕ) (codes : List (Lis
   printed_is true = at_listing (λ blocks codes ms. check_lines blocks (checks_with blocks (marks_of codes ms k.bodies)))
 
 -- ---- Two listings in memory of the same dumps and options, of which one shows what the dumps mean and the other shows
--- whatever they mean, are the same one, whatever number of workers read their bodies, and so is what is printed of them.
+-- whatever they mean, are the same one, whatever number of workers read their bodies, and so is what is printed of
+-- them.
 
 module _ (dumps : List Dump) (options : Options) (x y : Listing) (sound : (k : Meaning) × Means dumps options k × Shows x dumps k)
     (one : (k : Meaning) → Means dumps options k → Shows y dumps k) where

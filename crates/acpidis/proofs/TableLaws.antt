@@ -1,5 +1,6 @@
 -- The tables of an order: each has a header, and no more bytes than a dump may have, and so has its AML.
-use Rattle.acpidis.proofs.Common.{length-append, length-drop, take-append-drop, ℕ, zero, suc, ◌<◌, ◌≤◌, length, get_or, take, drop, arith, List, [], ◌∷◌, sym}
+use Rattle.acpidis.proofs.Common.{length-append, length-drop, take-append-drop, ℕ, zero, suc, ◌<◌, ◌≤◌, length, get_or}
+use Rattle.acpidis.proofs.Common.{take, drop, arith, List, [], ◌∷◌, sym}
 use Rattle.acpidis.proofs.Common.{ap, ◌∙◌, Dump, HoldsTable, table_of, AreTables, bytes_of, aml_of}
 use Rattle.acpi_tables.specs.Bytes.{number_at}
 use Rattle.acpi_tables.specs.Dumps.{most_bytes}

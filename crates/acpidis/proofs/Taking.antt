@@ -6,7 +6,8 @@ use Rattle.aml_names.specs.Paths.{PathSet}
 use Rattle.aml_code.specs.declared.rows.Position.{Position}
 use Rattle.aml_code.specs.declared.rows.TailKind.{TailKind}
 use Rattle.aml_load.specs.Spans.{tree_spans, all_spans, tail_spans}
-use Rattle.aml_code.specs.Tree.{Tree, nothing, named, op, Trees, no_trees, tree_more, Tail, empty, terms, bytes, elements, fields, body}
+use Rattle.aml_code.specs.Tree.{Tree, nothing, named, op, Trees, no_trees, tree_more, Tail, empty, terms, bytes}
+use Rattle.aml_code.specs.Tree.{elements, fields, body}
 use Rattle.aml_code.specs.Lawful.{after, Setting, IsLawful, AreTerms, IsTail, terms_in, next_position}
 use Rattle.aml_load.proofs.NoSpans.{terms_tail, parts_none, all_none, elements_none, fields_tail_none}
 use Rattle.aml_code.specs.declared.rows.Position.TheVariants as positions

@@ -3,7 +3,8 @@ ghost use Rattle.std.specs.Prelude.{◌≡◌, ◌≤◌, ◌<◌, All, IfOk, le
 ghost use Rattle.aml_set.specs.Code.{AreShort};
 ghost use Rattle.aml_set.specs.Views.{codes_view, body_of};
 ghost use Rattle.asl_text.specs.Bodies.{block_view};
-ghost use Rattle.acpidis.specs.Checks.{checks_with, checks_of, Under, added, uncounted, tallied, tried_mark, tried_marks, AreKept, IsKept, IsSame};
+ghost use Rattle.acpidis.specs.Checks.{checks_with, checks_of, Under, added, uncounted, tallied, tried_mark};
+ghost use Rattle.acpidis.specs.Checks.{tried_marks, AreKept, IsKept, IsSame};
 
 use crate::trials::{is_encoding, try_body};
 use aml_code::{CodeFault, NoMemory};

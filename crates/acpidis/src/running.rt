@@ -133,8 +133,8 @@ fn run_listing<R: Threads + Wait + Sync, G: Gate + Sync, O: Write, E: Write>(
     Ok(status_of_bodies(texts))
 }
 
-/// Writes a line for each table of a loaded set, and a line on `err` for each body that can't be read. Each body is read
-/// and tried by a worker, which lets its terms go. Answers the status.
+/// Writes a line for each table of a loaded set, and a line on `err` for each body that can't be read. Each body is
+/// read and tried by a worker, which lets its terms go. Answers the status.
 fn run_checks<R: Threads + Wait + Sync, G: Gate + Sync, O: Write, E: Write>(
     crew: &Crew<'_, R, G>,
     tables: Tables<'_, '_>,

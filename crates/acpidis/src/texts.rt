@@ -24,7 +24,8 @@ fn level_of(levels: &[u32], number: u32) -> u32
     levels.get(number as usize).copied().unwrap_or(0)
 }
 
-/// How many bytes of text are kept of a body: more than 32 for each of its bytes would take as much memory as its terms.
+/// How many bytes of text are kept of a body: more than 32 for each of its bytes would take as much memory as its
+/// terms.
 fn most_of(body: &[u8]) -> usize {
     body.len().saturating_mul(32)
 }

@@ -1,6 +1,7 @@
 -- What is seen of a tree, by its fork or a copy of it: its children are those of the two sides around one, so they are
 -- sought and put on one side (`at_left`, `put_right` and their kin). And the forks that come of a lift.
-use Rattle.std.proofs.Common.{◌≡◌, ℕ, ◌+◌, ◌^◌, ◌<◌, ◌≤◌, true, false, List, ◌∷◌, ◌++◌, length, Option, Some, sym, ap, subst, ◌∙◌, arith, length-append}
+use Rattle.std.proofs.Common.{◌≡◌, ℕ, ◌+◌, ◌^◌, ◌<◌, ◌≤◌, true, false, List, ◌∷◌, ◌++◌, length, Option, Some, sym, ap}
+use Rattle.std.proofs.Common.{subst, ◌∙◌, arith, length-append}
 use Rattle.std.specs.Global.{Box}
 use Rattle.std.proofs.Common.{append_assoc}
 use Rattle.std.specs.Option.{option_or}
@@ -10,9 +11,11 @@ use Rattle.std.specs.declared.cmp.Ordering.TheVariants.{Less, Equal, Greater}
 use Rattle.aml_names.specs.declared.segments.Seg.{Seg}
 use Rattle.aml_names.specs.Paths.{seg_cmp}
 use Rattle.aml_children.specs.Children.{child_in, put, behind, first_node, Rise}
-use Rattle.aml_children.proofs.Sides.{front_rises, back_rises, found_left, found_right, found_middle, behind_left, behind_right, put_left, put_right}
+use Rattle.aml_children.proofs.Sides.{front_rises, back_rises, found_left, found_right, found_middle, behind_left}
+use Rattle.aml_children.proofs.Sides.{behind_right, put_left, put_right}
 use Rattle.aml_children.specs.declared.children.Child.{Child}
-use Rattle.aml_children.specs.Trees.{list_of, list_and_height, left_lifted, right_lifted, IsBalanced, AreBalanced, CanLean, IsRebalanced}
+use Rattle.aml_children.specs.Trees.{list_of, list_and_height, left_lifted, right_lifted, IsBalanced, AreBalanced}
+use Rattle.aml_children.specs.Trees.{CanLean, IsRebalanced}
 use Rattle.aml_children.specs.declared.trees.Fork.{Fork}
 
 module _ (d : List Child × ℕ) (o : Option (Box Fork)) (b : Box Fork) (view : list_and_height o ≡ d) (is : o ≡ Some b) where

@@ -1,6 +1,7 @@
 -- In lawful terms each Else stands right behind an If.
 use Rattle.std.specs.Prelude.{◌==◌}
-use Rattle.std.proofs.Common.{◌≡◌, ℕ, zero, suc, Bool, List, [], ◌∷◌, true, false, cond, not, Option, Some, refl, ap, ◌∙◌}
+use Rattle.std.proofs.Common.{◌≡◌, ℕ, zero, suc, Bool, List, [], ◌∷◌, true, false, cond, not, Option, Some, refl, ap}
+use Rattle.std.proofs.Common.{◌∙◌}
 use Rattle.aml_names.specs.declared.segments.Seg.{Seg}
 use Rattle.aml_names.specs.Paths.{PathSet}
 use Rattle.aml_code.specs.Opcodes.{Row, rows, row_of, takes}
@@ -12,13 +13,15 @@ use Rattle.aml_code.specs.declared.rows.PartKind.{PartKind}
 use Rattle.aml_code.specs.declared.rows.PartKind.TheVariants as kinds
 use Rattle.aml_code.specs.declared.rows.TailKind.{TailKind}
 use Rattle.aml_code.specs.declared.rows.TailKind.TheVariants as tails
-use Rattle.aml_code.specs.Lawful.{after, Setting, IsLawful, AreTerms, AreParts, IsTail, AreFields, has_opcode, terms_in, next_position, ReadsBody, ReadsModule}
+use Rattle.aml_code.specs.Lawful.{after, Setting, IsLawful, AreTerms, AreParts, IsTail, AreFields, has_opcode, terms_in}
+use Rattle.aml_code.specs.Lawful.{next_position, ReadsBody, ReadsModule}
 use Rattle.aml_code.specs.Laws.{ElsesFollow, ElseFollows, NoElses, FollowInParts, FollowInTail, FollowInFields}
 use Rattle.aml_code.specs.Faults.{Arities}
 use Rattle.aml_code.proofs.RowFacts.{row_opcode, not_true, rows_say}
 use Rattle.aml_code.proofs.Takers.{taker_takes}
 use Rattle.aml_code.proofs.InnerLaws.{is_inner, inner_next}
-use Rattle.aml_code.specs.Tree.{Tree, nothing, named, op, Trees, no_trees, tree_more, child, Parts, no_parts, part_more, Tail, terms, elements, fields}
+use Rattle.aml_code.specs.Tree.{Tree, nothing, named, op, Trees, no_trees, tree_more, child, Parts, no_parts, part_more}
+use Rattle.aml_code.specs.Tree.{Tail, terms, elements, fields}
 use Rattle.aml_code.specs.Tree.{connection, Fields, no_fields, field_more, target, buffer}
 
 abbrev pub is_after_if : Position → Bool

@@ -1,5 +1,6 @@
 -- What stands inside a term and not in a list of terms declares nothing: an argument, a target, data.
-use Rattle.std.proofs.Common.{◌≡◌, ℕ, zero, suc, Bool, true, false, not, ◌&&◌, List, Option, Some, None, option_map, refl, ap, subst, ◌∙◌}
+use Rattle.std.proofs.Common.{◌≡◌, ℕ, zero, suc, Bool, true, false, not, ◌&&◌, List, Option, Some, None, option_map}
+use Rattle.std.proofs.Common.{refl, ap, subst, ◌∙◌}
 use Rattle.aml_names.specs.declared.segments.Seg.{Seg}
 use Rattle.aml_names.specs.Paths.{PathSet}
 use Rattle.aml_code.specs.declared.rows.Place.{Place}
@@ -12,7 +13,8 @@ use Rattle.aml_code.specs.declared.rows.TailKind.{TailKind}
 use Rattle.aml_code.specs.declared.rows.TailKind.TheVariants as tails
 use Rattle.aml_code.specs.Opcodes.{Row, rows, row_of, takes}
 use Rattle.aml_code.specs.Tree.{Tree, nothing, named, op, Trees, no_trees, tree_more, Parts, Tail, terms}
-use Rattle.aml_code.specs.Lawful.{names_declared, with_declared, declared_by, after, after_all, after_tail, Setting, IsLawful, AreTerms, IsTail, next_position}
+use Rattle.aml_code.specs.Lawful.{names_declared, with_declared, declared_by, after, after_all, after_tail, Setting}
+use Rattle.aml_code.specs.Lawful.{IsLawful, AreTerms, IsTail, next_position}
 use Rattle.aml_code.specs.Lawful.{terms_in, tail_in}
 use Rattle.aml_code.proofs.RowFacts.{and_left, and_right, rows_say}
 use Rattle.aml_code.proofs.Takers.{taker_takes}

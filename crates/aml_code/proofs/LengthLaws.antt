@@ -1,6 +1,7 @@
 -- A package length that is read is the one that is spelled, and one that is spelled is read again.
 use Rattle.std.specs.Prelude.{slice_get, Some}
-use Rattle.std.proofs.Common.{◌≡◌, ℕ, zero, suc, ◌+◌, ◌-◌, ◌*◌, ◌/◌, ◌%◌, ◌^◌, ◌<◌, ◌≤◌, true, false, eqb, ltb, List, [], ◌∷◌, ◌++◌, length, take, drop, Result}
+use Rattle.std.proofs.Common.{◌≡◌, ℕ, zero, suc, ◌+◌, ◌-◌, ◌*◌, ◌/◌, ◌%◌, ◌^◌, ◌<◌, ◌≤◌, true, false, eqb, ltb, List}
+use Rattle.std.proofs.Common.{[], ◌∷◌, ◌++◌, length, take, drop, Result}
 use Rattle.std.proofs.Common.{Ok, Err, refl, sym, ap, subst, ◌∙◌, ◌⊎◌, arith, inl, inr}
 use Rattle.std.proofs.lemmas.Bool.{ltb-false, le-ltb, ltb-true, eqb-true, eqb-false, eq-eqb, ne_eqb}
 use Rattle.std.proofs.lemmas.List.{take_at, drop_at, take-append-drop, length-append, length-take}
@@ -8,11 +9,13 @@ use Rattle.std.proofs.Math.Nat.{pow-succ', pow-le-pow_right}
 use Rattle.aml_names.specs.declared.faults.CodeFault.{CodeFault}
 use Rattle.aml_names.specs.declared.faults.CodeFault.TheVariants as faults
 use Rattle.aml_names.specs.NameReading.{◌>>=◌, byte_at}
-use Rattle.aml_names.proofs.StepLaws.{ok_is, err_is, bind_then, err_then, cond_then, IsBytes, IsBytes-drop, IsBytes-take, Takes, Takes-then, byte_takes}
+use Rattle.aml_names.proofs.StepLaws.{ok_is, err_is, bind_then, err_then, cond_then, IsBytes, IsBytes-drop}
+use Rattle.aml_names.proofs.StepLaws.{IsBytes-take, Takes, Takes-then, byte_takes}
 use Rattle.aml_names.proofs.StepLaws.{byte_fault}
 use Rattle.aml_code.specs.declared.packages.PkgWidth.{PkgWidth}
 use Rattle.aml_code.specs.declared.packages.PkgWidth.TheVariants as width
-use Rattle.aml_code.specs.Packages.{following_bytes, width_of, width_len, little, spelled, package_bytes, FitsFollowing, FitsWidth, little_at, value_at}
+use Rattle.aml_code.specs.Packages.{following_bytes, width_of, width_len, little, spelled, package_bytes, FitsFollowing}
+use Rattle.aml_code.specs.Packages.{FitsWidth, little_at, value_at}
 use Rattle.aml_code.specs.Packages.{length_at, span_at, front_at}
 use Rattle.aml_code.specs.Faults.{HasPkgBits, IsLengthFault}
 use Rattle.aml_code.specs.Tree.{op, Parts, empty, opcode_bytes, encoding, parts_encoding}

@@ -7,8 +7,10 @@ use Rattle.aml_code.specs.declared.rows.Position.{Position}
 use Rattle.aml_code.specs.declared.rows.Position.TheVariants as positions
 use Rattle.aml_code.specs.declared.rows.TailKind.{TailKind}
 use Rattle.aml_code.specs.declared.rows.TailKind.TheVariants as tails
-use Rattle.aml_code.specs.Lawful.{after, Setting, TermsStand, IsLawful, AreTerms, IsPart, AreParts, IsTail, AreFields, IsField, next_position}
-use Rattle.aml_code.specs.Tree.{Tree, nothing, named, op, Trees, no_trees, tree_more, Part, child, Parts, no_parts, part_more, Tail, terms, elements}
+use Rattle.aml_code.specs.Lawful.{after, Setting, TermsStand, IsLawful, AreTerms, IsPart, AreParts, IsTail, AreFields}
+use Rattle.aml_code.specs.Lawful.{IsField, next_position}
+use Rattle.aml_code.specs.Tree.{Tree, nothing, named, op, Trees, no_trees, tree_more, Part, child, Parts, no_parts}
+use Rattle.aml_code.specs.Tree.{part_more, Tail, terms, elements}
 use Rattle.aml_code.specs.Tree.{fields, Field, connection, Fields, no_fields, field_more, target, buffer}
 
 -- what is made of terms that may stand in their positions is made of terms that may by another account

@@ -1,5 +1,7 @@
--- What holds of each row of the table of opcodes, by tests that compute over the whole table; and opcodes as they are read.
-use Rattle.std.proofs.Common.{◌≡◌, ℕ, ◌/◌, ◌%◌, ◌<◌, Bool, true, false, cond, ltb, not, ◌&&◌, ◌==◌, List, [], ◌∷◌, ◌++◌, length, find, Option, Some, None, refl}
+-- What holds of each row of the table of opcodes, by tests that compute over the whole table; and opcodes as they are
+-- read.
+use Rattle.std.proofs.Common.{◌≡◌, ℕ, ◌/◌, ◌%◌, ◌<◌, Bool, true, false, cond, ltb, not, ◌&&◌, ◌==◌, List, [], ◌∷◌, ◌++◌}
+use Rattle.std.proofs.Common.{length, find, Option, Some, None, refl}
 use Rattle.std.proofs.Common.{sym, ap, subst, ◌∙◌, arith, inl, inr}
 use Rattle.std.specs.Prelude.{nat_le}
 use Rattle.std.specs.List.{list_all}
@@ -44,7 +46,8 @@ where_true : (b c : Bool) → b ≡ true → cond b c true ≡ true → c ≡ tr
 where_true true c h e = e
 where_true false c h e = absurd cc
 
--- Of each row that passes the first test the second test says this, if it does so over the whole table: there `refl` shows it.
+-- Of each row that passes the first test the second test says this, if it does so over the whole table: there `refl`
+-- shows it.
 pub rows_say : (when is : Row → Bool) → list_all (λ r. cond (when r) (is r) true) rows ≡ true → (o : ℕ) (r : Row) → row_of o ≡ Some r → when r ≡ true
     → is r ≡ true
 unfolding row_of

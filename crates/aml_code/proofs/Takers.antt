@@ -1,5 +1,5 @@
--- A position takes an opcode of a place where it is one of the takers of the place; and what is said of guards by where their
--- terms stand.
+-- A position takes an opcode of a place where it is one of the takers of the place; and what is said of guards by where
+-- their terms stand.
 use Rattle.std.proofs.Common.{◌≡◌, ℕ, true, length, ltb, nat_eq, refl, ◌∙◌}
 use Rattle.std.specs.Prelude.{slice_index_or}
 use Rattle.std.specs.List.{Contains, list_all, position_or_len}

@@ -15,7 +15,8 @@ use Rattle.aml_code.specs.declared.tree.Part as parts
 use Rattle.aml_code.specs.declared.tree.Tail as tails
 use Rattle.aml_code.specs.Tree.{nothing, named, op}
 use Rattle.aml_code.specs.Tree as trees
-use Rattle.aml_code.specs.View.{node_view, nodes_view, part_view, parts_view, tail_view, field_view, fields_view, link_view}
+use Rattle.aml_code.specs.View.{node_view, nodes_view, part_view, parts_view, tail_view, field_view, fields_view}
+use Rattle.aml_code.specs.View.{link_view}
 
 pub view-Nothing : node_view Nothing ≡ nothing
 view-Nothing = search (rules, the_lemmas)

@@ -2,8 +2,10 @@
 ghost use Rattle.std.specs.Prelude.{◌≡◌, ◌+◌, ◌-◌, ◌≤◌, ◌++◌, length, take, drop, replicate, OnOk, IfOk};
 ghost use Rattle.aml_names.specs.Names.{form_bytes, segment_bytes, spelling};
 ghost use Rattle.aml_code.specs.Packages.{little, width_len, package_bytes};
-ghost use Rattle.aml_code.specs.View.{node_view, nodes_view, part_view, parts_view, tail_view, field_view, fields_view, link_view};
-ghost use Rattle.aml_code.specs.Tree.{opcode_bytes, slice_of, encoding, encodings, part_encoding, parts_encoding, tail_encoding, field_encoding, fields_encoding, link_encoding};
+ghost use Rattle.aml_code.specs.View.{node_view, nodes_view, part_view, parts_view, tail_view, field_view, fields_view};
+ghost use Rattle.aml_code.specs.View.{link_view};
+ghost use Rattle.aml_code.specs.Tree.{opcode_bytes, slice_of, encoding, encodings, part_encoding, parts_encoding};
+ghost use Rattle.aml_code.specs.Tree.{tail_encoding, field_encoding, fields_encoding, link_encoding};
 
 use crate::packages::PkgWidth;
 use crate::tree::{Field, Link, Node, Part, Tail};

@@ -8,7 +8,8 @@ use Rattle.aml_code.specs.Tree.{Tree, nothing, named, op, Trees, no_trees, tree_
 use Rattle.aml_space.specs.declared.faults.SpaceFault.TheVariants as faults
 use Rattle.aml_space.specs.Namespace.{Givens, declares}
 use Rattle.aml_load.specs.declared.faults.LoadFault.{LoadFault}
-use Rattle.aml_load.specs.Loading.{◌>>=◌, strict, Listed, first_listed, with_uses, role_of, kind_of, place_at, lead_at, entry_at, declare_as, declare, declare_inside, declare_all}
+use Rattle.aml_load.specs.Loading.{◌>>=◌, strict, Listed, first_listed, with_uses, role_of, kind_of, place_at, lead_at}
+use Rattle.aml_load.specs.Loading.{entry_at, declare_as, declare, declare_inside, declare_all}
 use Rattle.aml_load.specs.Standing.{◌>>>◌, Standing, inside_as, term_stands, inside_stand, all_stand, tables_stand}
 use Rattle.aml_load.specs.StandingLaws.{alone_at, each_alone, StandAsDeclared}
 use Rattle.aml_load.specs.Standings.{declare_tables}

@@ -1,5 +1,6 @@
 -- The terms that a walk finds, step by step.
-use Rattle.std.proofs.Common.{◌≡◌, ℕ, ◌+◌, suc, false, List, [], ◌∷◌, ◌++◌, Vec, Option, Result, Ok, Err, sym, ap, ◌∙◌, append_assoc}
+use Rattle.std.proofs.Common.{◌≡◌, ℕ, ◌+◌, suc, false, List, [], ◌∷◌, ◌++◌, Vec, Option, Result, Ok, Err, sym, ap, ◌∙◌}
+use Rattle.std.proofs.Common.{append_assoc}
 use Rattle.std.proofs.Common.{Bool, add-one, ◌⊎◌, inl, inr}
 use Rattle.std.proofs.lemmas.List.{append-nil}
 use Rattle.std.specs.declared.alloc.Global.{Global}
@@ -17,7 +18,8 @@ use Rattle.aml_load.specs.declared.faults.LoadFault.TheVariants as loads
 use Rattle.aml_load.specs.declared.standing.StandingTerm.{StandingTerm}
 use Rattle.aml_load.specs.declared.walking.Progress.{Progress}
 use Rattle.aml_load.specs.Loading.{◌>>=◌, Where, strict, Listed, first_listed, with_uses, role_of, declare, declare_all}
-use Rattle.aml_load.specs.Standing.{◌>>>◌, Standing, stands, inside_as, term_stands, inside_stand, all_stand, tables_stand}
+use Rattle.aml_load.specs.Standing.{◌>>>◌, Standing, stands, inside_as, term_stands, inside_stand, all_stand}
+use Rattle.aml_load.specs.Standing.{tables_stand}
 use Rattle.aml_load.specs.Standings.{standings_view, Found, declare_tables}
 use Rattle.aml_load.specs.Tables.{Fails, ReadTables, LoadsTo}
 use Rattle.aml_load.specs.Walking.{Walked}

@@ -1,5 +1,6 @@
 -- What the progress holds after one entry more.
-use Rattle.std.proofs.Common.{◌≡◌, ℕ, ◌-◌, nat_le, true, cond, List, [], ◌∷◌, ◌++◌, length, Vec, Option, Some, None, is_some, Result, Ok, Err, refl}
+use Rattle.std.proofs.Common.{◌≡◌, ℕ, ◌-◌, nat_le, true, cond, List, [], ◌∷◌, ◌++◌, length, Vec, Option, Some, None}
+use Rattle.std.proofs.Common.{is_some, Result, Ok, Err, refl}
 use Rattle.std.proofs.Common.{sym, ap, subst, ◌∙◌, inl, inr, arith, Bool, false, not, ◌&&◌}
 use Rattle.std.proofs.lemmas.Bool.Decides.{nat_tests}
 use Rattle.std.proofs.lemmas.List.{append-nil, take_all}
@@ -26,7 +27,8 @@ use Rattle.aml_load.specs.declared.faults.LoadFault.{LoadFault}
 use Rattle.aml_load.specs.declared.faults.LoadFault.TheVariants as loads
 use Rattle.aml_set.specs.declared.methods.Method.{Method}
 use Rattle.aml_load.specs.declared.walking.Progress.{Progress}
-use Rattle.aml_load.specs.Loading.{◌>>=◌, Where, Listed, plus, with_uses, term_uses, method_of, methods_of, role_of, place_at, entry_at, new_at}
+use Rattle.aml_load.specs.Loading.{◌>>=◌, Where, Listed, plus, with_uses, term_uses, method_of, methods_of, role_of}
+use Rattle.aml_load.specs.Loading.{place_at, entry_at, new_at}
 use Rattle.aml_load.specs.Loading.{units_at, declare_as, declare, declare_inside}
 use Rattle.aml_load.specs.Tables.{Fails}
 use Rattle.aml_load.specs.Walking.{Holds, IsFree, IsDeclared, Walked}

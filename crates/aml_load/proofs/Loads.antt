@@ -1,13 +1,16 @@
--- A load gives what its tables load to, refuses only tables that load to nothing, and refuses for a true reason: reading a
--- table forward gives what it reads as and lists, or why that stops, whether it is read whole or from the left. So the laws
--- are put together for the tables (`tables_tell`, `tables_again`) and for the load (`loads_forward`, `loads_again`).
+-- A load gives what its tables load to, refuses only tables that load to nothing, and refuses for a true reason:
+-- reading a table forward gives what it reads as and lists, or why that stops, whether it is read whole or from the
+-- left. So the laws are put together for the tables (`tables_tell`, `tables_again`) and for the load (`loads_forward`,
+-- `loads_again`).
 use denote.Ref.{Bor}
 use Rattle.std.specs.Prelude.{IfOk, IfErr}
 use Rattle.std.specs.Result.{MatchResult}
 use Rattle.std.specs.List.{All, AllZip}
 use Rattle.std.specs.Option.{option_eq}
-use Rattle.std.proofs.Common.{◌≡◌, ◌≤◌, ◌⊎◌, ℕ, zero, suc, Bool, true, false, List, [], ◌∷◌, ◌++◌, length, None, Result, Ok, Err, refl, sym, ap, subst, ◌∙◌}
-use Rattle.std.proofs.Common.{append_assoc, inl, inr, slice_index_or, get_or, drop, ◌+◌, ◌<◌, arith, cond, nat_eq, Option, Some}
+use Rattle.std.proofs.Common.{◌≡◌, ◌≤◌, ◌⊎◌, ℕ, zero, suc, Bool, true, false, List, [], ◌∷◌, ◌++◌, length, None, Result}
+use Rattle.std.proofs.Common.{Ok, Err, refl, sym, ap, subst, ◌∙◌}
+use Rattle.std.proofs.Common.{append_assoc, inl, inr, slice_index_or, get_or, drop, ◌+◌, ◌<◌, arith, cond, nat_eq}
+use Rattle.std.proofs.Common.{Option, Some}
 use Rattle.std.proofs.lemmas.Bool.{eqb-true, eq-eqb}
 use Rattle.std.proofs.lemmas.List.{append-nil, drop_more}
 use Rattle.std.proofs.lemmas.List.Elements.{All-nil, All-cons, All-head, All-tail}
@@ -27,9 +30,11 @@ use Rattle.aml_set.specs.declared.methods.Method.{Method}
 use Rattle.aml_load.specs.declared.faults.LoadFault.{LoadFault}
 use Rattle.aml_load.specs.declared.faults.LoadFault.TheVariants as loads
 use Rattle.aml_load.specs.declared.used.Use.{Use}
-use Rattle.aml_load.specs.Loading.{◌>>=◌, Listed, first_listed, strict, declare_all, use_count, call_fault, uses_at, methods_of, most_methods}
+use Rattle.aml_load.specs.Loading.{◌>>=◌, Listed, first_listed, strict, declare_all, use_count, call_fault, uses_at}
+use Rattle.aml_load.specs.Loading.{methods_of, most_methods}
 use Rattle.aml_load.specs.Running.{Front, table_front, run_names}
-use Rattle.aml_load.specs.Tables.{ReadsOne, ReadTables, LoadsTo, StopsOne, StopsTables, StopsFor, in_code, table_at, tables_at, load_at, GivesBy, GivesLoad, Fails}
+use Rattle.aml_load.specs.Tables.{ReadsOne, ReadTables, LoadsTo, StopsOne, StopsTables, StopsFor, in_code, table_at}
+use Rattle.aml_load.specs.Tables.{tables_at, load_at, GivesBy, GivesLoad, Fails}
 use Rattle.aml_load.specs.Tables.{LoadsOneWay, LoadsForward, LoadsAgain, AreSpelled}
 use Rattle.aml_load.proofs.RunSpans.{loads_in_text_order}
 

@@ -1,4 +1,5 @@
--- Where a method can't stand there is no method's body: in a term's parts, in elements, in field lists, in terms of a body.
+-- Where a method can't stand there is no method's body: in a term's parts, in elements, in field lists, in terms of a
+-- body.
 use Rattle.std.proofs.Common.{◌≡◌, ℕ, zero, suc, true, List, [], ◌∷◌, ◌++◌, Option, Some, refl, ap, ◌∙◌}
 use Rattle.aml_names.specs.Paths.{PathSet}
 use Rattle.aml_code.proofs.Takers.{taker_takes}
@@ -8,9 +9,11 @@ use Rattle.aml_code.specs.declared.rows.Position.{Position}
 use Rattle.aml_code.specs.declared.rows.Position.TheVariants as positions
 use Rattle.aml_code.specs.declared.rows.TailKind.{TailKind}
 use Rattle.aml_code.specs.declared.rows.TailKind.TheVariants as tails
-use Rattle.aml_code.specs.Tree.{Tree, nothing, named, op, Trees, no_trees, tree_more, Part, child, Parts, no_parts, part_more, Tail, terms, elements, fields}
+use Rattle.aml_code.specs.Tree.{Tree, nothing, named, op, Trees, no_trees, tree_more, Part, child, Parts, no_parts}
+use Rattle.aml_code.specs.Tree.{part_more, Tail, terms, elements, fields}
 use Rattle.aml_code.specs.Tree.{body, Field, connection, Fields, no_fields, field_more, target, buffer}
-use Rattle.aml_code.specs.Lawful.{after, Setting, IsLawful, AreTerms, IsPart, AreParts, IsTail, AreFields, IsField, terms_in, next_position}
+use Rattle.aml_code.specs.Lawful.{after, Setting, IsLawful, AreTerms, IsPart, AreParts, IsTail, AreFields, IsField}
+use Rattle.aml_code.specs.Lawful.{terms_in, next_position}
 use Rattle.aml_parse.proofs.Bodiless.{is_bodiless, next_bodiless, inner_bodiless, no_body}
 use Rattle.aml_load.specs.Spans.{tree_spans, all_spans, part_spans, parts_spans, tail_spans, field_spans, fields_spans}
 

@@ -1,6 +1,7 @@
--- The walk over a table whose code outside methods may run, one term after the other: what was found before, and then what is
--- still read, is all that is read.
-use Rattle.std.proofs.Common.{◌≡◌, ℕ, zero, suc, ◌+◌, ◌-◌, ◌≤◌, ◌<◌, true, false, cond, List, [], ◌∷◌, ◌++◌, Result, Ok, Err, refl, sym, ap, subst}
+-- The walk over a table whose code outside methods may run, one term after the other: what was found before, and then
+-- what is still read, is all that is read.
+use Rattle.std.proofs.Common.{◌≡◌, ℕ, zero, suc, ◌+◌, ◌-◌, ◌≤◌, ◌<◌, true, false, cond, List, [], ◌∷◌, ◌++◌, Result, Ok}
+use Rattle.std.proofs.Common.{Err, refl, sym, ap, subst}
 use Rattle.std.proofs.Common.{◌∙◌, arith, nat_le, Bool, inl, inr, ◌⊎◌, Option, Some, None, IsTrue}
 use Rattle.std.proofs.lemmas.Bool.Decides.{nat_tests}
 use Rattle.aml_code.specs.Lawful.{next_position}
@@ -30,7 +31,8 @@ use Rattle.aml_load.specs.Loading.{◌>>=◌, Listed, code_fault}
 use Rattle.aml_load.specs.Running.{Front, counts_in, entered_at, run_names}
 use Rattle.aml_load.specs.declared.runner.Rest.{Rest}
 use Rattle.aml_load.specs.declared.runner.RunSite.{RunSite}
-use Rattle.aml_load.specs.Runner.{below, opens, span_inside, with_terms, front_of, RoomBy, HasRoom, HasRoomInside, IsThere}
+use Rattle.aml_load.specs.Runner.{below, opens, span_inside, with_terms, front_of, RoomBy, HasRoom, HasRoomInside}
+use Rattle.aml_load.specs.Runner.{IsThere}
 use Rattle.aml_load.specs.Tables.{Fails}
 
 abbrev Answer : Type 0

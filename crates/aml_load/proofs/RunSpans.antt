@@ -1,6 +1,7 @@
--- The methods of tables stand in the order of the text, each once, and there aren't too many. Where the code outside methods
--- may run, a term's own body is that of a method, and loading goes into all terms in which one can stand.
-use Rattle.std.proofs.Common.{◌≡◌, ℕ, zero, suc, Bool, true, false, not, cond, List, [], ◌∷◌, ◌++◌, length, map, Option, Some, None, Result, Ok, Err}
+-- The methods of tables stand in the order of the text, each once, and there aren't too many. Where the code outside
+-- methods may run, a term's own body is that of a method, and loading goes into all terms in which one can stand.
+use Rattle.std.proofs.Common.{◌≡◌, ℕ, zero, suc, Bool, true, false, not, cond, List, [], ◌∷◌, ◌++◌, length, map, Option}
+use Rattle.std.proofs.Common.{Some, None, Result, Ok, Err}
 use Rattle.std.proofs.Common.{refl, sym, ap, subst, ◌∙◌, ◌≤◌, arith, nat_le, ◌-◌, ◌+◌}
 use Rattle.std.specs.Prelude.{IfOk}
 use Rattle.std.specs.FinSet as set
@@ -15,20 +16,24 @@ use Rattle.aml_code.specs.declared.rows.TailKind.{TailKind}
 use Rattle.aml_code.specs.declared.rows.TailKind.TheVariants as tails
 use Rattle.aml_code.specs.Opcodes.{Row, rows, row_of}
 use Rattle.aml_code.specs.Tree.{Tree, nothing, named, op, Trees, no_trees, tree_more, Parts, Tail, terms, body}
-use Rattle.aml_code.specs.Lawful.{field_names, last_label, Setting, setting_of, IsLawful, IsTail, ReadsStep, next_position, terms_in, tail_in}
+use Rattle.aml_code.specs.Lawful.{field_names, last_label, Setting, setting_of, IsLawful, IsTail, ReadsStep}
+use Rattle.aml_code.specs.Lawful.{next_position, terms_in, tail_in}
 use Rattle.aml_code.proofs.RowFacts.{rows_say}
 use Rattle.aml_parse.specs.Running.{has_terms, is_block, ReadsTerms, Opens}
 use Rattle.aml_parse.proofs.Forward.{is_run, runs_on}
 use Rattle.aml_space.specs.Namespace.{Givens, declares, external}
 use Rattle.aml_load.specs.declared.faults.LoadFault.{LoadFault}
-use Rattle.aml_load.specs.Loading.{◌>>=◌, role_of, kind_of, Listed, first_listed, byte_of, body_span, first_label, methods_of, most_methods}
+use Rattle.aml_load.specs.Loading.{◌>>=◌, role_of, kind_of, Listed, first_listed, byte_of, body_span, first_label}
+use Rattle.aml_load.specs.Loading.{methods_of, most_methods}
 use Rattle.aml_load.specs.Loading.{place_at, lead_at, entry_at, method_at, alias_at, external_at, units_at, declare_as}
 use Rattle.aml_load.specs.Spans.{Span, tree_spans, all_spans, parts_spans, tail_spans, tables_spans, method_span}
-use Rattle.aml_load.specs.Running.{Front, table_front, asked, opened_at, object_at, scope_at, enter_as, entered_at, run_names}
+use Rattle.aml_load.specs.Running.{Front, table_front, asked, opened_at, object_at, scope_at, enter_as, entered_at}
+use Rattle.aml_load.specs.Running.{run_names}
 use Rattle.aml_load.specs.Tables.{ReadsOne, ReadTables, LoadsTo, LoadsInTextOrder}
 use Rattle.aml_load.proofs.Givens.{no_methods}
 use Rattle.aml_load.proofs.NoSpans.{parts_none, all_none, tail_none}
-use Rattle.aml_load.proofs.SpanLaws.{role_is, one_span, Adds, nothing_more, then_adds, plain_adds, method_adds, GivesMore}
+use Rattle.aml_load.proofs.SpanLaws.{role_is, one_span, Adds, nothing_more, then_adds, plain_adds, method_adds}
+use Rattle.aml_load.proofs.SpanLaws.{GivesMore}
 use Rattle.aml_load.proofs.SpanLaws.{unless_adds, after_adds, entry_adds, new_adds, units_add, module_adds}
 use Rattle.std.proofs.Common.{slice_get}
 use Rattle.std.proofs.lemmas.List.{length-map}
@@ -227,8 +232,8 @@ tables_add any t l (c ∷ codes) (xs ∷ trees) m (k, reads, read) =
     (tables_add any (suc t) k codes trees m read)
 
 module _ (any z : Bool) (gs : Givens) (tables : List (List ℕ)) where
-  -- The methods that tables load to are those whose bodies stand in the trees, in load order and in the order of the text,
-  -- and there aren't too many.
+  -- The methods that tables load to are those whose bodies stand in the trees, in load order and in the order of the
+  -- text, and there aren't too many.
   pub loads_in_text_order : LoadsInTextOrder any z gs tables
   loads_in_text_order trees m h =
       let all = tables_add any 0 (first_listed gs) tables trees m h.read in (

@@ -1,7 +1,8 @@
--- The methods that a table declares whose code outside methods may not run stand in the order of the text, each once, and
--- there don't become too many: where a method can't stand, there is no body, and loading goes into all terms in which one
--- can stand.
-use Rattle.std.proofs.Common.{◌≡◌, ℕ, zero, suc, Bool, true, false, not, ◌&&◌, List, [], ◌∷◌, ◌++◌, length, map, Option, Some, None, refl, sym, ap, subst, ◌∙◌}
+-- The methods that a table declares whose code outside methods may not run stand in the order of the text, each once,
+-- and there don't become too many: where a method can't stand, there is no body, and loading goes into all terms in
+-- which one can stand.
+use Rattle.std.proofs.Common.{◌≡◌, ℕ, zero, suc, Bool, true, false, not, ◌&&◌, List, [], ◌∷◌, ◌++◌, length, map, Option}
+use Rattle.std.proofs.Common.{Some, None, refl, sym, ap, subst, ◌∙◌}
 use Rattle.std.proofs.Common.{append_assoc, Result, Ok, Err, is_some, cond, nat_le, ◌≤◌, ◌<◌, arith}
 use Rattle.std.specs.Prelude.{IfOk}
 use Rattle.std.specs.FinSet as set
@@ -21,20 +22,25 @@ use Rattle.aml_code.specs.declared.rows.Role.TheVariants as roles
 use Rattle.aml_code.specs.declared.rows.TailKind.{TailKind}
 use Rattle.aml_code.specs.declared.rows.TailKind.TheVariants as tails
 use Rattle.aml_code.specs.Opcodes.{Row, rows, row_of, takes}
-use Rattle.aml_code.specs.Tree.{Tree, nothing, named, op, Trees, no_trees, tree_more, Parts, Tail, terms, elements, fields, body}
-use Rattle.aml_code.specs.Lawful.{after, field_names, last_label, Setting, IsLawful, AreTerms, IsTail, ReadsModule, terms_in, tail_in, next_position, setting_of}
+use Rattle.aml_code.specs.Tree.{Tree, nothing, named, op, Trees, no_trees, tree_more, Parts, Tail, terms, elements}
+use Rattle.aml_code.specs.Tree.{fields, body}
+use Rattle.aml_code.specs.Lawful.{after, field_names, last_label, Setting, IsLawful, AreTerms, IsTail, ReadsModule}
+use Rattle.aml_code.specs.Lawful.{terms_in, tail_in, next_position, setting_of}
 use Rattle.aml_code.specs.Lawful.{no_arguments}
 use Rattle.aml_code.proofs.RowFacts.{and_left, and_right, rows_say}
 use Rattle.aml_parse.specs.Reading.{takes_names}
 use Rattle.aml_space.specs.declared.kinds.Kind.TheVariants as kinds
 use Rattle.aml_space.specs.Namespace.{Entry, declares, external, declared_at}
 use Rattle.aml_load.specs.declared.faults.LoadFault.{LoadFault}
-use Rattle.aml_load.specs.Loading.{◌>>=◌, role_of, kind_of, Where, strict, under, Listed, with_uses, first_label, byte_of, body_span, method_entry}
-use Rattle.aml_load.specs.Loading.{methods_of, most_methods, place_at, lead_at, entry_at, new_at, method_at, alias_at, external_at, units_at, declare_as}
+use Rattle.aml_load.specs.Loading.{◌>>=◌, role_of, kind_of, Where, strict, under, Listed, with_uses, first_label}
+use Rattle.aml_load.specs.Loading.{byte_of, body_span, method_entry}
+use Rattle.aml_load.specs.Loading.{methods_of, most_methods, place_at, lead_at, entry_at, new_at, method_at, alias_at}
+use Rattle.aml_load.specs.Loading.{external_at, units_at, declare_as}
 use Rattle.aml_load.specs.Loading.{declare, declare_inside, declare_all}
 use Rattle.aml_load.specs.Spans.{Span, method_span, tree_spans, all_spans, parts_spans, tail_spans, fields_spans}
 use Rattle.aml_load.proofs.Holding.{methods_more}
-use Rattle.aml_load.proofs.NoSpans.{terms_tail, body_tail, parts_none, all_none, tail_none, elements_none, fields_tail_none}
+use Rattle.aml_load.proofs.NoSpans.{terms_tail, body_tail, parts_none, all_none, tail_none, elements_none}
+use Rattle.aml_load.proofs.NoSpans.{fields_tail_none}
 
 -- ---- what the rows say of the terms of tables, by a test over the whole table of opcodes
 

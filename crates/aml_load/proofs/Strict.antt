@@ -1,5 +1,6 @@
 -- In tables whose code outside methods may not run each declaration is sure, and each path is declared at most once.
-use Rattle.std.proofs.Common.{◌≡◌, ◌≤◌, ℕ, suc, ◌+◌, Bool, true, false, cond, List, [], ◌∷◌, ◌++◌, Option, Some, None, Result, Ok, Err, is_some}
+use Rattle.std.proofs.Common.{◌≡◌, ◌≤◌, ℕ, suc, ◌+◌, Bool, true, false, cond, List, [], ◌∷◌, ◌++◌, Option, Some, None}
+use Rattle.std.proofs.Common.{Result, Ok, Err, is_some}
 use Rattle.std.proofs.Common.{refl, sym, ap, subst, arith, is_eq, Ordering, Less, Equal, Greater, nat_le, length}
 use Rattle.std.specs.Prelude.{IfOk}
 use Rattle.aml_names.specs.declared.segments.Seg.{Seg}
@@ -11,11 +12,14 @@ use Rattle.aml_code.specs.Lawful.{last_label, field_names}
 use Rattle.aml_names.specs.Paths.{path_cmp, exact_paths}
 use Rattle.aml_space.specs.declared.kinds.Kind.{Kind}
 use Rattle.aml_space.specs.declared.kinds.Kind.TheVariants as kinds
-use Rattle.aml_space.specs.Namespace.{Entry, Body, Givens, declares, external, given, given_entries, same_path, declared_at}
+use Rattle.aml_space.specs.Namespace.{Entry, Body, Givens, declares, external, given, given_entries, same_path}
+use Rattle.aml_space.specs.Namespace.{declared_at}
 use Rattle.aml_space.specs.Runs.{AreSure, StaysAsItIs, times_at}
 use Rattle.aml_load.specs.declared.faults.LoadFault.{LoadFault}
-use Rattle.aml_load.specs.Loading.{◌>>=◌, role_of, kind_of, Where, strict, Listed, first_listed, with_uses, byte_of, first_label}
-use Rattle.aml_load.specs.Loading.{most_methods, methods_of, place_at, lead_at, entry_at, new_at, method_at, alias_at, external_at, units_at, declare_as}
+use Rattle.aml_load.specs.Loading.{◌>>=◌, role_of, kind_of, Where, strict, Listed, first_listed, with_uses, byte_of}
+use Rattle.aml_load.specs.Loading.{first_label}
+use Rattle.aml_load.specs.Loading.{most_methods, methods_of, place_at, lead_at, entry_at, new_at, method_at, alias_at}
+use Rattle.aml_load.specs.Loading.{external_at, units_at, declare_as}
 use Rattle.aml_load.specs.Loading.{declare, declare_inside, declare_all}
 use Rattle.aml_load.specs.Tables.{ReadTables, LoadsStrictly}
 

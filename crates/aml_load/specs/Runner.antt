@@ -1,6 +1,7 @@
 -- A stepping stone: what the walk over a table whose code outside methods may run makes of the progress, as `Running`
 -- says it.
-use Rattle.std.specs.Prelude.{◌≡◌, ◌≤◌, ◌<◌, ◌+◌, ◌-◌, ℕ, zero, suc, Bool, true, false, cond, List, length, Option, Some}
+use Rattle.std.specs.Prelude.{◌≡◌, ◌≤◌, ◌<◌, ◌+◌, ◌-◌, ℕ, zero, suc, Bool, true, false, cond, List, length, Option}
+use Rattle.std.specs.Prelude.{Some}
 use Rattle.std.specs.Prelude.{None, Result, Ok, Err, option_map}
 use Rattle.std.specs.Prelude.{IsTrue, Vec}
 use Rattle.std.specs.Option.{unwrap_or}

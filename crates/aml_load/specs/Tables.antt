@@ -20,7 +20,8 @@ use Rattle.aml_set.specs.declared.loaded.Loaded.{Loaded}
 use Rattle.aml_set.specs.declared.tables.TableSet.{TableSet}
 use Rattle.aml_load.specs.declared.faults.LoadFault.{LoadFault}
 use Rattle.aml_load.specs.declared.faults.LoadFault.TheVariants as loads
-use Rattle.aml_load.specs.Loading.{◌>>=◌, strict, Listed, first_listed, declare_all, use_count, uses_at, code_fault, Unread}
+use Rattle.aml_load.specs.Loading.{◌>>=◌, strict, Listed, first_listed, declare_all, use_count, uses_at, code_fault}
+use Rattle.aml_load.specs.Loading.{Unread}
 use Rattle.aml_load.specs.Loading.{methods_of, most_methods}
 use Rattle.aml_load.specs.Running.{Front, table_front, run_names}
 use Rattle.aml_load.specs.Spans.{InTextOrder}

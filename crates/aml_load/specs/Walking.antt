@@ -25,10 +25,10 @@ IsFree site es p (Ok u) = (not site.any_run && is_some (declared_at es p)) ≡ f
 IsFree site es p (Err e) = (e ≡ loads.NoMemory)
     ⊎ (((not site.any_run && is_some (declared_at es p)) ≡ true) × (e ≡ loads.Space site.table (faults.Duplicate p)))
 
--- What declaring a path made of the progress, whatever entries it held and whatever body the path has: an entry more, and
--- nothing else; or the fault that it may not be added, or want of memory.
-abbrev pub IsDeclared : Where → List Entry → List Seg → Kind → Option Body → Progress → Progress → Result (Unit {0}) LoadFault
-    → Type 0
+-- What declaring a path made of the progress, whatever entries it held and whatever body the path has: an entry more,
+-- and nothing else; or the fault that it may not be added, or want of memory.
+abbrev pub IsDeclared : Where → List Entry → List Seg → Kind → Option Body → Progress → Progress
+    → Result (Unit {0}) LoadFault → Type 0
 IsDeclared site es p kind body old new (Ok u) = IsFree site es p (Ok u)
     × StandsFor new.space (es ++ declares p kind body site.sure ∷ [])
     × (new.methods.items ≡ old.methods.items) × (new.uses.items ≡ old.uses.items)

@@ -49,8 +49,8 @@ pub fn read_span(
     // The limit of a table.
     requires { length bytes.now ≤ 16777216 }
 
-    // In whatever tables they are the method's body: it reads as its terms and as no others; or memory was refused; or it
-    // reads as none, and the fault is true of it.
+    // In whatever tables they are the method's body: it reads as its terms and as no others; or memory was refused; or
+    // it reads as none, and the fault is true of it.
     ensures reading { (tables : List (List ℕ)) → bytes.now ≡ span_of tables method.now →
         (es : List Entry) → StandsFor space.now es →
         IsReading (λ nodes. nodes_view nodes.items) unknown_zero es tables method.now result }

@@ -2,7 +2,8 @@
 //! code outside methods may run or not.
 ghost use Rattle.std.specs.Prelude.{List, Bool, ℕ};
 ghost use Rattle.aml_space.specs.Namespace.{Givens};
-ghost use Rattle.aml_load.specs.Tables.{LoadsOneWay, LoadsForward, LoadsAgain, AreSpelled, LoadsInTextOrder, LoadsStrictly};
+ghost use Rattle.aml_load.specs.Tables.{LoadsOneWay, LoadsForward, LoadsAgain, AreSpelled, LoadsInTextOrder};
+ghost use Rattle.aml_load.specs.Tables.{LoadsStrictly};
 
 use aml_space::stays_as_it_is;
 

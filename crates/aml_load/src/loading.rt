@@ -1,5 +1,6 @@
 //! The load of tables in their order.
-ghost use Rattle.std.specs.Prelude.{◌≡◌, ◌⊎◌, true, false, [], List, Bool, Err, IfOk, IfErr, IfSome, Some, length, nat_eq, ◌≤◌, ◌||◌};
+ghost use Rattle.std.specs.Prelude.{◌≡◌, ◌⊎◌, true, false, [], List, Bool, Err, IfOk, IfErr, IfSome, Some, length};
+ghost use Rattle.std.specs.Prelude.{nat_eq, ◌≤◌, ◌||◌};
 ghost use Rattle.std.specs.Option.{option_eq};
 ghost use Rattle.aml_code.specs.Tree.{Trees};
 ghost use Rattle.aml_code.specs.View.{nodes_view};
@@ -232,8 +233,8 @@ fn load_each<'a>(
     })
 }
 
-/// Loads tables that aren't read yet as one, as `load` does, or as `load_any_run` where `any_run` says so: each keeps its
-/// place, its dump and its AML, and has its terms then.
+/// Loads tables that aren't read yet as one, as `load` does, or as `load_any_run` where `any_run` says so: each keeps
+/// its place, its dump and its AML, and has its terms then.
 pub fn load_tables<'a>(
     alloc: Global,
     tables: Vec<Table<'a>>,

@@ -9,7 +9,8 @@ ghost use Rattle.aml_space.specs.Known.{StandsFor};
 ghost use Rattle.aml_load.specs.Loading.{Listed, declare_as};
 ghost use Rattle.aml_load.specs.Running.{opened_at, object_at, scope_at, enter_as};
 ghost use Rattle.aml_load.specs.Walking.{at_site, GivesIn, Walks};
-ghost use Rattle.aml_load.specs.Runner.{IsFlat, Asks, IsSite, Comes, opens, span_inside, with_terms, HasRoom, HasRoomInside, IsOn, IsThere, Steps, Enters, Opens, Runs, RunsAll, RunsTable};
+ghost use Rattle.aml_load.specs.Runner.{IsFlat, Asks, IsSite, Comes, opens, span_inside, with_terms, HasRoom};
+ghost use Rattle.aml_load.specs.Runner.{HasRoomInside, IsOn, IsThere, Steps, Enters, Opens, Runs, RunsAll, RunsTable};
 
 use crate::faults::LoadFault;
 use crate::roles::{kind_of, role_of};

@@ -2,8 +2,10 @@
 ghost use Rattle.std.specs.Prelude.{◌≡◌, ◌⊎◌, ◌++◌, ◌∷◌, [], List, ℕ, Bool, false, Ok, IfOk, IfErr, OnOk};
 ghost use Rattle.aml_code.specs.View.{node_view, nodes_view, parts_view, tail_view};
 ghost use Rattle.aml_set.specs.Views.{trees_view};
-ghost use Rattle.aml_load.specs.Loading.{Listed, first_listed, strict, declare_as, declare, declare_inside, declare_all, under};
-ghost use Rattle.aml_load.specs.Standing.{stands, inside_as, term_stands, inside_stand, all_stand, set_stands, tables_stand};
+ghost use Rattle.aml_load.specs.Loading.{Listed, first_listed, strict, declare_as, declare, declare_inside};
+ghost use Rattle.aml_load.specs.Loading.{declare_all, under};
+ghost use Rattle.aml_load.specs.Standing.{stands, inside_as, term_stands, inside_stand, all_stand, set_stands};
+ghost use Rattle.aml_load.specs.Standing.{tables_stand};
 ghost use Rattle.aml_load.specs.Standings.{standings_view, Finds, Found, declare_tables};
 ghost use Rattle.aml_load.specs.Tables.{LoadsTo};
 ghost use Rattle.aml_load.specs.Walking.{at_site, Holds};

@@ -1,7 +1,8 @@
 //! The names that stand as TermArgs outside the methods.
 ghost use Rattle.std.specs.Prelude.{◌≡◌, ◌++◌, ◌∷◌, [], OnOk, true, false, cond, length};
 ghost use Rattle.aml_code.specs.View.{node_view, nodes_view, part_view, parts_view, tail_view, field_view, fields_view};
-ghost use Rattle.aml_load.specs.Loading.{is_argument, kinds_in, in_declaration, declares_by, uses_in, all_uses, part_uses, parts_uses, tail_uses, fields_uses, field_uses, term_uses, use_of};
+ghost use Rattle.aml_load.specs.Loading.{is_argument, kinds_in, in_declaration, declares_by, uses_in, all_uses};
+ghost use Rattle.aml_load.specs.Loading.{part_uses, parts_uses, tail_uses, fields_uses, field_uses, term_uses, use_of};
 ghost use Rattle.aml_load.specs.Walking.{at_site};
 
 use crate::used::Use;

@@ -6,7 +6,9 @@ ghost use Rattle.aml_code.specs.Tree.{no_fields, field_more};
 ghost use Rattle.aml_code.specs.View.{node_view, nodes_view, parts_view, tail_view, fields_view, field_view};
 ghost use Rattle.aml_space.specs.Namespace.{Entry, Body, declares, external as outside};
 ghost use Rattle.aml_space.specs.Known.{StandsFor};
-ghost use Rattle.aml_load.specs.Loading.{under, Listed, plus, method_entry, first_label, byte_of, lead_of, target_of, body_span, place_at, lead_at, entry_at, new_at, method_at, alias_at, external_at, units_at, declare_as, declare, declare_inside, declare_all};
+ghost use Rattle.aml_load.specs.Loading.{under, Listed, plus, method_entry, first_label, byte_of, lead_of, target_of};
+ghost use Rattle.aml_load.specs.Loading.{body_span, place_at, lead_at, entry_at, new_at, method_at, alias_at};
+ghost use Rattle.aml_load.specs.Loading.{external_at, units_at, declare_as, declare, declare_inside, declare_all};
 ghost use Rattle.aml_load.specs.Walking.{at_site, Gives, GivesIn, IsDeclared, Walks};
 
 use crate::faults::LoadFault;

@@ -1,10 +1,13 @@
--- Paths by where they branch off a scope: each path does so in one way (`branch_at`, `one_branch`), so that the branches tell
--- which paths are kept (`contained`, `one_kept`), and how deep in the scope the last segment of each stands (`met_depth`).
+-- Paths by where they branch off a scope: each path does so in one way (`branch_at`, `one_branch`), so that the
+-- branches tell which paths are kept (`contained`, `one_kept`), and how deep in the scope the last segment of each
+-- stands (`met_depth`).
 use Rattle.std.specs.Prelude.{slice_get}
-use Rattle.std.proofs.Common.{◌≡◌, ℕ, zero, suc, ◌+◌, ◌-◌, ◌<◌, ◌≤◌, Bool, true, false, ◌||◌, cond, List, [], ◌∷◌, ◌++◌, map, length, take, drop, get_or}
+use Rattle.std.proofs.Common.{◌≡◌, ℕ, zero, suc, ◌+◌, ◌-◌, ◌<◌, ◌≤◌, Bool, true, false, ◌||◌, cond, List, [], ◌∷◌, ◌++◌}
+use Rattle.std.proofs.Common.{map, length, take, drop, get_or}
 use Rattle.std.proofs.Common.{Option, Some, None, refl, sym, ap, subst, ◌∙◌, arith, length-append, append_assoc}
 use Rattle.std.proofs.lemmas.Bool.{false≢true}
-use Rattle.std.proofs.lemmas.List.{take-take, take-append-le, take_all, take_more, drop_more, length-take-le, length-drop}
+use Rattle.std.proofs.lemmas.List.{take-take, take-append-le, take_all, take_more, drop_more, length-take-le}
+use Rattle.std.proofs.lemmas.List.{length-drop}
 use Rattle.std.proofs.lemmas.Option.{slice_get_within, get_or_from_slice_get}
 use Rattle.std.proofs.lemmas.Map.Views.{tells_apart}
 use Rattle.std.specs.declared.cmp.Ordering.{Ordering}

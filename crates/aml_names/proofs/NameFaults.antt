@@ -1,7 +1,8 @@
--- What each step of reading a name answers (`Sound`): what it read has its form and stands in front of what it left, and
--- a fault is of a byte that can't stand in its place, or of bytes that end too early. Two steps are sound where each is
--- (`sound_then`), so this is one proof for each step, of what is read and of its faults.
-use Rattle.std.proofs.Common.{◌≡◌, ℕ, Bool, true, false, List, [], ◌∷◌, ◌++◌, Result, Ok, Err, refl, sym, ap, subst, ◌∙◌, append_assoc, inl, inr}
+-- What each step of reading a name answers (`Sound`): what it read has its form and stands in front of what it left,
+-- and a fault is of a byte that can't stand in its place, or of bytes that end too early. Two steps are sound where
+-- each is (`sound_then`), so this is one proof for each step, of what is read and of its faults.
+use Rattle.std.proofs.Common.{◌≡◌, ℕ, Bool, true, false, List, [], ◌∷◌, ◌++◌, Result, Ok, Err, refl, sym, ap, subst}
+use Rattle.std.proofs.Common.{◌∙◌, append_assoc, inl, inr}
 use Rattle.std.proofs.lemmas.Bool.{cond_both, or_parts}
 use Rattle.aml_names.specs.declared.faults.CodeFault.{CodeFault}
 use Rattle.aml_names.specs.declared.segments.Seg.{Seg}

@@ -1,7 +1,8 @@
 -- A name that is read is spelled so, and a fault stands where it says (`name_sound`, over `Sound` of each step); what
--- spells a name is read as that name, whatever stands behind it (`name_again`). So no other name is spelled by the bytes
--- of one that is read, and none by those that are refused (`one_name`, `no_name`).
-use Rattle.std.proofs.Common.{◌≡◌, ℕ, zero, suc, ◌+◌, ◌-◌, ◌%◌, ◌<◌, ◌≤◌, Bool, true, false, cond, eqb, List, [], ◌∷◌, ◌++◌, length, take, drop, replicate, Ok}
+-- spells a name is read as that name, whatever stands behind it (`name_again`). So no other name is spelled by the
+-- bytes of one that is read, and none by those that are refused (`one_name`, `no_name`).
+use Rattle.std.proofs.Common.{◌≡◌, ℕ, zero, suc, ◌+◌, ◌-◌, ◌%◌, ◌<◌, ◌≤◌, Bool, true, false, cond, eqb, List, [], ◌∷◌}
+use Rattle.std.proofs.Common.{◌++◌, length, take, drop, replicate, Ok}
 use Rattle.std.proofs.Common.{Err, refl, sym, ap, subst, ◌∙◌, append_assoc, ◌⊎◌, inl, inr, arith}
 use Rattle.std.proofs.lemmas.Bool.{or_left, ltb-true, ltb-false, eqb-true, ne_eqb, lt-ltb, cond_both}
 use Rattle.std.proofs.lemmas.List.{take_at, drop_at, length-append, append-nil as append_nil}
@@ -11,10 +12,13 @@ use Rattle.aml_names.specs.declared.segments.Seg.{Seg}
 use Rattle.aml_names.specs.declared.names.Name.{Name}
 use Rattle.aml_names.specs.declared.names.NameForm.{NameForm}
 use Rattle.aml_names.specs.declared.names.NameForm.TheVariants.{Null, One, Dual, Multi}
-use Rattle.aml_names.specs.Names.{is_lead_char, IsNameSeg, AreNameSegs, FitsForm, FitsPrefix, IsName, segment_bytes, form_bytes, spelling, is_name_lead}
-use Rattle.aml_names.specs.NameReading.{Fails, Left, passing_at, segment_at, segments_at, is_count, form_by, form_at, parents, is_rooted, path_at, name_at}
+use Rattle.aml_names.specs.Names.{is_lead_char, IsNameSeg, AreNameSegs, FitsForm, FitsPrefix, IsName, segment_bytes}
+use Rattle.aml_names.specs.Names.{form_bytes, spelling, is_name_lead}
+use Rattle.aml_names.specs.NameReading.{Fails, Left, passing_at, segment_at, segments_at, is_count, form_by, form_at}
+use Rattle.aml_names.specs.NameReading.{parents, is_rooted, path_at, name_at}
 use Rattle.aml_names.specs.NameReading.{NameFault, is_bare, Begins, Spelled, SpellsNone}
-use Rattle.aml_names.proofs.NameFaults.{Reads, Sound, sound_behind, sound_then, IsPassed, passed_reads, passing_sound, IsSegment, segment_sound}
+use Rattle.aml_names.proofs.NameFaults.{Reads, Sound, sound_behind, sound_then, IsPassed, passed_reads, passing_sound}
+use Rattle.aml_names.proofs.NameFaults.{IsSegment, segment_sound}
 use Rattle.aml_names.proofs.StepLaws.{ok_is, IsBytes, IsBytes-drop, Takes}
 
 -- ---- what is read is spelled so, and a fault stands where it says

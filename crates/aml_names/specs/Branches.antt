@@ -1,6 +1,7 @@
--- A stepping stone of the proofs: paths by where they branch off a scope, so that what they have in common with it isn't
--- kept with each.
-use Rattle.std.specs.Prelude.{◌≡◌, ℕ, ◌≤◌, ◌-◌, List, [], ◌∷◌, ◌++◌, take, length, slice_get, Option, Some, None, refl, Bool, true, false}
+-- A stepping stone of the proofs: paths by where they branch off a scope, so that what they have in common with it
+-- isn't kept with each.
+use Rattle.std.specs.Prelude.{◌≡◌, ℕ, ◌≤◌, ◌-◌, List, [], ◌∷◌, ◌++◌, take, length, slice_get, Option, Some, None, refl}
+use Rattle.std.specs.Prelude.{Bool, true, false}
 use Rattle.std.specs.Option.{option_map, unwrap_or}
 use Rattle.std.specs.Coded.{Coded, code_by, coded×}
 use Rattle.std.specs.declared.cmp.Ordering.{Ordering}

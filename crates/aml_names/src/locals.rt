@@ -14,8 +14,8 @@ use std::marker::Model;
 /// The paths that the terms of a method body have declared so far, as a set. A name among them takes no arguments.
 ///
 /// The scope from which `push_below` places the first of them is the scope of all: names that are looked for there are
-/// found in time logarithmic in the number of paths, a single segment in any other by a question for each of its parents;
-/// and paths that are placed from there cost the memory of what they don't have in common with it.
+/// found in time logarithmic in the number of paths, a single segment in any other by a question for each of its
+/// parents; and paths that are placed from there cost the memory of what they don't have in common with it.
 #[derive(Drop)]
 pub struct Locals {
     alloc: Global,

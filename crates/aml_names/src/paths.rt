@@ -1,5 +1,6 @@
 //! Absolute paths in the namespace.
-ghost use Rattle.std.specs.Prelude.{◌≡◌, ℕ, [], ◌++◌, ◌≤◌, ◌-◌, length, take, drop, slice_get, Some, IfOk, OnOk, OnErr, refl};
+ghost use Rattle.std.specs.Prelude.{◌≡◌, ℕ, [], ◌++◌, ◌≤◌, ◌-◌, length, take, drop, slice_get, Some, IfOk, OnOk, OnErr};
+ghost use Rattle.std.specs.Prelude.{refl};
 ghost use Rattle.std.specs.Ordering.{eq_by_cmp};
 ghost use Rattle.std.specs.Cmp.{partial_equiv_from_equiv, partial_order_from_total, eq_by_cmp_equiv};
 ghost use Rattle.std.specs.Fmt.{WritesOnOk};
@@ -162,8 +163,8 @@ fn matches(some: &[Seg], others: &[Seg], count: usize) -> u32
     same
 }
 
-/// How many first segments two paths have in common. They are compared by blocks, each as a whole, which is several times
-/// as fast as one segment after the other.
+/// How many first segments two paths have in common. They are compared by blocks, each as a whole, which is several
+/// times as fast as one segment after the other.
 pub fn common(some: &[Seg], others: &[Seg]) -> usize
     ensures some { result ≤ length some.now }
     ensures others { result ≤ length others.now }

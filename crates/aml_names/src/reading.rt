@@ -1,8 +1,11 @@
 //! Reading names.
 ghost use Rattle.std.specs.Prelude.{◌≡◌, ◌<◌, ◌^◌, ◌⊎◌, length, drop, IfOk, IfErr};
-ghost use Rattle.aml_names.specs.Names.{is_lead_char as leads, is_name_char as follows, is_name_lead as begins_name, IsName, spelling};
+ghost use Rattle.aml_names.specs.Names.{is_lead_char as leads, is_name_char as follows, is_name_lead as begins_name};
+ghost use Rattle.aml_names.specs.Names.{IsName, spelling};
 ghost use Rattle.aml_names.specs.declared.names.Name.{Name};
-ghost use Rattle.aml_names.specs.NameReading.{Gives, passing_at, is_count, segment_at, segments_at, form_at, parents, is_rooted as rooted, path_at, name_at, NameFault, Spelled, SpellsNone, Begins};
+ghost use Rattle.aml_names.specs.NameReading.{Gives, passing_at, is_count, segment_at, segments_at, form_at, parents};
+ghost use Rattle.aml_names.specs.NameReading.{is_rooted as rooted, path_at, name_at, NameFault, Spelled, SpellsNone};
+ghost use Rattle.aml_names.specs.NameReading.{Begins};
 
 use crate::faults::CodeFault;
 use crate::names::{Name, NameForm};

@@ -19,7 +19,8 @@ use std::sync::Arc;
 #[derive(Drop)]
 pub struct SharedPath {
     path: Arc<Path, Global>,
-    /// Where one who keeps something by this path has it in a list, or 0: what is looked up there has to be this path's.
+    /// Where one who keeps something by this path has it in a list, or 0: what is looked up there has to be this
+    /// path's.
     mark: usize,
 }
 
@@ -92,8 +93,8 @@ impl SharedPath {
     }
 }
 
-/// A path by the scope in which its name stands: a front of the scope, which all paths that are placed from there share,
-/// and the segments behind it. So a path in a deep scope takes the memory and the time of its own segments.
+/// A path by the scope in which its name stands: a front of the scope, which all paths that are placed from there
+/// share, and the segments behind it. So a path in a deep scope takes the memory and the time of its own segments.
 #[derive(Drop)]
 pub struct ScopedPath {
     scope: SharedPath,
@@ -138,8 +139,8 @@ impl ScopedPath {
         Ok(ScopedPath::new(scope, self.front, Segs::joined(alloc, kept, own)?))
     }
 
-    /// The path that a name leads to from a scope, without a search, as `place` gives it. `None` where the prefixes lead
-    /// above the root.
+    /// The path that a name leads to from a scope, without a search, as `place` gives it. `None` where the prefixes
+    /// lead above the root.
     pub fn placed(
         alloc: Global,
         scope: &ScopedPath,

@@ -1,5 +1,6 @@
 -- An opcode whose row has no parts and no tail.
-use Rattle.aml_parse.proofs.Common.{nil_from_length, ◌≡◌, ℕ, List, length, Option, Some, None, Ok, refl, Seg, PathSet, Row, Position, Role, Tree, op, no_parts}
+use Rattle.aml_parse.proofs.Common.{nil_from_length, ◌≡◌, ℕ, List, length, Option, Some, None, Ok, refl, Seg, PathSet}
+use Rattle.aml_parse.proofs.Common.{Row, Position, Role, Tree, op, no_parts}
 use Rattle.aml_parse.proofs.Common.{empty, names_declared, with_declared}
 use Rattle.aml_parse.specs.Reading.{Reader, parts_at, plain_at}
 

@@ -1,7 +1,10 @@
 -- Reading one after the other, as a loop does: what was found before, and then what is still read, is all that is read.
-use Rattle.aml_parse.proofs.Common.{◌≡◌, ℕ, zero, suc, ◌-◌, ◌<◌, List, [], ◌∷◌, ◌++◌, length, Result, Ok, Err, refl, sym, ap, ◌∙◌, arith, inl, inr, CodeFault}
-use Rattle.aml_parse.proofs.Common.{PathSet, ◌>>=◌, Fails, PartKind, Position, Tree, Trees, no_trees, tree_more, Parts, no_parts, part_more, no_fields}
-use Rattle.aml_parse.proofs.Common.{field_more, node_view, nodes_view, part_view, parts_view, field_view, fields_view, read_on}
+use Rattle.aml_parse.proofs.Common.{◌≡◌, ℕ, zero, suc, ◌-◌, ◌<◌, List, [], ◌∷◌, ◌++◌, length, Result, Ok, Err, refl}
+use Rattle.aml_parse.proofs.Common.{sym, ap, ◌∙◌, arith, inl, inr, CodeFault}
+use Rattle.aml_parse.proofs.Common.{PathSet, ◌>>=◌, Fails, PartKind, Position, Tree, Trees, no_trees, tree_more, Parts}
+use Rattle.aml_parse.proofs.Common.{no_parts, part_more, no_fields}
+use Rattle.aml_parse.proofs.Common.{field_more, node_view, nodes_view, part_view, parts_view, field_view, fields_view}
+use Rattle.aml_parse.proofs.Common.{read_on}
 use Rattle.aml_code.specs.declared.tree.Field.{Field}
 use Rattle.aml_code.specs.declared.tree.Node.{Node}
 use Rattle.aml_code.specs.declared.tree.Part.{Part}

@@ -1,6 +1,8 @@
 -- The laws of the whole reader.
-use Rattle.aml_parse.proofs.Common.{◌≡◌, ℕ, zero, suc, ◌-◌, List, [], ◌∷◌, length, Option, Some, None, Ok, Err, refl, sym, ap, ◌∙◌, arith, ◌≤◌, true, inl, inr}
-use Rattle.aml_parse.proofs.Common.{CodeFault, Seg, IsBytes, Position, Trees, encodings, Arities, StandsAt, Setting, AreTerms, setting_of, BodiesStand}
+use Rattle.aml_parse.proofs.Common.{◌≡◌, ℕ, zero, suc, ◌-◌, List, [], ◌∷◌, length, Option, Some, None, Ok, Err, refl}
+use Rattle.aml_parse.proofs.Common.{sym, ap, ◌∙◌, arith, ◌≤◌, true, inl, inr}
+use Rattle.aml_parse.proofs.Common.{CodeFault, Seg, IsBytes, Position, Trees, encodings, Arities, StandsAt, Setting}
+use Rattle.aml_parse.proofs.Common.{AreTerms, setting_of, BodiesStand}
 use Rattle.aml_parse.proofs.Common.{ReadsBody, ReadsModule, no_arguments, read_on, whole, end_there, span_inside}
 use Rattle.std.specs.Prelude.{IfOk, IfErr}
 use Rattle.aml_names.specs.NameReading.{Gives}

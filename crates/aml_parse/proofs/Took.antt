@@ -1,10 +1,16 @@
 -- What was read from the front of the bytes, and what a reader of terms keeps.
-use Rattle.aml_parse.proofs.Common.{◌≡◌, ℕ, zero, suc, ◌+◌, ◌<◌, ◌≤◌, true, List, [], ◌∷◌, ◌++◌, length, Some, Result, Ok, refl, sym, subst, arith}
-use Rattle.aml_parse.proofs.Common.{length-append, CodeFault, Name, IsNameSeg, IsName, spelling, PathSet, name_lead, Takes, PartKind, Position, TailKind}
-use Rattle.aml_parse.proofs.Common.{package_bytes, Tree, nothing, named, op, Trees, Part, Parts, Tail, Field, unit, connection, Fields, Link}
-use Rattle.aml_parse.proofs.Common.{tree_count, opcode_bytes, packed, encoding, encodings, part_encoding, parts_encoding, tail_encoding, field_encoding}
-use Rattle.aml_parse.proofs.Common.{fields_encoding, link_encoding, after, after_all, after_tail, count_in, Setting, IsLawful, AreTerms, IsPart, AreParts}
-use Rattle.aml_parse.proofs.Common.{IsTail, IsField, AreFields, BodyStands, BodiesStand, TailStands, Arities, opcode_some, Within, Option, Seg, Row, row_of}
+use Rattle.aml_parse.proofs.Common.{◌≡◌, ℕ, zero, suc, ◌+◌, ◌<◌, ◌≤◌, true, List, [], ◌∷◌, ◌++◌, length, Some, Result}
+use Rattle.aml_parse.proofs.Common.{Ok, refl, sym, subst, arith}
+use Rattle.aml_parse.proofs.Common.{length-append, CodeFault, Name, IsNameSeg, IsName, spelling, PathSet, name_lead}
+use Rattle.aml_parse.proofs.Common.{Takes, PartKind, Position, TailKind}
+use Rattle.aml_parse.proofs.Common.{package_bytes, Tree, nothing, named, op, Trees, Part, Parts, Tail, Field, unit}
+use Rattle.aml_parse.proofs.Common.{connection, Fields, Link}
+use Rattle.aml_parse.proofs.Common.{tree_count, opcode_bytes, packed, encoding, encodings, part_encoding}
+use Rattle.aml_parse.proofs.Common.{parts_encoding, tail_encoding, field_encoding}
+use Rattle.aml_parse.proofs.Common.{fields_encoding, link_encoding, after, after_all, after_tail, count_in, Setting}
+use Rattle.aml_parse.proofs.Common.{IsLawful, AreTerms, IsPart, AreParts}
+use Rattle.aml_parse.proofs.Common.{IsTail, IsField, AreFields, BodyStands, BodiesStand, TailStands, Arities}
+use Rattle.aml_parse.proofs.Common.{opcode_some, Within, Option, Seg, Row, row_of}
 use Rattle.aml_parse.proofs.Common.{PkgWidth, with_declared, names_declared, declared_by, row_opcode}
 use Rattle.aml_parse.specs.Reading.{Reader, takes_names}
 use Rattle.aml_parse.proofs.FlatReads.{Answers}
@@ -54,8 +60,8 @@ module _ (s : Setting) (levels : ℕ) where
   abbrev pub TookField : PathSet → List ℕ → Field × PathSet × List ℕ → Type 0
   TookField ls = Took (field_encoding s.code) (IsField (λ q. IsLawful s levels q ls)) (λ u. ls)
 
-  -- What a reader answers is so, or its fault is true. What is left of the levels makes up 512 with the offset: a term takes a
-  -- level and a byte at least, so where no level is left the offset is 512 or more.
+  -- What a reader answers is so, or its fault is true. What is left of the levels makes up 512 with the offset: a term
+  -- takes a level and a byte at least, so where no level is left the offset is 512 or more.
   abbrev pub Reads : {A : Type 0} → (ℕ → PathSet → List ℕ → A → Type 0) → (ℕ → PathSet → List ℕ → Result A CodeFault) → Type 0
   Reads Is read = (at end : ℕ) (ls : PathSet) (bs : List ℕ) → Within s.code at end bs → 512 ≤ levels + at → Answers s (Is at ls bs) (read end ls bs)
 

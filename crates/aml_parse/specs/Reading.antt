@@ -3,7 +3,8 @@
 -- answers. What it means that code reads as terms is said without it, by `ReadsModule` and `ReadsBody` of aml_code, and
 -- what a fault says of the byte at its offset by `StandsAt`.
 use Rattle.std.specs.Prelude.{◌≡◌, ℕ, zero, suc, ◌+◌, ◌-◌, Bool, true, false, ◌==◌, if◌then◌else◌, nat_lt, List, []}
-use Rattle.std.specs.Prelude.{◌∷◌, ◌++◌, length, take, drop, position, Option, Some, None, Result, Ok, Err, option_map, ok_or}
+use Rattle.std.specs.Prelude.{◌∷◌, ◌++◌, length, take, drop, position, Option, Some, None, Result, Ok, Err, option_map}
+use Rattle.std.specs.Prelude.{ok_or}
 use Rattle.std.specs.FinSet as set
 use Rattle.aml_names.specs.declared.faults.CodeFault.{CodeFault}
 use Rattle.aml_names.specs.declared.segments.Seg.{Seg}
@@ -326,8 +327,8 @@ abbrev pub scope_of : Option (Bor (List Seg)) → Option (List Seg)
 scope_of scope = option_map (λ b. b.now) scope
 
 -- what was added to some elements, seen by a view, is what reading gives, with the paths declared then and what is left
-abbrev pub Adds : {X A : Type 0} → (X → A) → List X → List X → PathSet → List ℕ → Result (A × PathSet × List ℕ) CodeFault
-    → Type 0
+abbrev pub Adds : {X A : Type 0} → (X → A) → List X → List X → PathSet → List ℕ
+    → Result (A × PathSet × List ℕ) CodeFault → Type 0
 Adds {X = X} see old new ls rest read = (x : X) × ((new ≡ old ++ x ∷ []) × (read ≡ Ok (see x, ls, rest)))
 
 -- a term, as a parser reads it

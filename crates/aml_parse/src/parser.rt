@@ -3,7 +3,8 @@ ghost use Rattle.std.specs.Prelude.{◌≡◌, None, OnOk, option_to_list, ok_or
 ghost use Rattle.aml_names.specs.NameReading.{Gives};
 ghost use Rattle.aml_names.specs.Names.{placed};
 ghost use Rattle.aml_code.specs.Tree.{no_fields, field_more};
-ghost use Rattle.aml_code.specs.Lawful.{field_names, last_label, names_declared, unit_names, with_declared, with_names, with_path, count_in};
+ghost use Rattle.aml_code.specs.Lawful.{field_names, last_label, names_declared, unit_names, with_declared, with_names};
+ghost use Rattle.aml_code.specs.Lawful.{with_path, count_in};
 ghost use Rattle.aml_code.specs.View.{field_view, fields_view, parts_view, tail_view};
 ghost use Rattle.aml_parse.specs.Reading.{scope_of};
 

@@ -6,7 +6,8 @@ ghost use Rattle.aml_names.specs.NameReading.{Gives};
 ghost use Rattle.aml_code.specs.Lawful.{has_opcode, is_guard, next_position, tail_in, terms_in};
 ghost use Rattle.aml_code.specs.Opcodes.{row_view};
 ghost use Rattle.aml_code.specs.View.{node_view};
-ghost use Rattle.aml_parse.specs.Reading.{opcode_at, taken_at, refused_in_body, refused_in_run, refusal, is_absent_target, Begins, takes_names, guard_at};
+ghost use Rattle.aml_parse.specs.Reading.{opcode_at, taken_at, refused_in_body, refused_in_run, refusal};
+ghost use Rattle.aml_parse.specs.Reading.{is_absent_target, Begins, takes_names, guard_at};
 
 use aml_code::{
     CodeFault, Node, OpRow, Place, Position, TailKind, byte_of, listed_row, offset_of, takes,
@@ -59,8 +60,8 @@ pub fn refusal(position: Position, place: Place, at: u32) -> CodeFault
     }
 }
 
-/// The row of an opcode in its position, and what is left behind the opcode. `UnknownOp` where it has no row, and a fault
-/// where the position does not take it.
+/// The row of an opcode in its position, and what is left behind the opcode. `UnknownOp` where it has no row, and a
+/// fault where the position does not take it.
 #[inline]
 pub fn row_of(
     position: Position,

@@ -4,8 +4,11 @@ ghost use Rattle.aml_names.specs.NameReading.{Gives, Fails};
 ghost use Rattle.aml_code.specs.Opcodes.{row_view};
 ghost use Rattle.aml_code.specs.Lawful.{tail_in, terms_in};
 ghost use Rattle.aml_code.specs.Tree.{op, child, no_parts, empty};
-ghost use Rattle.aml_code.specs.View.{node_view, nodes_view, part_view, parts_view, tail_view, field_view, fields_view, link_view};
-ghost use Rattle.aml_parse.specs.Reading.{scope_of, held_inside, read_in, part_at, parts_at, arguments_at, terms_at, fields_at, field_at, link_at, call_at, tail_at, plain_at, packed_at, row_at, Adds};
+ghost use Rattle.aml_code.specs.View.{node_view, nodes_view, part_view, parts_view, tail_view, field_view, fields_view};
+ghost use Rattle.aml_code.specs.View.{link_view};
+ghost use Rattle.aml_parse.specs.Reading.{scope_of, held_inside, read_in, part_at, parts_at, arguments_at, terms_at};
+ghost use Rattle.aml_parse.specs.Reading.{fields_at, field_at, link_at, call_at, tail_at, plain_at, packed_at, row_at};
+ghost use Rattle.aml_parse.specs.Reading.{Adds};
 
 use crate::flat::{
     any_name_part_of, byte_part_of, count_part_of, dword_part_of, name_part_of, qword_part_of,

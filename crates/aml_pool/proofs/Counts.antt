@@ -1,5 +1,6 @@
 -- Counting in lists, and totals over lists.
-use Rattle.std.proofs.Common.{◌≡◌, ◌≢◌, ℕ, zero, suc, ◌+◌, ◌<◌, ◌≤◌, List, [], ◌∷◌, ◌++◌, set, map, Bool, sym, refl, ap, ◌∙◌, arith, eq-eqb, ne_eqb}
+use Rattle.std.proofs.Common.{◌≡◌, ◌≢◌, ℕ, zero, suc, ◌+◌, ◌<◌, ◌≤◌, List, [], ◌∷◌, ◌++◌, set, map, Bool, sym, refl, ap}
+use Rattle.std.proofs.Common.{◌∙◌, arith, eq-eqb, ne_eqb}
 use Rattle.std.specs.Prelude.{All, if◌then◌else◌, flat_map}
 use Rattle.std.proofs.lemmas.List.Elements.{All-cons}
 use mathlib.Core.Logic.{dite}

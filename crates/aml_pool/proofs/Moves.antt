@@ -1,7 +1,8 @@
 -- Each kind of step is a change of the claim machine, and keeps the board's rule: a draw (`draws`), by whether a number
--- is left; a look, which changes nothing (`looks`); a split (`splits`), a join (`joins`), and the end (`closes`). So the
--- board follows the machine (`follows_machine`).
-use Rattle.std.proofs.Common.{◌≡◌, ◌≢◌, ℕ, zero, suc, ◌+◌, ◌%◌, ◌<◌, ◌≤◌, List, [], ◌∷◌, ◌++◌, length, map, set, true, refl, sym, ap, ap₂, ◌∙◌, subst, ⊎_elim}
+-- is left; a look, which changes nothing (`looks`); a split (`splits`), a join (`joins`), and the end (`closes`). So
+-- the board follows the machine (`follows_machine`).
+use Rattle.std.proofs.Common.{◌≡◌, ◌≢◌, ℕ, zero, suc, ◌+◌, ◌%◌, ◌<◌, ◌≤◌, List, [], ◌∷◌, ◌++◌, length, map, set, true}
+use Rattle.std.proofs.Common.{refl, sym, ap, ap₂, ◌∙◌, subst, ⊎_elim}
 use Rattle.std.proofs.Common.{arith, get_or, length-set, get_or-set_same, min}
 use Rattle.std.specs.Prelude.{nat_lt, ◌||◌, Option, Some, None}
 use Rattle.std.proofs.lemmas.List.{map-set, map-append}
@@ -15,8 +16,10 @@ use Rattle.atomic_table.proofs.Lists.{at_set, at_snoc, at_map, set_again, set_he
 use lib.Seq.{set-get_or}
 use Rattle.aml_pool.specs.declared.board.View.{View}
 use Rattle.aml_pool.specs.Counting.{times, once_below, total, IsOnce}
-use Rattle.aml_pool.specs.Machine.{Claimant, Claims, by_draw, by_split, by_join, Draws, Opens, Joins, IsDraw, newcomer, together, claims, view, claimant}
-use Rattle.aml_pool.specs.Machine.{claims_shown, spent, Fits, IsRuled, TellsDraw, TellsLook, kept, given, joined, FollowsMachine}
+use Rattle.aml_pool.specs.Machine.{Claimant, Claims, by_draw, by_split, by_join, Draws, Opens, Joins, IsDraw, newcomer}
+use Rattle.aml_pool.specs.Machine.{together, claims, view, claimant}
+use Rattle.aml_pool.specs.Machine.{claims_shown, spent, Fits, IsRuled, TellsDraw, TellsLook, kept, given, joined}
+use Rattle.aml_pool.specs.Machine.{FollowsMachine}
 use Rattle.aml_pool.proofs.Counts.{total_set, total_more, total_le, total_at, total-map, total_only}
 use Rattle.aml_pool.proofs.Runs.{counted, sound, stands_below, stands_once}
 

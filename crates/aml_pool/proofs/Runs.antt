@@ -1,6 +1,7 @@
--- Every run of the claim machine leads to a sound state: counted seat by seat (`IsCounted`), which a draw, a split and a
--- join keep, and the opening state has.
-use Rattle.std.proofs.Common.{◌≡◌, ◌≢◌, ℕ, ◌+◌, ◌<◌, ◌≤◌, List, [], ◌∷◌, ◌++◌, set, Bool, true, false, sym, ◌∙◌, subst, ⊎_elim, arith}
+-- Every run of the claim machine leads to a sound state: counted seat by seat (`IsCounted`), which a draw, a split and
+-- a join keep, and the opening state has.
+use Rattle.std.proofs.Common.{◌≡◌, ◌≢◌, ℕ, ◌+◌, ◌<◌, ◌≤◌, List, [], ◌∷◌, ◌++◌, set, Bool, true, false, sym, ◌∙◌, subst}
+use Rattle.std.proofs.Common.{⊎_elim, arith}
 use Rattle.std.specs.Prelude.{IsTrue, ◌||◌, Option}
 use mathlib.Core.Logic.{dite}
 use native.Mathlib.Decide.{dec_lt}
@@ -8,9 +9,11 @@ use mathlib.Core.Option.{some, some-ne-none}
 use lib.ListN.{get_elem?}
 use Rattle.atomic_table.proofs.Lists.{at_set, at_snoc, set_else}
 use Rattle.aml_pool.specs.Counting.{times, once_below, total}
-use Rattle.aml_pool.specs.Machine.{Claimant, Claims, Change, by_draw, by_split, by_join, Draws, Opens, Joins, IsRun, IsSound, newcomer, together}
+use Rattle.aml_pool.specs.Machine.{Claimant, Claims, Change, by_draw, by_split, by_join, Draws, Opens, Joins, IsRun}
+use Rattle.aml_pool.specs.Machine.{IsSound, newcomer, together}
 use Rattle.aml_pool.specs.Machine.{opening_claims}
-use Rattle.aml_pool.proofs.Counts.{times-append, times-flat_map, total_set, total_more, total_at, above_one, once_below-le, once_below-more}
+use Rattle.aml_pool.proofs.Counts.{times-append, times-flat_map, total_set, total_more, total_at, above_one}
+use Rattle.aml_pool.proofs.Counts.{once_below-le, once_below-more}
 
 -- how often x stands in the lists of all seats
 abbrev pub drawn_times : ℕ → List Claimant → ℕ

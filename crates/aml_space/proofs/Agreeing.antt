@@ -1,7 +1,8 @@
--- Every run agrees on the count of a name where the kinds that it may mean agree (`every_run_agrees`): the kind of a path in a
--- run is one of the path's kinds (`among`), and so its count is one of those that are met (`count_met`).
+-- Every run agrees on the count of a name where the kinds that it may mean agree (`every_run_agrees`): the kind of a
+-- path in a run is one of the path's kinds (`among`), and so its count is one of those that are met (`count_met`).
 use Rattle.std.specs.Prelude.{◌||◌, ◌&&◌, ◌==◌, flat_map, option_to_list}
-use Rattle.std.proofs.Common.{◌≡◌, ℕ, Bool, true, false, not, cond, List, [], ◌∷◌, ◌++◌, map, Option, Some, None, IfSome, IsSomeAnd, is_some, refl}
+use Rattle.std.proofs.Common.{◌≡◌, ℕ, Bool, true, false, not, cond, List, [], ◌∷◌, ◌++◌, map, Option, Some, None}
+use Rattle.std.proofs.Common.{IfSome, IsSomeAnd, is_some, refl}
 use Rattle.std.proofs.Common.{sym, ap, subst, ◌∙◌, arith}
 use Rattle.std.proofs.lemmas.Bool.{false≢true}
 use Rattle.std.proofs.lemmas.Bool.Decides.{nat_tests}
@@ -19,7 +20,8 @@ use Rattle.aml_space.specs.Namespace.{Entry, declares, external, given}
 use Rattle.aml_space.specs.Namespace.{namespace_of, declared_at, same_path, outs_at, kind_at, decides}
 use Rattle.aml_space.specs.Namespace.{target_count, count_by, count_at, arity_at, arity_of, is_outside}
 use Rattle.aml_space.specs.Runs.{outlook_of, surely_declared}
-use Rattle.aml_space.specs.Runs.{kinds_at, sure_at, target_counts, counts_by, counts_of, counts_met, common, arity_by_kinds}
+use Rattle.aml_space.specs.Runs.{kinds_at, sure_at, target_counts, counts_by, counts_of, counts_met, common}
+use Rattle.aml_space.specs.Runs.{arity_by_kinds}
 use Rattle.aml_space.specs.Runs.{arity_met, agreed_arity, IsRun, ended, taken, missed, leads, stands}
 use Rattle.aml_space.specs.Runs.{EveryRunAgrees}
 

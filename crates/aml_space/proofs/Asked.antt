@@ -1,8 +1,9 @@
 -- Which depths of a scope have to be asked. Where a node has bare children alone, nothing is known of a segment there
--- (`silent_at`, `silent_past`); such depths are passed over (`next_further`, `next_past`), and no candidate of a segment
--- stands there (`none_given_below`, `none_met_below`).
+-- (`silent_at`, `silent_past`); such depths are passed over (`next_further`, `next_past`), and no candidate of a
+-- segment stands there (`none_given_below`, `none_met_below`).
 use Rattle.std.specs.Prelude.{◌||◌}
-use Rattle.std.proofs.Common.{◌≡◌, ℕ, ◌+◌, ◌<◌, ◌≤◌, false, List, [], ◌∷◌, ◌++◌, length, take, get_or, Option, Some, None, IfSome, is_some, inl, inr, refl, sym}
+use Rattle.std.proofs.Common.{◌≡◌, ℕ, ◌+◌, ◌<◌, ◌≤◌, false, List, [], ◌∷◌, ◌++◌, length, take, get_or, Option, Some}
+use Rattle.std.proofs.Common.{None, IfSome, is_some, inl, inr, refl, sym}
 use Rattle.std.proofs.Common.{ap, subst, ◌∙◌, arith}
 use Rattle.std.specs.FinMap as map
 use Rattle.std.specs.FinSet as set

@@ -1,7 +1,9 @@
--- One path is meant where it is one of the locals or is known (`meant_first`, `placed_first`). Which candidate a Scope opens, or an Alias names (`led`): the one that a search finds, unless it has a kind that isn't
--- sure, and another one further up is known.
+-- One path is meant where it is one of the locals or is known (`meant_first`, `placed_first`). Which candidate a Scope
+-- opens, or an Alias names (`led`): the one that a search finds, unless it has a kind that isn't sure, and another one
+-- further up is known.
 use Rattle.std.specs.Prelude.{◌||◌, ◌&&◌, option_to_list}
-use Rattle.std.proofs.Common.{◌≡◌, ℕ, zero, suc, ◌≤◌, Bool, true, false, not, cond, List, [], ◌∷◌, ◌++◌, take, length, Option, Some, None, is_some, refl}
+use Rattle.std.proofs.Common.{◌≡◌, ℕ, zero, suc, ◌≤◌, Bool, true, false, not, cond, List, [], ◌∷◌, ◌++◌, take, length}
+use Rattle.std.proofs.Common.{Option, Some, None, is_some, refl}
 use Rattle.std.proofs.Common.{sym, ap, ◌∙◌, arith, length-append}
 use Rattle.std.proofs.lemmas.Bool.{false≢true}
 use Rattle.std.proofs.lemmas.List.{length-take-le}

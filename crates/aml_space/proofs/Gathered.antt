@@ -1,7 +1,8 @@
 -- The rows at and below a node are what is gathered there, with the node's path in front (`rows_after`), since the path
 -- of a node is the one that leads to it. So the rows from the root on are those that are known (`rows_of_all`).
 use Rattle.std.specs.Prelude.{slice_get}
-use Rattle.std.proofs.Common.{◌≡◌, ℕ, zero, suc, ◌<◌, List, [], ◌∷◌, ◌++◌, map as map_list, Option, Some, None, length, refl, sym, ap, ◌∙◌, append_assoc}
+use Rattle.std.proofs.Common.{◌≡◌, ℕ, zero, suc, ◌<◌, List, [], ◌∷◌, ◌++◌, map as map_list, Option, Some, None, length}
+use Rattle.std.proofs.Common.{refl, sym, ap, ◌∙◌, append_assoc}
 use Rattle.std.specs.List.{flat_map}
 use Rattle.std.specs.Option.{option_and_then, option_map, option_to_list}
 use Rattle.std.proofs.lemmas.List.{append-nil, map-append}
@@ -11,7 +12,8 @@ use Rattle.aml_space.specs.Known.{Declared}
 use Rattle.aml_children.specs.declared.children.Child.{Child}
 use Rattle.aml_children.specs.Children.{child_in}
 use Rattle.aml_space.specs.declared.nodes.Node.{Node}
-use Rattle.aml_space.specs.Nodes.{walk, own, under, gather, kids_of, declared_of, rows_of, path_of, known_by, visited, ahead, rows_ahead, links_of, next_node}
+use Rattle.aml_space.specs.Nodes.{walk, own, under, gather, kids_of, declared_of, rows_of, path_of, known_by, visited}
+use Rattle.aml_space.specs.Nodes.{ahead, rows_ahead, links_of, next_node}
 use Rattle.aml_space.specs.Nodes.{IsIndex}
 use Rattle.aml_space.proofs.Walks.{walk_push}
 use Rattle.aml_space.proofs.Family.{at_found}

@@ -1,7 +1,8 @@
--- An index with an empty node more is an index, and knows the same (`grown_index`, `grown_known`): each path leads where
--- it led, or, where it led nowhere, maybe to the new node, at which nothing is kept (`grown_walk`).
+-- An index with an empty node more is an index, and knows the same (`grown_index`, `grown_known`): each path leads
+-- where it led, or, where it led nowhere, maybe to the new node, at which nothing is kept (`grown_walk`).
 use Rattle.std.specs.Prelude.{◌==◌, ◌&&◌}
-use Rattle.std.proofs.Common.{◌≡◌, ℕ, ◌+◌, ◌<◌, ◌≤◌, Bool, true, false, cond, List, [], ◌∷◌, ◌++◌, length, Option, Some, None, ◌⊎◌, inl, inr, refl, sym, ap}
+use Rattle.std.proofs.Common.{◌≡◌, ℕ, ◌+◌, ◌<◌, ◌≤◌, Bool, true, false, cond, List, [], ◌∷◌, ◌++◌, length, Option, Some}
+use Rattle.std.proofs.Common.{None, ◌⊎◌, inl, inr, refl, sym, ap}
 use Rattle.std.proofs.Common.{subst, ◌∙◌, arith}
 use Rattle.std.specs.Option.{option_and_then}
 use Rattle.std.specs.Ordering.{eq_by_cmp}
@@ -14,7 +15,8 @@ use Rattle.aml_names.specs.Paths.{seg_cmp, paths_total, exact_paths, exact_segs}
 use Rattle.aml_children.specs.declared.children.Child.{Child}
 use Rattle.aml_children.specs.Children.{child_in, put}
 use Rattle.aml_space.specs.declared.nodes.Node.{Node}
-use Rattle.aml_space.specs.Nodes.{walk, IsFamily, Content, nothing, kids_in, kids_of, links_of, content_in, content_of, kinds_of, part_by, known_by, IsShape}
+use Rattle.aml_space.specs.Nodes.{walk, IsFamily, Content, nothing, kids_in, kids_of, links_of, content_in, content_of}
+use Rattle.aml_space.specs.Nodes.{kinds_of, part_by, known_by, IsShape}
 use Rattle.aml_space.specs.Nodes.{IsLinked, IsAim, IsIndex, IsKept}
 use Rattle.aml_space.specs.Known.{declared_kind}
 use Rattle.aml_space.proofs.Family.{same_itself, found_put, wider_family, family_put}

@@ -1,7 +1,9 @@
--- What counts come to: those of two lists are joined (`counts_more`), and tell which count is chosen (`chosen_met`). The
--- tally of kinds, kind after kind (`tally_more`), is that of their counts where no Alias is among them (`counts_plain`).
+-- What counts come to: those of two lists are joined (`counts_more`), and tell which count is chosen (`chosen_met`).
+-- The tally of kinds, kind after kind (`tally_more`), is that of their counts where no Alias is among them
+-- (`counts_plain`).
 use Rattle.std.specs.Prelude.{◌==◌, ◌&&◌, ◌||◌, flat_map}
-use Rattle.std.proofs.Common.{◌≡◌, ℕ, Bool, true, false, cond, List, [], ◌∷◌, ◌++◌, map, Option, Some, None, refl, sym, ap, ◌∙◌, append_assoc}
+use Rattle.std.proofs.Common.{◌≡◌, ℕ, Bool, true, false, cond, List, [], ◌∷◌, ◌++◌, map, Option, Some, None, refl, sym}
+use Rattle.std.proofs.Common.{ap, ◌∙◌, append_assoc}
 use Rattle.std.proofs.lemmas.Bool.{false≢true}
 use Rattle.std.proofs.lemmas.List.{append-nil, map-append}
 use Rattle.std.proofs.lemmas.Map.Views.{exact_unsigned_eq}

@@ -1,8 +1,9 @@
--- Which path a Scope opens, or an Alias names (`every_run_leads_there`): what has a kind in a run has one among all entries
--- (`no_more`), so that a run in which a path is missing leads to none of the later ones, of which none is known. And
--- that there are runs (`whole_run`, `least_is_run`).
+-- Which path a Scope opens, or an Alias names (`every_run_leads_there`): what has a kind in a run has one among all
+-- entries (`no_more`), so that a run in which a path is missing leads to none of the later ones, of which none is
+-- known. And that there are runs (`whole_run`, `least_is_run`).
 use Rattle.std.specs.Prelude.{◌||◌, option_to_list}
-use Rattle.std.proofs.Common.{◌≡◌, Bool, true, false, not, cond, List, [], ◌∷◌, Option, Some, None, IfSome, is_some, refl, sym, ap, subst, ◌∙◌}
+use Rattle.std.proofs.Common.{◌≡◌, Bool, true, false, not, cond, List, [], ◌∷◌, Option, Some, None, IfSome, is_some}
+use Rattle.std.proofs.Common.{refl, sym, ap, subst, ◌∙◌}
 use Rattle.std.proofs.lemmas.Bool.{false≢true}
 use Rattle.std.proofs.lemmas.Option.{cond_some, same_Some}
 use Rattle.std.specs.List.{AllByRecursion, find}
@@ -13,7 +14,8 @@ use Rattle.aml_space.specs.declared.kinds.Kind.{Kind}
 use Rattle.aml_space.specs.Predefined.{predefined}
 use Rattle.aml_space.specs.Namespace.{Entry, declares, external, given}
 use Rattle.aml_space.specs.Namespace.{namespace_of, same_path, kind_at, is_outside}
-use Rattle.aml_space.specs.Runs.{outlook_of, kinds_at, sure_at, is_known, first_agreed, agreed_or, may_miss, IsRun, ended, taken}
+use Rattle.aml_space.specs.Runs.{outlook_of, kinds_at, sure_at, is_known, first_agreed, agreed_or, may_miss, IsRun}
+use Rattle.aml_space.specs.Runs.{ended, taken}
 use Rattle.aml_space.specs.Runs.{missed, least_run, means, EveryRunLeadsThere}
 use Rattle.aml_space.proofs.Agreeing.{among, unsure}
 

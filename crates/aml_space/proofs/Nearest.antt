@@ -1,7 +1,8 @@
--- What the nearest local says of the depths from it on: whether one stands there (`local_at`), and of those further down
--- than it that none does (`passed_by`). Where it stands at a depth or further down (`local_met`) the search ends at it
--- (`local_there`); else no local stands at the depth (`no_local`, `other_there`).
-use Rattle.std.proofs.Common.{◌≡◌, ℕ, ◌<◌, ◌≤◌, List, [], ◌∷◌, ◌++◌, ◌-◌, Bool, true, false, cond, Option, Some, None, is_some, take, get_or, length, refl, sym, ap, ◌∙◌}
+-- What the nearest local says of the depths from it on: whether one stands there (`local_at`), and of those further
+-- down than it that none does (`passed_by`). Where it stands at a depth or further down (`local_met`) the search ends
+-- at it (`local_there`); else no local stands at the depth (`no_local`, `other_there`).
+use Rattle.std.proofs.Common.{◌≡◌, ℕ, ◌<◌, ◌≤◌, List, [], ◌∷◌, ◌++◌, ◌-◌, Bool, true, false, cond, Option, Some, None}
+use Rattle.std.proofs.Common.{is_some, take, get_or, length, refl, sym, ap, ◌∙◌}
 use Rattle.std.proofs.Common.{subst, arith, IfSome}
 use Rattle.std.specs.Prelude.{nat_le}
 use Rattle.std.specs.FinSet as set

@@ -1,7 +1,9 @@
 -- Scopes that were opened lead to their nodes also where paths keep theirs (`kept_opened`), as they do where other
--- content comes to a node (`content_kept`), and by one step behind another (`kept_on`); and so does one more (`more_opened`), and the root (`root_opened`).
+-- content comes to a node (`content_kept`), and by one step behind another (`kept_on`); and so does one more
+-- (`more_opened`), and the root (`root_opened`).
 use Rattle.std.specs.Prelude.{slice_get}
-use Rattle.std.proofs.Common.{◌≡◌, ℕ, zero, suc, List, [], ◌∷◌, ◌++◌, Option, Some, None, IfSome, sym, ap, subst, ◌∙◌, arith}
+use Rattle.std.proofs.Common.{◌≡◌, ℕ, zero, suc, List, [], ◌∷◌, ◌++◌, Option, Some, None, IfSome, sym, ap, subst, ◌∙◌}
+use Rattle.std.proofs.Common.{arith}
 use Rattle.aml_names.specs.declared.segments.Seg.{Seg}
 use Rattle.aml_space.specs.declared.nodes.Node.{Node}
 use Rattle.aml_space.specs.declared.opened.Opened.{Opened}

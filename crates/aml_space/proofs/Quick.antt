@@ -1,7 +1,8 @@
 -- What a search by the first declarations tells (`quick_way_holds`): the kind that it finds is the first of its path's
 -- kinds (`first_counts`), and the count by that kind the first of its counts (`count_first`).
 use Rattle.std.specs.Prelude.{◌||◌, ◌&&◌, ◌==◌, option_to_list, flat_map, MatchOption, slice_get, IsTrue}
-use Rattle.std.proofs.Common.{◌≡◌, ℕ, Bool, true, false, cond, List, [], ◌∷◌, ◌++◌, Option, Some, None, IfSome, is_some, refl, sym, ap, subst, ◌∙◌}
+use Rattle.std.proofs.Common.{◌≡◌, ℕ, Bool, true, false, cond, List, [], ◌∷◌, ◌++◌, Option, Some, None, IfSome, is_some}
+use Rattle.std.proofs.Common.{refl, sym, ap, subst, ◌∙◌}
 use Rattle.std.proofs.lemmas.Bool.{false≢true}
 use Rattle.std.proofs.lemmas.Option.{cond_some}
 use Rattle.std.specs.List.{find, list_all}

@@ -1,8 +1,9 @@
--- What is kept of nodes for a search. It is that of one node more, from what is kept of its parent (`settled_more`); it stays
--- right for fewer nodes (`settled_fewer`), and where something is said of a path and nothing passes over the node above it
--- (`settled_kept`), as a declaration, an External or a given count says something of one path alone.
+-- What is kept of nodes for a search. It is that of one node more, from what is kept of its parent (`settled_more`); it
+-- stays right for fewer nodes (`settled_fewer`), and where something is said of a path and nothing passes over the node
+-- above it (`settled_kept`), as a declaration, an External or a given count says something of one path alone.
 use Rattle.std.specs.Prelude.{slice_get}
-use Rattle.std.proofs.Common.{◌≡◌, ℕ, zero, suc, ◌+◌, ◌<◌, ◌≤◌, true, false, List, [], ◌∷◌, ◌++◌, length, take, Option, Some, None, IfSome, ◌⊎◌, inl, inr, refl, sym}
+use Rattle.std.proofs.Common.{◌≡◌, ℕ, zero, suc, ◌+◌, ◌<◌, ◌≤◌, true, false, List, [], ◌∷◌, ◌++◌, length, take, Option}
+use Rattle.std.proofs.Common.{Some, None, IfSome, ◌⊎◌, inl, inr, refl, sym}
 use Rattle.std.proofs.Common.{ap, subst, ◌∙◌, arith, cond, length-append, is_some}
 use Rattle.std.specs.FinMap as map
 use Rattle.std.specs.Option.{option_map}
@@ -16,7 +17,8 @@ use Rattle.aml_space.specs.declared.growing.Reach.{Reach}
 use Rattle.aml_space.specs.declared.settling.Settled.{Settled}
 use Rattle.aml_space.specs.Nodes.{walk, kids_of, links_of, known_by, IsIndex, IsKept}
 use Rattle.aml_space.specs.Namespace.{same_path, greater}
-use Rattle.aml_space.specs.Known.{Known, Declared, declared_kind, namespace_in, with_declaration, with_external, with_given}
+use Rattle.aml_space.specs.Known.{Known, Declared, declared_kind, namespace_in, with_declaration, with_external}
+use Rattle.aml_space.specs.Known.{with_given}
 use Rattle.aml_space.specs.Candidates.{IsSilent, IsPassed, IsSettled, AreSettled, IsReady, HasBareChildren}
 use Rattle.aml_space.proofs.Asked.{next_itself, next_further, silent_at}
 use Rattle.aml_space.proofs.Basics.{each_more, read_front, read_last}

@@ -1,7 +1,8 @@
 -- Without code outside methods nothing changes (`stays_as_it_is`): each path has one kind or none, so that one count or
 -- none is met.
 use Rattle.std.specs.Prelude.{◌||◌, ◌&&◌, option_to_list, flat_map, MatchOption}
-use Rattle.std.proofs.Common.{◌≡◌, ℕ, Bool, true, false, cond, List, [], ◌∷◌, ◌++◌, Option, Some, None, is_some, refl, sym, ap, subst, ◌∙◌}
+use Rattle.std.proofs.Common.{◌≡◌, ℕ, Bool, true, false, cond, List, [], ◌∷◌, ◌++◌, Option, Some, None, is_some, refl}
+use Rattle.std.proofs.Common.{sym, ap, subst, ◌∙◌}
 use Rattle.std.specs.List.{find}
 use Rattle.std.specs.Option.{option_or}
 use Rattle.std.specs.FinSet as set
@@ -12,10 +13,12 @@ use Rattle.aml_space.specs.declared.kinds.Kind.{Kind}
 use Rattle.aml_space.specs.declared.kinds.Kind.TheVariants.{Method, Alias}
 use Rattle.aml_space.specs.Predefined.{predefined}
 use Rattle.aml_space.specs.Namespace.{Entry, declares, external, given, namespace_of}
-use Rattle.aml_space.specs.Namespace.{Namespace, declared_at, same_path, outs_at, kind_at, decides, is_outside, first_given}
+use Rattle.aml_space.specs.Namespace.{Namespace, declared_at, same_path, outs_at, kind_at, decides, is_outside}
+use Rattle.aml_space.specs.Namespace.{first_given}
 use Rattle.aml_space.specs.Namespace.{target_count, count_by, count_at, arity_at, arity_of}
 use Rattle.aml_space.specs.Runs.{outlook_of, surely_declared}
-use Rattle.aml_space.specs.Runs.{kinds_at, sure_at, target_counts, counts_by, counts_of, counts_met, arity_met, agreed_arity}
+use Rattle.aml_space.specs.Runs.{kinds_at, sure_at, target_counts, counts_by, counts_of, counts_met, arity_met}
+use Rattle.aml_space.specs.Runs.{agreed_arity}
 use Rattle.aml_space.specs.Runs.{AreSure, StaysAsItIs}
 
 one_kind : (same sure : Bool) (k : Kind) (ks : List Kind) (o standing : Option Kind) → sure ≡ true → ks ≡ option_to_list (option_or o standing)

@@ -1,7 +1,9 @@
 -- Where paths lead in a tree of nodes: step by step along a path (`led_step`, `led_more`), and to nodes in range
--- (`node_range`). No two paths lead to one node (`one_path`), so new content of a node is that of one path (`put_path`).
+-- (`node_range`). No two paths lead to one node (`one_path`), so new content of a node is that of one path
+-- (`put_path`).
 use Rattle.std.specs.Prelude.{◌==◌}
-use Rattle.std.proofs.Common.{◌≡◌, ℕ, ◌+◌, ◌<◌, ◌≤◌, Bool, true, false, cond, List, [], ◌∷◌, ◌++◌, length, take, drop, get_or, Option, Some, None, IfSome, inl, inr}
+use Rattle.std.proofs.Common.{◌≡◌, ℕ, ◌+◌, ◌<◌, ◌≤◌, Bool, true, false, cond, List, [], ◌∷◌, ◌++◌, length, take, drop}
+use Rattle.std.proofs.Common.{get_or, Option, Some, None, IfSome, inl, inr}
 use Rattle.std.proofs.Common.{refl, sym, ap, ◌∙◌, arith, append_assoc}
 use Rattle.std.specs.Option.{option_and_then}
 use Rattle.std.specs.Ordering.{eq_by_cmp, is_eq}

@@ -1,5 +1,6 @@
 -- A stepping stone of the proofs: the paths that a name of one segment may mean in a scope, by their nodes.
-use Rattle.std.specs.Prelude.{◌≡◌, ℕ, zero, suc, ◌<◌, ◌≤◌, Bool, false, nat_le, ◌==◌, cond, List, [], ◌∷◌, ◌++◌, length, take}
+use Rattle.std.specs.Prelude.{◌≡◌, ℕ, zero, suc, ◌<◌, ◌≤◌, Bool, false, nat_le, ◌==◌, cond, List, [], ◌∷◌, ◌++◌, length}
+use Rattle.std.specs.Prelude.{take}
 use Rattle.std.specs.Prelude.{slice_get}
 use Rattle.std.specs.Prelude.{Option, Some, None, IfSome}
 use Rattle.std.specs.FinSet as set
@@ -51,8 +52,8 @@ pub record IsNext (n : Namespace) (path : List Seg) (from asked : ℕ) : Type 0 
 abbrev pub IsPassed : List Node → List Settled → List Seg → Type 0
 IsPassed ns settled q = (i : ℕ) → walk (kids_of ns) 0 q ≡ Some i → IfSome (slice_get settled i) (λ s. s.asked < i)
 
--- What is kept of the node to which a front of a path leads: its length, the node of the next one to be asked, and that of
--- a shorter one. What is kept of the nodes between it and the next goes on there too.
+-- What is kept of the node to which a front of a path leads: its length, the node of the next one to be asked, and that
+-- of a shorter one. What is kept of the nodes between it and the next goes on there too.
 pub record IsSettled (ns : List Node) (settled : List Settled) (path : List Seg) (d : ℕ) (s : Settled) : Type 0 where
   pub depth : s.depth ≡ d
   pub asked : ℕ

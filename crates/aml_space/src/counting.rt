@@ -1,10 +1,12 @@
 //! How many arguments a path takes.
-ghost use Rattle.std.specs.Prelude.{◌≡◌, ◌<◌, ◌∷◌, ◌||◌, List, Some, None, cond, is_some, length, map, flat_map, option_to_list, IfSome};
+ghost use Rattle.std.specs.Prelude.{◌≡◌, ◌<◌, ◌∷◌, ◌||◌, List, Some, None, cond, is_some, length, map, flat_map};
+ghost use Rattle.std.specs.Prelude.{option_to_list, IfSome};
 ghost use Rattle.std.specs.Option.{option_or, option_and_then, option_copied};
 ghost use Rattle.aml_space.specs.Namespace.{kind_at as kind_of_path, count_at, count_by, target_count};
 ghost use Rattle.aml_space.specs.Known.{namespace_in, outlook_in, kinds_by, sure_by};
 ghost use Rattle.aml_space.specs.Runs.{target_counts, counts_by};
-ghost use Rattle.aml_space.specs.Nodes.{walk, kids_of, kinds_of, declared_of, outs_of, known_by, IsShape, IsAim, IsAimed};
+ghost use Rattle.aml_space.specs.Nodes.{walk, kids_of, kinds_of, declared_of, outs_of, known_by, IsShape, IsAim};
+ghost use Rattle.aml_space.specs.Nodes.{IsAimed};
 ghost use Rattle.aml_space.specs.declared.kinds.Kind.TheVariants.{Alias};
 ghost use Rattle.aml_names.specs.declared.segments.Seg.{Seg};
 ghost use Rattle.aml_space.specs.Tallies.{joined, counts_in, own_count, is_nothing};

@@ -9,7 +9,8 @@ use aml_names::Seg;
 /// A node of the index. It stands for one path.
 #[derive(Drop)]
 pub(crate) struct Node {
-    /// What the declarations of the path say, where it is declared; in a box, since most nodes of a long path have none.
+    /// What the declarations of the path say, where it is declared; in a box, since most nodes of a long path have
+    /// none.
     pub declared: Option<Box<Declarations>>,
     /// The greatest count of its Externals.
     pub outs: Option<u8>,

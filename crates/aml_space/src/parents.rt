@@ -21,8 +21,8 @@ pub(crate) struct Place {
     pub depth: usize,
 }
 
-/// The place of a node, by that of another: the nearer they are, the sooner. A parent has a smaller number, so the greater
-/// number goes up until both meet.
+/// The place of a node, by that of another: the nearer they are, the sooner. A parent has a smaller number, so the
+/// greater number goes up until both meet.
 pub(crate) fn place_by(nodes: &[Node], node: usize, near: Place) -> Place
     requires index { IsIndex nodes.now }
     requires within { node < length nodes.now }

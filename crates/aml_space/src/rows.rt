@@ -10,8 +10,8 @@ use aml_names::{NoMemory, Path, Seg};
 use std::alloc::Global;
 use std::marker::Model;
 
-/// A declared path, with what its declarations say. It keeps no path of its own: each segment is that by which a node is
-/// a child of its parent.
+/// A declared path, with what its declarations say. It keeps no path of its own: each segment is that by which a node
+/// is a child of its parent.
 #[derive(Drop)]
 pub struct Row<'a> {
     nodes: &'a [Node],
@@ -52,8 +52,8 @@ impl<'a> Row<'a> {
         self.at.depth
     }
 
-    /// Copies the segments of the path from one on to the front of a buffer, as many as it takes. The result is how many
-    /// these are.
+    /// Copies the segments of the path from one on to the front of a buffer, as many as it takes. The result is how
+    /// many these are.
     pub fn copy_segs(&self, from: usize, buffer: &mut [Seg]) -> usize
         ensures count { result ≡ min (length buffer.old) (length self.now.0 - from) }
         ensures copied { take result buffer.new ≡ take result (drop from self.now.0) }

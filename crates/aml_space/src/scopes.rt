@@ -1,7 +1,8 @@
 //! Scopes in the index, and what a name of one segment means in them.
 ghost use Rattle.std.specs.Prelude.{◌&&◌, not};
 ghost use Rattle.std.specs.List.{find};
-ghost use Rattle.std.specs.Prelude.{◌≡◌, true, false, ◌+◌, ◌-◌, ◌<◌, ◌≤◌, ◌++◌, cond, length, take, Some, None, is_some};
+ghost use Rattle.std.specs.Prelude.{◌≡◌, true, false, ◌+◌, ◌-◌, ◌<◌, ◌≤◌, ◌++◌, cond, length, take, Some, None};
+ghost use Rattle.std.specs.Prelude.{is_some};
 ghost use Rattle.std.specs.Prelude.{IfOk, IfSome};
 ghost use Rattle.std.specs.Bool.{OnFalse, OnTrue};
 ghost use Rattle.std.specs.Option.{option_or, option_and_then, option_copied, option_map};
@@ -15,7 +16,8 @@ ghost use Rattle.aml_space.specs.Opened.{AreHints};
 ghost use Rattle.aml_space.specs.Known.{namespace_in};
 ghost use Rattle.aml_space.specs.Runs.{counts_met as met, counts_of, is_known};
 ghost use Rattle.aml_space.specs.Tallies.{counts_in};
-ghost use Rattle.aml_space.specs.Candidates.{path_at, local_from, names_of, outlook_at, agreed_among, above, IsBare, HasBareChildren};
+ghost use Rattle.aml_space.specs.Candidates.{path_at, local_from, names_of, outlook_at, agreed_among, above, IsBare};
+ghost use Rattle.aml_space.specs.Candidates.{HasBareChildren};
 ghost use Rattle.aml_space.specs.Candidates.{IsLevel, IsScope, IsNextFrom, IsCandidate};
 
 use crate::counting::{count_met, counts_met, kind_met, known_met, sure_met};
@@ -495,8 +497,8 @@ impl<'a> Scope<'a> {
     }
 }
 
-/// Whether a child of a node may have content, or comes to have it first. An only child, as each segment of a long path is
-/// one, is looked at.
+/// Whether a child of a node may have content, or comes to have it first. An only child, as each segment of a long path
+/// is one, is looked at.
 pub(crate) fn has_to_be_asked(nodes: &[Node], at: usize) -> bool
     requires within { at < length nodes.now }
     requires shape { IsShape nodes.now }

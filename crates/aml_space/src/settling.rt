@@ -24,8 +24,8 @@ pub(crate) struct Settled {
     pub skip: usize,
 }
 
-/// The node to which the next one skips, where its parent and the node to which that skips do so as far as each other. So
-/// from each node up steps of all lengths come.
+/// The node to which the next one skips, where its parent and the node to which that skips do so as far as each other.
+/// So from each node up steps of all lengths come.
 fn skip_over(settled: &[Settled], above: Settled) -> Option<usize>
     ensures { IfSome result (λ n. option_map (λ s. s.skip) (slice_get settled.now above.skip) ≡ Some n) }
 {

@@ -1,5 +1,6 @@
 //! The namespace that tables make.
-ghost use Rattle.std.specs.Prelude.{◌≡◌, ◌≤◌, ◌*◌, length, slice_get, [], ◌∷◌, ◌++◌, List, Option, true, false, is_some, not, cond, Ok};
+ghost use Rattle.std.specs.Prelude.{◌≡◌, ◌≤◌, ◌*◌, length, slice_get, [], ◌∷◌, ◌++◌, List, Option, true, false};
+ghost use Rattle.std.specs.Prelude.{is_some, not, cond, Ok};
 ghost use Rattle.std.specs.Prelude.{map as map_list, ◌⊎◌, OnOk, OnErr, IfOk, IfErr, IsTrue};
 ghost use Rattle.std.specs.Option.{option_copied};
 ghost use Rattle.std.specs.FinMap as map;
@@ -229,8 +230,9 @@ impl Space {
         Ok(())
     }
 
-    /// Opens a path as a scope: what stands in it is found by its node from now on, also where other scopes are opened. A
-    /// long path with a few segments of its own keeps its scope's, so that nothing is copied. What is known stays the same.
+    /// Opens a path as a scope: what stands in it is found by its node from now on, also where other scopes are opened.
+    /// A long path with a few segments of its own keeps its scope's, so that nothing is copied. What is known stays the
+    /// same.
     pub fn open(&mut self, path: &ScopedPath) -> Result<ScopedPath, NoMemory>
         ensures same { self.new ≡ self.old }
         ensures scope { IfOk result (λ scope. scope ≡ path.now) }
@@ -251,8 +253,8 @@ impl Space {
         }
     }
 
-    /// Closes the scope that was opened last, unless something is kept by it: a method's path, or a name that is looked at
-    /// when all tables are there. What is known stays the same.
+    /// Closes the scope that was opened last, unless something is kept by it: a method's path, or a name that is looked
+    /// at when all tables are there. What is known stays the same.
     pub fn close(&mut self, scope: &ScopedPath)
         ensures { self.new ≡ self.old }
     {

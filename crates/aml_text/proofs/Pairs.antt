@@ -1,5 +1,6 @@
 -- What is made of the pairs of two lists that are as long as each other.
-use Rattle.aml_text.proofs.Common.{zip, ◌≡◌, ℕ, ◌<◌, List, length, get_or, map, sym, ap, ◌∙◌, arith, length-map, get_or-map, length-zip, get_or-zip}
+use Rattle.aml_text.proofs.Common.{zip, ◌≡◌, ℕ, ◌<◌, List, length, get_or, map, sym, ap, ◌∙◌, arith, length-map}
+use Rattle.aml_text.proofs.Common.{get_or-map, length-zip, get_or-zip}
 
 module _ {A B C : Type 0} (f : A × B → C) (xs : List A) (ys : List B) (many : length ys ≡ length xs) where
   pub pairs_many : length (map f (zip xs ys)) ≡ length xs

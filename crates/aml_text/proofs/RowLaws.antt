@@ -1,5 +1,6 @@
 -- Segments that are printed in parts: with a dot between two parts they are those of the whole (`dotted_join`).
-use Rattle.aml_text.proofs.Common.{◌≡◌, ℕ, List, [], ◌∷◌, ◌++◌, map, flat_map, length, sym, ap, ◌∙◌, append_assoc, Seg, word, ◌≤◌, arith}
+use Rattle.aml_text.proofs.Common.{◌≡◌, ℕ, List, [], ◌∷◌, ◌++◌, map, flat_map, length, sym, ap, ◌∙◌, append_assoc, Seg}
+use Rattle.aml_text.proofs.Common.{word, ◌≤◌, arith}
 use Rattle.std.specs.Prelude.{◌==◌, true, false}
 use Rattle.std.proofs.lemmas.Bool.{eqb-true, false≢true}
 use Rattle.std.proofs.lemmas.List.{append-nil, map-append}

@@ -5,7 +5,8 @@ ghost use Rattle.std.specs.Prelude.{◌≡◌, ◌≤◌, ◌++◌, length, deci
 ghost use Rattle.std.specs.FinMap as map;
 ghost use Rattle.text_writer.specs.Prints.{Prints, word};
 ghost use Rattle.asl_text.specs.Texts.{line, segment_text, separated};
-ghost use Rattle.aml_text.specs.Rows.{path_text, kind_text, maybe_text, times_text, marked_text, row_line, namespace_text};
+ghost use Rattle.aml_text.specs.Rows.{path_text, kind_text, maybe_text, times_text, marked_text, row_line};
+ghost use Rattle.aml_text.specs.Rows.{namespace_text};
 
 use aml_names::{Parts, Seg};
 use aml_space::{Kind, Row, Space, Target};
@@ -13,8 +14,8 @@ use asl_text::{print_indent, print_segments};
 use std::io::Write;
 use text_writer::{Out, print_decimal};
 
-/// How many segments of a path are printed at a time, 512 KB of them on the stack: a little more than the deepest path has
-/// that 510 Devices of 255 segments make. A deeper path would be gone up once for each so many.
+/// How many segments of a path are printed at a time, 512 KB of them on the stack: a little more than the deepest path
+/// has that 510 Devices of 255 segments make. A deeper path would be gone up once for each so many.
 const WINDOW: usize = 131_072;
 
 /// What each path begins with.

@@ -2,7 +2,8 @@
 ghost use Rattle.std.specs.Prelude.{◌≡◌, ◌+◌, ◌++◌, IfOk, OnOk};
 ghost use Rattle.std.specs.Option.{option_map};
 ghost use Rattle.aml_code.specs.View.{node_view, parts_view, tail_view, field_view, fields_view};
-ghost use Rattle.aml_walk.specs.Fields.{bits_in, unit_from, units_from, units_in, units_of, base_of_two, base_of_one, base_by, base_of};
+ghost use Rattle.aml_walk.specs.Fields.{bits_in, unit_from, units_from, units_in, units_of, base_of_two, base_of_one};
+ghost use Rattle.aml_walk.specs.Fields.{base_by, base_of};
 ghost use Rattle.aml_walk.specs.FieldViews.{base_view};
 
 use crate::opcodes;

@@ -1,9 +1,12 @@
 -- The heads of methods, and the bodies that are left, as the printing functions print and answer them.
-use Rattle.asl_text.proofs.Common.{◌≡◌, ℕ, List, ◌∷◌, ◌++◌, drop, length, append_assoc, Vec, Option, Some, None, sym, ap, ◌∙◌, drop-drop, length-append, Global}
-use Rattle.asl_text.proofs.Common.{Name, PkgWidth, Field, Node, Nothing, Named, Op, Part, node_view, nodes_view, tail_view, deeper, method_text, method_head_by}
+use Rattle.asl_text.proofs.Common.{◌≡◌, ℕ, List, ◌∷◌, ◌++◌, drop, length, append_assoc, Vec, Option, Some, None, sym}
+use Rattle.asl_text.proofs.Common.{ap, ◌∙◌, drop-drop, length-append, Global}
+use Rattle.asl_text.proofs.Common.{Name, PkgWidth, Field, Node, Nothing, Named, Op, Part, node_view, nodes_view}
+use Rattle.asl_text.proofs.Common.{tail_view, deeper, method_text, method_head_by}
 use Rattle.asl_text.proofs.Common.{BodyLines, levels_in, tail_levels, all_levels, behind, term_lines, terms_lines}
 use Rattle.aml_code.specs.declared.tree.Tail.{Tail}
-use Rattle.aml_code.proofs.Views.{view-Nothing, view-Named, view-Op, view-tail-Empty, view-tail-Terms, view-tail-Bytes, view-tail-Elements, view-tail-Fields}
+use Rattle.aml_code.proofs.Views.{view-Nothing, view-Named, view-Op, view-tail-Empty, view-tail-Terms, view-tail-Bytes}
+use Rattle.aml_code.proofs.Views.{view-tail-Elements, view-tail-Fields}
 use Rattle.aml_code.proofs.Views.{view-tail-Body}
 use Rattle.aml_code.specs.declared.tree.Tail as tails
 use Rattle.text_writer.proofs.PrintLaws.{straight}

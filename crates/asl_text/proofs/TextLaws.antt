@@ -1,6 +1,7 @@
 -- Texts of lists, as loops print them.
 use Rattle.std.proofs.Common.{◌≤◌, ◌-◌, drop, sym, arith}
-use Rattle.asl_text.proofs.Common.{◌≡◌, ℕ, ◌+◌, ◌<◌, add-one, append-nil, List, [], ◌∷◌, ◌++◌, get_or, map, flat_map, length, take, refl, ap, ◌∙◌, take_more}
+use Rattle.asl_text.proofs.Common.{◌≡◌, ℕ, ◌+◌, ◌<◌, add-one, append-nil, List, [], ◌∷◌, ◌++◌, get_or, map, flat_map}
+use Rattle.asl_text.proofs.Common.{length, take, refl, ap, ◌∙◌, take_more}
 use Rattle.asl_text.proofs.Common.{map-append, nil_from_length, flat_map-append, word, indent, separated}
 use Rattle.asl_text.proofs.Common.{Name, cond, replicate}
 use Rattle.asl_text.specs.Texts.{segment_text}

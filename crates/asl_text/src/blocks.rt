@@ -5,7 +5,9 @@ ghost use Rattle.std.specs.Prelude.{◌≡◌, ◌++◌, Some, decimal};
 ghost use Rattle.aml_code.specs.View.{node_view, nodes_view, parts_view, tail_view};
 ghost use Rattle.text_writer.specs.Prints.{Prints, quoted, word};
 ghost use Rattle.asl_text.specs.Bodies.{bodies_lines};
-ghost use Rattle.asl_text.specs.Texts.{head_of, deeper, line, opening, serialized_text, flags_text, method_text, method_head, first_lines, levels_in, tail_levels, all_levels, behind, term_lines, op_lines, terms_lines, left_all, block_text};
+ghost use Rattle.asl_text.specs.Texts.{head_of, deeper, line, opening, serialized_text, flags_text, method_text};
+ghost use Rattle.asl_text.specs.Texts.{method_head, first_lines, levels_in, tail_levels, all_levels, behind};
+ghost use Rattle.asl_text.specs.Texts.{term_lines, op_lines, terms_lines, left_all, block_text};
 
 use crate::bodies::{Bodies, print_first};
 use crate::inline::Inline;
@@ -149,8 +151,10 @@ fn print_table_op<'b, W: Write>(
     bodies: Bodies<'b>,
 ) -> Bodies<'b>
     ensures prints { Prints W.contents out.old out.new
-        (op_lines code.now (Some (bodies_lines bodies.entry)) level head.entry.opcode (parts_view head.entry.parts.now.items) (tail_view tail.now)) }
-    ensures others { bodies_lines result ≡ behind (tail_levels (deeper level) (tail_view tail.now)) (bodies_lines bodies.entry) }
+        (op_lines code.now (Some (bodies_lines bodies.entry)) level head.entry.opcode
+        (parts_view head.entry.parts.now.items) (tail_view tail.now)) }
+    ensures others { bodies_lines result
+        ≡ behind (tail_levels (deeper level) (tail_view tail.now)) (bodies_lines bodies.entry) }
 {
     match tail {
         Tail::Terms(nodes) => print_table_block(out, code, level, nodes.as_slice(), head, bodies),
@@ -181,8 +185,10 @@ fn print_table_block<'b, W: Write>(
 ) -> Bodies<'b>
     ensures prints { Prints W.contents out.old out.new
         (opening level (head_of head.entry.opcode (parts_view head.entry.parts.now.items)) ++
-        terms_lines code.now (Some (bodies_lines bodies.entry)) (deeper level) (nodes_view nodes.now) ++ line level (word "}")) }
-    ensures others { bodies_lines result ≡ behind (all_levels (deeper level) (nodes_view nodes.now)) (bodies_lines bodies.entry) }
+        terms_lines code.now (Some (bodies_lines bodies.entry)) (deeper level) (nodes_view nodes.now) ++
+        line level (word "}")) }
+    ensures others { bodies_lines result
+        ≡ behind (all_levels (deeper level) (nodes_view nodes.now)) (bodies_lines bodies.entry) }
 {
     print_opening(out, level, &head);
     let others = print_table_terms(out, code, level.saturating_add(1), nodes, bodies);
@@ -201,7 +207,8 @@ fn print_table_terms<'b, W: Write>(
 ) -> Bodies<'b>
     ensures prints { Prints W.contents out.old out.new
         (terms_lines code.now (Some (bodies_lines bodies.entry)) level (nodes_view nodes.now)) }
-    ensures others { bodies_lines result ≡ behind (all_levels level (nodes_view nodes.now)) (bodies_lines bodies.entry) }
+    ensures others { bodies_lines result
+        ≡ behind (all_levels level (nodes_view nodes.now)) (bodies_lines bodies.entry) }
 {
     let mut rest = bodies;
     for node in nodes {

@@ -1,7 +1,7 @@
 //! ASL-like text of AML, exactly as the definitions of `specs/` say: names, terms, bodies and definition blocks.
 //!
-//! Nothing here takes memory, but for `body_text` and `term_text`. Each printing function's contract gives the text that it
-//! prints.
+//! Nothing here takes memory, but for `body_text` and `term_text`. Each printing function's contract gives the text
+//! that it prints.
 #![tactic(auto)]
 
 mod blocks;

@@ -4,7 +4,8 @@
 ghost use Rattle.std.specs.Prelude.{◌++◌, [], None, decimal};
 ghost use Rattle.aml_code.specs.View.{node_view, nodes_view, parts_view, tail_view, field_view, fields_view, link_view};
 ghost use Rattle.text_writer.specs.Prints.{Prints, word};
-ghost use Rattle.asl_text.specs.Texts.{head_of, tail_text, link_text, byte_pair, byte_end, field_text, field_lines, deeper, indent, line, opening, lines, op_lines, all_lines};
+ghost use Rattle.asl_text.specs.Texts.{head_of, tail_text, link_text, byte_pair, byte_end, field_text, field_lines};
+ghost use Rattle.asl_text.specs.Texts.{deeper, indent, line, opening, lines, op_lines, all_lines};
 
 use crate::inline::Inline;
 use crate::texts::{Head, print_byte, print_tail};
@@ -57,7 +58,8 @@ pub struct Op<'n> {
 }
 
 impl Inline for Op<'_> {
-    ghost text = { λ op. head_of op.head.opcode (parts_view op.head.parts.now.items) ++ tail_text (tail_view op.tail.now) };
+    ghost text = { λ op. head_of op.head.opcode (parts_view op.head.parts.now.items) ++
+        tail_text (tail_view op.tail.now) };
 
     fn print<W: Write>(&self, out: &mut Out<'_, W>) {
         self.head.print(out);

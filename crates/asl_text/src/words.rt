@@ -68,8 +68,8 @@ fn print_block<W: Write>(out: &mut Out<'_, W>, segs: &[Seg])
     out.put(block[..segs.len()].as_flattened());
 }
 
-/// Many segments, each behind a dot, a block at a time: a deep path has many thousands of them. It stays out of the frame
-/// of what prints a few.
+/// Many segments, each behind a dot, a block at a time: a deep path has many thousands of them. It stays out of the
+/// frame of what prints a few.
 #[inline(never)]
 fn print_blocks<W: Write>(out: &mut Out<'_, W>, segs: &[Seg])
     ensures { Prints W.contents out.old out.new (flat_map (λ text. word "." ++ text) (map segment_text segs.now)) }

@@ -1,5 +1,5 @@
-//! Prints who calls what in the tables of a folder. Each line is a call: the method that has it, the path that it calls,
-//! and how many arguments it gives. docs/library.md says how to build it.
+//! Prints who calls what in the tables of a folder. Each line is a call: the method that has it, the path that it
+//! calls, and how many arguments it gives. docs/library.md says how to build it.
 #![tactic(auto)]
 
 use acpi_folder::{DiskFolder, gather};

@@ -1,9 +1,11 @@
 -- Printing one text and then another prints both: by whether a fault came before, in the first or in the second. So the
--- text of a list is printed item by item. Below it what the writer itself does: a text that waits, one that is sent, and
--- what its caller learns at the end.
+-- text of a list is printed item by item. Below it what the writer itself does: a text that waits, one that is sent,
+-- and what its caller learns at the end.
 use Prim.Native.String.{String}
-use Rattle.std.proofs.Common.{codes, flat_map, get_or, subst, ◌≡◌, ℕ, ◌+◌, ◌-◌, ◌^◌, ◌<◌, ◌≤◌, min, length-take, List, [], ◌∷◌, ◌++◌, length, take, drop, Bool}
-use Rattle.std.proofs.Common.{true, false, nat_lt, Result, Ok, Err, OnOk, IfErr, Option, append-nil, refl, sym, ap, ◌∙◌, append_assoc, length-append}
+use Rattle.std.proofs.Common.{codes, flat_map, get_or, subst, ◌≡◌, ℕ, ◌+◌, ◌-◌, ◌^◌, ◌<◌, ◌≤◌, min, length-take, List}
+use Rattle.std.proofs.Common.{[], ◌∷◌, ◌++◌, length, take, drop, Bool}
+use Rattle.std.proofs.Common.{true, false, nat_lt, Result, Ok, Err, OnOk, IfErr, Option, append-nil, refl, sym, ap, ◌∙◌}
+use Rattle.std.proofs.Common.{append_assoc, length-append}
 use Rattle.std.proofs.Common.{length-drop, take-append-drop, arith}
 use Rattle.std.specs.Io.KnownBytes.{Appends}
 use Rattle.std.proofs.KnownBytes.{Appends-nil, Appends-trans}

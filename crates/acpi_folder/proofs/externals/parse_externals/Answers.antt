@@ -1,4 +1,5 @@
-use Rattle.acpi_folder.proofs.Common.{rules, ◌+◌, ◌≤◌, ap, inr, length, vec_len, ℕ, take_all, MatchOption-at_none, MatchOption-at_some, lines_of}
+use Rattle.acpi_folder.proofs.Common.{rules, ◌+◌, ◌≤◌, ap, inr, length, vec_len, ℕ, take_all, MatchOption-at_none}
+use Rattle.acpi_folder.proofs.Common.{MatchOption-at_some, lines_of}
 use Rattle.acpi_folder.specs.declared.externals.ExternalsFault.TheVariants.{BadLine}
 use Rattle.acpi_folder.specs.Externals.{RefusesExternals}
 use Rattle.acpi_folder.proofs.Pairs.{turn, refuses, not_giving}

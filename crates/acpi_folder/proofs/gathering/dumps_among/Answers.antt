@@ -1,4 +1,5 @@
-use Rattle.acpi_folder.proofs.Common.{rules, tests, not, List, String, Global, IsPermutation, string_bytes, subst, filter_from_retain, is_map}
+use Rattle.acpi_folder.proofs.Common.{rules, tests, not, List, String, Global, IsPermutation, string_bytes, subst}
+use Rattle.acpi_folder.proofs.Common.{filter_from_retain, is_map}
 use Rattle.acpi_folder.proofs.gathering.dumps_among.Goals as goal
 
 pub returns-clause-all : goal.returns-clause-all

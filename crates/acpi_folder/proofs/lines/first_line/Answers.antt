@@ -1,4 +1,5 @@
-use Rattle.acpi_folder.proofs.Common.{◌+◌, ◌-◌, ◌∷◌, length, take, drop, sym, ap, ◌∙◌, arith, length-drop, take_all, lines_of}
+use Rattle.acpi_folder.proofs.Common.{◌+◌, ◌-◌, ◌∷◌, length, take, drop, sym, ap, ◌∙◌, arith, length-drop, take_all}
+use Rattle.acpi_folder.proofs.Common.{lines_of}
 use Rattle.acpi_folder.proofs.FirstLines.{lines_of-ended}
 use Rattle.acpi_folder.proofs.lines.first_line.Goals as goal
 

@@ -1,4 +1,5 @@
-use Rattle.acpi_folder.proofs.Common.{rules, Some, ◌+◌, ◌≤◌, ◌∙◌, ap, arith, map, vec_len, length, string_bytes, take_all, lines_of, entry_of, RefusesMap}
+use Rattle.acpi_folder.proofs.Common.{rules, Some, ◌+◌, ◌≤◌, ◌∙◌, ap, arith, map, vec_len, length, string_bytes}
+use Rattle.acpi_folder.proofs.Common.{take_all, lines_of, entry_of, RefusesMap}
 use Rattle.acpi_folder.proofs.Turns.{turn, behind, refuses}
 use Rattle.acpi_folder.proofs.map.read_lines.Goals as goal
 

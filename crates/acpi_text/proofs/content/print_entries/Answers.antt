@@ -1,4 +1,5 @@
-use Rattle.acpi_text.proofs.Common.{◌≡◌, [], flat_map, map, ap, sym, subst, ◌∙◌, zero-add, arith, range_with_len, map-range_with_len_more, Prints, prints_then}
+use Rattle.acpi_text.proofs.Common.{◌≡◌, [], flat_map, map, ap, sym, subst, ◌∙◌, zero-add, arith, range_with_len}
+use Rattle.acpi_text.proofs.Common.{map-range_with_len_more, Prints, prints_then}
 use Rattle.acpi_text.proofs.Common.{address_bytes, address_count, address_width, entry_line, entry_lines, flat_map_more}
 use Rattle.acpi_text.proofs.content.print_entries.Goals as goal
 

@@ -1,4 +1,5 @@
-use Rattle.acpi_text.proofs.Common.{get_or_default, flat_map-map, prints_turn, prints_end, field_view, field_text, fields_text}
+use Rattle.acpi_text.proofs.Common.{get_or_default, flat_map-map, prints_turn, prints_end, field_view, field_text}
+use Rattle.acpi_text.proofs.Common.{fields_text}
 use Rattle.acpi_text.proofs.fields.print_fields.Goals as goal
 
 pub loop-field-preserved : goal.loop-field-preserved

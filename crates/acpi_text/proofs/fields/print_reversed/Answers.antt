@@ -1,4 +1,5 @@
-use Rattle.acpi_text.proofs.Common.{◌≡◌, ◌-◌, ◌<◌, length, reverse, sym, ◌∙◌, arith, get_or, get_or-reverse, length-reverse, hex2, prints_turn}
+use Rattle.acpi_text.proofs.Common.{◌≡◌, ◌-◌, ◌<◌, length, reverse, sym, ◌∙◌, arith, get_or, get_or-reverse}
+use Rattle.acpi_text.proofs.Common.{length-reverse, hex2, prints_turn}
 use Rattle.std.proofs.lemmas.Grind.{get_or_default_zero}
 use Rattle.acpi_text.proofs.fields.print_reversed.Goals as goal
 

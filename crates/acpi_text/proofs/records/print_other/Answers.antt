@@ -1,4 +1,5 @@
-use Rattle.acpi_text.proofs.Common.{◌≡◌, ◌-◌, length, take, drop, length-drop, arith, take_all, word, prints_then, other_text}
+use Rattle.acpi_text.proofs.Common.{◌≡◌, ◌-◌, length, take, drop, length-drop, arith, take_all, word, prints_then}
+use Rattle.acpi_text.proofs.Common.{other_text}
 use Rattle.acpi_text.proofs.records.print_other.Goals as goal
 
 pub returns : goal.returns

@@ -1,4 +1,5 @@
-use Rattle.acpi_text.proofs.Common.{[], refl, ap, sym, subst, flat_map, false≢true, Prints, prints_none, prints_then, walk_start, walk_more, records_of-walk}
+use Rattle.acpi_text.proofs.Common.{[], refl, ap, sym, subst, flat_map, false≢true, Prints, prints_none, prints_then}
+use Rattle.acpi_text.proofs.Common.{walk_start, walk_more, records_of-walk}
 use Rattle.acpi_text.proofs.Common.{whole_not_broken, BreaksAt-walk, record_line, flat_map_more}
 use Rattle.acpi_text.proofs.records.print_records.Goals as goal
 

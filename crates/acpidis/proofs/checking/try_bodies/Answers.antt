@@ -1,4 +1,5 @@
-use Rattle.acpidis.proofs.Common.{◌≡◌, ℕ, ◌+◌, ◌<◌, ◌≤◌, Bool, List, Result, length, take, ◌++◌, ◌∷◌, [], sym, ap, ◌∙◌, subst, arith, length-take-le}
+use Rattle.acpidis.proofs.Common.{◌≡◌, ℕ, ◌+◌, ◌<◌, ◌≤◌, Bool, List, Result, length, take, ◌++◌, ◌∷◌, [], sym, ap, ◌∙◌}
+use Rattle.acpidis.proofs.Common.{subst, arith, length-take-le}
 use Rattle.acpidis.proofs.Common.{length_push, take_all, take_more, CodeFault, body_of, Body, AreKept, IsKept, IsSame}
 use Rattle.acpidis.proofs.BodyLaws.{kept_more}
 use Rattle.acpidis.proofs.checking.try_bodies.Goals as goal

@@ -1,4 +1,5 @@
-use Rattle.acpidis.proofs.Common.{true≢false, sym, ap, ◌∙◌, err_from_is_err_and, all_same, blocks_at, checks_with, tried_marks, names_in, table_dumps, table_codes, table_terms}
+use Rattle.acpidis.proofs.Common.{true≢false, sym, ap, ◌∙◌, err_from_is_err_and, all_same, blocks_at, checks_with}
+use Rattle.acpidis.proofs.Common.{tried_marks, names_in, table_dumps, table_codes, table_terms}
 use Rattle.aml_set.proofs.TableLaws.{are_short}
 use Rattle.acpidis.proofs.CheckLaws.{short_blocks}
 use Rattle.acpidis.proofs.RunLaws.{trials_output, trials_same}

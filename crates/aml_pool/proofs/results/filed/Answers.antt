@@ -1,9 +1,11 @@
-use Rattle.std.proofs.Common.{rules, ◌≡◌, ◌∷◌, ◌++◌, [], map, length, length-set, Some, set, sym, ap, ◌∙◌, subst, refl, arith}
+use Rattle.std.proofs.Common.{rules, ◌≡◌, ◌∷◌, ◌++◌, [], map, length, length-set, Some, set, sym, ap, ◌∙◌, subst, refl}
+use Rattle.std.proofs.Common.{arith}
 use Rattle.aml_pool.proofs.Counts.{yes_one}
 use Rattle.std.specs.Prelude.{All}
 use Rattle.aml_pool.specs.Counting.{times, same, free, AllGive}
 use Rattle.aml_pool.specs.Seats.{Files}
-use Rattle.aml_pool.proofs.Places.{free-vacant, times-last, all-first, all-last, free-filed, gives-filed, refuses-taken, vacant-none}
+use Rattle.aml_pool.proofs.Places.{free-vacant, times-last, all-first, all-last, free-filed, gives-filed, refuses-taken}
+use Rattle.aml_pool.proofs.Places.{vacant-none}
 use Rattle.aml_pool.proofs.results.filed.Goals as goal
 
 pub loop-number-preserved : goal.loop-number-preserved

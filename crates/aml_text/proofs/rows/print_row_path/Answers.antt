@@ -1,7 +1,8 @@
 use Rattle.std.specs.Prelude.{take}
 use Rattle.std.proofs.lemmas.List.{length-take, length-drop, take_all}
 use Rattle.std.proofs.Math.Seq.{take-add}
-use Rattle.aml_text.proofs.Common.{◌≤◌, ◌+◌, ◌++◌, length, drop, sym, ap, subst, ◌∙◌, arith, append_assoc, Prints, word, prints_then, prints_word}
+use Rattle.aml_text.proofs.Common.{◌≤◌, ◌+◌, ◌++◌, length, drop, sym, ap, subst, ◌∙◌, arith, append_assoc, Prints, word}
+use Rattle.aml_text.proofs.Common.{prints_then, prints_word}
 unfoldable use Rattle.aml_text.specs.Rows.{path_text}
 use Rattle.aml_text.proofs.RowLaws.{dotted, dotted_join}
 use Rattle.aml_text.proofs.rows.print_row_path.Goals as goal

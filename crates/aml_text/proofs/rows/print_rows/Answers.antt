@@ -1,5 +1,7 @@
-use Rattle.aml_text.proofs.Common.{true≢false, slice_get, decimal, ◌≡◌, ℕ, List, [], ◌∷◌, ◌++◌, drop, flat_map, length, Some, None, is_some, refl, sym, subst}
-use Rattle.aml_text.proofs.Common.{ap, ◌∙◌, append_assoc, unwrap_or, append-nil, flat_map_more, Seg, Prints, word, prints_then}
+use Rattle.aml_text.proofs.Common.{true≢false, slice_get, decimal, ◌≡◌, ℕ, List, [], ◌∷◌, ◌++◌, drop, flat_map, length}
+use Rattle.aml_text.proofs.Common.{Some, None, is_some, refl, sym, subst}
+use Rattle.aml_text.proofs.Common.{ap, ◌∙◌, append_assoc, unwrap_or, append-nil, flat_map_more, Seg, Prints, word}
+use Rattle.aml_text.proofs.Common.{prints_then}
 use Rattle.aml_text.proofs.Common.{line, row_line, namespace_text}
 use Rattle.std.specs.FinMap as map
 use Rattle.aml_space.specs.Known.{Declared}

@@ -1,4 +1,5 @@
-use Rattle.aml_text.proofs.Common.{List, [], ◌++◌, refl, sym, ◌∙◌, subst, arith, append-nil, at_drop_all, Prints, prints_then, prints_none, OneBlock, block_text}
+use Rattle.aml_text.proofs.Common.{List, [], ◌++◌, refl, sym, ◌∙◌, subst, arith, append-nil, at_drop_all, Prints}
+use Rattle.aml_text.proofs.Common.{prints_then, prints_none, OneBlock, block_text}
 use Rattle.aml_text.proofs.Common.{blocks_text, bodies_lines, block_view}
 use Rattle.aml_text.proofs.ListingLaws.{blocks_turn}
 use Rattle.aml_text.proofs.tables.print_tables.Goals as goal

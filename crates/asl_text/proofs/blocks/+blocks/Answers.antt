@@ -1,4 +1,5 @@
-use Rattle.asl_text.proofs.Common.{◌≡◌, ◌+◌, Some, List, ◌∷◌, ◌++◌, drop, sym, ap, ◌∙◌, add-one, drop-cons, Node, node_view, nodes_view, BodyLines, levels_in}
+use Rattle.asl_text.proofs.Common.{◌≡◌, ◌+◌, Some, List, ◌∷◌, ◌++◌, drop, sym, ap, ◌∙◌, add-one, drop-cons, Node}
+use Rattle.asl_text.proofs.Common.{node_view, nodes_view, BodyLines, levels_in}
 use Rattle.asl_text.proofs.Common.{all_levels, behind, term_lines, terms_lines, bodies_lines, prints_then}
 use Rattle.asl_text.proofs.BlockLaws.{behind_both, table_turn}
 use Rattle.asl_text.proofs.blocks.+blocks.Goals as goal

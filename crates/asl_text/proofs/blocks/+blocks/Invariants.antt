@@ -1,4 +1,5 @@
-use Rattle.asl_text.proofs.Common.{◌≡◌, ℕ, Some, List, ◌++◌, drop, nodes_view, Prints, all_levels, behind, terms_lines, bodies_lines}
+use Rattle.asl_text.proofs.Common.{◌≡◌, ℕ, Some, List, ◌++◌, drop, nodes_view, Prints, all_levels, behind, terms_lines}
+use Rattle.asl_text.proofs.Common.{bodies_lines}
 use Rattle.asl_text.proofs.blocks.+blocks.Given as goal
 
 abbrev pub invariant-print_table_terms-loop-node : goal.invariant-print_table_terms-loop-node

@@ -1,4 +1,5 @@
-use Rattle.asl_text.proofs.Common.{◌≡◌, ◌++◌, List, ℕ, append-nil, ap, ◌∙◌, node_view, nodes_view, word, lines, all_lines}
+use Rattle.asl_text.proofs.Common.{◌≡◌, ◌++◌, List, ℕ, append-nil, ap, ◌∙◌, node_view, nodes_view, word, lines}
+use Rattle.asl_text.proofs.Common.{all_lines}
 use Rattle.asl_text.proofs.EndLaws.{ends_lines, cut_newline}
 use Rattle.asl_text.proofs.writing.term_text.Goals as goal
 

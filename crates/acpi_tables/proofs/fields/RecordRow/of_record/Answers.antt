@@ -1,4 +1,5 @@
-use Rattle.acpi_tables.proofs.Common.{◌≡◌, Bool, Option, Some, None, option_map, Bor, nat_eq, ◌&&◌, find, length, refl, ap, ◌∙◌}
+use Rattle.acpi_tables.proofs.Common.{◌≡◌, Bool, Option, Some, None, option_map, Bor, nat_eq, ◌&&◌, find, length, refl}
+use Rattle.acpi_tables.proofs.Common.{ap, ◌∙◌}
 use Rattle.acpi_tables.specs.Madt.{Row, kind_of, row_of, row_view}
 use Rattle.acpi_tables.specs.declared.fields.RecordRow.{RecordRow}
 use Rattle.acpi_tables.proofs.Values.{find-map}

@@ -1,4 +1,5 @@
-use Rattle.acpi_tables.proofs.Common.{[], ◌∷◌, ◌++◌, map, take, ap, sym, ◌∙◌, arith, length-set, map_more, map_push, take_more_set, number_at}
+use Rattle.acpi_tables.proofs.Common.{[], ◌∷◌, ◌++◌, map, take, ap, sym, ◌∙◌, arith, length-set, map_more, map_push}
+use Rattle.acpi_tables.proofs.Common.{take_more_set, number_at}
 use Rattle.acpi_tables.specs.Bytes.{Field, field_view, values_of}
 use Rattle.acpi_tables.proofs.fields.RecordRow.values_in.Goals as goal
 

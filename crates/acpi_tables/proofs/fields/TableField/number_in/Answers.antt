@@ -1,4 +1,5 @@
-use Rattle.acpi_tables.proofs.Common.{◌≡◌, ◌-◌, length, take, drop, ap, ◌∙◌, arith, length-drop, take_all, take_min, drop_min, little_endian, number_at}
+use Rattle.acpi_tables.proofs.Common.{◌≡◌, ◌-◌, length, take, drop, ap, ◌∙◌, arith, length-drop, take_all, take_min}
+use Rattle.acpi_tables.proofs.Common.{drop_min, little_endian, number_at}
 use Rattle.acpi_tables.proofs.fields.TableField.number_in.Goals as goal
 
 pub returns : goal.returns

@@ -1,4 +1,5 @@
-use Rattle.acpidis.proofs.Common.{length, refl, sym, ap, ◌∙◌, subst, IfOk-weaker, OfMethod, table_codes, body_in, BecameIn}
+use Rattle.acpidis.proofs.Common.{length, refl, sym, ap, ◌∙◌, subst, IfOk-weaker, OfMethod, table_codes, body_in}
+use Rattle.acpidis.proofs.Common.{BecameIn}
 use Rattle.std.proofs.lemmas.Option.{slice_get_read}
 use Rattle.acpidis.proofs.bodies.KeepingWork.work.Goals as goal
 

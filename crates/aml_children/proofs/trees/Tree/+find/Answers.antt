@@ -1,5 +1,6 @@
 use Rattle.std.proofs.Common.{sym, ◌∙◌, arith, rules}
-use Rattle.aml_children.proofs.Forks.{height_is, balanced_is, left_rises, right_rises, left_shorter, right_shorter, at_left, at_right, at_middle}
+use Rattle.aml_children.proofs.Forks.{height_is, balanced_is, left_rises, right_rises, left_shorter, right_shorter}
+use Rattle.aml_children.proofs.Forks.{at_left, at_right, at_middle}
 use Rattle.aml_children.proofs.trees.Tree.+find.Goals as goal
 
 pub find-found-requires : goal.find-found-requires

@@ -1,7 +1,8 @@
 use Rattle.std.proofs.Common.{refl, sym, ap, ◌∙◌}
 use Rattle.aml_children.specs.Children.{child_in}
 use Rattle.aml_children.specs.Trees.{list_and_height}
-use Rattle.aml_children.proofs.Forks.{left_rises, right_rises, left_shorter, right_shorter, at_left, at_right, at_middle}
+use Rattle.aml_children.proofs.Forks.{left_rises, right_rises, left_shorter, right_shorter, at_left, at_right}
+use Rattle.aml_children.proofs.Forks.{at_middle}
 use Rattle.aml_children.proofs.trees.Tree.node.Goals as goal
 
 pub forks-init : goal.forks-init

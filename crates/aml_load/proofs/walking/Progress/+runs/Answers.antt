@@ -5,7 +5,8 @@ use Rattle.aml_space.specs.Known.{StandsFor}
 use Rattle.aml_load.specs.Running.{run_names}
 use Rattle.aml_load.specs.Runner.{front_of, below, RoomBy, HasRoom}
 use Rattle.aml_load.specs.Tables.{Fails}
-use Rattle.aml_load.proofs.Ran.{found_then, found_none, span_is, opened_ok, done, fails, goes_on, room_on, room_in, behind_is, term_is, term_fails}
+use Rattle.aml_load.proofs.Ran.{found_then, found_none, span_is, opened_ok, done, fails, goes_on, room_on, room_in}
+use Rattle.aml_load.proofs.Ran.{behind_is, term_is, term_fails}
 use Rattle.aml_load.proofs.walking.Progress.+runs.Goals as goal
 
 pub open-returns-in_ok-terms-in-Some : goal.open-returns-in_ok-terms-in-Some

@@ -1,5 +1,6 @@
 use Rattle.std.specs.Prelude.{slice_get}
-use Rattle.std.proofs.Common.{[], ◌≡◌, ◌+◌, ◌-◌, ◌++◌, true, cond, List, map, length, take, Option, Some, None, OnOk, refl, arith, sym, ap, subst, ◌∙◌}
+use Rattle.std.proofs.Common.{[], ◌≡◌, ◌+◌, ◌-◌, ◌++◌, true, cond, List, map, length, take, Option, Some, None, OnOk}
+use Rattle.std.proofs.Common.{refl, arith, sym, ap, subst, ◌∙◌}
 use Rattle.std.proofs.lemmas.Option.{slice_get_within}
 use Rattle.std.specs.Option.{unwrap_or, option_flatten}
 use Rattle.std.specs.FinSet as set

@@ -1,8 +1,10 @@
-use Rattle.aml_parse.proofs.Common.{rules, PartKind, ◌≡◌, ◌+◌, ◌-◌, length, drop, get_or, [], ◌∷◌, inr, Some, None, Ok, ap, sym, ◌∙◌, arith, add-one, drop-cons, drop_all}
+use Rattle.aml_parse.proofs.Common.{rules, PartKind, ◌≡◌, ◌+◌, ◌-◌, length, drop, get_or, [], ◌∷◌, inr, Some, None, Ok}
+use Rattle.aml_parse.proofs.Common.{ap, sym, ◌∙◌, arith, add-one, drop-cons, drop_all}
 use Rattle.aml_parse.proofs.Common.{row_view, no_trees, tree_more, no_fields, field_more, node_view, field_view}
 use Rattle.aml_parse.proofs.Bare.{plain_bare}
 use Rattle.aml_parse.proofs.Opened.{opcode_read}
-use Rattle.aml_parse.proofs.Loops.{parts_go_on, parts_fails, parts_end, arguments_go_on, arguments_fails, arguments_end, go_on, fails, runs_out, done, nodes_found}
+use Rattle.aml_parse.proofs.Loops.{parts_go_on, parts_fails, parts_end, arguments_go_on, arguments_fails, arguments_end}
+use Rattle.aml_parse.proofs.Loops.{go_on, fails, runs_out, done, nodes_found}
 use Rattle.aml_parse.proofs.Loops.{fields_found}
 use Rattle.aml_parse.specs.Reading.{scope_of}
 use Rattle.aml_parse.proofs.parser.Parser.+terms.Goals as goal

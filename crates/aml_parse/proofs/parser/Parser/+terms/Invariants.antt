@@ -1,4 +1,5 @@
-use Rattle.aml_parse.proofs.Common.{◌≡◌, ◌+◌, ◌-◌, ◌*◌, length, drop, tree_more, part_more, field_more, node_view, part_view, field_view}
+use Rattle.aml_parse.proofs.Common.{◌≡◌, ◌+◌, ◌-◌, ◌*◌, length, drop, tree_more, part_more, field_more, node_view}
+use Rattle.aml_parse.proofs.Common.{part_view, field_view}
 use Rattle.aml_parse.specs.Reading.{read_in, parts_at, arguments_at, terms_at, fields_at}
 use Rattle.aml_parse.proofs.Loops.{then_rest, then_all}
 use Rattle.aml_parse.proofs.parser.Parser.+terms.Given as goal

@@ -1,4 +1,5 @@
-use Rattle.std.proofs.Common.{◌≡◌, ℕ, ◌-◌, ◌<◌, ◌≤◌, List, [], ◌∷◌, ◌++◌, cond, false, Option, Some, None, is_some, take, get_or, length, refl, sym, ap}
+use Rattle.std.proofs.Common.{◌≡◌, ℕ, ◌-◌, ◌<◌, ◌≤◌, List, [], ◌∷◌, ◌++◌, cond, false, Option, Some, None, is_some}
+use Rattle.std.proofs.Common.{take, get_or, length, refl, sym, ap}
 use Rattle.std.proofs.Common.{◌∙◌}
 use Rattle.std.proofs.Common.{subst, arith, IfSome}
 use Rattle.std.specs.Prelude.{◌||◌}
@@ -14,7 +15,8 @@ use Rattle.aml_space.specs.Nodes.{outs_of}
 use Rattle.aml_space.specs.Candidates.{path_at, names_of, IsNext, IsCandidate}
 use Rattle.aml_space.proofs.Asked.{none_met_below}
 use Rattle.aml_space.proofs.Levels.{next_sooner}
-use Rattle.aml_space.proofs.Nearest.{near_within, passed_by, local_met, local_there, other_there, none_local, less_above, less_here}
+use Rattle.aml_space.proofs.Nearest.{near_within, passed_by, local_met, local_there, other_there, none_local}
+use Rattle.aml_space.proofs.Nearest.{less_above, less_here}
 use Rattle.aml_space.proofs.Upward.{rest_of, hit, step, skip}
 use Rattle.aml_space.proofs.Meaning.{meant_path, outside_path, outside_depth, outside_still, ended}
 use Rattle.aml_space.proofs.scopes.Scope.search.Goals as goal

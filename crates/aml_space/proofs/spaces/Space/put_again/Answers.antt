@@ -1,4 +1,5 @@
-use Rattle.std.proofs.Common.{◌≡◌, false, ◌+◌, length, ◌++◌, ◌∷◌, [], List, Option, None, OnOk, OnErr, Result, Ok, Err, refl, sym, subst, ap, ◌∙◌, arith}
+use Rattle.std.proofs.Common.{◌≡◌, false, ◌+◌, length, ◌++◌, ◌∷◌, [], List, Option, None, OnOk, OnErr, Result, Ok, Err}
+use Rattle.std.proofs.Common.{refl, sym, subst, ap, ◌∙◌, arith}
 use Rattle.std.specs.FinMap as map
 use Rattle.std.specs.declared.alloc.AllocError.{AllocError}
 use Rattle.aml_space.specs.Namespace.{Entry, Body, declares}

@@ -1,5 +1,6 @@
 use mathlib.Core.Bool.{true≢false}
-use Rattle.std.proofs.Common.{◌≡◌, ◌+◌, length, List, ◌++◌, ◌∷◌, [], None, is_some, not, true, false, refl, sym, subst, ap, ◌∙◌, arith}
+use Rattle.std.proofs.Common.{◌≡◌, ◌+◌, length, List, ◌++◌, ◌∷◌, [], None, is_some, not, true, false, refl, sym, subst}
+use Rattle.std.proofs.Common.{ap, ◌∙◌, arith}
 use Rattle.std.specs.FinMap as map
 use Rattle.aml_space.specs.Namespace.{Entry, declares, declared_at}
 use Rattle.aml_space.specs.Nodes.{known_by}

@@ -1,4 +1,5 @@
-use Rattle.aml_text.proofs.Common.{◌<◌, length, sym, ap, ◌∙◌, arith, length-map, get_or-map, name_of, nodes_view, names_in, codes_view, trees_view, indexes_in}
+use Rattle.aml_text.proofs.Common.{◌<◌, length, sym, ap, ◌∙◌, arith, length-map, get_or-map, name_of, nodes_view}
+use Rattle.aml_text.proofs.Common.{names_in, codes_view, trees_view, indexes_in}
 use Rattle.aml_text.proofs.ListingLaws.{blocks_many, block_there}
 use Rattle.aml_text.proofs.tables.ListingBlocks.block.Goals as goal
 
