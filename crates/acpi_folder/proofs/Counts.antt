@@ -38,11 +38,13 @@ cut : (segment : Seg) (rest : List ℕ) → IsNameSeg segment.0 → drop 4 (segm
 cut segment rest named = drop_at (segment_text segment) rest 4 (ap length (segment_is segment named) ∙ (text_is segment.0 named).1)
 
 -- bytes by the one in front, as the code takes them apart
-headed : (lead : ℕ) (bytes : List ℕ) → 1 ≤ length bytes → get_or bytes 0 0 ≡ lead → bytes ≡ lead ∷ take (length bytes - 1) (drop 1 bytes)
+headed : (lead : ℕ) (bytes : List ℕ) → 1 ≤ length bytes → get_or bytes 0 0 ≡ lead
+    → bytes ≡ lead ∷ take (length bytes - 1) (drop 1 bytes)
 headed lead [] some first = absurd (omega arith)
 headed lead (byte ∷ bytes) some first = let all = take_all (length (byte ∷ bytes) - 1) bytes (omega arith) in cc
 
-pub begins_all : (lead : ℕ) (bytes : List ℕ) (segment : Seg) (rest : List ℕ) → 1 ≤ length bytes → get_or bytes 0 0 ≡ lead → IsBytes bytes
+pub begins_all : (lead : ℕ) (bytes : List ℕ) (segment : Seg) (rest : List ℕ) → 1 ≤ length bytes
+    → get_or bytes 0 0 ≡ lead → IsBytes bytes
     → segment_at 0 (take (length bytes - 1) (drop 1 bytes)) ≡ Ok (segment, rest) → BeginsWith lead bytes segment rest
 begins_all lead bytes segment rest some first fits read =
     let others : List ℕ = take (length bytes - 1) (drop 1 bytes) in
@@ -54,7 +56,8 @@ tail_is : (x y : ℕ) (xs ys : List ℕ) → x ∷ xs ≡ y ∷ ys → xs ≡ ys
 tail_is x y xs ys same = cc
 
 pub begins_none_all : (lead : ℕ) (bytes : List ℕ) (fault : CodeFault) → 1 ≤ length bytes → get_or bytes 0 0 ≡ lead
-    → Fails fault (segment_at 0 (take (length bytes - 1) (drop 1 bytes))) → (fault ≡ faults.NoMemory → ⊥) → BeginsWithNone lead bytes
+    → Fails fault (segment_at 0 (take (length bytes - 1) (drop 1 bytes))) → (fault ≡ faults.NoMemory → ⊥)
+    → BeginsWithNone lead bytes
 begins_none_all lead bytes fault some first (inl memory) other segment rest begun = absurd (other memory)
 begins_none_all lead bytes fault some first (inr failed) other segment rest begun =
     let others : List ℕ = take (length bytes - 1) (drop 1 bytes) in
@@ -98,7 +101,8 @@ after_more (first ∷ segments) segment rest =
     ap (λ (bytes : List ℕ). 92 ∷ (segment_text first ++ bytes) ++ rest) (flat_map-append (λ (s : Seg). 46 ∷ segment_text s) segments (segment ∷ []))
     ∙ ap (λ (bytes : List ℕ). 92 ∷ bytes) (regroup (segment_text first) _ (46 ∷ segment_text segment) rest)
 
-named_more : (segments : List Seg) (segment : Seg) → AreNameSegs segments → IsNameSeg segment.0 → AreNameSegs (segments ++ segment ∷ [])
+named_more : (segments : List Seg) (segment : Seg) → AreNameSegs segments → IsNameSeg segment.0
+    → AreNameSegs (segments ++ segment ∷ [])
 named_more [] segment all named = (named, tt)
 named_more (first ∷ segments) segment all named = (all.0, named_more segments segment all.1 named)
 
@@ -109,7 +113,8 @@ pub record Follows (lead : ℕ) (rest : List ℕ) : Type 0 where
   pub same : rest ≡ after lead others
 
 -- so are those behind the first segment
-follows : (lead : ℕ) (rest : List ℕ) (segment : Seg) (behind : List ℕ) → BeginsWith lead rest segment behind → (others : List Seg) → AreNameSegs others
+follows : (lead : ℕ) (rest : List ℕ) (segment : Seg) (behind : List ℕ) → BeginsWith lead rest segment behind
+    → (others : List Seg) → AreNameSegs others
     → rest ≡ after lead others → Follows 46 behind
 unfolding after
 follows lead rest segment behind begun [] named same = absurd cc
@@ -120,7 +125,8 @@ follows lead rest segment behind begun (first ∷ others) named same = record {
 }
 
 -- if they don't begin with a segment, they aren't
-stuck : (lead : ℕ) (rest : List ℕ) (others : List Seg) → AreNameSegs others → 0 < length rest → BeginsWithNone lead rest → rest ≡ after lead others → ⊥
+stuck : (lead : ℕ) (rest : List ℕ) (others : List Seg) → AreNameSegs others → 0 < length rest → BeginsWithNone lead rest
+    → rest ≡ after lead others → ⊥
 unfolding after
 stuck lead rest [] named some none same = omega (arith, ap length same)
 stuck lead rest (segment ∷ segments) named some none same = none segment _ (record { named = named.0; parts = same })
@@ -143,7 +149,8 @@ unread text segments none = rw none (record {
 })
 
 -- a turn of the loop over segments
-pub turn : (text : List ℕ) (segments now : List Seg) (rest : List ℕ) (lead : ℕ) (segment : Seg) (behind : List ℕ) → IsRead text segments rest lead
+pub turn : (text : List ℕ) (segments now : List Seg) (rest : List ℕ) (lead : ℕ) (segment : Seg) (behind : List ℕ)
+    → IsRead text segments rest lead
     → BeginsWith lead rest segment behind → now ≡ segments ++ segment ∷ [] → IsRead text now behind 46
 turn text segments now rest lead segment behind before begun grown = rw grown (record {
   same = rw (after_more segments segment behind, ← before.led, ← begun.parts) before.same;
@@ -152,16 +159,19 @@ turn text segments now rest lead segment behind before begun grown = rw grown (r
   goes_on = λ path it. let f = before.goes_on path it in follows lead rest segment behind begun f.others f.named f.same;
 })
 
-pub none_printed : (text : List ℕ) (segments : List Seg) (rest : List ℕ) (lead : ℕ) (path : List Seg) → IsRead text segments rest lead → 0 < length rest
+pub none_printed : (text : List ℕ) (segments : List Seg) (rest : List ℕ) (lead : ℕ) (path : List Seg)
+    → IsRead text segments rest lead → 0 < length rest
     → BeginsWithNone lead rest → IsPrinted text path → ⊥
 none_printed text segments rest lead path before some none it =
     let f = before.goes_on path it in stuck lead rest f.others f.named some none f.same
 
 -- nothing is left: all bytes are the path that is read
-all_read : (text : List ℕ) (segments : List Seg) (rest : List ℕ) (lead : ℕ) → IsRead text segments rest lead → length rest ≡ 0 → text ≡ after 92 segments
+all_read : (text : List ℕ) (segments : List Seg) (rest : List ℕ) (lead : ℕ) → IsRead text segments rest lead
+    → length rest ≡ 0 → text ≡ after 92 segments
 all_read text segments rest lead before none = rw (nil_from_length rest none, append-nil) at before.same
 
-pub printed : (text : List ℕ) (segments : List Seg) (rest : List ℕ) (lead : ℕ) → IsRead text segments rest lead → length rest ≡ 0 → 0 < length segments
+pub printed : (text : List ℕ) (segments : List Seg) (rest : List ℕ) (lead : ℕ) → IsRead text segments rest lead
+    → length rest ≡ 0 → 0 < length segments
     → IsPrinted text segments
 printed text segments rest lead before none some =
     record { below = record { below = some; segments = before.named }; same = all_read text segments rest lead before none ∙ sym (path_after segments some) }
@@ -171,7 +181,8 @@ nothing_printed : (path : List Seg) → path_text path ≡ [] → ⊥
 nothing_printed [] same = cc
 nothing_printed (segment ∷ segments) same = cc
 
-pub root_printed : (text : List ℕ) (segments : List Seg) (rest : List ℕ) (lead : ℕ) (path : List Seg) → IsRead text segments rest lead → length rest ≡ 0
+pub root_printed : (text : List ℕ) (segments : List Seg) (rest : List ℕ) (lead : ℕ) (path : List Seg)
+    → IsRead text segments rest lead → length rest ≡ 0
     → length segments ≡ 0 → IsPrinted text path → ⊥
 unfolding after
 root_printed text segments rest lead path before none root it =

@@ -19,7 +19,8 @@ module _ (digits : List ℕ) (i number : ℕ) (inside : i < length digits) (read
       omega (arith, few, most)
 
   -- a turn of the loop over digits
-  pub one_more : (value : ℕ) → digit_value (get_or digits i 0) < 16 → digit_value (get_or digits i 0) ≡ value → IsRead digits (i + 1) (number * 16 + value)
+  pub one_more : (value : ℕ) → digit_value (get_or digits i 0) < 16 → digit_value (get_or digits i 0) ≡ value
+      → IsRead digits (i + 1) (number * 16 + value)
   one_more value small is = record {
     all = digits_more 16 digits i inside read.all small;
     same = sym (digits_value_more 16 digits i inside ∙ ap (λ n. n * 16 + digit_value (get_or digits i 0)) (sym read.same)
@@ -27,7 +28,8 @@ module _ (digits : List ℕ) (i number : ℕ) (inside : i < length digits) (read
   }
 
 -- what isn't a digit
-pub not_digits : (digits : List ℕ) (i : ℕ) → i < length digits → ¬ (digit_value (get_or digits i 0) < 16) → ¬ AllDigits 16 digits
+pub not_digits : (digits : List ℕ) (i : ℕ) → i < length digits → ¬ (digit_value (get_or digits i 0) < 16)
+    → ¬ AllDigits 16 digits
 not_digits (digit ∷ digits) zero inside wrong all = wrong all.0
 not_digits (digit ∷ digits) (suc i) inside wrong all = not_digits digits i (omega arith) wrong all.1
 not_digits [] i inside wrong all = absurd (omega arith)

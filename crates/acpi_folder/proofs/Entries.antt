@@ -5,11 +5,13 @@ use Rattle.acpi_folder.proofs.Common.{shown_by, entry_of, repeats}
 use Rattle.std.specs.Str.{bytes_eq}
 use Rattle.acpi_tables.proofs.Values.{find-map}
 
-pub list_any-map : {X Y : Type 0} (test : Y → Bool) (f : X → Y) (xs : List X) → list_any test (map f xs) ≡ list_any (λ x. test (f x)) xs
+pub list_any-map : {X Y : Type 0} (test : Y → Bool) (f : X → Y) (xs : List X)
+    → list_any test (map f xs) ≡ list_any (λ x. test (f x)) xs
 list_any-map test f [] = refl
 list_any-map test f (x ∷ xs) = cc (list_any-map test f xs)
 
-address_shown : (line : Option Line) → option_map (λ entry. entry.address) (option_map shown_by line) ≡ option_map (λ line. line.address) line
+address_shown : (line : Option Line)
+    → option_map (λ entry. entry.address) (option_map shown_by line) ≡ option_map (λ line. line.address) line
 address_shown None = refl
 address_shown (Some line) = refl
 
@@ -20,7 +22,8 @@ address_in-shown lines name = ap (option_map (λ entry. entry.address)) (sym (fi
 
 -- whether a line repeats one of others
 pub list_any-shown : (line : Line) (bytes : List ℕ) (earlier : List Line) (test : Bool) → shown_by line ≡ entry_of bytes
-    → list_any (λ other. repeats (shown_by line) (shown_by other)) earlier ≡ test → list_any (repeats (entry_of bytes)) (map shown_by earlier) ≡ test
+    → list_any (λ other. repeats (shown_by line) (shown_by other)) earlier ≡ test
+    → list_any (repeats (entry_of bytes)) (map shown_by earlier) ≡ test
 list_any-shown line bytes earlier test says any = rw (← says) (list_any-map (repeats (shown_by line)) shown_by earlier ∙ any)
 
 pub ruleset entries = (list_any-map, address_in-shown)

@@ -45,7 +45,8 @@ lines_of-ended (byte ∷ bytes) end is =
     let all : List ℕ = byte ∷ bytes in
     rw (cond_some (ltb (position_or_len is_line_end all) (length all)) (position_or_len is_line_end all) end is).1 at (lines_of-first byte bytes)
 
-pub lines_of-unended : (text : List ℕ) → 0 < length text → position is_line_end text ≡ None → lines_of text ≡ text ∷ lines_of []
+pub lines_of-unended : (text : List ℕ) → 0 < length text → position is_line_end text ≡ None
+    → lines_of text ≡ text ∷ lines_of []
 lines_of-unended [] some is = absurd (omega arith)
 lines_of-unended (byte ∷ bytes) some is =
     let all : List ℕ = byte ∷ bytes in

@@ -33,7 +33,8 @@ within_both last middle first p q = record {
 -- ---- what was answered later, before
 
 module _ (later earlier : Answers) (within : IsWithin later earlier) where
-  read_before : (name : List ℕ) (limit : ℕ) (bytes : List ℕ) → Reads later name limit bytes → Reads earlier name limit bytes
+  read_before : (name : List ℕ) (limit : ℕ) (bytes : List ℕ) → Reads later name limit bytes
+      → Reads earlier name limit bytes
   read_before name limit bytes read = record { content = read.content; held = within.holds name read.content read.held; first = read.first }
 
   reads_before : (names files : List (List ℕ)) → AreRead later names files → AreRead earlier names files
@@ -56,7 +57,8 @@ module _ (later earlier : Answers) (within : IsWithin later earlier) where
   text_before : (text : List ℕ) → IsMapText later text → IsMapText earlier text
   text_before text it = record { read = read_before map_name read_limit text it.read; short = it.short }
 
-  addresses_before : (mapped : Bool) (names : List (List ℕ)) (addresses : List (Option ℕ)) → AreAddresses later mapped names addresses
+  addresses_before : (mapped : Bool) (names : List (List ℕ)) (addresses : List (Option ℕ))
+      → AreAddresses later mapped names addresses
       → AreAddresses earlier mapped names addresses
   addresses_before true names addresses it = (it.0, text_before it.0 it.1, it.2, it.3)
   addresses_before false names addresses it = it
@@ -83,7 +85,8 @@ module _ (first now : Answers) (names : List (String Global)) (n : ℕ) (name : 
   named : (d : List ℕ) → text ≡ get_or (names_of names) n d
   named d = same ∙ ap string_bytes is ∙ sym (get_or-map string_bytes names n name d inside)
 
-  pub turn : (later : Answers) (files grown : List (Vec ℕ Global)) (file : Vec ℕ Global) → IsReadTo first now (names_of names) (files_of files) n
+  pub turn : (later : Answers) (files grown : List (Vec ℕ Global)) (file : Vec ℕ Global)
+      → IsReadTo first now (names_of names) (files_of files) n
       → Reads now text read_limit file.items → IsWithin later now → grown ≡ files ++ file ∷ []
       → IsReadTo first later (names_of names) (files_of grown) (n + 1)
   turn later files grown file before read within pushed = rw (pushed, map-append) (record {
@@ -92,7 +95,8 @@ module _ (first now : Answers) (names : List (String Global)) (n : ℕ) (name : 
         named_inside (named text) before.read (read_before now first before.within text read_limit file.items read);
   })
 
-  pub stops : (files : List (List ℕ)) (fault : GatherFault) → IsReadTo first now (names_of names) files n → FailsAt now text fault
+  pub stops : (files : List (List ℕ)) (fault : GatherFault) → IsReadTo first now (names_of names) files n
+      → FailsAt now text fault
       → StopsBy first (names_of names) fault
   stops files (faults.File other) before failed = record {
     index = n;
@@ -105,7 +109,8 @@ module _ (first now : Answers) (names : List (String Global)) (n : ℕ) (name : 
 
 -- ---- the listing
 
-filter_named : (test : List ℕ → Bool) (names : List (String Global)) → filter test (names_of names) ≡ names_of (filter (λ name. test (string_bytes name)) names)
+filter_named : (test : List ℕ → Bool) (names : List (String Global))
+    → filter test (names_of names) ≡ names_of (filter (λ name. test (string_bytes name)) names)
 filter_named test [] = refl
 filter_named test (name ∷ names) =
     let kept = filter (λ name. test (string_bytes name)) names in
@@ -116,7 +121,8 @@ filter_named test (name ∷ names) =
       | false ↦ rest
     ]
 
-sorted_named : (names : List (String Global)) → IsSorted string_cmp names → IsSorted (slice_cmp nat_cmp) (names_of names)
+sorted_named : (names : List (String Global)) → IsSorted string_cmp names
+    → IsSorted (slice_cmp nat_cmp) (names_of names)
 sorted_named [] sorted k d low high = absurd (omega arith)
 sorted_named (first ∷ names) sorted k d low high =
     let all : List (String Global) = first ∷ names in
@@ -139,8 +145,10 @@ listing folder listed dumps mapped given all sorted any = record {
 -- ---- what stops the gathering
 
 -- a map that is refused for another cause than memory
-pub map_refused : (folder : Answers) (names : List (List ℕ)) (text seen : List ℕ) (fault : MapFault) → Reads folder map_name read_limit text
-    → length text ≤ most_bytes → seen ≡ text → (fault ≡ map_faults.NoMemory) ⊎ RefusesMap names seen fault → (fault ≡ map_faults.NoMemory → ⊥)
+pub map_refused : (folder : Answers) (names : List (List ℕ)) (text seen : List ℕ) (fault : MapFault)
+    → Reads folder map_name read_limit text
+    → length text ≤ most_bytes → seen ≡ text → (fault ≡ map_faults.NoMemory) ⊎ RefusesMap names seen fault
+    → (fault ≡ map_faults.NoMemory → ⊥)
     → (t : List ℕ) × IsMapText folder t × RefusesMap names t fault
 map_refused folder names text seen fault read short same (inl memory) other = absurd (other memory)
 map_refused folder names text seen fault read short same (inr refused) other = (text, record { read = read; short = short }, rw same at refused)
@@ -150,7 +158,8 @@ nothing_named : (names : List (String Global)) → ◌≡◌ {A = List (Option �
 nothing_named [] = refl
 nothing_named (name ∷ names) = cc (nothing_named names)
 
-pub no_map : (folder : Answers) (mapped : Bool) (names : List (String Global)) (addresses : List (Option ℕ)) → mapped ≡ false
+pub no_map : (folder : Answers) (mapped : Bool) (names : List (String Global)) (addresses : List (Option ℕ))
+    → mapped ≡ false
     → addresses ≡ map (λ name. None) names → AreAddresses folder mapped (names_of names) addresses
 no_map folder mapped names addresses unmapped none = rw unmapped (none ∙ nothing_named names)
 
@@ -188,7 +197,9 @@ module _ (first middle : Answers) (names : List (String Global)) (mapped : Bool)
     map_fails faults.NoMemory failed = failed
     map_fails _ failed = failed
 
-    pub map_refuses : (fault : GatherFault) → (fault ≡ faults.NoMemory) ⊎ ((mapped ≡ true) × FailsAtMap now (names_of names) fault) → RefusesFolder first fault
+    pub map_refuses : (fault : GatherFault)
+        → (fault ≡ faults.NoMemory) ⊎ ((mapped ≡ true) × FailsAtMap now (names_of names) fault)
+        → RefusesFolder first fault
     map_refuses fault (inl memory) = rw memory tt
     map_refuses fault (inr failed) = behind fault failed.0 (map_fails fault failed.1)
 
@@ -204,7 +215,8 @@ record AreParts (names : List (String Global)) (files : List (Vec ℕ Global)) (
   pub filed : map dump_bytes dumps ≡ files_of files
   pub placed : map (λ dump. dump.address) dumps ≡ addresses
 
-parts : (names : List (String Global)) (files : List (Vec ℕ Global)) (addresses : List (Option ℕ)) → length names ≡ length files
+parts : (names : List (String Global)) (files : List (Vec ℕ Global)) (addresses : List (Option ℕ))
+    → length names ≡ length files
     → length names ≡ length addresses → AreParts names files addresses (made_of names files addresses)
 parts [] [] [] filed placed = record { named = refl; filed = refl; placed = refl }
 parts (name ∷ names) (file ∷ files) (address ∷ addresses) filed placed =
@@ -212,14 +224,16 @@ parts (name ∷ names) (file ∷ files) (address ∷ addresses) filed placed =
     record { named = cc; filed = cc; placed = cc }
 parts _ _ _ filed placed = absurd (omega arith)
 
-addresses_len : (folder : Answers) (mapped : Bool) (names : List (List ℕ)) (addresses : List (Option ℕ)) → AreAddresses folder mapped names addresses
+addresses_len : (folder : Answers) (mapped : Bool) (names : List (List ℕ)) (addresses : List (Option ℕ))
+    → AreAddresses folder mapped names addresses
     → length addresses ≡ length names
 addresses_len folder true names addresses it = ap length it.3 ∙ length-map names (address_in (map entry_of (lines_of it.0)))
 addresses_len folder false names addresses it = ap length it ∙ length-map names (λ name. None)
 
 pub gathered : (first middle now : Answers) (names : List (String Global)) (files : List (Vec ℕ Global)) (addresses : List (Option ℕ)) (mapped : Bool)
     (dumps : List Dump) → IsListing first (names_of names) mapped → length names ≤ most_dumps → IsWithin middle first
-    → AreRead middle (names_of names) (files_of files) → IsWithin now middle → AreAddresses now mapped (names_of names) addresses
+    → AreRead middle (names_of names) (files_of files) → IsWithin now middle
+    → AreAddresses now mapped (names_of names) addresses
     → dumps ≡ made_of names files addresses → AreGathered first dumps
 gathered first middle now names files addresses mapped dumps listing few begun read within found made =
     let long : length (names_of names) ≡ length names = length-map names string_bytes in

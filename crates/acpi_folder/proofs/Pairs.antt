@@ -7,7 +7,8 @@ use Rattle.acpi_folder.specs.declared.externals.ExternalsFault.TheVariants.{BadL
 use Rattle.acpi_folder.specs.Externals.{Given, Gives, AreGiven, IsGiving, AreGiving, RefusesExternals}
 use Rattle.acpi_folder.proofs.Turns.{inside, front, back, one_more}
 
-given_at : (lines : List (List ℕ)) (given : List Given) (n : ℕ) → AreGiven lines given → n < length lines → IsGiving (get_or lines n [])
+given_at : (lines : List (List ℕ)) (given : List Given) (n : ℕ) → AreGiven lines given → n < length lines
+    → IsGiving (get_or lines n [])
 given_at (line ∷ lines) (first ∷ given) zero all within = (first, all.0)
 given_at (line ∷ lines) (first ∷ given) (suc n) all within = given_at lines given n all.1 (omega arith)
 given_at (line ∷ lines) [] n all within = absurd all
@@ -20,7 +21,8 @@ pub record AreRead (lines : List (List ℕ)) (given : List Given) (n : ℕ) (res
 
 -- a turn of the loop over lines
 pub turn : (lines : List (List ℕ)) (given now : List Given) (n m : ℕ) (rest : List (List ℕ)) (line : List ℕ) (others : List (List ℕ)) (pair : Given)
-    → AreRead lines given n rest → rest ≡ line ∷ others → Gives line pair → m ≡ n + 1 → now ≡ given ++ pair ∷ [] → AreRead lines now m others
+    → AreRead lines given n rest → rest ≡ line ∷ others → Gives line pair → m ≡ n + 1 → now ≡ given ++ pair ∷ []
+    → AreRead lines now m others
 turn lines given now n m rest line others pair before cut gives next grown =
     let is : drop n lines ≡ line ∷ others = before.left ∙ cut in
     rw (next, grown) (record {
@@ -30,7 +32,8 @@ turn lines given now n m rest line others pair before cut gives next grown =
 
 -- the first line that gives nothing
 pub refuses : (text : List ℕ) (given : List Given) (n : ℕ) (rest : List (List ℕ)) (line : List ℕ) (others : List (List ℕ)) (number : ℕ)
-    → AreRead (lines_of text) given n rest → rest ≡ line ∷ others → ¬ IsGiving line → number ≡ n + 1 → RefusesExternals text (BadLine number)
+    → AreRead (lines_of text) given n rest → rest ≡ line ∷ others → ¬ IsGiving line → number ≡ n + 1
+    → RefusesExternals text (BadLine number)
 refuses text given n rest line others number before cut none counted =
     let is : drop n (lines_of text) ≡ line ∷ others = before.left ∙ cut in
     let less : number - 1 ≡ n = omega arith in

@@ -24,7 +24,8 @@ module _ (lines : List (List ℕ)) (n : ℕ) (line : List ℕ) (others : List (L
   one_more = take_more lines n [] inside ∙ ap (λ (here : List ℕ). take n lines ++ here ∷ []) front
 
 -- behind the last line
-pub behind : (lines : List (List ℕ)) (rest : List ℕ) (n : ℕ) → drop n lines ≡ lines_of rest → length rest ≡ 0 → length lines ≤ n
+pub behind : (lines : List (List ℕ)) (rest : List ℕ) (n : ℕ) → drop n lines ≡ lines_of rest → length rest ≡ 0
+    → length lines ≤ n
 unfolding lines_of
 behind lines [] n is none = omega (arith, length-drop n lines, ap length is)
 behind lines (byte ∷ bytes) n is none = absurd (omega arith)
@@ -37,8 +38,10 @@ pub record AreMapped (names lines : List (List ℕ)) (read : List Line) (n : ℕ
 
 -- a turn of the loop over lines
 pub turn : (names lines : List (List ℕ)) (read now earlier : List Line) (n m : ℕ) (rest : List (List ℕ)) (line : List ℕ) (others : List (List ℕ)) (entry : Line)
-    → AreMapped names lines read n rest → rest ≡ line ∷ others → earlier ≡ read → IsLine line → is_listed names (entry_of line).name ≡ true
-    → list_any (repeats (entry_of line)) (map shown_by earlier) ≡ false → shown_by entry ≡ entry_of line → m ≡ n + 1 → now ≡ read ++ entry ∷ []
+    → AreMapped names lines read n rest → rest ≡ line ∷ others → earlier ≡ read → IsLine line
+    → is_listed names (entry_of line).name ≡ true
+    → list_any (repeats (entry_of line)) (map shown_by earlier) ≡ false → shown_by entry ≡ entry_of line → m ≡ n + 1
+    → now ≡ read ++ entry ∷ []
     → AreMapped names lines now m others
 turn names lines read now earlier n m rest line others entry before cut all form listed fresh says next grown =
     let is : drop n lines ≡ line ∷ others = before.left ∙ cut in
@@ -66,7 +69,8 @@ refuses names text read earlier n rest line others fault before cut all numbered
     }
 
 -- the addresses of the files
-pub addresses_shown : {X : Type 0} (bytes_of : X → List ℕ) (names : List X) (lines : List Line) (entries : List Entry) → map shown_by lines ≡ entries
+pub addresses_shown : {X : Type 0} (bytes_of : X → List ℕ) (names : List X) (lines : List Line) (entries : List Entry)
+    → map shown_by lines ≡ entries
     → map (λ name. option_map (λ line. line.address) (find (λ line. bytes_eq line.name.now (bytes_of name)) lines)) names
     ≡ map (address_in entries) (map bytes_of names)
 addresses_shown bytes_of [] lines entries same = refl

@@ -18,12 +18,14 @@ module _ (dumps : List Dump) (any_sum : Bool) (each : AreTaken dumps any_sum) wh
       let table = ssdt_holds dumps any_sum each index (All-head (HasSignature (codes "SSDT")) index indexes all) in
       (table.0, table.1, tables_there indexes (All-tail (HasSignature (codes "SSDT")) index indexes all))
 
-  blocks_by : (dsdt : ℕ) (ssdts : List ℕ) → HasSignature (codes "DSDT") dsdt → All (HasSignature (codes "SSDT")) ssdts → AreTables dumps (dsdt ∷ ssdts)
+  blocks_by : (dsdt : ℕ) (ssdts : List ℕ) → HasSignature (codes "DSDT") dsdt → All (HasSignature (codes "SSDT")) ssdts
+      → AreTables dumps (dsdt ∷ ssdts)
   blocks_by dsdt ssdts first others =
       let table = dsdt_holds dumps any_sum each dsdt first in
       (table.0, table.1, tables_there ssdts others)
 
-  pub are_tables : (b : Bool) (dsdt : ℕ) (ssdts : List ℕ) → MatchBool b (IsChained dumps dsdt ssdts) (IsNamed dumps dsdt ssdts) → AreTables dumps (dsdt ∷ ssdts)
+  pub are_tables : (b : Bool) (dsdt : ℕ) (ssdts : List ℕ)
+      → MatchBool b (IsChained dumps dsdt ssdts) (IsNamed dumps dsdt ssdts) → AreTables dumps (dsdt ∷ ssdts)
   are_tables true dsdt ssdts chain =
       blocks_by dsdt ssdts (signed_at-signed dumps (codes "DSDT") _ dsdt chain.gives)
       (subst (All (HasSignature (codes "SSDT"))) chain.all (filter_passes (has_signature dumps (codes "SSDT")) _))

@@ -7,7 +7,8 @@ use Rattle.acpi_tables.proofs.Common.{get_or-map-range_with_len, length-map-rang
 use Rattle.acpi_tables.proofs.Common.{addresses_of, address_at, address_in, address_count}
 
 module _ (width : ℕ) (table : List ℕ) (index : ℕ) where
-  pub address_in-inside : HoldsAddresses width table → index < address_count width table → address_in width table index ≡ Some (address_at width table index)
+  pub address_in-inside : HoldsAddresses width table → index < address_count width table
+      → address_in width table index ≡ Some (address_at width table index)
   address_in-inside holds inside =
       let long = length-map-range_with_len (address_at width table) 0 (address_count width table) in
       let there = get_or-map-range_with_len (address_at width table) 0 (address_count width table) index index 0 inside (zero-add index) in

@@ -7,7 +7,8 @@ use Rattle.std.specs.Option.{ok_or}
 goes_on : {A B E : Type 0} (o : Option A) (e : E) (f : A → Result B E) (x : A) → o ≡ Some x → (ok_or o e >>= f) ≡ f x
 goes_on o e f x is = ap (λ o. ok_or o e >>= f) is
 
-pub chained : (dumps : List Dump) (dsdt : ℕ) (ssdts : List ℕ) → IsChained dumps dsdt ssdts → chain_of dumps ≡ Ok (dsdt, ssdts)
+pub chained : (dumps : List Dump) (dsdt : ℕ) (ssdts : List ℕ) → IsChained dumps dsdt ssdts
+    → chain_of dumps ≡ Ok (dsdt, ssdts)
 chained dumps dsdt ssdts is =
     goes_on _ _ _ is.root is.first
     ∙ goes_on _ _ _ is.list is.leads

@@ -45,20 +45,23 @@ whole_test table at h =
 test_whole : (table : List ℕ) (at : ℕ) → 44 ≤ at → is_whole table at ≡ true → HoldsRecord table at
 test_whole table at behind is = record { behind_fields = behind; covers = grind (arith, nat_tests); inside = grind (arith, nat_tests) }
 
-broken_test : (table : List ℕ) (at : ℕ) (b : Bool) → 44 ≤ at → ¬ HoldsRecord table at → is_whole table at ≡ b → b ≡ false
+broken_test : (table : List ℕ) (at : ℕ) (b : Bool) → 44 ≤ at → ¬ HoldsRecord table at → is_whole table at ≡ b
+    → b ≡ false
 broken_test table at true behind broken is = absurd (broken (test_whole table at behind is))
 broken_test table at false behind broken is = refl
 
 -- ---- a step
 
-pub longer : (table : List ℕ) (at : ℕ) (records : List (List ℕ)) → HoldsRecord table at → 44 + length (concat records) ≡ at
+pub longer : (table : List ℕ) (at : ℕ) (records : List (List ℕ)) → HoldsRecord table at
+    → 44 + length (concat records) ≡ at
     → 44 + length (concat (records ++ record_bytes_at table at ∷ [])) ≡ record_end table at
 longer table at records h long =
     let one = record_bytes_at table at in
     let joined = concat-append records (one ∷ []) ∙ ap (λ bytes. concat records ++ bytes) (append-nil one) in
     omega (arith, long, ap length joined, length-append (concat records) one, length-bytes_at table at (number_at table (at + 1) 1) h.inside)
 
-pub next_split : (table : List ℕ) (at : ℕ) (records : List (List ℕ)) (left fewer : ℕ) → left ≡ suc fewer → is_whole table at ≡ true
+pub next_split : (table : List ℕ) (at : ℕ) (records : List (List ℕ)) (left fewer : ℕ) → left ≡ suc fewer
+    → is_whole table at ≡ true
     → records_of table ≡ records ++ records_from left table at
     → records_of table ≡ (records ++ record_bytes_at table at ∷ []) ++ records_from fewer table (record_end table at)
 unfolding records_from
@@ -70,7 +73,8 @@ next_split table at records left fewer one whole split =
     ∙ sym (append_assoc records (record_bytes_at table at ∷ []) (records_from fewer table (record_end table at)))
 
 -- the walk goes on over a whole record
-abbrev pub walk_more : (table : List ℕ) (at : ℕ) → WalksTo table at → HoldsRecord table at → WalksTo table (record_end table at)
+abbrev pub walk_more : (table : List ℕ) (at : ℕ) → WalksTo table at → HoldsRecord table at
+    → WalksTo table (record_end table at)
 walk_more table at walk h = record {
   behind_fields = omega (arith, walk.behind_fields);
   within = h.inside;
@@ -134,8 +138,10 @@ module _ {C : Type 0} (see : C → List ℕ) (table : List ℕ) where
   pub read_start : 44 ≤ length table → ReadsTo see table 44 []
   read_start h = record { walk = walk_start table h; same = refl }
 
-  pub read_more : (at : ℕ) (read : List (MadtRecord C)) (one : MadtRecord C) → ReadsTo see table at read → HoldsRecord table at
-      → said see one ≡ meaning_of (record_bytes_at table at) → ReadsTo see table (record_end table at) (read ++ one ∷ [])
+  pub read_more : (at : ℕ) (read : List (MadtRecord C)) (one : MadtRecord C) → ReadsTo see table at read
+      → HoldsRecord table at
+      → said see one ≡ meaning_of (record_bytes_at table at)
+      → ReadsTo see table (record_end table at) (read ++ one ∷ [])
   read_more at read one reads holds e = record { walk = walk_more table at reads.walk holds; same = simp map-append (cc (reads.same, e)) }
 
   pub read_whole : (at : ℕ) (read : List (MadtRecord C)) → ReadsTo see table at read → length table ≤ at

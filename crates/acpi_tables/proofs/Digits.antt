@@ -20,7 +20,8 @@ power_positive count = omega (arith, one-le-pow count 10 (omega arith))
 pub power_small : (count : ℕ) → count < 10 → 10 ^ count ≤ 1000000000
 power_small count h = let le : count ≤ 9 = omega arith in pow-le-pow_right {n = 10} (omega arith) le
 
-reverse_last : (bytes : List ℕ) → 0 < length bytes → reverse bytes ≡ get_or bytes (length bytes - 1) 0 ∷ reverse (take (length bytes - 1) bytes)
+reverse_last : (bytes : List ℕ) → 0 < length bytes
+    → reverse bytes ≡ get_or bytes (length bytes - 1) 0 ∷ reverse (take (length bytes - 1) bytes)
 reverse_last bytes some =
     let n = length bytes - 1 in
     let all : n + 1 ≡ length bytes = omega arith in
@@ -32,7 +33,8 @@ digit_is : (c : ℕ) → 48 ≤ c → c < 58 → (is_ascii_digit c ≡ true) × 
 digit_is c low high = (grind (arith, nat_tests), grind (arith, nat_tests))
 
 -- one more digit at the end
-pub digits_value-digit : (bytes : List ℕ) (count : ℕ) → 0 < count → 0 < length bytes → 48 ≤ get_or bytes (length bytes - 1) 0
+pub digits_value-digit : (bytes : List ℕ) (count : ℕ) → 0 < count → 0 < length bytes
+    → 48 ≤ get_or bytes (length bytes - 1) 0
     → get_or bytes (length bytes - 1) 0 < 58
     → digits_value 10 (ending_digits count bytes)
     ≡ digits_value 10 (ending_digits (count - 1) (take (length bytes - 1) bytes)) * 10 + (get_or bytes (length bytes - 1) 0 - 48)
@@ -60,7 +62,8 @@ module _ (name : List ℕ) where
   abbrev after : ℕ
   after = position_or_len is_dot (reverse name)
 
-  pub before_last-found : (n : ℕ) → position is_dot (reverse name) ≡ Some n → take (length name - n - 1) name ≡ before_last is_dot name
+  pub before_last-found : (n : ℕ) → position is_dot (reverse name) ≡ Some n
+      → take (length name - n - 1) name ≡ before_last is_dot name
   before_last-found n is = ap (λ k. take (length name - k - 1) name) (sym (cond_some (ltb after (length (reverse name))) after n is).1)
 
   pub before_last-none : position is_dot (reverse name) ≡ None → [] ≡ before_last is_dot name

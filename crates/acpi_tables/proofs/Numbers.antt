@@ -3,10 +3,12 @@ use Rattle.acpi_tables.proofs.Common.{◌≡◌, ℕ, zero, suc, ◌+◌, ◌*�
 use Rattle.acpi_tables.proofs.Common.{length-take, length-drop, ◌++◌}
 use Rattle.acpi_tables.proofs.Common.{replicate, refl, ap, little_endian, bytes_at, number_at}
 
-pub length-bytes_at : (table : List ℕ) (offset width : ℕ) → offset + width ≤ length table → length (bytes_at table offset width) ≡ width
+pub length-bytes_at : (table : List ℕ) (offset width : ℕ) → offset + width ≤ length table
+    → length (bytes_at table offset width) ≡ width
 length-bytes_at table offset width h = simp (length-take, length-drop) (omega arith)
 
-pub spells_two : (bytes : List ℕ) → length bytes ≡ 2 → little_endian bytes ≡ slice_index bytes 0 + slice_index bytes 1 * 256
+pub spells_two : (bytes : List ℕ) → length bytes ≡ 2
+    → little_endian bytes ≡ slice_index bytes 0 + slice_index bytes 1 * 256
 spells_two (a ∷ b ∷ []) h = omega arith
 spells_two _ h = absurd (omega arith)
 
@@ -22,7 +24,8 @@ pub spells_eight : (bytes : List ℕ) → length bytes ≡ 8
 spells_eight (a ∷ b ∷ c ∷ d ∷ bytes) h = omega (arith, spells_four bytes (omega arith))
 spells_eight _ h = absurd (omega arith)
 
-pub number_at_one : (table : List ℕ) (offset : ℕ) → offset < length table → number_at table offset 1 ≡ slice_index table offset
+pub number_at_one : (table : List ℕ) (offset : ℕ) → offset < length table
+    → number_at table offset 1 ≡ slice_index table offset
 unfolding number_at
 number_at_one (byte ∷ bytes) zero h = omega arith
 number_at_one (byte ∷ bytes) (suc offset) h = number_at_one bytes offset (omega arith)

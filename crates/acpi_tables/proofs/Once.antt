@@ -20,6 +20,7 @@ module _ (dumps : List Dump) (f : ℕ → ℕ) (i : ℕ) (old : List ℕ) (kept 
   pub listed_none : dump_at dumps (f i) ≡ None → old ≡ listed_in dumps (map f (range_with_len 0 (i + 1)))
   listed_none is = sym (listed_more None is)
 
-  pub listed_some : (dump : ℕ) (again : Bool) → dump_at dumps (f i) ≡ Some dump → list_any (λ y. nat_eq y dump) old ≡ again
+  pub listed_some : (dump : ℕ) (again : Bool) → dump_at dumps (f i) ≡ Some dump
+      → list_any (λ y. nat_eq y dump) old ≡ again
       → cond again old (old ++ dump ∷ []) ≡ listed_in dumps (map f (range_with_len 0 (i + 1)))
   listed_some dump again is any = sym (listed_more (Some dump) is ∙ ap (λ b. cond b old (old ++ dump ∷ [])) any)

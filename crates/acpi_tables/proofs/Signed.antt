@@ -23,13 +23,15 @@ unfolding begins_with
 begins bytes word e = (starts_is Decides-eqb bytes word (begins_with bytes word) refl).0 e
 
 -- what comes out for a word, whatever follows it, comes out for bytes that begin with it
-as-word : {X : Type 0} (f : List ℕ → X) (x : X) (bytes word : List ℕ) → ((rest : List ℕ) → f (word ++ rest) ≡ x) → begins_with bytes word ≡ true → f bytes ≡ x
+as-word : {X : Type 0} (f : List ℕ → X) (x : X) (bytes word : List ℕ) → ((rest : List ℕ) → f (word ++ rest) ≡ x)
+    → begins_with bytes word ≡ true → f bytes ≡ x
 as-word f x bytes word all is = ap f (begins bytes word is) ∙ all (drop (length word) bytes)
 
 -- ---- what was found
 
 -- a dump with a signature is one of the dumps
-signed_inside : (dumps : List Dump) (word : List ℕ) (index : ℕ) → 0 < length word → has_signature dumps word index ≡ true → index < length dumps
+signed_inside : (dumps : List Dump) (word : List ℕ) (index : ℕ) → 0 < length word
+    → has_signature dumps word index ≡ true → index < length dumps
 unfolding bytes_of
 signed_inside dumps word index some is = by_place (ltb index (length dumps)) refl
   where
@@ -45,7 +47,8 @@ some_then : (b : Bool) (x y : ℕ) → then_some b x ≡ Some y → (b ≡ true)
 some_then true x y e = (refl, same_Some x y e)
 some_then false x y e = absurd cc
 
-pub signed_at-signed : (dumps : List Dump) (word : List ℕ) (address index : ℕ) → signed_at dumps word address ≡ Some index
+pub signed_at-signed : (dumps : List Dump) (word : List ℕ) (address index : ℕ)
+    → signed_at dumps word address ≡ Some index
     → has_signature dumps word index ≡ true
 signed_at-signed dumps word address index e =
     option_and_then_some (λ i. then_some (has_signature dumps word i) i) (dump_at dumps address) index e
@@ -67,7 +70,8 @@ find-passes test xs x e =
 -- ---- what holds of a dump that is taken, by its signature
 
 module _ (dumps : List Dump) (any_sum : Bool) (each : AreTaken dumps any_sum) (index : ℕ) where
-  held : (word : List ℕ) (kind : Kind) → 0 < length word → ((rest : List ℕ) → kind_of (word ++ rest) ≡ kind) → has_signature dumps word index ≡ true
+  held : (word : List ℕ) (kind : Kind) → 0 < length word → ((rest : List ℕ) → kind_of (word ++ rest) ≡ kind)
+      → has_signature dumps word index ≡ true
       → HoldsShape kind (bytes_of dumps index) × HoldsContent kind (bytes_of dumps index) × (length (bytes_of dumps index) ≤ most_bytes)
   held word kind some all is =
       let holds = each index (signed_inside dumps word index some is) in
@@ -78,22 +82,26 @@ module _ (dumps : List Dump) (any_sum : Bool) (each : AreTaken dumps any_sum) (i
   unfolding begins_with
   root_holds is = (held (codes "RSD PTR ") Root (omega arith) (λ rest. refl) is).0
 
-  pub dsdt_holds : has_signature dumps (codes "DSDT") index ≡ true → HoldsTable (bytes_of dumps index) × (length (bytes_of dumps index) ≤ most_bytes)
+  pub dsdt_holds : has_signature dumps (codes "DSDT") index ≡ true
+      → HoldsTable (bytes_of dumps index) × (length (bytes_of dumps index) ≤ most_bytes)
   unfolding begins_with
   dsdt_holds is = let h = held (codes "DSDT") (Standard Other) (omega arith) (λ rest. refl) is in (h.0, h.2)
 
-  pub ssdt_holds : has_signature dumps (codes "SSDT") index ≡ true → HoldsTable (bytes_of dumps index) × (length (bytes_of dumps index) ≤ most_bytes)
+  pub ssdt_holds : has_signature dumps (codes "SSDT") index ≡ true
+      → HoldsTable (bytes_of dumps index) × (length (bytes_of dumps index) ≤ most_bytes)
   unfolding begins_with
   ssdt_holds is = let h = held (codes "SSDT") (Standard Other) (omega arith) (λ rest. refl) is in (h.0, h.2)
 
-  pub fadt_holds : has_signature dumps (codes "FACP") index ≡ true → HoldsTable (bytes_of dumps index) × (116 ≤ length (table_of (bytes_of dumps index)))
+  pub fadt_holds : has_signature dumps (codes "FACP") index ≡ true
+      → HoldsTable (bytes_of dumps index) × (116 ≤ length (table_of (bytes_of dumps index)))
   unfolding begins_with
   fadt_holds is = let h = held (codes "FACP") (Standard Fadt) (omega arith) (λ rest. refl) is in (h.0, h.1)
 
   abbrev HoldsList : Type 0
   HoldsList = HoldsTable (bytes_of dumps index) × HoldsAddresses (width_of (bytes_of dumps index)) (table_of (bytes_of dumps index))
 
-  listing : (has_signature dumps (codes "XSDT") index ≡ true) ⊎ (has_signature dumps (codes "RSDT") index ≡ true) → HoldsList
+  listing : (has_signature dumps (codes "XSDT") index ≡ true) ⊎ (has_signature dumps (codes "RSDT") index ≡ true)
+      → HoldsList
   unfolding begins_with
   listing (inl is) = let h = held (codes "XSDT") (Standard Xsdt) (omega arith) (λ rest. refl) is in (h.0, rw is h.1)
   listing (inr is) =

@@ -76,7 +76,8 @@ rank_tied dumps i j below above =
     let equal = neither (rank_cmp dumps i j) (rank_cmp dumps j i) ((rank_total dumps).antisymm j i) below above in
     nat_cmp-IsAntisymmetric i j (last_equal _ (nat_cmp i j) (last_equal _ _ equal))
 
-named_unique : (dumps : List Dump) (d d' : ℕ) (s s' : List ℕ) → IsNamed dumps d s → IsNamed dumps d' s' → (d ≡ d') × (s ≡ s')
+named_unique : (dumps : List Dump) (d d' : ℕ) (s s' : List ℕ) → IsNamed dumps d s → IsNamed dumps d' s'
+    → (d ≡ d') × (s ≡ s')
 named_unique dumps d d' s s' a b = (
   cc (a.only, b.only),
   sorted_unique (ranks_below dumps) (rank_order dumps) (rank_tied dumps) s s' a.sorted b.sorted
@@ -84,11 +85,13 @@ named_unique dumps d d' s s' a b = (
 )
 
 -- two orders that one chain gives are one
-same_ok : (r : Result (ℕ × List ℕ) TableFault) (x x' : ℕ) (y y' : List ℕ) → r ≡ Ok (x, y) → r ≡ Ok (x', y') → (x ≡ x') × (y ≡ y')
+same_ok : (r : Result (ℕ × List ℕ) TableFault) (x x' : ℕ) (y y' : List ℕ) → r ≡ Ok (x, y) → r ≡ Ok (x', y')
+    → (x ≡ x') × (y ≡ y')
 same_ok r x x' y y' is is' = let pair : ◌≡◌ {A = ℕ × List ℕ} (x, y) (x', y') = cc in (ap (λ p. p.0) pair, ap (λ p. p.1) pair)
 
 -- What the chain gives is a function of the dumps.
 pub order_unique : (b : Bool) (dumps : List Dump) (d d' : ℕ) (s s' : List ℕ)
-    → MatchBool b (IsChained dumps d s) (IsNamed dumps d s) → MatchBool b (IsChained dumps d' s') (IsNamed dumps d' s') → (d ≡ d') × (s ≡ s')
+    → MatchBool b (IsChained dumps d s) (IsNamed dumps d s) → MatchBool b (IsChained dumps d' s') (IsNamed dumps d' s')
+    → (d ≡ d') × (s ≡ s')
 order_unique true dumps d d' s s' a b = same_ok (chain_of dumps) d d' s s' (chained dumps d s a) (chained dumps d' s' b)
 order_unique false dumps d d' s s' a b = named_unique dumps d d' s s' a b

@@ -14,7 +14,8 @@ use Rattle.asl_text.specs.declared.bodies.Body.TheVariants as bodies
 use Rattle.asl_text.specs.declared.bodies.BodyText.TheVariants as kept_texts
 
 -- what is true of each pair is true of what is made of it
-all_zip_to : {A B C : Type 0} (R : A → B → Type 0) (S : A → C → Type 0) (f : B → C) → ((x : A) (y : B) → R x y → S x (f y)) → (xs : List A) (ys : List B)
+all_zip_to : {A B C : Type 0} (R : A → B → Type 0) (S : A → C → Type 0) (f : B → C)
+    → ((x : A) (y : B) → R x y → S x (f y)) → (xs : List A) (ys : List B)
     → AllZip R xs ys → AllZip S xs (map f ys)
 all_zip_to R S f to [] [] h = tt
 all_zip_to R S f to [] (y ∷ ys) h = absurd h
@@ -26,16 +27,19 @@ module _ (z : Bool) (x : TableSet) (es : List Entry) (stands : StandsFor x.space
   is_entry m (bodies.Tree nodes) h = (h es stands).0
   is_entry m (bodies.Raw f) h = (h es stands).unread.none
 
-  the_entry : (m : Method) (d : Body) (b : OneBody) → BecameIn z x m d → IsEntry z es (table_codes x.tables.items) m b → b ≡ body_view d
+  the_entry : (m : Method) (d : Body) (b : OneBody) → BecameIn z x m d → IsEntry z es (table_codes x.tables.items) m b
+      → b ≡ body_view d
   the_entry m (bodies.Tree nodes) (read ts) h e = ap read ((h es stands).1 ts e)
   the_entry m (bodies.Tree nodes) raw h e = absurd (e _ (h es stands).0)
   the_entry m (bodies.Raw f) (read ts) h e = absurd ((h es stands).unread.none ts e)
   the_entry m (bodies.Raw f) raw h e = refl
 
-  pub are_entries : (ms : List Method) (ds : List Body) → AllZip (BecameIn z x) ms ds → AllZip (IsEntry z es (table_codes x.tables.items)) ms (map body_view ds)
+  pub are_entries : (ms : List Method) (ds : List Body) → AllZip (BecameIn z x) ms ds
+      → AllZip (IsEntry z es (table_codes x.tables.items)) ms (map body_view ds)
   are_entries ms ds h = all_zip_to (BecameIn z x) (IsEntry z es (table_codes x.tables.items)) body_view is_entry ms ds h
 
-  pub the_entries : (ms : List Method) (ds : List Body) (bs : List OneBody) → AllZip (BecameIn z x) ms ds → AllZip (IsEntry z es (table_codes x.tables.items)) ms bs
+  pub the_entries : (ms : List Method) (ds : List Body) (bs : List OneBody) → AllZip (BecameIn z x) ms ds
+      → AllZip (IsEntry z es (table_codes x.tables.items)) ms bs
       → bs ≡ map body_view ds
   the_entries [] [] [] h e = refl
   the_entries [] [] (b ∷ bs) h e = absurd e
@@ -44,7 +48,8 @@ module _ (z : Bool) (x : TableSet) (es : List Entry) (stands : StandsFor x.space
   the_entries (m ∷ ms) (d ∷ ds) [] h e = absurd e
   the_entries (m ∷ ms) (d ∷ ds) (b ∷ bs) h e = ap₂ ◌∷◌ (the_entry m d b h.0 e.0) (the_entries ms ds bs h.1 e.1)
 
-  pub are_told : (ms : List Method) (ds : List Body) → AllZip (BecameIn z x) ms ds → AllZip (Became z es (table_codes x.tables.items)) ms ds
+  pub are_told : (ms : List Method) (ds : List Body) → AllZip (BecameIn z x) ms ds
+      → AllZip (Became z es (table_codes x.tables.items)) ms ds
   are_told ms ds h =
       let Told = Became z es (table_codes x.tables.items) in
       subst (AllZip Told ms) (map-id ds) (all_zip_to (BecameIn z x) Told (λ d. d) (λ m d is. is es stands) ms ds h)
@@ -52,7 +57,8 @@ module _ (z : Bool) (x : TableSet) (es : List Entry) (stands : StandsFor x.space
 -- ---- what is kept of bodies
 
 -- the bodies of which it is kept, by number
-pub chosen : {X : Type 0} (Is : Method → Body → Type 0) (Keeps : ℕ → Body → X → Type 0) (ms : List Method) (ds : List X) → length ds ≡ length ms
+pub chosen : {X : Type 0} (Is : Method → Body → Type 0) (Keeps : ℕ → Body → X → Type 0) (ms : List Method) (ds : List X)
+    → length ds ≡ length ms
     → ((n : ℕ) (d : X) → slice_get ds n ≡ Some d → (b : Body) × OfMethod (slice_get ms n) (λ m. Is m b) × Keeps n b d)
     → (bs : List Body) × AllZip Is ms bs × AreKept Keeps bs ds
 chosen Is Keeps [] [] l h = ([], tt, tt)
@@ -64,7 +70,8 @@ chosen Is Keeps (m ∷ ms) (d ∷ ds) l h =
     (first.0 ∷ rest.0, (first.1, rest.1), (first.2, rest.2))
 
 -- of one body more
-pub kept_more : {X : Type 0} (Keeps : ℕ → Body → X → Type 0) (bs : List Body) (ds : List X) (b : Body) (d : X) → AreKept Keeps bs ds → Keeps (length bs) b d
+pub kept_more : {X : Type 0} (Keeps : ℕ → Body → X → Type 0) (bs : List Body) (ds : List X) (b : Body) (d : X)
+    → AreKept Keeps bs ds → Keeps (length bs) b d
     → AreKept Keeps (bs ++ b ∷ []) (ds ++ d ∷ [])
 kept_more Keeps [] [] b d k h = (h, tt)
 kept_more Keeps [] (e ∷ ds) b d k h = absurd k
@@ -78,7 +85,8 @@ kept_whole [] (d ∷ ds) k = absurd k
 kept_whole (b ∷ bs) [] k = absurd k
 kept_whole (b ∷ bs) (d ∷ ds) k = ap₂ ◌∷◌ (sym k.0) (kept_whole bs ds k.1)
 
-pub whole_kept : (z : Bool) (x : TableSet) (ds : List Body) → AreKeptOf (λ n body kept. kept ≡ body) z x ds → AreBodies z x ds
+pub whole_kept : (z : Bool) (x : TableSet) (ds : List Body) → AreKeptOf (λ n body kept. kept ≡ body) z x ds
+    → AreBodies z x ds
 whole_kept z x ds k = subst (AllZip (BecameIn z x) x.methods.items) (kept_whole k.0 ds k.2) k.1
 
 -- ---- what it says of them
@@ -92,7 +100,8 @@ same_lines level (bodies.Raw fault) (Ok text) k bytes = absurd k
 same_lines level (bodies.Raw fault) (Err kept) k bytes = refl
 
 -- texts at their levels print as the bodies do
-pub texts_agree : (ls : List ℕ) (bs : List Body) (ds : List (Result BodyText CodeFault)) → AreKept (λ n. IsKept (IsText (get_or ls n 0))) bs ds
+pub texts_agree : (ls : List ℕ) (bs : List Body) (ds : List (Result BodyText CodeFault))
+    → AreKept (λ n. IsKept (IsText (get_or ls n 0))) bs ds
     → AgreeAt ls (map body_lines (map body_view bs)) (map printed_lines ds)
 texts_agree [] bs ds k = tt
 texts_agree (l ∷ ls) [] [] k = texts_agree ls [] [] tt
@@ -101,7 +110,8 @@ texts_agree (l ∷ ls) (b ∷ bs) [] k = absurd k
 texts_agree (l ∷ ls) (b ∷ bs) (d ∷ ds) k = (same_lines l b d k.0, texts_agree ls bs ds k.1)
 
 -- a fault is kept where a body is raw
-pub faults_are : {X : Type 0} (Gives : ℕ → Trees → X → Type 0) (bs : List Body) (ds : List (Result X CodeFault)) → AreKept (λ n. IsKept (Gives n)) bs ds
+pub faults_are : {X : Type 0} (Gives : ℕ → Trees → X → Type 0) (bs : List Body) (ds : List (Result X CodeFault))
+    → AreKept (λ n. IsKept (Gives n)) bs ds
     → has_fault ds ≡ has_raw (map body_view bs)
 faults_are Gives [] [] k = refl
 faults_are Gives [] (d ∷ ds) k = absurd k
@@ -120,7 +130,8 @@ mark_is cs m (bodies.Raw fault) (Ok same) k = absurd k
 mark_is cs m (bodies.Raw fault) (Err kept) k = refl
 
 pub trials_are : (cs : List (List ℕ)) (ms : List Method) (bs : List Body) (ds : List (Result Bool CodeFault))
-    → AreKept (λ n. IsKept (IsSame (body_in cs (slice_get ms n)))) bs ds → tried_marks ms ds ≡ marks_of cs ms (map body_view bs)
+    → AreKept (λ n. IsKept (IsSame (body_in cs (slice_get ms n)))) bs ds
+    → tried_marks ms ds ≡ marks_of cs ms (map body_view bs)
 trials_are cs [] bs ds k = refl
 trials_are cs (m ∷ ms) [] [] k = refl
 trials_are cs (m ∷ ms) [] (d ∷ ds) k = absurd k

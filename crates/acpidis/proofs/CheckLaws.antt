@@ -41,7 +41,8 @@ here m marks t c mine is = rw is (tally_more mine m (marks_in t marks) c)
 -- ---- all tables
 
 -- those behind the table of a mark
-behind : (m : Mark) (marks : List Mark) (t : ℕ) (cs : List Checked) → m.table < t → tallied (m ∷ marks) t cs ≡ tallied marks t cs
+behind : (m : Mark) (marks : List Mark) (t : ℕ) (cs : List Checked) → m.table < t
+    → tallied (m ∷ marks) t cs ≡ tallied marks t cs
 behind m marks t [] h = refl
 behind m marks t (c ∷ cs) h =
     let other : nat_eq m.table t ≡ false = grind (arith, nat_tests) in ap₂ ◌∷◌ (here m marks t c false other) (behind m marks (suc t) cs (omega (arith, h)))
@@ -68,7 +69,8 @@ one_at_most : (b : Bool) → cond b 1 0 ≤ 1
 one_at_most true = omega arith
 one_at_most false = omega arith
 
-under_added : (n k : ℕ) (m : Mark) (cs : List Checked) (other : Checked) → Under n cs → Under (n + 1) (set cs k (added m (get_or cs k other)))
+under_added : (n k : ℕ) (m : Mark) (cs : List Checked) (other : Checked) → Under n cs
+    → Under (n + 1) (set cs k (added m (get_or cs k other)))
 under_added n k m cs other u =
     let more = All-weaker (IsUnder n) (IsUnder (n + 1)) (λ c b. (omega (arith, b.0), omega (arith, b.1))) cs u in
     elim (cases_lt k (length cs)) [
@@ -93,8 +95,10 @@ module _ (ms : List Method) (ds : List (Result Bool CodeFault)) (each : length d
   many = pairs_many (λ (p : Method × Result Bool CodeFault). tried_mark p.0.table p.1) ms ds each
 
   -- one more, by what was tried of a method's body
-  pub counted_more : (n : ℕ) (m : Method) (d : Result Bool CodeFault) (mark : Mark) (first now more : List Checked) → n < length ms → m ≡ get_or ms n m
-      → mark ≡ tried_mark m.table (get_or ds n d) → ((other : Checked) → more ≡ set now mark.table (added mark (get_or now mark.table other)))
+  pub counted_more : (n : ℕ) (m : Method) (d : Result Bool CodeFault) (mark : Mark) (first now more : List Checked)
+      → n < length ms → m ≡ get_or ms n m
+      → mark ≡ tried_mark m.table (get_or ds n d)
+      → ((other : Checked) → more ≡ set now mark.table (added mark (get_or now mark.table other)))
       → Counted (tried_marks ms ds) n first now → Counted (tried_marks ms ds) (n + 1) first more
   counted_more n m d mark first now more inside here is grown was =
       let marks = tried_marks ms ds in
@@ -107,12 +111,14 @@ module _ (ms : List Method) (ds : List (Result Bool CodeFault)) (each : length d
             ∙ ap (λ left. tallied left 0 now) (sym cut) ∙ was.rest;
       }
 
-  pub counted_all : (n : ℕ) (first now : List Checked) → length ms ≤ n → Counted (tried_marks ms ds) n first now → now ≡ tallied (tried_marks ms ds) 0 first
+  pub counted_all : (n : ℕ) (first now : List Checked) → length ms ≤ n → Counted (tried_marks ms ds) n first now
+      → now ≡ tallied (tried_marks ms ds) 0 first
   counted_all n first now past was =
       sym (at_drop_all (λ marks. tallied marks 0 now) (tried_marks ms ds) n (omega (arith, many)) ∙ none_counted 0 now) ∙ was.rest
 
 -- the AML of each block is no longer than a table
-pub short_blocks : (names codes : List (List ℕ)) (terms : List Trees) → AreShort codes → All (λ b. length b.code ≤ 16777216) (blocks_of names codes terms)
+pub short_blocks : (names codes : List (List ℕ)) (terms : List Trees) → AreShort codes
+    → All (λ b. length b.code ≤ 16777216) (blocks_of names codes terms)
 short_blocks [] codes terms h = All-nil (λ (b : OneBlock). length b.code ≤ 16777216)
 short_blocks (n ∷ names) [] terms h = All-nil (λ (b : OneBlock). length b.code ≤ 16777216)
 short_blocks (n ∷ names) (c ∷ codes) [] h = All-nil (λ (b : OneBlock). length b.code ≤ 16777216)

@@ -22,7 +22,8 @@ use Rattle.acpidis.specs.declared.refusal.Refusal.TheVariants as refusals
 -- a fault that is true of a load, and the first that is met, is told
 pub tells_load : (options : Options) (codes : List (List ℕ)) (order : List ℕ) (z : Bool) (gs : Givens) (fault : LoadFault)
     → z ≡ none_unknown options → gs ≡ options.externals.items
-    → (fault ≡ loads.NoMemory) ⊎ StopsFor options.any_run z gs codes fault → (fault ≡ loads.NoMemory) ⊎ (load_at options.any_run z gs codes ≡ Err fault)
+    → (fault ≡ loads.NoMemory) ⊎ StopsFor options.any_run z gs codes fault
+    → (fault ≡ loads.NoMemory) ⊎ (load_at options.any_run z gs codes ≡ Err fault)
     → TellsLoad options codes order (load_refusal order fault)
 tells_load options codes order z gs loads.NoMemory same given stops first = tt
 tells_load options codes order z gs fault same given (inl want) first = absurd cc

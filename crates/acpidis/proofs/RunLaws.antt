@@ -33,12 +33,14 @@ module _ (dumps : List Dump) (k : Meaning) (order : List ℕ) (codes : List (Lis
     (named : order ≡ order_of k) (coded : codes ≡ codes_of dumps k) (read : trees ≡ k.trees) (stands : StandsFor known k.listed.entries)
     (methods : ms ≡ methods_of k.listed.entries) where
   -- the tables of a listing that they hold, and its methods, are those of that
-  at_listing : {Y : Type 0} (F : List OneBlock → List (List ℕ) → List Method → Y) → F (blocks_of (names_in dumps order) codes trees) codes ms
+  at_listing : {Y : Type 0} (F : List OneBlock → List (List ℕ) → List Method → Y)
+      → F (blocks_of (names_in dumps order) codes trees) codes ms
       ≡ F (blocks_of (names_in dumps (order_of k)) (codes_of dumps k) k.trees) (codes_of dumps k) (methods_of k.listed.entries)
   at_listing F = λ i. F (blocks_of (names_in dumps (named i)) (coded i) (read i)) (coded i) (methods i)
 
   -- with its bodies its output is printed
-  printed_is : (check : Bool) → printed check dumps known (blocks_of (names_in dumps order) codes trees) codes ms k.bodies ≡ output_of check dumps k
+  printed_is : (check : Bool)
+      → printed check dumps known (blocks_of (names_in dumps order) codes trees) codes ms k.bodies ≡ output_of check dumps k
   printed_is false =
       let rows = ap (λ known. finite.entries known.declarations) (known_alone known k.listed.entries stands) in
       λ i. listing_text dumps (named i) (rows i) (coded i) (read i) k.bodies
@@ -113,7 +115,8 @@ module _ (dumps : List Dump) (options : Options) (x : TableSet) where
   -- ---- by what is kept of them: texts at the levels of the tables, or trials
 
   module _ (set : IsSet dumps options x) where
-    pub texts_output : (levels : List ℕ) (found ds : List (Result BodyText CodeFault)) → levels ≡ levels_of (table_terms x.tables.items) → ds ≡ found
+    pub texts_output : (levels : List ℕ) (found ds : List (Result BodyText CodeFault))
+        → levels ≡ levels_of (table_terms x.tables.items) → ds ≡ found
         → AreKeptOf (λ n. IsKept (IsText (get_or levels n 0))) options.unknown_zero x found
         → IsOutput dumps options false (cond (has_fault ds) 3 0) (whole_text dumps (finite.entries x.space.declarations) blocks (map printed_lines ds))
     texts_output levels found ds there is was =

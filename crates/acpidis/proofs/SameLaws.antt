@@ -13,21 +13,25 @@ use Rattle.std.proofs.lemmas.Slice.Eq.{bytes_eq-Decides}
 same_if : (xs ys : List ℕ) → xs ≡ ys → same_bytes xs ys ≡ true
 same_if xs ys = (bytes_eq-Decides xs ys).1
 
-entry_same : (z : Bool) (es : List Entry) (codes : List (List ℕ)) (m : Method) (b : OneBody) → IsEntry z es codes m b → body_same (span_of codes m) b ≡ true
+entry_same : (z : Bool) (es : List Entry) (codes : List (List ℕ)) (m : Method) (b : OneBody) → IsEntry z es codes m b
+    → body_same (span_of codes m) b ≡ true
 entry_same z es codes m (read ts) h = same_if _ _ h.spelled
 entry_same z es codes m raw h = refl
 
-kept_same : (test : Mark → Bool) (marks : List Mark) → list_all (λ m. m.same) marks ≡ true → list_all (λ m. m.same) (filter test marks) ≡ true
+kept_same : (test : Mark → Bool) (marks : List Mark) → list_all (λ m. m.same) marks ≡ true
+    → list_all (λ m. m.same) (filter test marks) ≡ true
 kept_same test marks h = list_all-from_AllPass (λ m. m.same) (filter test marks)
     (All-filter test (λ m. m.same ≡ true) marks (AllPass-from_list_all (λ m. m.same) marks h))
 
-marks_same : (z : Bool) (es : List Entry) (codes : List (List ℕ)) (ms : List Method) (bs : List OneBody) → AllZip (IsEntry z es codes) ms bs
+marks_same : (z : Bool) (es : List Entry) (codes : List (List ℕ)) (ms : List Method) (bs : List OneBody)
+    → AllZip (IsEntry z es codes) ms bs
     → list_all (λ m. m.same) (marks_of codes ms bs) ≡ true
 marks_same z es codes [] bs h = refl
 marks_same z es codes (m ∷ ms) [] h = refl
 marks_same z es codes (m ∷ ms) (b ∷ bs) h = ap₂ ◌&&◌ (entry_same z es codes m b h.0) (marks_same z es codes ms bs h.1)
 
-tables_same : (marks : List Mark) (names codes : List (List ℕ)) (trees : List Trees) (t : ℕ) → list_all (λ m. m.same) marks ≡ true
+tables_same : (marks : List Mark) (names codes : List (List ℕ)) (trees : List Trees) (t : ℕ)
+    → list_all (λ m. m.same) marks ≡ true
     → AllZip Spells codes trees → all_same (tallied marks t (map uncounted (blocks_of names codes trees))) ≡ true
 tables_same marks [] codes trees t h r = refl
 tables_same marks (n ∷ names) [] trees t h r = refl

@@ -6,7 +6,8 @@ use Rattle.acpi_tables.specs.Bytes.{number_at}
 use Rattle.acpi_tables.specs.Dumps.{most_bytes}
 
 -- a table of an order has a header
-pub table_at : (dumps : List Dump) (order : List ℕ) (i : ℕ) → i < length order → AreTables dumps order → HoldsTable (bytes_of dumps (get_or order i 0))
+pub table_at : (dumps : List Dump) (order : List ℕ) (i : ℕ) → i < length order → AreTables dumps order
+    → HoldsTable (bytes_of dumps (get_or order i 0))
 table_at dumps [] i h t = absurd (omega (arith, h))
 table_at dumps (x ∷ order) zero h t = t.0
 table_at dumps (x ∷ order) (suc i) h t = table_at dumps order i (omega (arith, h)) t.2

@@ -23,7 +23,8 @@ mutual
       tail_many s levels (terms_in p (law.row).place) _ ls t (deeper n) r law.tail
       ∙ ap (λ xs. length (xs ++ tail_spans t r)) (sym (parts_none s t levels (law.row).parts ls ps law.parts))
 
-  tail_many : (s : Setting) (levels : ℕ) (p : Position) (k : Option TailKind) (ls : PathSet) (t n : ℕ) (r : Tail) → IsTail s (IsLawful s levels) p k ls r
+  tail_many : (s : Setting) (levels : ℕ) (p : Position) (k : Option TailKind) (ls : PathSet) (t n : ℕ) (r : Tail)
+      → IsTail s (IsLawful s levels) p k ls r
       → length (tail_levels n r) ≡ length (tail_spans t r)
   tail_many s levels p k ls t n empty law = refl
   tail_many s levels p k ls t n (terms xs) law = let e = terms_tail s levels p ls k xs law in all_many s levels p ls t n xs e.1
@@ -41,6 +42,7 @@ mutual
       length-append (levels_in n x) (all_levels n xs) ∙ (λ i. first i + rest i) ∙ sym (length-append (tree_spans t x) (all_spans t xs))
 
 -- terms leave the bodies behind those that stand in them
-pub all_take : (s : Setting) (levels : ℕ) (p : Position) (ls : PathSet) (t : ℕ) (xs : Trees) (bs : List BodyLines) → AreTerms s levels p ls xs
+pub all_take : (s : Setting) (levels : ℕ) (p : Position) (ls : PathSet) (t : ℕ) (xs : Trees) (bs : List BodyLines)
+    → AreTerms s levels p ls xs
     → left_all xs bs ≡ drop (length (all_spans t xs)) bs
 all_take s levels p ls t xs bs law = ap (λ n. drop n bs) (all_many s levels p ls t 1 xs law)

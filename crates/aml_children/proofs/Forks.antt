@@ -50,7 +50,8 @@ module _ (d : List Child × ℕ) (o : Option (Box Fork)) (b : Box Fork) (view : 
 
       -- by the comparison with another copy
       module _ (s : Seg) (g : Fork) (again : g ≡ b.value) where
-        compared : {X : Type 0} (test : Ordering → X) (x : X) → test (seg_cmp s g.child.seg) ≡ x → test (seg_cmp s h.child.seg) ≡ x
+        compared : {X : Type 0} (test : Ordering → X) (x : X) → test (seg_cmp s g.child.seg) ≡ x
+            → test (seg_cmp s h.child.seg) ≡ x
         compared test x told = ap (λ (f : Fork). test (seg_cmp s f.child.seg)) (same ∙ sym again) ∙ told
 
         pub at_left : seg_cmp s g.child.seg ≡ Less → child_in d.0 s ≡ child_in h.left.0 s
@@ -65,7 +66,8 @@ module _ (d : List Child × ℕ) (o : Option (Box Fork)) (b : Box Fork) (view : 
         at_middle equal = ap (λ es. child_in es s) list_is
             ∙ found_middle h.left.0 h.child h.right.0 s (subst Rise list_is rise) (compared (λ o. o) Equal equal)
 
-        pub behind_at_left : is_lt (seg_cmp s g.child.seg) ≡ true → first_node (behind s d.0) ≡ option_or (first_node (behind s h.left.0)) (Some h.child.node)
+        pub behind_at_left : is_lt (seg_cmp s g.child.seg) ≡ true
+            → first_node (behind s d.0) ≡ option_or (first_node (behind s h.left.0)) (Some h.child.node)
         behind_at_left less = ap (λ es. first_node (behind s es)) list_is ∙ behind_left h.left.0 h.child h.right.0 s (compared is_lt true less)
 
         pub behind_at_right : is_lt (seg_cmp s g.child.seg) ≡ false → behind s d.0 ≡ behind s h.right.0
@@ -79,7 +81,8 @@ module _ (d : List Child × ℕ) (o : Option (Box Fork)) (b : Box Fork) (view : 
         put_at_right more = ap (λ es. put es e) list_is
             ∙ put_right h.child h.right.0 e h.left.0 (subst Rise list_is rise) (compared e.seg g again (λ o. o) Greater more)
 
-pub can_lean : (o : Option (Box Fork)) (b : Box Fork) (d : List Child × ℕ) → list_and_height o ≡ d → AreBalanced o → o ≡ Some b → d.1 ≤ 2 ^ 63 → CanLean b.value
+pub can_lean : (o : Option (Box Fork)) (b : Box Fork) (d : List Child × ℕ) → list_and_height o ≡ d → AreBalanced o
+    → o ≡ Some b → d.1 ≤ 2 ^ 63 → CanLean b.value
 can_lean o b d view all is room = record { balanced = subst AreBalanced is all; room = omega (arith, heighted d o b view is, room) }
 
 -- a side that was too high, leant outward and lifted

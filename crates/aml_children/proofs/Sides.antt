@@ -17,7 +17,8 @@ before_front : (s : Seg) (l m : List Child) → IsBefore s (l ++ m) → IsBefore
 before_front s [] m before = tt
 before_front s (c ∷ l) m before = (before.0, before_front s l m before.1)
 
-before_middle : (s : Seg) (l : List Child) (k : Child) (r : List Child) → IsBefore s (l ++ k ∷ r) → seg_cmp s k.seg ≡ Less
+before_middle : (s : Seg) (l : List Child) (k : Child) (r : List Child) → IsBefore s (l ++ k ∷ r)
+    → seg_cmp s k.seg ≡ Less
 before_middle s [] k r before = before.0
 before_middle s (c ∷ l) k r before = before_middle s l k r before.1
 
@@ -47,7 +48,8 @@ pub apart : (s t : Seg) → seg_cmp t s ≡ Less → eq_by_cmp seg_cmp s t ≡ f
 apart s t e = ap is_eq (segs_total.antisymm s t ∙ ap ordering_reverse e)
 
 -- what stands behind a middle has none of the segments before it
-absent_back : (l : List Child) (k : Child) (r : List Child) (s : Seg) → Rise (l ++ k ∷ r) → seg_cmp s k.seg ≡ Less → child_in (k ∷ r) s ≡ None
+absent_back : (l : List Child) (k : Child) (r : List Child) (s : Seg) → Rise (l ++ k ∷ r) → seg_cmp s k.seg ≡ Less
+    → child_in (k ∷ r) s ≡ None
 absent_back l k r s rise less = absent_before s (k ∷ r) (less, earlier s k.seg r less (back_rises l k r rise).0)
 
 front_only : (l m : List Child) (s : Seg) → child_in m s ≡ None → child_in (l ++ m) s ≡ child_in l s
@@ -80,7 +82,8 @@ module _ (e : Child) (r : List Child) (c : Child) where
   put_left [] less = ap (λ b. cond b (e ∷ put r c) (c ∷ e ∷ r)) (ap is_lt (turned_less c.seg e.seg less))
   put_left (d ∷ l) less = by (is_lt (seg_cmp d.seg c.seg)) (put_left l less)
     where
-      by : (b : Bool) → put (l ++ e ∷ r) c ≡ put l c ++ e ∷ r → cond b (d ∷ put (l ++ e ∷ r) c) (c ∷ d ∷ (l ++ e ∷ r)) ≡ cond b (d ∷ put l c) (c ∷ d ∷ l) ++ e
+      by : (b : Bool) → put (l ++ e ∷ r) c ≡ put l c ++ e ∷ r
+          → cond b (d ∷ put (l ++ e ∷ r) c) (c ∷ d ∷ (l ++ e ∷ r)) ≡ cond b (d ∷ put l c) (c ∷ d ∷ l) ++ e
           ∷ r
       by true same = ap (λ (es : List Child). d ∷ es) same
       by false same = refl
@@ -91,14 +94,16 @@ module _ (e : Child) (r : List Child) (c : Child) where
       ap (λ b. cond b (d ∷ put (l ++ e ∷ r) c) (c ∷ d ∷ (l ++ e ∷ r))) (ap is_lt (segs_total.trans d.seg e.seg c.seg (before_middle d.seg l e r rise.0) less))
       ∙ ap (λ (es : List Child). d ∷ es) (past l rise.1 less)
 
-  pub put_right : (l : List Child) → Rise (l ++ e ∷ r) → seg_cmp c.seg e.seg ≡ Greater → put (l ++ e ∷ r) c ≡ l ++ e ∷ put r c
+  pub put_right : (l : List Child) → Rise (l ++ e ∷ r) → seg_cmp c.seg e.seg ≡ Greater
+      → put (l ++ e ∷ r) c ≡ l ++ e ∷ put r c
   put_right l rise more = past l rise (turned c.seg e.seg more)
 
 pub length_put : (cs : List Child) (c : Child) → length (put cs c) ≡ length cs + 1
 length_put [] c = refl
 length_put (d ∷ cs) c = by (is_lt (seg_cmp d.seg c.seg)) (length_put cs c)
   where
-    by : (b : Bool) → length (put cs c) ≡ length cs + 1 → length (cond b (d ∷ put cs c) (c ∷ d ∷ cs)) ≡ length (d ∷ cs) + 1
+    by : (b : Bool) → length (put cs c) ≡ length cs + 1
+        → length (cond b (d ∷ put cs c) (c ∷ d ∷ cs)) ≡ length (d ∷ cs) + 1
     by true longer = omega (arith, longer)
     by false longer = omega arith
 
@@ -122,7 +127,8 @@ not_before s t u less not = by (seg_cmp s t) refl
     by Equal is = refl
     by Greater is = refl
 
-pub behind_right : (l : List Child) (k : Child) (r : List Child) (s : Seg) → Rise (l ++ k ∷ r) → is_lt (seg_cmp s k.seg) ≡ false
+pub behind_right : (l : List Child) (k : Child) (r : List Child) (s : Seg) → Rise (l ++ k ∷ r)
+    → is_lt (seg_cmp s k.seg) ≡ false
     → behind s (l ++ k ∷ r) ≡ behind s r
 behind_right [] k r s rise not = ap (λ b. cond b (k ∷ r) (behind s r)) not
 behind_right (c ∷ l) k r s rise not =

@@ -49,7 +49,8 @@ behind _ t e = absurd cc
 -- ---- the terms of a list, and all that is inside them
 
 -- an Else is taken only where an If may stand before it
-may_follow : (p : Position) (before : Bool) (o : ℕ) (r : Row) → (is_after_if p ≡ true → before ≡ true) → row_of o ≡ Some r → takes p r.place ≡ true
+may_follow : (p : Position) (before : Bool) (o : ℕ) (r : Row) → (is_after_if p ≡ true → before ≡ true)
+    → row_of o ≡ Some r → takes p r.place ≡ true
     → o ≡ 0xA1 → before ≡ true
 unfolding rows
 may_follow positions.AfterIf before o r k listed taken e = k refl
@@ -74,14 +75,16 @@ inner _ place e = e
 module _ (s : Setting) where
   mutual
     -- a list whose first term stands in a position
-    pub elses_follow : (levels : ℕ) (p : Position) (ls : PathSet) (ts : Trees) (before : Bool) → (is_after_if p ≡ true → before ≡ true)
+    pub elses_follow : (levels : ℕ) (p : Position) (ls : PathSet) (ts : Trees) (before : Bool)
+        → (is_after_if p ≡ true → before ≡ true)
         → AreTerms s levels p ls ts
         → ElsesFollow before ts
     elses_follow levels p ls no_trees before k l = tt
     elses_follow levels p ls (tree_more t ts) before k l =
         (else_follows levels p ls t before k l.0, elses_follow levels (next_position p t) (after s.scope ls t) ts (has_opcode 0xA0 t) (behind p t) l.1)
 
-    else_follows : (levels : ℕ) (p : Position) (ls : PathSet) (t : Tree) (before : Bool) → (is_after_if p ≡ true → before ≡ true) → IsLawful s levels p ls t
+    else_follows : (levels : ℕ) (p : Position) (ls : PathSet) (t : Tree) (before : Bool)
+        → (is_after_if p ≡ true → before ≡ true) → IsLawful s levels p ls t
         → ElseFollows before t
     else_follows zero p ls t before k l = absurd l
     else_follows (suc levels) p ls nothing before k l = tt
@@ -93,12 +96,14 @@ module _ (s : Setting) where
     )
 
     -- arguments, or elements
-    none_follow : (levels : ℕ) (p : Position) (ls : PathSet) (ts : Trees) → is_inner p ≡ true → AreTerms s levels p ls ts → NoElses ts
+    none_follow : (levels : ℕ) (p : Position) (ls : PathSet) (ts : Trees) → is_inner p ≡ true
+        → AreTerms s levels p ls ts → NoElses ts
     none_follow levels p ls no_trees i l = tt
     none_follow levels p ls (tree_more t ts) i l =
         (else_follows levels p ls t false (none_after p i) l.0, none_follow levels (next_position p t) (after s.scope ls t) ts (inner_next p t i) l.1)
 
-    parts_follow : (levels : ℕ) (ks : List PartKind) (ls : PathSet) (xs : Parts) → AreParts (λ q. IsLawful s levels q ls) ks xs → FollowInParts xs
+    parts_follow : (levels : ℕ) (ks : List PartKind) (ls : PathSet) (xs : Parts)
+        → AreParts (λ q. IsLawful s levels q ls) ks xs → FollowInParts xs
     parts_follow levels ks ls no_parts l = tt
     parts_follow levels [] ls (part_more x xs) l = absurd l
     parts_follow levels (kinds.Term ∷ ks) ls (part_more (child t) xs) l =
@@ -110,7 +115,8 @@ module _ (s : Setting) where
     parts_follow levels (_ ∷ ks) ls (part_more (child t) xs) l = absurd l.0
     parts_follow levels (k ∷ ks) ls (part_more _ xs) l = parts_follow levels ks ls xs l.1
 
-    tail_follows : (levels : ℕ) (p : Position) (k : Option TailKind) (ls : PathSet) (t : Tail) → (is_after_if p ≡ true → false ≡ true)
+    tail_follows : (levels : ℕ) (p : Position) (k : Option TailKind) (ls : PathSet) (t : Tail)
+        → (is_after_if p ≡ true → false ≡ true)
         → IsTail s (IsLawful s levels) p k ls t → FollowInTail t
     tail_follows levels p (Some tails.Terms) ls (terms ts) apart l = elses_follow levels p ls ts false apart l
     tail_follows levels p _ ls (terms ts) apart l = absurd l
@@ -120,7 +126,8 @@ module _ (s : Setting) where
     tail_follows levels p _ ls (fields us) apart l = absurd l
     tail_follows levels p k ls _ apart l = tt
 
-    fields_follow : (levels : ℕ) (ls : PathSet) (us : Fields) → AreFields (λ q. IsLawful s levels q ls) us → FollowInFields us
+    fields_follow : (levels : ℕ) (ls : PathSet) (us : Fields) → AreFields (λ q. IsLawful s levels q ls) us
+        → FollowInFields us
     fields_follow levels ls no_fields l = tt
     fields_follow levels ls (field_more (connection (buffer t)) us) l =
         (else_follows levels positions.Data ls t false (λ e. e) l.0.1, fields_follow levels ls us l.1)
@@ -128,7 +135,8 @@ module _ (s : Setting) where
     fields_follow levels ls (field_more _ us) l = fields_follow levels ls us l.1
 
 -- in the body of a method, and in a table
-pub else_behind_if : (arity : Arities) (method : List Seg) (code : List ℕ) (ts : Trees) → ReadsBody arity method code ts → ElsesFollow false ts
+pub else_behind_if : (arity : Arities) (method : List Seg) (code : List ℕ) (ts : Trees) → ReadsBody arity method code ts
+    → ElsesFollow false ts
 else_behind_if arity method code ts reads = elses_follow _ 512 positions.BodyTerm _ ts false (λ e. e) reads.lawful
 
 pub else_behind_if_of_a_table : (code : List ℕ) (ts : Trees) → ReadsModule code ts → ElsesFollow false ts

@@ -14,9 +14,11 @@ use Rattle.aml_code.proofs.Views.{view-Op}
 
 -- Room was left at the end of what stands, and content was written behind it: with the room filled in, what stands is
 -- followed by the length, and by the content.
-pub closed : (front room content length_bytes : List ℕ) (at width : ℕ) (open_out closed_out : List ℕ) → at ≡ length front → length room ≡ width
+pub closed : (front room content length_bytes : List ℕ) (at width : ℕ) (open_out closed_out : List ℕ)
+    → at ≡ length front → length room ≡ width
     → open_out ≡ (front ++ room) ++ content
-    → closed_out ≡ take at open_out ++ (length_bytes ++ drop (at + width) open_out) → closed_out ≡ front ++ (length_bytes ++ content)
+    → closed_out ≡ take at open_out ++ (length_bytes ++ drop (at + width) open_out)
+    → closed_out ≡ front ++ (length_bytes ++ content)
 closed front room content length_bytes at width open_out closed_out is_at is_room written e =
     let split : open_out ≡ front ++ (room ++ content) = written ∙ append_assoc front room content in
     let head : take at open_out ≡ front = ap (take at) split ∙ take_at front (room ++ content) at (sym is_at) in
@@ -25,9 +27,11 @@ closed front room content length_bytes at width open_out closed_out is_at is_roo
     e ∙ ap (λ (h : List ℕ). h ++ (length_bytes ++ drop (at + width) open_out)) head ∙ ap (λ (t : List ℕ). front ++ (length_bytes ++ t)) tail
 
 -- an opcode, room for its package length, parts, a tail, and the length into the room
-pub package_written : (o : ℕ) (w : PkgWidth) (ps t out0 out1 out2 out3 out4 out5 : List ℕ) (at : ℕ) → out1 ≡ out0 ++ opcode_bytes o → at ≡ length out1
+pub package_written : (o : ℕ) (w : PkgWidth) (ps t out0 out1 out2 out3 out4 out5 : List ℕ) (at : ℕ)
+    → out1 ≡ out0 ++ opcode_bytes o → at ≡ length out1
     → out2 ≡ out1 ++ replicate (width_len w) 0
-    → out3 ≡ out2 ++ ps → out4 ≡ out3 ++ t → out5 ≡ take at out4 ++ (package_bytes w (length out4 - at) ++ drop (at + width_len w) out4)
+    → out3 ≡ out2 ++ ps → out4 ≡ out3 ++ t
+    → out5 ≡ take at out4 ++ (package_bytes w (length out4 - at) ++ drop (at + width_len w) out4)
     → (whole : List ℕ) → opcode_bytes o ++ packed (Some w) (ps ++ t) ≡ whole → out5 ≡ out0 ++ whole
 package_written o w ps t out0 out1 out2 out3 out4 out5 at e1 is_at e2 e3 e4 e5 whole last =
     let room = replicate (width_len w) 0 in

@@ -42,13 +42,15 @@ has_terms : Option TailKind → Bool
 has_terms (Some tails.Terms) = true
 has_terms _ = false
 
-as_argument : (p : Position) (place : Place) → is_inner p ≡ true → takes p place ≡ true → takes positions.Argument place ≡ true
+as_argument : (p : Position) (place : Place) → is_inner p ≡ true → takes p place ≡ true
+    → takes positions.Argument place ≡ true
 as_argument positions.Argument place i e = e
 as_argument positions.Target places.Target i e = refl
 as_argument positions.Data places.Data i e = refl
 as_argument _ _ i e = absurd cc
 
-quiet : (o : ℕ) (r : Row) → row_of o ≡ Some r → takes positions.Argument r.place ≡ true → (is_other r.role && not (has_terms r.tail)) ≡ true
+quiet : (o : ℕ) (r : Row) → row_of o ≡ Some r → takes positions.Argument r.place ≡ true
+    → (is_other r.role && not (has_terms r.tail)) ≡ true
 unfolding rows is_other has_terms
 quiet o r e taken = rows_say (λ r. takes positions.Argument r.place) (λ r. is_other r.role && not (has_terms r.tail)) refl o r e taken
 
@@ -61,7 +63,8 @@ none_declared None ls role ps t e = refl
 none_declared (Some path) ls roles.Other ps t e = refl
 none_declared (Some path) ls _ ps t e = absurd cc
 
-tail_unchanged : (s : Setting) (levels : ℕ) (p : Position) (k : Option TailKind) (ls : PathSet) (t : Tail) → not (has_terms k) ≡ true
+tail_unchanged : (s : Setting) (levels : ℕ) (p : Position) (k : Option TailKind) (ls : PathSet) (t : Tail)
+    → not (has_terms k) ≡ true
     → IsTail s (IsLawful s levels) p k ls t → after_tail s.scope ls t ≡ ls
 unfolding has_terms
 tail_unchanged s levels p (Some tails.Terms) ls (terms ts) e h = absurd cc
@@ -75,7 +78,8 @@ kept_inside positions.RunTerm (Some k) i = absurd cc
 kept_inside positions.RunAfterIf (Some k) i = absurd cc
 kept_inside _ (Some k) i = refl
 
-pub unchanged : (s : Setting) (levels : ℕ) (p : Position) (ls : PathSet) (t : Tree) → is_inner p ≡ true → IsLawful s levels p ls t → after s.scope ls t ≡ ls
+pub unchanged : (s : Setting) (levels : ℕ) (p : Position) (ls : PathSet) (t : Tree) → is_inner p ≡ true
+    → IsLawful s levels p ls t → after s.scope ls t ≡ ls
 unchanged s zero p ls t i h = absurd h
 unchanged s (suc levels) p ls nothing i h = refl
 unchanged s (suc levels) p ls (named n ts) i h = refl
@@ -87,7 +91,8 @@ unchanged s (suc levels) p ls (op o w ps t) i h =
     ∙ tail_unchanged s levels _ row.tail ls t (and_right (is_other row.role) (not (has_terms row.tail)) q)
     (subst (λ (k : Option TailKind). IsTail s (IsLawful s levels) (terms_in p row.place) k ls t) (kept_inside p row.tail i) h.tail)
 
-pub all_unchanged : (s : Setting) (levels : ℕ) (p : Position) (ls : PathSet) (ts : Trees) → is_inner p ≡ true → AreTerms s levels p ls ts
+pub all_unchanged : (s : Setting) (levels : ℕ) (p : Position) (ls : PathSet) (ts : Trees) → is_inner p ≡ true
+    → AreTerms s levels p ls ts
     → after_all s.scope ls ts ≡ ls
 all_unchanged s levels p ls no_trees i h = refl
 all_unchanged s levels p ls (tree_more t ts) i h =

@@ -26,7 +26,8 @@ use Rattle.aml_code.proofs.Answered.{answered, not_answered}
 pub power : (k : ℕ) → 256 ^ suc k ≡ 256 * 256 ^ k
 power k = pow-succ' 256 k
 
-pub little_takes : (k end : ℕ) (bytes : List ℕ) (n : ℕ) (rest : List ℕ) → IsBytes bytes → little_at k end bytes ≡ Ok (n, rest)
+pub little_takes : (k end : ℕ) (bytes : List ℕ) (n : ℕ) (rest : List ℕ) → IsBytes bytes
+    → little_at k end bytes ≡ Ok (n, rest)
     → Takes bytes (little k n) rest × (n < 256 ^ k)
 unfolding little_at
 little_takes zero end bytes n rest fits e =
@@ -52,7 +53,8 @@ little_again (suc k) end n rest h =
     let whole : n % 256 + 256 * (n / 256) ≡ n = omega arith in
     rw (little_again k end (n / 256) rest less) (ap (λ m. Ok (m, rest)) whole)
 
-pub little_fault : (k end : ℕ) (bytes : List ℕ) (d : CodeFault) → little_at k end bytes ≡ Err d → d ≡ faults.Truncated end
+pub little_fault : (k end : ℕ) (bytes : List ℕ) (d : CodeFault) → little_at k end bytes ≡ Err d
+    → d ≡ faults.Truncated end
 unfolding little_at
 little_fault zero end bytes d e = absurd cc
 little_fault (suc k) end bytes d e = err_then _ _ _ d e (byte_fault end bytes d) (λ low h1 e1. little_fault k end low.1 d (not_answered _ _ d e1))
@@ -116,7 +118,8 @@ one_byte lead bytes p fits =
     let low : lead % 64 ≡ lead = omega arith in
     (record { parts = rw low refl; rest_fits = fits }, omega arith)
 
-more_bytes : (k lead : ℕ) (bytes : List ℕ) (high : ℕ) (rest : List ℕ) → lead / 64 ≡ k → (k ≡ 0 → ⊥) → lead < 256 → lead / 16 % 4 ≡ 0
+more_bytes : (k lead : ℕ) (bytes : List ℕ) (high : ℕ) (rest : List ℕ) → lead / 64 ≡ k → (k ≡ 0 → ⊥) → lead < 256
+    → lead / 16 % 4 ≡ 0
     → Takes bytes (little k high) rest → high < 256 ^ k
     → Takes (lead ∷ bytes) (spelled k (lead % 16 + 16 * high)) rest × FitsFollowing k (lead % 16 + 16 * high)
 more_bytes zero lead bytes high rest p q l zeros takes below = absurd (q refl)
@@ -127,7 +130,8 @@ more_bytes (suc k) lead bytes high rest p q l zeros takes below =
     let small : value < 16 * 256 ^ suc k = omega arith in
     (record { parts = rw (low, up) (ap (λ (t : List ℕ). lead ∷ t) takes.parts); rest_fits = takes.rest_fits }, (omega arith, small))
 
-value_takes : (at lead end : ℕ) (bytes : List ℕ) (x : (PkgWidth × ℕ) × List ℕ) → lead < 256 → IsBytes bytes → value_at at lead end bytes ≡ Ok x
+value_takes : (at lead end : ℕ) (bytes : List ℕ) (x : (PkgWidth × ℕ) × List ℕ) → lead < 256 → IsBytes bytes
+    → value_at at lead end bytes ≡ Ok x
     → IsLength (lead ∷ bytes) x.0.0 x.0.1 x.1
 unfolding value_at
 value_takes at lead end bytes x small fits e =
@@ -141,7 +145,8 @@ value_takes at lead end bytes x small fits e =
     let same : following_bytes (width_of (lead / 64)) ≡ lead / 64 = following_of (lead / 64) (omega arith) in
     subst (λ (k : ℕ). Takes (lead ∷ bytes) (spelled k (lead % 16 + 16 * high.0)) high.1 × FitsFollowing k (lead % 16 + 16 * high.0)) (sym same) m)))
 
-pub length_takes : (end : ℕ) (bytes : List ℕ) (x : (PkgWidth × ℕ) × List ℕ) → IsBytes bytes → length_at end bytes ≡ Ok x → IsLength bytes x.0.0 x.0.1 x.1
+pub length_takes : (end : ℕ) (bytes : List ℕ) (x : (PkgWidth × ℕ) × List ℕ) → IsBytes bytes → length_at end bytes ≡ Ok x
+    → IsLength bytes x.0.0 x.0.1 x.1
 unfolding length_at
 length_takes end bytes x fits e =
     bind_then _ _ _ x e (λ lead h1 e1.
@@ -176,7 +181,8 @@ headed at (suc k) v end rest fits =
       reads = rw (width, long, zeros, little_again (suc k) end (v / 16) rest small, low, whole) refl;
     }
 
-pub length_again : (end : ℕ) (w : PkgWidth) (v : ℕ) (rest : List ℕ) → FitsWidth w v → length_at end (package_bytes w v ++ rest) ≡ Ok ((w, v), rest)
+pub length_again : (end : ℕ) (w : PkgWidth) (v : ℕ) (rest : List ℕ) → FitsWidth w v
+    → length_at end (package_bytes w v ++ rest) ≡ Ok ((w, v), rest)
 unfolding length_at
 length_again end w v rest fits =
     let h = headed (end - length (package_bytes w v ++ rest)) (following_bytes w) v end rest fits in
@@ -221,7 +227,8 @@ length_fault end (lead ∷ rest) d e =
 abbrev pub IsSpan : List ℕ → PkgWidth × List ℕ × List ℕ → Type 0
 IsSpan bytes x = Takes bytes (package_bytes x.0 (width_len x.0 + length x.1) ++ x.1) x.2 × FitsWidth x.0 (width_len x.0 + length x.1) × IsBytes x.1
 
-pub span_takes : (end : ℕ) (bytes : List ℕ) (x : PkgWidth × List ℕ × List ℕ) → IsBytes bytes → span_at end bytes ≡ Ok x → IsSpan bytes x
+pub span_takes : (end : ℕ) (bytes : List ℕ) (x : PkgWidth × List ℕ × List ℕ) → IsBytes bytes → span_at end bytes ≡ Ok x
+    → IsSpan bytes x
 unfolding span_at
 span_takes end bytes x fits e = bind_then _ _ _ x e (λ (l : (PkgWidth × ℕ) × List ℕ) h1 e1.
     let w = l.0.0 in
@@ -259,7 +266,8 @@ pub record PastFault (end : ℕ) (bytes : List ℕ) (d : CodeFault) : Type 0 whe
   pub past : (value < width_len width) ⊎ (length rest < value - width_len width)
   pub fault : d ≡ faults.PkgPast (end - length bytes)
 
-pub span_fault : (end : ℕ) (bytes : List ℕ) (d : CodeFault) → IsBytes bytes → span_at end bytes ≡ Err d → LengthFault end bytes d ⊎ PastFault end bytes d
+pub span_fault : (end : ℕ) (bytes : List ℕ) (d : CodeFault) → IsBytes bytes → span_at end bytes ≡ Err d
+    → LengthFault end bytes d ⊎ PastFault end bytes d
 unfolding span_at
 span_fault end bytes d fits e = err_then _ _ _ d e (λ h. inl (length_fault end bytes d h)) (λ l h1 e1.
     let at = end - length bytes in
@@ -282,7 +290,8 @@ three_bytes k h =
 
 -- ---- the length at the front of the bytes
 
-pub front_again : (bytes : List ℕ) (w : PkgWidth) (v : ℕ) (rest : List ℕ) → FitsWidth w v → bytes ≡ package_bytes w v ++ rest → front_at bytes ≡ Ok (w, v)
+pub front_again : (bytes : List ℕ) (w : PkgWidth) (v : ℕ) (rest : List ℕ) → FitsWidth w v
+    → bytes ≡ package_bytes w v ++ rest → front_at bytes ≡ Ok (w, v)
 unfolding front_at
 front_again bytes w v rest fits text =
     ap (λ r. r >>= λ l. Ok l.0) (ap (length_at (length bytes)) text ∙ length_again (length bytes) w v rest fits)
@@ -305,7 +314,8 @@ front_fault bytes d e =
     ]
 
 -- only one is spelled there
-pub front_one : (bytes : List ℕ) (x : PkgWidth × ℕ) (w : PkgWidth) (v : ℕ) (rest : List ℕ) → front_at bytes ≡ Ok x → FitsWidth w v
+pub front_one : (bytes : List ℕ) (x : PkgWidth × ℕ) (w : PkgWidth) (v : ℕ) (rest : List ℕ) → front_at bytes ≡ Ok x
+    → FitsWidth w v
     → bytes ≡ package_bytes w v ++ rest → (w ≡ x.0) × (v ≡ x.1)
 front_one bytes x w v rest e fits text =
     let same = ok_is (w, v) x (sym (front_again bytes w v rest fits text) ∙ e) in

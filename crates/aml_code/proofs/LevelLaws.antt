@@ -41,7 +41,8 @@ module _ (s : Setting) (Is More : Position → PathSet → Tree → Type 0) (mor
   terms_more_so p ls no_trees h = tt
   terms_more_so p ls (tree_more t ts) h = (more p ls t h.0, terms_more_so (next_position p t) (after s.scope ls t) ts h.1)
 
-  tail_more_so : (p : Position) (k : Option TailKind) (ls : PathSet) (t : Tail) → IsTail s Is p k ls t → IsTail s More p k ls t
+  tail_more_so : (p : Position) (k : Option TailKind) (ls : PathSet) (t : Tail) → IsTail s Is p k ls t
+      → IsTail s More p k ls t
   tail_more_so p (Some tails.Terms) ls (terms ts) h = terms_more_so p ls ts h
   tail_more_so p _ ls (terms ts) h = absurd h
   tail_more_so p (Some tails.Elements) ls (elements ts) h = terms_more_so positions.Data ls ts h
@@ -51,7 +52,8 @@ module _ (s : Setting) (Is More : Position → PathSet → Tree → Type 0) (mor
   tail_more_so p _ ls _ h = h
 
 module _ (s : Setting) where
-  deeper : (levels : ℕ) (p : Position) (ls : PathSet) (t : Tree) → IsLawful s levels p ls t → IsLawful s (suc levels) p ls t
+  deeper : (levels : ℕ) (p : Position) (ls : PathSet) (t : Tree) → IsLawful s levels p ls t
+      → IsLawful s (suc levels) p ls t
   deeper zero p ls t h = absurd h
   deeper (suc levels) p ls nothing h = h
   deeper (suc levels) p ls (named n ts) h = (h.0, h.1, h.2, terms_more_so s _ _ (deeper levels) positions.Argument ls ts h.3)
@@ -66,10 +68,12 @@ module _ (s : Setting) where
   }
 
   -- by any number of levels
-  pub deeper_by : (more levels all : ℕ) (p : Position) (ls : PathSet) (t : Tree) → more + levels ≡ all → IsLawful s levels p ls t → IsLawful s all p ls t
+  pub deeper_by : (more levels all : ℕ) (p : Position) (ls : PathSet) (t : Tree) → more + levels ≡ all
+      → IsLawful s levels p ls t → IsLawful s all p ls t
   deeper_by zero levels all p ls t e h = subst (λ (n : ℕ). IsLawful s n p ls t) (omega (arith, e)) h
   deeper_by (suc more) levels all p ls t e h = deeper_by more (suc levels) all p ls t (omega (arith, e)) (deeper levels p ls t h)
 
-  pub terms_deeper_by : (more levels all : ℕ) (p : Position) (ls : PathSet) (ts : Trees) → more + levels ≡ all → AreTerms s levels p ls ts
+  pub terms_deeper_by : (more levels all : ℕ) (p : Position) (ls : PathSet) (ts : Trees) → more + levels ≡ all
+      → AreTerms s levels p ls ts
       → AreTerms s all p ls ts
   terms_deeper_by more levels all p ls ts e = terms_more_so s _ _ (λ q m t. deeper_by more levels all q m t e) p ls ts

@@ -30,11 +30,13 @@ and_right true b h = h
 and_right false b h = cc
 
 -- what a search finds passes the test of the search, and each test that all pass
-found : {X : Type 0} (p t : X → Bool) (xs : List X) (x : X) → list_all t xs ≡ true → find p xs ≡ Some x → (p x ≡ true) × (t x ≡ true)
+found : {X : Type 0} (p t : X → Bool) (xs : List X) (x : X) → list_all t xs ≡ true → find p xs ≡ Some x
+    → (p x ≡ true) × (t x ≡ true)
 found p t [] x all e = absurd cc
 found p t (y ∷ ys) x all e = by (p y) refl (λ h. found p t ys x (and_right (t y) (list_all t ys) all) h) e
   where
-    by : (b : Bool) → p y ≡ b → (find p ys ≡ Some x → (p x ≡ true) × (t x ≡ true)) → cond b (Some y) (find p ys) ≡ Some x → (p x ≡ true) × (t x ≡ true)
+    by : (b : Bool) → p y ≡ b → (find p ys ≡ Some x → (p x ≡ true) × (t x ≡ true))
+        → cond b (Some y) (find p ys) ≡ Some x → (p x ≡ true) × (t x ≡ true)
     by true is later h = let q : y ≡ x = cc in (ap p (sym q) ∙ is, ap t (sym q) ∙ and_left (t y) (list_all t ys) all)
     by false is later h = later h
 
@@ -48,7 +50,8 @@ where_true false c h e = absurd cc
 
 -- Of each row that passes the first test the second test says this, if it does so over the whole table: there `refl`
 -- shows it.
-pub rows_say : (when is : Row → Bool) → list_all (λ r. cond (when r) (is r) true) rows ≡ true → (o : ℕ) (r : Row) → row_of o ≡ Some r → when r ≡ true
+pub rows_say : (when is : Row → Bool) → list_all (λ r. cond (when r) (is r) true) rows ≡ true → (o : ℕ) (r : Row)
+    → row_of o ≡ Some r → when r ≡ true
     → is r ≡ true
 unfolding row_of
 rows_say when is all o r e h = where_true (when r) (is r) h (found (λ r. r.opcode == o) (λ r. cond (when r) (is r) true) rows r all e).1
@@ -62,7 +65,8 @@ pub not_true : (b : Bool) → not b ≡ true → b ≡ false
 not_true true e = absurd cc
 not_true false e = refl
 
-opcode_by : (o : ℕ) (b : Bool) → ltb o 256 ≡ b → cond b (not (o == 0x5B)) (nat_le 0x5B00 o && ltb o 0x5C00) ≡ true → IsOpcode o
+opcode_by : (o : ℕ) (b : Bool) → ltb o 256 ≡ b → cond b (not (o == 0x5B)) (nat_le 0x5B00 o && ltb o 0x5C00) ≡ true
+    → IsOpcode o
 opcode_by o true small e = inl (ltb-true _ _ small, eqb-false _ _ (not_true _ e))
 opcode_by o false small e =
     let low : nat_le 0x5B00 o ≡ true = and_left (nat_le 0x5B00 o) (ltb o 0x5C00) e in
@@ -83,7 +87,8 @@ row_apart o r e = subst (λ (n : ℕ). is_name_lead (lead_of n) ≡ false) (row_
     (not_true _ (rows_say (λ r. true) (λ r. not (is_name_lead (lead_of r.opcode))) refl o r e refl))
 
 -- no target's opcode is 00
-pub target_opcode : (o : ℕ) (r : Row) → row_of o ≡ Some r → takes positions.Target r.place ≡ true → (lead_of o == 0x00) ≡ false
+pub target_opcode : (o : ℕ) (r : Row) → row_of o ≡ Some r → takes positions.Target r.place ≡ true
+    → (lead_of o == 0x00) ≡ false
 unfolding rows
 target_opcode o r e h = subst (λ (n : ℕ). (lead_of n == 0x00) ≡ false) (row_opcode o r e)
     (not_true _ (rows_say (λ r. takes positions.Target r.place) (λ r. not (lead_of r.opcode == 0x00)) refl o r e h))
@@ -107,7 +112,8 @@ unfolding one_term
 one_term_is (kinds.Term ∷ []) h = refl
 one_term_is _ h = absurd cc
 
-if_passes : (o : ℕ) (r : Row) → row_of o ≡ Some r → is_if_place r.place ≡ true → (one_term r.parts && has_length r.tail) ≡ true
+if_passes : (o : ℕ) (r : Row) → row_of o ≡ Some r → is_if_place r.place ≡ true
+    → (one_term r.parts && has_length r.tail) ≡ true
 unfolding rows one_term
 if_passes o r e h = rows_say (λ r. is_if_place r.place) (λ r. one_term r.parts && has_length r.tail) refl o r e h
 
@@ -134,7 +140,8 @@ zero_bare r e = subst IsBare e (refl, refl)
 pub opcode_lead : (o : ℕ) (rest : List ℕ) → (behind : List ℕ) × (opcode_bytes o ++ rest ≡ lead_of o ∷ behind)
 opcode_lead o rest = by_size (ltb o 256)
   where
-    by_size : (b : Bool) → (behind : List ℕ) × (cond b (o ∷ []) ((o / 256) ∷ (o % 256) ∷ []) ++ rest ≡ cond b o (o / 256) ∷ behind)
+    by_size : (b : Bool)
+        → (behind : List ℕ) × (cond b (o ∷ []) ((o / 256) ∷ (o % 256) ∷ []) ++ rest ≡ cond b o (o / 256) ∷ behind)
     by_size true = (rest, refl)
     by_size false = (o % 256 ∷ rest, refl)
 

@@ -28,7 +28,8 @@ all_placed = refl
 
 found_step : (o : ℕ) (r x : Row) (rs : List Row) (k : ℕ) (b : Bool) → (r.opcode == o) ≡ b → place_of r.opcode ≡ k
     → (find (λ y. y.opcode == o) rs ≡ Some x → (i : ℕ) × (slice_get rs i ≡ Some x) × (place_of o ≡ suc k + i))
-    → cond b (Some r) (find (λ y. y.opcode == o) rs) ≡ Some x → (i : ℕ) × (slice_get (r ∷ rs) i ≡ Some x) × (place_of o ≡ k + i)
+    → cond b (Some r) (find (λ y. y.opcode == o) rs) ≡ Some x
+    → (i : ℕ) × (slice_get (r ∷ rs) i ≡ Some x) × (place_of o ≡ k + i)
 found_step o r x rs k true is here later e =
     let same : r.opcode ≡ o = eqb-true _ _ is in
     (0, e, subst (λ (n : ℕ). place_of n ≡ k + 0) same (omega (arith, here)))
@@ -52,11 +53,13 @@ row_place o x e =
 
 -- ---- what stands in the table is found
 
-find_step : (o : ℕ) (r x : Row) (rs : List Row) (b : Bool) → cond b (Some r) (find (λ y. y.opcode == o) rs) ≡ None → find (λ y. y.opcode == o) rs ≡ None
+find_step : (o : ℕ) (r x : Row) (rs : List Row) (b : Bool) → cond b (Some r) (find (λ y. y.opcode == o) rs) ≡ None
+    → find (λ y. y.opcode == o) rs ≡ None
 find_step o r x rs true e = absurd cc
 find_step o r x rs false e = e
 
-find_own : (o : ℕ) (x : Row) (rs : List Row) (i : ℕ) → slice_get rs i ≡ Some x → (x.opcode == o) ≡ true → find (λ y. y.opcode == o) rs ≡ None → ⊥
+find_own : (o : ℕ) (x : Row) (rs : List Row) (i : ℕ) → slice_get rs i ≡ Some x → (x.opcode == o) ≡ true
+    → find (λ y. y.opcode == o) rs ≡ None → ⊥
 find_own o x [] i e is none = absurd cc
 find_own o x (r ∷ rs) zero e is none =
     let same : r ≡ x = cc in
@@ -76,7 +79,8 @@ viewed_at f [] i = refl
 viewed_at f (x ∷ xs) zero = refl
 viewed_at f (x ∷ xs) (suc i) = viewed_at f xs i
 
-pub looked_up : (o slot place : ℕ) (table : List OpRow) (f : Option OpRow) → slot ≡ slot_of o → place ≡ get_or INDEX slot 0 → map row_view table ≡ rows
+pub looked_up : (o slot place : ℕ) (table : List OpRow) (f : Option OpRow) → slot ≡ slot_of o
+    → place ≡ get_or INDEX slot 0 → map row_view table ≡ rows
     → f ≡ slice_get table place → slice_get rows (place_of o) ≡ option_map row_view f
 unfolding place_of
 looked_up o slot place table f a b are c =
@@ -91,7 +95,8 @@ kept o (Some r) = cond (r.opcode == o) (Some r) None
 pub row_kept : (o : ℕ) → kept o (slice_get rows (place_of o)) ≡ row_of o
 row_kept o = by (slice_get rows (place_of o)) refl (row_of o) refl
   where
-    other : (x : Row) (b : Bool) → (x.opcode == o) ≡ b → slice_get rows (place_of o) ≡ Some x → row_of o ≡ None → cond b (Some x) None ≡ None
+    other : (x : Row) (b : Bool) → (x.opcode == o) ≡ b → slice_get rows (place_of o) ≡ Some x → row_of o ≡ None
+        → cond b (Some x) None ≡ None
     other x true is e none = absurd (own_row o x (place_of o) e is none)
     other x false is e none = refl
 

@@ -39,7 +39,8 @@ number_of positions.Data = 8
 abbrev place_of : Position → Place → ℕ
 place_of p place = position_or_len (λ q. nat_eq (number_of q) (number_of p)) (takers place)
 
-found : (p : Position) (place : Place) → (slice_index_or (takers place) (place_of p place) p ≡ p) × (ltb (place_of p place) (length (takers place)) ≡ takes p place)
+found : (p : Position) (place : Place)
+    → (slice_index_or (takers place) (place_of p place) p ≡ p) × (ltb (place_of p place) (length (takers place)) ≡ takes p place)
 found positions.ModuleTerm places.If = (refl, refl)
 found positions.GuardTerm places.If = (refl, refl)
 found positions.RunTerm places.If = (refl, refl)

@@ -24,7 +24,8 @@ view-Nothing = search (rules, the_lemmas)
 pub view-Named : (n : Name) (args : Vec Node Global) → node_view (Named n args) ≡ named n (nodes_view args.items)
 view-Named n args = search (rules, the_lemmas)
 
-pub view-Op : (o : ℕ) (w : Option PkgWidth) (ps : Vec Part Global) (t : Tail) → node_view (Op o w ps t) ≡ op o w (parts_view ps.items) (tail_view t)
+pub view-Op : (o : ℕ) (w : Option PkgWidth) (ps : Vec Part Global) (t : Tail)
+    → node_view (Op o w ps t) ≡ op o w (parts_view ps.items) (tail_view t)
 view-Op o w ps t = search (rules, the_lemmas)
 
 pub view-part-Child : (x : Node) → part_view (parts.Child x) ≡ trees.child (node_view x)

@@ -32,7 +32,8 @@ later code at more end (inl e) = inl e
 later code at more end (inr (p, w, v, there, is, less)) = inr (p, w, v, there, is, omega (arith, less))
 
 -- past what was taken
-pub onward : (code : List ℕ) (at end : ℕ) (bytes front rest : List ℕ) → Within code at end bytes → Takes bytes front rest
+pub onward : (code : List ℕ) (at end : ℕ) (bytes front rest : List ℕ) → Within code at end bytes
+    → Takes bytes front rest
     → Within code (at + length front) end rest
 onward code at end bytes front rest w t =
     let split : code ≡ (w.before ++ front) ++ (rest ++ w.behind) =
@@ -50,7 +51,8 @@ onward code at end bytes front rest w t =
     }
 
 -- into a package
-pub inward : (code : List ℕ) (at end : ℕ) (bytes : List ℕ) (x : PkgWidth × List ℕ × List ℕ) → Within code at end bytes → IsSpan bytes x
+pub inward : (code : List ℕ) (at end : ℕ) (bytes : List ℕ) (x : PkgWidth × List ℕ × List ℕ) → Within code at end bytes
+    → IsSpan bytes x
     → Within code (at + width_len x.0) (end - length x.2) x.1
 inward code at end bytes x w s =
     let v = width_len x.0 + length x.1 in
@@ -76,7 +78,8 @@ inward code at end bytes x w s =
     }
 
 -- a text at the front of the bytes stands in the code
-pub text_there : (code : List ℕ) (at end : ℕ) (bytes text rest : List ℕ) → Within code at end bytes → bytes ≡ text ++ rest → StandsThere code at text
+pub text_there : (code : List ℕ) (at end : ℕ) (bytes text rest : List ℕ) → Within code at end bytes
+    → bytes ≡ text ++ rest → StandsThere code at text
 text_there code at end bytes text rest w e =
     record {
       before = w.before;
@@ -90,14 +93,16 @@ get_there [] b rest = refl
 get_there (x ∷ before) b rest = get_there before b rest
 
 -- so does its first byte
-pub byte_there : (code : List ℕ) (at end b : ℕ) (rest : List ℕ) → Within code at end (b ∷ rest) → slice_get code at ≡ Some b
+pub byte_there : (code : List ℕ) (at end b : ℕ) (rest : List ℕ) → Within code at end (b ∷ rest)
+    → slice_get code at ≡ Some b
 byte_there code at end b rest w =
     ap (λ (c : List ℕ). slice_get c at) w.text
     ∙ ap (λ (n : ℕ). slice_get (w.before ++ (b ∷ (rest ++ w.behind))) n) (sym w.offset)
     ∙ get_there w.before b (rest ++ w.behind)
 
 -- the bytes are the span of the code from their offset on
-pub slice_there : (code : List ℕ) (at end : ℕ) (bytes : List ℕ) → Within code at end bytes → slice_of code at (length bytes) ≡ bytes
+pub slice_there : (code : List ℕ) (at end : ℕ) (bytes : List ℕ) → Within code at end bytes
+    → slice_of code at (length bytes) ≡ bytes
 slice_there code at end bytes w =
     ap (λ (c : List ℕ). slice_of c at (length bytes)) w.text
     ∙ ap (λ (c : List ℕ). take (length bytes) c) (drop_at w.before (bytes ++ w.behind) at w.offset)
@@ -114,14 +119,16 @@ span_inside code at end bytes w =
 pub end_there : (code : List ℕ) (at end : ℕ) (bytes : List ℕ) → Within code at end bytes → IsEnd code end end
 end_there code at end bytes w = subst (λ (n : ℕ). IsEnd code n end) w.place (later code at (length bytes) end w.is_end)
 
-pub truncated_placed : (arity : Arities) (code : List ℕ) (at end : ℕ) (bytes : List ℕ) (d : CodeFault) → Within code at end bytes → d ≡ faults.Truncated end
+pub truncated_placed : (arity : Arities) (code : List ℕ) (at end : ℕ) (bytes : List ℕ) (d : CodeFault)
+    → Within code at end bytes → d ≡ faults.Truncated end
     → StandsAt arity code d
 truncated_placed arity code at end bytes d w e = subst (StandsAt arity code) (sym e) (end_there code at end bytes w)
 
 pub offset_is : (code : List ℕ) (at end : ℕ) (bytes : List ℕ) → Within code at end bytes → end - length bytes ≡ at
 offset_is code at end bytes w = omega (arith, w.place)
 
-pub length_placed : (arity : Arities) (code : List ℕ) (at end : ℕ) (bytes : List ℕ) (d : CodeFault) → Within code at end bytes → LengthFault end bytes d
+pub length_placed : (arity : Arities) (code : List ℕ) (at end : ℕ) (bytes : List ℕ) (d : CodeFault)
+    → Within code at end bytes → LengthFault end bytes d
     → StandsAt arity code d
 length_placed arity code at end bytes d w (inl e) = truncated_placed arity code at end bytes d w e
 length_placed arity code at end bytes d w (inr (lead, rest, text, bits, e)) =
@@ -129,7 +136,8 @@ length_placed arity code at end bytes d w (inr (lead, rest, text, bits, e)) =
     let place = offset_is code at end bytes w in
     subst (StandsAt arity code) (sym (e ∙ ap (λ n. faults.PkgBits n) place)) (lead, byte_there code at end lead rest here, bits)
 
-pub past_placed : (arity : Arities) (code : List ℕ) (at end : ℕ) (bytes : List ℕ) (d : CodeFault) → Within code at end bytes → PastFault end bytes d
+pub past_placed : (arity : Arities) (code : List ℕ) (at end : ℕ) (bytes : List ℕ) (d : CodeFault)
+    → Within code at end bytes → PastFault end bytes d
     → StandsAt arity code d
 past_placed arity code at end bytes d w f =
     let t = f.is_length in
@@ -145,7 +153,8 @@ past_placed arity code at end bytes d w f =
     ] in
     subst (StandsAt arity code) (sym (f.fault ∙ ap (λ n. faults.PkgPast n) place)) (f.width, f.value, there, past)
 
-pub name_placed : (arity : Arities) (code : List ℕ) (at end : ℕ) (bytes : List ℕ) (d : CodeFault) → Within code at end bytes → NameFault end bytes d
+pub name_placed : (arity : Arities) (code : List ℕ) (at end : ℕ) (bytes : List ℕ) (d : CodeFault)
+    → Within code at end bytes → NameFault end bytes d
     → StandsAt arity code d
 name_placed arity code at end bytes d w (inl e) = truncated_placed arity code at end bytes d w e
 name_placed arity code at end bytes d w (inr (front, b, behind, text, is, e)) =

@@ -24,7 +24,8 @@ ended (Ok l) = refl
 ended (Err e) = refl
 
 -- one list of terms behind another
-each_append : (l : Listed) (xs ys : List Standing) → each_alone l (xs ++ ys) ≡ (each_alone l xs >>= λ k. each_alone k ys)
+each_append : (l : Listed) (xs ys : List Standing)
+    → each_alone l (xs ++ ys) ≡ (each_alone l xs >>= λ k. each_alone k ys)
 unfolding each_alone
 each_append l [] ys = refl
 each_append l (s ∷ xs) ys = by (alone_at (strict s.table s.scope) l s.term) (λ k. each_append k xs ys)
@@ -36,7 +37,8 @@ each_append l (s ∷ xs) ys = by (alone_at (strict s.table s.scope) l s.term) (�
 
 -- terms, and those behind what they declare
 joined : (l k : Listed) (d : Step) (first : List Standing) (rest : Listed → List Standing) (go : Listed → Step)
-    → ((j : Listed) → d ≡ Ok j → each_alone l first ≡ Ok j) → ((j : Listed) → go j ≡ Ok k → each_alone j (rest j) ≡ Ok k)
+    → ((j : Listed) → d ≡ Ok j → each_alone l first ≡ Ok j)
+    → ((j : Listed) → go j ≡ Ok k → each_alone j (rest j) ≡ Ok k)
     → (d >>= go) ≡ Ok k → each_alone l (first ++ (d >>> rest)) ≡ Ok k
 joined l k (Ok j) first rest go here on h =
     each_append l first (rest j) ∙ ap (λ (r : Step). r >>= λ i. each_alone i (rest j)) (here j refl) ∙ on j h
@@ -58,7 +60,8 @@ module _ (k : Listed) (inside : Listed → List Seg → Step) (inner : Listed �
   entered p (Ok m) h = on m p h
   entered p (Err e) h = absurd (cc h)
 
-  declares_it : (r : Result (List Seg) LoadFault) (entry : List Seg → Step) → (r >>= λ p. (entry p >>= λ m. inside m p)) ≡ Ok k
+  declares_it : (r : Result (List Seg) LoadFault) (entry : List Seg → Step)
+      → (r >>= λ p. (entry p >>= λ m. inside m p)) ≡ Ok k
       → ((r >>= λ p. (entry p >>= λ m. Ok m)) >>= λ j. each_alone j (r >>> λ p. (entry p >>> λ m. inner m p))) ≡ Ok k
   declares_it (Ok p) entry h = entered p (entry p) h
   declares_it (Err e) entry h = absurd (cc h)
@@ -87,7 +90,8 @@ module _ (t : ℕ) where
   mutual
     unfolding declare declare_inside declare_all term_stands inside_stand all_stand alone_at each_alone
 
-    term_alone : (scope : List Seg) (l k : Listed) (x : Tree) → declare (strict t scope) l x ≡ Ok k → each_alone l (term_stands (strict t scope) l x) ≡ Ok k
+    term_alone : (scope : List Seg) (l k : Listed) (x : Tree) → declare (strict t scope) l x ≡ Ok k
+        → each_alone l (term_stands (strict t scope) l x) ≡ Ok k
     term_alone scope l k nothing h = h
     term_alone scope l k (named n xs) h = h
     term_alone scope l k (op o w ps r) h =
@@ -105,7 +109,8 @@ module _ (t : ℕ) where
         joined l k (declare (strict t scope) l x) (term_stands (strict t scope) l x) (λ j. all_stand (strict t scope) j xs)
         (λ j. declare_all (strict t scope) j xs) (λ j. term_alone scope l j x) (λ j. all_alone scope j k xs) h
 
-tables_alone : (t : ℕ) (l m : Listed) (trees : List Trees) → declare_tables t l trees ≡ Ok m → each_alone l (tables_stand t l trees) ≡ Ok m
+tables_alone : (t : ℕ) (l m : Listed) (trees : List Trees) → declare_tables t l trees ≡ Ok m
+    → each_alone l (tables_stand t l trees) ≡ Ok m
 unfolding declare_tables tables_stand each_alone
 tables_alone t l m [] h = h
 tables_alone t l m (ts ∷ rest) h =

@@ -60,9 +60,11 @@ want_or codes.NoMemory = inl refl
 abbrev Counts : Type 0
 Counts = PathSet → Name → Option ℕ
 
-unread : {X : Type 0} (view : X → Trees) (es : List Entry) (cs : List (List ℕ)) (m : Method) (z : Bool) (f : CodeFault) → (f ≡ codes.NoMemory)
+unread : {X : Type 0} (view : X → Trees) (es : List Entry) (cs : List (List ℕ)) (m : Method) (z : Bool) (f : CodeFault)
+    → (f ≡ codes.NoMemory)
     ⊎ ((ts : Trees) → IsBody z es cs m ts → ⊥)
-    → StandsAt (agreed_arity (outlook_of es) z m.path) (span_of cs m) f → (f ≡ codes.NoMemory) ⊎ (f ≢ codes.NoMemory) → (f ≡ codes.NoMemory)
+    → StandsAt (agreed_arity (outlook_of es) z m.path) (span_of cs m) f → (f ≡ codes.NoMemory) ⊎ (f ≢ codes.NoMemory)
+    → (f ≡ codes.NoMemory)
     ⊎ IsUnread z es cs m f
 unread view es cs m z f complete there (inl w) = inl w
 unread view es cs m z f (inl w) there (inr n) = inl w
@@ -77,7 +79,8 @@ reading_of view es cs m z (Err f) says = unread view es cs m z f says.2 says.3 (
 -- entries
 said_of_method : (P : Counts → List ℕ → Type 0) (names : BodyView) (k : Known) (es : List Entry) (cs : List (List ℕ)) (m : Method) (z : Bool) (bytes : List ℕ)
     → names ≡ record { known = k; method = m.path; unknown_zero = z } → StandsFor k es → bytes ≡ span_of cs m
-    → P (agreed_arity (outlook_in names.known) names.unknown_zero names.method) bytes → P (agreed_arity (outlook_of es) z m.path) (span_of cs m)
+    → P (agreed_arity (outlook_in names.known) names.unknown_zero names.method) bytes
+    → P (agreed_arity (outlook_of es) z m.path) (span_of cs m)
 said_of_method P names k es cs m z bytes named s is says =
     let here = subst (λ (v : BodyView). P (agreed_arity (outlook_in v.known) v.unknown_zero v.method) bytes) named says in
     let there = subst (λ (n : Outlook). P (agreed_arity n z m.path) bytes) (same_outlook k es s) here in
@@ -87,7 +90,8 @@ said_of_method P names k es cs m z bytes named s is says =
 pub reading_is : {X : Type 0} (view : X → Trees) (names : BodyView) (k : Known) (es : List Entry) (cs : List (List ℕ)) (m : Method) (z : Bool) (bytes : List ℕ)
     (r : Result X CodeFault)
     → names ≡ record { known = k; method = m.path; unknown_zero = z } → StandsFor k es → bytes ≡ span_of cs m
-    → IsBytes bytes → Gives view r (all_at (agreed_arity (outlook_in names.known) names.unknown_zero names.method) (Some m.path) positions.BodyTerm bytes)
+    → IsBytes bytes
+    → Gives view r (all_at (agreed_arity (outlook_in names.known) names.unknown_zero names.method) (Some m.path) positions.BodyTerm bytes)
     → IsReading view z es cs m r
 reading_is view names k es cs m z bytes r named s is fits gives = reading_of view es cs m z r
     (said_of_method (λ counts b. BodySaid view counts m.path b r) names k es cs m z bytes named s is

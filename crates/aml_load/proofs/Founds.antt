@@ -83,7 +83,8 @@ module _ (t : ℕ) (m k : Listed) (ts : Trees) (rest : List Trees) (is : declare
 
 -- ---- what tables load to, their terms declare
 
-pub read_declares : (t : ℕ) (l : Listed) (cs : List (List ℕ)) (trees : List Trees) (m : Listed) → ReadTables false t l cs trees m
+pub read_declares : (t : ℕ) (l : Listed) (cs : List (List ℕ)) (trees : List Trees) (m : Listed)
+    → ReadTables false t l cs trees m
     → declare_tables t l trees ≡ Ok m
 unfolding declare_tables
 read_declares t l [] [] m read = ap (λ (k : Listed). Ok k) read

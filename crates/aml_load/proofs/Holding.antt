@@ -43,7 +43,8 @@ methods_more (e ∷ es) x = by (method_of e) (methods_more es x)
     by (Some m) more = ap (λ (ms : List Method). m ∷ ms) more
 
 -- an entry without a body
-pub plain_held : (old new : Progress) (l : Listed) (x : Entry) → methods_of (x ∷ []) ≡ [] → Holds old l → StandsFor new.space (l.entries ++ x ∷ [])
+pub plain_held : (old new : Progress) (l : Listed) (x : Entry) → methods_of (x ∷ []) ≡ [] → Holds old l
+    → StandsFor new.space (l.entries ++ x ∷ [])
     → new.methods.items ≡ old.methods.items → new.uses.items ≡ old.uses.items → Holds new (plus l x)
 plain_held old new l x none h s ms us = record {
   space = s;
@@ -51,8 +52,10 @@ plain_held old new l x none h s ms us = record {
   uses = us ∙ h.uses;
 }
 
-pub method_held : (old new : Progress) (l : Listed) (p : List Seg) (k : Kind) (b : Body) (sure : Bool) (m : Method) → Holds old l
-    → StandsFor new.space (l.entries ++ declares p k (Some b) sure ∷ []) → new.methods.items ≡ old.methods.items ++ m ∷ []
+pub method_held : (old new : Progress) (l : Listed) (p : List Seg) (k : Kind) (b : Body) (sure : Bool) (m : Method)
+    → Holds old l
+    → StandsFor new.space (l.entries ++ declares p k (Some b) sure ∷ [])
+    → new.methods.items ≡ old.methods.items ++ m ∷ []
     → m ≡ record { path = p; table = b.table; start = b.start; len = b.len; flags = b.flags } → new.uses.items ≡ old.uses.items
     → Holds new (plus l (declares p k (Some b) sure))
 method_held old new l p k b sure m h s ms is us = record {
@@ -63,7 +66,8 @@ method_held old new l p k b sure m h s ms is us = record {
 }
 
 -- the names of a term more
-pub uses_held : (old new : Progress) (l : Listed) (site : Where) (x : Tree) → Holds old l → new.space ≡ old.space → new.methods.items ≡ old.methods.items
+pub uses_held : (old new : Progress) (l : Listed) (site : Where) (x : Tree) → Holds old l → new.space ≡ old.space
+    → new.methods.items ≡ old.methods.items
     → new.uses.items ≡ old.uses.items ++ term_uses site x → Holds new (with_uses site l x)
 uses_held old new l site x h s ms us = record {
   space = subst (λ k. StandsFor k l.entries) (sym s) h.space;
@@ -108,7 +112,8 @@ unit_is site l p s e =
     ∙ sym (ended (new_at site l (Some (plain_name s)) entry))
 
 -- one element of a field list, and those behind it
-pub units_more : (site : Where) (m k : Listed) (u : CodeField) (us : Fields) → units_at site m (unit_names (field_more u no_fields)) ≡ Ok k
+pub units_more : (site : Where) (m k : Listed) (u : CodeField) (us : Fields)
+    → units_at site m (unit_names (field_more u no_fields)) ≡ Ok k
     → units_at site k (unit_names us) ≡ units_at site m (unit_names (field_more u us))
 unfolding units_at
 units_more site m k (unit s w n) us e =
@@ -117,13 +122,15 @@ units_more site m k (unit s w n) us e =
 units_more site m k _ us e = let same : k ≡ m = cc in ap (λ j. units_at site j (unit_names us)) same
 
 -- where an entry may be added, it is there
-pub entry_free : (site : Where) (l : Listed) (p : List Seg) (x : Entry) → (not site.any_run && is_some (declared_at l.entries p)) ≡ false
+pub entry_free : (site : Where) (l : Listed) (p : List Seg) (x : Entry)
+    → (not site.any_run && is_some (declared_at l.entries p)) ≡ false
     → entry_at site l p x ≡ Ok (plus l x)
 unfolding entry_at
 entry_free site l p x free = ap (λ b. cond b (Err (loads.Space site.table (faults.Duplicate p))) (the_ok (plus l x))) free
 
 -- where it may not, loading forward fails as the test for it does
-pub entry_taken : (site : Where) (l : Listed) (p : List Seg) (x : Entry) (e : LoadFault) → IsFree site l.entries p (Err e) → Fails e (entry_at site l p x)
+pub entry_taken : (site : Where) (l : Listed) (p : List Seg) (x : Entry) (e : LoadFault)
+    → IsFree site l.entries p (Err e) → Fails e (entry_at site l p x)
 unfolding entry_at
 entry_taken site l p x e (inl want) = inl want
 entry_taken site l p x e (inr (taken, is)) =
@@ -131,7 +138,8 @@ entry_taken site l p x e (inr (taken, is)) =
 
 -- an entry of a path without a body more, as it is declared
 pub declared_walked : (old new : Progress) (l : Listed) (site : Where) (p : List Seg) (kind : Kind) (r : Result (Unit {0}) LoadFault) → Holds old l
-    → IsDeclared site l.entries p kind None old new r → Walked new r (entry_at site l p (declares p kind None site.sure))
+    → IsDeclared site l.entries p kind None old new r
+    → Walked new r (entry_at site l p (declares p kind None site.sure))
 declared_walked old new l site p kind (Ok u) h d =
     let x = declares p kind None site.sure in (plus l x, plain_held old new l x refl h d.1 d.2 d.3, entry_free site l p x d.0)
 declared_walked old new l site p kind (Err e) h d = entry_taken site l p (declares p kind None site.sure) e d

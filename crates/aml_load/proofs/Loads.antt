@@ -92,7 +92,8 @@ module _ (t : ℕ) (l : Listed) (c : List ℕ) where
       ap (λ (r : Result (Trees × Front) LoadFault). r >>= listed) (forward.table_again (run_names t) c (table_front t l) ts k reads)
       ∙ ap (λ (n : Listed). Ok (ts, n)) same
 
-  table_spelled : (any : Bool) (ts : Trees) (m : Listed) → ReadsOne any t l c ts m → (encodings c ts ≡ c) × BodiesStand c 0 ts
+  table_spelled : (any : Bool) (ts : Trees) (m : Listed) → ReadsOne any t l c ts m
+      → (encodings c ts ≡ c) × BodiesStand c 0 ts
   table_spelled false ts m (law, is) = (law.spelled, law.bodies)
   table_spelled true ts m (k, reads, same) = forward.table_spelled (run_names t) c (table_front t l) ts k reads
 
@@ -116,18 +117,21 @@ module _ (any : Bool) where
     more_told one reads (Ok x) (trees, is, read) = (one.0 ∷ trees, is ∙ append_assoc front (one.0 ∷ []) trees, (one.1, reads, read))
     more_told one reads (Err e) stops = inr (one.0, one.1, reads, stops)
 
-    table_told : ((one : Trees × Listed) → Told (suc t) one.1 (front ++ one.0 ∷ []) cs (behind one)) → (r : Result (Trees × Listed) LoadFault)
+    table_told : ((one : Trees × Listed) → Told (suc t) one.1 (front ++ one.0 ∷ []) cs (behind one))
+        → (r : Result (Trees × Listed) LoadFault)
         → OneTells any t l c r → Told t l front (c ∷ cs) (r >>= behind)
     table_told rest (Ok one) reads = more_told one reads (behind one) (rest one)
     table_told rest (Err e) stops = inl stops
 
-  tables_tell : (t : ℕ) (l : Listed) (front : List Trees) (cs : List (List ℕ)) → AreCodes cs → Told t l front cs (tables_at any t front l cs)
+  tables_tell : (t : ℕ) (l : Listed) (front : List Trees) (cs : List (List ℕ)) → AreCodes cs
+      → Told t l front cs (tables_at any t front l cs)
   unfolding tables_at
   tables_tell t l front [] fits = ([], sym (append-nil front), refl)
   tables_tell t l front (c ∷ cs) fits =
       table_told t l front c cs (λ one. tables_tell (suc t) one.1 (front ++ one.0 ∷ []) cs fits.1) (table_at any t l c) (table_tells t l c any fits.0)
 
-  tables_again : (t : ℕ) (l : Listed) (front : List Trees) (cs : List (List ℕ)) (trees : List Trees) (m : Listed) → ReadTables any t l cs trees m
+  tables_again : (t : ℕ) (l : Listed) (front : List Trees) (cs : List (List ℕ)) (trees : List Trees) (m : Listed)
+      → ReadTables any t l cs trees m
       → tables_at any t front l cs ≡ Ok (front ++ trees, m)
   unfolding tables_at
   tables_again t l front [] [] m read =
@@ -138,7 +142,8 @@ module _ (any : Bool) where
       ap (λ (r : Result (Trees × Listed) LoadFault). r >>= behind t l front c cs) (table_again t l c any ts k reads)
       ∙ tables_again (suc t) k (front ++ ts ∷ []) cs rest m read ∙ ap (λ (all : List Trees). Ok (all, m)) (append_assoc front (ts ∷ []) rest)
 
-  tables_spelled : (t : ℕ) (l : Listed) (cs : List (List ℕ)) (trees : List Trees) (m : Listed) → ReadTables any t l cs trees m
+  tables_spelled : (t : ℕ) (l : Listed) (cs : List (List ℕ)) (trees : List Trees) (m : Listed)
+      → ReadTables any t l cs trees m
       → AllZip (λ code ts. (encodings code ts ≡ code) × BodiesStand code 0 ts) cs trees
   tables_spelled t l [] [] m read = tt
   tables_spelled t l [] (ts ∷ rest) m read = absurd read
@@ -156,7 +161,8 @@ module _ (any z : Bool) (es : List Entry) where
   same_count (Some m) n h = ap Some (eqb-true m n h)
 
   first_agrees : (u : Use) (us : List Use) (done : Unit {0}) (b : Bool) (rest : Result (Unit {0}) LoadFault)
-      → option_eq nat_eq (use_count z es u) (Some u.args) ≡ b → cond b rest (Err (call_fault any u)) ≡ Ok done → (rest ≡ Ok done → All Agrees us)
+      → option_eq nat_eq (use_count z es u) (Some u.args) ≡ b → cond b rest (Err (call_fault any u)) ≡ Ok done
+      → (rest ≡ Ok done → All Agrees us)
       → All Agrees (u ∷ us)
   first_agrees u us done true rest same is others = All-cons Agrees u us (same_count (use_count z es u) u.args same) (others is)
   first_agrees u us done false rest other is others = absurd cc
@@ -184,7 +190,8 @@ module _ (any z : Bool) (gs : Givens) (cs : List (List ℕ)) where
   abbrev LoadTells : Result Whole LoadFault → Type 0
   LoadTells r = MatchResult r (λ x. LoadsTo any z gs cs x.0 x.1) (λ e. StopsFor any z gs cs e)
 
-  uses_told : (x : Whole) (trees : List Trees) → x.0 ≡ trees → ReadTables any 0 (first_listed gs) cs trees x.1 → (r : Result (Unit {0}) LoadFault)
+  uses_told : (x : Whole) (trees : List Trees) → x.0 ≡ trees → ReadTables any 0 (first_listed gs) cs trees x.1
+      → (r : Result (Unit {0}) LoadFault)
       → uses_at any z x.1.entries x.1.uses ≡ r → LoadTells (r >>= λ u. Ok x)
   uses_told x trees same read (Ok u) is =
       record { read = subst (λ (ts : List Trees). ReadTables any 0 (first_listed gs) cs ts x.1) (sym same) read; agreed = uses_agree any z x.1.entries x.1.uses u is }
@@ -199,7 +206,8 @@ module _ (any z : Bool) (gs : Givens) (cs : List (List ℕ)) where
   loads_forward fits = after_tables (tables_at any 0 [] (first_listed gs) cs) (tables_tell any 0 (first_listed gs) [] cs fits)
 
   -- the steps of a load put together
-  pub load_gives : (ts : List Trees) (m : Listed) (us : List Use) (u : Unit {0}) → tables_at any 0 [] (first_listed gs) cs ≡ Ok (ts, m) → us ≡ m.uses
+  pub load_gives : (ts : List Trees) (m : Listed) (us : List Use) (u : Unit {0})
+      → tables_at any 0 [] (first_listed gs) cs ≡ Ok (ts, m) → us ≡ m.uses
       → uses_at any z m.entries us ≡ Ok u → load_at any z gs cs ≡ Ok (ts, m)
   unfolding load_at
   load_gives ts m us u read is free =
@@ -207,7 +215,8 @@ module _ (any z : Bool) (gs : Givens) (cs : List (List ℕ)) where
       ∙ ap (λ (r : Result (Unit {0}) LoadFault). r >>= λ u. Ok (ts, m)) (ap (uses_at any z m.entries) (sym is) ∙ free)
 
   -- and where the last of them refuses
-  pub load_refused : (ts : List Trees) (m : Listed) (us : List Use) (e : LoadFault) → tables_at any 0 [] (first_listed gs) cs ≡ Ok (ts, m) → us ≡ m.uses
+  pub load_refused : (ts : List Trees) (m : Listed) (us : List Use) (e : LoadFault)
+      → tables_at any 0 [] (first_listed gs) cs ≡ Ok (ts, m) → us ≡ m.uses
       → Fails e (uses_at any z m.entries us) → Fails e (load_at any z gs cs)
   unfolding load_at
   load_refused ts m us e read is (inl want) = inl want
@@ -244,8 +253,10 @@ module _ (any z : Bool) (gs : Givens) (cs : List (List ℕ)) where
     given_sound (Ok x) fits g = (g.0, g.1, subst LoadTells g.3 (loads_forward (fit_so x fits)), g.2)
     given_sound (Err e) fits g = tt
 
-    pub given_few : (methods : X → List Method) → ((x : X) (trees : List Trees) (m : Listed) → HoldsIt x cs trees m → methods x ≡ methods_of m.entries)
-        → (r : Result X LoadFault) → Fit r → GivesBy HoldsIt any z gs r cs → IfOk r (λ x. length (methods x) ≤ most_methods)
+    pub given_few : (methods : X → List Method)
+        → ((x : X) (trees : List Trees) (m : Listed) → HoldsIt x cs trees m → methods x ≡ methods_of m.entries)
+        → (r : Result X LoadFault) → Fit r → GivesBy HoldsIt any z gs r cs
+        → IfOk r (λ x. length (methods x) ≤ most_methods)
     unfolding given_sound
     given_few methods held (Ok x) fits g =
         let load = (given_sound (Ok x) fits g).2 in
@@ -273,7 +284,8 @@ module _ (any z : Bool) (gs : Givens) (cs : List (List ℕ)) where
     given_true (Err e) (inr fits) (inr g) = inr (subst LoadTells g (loads_forward fits))
 
   -- the tables are as short as before
-  pub given_short : (r : Result Loaded LoadFault) → AreShort cs → GivesLoad any z gs r cs → IfOk r (λ x. AreShort (codes_view x.tables.items))
+  pub given_short : (r : Result Loaded LoadFault) → AreShort cs → GivesLoad any z gs r cs
+      → IfOk r (λ x. AreShort (codes_view x.tables.items))
   given_short (Ok x) short g = subst AreShort (sym g.2.tables) short
   given_short (Err e) short g = tt
 
@@ -292,18 +304,22 @@ module _ (any : Bool) (n : ℕ) (m : Listed) (front : List Trees) (codes : List 
       ap (tables_at any n front m) cut
       ∙ (λ i. table_at any n m code >>= λ one. tables_at any (up i) (front ++ one.0 ∷ []) one.1 (drop (n + 1) codes))
 
-  pub read_on : (ts : Trees) (k : Listed) (all : List Trees) (same : List (List ℕ)) (total : Result Whole LoadFault) → table_at any n m code ≡ Ok (ts, k)
-      → all ≡ front ++ ts ∷ [] → same ≡ codes → tables_at any n front m (drop n codes) ≡ total → tables_at any (n + 1) all k (drop (n + 1) same) ≡ total
+  pub read_on : (ts : Trees) (k : Listed) (all : List Trees) (same : List (List ℕ)) (total : Result Whole LoadFault)
+      → table_at any n m code ≡ Ok (ts, k)
+      → all ≡ front ++ ts ∷ [] → same ≡ codes → tables_at any n front m (drop n codes) ≡ total
+      → tables_at any (n + 1) all k (drop (n + 1) same) ≡ total
   unfolding next
   read_on ts k all same total is a c was =
       (λ i. tables_at any (n + 1) (a i) k (drop (n + 1) (c i))) ∙ sym (steps ∙ ap (λ (r : Result (Trees × Listed) LoadFault). r >>= next) is) ∙ was
 
-  pub fails_on : (e : LoadFault) (total : Result Whole LoadFault) → Fails e (table_at any n m code) → tables_at any n front m (drop n codes) ≡ total → Fails e total
+  pub fails_on : (e : LoadFault) (total : Result Whole LoadFault) → Fails e (table_at any n m code)
+      → tables_at any n front m (drop n codes) ≡ total → Fails e total
   fails_on e total (inl want) was = inl want
   fails_on e total (inr is) was = inr (sym was ∙ steps ∙ ap (λ (r : Result (Trees × Listed) LoadFault). r >>= next) is)
 
 -- a table by its number is short where all are
-pub short_code : (bs : List (Bor (List ℕ))) (i : ℕ) (other : Bor (List ℕ)) → AreShort (codes_view bs) → length other.now ≤ 16777216
+pub short_code : (bs : List (Bor (List ℕ))) (i : ℕ) (other : Bor (List ℕ)) → AreShort (codes_view bs)
+    → length other.now ≤ 16777216
     → length (slice_index_or bs i other).now ≤ 16777216
 short_code [] i other h o = o
 short_code (b ∷ bs) zero other h o = h.0

@@ -44,7 +44,8 @@ Whole = (Tree × Tree) × (ℕ × Front)
 abbrev pub found_then : List Node → Answer → Answer
 found_then front read = read >>= λ (x : Trees × Front). Ok (onto node_view tree_more front x.0, x.1)
 
-onto_more : (front : List Node) (x : Node) (back : Trees) → onto node_view tree_more (front ++ x ∷ []) back ≡ onto node_view tree_more front (tree_more (node_view x) back)
+onto_more : (front : List Node) (x : Node) (back : Trees)
+    → onto node_view tree_more (front ++ x ∷ []) back ≡ onto node_view tree_more front (tree_more (node_view x) back)
 onto_more [] x back = refl
 onto_more (y ∷ front) x back = ap (tree_more (node_view y)) (onto_more front x back)
 
@@ -84,7 +85,8 @@ module _ (t : ℕ) (code : List ℕ) where
         sym so_far ∙ ap (found_then front) (ended n le) ∙ ap (λ (ts : Trees). Ok (ts, f)) (nodes_found front)
 
     -- the next term stops
-    pub stops : (n k : ℕ) (e : LoadFault) → n ≡ suc k → at < end → run_term_at (run_names t) code levels read p at end f ≡ Err e
+    pub stops : (n k : ℕ) (e : LoadFault) → n ≡ suc k → at < end
+        → run_term_at (run_names t) code levels read p at end f ≡ Err e
         → found_then front (read_on n) ≡ total → total ≡ Err e
     stops n k e is less fails so_far =
         sym so_far ∙ ap (λ (m : ℕ). found_then front (read_on m)) is ∙ ap (found_then front) (starts k less)
@@ -97,7 +99,8 @@ module _ (t : ℕ) (code : List ℕ) where
 
     -- the next term is read
     pub goes_on : (n k : ℕ) (x : Node) (head : Tree) (at2 : ℕ) (g : Front) → n ≡ suc k → at < end
-        → run_term_at (run_names t) code levels read p at end f ≡ Ok ((head, node_view x), (at2, g)) → found_then front (read_on n) ≡ total
+        → run_term_at (run_names t) code levels read p at end f ≡ Ok ((head, node_view x), (at2, g))
+        → found_then front (read_on n) ≡ total
         → found_then (front ++ x ∷ []) (run_terms_at (run_names t) code levels read k (next_position p head) at2 end g) ≡ total
     goes_on n k x head at2 g is less reads so_far =
         sym (regroup x head at2 g (run_terms_at (run_names t) code levels read k (next_position p head) at2 end g))
@@ -106,7 +109,8 @@ module _ (t : ℕ) (code : List ℕ) where
         ∙ so_far
 
     -- what the next term failed by, all fail by
-    pub fails : (n k : ℕ) (e : LoadFault) → n ≡ suc k → at < end → Fails e (run_term_at (run_names t) code levels read p at end f)
+    pub fails : (n k : ℕ) (e : LoadFault) → n ≡ suc k → at < end
+        → Fails e (run_term_at (run_names t) code levels read p at end f)
         → found_then front (read_on n) ≡ total → Fails e total
     fails n k e is less (inl want) so_far = inl want
     fails n k e is less (inr h) so_far = inr (stops n k e is less h so_far)
@@ -141,7 +145,8 @@ module _ (t : ℕ) (code : List ℕ) where
   block_is read _ f x e = absurd cc
 
   -- what opening a block gives is what its terms give
-  pub opened_ok : (levels : ℕ) (h : Tree) (f : Front) (x : ℕ × ℕ) (ts : Trees) (g : Front) → span_inside h ≡ Some x → 0 < levels
+  pub opened_ok : (levels : ℕ) (h : Tree) (f : Front) (x : ℕ × ℕ) (ts : Trees) (g : Front) → span_inside h ≡ Some x
+      → 0 < levels
       → run_span_at (run_names t) code (levels - 1) Position.RunTerm x.0 (x.0 + x.1) f ≡ Ok (ts, g)
       → opened_at (run_names t) code (below levels t code) (is_block h) h f ≡ Ok (with_terms h ts, g)
   opened_ok levels h f x ts g e some read =
@@ -154,7 +159,8 @@ end_on : (code : List ℕ) (at behind end : ℕ) → at ≤ behind → IsEnd cod
 end_on code at behind end le (inl e) = inl e
 end_on code at behind end le (inr (p, w, v, there, is, less)) = inr (p, w, v, there, is, omega (arith, less, le))
 
-pub room_on : (code : List ℕ) (r : Rest) (p : Position) (behind : ℕ) → HasRoom code r → r.at < behind → behind ≤ r.end → IsTrue (is_run p)
+pub room_on : (code : List ℕ) (r : Rest) (p : Position) (behind : ℕ) → HasRoom code r → r.at < behind → behind ≤ r.end
+    → IsTrue (is_run p)
     → HasRoom code (record { levels = r.levels; position = p; at = behind; end = r.end })
 room_on code r p behind h less le run = record {
   short = h.short;
@@ -169,7 +175,8 @@ room_of : (code : List ℕ) (r : Rest) → HasRoom code r → Room code r.levels
 room_of code r h = record { le = h.le; inside = h.inside; is_end = h.is_end; deep = h.deep }
 
 -- the span inside a step that stands there may be read
-pub room_in : (code : List ℕ) (r : Rest) (h : Tree) (behind : ℕ) → HasRoom code r → IsThere code r h behind → HasRoomInside code r.levels h
+pub room_in : (code : List ℕ) (r : Rest) (h : Tree) (behind : ℕ) → HasRoom code r → IsThere code r h behind
+    → HasRoomInside code r.levels h
 room_in code r (op o w ps (body start len)) behind has (arity, reads) = by (opens o)
   where
     by : (b : Bool) → RoomBy code r.levels (cond b (Some (start, len)) None)
@@ -182,7 +189,8 @@ room_in code r (op o w ps (body start len)) behind has (arity, reads) = by (open
 room_in code r _ behind has there = tt
 
 -- what is behind it
-pub behind_is : (code : List ℕ) (r : Rest) (h : Tree) (behind : ℕ) (p : Position) → HasRoom code r → IsThere code r h behind
+pub behind_is : (code : List ℕ) (r : Rest) (h : Tree) (behind : ℕ) (p : Position) → HasRoom code r
+    → IsThere code r h behind
     → p ≡ next_position r.position h → (r.at < behind) × (behind ≤ r.end) × IsTrue (is_run p)
 behind_is code r h end p has (arity, reads) e = (
   some_there arity r.levels r.position code r.at r.end h end reads,
@@ -257,7 +265,8 @@ module _ (v : BodyView) (k : Known) (site : RunSite) (l : Listed) (code : List �
   pub step_read : (x : Tree × ℕ) → asked ≡ Ok x → here ≡ Ok x
   step_read x h = ap (in_step (run_names site.table) code) (sym same_step ∙ h)
 
-  pub step_unread : (f : CodeFault) (d : LoadFault) → (f ≡ codes.NoMemory) ⊎ (asked ≡ Err f) → d ≡ code_fault site.table f → Fails d here
+  pub step_unread : (f : CodeFault) (d : LoadFault) → (f ≡ codes.NoMemory) ⊎ (asked ≡ Err f)
+      → d ≡ code_fault site.table f → Fails d here
   step_unread f d (inl want) is = inl (is ∙ ap (code_fault site.table) want)
   step_unread f d (inr h) is =
       inr (ap (in_step (run_names site.table) code) (sym same_step ∙ h) ∙ ap (λ (x : LoadFault). Err x) (sym is))

@@ -73,7 +73,8 @@ then_enters : {A : Type 0} (r : Result A LoadFault) (k : A → Result Front Load
 then_enters (Ok x) k f spans h = h x refl
 then_enters (Err e) k f spans h = tt
 
-more_of : (r : Result Listed LoadFault) (l m : Listed) (spans : List Span) → GivesMore r l spans → r ≡ Ok m → Adds l.entries m.entries spans
+more_of : (r : Result Listed LoadFault) (l m : Listed) (spans : List Span) → GivesMore r l spans → r ≡ Ok m
+    → Adds l.entries m.entries spans
 more_of (Ok k) l m spans h e = let same : k ≡ m = cc in subst (λ (j : Listed). Adds l.entries j.entries spans) same h
 more_of (Err d) l m spans h e = absurd cc
 
@@ -111,7 +112,8 @@ kept positions.RunTerm (Some k) i h = refl
 kept positions.RunAfterIf (Some k) i h = refl
 kept _ (Some k) i h = absurd cc
 
-block_is : (o : ℕ) (w : Option PkgWidth) (ps : Parts) (x : Tail) (r : Row) → row_of o ≡ Some r → is_block (op o w ps x) ≡ has_terms r.tail
+block_is : (o : ℕ) (w : Option PkgWidth) (ps : Parts) (x : Tail) (r : Row) → row_of o ≡ Some r
+    → is_block (op o w ps x) ≡ has_terms r.tail
 block_is o w ps x r listed = ap (λ (f : Option Row). unwrap_or (option_map (λ (r : Row). has_terms r.tail) f) false) listed
 
 -- no block is a method
@@ -122,19 +124,22 @@ no_method roles.Method _ fit h = absurd cc
 no_method _ k fit h = refl
 
 module _ (s : Setting) (levels : ℕ) (q : Position) (ls : PathSet) (t : ℕ) where
-  one_body : (k : Option TailKind) (x : Tail) → has_body k ≡ true → IsTail s (IsLawful s levels) q k ls x → tail_spans t x ≡ one_span t x
+  one_body : (k : Option TailKind) (x : Tail) → has_body k ≡ true → IsTail s (IsLawful s levels) q k ls x
+      → tail_spans t x ≡ one_span t x
   unfolding has_body
   one_body (Some tails.Body) (body start len) h l = refl
   one_body (Some tails.Body) _ h l = absurd l
   one_body _ x h l = absurd cc
 
-  no_body : (k : Option TailKind) (x : Tail) → not (has_body k) ≡ true → has_terms k ≡ false → IsTail s (IsLawful s levels) q k ls x → tail_spans t x ≡ []
+  no_body : (k : Option TailKind) (x : Tail) → not (has_body k) ≡ true → has_terms k ≡ false
+      → IsTail s (IsLawful s levels) q k ls x → tail_spans t x ≡ []
   unfolding has_body
   no_body (Some tails.Body) x h b l = absurd cc
   no_body (Some tails.Terms) x h b l = absurd cc
   no_body k x h b l = tail_none s t levels q k ls x (λ e. absurd (cc (e, b))) (λ e. absurd (cc (e, h))) l
 
-  own_tail : (r : Role) (k : Option TailKind) (x : Tail) → fits r k ≡ true → has_terms k ≡ false → IsTail s (IsLawful s levels) q k ls x
+  own_tail : (r : Role) (k : Option TailKind) (x : Tail) → fits r k ≡ true → has_terms k ≡ false
+      → IsTail s (IsLawful s levels) q k ls x
       → tail_spans t x ≡ own_spans r t x
   unfolding fits is_method
   own_tail roles.Method k x fit b l = one_body k x fit l
@@ -149,7 +154,8 @@ module _ (t : ℕ) (code : List ℕ) where
   abbrev AddsTo : Front → Front → List Span → Type 0
   AddsTo f g spans = Adds f.listed.entries g.listed.entries spans
 
-  entered_adds : (f inner : Front) (o : ℕ) (w : Option PkgWidth) (ps : Parts) (x : Tail) → entered_at f (op o w ps x) ≡ Ok inner
+  entered_adds : (f inner : Front) (o : ℕ) (w : Option PkgWidth) (ps : Parts) (x : Tail)
+      → entered_at f (op o w ps x) ≡ Ok inner
       → AddsTo f inner (own_spans (role_of o) f.site.table x) × (inner.site.table ≡ f.site.table)
   unfolding entered_at
   entered_adds f inner o w ps x is = subst (λ r. Enters r f (own_spans (role_of o) f.site.table x)) is (enter_adds (role_of o) (asked f (op o w ps x)) ps x)
@@ -175,7 +181,8 @@ module _ (t : ℕ) (code : List ℕ) where
         (term_adds levels p f inner ended head x at end behind run reads is opens)
         (terms_add levels (next_position p head) behind end (record f { listed = ended.listed }) ts g (runs_on p head run) rest)
 
-    term_adds : (levels : ℕ) (p : Position) (f inner ended : Front) (head x : Tree) (at end behind : ℕ) → is_run p ≡ true
+    term_adds : (levels : ℕ) (p : Position) (f inner ended : Front) (head x : Tree) (at end behind : ℕ)
+        → is_run p ≡ true
         → ReadsStep ((run_names t).arity f) levels p code at end head behind → entered_at f head ≡ Ok inner
         → Opens (run_names t) code levels head inner x ended → AddsTo f ended (tree_spans f.site.table x)
     term_adds zero p f inner ended head x at end behind run reads is opens = absurd reads.lawful
@@ -222,7 +229,8 @@ table_adds true t l code xs m (k, reads, same) =
     subst (λ (n : Listed). Adds l.entries n.entries (all_spans t xs)) same
     (terms_add t code 512 positions.RunTerm 0 (length code) (table_front t l) xs k refl reads)
 
-tables_add : (any : Bool) (t : ℕ) (l : Listed) (codes : List (List ℕ)) (trees : List Trees) (m : Listed) → ReadTables any t l codes trees m
+tables_add : (any : Bool) (t : ℕ) (l : Listed) (codes : List (List ℕ)) (trees : List Trees) (m : Listed)
+    → ReadTables any t l codes trees m
     → Adds l.entries m.entries (tables_spans t trees)
 tables_add any t l [] [] m read = subst (λ (k : Listed). Adds l.entries k.entries []) read (nothing_more l.entries)
 tables_add any t l (c ∷ codes) [] m read = absurd read
@@ -242,7 +250,8 @@ module _ (any z : Bool) (gs : Givens) (tables : List (List ℕ)) where
       )
 
   -- there are as many methods as bodies
-  pub as_many : (trees : List Trees) (m : Listed) → LoadsTo any z gs tables trees m → length (methods_of m.entries) ≡ length (tables_spans 0 trees)
+  pub as_many : (trees : List Trees) (m : Listed) → LoadsTo any z gs tables trees m
+      → length (methods_of m.entries) ≡ length (tables_spans 0 trees)
   as_many trees m h = sym (length-map (methods_of m.entries) method_span) ∙ ap length (loads_in_text_order trees m h).0
 
   -- the method with a number is that of the body with this number

@@ -94,7 +94,8 @@ kept_in_table _ (Some k) h = absurd cc
 abbrev Fits : Position → Row → Type 0
 Fits p r = (fits r.role r.tail ≡ true) × (r.tail ≡ Some tails.Terms → takes_names (terms_in p r.place) ≡ false)
 
-row_fits : (p : Position) (o : ℕ) (r : Row) → takes_names p ≡ false → row_of o ≡ Some r → takes p r.place ≡ true → Fits p r
+row_fits : (p : Position) (o : ℕ) (r : Row) → takes_names p ≡ false → row_of o ≡ Some r → takes p r.place ≡ true
+    → Fits p r
 unfolding rows fits is_flat is_body is_terms
 row_fits positions.ModuleTerm o r h listed taken =
     (rows_say (λ r. takes positions.ModuleTerm r.place) (λ r. fits r.role r.tail) refl o r listed taken, λ e. module_inside r.place)
@@ -143,7 +144,8 @@ plain_adds es x none =
 abbrev pub one_span : ℕ → Tail → List Span
 one_span t x = record { table = t; start = (body_span x).0; len = (body_span x).1 } ∷ []
 
-pub method_adds : (site : Where) (es : List Entry) (p : List Seg) (flags : ℕ) (x : Tail) → nat_le most_methods (length (methods_of es)) ≡ false
+pub method_adds : (site : Where) (es : List Entry) (p : List Seg) (flags : ℕ) (x : Tail)
+    → nat_le most_methods (length (methods_of es)) ≡ false
     → Adds es (es ++ method_entry site p flags (body_span x) ∷ []) (one_span site.table x)
 method_adds site es p flags x room =
     let e = method_entry site p flags (body_span x) in
@@ -160,7 +162,8 @@ abbrev pub GivesMore : Result Listed LoadFault → Listed → List Span → Type
 GivesMore r l spans = IfOk r (λ m. Adds l.entries m.entries spans)
 
 -- a fault where a test holds, else a step
-pub unless_adds : (b : Bool) (d : LoadFault) (r : Result Listed LoadFault) (l : Listed) (spans : List Span) → (b ≡ false → GivesMore r l spans)
+pub unless_adds : (b : Bool) (d : LoadFault) (r : Result Listed LoadFault) (l : Listed) (spans : List Span)
+    → (b ≡ false → GivesMore r l spans)
     → GivesMore (cond b (Err d) r) l spans
 unless_adds true d r l spans h = tt
 unless_adds false d r l spans h = h refl
@@ -172,7 +175,8 @@ after_adds (Ok x) f l spans h = h x
 after_adds (Err e) f l spans h = tt
 
 -- one step behind another
-more_adds : (r : Result Listed LoadFault) (f : Listed → Result Listed LoadFault) (l : Listed) (xs ys : List Span) → GivesMore r l xs
+more_adds : (r : Result Listed LoadFault) (f : Listed → Result Listed LoadFault) (l : Listed) (xs ys : List Span)
+    → GivesMore r l xs
     → ((k : Listed) → GivesMore (f k) k ys) → GivesMore (r >>= f) l (xs ++ ys)
 more_adds (Ok k) f l xs ys h g = by (f k) (g k)
   where
@@ -181,7 +185,8 @@ more_adds (Ok k) f l xs ys h g = by (f k) (g k)
     by (Err e) two = tt
 more_adds (Err e) f l xs ys h g = tt
 
-pub entry_adds : (site : Where) (l : Listed) (p : List Seg) (x : Entry) (spans : List Span) → Adds l.entries (l.entries ++ x ∷ []) spans
+pub entry_adds : (site : Where) (l : Listed) (p : List Seg) (x : Entry) (spans : List Span)
+    → Adds l.entries (l.entries ++ x ∷ []) spans
     → GivesMore (entry_at site l p x) l spans
 unfolding entry_at
 entry_adds site l p x spans h = unless_adds (not site.any_run && is_some (declared_at l.entries p)) _ _ l spans (λ free. h)
@@ -202,14 +207,17 @@ units_add site l (n ∷ ns) =
 record TailSpans (k : Option TailKind) (site : Where) (x : Tail) (inside : Listed → Where → Result Listed LoadFault) : Type 0 where
   flat : is_flat k ≡ true → tail_spans site.table x ≡ []
   one : is_body k ≡ true → tail_spans site.table x ≡ one_span site.table x
-  inner : not (is_body k) ≡ true → (l : Listed) (p : List Seg) → GivesMore (inside l (under site p)) l (tail_spans site.table x)
+  inner : not (is_body k) ≡ true → (l : Listed) (p : List Seg)
+      → GivesMore (inside l (under site p)) l (tail_spans site.table x)
 
 -- spans that are these
-as_spans : (r : Result Listed LoadFault) (l : Listed) (xs ys : List Span) → ys ≡ xs → GivesMore r l xs → GivesMore r l ys
+as_spans : (r : Result Listed LoadFault) (l : Listed) (xs ys : List Span) → ys ≡ xs → GivesMore r l xs
+    → GivesMore r l ys
 as_spans r l xs ys e = subst (λ zs. GivesMore r l zs) (sym e)
 
 role_adds : (r : Role) (k : Option TailKind) (site : Where) (l : Listed) (ps : Parts) (x : Tail) (inside : Listed → Where → Result Listed LoadFault)
-    → fits r k ≡ true → TailSpans k site x inside → GivesMore (declare_as r site l ps x inside) l (tail_spans site.table x)
+    → fits r k ≡ true → TailSpans k site x inside
+    → GivesMore (declare_as r site l ps x inside) l (tail_spans site.table x)
 unfolding fits declare_as method_at alias_at external_at
 role_adds (roles.Declares o) k site l ps x inside fit has =
     after_adds (place_at site (last_label None ps)) _ l (tail_spans site.table x) (λ p.
@@ -230,13 +238,15 @@ role_adds roles.Fields k site l ps x inside fit has = as_spans _ l [] (tail_span
 role_adds roles.Guard k site l ps x inside fit has = has.inner fit l site.scope
 role_adds roles.Other k site l ps x inside fit has = as_spans (Ok l) l [] (tail_spans site.table x) (has.flat fit) (nothing_more l.entries)
 
-flat_none : (s : Setting) (levels : ℕ) (p : Position) (k : Option TailKind) (ls : PathSet) (t : ℕ) (x : Tail) → IsTail s (IsLawful s levels) p k ls x
+flat_none : (s : Setting) (levels : ℕ) (p : Position) (k : Option TailKind) (ls : PathSet) (t : ℕ) (x : Tail)
+    → IsTail s (IsLawful s levels) p k ls x
     → is_flat k ≡ true → tail_spans t x ≡ []
 unfolding is_flat
 flat_none s levels p k ls t x l h =
     tail_none s t levels p k ls x (λ e. absurd (flat_terms k h e)) (not_body k (and_left (not (is_body k)) (not (is_terms k)) h)) l
 
-body_one : (s : Setting) (levels : ℕ) (p : Position) (ls : PathSet) (t : ℕ) (x : Tail) → IsTail s (IsLawful s levels) p (Some tails.Body) ls x
+body_one : (s : Setting) (levels : ℕ) (p : Position) (ls : PathSet) (t : ℕ) (x : Tail)
+    → IsTail s (IsLawful s levels) p (Some tails.Body) ls x
     → tail_spans t x ≡ one_span t x
 body_one s levels p ls t (body start len) l = refl
 body_one s levels p ls t _ l = absurd l
@@ -247,7 +257,8 @@ module _ (s : Setting) (t : ℕ) where
   mutual
     unfolding declare declare_inside declare_all
 
-    tree_adds : (levels : ℕ) (p : Position) (ls : PathSet) (l : Listed) (scope : List Seg) (x : Tree) → takes_names p ≡ false → IsLawful s levels p ls x
+    tree_adds : (levels : ℕ) (p : Position) (ls : PathSet) (l : Listed) (scope : List Seg) (x : Tree)
+        → takes_names p ≡ false → IsLawful s levels p ls x
         → GivesMore (declare (strict t scope) l x) l (tree_spans t x)
     tree_adds levels p ls l scope nothing h law = nothing_more l.entries
     tree_adds zero p ls l scope _ h law = absurd law
@@ -269,7 +280,8 @@ module _ (s : Setting) (t : ℕ) where
         (ap (λ zs. zs ++ tail_spans t r) (parts_none s t levels (law.row).parts ls ps law.parts)) all
 
     inside_adds : (levels : ℕ) (p : Position) (k : Option TailKind) (ls : PathSet) (l : Listed) (scope : List Seg) (r : Tail)
-        → (k ≡ Some tails.Terms → takes_names p ≡ false) → (k ≡ Some tails.Body → ⊥) → IsTail s (IsLawful s levels) p k ls r
+        → (k ≡ Some tails.Terms → takes_names p ≡ false) → (k ≡ Some tails.Body → ⊥)
+        → IsTail s (IsLawful s levels) p k ls r
         → GivesMore (declare_inside (strict t scope) l r) l (tail_spans t r)
     inside_adds levels p k ls l scope (terms xs) h other law = let e = terms_tail s levels p ls k xs law in all_add levels p ls l scope xs (h e.0) e.1
     inside_adds levels p k ls l scope (elements xs) h other law =
@@ -279,7 +291,8 @@ module _ (s : Setting) (t : ℕ) where
     inside_adds levels p k ls l scope (body start len) h other law = absurd (other (body_tail s levels p ls k start len law))
     inside_adds levels p k ls l scope _ h other law = nothing_more l.entries
 
-    all_add : (levels : ℕ) (p : Position) (ls : PathSet) (l : Listed) (scope : List Seg) (xs : Trees) → takes_names p ≡ false → AreTerms s levels p ls xs
+    all_add : (levels : ℕ) (p : Position) (ls : PathSet) (l : Listed) (scope : List Seg) (xs : Trees)
+        → takes_names p ≡ false → AreTerms s levels p ls xs
         → GivesMore (declare_all (strict t scope) l xs) l (all_spans t xs)
     all_add levels p ls l scope no_trees h law = nothing_more l.entries
     all_add levels p ls l scope (tree_more x xs) h law =
@@ -288,7 +301,8 @@ module _ (s : Setting) (t : ℕ) where
 
 -- ---- a table, from any list on
 
-pub module_adds : (t : ℕ) (l : Listed) (code : List ℕ) (xs : Trees) (m : Listed) → ReadsModule code xs → declare_all (strict t []) l xs ≡ Ok m
+pub module_adds : (t : ℕ) (l : Listed) (code : List ℕ) (xs : Trees) (m : Listed) → ReadsModule code xs
+    → declare_all (strict t []) l xs ≡ Ok m
     → Adds l.entries m.entries (all_spans t xs)
 module_adds t l code xs m law is =
     subst (λ r. GivesMore r l (all_spans t xs)) is

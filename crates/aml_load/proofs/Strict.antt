@@ -35,13 +35,15 @@ one_time : (same : Bool) (a b n : ℕ) → a ≡ b + n → cond same (a + 1) a �
 one_time true a b n h = omega arith
 one_time false a b n h = h
 
-times_more : (es : List Entry) (x : Entry) (q : List Seg) → times_at (es ++ x ∷ []) q ≡ times_at es q + times_at (x ∷ []) q
+times_more : (es : List Entry) (x : Entry) (q : List Seg)
+    → times_at (es ++ x ∷ []) q ≡ times_at es q + times_at (x ∷ []) q
 times_more [] x q = omega arith
 times_more (declares p k b sure ∷ es) x q = one_time (same_path q p) _ _ (times_at (x ∷ []) q) (times_more es x q)
 times_more (external p n ∷ es) x q = times_more es x q
 times_more (given p n ∷ es) x q = times_more es x q
 
-never : (same : Bool) (k : Kind) (o : Option Kind) (n : ℕ) → is_some (cond same (Some k) o) ≡ false → (is_some o ≡ false → n ≡ 0) → cond same (n + 1) n ≡ 0
+never : (same : Bool) (k : Kind) (o : Option Kind) (n : ℕ) → is_some (cond same (Some k) o) ≡ false
+    → (is_some o ≡ false → n ≡ 0) → cond same (n + 1) n ≡ 0
 never true k o n h rest = absurd cc
 never false k o n h rest = rest h
 
@@ -66,7 +68,8 @@ record Plain (es : List Entry) : Type 0 where
   once : (q : List Seg) → times_at es q ≤ 1
 
 -- a path that wasn't declared
-declared_plain : (es : List Entry) (p : List Seg) (k : Kind) (b : Option Body) → is_some (declared_at es p) ≡ false → Plain es
+declared_plain : (es : List Entry) (p : List Seg) (k : Kind) (b : Option Body) → is_some (declared_at es p) ≡ false
+    → Plain es
     → Plain (es ++ declares p k b true ∷ [])
 declared_plain es p k b free h = record {
   sure = sure_more es (declares p k b true) h.sure (refl, tt);
@@ -94,21 +97,25 @@ external_plain es p n h = record {
 abbrev Keeps : Result Listed LoadFault → Type 0
 Keeps r = IfOk r (λ m. Plain m.entries)
 
-then_keeps : {A : Type 0} (r : Result A LoadFault) (f : A → Result Listed LoadFault) → ((x : A) → Keeps (f x)) → Keeps (r >>= f)
+then_keeps : {A : Type 0} (r : Result A LoadFault) (f : A → Result Listed LoadFault) → ((x : A) → Keeps (f x))
+    → Keeps (r >>= f)
 then_keeps (Ok x) f h = h x
 then_keeps (Err e) f h = tt
 
-more_keeps : (r : Result Listed LoadFault) (f : Listed → Result Listed LoadFault) → Keeps r → ((m : Listed) → Plain m.entries → Keeps (f m))
+more_keeps : (r : Result Listed LoadFault) (f : Listed → Result Listed LoadFault) → Keeps r
+    → ((m : Listed) → Plain m.entries → Keeps (f m))
     → Keeps (r >>= f)
 more_keeps (Ok m) f first h = h m first
 more_keeps (Err e) f first h = tt
 
-unless_keeps : (b : Bool) (d : LoadFault) (r : Result Listed LoadFault) → (b ≡ false → Keeps r) → Keeps (cond b (Err d) r)
+unless_keeps : (b : Bool) (d : LoadFault) (r : Result Listed LoadFault) → (b ≡ false → Keeps r)
+    → Keeps (cond b (Err d) r)
 unless_keeps true d r h = tt
 unless_keeps false d r h = h refl
 
 module _ (t : ℕ) (scope : List Seg) where
-  entry_keeps : (l : Listed) (p : List Seg) (k : Kind) (b : Option Body) → Plain l.entries → Keeps (entry_at (strict t scope) l p (declares p k b true))
+  entry_keeps : (l : Listed) (p : List Seg) (k : Kind) (b : Option Body) → Plain l.entries
+      → Keeps (entry_at (strict t scope) l p (declares p k b true))
   unfolding entry_at
   entry_keeps l p k b h = unless_keeps (is_some (declared_at l.entries p)) _ _ (λ free. declared_plain l.entries p k b free h)
 
@@ -124,8 +131,10 @@ module _ (t : ℕ) (scope : List Seg) where
       more_keeps (new_at (strict t scope) l (Some n) (λ p. declares p kinds.Field None true)) _ (new_keeps l (Some n) (λ p. kinds.Field) (λ p. None) h)
       (λ m. units_keep m ns)
 
-  role_keeps : (r : Role) (l : Listed) (ps : Parts) (x : Tail) (inside : Listed → Where → Result Listed LoadFault) → Plain l.entries
-      → ((m : Listed) (p : List Seg) → Plain m.entries → Keeps (inside m (strict t p))) → Keeps (declare_as r (strict t scope) l ps x inside)
+  role_keeps : (r : Role) (l : Listed) (ps : Parts) (x : Tail) (inside : Listed → Where → Result Listed LoadFault)
+      → Plain l.entries
+      → ((m : Listed) (p : List Seg) → Plain m.entries → Keeps (inside m (strict t p)))
+      → Keeps (declare_as r (strict t scope) l ps x inside)
   unfolding declare_as method_at alias_at external_at
   role_keeps (roles.Declares o) l ps x inside h more = then_keeps (place_at (strict t scope) (last_label None ps)) _ (λ p.
       more_keeps (entry_at (strict t scope) l p (declares p (kind_of o) None true)) _ (entry_keeps l p (kind_of o) None h) (λ m. more m p))
@@ -152,16 +161,19 @@ module _ (t : ℕ) where
         (λ m p. inside_keeps p m r)
     tree_keeps scope l _ h = h
 
-    inside_keeps : (scope : List Seg) (l : Listed) (x : Tail) → Plain l.entries → Keeps (declare_inside (strict t scope) l x)
+    inside_keeps : (scope : List Seg) (l : Listed) (x : Tail) → Plain l.entries
+        → Keeps (declare_inside (strict t scope) l x)
     inside_keeps scope l (terms xs) h = all_keep scope l xs h
     inside_keeps scope l _ h = h
 
-    all_keep : (scope : List Seg) (l : Listed) (xs : Trees) → Plain l.entries → Keeps (declare_all (strict t scope) l xs)
+    all_keep : (scope : List Seg) (l : Listed) (xs : Trees) → Plain l.entries
+        → Keeps (declare_all (strict t scope) l xs)
     all_keep scope l no_trees h = h
     all_keep scope l (tree_more x xs) h =
         more_keeps (declare (strict t scope) l x) _ (tree_keeps scope l x h) (λ m. all_keep scope m xs)
 
-tables_keep : (t : ℕ) (l : Listed) (codes : List (List ℕ)) (trees : List Trees) (m : Listed) → Plain l.entries → ReadTables false t l codes trees m
+tables_keep : (t : ℕ) (l : Listed) (codes : List (List ℕ)) (trees : List Trees) (m : Listed) → Plain l.entries
+    → ReadTables false t l codes trees m
     → Plain m.entries
 tables_keep t l [] [] m h read = subst (λ (k : Listed). Plain k.entries) read h
 tables_keep t l [] (xs ∷ rest) m h read = absurd read
@@ -177,7 +189,8 @@ given_times : (gs : Givens) (q : List Seg) → times_at (given_entries gs) q ≡
 given_times [] q = refl
 given_times (g ∷ gs) q = given_times gs q
 
-pub loads_strictly : ((es : List Entry) → AreSure es → StaysAsItIs es) → (z : Bool) (gs : Givens) (tables : List (List ℕ)) → LoadsStrictly z gs tables
+pub loads_strictly : ((es : List Entry) → AreSure es → StaysAsItIs es)
+    → (z : Bool) (gs : Givens) (tables : List (List ℕ)) → LoadsStrictly z gs tables
 loads_strictly stays z gs tables trees m h =
     let first : Plain (given_entries gs) = record { sure = given_sure gs; once = λ q. omega (arith, given_times gs q) } in
     let last = tables_keep 0 (first_listed gs) tables trees m first h.read in

@@ -57,7 +57,8 @@ goes_on_not scope d s e there =
 below : (s : Seg) (ss : List Seg) (d : ℕ) (p : List Seg) → IsBranch (s ∷ ss) (suc d, p) → IsBranch ss (d, p)
 below s ss d p a = record { within = omega (arith, a.within); apart = a.apart }
 
-pub one_branch : (scope : List Seg) (m : ℕ) (p : List Seg) (n : ℕ) (q : List Seg) → IsBranch scope (m, p) → IsBranch scope (n, q)
+pub one_branch : (scope : List Seg) (m : ℕ) (p : List Seg) (n : ℕ) (q : List Seg) → IsBranch scope (m, p)
+    → IsBranch scope (n, q)
     → take m scope ++ p ≡ take n scope ++ q → ◌≡◌ {A = Branch} (m, p) (n, q)
 one_branch scope zero p zero q a b e = λ i. (0, e i)
 one_branch [] zero p (suc n) q a b e = absurd (omega (arith, b.within))
@@ -96,7 +97,8 @@ branch_at (s ∷ ss) (t ∷ q) = by (branch_at ss q) (eq_by_cmp seg_cmp s t) ref
 abbrev no_seg : Seg
 no_seg = record { 0 = [] }
 
-pub branch_here : (scope segs : List Seg) (d m i : ℕ) → m ≡ i → d ≤ length scope → i < length segs → goes_on scope d (get_or segs i no_seg) ≡ false
+pub branch_here : (scope segs : List Seg) (d m i : ℕ) → m ≡ i → d ≤ length scope → i < length segs
+    → goes_on scope d (get_or segs i no_seg) ≡ false
     → IsBranch scope (d, take (length segs - m) (drop m segs))
 branch_here scope segs d m i same within more stop = record {
   within = within;
@@ -108,8 +110,10 @@ branch_here scope segs d m i same within more stop = record {
         let all = take_all (length segs - m) (drop m segs) (omega (arith, length-drop m segs)) ∙ ap (λ n. drop n segs) same ∙ drop_more segs i no_seg more in
         ap (λ l. get_or l 0 no_seg) (sym all ∙ e)
 
-pub one_deeper : (scope segs : List Seg) (front d i : ℕ) → i < length segs → goes_on scope d (get_or segs i no_seg) ≡ true
-    → take d scope ≡ take front scope ++ take i segs → (d + 1 ≤ length scope) × (take (d + 1) scope ≡ take front scope ++ take (i + 1) segs)
+pub one_deeper : (scope segs : List Seg) (front d i : ℕ) → i < length segs
+    → goes_on scope d (get_or segs i no_seg) ≡ true
+    → take d scope ≡ take front scope ++ take i segs
+    → (d + 1 ≤ length scope) × (take (d + 1) scope ≡ take front scope ++ take (i + 1) segs)
 one_deeper scope segs front d i more on same =
     let there = goes_on_there scope d (get_or segs i no_seg) on in
     let within = slice_get_within scope d (get_or segs i no_seg) there in (
@@ -193,7 +197,8 @@ never_on (s ∷ ss) zero x r a (suc k) beyond e = a.apart x r refl (ap (λ l. sl
 never_on [] (suc d) x r a (suc k) beyond e = omega (arith, a.within)
 never_on (s ∷ ss) (suc d) x r a (suc k) beyond e = never_on ss d x r (below s ss d (x ∷ r) a) k (omega (arith, beyond)) (ap (drop 1) e)
 
-length_whole : (scope : List Seg) (d : ℕ) (tail : List Seg) → d ≤ length scope → length (whole scope (d, tail)) ≡ d + length tail
+length_whole : (scope : List Seg) (d : ℕ) (tail : List Seg) → d ≤ length scope
+    → length (whole scope (d, tail)) ≡ d + length tail
 length_whole scope d tail within = length-append (take d scope) tail ∙ ap (λ n. n + length tail) (length-take-le d scope within)
 
 same_front : (scope : List Seg) (d : ℕ) (tail : List Seg) (k : ℕ) → d ≤ length scope → k ≤ d
@@ -203,7 +208,8 @@ same_front scope d tail k within less =
     take-append-le k (take d scope) tail (omega (arith, less, length-take-le d scope within)) ∙ take-take k d scope less in
     ap (eq_by_cmp path_cmp (take k scope)) front ∙ (eq_by_cmp_equiv paths_total).refl (take k scope)
 
-pub met_depth : (scope : List Seg) (d : ℕ) (tail : List Seg) (k : ℕ) → IsBranch scope (d, tail) → k + 1 ≡ length (whole scope (d, tail))
+pub met_depth : (scope : List Seg) (d : ℕ) (tail : List Seg) (k : ℕ) → IsBranch scope (d, tail)
+    → k + 1 ≡ length (whole scope (d, tail))
     → end_depth (d, tail) ≡ cond (eq_by_cmp path_cmp (take k scope) (take k (whole scope (d, tail)))) (Some k) None
 met_depth scope d [] k a long =
     let all = long ∙ length_whole scope d [] a.within in
@@ -218,7 +224,8 @@ met_depth scope d (x ∷ y ∷ q) k a long =
 
 -- ---- The last segment of a path.
 
-pub known_last : (paths : set.FinSet path_cmp) (scope front segs : List Seg) (e : Seg) → slice_get segs (length segs - 1) ≡ Some e
+pub known_last : (paths : set.FinSet path_cmp) (scope front segs : List Seg) (e : Seg)
+    → slice_get segs (length segs - 1) ≡ Some e
     → IsKnown paths scope e None → set.contains paths (front ++ segs) ≡ false
 known_last paths scope front segs e last none =
     let k = length segs - 1 in

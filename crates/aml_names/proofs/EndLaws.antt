@@ -47,15 +47,18 @@ module _ (a : ℕ → Bool) where
   greatest_miss (suc n) miss positive = ap (λ t. cond t (Some (suc n)) (greatest a n)) miss ∙ ap (greatest a) {x = n} {y = suc n - 1} (omega arith)
 
 -- a number more that passes
-raised_more : (n k : ℕ) (here there : Bool) (o p : Option ℕ) → k ≤ suc n → there ≡ ((suc n == k) || here) → IfSome o (λ d. d ≤ n)
+raised_more : (n k : ℕ) (here there : Bool) (o p : Option ℕ) → k ≤ suc n → there ≡ ((suc n == k) || here)
+    → IfSome o (λ d. d ≤ n)
     → (k ≤ n → p ≡ deeper (Some k) o) → cond there (Some (suc n)) p ≡ deeper (Some k) (cond here (Some (suc n)) o)
 raised_more n k here there None p within is less rest = grind (arith, nat_tests)
 raised_more n k here there (Some d) p within is less rest = grind (arith, nat_tests)
 
-greatest_raised : (a b : ℕ → Bool) (k n : ℕ) → k ≤ n → ((d : ℕ) → d ≤ n → b d ≡ ((d == k) || a d)) → greatest b n ≡ deeper (Some k) (greatest a n)
+greatest_raised : (a b : ℕ → Bool) (k n : ℕ) → k ≤ n → ((d : ℕ) → d ≤ n → b d ≡ ((d == k) || a d))
+    → greatest b n ≡ deeper (Some k) (greatest a n)
 greatest_raised a b k zero within raised = first (a 0) (b 0) (raised 0 (omega arith))
   where
-    first : (here there : Bool) → there ≡ ((0 == k) || here) → cond there (Some 0) None ≡ deeper (Some k) (cond here (Some 0) None)
+    first : (here there : Bool) → there ≡ ((0 == k) || here)
+        → cond there (Some 0) None ≡ deeper (Some k) (cond here (Some 0) None)
     first here there is = grind (arith, nat_tests)
 greatest_raised a b k (suc n) within raised = raised_more n k (a (suc n)) (b (suc n)) (greatest a n) (greatest b n) within (raised (suc n) (omega arith))
     (greatest_within a n) (λ less. greatest_raised a b k n less (λ d below. raised d (omega (arith, below))))
@@ -74,17 +77,20 @@ last_of [] e = refl
 last_of (x ∷ front) e = last_of front e
 
 -- a segment in which no path ends
-pub nearest_none : (paths : PathSet) (own scope : List Seg) (e : Seg) → IsKnown paths own e None → nearest paths scope (e ∷ []) ≡ None
+pub nearest_none : (paths : PathSet) (own scope : List Seg) (e : Seg) → IsKnown paths own e None
+    → nearest paths scope (e ∷ []) ≡ None
 nearest_none paths own scope e none = greatest_none (λ d. set.contains paths (take d scope ++ e ∷ [])) (length scope) (λ d less. none (take d scope))
 
 module _ (paths : PathSet) (scope : List Seg) where
   -- what is known says which is the nearest
-  pub known_depth : (end : Seg) (known : Option (Option ℕ)) → IsKnown paths scope end known → option_flatten known ≡ nearest paths scope (end ∷ [])
+  pub known_depth : (end : Seg) (known : Option (Option ℕ)) → IsKnown paths scope end known
+      → option_flatten known ≡ nearest paths scope (end ∷ [])
   known_depth end None none = sym (nearest_none paths scope scope end none)
   known_depth end (Some depth) is = is
 
   -- the segment that a path ends in is known
-  pub known_end : (known : Seg → Option (Option ℕ)) (p : List Seg) (e : Seg) → KnowEnds paths scope known → slice_get p (length p - 1) ≡ Some e → known e ≡ None
+  pub known_end : (known : Seg → Option (Option ℕ)) (p : List Seg) (e : Seg) → KnowEnds paths scope known
+      → slice_get p (length p - 1) ≡ Some e → known e ≡ None
       → set.contains paths p ≡ false
   known_end known p e know is none =
       let long = slice_get_within p (length p - 1) e is in
@@ -93,15 +99,18 @@ module _ (paths : PathSet) (scope : List Seg) where
 
   -- a segment more that is known
   pub known_room : (known new : Seg → Option (Option ℕ)) (e : Seg) → KnowEnds paths scope known
-      → ((q : Seg) → new q ≡ cond (is_at (seg_cmp e) q) (Some (deeper None (option_flatten (known e)))) (known q)) → KnowEnds paths scope new
+      → ((q : Seg) → new q ≡ cond (is_at (seg_cmp e) q) (Some (deeper None (option_flatten (known e)))) (known q))
+      → KnowEnds paths scope new
   known_room known new e know grown s = subst (IsKnown paths scope s) (sym (grown s)) (by (is_at (seg_cmp e) s) refl)
     where
-      by : (t : Bool) → is_at (seg_cmp e) s ≡ t → IsKnown paths scope s (cond t (Some (option_flatten (known e))) (known s))
+      by : (t : Bool) → is_at (seg_cmp e) s ≡ t
+          → IsKnown paths scope s (cond t (Some (option_flatten (known e))) (known s))
       by true is = known_depth e (known e) (know e) ∙ ap (λ (x : Seg). nearest paths scope (x ∷ [])) (tells_apart exact_segs e s is)
       by false is = know s
 
   -- a segment whose depth was changed and set back
-  pub known_back : (known changed new : Seg → Option (Option ℕ)) (e : Seg) (depth back : Option ℕ) → KnowEnds paths scope known
+  pub known_back : (known changed new : Seg → Option (Option ℕ)) (e : Seg) (depth back : Option ℕ)
+      → KnowEnds paths scope known
       → back ≡ option_flatten (known e) → ((q : Seg) → changed q ≡ cond (is_at (seg_cmp e) q) (Some depth) (known q))
       → ((q : Seg) → new q ≡ cond (is_at (seg_cmp e) q) (Some back) (changed q)) → KnowEnds paths scope new
   known_back known changed new e depth back know was change set =
@@ -120,11 +129,13 @@ pub other_path : (a b : List Seg) → (a ≡ b → ⊥) → eq_by_cmp path_cmp a
 other_path a b differ = false_from_ne_true (eq_by_cmp path_cmp a b) (λ is. differ (same_path a b is))
 
 -- a path more that doesn't end in a segment
-known_apart : (paths : PathSet) (scope p : List Seg) (s : Seg) → ((front : List Seg) → eq_by_cmp path_cmp (front ++ s ∷ []) p ≡ false)
+known_apart : (paths : PathSet) (scope p : List Seg) (s : Seg)
+    → ((front : List Seg) → eq_by_cmp path_cmp (front ++ s ∷ []) p ≡ false)
     → (o : Option (Option ℕ)) → IsKnown paths scope s o → IsKnown (set.insert paths p) scope s o
 known_apart paths scope p s apart = by
   where
-    same : (front : List Seg) → set.contains (set.insert paths p) (front ++ s ∷ []) ≡ set.contains paths (front ++ s ∷ [])
+    same : (front : List Seg)
+        → set.contains (set.insert paths p) (front ++ s ∷ []) ≡ set.contains paths (front ++ s ∷ [])
     same front = set.contains-insert paths_total paths p (front ++ s ∷ []) ∙ ap (λ t. t || set.contains paths (front ++ s ∷ [])) (apart front)
 
     by : (o : Option (Option ℕ)) → IsKnown paths scope s o → IsKnown (set.insert paths p) scope s o
@@ -149,7 +160,8 @@ module _ (paths : PathSet) (scope p : List Seg) (e : Seg) (is : slice_get p (len
   with_one q = set.contains-insert paths_total paths p q
 
   -- where the path's front begins the scope
-  here : eq_by_cmp path_cmp (take k scope) (take k p) ≡ true → (d : ℕ) → d ≤ length scope → eq_by_cmp path_cmp (take d scope ++ e ∷ []) p ≡ (d == k)
+  here : eq_by_cmp path_cmp (take k scope) (take k p) ≡ true → (d : ℕ) → d ≤ length scope
+      → eq_by_cmp path_cmp (take d scope ++ e ∷ []) p ≡ (d == k)
   here begins d within = by (d == k) refl
     where
       front : take k scope ≡ take k p
@@ -169,7 +181,8 @@ module _ (paths : PathSet) (scope p : List Seg) (e : Seg) (is : slice_get p (len
         length-take-le d scope within,
       ))
 
-  elsewhere : eq_by_cmp path_cmp (take k scope) (take k p) ≡ false → (d : ℕ) → d ≤ length scope → eq_by_cmp path_cmp (take d scope ++ e ∷ []) p ≡ false
+  elsewhere : eq_by_cmp path_cmp (take k scope) (take k p) ≡ false → (d : ℕ) → d ≤ length scope
+      → eq_by_cmp path_cmp (take d scope ++ e ∷ []) p ≡ false
   elsewhere differs d within = other_path (take d scope ++ e ∷ []) p (λ same.
       let at : d ≡ k = omega (arith, long, sym (ap length same) ∙ length-append (take d scope) (e ∷ []), length-take-le d scope within) in
       let front : take k scope ≡ take k p = ap (λ n. take n scope) {x = k} {y = d} (sym at) ∙ sym (take_at (take d scope) (e ∷ []) (length (take d scope)) refl)
@@ -195,17 +208,20 @@ module _ (paths : PathSet) (scope p : List Seg) (e : Seg) (is : slice_get p (len
 
   pub known_pushed : (known new : Seg → Option (Option ℕ)) (depth : Option ℕ) → KnowEnds paths scope known
       → depth ≡ cond (eq_by_cmp path_cmp (take k scope) (take k p)) (Some k) None
-      → ((q : Seg) → new q ≡ cond (is_at (seg_cmp e) q) (Some (deeper depth (option_flatten (known e)))) (known q)) → KnowEnds (set.insert paths p) scope new
+      → ((q : Seg) → new q ≡ cond (is_at (seg_cmp e) q) (Some (deeper depth (option_flatten (known e)))) (known q))
+      → KnowEnds (set.insert paths p) scope new
   known_pushed known new depth know met grown s = subst (IsKnown (set.insert paths p) scope s) (sym (grown s)) (by (is_at (seg_cmp e) s) refl)
     where
-      by : (t : Bool) → is_at (seg_cmp e) s ≡ t → IsKnown (set.insert paths p) scope s (cond t (Some (deeper depth (option_flatten (known e)))) (known s))
+      by : (t : Bool) → is_at (seg_cmp e) s ≡ t
+          → IsKnown (set.insert paths p) scope s (cond t (Some (deeper depth (option_flatten (known e)))) (known s))
       by true same =
           ap (deeper depth) (known_depth paths scope e (known e) (know e)) ∙ sym (raised_depth depth met)
           ∙ ap (λ (x : Seg). nearest (set.insert paths p) scope (x ∷ [])) (tells_apart exact_segs e s same)
       by false differ = known_apart paths scope p s (apart s differ) (known s) (know s)
 
 -- the root more
-pub known_root : (paths : PathSet) (scope p : List Seg) (known : Seg → Option (Option ℕ)) → KnowEnds paths scope known → slice_get p (length p - 1) ≡ None
+pub known_root : (paths : PathSet) (scope p : List Seg) (known : Seg → Option (Option ℕ)) → KnowEnds paths scope known
+    → slice_get p (length p - 1) ≡ None
     → KnowEnds (set.insert paths p) scope known
 known_root paths scope p known know none s = known_apart paths scope p s apart (known s) (know s)
   where
@@ -217,7 +233,8 @@ known_root paths scope p known know none s = known_apart paths scope p s apart (
     apart front = other_path (front ++ s ∷ []) p (λ same. omega (arith, root p none, sym (ap length same) ∙ length-append front (s ∷ [])))
 
 -- nothing is known of no path
-pub known_nothing : (scope : List Seg) (known : Seg → Option (Option ℕ)) → ((q : Seg) → known q ≡ None) → KnowEnds set.empty scope known
+pub known_nothing : (scope : List Seg) (known : Seg → Option (Option ℕ)) → ((q : Seg) → known q ≡ None)
+    → KnowEnds set.empty scope known
 known_nothing scope known none s = subst (IsKnown set.empty scope s) (sym (none s)) (λ front. set.contains-empty path_cmp (front ++ s ∷ []))
 
 -- a path with the segment above its last one taken out
@@ -247,5 +264,6 @@ pub there_is : (paths : PathSet) (new : Seg → Option (Option ℕ)) (e : Seg) (
 there_is paths new e d known is none = let some = is ∙ ap (λ b. cond b (Some d) known) ((eq_by_cmp_equiv segs_total).refl e) in cc
 
 -- no path, and nothing known
-pub nothing_there : (ends : BTreeMap Seg (Option ℕ)) (scope : List Seg) → ends.entries ≡ [] → KnowEnds set.empty scope (get seg_cmp ends)
+pub nothing_there : (ends : BTreeMap Seg (Option ℕ)) (scope : List Seg) → ends.entries ≡ []
+    → KnowEnds set.empty scope (get seg_cmp ends)
 nothing_there ends scope no_end = known_nothing scope (get seg_cmp ends) (λ q. ap (λ es. lookup (is_at (seg_cmp q)) es) no_end)

@@ -17,7 +17,8 @@ abbrev pub Sound : {A : Type 0} → ℕ → List ℕ → (A → Type 0) → Resu
 Sound end bytes Q (Ok x) = Q x
 Sound end bytes Q (Err d) = NameFault end bytes d
 
-pub sound_behind : {A : Type 0} (end : ℕ) (bytes rest : List ℕ) (Q : A → Type 0) (r : Result A CodeFault) → Reads bytes rest → Sound end rest Q r
+pub sound_behind : {A : Type 0} (end : ℕ) (bytes rest : List ℕ) (Q : A → Type 0) (r : Result A CodeFault)
+    → Reads bytes rest → Sound end rest Q r
     → Sound end bytes Q r
 sound_behind end bytes rest Q (Ok x) read h = h
 sound_behind end bytes rest Q (Err d) read h = elim h [
@@ -26,8 +27,10 @@ sound_behind end bytes rest Q (Err d) read h = elim h [
       inr (read.0 ++ t.0, t.1, t.2, read.1 ∙ ap (λ (x : List ℕ). read.0 ++ x) t.3 ∙ sym (append_assoc read.0 t.0 (t.1 ∷ t.2)), t.4, t.5)
 ]
 
-pub sound_then : {A B : Type 0} (end : ℕ) (bytes : List ℕ) (Q : A × List ℕ → Type 0) (R : B → Type 0) → ((x : A × List ℕ) → Q x → Reads bytes x.1)
-    → (r : Left A) (f : A × List ℕ → Result B CodeFault) → Sound end bytes Q r → ((x : A × List ℕ) → Q x → Sound end x.1 R (f x))
+pub sound_then : {A B : Type 0} (end : ℕ) (bytes : List ℕ) (Q : A × List ℕ → Type 0) (R : B → Type 0)
+    → ((x : A × List ℕ) → Q x → Reads bytes x.1)
+    → (r : Left A) (f : A × List ℕ → Result B CodeFault) → Sound end bytes Q r
+    → ((x : A × List ℕ) → Q x → Sound end x.1 R (f x))
     → Sound end bytes R (r >>= f)
 sound_then end bytes Q R reads (Ok x) f h next = sound_behind end bytes x.1 R (f x) (reads x h) (next x h)
 sound_then end bytes Q R reads (Err d) f h next = h
@@ -40,7 +43,8 @@ pub passed_reads : (passes : ℕ → Bool) (bytes : List ℕ) (x : ℕ × List �
 passed_reads passes bytes x h = (x.0 ∷ [], h.0)
 
 -- where a byte that the test refuses begins no segment
-pub passing_sound : (passes : ℕ → Bool) → ((b : ℕ) → passes b ≡ false → is_lead_char b ≡ false) → (end : ℕ) (bytes : List ℕ)
+pub passing_sound : (passes : ℕ → Bool) → ((b : ℕ) → passes b ≡ false → is_lead_char b ≡ false)
+    → (end : ℕ) (bytes : List ℕ)
     → Sound end bytes (IsPassed passes bytes) (passing_at passes end bytes)
 passing_sound passes refuses end [] = inl refl
 passing_sound passes refuses end (b ∷ bytes) =
@@ -58,8 +62,10 @@ segment_sound end bytes =
       (ta.1, tb.1, tc.1, td.1),
     )))))
   where
-    first : (passes : ℕ → Bool) → ((b : ℕ) → passes b ≡ false → is_lead_char b ≡ false) → (at : List ℕ) (f : ℕ × List ℕ → Left Seg)
-        → ((x : ℕ × List ℕ) → IsPassed passes at x → Sound end x.1 (IsSegment bytes) (f x)) → Sound end at (IsSegment bytes) (passing_at passes end at >>= f)
+    first : (passes : ℕ → Bool) → ((b : ℕ) → passes b ≡ false → is_lead_char b ≡ false)
+        → (at : List ℕ) (f : ℕ × List ℕ → Left Seg)
+        → ((x : ℕ × List ℕ) → IsPassed passes at x → Sound end x.1 (IsSegment bytes) (f x))
+        → Sound end at (IsSegment bytes) (passing_at passes end at >>= f)
     first passes refuses at f next =
         sound_then end at (IsPassed passes at) (IsSegment bytes) (passed_reads passes at) (passing_at passes end at) f
         (passing_sound passes refuses end at) next

@@ -27,7 +27,8 @@ behind_fits : (bytes text rest : List ℕ) → bytes ≡ text ++ rest → IsByte
 behind_fits bytes text rest e fits =
     subst IsBytes (ap (drop (length text)) e ∙ drop_at text rest (length text) refl) (IsBytes-drop (length text) bytes fits)
 
-pub segment_takes : (end : ℕ) (bytes : List ℕ) (s : Seg) (rest : List ℕ) → IsBytes bytes → segment_at end bytes ≡ Ok (s, rest) → Takes bytes s.0 rest
+pub segment_takes : (end : ℕ) (bytes : List ℕ) (s : Seg) (rest : List ℕ) → IsBytes bytes
+    → segment_at end bytes ≡ Ok (s, rest) → Takes bytes s.0 rest
     × IsNameSeg s.0
 segment_takes end bytes s rest fits e =
     let read : (bytes ≡ s.0 ++ rest) × IsNameSeg s.0 = subst (Sound end bytes (IsSegment bytes)) e (segment_sound end bytes) in
@@ -70,7 +71,8 @@ form_sound end (lead ∷ rest) = test 0x00 _ _ (λ q. record { read = (lead ∷ 
   where
     -- by the lead byte
     test : (c : ℕ) (x y : Left (NameForm × ℕ)) → (eqb lead c ≡ true → Sound end (lead ∷ rest) (Headed (lead ∷ rest)) x)
-        → (eqb lead c ≡ false → Sound end (lead ∷ rest) (Headed (lead ∷ rest)) y) → Sound end (lead ∷ rest) (Headed (lead ∷ rest)) (cond (eqb lead c) x y)
+        → (eqb lead c ≡ false → Sound end (lead ∷ rest) (Headed (lead ∷ rest)) y)
+        → Sound end (lead ∷ rest) (Headed (lead ∷ rest)) (cond (eqb lead c) x y)
     test c x y = cond_both (eqb lead c) x y (Sound end (lead ∷ rest) (Headed (lead ∷ rest)))
 
     alone : (c : ℕ) → eqb lead c ≡ true → lead ∷ [] ≡ c ∷ []
@@ -84,10 +86,12 @@ record Pathed (root : Bool) (ups : ℕ) (bytes : List ℕ) (x : Name × List ℕ
   same_root : x.0.root ≡ root
   same_ups : x.0.ups ≡ ups
   read : Reads bytes x.1
-  form : IsBytes bytes → (read.0 ≡ form_bytes x.0.form (length x.0.segs) ++ segment_bytes x.0.segs) × FitsForm x.0.form (length x.0.segs)
+  form : IsBytes bytes
+      → (read.0 ≡ form_bytes x.0.form (length x.0.segs) ++ segment_bytes x.0.segs) × FitsForm x.0.form (length x.0.segs)
   segments : AreNameSegs x.0.segs
 
-path_sound : (root : Bool) (ups end : ℕ) (bytes : List ℕ) → Sound end bytes (Pathed root ups bytes) (path_at root ups end bytes)
+path_sound : (root : Bool) (ups end : ℕ) (bytes : List ℕ)
+    → Sound end bytes (Pathed root ups bytes) (path_at root ups end bytes)
 unfolding path_at AreSegments
 path_sound root ups end bytes =
     sound_then end bytes (Headed bytes) (Pathed root ups bytes) (λ x h. h.read) (form_at end bytes) _ (form_sound end bytes) (λ form t1.
@@ -107,7 +111,8 @@ path_sound root ups end bytes =
     }))
 
 -- what prefixes say
-parent_taken : (b : ℕ) (bytes : List ℕ) (t : Bool) → eqb b 0x5E ≡ t → bytes ≡ replicate (parents bytes) 0x5E ++ drop (parents bytes) bytes
+parent_taken : (b : ℕ) (bytes : List ℕ) (t : Bool) → eqb b 0x5E ≡ t
+    → bytes ≡ replicate (parents bytes) 0x5E ++ drop (parents bytes) bytes
     → b ∷ bytes ≡ replicate (cond t (suc (parents bytes)) 0) 0x5E ++ drop (cond t (suc (parents bytes)) 0) (b ∷ bytes)
 parent_taken b bytes true e h = rw (eqb-true _ _ e) (ap (λ (bs : List ℕ). 0x5E ∷ bs) h)
 parent_taken b bytes false e h = refl
@@ -145,7 +150,8 @@ name_sound end bytes = cond_both (is_rooted bytes) _ _ (Sound end bytes (Named b
     (λ q. by true 0 (drop 1 bytes) refl (root_taken bytes q))
     (λ q. by false (parents bytes) (drop (parents bytes) bytes) tt (parents_taken bytes))
   where
-    by : (root : Bool) (ups : ℕ) (behind : List ℕ) → FitsPrefix root ups → bytes ≡ (cond root (0x5C ∷ []) [] ++ replicate ups 0x5E) ++ behind
+    by : (root : Bool) (ups : ℕ) (behind : List ℕ) → FitsPrefix root ups
+        → bytes ≡ (cond root (0x5C ∷ []) [] ++ replicate ups 0x5E) ++ behind
         → Sound end bytes (Named bytes) (path_at root ups end behind)
     by root ups behind fits split = sound_behind end bytes behind (Named bytes) (path_at root ups end behind) (_, split)
         (mapped (path_at root ups end behind) (path_sound root ups end behind))
@@ -154,7 +160,8 @@ name_sound end bytes = cond_both (is_rooted bytes) _ _ (Sound end bytes (Named b
         mapped (Ok x) h = prefixed root ups bytes x behind fits split h
         mapped (Err d) h = h
 
-pub name_takes : (end : ℕ) (bytes : List ℕ) (n : Name) (rest : List ℕ) → IsBytes bytes → name_at end bytes ≡ Ok (n, rest) → Takes bytes (spelling n) rest
+pub name_takes : (end : ℕ) (bytes : List ℕ) (n : Name) (rest : List ℕ) → IsBytes bytes
+    → name_at end bytes ≡ Ok (n, rest) → Takes bytes (spelling n) rest
     × IsName n
 unfolding Named
 name_takes end bytes n rest fits e =
@@ -183,7 +190,8 @@ segment_again_of end text rest h = absurd h
 pub segment_again : (end : ℕ) (s : Seg) (rest : List ℕ) → IsNameSeg s.0 → segment_at end (s.0 ++ rest) ≡ Ok (s, rest)
 segment_again end s rest h = segment_again_of end s.0 rest h
 
-pub segments_again : (end : ℕ) (ss : List Seg) (rest : List ℕ) → AreNameSegs ss → segments_at (length ss) end (segment_bytes ss ++ rest) ≡ Ok (ss, rest)
+pub segments_again : (end : ℕ) (ss : List Seg) (rest : List ℕ) → AreNameSegs ss
+    → segments_at (length ss) end (segment_bytes ss ++ rest) ≡ Ok (ss, rest)
 unfolding segments_at
 segments_again end [] rest h = refl
 segments_again end (s ∷ ss) rest h =
@@ -213,13 +221,15 @@ form_again end One ss rest fits are = single_again end ss rest fits are
 form_again end Dual ss rest fits are = rw fits refl
 form_again end Multi ss rest fits are = let below : length ss % 256 ≡ length ss = omega (arith, fits.1) in rw (below, lt-ltb 0 (length ss) fits.0) refl
 
-path_again : (root : Bool) (ups end : ℕ) (f : NameForm) (ss : List Seg) (rest : List ℕ) → FitsForm f (length ss) → AreNameSegs ss
+path_again : (root : Bool) (ups end : ℕ) (f : NameForm) (ss : List Seg) (rest : List ℕ) → FitsForm f (length ss)
+    → AreNameSegs ss
     → path_at root ups end (form_bytes f (length ss) ++ (segment_bytes ss ++ rest)) ≡ Ok (record { root = root; ups = ups; form = f; segs = ss }, rest)
 unfolding path_at
 path_again root ups end f ss rest fits are = rw (form_again end f ss rest fits are, segments_again end ss rest are) refl
 
 -- the first byte of a path is no prefix
-segment_first : (text rest : List ℕ) → IsNameSeg text → (is_rooted (text ++ rest) ≡ false) × (parents (text ++ rest) ≡ 0)
+segment_first : (text rest : List ℕ) → IsNameSeg text
+    → (is_rooted (text ++ rest) ≡ false) × (parents (text ++ rest) ≡ 0)
 unfolding parents
 segment_first [] rest h = absurd h
 segment_first (a ∷ text) rest h =
@@ -235,7 +245,8 @@ no_prefix One (s ∷ ss) rest fits are = rw (append_assoc s.0 (segment_bytes ss)
 no_prefix Dual ss rest fits are = (refl, refl)
 no_prefix Multi ss rest fits are = (refl, refl)
 
-parents_all : (ups : ℕ) (path : List ℕ) → parents path ≡ 0 → (parents (replicate ups 0x5E ++ path) ≡ ups) × (drop ups (replicate ups 0x5E ++ path) ≡ path)
+parents_all : (ups : ℕ) (path : List ℕ) → parents path ≡ 0
+    → (parents (replicate ups 0x5E ++ path) ≡ ups) × (drop ups (replicate ups 0x5E ++ path) ≡ path)
 unfolding parents
 parents_all zero path h = (h, refl)
 parents_all (suc ups) path h = let all = parents_all ups path h in (ap suc all.0, all.1)
@@ -244,7 +255,8 @@ none_rooted : (ups : ℕ) (path : List ℕ) → is_rooted path ≡ false → is_
 none_rooted zero path h = h
 none_rooted (suc ups) path h = refl
 
-behind_prefixes : (root : Bool) (ups end : ℕ) (path : List ℕ) → FitsPrefix root ups → is_rooted path ≡ false → parents path ≡ 0
+behind_prefixes : (root : Bool) (ups end : ℕ) (path : List ℕ) → FitsPrefix root ups → is_rooted path ≡ false
+    → parents path ≡ 0
     → name_at end (cond root (0x5C ∷ []) [] ++ (replicate ups 0x5E ++ path)) ≡ path_at root ups end path
 unfolding name_at
 behind_prefixes true ups end path fits unrooted unraised = rw fits refl
@@ -272,7 +284,8 @@ pub record NameLead (n : Name) : Type 0 where
   pub text : spelling n ≡ lead ∷ behind
   pub kind : ((is_name_lead lead ≡ true) × (is_bare n ≡ false)) ⊎ ((is_bare n ≡ true) × (lead ≡ 0) × (behind ≡ []))
 
-segment_lead : (text rest : List ℕ) → IsNameSeg text → (b : ℕ) × (behind : List ℕ) × (text ++ rest ≡ b ∷ behind) × (is_name_lead b ≡ true)
+segment_lead : (text rest : List ℕ) → IsNameSeg text
+    → (b : ℕ) × (behind : List ℕ) × (text ++ rest ≡ b ∷ behind) × (is_name_lead b ≡ true)
 segment_lead [] rest h = absurd h
 segment_lead (a ∷ text) rest h = (a, text ++ rest, refl, or_left _ _ (first_leads a text h))
 
@@ -296,7 +309,8 @@ pub name_lead : (n : Name) → IsName n → NameLead n
 name_lead n is = lead_of n.root n.ups n.form n.segs is
 
 -- a name that was read where a lead byte stands has a prefix or a segment
-pub lead_reads : (end b : ℕ) (bytes : List ℕ) (n : Name) (rest : List ℕ) → IsBytes (b ∷ bytes) → is_name_lead b ≡ true → name_at end (b ∷ bytes) ≡ Ok (n, rest)
+pub lead_reads : (end b : ℕ) (bytes : List ℕ) (n : Name) (rest : List ℕ) → IsBytes (b ∷ bytes) → is_name_lead b ≡ true
+    → name_at end (b ∷ bytes) ≡ Ok (n, rest)
     → is_bare n ≡ false
 lead_reads end b bytes n rest fits h e =
     let t = name_takes end (b ∷ bytes) n rest fits e in
@@ -309,22 +323,26 @@ lead_reads end b bytes n rest fits h e =
 
 -- ---- what the front of bytes spells
 
-pub one_name : (end : ℕ) (bytes : List ℕ) (n : Name) (rest : List ℕ) → name_at end bytes ≡ Ok (n, rest) → (m : Name) → IsName m → Begins bytes (spelling m)
+pub one_name : (end : ℕ) (bytes : List ℕ) (n : Name) (rest : List ℕ) → name_at end bytes ≡ Ok (n, rest) → (m : Name)
+    → IsName m → Begins bytes (spelling m)
     → m ≡ n
 one_name end bytes n rest e m is begins =
     let again : name_at end bytes ≡ Ok (m, begins.0) = ap (name_at end) begins.1 ∙ name_again end m begins.0 is in
     ap (λ (p : Name × List ℕ). p.0) (ok_is {A = Name × List ℕ} (m, begins.0) (n, rest) (sym again ∙ e))
 
-pub no_name : (end : ℕ) (bytes : List ℕ) (d : CodeFault) → name_at end bytes ≡ Err d → (m : Name) → IsName m → Begins bytes (spelling m) → ⊥
+pub no_name : (end : ℕ) (bytes : List ℕ) (d : CodeFault) → name_at end bytes ≡ Err d → (m : Name) → IsName m
+    → Begins bytes (spelling m) → ⊥
 no_name end bytes d e m is begins =
     let again : name_at end bytes ≡ Ok (m, begins.0) = ap (name_at end) begins.1 ∙ name_again end m begins.0 is in
     let clash : (let r : Left Name = Ok (m, begins.0) in r) ≡ Err d = sym again ∙ e in
     absurd cc
 
-pub fails_none : (e : CodeFault) (end : ℕ) (bytes : List ℕ) → Fails e (name_at end bytes) → (e ≡ faults.NoMemory) ⊎ SpellsNone bytes
+pub fails_none : (e : CodeFault) (end : ℕ) (bytes : List ℕ) → Fails e (name_at end bytes)
+    → (e ≡ faults.NoMemory) ⊎ SpellsNone bytes
 fails_none e end bytes f = elim f [ inl m ↦ inl m | inr r ↦ inr (no_name end bytes e r) ]
 
-pub fails_placed : (e : CodeFault) (end : ℕ) (bytes : List ℕ) → Fails e (name_at end bytes) → (e ≡ faults.NoMemory) ⊎ NameFault end bytes e
+pub fails_placed : (e : CodeFault) (end : ℕ) (bytes : List ℕ) → Fails e (name_at end bytes)
+    → (e ≡ faults.NoMemory) ⊎ NameFault end bytes e
 fails_placed e end bytes f = elim f [ inl m ↦ inl m | inr r ↦ inr (name_fault end bytes e r) ]
 
 -- how many bytes spell what was read
@@ -333,7 +351,8 @@ pub record Front (bytes : List ℕ) (n : Name) (rest : List ℕ) : Type 0 where
   pub spelled : Spelled bytes n (length bytes - length rest)
   pub left : drop (length bytes - length rest) bytes ≡ rest
 
-pub name_front : (end : ℕ) (bytes : List ℕ) (n : Name) (rest : List ℕ) → IsBytes bytes → name_at end bytes ≡ Ok (n, rest) → Front bytes n rest
+pub name_front : (end : ℕ) (bytes : List ℕ) (n : Name) (rest : List ℕ) → IsBytes bytes
+    → name_at end bytes ≡ Ok (n, rest) → Front bytes n rest
 name_front end bytes n rest fits e =
     let t = name_takes end bytes n rest fits e in
     let long : length bytes ≡ length (spelling n) + length rest = ap length t.0.parts ∙ length-append (spelling n) rest in

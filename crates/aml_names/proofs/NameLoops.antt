@@ -12,12 +12,15 @@ use Rattle.aml_names.specs.NameReading.{◌>>=◌, Left, segment_at, segments_at
 abbrev pub with_front : List Seg → Left (List Seg) → Left (List Seg)
 with_front front read = read >>= λ x. Ok (front ++ x.0, x.1)
 
-regroup : (front : List Seg) (s : Seg) (read : Left (List Seg)) → with_front front (read >>= λ x. Ok (s ∷ x.0, x.1)) ≡ with_front (front ++ s ∷ []) read
+regroup : (front : List Seg) (s : Seg) (read : Left (List Seg))
+    → with_front front (read >>= λ x. Ok (s ∷ x.0, x.1)) ≡ with_front (front ++ s ∷ []) read
 regroup front s (Ok x) = ap (λ (ss : List Seg). Ok (ss, x.1)) (sym (append_assoc front (s ∷ []) x.0))
 regroup front s (Err e) = refl
 
-pub segments_go_on : (front : List Seg) (s : Seg) (n end : ℕ) (bytes rest : List ℕ) (total : Left (List Seg)) → 0 < n → segment_at end bytes ≡ Ok (s, rest)
-    → with_front front (segments_at n end bytes) ≡ total → with_front (front ++ s ∷ []) (segments_at (n - 1) end rest) ≡ total
+pub segments_go_on : (front : List Seg) (s : Seg) (n end : ℕ) (bytes rest : List ℕ) (total : Left (List Seg)) → 0 < n
+    → segment_at end bytes ≡ Ok (s, rest)
+    → with_front front (segments_at n end bytes) ≡ total
+    → with_front (front ++ s ∷ []) (segments_at (n - 1) end rest) ≡ total
 unfolding segments_at
 segments_go_on front s zero end bytes rest total some h so_far = absurd (omega arith)
 segments_go_on front s (suc n) end bytes rest total some h so_far =
@@ -26,7 +29,8 @@ segments_go_on front s (suc n) end bytes rest total some h so_far =
     let less : suc n - 1 ≡ n = omega arith in
     rw less (sym one ∙ so_far)
 
-pub segments_fail : (e : CodeFault) (front : List Seg) (n end : ℕ) (bytes : List ℕ) (total : Left (List Seg)) → 0 < n → segment_at end bytes ≡ Err e
+pub segments_fail : (e : CodeFault) (front : List Seg) (n end : ℕ) (bytes : List ℕ) (total : Left (List Seg)) → 0 < n
+    → segment_at end bytes ≡ Err e
     → with_front front (segments_at n end bytes) ≡ total → total ≡ Err e
 unfolding segments_at
 segments_fail e front zero end bytes total some h so_far = absurd (omega arith)
@@ -34,7 +38,8 @@ segments_fail e front (suc n) end bytes total some h so_far =
     let one : with_front front (segments_at (suc n) end bytes) ≡ Err e = rw h refl in
     sym so_far ∙ one
 
-pub segments_end : (front : List Seg) (n end : ℕ) (bytes : List ℕ) (total : Left (List Seg)) → n ≡ 0 → with_front front (segments_at n end bytes) ≡ total
+pub segments_end : (front : List Seg) (n end : ℕ) (bytes : List ℕ) (total : Left (List Seg)) → n ≡ 0
+    → with_front front (segments_at n end bytes) ≡ total
     → total ≡ Ok (front, bytes)
 unfolding segments_at
 segments_end front n end bytes total none so_far =
@@ -43,11 +48,13 @@ segments_end front n end bytes total none so_far =
 
 -- ---- prefixes
 
-pub parents_go_on : (bytes : List ℕ) (i : ℕ) → i < length bytes → get_or bytes i 0 ≡ 0x5E → parents (drop i bytes) ≡ suc (parents (drop (i + 1) bytes))
+pub parents_go_on : (bytes : List ℕ) (i : ℕ) → i < length bytes → get_or bytes i 0 ≡ 0x5E
+    → parents (drop i bytes) ≡ suc (parents (drop (i + 1) bytes))
 unfolding parents
 parents_go_on bytes i h e = rw (drop_more bytes i 0 h, e) refl
 
-pub parents_stop : (bytes : List ℕ) (i : ℕ) → i < length bytes → (get_or bytes i 0 == 0x5E) ≡ false → parents (drop i bytes) ≡ 0
+pub parents_stop : (bytes : List ℕ) (i : ℕ) → i < length bytes → (get_or bytes i 0 == 0x5E) ≡ false
+    → parents (drop i bytes) ≡ 0
 unfolding parents
 parents_stop bytes i h e = rw (drop_more bytes i 0 h, e) refl
 

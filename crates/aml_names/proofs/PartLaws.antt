@@ -23,7 +23,8 @@ other_way xs ys k most = λ n a b same. most n b a (sym same)
 pub take_on : (k n : ℕ) (xs : List Seg) → take (k + n) xs ≡ take k xs ++ take n (drop k xs)
 take_on k n xs = sym (take-append-drop k (take (k + n) xs)) ∙ (λ i. take-take k (k + n) xs (omega arith) i ++ drop-take k n xs i)
 
-pub on_same : (k m : ℕ) (xs ys : List Seg) → take k xs ≡ take k ys → take m (drop k xs) ≡ take m (drop k ys) → take (k + m) xs ≡ take (k + m) ys
+pub on_same : (k m : ℕ) (xs ys : List Seg) → take k xs ≡ take k ys → take m (drop k xs) ≡ take m (drop k ys)
+    → take (k + m) xs ≡ take (k + m) ys
 on_same k m xs ys front rest = take_on k m xs ∙ (λ i. front i ++ rest i) ∙ sym (take_on k m ys)
 
 pub on_most : (k m : ℕ) (xs ys : List Seg) → IsMost (drop k xs) (drop k ys) m → IsMost xs ys (k + m)
@@ -38,7 +39,8 @@ on_most k m xs ys most n a b same = elim (cases_lt n k) [
 ]
 
 -- where a front isn't the whole first part, nothing behind this part counts
-pub part_most : (front own others : List Seg) (k : ℕ) → k < length front → IsMost front others k → IsMost (front ++ own) others k
+pub part_most : (front own others : List Seg) (k : ℕ) → k < length front → IsMost front others k
+    → IsMost (front ++ own) others k
 part_most front own others k inside most n a b same = elim (cases_lt k n) [
   | inl less ↦
       let longer : take (k + 1) front ≡ take (k + 1) others =
@@ -55,13 +57,15 @@ inside_part : (k : ℕ) (front own : List Seg) → k ≤ length front → drop k
 inside_part k front own less = drop-append-le k front own less
 
 -- two paths in parts, of which the one's first part begins the other's
-pub parts_same : (k m : ℕ) (fa oa fb ob rest : List Seg) → k ≡ length fa → k ≤ length fb → take k fa ≡ take k fb → rest ≡ drop k fb ++ ob
+pub parts_same : (k m : ℕ) (fa oa fb ob rest : List Seg) → k ≡ length fa → k ≤ length fb → take k fa ≡ take k fb
+    → rest ≡ drop k fb ++ ob
     → take m rest ≡ take m oa → take (k + m) (fa ++ oa) ≡ take (k + m) (fb ++ ob)
 parts_same k m fa oa fb ob rest whole inside begun is same = on_same k m (fa ++ oa) (fb ++ ob)
     (take-append-le k fa oa (omega (arith, whole)) ∙ begun ∙ sym (take-append-le k fb ob inside))
     (ap (take m) (past_part k fa oa whole) ∙ sym same ∙ ap (take m) (is ∙ sym (inside_part k fb ob inside)))
 
-pub parts_most : (k m : ℕ) (fa oa fb ob rest : List Seg) → k ≡ length fa → k ≤ length fb → rest ≡ drop k fb ++ ob → IsMost rest oa m
+pub parts_most : (k m : ℕ) (fa oa fb ob rest : List Seg) → k ≡ length fa → k ≤ length fb → rest ≡ drop k fb ++ ob
+    → IsMost rest oa m
     → IsMost (fa ++ oa) (fb ++ ob) (k + m)
 parts_most k m fa oa fb ob rest whole inside is most = on_most k m (fa ++ oa) (fb ++ ob)
     (subst (λ xs. IsMost xs (drop k (fb ++ ob)) m) (sym (past_part k fa oa whole))
@@ -76,7 +80,8 @@ apart_by a b differ = ne_eqb (length a) (length b) differ ∙ by (eq_by_cmp path
     by true e = absurd (differ (ap length (tells_apart exact_paths a b (sym e))))
 
 -- and others are the same where all of them is in common
-pub same_by : (k : ℕ) (a b : List Seg) → k ≤ length a → length a ≡ length b → take k a ≡ take k b → IsMost a b k → nat_eq k (length a) ≡ eq_by_cmp path_cmp a b
+pub same_by : (k : ℕ) (a b : List Seg) → k ≤ length a → length a ≡ length b → take k a ≡ take k b → IsMost a b k
+    → nat_eq k (length a) ≡ eq_by_cmp path_cmp a b
 same_by k a b within even begun most = by (eq_by_cmp path_cmp a b) refl
   where
     by : (x : Bool) → eq_by_cmp path_cmp a b ≡ x → nat_eq k (length a) ≡ x

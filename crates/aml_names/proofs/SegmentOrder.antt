@@ -9,7 +9,8 @@ use Rattle.aml_names.proofs.StepLaws.{IsBytes}
 use Rattle.std.specs.Ordering.{nat_cmp, ordering_then, MatchOrdering}
 
 -- one more byte behind two numbers
-digit : (p q x y : ℕ) → x < 256 → y < 256 → ordering_then (nat_cmp p q) (nat_cmp x y) ≡ nat_cmp (p * 256 + x) (q * 256 + y)
+digit : (p q x y : ℕ) → x < 256 → y < 256
+    → ordering_then (nat_cmp p q) (nat_cmp x y) ≡ nat_cmp (p * 256 + x) (q * 256 + y)
 digit p q x y low high =
     nat_cmp_is (p * 256 + x) (q * 256 + y) (ordering_then (nat_cmp p q) (nat_cmp x y)) (by (nat_cmp p q) (nat_cmp x y) (ranks p q) (ranks x y))
   where

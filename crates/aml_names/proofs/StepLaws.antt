@@ -21,28 +21,33 @@ pub err_is : {A : Type 0} (d e : CodeFault) → failed {A = A} d ≡ failed e �
 err_is d e h = cc
 
 -- a step that was taken, for what is wanted of all
-pub bind_then : {A B : Type 0} (P : Type 0) (r : Result A CodeFault) (f : A → Result B CodeFault) (y : B) → (r >>= f) ≡ Ok y
+pub bind_then : {A B : Type 0} (P : Type 0) (r : Result A CodeFault) (f : A → Result B CodeFault) (y : B)
+    → (r >>= f) ≡ Ok y
     → ((x : A) → r ≡ Ok x → f x ≡ Ok y → P) → P
 bind_then P (Ok x) f y e k = k x refl e
 bind_then P (Err d) f y e k = absurd cc
 
 -- a fault of two steps: of the first, or of the second
-pub err_then : {A B : Type 0} (P : Type 0) (r : Result A CodeFault) (f : A → Result B CodeFault) (d : CodeFault) → (r >>= f) ≡ Err d → (r ≡ Err d → P)
+pub err_then : {A B : Type 0} (P : Type 0) (r : Result A CodeFault) (f : A → Result B CodeFault) (d : CodeFault)
+    → (r >>= f) ≡ Err d → (r ≡ Err d → P)
     → ((x : A) → r ≡ Ok x → f x ≡ Err d → P) → P
 err_then P (Ok x) f d e first second = second x refl e
 err_then P (Err c) f d e first second = first cc
 
 -- a test, by its two sides
-pub cond_then : {A : Type 0} (P : Type 0) (b : Bool) (x y z : A) → cond b x y ≡ z → (b ≡ true → x ≡ z → P) → (b ≡ false → y ≡ z → P) → P
+pub cond_then : {A : Type 0} (P : Type 0) (b : Bool) (x y z : A) → cond b x y ≡ z → (b ≡ true → x ≡ z → P)
+    → (b ≡ false → y ≡ z → P) → P
 cond_then P true x y z e f g = f refl e
 cond_then P false x y z e f g = g refl e
 
 -- a test that refuses, and didn't
-pub guard_ok : {A : Type 0} (b : Bool) (d : CodeFault) (r : Result A CodeFault) (y : A) → cond b (Err d) r ≡ Ok y → (b ≡ false) × (r ≡ Ok y)
+pub guard_ok : {A : Type 0} (b : Bool) (d : CodeFault) (r : Result A CodeFault) (y : A) → cond b (Err d) r ≡ Ok y
+    → (b ≡ false) × (r ≡ Ok y)
 guard_ok true d r y e = absurd cc
 guard_ok false d r y e = (refl, e)
 
-pub chosen_ok : {A : Type 0} (b : Bool) (d : CodeFault) (r : Result A CodeFault) (y : A) → cond b r (Err d) ≡ Ok y → (b ≡ true) × (r ≡ Ok y)
+pub chosen_ok : {A : Type 0} (b : Bool) (d : CodeFault) (r : Result A CodeFault) (y : A) → cond b r (Err d) ≡ Ok y
+    → (b ≡ true) × (r ≡ Ok y)
 chosen_ok true d r y e = (refl, e)
 chosen_ok false d r y e = absurd cc
 
@@ -75,7 +80,8 @@ Takes-none bytes fits = record { parts = refl; rest_fits = fits }
 pub Takes-then : (a x b y c : List ℕ) → Takes a x b → Takes b y c → Takes a (x ++ y) c
 Takes-then a x b y c p q = record { parts = p.parts ∙ ap (λ (t : List ℕ). x ++ t) q.parts ∙ sym (append_assoc x y c); rest_fits = q.rest_fits }
 
-pub byte_takes : (end : ℕ) (bytes : List ℕ) (b : ℕ) (rest : List ℕ) → IsBytes bytes → byte_at end bytes ≡ Ok (b, rest) → Takes bytes (b ∷ []) rest × (b < 256)
+pub byte_takes : (end : ℕ) (bytes : List ℕ) (b : ℕ) (rest : List ℕ) → IsBytes bytes → byte_at end bytes ≡ Ok (b, rest)
+    → Takes bytes (b ∷ []) rest × (b < 256)
 byte_takes end [] b rest fits e = absurd cc
 byte_takes end (c ∷ bytes) b rest fits e =
     subst (λ (p : ℕ × List ℕ). Takes (c ∷ bytes) (p.0 ∷ []) p.1 × (p.0 < 256)) (ok_is (c, bytes) (b, rest) e)

@@ -47,11 +47,13 @@ name_apart n is =
       | inr k ↦ absurd (omega (arith, e, k.1))
     ])
 
-seg_first : (front rest : List ℕ) → IsNameSeg front → (lead : ℕ) × (behind : List ℕ) × (front ++ rest ≡ lead ∷ behind) × (is_lead_char lead ≡ true)
+seg_first : (front rest : List ℕ) → IsNameSeg front
+    → (lead : ℕ) × (behind : List ℕ) × (front ++ rest ≡ lead ∷ behind) × (is_lead_char lead ≡ true)
 seg_first (a ∷ b ∷ c ∷ d ∷ []) rest h = (a, b ∷ c ∷ d ∷ rest, refl, h.0)
 seg_first _ rest h = absurd h
 
-taken_target : (p : Position) (o : ℕ) (row : Row) → row_of o ≡ Some row → takes p row.place ≡ true → is_absent_target p (lead_of o) ≡ false
+taken_target : (p : Position) (o : ℕ) (row : Row) → row_of o ≡ Some row → takes p row.place ≡ true
+    → is_absent_target p (lead_of o) ≡ false
 taken_target Position.Target o row listed taken = target_opcode o row listed taken
 taken_target _ o row listed taken = refl
 
@@ -60,7 +62,8 @@ read_as x = Ok x
 
 -- what a reader does by the first byte, or by the first bytes
 module _ (read : Position → Reader Tree) (end : ℕ) (ls : PathSet) (lead : ℕ) (behind : List ℕ) where
-  link_named : (lead == 0x11) ≡ false → link_at read end ls (lead ∷ behind) ≡ flat ls (held target (segmented_at end (lead ∷ behind)))
+  link_named : (lead == 0x11) ≡ false
+      → link_at read end ls (lead ∷ behind) ≡ flat ls (held target (segmented_at end (lead ∷ behind)))
   unfolding link_at
   link_named h = rw h refl
 
@@ -68,7 +71,8 @@ module _ (read : Position → Reader Tree) (end : ℕ) (ls : PathSet) (lead : �
   unfolding link_at
   link_led = refl
 
-  unit_named : is_lead_char lead ≡ true → field_at read end ls (lead ∷ behind) ≡ flat ls (named_unit end (lead ∷ behind))
+  unit_named : is_lead_char lead ≡ true
+      → field_at read end ls (lead ∷ behind) ≡ flat ls (named_unit end (lead ∷ behind))
   unfolding field_at
   unit_named h = rw (apart lead 0x00 h refl, apart lead 0x01 h refl, apart lead 0x02 h refl, apart lead 0x03 h refl) refl
 
@@ -83,7 +87,8 @@ module _ (s : Setting) (read : Position → Reader Tree) (p : Position) (end : �
   unfolding term_at
   term_opcode lead behind h other = rw (h, other) refl
 
-  none_again : (rest : List ℕ) → p ≡ Position.Target → term_at s.arity s.scope read p end ls (0x00 ∷ rest) ≡ Ok (nothing, ls, rest)
+  none_again : (rest : List ℕ) → p ≡ Position.Target
+      → term_at s.arity s.scope read p end ls (0x00 ∷ rest) ≡ Ok (nothing, ls, rest)
   unfolding term_at
   none_again rest h = ap (λ (q : Position). term_at s.arity s.scope read q end ls (0x00 ∷ rest)) h
 
@@ -110,12 +115,14 @@ module _ (s : Setting) (levels : ℕ) (read : Position → Reader Tree) (law : I
   -- ---- parts
 
   -- a term that is no term of a list
-  inner_again : (p : Position) (end : ℕ) (ls : PathSet) (t : Tree) (rest : List ℕ) → is_inner p ≡ true → is_bodiless p ≡ true → IsLawful s levels p ls t
+  inner_again : (p : Position) (end : ℕ) (ls : PathSet) (t : Tree) (rest : List ℕ) → is_inner p ≡ true
+      → is_bodiless p ≡ true → IsLawful s levels p ls t
       → read p end ls (encoding s.code t ++ rest) ≡ Ok (t, ls, rest)
   inner_again p end ls t rest i free h =
       law.again p end ls t rest h (inl free) ∙ ap (λ (m : PathSet). Ok (t, m, rest)) (unchanged s levels p ls t i h)
 
-  part_again : (k : PartKind) (end : ℕ) (ls : PathSet) (x : Part) (rest : List ℕ) → IsPart (λ q. IsLawful s levels q ls) k x
+  part_again : (k : PartKind) (end : ℕ) (ls : PathSet) (x : Part) (rest : List ℕ)
+      → IsPart (λ q. IsLawful s levels q ls) k x
       → part_at read k end ls (part_encoding s.code x ++ rest) ≡ Ok (x, ls, rest)
   part_again PartKind.Term end ls (child t) rest h = read_on _ _ _ _ (inner_again Position.Argument end ls t rest refl refl h) refl
   part_again PartKind.Target end ls (child t) rest h = read_on _ _ _ _ (inner_again Position.Target end ls t rest refl refl h) refl
@@ -130,7 +137,8 @@ module _ (s : Setting) (levels : ℕ) (read : Position → Reader Tree) (law : I
   part_again PartKind.Text end ls (text t) rest h = read_on _ _ _ _ (text_again end t rest h) refl
   part_again _ end ls _ rest h = absurd h
 
-  parts_again : (ks : List PartKind) (end : ℕ) (ls : PathSet) (xs : Parts) (rest : List ℕ) → AreParts (λ q. IsLawful s levels q ls) ks xs
+  parts_again : (ks : List PartKind) (end : ℕ) (ls : PathSet) (xs : Parts) (rest : List ℕ)
+      → AreParts (λ q. IsLawful s levels q ls) ks xs
       → parts_at read ks end ls (parts_encoding s.code xs ++ rest) ≡ Ok (xs, ls, rest)
   unfolding parts_at
   parts_again [] end ls no_parts rest h = refl
@@ -150,7 +158,8 @@ module _ (s : Setting) (levels : ℕ) (read : Position → Reader Tree) (law : I
       ∙ read_on _ _ _ _ (law.again Position.Argument end ls t _ h.0 (inl refl))
       (read_on _ _ _ _ (arguments_again end (after s.scope ls t) ts rest h.1) refl)
 
-  pub terms_again : (n : ℕ) (p : Position) (end : ℕ) (ls : PathSet) (ts : Trees) → length (encodings s.code ts) ≤ n → AreTerms s levels p ls ts
+  pub terms_again : (n : ℕ) (p : Position) (end : ℕ) (ls : PathSet) (ts : Trees) → length (encodings s.code ts) ≤ n
+      → AreTerms s levels p ls ts
       → Standing (is_bodiless p ≡ true) (λ at. BodiesStand s.code at ts) end (encodings s.code ts)
       → terms_at read n p end ls (encodings s.code ts) ≡ Ok (ts, after_all s.scope ls ts)
   unfolding to_end_at
@@ -197,7 +206,8 @@ module _ (s : Setting) (levels : ℕ) (read : Position → Reader Tree) (law : I
   field_again end ls (connection l) rest h = read_on _ _ _ _ (link_again end ls l rest h) refl
   field_again end ls (extended a b c) rest h = refl
 
-  fields_again : (n end : ℕ) (ls : PathSet) (us : Fields) → length (fields_encoding s.code us) ≤ n → AreFields (λ q. IsLawful s levels q ls) us
+  fields_again : (n end : ℕ) (ls : PathSet) (us : Fields) → length (fields_encoding s.code us) ≤ n
+      → AreFields (λ q. IsLawful s levels q ls) us
       → fields_at read n end ls (fields_encoding s.code us) ≡ Ok (us, ls)
   unfolding to_end_at
   fields_again n end ls no_fields le h = refl
@@ -213,7 +223,8 @@ module _ (s : Setting) (levels : ℕ) (read : Position → Reader Tree) (law : I
 
   -- ---- names
 
-  named_again : (p : Position) (end : ℕ) (ls : PathSet) (n : Name) (ts : Trees) (rest : List ℕ) → IsLawful s (suc levels) p ls (named n ts)
+  named_again : (p : Position) (end : ℕ) (ls : PathSet) (n : Name) (ts : Trees) (rest : List ℕ)
+      → IsLawful s (suc levels) p ls (named n ts)
       → term_at s.arity s.scope read p end ls (encoding s.code (named n ts) ++ rest) ≡ Ok (named n ts, ls, rest)
   unfolding call_at
   named_again p end ls n ts rest h =
@@ -231,7 +242,8 @@ module _ (s : Setting) (levels : ℕ) (read : Position → Reader Tree) (law : I
 
   -- ---- tails
 
-  tail_again : (p : Position) (k : TailKind) (end : ℕ) (ls : PathSet) (t : Tail) → IsTail s (IsLawful s levels) p (Some k) ls t
+  tail_again : (p : Position) (k : TailKind) (end : ℕ) (ls : PathSet) (t : Tail)
+      → IsTail s (IsLawful s levels) p (Some k) ls t
       → Standing ((is_bodiless p ≡ true) × (Some k ≡ Some TailKind.Body → ⊥)) (λ at. TailStands s.code at t) end (tail_encoding s.code t)
       → tail_at read p k end ls (tail_encoding s.code t) ≡ Ok (t, after_tail s.scope ls t)
   tail_again p TailKind.Fields end ls (fields us) h stand =
@@ -259,7 +271,8 @@ module _ (s : Setting) (levels : ℕ) (read : Position → Reader Tree) (law : I
     plain_again h = read_on _ _ _ _ (parts_again row.parts end ls ps rest h) (ap read_as (by_opcode s.scope o row listed None ps empty ls rest))
 
     packed_again : (w : PkgWidth) (k : TailKind) (there : ℕ) (t : Tail) → IsGuarded (is_guard p row.place) ps
-        → FitsWidth w (width_len w + length (parts_encoding s.code ps ++ tail_encoding s.code t)) → AreParts (λ q. IsLawful s levels q ls) row.parts ps
+        → FitsWidth w (width_len w + length (parts_encoding s.code ps ++ tail_encoding s.code t))
+        → AreParts (λ q. IsLawful s levels q ls) row.parts ps
         → IsTail s (IsLawful s levels) (terms_in p row.place) (Some (tail_in p k)) ls t
         → Standing ((is_bodiless (terms_in p row.place) ≡ true) × (Some (tail_in p k) ≡ Some TailKind.Body → ⊥)) (λ at. TailStands s.code at t) (end - length rest)
         (tail_encoding s.code t)

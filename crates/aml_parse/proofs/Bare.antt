@@ -4,7 +4,8 @@ use Rattle.aml_parse.proofs.Common.{Row, Position, Role, Tree, op, no_parts}
 use Rattle.aml_parse.proofs.Common.{empty, names_declared, with_declared}
 use Rattle.aml_parse.specs.Reading.{Reader, parts_at, plain_at}
 
-none_declared : (scope : Option (List Seg)) (ls : PathSet) (r : Role) → with_declared scope ls (names_declared r no_parts empty) ≡ ls
+none_declared : (scope : Option (List Seg)) (ls : PathSet) (r : Role)
+    → with_declared scope ls (names_declared r no_parts empty) ≡ ls
 none_declared None ls r = refl
 none_declared (Some path) ls (Role.Declares o) = refl
 none_declared (Some path) ls _ = refl

@@ -61,7 +61,8 @@ module _ (code : List ℕ) (p : Position) (end : ℕ) where
       (inr (at, place, b.0), inr (at + length (encoding code t), omega (arith, place, length-append (encoding code t) (encodings code ts)), b.1))
 
   -- of an operation: its tail
-  pub tail_stands : (o : ℕ) (row : Row) (w : PkgWidth) (ps : Parts) (t : Tail) (rest : List ℕ) → row_of o ≡ Some row → takes p row.place ≡ true
+  pub tail_stands : (o : ℕ) (row : Row) (w : PkgWidth) (ps : Parts) (t : Tail) (rest : List ℕ) → row_of o ≡ Some row
+      → takes p row.place ≡ true
       → Standing (is_bodiless p ≡ true) (λ at. BodyStands code at (op o (Some w) ps t)) end (encoding code (op o (Some w) ps t) ++ rest)
       → Standing ((is_bodiless (terms_in p row.place) ≡ true) × (option_map (tail_in p) row.tail ≡ Some TailKind.Body → ⊥)) (λ at. TailStands code at t) (end - length rest)
       (tail_encoding code t)

@@ -21,13 +21,15 @@ count_again end n rest h =
 
 -- ---- texts
 
-text_len : (bs rest : List ℕ) → All (λ b. (0 < b) × (b < 256)) bs → position_or_len (λ b. b == 0) (bs ++ 0 ∷ rest) ≡ length bs
+text_len : (bs rest : List ℕ) → All (λ b. (0 < b) × (b < 256)) bs
+    → position_or_len (λ b. b == 0) (bs ++ 0 ∷ rest) ≡ length bs
 text_len [] rest h = refl
 text_len (b ∷ bs) rest h =
     let other : (b == 0) ≡ false = ne_eqb _ _ (λ z. let some : 0 < b = (h 0 0 (omega arith)).0 in absurd (omega (arith, some, z))) in
     rw (other, text_len bs rest (λ i d l. h (suc i) d (omega (arith, l)))) (omega arith)
 
-pub text_again : (end : ℕ) (bs rest : List ℕ) → All (λ b. (0 < b) × (b < 256)) bs → text_part end ((bs ++ 0 ∷ []) ++ rest) ≡ Ok (text bs, rest)
+pub text_again : (end : ℕ) (bs rest : List ℕ) → All (λ b. (0 < b) × (b < 256)) bs
+    → text_part end ((bs ++ 0 ∷ []) ++ rest) ≡ Ok (text bs, rest)
 text_again end bs rest h =
     let all : List ℕ = bs ++ 0 ∷ rest in
     let same : (bs ++ 0 ∷ []) ++ rest ≡ all = append_assoc bs (0 ∷ []) rest in
@@ -38,7 +40,8 @@ text_again end bs rest h =
 
 -- ---- names
 
-pub segmented_again : (end : ℕ) (n : Name) (rest : List ℕ) → IsName n → has_segment n ≡ true → segmented_at end (spelling n ++ rest) ≡ Ok (n, rest)
+pub segmented_again : (end : ℕ) (n : Name) (rest : List ℕ) → IsName n → has_segment n ≡ true
+    → segmented_at end (spelling n ++ rest) ≡ Ok (n, rest)
 unfolding segmented_at
 segmented_again end n rest h some =
     read_on _ _ _ _ (name_again end n rest h) (ap (λ b. cond b (Ok (n, rest)) (Err (CodeFault.EmptyName (end - length (spelling n ++ rest))))) some)

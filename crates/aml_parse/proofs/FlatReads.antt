@@ -33,23 +33,27 @@ module _ (s : Setting) where
   pub fails : {A : Type 0} (Is : A → Type 0) (d : CodeFault) → StandsAt s.arity s.code d → Answers Is (Err d)
   fails {A = A} Is d h = record { ok = λ y e. absurd cc; fault = λ c e. subst (StandsAt s.arity s.code) (err_is {A = A} d c e) h }
 
-  pub then : {A B : Type 0} (Is : A → Type 0) (Was : B → Type 0) (r : Result A CodeFault) (f : A → Result B CodeFault) → Answers Is r
+  pub then : {A B : Type 0} (Is : A → Type 0) (Was : B → Type 0) (r : Result A CodeFault) (f : A → Result B CodeFault)
+      → Answers Is r
       → ((x : A) → r ≡ Ok x → Is x → Answers Was (f x)) → Answers Was (r >>= f)
   then Is Was (Ok x) f h k = k x refl (h.ok x refl)
   then Is Was (Err d) f h k = fails Was d (h.fault d refl)
 
-  pub made : {A B : Type 0} (Is : A → Type 0) (Was : B → Type 0) (r : Result A CodeFault) (f : A → B) → Answers Is r → ((x : A) → Is x → Was (f x))
+  pub made : {A B : Type 0} (Is : A → Type 0) (Was : B → Type 0) (r : Result A CodeFault) (f : A → B) → Answers Is r
+      → ((x : A) → Is x → Was (f x))
       → Answers Was (r >>= λ x. Ok (f x))
   made Is Was r f h k = then Is Was r (λ x. Ok (f x)) h (λ x e is. answers Was (f x) (k x is))
 
   -- a test, by its two sides
-  pub chosen : {A : Type 0} (Is : A → Type 0) (b : Bool) (x y : Result A CodeFault) → (b ≡ true → Answers Is x) → (b ≡ false → Answers Is y)
+  pub chosen : {A : Type 0} (Is : A → Type 0) (b : Bool) (x y : Result A CodeFault) → (b ≡ true → Answers Is x)
+      → (b ≡ false → Answers Is y)
       → Answers Is (cond b x y)
   chosen Is true x y g h = g refl
   chosen Is false x y g h = h refl
 
   -- what may not be known
-  pub known : {A : Type 0} (Is : A → Type 0) (o : Option A) (d : CodeFault) → (o ≡ None → StandsAt s.arity s.code d) → ((x : A) → o ≡ Some x → Is x)
+  pub known : {A : Type 0} (Is : A → Type 0) (o : Option A) (d : CodeFault) → (o ≡ None → StandsAt s.arity s.code d)
+      → ((x : A) → o ≡ Some x → Is x)
       → Answers Is (ok_or o d)
   known Is None d none some = fails Is d (none refl)
   known Is (Some x) d none some = answers Is x (some x refl)
@@ -63,7 +67,8 @@ pub record TookFlat {A : Type 0} (spelled : A → List ℕ) (Is : A → Type 0) 
 
 module _ (s : Setting) (at end : ℕ) (bs : List ℕ) (w : Within s.code at end bs) where
   -- a fault at the offset
-  pub at_offset : (fault : ℕ → CodeFault) → StandsAt s.arity s.code (fault at) → StandsAt s.arity s.code (fault (end - length bs))
+  pub at_offset : (fault : ℕ → CodeFault) → StandsAt s.arity s.code (fault at)
+      → StandsAt s.arity s.code (fault (end - length bs))
   at_offset fault h = subst (λ (n : ℕ). StandsAt s.arity s.code (fault n)) (sym (offset_is s.code at end bs w)) h
 
   pub byte_reads : Answers s (TookFlat (λ (b : ℕ). b ∷ []) (λ b. b < 256) bs) (byte_at end bs)
@@ -144,7 +149,8 @@ module _ (s : Setting) (at end : ℕ) (bs : List ℕ) (w : Within s.code at end 
       let is = one_byte lead.0 t.is (eqb-false lead.0 0x5B short) in
       answers s _ lead (record { takes = subst (λ (b : List ℕ). Takes bs b lead.1) (sym is.0) t.takes; is = is.1 })))
     where
-      two_bytes : (second : ℕ) → second < 256 → (opcode_bytes (0x5B00 + second) ≡ 0x5B ∷ second ∷ []) × IsOpcode (0x5B00 + second)
+      two_bytes : (second : ℕ) → second < 256
+          → (opcode_bytes (0x5B00 + second) ≡ 0x5B ∷ second ∷ []) × IsOpcode (0x5B00 + second)
       two_bytes second less =
           let big : ltb (0x5B00 + second) 256 ≡ false = le-ltb _ _ (omega arith) in
           let high : (0x5B00 + second) / 256 ≡ 0x5B = omega (arith, less) in
@@ -156,7 +162,8 @@ module _ (s : Setting) (at end : ℕ) (bs : List ℕ) (w : Within s.code at end 
 
 module _ (s : Setting) (Is : Part → Type 0) (at end : ℕ) (bs : List ℕ) (w : Within s.code at end bs) where
   -- a number of arguments
-  pub count_reads : ((n : ℕ) → n ≤ 7 → Is (byte n)) → Answers s (TookFlat (part_encoding s.code) Is bs) (count_part end bs)
+  pub count_reads : ((n : ℕ) → n ≤ 7 → Is (byte n))
+      → Answers s (TookFlat (part_encoding s.code) Is bs) (count_part end bs)
   unfolding count_part
   count_reads is = then s _ _ _ _ (little_reads s at end bs w 1) (λ n e t. chosen s _ (ltb 7 n.0) _ _
       (λ many.
@@ -167,7 +174,8 @@ module _ (s : Setting) (Is : Part → Type 0) (at end : ℕ) (bs : List ℕ) (w 
       (λ few. answers s _ (byte n.0, n.1) (record { takes = t.takes; is = is n.0 (omega (arith, ltb-false _ _ few)) })))
 
   -- a text up to its 00
-  pub text_reads : ((t : List ℕ) → All (λ b. (0 < b) × (b < 256)) t → Is (text t)) → Answers s (TookFlat (part_encoding s.code) Is bs) (text_part end bs)
+  pub text_reads : ((t : List ℕ) → All (λ b. (0 < b) × (b < 256)) t → Is (text t))
+      → Answers s (TookFlat (part_encoding s.code) Is bs) (text_part end bs)
   text_reads is = then s _ _ _ _ (known s (λ n. position (λ b. b == 0) bs ≡ Some n) (position (λ b. b == 0) bs) (CodeFault.Truncated end)
       (λ none. end_there s.code at end bs w) (λ n found. found)) (λ n e found.
       let p = position-Some (λ b. b == 0) bs n 0 found in

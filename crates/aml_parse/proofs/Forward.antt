@@ -46,7 +46,8 @@ runs_on Position.RunAfterIf t i = runs_by (has_opcode 0xA0 t)
 runs_on _ t i = absurd cc
 
 module _ (s : Setting) (Is : Position → PathSet → Tree → Type 0) (q : Position) (ls : PathSet) where
-  no_terms_kept : (p : Position) (k : Option TailKind) (ts : Trees) → is_run p ≡ true → IsTail s Is q (option_map (tail_in p) k) ls (terms ts) → ⊥
+  no_terms_kept : (p : Position) (k : Option TailKind) (ts : Trees) → is_run p ≡ true
+      → IsTail s Is q (option_map (tail_in p) k) ls (terms ts) → ⊥
   no_terms_kept p None ts i h = absurd h
   no_terms_kept Position.RunTerm (Some TailKind.Terms) ts i h = absurd h
   no_terms_kept Position.RunTerm (Some _) ts i h = absurd h
@@ -54,7 +55,8 @@ module _ (s : Setting) (Is : Position → PathSet → Tree → Type 0) (q : Posi
   no_terms_kept Position.RunAfterIf (Some _) ts i h = absurd h
   no_terms_kept _ (Some k) ts i h = absurd cc
 
-  body_kept : (p : Position) (k : Option TailKind) (t : Tail) → is_run p ≡ true → has_terms k ≡ true → IsTail s Is q (option_map (tail_in p) k) ls t
+  body_kept : (p : Position) (k : Option TailKind) (t : Tail) → is_run p ≡ true → has_terms k ≡ true
+      → IsTail s Is q (option_map (tail_in p) k) ls t
       → (start : ℕ) × (len : ℕ) × (t ≡ body start len)
   body_kept Position.RunTerm (Some TailKind.Terms) (body start len) i b h = (start, len, refl)
   body_kept Position.RunTerm (Some TailKind.Terms) _ i b h = absurd h
@@ -64,7 +66,8 @@ module _ (s : Setting) (Is : Position → PathSet → Tree → Type 0) (q : Posi
   body_kept p (Some TailKind.Terms) t i b h = absurd cc
   body_kept p (Some _) t i b h = absurd cc
 
-  long_tail : (p : Position) (k : Option TailKind) (start len : ℕ) → IsTail s Is q (option_map (tail_in p) k) ls (body start len) → has_length k ≡ true
+  long_tail : (p : Position) (k : Option TailKind) (start len : ℕ)
+      → IsTail s Is q (option_map (tail_in p) k) ls (body start len) → has_length k ≡ true
   long_tail p None start len h = absurd h
   long_tail p (Some k) start len h = refl
 
@@ -73,7 +76,8 @@ module _ (s : Setting) (p : Position) (ls : PathSet) (o : ℕ) (w : Option PkgWi
   no_terms zero ts i h = h
   no_terms (suc levels) ts i h = no_terms_kept s _ _ ls p _ ts i h.tail
 
-  block_tail : (levels : ℕ) (t : Tail) → is_run p ≡ true → is_block (op o w ps t) ≡ true → IsLawful s levels p ls (op o w ps t)
+  block_tail : (levels : ℕ) (t : Tail) → is_run p ≡ true → is_block (op o w ps t) ≡ true
+      → IsLawful s levels p ls (op o w ps t)
       → (start : ℕ) × (len : ℕ) × (t ≡ body start len)
   block_tail zero t i b h = absurd h
   block_tail (suc levels) t i b h =
@@ -93,7 +97,8 @@ end_on : (code : List ℕ) (at behind end : ℕ) → at ≤ behind → IsEnd cod
 end_on code at behind end le (inl e) = inl e
 end_on code at behind end le (inr (p, w, v, there, is, less)) = inr (p, w, v, there, is, omega (arith, less, le))
 
-room_on : (code : List ℕ) (levels at behind end : ℕ) → at ≤ behind → behind ≤ end → Room code levels at end → Room code levels behind end
+room_on : (code : List ℕ) (levels at behind end : ℕ) → at ≤ behind → behind ≤ end → Room code levels at end
+    → Room code levels behind end
 room_on code levels at behind end le more r =
     record { le = more; inside = r.inside; is_end = end_on code at behind end le r.is_end; deep = omega (arith, r.deep, le) }
 
@@ -101,7 +106,8 @@ slice_length : (code : List ℕ) (start len : ℕ) → start + len ≤ length co
 slice_length code start len le = omega (arith, length-take len (drop start code), length-drop start code, le)
 
 -- what stands behind a text that stands there
-there_behind : (code : List ℕ) (at : ℕ) (front text : List ℕ) → StandsThere code at (front ++ text) → StandsThere code (at + length front) text
+there_behind : (code : List ℕ) (at : ℕ) (front text : List ℕ) → StandsThere code at (front ++ text)
+    → StandsThere code (at + length front) text
 there_behind code at front text h = record {
   before = h.before ++ front;
   behind = h.behind;
@@ -109,7 +115,8 @@ there_behind code at front text h = record {
   offset = omega (arith, h.offset, length-append h.before front);
 }
 
-there_front : (code : List ℕ) (at : ℕ) (text more : List ℕ) → StandsThere code at (text ++ more) → StandsThere code at text
+there_front : (code : List ℕ) (at : ℕ) (text more : List ℕ) → StandsThere code at (text ++ more)
+    → StandsThere code at text
 there_front code at text more h = record {
   before = h.before;
   behind = more ++ h.behind;
@@ -118,9 +125,11 @@ there_front code at text more h = record {
 }
 
 module _ (code : List ℕ) (at : ℕ) (o : ℕ) (ps : Parts) (start len : ℕ) where
-  width_end : (k : Option TailKind) (w : Option PkgWidth) → has_length k ≡ true → HasWidth k w (length (parts_encoding code ps ++ slice_of code start len))
+  width_end : (k : Option TailKind) (w : Option PkgWidth) → has_length k ≡ true
+      → HasWidth k w (length (parts_encoding code ps ++ slice_of code start len))
       → start + len ≤ length code
-      → StandsThere code at (encoding code (op o w ps (body start len))) → BodyStands code at (op o w ps (body start len)) → IsEnd code start (start + len)
+      → StandsThere code at (encoding code (op o w ps (body start len)))
+      → BodyStands code at (op o w ps (body start len)) → IsEnd code start (start + len)
   width_end (Some k) None e h le there stand = absurd h
   width_end (Some k) (Some w) e h le there stand =
       let content = parts_encoding code ps ++ slice_of code start len in
@@ -152,7 +161,8 @@ module _ (arity : Arities) (code : List ℕ) (p : Position) (at end : ℕ) where
   level_there (suc levels) t behind h = omega arith
 
   pub room_inside : (levels o : ℕ) (w : Option PkgWidth) (ps : Parts) (start len behind : ℕ)
-      → ReadsStep arity levels p code at end (op o w ps (body start len)) behind → Room code levels at end → Room code (levels - 1) start (start + len)
+      → ReadsStep arity levels p code at end (op o w ps (body start len)) behind → Room code levels at end
+      → Room code (levels - 1) start (start + len)
   room_inside levels o w ps start len behind h r = record {
     le = omega arith;
     inside = span_is_inside (setting_of arity None code) levels p set.empty o w ps start len h.lawful;
@@ -168,7 +178,8 @@ module _ (arity : Arities) (code : List ℕ) (p : Position) (at end : ℕ) where
   }
 
 -- a text that stands there, and the slice behind it, are a slice
-slices_joined : (code : List ℕ) (at behind end : ℕ) (text : List ℕ) → StandsThere code at text → at + length text ≡ behind → behind ≤ end
+slices_joined : (code : List ℕ) (at behind end : ℕ) (text : List ℕ) → StandsThere code at text
+    → at + length text ≡ behind → behind ≤ end
     → text ++ slice_of code behind (end - behind) ≡ slice_of code at (end - at)
 slices_joined code at behind end text h ends le =
     let n = end - behind in
@@ -218,7 +229,8 @@ module _ {S E : Type 0} (names : Names S E) (code : List ℕ) where
   Tells levels read = (p : Position) (at end : ℕ) (s : S) → is_run p ≡ true → Room code levels at end → Told levels p at end s (read p at end s)
 
   -- a step that is no block is its term
-  opens_itself : (levels : ℕ) (t : Tree) (inner : S) (s : Setting) (p : Position) → is_run p ≡ true → is_block t ≡ false → IsLawful s levels p set.empty t
+  opens_itself : (levels : ℕ) (t : Tree) (inner : S) (s : Setting) (p : Position) → is_run p ≡ true → is_block t ≡ false
+      → IsLawful s levels p set.empty t
       → Opens names code levels t inner t inner
   opens_itself levels (op o w ps (terms ts)) inner s p i e h = absurd (no_terms s p set.empty o w ps levels ts i h)
   opens_itself levels _ inner s p i e h = (refl, e, refl)
@@ -226,15 +238,18 @@ module _ {S E : Type 0} (names : Names S E) (code : List ℕ) where
   module _ (levels : ℕ) (read : SpanReader names code) (p : Position) (at end : ℕ) (s : S) (run : is_run p ≡ true) where
     module _ (room : Room code levels at end) (law : 0 < levels → Tells (levels - 1) read) where
       inside_tells : (o : ℕ) (w : Option PkgWidth) (ps : Parts) (start len behind : ℕ) (inner : S)
-          → ReadsStep (names.arity s) levels p code at end (op o w ps (body start len)) behind → names.inside s (op o w ps (body start len)) ≡ Ok inner
-          → is_block (op o w ps (body start len)) ≡ true → (r : Result (Trees × S) E) → Told (levels - 1) Position.RunTerm start (start + len) inner r
+          → ReadsStep (names.arity s) levels p code at end (op o w ps (body start len)) behind
+          → names.inside s (op o w ps (body start len)) ≡ Ok inner
+          → is_block (op o w ps (body start len)) ≡ true → (r : Result (Trees × S) E)
+          → Told (levels - 1) Position.RunTerm start (start + len) inner r
           → WholeTold levels p at end s
           ((r >>= opened_to o w ps) >>= whole_to s (op o w ps (body start len)) behind)
       inside_tells o w ps start len behind inner reads is block (Ok x) told = (inner, x.1, reads, is, (start, len, refl, block, told), refl)
       inside_tells o w ps start len behind inner reads is block (Err e) told =
           inside_term levels p at end s (op o w ps (body start len)) behind inner e o w ps start len reads is refl block told
 
-      head_tells : (head : Tree) (behind : ℕ) (inner : S) → ReadsStep (names.arity s) levels p code at end head behind → names.inside s head ≡ Ok inner
+      head_tells : (head : Tree) (behind : ℕ) (inner : S) → ReadsStep (names.arity s) levels p code at end head behind
+          → names.inside s head ≡ Ok inner
           → (b : Bool) → is_block head ≡ b
           → WholeTold levels p at end s (opened_at names code read b head inner >>= whole_to s head behind)
       head_tells head behind inner reads is false e =
@@ -249,7 +264,8 @@ module _ {S E : Type 0} (names : Names S E) (code : List ℕ) where
           absurd (cc kept.2)
       head_tells _ behind inner reads is true e = absurd cc
 
-      declared_tells : (x : Tree × ℕ) → ReadsStep (names.arity s) levels p code at end x.0 x.1 → (r : Result S E) → names.inside s x.0 ≡ r
+      declared_tells : (x : Tree × ℕ) → ReadsStep (names.arity s) levels p code at end x.0 x.1 → (r : Result S E)
+          → names.inside s x.0 ≡ r
           → WholeTold levels p at end s
           (r >>= λ (inner : S). opened_at names code read (is_block x.0) x.0 inner >>= whole_to s x.0 x.1)
       declared_tells x reads (Ok inner) is = head_tells x.0 x.1 inner reads is (is_block x.0) refl
@@ -270,7 +286,8 @@ module _ {S E : Type 0} (names : Names S E) (code : List ℕ) where
       unfolding run_term_at
       term_tells fits = step_tells fits (step_at (names.arity s) levels p code at end) refl
 
-  more_told : (levels : ℕ) (p : Position) (at end : ℕ) (s : S) (x : Whole) → IsWhole levels p at end s x → (r : Result (Trees × S) E)
+  more_told : (levels : ℕ) (p : Position) (at end : ℕ) (s : S) (x : Whole) → IsWhole levels p at end s x
+      → (r : Result (Trees × S) E)
       → Told levels (next_position p x.0.0) x.1.0 end x.1.1 r
       → Told levels p at end s (r >>= more_to x)
   more_told levels p at end s x (inner, ended, reads, is, opens, state) (Ok y) told =
@@ -281,7 +298,8 @@ module _ {S E : Type 0} (names : Names S E) (code : List ℕ) where
 
   module _ (levels : ℕ) (read : SpanReader names code) (law : 0 < levels → Tells (levels - 1) read) (fits : IsBytes code) where
     -- the first term and the terms behind it, by what reading these gives
-    some_tell : (n : ℕ) (p : Position) (at end : ℕ) (s : S) → end - at ≤ suc n → is_run p ≡ true → Room code levels at end
+    some_tell : (n : ℕ) (p : Position) (at end : ℕ) (s : S) → end - at ≤ suc n → is_run p ≡ true
+        → Room code levels at end
         → ((q : Position) (from : ℕ) (m : S) → end - from ≤ n → is_run q ≡ true → Room code levels from end
         → Told levels q from end m (run_terms_at names code levels read n q from end m))
         → (b : Bool) → nat_le end at ≡ b
@@ -330,8 +348,10 @@ module _ {S E : Type 0} (names : Names S E) (code : List ℕ) where
       → read p at end s ≡ Ok (ts, last)
 
   module _ (levels : ℕ) (read : SpanReader names code) (law : 0 < levels → ReadsAgain (levels - 1) read) where
-    opened_again : (head t : Tree) (inner ended : S) (behind at end : ℕ) (s : S) (p : Position) → ReadsStep (names.arity s) levels p code at end head behind
-        → Opens names code levels head inner t ended → opened_at names code read (is_block head) head inner ≡ Ok (t, ended)
+    opened_again : (head t : Tree) (inner ended : S) (behind at end : ℕ) (s : S) (p : Position)
+        → ReadsStep (names.arity s) levels p code at end head behind
+        → Opens names code levels head inner t ended
+        → opened_at names code read (is_block head) head inner ≡ Ok (t, ended)
     opened_again head (op o w ps (terms ts)) inner ended behind at end s p reads (start, len, is, block, inside) =
         let there : ReadsStep (names.arity s) levels p code at end (op o w ps (body start len)) behind =
         subst (λ (y : Tree). ReadsStep (names.arity s) levels p code at end y behind) is reads in
@@ -346,7 +366,8 @@ module _ {S E : Type 0} (names : Names S E) (code : List ℕ) where
         ∙ ap (λ (m : S). opened_at names code read false t m) h.2
 
     term_again : (head t : Tree) (inner ended : S) (behind at end : ℕ) (s : S) (p : Position) → end ≤ length code
-        → ReadsStep (names.arity s) levels p code at end head behind → names.inside s head ≡ Ok inner → Opens names code levels head inner t ended
+        → ReadsStep (names.arity s) levels p code at end head behind → names.inside s head ≡ Ok inner
+        → Opens names code levels head inner t ended
         → run_term_at names code levels read p at end s ≡ Ok ((head, t), (behind, names.behind s ended))
     unfolding run_term_at
     term_again head t inner ended behind at end s p room reads is opens =
@@ -356,7 +377,8 @@ module _ {S E : Type 0} (names : Names S E) (code : List ℕ) where
         ∙ ap (λ (r : Result (Tree × S) E). r >>= whole_to s head behind) (opened_again head t inner ended behind at end s p reads opens)
 
     terms_again : (n : ℕ) (p : Position) (at end : ℕ) (s : S) (ts : Trees) (last : S) → end - at ≤ n → end ≤ length code
-        → ReadsTerms names code levels p at end s ts last → run_terms_at names code levels read n p at end s ≡ Ok (ts, last)
+        → ReadsTerms names code levels p at end s ts last
+        → run_terms_at names code levels read n p at end s ≡ Ok (ts, last)
     unfolding run_terms_at
     terms_again zero p at end s no_trees last less room h = ap (λ (m : S). Ok (no_trees, m)) h.1
     terms_again (suc n) p at end s no_trees last less room h =

@@ -12,7 +12,8 @@ use Rattle.aml_parse.proofs.Common.{zero_bare, lead_of, opcode_lead}
 use Rattle.aml_parse.proofs.Common.{row_lead_is}
 use Rattle.aml_parse.specs.Reading.{guard_at}
 
-name_leads : (n : Name) (behind rest : List ℕ) (b : ℕ) → IsName n → is_bare n ≡ false → spelling n ++ rest ≡ b ∷ behind → is_name_lead b ≡ true
+name_leads : (n : Name) (behind rest : List ℕ) (b : ℕ) → IsName n → is_bare n ≡ false → spelling n ++ rest ≡ b ∷ behind
+    → is_name_lead b ≡ true
 name_leads n behind rest b is other e =
     let l = name_lead n is in
     let same : l.lead ≡ b = cc (ap (λ (t : List ℕ). t ++ rest) l.text, e) in
@@ -23,8 +24,10 @@ name_leads n behind rest b is other e =
 
 module _ (s : Setting) where
   -- a term whose first byte is below 5B and begins no name has this byte as its opcode, but for a target
-  pub led_by : (levels : ℕ) (p : Position) (ls : PathSet) (t : Tree) (rest : List ℕ) (b : ℕ) (behind : List ℕ) → IsLawful s levels p ls t
-      → (p ≡ Position.Target → ⊥) → encoding s.code t ++ rest ≡ b ∷ behind → is_name_lead b ≡ false → b < 0x5B → has_opcode b t ≡ true
+  pub led_by : (levels : ℕ) (p : Position) (ls : PathSet) (t : Tree) (rest : List ℕ) (b : ℕ) (behind : List ℕ)
+      → IsLawful s levels p ls t
+      → (p ≡ Position.Target → ⊥) → encoding s.code t ++ rest ≡ b ∷ behind → is_name_lead b ≡ false → b < 0x5B
+      → has_opcode b t ≡ true
   led_by zero p ls t rest b behind h other e g less = absurd h
   led_by (suc levels) p ls nothing rest b behind h other e g less = absurd (other h)
   led_by (suc levels) p ls (named n ts) rest b behind h other e g less =
@@ -62,7 +65,8 @@ module _ (s : Setting) (levels : ℕ) (ls : PathSet) where
   one_of_one (part_more _ xs) h = absurd h.0
 
 -- what is read where the opcode 00 stands
-zero_alone : (s : Setting) (levels : ℕ) (p : Position) (ls : PathSet) (t : Tree) → IsLawful s levels p ls t → has_opcode 0x00 t ≡ true
+zero_alone : (s : Setting) (levels : ℕ) (p : Position) (ls : PathSet) (t : Tree) → IsLawful s levels p ls t
+    → has_opcode 0x00 t ≡ true
     → t ≡ op 0x00 None no_parts empty
 zero_alone s zero p ls t h e = absurd h
 zero_alone s (suc levels) p ls nothing h e = absurd cc
@@ -84,7 +88,8 @@ abbrev pub IsGuarded : Bool → Parts → Type 0
 IsGuarded true ps = ps ≡ part_more (child (op 0x00 None no_parts empty)) no_parts
 IsGuarded false ps = Unit {0}
 
-pub guarded_so : (guarded : Bool) (ps : Parts) → (guarded ≡ true → ps ≡ part_more (child (op 0x00 None no_parts empty)) no_parts) → IsGuarded guarded ps
+pub guarded_so : (guarded : Bool) (ps : Parts)
+    → (guarded ≡ true → ps ≡ part_more (child (op 0x00 None no_parts empty)) no_parts) → IsGuarded guarded ps
 guarded_so true ps h = h refl
 guarded_so false ps h = tt
 

@@ -68,14 +68,16 @@ module _ (read : Position → Reader Tree) (front : List Part) (end : ℕ) (ls :
   parts_fails e k ks (inl h) so_far = inl h
   parts_fails e k ks (inr h) so_far = inr (sym (rw h at so_far))
 
-  pub parts_end : then_rest part_view part_more front (parts_at read [] end ls bs) ≡ total → total ≡ Ok (parts_view front, ls, bs)
+  pub parts_end : then_rest part_view part_more front (parts_at read [] end ls bs) ≡ total
+      → total ≡ Ok (parts_view front, ls, bs)
   unfolding parts_at
   parts_end so_far = sym so_far ∙ ap (λ (ps : Parts). Ok (ps, ls, bs)) (parts_found front)
 
 -- ---- arguments
 
 module _ (read : Position → Reader Tree) (front : List Node) (end : ℕ) (ls : PathSet) (bs : List ℕ) (total : Result (Trees × PathSet × List ℕ) CodeFault) where
-  pub arguments_go_on : (n : ℕ) (node : Node) (ls' : PathSet) (rest : List ℕ) → 0 < n → read Position.Argument end ls bs ≡ Ok (node_view node, ls', rest)
+  pub arguments_go_on : (n : ℕ) (node : Node) (ls' : PathSet) (rest : List ℕ) → 0 < n
+      → read Position.Argument end ls bs ≡ Ok (node_view node, ls', rest)
       → then_rest node_view tree_more front (arguments_at read n end ls bs) ≡ total
       → then_rest node_view tree_more (front ++ node ∷ []) (arguments_at read (n - 1) end ls' rest) ≡ total
   unfolding arguments_at
@@ -91,7 +93,8 @@ module _ (read : Position → Reader Tree) (front : List Node) (end : ℕ) (ls :
   arguments_fails e zero some (inr h) so_far = absurd (omega arith)
   arguments_fails e (suc n) some (inr h) so_far = inr (sym (rw h at so_far))
 
-  pub arguments_end : (n : ℕ) → n ≡ 0 → then_rest node_view tree_more front (arguments_at read n end ls bs) ≡ total → total ≡ Ok (nodes_view front, ls, bs)
+  pub arguments_end : (n : ℕ) → n ≡ 0 → then_rest node_view tree_more front (arguments_at read n end ls bs) ≡ total
+      → total ≡ Ok (nodes_view front, ls, bs)
   unfolding arguments_at
   arguments_end zero none so_far = sym so_far ∙ ap (λ (ts : Trees). Ok (ts, ls, bs)) (nodes_found front)
   arguments_end (suc n) none so_far = absurd (omega (arith, none))
@@ -109,8 +112,10 @@ module _ {K A AS : Type 0} (none : AS) (more : A → AS → AS) (one : K → Rea
   turn n k end ls (b ∷ bs) h = refl
 
   module _ {X : Type 0} (see : X → A) (front : List X) (k : K) (end : ℕ) (ls : PathSet) (total : Result (AS × PathSet) CodeFault) where
-    pub go_on : (n : ℕ) (bs : List ℕ) (x : X) (ls' : PathSet) (rest : List ℕ) → 0 < length bs → 0 < n → one k end ls bs ≡ Ok (see x, ls', rest)
-        → then_all see more front (all n k end ls bs) ≡ total → then_all see more (front ++ x ∷ []) (all (n - 1) (next k (see x)) end ls' rest) ≡ total
+    pub go_on : (n : ℕ) (bs : List ℕ) (x : X) (ls' : PathSet) (rest : List ℕ) → 0 < length bs → 0 < n
+        → one k end ls bs ≡ Ok (see x, ls', rest)
+        → then_all see more front (all n k end ls bs) ≡ total
+        → then_all see more (front ++ x ∷ []) (all (n - 1) (next k (see x)) end ls' rest) ≡ total
     go_on zero bs x ls' rest some left h so_far = absurd (omega arith)
     go_on (suc n) bs x ls' rest some left h so_far =
         let less : suc n - 1 ≡ n = omega arith in
@@ -129,7 +134,8 @@ module _ {K A AS : Type 0} (none : AS) (more : A → AS → AS) (one : K → Rea
     done found n [] is empty so_far = sym so_far ∙ ap (λ (all : AS). Ok (all, ls)) is
     done found n (b ∷ bs) is empty so_far = absurd (omega arith)
 
-    pub runs_out : (n : ℕ) (bs : List ℕ) → n ≡ 0 → 0 < length bs → then_all see more front (all n k end ls bs) ≡ total → total ≡ Err (CodeFault.Truncated end)
+    pub runs_out : (n : ℕ) (bs : List ℕ) → n ≡ 0 → 0 < length bs → then_all see more front (all n k end ls bs) ≡ total
+        → total ≡ Err (CodeFault.Truncated end)
     unfolding to_end_at
     runs_out n [] last some so_far = absurd (omega arith)
     runs_out zero (b ∷ bs) last some so_far = sym so_far

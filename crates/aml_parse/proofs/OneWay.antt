@@ -26,7 +26,8 @@ span_is_inside s zero p ls o w ps start len h = absurd h
 span_is_inside s (suc levels) p ls o w ps start len h = span_inside_code s _ _ _ ls start len h.tail
 
 module _ (arity : Arities) (levels : ℕ) (p : Position) (code : List ℕ) (at end : ℕ) where
-  one_step : (t u : Tree) (b c : ℕ) → end ≤ length code → ReadsStep arity levels p code at end t b → ReadsStep arity levels p code at end u c
+  one_step : (t u : Tree) (b c : ℕ) → end ≤ length code → ReadsStep arity levels p code at end t b
+      → ReadsStep arity levels p code at end u c
       → (t ≡ u) × (b ≡ c)
   one_step t u b c inside h g =
       let same = ok_is (t, b) (u, c) (sym (step_again arity levels p code at end t b inside h) ∙ step_again arity levels p code at end u c inside g) in
@@ -43,7 +44,8 @@ module _ (arity : Arities) (levels : ℕ) (p : Position) (code : List ℕ) (at e
 module _ {S E : Type 0} (names : Names S E) (code : List ℕ) where
   mutual
     one_terms : (levels : ℕ) (p : Position) (at end : ℕ) (s : S) (ts us : Trees) (a b : S) → end ≤ length code
-        → ReadsTerms names code levels p at end s ts a → ReadsTerms names code levels p at end s us b → (ts ≡ us) × (a ≡ b)
+        → ReadsTerms names code levels p at end s ts a → ReadsTerms names code levels p at end s us b
+        → (ts ≡ us) × (a ≡ b)
     one_terms levels p at end s no_trees no_trees a b inside h g = (refl, sym h.1 ∙ g.1)
     one_terms levels p at end s no_trees (tree_more u us) a b inside h (head, behind, inner, ended, reads, enters, opens, rest) =
         absurd (step_some _ levels p code at end head behind reads h.0)
@@ -65,7 +67,8 @@ module _ {S E : Type 0} (names : Names S E) (code : List ℕ) where
         (ap (λ (y : Tree). tree_more y ts) one.0 ∙ ap (λ (ys : Trees). tree_more u ys) all.0, all.1)
 
     one_opens : (levels : ℕ) (p : Position) (at end : ℕ) (s : S) (head : Tree) (behind : ℕ) (inner : S) (t u : Tree) (a b : S) → end ≤ length code
-        → ReadsStep (names.arity s) levels p code at end head behind → Opens names code levels head inner t a → Opens names code levels head inner u b
+        → ReadsStep (names.arity s) levels p code at end head behind → Opens names code levels head inner t a
+        → Opens names code levels head inner u b
         → (t ≡ u) × (a ≡ b)
     one_opens levels p at end s head behind inner (op o w ps (terms ts)) (op o2 w2 ps2 (terms us)) a b inside reads
         (start, len, is, block, read) (start2, len2, is2, block2, read2) =

@@ -41,7 +41,8 @@ use Rattle.aml_parse.proofs.Took.{IsReader, by_opcode, name_some}
 are_bytes : (bs : List ℕ) → IsBytes bs → All (λ b. b < 256) bs
 are_bytes bs fits k d less = subst (λ (n : ℕ). n < 256) (get_or_default bs k 0 d less) (fits k)
 
-asked_none : (arity : Arities) (p : Position) (ls : PathSet) (n : Name) → takes_names p ≡ true → count_in arity p ls n ≡ None → arity ls n ≡ None
+asked_none : (arity : Arities) (p : Position) (ls : PathSet) (n : Name) → takes_names p ≡ true
+    → count_in arity p ls n ≡ None → arity ls n ≡ None
 asked_none arity Position.RunTerm ls n h e = e
 asked_none arity Position.RunAfterIf ls n h e = e
 asked_none arity Position.BodyTerm ls n h e = e
@@ -50,7 +51,8 @@ asked_none arity Position.Argument ls n h e = e
 asked_none arity _ ls n h e = absurd cc
 
 -- what has no package length is no guard
-unguarded : (o : ℕ) (row : Row) (p : Position) → row_of o ≡ Some row → has_length row.tail ≡ false → terms_in p row.place ≡ Position.GuardTerm → ⊥
+unguarded : (o : ℕ) (row : Row) (p : Position) → row_of o ≡ Some row → has_length row.tail ≡ false
+    → terms_in p row.place ≡ Position.GuardTerm → ⊥
 unguarded o row p listed short g =
     let long = if_has_length o row listed (guard_place p row.place (guard_inside p row.place g)) in absurd (cc (long, short))
 
@@ -64,7 +66,8 @@ record HasFound (code : List ℕ) (at o : ℕ) (row : Row) : Type 0 where
   pub there : StandsThere code at (opcode_bytes o)
   pub listed : row_of o ≡ Some row
 
-not_external : (p : Position) (place : Place) → takes p place ≡ false → takes p Place.External ≡ true → place ≢ Place.External
+not_external : (p : Position) (place : Place) → takes p place ≡ false → takes p Place.External ≡ true
+    → place ≢ Place.External
 not_external p place not_taken taken = λ e. absurd (cc (not_taken, taken, ap (takes p) e))
 
 -- an opcode that the position takes: its number, the bytes behind it, and its row
@@ -78,7 +81,8 @@ module _ (arity : Arities) (code : List ℕ) (at o : ℕ) (row : Row) (f : HasFo
   in_body_placed Place.Else e = (o, f.is, f.there, (row, f.listed, e))
   in_body_placed _ e = (o, f.is, f.there, (row, f.listed, tt))
 
-  in_run_placed : (place : Place) → row.place ≡ place → row.place ≢ Place.External → StandsAt arity code (refused_in_run place at)
+  in_run_placed : (place : Place) → row.place ≡ place → row.place ≢ Place.External
+      → StandsAt arity code (refused_in_run place at)
   in_run_placed Place.Else e other = (o, f.is, f.there, (row, f.listed, e))
   in_run_placed _ e other = inr (o, f.is, f.there, (row, f.listed, other))
 
@@ -95,13 +99,15 @@ module _ (s : Setting) (levels : ℕ) (read : Position → Reader Tree) (law : I
   -- ---- parts
 
   -- what holds no terms declares nothing
-  flat_reads : {A : Type 0} (spelled : A → List ℕ) (Is : A → Type 0) (step : Left A) (ls : PathSet) (bs : List ℕ) → Answers s (TookFlat spelled Is bs) step
+  flat_reads : {A : Type 0} (spelled : A → List ℕ) (Is : A → Type 0) (step : Left A) (ls : PathSet) (bs : List ℕ)
+      → Answers s (TookFlat spelled Is bs) step
       → Answers s (Took spelled Is (λ x. ls) bs) (flat ls step)
   flat_reads spelled Is step ls bs h = made s _ _ _ _ h (λ y a. record { takes = a.takes; is = a.is; behind_is = refl })
 
   -- a term that is no term of a list
   inner_reads : {A : Type 0} (make : Tree → A) (spelled : A → List ℕ) (Is : A → Type 0) (p : Position) (at end : ℕ) (ls : PathSet) (bs : List ℕ)
-      → is_inner p ≡ true → Within s.code at end bs → 512 ≤ levels + at → ((t : Tree) → spelled (make t) ≡ encoding s.code t)
+      → is_inner p ≡ true → Within s.code at end bs → 512 ≤ levels + at
+      → ((t : Tree) → spelled (make t) ≡ encoding s.code t)
       → ((t : Tree) (rest : List ℕ) → IsLawful s levels p ls t → bs ≡ encoding s.code t ++ rest → Is (make t))
       → Answers s (Took spelled Is (λ x. ls) bs) (held_inside make (read p end ls bs))
   inner_reads make spelled Is p at end ls bs i w deep so is = made s _ _ _ _ (law.reads p at end ls bs w deep) (λ t a. record {
@@ -199,7 +205,8 @@ module _ (s : Setting) (levels : ℕ) (read : Position → Reader Tree) (law : I
 
   -- ---- names
 
-  call_reads : (p : Position) → takes_names p ≡ true → (at end : ℕ) (ls : PathSet) (lead : ℕ) (behind : List ℕ) → Within s.code at end (lead ∷ behind)
+  call_reads : (p : Position) → takes_names p ≡ true → (at end : ℕ) (ls : PathSet) (lead : ℕ) (behind : List ℕ)
+      → Within s.code at end (lead ∷ behind)
       → 512 ≤ suc levels + at → is_name_lead lead ≡ true
       → Answers s (TookTerm s (suc levels) p at ls (lead ∷ behind)) (call_at s.arity read p end ls (lead ∷ behind))
   unfolding call_at
@@ -237,7 +244,8 @@ module _ (s : Setting) (levels : ℕ) (read : Position → Reader Tree) (law : I
 
   module _ (p : Position) (o : ℕ) (row : Row) (at end : ℕ) (ls : PathSet) (bs inside : List ℕ) (w : Within s.code at end bs) (deep : 512 ≤ suc levels + at)
       (t0 : Takes bs (opcode_bytes o) inside) (found : HasFound s.code at o row) (taken : takes p row.place ≡ true) where
-    plain_reads : row.tail ≡ None → Answers s (TookTerm s (suc levels) p at ls bs) (plain_at s.scope read row end ls inside)
+    plain_reads : row.tail ≡ None
+        → Answers s (TookTerm s (suc levels) p at ls bs) (plain_at s.scope read row end ls inside)
     unfolding plain_at
     plain_reads short =
         made s _ _ _ _ (parts_reads row.parts _ end ls inside (onward _ _ _ _ _ _ w t0) (omega (arith, deep, opcode_some o))) (λ ps b.
@@ -257,7 +265,8 @@ module _ (s : Setting) (levels : ℕ) (read : Position → Reader Tree) (law : I
         }))
 
     -- a guard begins with 00; an If that is no guard is code of a table
-    guard_reads : (guarded : Bool) → is_guard p row.place ≡ guarded → (at2 inner : ℕ) (span : List ℕ) → Within s.code at2 inner span
+    guard_reads : (guarded : Bool) → is_guard p row.place ≡ guarded → (at2 inner : ℕ) (span : List ℕ)
+        → Within s.code at2 inner span
         → Answers s (λ g. guarded ≡ true → (behind : List ℕ) × (span ≡ 0x00 ∷ behind)) (guard_at guarded at inner span)
     guard_reads false is at2 inner span w2 = answers s _ false (λ h. absurd cc)
     guard_reads true is at2 inner span w2 = then s _ _ _ _ (byte_reads s at2 inner span w2) (λ first e t. chosen s _ (eqb first.0 0x00) _ _
@@ -265,7 +274,8 @@ module _ (s : Setting) (levels : ℕ) (read : Position → Reader Tree) (law : I
         (λ other. fails s _ (CodeFault.ModuleCode at)
         (inr (o, found.is, found.there, (row, found.listed, λ z. absurd (cc (guard_place p row.place is, ap is_if_place z)))))))
 
-    packed_reads : (k : TailKind) → row.tail ≡ Some k → Answers s (TookTerm s (suc levels) p at ls bs) (packed_at s.scope read p at row k end ls inside)
+    packed_reads : (k : TailKind) → row.tail ≡ Some k
+        → Answers s (TookTerm s (suc levels) p at ls bs) (packed_at s.scope read p at row k end ls inside)
     unfolding packed_at
     packed_reads k long = then s _ _ _ _ (span_reads s _ end inside (onward _ _ _ _ _ _ w t0)) (λ span h1 sp.
         let at2 = at + length (opcode_bytes o) + width_len span.0 in
@@ -301,12 +311,14 @@ module _ (s : Setting) (levels : ℕ) (read : Position → Reader Tree) (law : I
           behind_is = ap (λ (m : PathSet). declared_by s.scope (row_of o) m ps.0 t.0) c.behind_is;
         })))))
 
-    row_reads : (k : Option TailKind) → row.tail ≡ k → Answers s (TookTerm s (suc levels) p at ls bs) (row_at s.scope read p at row k end ls inside)
+    row_reads : (k : Option TailKind) → row.tail ≡ k
+        → Answers s (TookTerm s (suc levels) p at ls bs) (row_at s.scope read p at row k end ls inside)
     row_reads None short = plain_reads short
     row_reads (Some k) long = packed_reads k long
 
   -- an opcode that the position takes
-  taken_reads : (p : Position) (at end : ℕ) (bs : List ℕ) → Within s.code at end bs → Answers s (TookRow s.code p at bs) (taken_at p end bs)
+  taken_reads : (p : Position) (at end : ℕ) (bs : List ℕ) → Within s.code at end bs
+      → Answers s (TookRow s.code p at bs) (taken_at p end bs)
   unfolding taken_at
   taken_reads p at end bs w = then s _ _ _ _ (opcode_reads s at end bs w) (λ o h1 t.
       let there = text_there s.code at end bs (opcode_bytes o.0) o.1 w t.takes.parts in

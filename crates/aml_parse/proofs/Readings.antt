@@ -45,7 +45,8 @@ module _ (arity : Arities) (scope : Option (List Seg)) (p : Position) (code : Li
       (λ x a. (a.is.0, sym a.text, a.is.1))
 
   all_again : (ts : Trees) → AreTerms (setting_of arity scope code) 512 p set.empty ts → encodings code ts ≡ code
-      → Standing (is_bodiless p ≡ true) (λ at. BodiesStand code at ts) (length code) (encodings code ts) → all_at arity scope p code ≡ Ok ts
+      → Standing (is_bodiless p ≡ true) (λ at. BodiesStand code at ts) (length code) (encodings code ts)
+      → all_at arity scope p code ≡ Ok ts
   unfolding all_at
   all_again ts lawful spelled stand =
       let s = setting_of arity scope code in
@@ -59,7 +60,8 @@ module _ (arity : Arities) (scope : Option (List Seg)) (p : Position) (code : Li
 -- ---- a method's body, and a table
 
 module _ (arity : Arities) (method : List Seg) (code : List ℕ) (ts : Trees) where
-  pub body_sound : IsBytes code → all_at arity (Some method) Position.BodyTerm code ≡ Ok ts → ReadsBody arity method code ts
+  pub body_sound : IsBytes code → all_at arity (Some method) Position.BodyTerm code ≡ Ok ts
+      → ReadsBody arity method code ts
   body_sound fits e = let a = (all_reads arity (Some method) Position.BodyTerm code fits).ok ts e in record { lawful = a.0; spelled = a.1 }
 
   pub body_again : ReadsBody arity method code ts → all_at arity (Some method) Position.BodyTerm code ≡ Ok ts
@@ -80,10 +82,12 @@ body_said view arity method code r fits gives = (
   given_err view _ r (StandsAt arity code) gives tt (λ d e. all_placed arity (Some method) Position.BodyTerm code d fits e),
 )
 
-pub module_sound : (code : List ℕ) (ts : Trees) → IsBytes code → all_at no_arguments None Position.ModuleTerm code ≡ Ok ts → ReadsModule code ts
+pub module_sound : (code : List ℕ) (ts : Trees) → IsBytes code
+    → all_at no_arguments None Position.ModuleTerm code ≡ Ok ts → ReadsModule code ts
 module_sound code ts fits e =
     let a = (all_reads no_arguments None Position.ModuleTerm code fits).ok ts e in record { lawful = a.0; spelled = a.1; bodies = a.2 }
 
-pub module_again : (code : List ℕ) (ts : Trees) → ReadsModule code ts → all_at no_arguments None Position.ModuleTerm code ≡ Ok ts
+pub module_again : (code : List ℕ) (ts : Trees) → ReadsModule code ts
+    → all_at no_arguments None Position.ModuleTerm code ≡ Ok ts
 module_again code ts h =
     all_again no_arguments None Position.ModuleTerm code ts h.lawful h.spelled (inr (0, omega (arith, ap length h.spelled), h.bodies))

@@ -62,7 +62,8 @@ module _ (s : Setting) (levels : ℕ) where
 
   -- What a reader answers is so, or its fault is true. What is left of the levels makes up 512 with the offset: a term
   -- takes a level and a byte at least, so where no level is left the offset is 512 or more.
-  abbrev pub Reads : {A : Type 0} → (ℕ → PathSet → List ℕ → A → Type 0) → (ℕ → PathSet → List ℕ → Result A CodeFault) → Type 0
+  abbrev pub Reads : {A : Type 0} → (ℕ → PathSet → List ℕ → A → Type 0) → (ℕ → PathSet → List ℕ → Result A CodeFault)
+      → Type 0
   Reads Is read = (at end : ℕ) (ls : PathSet) (bs : List ℕ) → Within s.code at end bs → 512 ≤ levels + at → Answers s (Is at ls bs) (read end ls bs)
 
   -- what is read is lawful and spelled so, and a lawful term is read again, whatever follows it
@@ -77,7 +78,8 @@ module _ (s : Setting) (levels : ℕ) where
 abbrev pub answer : Tree → PathSet → List ℕ → Tree × PathSet × List ℕ
 answer t ls rest = (t, ls, rest)
 
-pub by_opcode : (scope : Option (List Seg)) (o : ℕ) (row : Row) → row_of o ≡ Some row → (w : Option PkgWidth) (ps : Parts) (t : Tail) (ls : PathSet)
+pub by_opcode : (scope : Option (List Seg)) (o : ℕ) (row : Row) → row_of o ≡ Some row
+    → (w : Option PkgWidth) (ps : Parts) (t : Tail) (ls : PathSet)
     (rest : List ℕ)
     → answer (op row.opcode w ps t) (with_declared scope ls (names_declared row.role ps t)) rest
     ≡ answer (op o w ps t) (declared_by scope (row_of o) ls ps t) rest
@@ -93,20 +95,23 @@ seg_some [] h = absurd h
 seg_some (a ∷ text) h = omega arith
 
 module _ (s : Setting) where
-  pub nonempty : (levels : ℕ) (p : Position) (ls : PathSet) (t : Tree) → IsLawful s levels p ls t → 0 < length (encoding s.code t)
+  pub nonempty : (levels : ℕ) (p : Position) (ls : PathSet) (t : Tree) → IsLawful s levels p ls t
+      → 0 < length (encoding s.code t)
   nonempty zero p ls t h = absurd h
   nonempty (suc levels) p ls nothing h = omega arith
   nonempty (suc levels) p ls (named n ts) h = omega (arith, name_some n h.0, length-append (spelling n) (encodings s.code ts))
   nonempty (suc levels) p ls (op o w ps t) h =
       let content = packed w (parts_encoding s.code ps ++ tail_encoding s.code t) in omega (arith, opcode_some o, length-append (opcode_bytes o) content)
 
-  pub field_some : (levels : ℕ) (ls : PathSet) (u : Field) → IsField (λ q. IsLawful s levels q ls) u → 0 < length (field_encoding s.code u)
+  pub field_some : (levels : ℕ) (ls : PathSet) (u : Field) → IsField (λ q. IsLawful s levels q ls) u
+      → 0 < length (field_encoding s.code u)
   field_some levels ls (unit g w n) h = omega (arith, seg_some g.0 h.0, length-append g.0 (package_bytes w n))
   field_some levels ls _ h = omega arith
 
 -- ---- names and tails
 
-pub names_taken : (arity : Arities) (p : Position) (ls : PathSet) (n : Name) (m : ℕ) → count_in arity p ls n ≡ Some m → takes_names p ≡ true
+pub names_taken : (arity : Arities) (p : Position) (ls : PathSet) (n : Name) (m : ℕ) → count_in arity p ls n ≡ Some m
+    → takes_names p ≡ true
 names_taken arity Position.ModuleTerm ls n m h = absurd cc
 names_taken arity Position.GuardTerm ls n m h = absurd cc
 names_taken arity _ ls n m h = refl

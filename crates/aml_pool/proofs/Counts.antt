@@ -14,7 +14,8 @@ times-append x [] ys = omega arith
 times-append x (y ∷ xs) ys = let h = times-append x xs ys in omega arith
 
 module _ {A : Type 0} where
-  pub total_set : (f : A → ℕ) (xs : List A) (i : ℕ) (a b : A) → get_elem? xs i ≡ some a → total f (set xs i b) + f a ≡ total f xs + f b
+  pub total_set : (f : A → ℕ) (xs : List A) (i : ℕ) (a b : A) → get_elem? xs i ≡ some a
+      → total f (set xs i b) + f a ≡ total f xs + f b
   total_set f [] i a b e = absurd (some-ne-none a (sym e))
   total_set f (x ∷ xs) zero a b e = let is : f x ≡ f a = ap f (some-injective x a e) in omega arith
   total_set f (x ∷ xs) (suc i) a b e = let h = total_set f xs i a b e in omega arith
@@ -23,7 +24,8 @@ module _ {A : Type 0} where
   total_more f [] b = omega arith
   total_more f (x ∷ xs) b = let h = total_more f xs b in omega arith
 
-  pub total_le : (f g : A → ℕ) (xs : List A) → ((i : ℕ) (a : A) → get_elem? xs i ≡ some a → f a ≤ g a) → total f xs ≤ total g xs
+  pub total_le : (f g : A → ℕ) (xs : List A) → ((i : ℕ) (a : A) → get_elem? xs i ≡ some a → f a ≤ g a)
+      → total f xs ≤ total g xs
   total_le f g [] h = omega arith
   total_le f g (x ∷ xs) h = let a = h 0 x refl in let b = total_le f g xs (λ i a e. h (suc i) a e) in omega arith
 
@@ -42,7 +44,8 @@ module _ {A : Type 0} where
   times-flat_map x f (y ∷ ys) = times-append x (f y) (flat_map f ys) ∙ ap (λ n. times x (f y) + n) (times-flat_map x f ys)
 
   -- where g is nothing in all, so is f, which only those with some g have
-  pub total_none : (f g : A → ℕ) (xs : List A) → total g xs ≡ 0 → ((i : ℕ) (a : A) → get_elem? xs i ≡ some a → g a ≡ 0 → f a ≡ 0) → total f xs ≡ 0
+  pub total_none : (f g : A → ℕ) (xs : List A) → total g xs ≡ 0
+      → ((i : ℕ) (a : A) → get_elem? xs i ≡ some a → g a ≡ 0 → f a ≡ 0) → total f xs ≡ 0
   total_none f g [] z h = refl
   total_none f g (x ∷ xs) z h = let a = h 0 x refl (omega arith) in let b = total_none f g xs (omega arith) (λ i a e. h (suc i) a e) in omega arith
 
@@ -91,7 +94,8 @@ all_that_stand P [] h = λ k d l. absurd (omega arith)
 all_that_stand P (y ∷ ys) h = All-cons P y ys (h y (omega (arith, yes_one y y refl))) (all_that_stand P ys (λ x s. h x (omega arith)))
 
 -- a number above all others stands once
-pub one_more : (xs : List ℕ) (n : ℕ) → ((x : ℕ) → times x xs ≤ 1) → ((x : ℕ) → 0 < times x xs → x < n) → (x : ℕ) → times x (xs ++ n ∷ []) ≤ 1
+pub one_more : (xs : List ℕ) (n : ℕ) → ((x : ℕ) → times x xs ≤ 1) → ((x : ℕ) → 0 < times x xs → x < n) → (x : ℕ)
+    → times x (xs ++ n ∷ []) ≤ 1
 one_more xs n once low x =
     let both = times-append x xs (n ∷ []) in
     dite (ℕ_discrete x n)

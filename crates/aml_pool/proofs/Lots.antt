@@ -13,7 +13,8 @@ pub all_of-append : (drawn drawn2 : List (Vec ℕ Global)) → all_of (drawn ++ 
 all_of-append drawn drawn2 = flat_map-append (λ v. v.items) drawn drawn2
 
 pub parts_append : {D : Type 0} (gives : ℕ → D → Type 0) (m n : ℕ) (done done2 : List (ℕ × D)) (drawn drawn2 : List (Vec ℕ Global))
-    → AreParts gives m done drawn → AreParts gives n done2 drawn2 → AreParts gives (m + n) (done ++ done2) (drawn ++ drawn2)
+    → AreParts gives m done drawn → AreParts gives n done2 drawn2
+    → AreParts gives (m + n) (done ++ done2) (drawn ++ drawn2)
 parts_append gives m n done done2 drawn drawn2 a b = record {
   lists = length-append drawn drawn2 ∙ ap₂ ◌+◌ a.lists b.lists;
   ascending = All-append (λ v. IsStrictlyIncreasing v.items) drawn drawn2 a.ascending b.ascending;
@@ -35,7 +36,8 @@ above-more n [] = grind arith
 above-more n (x ∷ xs) = let b = above-more n xs in grind arith
 
 -- a list that rises, and then a number above all of it
-pub increasing_more : (n : ℕ) (xs : List ℕ) → IsStrictlyIncreasing xs → All (λ x. x < n) xs → IsStrictlyIncreasing (xs ++ n ∷ [])
+pub increasing_more : (n : ℕ) (xs : List ℕ) → IsStrictlyIncreasing xs → All (λ x. x < n) xs
+    → IsStrictlyIncreasing (xs ++ n ∷ [])
 increasing_more n [] inc low k l = absurd (omega arith)
 increasing_more n (x ∷ []) inc low zero l = low 0 0 (omega arith)
 increasing_more n (x ∷ []) inc low (suc k) l = absurd (omega arith)

@@ -29,7 +29,8 @@ min_below m n l = grind arith
 min_above : (m n : ℕ) → n ≤ m → min m n ≡ n
 min_above m n l = grind arith
 
-fits_set : (count : ℕ) (views : List View) (by : ℕ) (w : View) → ((id : ℕ) (v : View) → get_elem? views id ≡ some v → Fits count v) → Fits count w
+fits_set : (count : ℕ) (views : List View) (by : ℕ) (w : View)
+    → ((id : ℕ) (v : View) → get_elem? views id ≡ some v → Fits count v) → Fits count w
     → (id : ℕ) (v : View) → get_elem? (set views by w) id ≡ some v → Fits count v
 fits_set count views by w others mine id v e =
     ⊎_elim
@@ -37,7 +38,8 @@ fits_set count views by w others mine id v e =
     (λ (t : (id ≢ by) × (get_elem? views id ≡ some v)). others id v t.1)
     (at_set views by id w v e)
 
-fits_more : (count : ℕ) (views : List View) (w : View) → ((id : ℕ) (v : View) → get_elem? views id ≡ some v → Fits count v) → Fits count w
+fits_more : (count : ℕ) (views : List View) (w : View)
+    → ((id : ℕ) (v : View) → get_elem? views id ≡ some v → Fits count v) → Fits count w
     → (id : ℕ) (v : View) → get_elem? (views ++ w ∷ []) id ≡ some v → Fits count v
 fits_more count views w others mine id v e =
     ⊎_elim (λ (t : get_elem? views id ≡ some v). others id v t) (λ (t : w ≡ v). subst (Fits count) t mine) (at_snoc views w v id e)
@@ -66,7 +68,8 @@ module _ (count id : ℕ) (v : View) (s : State (Unit {0}) View) (h : IsRuled co
   stands = at_map claimant s.views id v at
 
   -- a draw while a number is left
-  taken : (c : List (ℕ × Unit {0})) → word < count → claims_shown count (then (view count v.weight (v.numbers ++ word ∷ []) v.nones) c)
+  taken : (c : List (ℕ × Unit {0})) → word < count
+      → claims_shown count (then (view count v.weight (v.numbers ++ word ∷ []) v.nones) c)
       ≡ record { next = shown.next + 1; seats = set shown.seats id record { numbers = v.numbers ++ shown.next ∷ []; ended = nat_lt 0 v.nones } }
   taken c few =
       let w : View = view count v.weight (v.numbers ++ word ∷ []) v.nones in
@@ -78,7 +81,8 @@ module _ (count id : ℕ) (v : View) (s : State (Unit {0}) View) (h : IsRuled co
       λ i. record { next = next_then i; seats = seats i }
 
   -- a draw when none is left
-  missed : (c : List (ℕ × Unit {0})) → count ≤ word → claims_shown count (then (view count v.weight v.numbers (v.nones + 1)) c)
+  missed : (c : List (ℕ × Unit {0})) → count ≤ word
+      → claims_shown count (then (view count v.weight v.numbers (v.nones + 1)) c)
       ≡ record { next = shown.next; seats = set shown.seats id record { numbers = v.numbers; ended = true } }
   missed c all =
       let w : View = view count v.weight v.numbers (v.nones + 1) in
@@ -99,7 +103,8 @@ module _ (count id : ℕ) (v : View) (s : State (Unit {0}) View) (h : IsRuled co
     (λ many. absurd (omega arith)),
   )
 
-  draws_none : (c : List (ℕ × Unit {0})) → count ≤ word → Draws count id shown None (claims_shown count (then (view count v.weight v.numbers (v.nones + 1)) c))
+  draws_none : (c : List (ℕ × Unit {0})) → count ≤ word
+      → Draws count id shown None (claims_shown count (then (view count v.weight v.numbers (v.nones + 1)) c))
   draws_none c all = let next : shown.next ≡ count = min_above word count all in (
     claimant v,
     stands,
@@ -108,10 +113,12 @@ module _ (count id : ℕ) (v : View) (s : State (Unit {0}) View) (h : IsRuled co
   )
 
   -- the view of the seat stands in its place afterwards
-  stands_then : (w : View) (c : List (ℕ × Unit {0})) → get_elem? (claims_shown count (then w c)).seats id ≡ some (claimant w)
+  stands_then : (w : View) (c : List (ℕ × Unit {0}))
+      → get_elem? (claims_shown count (then w c)).seats id ≡ some (claimant w)
   stands_then w c = at_map claimant (set s.views id w) id w (set_here s.views id w (is_place s.views id v at))
 
-  is_draw : (w : View) (c : List (ℕ × Unit {0})) (answer : Option ℕ) → Draws count id shown answer (claims_shown count (then w c))
+  is_draw : (w : View) (c : List (ℕ × Unit {0})) (answer : Option ℕ)
+      → Draws count id shown answer (claims_shown count (then w c))
       → IsDraw count (claimant v) answer (claimant w)
   is_draw w c answer d = record {
     past = h.past;
@@ -125,7 +132,8 @@ module _ (count id : ℕ) (v : View) (s : State (Unit {0}) View) (h : IsRuled co
   }
 
   -- and keeps the rule
-  ruled : (w : View) (c : List (ℕ × Unit {0})) (answer : Option ℕ) → Draws count id shown answer (claims_shown count (then w c)) → w.weight ≡ v.weight
+  ruled : (w : View) (c : List (ℕ × Unit {0})) (answer : Option ℕ)
+      → Draws count id shown answer (claims_shown count (then w c)) → w.weight ≡ v.weight
       → Fits count w → min (word + 1) count + w.nones ≡ min word count + v.nones + 1 → IsRuled count (then w c)
   ruled w c answer drew same fits one =
       let nones = total_set (λ u. u.nones) s.views id v w at in
@@ -142,13 +150,15 @@ module _ (count id : ℕ) (v : View) (s : State (Unit {0}) View) (h : IsRuled co
         fits = fits_set count s.views id w h.fits fits;
       }
 
-  takes : (c : List (ℕ × Unit {0})) → 0 < v.weight → word < count → IsRuled count (then (view count v.weight (v.numbers ++ word ∷ []) v.nones) c)
+  takes : (c : List (ℕ × Unit {0})) → 0 < v.weight → word < count
+      → IsRuled count (then (view count v.weight (v.numbers ++ word ∷ []) v.nones) c)
   takes c mine few =
       let low = min_below word count few in let then_low : min (word + 1) count ≡ word + 1 = grind arith in
       ruled (view count v.weight (v.numbers ++ word ∷ []) v.nones) c (Some word) (draws_few c few) refl
       ((h.fits id v at).0, (λ z. absurd (omega arith)), (λ _. refl)) (omega arith)
 
-  misses : (c : List (ℕ × Unit {0})) → 0 < v.weight → v.nones ≡ 0 → count ≤ word → IsRuled count (then (view count v.weight v.numbers (v.nones + 1)) c)
+  misses : (c : List (ℕ × Unit {0})) → 0 < v.weight → v.nones ≡ 0 → count ≤ word
+      → IsRuled count (then (view count v.weight v.numbers (v.nones + 1)) c)
   misses c mine going all =
       let high = min_above word count all in let then_high = min_above (word + 1) count (omega arith) in
       ruled (view count v.weight v.numbers (v.nones + 1)) c None (draws_none c all) refl (omega arith, (λ z. absurd (omega arith)), (λ _. refl)) (omega arith)
@@ -205,7 +215,8 @@ draws count slots id me mine some_weight going s h none_there at fits =
     ))
 
 -- a number that is drawn is above all that the seat drew before
-pub draw_low : (count n : ℕ) (before after : Claimant) → IsDraw count before (Some n) after → (x : ℕ) → 0 < times x before.numbers → x < n
+pub draw_low : (count n : ℕ) (before after : Claimant) → IsDraw count before (Some n) after → (x : ℕ)
+    → 0 < times x before.numbers → x < n
 draw_low count n before after d x here =
     let low = stands_below count d.past d.from d.seat before d.reached d.shows x here in
     dite (dec_lt d.from.next count)
@@ -217,7 +228,8 @@ looked : (s : State (Unit {0}) View) (id : ℕ) (v : View) (c : List (ℕ × Uni
     → stepped s 0 (get_or s.words 0 0) id c v keeps ≡ s
 looked s id v c at = λ i. record { words = set-get_or s.words 0 0 i; homes = s.homes; views = set_again s.views id v at i }
 
-pub looks : (count slots id : ℕ) (me : Me (Unit {0}) View) → Allows (IsRuled count) slots id me 0 (λ n. n) (TellsLook (step slots 0 0 0 none) me)
+pub looks : (count slots id : ℕ) (me : Me (Unit {0}) View)
+    → Allows (IsRuled count) slots id me 0 (λ n. n) (TellsLook (step slots 0 0 0 none) me)
 looks count slots id me s h none_there at fits = (
   me.0,
   keeps,
@@ -240,7 +252,8 @@ opens count id part v s at =
     map-append claimant (set s.views id (kept part v)) (given part v ∷ []) ∙ ap (λ l. l ++ newcomer ∷ []) (map-set claimant s.views id (kept part v) ∙ same) in
     ap (claims (claims_shown count s).next) seats
 
-pub splits : (count id part : ℕ) (v : View) → 0 < part → part < v.weight → v.nones ≡ 0 → Splits (IsRuled count) id v (kept part v) (given part v)
+pub splits : (count id part : ℕ) (v : View) → 0 < part → part < v.weight → v.nones ≡ 0
+    → Splits (IsRuled count) id v (kept part v) (given part v)
 splits count id part v some_part less going s h at =
     let views = set s.views id (kept part v) in
     let sum : (f : View → ℕ) → f (kept part v) + f (given part v) ≡ f v → total f (views ++ given part v ∷ []) ≡ total f s.views = λ f same. let a =
@@ -264,7 +277,8 @@ either_none zero n = ap (λ k. nat_lt 0 k) (let e : zero + n ≡ n = omega arith
 either_none (suc m) n = lt-ltb 0 (suc m + n) (omega arith) ∙ sym (ap (λ b. b || nat_lt 0 n) (lt-ltb 0 (suc m) (omega arith)))
 
 -- a join makes two lists of the machine one
-two_in_one : (count id other : ℕ) (v w : View) (s : State (Unit {0}) View) → id ≢ other → get_elem? s.views id ≡ some v → get_elem? s.views other ≡ some w
+two_in_one : (count id other : ℕ) (v w : View) (s : State (Unit {0}) View) → id ≢ other → get_elem? s.views id ≡ some v
+    → get_elem? s.views other ≡ some w
     → Joins id other (claims_shown count s) (claims_shown count record {
       words = s.words;
       homes = s.homes;
@@ -286,7 +300,8 @@ two_in_one count id other v w s apart at there =
       (λ i. record { next = (claims_shown count s).next; seats = seats i }),
     )
 
-pub joins : (count id other : ℕ) (v w : View) → 0 < v.weight → TableJoins (IsRuled count) id v other w (joined v w) spent
+pub joins : (count id other : ℕ) (v w : View) → 0 < v.weight
+    → TableJoins (IsRuled count) id v other w (joined v w) spent
 joins count id other v w some_weight s h at apart there =
     let views = set s.views id (joined v w) in
     let sum : (f : View → ℕ) → f (joined v w) ≡ f v + f w → f spent ≡ 0 → total f (set views other spent) ≡ total f s.views = λ f both none_left. let a =
@@ -312,7 +327,8 @@ joins count id other v w some_weight s h at apart there =
     }
 
 -- who has the whole weight has all that was drawn
-has_all : (count id : ℕ) (v : View) (s : State (Unit {0}) View) → IsRuled count s → get_elem? s.views id ≡ some v → v.weight ≡ 64
+has_all : (count id : ℕ) (v : View) (s : State (Unit {0}) View) → IsRuled count s → get_elem? s.views id ≡ some v
+    → v.weight ≡ 64
     → (x : ℕ) → total (λ c. times x c.numbers) (claims_shown count s).seats ≡ times x v.numbers
 has_all count id v s h at whole x =
     let heavy : v.weight ≡ total (λ u. u.weight) s.views = let all = h.weights in omega arith in
@@ -323,7 +339,8 @@ first_word : (ws : List ℕ) (word : ℕ) → get_elem? ws 0 ≡ some word → g
 first_word [] word e = absurd (some-ne-none word (sym e))
 first_word (x ∷ xs) word e = some-injective x word e
 
-pub closes : (count id : ℕ) (v : View) (ws : List ℕ) (ss : List (Unit {0})) (word : ℕ) → Final (Seen (IsRuled count) id v) ws ss → v.weight ≡ 64
+pub closes : (count id : ℕ) (v : View) (ws : List ℕ) (ss : List (Unit {0})) (word : ℕ)
+    → Final (Seen (IsRuled count) id v) ws ss → v.weight ≡ 64
     → get_elem? ws 0 ≡ some word
     → IsOnce v.numbers (min word count) × (0 < v.nones → min word count ≡ count)
 closes count id v ws ss word f whole there =

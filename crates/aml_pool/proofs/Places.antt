@@ -52,7 +52,8 @@ module _ {D : Type 0} where
   free-vacant (o ∷ slots) (suc n) e = free-vacant slots n e
 
   -- one place less is free
-  pub vacant-filed : (slots : List (Option D)) (n : ℕ) (d : D) → free n slots ≡ 1 → vacant (set slots n (Some d)) + 1 ≡ vacant slots
+  pub vacant-filed : (slots : List (Option D)) (n : ℕ) (d : D) → free n slots ≡ 1
+      → vacant (set slots n (Some d)) + 1 ≡ vacant slots
   vacant-filed [] n d e = absurd (omega arith)
   vacant-filed (None ∷ slots) zero d e = omega arith
   vacant-filed (Some x ∷ slots) zero d e = absurd (omega arith)
@@ -60,13 +61,15 @@ module _ {D : Type 0} where
   vacant-filed (Some x ∷ slots) (suc n) d e = vacant-filed slots n d e
 
   -- a free place that a value comes to
-  pub place-filed : (slots : List (Option D)) (n : ℕ) (o : Option D) (d : D) → n < length slots → o ≡ get_or slots n o → o ≡ None
+  pub place-filed : (slots : List (Option D)) (n : ℕ) (o : Option D) (d : D) → n < length slots → o ≡ get_or slots n o
+      → o ≡ None
       → (slice_get slots n ≡ Some None) × (vacant (set slots n (Some d)) + 1 ≡ vacant slots)
   place-filed slots n o d inside is none =
       let at : slice_get slots n ≡ Some None = slice_get_read slots _ _ _ refl inside is ∙ ap (λ p. Some p) none in
       (at, vacant-filed slots n d (free-vacant slots n at))
 
-  pub free-filed : (slots : List (Option D)) (n m : ℕ) (d : D) → free n slots ≡ 1 → free m (set slots n (Some d)) + same m n ≡ free m slots
+  pub free-filed : (slots : List (Option D)) (n m : ℕ) (d : D) → free n slots ≡ 1
+      → free m (set slots n (Some d)) + same m n ≡ free m slots
   free-filed [] n m d e = absurd (omega arith)
   free-filed (None ∷ slots) zero zero d e = refl
   free-filed (None ∷ slots) zero (suc m) d e = omega (arith, not_one (suc m) 0 (λ h. omega arith))
@@ -87,7 +90,8 @@ module _ {D : Type 0} where
   free-place (None ∷ slots) (suc n) e = let h = free-place slots n e in omega arith
   free-place (Some x ∷ slots) (suc n) e = let h = free-place slots n e in omega arith
 
-  pub gives-filed : (gives : ℕ → D → Type 0) (slots : List (Option D)) (n : ℕ) (d : D) → AllGive gives slots → gives n d → AllGive gives (set slots n (Some d))
+  pub gives-filed : (gives : ℕ → D → Type 0) (slots : List (Option D)) (n : ℕ) (d : D) → AllGive gives slots → gives n d
+      → AllGive gives (set slots n (Some d))
   gives-filed gives [] n d all one m x e = all m x e
   gives-filed gives (o ∷ slots) zero d all one zero x e = subst (gives 0) (some_some d x e) one
     where
@@ -97,7 +101,8 @@ module _ {D : Type 0} where
   gives-filed gives (o ∷ slots) (suc n) d all one zero x e = all 0 x e
   gives-filed gives (o ∷ slots) (suc n) d all one (suc m) x e = gives-filed (λ k. gives (suc k)) slots n d (λ k y a. all (suc k) y a) one m x e
 
-  pub refuses-taken : (slots : List (Option D)) (n : ℕ) (value : D) (e : ShelfFault D) → Refuses slots n value e → free n slots ≡ 0
+  pub refuses-taken : (slots : List (Option D)) (n : ℕ) (value : D) (e : ShelfFault D) → Refuses slots n value e
+      → free n slots ≡ 0
   refuses-taken slots n value (Double d) r = free-taken slots n r.1 r.2
   refuses-taken slots n value (Stranger d) r = dite (ℕ_discrete (free n slots) 0) (λ z. z)
       (λ ne. let h = free-place slots n (free-one slots n ne) in let past = r.1 in absurd (omega arith))
@@ -108,7 +113,8 @@ module _ {D : Type 0} where
       free-one (Some x ∷ slots) zero ne = absurd (ne refl)
       free-one (o ∷ slots) (suc n) ne = free-one slots n ne
 
-  pub times-last : (rest : List (ℕ × D)) (n : ℕ) (d : D) (x : ℕ) → times x (map (λ p. p.0) (rest ++ (n, d) ∷ [])) ≡ times x (map (λ p. p.0) rest) + same x n
+  pub times-last : (rest : List (ℕ × D)) (n : ℕ) (d : D) (x : ℕ)
+      → times x (map (λ p. p.0) (rest ++ (n, d) ∷ [])) ≡ times x (map (λ p. p.0) rest) + same x n
   times-last rest n d x = ap (times x) (map-append (λ p. p.0) rest ((n, d) ∷ [])) ∙ (let h = times-append x (map (λ p. p.0) rest) (n ∷ []) in omega arith)
 
   -- what holds of each of a list and one more

@@ -28,7 +28,8 @@ pub record IsCounted (count : ℕ) (claims : Claims) : Type 0 where
 abbrev AllEnd : ℕ → ℕ → List Claimant → Type 0
 AllEnd count next seats = (seat : ℕ) (c : Claimant) → get_elem? seats seat ≡ some c → IsTrue c.ended → next ≡ count
 
-end_set : (count next : ℕ) (seats : List Claimant) (by : ℕ) (a : Claimant) → AllEnd count next seats → (IsTrue a.ended → next ≡ count)
+end_set : (count next : ℕ) (seats : List Claimant) (by : ℕ) (a : Claimant) → AllEnd count next seats
+    → (IsTrue a.ended → next ≡ count)
     → AllEnd count next (set seats by a)
 end_set count next seats by a others mine seat c at ended =
     ⊎_elim
@@ -36,7 +37,8 @@ end_set count next seats by a others mine seat c at ended =
     (λ (t : (seat ≢ by) × (get_elem? seats seat ≡ some c)). others seat c t.1 ended)
     (at_set seats by seat a c at)
 
-end_more : (count next : ℕ) (seats : List Claimant) → AllEnd count next seats → AllEnd count next (seats ++ newcomer ∷ [])
+end_more : (count next : ℕ) (seats : List Claimant) → AllEnd count next seats
+    → AllEnd count next (seats ++ newcomer ∷ [])
 end_more count next seats others seat c at ended =
     ⊎_elim
     (λ (t : get_elem? seats seat ≡ some c). others seat c t ended)
@@ -46,7 +48,8 @@ end_more count next seats others seat c at ended =
     false_true : IsTrue false → ⊥
     false_true h = cc
 
-draw_keeps : (count seat : ℕ) (before after : Claims) (answer : Option ℕ) → IsCounted count before → Draws count seat before answer after
+draw_keeps : (count seat : ℕ) (before after : Claims) (answer : Option ℕ) → IsCounted count before
+    → Draws count seat before answer after
     → IsCounted count after
 draw_keeps count seat before after answer h d =
     let me : Claimant = d.0 in
@@ -79,7 +82,8 @@ either_ended : (a b : Bool) (P : Type 0) → (IsTrue a → P) → (IsTrue b → 
 either_ended true b P l r e = l e
 either_ended false b P l r e = r e
 
-join_keeps : (count seat other : ℕ) (before after : Claims) → IsCounted count before → Joins seat other before after → IsCounted count after
+join_keeps : (count seat other : ℕ) (before after : Claims) → IsCounted count before → Joins seat other before after
+    → IsCounted count after
 join_keeps count seat other before after h j =
     let a : Claimant = j.0 in let b : Claimant = j.1 in
     let seats = set before.seats seat (together a b) in
@@ -129,14 +133,16 @@ sound count past claims run =
     }
 
 -- a number of a seat's list is below the next one, and stands there once
-pub stands_below : (count : ℕ) (past : List Change) (claims : Claims) (seat : ℕ) (c : Claimant) → IsRun count past claims → get_elem? claims.seats seat ≡ some c
+pub stands_below : (count : ℕ) (past : List Change) (claims : Claims) (seat : ℕ) (c : Claimant)
+    → IsRun count past claims → get_elem? claims.seats seat ≡ some c
     → (x : ℕ) → 0 < times x c.numbers → x < claims.next
 stands_below count past claims seat c run at x here =
     let all = (counted count past claims run).once x in
     let part = total_at (λ c. times x c.numbers) claims.seats seat c at in
     dite (dec_lt x claims.next) (λ l. l) (λ l. let none = above_one x claims.next (omega arith) in absurd (omega arith))
 
-pub stands_once : (count : ℕ) (past : List Change) (claims : Claims) (seat : ℕ) (c : Claimant) → IsRun count past claims → get_elem? claims.seats seat ≡ some c
+pub stands_once : (count : ℕ) (past : List Change) (claims : Claims) (seat : ℕ) (c : Claimant) → IsRun count past claims
+    → get_elem? claims.seats seat ≡ some c
     → (x : ℕ) → times x c.numbers ≤ 1
 stands_once count past claims seat c run at x =
     let all = (counted count past claims run).once x in

@@ -40,7 +40,8 @@ put_in_place (x ∷ ts) (suc n) t other inside d c =
 -- ---- Lists that are made of the members of another, one after the other.
 
 module _ {A B C : Type 0} (f : A → B) (g : C → B) (all : List B) (xs : List A) where
-  pub one_moved : (x : A) (y : C) (ys rest : List C) → f x ≡ g y → ys ≡ y ∷ rest → map f xs ++ map g ys ≡ all → map f (xs ++ x ∷ []) ++ map g rest ≡ all
+  pub one_moved : (x : A) (y : C) (ys rest : List C) → f x ≡ g y → ys ≡ y ∷ rest → map f xs ++ map g ys ≡ all
+      → map f (xs ++ x ∷ []) ++ map g rest ≡ all
   one_moved x y ys rest same first h =
       ap (λ (l : List B). l ++ map g rest) (map_push f xs x) ∙ append_assoc (map f xs) (f x ∷ []) (map g rest)
       ∙ ap (λ b. map f xs ++ (b ∷ map g rest)) same ∙ ap (λ l. map f xs ++ map g l) (sym first) ∙ h

@@ -24,14 +24,16 @@ use Rattle.aml_space.proofs.Index.{part_at}
 use Rattle.aml_space.proofs.Meaning.{predefined_deep}
 
 module _ (ns : List Node) where
-  bare_at : {X : Type 0} (part : Content → Option X) → ((j : ℕ) → IsBare ns j → part (content_of ns j) ≡ None) → (o : Option ℕ) → IfSome o (IsBare ns)
+  bare_at : {X : Type 0} (part : Content → Option X) → ((j : ℕ) → IsBare ns j → part (content_of ns j) ≡ None)
+      → (o : Option ℕ) → IfSome o (IsBare ns)
       → option_and_then (λ j. part (content_of ns j)) o ≡ None
   bare_at part gives None bare = refl
   bare_at part gives (Some j) bare = gives j bare
 
   module _ (shape : IsShape ns) (p : List Seg) where
     -- a path below which there are no nodes but bare ones
-    silent : (o : Option ℕ) → walk (kids_of ns) 0 p ≡ o → ((s : Seg) → IfSome (option_and_then (λ j. child_in (kids_of ns j) s) o) (IsBare ns))
+    silent : (o : Option ℕ) → walk (kids_of ns) 0 p ≡ o
+        → ((s : Seg) → IfSome (option_and_then (λ j. child_in (kids_of ns j) s) o) (IsBare ns))
         → IsSilent (namespace_in (known_by ns)) p
     silent o led bare = record {
       declared = λ s. ap declared_kind (by (λ c. c.declared) (λ j b. b.declared) s);
@@ -39,13 +41,15 @@ module _ (ns : List Node) where
       given = by (λ c. c.given) (λ j b. b.given);
     }
       where
-        by : {X : Type 0} (part : Content → Option X) → ((j : ℕ) → IsBare ns j → part (content_of ns j) ≡ None) → (s : Seg)
+        by : {X : Type 0} (part : Content → Option X) → ((j : ℕ) → IsBare ns j → part (content_of ns j) ≡ None)
+            → (s : Seg)
             → map.get (part_by part ns) (p ++ s ∷ []) ≡ None
         by part gives s = sym (part_at part ns shape (p ++ s ∷ []))
             ∙ ap (option_and_then (λ j. part (content_of ns j))) (walk_push (kids_of ns) 0 p s ∙ ap (option_and_then (λ j. child_in (kids_of ns j) s)) led)
             ∙ bare_at part gives _ (bare s)
 
-    pub silent_at : (at : ℕ) → walk (kids_of ns) 0 p ≡ Some at → HasBareChildren ns at → IsSilent (namespace_in (known_by ns)) p
+    pub silent_at : (at : ℕ) → walk (kids_of ns) 0 p ≡ Some at → HasBareChildren ns at
+        → IsSilent (namespace_in (known_by ns)) p
     silent_at at led bare = silent (Some at) led bare
 
     pub silent_past : walk (kids_of ns) 0 p ≡ None → IsSilent (namespace_in (known_by ns)) p
@@ -59,7 +63,8 @@ module _ (n : Namespace) (path : List Seg) where
   }
 
   -- a level further down that is silent
-  pub next_further : (d asked : ℕ) → IsNext n path d asked → IsSilent n (take (d + 1) path) → IsNext n path (d + 1) asked
+  pub next_further : (d asked : ℕ) → IsNext n path d asked → IsSilent n (take (d + 1) path)
+      → IsNext n path (d + 1) asked
   next_further d asked is here = record {
     within = omega (arith, is.within);
     silent = λ e more less. elim (cases_lt e (d + 1)) [
@@ -69,7 +74,8 @@ module _ (n : Namespace) (path : List Seg) where
   }
 
   -- behind a level nothing but silence
-  pub next_past : (last d asked : ℕ) → last ≤ d → IsNext n path last asked → ((e : ℕ) → last < e → e ≤ d → IsSilent n (take e path)) → IsNext n path d asked
+  pub next_past : (last d asked : ℕ) → last ≤ d → IsNext n path last asked
+      → ((e : ℕ) → last < e → e ≤ d → IsSilent n (take e path)) → IsNext n path d asked
   next_past last d asked less is past = record {
     within = omega (arith, is.within, less);
     silent = λ e more to. elim (cases_lt last e) [
@@ -80,10 +86,12 @@ module _ (n : Namespace) (path : List Seg) where
 
 -- what silence says of a segment
 module _ (n : Namespace) (path segment : List Seg) (one : length segment ≡ 1) where
-  below : {X : Type 0} (part : List Seg → Option X) (q : List Seg) → ((s : Seg) → part (q ++ s ∷ []) ≡ None) → part (q ++ segment) ≡ None
+  below : {X : Type 0} (part : List Seg → Option X) (q : List Seg) → ((s : Seg) → part (q ++ s ∷ []) ≡ None)
+      → part (q ++ segment) ≡ None
   below part q none = subst (λ t. part (q ++ t) ≡ None) (alone segment (record { 0 = [] }) one) (none (get_or segment 0 (record { 0 = [] })))
 
-  pub none_given_below : (d asked : ℕ) → IsNext n path d asked → (e : ℕ) → asked < e → e ≤ d → n.givens (take e path ++ segment) ≡ None
+  pub none_given_below : (d asked : ℕ) → IsNext n path d asked → (e : ℕ) → asked < e → e ≤ d
+      → n.givens (take e path ++ segment) ≡ None
   none_given_below d asked next e more less = below n.givens (take e path) (next.silent e more less).given
 
   pub none_known_below : (d asked : ℕ) → d ≤ length path → IsNext n path d asked → (e : ℕ) → asked < e → e ≤ d

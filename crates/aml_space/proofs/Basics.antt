@@ -20,7 +20,8 @@ pub or_none : {A : Type 0} (o : Option A) → option_or o None ≡ o
 or_none None = refl
 or_none (Some x) = refl
 
-pub and_then_map : {A B C : Type 0} (f : B → C) (g : A → Option B) (o : Option A) → option_and_then (λ x. option_map f (g x)) o
+pub and_then_map : {A B C : Type 0} (f : B → C) (g : A → Option B) (o : Option A)
+    → option_and_then (λ x. option_map f (g x)) o
     ≡ option_map f (option_and_then g o)
 and_then_map f g None = refl
 and_then_map f g (Some x) = refl
@@ -37,7 +38,8 @@ pub some_map : {A B : Type 0} (f : A → B) (o : Option A) → is_some (option_m
 some_map f None = refl
 some_map f (Some x) = refl
 
-pub and_then_twice : {A B C : Type 0} (f : A → Option B) (g : B → Option C) (o : Option A) → option_and_then g (option_and_then f o)
+pub and_then_twice : {A B C : Type 0} (f : A → Option B) (g : B → Option C) (o : Option A)
+    → option_and_then g (option_and_then f o)
     ≡ option_and_then (λ x. option_and_then g (f x)) o
 and_then_twice f g None = refl
 and_then_twice f g (Some x) = refl
@@ -54,7 +56,8 @@ module _ {A : Type 0} where
   read_last (x ∷ xs) y = read_last xs y
 
   -- what holds of each by its place, with one more
-  pub each_more : (P : ℕ → A → Type 0) (xs : List A) (x : A) → ((i : ℕ) → IfSome (slice_get xs i) (P i)) → P (length xs) x → (i : ℕ)
+  pub each_more : (P : ℕ → A → Type 0) (xs : List A) (x : A) → ((i : ℕ) → IfSome (slice_get xs i) (P i))
+      → P (length xs) x → (i : ℕ)
       → IfSome (slice_get (xs ++ x ∷ []) i) (P i)
   each_more P xs x all last i = elim (cases_lt i (length xs)) [
     | inl below ↦ subst (λ o. IfSome o (P i)) (sym (read_front xs (x ∷ []) i below)) (all i)

@@ -29,18 +29,21 @@ found_holds f (q ∷ ps) p is = by (f q) refl (found_holds f ps p) is
     by true holds rest is = ap f (sym (same_Some q p is)) ∙ holds
     by false fails rest is = rest is
 
-not_found : (f g : List Seg → Bool) (ps : List (List Seg)) (p : List Seg) → find f ps ≡ None → find g ps ≡ Some p → f p ≡ false
+not_found : (f g : List Seg → Bool) (ps : List (List Seg)) (p : List Seg) → find f ps ≡ None → find g ps ≡ Some p
+    → f p ≡ false
 not_found f g [] p none is = absurd cc
 not_found f g (q ∷ ps) p none is = by (f q) refl (g q) (not_found f g ps p) none is
   where
-    by : (b : Bool) → f q ≡ b → (c : Bool) → (find f ps ≡ None → find g ps ≡ Some p → f p ≡ false) → cond b (Some q) (find f ps) ≡ None
+    by : (b : Bool) → f q ≡ b → (c : Bool) → (find f ps ≡ None → find g ps ≡ Some p → f p ≡ false)
+        → cond b (Some q) (find f ps) ≡ None
         → cond c (Some q) (find g ps) ≡ Some p → f p ≡ false
     by true holds c rest none is = absurd (false≢true (sym (ap is_some none)))
     by false fails true rest none is = ap f (sym (same_Some q p is)) ∙ fails
     by false fails false rest none is = rest none is
 
 -- a candidate tells its depth
-one_depth : (scope segment : List Seg) (a b : ℕ) → a ≤ length scope → b ≤ length scope → take a scope ++ segment ≡ take b scope ++ segment → a ≡ b
+one_depth : (scope segment : List Seg) (a b : ℕ) → a ≤ length scope → b ≤ length scope
+    → take a scope ++ segment ≡ take b scope ++ segment → a ≡ b
 one_depth scope segment a b within_a within_b same = omega (
   arith,
   ap length same,
@@ -63,8 +66,10 @@ meant_first n locals p = by (set.contains locals p) (is_some (kind_at n p)) (is_
     by false false false = refl
 
 -- and of a name that leads to one place
-pub placed_first : (n : Namespace) (locals : PathSet) (scope : List Seg) (name : Name) (p : List Seg) (meant : Bool) → placed scope name ≡ Some p
-    → meant ≡ (set.contains locals p || is_known n p) → cond meant (Some p) None ≡ first_of n locals (option_to_list (placed scope name))
+pub placed_first : (n : Namespace) (locals : PathSet) (scope : List Seg) (name : Name) (p : List Seg) (meant : Bool)
+    → placed scope name ≡ Some p
+    → meant ≡ (set.contains locals p || is_known n p)
+    → cond meant (Some p) None ≡ first_of n locals (option_to_list (placed scope name))
 placed_first n locals scope name p meant led is = ap (λ b. cond b (Some p) None) is ∙ meant_first n locals p
     ∙ ap (λ o. first_of n locals (option_to_list o)) (sym led)
 
@@ -75,13 +80,15 @@ module _ (o : Outlook) (scope segment : List Seg) where
   abbrev further_up : ℕ → Bool
   further_up d = is_some (find (is_known o.first) (above scope segment d))
 
-  lead_at : (m d : ℕ) → m ≤ length scope → d ≤ length scope → find (decides o.first set.empty) (upward m scope segment) ≡ Some (take d scope ++ segment)
+  lead_at : (m d : ℕ) → m ≤ length scope → d ≤ length scope
+      → find (decides o.first set.empty) (upward m scope segment) ≡ Some (take d scope ++ segment)
       → first_agreed o (upward m scope segment)
       ≡ Some (cond (o.sure (take d scope ++ segment) || not (further_up d)) (Some (take d scope ++ segment)) None)
   lead_at zero d within_m within_d found = by (is_some (kind_at o.first segment)) refl
       (sym (ap (λ b. cond b (Some segment) None) (decided segment)) ∙ found)
     where
-      by : (b : Bool) → is_some (kind_at o.first segment) ≡ b → cond (is_some (kind_at o.first segment)) (Some segment) None ≡ Some (take d scope ++ segment)
+      by : (b : Bool) → is_some (kind_at o.first segment) ≡ b
+          → cond (is_some (kind_at o.first segment)) (Some segment) None ≡ Some (take d scope ++ segment)
           → first_agreed o (segment ∷ []) ≡ Some (cond (o.sure (take d scope ++ segment) || not (further_up d)) (Some (take d scope ++ segment)) None)
       by true is found =
           let here = same_Some segment (take d scope ++ segment) (sym (ap (λ b. cond b (Some segment) None) is) ∙ found) in
@@ -119,19 +126,23 @@ module _ (o : Outlook) (scope segment : List Seg) where
   none_lead (p ∷ ps) none = by (is_some (kind_at o.first p)) refl (none_lead ps)
       (sym (ap (λ b. cond b (Some p) (find (decides o.first set.empty) ps)) (decided p)) ∙ none)
     where
-      by : (b : Bool) → is_some (kind_at o.first p) ≡ b → (find (decides o.first set.empty) ps ≡ None → first_agreed o ps ≡ None)
-          → cond (is_some (kind_at o.first p)) (Some p) (find (decides o.first set.empty) ps) ≡ None → first_agreed o (p ∷ ps) ≡ None
+      by : (b : Bool) → is_some (kind_at o.first p) ≡ b
+          → (find (decides o.first set.empty) ps ≡ None → first_agreed o ps ≡ None)
+          → cond (is_some (kind_at o.first p)) (Some p) (find (decides o.first set.empty) ps) ≡ None
+          → first_agreed o (p ∷ ps) ≡ None
       by true is rest none = absurd (false≢true (sym (ap is_some (sym (ap (λ b. cond b (Some p) (find (decides o.first set.empty) ps)) is) ∙ none))))
       by false is rest none = ap (λ b. cond b (Some (cond (o.sure p || not (is_some (find (is_known o.first) ps))) (Some p) None)) (first_agreed o ps)) is
           ∙ rest (sym (ap (λ b. cond b (Some p) (find (decides o.first set.empty) ps)) is) ∙ none)
 
-  choice : (kind sure more : Bool) (p : List Seg) → kind ≡ true → cond (sure || not more) (Some p) None ≡ cond (kind && (not sure && more)) None (Some p)
+  choice : (kind sure more : Bool) (p : List Seg) → kind ≡ true
+      → cond (sure || not more) (Some p) None ≡ cond (kind && (not sure && more)) None (Some p)
   choice true true more p is = refl
   choice true false true p is = refl
   choice true false false p is = refl
   choice false sure more p is = absurd (false≢true is)
 
-  pub led : (d : ℕ) → d ≤ length scope → first_of o.first set.empty (upward (length scope) scope segment) ≡ Some (take d scope ++ segment)
+  pub led : (d : ℕ) → d ≤ length scope
+      → first_of o.first set.empty (upward (length scope) scope segment) ≡ Some (take d scope ++ segment)
       → agreed_among o (upward (length scope) scope segment)
       ≡ cond (is_some (kind_at o.first (take d scope ++ segment)) && (not (o.sure (take d scope ++ segment)) && further_up d)) None
       (Some (take d scope ++ segment))
@@ -155,7 +166,8 @@ module _ (o : Outlook) (scope segment : List Seg) where
           (sym (decided (take d scope ++ segment))
           ∙ not_found (decides o.first set.empty) (is_outside o.first) (upward (length scope) scope segment) (take d scope ++ segment) found first))
 
-  pub led_nowhere : first_of o.first set.empty (upward (length scope) scope segment) ≡ None → agreed_among o (upward (length scope) scope segment) ≡ None
+  pub led_nowhere : first_of o.first set.empty (upward (length scope) scope segment) ≡ None
+      → agreed_among o (upward (length scope) scope segment) ≡ None
   led_nowhere first = by (find (decides o.first set.empty) (upward (length scope) scope segment)) refl first
     where
       by : (found : Option (List Seg)) → find (decides o.first set.empty) (upward (length scope) scope segment) ≡ found
@@ -167,7 +179,8 @@ module _ (o : Outlook) (scope segment : List Seg) where
           ∙ first
 
   -- a name that leads to one path, or to none
-  pub one_led : (q : Option (List Seg)) → first_of o.first set.empty (option_to_list q) ≡ agreed_among o (option_to_list q)
+  pub one_led : (q : Option (List Seg))
+      → first_of o.first set.empty (option_to_list q) ≡ agreed_among o (option_to_list q)
   one_led None = refl
   one_led (Some p) = ap (λ b. option_or (cond b (Some p) None) (cond (is_outside o.first p) (Some p) None)) (decided p)
       ∙ by (is_some (kind_at o.first p)) (o.sure p) (cond (is_outside o.first p) (Some p) None)

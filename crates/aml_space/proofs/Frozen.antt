@@ -7,7 +7,8 @@ use Rattle.aml_space.specs.Namespace.{Entry, declares, external, given}
 use Rattle.aml_space.specs.Namespace.{same_path}
 use Rattle.aml_space.specs.Runs.{surely_declared, SureStays}
 
-still : (same sure more : Bool) (k : Kind) (old new : List Kind) → ((same && sure) || more) ≡ true → (more ≡ true → new ≡ old)
+still : (same sure more : Bool) (k : Kind) (old new : List Kind) → ((same && sure) || more) ≡ true
+    → (more ≡ true → new ≡ old)
     → cond same (k ∷ cond sure [] new) new ≡ cond same (k ∷ cond sure [] old) old
 still true true more k old new h rest = refl
 still true false more k old new h rest = ap (λ ks. k ∷ ks) (rest h)

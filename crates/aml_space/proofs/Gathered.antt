@@ -36,11 +36,13 @@ module _ (ns : List Node) (is : IsIndex ns) where
   abbrev said_below : ℕ → List Child → List (List Seg × Declared)
   said_below n cs = flat_map (λ (c : Child). map_list (under c.seg) (said_at n c.node)) cs
 
-  after_under : (q : List Seg) (s : Seg) (es : List (List Seg × Declared)) → map_list (after q) (map_list (under s) es) ≡ map_list (after (q ++ s ∷ [])) es
+  after_under : (q : List Seg) (s : Seg) (es : List (List Seg × Declared))
+      → map_list (after q) (map_list (under s) es) ≡ map_list (after (q ++ s ∷ [])) es
   after_under q s [] = refl
   after_under q s (e ∷ es) = (λ t. (sym (append_assoc q (s ∷ []) e.0) t, e.1) ∷ after_under q s es t)
 
-  own_after : (i : ℕ) (q : List Seg) → walk (kids_of ns) 0 q ≡ Some i → option_to_list (rows_of ns i) ≡ map_list (after q) (own (declared_of ns i))
+  own_after : (i : ℕ) (q : List Seg) → walk (kids_of ns) 0 q ≡ Some i
+      → option_to_list (rows_of ns i) ≡ map_list (after q) (own (declared_of ns i))
   own_after i q led = by (declared_of ns i)
     where
       by : (o : Option Declared) → option_to_list (option_map (λ d. (path_of ns i, d)) o) ≡ map_list (after q) (own o)
@@ -59,7 +61,8 @@ module _ (ns : List Node) (is : IsIndex ns) where
       ++ below_after n i q led each cs (λ k d at. found (suc k) d at) t)
       ∙ sym (map-append (after q) (map_list (under c.seg) (said_at n c.node)) _)
 
-  rows_after : (n i : ℕ) (q : List Seg) → walk (kids_of ns) 0 q ≡ Some i → rows_below ns n i ≡ map_list (after q) (said_at n i)
+  rows_after : (n i : ℕ) (q : List Seg) → walk (kids_of ns) 0 q ≡ Some i
+      → rows_below ns n i ≡ map_list (after q) (said_at n i)
   rows_after zero i q led = refl
   rows_after (suc n) i q led =
       (λ t. own_after i q led t ++ below_after n i q led (rows_after n) (kids_of ns i)
@@ -75,7 +78,8 @@ module _ (ns : List Node) (is : IsIndex ns) where
       ∙ sym (entries_of_rising _ (rises_gather is.shape (declared_of ns) (length ns) 0))
 
   -- a row, if the node has one, and those from the next node on; and the nodes themselves
-  pub rows_on : (i : ℕ) → i < length ns → rows_ahead ns (Some i) ≡ option_to_list (rows_of ns i) ++ rows_ahead ns (next_node ns i)
+  pub rows_on : (i : ℕ) → i < length ns
+      → rows_ahead ns (Some i) ≡ option_to_list (rows_of ns i) ++ rows_ahead ns (next_node ns i)
   rows_on i within = one_on is.shape (links_of ns) is.linked.lower (λ k. option_to_list (rows_of ns k)) is.linked.below i within
 
   pub nodes_on : (i : ℕ) → i < length ns → ahead (kids_of ns) (links_of ns) (λ k. k ∷ []) (length ns) (Some i) ≡ i

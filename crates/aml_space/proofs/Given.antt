@@ -9,7 +9,8 @@ use Rattle.aml_space.proofs.Basics.{or_none}
 use Rattle.aml_space.proofs.Upward.{later, candidate, later_above, skip_all}
 
 module _ (n : Namespace) (locals : PathSet) (scope tail : List Seg) where
-  pub here_given : (d : ℕ) (p : List Seg) (x : ℕ) → p ≡ take d scope ++ tail → n.givens p ≡ Some x → first_given n (upward d scope tail) ≡ Some x
+  pub here_given : (d : ℕ) (p : List Seg) (x : ℕ) → p ≡ take d scope ++ tail → n.givens p ≡ Some x
+      → first_given n (upward d scope tail) ≡ Some x
   here_given d p x is got = ap (first_given n) (candidate n locals scope tail d)
       ∙ ap (λ q. option_or (n.givens q) (first_given n (later n locals scope tail d))) (sym is)
       ∙ ap (λ o. option_or o (first_given n (later n locals scope tail d))) got
@@ -27,7 +28,8 @@ module _ (n : Namespace) (locals : PathSet) (scope tail : List Seg) where
   skip_given m d less mute = skip_all n locals scope tail (first_given n) m d less
       (λ e more to. above_given e (take e scope ++ tail) refl (mute e more to) (omega (arith, more)))
 
-  pub root_given : (p : List Seg) → p ≡ take 0 scope ++ tail → n.givens p ≡ None → first_given n (upward 0 scope tail) ≡ None
+  pub root_given : (p : List Seg) → p ≡ take 0 scope ++ tail → n.givens p ≡ None
+      → first_given n (upward 0 scope tail) ≡ None
   root_given p is none = ap (λ q. option_or (n.givens q) None) (sym is) ∙ ap (λ o. option_or o None) none
 
 -- the given count of one path alone

@@ -56,14 +56,16 @@ module _ (ns new : List Node) (i : ℕ) (seg : Seg) (is : IsIndex ns) (within : 
   ]
 
   -- a child is the new one, or was there
-  kid : (k j : ℕ) (s : Seg) → child_in (kids_of new k) s ≡ Some j → ((k ≡ i) × (s ≡ seg) × (j ≡ length ns)) ⊎ ((k < length ns)
+  kid : (k j : ℕ) (s : Seg) → child_in (kids_of new k) s ≡ Some j
+      → ((k ≡ i) × (s ≡ seg) × (j ≡ length ns)) ⊎ ((k < length ns)
       × (child_in (kids_of ns k) s ≡ Some j))
   kid k j s found = elim (cases_lt k (length ns)) [
     | inl inside ↦ by inside (k == i && eq_by_cmp seg_cmp s seg) refl (sym (grows k s inside) ∙ found)
     | inr past ↦ absurd (none-some j (sym (ap (λ cs. child_in cs s) (no_kids k past)) ∙ found))
   ]
     where
-      by : k < length ns → (b : Bool) → (k == i && eq_by_cmp seg_cmp s seg) ≡ b → cond b (Some (length ns)) (child_in (kids_of ns k) s) ≡ Some j →
+      by : k < length ns → (b : Bool) → (k == i && eq_by_cmp seg_cmp s seg) ≡ b
+          → cond b (Some (length ns)) (child_in (kids_of ns k) s) ≡ Some j →
           ((k ≡ i) × (s ≡ seg) × (j ≡ length ns)) ⊎ ((k < length ns) × (child_in (kids_of ns k) s ≡ Some j))
       by inside true here e =
           let h = and_parts (k == i) (eq_by_cmp seg_cmp s seg) here in

@@ -30,7 +30,8 @@ joined_nothing Several = refl
 three : (n m l : ℕ) → joined (cond (m == n) (One n) Several) (One l) ≡ joined (One n) (cond (l == m) (One m) Several)
 three n m l = by (m == n) refl (l == m) refl
   where
-    by : (a : Bool) → (m == n) ≡ a → (b : Bool) → (l == m) ≡ b → joined (cond a (One n) Several) (One l) ≡ joined (One n) (cond b (One m) Several)
+    by : (a : Bool) → (m == n) ≡ a → (b : Bool) → (l == m) ≡ b
+        → joined (cond a (One n) Several) (One l) ≡ joined (One n) (cond b (One m) Several)
     by true is true at = ap (λ x. cond (x == n) (One n) Several) (exact_unsigned_eq l m at)
     by true is false at = ap (λ b. cond b (One n) Several) (ap (λ x. l == x) (sym (exact_unsigned_eq m n is)) ∙ at)
     by false is true at = sym (ap (λ b. cond b (One n) Several) is)
@@ -93,7 +94,8 @@ all_fit n (m ∷ ms) = ap (λ b. (m == n) && b) (all_fit n ms) ∙ by (counts_in
         and_false true = refl
         and_false false = refl
 
-pub chosen_met : (ns : List ℕ) (differ unmet : Option ℕ) → arity_met ns differ unmet ≡ chosen (counts_in ns) differ unmet
+pub chosen_met : (ns : List ℕ) (differ unmet : Option ℕ)
+    → arity_met ns differ unmet ≡ chosen (counts_in ns) differ unmet
 chosen_met [] differ unmet = refl
 chosen_met (n ∷ ns) differ unmet = ap (λ b. option_or (cond b (Some n) None) differ) (all_fit n ns) ∙ by (counts_in ns)
   where
@@ -143,12 +145,14 @@ targets [] out c is = ap (λ c. cond (is_nothing c) (One (target_count None out)
 targets (k ∷ ks) out c is = ap counts_in (own_targets out (k ∷ ks)) ∙ some (own_count k) (counts_in (map own_count ks))
     ∙ ap (λ c. cond (is_nothing c) (One (target_count None out)) c) (sym is)
   where
-    some : (n : ℕ) (c : Counts) → joined (One n) c ≡ cond (is_nothing (joined (One n) c)) (One (target_count None out)) (joined (One n) c)
+    some : (n : ℕ) (c : Counts)
+        → joined (One n) c ≡ cond (is_nothing (joined (One n) c)) (One (target_count None out)) (joined (One n) c)
     some n Nothing = refl
     some n Several = refl
     some n (One m) = same (m == n)
       where
-        same : (b : Bool) → cond b (One n) Several ≡ cond (is_nothing (cond b (One n) Several)) (One (target_count None out)) (cond b (One n) Several)
+        same : (b : Bool)
+            → cond b (One n) Several ≡ cond (is_nothing (cond b (One n) Several)) (One (target_count None out)) (cond b (One n) Several)
         same true = refl
         same false = refl
 
@@ -173,7 +177,8 @@ module _ {A : Type 0} (f : A → List ℕ) where
   flat_append [] ys = refl
   flat_append (x ∷ xs) ys = ap (λ zs. f x ++ zs) (flat_append xs ys) ∙ sym (append_assoc (f x) (flat_map f xs) (flat_map f ys))
 
-  pub counts_flat : (xs ys : List A) → counts_in (flat_map f (xs ++ ys)) ≡ joined (counts_in (flat_map f xs)) (counts_in (flat_map f ys))
+  pub counts_flat : (xs ys : List A)
+      → counts_in (flat_map f (xs ++ ys)) ≡ joined (counts_in (flat_map f xs)) (counts_in (flat_map f ys))
   counts_flat xs ys = ap counts_in (flat_append xs ys) ∙ counts_more (flat_map f xs) (flat_map f ys)
 
   -- the declared kinds, and the predefined one behind them where none is sure
@@ -196,13 +201,15 @@ counts_step f c x xs = ap (joined c) (counts_more (f x) (flat_map f xs)) ∙ sym
 -- ---- The count of a name, by what its counts come to.
 
 module _ (o : Outlook) (unknown_zero : Bool) (locals : PathSet) where
-  pub agreed_by : (paths : List (List Seg)) (c : Counts) → c ≡ counts_in (counts_met o locals paths) → agreed_at o unknown_zero locals paths
+  pub agreed_by : (paths : List (List Seg)) (c : Counts) → c ≡ counts_in (counts_met o locals paths)
+      → agreed_at o unknown_zero locals paths
       ≡ chosen c (first_given o.first paths) (arity_at o.first unknown_zero locals paths (first_of o.first locals paths))
   agreed_by paths c is = chosen_met (counts_met o locals paths) _ _
       ∙ ap (λ x. chosen x (first_given o.first paths) (arity_at o.first unknown_zero locals paths (first_of o.first locals paths))) (sym is)
 
   -- of a name that leads to one path
-  pub placed_met : (p : List Seg) → set.contains locals p ≡ false → counts_in (counts_of o p) ≡ counts_in (counts_met o locals (p ∷ []))
+  pub placed_met : (p : List Seg) → set.contains locals p ≡ false
+      → counts_in (counts_of o p) ≡ counts_in (counts_met o locals (p ∷ []))
   placed_met p other = sym (ap counts_in (ap (λ b. cond b (0 ∷ []) (cond (o.sure p) (counts_of o p) (counts_of o p ++ []))) other) ∙ by (o.sure p))
     where
       by : (sure : Bool) → counts_in (cond sure (counts_of o p) (counts_of o p ++ [])) ≡ counts_in (counts_of o p)

@@ -27,13 +27,15 @@ pub least_is_run : (es : List Entry) → IsRun es (least_run es)
 least_is_run [] = ended
 least_is_run (e ∷ es) = by (may_miss e) refl (least_is_run es)
   where
-    by : (may : Bool) → may_miss e ≡ may → IsRun es (least_run es) → IsRun (e ∷ es) (cond may (least_run es) (e ∷ least_run es))
+    by : (may : Bool) → may_miss e ≡ may → IsRun es (least_run es)
+        → IsRun (e ∷ es) (cond may (least_run es) (e ∷ least_run es))
     by true is run = missed e is run
     by false is run = taken e run
 
 -- ---- What has no kind among all entries has none in a run.
 
-none_more : (same sure : Bool) (k : Kind) (ks : List Kind) (o standing : Option Kind) → (is_some (option_or o standing) ≡ false → ks ≡ [])
+none_more : (same sure : Bool) (k : Kind) (ks : List Kind) (o standing : Option Kind)
+    → (is_some (option_or o standing) ≡ false → ks ≡ [])
     → is_some (option_or (cond same (Some k) o) standing) ≡ false → cond same (k ∷ cond sure [] ks) ks ≡ []
 none_more true sure k ks o standing rest h = absurd (false≢true (sym h))
 none_more false sure k ks o standing rest h = rest h
@@ -49,18 +51,21 @@ no_kinds (external p n ∷ es) q h = no_kinds es q h
 no_kinds (given p n ∷ es) q h = no_kinds es q h
 
 -- a weaker test finds nothing where a stronger one doesn't
-none_found : (f g : List Seg → Bool) → ((p : List Seg) → f p ≡ false → g p ≡ false) → (paths : List (List Seg)) → is_some (find f paths) ≡ false
+none_found : (f g : List Seg → Bool) → ((p : List Seg) → f p ≡ false → g p ≡ false) → (paths : List (List Seg))
+    → is_some (find f paths) ≡ false
     → find g paths ≡ None
 none_found f g weaker [] h = refl
 none_found f g weaker (p ∷ paths) h = by (f p) refl (none_found f g weaker paths) h
   where
-    by : (b : Bool) → f p ≡ b → (is_some (find f paths) ≡ false → find g paths ≡ None) → is_some (cond b (Some p) (find f paths)) ≡ false
+    by : (b : Bool) → f p ≡ b → (is_some (find f paths) ≡ false → find g paths ≡ None)
+        → is_some (cond b (Some p) (find f paths)) ≡ false
         → cond (g p) (Some p) (find g paths) ≡ None
     by true is rest h = absurd (false≢true (sym h))
     by false is rest h = ap (λ c. cond c (Some p) (find g paths)) (weaker p is) ∙ rest h
 
 module _ (es : List Entry) (rs : List Entry) (run : IsRun es rs) where
-  pub no_more : (p : List Seg) → is_some (kind_at (namespace_of es) p) ≡ false → is_some (kind_at (namespace_of rs) p) ≡ false
+  pub no_more : (p : List Seg) → is_some (kind_at (namespace_of es) p) ≡ false
+      → is_some (kind_at (namespace_of rs) p) ≡ false
   no_more p h = by (kind_at (namespace_of rs) p) (among es rs run p (λ _. ⊥) (subst (AllByRecursion (λ _. ⊥)) (sym (no_kinds es p h)) tt))
     where
       by : (o : Option Kind) → IfSome o (λ _. ⊥) → is_some o ≡ false
@@ -82,7 +87,8 @@ module _ (es : List Entry) (rs : List Entry) (run : IsRun es rs) where
       by (Some k) h = absurd (false≢true (sym h))
 
   -- where no path may have a kind none has one
-  none_first : (paths : List (List Seg)) → first_agreed (outlook_of es) paths ≡ None → find (λ q. is_some (kind_at (namespace_of rs) q)) paths ≡ None
+  none_first : (paths : List (List Seg)) → first_agreed (outlook_of es) paths ≡ None
+      → find (λ q. is_some (kind_at (namespace_of rs) q)) paths ≡ None
   none_first [] h = refl
   none_first (p ∷ paths) h = by (is_some (kind_at (namespace_of es) p)) refl _ (none_first paths) h
     where
@@ -98,7 +104,8 @@ module _ (es : List Entry) (rs : List Entry) (run : IsRun es rs) where
   at_first [] p h = tt
   at_first (q ∷ paths) p h = by (is_some (kind_at (namespace_of es) q)) refl (at_first paths p) h
     where
-      here : (b : Bool) → is_some (kind_at (namespace_of rs) q) ≡ b → (sure_at es q || not (is_some (find (is_known (namespace_of es)) paths))) ≡ true → q ≡ p
+      here : (b : Bool) → is_some (kind_at (namespace_of rs) q) ≡ b
+          → (sure_at es q || not (is_some (find (is_known (namespace_of es)) paths))) ≡ true → q ≡ p
           → IfSome (cond b (Some q) (find (λ r. is_some (kind_at (namespace_of rs) r)) paths)) (λ r. r ≡ p)
       here true at passes same = same
       here false at passes same = subst (λ o. IfSome o (λ r. r ≡ p))

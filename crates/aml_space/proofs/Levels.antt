@@ -21,14 +21,16 @@ none_seg : Seg
 none_seg = record { 0 = [] }
 
 -- a path whose front leads to a node that has no child by the next segment
-pub led_no_further : (kids : ℕ → List Child) (k at : ℕ) (p : List Seg) (e : Seg) → k < length p → walk kids 0 (take k p) ≡ Some at →
+pub led_no_further : (kids : ℕ → List Child) (k at : ℕ) (p : List Seg) (e : Seg) → k < length p
+    → walk kids 0 (take k p) ≡ Some at →
     child_in (kids at) (get_or p k e) ≡ None → walk kids 0 p ≡ None
 led_no_further kids k at p e within led none = ap (walk kids 0) (sym (take-append-drop (k + 1) p))
     ∙ walk_none kids 0 (take (k + 1) p) (drop (k + 1) p) (led_more kids at k p e None within led none)
 
 module _ (ns : List Node) (scope : List Seg) where
   -- behind the longest front that leads somewhere nothing does
-  pub reach_past : (r : Reach) → Reaches ns scope r → (d : ℕ) → r.known < d → d ≤ length scope → walk (kids_of ns) 0 (take d scope) ≡ None
+  pub reach_past : (r : Reach) → Reaches ns scope r → (d : ℕ) → r.known < d → d ≤ length scope
+      → walk (kids_of ns) 0 (take d scope) ≡ None
   reach_past r is d more within =
       let inside : r.known < length scope = omega (arith, more, within) in
       let none = is.ends (get_or scope r.known none_seg) (drop (r.known + 1) scope) (drop_more scope r.known none_seg inside) in
@@ -37,7 +39,8 @@ module _ (ns : List Node) (scope : List Seg) where
       ∙ walk_none (kids_of ns) 0 (take (r.known + 1) scope) _ (led_more (kids_of ns) r.node r.known scope none_seg None inside is.led none)
 
   -- the node of a candidate
-  pub candidate_node : (segment : List Seg) (e : Seg) (d at : ℕ) → length segment ≡ 1 → walk (kids_of ns) 0 (take d scope) ≡ Some at →
+  pub candidate_node : (segment : List Seg) (e : Seg) (d at : ℕ) → length segment ≡ 1
+      → walk (kids_of ns) 0 (take d scope) ≡ Some at →
       child_in (kids_of ns at) (get_or segment 0 e) ≡ walk (kids_of ns) 0 (take d scope ++ segment)
   candidate_node segment e d at one led = sym (walk_push (kids_of ns) 0 (take d scope) (get_or segment 0 e)
       ∙ ap (option_and_then (λ j. child_in (kids_of ns j) (get_or segment 0 e))) led) ∙ ap (λ t. walk (kids_of ns) 0 (take d scope ++ t)) (alone segment e one)
@@ -59,7 +62,8 @@ module _ (ns : List Node) (is : IsIndex ns) (path : List Seg) where
   before d j within led =
       step_above (take d path) (get_or path d none_seg) j (sym (ap (walk (kids_of ns) 0) (take_more path d none_seg within)) ∙ led)
 
-  pub parent_led : (q : List Seg) (s : Seg) (j : ℕ) → walk (kids_of ns) 0 (q ++ s ∷ []) ≡ Some j → walk (kids_of ns) 0 q ≡ Some (links_of ns j).0
+  pub parent_led : (q : List Seg) (s : Seg) (j : ℕ) → walk (kids_of ns) 0 (q ++ s ∷ []) ≡ Some j
+      → walk (kids_of ns) 0 q ≡ Some (links_of ns j).0
   parent_led q s j led =
       let there = step_above q s j led in
       there.1 ∙ ap (λ (l : ℕ × Seg). Some l.0) (sym (is.linked.below there.0 j s there.2))
@@ -84,7 +88,8 @@ module _ (ns : List Node) (is : IsIndex ns) (path : List Seg) where
       absurd (omega (arith, deep))
 
 -- where nothing is known at a level, the one above it comes next
-pub next_up : (n : Namespace) (path : List Seg) (from asked : ℕ) → 0 < asked → IsNext n path from asked → IsSilent n (take asked path)
+pub next_up : (n : Namespace) (path : List Seg) (from asked : ℕ) → 0 < asked → IsNext n path from asked
+    → IsSilent n (take asked path)
     → IsNext n path from (asked - 1)
 next_up n path from asked some is here = record {
   within = omega (arith, is.within);
@@ -95,5 +100,6 @@ next_up n path from asked some is here = record {
 }
 
 -- a depth between is next as well
-pub next_sooner : (n : Namespace) (path : List Seg) (from asked m : ℕ) → asked ≤ m → m ≤ from → IsNext n path from asked → IsNext n path from m
+pub next_sooner : (n : Namespace) (path : List Seg) (from asked m : ℕ) → asked ≤ m → m ≤ from → IsNext n path from asked
+    → IsNext n path from m
 next_sooner n path from asked m less within is = record { within = within; silent = λ d above below. is.silent d (omega (arith, above, less)) below }

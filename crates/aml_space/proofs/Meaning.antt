@@ -27,7 +27,8 @@ use Rattle.aml_space.proofs.Index.{part_at, kind_at_path}
 use Rattle.aml_space.proofs.Upward.{rest_of}
 
 module _ (ns : List Node) (shape : IsShape ns) (p : List Seg) (node : Option ℕ) (met : node ≡ walk (kids_of ns) 0 p) where
-  pub kind_of_met : (standing : Option Kind) → standing ≡ predefined p → option_or (option_and_then (kinds_of ns) node) standing
+  pub kind_of_met : (standing : Option Kind) → standing ≡ predefined p
+      → option_or (option_and_then (kinds_of ns) node) standing
       ≡ kind_at (namespace_in (known_by ns)) p
   kind_of_met standing is = ap (λ o. option_or (option_and_then (kinds_of ns) o) standing) met ∙ (λ i. option_or (kind_at_path ns shape p i) (is i))
 
@@ -48,7 +49,8 @@ module _ (ns : List Node) (shape : IsShape ns) (p : List Seg) (node : Option ℕ
   count_of_met standing is = λ i. count_by (namespace_in (known_by ns)) (kind_of_met standing is i) (out_of_met i)
 
 -- no path of two segments or more is predefined
-pub predefined_deep : (d : ℕ) (scope segment : List Seg) → (d ≡ 0 → ⊥) → d ≤ length scope → length segment ≡ 1 → predefined (take d scope ++ segment) ≡ None
+pub predefined_deep : (d : ℕ) (scope segment : List Seg) → (d ≡ 0 → ⊥) → d ≤ length scope → length segment ≡ 1
+    → predefined (take d scope ++ segment) ≡ None
 predefined_deep zero scope segment deep within one = absurd (deep refl)
 predefined_deep (suc d) [] segment deep within one = absurd (omega (arith, within))
 predefined_deep (suc d) (s ∷ scope) [] deep within one = absurd (omega (arith, one))
@@ -59,14 +61,16 @@ predefined_deep (suc d) (s ∷ scope) (t ∷ rest) deep within one = by (take d 
     by (u ∷ front) = refl
 
 -- nor is one of two parts that have segments both
-pub predefined_parts : (front own : List Seg) → false ≡ (length front == 0) → false ≡ (length own == 0) → predefined (front ++ own) ≡ None
+pub predefined_parts : (front own : List Seg) → false ≡ (length front == 0) → false ≡ (length own == 0)
+    → predefined (front ++ own) ≡ None
 predefined_parts [] own some more = absurd (false≢true some)
 predefined_parts (s ∷ []) [] some more = absurd (false≢true more)
 predefined_parts (s ∷ []) (t ∷ rest) some more = refl
 predefined_parts (s ∷ t ∷ front) own some more = refl
 
 -- a kind has a count
-kind_counts : (n : Namespace) (k : Kind) (o other : Option ℕ) → option_or (count_by n (Some k) o) other ≡ count_by n (Some k) o
+kind_counts : (n : Namespace) (k : Kind) (o other : Option ℕ)
+    → option_or (count_by n (Some k) o) other ≡ count_by n (Some k) o
 kind_counts n (Method args) o other = refl
 kind_counts n (Alias target) o other = refl
 kind_counts n _ o other = refl
@@ -103,7 +107,8 @@ outside_depth None true c = refl
 outside_depth None false c = refl
 outside_depth (Some d) out c = refl
 
-pub outside_still : (P : Candidate → Type 0) (outside : Option Candidate) (out : Bool) (c : Candidate) → IfSome outside P → P c
+pub outside_still : (P : Candidate → Type 0) (outside : Option Candidate) (out : Bool) (c : Candidate)
+    → IfSome outside P → P c
     → IfSome (option_or outside (cond out (Some c) None)) P
 outside_still P None true c all is = is
 outside_still P None false c all is = tt

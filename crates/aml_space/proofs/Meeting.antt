@@ -31,12 +31,14 @@ first_in k = record {
   unsure = λ p none. unsure (map.get k.declarations p) (predefined p) none;
 }
   where
-    first : (o : Option Declared) (standing : Option Kind) → option_or (declared_kind o) standing ≡ slice_get (kinds_by o standing) 0
+    first : (o : Option Declared) (standing : Option Kind)
+        → option_or (declared_kind o) standing ≡ slice_get (kinds_by o standing) 0
     first None None = refl
     first None (Some k) = refl
     first (Some d) standing = refl
 
-    unsure : (o : Option Declared) (standing : Option Kind) → option_or (declared_kind o) standing ≡ None → sure_by o standing ≡ false
+    unsure : (o : Option Declared) (standing : Option Kind) → option_or (declared_kind o) standing ≡ None
+        → sure_by o standing ≡ false
     unsure None None none = refl
     unsure None (Some k) some = absurd (false≢true (sym (ap is_some some)))
     unsure (Some d) standing some = absurd (false≢true (sym (ap is_some some)))
@@ -49,7 +51,8 @@ module _ (o : Outlook) (locals : PathSet) (scope tail : List Seg) where
   met : ℕ → List ℕ
   met d = counts_met o locals (upward d scope tail)
 
-  one_met : (d : ℕ) → counts_met o locals (upward d scope tail) ≡ cond (set.contains locals (take d scope ++ tail)) (0 ∷ [])
+  one_met : (d : ℕ)
+      → counts_met o locals (upward d scope tail) ≡ cond (set.contains locals (take d scope ++ tail)) (0 ∷ [])
       (cond (o.sure (take d scope ++ tail)) (counts_of o (take d scope ++ tail))
       (counts_of o (take d scope ++ tail) ++ counts_met o locals (later o.first locals scope tail d)))
   one_met d = ap (counts_met o locals) (candidate o.first locals scope tail d)
@@ -59,7 +62,8 @@ module _ (o : Outlook) (locals : PathSet) (scope tail : List Seg) where
   at_local c d here = ap (λ ns. joined c (counts_in ns)) (one_met d ∙ ap (λ b. cond b (0 ∷ []) (cond (o.sure (take d scope ++ tail))
       (counts_of o (take d scope ++ tail)) (counts_of o (take d scope ++ tail) ++ counts_met o locals (later o.first locals scope tail d)))) here)
 
-  pub at_sure : (c : Counts) (d : ℕ) → set.contains locals (take d scope ++ tail) ≡ false → o.sure (take d scope ++ tail) ≡ true
+  pub at_sure : (c : Counts) (d : ℕ) → set.contains locals (take d scope ++ tail) ≡ false
+      → o.sure (take d scope ++ tail) ≡ true
       → joined c (counts_in (counts_met o locals (upward d scope tail))) ≡ joined c (counts_in (counts_of o (take d scope ++ tail)))
   at_sure c d other sure = ap (λ ns. joined c (counts_in ns)) (one_met d ∙ (λ i. cond (other i) (0 ∷ [])
       (cond (sure i) (counts_of o (take d scope ++ tail)) (counts_of o (take d scope ++ tail) ++ counts_met o locals (later o.first locals scope tail d)))))
@@ -69,7 +73,8 @@ module _ (o : Outlook) (locals : PathSet) (scope tail : List Seg) where
   unsure_met d other unsure = one_met d ∙ (λ i. cond (other i) (0 ∷ [])
       (cond (unsure i) (counts_of o (take d scope ++ tail)) (counts_of o (take d scope ++ tail) ++ counts_met o locals (later o.first locals scope tail d))))
 
-  pub on_from : (c : Counts) (d : ℕ) → set.contains locals (take d scope ++ tail) ≡ false → o.sure (take d scope ++ tail) ≡ false → 0 < d
+  pub on_from : (c : Counts) (d : ℕ) → set.contains locals (take d scope ++ tail) ≡ false
+      → o.sure (take d scope ++ tail) ≡ false → 0 < d
       → joined c (counts_in (counts_met o locals (upward d scope tail)))
       ≡ joined (joined c (counts_in (counts_of o (take d scope ++ tail)))) (counts_in (counts_met o locals (upward (d - 1) scope tail)))
   on_from c d other unsure positive =
@@ -83,14 +88,16 @@ module _ (o : Outlook) (locals : PathSet) (scope tail : List Seg) where
       → joined c (counts_in (counts_met o locals (upward d scope tail))) ≡ joined c (counts_in (counts_of o (take d scope ++ tail)))
   at_root c zero root other = by (o.sure tail) refl
     where
-      by : (b : Bool) → o.sure tail ≡ b → joined c (counts_in (counts_met o locals (tail ∷ []))) ≡ joined c (counts_in (counts_of o tail))
+      by : (b : Bool) → o.sure tail ≡ b
+          → joined c (counts_in (counts_met o locals (tail ∷ []))) ≡ joined c (counts_in (counts_of o tail))
       by true sure = at_sure c 0 other sure
       by false unsure = ap (joined c) (ap counts_in (λ i. cond (other i) (0 ∷ []) (cond (unsure i) (counts_of o tail) (counts_of o tail ++ [])))
           ∙ counts_more (counts_of o tail) [] ∙ joined_nothing (counts_in (counts_of o tail)))
   at_root c (suc d) root other = absurd (omega (arith, root))
 
   -- depths without a local and without a kind may be left out
-  pub skip_met : FirstCounts o → (m d : ℕ) → m ≤ d → ((e : ℕ) → m < e → e ≤ d → set.contains locals (take e scope ++ tail) ≡ false)
+  pub skip_met : FirstCounts o → (m d : ℕ) → m ≤ d
+      → ((e : ℕ) → m < e → e ≤ d → set.contains locals (take e scope ++ tail) ≡ false)
       → ((e : ℕ) → m < e → e ≤ d → kind_at o.first (take e scope ++ tail) ≡ None)
       → counts_met o locals (upward d scope tail) ≡ counts_met o locals (upward m scope tail)
   skip_met is m d less other mute = skip_all o.first locals scope tail (counts_met o locals) m d less (λ e more to.
@@ -103,7 +110,8 @@ module _ (n : Namespace) (locals : PathSet) (scope tail : List Seg) where
       ≡ cond (is_known n (take d scope ++ tail)) (Some (take d scope ++ tail)) (find (is_known n) (later n locals scope tail d))
   one_known d = ap (find (is_known n)) (candidate n locals scope tail d)
 
-  pub known_here : (d : ℕ) → is_known n (take d scope ++ tail) ≡ true → is_some (find (is_known n) (upward d scope tail)) ≡ true
+  pub known_here : (d : ℕ) → is_known n (take d scope ++ tail) ≡ true
+      → is_some (find (is_known n) (upward d scope tail)) ≡ true
   known_here d known = ap is_some (one_known d ∙ ap (λ b. cond b (Some (take d scope ++ tail)) (find (is_known n) (later n locals scope tail d))) known)
 
   pub known_on : (d : ℕ) → is_known n (take d scope ++ tail) ≡ false → 0 < d
@@ -111,7 +119,8 @@ module _ (n : Namespace) (locals : PathSet) (scope tail : List Seg) where
   known_on d unknown positive = one_known d
       ∙ (λ i. cond (unknown i) (Some (take d scope ++ tail)) (find (is_known n) (later_above n locals scope tail d positive i)))
 
-  pub known_root : (d : ℕ) → d ≡ 0 → is_known n (take d scope ++ tail) ≡ false → is_some (find (is_known n) (upward d scope tail)) ≡ false
+  pub known_root : (d : ℕ) → d ≡ 0 → is_known n (take d scope ++ tail) ≡ false
+      → is_some (find (is_known n) (upward d scope tail)) ≡ false
   known_root zero root unknown = ap (λ b. is_some (cond b (Some tail) None)) unknown
   known_root (suc d) root unknown = absurd (omega (arith, root))
 

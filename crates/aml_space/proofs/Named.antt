@@ -34,7 +34,8 @@ pub path_short : (ns : List Node) (j : ℕ) → length (path_of ns j) ≤ j
 path_short ns j = subst (λ n. n ≤ j) (sym (segs_length (links_up (links_of ns) j j))) (links_short (links_of ns) j j)
 
 -- so many last segments of a front are those from a place on
-pub last_part : (p : List Seg) (from n : ℕ) (front : List Seg) → n ≤ length p - from → front ≡ take (length p - (length p - from - n)) p
+pub last_part : (p : List Seg) (from n : ℕ) (front : List Seg) → n ≤ length p - from
+    → front ≡ take (length p - (length p - from - n)) p
     → drop (length front - n) front ≡ take n (drop from p)
 last_part p from n front few is = elim (cases_lt (length p) (from + n)) [
   | inl past ↦ ap (λ m. drop m front) {x = length front - n} {y = length front} (omega (arith, none past)) ∙ drop-length front ∙ sym (ap (λ m. take m (drop from p)) (none past))
@@ -60,7 +61,8 @@ module _ (ns : List Node) (is : IsIndex ns) where
   pub lower_up : (j : ℕ) (l : ℕ × Seg) → 0 < j → j < length ns → l ≡ links_of ns j → l.0 < j
   lower_up j l some within here = subst (λ (l : ℕ × Seg). l.0 < j) (sym here) (is.linked.lower j some within)
 
-  pub one_longer : (j : ℕ) (l : ℕ × Seg) → 0 < j → j < length ns → l ≡ links_of ns j → length (path_of ns j) ≡ length (path_of ns l.0) + 1
+  pub one_longer : (j : ℕ) (l : ℕ × Seg) → 0 < j → j < length ns → l ≡ links_of ns j
+      → length (path_of ns j) ≡ length (path_of ns l.0) + 1
   one_longer j l some within here = ap length (sym (step_up j l [] some within here ∙ append-nil (path_of ns j)))
       ∙ length-append (path_of ns l.0) (l.1 ∷ [])
 
@@ -69,7 +71,8 @@ module _ (ns : List Node) (is : IsIndex ns) where
   led_on i (s ∷ q) j led = by (child_in (kids_of ns i) s) refl led (λ k. led_on k q j)
     where
       by : (o : Option ℕ) → child_in (kids_of ns i) s ≡ o → option_and_then (λ k. walk (kids_of ns) k q) o ≡ Some j
-          → ((k : ℕ) → walk (kids_of ns) k q ≡ Some j → path_of ns j ≡ path_of ns k ++ q) → path_of ns j ≡ path_of ns i ++ s ∷ q
+          → ((k : ℕ) → walk (kids_of ns) k q ≡ Some j → path_of ns j ≡ path_of ns k ++ q)
+          → path_of ns j ≡ path_of ns i ++ s ∷ q
       by None e led each = absurd cc
       by (Some k) e led each =
           let range = kid_range is.shape i s k e in

@@ -17,7 +17,8 @@ use Rattle.aml_space.specs.Candidates.{stands_at, local_from}
 use Rattle.aml_space.proofs.Basics.{alone}
 use Rattle.aml_space.proofs.Upward.{nearest_tells}
 
-passed : (o : Option ℕ) (asked e : ℕ) → asked < e → IfSome o (λ n. n ≤ asked) → IfSome o (λ n. n ≤ e) × (stands_at o e ≡ false)
+passed : (o : Option ℕ) (asked e : ℕ) → asked < e → IfSome o (λ n. n ≤ asked)
+    → IfSome o (λ n. n ≤ e) × (stands_at o e ≡ false)
 passed None asked e more above = (tt, refl)
 passed (Some n) asked e more above = (omega (arith, more, above), ne_eqb n e (λ same. omega (arith, same, more, above)))
 
@@ -51,7 +52,8 @@ module _ (locals : PathSet) (scope segment : List Seg) (one : length segment ≡
       let within : n ≤ length scope = subst (λ o. IfSome o (λ n. n ≤ length scope)) here near_within in
       sym (local_at n within (subst (λ o. IfSome o (λ m. m ≤ n)) (sym here) (omega arith))) ∙ ap (λ o. stands_at o n) here ∙ grind (arith, nat_tests)
 
-  pub other_there : (d : ℕ) → d ≤ length scope → IfSome o (λ n. n < d) → set.contains locals (take d scope ++ segment) ≡ false
+  pub other_there : (d : ℕ) → d ≤ length scope → IfSome o (λ n. n < d)
+      → set.contains locals (take d scope ++ segment) ≡ false
   other_there d within less = sym (local_at d within (further o d less).0) ∙ (further o d less).1
 
 -- the nearest local at a depth or further down
@@ -71,7 +73,8 @@ no_local (Some m) d none = by (nat_le d m) refl none
     by true less some = absurd (false≢true (sym some))
     by false more none = leb-false d m more
 
-pub none_local : (o : Option ℕ) (d : ℕ) (p : Option ℕ) → p ≡ local_from o d → ((n : ℕ) → p ≡ Some n → ⊥) → IfSome o (λ n. n < d)
+pub none_local : (o : Option ℕ) (d : ℕ) (p : Option ℕ) → p ≡ local_from o d → ((n : ℕ) → p ≡ Some n → ⊥)
+    → IfSome o (λ n. n < d)
 none_local o d None is none = no_local o d (ap is_some (sym is))
 none_local o d (Some n) is none = absurd (none n refl)
 

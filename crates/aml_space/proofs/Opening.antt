@@ -11,12 +11,14 @@ use Rattle.aml_space.specs.Nodes.{walk, kids_of, Content, HasContent, IsKept}
 use Rattle.aml_space.specs.Opened.{AreOpened}
 use Rattle.aml_space.proofs.Basics.{each_more}
 
-kept_at : (old new : List Node) (o : Option Opened) → IsKept old new → IfSome o (λ o. walk (kids_of old) 0 o.scope ≡ Some o.node)
+kept_at : (old new : List Node) (o : Option Opened) → IsKept old new
+    → IfSome o (λ o. walk (kids_of old) 0 o.scope ≡ Some o.node)
     → IfSome o (λ o. walk (kids_of new) 0 o.scope ≡ Some o.node)
 kept_at old new None kept is = tt
 kept_at old new (Some o) kept is = kept.there o.scope o.node is
 
-pub kept_opened : (old new : List Node) (opened : List Opened) → IsKept old new → AreOpened old opened → AreOpened new opened
+pub kept_opened : (old new : List Node) (opened : List Opened) → IsKept old new → AreOpened old opened
+    → AreOpened new opened
 kept_opened old new opened kept are = λ i. kept_at old new (slice_get opened i) kept (are i)
 
 -- other content of a node changes no way
@@ -38,13 +40,15 @@ kept_on old new later one two = record {
   long = omega (arith, one.long, two.long);
 }
 
-pub more_opened : (ns : List Node) (opened more : List Opened) (o : Opened) → more ≡ opened ++ o ∷ [] → AreOpened ns opened
+pub more_opened : (ns : List Node) (opened more : List Opened) (o : Opened) → more ≡ opened ++ o ∷ []
+    → AreOpened ns opened
     → walk (kids_of ns) 0 o.scope ≡ Some o.node → AreOpened ns more
 more_opened ns opened more o is are led = λ i. subst (λ all. IfSome (slice_get all i) (λ o. walk (kids_of ns) 0 o.scope ≡ Some o.node)) (sym is)
     (each_more (λ i o. walk (kids_of ns) 0 o.scope ≡ Some o.node) opened o are led i)
 
 -- the root alone
-pub root_opened : (ns : List Node) (none one : List Opened) (o : Opened) → none ≡ [] → one ≡ none ++ o ∷ [] → o.scope ≡ [] → o.node ≡ 0 → AreOpened ns one
+pub root_opened : (ns : List Node) (none one : List Opened) (o : Opened) → none ≡ [] → one ≡ none ++ o ∷ []
+    → o.scope ≡ [] → o.node ≡ 0 → AreOpened ns one
 root_opened ns none one o empty is root first = more_opened ns none one o is (λ i. subst (λ all. IfSome (slice_get all i) (λ o. walk (kids_of ns) 0 o.scope ≡ Some o.node)) (sym empty) (at i))
     (ap (walk (kids_of ns) 0) root ∙ ap (λ (n : ℕ). Some n) (sym first))
   where

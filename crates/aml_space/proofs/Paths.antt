@@ -27,7 +27,8 @@ long_chain p first t [] = omega arith
 long_chain p first t (s ∷ q) = omega (arith, long_chain first (first + 1) s q)
 
 -- one node more
-one_more : (ns : List Node) (p : List Seg) (i : ℕ) (s : Seg) → i < length ns → IsIndex ns → walk (kids_of ns) 0 p ≡ Some i → child_in (kids_of ns i) s ≡ None →
+one_more : (ns : List Node) (p : List Seg) (i : ℕ) (s : Seg) → i < length ns → IsIndex ns
+    → walk (kids_of ns) 0 p ≡ Some i → child_in (kids_of ns i) s ≡ None →
     Leads ns (with_child ns i (record { seg = s; node = length ns }) ++ empty i s ∷ []) (p ++ s ∷ []) (length ns)
 one_more ns p i s within is led absent =
     let new = with_child ns i (record { seg = s; node = length ns }) ++ empty i s ∷ [] in
@@ -41,7 +42,8 @@ one_more ns p i s within is led absent =
     }
 
 -- from an empty node at the end
-rest_more : (ns new xs : List Node) (top : ℕ) (t : Seg) (p q whole : List Seg) (at : ℕ) → Leads ns (xs ++ empty top t ∷ []) p (length xs)
+rest_more : (ns new xs : List Node) (top : ℕ) (t : Seg) (p q whole : List Seg) (at : ℕ)
+    → Leads ns (xs ++ empty top t ∷ []) p (length xs)
     → new ≡ xs ++ chain top (length xs) t q → whole ≡ p ++ q → at ≡ length xs + length q → Leads ns new whole at
 rest_more ns new xs top t p [] whole at so nodes path end = subst (λ ms. Leads ns ms whole at) (sym nodes)
     (record {
@@ -67,7 +69,8 @@ rest_more ns new xs top t p (s ∷ q) whole at so nodes path end =
     (path ∙ sym (append_assoc p (s ∷ []) q)) (omega (arith, end, long_next))
 
 -- the nodes of a path below one
-path_more : (ns : List Node) (p : List Seg) (i : ℕ) (s : Seg) (q : List Seg) → i < length ns → IsIndex ns → walk (kids_of ns) 0 p ≡ Some i
+path_more : (ns : List Node) (p : List Seg) (i : ℕ) (s : Seg) (q : List Seg) → i < length ns → IsIndex ns
+    → walk (kids_of ns) 0 p ≡ Some i
     → child_in (kids_of ns i) s ≡ None → Leads ns (with_path ns i s q) (p ++ s ∷ q) (length ns + length q)
 path_more ns p i s q within is led absent =
     let c : Child = record { seg = s; node = length ns } in
@@ -76,13 +79,15 @@ path_more ns p i s q within is led absent =
     (subst (Leads ns (with_child ns i c ++ empty i s ∷ []) (p ++ s ∷ [])) (sym long) (one_more ns p i s within is led absent))
     (ap (λ n. with_child ns i c ++ chain i n s q) (sym long)) (sym (append_assoc p (s ∷ []) q)) (omega (arith, long))
 
-pub long_path : (ns : List Node) (i : ℕ) (s : Seg) (q : List Seg) → length (with_path ns i s q) ≡ length ns + length q + 1
+pub long_path : (ns : List Node) (i : ℕ) (s : Seg) (q : List Seg)
+    → length (with_path ns i s q) ≡ length ns + length q + 1
 long_path ns i s q =
     let c : Child = record { seg = s; node = length ns } in
     omega (arith, length-append (with_child ns i c) (chain i (length ns) s q), length_with ns i c, long_chain i (length ns) s q)
 
 -- the nodes of the rest of a path, below the node where it ends
-pub path_grown : (ns new : List Node) (p : List Seg) (k at : ℕ) (d : Seg) → IsIndex ns → walk (kids_of ns) 0 (take k p) ≡ Some at → k < length p
+pub path_grown : (ns new : List Node) (p : List Seg) (k at : ℕ) (d : Seg) → IsIndex ns
+    → walk (kids_of ns) 0 (take k p) ≡ Some at → k < length p
     → ((s : Seg) (q : List Seg) → drop k p ≡ s ∷ q → child_in (kids_of ns at) s ≡ None) →
     new ≡ with_path ns at (get_or p k d) (drop (k + 1) p) → Leads ns new p (length ns + length (drop (k + 1) p))
 path_grown ns new p k at d is led within ends same =

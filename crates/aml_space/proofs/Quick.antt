@@ -21,7 +21,8 @@ use Rattle.aml_space.specs.Runs.{arity_met, agreed_arity, FirstCounts, is_settle
 use Rattle.aml_space.proofs.Agreeing.{unsure, met_agrees}
 use Rattle.aml_space.proofs.Leading.{whole_run}
 
-first_more : (same sure : Bool) (k : Kind) (ks : List Kind) (o standing : Option Kind) → option_or o standing ≡ slice_get ks 0
+first_more : (same sure : Bool) (k : Kind) (ks : List Kind) (o standing : Option Kind)
+    → option_or o standing ≡ slice_get ks 0
     → option_or (cond same (Some k) o) standing ≡ slice_get (cond same (k ∷ cond sure [] ks) ks) 0
 first_more true sure k ks o standing rest = refl
 first_more false sure k ks o standing rest = rest
@@ -43,7 +44,8 @@ front : (xs ys : List ℕ) (c : ℕ) → slice_get xs 0 ≡ Some c → slice_get
 front [] ys c h = absurd (false≢true (ap is_some h))
 front (x ∷ xs) ys c h = h
 
-first_target : (ks : List Kind) (out : Option ℕ) → slice_get (target_counts ks out) 0 ≡ Some (target_count (slice_get ks 0) out)
+first_target : (ks : List Kind) (out : Option ℕ)
+    → slice_get (target_counts ks out) 0 ≡ Some (target_count (slice_get ks 0) out)
 first_target [] out = refl
 first_target (k ∷ ks) out = refl
 
@@ -64,7 +66,8 @@ none_first [] h = refl
 none_first (k ∷ ks) h = absurd (false≢true (ap is_some h))
 
 module _ (o : Outlook) (is : FirstCounts o) where
-  first_by : (k : Kind) (out : Option ℕ) → (c : ℕ) × (slice_get (counts_by o k) 0 ≡ Some c) × (count_by o.first (Some k) out ≡ Some c)
+  first_by : (k : Kind) (out : Option ℕ)
+      → (c : ℕ) × (slice_get (counts_by o k) 0 ≡ Some c) × (count_by o.first (Some k) out ≡ Some c)
   first_by (Method args) out = (args, refl, refl)
   first_by (Alias target) out = (
     target_count (kind_at o.first target) (o.first.outs target),
@@ -73,7 +76,8 @@ module _ (o : Outlook) (is : FirstCounts o) where
   )
   first_by _ out = (0, refl, refl)
 
-  count_first : (p : List Seg) (k : Kind) → kind_at o.first p ≡ Some k → slice_get (counts_of o p) 0 ≡ count_at o.first p
+  count_first : (p : List Seg) (k : Kind) → kind_at o.first p ≡ Some k
+      → slice_get (counts_of o p) 0 ≡ count_at o.first p
   count_first p k at = by (o.kinds p) (sym (is.first p) ∙ at)
     where
       c : (c : ℕ) × (slice_get (counts_by o k) 0 ≡ Some c) × (count_by o.first (Some k) (o.first.outs p) ≡ Some c)
@@ -88,7 +92,8 @@ module _ (o : Outlook) (is : FirstCounts o) where
   IsTold locals found counts = MatchOption found (counts ≡ [])
       (λ p. is_settled o locals p ≡ true → (c : ℕ) × (common counts ≡ Some c) × (cond (set.contains locals p) (Some 0) (count_at o.first p) ≡ Some c))
 
-  pub told : (locals : PathSet) (paths : List (List Seg)) → IsTold locals (find (decides o.first locals) paths) (counts_met o locals paths)
+  pub told : (locals : PathSet) (paths : List (List Seg))
+      → IsTold locals (find (decides o.first locals) paths) (counts_met o locals paths)
   told locals [] = refl
   told locals (p ∷ paths) = by (set.contains locals p) refl (kind_at o.first p) refl (told locals paths)
     where
@@ -113,7 +118,8 @@ quick_way_holds o is zero_too scope locals name =
     by (find (decides o.first locals) (candidates scope name)) refl (told o is locals (candidates scope name))
   where
     by : (found : Option (List Seg)) → find (decides o.first locals) (candidates scope name) ≡ found
-        → IsTold o is locals found (counts_met o locals (candidates scope name)) → IfSome found (λ p. IsTrue (is_settled o locals p))
+        → IsTold o is locals found (counts_met o locals (candidates scope name))
+        → IfSome found (λ p. IsTrue (is_settled o locals p))
         → agreed_arity o zero_too scope locals name ≡ arity_of o.first zero_too scope locals name
     by None at none settled = ap (λ ns. arity_met ns (first_given o.first (candidates scope name)) (arity_of o.first zero_too scope locals name)) none
     by (Some p) at one settled = let c = one settled in

@@ -33,14 +33,16 @@ Keeps ns settled i s = (path : List Seg) (d : ℕ) → d ≤ length path → wal
 pub settled_none : (ns : List Node) (settled : List Settled) → settled ≡ [] → AreSettled ns settled
 settled_none ns settled none = subst (AreSettled ns) (sym none) (record { long = omega arith; shallow = λ i. tt; each = λ i. tt })
 
-fewer_at : (n i : ℕ) (settled : List Settled) → (slice_get (take n settled) i ≡ None) ⊎ (slice_get (take n settled) i ≡ slice_get settled i)
+fewer_at : (n i : ℕ) (settled : List Settled)
+    → (slice_get (take n settled) i ≡ None) ⊎ (slice_get (take n settled) i ≡ slice_get settled i)
 fewer_at zero i settled = inl refl
 fewer_at (suc n) i [] = inl refl
 fewer_at (suc n) zero (s ∷ settled) = inr refl
 fewer_at (suc n) (suc i) (s ∷ settled) = fewer_at n i settled
 
 -- what holds of each holds of each of fewer
-fewer_if : (P : Settled → Type 0) (n i : ℕ) (settled : List Settled) → IfSome (slice_get settled i) P → IfSome (slice_get (take n settled) i) P
+fewer_if : (P : Settled → Type 0) (n i : ℕ) (settled : List Settled) → IfSome (slice_get settled i) P
+    → IfSome (slice_get (take n settled) i) P
 fewer_if P n i settled is = elim (fewer_at n i settled) [
   | inl none ↦ subst (λ o. IfSome o P) (sym none) tt
   | inr same ↦ subst (λ o. IfSome o P) (sym same) is
@@ -51,7 +53,8 @@ short zero settled = (omega arith, omega arith)
 short (suc n) [] = (omega arith, omega arith)
 short (suc n) (s ∷ settled) = let less = short n settled in (omega (arith, less.0), omega (arith, less.1))
 
-pub settled_fewer : (ns : List Node) (settled fewer : List Settled) (n : ℕ) → fewer ≡ take n settled → AreSettled ns settled → AreSettled ns fewer
+pub settled_fewer : (ns : List Node) (settled fewer : List Settled) (n : ℕ) → fewer ≡ take n settled
+    → AreSettled ns settled → AreSettled ns fewer
 settled_fewer ns settled fewer n is are = subst (AreSettled ns) (sym is) (record {
   long = omega (arith, (short n settled).0, are.long);
   shallow = λ i. fewer_if _ n i settled (are.shallow i);
@@ -74,7 +77,8 @@ settled_fewer ns settled fewer n is are = subst (AreSettled ns) (sym is) (record
         }
 
 -- a node of which nothing is kept any more is ready
-pub ready_fewer : (n i : ℕ) (settled fewer : List Settled) → fewer ≡ take n settled → n ≤ i → IfSome (slice_get fewer i) (λ here. here.asked ≡ i)
+pub ready_fewer : (n i : ℕ) (settled fewer : List Settled) → fewer ≡ take n settled → n ≤ i
+    → IfSome (slice_get fewer i) (λ here. here.asked ≡ i)
 ready_fewer n i settled fewer is past = subst (λ o. IfSome o (λ here. here.asked ≡ i))
     (sym (ap (λ ss. slice_get ss i) is ∙ slice_get_past (take n settled) i (omega (arith, (short n settled).1, past)))) tt
 
@@ -86,13 +90,15 @@ module _ (ns : List Node) (is : IsIndex ns) (settled : List Settled) (are : AreS
   more = settled ++ new ∷ []
 
   -- a node before the new one is passed over as before
-  passed_before : (q : List Seg) (j : ℕ) → j < at → walk (kids_of ns) 0 q ≡ Some j → IsPassed ns settled q → IsPassed ns more q
+  passed_before : (q : List Seg) (j : ℕ) → j < at → walk (kids_of ns) 0 q ≡ Some j → IsPassed ns settled q
+      → IsPassed ns more q
   passed_before q j less led passed i there =
       let same : i ≡ j = same_Some i j (sym there ∙ led) in
       subst (λ o. IfSome o (λ (s : Settled). s.asked < i)) (sym (read_front settled (new ∷ []) i (omega (arith, same, less)))) (passed i there)
 
   -- what is kept of a node before it stays
-  old : (i : ℕ) (o : Option Settled) → slice_get settled i ≡ o → IfSome o (Keeps ns settled i) → IfSome o (Keeps ns more i)
+  old : (i : ℕ) (o : Option Settled) → slice_get settled i ≡ o → IfSome o (Keeps ns settled i)
+      → IfSome o (Keeps ns more i)
   old i None here was = tt
   old i (Some s) here was = λ path d within led.
       let so = was path d within led in
@@ -136,7 +142,8 @@ module _ (ns : List Node) (is : IsIndex ns) (settled : List Settled) (are : AreS
   IsHigher path d i = (m : ℕ) × (m ≤ d) × (walk (kids_of ns) 0 (take m path) ≡ Some i)
 
   -- one that is asked itself
-  itself : (path : List Seg) (d : ℕ) → new.depth ≡ d → new.asked ≡ at → walk (kids_of ns) 0 (take d path) ≡ Some at → IsHigher path d new.skip
+  itself : (path : List Seg) (d : ℕ) → new.depth ≡ d → new.asked ≡ at → walk (kids_of ns) 0 (take d path) ≡ Some at
+      → IsHigher path d new.skip
       → IsSettled ns more path d new
   itself path d depth asked led higher = record {
     depth = depth;
@@ -151,8 +158,10 @@ module _ (ns : List Node) (is : IsIndex ns) (settled : List Settled) (are : AreS
 
   -- one that isn't, from what is kept of its parent
   further : (up : ℕ) (above : Settled) (path : List Seg) (d : ℕ) → up < at → walk (kids_of ns) 0 (take d path) ≡ Some up
-      → walk (kids_of ns) 0 (take (d + 1) path) ≡ Some at → IsSettled ns settled path d above → new.depth ≡ above.depth + 1
-      → new.asked ≡ above.asked → HasBareChildren ns at → IsHigher path (d + 1) new.skip → IsSettled ns more path (d + 1) new
+      → walk (kids_of ns) 0 (take (d + 1) path) ≡ Some at → IsSettled ns settled path d above
+      → new.depth ≡ above.depth + 1
+      → new.asked ≡ above.asked → HasBareChildren ns at → IsHigher path (d + 1) new.skip
+      → IsSettled ns more path (d + 1) new
   further up above path d lower up_led led so deeper same bare higher =
       let far = front_led is.shape path so.asked d up so.next.within up_led in
       let asked : new.asked < at = omega (arith, same, same_Some above.asked far.0 (sym so.led ∙ far.1), far.2, lower) in
@@ -174,23 +183,27 @@ module _ (ns : List Node) (is : IsIndex ns) (settled : List Settled) (are : AreS
         skipped = higher.2;
       }
 
-  pub settled_more : (up : ℕ) (above : Settled) → 0 < at → at < length ns → up ≡ (links_of ns at).0 → slice_get settled up ≡ Some above
+  pub settled_more : (up : ℕ) (above : Settled) → 0 < at → at < length ns → up ≡ (links_of ns at).0
+      → slice_get settled up ≡ Some above
       → new.depth ≡ above.depth + 1 → (new.asked ≡ at) ⊎ ((new.asked ≡ above.asked) × HasBareChildren ns at)
-      → (new.skip ≡ up) ⊎ (option_map (λ (s : Settled). s.skip) (slice_get settled above.skip) ≡ Some new.skip) → AreSettled ns more
+      → (new.skip ≡ up) ⊎ (option_map (λ (s : Settled). s.skip) (slice_get settled above.skip) ≡ Some new.skip)
+      → AreSettled ns more
   settled_more up above some within parent kept deeper which skips =
       let lower : up < at = omega (arith, parent, is.linked.lower at some within) in
       let shallow : above.depth ≤ up = subst (λ o. IfSome o (λ (s : Settled). s.depth ≤ up)) kept (are.shallow up) in
       let was : Keeps ns settled up above = subst (λ o. IfSome o (Keeps ns settled up)) kept (are.each up) in
       all (omega (arith, deeper, shallow, lower)) within (here lower was)
     where
-      higher : (path : List Seg) (d : ℕ) → d ≤ length path → walk (kids_of ns) 0 (take d path) ≡ Some up → IsSettled ns settled path d above
+      higher : (path : List Seg) (d : ℕ) → d ≤ length path → walk (kids_of ns) 0 (take d path) ≡ Some up
+          → IsSettled ns settled path d above
           → IsHigher path (d + 1) new.skip
       higher path d long up_led so = elim skips [
         | inl parent ↦ (d, omega arith, up_led ∙ ap (λ (i : ℕ). Some i) (sym parent))
         | inr over ↦ by (slice_get settled above.skip) (are.each above.skip) over
       ]
         where
-          by : (o : Option Settled) → IfSome o (Keeps ns settled above.skip) → option_map (λ (s : Settled). s.skip) o ≡ Some new.skip → IsHigher path (d + 1) new.skip
+          by : (o : Option Settled) → IfSome o (Keeps ns settled above.skip)
+              → option_map (λ (s : Settled). s.skip) o ≡ Some new.skip → IsHigher path (d + 1) new.skip
           by None was over = absurd cc
           by (Some middle) was over =
               let next = was path so.over (omega (arith, so.shorter, long)) so.skipped in
@@ -215,7 +228,8 @@ pub record IsSaidOf (k l : Known) (path : List Seg) : Type 0 where
   pub out : (q : List Seg) → same_path q path ≡ false → map.get l.outs q ≡ map.get k.outs q
   pub given : (q : List Seg) → same_path q path ≡ false → map.get l.givens q ≡ map.get k.givens q
 
-put : {X : Type 0} (m : map.FinMap path_cmp X) (p : List Seg) (x : X) (q : List Seg) → same_path q p ≡ false → map.get (map.insert m p x) q ≡ map.get m q
+put : {X : Type 0} (m : map.FinMap path_cmp X) (p : List Seg) (x : X) (q : List Seg) → same_path q p ≡ false
+    → map.get (map.insert m p x) q ≡ map.get m q
 put m p x q other = map.get-insert paths_total m p x q ∙ ap (λ b. cond b (Some x) (map.get m q)) other
 
 pub said_nothing : (k l : Known) (p : List Seg) → l ≡ k → IsSaidOf k l p
@@ -233,7 +247,8 @@ said_given k l p n same = subst (λ m. IsSaidOf k m p) (sym same)
     (record { declared = λ q other. refl; out = λ q other. refl; given = put k.givens p (greater n (map.get k.givens p)) })
 
 -- so silence stays elsewhere
-silent_still : (k l : Known) (path q : List Seg) → IsSaidOf k l path → ((s : Seg) → same_path (q ++ s ∷ []) path ≡ false)
+silent_still : (k l : Known) (path q : List Seg) → IsSaidOf k l path
+    → ((s : Seg) → same_path (q ++ s ∷ []) path ≡ false)
     → IsSilent (namespace_in k) q → IsSilent (namespace_in l) q
 silent_still k l path q said other silent = record {
   declared = λ s. ap declared_kind (said.declared (q ++ s ∷ []) (other s)) ∙ silent.declared s;
@@ -242,7 +257,8 @@ silent_still k l path q said other silent = record {
 }
 
 -- a path doesn't stand below a front that is passed over, where nothing passes over the node above it
-elsewhere : (ns : List Node) (settled : List Settled) (path : List Seg) → IsReady ns settled path → (q : List Seg) (s : Seg) (j : ℕ)
+elsewhere : (ns : List Node) (settled : List Settled) (path : List Seg) → IsReady ns settled path
+    → (q : List Seg) (s : Seg) (j : ℕ)
     → walk (kids_of ns) 0 q ≡ Some j → j < length settled → IsPassed ns settled q → same_path (q ++ s ∷ []) path ≡ false
 elsewhere ns settled path ready q s j led within passed = false_from_ne_true _ (λ same.
     both (slice_get settled j) (slice_get-some settled j within) (passed j led) (ready q s j (sym (tells_apart exact_paths (q ++ s ∷ []) path same)) led))
@@ -259,8 +275,10 @@ elsewhere ns settled path ready q s j led within passed = false_from_ne_true _ (
 -- where what is passed over stays silent
 module _ (old new : List Node) (settled : List Settled) (is : IsIndex old) (kept : IsKept old new)
     (still : (q : List Seg) (j : ℕ) → walk (kids_of old) 0 q ≡ Some j → j < length settled → IsPassed old settled q
-    → IsSilent (namespace_in (known_by old)) q → IsSilent (namespace_in (known_by new)) q) (are : AreSettled old settled) where
-  each : (i : ℕ) (o : Option Settled) → slice_get settled i ≡ o → IfSome o (Keeps old settled i) → IfSome o (Keeps new settled i)
+    → IsSilent (namespace_in (known_by old)) q
+    → IsSilent (namespace_in (known_by new)) q) (are : AreSettled old settled) where
+  each : (i : ℕ) (o : Option Settled) → slice_get settled i ≡ o → IfSome o (Keeps old settled i)
+      → IfSome o (Keeps new settled i)
   each i None here was = tt
   each i (Some s) here was = λ q d within led.
       let inside = slice_get_within settled i s here in
@@ -289,31 +307,39 @@ module _ (old new : List Node) (settled : List Settled) (is : IsIndex old) (kept
   kept_there = record { long = omega (arith, are.long, kept.long); shallow = are.shallow; each = λ i. each i (slice_get settled i) refl (are.each i) }
 
 -- what is kept of the same nodes
-pub settled_kept : (old new looked : List Node) (settled : List Settled) (path : List Seg) → looked ≡ old → IsIndex old → IsKept old new
-    → IsSaidOf (known_by old) (known_by new) path → IsReady looked settled path → AreSettled looked settled → AreSettled new settled
+pub settled_kept : (old new looked : List Node) (settled : List Settled) (path : List Seg) → looked ≡ old → IsIndex old
+    → IsKept old new
+    → IsSaidOf (known_by old) (known_by new) path → IsReady looked settled path → AreSettled looked settled
+    → AreSettled new settled
 settled_kept old new looked settled path same is kept said ready are = kept_there old new settled is kept
     (λ q j led within passed. silent_still (known_by old) (known_by new) path q said
     (λ s. elsewhere old settled path (subst (λ ns. IsReady ns settled path) same ready) q s j led within passed))
     (subst (λ ns. AreSettled ns settled) same are)
 
 -- and where nothing more is known
-pub settled_grown : (old new : List Node) (settled : List Settled) → IsIndex old → IsKept old new → known_by new ≡ known_by old → AreSettled old settled
+pub settled_grown : (old new : List Node) (settled : List Settled) → IsIndex old → IsKept old new
+    → known_by new ≡ known_by old → AreSettled old settled
     → AreSettled new settled
 settled_grown old new settled is kept same are = kept_there old new settled is kept
     (λ q j led within passed. subst (λ k. IsSilent (namespace_in k) q) (sym same)) are
 
 -- a step up that is kept leads to the front of that depth
-pub skip_led : (ns : List Node) (settled : List Settled) → AreSettled ns settled → (path : List Seg) (d : ℕ) (from to : Reach) → d ≤ length path
-    → walk (kids_of ns) 0 (take d path) ≡ Some from.node → option_map (λ (s : Settled). s.skip) (slice_get settled from.node) ≡ Some to.node
-    → option_map (λ (s : Settled). s.depth) (slice_get settled to.node) ≡ Some to.known → walk (kids_of ns) 0 (take to.known path) ≡ Some to.node
+pub skip_led : (ns : List Node) (settled : List Settled) → AreSettled ns settled
+    → (path : List Seg) (d : ℕ) (from to : Reach) → d ≤ length path
+    → walk (kids_of ns) 0 (take d path) ≡ Some from.node
+    → option_map (λ (s : Settled). s.skip) (slice_get settled from.node) ≡ Some to.node
+    → option_map (λ (s : Settled). s.depth) (slice_get settled to.node) ≡ Some to.known
+    → walk (kids_of ns) 0 (take to.known path) ≡ Some to.node
 skip_led ns settled are path d from to within led skip depth = by (slice_get settled from.node) (are.each from.node) skip
   where
-    there : (o : Option Settled) (over : ℕ) → over ≤ length path → walk (kids_of ns) 0 (take over path) ≡ Some to.node → IfSome o (Keeps ns settled to.node)
+    there : (o : Option Settled) (over : ℕ) → over ≤ length path → walk (kids_of ns) 0 (take over path) ≡ Some to.node
+        → IfSome o (Keeps ns settled to.node)
         → option_map (λ (s : Settled). s.depth) o ≡ Some to.known → to.known ≡ over
     there None over long at was is = absurd cc
     there (Some s) over long at was is = sym (same_Some s.depth to.known is) ∙ (was path over long at).depth
 
-    by : (o : Option Settled) → IfSome o (Keeps ns settled from.node) → option_map (λ (s : Settled). s.skip) o ≡ Some to.node
+    by : (o : Option Settled) → IfSome o (Keeps ns settled from.node)
+        → option_map (λ (s : Settled). s.skip) o ≡ Some to.node
         → walk (kids_of ns) 0 (take to.known path) ≡ Some to.node
     by None was is = absurd cc
     by (Some s) was is =

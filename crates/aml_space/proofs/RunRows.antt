@@ -80,7 +80,8 @@ inner_alone : Counts (sure FOO_ (Method 1) ∷ sure DEV0 Device ∷ declares (DE
 inner_alone locals none = simp none
 
 -- a local wins
-local_wins : (locals : PathSet) → set.contains locals (BAR_ ∷ FOO_ ∷ []) ≡ false → set.contains locals (FOO_ ∷ []) ≡ true
+local_wins : (locals : PathSet) → set.contains locals (BAR_ ∷ FOO_ ∷ []) ≡ false
+    → set.contains locals (FOO_ ∷ []) ≡ true
     → agreed_arity (outlook_of (maybe FOO_ (Method 1) ∷ maybe FOO_ (Method 2) ∷ [])) false (BAR_ ∷ []) locals (name FOO_) ≡ Some 0
 local_wins locals none one = simp (none, one)
 

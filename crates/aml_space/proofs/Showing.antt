@@ -23,11 +23,13 @@ use Rattle.aml_space.specs.Runs.{kinds_at, sure_at, counts_by, counts_of, counts
 use Rattle.aml_space.specs.Runs.{missed, least_run, IsNoAlias, HaveNoAlias, HasInRun, EachIsMet, RunsDiffer}
 use Rattle.aml_space.proofs.Leading.{least_is_run}
 
-every_weaker : {X : Type 0} (P Q : X → Type 0) → ((x : X) → P x → Q x) → (xs : List X) → AllByRecursion P xs → AllByRecursion Q xs
+every_weaker : {X : Type 0} (P Q : X → Type 0) → ((x : X) → P x → Q x) → (xs : List X) → AllByRecursion P xs
+    → AllByRecursion Q xs
 every_weaker P Q weaker [] all = tt
 every_weaker P Q weaker (x ∷ xs) all = (weaker x all.0, every_weaker P Q weaker xs all.1)
 
-every_join : {X : Type 0} (P : X → Type 0) (xs ys : List X) → AllByRecursion P xs → AllByRecursion P ys → AllByRecursion P (xs ++ ys)
+every_join : {X : Type 0} (P : X → Type 0) (xs ys : List X) → AllByRecursion P xs → AllByRecursion P ys
+    → AllByRecursion P (xs ++ ys)
 every_join P [] ys front back = back
 every_join P (x ∷ xs) ys front back = (front.0, every_join P xs ys front.1 back)
 
@@ -43,7 +45,8 @@ none_is : (o : Option Kind) → is_some o ≡ false → o ≡ None
 none_is None h = refl
 none_is (Some k) h = absurd (false≢true (sym h))
 
-still_unsure : (same sure more standing : Bool) → (((same && sure) || more) || standing) ≡ false → (more || standing) ≡ false
+still_unsure : (same sure more standing : Bool) → (((same && sure) || more) || standing) ≡ false
+    → (more || standing) ≡ false
 still_unsure true true more standing h = absurd (false≢true (sym h))
 still_unsure true false more standing h = h
 still_unsure false sure more standing h = h
@@ -82,7 +85,8 @@ shown (declares p k b sure ∷ es) q = by (same_path q p) refl sure refl (shown 
     still : (r : List Seg) → sure_at (declares p k b sure ∷ es) r ≡ false → sure_at es r ≡ false
     still r h = still_unsure (same_path r p) sure (surely_declared es r) (is_some (predefined r)) h
 
-    off : (rs : List Entry) (r : List Seg) → same_path r p ≡ false → kind_at (namespace_of (declares p k b sure ∷ rs)) r ≡ kind_at (namespace_of rs) r
+    off : (rs : List Entry) (r : List Seg) → same_path r p ≡ false
+        → kind_at (namespace_of (declares p k b sure ∷ rs)) r ≡ kind_at (namespace_of rs) r
     off rs r other = ap (λ c. option_or (cond c (Some k) (declared_at rs r)) (predefined r)) other
 
     here : same_path q p ≡ true → IsShown (declares p k b sure ∷ es) q k
@@ -122,7 +126,8 @@ module _ (es : List Entry) (locals : PathSet) where
       × ((p : List Seg) → same_path p q ≡ false → sure_at es p ≡ false → kind_at (namespace_of rs) p ≡ None)
 
   found_here : (q : List Seg) (paths : List (List Seg)) → set.contains locals q ≡ false → (k : Kind) (n : ℕ)
-      → ((rs : List Entry) → count_by (namespace_of rs) (Some k) (outs_at rs q) ≡ Some n) → IsShown es q k → IsFound (q ∷ paths) n
+      → ((rs : List Entry) → count_by (namespace_of rs) (Some k) (outs_at rs q) ≡ Some n) → IsShown es q k
+      → IsFound (q ∷ paths) n
   found_here q paths other k n counts w = (
     w.0,
     w.1,
@@ -132,7 +137,8 @@ module _ (es : List Entry) (locals : PathSet) where
     w.3,
   )
 
-  counts_found : (q : List Seg) (paths : List (List Seg)) → set.contains locals q ≡ false → (ks : List Kind) → AllByRecursion (IsShown es q) ks
+  counts_found : (q : List Seg) (paths : List (List Seg)) → set.contains locals q ≡ false → (ks : List Kind)
+      → AllByRecursion (IsShown es q) ks
       → AllByRecursion IsNoAlias ks → AllByRecursion (IsFound (q ∷ paths)) (flat_map (counts_by (outlook_of es)) ks)
   counts_found q paths other [] all none = tt
   counts_found q paths other (Method n ∷ ks) all none =
@@ -142,7 +148,8 @@ module _ (es : List Entry) (locals : PathSet) where
       (found_here q paths other k 0 (λ rs. refl) all.0, counts_found q paths other ks all.1 none.1)
 
   -- a path in front that isn't sure is missing there, or is the very one
-  found_above : (q : List Seg) (paths : List (List Seg)) → set.contains locals q ≡ false → sure_at es q ≡ false → (n : ℕ) → IsFound paths n
+  found_above : (q : List Seg) (paths : List (List Seg)) → set.contains locals q ≡ false → sure_at es q ≡ false
+      → (n : ℕ) → IsFound paths n
       → IsFound (q ∷ paths) n
   found_above q paths other unsure n w = (w.0, w.1, w.2, by (same_path q w.2) refl (kind_at (namespace_of w.0) q) refl, w.4, w.5)
     where
@@ -152,7 +159,8 @@ module _ (es : List Entry) (locals : PathSet) where
       by true is (Some k) at = (λ i. cond (other i || is_some (at i)) (Some q) (find (decides (namespace_of w.0) locals) paths)) ∙ ap Some (same_is q w.2 is)
       by false is (Some k) at = absurd (false≢true (ap is_some (sym (w.5 q is unsure) ∙ at)))
 
-  met_found : (paths : List (List Seg)) → HaveNoAlias es paths → AllByRecursion (IsFound paths) (counts_met (outlook_of es) locals paths)
+  met_found : (paths : List (List Seg)) → HaveNoAlias es paths
+      → AllByRecursion (IsFound paths) (counts_met (outlook_of es) locals paths)
   met_found [] none = tt
   met_found (q ∷ paths) none = by (set.contains locals q) refl (sure_at es q) refl (met_found paths none.1)
     where
@@ -186,7 +194,8 @@ each_is_met es zero_too scope locals name none = every_weaker (IsFound es locals
     ))
     (counts_met (outlook_of es) locals (candidates scope name)) (met_found es locals (candidates scope name) none)
 
-apart : (P : ℕ → Type 0) (n : ℕ) (ns : List ℕ) → list_all (λ m. m == n) ns ≡ false → AllByRecursion P ns → (m : ℕ) × (n ≢ m) × P m
+apart : (P : ℕ → Type 0) (n : ℕ) (ns : List ℕ) → list_all (λ m. m == n) ns ≡ false → AllByRecursion P ns
+    → (m : ℕ) × (n ≢ m) × P m
 apart P n [] h all = absurd (false≢true (sym h))
 apart P n (m ∷ ns) h all = by (m == n) refl (apart P n ns) h
   where

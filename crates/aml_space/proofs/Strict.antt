@@ -21,7 +21,8 @@ use Rattle.aml_space.specs.Runs.{kinds_at, sure_at, target_counts, counts_by, co
 use Rattle.aml_space.specs.Runs.{agreed_arity}
 use Rattle.aml_space.specs.Runs.{AreSure, StaysAsItIs}
 
-one_kind : (same sure : Bool) (k : Kind) (ks : List Kind) (o standing : Option Kind) → sure ≡ true → ks ≡ option_to_list (option_or o standing)
+one_kind : (same sure : Bool) (k : Kind) (ks : List Kind) (o standing : Option Kind) → sure ≡ true
+    → ks ≡ option_to_list (option_or o standing)
     → cond same (k ∷ cond sure [] ks) ks ≡ option_to_list (option_or (cond same (Some k) o) standing)
 one_kind true sure k ks o standing is rest = ap (λ b. k ∷ cond b [] ks) is
 one_kind false sure k ks o standing is rest = rest
@@ -31,7 +32,8 @@ one_sure : (same sure more : Bool) (k : Kind) (o : Option Kind) → sure ≡ tru
 one_sure true sure more k o is rest = ap (λ b. b || more) is
 one_sure false sure more k o is rest = rest
 
-kinds_once : (es : List Entry) → AreSure es → (q : List Seg) → kinds_at es q ≡ option_to_list (kind_at (namespace_of es) q)
+kinds_once : (es : List Entry) → AreSure es → (q : List Seg)
+    → kinds_at es q ≡ option_to_list (kind_at (namespace_of es) q)
 kinds_once [] strict q = refl
 kinds_once (declares p k b sure ∷ es) strict q = one_kind (same_path q p) sure k (kinds_at es q) _ _ strict.0 (kinds_once es strict.1 q)
 kinds_once (external p n ∷ es) strict q = kinds_once es strict q
@@ -59,7 +61,8 @@ module _ (es : List Entry) (strict : AreSure es) where
       by None = refl
       by (Some k) = refl
 
-  one_count : (k : Kind) (out : Option ℕ) → (c : ℕ) × (counts_by (outlook_of es) k ≡ c ∷ []) × (count_by (namespace_of es) (Some k) out ≡ Some c)
+  one_count : (k : Kind) (out : Option ℕ)
+      → (c : ℕ) × (counts_by (outlook_of es) k ≡ c ∷ []) × (count_by (namespace_of es) (Some k) out ≡ Some c)
   one_count (Method args) out = (args, refl, refl)
   one_count (Alias target) out = (
     target_count (kind_at (namespace_of es) target) (outs_at es target),
@@ -73,7 +76,8 @@ module _ (es : List Entry) (strict : AreSure es) where
       by (Some _) out = refl
   one_count _ out = (0, refl, refl)
 
-  met_once : (locals : PathSet) (paths : List (List Seg)) → IsMet (namespace_of es) locals (find (decides (namespace_of es) locals) paths)
+  met_once : (locals : PathSet) (paths : List (List Seg))
+      → IsMet (namespace_of es) locals (find (decides (namespace_of es) locals) paths)
       (counts_met (outlook_of es) locals paths)
   met_once locals [] = refl
   met_once locals (p ∷ paths) = by (set.contains locals p) refl (kind_at (namespace_of es) p) refl (met_once locals paths)

@@ -22,7 +22,8 @@ use Rattle.aml_space.proofs.Basics.{and_then_twice}
 
 module _ (kids : ℕ → List Child) where
   -- behind a front a path leads where the rest does from there
-  pub walk_append : (i : ℕ) (p q : List Seg) → walk kids i (p ++ q) ≡ option_and_then (λ j. walk kids j q) (walk kids i p)
+  pub walk_append : (i : ℕ) (p q : List Seg)
+      → walk kids i (p ++ q) ≡ option_and_then (λ j. walk kids j q) (walk kids i p)
   walk_append i [] q = refl
   walk_append i (s ∷ p) q = (λ t. option_and_then (λ j. walk_append j p q t) (child_in (kids i) s))
       ∙ sym (and_then_twice (λ j. walk kids j p) (λ j. walk kids j q) (child_in (kids i) s))
@@ -30,7 +31,8 @@ module _ (kids : ℕ → List Child) where
   pub walk_none : (i : ℕ) (p q : List Seg) → walk kids i p ≡ None → walk kids i (p ++ q) ≡ None
   walk_none i p q none = walk_append i p q ∙ ap (option_and_then (λ j. walk kids j q)) none
 
-  pub walk_push : (i : ℕ) (q : List Seg) (s : Seg) → walk kids i (q ++ s ∷ []) ≡ option_and_then (λ j. child_in (kids j) s) (walk kids i q)
+  pub walk_push : (i : ℕ) (q : List Seg) (s : Seg)
+      → walk kids i (q ++ s ∷ []) ≡ option_and_then (λ j. child_in (kids j) s) (walk kids i q)
   walk_push i q s = walk_append i q (s ∷ []) ∙ (λ t. option_and_then (λ j. last (child_in (kids j) s) t) (walk kids i q))
     where
       last : (o : Option ℕ) → option_and_then (λ j. Some j) o ≡ o
@@ -38,12 +40,14 @@ module _ (kids : ℕ → List Child) where
       last (Some j) = refl
 
   -- one step along the rest of a path, and to the end of a longer front
-  pub led_step : (i k : ℕ) (path : List Seg) (d : Seg) (o : Option ℕ) → k < length path → child_in (kids i) (get_or path k d) ≡ o
+  pub led_step : (i k : ℕ) (path : List Seg) (d : Seg) (o : Option ℕ) → k < length path
+      → child_in (kids i) (get_or path k d) ≡ o
       → walk kids i (drop k path) ≡ option_and_then (λ j. walk kids j (drop (k + 1) path)) o
   led_step i k path d o within found =
       ap (walk kids i) (drop_more path k d within) ∙ ap (option_and_then (λ j. walk kids j (drop (k + 1) path))) found
 
-  pub led_more : (i k : ℕ) (path : List Seg) (d : Seg) (o : Option ℕ) → k < length path → walk kids 0 (take k path) ≡ Some i
+  pub led_more : (i k : ℕ) (path : List Seg) (d : Seg) (o : Option ℕ) → k < length path
+      → walk kids 0 (take k path) ≡ Some i
       → child_in (kids i) (get_or path k d) ≡ o → walk kids 0 (take (k + 1) path) ≡ o
   led_more i k path d o within led found = ap (walk kids 0) (take_more path k d within) ∙ walk_push 0 (take k path) (get_or path k d)
       ∙ ap (option_and_then (λ j. child_in (kids j) (get_or path k d))) led ∙ found
@@ -57,7 +61,8 @@ module _ {len : ℕ} {kids : ℕ → List Child} (is : IsTree len kids) where
       range [] family found = absurd cc
       range (c ∷ cs) family found = by (eq_by_cmp seg_cmp s c.seg) found (range cs family.1.1.1)
         where
-          by : (b : Bool) → cond b (Some c.node) (child_in cs s) ≡ Some j → (child_in cs s ≡ Some j → (i < j) × (j < len)) → (i < j) × (j < len)
+          by : (b : Bool) → cond b (Some c.node) (child_in cs s) ≡ Some j
+              → (child_in cs s ≡ Some j → (i < j) × (j < len)) → (i < j) × (j < len)
           by true e later = let same = same_Some c.node j e in (omega (arith, same, family.0), omega (arith, same, family.1.0))
           by false e later = later e
 
@@ -89,12 +94,14 @@ module _ {len : ℕ} {kids : ℕ → List Child} (is : IsTree len kids) where
       by (Some k) e led each = omega (arith, each k led, (kid_range i s k e).0)
 
   -- a shorter front leads to a node before it
-  pub front_led : (path : List Seg) (e d i : ℕ) → e ≤ d → walk kids 0 (take d path) ≡ Some i → (j : ℕ) × (walk kids 0 (take e path) ≡ Some j) × (j ≤ i)
+  pub front_led : (path : List Seg) (e d i : ℕ) → e ≤ d → walk kids 0 (take d path) ≡ Some i
+      → (j : ℕ) × (walk kids 0 (take e path) ≡ Some j) × (j ≤ i)
   front_led path e d i less led = by (walk kids 0 (take e path)) refl
       (sym (ap (walk kids 0) (sym (take-append-drop e (take d path)) ∙ ap (λ q. q ++ drop e (take d path)) (take-take e d path less))
       ∙ walk_append kids 0 (take e path) (drop e (take d path))) ∙ led)
     where
-      by : (o : Option ℕ) → walk kids 0 (take e path) ≡ o → option_and_then (λ j. walk kids j (drop e (take d path))) o ≡ Some i
+      by : (o : Option ℕ) → walk kids 0 (take e path) ≡ o
+          → option_and_then (λ j. walk kids j (drop e (take d path))) o ≡ Some i
           → (j : ℕ) × (walk kids 0 (take e path) ≡ Some j) × (j ≤ i)
       by None here found = absurd cc
       by (Some j) here found = (j, here, rise_from j (drop e (take d path)) i found)
@@ -124,7 +131,8 @@ module _ {len : ℕ} {kids : ℕ → List Child} (is : IsTree len kids) where
       same : same_path q p ≡ true → walk kids 0 q ≡ Some j
       same e = ap (walk kids 0) (tells_apart exact_paths q p e) ∙ led
 
-      by : (o : Option ℕ) → walk kids 0 q ≡ o → option_and_then after o ≡ cond (same_path q p) x (option_and_then part o)
+      by : (o : Option ℕ) → walk kids 0 q ≡ o
+          → option_and_then after o ≡ cond (same_path q p) x (option_and_then part o)
       by None e = sym (ap (λ b. cond b x None) (false_from_ne_true (same_path q p) (λ h. let there = same h in absurd cc)))
       by (Some k) e = sets k ∙ elim (cases_Bool (same_path q p)) [
         | inl h ↦ ap (λ b. cond b x (part k)) (eq-eqb k j (same_Some k j (sym e ∙ same h)) ∙ sym h)

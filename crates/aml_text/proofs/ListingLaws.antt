@@ -14,7 +14,8 @@ blocks_many names codes terms =
 
 -- what a place has is the block there
 pub block_there : (names codes : List (List ℕ)) (terms : List Trees) (i : ℕ) (name code : List ℕ) (ts : Trees) (other : OneBlock)
-    → i < length (blocks_of names codes terms) → name ≡ get_or names i name → code ≡ get_or codes i code → ts ≡ get_or terms i ts
+    → i < length (blocks_of names codes terms) → name ≡ get_or names i name → code ≡ get_or codes i code
+    → ts ≡ get_or terms i ts
     → record { name = name; code = code; terms = ts } ≡ get_or (blocks_of names codes terms) i other
 block_there [] codes terms i name code ts other inside p q r = absurd (omega (arith, inside))
 block_there (n ∷ names) [] terms i name code ts other inside p q r = absurd (omega (arith, inside))
@@ -32,7 +33,8 @@ module _ (dumps : List Dump) where
   tables_many [] = refl
   tables_many (t ∷ ts) = ap suc (tables_many ts)
 
-  pub table_there : (ts : List Table) (i : ℕ) (t : Table) (name : List ℕ) (other : OneBlock) → i < length ts → t ≡ get_or ts i t → name ≡ name_of dumps t.dump
+  pub table_there : (ts : List Table) (i : ℕ) (t : Table) (name : List ℕ) (other : OneBlock) → i < length ts
+      → t ≡ get_or ts i t → name ≡ name_of dumps t.dump
       → record { name = name; code = t.code.now; terms = nodes_view t.terms.items } ≡ get_or (of_tables ts) i other
   table_there [] i t name other inside is n = absurd (omega (arith, inside))
   table_there (x ∷ ts) zero t name other inside is n =
@@ -41,7 +43,8 @@ module _ (dumps : List Dump) where
   table_there (x ∷ ts) (suc i) t name other inside is n = table_there ts i t name other (omega (arith, inside)) is n
 
 -- the block at a place is printed, and those behind it are still to be
-pub blocks_turn : (blocks : List OneBlock) (i : ℕ) (b : OneBlock) (bs rest : List BodyLines) (done total : List ℕ) → i < length blocks → b ≡ get_or blocks i b
+pub blocks_turn : (blocks : List OneBlock) (i : ℕ) (b : OneBlock) (bs rest : List BodyLines) (done total : List ℕ)
+    → i < length blocks → b ≡ get_or blocks i b
     → rest ≡ left_all b.terms bs → done ++ blocks_text (drop i blocks) bs ≡ total
     → (done ++ block_text b.name b.code b.terms bs) ++ blocks_text (drop (i + 1) blocks) rest ≡ total
 blocks_turn blocks i b bs rest done total inside is e so_far =

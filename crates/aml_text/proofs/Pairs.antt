@@ -7,7 +7,8 @@ module _ {A B C : Type 0} (f : A × B → C) (xs : List A) (ys : List B) (many :
   pairs_many = omega (arith, length-map (zip xs ys) f, length-zip xs ys)
 
   -- at a place
-  pub pair_there : (i : ℕ) (x : A) (y : B) (other : C) → i < length xs → x ≡ get_or xs i x → y ≡ get_or ys i y → f (x, y) ≡ get_or (map f (zip xs ys)) i other
+  pub pair_there : (i : ℕ) (x : A) (y : B) (other : C) → i < length xs → x ≡ get_or xs i x → y ≡ get_or ys i y
+      → f (x, y) ≡ get_or (map f (zip xs ys)) i other
   pair_there i x y other inside p q =
       sym (get_or-map f (zip xs ys) i (x, y) other (omega (arith, length-zip xs ys)) ∙ ap f (get_or-zip xs ys i (x, y) inside (omega arith)
       ∙ sym (λ k. (p k, q k))))

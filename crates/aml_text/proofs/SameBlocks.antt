@@ -6,7 +6,8 @@ use Rattle.aml_code.specs.Tree.{Trees}
 use Rattle.asl_text.proofs.LevelLaws.{AgreeAt, same_all, behind_agree}
 
 -- the blocks of tables are the same with both
-pub same_blocks : (names codes : List (List ℕ)) (trees : List Trees) (fs gs : List BodyLines) → AgreeAt (levels_of trees) fs gs
+pub same_blocks : (names codes : List (List ℕ)) (trees : List Trees) (fs gs : List BodyLines)
+    → AgreeAt (levels_of trees) fs gs
     → blocks_text (blocks_of names codes trees) fs ≡ blocks_text (blocks_of names codes trees) gs
 same_blocks [] codes trees fs gs a = refl
 same_blocks (n ∷ names) [] trees fs gs a = refl

@@ -19,7 +19,8 @@ unfoldable use Rattle.asl_text.specs.Texts.{flags_text}
 pub head_unnamed : (o : Option Name) (f : Option ℕ) (other : List ℕ) → o ≡ None → method_head_by o f other ≡ other
 head_unnamed o f other e = ap (λ (n : Option Name). method_head_by n f other) e
 
-pub head_unflagged : (o : Option Name) (f : Option ℕ) (other : List ℕ) (n : Name) → o ≡ Some n → f ≡ None → method_head_by o f other ≡ other
+pub head_unflagged : (o : Option Name) (f : Option ℕ) (other : List ℕ) (n : Name) → o ≡ Some n → f ≡ None
+    → method_head_by o f other ≡ other
 head_unflagged o f other n e h = ap (λ (m : Option Name). method_head_by m f other) e ∙ ap (λ (g : Option ℕ). method_head_by (Some n) g other) h
 
 pub head_whole : (o : Option Name) (f : Option ℕ) (other : List ℕ) (n : Name) (flags : ℕ) → o ≡ Some n → f ≡ Some flags
@@ -34,7 +35,8 @@ module _ (level : ℕ) (bs : List BodyLines) where
   pub behind_nothing : (node : Node) → node ≡ Nothing → behind (levels_in level (node_view node)) bs ≡ bs
   behind_nothing node e = ap (λ t. behind (levels_in level t) bs) (ap node_view e ∙ view-Nothing)
 
-  pub behind_named : (node : Node) (n : Name) (args : Vec Node Global) → node ≡ Named n args → behind (levels_in level (node_view node)) bs ≡ bs
+  pub behind_named : (node : Node) (n : Name) (args : Vec Node Global) → node ≡ Named n args
+      → behind (levels_in level (node_view node)) bs ≡ bs
   behind_named node n args e = ap (λ t. behind (levels_in level t) bs) (ap node_view e ∙ view-Named n args)
 
   pub behind_op : (node : Node) (o : ℕ) (w : Option PkgWidth) (ps : Vec Part Global) (t : Tail) → node ≡ Op o w ps t
@@ -44,20 +46,24 @@ module _ (level : ℕ) (bs : List BodyLines) where
   pub behind_empty : (tail : Tail) → tail ≡ tails.Empty → behind (tail_levels level (tail_view tail)) bs ≡ bs
   behind_empty tail e = ap (λ t. behind (tail_levels level t) bs) (ap tail_view e ∙ view-tail-Empty)
 
-  pub behind_bytes : (tail : Tail) (xs : List ℕ) → tail ≡ tails.Bytes xs → behind (tail_levels level (tail_view tail)) bs ≡ bs
+  pub behind_bytes : (tail : Tail) (xs : List ℕ) → tail ≡ tails.Bytes xs
+      → behind (tail_levels level (tail_view tail)) bs ≡ bs
   behind_bytes tail xs e = ap (λ t. behind (tail_levels level t) bs) (ap tail_view e ∙ view-tail-Bytes xs)
 
-  pub behind_elements : (tail : Tail) (ns : Vec Node Global) → tail ≡ tails.Elements ns → behind (tail_levels level (tail_view tail)) bs ≡ bs
+  pub behind_elements : (tail : Tail) (ns : Vec Node Global) → tail ≡ tails.Elements ns
+      → behind (tail_levels level (tail_view tail)) bs ≡ bs
   behind_elements tail ns e = ap (λ t. behind (tail_levels level t) bs) (ap tail_view e ∙ view-tail-Elements ns)
 
-  pub behind_fields : (tail : Tail) (us : Vec Field Global) → tail ≡ tails.Fields us → behind (tail_levels level (tail_view tail)) bs ≡ bs
+  pub behind_fields : (tail : Tail) (us : Vec Field Global) → tail ≡ tails.Fields us
+      → behind (tail_levels level (tail_view tail)) bs ≡ bs
   behind_fields tail us e = ap (λ t. behind (tail_levels level t) bs) (ap tail_view e ∙ view-tail-Fields us)
 
   pub behind_terms : (tail : Tail) (ns : Vec Node Global) → tail ≡ tails.Terms ns
       → behind (tail_levels level (tail_view tail)) bs ≡ behind (all_levels level (nodes_view ns.items)) bs
   behind_terms tail ns e = ap (λ t. behind (tail_levels level t) bs) (ap tail_view e ∙ view-tail-Terms ns)
 
-  pub behind_body : (tail : Tail) (start len : ℕ) → tail ≡ tails.Body start len → behind (tail_levels level (tail_view tail)) bs ≡ drop 1 bs
+  pub behind_body : (tail : Tail) (start len : ℕ) → tail ≡ tails.Body start len
+      → behind (tail_levels level (tail_view tail)) bs ≡ drop 1 bs
   behind_body tail start len e = ap (λ t. behind (tail_levels level t) bs) (ap tail_view e ∙ view-tail-Body start len)
 
 pub ruleset behind_nodes = (behind_nothing, behind_named, behind_op)
@@ -71,7 +77,8 @@ behind_both ls more bs = drop-drop (length more) (length ls) bs ∙ ap (λ n. dr
 
 -- what was printed, and what is still to be
 pub table_turn : (code : List ℕ) (level : ℕ) (n : Node) (ns : List Node) (bs rest : List BodyLines) (done total : List ℕ)
-    → rest ≡ behind (levels_in level (node_view n)) bs → done ++ terms_lines code (Some bs) level (nodes_view (n ∷ ns)) ≡ total
+    → rest ≡ behind (levels_in level (node_view n)) bs
+    → done ++ terms_lines code (Some bs) level (nodes_view (n ∷ ns)) ≡ total
     → (done ++ term_lines code (Some bs) level (node_view n)) ++ terms_lines code (Some rest) level (nodes_view ns) ≡ total
 table_turn code level n ns bs rest done total e so_far =
     let first = term_lines code (Some bs) level (node_view n) in
@@ -80,7 +87,8 @@ table_turn code level n ns bs rest done total e so_far =
 
 -- ---- flags
 
-pub flags_are : (flags : ℕ) → flags_text flags ≡ (word ", " ++ decimal (flags % 8)) ++ serialized_text flags ++ (word ", " ++ decimal (flags / 16))
+pub flags_are : (flags : ℕ)
+    → flags_text flags ≡ (word ", " ++ decimal (flags % 8)) ++ serialized_text flags ++ (word ", " ++ decimal (flags / 16))
 unfolding flags_text
 flags_are flags = refl
 

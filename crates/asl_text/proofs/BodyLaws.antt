@@ -7,15 +7,18 @@ use Rattle.asl_text.specs.declared.bodies.Body.TheVariants as bodies
 use Rattle.asl_text.specs.declared.bodies.BodyText.TheVariants as texts
 use Rattle.text_writer.proofs.PrintLaws.{straight}
 
-pub first_none : {X : Type 0} (f : X → BodyLines) (xs : List X) (level : ℕ) (bs : List ℕ) → length xs ≡ 0 → first_lines (map f xs) level bs ≡ []
+pub first_none : {X : Type 0} (f : X → BodyLines) (xs : List X) (level : ℕ) (bs : List ℕ) → length xs ≡ 0
+    → first_lines (map f xs) level bs ≡ []
 first_none f [] level bs e = refl
 first_none f (x ∷ xs) level bs e = cc
 
-pub first_some : {X : Type 0} (f : X → BodyLines) (xs : List X) (level : ℕ) (bs : List ℕ) (x : X) (rest : List X) → xs ≡ x ∷ rest
+pub first_some : {X : Type 0} (f : X → BodyLines) (xs : List X) (level : ℕ) (bs : List ℕ) (x : X) (rest : List X)
+    → xs ≡ x ∷ rest
     → first_lines (map f xs) level bs ≡ f x level bs
 first_some f xs level bs x rest e = ap (λ ys. first_lines (map f ys) level bs) e
 
-pub read_none : (xs : List Body) (level : ℕ) (bs : List ℕ) → length xs ≡ 0 → first_lines (map body_lines (map body_view xs)) level bs ≡ []
+pub read_none : (xs : List Body) (level : ℕ) (bs : List ℕ) → length xs ≡ 0
+    → first_lines (map body_lines (map body_view xs)) level bs ≡ []
 read_none [] level bs e = refl
 read_none (x ∷ xs) level bs e = cc
 
@@ -35,7 +38,8 @@ of_raw level bs body fault e = ap (λ (b : Body). body_lines (body_view b) level
 
 pub ruleset read_lines = (of_tree, of_raw)
 
-pub of_lines : (level : ℕ) (kept : BodyText) (text : Vec ℕ Global) → kept ≡ texts.Lines text → kept_lines kept level ≡ text.items
+pub of_lines : (level : ℕ) (kept : BodyText) (text : Vec ℕ Global) → kept ≡ texts.Lines text
+    → kept_lines kept level ≡ text.items
 of_lines level kept text e = ap (λ (k : BodyText). kept_lines k level) e
 
 pub of_terms : (level : ℕ) (kept : BodyText) (nodes : Vec Node Global) → kept ≡ texts.Terms nodes

@@ -28,7 +28,8 @@ ends_lines level (op o w ps r) = ends_op level o ps r
 ends_lines level t = ends_line level (inline t)
 
 -- what is cut off comes back
-pub cut_newline : (text front : List ℕ) (n : ℕ) → n ≡ length text → text ≡ front ++ word "\n" → take (n - 1) text ++ word "\n" ≡ text
+pub cut_newline : (text front : List ℕ) (n : ℕ) → n ≡ length text → text ≡ front ++ word "\n"
+    → take (n - 1) text ++ word "\n" ≡ text
 unfolding word
 cut_newline text front n long is =
     let count : n - 1 ≡ length front = omega (arith, long, ap length is, length-append front (word "\n")) in

@@ -35,19 +35,24 @@ module _ (link : Link) where
 pub ruleset links = (at_target, at_buffer)
 
 module _ (field : Field) where
-  pub at_unit : (s : Seg) (w : PkgWidth) (n : ℕ) → field ≡ units.NamedUnit s w n → field_text (field_view field) ≡ s.0 ++ word ", " ++ decimal n
+  pub at_unit : (s : Seg) (w : PkgWidth) (n : ℕ) → field ≡ units.NamedUnit s w n
+      → field_text (field_view field) ≡ s.0 ++ word ", " ++ decimal n
   at_unit s w n e = ap (λ f. field_text (field_view f)) e ∙ ap field_text (view-field-NamedUnit s w n)
 
-  pub at_reserved : (w : PkgWidth) (n : ℕ) → field ≡ units.Reserved w n → field_text (field_view field) ≡ word "Reserved, " ++ decimal n
+  pub at_reserved : (w : PkgWidth) (n : ℕ) → field ≡ units.Reserved w n
+      → field_text (field_view field) ≡ word "Reserved, " ++ decimal n
   at_reserved w n e = ap (λ f. field_text (field_view f)) e ∙ ap field_text (view-field-Reserved w n)
 
-  pub at_access : (a b : ℕ) → field ≡ units.Access a b → field_text (field_view field) ≡ word "Access (" ++ byte_pair a b ++ word ")"
+  pub at_access : (a b : ℕ) → field ≡ units.Access a b
+      → field_text (field_view field) ≡ word "Access (" ++ byte_pair a b ++ word ")"
   at_access a b e = ap (λ f. field_text (field_view f)) e ∙ ap field_text (view-field-Access a b)
 
-  pub at_connection : (l : Link) → field ≡ units.Connection l → field_text (field_view field) ≡ word "Connection (" ++ link_text (link_view l) ++ word ")"
+  pub at_connection : (l : Link) → field ≡ units.Connection l
+      → field_text (field_view field) ≡ word "Connection (" ++ link_text (link_view l) ++ word ")"
   at_connection l e = ap (λ f. field_text (field_view f)) e ∙ ap field_text (view-field-Connection l)
 
-  pub at_extended : (a b c : ℕ) → field ≡ units.Extended a b c → field_text (field_view field) ≡ word "ExtendedAccess (" ++ byte_pair a b ++ byte_end c
+  pub at_extended : (a b c : ℕ) → field ≡ units.Extended a b c
+      → field_text (field_view field) ≡ word "ExtendedAccess (" ++ byte_pair a b ++ byte_end c
   at_extended a b c e = ap (λ f. field_text (field_view f)) e ∙ ap field_text (view-field-Extended a b c)
 
 pub ruleset fields_of = (at_unit, at_reserved, at_access, at_connection, at_extended)
@@ -69,12 +74,14 @@ terms-push level (m ∷ ns) n =
     ∙ sym (append_assoc (lines level (node_view m)) (all_lines level (nodes_view ns)) (lines level (node_view n)))
 
 module _ (level : ℕ) where
-  pub fields_turned : (us : List Field) (i j : ℕ) (d : Field) → j ≡ i + 1 → i < length us → field_lines level (fields_view (take j us))
+  pub fields_turned : (us : List Field) (i j : ℕ) (d : Field) → j ≡ i + 1 → i < length us
+      → field_lines level (fields_view (take j us))
       ≡ field_lines level (fields_view (take i us)) ++ line level (field_text (field_view (get_or us i d)))
   fields_turned us i j d e h =
       grown (λ vs. field_lines level (fields_view vs)) (λ u. line level (field_text (field_view u))) (fields-push level) us i j d e h
 
-  pub terms_turned : (ns : List Node) (i j : ℕ) (d : Node) → j ≡ i + 1 → i < length ns → all_lines level (nodes_view (take j ns))
+  pub terms_turned : (ns : List Node) (i j : ℕ) (d : Node) → j ≡ i + 1 → i < length ns
+      → all_lines level (nodes_view (take j ns))
       ≡ all_lines level (nodes_view (take i ns)) ++ lines level (node_view (get_or ns i d))
   terms_turned ns i j d e h = grown (λ ms. all_lines level (nodes_view ms)) (λ n. lines level (node_view n)) (terms-push level) ns i j d e h
 
@@ -85,7 +92,8 @@ module _ (code : List ℕ) (bs : Option (List BodyLines)) (level : ℕ) where
       → term_lines code bs level (node_view node) ≡ line level (inline (node_view node))
   as_node node t is e = rw is e
 
-  pub lines_nothing : (node : Node) → node ≡ Nothing → term_lines code bs level (node_view node) ≡ line level (inline (node_view node))
+  pub lines_nothing : (node : Node) → node ≡ Nothing
+      → term_lines code bs level (node_view node) ≡ line level (inline (node_view node))
   lines_nothing node e = as_node node trees.nothing (ap node_view e ∙ view-Nothing) refl
 
   pub lines_named : (node : Node) (n : Name) (args : Vec Node Global) → node ≡ Named n args
@@ -105,7 +113,8 @@ module _ (code : List ℕ) (bs : Option (List BodyLines)) (level o : ℕ) (ps : 
   abbrev IsLine : Tail → Type 0
   IsLine tail = op_lines code bs level o ps (tail_view tail) ≡ line level (head_of o ps ++ tail_text (tail_view tail))
 
-  as_line : (tail : Tail) (t : trees.Tail) → tail_view tail ≡ t → op_lines code bs level o ps t ≡ line level (head_of o ps ++ tail_text t) → IsLine tail
+  as_line : (tail : Tail) (t : trees.Tail) → tail_view tail ≡ t
+      → op_lines code bs level o ps t ≡ line level (head_of o ps ++ tail_text t) → IsLine tail
   as_line tail t is e = rw is e
 
   pub tail_empty : (tail : Tail) → tail ≡ tails.Empty → IsLine tail
@@ -117,21 +126,25 @@ module _ (code : List ℕ) (bs : Option (List BodyLines)) (level o : ℕ) (ps : 
   pub tail_elements : (tail : Tail) (ns : Vec Node Global) → tail ≡ tails.Elements ns → IsLine tail
   tail_elements tail ns e = as_line tail (trees.elements (nodes_view ns.items)) (ap tail_view e ∙ view-tail-Elements ns) refl
 
-  pub tail_terms : (tail : Tail) (ns : Vec Node Global) → tail ≡ tails.Terms ns → op_lines code bs level o ps (tail_view tail)
+  pub tail_terms : (tail : Tail) (ns : Vec Node Global) → tail ≡ tails.Terms ns
+      → op_lines code bs level o ps (tail_view tail)
       ≡ opening level (head_of o ps) ++ terms_lines code bs (deeper level) (nodes_view ns.items) ++ line level (word "}")
   tail_terms tail ns e = ap (op_lines code bs level o ps) (ap tail_view e ∙ view-tail-Terms ns)
 
-  pub tail_fields : (tail : Tail) (us : Vec Field Global) → tail ≡ tails.Fields us → op_lines code bs level o ps (tail_view tail)
+  pub tail_fields : (tail : Tail) (us : Vec Field Global) → tail ≡ tails.Fields us
+      → op_lines code bs level o ps (tail_view tail)
       ≡ opening level (head_of o ps) ++ field_lines (deeper level) (fields_view us.items) ++ line level (word "}")
   tail_fields tail us e = ap (op_lines code bs level o ps) (ap tail_view e ∙ view-tail-Fields us)
 
 -- a method without its body, and one with the first of the bodies
-pub method_alone : (code : List ℕ) (level o : ℕ) (ps : Parts) (tail : Tail) (start len : ℕ) → tail ≡ tails.Body start len
+pub method_alone : (code : List ℕ) (level o : ℕ) (ps : Parts) (tail : Tail) (start len : ℕ)
+    → tail ≡ tails.Body start len
     → op_lines code None level o ps (tail_view tail) ≡ line level (head_of o ps ++ tail_text (tail_view tail))
 method_alone code level o ps tail start len e =
     as_line code None level o ps tail (trees.body start len) (ap tail_view e ∙ view-tail-Body start len) (ap (line level) (sym (append-nil (head_of o ps))))
 
-pub method_whole : (code : List ℕ) (bs : List BodyLines) (level o : ℕ) (ps : Parts) (tail : Tail) (start len : ℕ) → tail ≡ tails.Body start len
+pub method_whole : (code : List ℕ) (bs : List BodyLines) (level o : ℕ) (ps : Parts) (tail : Tail) (start len : ℕ)
+    → tail ≡ tails.Body start len
     → op_lines code (Some bs) level o ps (tail_view tail) ≡ opening level (method_head o ps) ++ first_lines bs (deeper level) (slice_of code start len)
     ++ line level (word "}")
 method_whole code bs level o ps tail start len e = ap (op_lines code (Some bs) level o ps) (ap tail_view e ∙ view-tail-Body start len)

@@ -36,7 +36,8 @@ arguments_none : {X : Type 0} (g : X → List ℕ) (xs : List X) → length xs �
 unfolding arguments_text
 arguments_none g xs e = ap (λ ys. arguments_text (map g ys)) (nil_from_length xs e)
 
-arguments_some : {X : Type 0} (g : X → List ℕ) (xs : List X) → (length xs ≡ 0 → ⊥) → arguments_text (map g xs) ≡ word " (" ++ joined (map g xs) ++ word ")"
+arguments_some : {X : Type 0} (g : X → List ℕ) (xs : List X) → (length xs ≡ 0 → ⊥)
+    → arguments_text (map g xs) ≡ word " (" ++ joined (map g xs) ++ word ")"
 unfolding arguments_text
 arguments_some g [] e = absurd (e refl)
 arguments_some g (x ∷ xs) e = refl
@@ -45,7 +46,8 @@ module _ (nodes : List Node) where
   pub no_arguments : length nodes ≡ 0 → arguments_text (inlines (nodes_view nodes)) ≡ []
   no_arguments e = ap arguments_text (inlines-map nodes) ∙ arguments_none node_text nodes e
 
-  pub some_arguments : (length nodes ≡ 0 → ⊥) → arguments_text (inlines (nodes_view nodes)) ≡ word " (" ++ joined (map node_text nodes) ++ word ")"
+  pub some_arguments : (length nodes ≡ 0 → ⊥)
+      → arguments_text (inlines (nodes_view nodes)) ≡ word " (" ++ joined (map node_text nodes) ++ word ")"
   some_arguments e = ap arguments_text (inlines-map nodes) ∙ arguments_some node_text nodes e
 
   pub node_braces : braced (inlines (nodes_view nodes)) ≡ word " {" ++ joined (map node_text nodes) ++ word "}"
@@ -60,14 +62,16 @@ module _ (ps : List Part) where
   pub no_part_arguments : length ps ≡ 0 → arguments_text (part_texts (parts_view ps)) ≡ []
   no_part_arguments e = ap arguments_text (part_texts-map ps) ∙ arguments_none one_part_text ps e
 
-  pub some_part_arguments : (length ps ≡ 0 → ⊥) → arguments_text (part_texts (parts_view ps)) ≡ word " (" ++ joined (map one_part_text ps) ++ word ")"
+  pub some_part_arguments : (length ps ≡ 0 → ⊥)
+      → arguments_text (part_texts (parts_view ps)) ≡ word " (" ++ joined (map one_part_text ps) ++ word ")"
   some_part_arguments e = ap arguments_text (part_texts-map ps) ∙ arguments_some one_part_text ps e
 
   pub head_none : (o : Option Row) → o ≡ None → head_text o (part_texts (parts_view ps)) ≡ joined (map one_part_text ps)
   unfolding head_text
   head_none o e = ap (λ (r : Option Row). head_text r (part_texts (parts_view ps))) e ∙ ap joined (part_texts-map ps)
 
-  pub head_constant : (r : Row) → is_constant r ≡ true → head_text (Some r) (part_texts (parts_view ps)) ≡ joined (map one_part_text ps)
+  pub head_constant : (r : Row) → is_constant r ≡ true
+      → head_text (Some r) (part_texts (parts_view ps)) ≡ joined (map one_part_text ps)
   unfolding head_text
   head_constant r e =
       ap (λ (b : Bool). cond b (joined (part_texts (parts_view ps))) (r.mnemonic ++ arguments_text (part_texts (parts_view ps)))) e
@@ -135,10 +139,12 @@ at_tail_empty tail e = ap (λ t. tail_text (tail_view t)) e ∙ ap tail_text vie
 pub at_tail_terms : (tail : Tail) (ns : Vec Node Global) → tail ≡ tails.Terms ns → tail_text (tail_view tail) ≡ []
 at_tail_terms tail ns e = ap (λ t. tail_text (tail_view t)) e ∙ ap tail_text (view-tail-Terms ns)
 
-pub at_tail_bytes : (tail : Tail) (bs : List ℕ) → tail ≡ tails.Bytes bs → tail_text (tail_view tail) ≡ braced (map hex2 bs)
+pub at_tail_bytes : (tail : Tail) (bs : List ℕ) → tail ≡ tails.Bytes bs
+    → tail_text (tail_view tail) ≡ braced (map hex2 bs)
 at_tail_bytes tail bs e = ap (λ t. tail_text (tail_view t)) e ∙ ap tail_text (view-tail-Bytes bs)
 
-pub at_tail_elements : (tail : Tail) (ns : Vec Node Global) → tail ≡ tails.Elements ns → tail_text (tail_view tail) ≡ braced (inlines (nodes_view ns.items))
+pub at_tail_elements : (tail : Tail) (ns : Vec Node Global) → tail ≡ tails.Elements ns
+    → tail_text (tail_view tail) ≡ braced (inlines (nodes_view ns.items))
 at_tail_elements tail ns e = ap (λ t. tail_text (tail_view t)) e ∙ ap tail_text (view-tail-Elements ns)
 
 pub at_tail_fields : (tail : Tail) (us : Vec Field Global) → tail ≡ tails.Fields us → tail_text (tail_view tail) ≡ []

@@ -12,7 +12,8 @@ use Rattle.std.proofs.lemmas.List.{take_all}
 use Rattle.std.proofs.Math.Seq.{take-add}
 
 -- what is made of a list that grows at its end
-pub grown : {X Y : Type 0} (F : List X → List Y) (g : X → List Y) → ((xs : List X) (x : X) → F (xs ++ x ∷ []) ≡ F xs ++ g x) → (xs : List X) (i j : ℕ) (d : X)
+pub grown : {X Y : Type 0} (F : List X → List Y) (g : X → List Y)
+    → ((xs : List X) (x : X) → F (xs ++ x ∷ []) ≡ F xs ++ g x) → (xs : List X) (i j : ℕ) (d : X)
     → j ≡ i + 1 → i < length xs → F (take j xs) ≡ F (take i xs) ++ g (get_or xs i d)
 grown F g more xs i j d e h = ap F (ap (λ k. take k xs) e ∙ take_more xs i d h) ∙ more (take i xs) (get_or xs i d)
 
@@ -37,7 +38,8 @@ module _ {X : Type 0} (separator : List ℕ) (g : X → List ℕ) (xs : List X) 
   unfolding separated
   separated-nil e = ap (λ ys. separated separator (map g ys)) (nil_from_length xs e)
 
-  pub separated-cons : (x : X) (rest : List X) → xs ≡ x ∷ rest → separated separator (map g xs) ≡ g x ++ continued separator (map g rest)
+  pub separated-cons : (x : X) (rest : List X) → xs ≡ x ∷ rest
+      → separated separator (map g xs) ≡ g x ++ continued separator (map g rest)
   unfolding separated continued
   separated-cons x rest e = ap (λ ys. separated separator (map g ys)) e
 
@@ -47,11 +49,13 @@ module _ {X : Type 0} (separator : List ℕ) (g : X → List ℕ) (xs : List X) 
       grown (λ ys. continued separator (map g ys)) (λ x. separator ++ g x)
       (λ ys x. ap (continued separator) (map-append g ys (x ∷ [])) ∙ continued_more separator (map g ys) (g x)) xs i j d e h
 
-  pub continued-all : (i : ℕ) → length xs ≤ i → continued separator (map g (take i xs)) ≡ flat_map (λ text. separator ++ text) (map g xs)
+  pub continued-all : (i : ℕ) → length xs ≤ i
+      → continued separator (map g (take i xs)) ≡ flat_map (λ text. separator ++ text) (map g xs)
   unfolding continued
   continued-all i e = ap (λ ys. flat_map (λ text. separator ++ text) (map g ys)) (take_all i xs e)
 
-  pub continued-on : (done n : ℕ) → continued separator (map g (take (done + n) xs)) ≡ continued separator (map g (take done xs))
+  pub continued-on : (done n : ℕ)
+      → continued separator (map g (take (done + n) xs)) ≡ continued separator (map g (take done xs))
       ++ flat_map (λ text. separator ++ text) (map g (take ((done + n) - done) (drop done xs)))
   unfolding continued
   continued-on done n =

@@ -17,7 +17,8 @@ use Rattle.text_writer.specs.declared.output.Out.{Out}
 use Rattle.text_writer.specs.declared.output.WriteFault.{WriteFault}
 
 -- what is sent after a first part, of a text after a first text
-joined_whole : (before now xs ys sent more end : List ℕ) → before ++ xs ≡ sent ++ now → now ++ ys ≡ more ++ end → before ++ (xs ++ ys) ≡ (sent ++ more) ++ end
+joined_whole : (before now xs ys sent more end : List ℕ) → before ++ xs ≡ sent ++ now → now ++ ys ≡ more ++ end
+    → before ++ (xs ++ ys) ≡ (sent ++ more) ++ end
 joined_whole before now xs ys sent more end p q =
     sym (append_assoc before xs ys) ∙ ap (λ l. l ++ ys) p ∙ append_assoc sent now ys ∙ ap (λ l. sent ++ l) q ∙ sym (append_assoc sent more end)
 
@@ -37,7 +38,8 @@ module _ {W : Type 0} (f : W → Option (List ℕ)) where
     counted = omega (arith, p.counted, q.counted, length-append xs ys);
   }
 
-  Went-trans : (s t u : Out W) (xs ys now end bytes : List ℕ) → Went f s t xs now → Sends f t u bytes → now ++ ys ≡ bytes ++ end
+  Went-trans : (s t u : Out W) (xs ys now end bytes : List ℕ) → Went f s t xs now → Sends f t u bytes
+      → now ++ ys ≡ bytes ++ end
       → Went f s u (xs ++ ys) end
   Went-trans s t u xs ys now end bytes p sent whole = record {
     bytes = p.bytes ++ bytes;
@@ -45,7 +47,8 @@ module _ {W : Type 0} (f : W → Option (List ℕ)) where
     whole = joined_whole (waiting s.pending) now xs ys p.bytes bytes end p.whole whole;
   }
 
-  by_then : (a b c : Bool) (s t u : Out W) (xs ys : List ℕ) → PrintsBy a b f s t xs → PrintsBy b c f t u ys → PrintsBy a c f s u (xs ++ ys)
+  by_then : (a b c : Bool) (s t u : Out W) (xs ys : List ℕ) → PrintsBy a b f s t xs → PrintsBy b c f t u ys
+      → PrintsBy a c f s u (xs ++ ys)
   by_then false false false s t u xs ys p q = Went-trans s t u xs ys (waiting t.pending) (waiting u.pending) q.bytes p q.sent q.whole
   by_then false false true s t u xs ys p q = (q.0, q.1, Went-trans s t u xs ys (waiting t.pending) q.0 q.2.bytes p q.2.sent q.2.whole)
   by_then false true true s t u xs ys p q =
@@ -75,7 +78,8 @@ module _ {W : Type 0} (f : W → Option (List ℕ)) where
 
   -- one more item of a list
   pub prints_turn : {X : Type 0} (s t u : Out W) (g : X → List ℕ) (xs : List X) (i : ℕ) (x : X)
-      → i < length xs → x ≡ get_or xs i x → Prints f s t (flat_map g (take i xs)) → Prints f t u (g x) → Prints f s u (flat_map g (take (i + 1) xs))
+      → i < length xs → x ≡ get_or xs i x → Prints f s t (flat_map g (take i xs)) → Prints f t u (g x)
+      → Prints f s u (flat_map g (take (i + 1) xs))
   prints_turn s t u g xs i x h e p q = subst (Prints f s u) (flat_map_turn g xs i x h e) (prints_then s t u (flat_map g (take i xs)) (g x) p q)
 
   -- the items have come to their end
@@ -103,8 +107,10 @@ module _ {W : Type 0} (f : W → Option (List ℕ)) where
   prints_failed s xs e = subst (λ b. PrintsBy b b f s s xs) (sym e) (Sends-nil f s)
 
   -- the text waits
-  pub prints_added : (s t : Out W) (xs : List ℕ) → s.failed ≡ false → t.failed ≡ false → t.inner.ghost_name ≡ s.inner.ghost_name
-      → f t.inner.now ≡ f s.inner.now → t.wrote ≡ s.wrote → waiting t.pending ≡ waiting s.pending ++ xs → Prints f s t xs
+  pub prints_added : (s t : Out W) (xs : List ℕ) → s.failed ≡ false → t.failed ≡ false
+      → t.inner.ghost_name ≡ s.inner.ghost_name
+      → f t.inner.now ≡ f s.inner.now → t.wrote ≡ s.wrote → waiting t.pending ≡ waiting s.pending ++ xs
+      → Prints f s t xs
   unfolding Prints
   prints_added s t xs d e n i w p = rw (d, e) (record {
     bytes = [];
@@ -112,7 +118,8 @@ module _ {W : Type 0} (f : W → Option (List ℕ)) where
     whole = sym p;
   })
 
-  by_sent : (b : Bool) (s t : Out W) (xs all : List ℕ) (n : ℕ) → waiting s.pending ++ xs ≡ all → Sends f s t (take n all)
+  by_sent : (b : Bool) (s t : Out W) (xs all : List ℕ) (n : ℕ) → waiting s.pending ++ xs ≡ all
+      → Sends f s t (take n all)
       → b ≡ nat_lt n (length all) → waiting t.pending ≡ [] → PrintsBy false b f s t xs
   by_sent false s t xs all n e sent is empty = record {
     bytes = take n all;
@@ -126,9 +133,11 @@ module _ {W : Type 0} (f : W → Option (List ℕ)) where
   )
 
   -- what waited and the text were sent, n bytes of them
-  pub prints_sent : (s t : Out W) (xs all : List ℕ) (n : ℕ) → s.failed ≡ false → waiting s.pending ++ xs ≡ all → t.inner.ghost_name ≡ s.inner.ghost_name
+  pub prints_sent : (s t : Out W) (xs all : List ℕ) (n : ℕ) → s.failed ≡ false → waiting s.pending ++ xs ≡ all
+      → t.inner.ghost_name ≡ s.inner.ghost_name
       → Appends (f s.inner.now) (f t.inner.now) (take n all) → n ≤ length all
-      → t.wrote ≡ min (s.wrote + n) (2 ^ 64 - 1) → t.failed ≡ nat_lt n (length all) → waiting t.pending ≡ [] → Prints f s t xs
+      → t.wrote ≡ min (s.wrote + n) (2 ^ 64 - 1) → t.failed ≡ nat_lt n (length all) → waiting t.pending ≡ []
+      → Prints f s t xs
   unfolding Prints
   prints_sent s t xs all n d e same grew fits count is empty = subst (λ b. PrintsBy b t.failed f s t xs) (sym d)
       (by_sent t.failed s t xs all n e (record { same = same; grew = grew; counted = omega (arith, count, length-take n all) }) is empty)
@@ -139,8 +148,10 @@ module _ {W : Type 0} (f : W → Option (List ℕ)) where
   prints_fault s t xs ys e p = subst (λ b. PrintsBy s.failed b f s t (xs ++ ys)) (sym e)
       (by_then f s.failed true true s t t xs ys (subst (λ b. PrintsBy s.failed b f s t xs) e p) (Sends-nil f t))
 
-  finished : (b : Bool) (s t : Out W) (text : List ℕ) (r : Result (Unit {0}) WriteFault) → s.wrote ≡ 0 → waiting s.pending ≡ []
-      → PrintsBy false b f s t text → OnOk r ((b ≡ false) × (waiting t.pending ≡ [])) → IfErr r (λ e. (b ≡ true) × (e.wrote ≡ t.wrote))
+  finished : (b : Bool) (s t : Out W) (text : List ℕ) (r : Result (Unit {0}) WriteFault) → s.wrote ≡ 0
+      → waiting s.pending ≡ []
+      → PrintsBy false b f s t text → OnOk r ((b ≡ false) × (waiting t.pending ≡ []))
+      → IfErr r (λ e. (b ≡ true) × (e.wrote ≡ t.wrote))
       → Writes (f s.inner.now) (f t.inner.now) text r
   finished true s t text (Ok _) z e p o q = cc o.0
   finished false s t text (Err _) z e p o q = cc q.0
@@ -157,7 +168,8 @@ module _ {W : Type 0} (f : W → Option (List ℕ)) where
   }
 
   -- what a caller learns once all is printed and sent
-  pub writes_listing : (s t u : Out W) (text : List ℕ) (r : Result (Unit {0}) WriteFault) → s.failed ≡ false → s.wrote ≡ 0 → waiting s.pending ≡ []
+  pub writes_listing : (s t u : Out W) (text : List ℕ) (r : Result (Unit {0}) WriteFault) → s.failed ≡ false
+      → s.wrote ≡ 0 → waiting s.pending ≡ []
       → Prints f s t text → Prints f t u [] → OnOk r ((u.failed ≡ false) × (waiting u.pending ≡ []))
       → IfErr r (λ e. (u.failed ≡ true) × (e.wrote ≡ u.wrote)) → Writes (f s.inner.now) (f u.inner.now) text r
   unfolding Prints
@@ -165,7 +177,8 @@ module _ {W : Type 0} (f : W → Option (List ℕ)) where
       finished u.failed s u text r z e (subst (λ b. PrintsBy b u.failed f s u text) d
       (rw append-nil at (by_then f s.failed t.failed u.failed s t u text [] p q))) o h
 
-  by_same : (a b : Bool) (s t : Out W) (text : List ℕ) → PrintsBy a b f s t text → t.inner.ghost_name ≡ s.inner.ghost_name
+  by_same : (a b : Bool) (s t : Out W) (text : List ℕ) → PrintsBy a b f s t text
+      → t.inner.ghost_name ≡ s.inner.ghost_name
   by_same false false s t text p = p.sent.same
   by_same false true s t text p = p.2.sent.same
   by_same true true s t text p = p.same
@@ -177,6 +190,7 @@ module _ {W : Type 0} (f : W → Option (List ℕ)) where
   prints_same s t text = by_same s.failed t.failed s t text
 
 -- so many bytes more of a text
-pub taken_more : (done n : ℕ) (bs : List ℕ) → take done bs ++ take n (take (length bs - done) (drop done bs)) ≡ take (done + n) bs
+pub taken_more : (done n : ℕ) (bs : List ℕ)
+    → take done bs ++ take n (take (length bs - done) (drop done bs)) ≡ take (done + n) bs
 taken_more done n bs =
     rw (take_all (length bs - done) (drop done bs) (omega (arith, length-drop done bs))) (sym (take-add done n bs))

@@ -19,7 +19,8 @@ pub set_declared-requires : goal.set_declared-requires
 set_declared-requires c = node_range c.aim_of.ensures.index.shape c.args.path.now c.in_ok-at.at
     (c.aim_of.ensures.kept.there c.args.path.now c.in_ok-at.at c.in_ok-at.ensures.node)
 
-put_here : (c : After-set_declared) → HasDeclared c.aim_of.new.nodes.items c.set_declared.new.nodes.items c.in_ok-at.at c.in_ok-said.said.value
+put_here : (c : After-set_declared)
+    → HasDeclared c.aim_of.new.nodes.items c.set_declared.new.nodes.items c.in_ok-at.at c.in_ok-said.said.value
     c.in_ok-aim.aim
     → IsIndex c.set_declared.new.nodes.items × (known_by c.set_declared.new.nodes.items
     ≡ with_declaration (known_by c.args.nodes.now.items) c.args.path.now (once c.args.kind c.args.sure))

@@ -10,12 +10,14 @@ use Rattle.aml_space.proofs.growing.push_below.Goals as goal
 use Rattle.aml_space.proofs.growing.push_below.Goals.{After-index_mut-parent}
 
 -- the parent stands behind the new nodes as before
-was : (c : After-index_mut-parent) → slice_get c.push_chain.new.nodes.items c.args.at ≡ Some c.index_mut-parent.result.now
+was : (c : After-index_mut-parent)
+    → slice_get c.push_chain.new.nodes.items c.args.at ≡ Some c.index_mut-parent.result.now
 was c =
     let long = ap length c.in_ok-push_chain.ensures.ok ∙ length-append c.args.nodes.now.items _ in
     slice_get-get_or _ c.args.at c.index_mut-parent.result.now (omega (arith, c.requires.within, long)) ∙ ap Some (sym c.index_mut-parent.ensures.value)
 
-same_kids : (c : After-index_mut-parent) → kids_of c.args.nodes.now.items c.args.at ≡ c.index_mut-parent.result.now.children
+same_kids : (c : After-index_mut-parent)
+    → kids_of c.args.nodes.now.items c.args.at ≡ c.index_mut-parent.result.now.children
 same_kids c = ap kids_in (sym (read_front c.args.nodes.now.items _ c.args.at c.requires.within)
     ∙ ap (λ ms. slice_get ms c.args.at) (sym c.in_ok-push_chain.ensures.ok) ∙ was c)
 

@@ -19,7 +19,8 @@ lower c some = subst (λ (l : ℕ × Seg). l.0 < length c.args.settled.now) (sym
     (c.requires.index.linked.lower (length c.args.settled.now) some c.requires.more)
 
 -- to the parent, or where the one skips to which that skips
-skips : (far : Option ℕ) (up n : ℕ) (o : Option ℕ) → n ≡ unwrap_or o up → IfSome o (λ m. far ≡ Some m) → (n ≡ up) ⊎ (far ≡ Some n)
+skips : (far : Option ℕ) (up n : ℕ) (o : Option ℕ) → n ≡ unwrap_or o up → IfSome o (λ m. far ≡ Some m)
+    → (n ≡ up) ⊎ (far ≡ Some n)
 skips far up n None is over = inl is
 skips far up n (Some m) is over = inr (over ∙ ap (λ m. Some m) (sym is))
 

@@ -5,7 +5,8 @@ use Rattle.acpi_tables.specs.declared.fields.RecordRow.{RecordRow}
 use Rattle.acpi_tables.proofs.Values.{find-map}
 use Rattle.acpi_tables.proofs.fields.RecordRow.of_record.Goals as goal
 
-viewed : (row : Option (Bor RecordRow)) → option_map (λ r. row_view r.now) row ≡ option_map row_view (option_map (λ r. r.now) row)
+viewed : (row : Option (Bor RecordRow))
+    → option_map (λ r. row_view r.now) row ≡ option_map row_view (option_map (λ r. r.now) row)
 viewed None = refl
 viewed (Some r) = refl
 

@@ -18,7 +18,8 @@ walk-returns-in_ok-add_names-in-Op t c l h =
     (sym (declare_op site l c.args.node.now c.in-Op.opcode c.in-Op.width c.in-Op.parts c.in-Op.tail c.role_of.result c.in-Op.is c.role_of.ensures))
     ((rw c.as_slice.ensures.value at did) (with_uses site l x) held)
 
-nothing_declared : (w : Where) (l : Listed) (ns : List Node) → true ≡ (length ns == 0) → declare_all w l (nodes_view ns) ≡ Ok l
+nothing_declared : (w : Where) (l : Listed) (ns : List Node) → true ≡ (length ns == 0)
+    → declare_all w l (nodes_view ns) ≡ Ok l
 unfolding declare_all
 nothing_declared w l [] none = refl
 nothing_declared w l (n ∷ ns) none = absurd (omega (arith, eqb-true (length (n ∷ ns)) 0 (sym none)))

@@ -29,7 +29,8 @@ is_branch c = subst (λ s. IsBranch s (added c)) c.parts_of-scope.ensures c.bran
 abbrev paths_of : List Seg → List Branch → set.FinSet path_cmp
 paths_of scope bs = set.from_list (map (whole scope) bs)
 
-whole_is : (c : In_ok-tail) → whole (unwrap_or c.self.inside.scope []) (added c) ≡ take c.args.front c.args.self.now.scope ++ c.args.segs.now
+whole_is : (c : In_ok-tail)
+    → whole (unwrap_or c.self.inside.scope []) (added c) ≡ take c.args.front c.args.self.now.scope ++ c.args.segs.now
 whole_is c =
     (λ i. whole (sym c.parts_of-scope.ensures i) (added c)) ∙ c.branch_of-branch.ensures.whole ∙ (λ i. take c.args.front (c.parts_of-scope.ensures i) ++ c.args.segs.now)
     ∙ ap (λ (b : Branched). take c.args.front b.scope ++ c.args.segs.now) c.self.view_is
@@ -37,7 +38,8 @@ whole_is c =
 -- the keys grow by the branch
 grown : (c : In_ok-tail) (more : List Branch) → ((q : Branch) → list_any (is_at (branch_cmp q)) more
     ≡ cond (is_at (branch_cmp (c.branch_of-branch.result.depth, c.in_ok-tail.tail)) q) true (list_any (is_at (branch_cmp q)) c.self.inside.kept.keys))
-    → (q : Branch) → list_any (is_at (branch_cmp q)) more ≡ cond (is_at (branch_cmp (added c)) q) true (list_any (is_at (branch_cmp q)) c.self.inside.kept.keys)
+    → (q : Branch)
+    → list_any (is_at (branch_cmp q)) more ≡ cond (is_at (branch_cmp (added c)) q) true (list_any (is_at (branch_cmp q)) c.self.inside.kept.keys)
 grown c more updated q = updated q
     ∙ ap (λ t. cond (is_at (branch_cmp (c.branch_of-branch.result.depth, t)) q) true (list_any (is_at (branch_cmp q)) c.self.inside.kept.keys)) c.in_ok-tail.ensures
 

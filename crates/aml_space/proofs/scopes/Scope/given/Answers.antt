@@ -21,7 +21,8 @@ none_by : (o : Option ℕ) → ((x : ℕ) → o ≡ Some x → ⊥) → o ≡ No
 none_by None h = refl
 none_by (Some x) h = absurd (h x refl)
 
-none_here : (c : In_default) → (names_of c.args.self.now).givens (take c.levels.level.depth c.args.self.now.path ++ c.args.segment.now) ≡ None
+none_here : (c : In_default)
+    → (names_of c.args.self.now).givens (take c.levels.level.depth c.args.self.now.path ++ c.args.segment.now) ≡ None
 none_here c = sym (part_met (λ c. c.given) c.args.self.now.nodes.now c.args.self.now.nodes.now
     (take c.levels.level.depth c.args.self.now.path ++ c.args.segment.now) _ c.node_at-node.result c.given_at.result
     c.given_at.ensures c.node_at-node.ensures.node refl refl c.requires.scope.index.shape) ∙ none_by c.given_at.result c.in_default.not-Some

@@ -12,7 +12,8 @@ use Rattle.aml_space.proofs.scopes.Scope.is_known_above.Goals as goal
 use Rattle.aml_space.proofs.scopes.Scope.is_known_above.Goals.{After-is_known_at}
 
 -- from a depth up to the next one that is asked
-further : (s : Scope) (segment : List Seg) → length segment ≡ 1 → (d asked : ℕ) → d ≤ length s.path → IsNext (names_of s) s.path d asked
+further : (s : Scope) (segment : List Seg) → length segment ≡ 1 → (d asked : ℕ) → d ≤ length s.path
+    → IsNext (names_of s) s.path d asked
     → find (is_known (names_of s)) (upward d s.path segment) ≡ find (is_known (names_of s)) (upward asked s.path segment)
 further s segment one d asked within next = skip_known (names_of s) set.empty s.path segment asked d next.within
     (none_known_below (names_of s) s.path segment one d asked within next)

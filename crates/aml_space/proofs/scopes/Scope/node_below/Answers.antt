@@ -5,7 +5,8 @@ use Rattle.aml_space.proofs.Walks.{node_range, walk_append, walk_none}
 use Rattle.aml_space.proofs.scopes.Scope.node_below.Goals as goal
 use Rattle.aml_space.proofs.scopes.Scope.node_below.Goals.{In_ok-front}
 
-led : (c : In_ok-front) → walk (kids_of c.args.self.now.nodes.now) 0 (take c.args.depth c.args.self.now.path) ≡ Some c.in_ok-front.front
+led : (c : In_ok-front)
+    → walk (kids_of c.args.self.now.nodes.now) 0 (take c.args.depth c.args.self.now.path) ≡ Some c.in_ok-front.front
 led c = sym c.front_node.ensures ∙ c.in_ok-front.was
 
 pub returns-in_err-front-clause-node : goal.returns-in_err-front-clause-node

@@ -38,7 +38,8 @@ depth_of o = option_map (λ (c : Candidate). c.depth) o
 none_here : (c : After-has_kind) → IfSome c.in_ok-nearest.nearest (λ n. n < c.levels.level.depth)
 none_here c = none_local c.in_ok-nearest.nearest c.levels.level.depth c.nearer.result c.nearer.ensures c.in_default.not-Some
 
-other : (c : After-has_kind) → set.contains c.args.locals.now (take c.levels.level.depth c.args.self.now.path ++ c.args.segment.now) ≡ false
+other : (c : After-has_kind)
+    → set.contains c.args.locals.now (take c.levels.level.depth c.args.self.now.path ++ c.args.segment.now) ≡ false
 other c = other_there c.args.locals.now c.args.self.now.path c.args.segment.now c.requires.one c.in_ok-nearest.nearest c.in_ok-nearest.ensures
     c.levels.level.depth c.levels.invariant.1.next.level.within (none_here c)
 
@@ -57,7 +58,8 @@ same_here c =
 abbrev here : After-has_kind → Candidate
 here c = record { depth = c.levels.level.depth; node = c.node_at.result; local = false }
 
-is_here : (c : After-has_kind) → IsCandidate c.args.self.now.nodes.now c.args.locals.now c.args.self.now.path c.args.segment.now (here c)
+is_here : (c : After-has_kind)
+    → IsCandidate c.args.self.now.nodes.now c.args.locals.now c.args.self.now.path c.args.segment.now (here c)
 is_here c = record { within = c.levels.invariant.1.next.level.within; node = λ same. c.node_at.ensures.node; local = sym (other c) }
 
 meant : (c : After-has_kind)

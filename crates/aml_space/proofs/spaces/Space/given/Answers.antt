@@ -18,7 +18,8 @@ put c =
     c.in_ok-at.ensures.node c.args.count c.set_given.ensures in
     (put.0, put.1 ∙ ap (λ k. with_given k c.parts-path.result c.args.count) c.extend.ensures.known)
 
-put_here : (c : After-set_given) → known_by c.set_given.new.nodes.items ≡ with_given c.args.self.now c.args.path.now c.args.count
+put_here : (c : After-set_given)
+    → known_by c.set_given.new.nodes.items ≡ with_given c.args.self.now c.args.path.now c.args.count
 put_here c = (put c).1 ∙ (λ i. with_given (c.self.view_is i) (c.parts-path.ensures i) c.args.count)
 
 pub invariant_of-self-2 : goal.invariant_of-self-2

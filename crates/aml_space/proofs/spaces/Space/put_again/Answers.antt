@@ -13,16 +13,19 @@ use Rattle.aml_space.proofs.Opening.{kept_opened}
 use Rattle.aml_space.proofs.spaces.Space.put_again.Goals as goal
 use Rattle.aml_space.proofs.spaces.Space.put_again.Goals.{In_ok-declare_first, After-declare_first, After-is_taken}
 
-not_declared : (c : After-is_taken) → c.is_taken.result ≡ false → map.get c.args.self.now.declarations c.args.path.now ≡ None
+not_declared : (c : After-is_taken) → c.is_taken.result ≡ false
+    → map.get c.args.self.now.declarations c.args.path.now ≡ None
 not_declared c free = none_from_test _ (sym (known_taken _ _ _ _ _ _ c.is_taken.ensures.taken c.as_slice-5.ensures.value refl c.self.invariant.index.shape c.self.view_is) ∙ free)
 
-put_here : (c : In_ok-declare_first) → map.get c.args.self.now.declarations c.args.path.now ≡ None → known_by c.declare_first.new.nodes.items
+put_here : (c : In_ok-declare_first) → map.get c.args.self.now.declarations c.args.path.now ≡ None
+    → known_by c.declare_first.new.nodes.items
     ≡ with_again c.args.self.now c.args.path.now c.args.kind c.args.sure
 put_here c none = c.in_ok-declare_first.ensures.ok ∙ ap (λ k. with_declaration k c.args.path.now (once c.args.kind c.args.sure)) c.self.view_is
     ∙ sym (again_first c.args.self.now c.args.path.now c.args.kind c.args.sure none)
 
 -- what is kept for searches stays right
-still_settled : (c : After-declare_first) → IsSaidOf (known_by c.self.inside.nodes.items) (known_by c.declare_first.new.nodes.items) c.args.path.now
+still_settled : (c : After-declare_first)
+    → IsSaidOf (known_by c.self.inside.nodes.items) (known_by c.declare_first.new.nodes.items) c.args.path.now
     → AreSettled c.declare_first.new.nodes.items c.unsettle.new.settled.items
 still_settled c said = settled_kept c.self.inside.nodes.items c.declare_first.new.nodes.items c.as_slice-4.result.now
     c.unsettle.new.settled.items c.args.path.now c.as_slice-4.ensures.value

@@ -16,10 +16,12 @@ use Rattle.aml_space.proofs.spaces.Space.put_once.Goals.{After-is_taken, After-d
 taken : (c : After-is_taken) → c.is_taken.result ≡ is_declared c.args.self.now c.args.path.now
 taken c = known_taken _ _ _ _ _ _ c.is_taken.ensures.taken c.as_slice-5.ensures.value refl c.self.invariant.index.shape c.self.view_is
 
-not_declared : (c : After-is_taken) → c.is_taken.result ≡ false → map.get c.args.self.now.declarations c.args.path.now ≡ None
+not_declared : (c : After-is_taken) → c.is_taken.result ≡ false
+    → map.get c.args.self.now.declarations c.args.path.now ≡ None
 not_declared c free = none_from_test _ (sym (taken c) ∙ free)
 
-never : (c : After-is_taken) → c.is_taken.result ≡ false → {A : Type 0} → is_declared c.args.self.now c.args.path.now ≡ true → A
+never : (c : After-is_taken) → c.is_taken.result ≡ false → {A : Type 0}
+    → is_declared c.args.self.now c.args.path.now ≡ true → A
 never c free there = absurd (true≢false (sym there ∙ sym (taken c) ∙ free))
 
 put_here : (c : In_ok-declare_first) → known_by c.declare_first.new.nodes.items
@@ -27,7 +29,8 @@ put_here : (c : In_ok-declare_first) → known_by c.declare_first.new.nodes.item
 put_here c = c.in_ok-declare_first.ensures.ok ∙ ap (λ k. with_declaration k c.args.path.now (once c.args.kind c.args.surely)) c.self.view_is
 
 -- what is kept for searches stays right
-still_settled : (c : After-declare_first) → IsSaidOf (known_by c.self.inside.nodes.items) (known_by c.declare_first.new.nodes.items) c.args.path.now
+still_settled : (c : After-declare_first)
+    → IsSaidOf (known_by c.self.inside.nodes.items) (known_by c.declare_first.new.nodes.items) c.args.path.now
     → AreSettled c.declare_first.new.nodes.items c.unsettle.new.settled.items
 still_settled c said = settled_kept c.self.inside.nodes.items c.declare_first.new.nodes.items c.as_slice-4.result.now
     c.unsettle.new.settled.items c.args.path.now c.as_slice-4.ensures.value
@@ -66,7 +69,8 @@ returns-clause-stands c = λ es body stands. subst (λ k. StandsFor k (es ++ dec
     ∙ sym (put_here (goal.at.returns-clause-stands c).In_ok-declare_first))
     (stands_declared c.args.self.now es stands c.args.path.now c.args.kind body c.args.surely)
 
-listed : (c : After-is_taken) (es : List Entry) → StandsFor c.args.self.now es → is_some (declared_at es c.args.path.now) ≡ c.is_taken.result
+listed : (c : After-is_taken) (es : List Entry) → StandsFor c.args.self.now es
+    → is_some (declared_at es c.args.path.now) ≡ c.is_taken.result
 listed c es stands = sym (declared_listed c.args.self.now es c.args.path.now c.is_taken.result stands (taken c))
 
 pub returns-then-is_taken-clause-put : goal.returns-then-is_taken-clause-put
