@@ -232,6 +232,19 @@ def deep_scopes_upward(count, depth):
     return device(b"") + within(depth, b"".join(package(b"\x10", b"DEV0" + name) for name in names))
 
 
+def deep_aliases_halfway(count, depth):
+    """Aliases there of a name half-way up."""
+    aliases = b"".join(b"\x06" + LEAF + segment(number) for number in range(count))
+    return within(depth // 2, b"\x08" + LEAF + b"\0" + within(depth - depth // 2, aliases))
+
+
+def deep_devices_aliases(count, depth):
+    """Devices there, each with an Alias of a name at the root."""
+    aliases = (b"\x06" + LEAF + segment(number) for number in range(count))
+    devices = b"".join(package(b"\x5b\x82", segment(number) + alias) for number, alias in enumerate(aliases))
+    return b"\x08" + LEAF + b"\0" + within(depth, devices)
+
+
 def deep_aliases(count, depth):
     aliases = b"".join(b"\x06" + segment(number) + segment(number + 1) for number in range(count))
     return within(depth, b"\x08" + segment(0) + b"\0" + aliases)
@@ -502,6 +515,8 @@ SHAPES = (
     Shape("deep-returns", 2_000, "names", one(lambda count: deep_returns(count, 10_000))),
     Shape("deep-aliases-upward", 2_000, "names", one(lambda count: deep_aliases_upward(count, 10_000))),
     Shape("deep-scopes-upward", 2_000, "terms", one(lambda count: deep_scopes_upward(count, 10_000))),
+    Shape("deep-aliases-halfway", 2_000, "names", one(lambda count: deep_aliases_halfway(count, 10_000))),
+    Shape("deep-devices-aliases", 2_000, "devices", one(lambda count: deep_devices_aliases(count, 10_000))),
     Shape("deep-alias", 100_000, "names", one(lambda count: deep_alias(count, 10_000))),
     Shape("deep-aliases", 2_000, "names", one(lambda count: deep_aliases(count, 10_000))),
     Shape("deep-locals-deep", 10_000, "segments", one(lambda count: deep_locals(2_000, count))),
@@ -511,6 +526,8 @@ SHAPES = (
     Shape("deep-returns-deep", 10_000, "segments", one(lambda count: deep_returns(2_000, count))),
     Shape("deep-aliases-upward-deep", 10_000, "segments", one(lambda count: deep_aliases_upward(2_000, count))),
     Shape("deep-scopes-upward-deep", 10_000, "segments", one(lambda count: deep_scopes_upward(2_000, count))),
+    Shape("deep-aliases-halfway-deep", 10_000, "segments", one(lambda count: deep_aliases_halfway(2_000, count))),
+    Shape("deep-devices-aliases-deep", 10_000, "segments", one(lambda count: deep_devices_aliases(2_000, count))),
     Shape("deep-alias-deep", 10_000, "segments", one(lambda count: deep_alias(100_000, count))),
     Shape("deep-aliases-deep", 10_000, "segments", one(lambda count: deep_aliases(2_000, count))),
     Shape("deep-units-outside", 2_000, "units", one(lambda count: deep_units_outside(count, 10_000))),
