@@ -29,6 +29,9 @@ use aml_names::{NoMemory, Parts, Path, ScopedPath, Seg};
 use std::alloc::{AllocError, Global};
 use std::marker::Model;
 
+/// To find out of a node where searches go on takes as long as so many looks at levels.
+const LOOKS: usize = 8;
+
 /// The namespace of the tables so far: what they declare, and what Externals name, over the predefined names; and the
 /// argument counts that the user gives to paths of which no table says one.
 #[derive(Drop)]
@@ -273,13 +276,13 @@ impl Space {
         settle(&mut self.settled, self.nodes.as_slice())
     }
 
-    /// Does this once as many levels may have been looked at as it takes steps, with those of a search that comes next.
-    /// Where memory is refused, each level is looked at.
+    /// Does this once looks at levels may have taken as long, with those of a search that comes next. Where memory is
+    /// refused, each level is looked at.
     pub fn expect_search(&mut self, levels: usize)
         ensures { self.new ≡ self.old }
     {
         self.looked = self.looked.saturating_add(levels);
-        if self.looked >= self.nodes.len() - self.settled.len() {
+        if self.looked / LOOKS >= self.nodes.len() - self.settled.len() {
             let _settled = self.settle();
         }
     }
