@@ -58,8 +58,8 @@ pub(crate) fn shares_its_scope(path: &ScopedPath) -> bool {
     FEW < front.len() && own.len() <= NAME
 }
 
-/// How far a path leads with what it has in common with a scope. Where that is less than half of the scope, it is
-/// sooner found from the root.
+/// How far a path leads with what it has in common with a scope. Where that is less than half of the scope, and little
+/// or no skips are kept of the scope's node, it is sooner found from the root.
 fn reach_in(nodes: &[Node], settled: &[Settled], near: &Opened, path: &Parts<'_>) -> Reach
     requires index { IsIndex nodes.now }
     requires settled { AreSettled nodes.now settled.now }
@@ -69,7 +69,7 @@ fn reach_in(nodes: &[Node], settled: &[Settled], near: &Opened, path: &Parts<'_>
 {
     let scope = near.scope.parts();
     let known = path.common(&scope);
-    if known < scope.len() - known {
+    if known < scope.len() - known && (known < FEW || settled.len() <= near.node) {
         return Reach { node: 0, known: 0 };
     }
     let mut reach = Reach {
