@@ -91,7 +91,7 @@ pub(crate) fn settle(settled: &mut Vec<Settled>, nodes: &[Node]) -> Result<(), N
     requires settled { AreSettled nodes.now settled.old.items }
     ensures { AreSettled nodes.now settled.new.items }
 {
-    settled.reserve_exact(nodes.len() - settled.len())?;
+    settled.reserve(nodes.len() - settled.len())?;
     while settled.len() < nodes.len() {
         let next = settled_next(settled.as_slice(), nodes);
         settled.push(next)?;
