@@ -238,6 +238,20 @@ def deep_aliases_halfway(count, depth):
     return within(depth // 2, b"\x08" + LEAF + b"\0" + within(depth - depth // 2, aliases))
 
 
+def deep_aliases_low(count, depth):
+    """Aliases there of a name a third of the way down."""
+    aliases = b"".join(b"\x06" + LEAF + segment(number) for number in range(count))
+    return within(depth // 3, b"\x08" + LEAF + b"\0" + within(depth - depth // 3, aliases))
+
+
+def deep_unsettled(count, depth):
+    """Names below paths that nothing but an External's path has, each before an Alias of a name at the root."""
+    outer = [b"\x5c\x2f\x03X" + segment(number)[1:] + b"YYYYZZZZ" for number in range(count)]
+    externals = b"".join(b"\x15" + path + b"\0\0" for path in outer)
+    names = (b"\x08\x5c\x2eX" + segment(number)[1:] + b"WWWW\0\x06" + LEAF + segment(number) for number in range(count))
+    return b"\x08" + LEAF + b"\0" + externals + within(depth, b"".join(names))
+
+
 def deep_devices_aliases(count, depth):
     """Devices there, each with an Alias of a name at the root."""
     aliases = (b"\x06" + LEAF + segment(number) for number in range(count))
@@ -516,6 +530,8 @@ SHAPES = (
     Shape("deep-aliases-upward", 2_000, "names", one(lambda count: deep_aliases_upward(count, 10_000))),
     Shape("deep-scopes-upward", 2_000, "terms", one(lambda count: deep_scopes_upward(count, 10_000))),
     Shape("deep-aliases-halfway", 2_000, "names", one(lambda count: deep_aliases_halfway(count, 10_000))),
+    Shape("deep-aliases-low", 2_000, "names", one(lambda count: deep_aliases_low(count, 10_000))),
+    Shape("deep-unsettled", 2_000, "names", one(lambda count: deep_unsettled(count, 10_000))),
     Shape("deep-devices-aliases", 2_000, "devices", one(lambda count: deep_devices_aliases(count, 10_000))),
     Shape("deep-alias", 100_000, "names", one(lambda count: deep_alias(count, 10_000))),
     Shape("deep-aliases", 2_000, "names", one(lambda count: deep_aliases(count, 10_000))),
@@ -527,6 +543,8 @@ SHAPES = (
     Shape("deep-aliases-upward-deep", 10_000, "segments", one(lambda count: deep_aliases_upward(2_000, count))),
     Shape("deep-scopes-upward-deep", 10_000, "segments", one(lambda count: deep_scopes_upward(2_000, count))),
     Shape("deep-aliases-halfway-deep", 10_000, "segments", one(lambda count: deep_aliases_halfway(2_000, count))),
+    Shape("deep-aliases-low-deep", 10_000, "segments", one(lambda count: deep_aliases_low(2_000, count))),
+    Shape("deep-unsettled-deep", 10_000, "segments", one(lambda count: deep_unsettled(2_000, count))),
     Shape("deep-devices-aliases-deep", 10_000, "segments", one(lambda count: deep_devices_aliases(2_000, count))),
     Shape("deep-alias-deep", 10_000, "segments", one(lambda count: deep_alias(100_000, count))),
     Shape("deep-aliases-deep", 10_000, "segments", one(lambda count: deep_aliases(2_000, count))),

@@ -7,6 +7,7 @@ ghost use Rattle.aml_walk.specs.Units.{is_unit, unit_in, unit_at};
 use crate::fields::{FieldUnit, units_of};
 use aml_code::{NoMemory, Path};
 use aml_load::StandingTerm;
+use aml_names::ScopedPath;
 use std::alloc::Global;
 
 /// A unit, and its term.
@@ -18,17 +19,22 @@ pub struct UnitPlace {
 }
 
 /// Whether a unit of a list in this scope has this path.
-fn is_unit(alloc: Global, scope: &Path, path: &Path, unit: FieldUnit) -> Result<bool, NoMemory>
+fn is_unit(
+    alloc: Global,
+    scope: &ScopedPath,
+    path: &Path,
+    unit: FieldUnit,
+) -> Result<bool, NoMemory>
     ensures { IfOk result (λ same. same ≡ is_unit scope.now path.now unit) }
 {
-    let own = Path::below(alloc, scope.segs(), &[unit.segment])?;
-    Ok(own == *path)
+    let own = ScopedPath::below(alloc, scope, &[unit.segment])?;
+    Ok(own.parts().is(&path.parts()))
 }
 
 /// The first of these units that has this path.
 fn first_unit(
     alloc: Global,
-    scope: &Path,
+    scope: &ScopedPath,
     path: &Path,
     units: &[FieldUnit],
 ) -> Result<Option<FieldUnit>, NoMemory>
@@ -51,7 +57,7 @@ fn unit_in(
     ensures { IfOk result (λ unit. unit ≡ unit_in (standing_view term.now) path.now) }
 {
     let units = units_of(alloc, term.term)?;
-    first_unit(alloc, term.scope.path(), path, units.as_slice())
+    first_unit(alloc, &term.scope, path, units.as_slice())
 }
 
 /// The unit with this path of a Field, an IndexField or a BankField among these terms, as `standing_terms` gives them:

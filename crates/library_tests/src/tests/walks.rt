@@ -54,7 +54,7 @@ fn push_path(
     standing: &StandingTerm<'_>,
     name: &Name,
 ) -> Result<(), AllocError> {
-    if let Some(path) = loaded.space.find(alloc, standing.scope.path(), name)? {
+    if let Some(path) = loaded.space.find(alloc, &standing.scope.to_path(alloc)?, name)? {
         write!(out, " {path}")?;
     }
     Ok(())
@@ -113,7 +113,7 @@ fn push_term(
         Some(row) => row.mnemonic,
         None => "",
     };
-    write!(out, "{} {} {title}", standing.table, standing.scope.path())?;
+    write!(out, "{} {} {title}", standing.table, standing.scope)?;
     push_numbers(out, parts.as_slice())?;
     push_fields(alloc, out, loaded, standing)?;
     out.push_str("\n")
