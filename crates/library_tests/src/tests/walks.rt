@@ -54,7 +54,10 @@ fn push_path(
     standing: &StandingTerm<'_>,
     name: &Name,
 ) -> Result<(), AllocError> {
-    if let Some(path) = loaded.space.find(alloc, &standing.scope.to_path(alloc)?, name)? {
+    if let Some(path) = loaded
+        .space
+        .find(alloc, &standing.scope.to_path(alloc)?, name)?
+    {
         write!(out, " {path}")?;
     }
     Ok(())
