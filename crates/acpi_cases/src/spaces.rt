@@ -4,7 +4,7 @@ ghost use Rattle.std.specs.Prelude.{◌≤◌, length};
 use crate::code::push_body_of;
 use crate::lines::{Line, count_of, first_word};
 use aml_names::{Arity, Locals, Name, NameForm, Path, ScopedPath, Seg, Segs, place};
-use aml_space::{BodyScope, Kind, Space, SpaceRow, Target};
+use aml_space::{BodyScope, Kind, Near, Space, SpaceRow, Target};
 use std::alloc::{AllocError, Global};
 use std::fmt::Write;
 
@@ -107,8 +107,8 @@ impl Names<'_> {
     /// The path that a Scope opens, whatever runs.
     fn lead(&self, alloc: Global, scope: &Path, name: &Name) -> Result<Option<Path>, AllocError> {
         let scope = ScopedPath::whole(alloc, scope.clone()?)?;
-        match self.space.lead(alloc, &scope, name)? {
-            Some(path) => Ok(Some(path.to_path(alloc)?)),
+        match self.space.lead(alloc, Near::root(), &scope, name)? {
+            Some(led) => Ok(Some(led.path.to_path(alloc)?)),
             None => Ok(None),
         }
     }
@@ -187,12 +187,12 @@ impl Names<'_> {
     /// Whether a path is declared, and whether it has a kind in every run.
     fn push_declared(&self, out: &mut String, path: &Path) -> Result<(), AllocError> {
         let parts = path.parts();
-        let declared = if self.space.is_declared(&parts) {
+        let declared = if self.space.is_declared(Near::root(), &parts) {
             "declared"
         } else {
             "not declared"
         };
-        let sure = if self.space.is_sure(&parts) {
+        let sure = if self.space.is_sure(Near::root(), &parts) {
             "sure"
         } else {
             "not sure"

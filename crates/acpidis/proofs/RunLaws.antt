@@ -12,7 +12,7 @@ use Rattle.acpidis.proofs.Common.{has_fault, tried_marks, Meaning}
 use Rattle.acpidis.proofs.Common.{Means, Shows, order_of, codes_of, IsSet, Options}
 use Rattle.aml_code.specs.View.{nodes_view}
 use Rattle.aml_space.specs.Known.{Known, StandsFor}
-use Rattle.aml_space.proofs.Stands.{known_alone}
+use Rattle.aml_space.proofs.Stands.{declarations_alone}
 use Rattle.acpi_text.specs.Dumps.{dumps_text}
 use Rattle.aml_text.specs.declared.listing.Listing.{Listing}
 use Rattle.aml_text.specs.Rows.{namespace_text}
@@ -42,7 +42,7 @@ module _ (dumps : List Dump) (k : Meaning) (order : List ℕ) (codes : List (Lis
   printed_is : (check : Bool)
       → printed check dumps known (blocks_of (names_in dumps order) codes trees) codes ms k.bodies ≡ output_of check dumps k
   printed_is false =
-      let rows = ap (λ known. finite.entries known.declarations) (known_alone known k.listed.entries stands) in
+      let rows = ap finite.entries (declarations_alone known k.listed.entries stands) in
       λ i. listing_text dumps (named i) (rows i) (coded i) (read i) k.bodies
   printed_is true = at_listing (λ blocks codes ms. check_lines blocks (checks_with blocks (marks_of codes ms k.bodies)))
 

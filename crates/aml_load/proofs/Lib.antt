@@ -1,4 +1,5 @@
 pub mod Holding
+pub mod Inside
 pub mod Loads
 mod Givens
 pub mod BodyLaws

@@ -3,7 +3,7 @@
 use Rattle.std.specs.Prelude.{◌≡◌, ◌≤◌, ◌<◌, ◌+◌, ◌-◌, ℕ, zero, suc, Bool, true, false, cond, List, length, Option}
 use Rattle.std.specs.Prelude.{Some}
 use Rattle.std.specs.Prelude.{None, Result, Ok, Err, option_map}
-use Rattle.std.specs.Prelude.{IsTrue, Vec}
+use Rattle.std.specs.Prelude.{IsTrue, Vec, take}
 use Rattle.std.specs.Option.{unwrap_or}
 use Rattle.std.specs.declared.alloc.Global.{Global}
 use Rattle.aml_parse.proofs.Forward.{is_run}
@@ -30,6 +30,8 @@ use Rattle.aml_load.specs.Running.{Front, table_front, counts_in, entered_at, ru
 use Rattle.std.specs.Prelude.{[]}
 use Rattle.aml_load.specs.Tables.{Fails}
 use Rattle.aml_load.specs.Walking.{Gives, Holds}
+use Rattle.aml_names.specs.declared.segments.Seg.{Seg}
+use Rattle.aml_space.specs.Near.{IsOpen}
 
 -- ---- blocks
 
@@ -91,6 +93,14 @@ front_of s l = record { listed = l; site = run_site s }
 abbrev pub Steps : Progress → RunSite → Rest → List ℕ → Result (Node × ℕ) LoadFault → Type 0
 Steps p s r code answer = (l : Listed) → Holds p l → Gives (λ (x : Node × ℕ). (node_view x.0, x.1)) answer
     (in_step (run_names s.table) code (step_at (counts_in (front_of s l)) r.levels r.position code r.at r.end))
+
+-- the scope of a site is open at its place
+abbrev pub IsWithin : Progress → RunSite → Type 0
+IsWithin p s = IsOpen p.space.scopes s.place s.scope
+
+-- that of a site inside a term is, and the scopes before it are open as they were
+abbrev pub IsEntered : List (List Seg) → Progress → RunSite → Type 0
+IsEntered before new inner = IsWithin new inner × (take (length before) new.space.scopes ≡ before)
 
 -- what was answered is this site, or memory was refused
 abbrev pub IsSite : Result RunSite LoadFault → RunSite → Type 0
@@ -160,5 +170,5 @@ RunsAll old new s r code answer = (l : Listed) → Holds old l → AllRan new s 
 -- a whole table
 abbrev pub RunsTable : Progress → Progress → ℕ → List ℕ → Result (Vec Node Global) LoadFault → Type 0
 RunsTable old new t code answer = (l : Listed) → Holds old l →
-    AllRan new (record { table = t; scope = []; sure = true }) answer
+    AllRan new (record { table = t; scope = []; place = length old.space.scopes; sure = true }) answer
     (run_table_at (run_names t) code (table_front t l))

@@ -5,6 +5,8 @@ use Rattle.aml_space.specs.declared.faults.SpaceFault.TheVariants as faults
 use Rattle.aml_space.specs.declared.kinds.Kind.{Kind}
 use Rattle.aml_space.specs.Namespace.{Entry, Body, declares, declared_at}
 use Rattle.aml_space.specs.Known.{Known, StandsFor}
+use Rattle.aml_space.specs.Near.{IsOpen, IsBelow}
+use Rattle.aml_space.specs.declared.opened.PlacedPath.{PlacedPath}
 use Rattle.aml_load.specs.declared.faults.LoadFault.{LoadFault}
 use Rattle.aml_load.specs.declared.faults.LoadFault.TheVariants as loads
 use Rattle.aml_load.specs.declared.uses.Site.{Site}
@@ -71,3 +73,18 @@ abbrev pub TablesRead : List Table → List Table → Progress → Result (Unit 
 TablesRead old now new (Ok u) walk = (table_dumps now ≡ table_dumps old) × (table_codes now ≡ table_codes old)
     × ((m : Listed) × Holds new m × (walk ≡ Ok (table_terms now, m)))
 TablesRead old now new (Err e) walk = Fails e walk
+
+-- ---- The scopes that are open.
+
+-- the scope of a site is open at its place
+abbrev pub IsInside : Progress → Site → Type 0
+IsInside p s = IsOpen p.space.scopes s.place s.scope.now
+
+-- the same scopes are open
+abbrev pub Stays : Progress → Progress → Type 0
+Stays old new = new.space.scopes ≡ old.space.scopes
+
+-- a path that was answered begins with as many segments of a scope as it says
+abbrev pub AreBelow : Result PlacedPath LoadFault → List Seg → Type 0
+AreBelow (Ok p) scope = IsBelow p.front scope p.path
+AreBelow (Err e) scope = Unit {0}

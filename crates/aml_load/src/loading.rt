@@ -6,6 +6,7 @@ ghost use Rattle.aml_code.specs.Tree.{Trees};
 ghost use Rattle.aml_code.specs.View.{nodes_view};
 ghost use Rattle.aml_space.specs.Namespace.{given_entries};
 ghost use Rattle.aml_space.specs.Known.{StandsFor};
+ghost use Rattle.aml_space.specs.Near.{with_scopes};
 ghost use Rattle.aml_load.specs.Loading.{Listed, first_listed, most_methods, use_count, call_fault, uses_at};
 ghost use Rattle.aml_load.specs.Tables.{LoadsTo, StopsFor, table_at, tables_at, GivesLoad, GivesSet};
 ghost use Rattle.aml_load.specs.Views.{HoldsLoad, HoldsTables};
@@ -39,16 +40,19 @@ fn load_whole_table(
         Ok(terms) => terms,
         Err(fault) => return Err(LoadFault::in_code(table, fault)),
     };
-    let root = ScopedPath::whole(progress.alloc, Path::root(progress.alloc))?;
+    let place = progress.space.open_scopes();
+    let root = progress.open_root()?;
     progress.walk_all(
         &Site {
             table,
             scope: &root,
+            place,
             any_run: false,
             sure: true,
         },
         terms.as_slice(),
     )?;
+    progress.close_scopes(place);
     Ok(terms)
 }
 
@@ -105,8 +109,8 @@ fn opened_for<'a>(
     used: &'a Use,
     unknown_zero: bool,
 ) -> Result<Opened<'a>, NoMemory>
-    requires { IfSome last (λ o. o.names.known ≡ space.now) }
-    ensures known { IfOk result (λ o. o.names.known ≡ space.now) }
+    requires { IfSome last (λ o. o.names.known ≡ with_scopes space.now []) }
+    ensures known { IfOk result (λ o. o.names.known ≡ with_scopes space.now []) }
     ensures scope { IfOk result (λ o. o.names.method ≡ used.now.scope) }
     ensures unknown { IfOk result (λ o. o.names.unknown_zero ≡ (unknown_zero || used.now.declaring)) }
 {

@@ -1,15 +1,17 @@
 //! The walk over a table whose code outside methods may run.
-ghost use Rattle.std.specs.Prelude.{◌≡◌, ◌≤◌, length, IfOk, Ok};
+ghost use Rattle.std.specs.Prelude.{◌≡◌, ◌≤◌, ◌∷◌, ◌++◌, [], length, IfOk, OnOk, Ok};
 ghost use Rattle.aml_code.specs.View.{node_view, nodes_view, parts_view, tail_view};
 ghost use Rattle.std.specs.Prelude.{is_some, ◌&&◌};
 ghost use Rattle.std.specs.Option.{option_copied, option_and_then};
 ghost use Rattle.std.specs.FinSet as set;
 ghost use Rattle.aml_space.specs.Namespace.{namespace_of, found};
 ghost use Rattle.aml_space.specs.Known.{StandsFor};
+ghost use Rattle.aml_space.specs.Near.{IsBelow};
 ghost use Rattle.aml_load.specs.Loading.{Listed, declare_as};
 ghost use Rattle.aml_load.specs.Running.{opened_at, object_at, scope_at, enter_as};
-ghost use Rattle.aml_load.specs.Walking.{at_site, GivesIn, Walks};
+ghost use Rattle.aml_load.specs.Walking.{at_site, GivesIn, Walks, Holds, IsInside, Stays, AreBelow};
 ghost use Rattle.aml_load.specs.Runner.{IsFlat, Asks, IsSite, Comes, opens, span_inside, with_terms, HasRoom};
+ghost use Rattle.aml_load.specs.Runner.{run_site, IsWithin, IsEntered};
 ghost use Rattle.aml_load.specs.Runner.{HasRoomInside, IsOn, IsThere, Steps, Enters, Opens, Runs, RunsAll, RunsTable};
 
 use crate::faults::LoadFault;
@@ -17,12 +19,12 @@ use crate::roles::{kind_of, role_of};
 use crate::uses::{Site, add_names};
 use crate::walking::Progress;
 use aml_code::{
-    Arity, Locals, Name, NoMemory, Node, Part, Path, Position, Role, Tail, TailKind, last_name,
+    Arity, Locals, Name, NoMemory, Node, Part, Position, Role, Tail, TailKind, last_name,
     listed_row,
 };
 use aml_names::ScopedPath;
 use aml_parse::{next_position, read_step};
-use aml_space::{BodyNames, Kind, Space, SpaceFault};
+use aml_space::{BodyNames, Keeps, Kind, PlacedPath, SpaceFault};
 use std::alloc::Global;
 
 /// The most levels of terms inside each other.
@@ -34,33 +36,70 @@ pub struct RunSite {
     /// The table, by its place in load order from 0 on.
     pub table: usize,
     pub scope: ScopedPath,
+    /// The place of the scope among those that are open.
+    pub place: usize,
     /// Whether what the term declares is declared in every run.
     pub sure: bool,
 }
 
 impl RunSite {
-    /// Under a path, which is opened.
-    fn under(&self, space: &mut Space, path: &ScopedPath, sure: bool) -> Result<RunSite, LoadFault>
-        ensures site { IsSite result (record { table = self.now.table; scope = path.now; sure = sure }) }
-        ensures same { space.new ≡ space.old }
+    /// The same, as a site.
+    fn site(&self) -> Site<'_>
+        ensures site { at_site result ≡ run_site self.now }
+        ensures place { result.place ≡ self.now.place }
+        ensures scope { result.scope.now ≡ self.now.scope }
     {
-        let scope = space.open(path)?;
+        Site {
+            table: self.table,
+            scope: &self.scope,
+            place: self.place,
+            any_run: true,
+            sure: self.sure,
+        }
+    }
+
+    /// Under a path, which is opened.
+    fn under(
+        &self,
+        progress: &mut Progress,
+        path: &PlacedPath,
+        sure: bool,
+    ) -> Result<RunSite, LoadFault>
+        requires inside { IsWithin progress.old self.now }
+        requires below { IsBelow path.now.front self.now.scope path.now.path }
+        ensures site { IsSite result (record {
+          table = self.now.table;
+          scope = path.now.path;
+          place = length progress.old.space.scopes;
+          sure = sure;
+        }) }
+        ensures holds { OnOk result ((l : Listed) → Holds progress.old l → Holds progress.new l) }
+        ensures opens { IfOk result (λ inner. IsEntered progress.old.space.scopes progress.new inner) }
+    {
+        let place = progress.space.open_scopes();
+        let scope = progress.open_scope(&self.site(), path, Keeps::Perhaps)?;
         Ok(RunSite {
             table: self.table,
             scope,
+            place,
             sure,
         })
     }
 
     /// In the same scope, as surely as here if this holds.
     fn also(&self, sure: bool) -> Result<RunSite, LoadFault>
-        ensures { IsSite result
-            (record { table = self.now.table; scope = self.now.scope; sure = self.now.sure && sure }) }
+        ensures { IsSite result (record {
+          table = self.now.table;
+          scope = self.now.scope;
+          place = self.now.place;
+          sure = self.now.sure && sure;
+        }) }
     {
         let scope = self.scope.clone()?;
         Ok(RunSite {
             table: self.table,
             scope,
+            place: self.place,
             sure: self.sure && sure,
         })
     }
@@ -160,12 +199,13 @@ fn with_terms(head: Node, terms: Vec<Node>) -> Node
 impl Progress {
     /// The term that stands there, without the terms inside it, and the offset behind it.
     fn read_head(&self, site: &RunSite, rest: Rest, code: &[u8]) -> Result<(Node, u32), LoadFault>
-        requires { HasRoom code.now rest }
+        requires room { HasRoom code.now rest }
+        requires inside { IsWithin self.now site.now }
         ensures there { IfOk result (λ x. IsThere code.now rest (node_view x.0) x.1) }
         ensures step { Steps self.now site.now rest code.now result }
     {
         let names = RunNames {
-            names: BodyNames::new(&self.space, site.scope.parts(), false),
+            names: BodyNames::near(&self.space, site.site().near(), site.scope.parts(), false),
         };
         match read_step(
             self.alloc,
@@ -183,6 +223,7 @@ impl Progress {
 
     /// Whether some table names what a name may mean.
     fn is_known(&self, site: &Site<'_>, name: Option<&Name>) -> Result<bool, NoMemory>
+        requires { IsInside self.now site.now }
         ensures { (l : Listed) → StandsFor self.now.space l.entries → IfOk result (λ b. b
             ≡ is_some (option_and_then (found (namespace_of l.entries) set.empty site.now.scope.now)
             (option_copied name.entry))) }
@@ -190,7 +231,9 @@ impl Progress {
         match name {
             None => Ok(false),
             Some(name) => {
-                let path = self.space.find_scoped(self.alloc, site.scope, name)?;
+                let path = self
+                    .space
+                    .find_scoped(self.alloc, site.near(), site.scope, name)?;
                 Ok(path.is_some())
             }
         }
@@ -198,8 +241,10 @@ impl Progress {
 
     /// The path that a Scope opens. `ScopeMissing` where runs may differ.
     #[tactic(auto, unfolding(crate::specs::Running::opened_at))]
-    fn opened_path(&self, site: &Site<'_>, name: Option<&Name>) -> Result<ScopedPath, LoadFault>
-        ensures { GivesIn (λ p. p) self.now.space result (λ l.
+    fn opened_path(&self, site: &Site<'_>, name: Option<&Name>) -> Result<PlacedPath, LoadFault>
+        requires { IsInside self.now site.now }
+        ensures below { AreBelow result site.now.scope.now }
+        ensures gives { GivesIn (λ p. p.path) self.now.space result (λ l.
             opened_at (at_site site.now) l.entries (option_copied name.entry)) }
     {
         let path = self.own_path(site, name)?;
@@ -207,7 +252,7 @@ impl Progress {
             Some(led) => Ok(led),
             None => {
                 if self.is_known(site, name)? {
-                    let missing = SpaceFault::ScopeMissing(path.to_path(self.alloc)?);
+                    let missing = SpaceFault::ScopeMissing(path.path.to_path(self.alloc)?);
                     Err(LoadFault::Space(site.table, missing))
                 } else {
                     Ok(path)
@@ -224,35 +269,34 @@ impl Progress {
         name: Option<&Name>,
         kind: Kind,
     ) -> Result<RunSite, LoadFault>
-        ensures { Comes self.old self.new here.now result (λ f. object_at f (option_copied name.entry) kind) }
+        requires { IsWithin self.old here.now }
+        ensures comes { Comes self.old self.new here.now result (λ f. object_at f (option_copied name.entry) kind) }
+        ensures opens { IfOk result (λ inner. IsEntered self.old.space.scopes self.new inner) }
     {
-        let site = Site {
-            table: here.table,
-            scope: &here.scope,
-            any_run: true,
-            sure: here.sure,
-        };
+        let site = here.site();
         let path = self.own_path(&site, name)?;
-        let declared = self.space.is_declared(&path.parts());
+        let declared = self
+            .space
+            .is_declared(path.near(site.place), &path.path.parts());
         self.declare(&site, &path, kind)?;
-        here.under(&mut self.space, &path, here.sure && !declared)
+        here.under(self, &path, here.sure && !declared)
     }
 
     /// Opens the path of a Scope.
     #[tactic(auto, unfolding(crate::specs::Running::scope_at))]
     fn enter_scope(&mut self, here: &RunSite, name: Option<&Name>) -> Result<RunSite, LoadFault>
-        ensures { Comes self.old self.new here.now result (λ f. scope_at f (option_copied name.entry)) }
+        requires { IsWithin self.old here.now }
+        ensures comes { Comes self.old self.new here.now result (λ f. scope_at f (option_copied name.entry)) }
+        ensures opens { IfOk result (λ inner. IsEntered self.old.space.scopes self.new inner) }
     {
-        let site = Site {
-            table: here.table,
-            scope: &here.scope,
-            any_run: true,
-            sure: here.sure,
-        };
+        let site = here.site();
         self.expect_search(&site, name);
         let path = self.opened_path(&site, name)?;
-        let sure = here.sure && self.space.is_sure(&path.parts());
-        here.under(&mut self.space, &path, sure)
+        let sure = here.sure
+            && self
+                .space
+                .is_sure(path.near(site.place), &path.path.parts());
+        here.under(self, &path, sure)
     }
 
     /// Does what the role of a term does that opens nothing.
@@ -264,8 +308,10 @@ impl Progress {
         parts: &[Part],
         tail: &Tail,
     ) -> Result<(), LoadFault>
-        ensures { IsFlat role → Walks self.old self.new result (λ l.
+        requires { IsInside self.old site.now }
+        ensures walks { IsFlat role → Walks self.old self.new result (λ l.
             declare_as role (at_site site.now) l (parts_view parts.now) (tail_view tail.now) (λ l below. Ok l)) }
+        ensures stays { OnOk result (Stays self.old self.new) }
     {
         match role {
             Role::Method => self.add_method(site, parts, tail),
@@ -287,15 +333,12 @@ impl Progress {
         parts: &[Part],
         tail: &Tail,
     ) -> Result<RunSite, LoadFault>
-        ensures { IsFlat role → Comes self.old self.new here.now result (λ f.
+        requires { IsWithin self.old here.now }
+        ensures comes { IsFlat role → Comes self.old self.new here.now result (λ f.
             enter_as role f (parts_view parts.now) (tail_view tail.now)) }
+        ensures opens { IfOk result (λ inner. IsEntered self.old.space.scopes self.new inner) }
     {
-        let site = Site {
-            table: here.table,
-            scope: &here.scope,
-            any_run: true,
-            sure: here.sure,
-        };
+        let site = here.site();
         self.declare_flat(&site, role, parts, tail)?;
         here.also(true)
     }
@@ -308,8 +351,10 @@ impl Progress {
         parts: &[Part],
         tail: &Tail,
     ) -> Result<RunSite, LoadFault>
-        ensures { Comes self.old self.new here.now result (λ f.
+        requires { IsWithin self.old here.now }
+        ensures comes { Comes self.old self.new here.now result (λ f.
             enter_as role f (parts_view parts.now) (tail_view tail.now)) }
+        ensures opens { IfOk result (λ inner. IsEntered self.old.space.scopes self.new inner) }
     {
         match role {
             Role::Declares(object) => self.enter_object(here, last_name(parts), kind_of(object)),
@@ -323,14 +368,10 @@ impl Progress {
 impl Progress {
     /// Adds the names of a term.
     fn ask(&mut self, here: &RunSite, head: &Node) -> Result<(), LoadFault>
-        ensures { Asks self.old self.new here.now (node_view head.now) result }
+        ensures asks { Asks self.old self.new here.now (node_view head.now) result }
+        ensures stays { OnOk result (Stays self.old self.new) }
     {
-        let site = Site {
-            table: here.table,
-            scope: &here.scope,
-            any_run: true,
-            sure: here.sure,
-        };
+        let site = here.site();
         add_names(&site, head, &mut self.uses)?;
         Ok(())
     }
@@ -338,7 +379,9 @@ impl Progress {
     /// Declares what a term declares itself, and says where the terms inside it stand.
     #[tactic(auto, unfolding(crate::specs::Running::entered_at))]
     fn enter(&mut self, site: &RunSite, head: &Node) -> Result<RunSite, LoadFault>
-        ensures { Enters self.old self.new site.now (node_view head.now) result }
+        requires { IsWithin self.old site.now }
+        ensures comes { Enters self.old self.new site.now (node_view head.now) result }
+        ensures opens { IfOk result (λ inner. IsEntered self.old.space.scopes self.new inner) }
     {
         self.ask(site, head)?;
         match head {
@@ -361,8 +404,10 @@ impl Progress {
         code: &[u8],
         head: Node,
     ) -> Result<Node, LoadFault>
-        requires { HasRoomInside code.now levels (node_view head) }
-        ensures { Opens self.old self.new inner.now levels code.now (node_view head) result }
+        requires room { HasRoomInside code.now levels (node_view head) }
+        requires inside { IsWithin self.old inner.now }
+        ensures opens { Opens self.old self.new inner.now levels code.now (node_view head) result }
+        ensures stays { OnOk result (Stays self.old self.new) }
     {
         match span_inside(&head) {
             None => Ok(head),
@@ -374,7 +419,6 @@ impl Progress {
                     end: start + len,
                 };
                 let terms = self.run_terms(inner, inside, code)?;
-                self.space.close(&inner.scope);
                 Ok(with_terms(head, terms))
             }
         }
@@ -384,14 +428,18 @@ impl Progress {
     #[cycle(runs)]
     #[tactic(auto, unfolding(aml_parse::specs::Running::run_term_at))]
     fn run_term(&mut self, site: &RunSite, rest: Rest, code: &[u8]) -> Result<Term, LoadFault>
-        requires { HasRoom code.now rest }
+        requires room { HasRoom code.now rest }
+        requires inside { IsWithin self.old site.now }
         ensures bounds { IfOk result (λ x. IsOn rest x) }
         ensures term { Runs self.old self.new site.now rest code.now result }
+        ensures stays { OnOk result (Stays self.old self.new) }
     {
+        let open = self.space.open_scopes();
         let (head, behind) = self.read_head(site, rest, code)?;
         let inner = self.enter(site, &head)?;
         let position = next_position(rest.position, &head);
         let node = self.open(&inner, rest.levels, code, head)?;
+        self.close_scopes(open);
         Ok(Term {
             node,
             position,
@@ -407,8 +455,10 @@ impl Progress {
         rest: Rest,
         code: &[u8],
     ) -> Result<Vec<Node>, LoadFault>
-        requires { HasRoom code.now rest }
-        ensures { RunsAll self.old self.new site.now rest code.now result }
+        requires room { HasRoom code.now rest }
+        requires inside { IsWithin self.old site.now }
+        ensures runs { RunsAll self.old self.new site.now rest code.now result }
+        ensures stays { OnOk result (Stays self.old self.new) }
     {
         let mut found = Vec::new(self.alloc);
         let mut here = rest;
@@ -433,9 +483,11 @@ impl Progress {
         requires { length code.now ≤ 16777216 }
         ensures { RunsTable self.old self.new table code.now result }
     {
+        let place = self.space.open_scopes();
         let root = RunSite {
             table,
-            scope: ScopedPath::whole(self.alloc, Path::root(self.alloc))?,
+            scope: self.open_root()?,
+            place,
             sure: true,
         };
         let whole = Rest {
@@ -444,6 +496,8 @@ impl Progress {
             at: 0,
             end: code.len() as u32,
         };
-        self.run_terms(&root, whole, code)
+        let terms = self.run_terms(&root, whole, code)?;
+        self.close_scopes(place);
+        Ok(terms)
     }
 }

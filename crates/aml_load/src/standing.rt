@@ -8,7 +8,8 @@ ghost use Rattle.aml_load.specs.Standing.{stands, inside_as, term_stands, inside
 ghost use Rattle.aml_load.specs.Standing.{tables_stand};
 ghost use Rattle.aml_load.specs.Standings.{standings_view, Finds, Found, declare_tables};
 ghost use Rattle.aml_load.specs.Tables.{LoadsTo};
-ghost use Rattle.aml_load.specs.Walking.{at_site, Holds};
+ghost use Rattle.aml_load.specs.Walking.{at_site, Holds, IsInside, Stays};
+ghost use Rattle.aml_space.specs.Near.{IsBelow};
 
 use crate::faults::LoadFault;
 use crate::loading::first_progress;
@@ -17,6 +18,7 @@ use crate::uses::{Site, add_names};
 use crate::walking::Progress;
 use aml_code::{NoMemory, Node, Part, Path, Role, Tail, last_name};
 use aml_names::ScopedPath;
+use aml_space::{Keeps, PlacedPath};
 use std::alloc::Global;
 
 /// A term of a table outside the methods' bodies, and where it stands.
@@ -56,9 +58,11 @@ fn find_term<'a>(
     term: &'a Node,
     found: &mut Vec<StandingTerm<'a>>,
 ) -> Result<(), LoadFault>
-    ensures { Finds progress.old progress.new found.old.items found.new.items result
+    requires { IsInside progress.old site.now }
+    ensures finds { Finds progress.old progress.new found.old.items found.new.items result
         (λ l. declare (at_site site.now) l (node_view term.now))
         (λ l. term_stands (at_site site.now) l (node_view term.now)) }
+    ensures stays { OnOk result (Stays progress.old progress.new) }
 {
     add_term(site, term, found)?;
     match term {
@@ -93,11 +97,13 @@ fn find_by_role<'a>(
     parts: &[Part],
     found: &mut Vec<StandingTerm<'a>>,
 ) -> Result<(), LoadFault>
-    ensures { Finds progress.old progress.new found.old.items found.new.items result
+    requires { IsInside progress.old site.now }
+    ensures finds { Finds progress.old progress.new found.old.items found.new.items result
         (λ l. declare_as role (at_site site.now) l (parts_view parts.now) (tail_view tail.now)
         (λ l below. declare_inside below l (tail_view tail.now)))
         (λ l. inside_as role (at_site site.now) l (parts_view parts.now)
         (λ l below. inside_stand below l (tail_view tail.now))) }
+    ensures stays { OnOk result (Stays progress.old progress.new) }
 {
     match role {
         Role::Declares(object) => {
@@ -124,27 +130,32 @@ fn find_by_role<'a>(
 fn find_below<'a>(
     progress: &mut Progress,
     site: &Site<'_>,
-    path: &ScopedPath,
+    path: &PlacedPath,
     tail: &'a Tail,
     found: &mut Vec<StandingTerm<'a>>,
 ) -> Result<(), LoadFault>
-    ensures { Finds progress.old progress.new found.old.items found.new.items result
-        (λ l. declare_inside (under (at_site site.now) path.now) l (tail_view tail.now))
-        (λ l. inside_stand (under (at_site site.now) path.now) l (tail_view tail.now)) }
+    requires inside { IsInside progress.old site.now }
+    requires below { IsBelow path.now.front site.now.scope.now path.now.path }
+    ensures finds { Finds progress.old progress.new found.old.items found.new.items result
+        (λ l. declare_inside (under (at_site site.now) path.now.path) l (tail_view tail.now))
+        (λ l. inside_stand (under (at_site site.now) path.now.path) l (tail_view tail.now)) }
+    ensures stays { OnOk result (Stays progress.old progress.new) }
 {
-    let scope = progress.space.open(path)?;
+    let place = progress.space.open_scopes();
+    let scope = progress.open_scope(site, path, Keeps::Something)?;
     find_inside(
         progress,
         &Site {
             table: site.table,
             scope: &scope,
+            place,
             any_run: site.any_run,
             sure: site.sure,
         },
         tail,
         found,
     )?;
-    progress.space.close(&scope);
+    progress.close_scopes(place);
     Ok(())
 }
 
@@ -157,9 +168,11 @@ fn find_inside<'a>(
     tail: &'a Tail,
     found: &mut Vec<StandingTerm<'a>>,
 ) -> Result<(), LoadFault>
-    ensures { Finds progress.old progress.new found.old.items found.new.items result
+    requires { IsInside progress.old site.now }
+    ensures finds { Finds progress.old progress.new found.old.items found.new.items result
         (λ l. declare_inside (at_site site.now) l (tail_view tail.now))
         (λ l. inside_stand (at_site site.now) l (tail_view tail.now)) }
+    ensures stays { OnOk result (Stays progress.old progress.new) }
 {
     match tail {
         Tail::Terms(terms) => find_terms(progress, site, terms.as_slice(), found),
@@ -176,9 +189,11 @@ fn find_terms<'a>(
     terms: &'a [Node],
     found: &mut Vec<StandingTerm<'a>>,
 ) -> Result<(), LoadFault>
-    ensures { Finds progress.old progress.new found.old.items found.new.items result
+    requires { IsInside progress.old site.now }
+    ensures finds { Finds progress.old progress.new found.old.items found.new.items result
         (λ l. declare_all (at_site site.now) l (nodes_view terms.now))
         (λ l. all_stand (at_site site.now) l (nodes_view terms.now)) }
+    ensures stays { OnOk result (Stays progress.old progress.new) }
 {
     for term in terms {
         find_term(progress, site, term, found)?;
@@ -197,18 +212,22 @@ fn find_table<'a>(
         (λ l. declare_all (strict table []) l (nodes_view terms.now))
         (λ l. all_stand (strict table []) l (nodes_view terms.now)) }
 {
-    let root = ScopedPath::whole(progress.alloc, Path::root(progress.alloc))?;
+    let place = progress.space.open_scopes();
+    let root = progress.open_root()?;
     find_terms(
         progress,
         &Site {
             table,
             scope: &root,
+            place,
             any_run: false,
             sure: true,
         },
         terms,
         found,
-    )
+    )?;
+    progress.close_scopes(place);
+    Ok(())
 }
 
 /// Finds the terms of all tables.

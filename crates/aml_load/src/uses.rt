@@ -1,13 +1,16 @@
 //! The names that stand as TermArgs outside the methods.
-ghost use Rattle.std.specs.Prelude.{◌≡◌, ◌++◌, ◌∷◌, [], OnOk, true, false, cond, length};
+ghost use Rattle.std.specs.Prelude.{◌≡◌, ◌++◌, ◌∷◌, [], List, OnOk, true, false, cond, length};
 ghost use Rattle.aml_code.specs.View.{node_view, nodes_view, part_view, parts_view, tail_view, field_view, fields_view};
 ghost use Rattle.aml_load.specs.Loading.{is_argument, kinds_in, in_declaration, declares_by, uses_in, all_uses};
 ghost use Rattle.aml_load.specs.Loading.{part_uses, parts_uses, tail_uses, fields_uses, field_uses, term_uses, use_of};
 ghost use Rattle.aml_load.specs.Walking.{at_site};
+ghost use Rattle.aml_names.specs.declared.segments.Seg.{Seg as AnySeg};
+ghost use Rattle.aml_space.specs.Near.{IsOpen, IsNear};
 
 use crate::used::Use;
 use aml_code::{Field, Group, Link, NoMemory, Node, Part, PartKind, Tail, listed_row};
 use aml_names::{Name, ScopedPath};
+use aml_space::Near;
 
 /// Where a term stands.
 #[derive(Drop)]
@@ -15,10 +18,25 @@ pub struct Site<'a> {
     /// The table, by its place in load order from 0 on.
     pub table: usize,
     pub scope: &'a ScopedPath,
+    /// The place of the scope among those that are open.
+    pub place: usize,
     /// Whether the code outside methods may run.
     pub any_run: bool,
     /// Whether what the term declares is declared in every run of it. Where it may not run, everything is.
     pub sure: bool,
+}
+
+impl Site<'_> {
+    /// Where the scope is found, if it is open.
+    pub fn near(&self) -> Near
+        ensures { (scopes : List (List AnySeg)) → IsOpen scopes self.now.place self.now.scope.now →
+            IsNear scopes result self.now.scope.now }
+    {
+        Near {
+            place: self.place,
+            front: self.scope.parts().len(),
+        }
+    }
 }
 
 fn is_argument(kind: PartKind) -> bool

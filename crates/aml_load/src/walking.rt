@@ -1,24 +1,26 @@
 //! What the terms of a table declare.
-ghost use Rattle.std.specs.Prelude.{◌≡◌, ◌%◌, ◌∷◌, [], List, Option, None, Ok, IfOk, true};
+ghost use Rattle.std.specs.Prelude.{◌≡◌, ◌%◌, ◌∷◌, ◌++◌, [], List, Option, None, Ok, IfOk, IfSome, OnOk, true, take};
 ghost use Rattle.std.specs.Option.{option_copied, ok_or};
 ghost use Rattle.aml_code.specs.Lawful.{last_label, field_names, plain_name, unit_names};
 ghost use Rattle.aml_code.specs.Tree.{no_fields, field_more};
 ghost use Rattle.aml_code.specs.View.{node_view, nodes_view, parts_view, tail_view, fields_view, field_view};
 ghost use Rattle.aml_space.specs.Namespace.{Entry, Body, declares, external as outside};
 ghost use Rattle.aml_space.specs.Known.{StandsFor};
+ghost use Rattle.aml_space.specs.Near.{IsBelow, path_of};
 ghost use Rattle.aml_load.specs.Loading.{under, Listed, plus, method_entry, first_label, byte_of, lead_of, target_of};
 ghost use Rattle.aml_load.specs.Loading.{body_span, place_at, lead_at, entry_at, new_at, method_at, alias_at};
 ghost use Rattle.aml_load.specs.Loading.{external_at, units_at, declare_as, declare, declare_inside, declare_all};
-ghost use Rattle.aml_load.specs.Walking.{at_site, Gives, GivesIn, IsDeclared, Walks};
+ghost use Rattle.aml_load.specs.Walking.{at_site, Gives, GivesIn, IsDeclared, Walks, IsInside, Stays, Holds, AreBelow};
 
 use crate::faults::LoadFault;
+use crate::keeping::kept_of;
 use crate::roles::{kind_of, role_of};
 use crate::used::Use;
 use crate::uses::{Site, add_names};
 use aml_code::{Field, Name, NoMemory, Node, Part, Role, Seg, Tail, last_byte, last_name};
-use aml_names::ScopedPath;
+use aml_names::{Path, ScopedPath, front_of};
 use aml_set::Method;
-use aml_space::{Kind, Space, SpaceFault, Target};
+use aml_space::{Keeps, Kind, Near, PlacedPath, Space, SpaceFault, Target};
 use std::alloc::Global;
 
 /// The most methods that a set of tables may have.
@@ -63,15 +65,19 @@ fn first_name(parts: &[Part]) -> Option<&Name>
 #[tactic(auto, unfolding(crate::specs::Loading::place_at))]
 impl Progress {
     /// Where a term's name leads from its scope, without a search. `AboveRoot` where that is nowhere.
-    pub fn own_path(&self, site: &Site<'_>, name: Option<&Name>) -> Result<ScopedPath, LoadFault>
-        ensures { Gives (λ p. p) result (place_at (at_site site.now) (option_copied name.entry)) }
+    pub fn own_path(&self, site: &Site<'_>, name: Option<&Name>) -> Result<PlacedPath, LoadFault>
+        ensures gives { Gives (λ p. p.path) result (place_at (at_site site.now) (option_copied name.entry)) }
+        ensures below { AreBelow result site.now.scope.now }
     {
-        match name {
+        let Some(name) = name else {
+            return Err(LoadFault::Space(site.table, SpaceFault::AboveRoot));
+        };
+        match front_of(&site.scope.parts(), name) {
             None => Err(LoadFault::Space(site.table, SpaceFault::AboveRoot)),
-            Some(name) => match ScopedPath::placed(self.alloc, site.scope, name)? {
-                None => Err(LoadFault::Space(site.table, SpaceFault::AboveRoot)),
-                Some(path) => Ok(path),
-            },
+            Some(front) => {
+                let path = PlacedPath::new(self.alloc, site.scope, front, name.segs.as_slice())?;
+                Ok(path)
+            }
         }
     }
 }
@@ -82,19 +88,18 @@ impl Progress {
         &self,
         site: &Site<'_>,
         name: Option<&Name>,
-    ) -> Result<Option<ScopedPath>, NoMemory>
-        ensures { (l : Listed) → StandsFor self.now.space l.entries →
-            IfOk result (λ path. path ≡ lead_of (at_site site.now) l.entries (option_copied name.entry)) }
+    ) -> Result<Option<PlacedPath>, NoMemory>
+        requires { IsInside self.now site.now }
+        ensures below { IfOk result (λ met. IfSome met (λ p. IsBelow p.front site.now.scope.now p.path)) }
+        ensures found { (l : Listed) → StandsFor self.now.space l.entries →
+            IfOk result (λ met. path_of met ≡ lead_of (at_site site.now) l.entries (option_copied name.entry)) }
     {
-        match name {
-            None => Ok(None),
-            Some(name) => {
-                if site.any_run {
-                    self.space.lead(self.alloc, site.scope, name)
-                } else {
-                    self.space.find_scoped(self.alloc, site.scope, name)
-                }
-            }
+        let Some(name) = name else { return Ok(None) };
+        if site.any_run {
+            self.space.lead(self.alloc, site.near(), site.scope, name)
+        } else {
+            self.space
+                .find_scoped(self.alloc, site.near(), site.scope, name)
         }
     }
 }
@@ -114,30 +119,34 @@ impl Progress {
 #[tactic(auto, unfolding(crate::specs::Loading::lead_at))]
 impl Progress {
     /// The path that a Scope opens. `ScopeMissing` where its name leads to nothing.
-    pub fn scope_path(&self, site: &Site<'_>, name: Option<&Name>) -> Result<ScopedPath, LoadFault>
-        ensures { GivesIn (λ p. p) self.now.space result (λ l.
+    pub fn scope_path(&self, site: &Site<'_>, name: Option<&Name>) -> Result<PlacedPath, LoadFault>
+        requires { IsInside self.now site.now }
+        ensures below { AreBelow result site.now.scope.now }
+        ensures gives { GivesIn (λ p. p.path) self.now.space result (λ l.
             lead_at (at_site site.now) l.entries (option_copied name.entry) (λ p. SpaceFault.ScopeMissing p)) }
     {
         let path = self.own_path(site, name)?;
         match self.found_path(site, name)? {
             Some(found) => Ok(found),
             None => {
-                let missing = SpaceFault::ScopeMissing(path.to_path(self.alloc)?);
+                let missing = SpaceFault::ScopeMissing(path.path.to_path(self.alloc)?);
                 Err(LoadFault::Space(site.table, missing))
             }
         }
     }
 
     /// The path that the source of an Alias leads to. `AliasMissing` where that is nothing.
-    fn source_path(&self, site: &Site<'_>, name: Option<&Name>) -> Result<ScopedPath, LoadFault>
-        ensures { GivesIn (λ p. p) self.now.space result (λ l.
+    fn source_path(&self, site: &Site<'_>, name: Option<&Name>) -> Result<PlacedPath, LoadFault>
+        requires { IsInside self.now site.now }
+        ensures below { AreBelow result site.now.scope.now }
+        ensures gives { GivesIn (λ p. p.path) self.now.space result (λ l.
             lead_at (at_site site.now) l.entries (option_copied name.entry) (λ p. SpaceFault.AliasMissing p)) }
     {
         let path = self.own_path(site, name)?;
         match self.found_path(site, name)? {
             Some(found) => Ok(found),
             None => {
-                let missing = SpaceFault::AliasMissing(path.to_path(self.alloc)?);
+                let missing = SpaceFault::AliasMissing(path.path.to_path(self.alloc)?);
                 Err(LoadFault::Space(site.table, missing))
             }
         }
@@ -146,14 +155,17 @@ impl Progress {
 
 impl Progress {
     /// What an Alias of a path stands for: an Alias' own target, else the path.
-    fn target_of(&self, path: &ScopedPath) -> Result<Target, NoMemory>
+    fn target_of(&self, site: &Site<'_>, source: &PlacedPath) -> Result<Target, NoMemory>
+        requires inside { IsInside self.now site.now }
+        requires below { IsBelow source.now.front site.now.scope.now source.now.path }
         ensures { (l : Listed) → StandsFor self.now.space l.entries →
-            IfOk result (λ target. target ≡ target_of l.entries path.now) }
+            IfOk result (λ target. target ≡ target_of l.entries source.now.path) }
     {
-        match self.space.kind_of(&path.parts()) {
+        let near = source.near(site.place);
+        match self.space.kind_near(near, &source.path.parts()) {
             Some(Kind::Alias { target }) => target.clone(),
             _ => {
-                let path = path.clone()?;
+                let path = source.path.clone()?;
                 Target::new(self.alloc, path)
             }
         }
@@ -163,20 +175,28 @@ impl Progress {
     fn declare_path(
         &mut self,
         site: &Site<'_>,
-        path: &ScopedPath,
+        path: &PlacedPath,
         kind: Kind,
     ) -> Result<(), LoadFault>
-        ensures { (es : List Entry) (body : Option Body) → StandsFor self.old.space es →
-            IsDeclared (at_site site.now) es path.now kind body self.old self.new result }
+        requires inside { IsInside self.old site.now }
+        requires below { IsBelow path.now.front site.now.scope.now path.now.path }
+        ensures declared { (es : List Entry) (body : Option Body) → StandsFor self.old.space es →
+            IsDeclared (at_site site.now) es path.now.path kind body self.old self.new result }
+        ensures stays { OnOk result (Stays self.old self.new) }
     {
+        let near = path.near(site.place);
         if site.any_run {
-            self.space.put_again(&path.parts(), kind, site.sure)?;
+            self.space
+                .put_again(near, &path.path.parts(), kind, site.sure)?;
             return Ok(());
         }
-        if self.space.put_once(&path.parts(), kind, site.sure)? {
+        if self
+            .space
+            .put_once(near, &path.path.parts(), kind, site.sure)?
+        {
             return Ok(());
         }
-        let taken = SpaceFault::Duplicate(path.to_path(self.alloc)?);
+        let taken = SpaceFault::Duplicate(path.path.to_path(self.alloc)?);
         Err(LoadFault::Space(site.table, taken))
     }
 
@@ -185,26 +205,41 @@ impl Progress {
     pub fn declare(
         &mut self,
         site: &Site<'_>,
-        path: &ScopedPath,
+        path: &PlacedPath,
         kind: Kind,
     ) -> Result<(), LoadFault>
-        ensures { Walks self.old self.new result (λ l.
-            entry_at (at_site site.now) l path.now (declares path.now kind None site.now.sure)) }
+        requires inside { IsInside self.old site.now }
+        requires below { IsBelow path.now.front site.now.scope.now path.now.path }
+        ensures walks { Walks self.old self.new result (λ l.
+            entry_at (at_site site.now) l path.now.path (declares path.now.path kind None site.now.sure)) }
+        ensures stays { OnOk result (Stays self.old self.new) }
     {
         self.declare_path(site, path, kind)
     }
 
-    /// Declares the path of a method with this body.
-    fn declare_body(&mut self, site: &Site<'_>, method: Method) -> Result<(), LoadFault>
-        requires { method.table ≡ site.now.table }
-        ensures { Walks self.old self.new result (λ l. entry_at (at_site site.now) l method.path
-            (method_entry (at_site site.now) method.path method.flags (method.start, method.len))) }
+    /// Declares the path of a method with a body that begins here, so long.
+    fn declare_body(
+        &mut self,
+        site: &Site<'_>,
+        path: PlacedPath,
+        flags: u8,
+        start: u32,
+        len: u32,
+    ) -> Result<(), LoadFault>
+        requires inside { IsInside self.old site.now }
+        requires below { IsBelow path.front site.now.scope.now path.path }
+        ensures walks { Walks self.old self.new result (λ l. entry_at (at_site site.now) l path.path
+            (method_entry (at_site site.now) path.path flags (start, len))) }
+        ensures stays { OnOk result (Stays self.old self.new) }
     {
-        let kind = Kind::Method {
-            args: method.flags % 8,
-        };
-        self.declare_path(site, &method.path, kind)?;
-        self.methods.push(method)?;
+        self.declare_path(site, &path, Kind::Method { args: flags % 8 })?;
+        self.methods.push(Method {
+            path: path.path,
+            table: site.table,
+            start,
+            len,
+            flags,
+        })?;
         Ok(())
     }
 }
@@ -218,8 +253,10 @@ impl Progress {
         name: Option<&Name>,
         kind: Kind,
     ) -> Result<(), LoadFault>
-        ensures { Walks self.old self.new result (λ l.
+        requires { IsInside self.old site.now }
+        ensures walks { Walks self.old self.new result (λ l.
             new_at (at_site site.now) l (option_copied name.entry) (λ p. declares p kind None site.now.sure)) }
+        ensures stays { OnOk result (Stays self.old self.new) }
     {
         let path = self.own_path(site, name)?;
         self.declare(site, &path, kind)
@@ -232,22 +269,15 @@ impl Progress {
         parts: &[Part],
         tail: &Tail,
     ) -> Result<(), LoadFault>
-        ensures { Walks self.old self.new result (λ l.
+        requires { IsInside self.old site.now }
+        ensures walks { Walks self.old self.new result (λ l.
             new_at (at_site site.now) l (last_label None (parts_view parts.now)) (λ p.
             method_entry (at_site site.now) p (byte_of (parts_view parts.now)) (body_span (tail_view tail.now)))) }
+        ensures stays { OnOk result (Stays self.old self.new) }
     {
         let path = self.own_path(site, last_name(parts))?;
         let (start, len) = body_span(tail);
-        self.declare_body(
-            site,
-            Method {
-                path,
-                table: site.table,
-                start,
-                len,
-                flags: byte_in(parts),
-            },
-        )
+        self.declare_body(site, path, byte_in(parts), start, len)
     }
 }
 
@@ -260,9 +290,11 @@ impl Progress {
         parts: &[Part],
         tail: &Tail,
     ) -> Result<(), LoadFault>
-        ensures { Walks self.old self.new result (λ l.
+        requires { IsInside self.old site.now }
+        ensures walks { Walks self.old self.new result (λ l.
             method_at (at_site site.now) l (last_label None (parts_view parts.now))
             (byte_of (parts_view parts.now)) (body_span (tail_view tail.now))) }
+        ensures stays { OnOk result (Stays self.old self.new) }
     {
         if MAX_METHODS <= self.methods.len() {
             return Err(LoadFault::TooManyMethods);
@@ -272,32 +304,40 @@ impl Progress {
 
     #[tactic(auto, unfolding(crate::specs::Loading::alias_at))]
     pub fn add_alias(&mut self, site: &Site<'_>, parts: &[Part]) -> Result<(), LoadFault>
-        ensures { Walks self.old self.new result (λ l.
+        requires { IsInside self.old site.now }
+        ensures walks { Walks self.old self.new result (λ l.
             alias_at (at_site site.now) l (first_label (parts_view parts.now))
             (last_label None (parts_view parts.now))) }
+        ensures stays { OnOk result (Stays self.old self.new) }
     {
         self.expect_search(site, first_name(parts));
         let source = self.source_path(site, first_name(parts))?;
-        let target = self.target_of(&source)?;
+        let target = self.target_of(site, &source)?;
         self.declare_name(site, last_name(parts), Kind::Alias { target })
     }
 
     /// Adds an External of a path.
-    fn add_count(&mut self, path: &ScopedPath, count: u8) -> Result<(), LoadFault>
-        ensures { Walks self.old self.new result (λ l. Ok (plus l (outside path.now count))) }
+    fn add_count(&mut self, site: &Site<'_>, path: &PlacedPath, count: u8) -> Result<(), LoadFault>
+        requires inside { IsInside self.old site.now }
+        requires below { IsBelow path.now.front site.now.scope.now path.now.path }
+        ensures walks { Walks self.old self.new result (λ l. Ok (plus l (outside path.now.path count))) }
+        ensures stays { OnOk result (Stays self.old self.new) }
     {
-        self.space.put_external(&path.parts(), count)?;
+        let near = path.near(site.place);
+        self.space.put_external(near, &path.path.parts(), count)?;
         Ok(())
     }
 
     #[tactic(auto, unfolding(crate::specs::Loading::external_at))]
     pub fn add_external(&mut self, site: &Site<'_>, parts: &[Part]) -> Result<(), LoadFault>
-        ensures { Walks self.old self.new result (λ l.
+        requires { IsInside self.old site.now }
+        ensures walks { Walks self.old self.new result (λ l.
             external_at (at_site site.now) l (last_label None (parts_view parts.now))
             (byte_of (parts_view parts.now))) }
+        ensures stays { OnOk result (Stays self.old self.new) }
     {
         let path = self.own_path(site, last_name(parts))?;
-        self.add_count(&path, byte_in(parts))
+        self.add_count(site, &path, byte_in(parts))
     }
 }
 
@@ -305,16 +345,21 @@ impl Progress {
 impl Progress {
     /// Declares the unit of a field list with this segment.
     fn add_unit(&mut self, site: &Site<'_>, seg: Seg) -> Result<(), LoadFault>
-        ensures { Walks self.old self.new result (λ l.
+        requires { IsInside self.old site.now }
+        ensures walks { Walks self.old self.new result (λ l.
             units_at (at_site site.now) l (plain_name seg ∷ [])) }
+        ensures stays { OnOk result (Stays self.old self.new) }
     {
-        let path = ScopedPath::below(self.alloc, site.scope, &[seg])?;
+        let front = site.scope.parts().len();
+        let path = PlacedPath::new(self.alloc, site.scope, front, &[seg])?;
         self.declare(site, &path, Kind::Field)
     }
 
     fn add_field(&mut self, site: &Site<'_>, field: &Field) -> Result<(), LoadFault>
-        ensures { Walks self.old self.new result (λ l.
+        requires { IsInside self.old site.now }
+        ensures walks { Walks self.old self.new result (λ l.
             units_at (at_site site.now) l (unit_names (field_more (field_view field.now) no_fields))) }
+        ensures stays { OnOk result (Stays self.old self.new) }
     {
         match field {
             Field::NamedUnit { seg, .. } => self.add_unit(site, *seg),
@@ -323,8 +368,10 @@ impl Progress {
     }
 
     fn add_fields(&mut self, site: &Site<'_>, fields: &[Field]) -> Result<(), LoadFault>
-        ensures { Walks self.old self.new result (λ l.
+        requires { IsInside self.old site.now }
+        ensures walks { Walks self.old self.new result (λ l.
             units_at (at_site site.now) l (unit_names (fields_view fields.now))) }
+        ensures stays { OnOk result (Stays self.old self.new) }
     {
         for field in fields {
             self.add_field(site, field)?;
@@ -334,8 +381,10 @@ impl Progress {
 
     /// Declares the named units of a field list.
     pub fn add_units(&mut self, site: &Site<'_>, tail: &Tail) -> Result<(), LoadFault>
-        ensures { Walks self.old self.new result (λ l.
+        requires { IsInside self.old site.now }
+        ensures walks { Walks self.old self.new result (λ l.
             units_at (at_site site.now) l (field_names (tail_view tail.now))) }
+        ensures stays { OnOk result (Stays self.old self.new) }
     {
         match tail {
             Tail::Fields(fields) => self.add_fields(site, fields.as_slice()),
@@ -345,11 +394,49 @@ impl Progress {
 }
 
 impl Progress {
+    /// Opens the root as a scope inside those that are open.
+    pub fn open_root(&mut self) -> Result<ScopedPath, NoMemory>
+        ensures holds { OnOk result ((l : Listed) → Holds self.old l → Holds self.new l) }
+        ensures more { OnOk result (self.new.space.scopes ≡ self.old.space.scopes ++ [] ∷ []) }
+        ensures scope { IfOk result (λ scope. scope ≡ []) }
+    {
+        let root = ScopedPath::whole(self.alloc, Path::root(self.alloc))?;
+        self.space.enter(Near::root(), &root, Keeps::Something)
+    }
+
+    /// Opens a path as a scope inside those that are open, in which something is to be kept or isn't.
+    pub fn open_scope(
+        &mut self,
+        site: &Site<'_>,
+        path: &PlacedPath,
+        keeps: Keeps,
+    ) -> Result<ScopedPath, NoMemory>
+        requires inside { IsInside self.old site.now }
+        requires below { IsBelow path.now.front site.now.scope.now path.now.path }
+        ensures holds { OnOk result ((l : Listed) → Holds self.old l → Holds self.new l) }
+        ensures more { OnOk result (self.new.space.scopes ≡ self.old.space.scopes ++ path.now.path ∷ []) }
+        ensures scope { IfOk result (λ scope. scope ≡ path.now.path) }
+    {
+        self.space.enter(path.near(site.place), &path.path, keeps)
+    }
+
+    /// Closes all scopes but so many first ones.
+    pub fn close_scopes(&mut self, count: usize)
+        ensures holds { (l : Listed) → Holds self.old l → Holds self.new l }
+        ensures fewer { self.new.space.scopes ≡ take count self.old.space.scopes }
+    {
+        self.space.leave(count);
+    }
+}
+
+impl Progress {
     /// Declares what a term declares, and what the terms inside it declare.
     #[cycle(walk)]
     #[tactic(auto, unfolding(crate::specs::Loading::declare))]
     fn walk(&mut self, site: &Site<'_>, node: &Node) -> Result<(), LoadFault>
-        ensures { Walks self.old self.new result (λ l. declare (at_site site.now) l (node_view node.now)) }
+        requires { IsInside self.old site.now }
+        ensures walks { Walks self.old self.new result (λ l. declare (at_site site.now) l (node_view node.now)) }
+        ensures stays { OnOk result (Stays self.old self.new) }
     {
         match node {
             Node::Nothing | Node::Named { .. } => Ok(()),
@@ -375,9 +462,11 @@ impl Progress {
         tail: &Tail,
         parts: &[Part],
     ) -> Result<(), LoadFault>
-        ensures { Walks self.old self.new result (λ l.
+        requires { IsInside self.old site.now }
+        ensures walks { Walks self.old self.new result (λ l.
             declare_as role (at_site site.now) l (parts_view parts.now) (tail_view tail.now)
             (λ l below. declare_inside below l (tail_view tail.now))) }
+        ensures stays { OnOk result (Stays self.old self.new) }
     {
         match role {
             Role::Declares(object) => {
@@ -412,27 +501,32 @@ impl Progress {
     fn walk_below(
         &mut self,
         site: &Site<'_>,
-        path: &ScopedPath,
+        path: &PlacedPath,
         terms: &[Node],
     ) -> Result<(), LoadFault>
-        ensures { Walks self.old self.new result (λ l.
-            declare_all (under (at_site site.now) path.now) l (nodes_view terms.now)) }
+        requires inside { IsInside self.old site.now }
+        requires below { IsBelow path.now.front site.now.scope.now path.now.path }
+        ensures walks { Walks self.old self.new result (λ l.
+            declare_all (under (at_site site.now) path.now.path) l (nodes_view terms.now)) }
+        ensures stays { OnOk result (Stays self.old self.new) }
     {
         // A scope without terms needs no path of its own.
         if terms.is_empty() {
             return Ok(());
         }
-        let scope = self.space.open(path)?;
+        let place = self.space.open_scopes();
+        let scope = self.open_scope(site, path, kept_of(terms))?;
         self.walk_all(
             &Site {
                 table: site.table,
                 scope: &scope,
+                place,
                 any_run: site.any_run,
                 sure: site.sure,
             },
             terms,
         )?;
-        self.space.close(&scope);
+        self.close_scopes(place);
         Ok(())
     }
 
@@ -440,8 +534,10 @@ impl Progress {
     #[cycle(walk)]
     #[tactic(auto, unfolding(crate::specs::Loading::declare_inside))]
     fn walk_inside(&mut self, site: &Site<'_>, tail: &Tail) -> Result<(), LoadFault>
-        ensures { Walks self.old self.new result (λ l.
+        requires { IsInside self.old site.now }
+        ensures walks { Walks self.old self.new result (λ l.
             declare_inside (at_site site.now) l (tail_view tail.now)) }
+        ensures stays { OnOk result (Stays self.old self.new) }
     {
         match tail {
             Tail::Terms(terms) => self.walk_all(site, terms.as_slice()),
@@ -453,8 +549,10 @@ impl Progress {
     #[cycle(walk)]
     #[tactic(auto, unfolding(crate::specs::Loading::declare_all))]
     pub fn walk_all(&mut self, site: &Site<'_>, terms: &[Node]) -> Result<(), LoadFault>
-        ensures { Walks self.old self.new result (λ l.
+        requires { IsInside self.old site.now }
+        ensures walks { Walks self.old self.new result (λ l.
             declare_all (at_site site.now) l (nodes_view terms.now)) }
+        ensures stays { OnOk result (Stays self.old self.new) }
     {
         for term in terms {
             self.walk(site, term)?;

@@ -202,6 +202,7 @@ module _ (ns new : List Node) (i : ℕ) (seg : Seg) (is : IsIndex ns) (within : 
     declarations = grown_part (λ c. c.declared) refl t;
     outs = grown_part (λ c. c.out) refl t;
     givens = grown_part (λ c. c.given) refl t;
+    scopes = [];
   }
 
   pub new_child : child_in (kids_of new i) seg ≡ Some (length ns)

@@ -46,12 +46,16 @@ pub more_opened : (ns : List Node) (opened more : List Opened) (o : Opened) → 
 more_opened ns opened more o is are led = λ i. subst (λ all. IfSome (slice_get all i) (λ o. walk (kids_of ns) 0 o.scope ≡ Some o.node)) (sym is)
     (each_more (λ i o. walk (kids_of ns) 0 o.scope ≡ Some o.node) opened o are led i)
 
--- the root alone
-pub root_opened : (ns : List Node) (none one : List Opened) (o : Opened) → none ≡ [] → one ≡ none ++ o ∷ []
-    → o.scope ≡ [] → o.node ≡ 0 → AreOpened ns one
-root_opened ns none one o empty is root first = more_opened ns none one o is (λ i. subst (λ all. IfSome (slice_get all i) (λ o. walk (kids_of ns) 0 o.scope ≡ Some o.node)) (sym empty) (at i))
-    (ap (walk (kids_of ns) 0) root ∙ ap (λ (n : ℕ). Some n) (sym first))
+-- none at all
+pub none_opened : (ns : List Node) (none : List Opened) → none ≡ [] → AreOpened ns none
+none_opened ns none empty = λ i. subst (λ all. IfSome (slice_get all i) (λ o. walk (kids_of ns) 0 o.scope ≡ Some o.node)) (sym empty) (at i)
   where
     at : (i : ℕ) → IfSome (slice_get [] i) (λ (o : Opened). walk (kids_of ns) 0 o.scope ≡ Some o.node)
     at zero = tt
     at (suc i) = tt
+
+-- the root alone
+pub root_opened : (ns : List Node) (none one : List Opened) (o : Opened) → none ≡ [] → one ≡ none ++ o ∷ []
+    → o.scope ≡ [] → o.node ≡ 0 → AreOpened ns one
+root_opened ns none one o empty is root first = more_opened ns none one o is (none_opened ns none empty)
+    (ap (walk (kids_of ns) 0) root ∙ ap (λ (n : ℕ). Some n) (sym first))

@@ -1,6 +1,6 @@
--- What is kept of nodes for a search. It is that of one node more, from what is kept of its parent (`settled_more`); it
--- stays right for fewer nodes (`settled_fewer`), and where something is said of a path and nothing passes over the node
--- above it (`settled_kept`), as a declaration, an External or a given count says something of one path alone.
+-- What is kept of nodes for a search. It is that of one node more, from what is kept of its parent (`settled_more`), and
+-- stays right where something is said of a path and nothing passes over the node above it (`settled_kept`), as a
+-- declaration, an External or a given count says something of one path alone.
 use Rattle.std.specs.Prelude.{slice_get}
 use Rattle.std.proofs.Common.{◌≡◌, ℕ, zero, suc, ◌+◌, ◌<◌, ◌≤◌, true, false, List, [], ◌∷◌, ◌++◌, length, take, Option}
 use Rattle.std.proofs.Common.{Some, None, IfSome, ◌⊎◌, inl, inr, refl, sym}
@@ -8,12 +8,11 @@ use Rattle.std.proofs.Common.{ap, subst, ◌∙◌, arith, cond, length-append, 
 use Rattle.std.specs.FinMap as map
 use Rattle.std.specs.Option.{option_map}
 use Rattle.std.proofs.lemmas.Bool.{cases_lt, false_from_ne_true, false≢true}
-use Rattle.std.proofs.lemmas.Option.{same_Some, slice_get_within, slice_get_past}
+use Rattle.std.proofs.lemmas.Option.{same_Some, slice_get_within}
 use Rattle.std.proofs.lemmas.Map.Views.{tells_apart}
 use Rattle.aml_names.specs.declared.segments.Seg.{Seg}
 use Rattle.aml_names.specs.Paths.{path_cmp, exact_paths, paths_total}
 use Rattle.aml_space.specs.declared.nodes.Node.{Node}
-use Rattle.aml_space.specs.declared.growing.Reach.{Reach}
 use Rattle.aml_space.specs.declared.settling.Settled.{Settled}
 use Rattle.aml_space.specs.Nodes.{walk, kids_of, links_of, known_by, IsIndex, IsKept}
 use Rattle.aml_space.specs.Namespace.{same_path, greater}
@@ -32,55 +31,6 @@ Keeps ns settled i s = (path : List Seg) (d : ℕ) → d ≤ length path → wal
 -- nothing is kept of no node
 pub settled_none : (ns : List Node) (settled : List Settled) → settled ≡ [] → AreSettled ns settled
 settled_none ns settled none = subst (AreSettled ns) (sym none) (record { long = omega arith; shallow = λ i. tt; each = λ i. tt })
-
-fewer_at : (n i : ℕ) (settled : List Settled)
-    → (slice_get (take n settled) i ≡ None) ⊎ (slice_get (take n settled) i ≡ slice_get settled i)
-fewer_at zero i settled = inl refl
-fewer_at (suc n) i [] = inl refl
-fewer_at (suc n) zero (s ∷ settled) = inr refl
-fewer_at (suc n) (suc i) (s ∷ settled) = fewer_at n i settled
-
--- what holds of each holds of each of fewer
-fewer_if : (P : Settled → Type 0) (n i : ℕ) (settled : List Settled) → IfSome (slice_get settled i) P
-    → IfSome (slice_get (take n settled) i) P
-fewer_if P n i settled is = elim (fewer_at n i settled) [
-  | inl none ↦ subst (λ o. IfSome o P) (sym none) tt
-  | inr same ↦ subst (λ o. IfSome o P) (sym same) is
-]
-
-short : (n : ℕ) (settled : List Settled) → (length (take n settled) ≤ length settled) × (length (take n settled) ≤ n)
-short zero settled = (omega arith, omega arith)
-short (suc n) [] = (omega arith, omega arith)
-short (suc n) (s ∷ settled) = let less = short n settled in (omega (arith, less.0), omega (arith, less.1))
-
-pub settled_fewer : (ns : List Node) (settled fewer : List Settled) (n : ℕ) → fewer ≡ take n settled
-    → AreSettled ns settled → AreSettled ns fewer
-settled_fewer ns settled fewer n is are = subst (AreSettled ns) (sym is) (record {
-  long = omega (arith, (short n settled).0, are.long);
-  shallow = λ i. fewer_if _ n i settled (are.shallow i);
-  each = λ i. fewer_if _ n i settled (each (slice_get settled i) i (are.each i));
-})
-  where
-    each : (o : Option Settled) (i : ℕ) → IfSome o (Keeps ns settled i) → IfSome o (Keeps ns (take n settled) i)
-    each None i was = tt
-    each (Some s) i was = λ path d within led.
-        let so = was path d within led in
-        record {
-          depth = so.depth;
-          asked = so.asked;
-          next = so.next;
-          led = so.led;
-          passed = λ e more less j there. fewer_if _ n j settled (so.passed e more less j there);
-          over = so.over;
-          shorter = so.shorter;
-          skipped = so.skipped;
-        }
-
--- a node of which nothing is kept any more is ready
-pub ready_fewer : (n i : ℕ) (settled fewer : List Settled) → fewer ≡ take n settled → n ≤ i
-    → IfSome (slice_get fewer i) (λ here. here.asked ≡ i)
-ready_fewer n i settled fewer is past = subst (λ o. IfSome o (λ here. here.asked ≡ i))
-    (sym (ap (λ ss. slice_get ss i) is ∙ slice_get_past (take n settled) i (omega (arith, (short n settled).1, past)))) tt
 
 module _ (ns : List Node) (is : IsIndex ns) (settled : List Settled) (are : AreSettled ns settled) (new : Settled) where
   abbrev at : ℕ
@@ -322,28 +272,3 @@ pub settled_grown : (old new : List Node) (settled : List Settled) → IsIndex o
     → AreSettled new settled
 settled_grown old new settled is kept same are = kept_there old new settled is kept
     (λ q j led within passed. subst (λ k. IsSilent (namespace_in k) q) (sym same)) are
-
--- a step up that is kept leads to the front of that depth
-pub skip_led : (ns : List Node) (settled : List Settled) → AreSettled ns settled
-    → (path : List Seg) (d : ℕ) (from to : Reach) → d ≤ length path
-    → walk (kids_of ns) 0 (take d path) ≡ Some from.node
-    → option_map (λ (s : Settled). s.skip) (slice_get settled from.node) ≡ Some to.node
-    → option_map (λ (s : Settled). s.depth) (slice_get settled to.node) ≡ Some to.known
-    → walk (kids_of ns) 0 (take to.known path) ≡ Some to.node
-skip_led ns settled are path d from to within led skip depth = by (slice_get settled from.node) (are.each from.node) skip
-  where
-    there : (o : Option Settled) (over : ℕ) → over ≤ length path → walk (kids_of ns) 0 (take over path) ≡ Some to.node
-        → IfSome o (Keeps ns settled to.node)
-        → option_map (λ (s : Settled). s.depth) o ≡ Some to.known → to.known ≡ over
-    there None over long at was is = absurd cc
-    there (Some s) over long at was is = sym (same_Some s.depth to.known is) ∙ (was path over long at).depth
-
-    by : (o : Option Settled) → IfSome o (Keeps ns settled from.node)
-        → option_map (λ (s : Settled). s.skip) o ≡ Some to.node
-        → walk (kids_of ns) 0 (take to.known path) ≡ Some to.node
-    by None was is = absurd cc
-    by (Some s) was is =
-        let so = was path d within led in
-        let long : so.over ≤ length path = omega (arith, so.shorter, within) in
-        let at = so.skipped ∙ is in
-        ap (λ m. walk (kids_of ns) 0 (take m path)) (there (slice_get settled to.node) so.over long at (are.each to.node) depth) ∙ at

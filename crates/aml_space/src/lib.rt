@@ -29,6 +29,7 @@ pub use faults::SpaceFault;
 pub use kinds::{Kind, Target};
 pub use laws::rows_are_declared;
 pub use listing::Rows;
+pub use opened::{Keeps, Near, PlacedPath};
 pub use rows::Row;
 pub use runs::{
     every_run_agrees, every_run_leads_there, quick_way_holds, runs_differ, stays_as_it_is,

@@ -1,21 +1,24 @@
 //! The scopes that were opened, by whose nodes the paths below them are found.
-ghost use Rattle.std.specs.Prelude.{◌≡◌, ◌+◌, ◌<◌, ◌≤◌, [], Some, length, take, IfOk, IfSome};
+ghost use Rattle.std.specs.Prelude.{◌≡◌, ◌+◌, ◌<◌, ◌≤◌, ◌++◌, [], List, Some, length, take, IfOk, IfSome};
+ghost use Rattle.aml_names.specs.declared.segments.Seg.{Seg as AnySeg};
+ghost use Rattle.aml_space.specs.declared.nodes.Node.{Node as AnyNode};
 ghost use Rattle.aml_space.specs.Nodes.{walk, kids_of, links_of, IsIndex, Reaches};
 ghost use Rattle.aml_space.specs.Candidates.{AreSettled};
-ghost use Rattle.aml_space.specs.Opened.{AreHints};
+ghost use Rattle.aml_space.specs.Near.{IsOpen, IsNear, IsBelow};
+ghost use Rattle.aml_space.specs.Opened.{AreHints, AreOpened, scopes_of};
 
 use crate::growing::Reach;
 use crate::nodes::Node;
 use crate::parents::link;
 use crate::settling::{Settled, skipped};
 use crate::walking::child;
-use aml_names::{NoMemory, Parts, Path, ScopedPath, SharedPath};
+use aml_names::{NoMemory, Parts, Path, ScopedPath, Seg};
 use std::alloc::Global;
 
 /// A scope that was opened, and its node.
 #[derive(Drop)]
 pub(crate) struct Opened {
-    pub scope: SharedPath,
+    pub scope: ScopedPath,
     pub node: usize,
 }
 
@@ -25,56 +28,148 @@ impl Opened {
         ensures scope { IfOk result (λ root. root.scope ≡ []) }
         ensures node { IfOk result (λ root. root.node ≡ 0) }
     {
-        let scope = SharedPath::new(alloc, Path::root(alloc))?;
+        let scope = ScopedPath::whole(alloc, Path::root(alloc))?;
         Ok(Opened { scope, node: 0 })
+    }
+}
+
+/// How many first segments a path has in common with a scope that is open, so that it is found from there.
+#[derive(Clone, Copy)]
+pub struct Near {
+    /// The place of the scope among those that are open, from 0 on.
+    pub place: usize,
+    /// So many first segments are the scope's.
+    pub front: usize,
+}
+
+impl Near {
+    /// What is true of every path: it is found from the root.
+    pub fn root() -> Near
+        ensures near { (scopes : List (List AnySeg)) (path : List AnySeg) → IsNear scopes result path }
+    {
+        Near { place: 0, front: 0 }
+    }
+}
+
+/// A path that is placed from a scope.
+#[derive(Drop)]
+pub struct PlacedPath {
+    pub path: ScopedPath,
+    /// So many first segments are the scope's.
+    pub front: usize,
+}
+
+impl PlacedPath {
+    /// The path of some segments behind so many of a scope.
+    pub fn new(
+        alloc: Global,
+        scope: &ScopedPath,
+        front: usize,
+        own: &[Seg],
+    ) -> Result<PlacedPath, NoMemory>
+        requires { front ≤ length scope.now }
+        ensures path { IfOk result (λ placed. placed.path ≡ take front scope.now ++ own.now) }
+        ensures below { IfOk result (λ placed. IsBelow placed.front scope.now placed.path) }
+    {
+        let path = scope.extended(alloc, front, own)?;
+        Ok(PlacedPath { path, front })
+    }
+
+    /// Where it is found, if its scope is open at a place.
+    pub fn near(&self, place: usize) -> Near
+        ensures { (scopes : List (List AnySeg)) (scope : List AnySeg) → IsOpen scopes place scope →
+            IsBelow self.now.front scope self.now.path → IsNear scopes result self.now.path }
+    {
+        Near {
+            place,
+            front: self.front,
+        }
     }
 }
 
 /// What is kept besides the nodes, by which they are found sooner.
 #[derive(Clone, Copy)]
 pub(crate) struct Hints<'a> {
+    /// The scopes that were opened and by which something is kept.
     pub opened: &'a [Opened],
+    /// Those that are open.
+    pub scopes: &'a [Opened],
     pub settled: &'a [Settled],
 }
 
 impl<'a> Hints<'a> {
-    pub(crate) fn new(opened: &'a [Opened], settled: &'a [Settled]) -> Hints<'a>
+    pub(crate) fn new(
+        opened: &'a [Opened],
+        scopes: &'a [Opened],
+        settled: &'a [Settled],
+    ) -> Hints<'a>
         ensures opened { result.opened.now ≡ opened.now }
+        ensures scopes { result.scopes.now ≡ scopes.now }
         ensures settled { result.settled.now ≡ settled.now }
     {
-        Hints { opened, settled }
+        Hints {
+            opened,
+            scopes,
+            settled,
+        }
     }
 }
 
 /// Paths of so many segments are copied: names below them are found the sooner.
 const FEW: usize = 64;
 
-/// A name has so many segments at most.
-const NAME: usize = 255;
-
-/// Whether a path is opened as a scope without a copy. What is kept in it, a method's path say, has its own segments.
-pub(crate) fn shares_its_scope(path: &ScopedPath) -> bool {
-    let (front, own) = path.parts().slices();
-    FEW < front.len() && own.len() <= NAME
+/// Whether something is to be kept in a scope, as a method's path is, which then has the scope's own segments too.
+#[derive(Clone, Copy)]
+pub enum Keeps {
+    Something,
+    Nothing,
+    /// It isn't known yet.
+    Perhaps,
 }
 
-/// How far a path leads with what it has in common with a scope. Where that is less than half of the scope, and little
-/// or no skips are kept of the scope's node, it is sooner found from the root.
-fn reach_in(nodes: &[Node], settled: &[Settled], near: &Opened, path: &Parts<'_>) -> Reach
+impl Keeps {
+    /// How many segments of its own such a scope has at most if it isn't copied. With fewer the copies of scopes that are
+    /// open, one inside the other, take more memory, and with more what is kept does.
+    fn most_own(self) -> usize {
+        match self {
+            Keeps::Something => 16,
+            Keeps::Perhaps => 255,
+            Keeps::Nothing => 2047,
+        }
+    }
+}
+
+/// Whether a path is opened as a scope without a copy.
+fn shares_its_scope(path: &ScopedPath, keeps: Keeps) -> bool {
+    let (front, own) = path.parts().slices();
+    FEW < front.len() && own.len() <= keeps.most_own()
+}
+
+/// How far a path leads with so many first segments that it has in common with a scope. Where that is less than half of
+/// the scope, and little or no skips are kept of the scope's node, it is sooner found from the root.
+fn reach_in(
+    nodes: &[Node],
+    settled: &[Settled],
+    near: &Opened,
+    known: usize,
+    path: &Parts<'_>,
+) -> Reach
     requires index { IsIndex nodes.now }
     requires settled { AreSettled nodes.now settled.now }
     requires near { walk (kids_of nodes.now) 0 near.now.scope ≡ Some near.now.node }
+    requires own { known ≤ length path.now }
+    requires scopes { known ≤ length near.now.scope }
+    requires common { take known path.now ≡ take known near.now.scope }
     ensures led { walk (kids_of nodes.now) 0 (take result.known path.now) ≡ Some result.node }
     ensures within { result.known ≤ length path.now }
 {
-    let scope = near.scope.parts();
-    let known = path.common(&scope);
-    if known < scope.len() - known && (known < FEW || settled.len() <= near.node) {
+    let deep = near.scope.parts().len();
+    if known < deep - known && (known < FEW || settled.len() <= near.node) {
         return Reach { node: 0, known: 0 };
     }
     let mut reach = Reach {
         node: near.node,
-        known: scope.len(),
+        known: deep,
     };
     while reach.known > known {
         reach = match skipped(settled, reach, known) {
@@ -108,7 +203,24 @@ fn reach_of_scope(nodes: &[Node], hints: Hints<'_>, path: &Parts<'_>) -> Reach
 {
     match hints.opened.get(path.mark()) {
         None => Reach { node: 0, known: 0 },
-        Some(near) => reach_in(nodes, hints.settled, near, path),
+        Some(near) => {
+            let known = path.common(&near.scope.parts());
+            reach_in(nodes, hints.settled, near, known, path)
+        }
+    }
+}
+
+/// How far a path leads with what it has in common with a scope that is open.
+fn reach_of_near(nodes: &[Node], hints: Hints<'_>, near: Near, path: &Parts<'_>) -> Reach
+    requires index { IsIndex nodes.now }
+    requires hints { AreHints nodes.now hints }
+    requires near { IsNear (scopes_of hints.scopes.now) near path.now }
+    ensures led { walk (kids_of nodes.now) 0 (take result.known path.now) ≡ Some result.node }
+    ensures within { result.known ≤ length path.now }
+{
+    match hints.scopes.get(near.place) {
+        None => Reach { node: 0, known: 0 },
+        Some(scope) => reach_in(nodes, hints.settled, scope, near.front, path),
     }
 }
 
@@ -118,7 +230,29 @@ pub(crate) fn reach_along(nodes: &[Node], hints: Hints<'_>, path: &Parts<'_>) ->
     requires hints { AreHints nodes.now hints }
     ensures { Reaches nodes.now path.now result }
 {
-    let mut reach = reach_of_scope(nodes, hints, path);
+    let reach = reach_of_scope(nodes, hints, path);
+    reach_on(nodes, reach, path)
+}
+
+/// How far a path leads that is near a scope that is open.
+pub(crate) fn reach_near(nodes: &[Node], hints: Hints<'_>, near: Near, path: &Parts<'_>) -> Reach
+    requires index { IsIndex nodes.now }
+    requires hints { AreHints nodes.now hints }
+    requires near { IsNear (scopes_of hints.scopes.now) near path.now }
+    ensures { Reaches nodes.now path.now result }
+{
+    let reach = reach_of_near(nodes, hints, near, path);
+    reach_on(nodes, reach, path)
+}
+
+/// How far a path leads of which some first segments do.
+fn reach_on(nodes: &[Node], from: Reach, path: &Parts<'_>) -> Reach
+    requires index { IsIndex nodes.now }
+    requires led { walk (kids_of nodes.now) 0 (take from.known path.now) ≡ Some from.node }
+    requires within { from.known ≤ length path.now }
+    ensures { Reaches nodes.now path.now result }
+{
+    let mut reach = from;
     while reach.known < path.len() {
         match child(nodes, reach.node, path.segment(reach.known)) {
             None => return reach,
@@ -133,17 +267,61 @@ pub(crate) fn reach_along(nodes: &[Node], hints: Hints<'_>, path: &Parts<'_>) ->
     reach
 }
 
-/// Where a path leads.
-pub(crate) fn node_along(nodes: &[Node], hints: Hints<'_>, path: &Parts<'_>) -> Option<usize>
+/// Where a path leads that is near a scope that is open.
+pub(crate) fn node_near(
+    nodes: &[Node],
+    hints: Hints<'_>,
+    near: Near,
+    path: &Parts<'_>,
+) -> Option<usize>
     requires index { IsIndex nodes.now }
     requires hints { AreHints nodes.now hints }
+    requires near { IsNear (scopes_of hints.scopes.now) near path.now }
     ensures node { result ≡ walk (kids_of nodes.now) 0 path.now }
     ensures within { IfSome result (λ at. at < length nodes.now) }
 {
-    let reach = reach_along(nodes, hints, path);
+    let reach = reach_near(nodes, hints, near, path);
     if reach.known == path.len() {
         Some(reach.node)
     } else {
         None
+    }
+}
+
+/// The path by which what stands in a scope is kept, if something is. Where it isn't long, or has many segments of its
+/// own, it is copied, and what is kept by it is found by its node.
+pub(crate) fn keep_scope(
+    alloc: Global,
+    nodes: &[Node],
+    opened: &mut Vec<Opened>,
+    path: &ScopedPath,
+    node: usize,
+    keeps: Keeps,
+) -> Result<ScopedPath, NoMemory>
+    requires opened { AreOpened nodes.now opened.old.items }
+    requires node { walk (kids_of nodes.now) 0 path.now ≡ Some node }
+    ensures opened { AreOpened nodes.now opened.new.items }
+    ensures scope { IfOk result (λ scope. scope ≡ path.now) }
+{
+    if shares_its_scope(path, keeps) {
+        return path.clone();
+    }
+    let marked = path.to_scope(alloc)?.marked(opened.len());
+    let scope = ScopedPath::of(alloc, marked);
+    opened.push(Opened {
+        scope: scope.clone()?,
+        node,
+    })?;
+    Ok(scope)
+}
+
+/// Forgets a scope that is closed, if it was opened last, unless something is kept by it: a method's path, or a name
+/// that is looked at when all tables are there.
+pub(crate) fn forget_scope(opened: &mut Vec<Opened>, scope: &ScopedPath)
+    ensures { (nodes : List AnyNode) → AreOpened nodes opened.old.items → AreOpened nodes opened.new.items }
+{
+    // Its owners are the list of opened scopes, that of open ones, and the one who closes it.
+    if scope.mark() == opened.len().saturating_sub(1) && scope.owners() <= 3 {
+        opened.truncate(scope.mark());
     }
 }

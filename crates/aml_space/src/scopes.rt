@@ -11,19 +11,18 @@ ghost use Rattle.aml_names.specs.declared.segments.Seg.{Seg};
 ghost use Rattle.aml_names.specs.Searching.{upward};
 ghost use Rattle.aml_space.specs.Predefined.{predefined};
 ghost use Rattle.aml_space.specs.Namespace.{first_of, first_given, count_at, kind_at as kind_of_path};
-ghost use Rattle.aml_space.specs.Nodes.{walk, kids_of, outs_of, known_by, IsShape, IsIndex};
-ghost use Rattle.aml_space.specs.Opened.{AreHints};
+ghost use Rattle.aml_space.specs.Nodes.{walk, kids_of, outs_of, known_by, IsShape, IsIndex, Reaches};
 ghost use Rattle.aml_space.specs.Known.{namespace_in};
 ghost use Rattle.aml_space.specs.Runs.{counts_met as met, counts_of, is_known};
 ghost use Rattle.aml_space.specs.Tallies.{counts_in};
 ghost use Rattle.aml_space.specs.Candidates.{path_at, local_from, names_of, outlook_at, agreed_among, above, IsBare};
-ghost use Rattle.aml_space.specs.Candidates.{HasBareChildren};
+ghost use Rattle.aml_space.specs.Candidates.{HasBareChildren, AreSettled};
 ghost use Rattle.aml_space.specs.Candidates.{IsLevel, IsScope, IsNextFrom, IsCandidate};
 
 use crate::counting::{count_met, counts_met, kind_met, known_met, sure_met};
+use crate::growing::Reach;
 use crate::kinds::Kind;
 use crate::nodes::Node;
-use crate::opened::{Hints, reach_along};
 use crate::parents::link;
 use crate::predefined::Predefined;
 use crate::settling::Settled;
@@ -64,23 +63,24 @@ pub(crate) struct Candidate {
 }
 
 impl<'a> Scope<'a> {
-    /// Finds where the path ends in the index.
+    /// By how far the path leads in the index.
     pub(crate) fn new(
         nodes: &'a [Node],
-        hints: Hints<'a>,
+        settled: &'a [Settled],
         predefined: &'a Predefined,
         path: Parts<'a>,
+        reach: Reach,
     ) -> Scope<'a>
         requires index { IsIndex nodes.now }
-        requires hints { AreHints nodes.now hints }
+        requires settled { AreSettled nodes.now settled.now }
+        requires reach { Reaches nodes.now path reach }
         ensures scope { IsScope result }
         ensures nodes { result.nodes.now ≡ nodes.now }
         ensures path { result.path ≡ path.entry }
     {
-        let reach = reach_along(nodes, hints, &path);
         Scope {
             nodes,
-            settled: hints.settled,
+            settled,
             predefined,
             path,
             last: Level {

@@ -1,6 +1,6 @@
 //! The namespace that tables make.
 ghost use Rattle.std.specs.Prelude.{◌≡◌, ◌≤◌, ◌*◌, length, slice_get, [], ◌∷◌, ◌++◌, List, Option, true, false};
-ghost use Rattle.std.specs.Prelude.{is_some, not, cond, Ok};
+ghost use Rattle.std.specs.Prelude.{is_some, not, cond, take, Ok};
 ghost use Rattle.std.specs.Prelude.{map as map_list, ◌⊎◌, OnOk, OnErr, IfOk, IfErr, IsTrue};
 ghost use Rattle.std.specs.Option.{option_copied};
 ghost use Rattle.std.specs.FinMap as map;
@@ -8,7 +8,8 @@ ghost use Rattle.aml_space.specs.Namespace.{Entry, Body, declares, external as o
 ghost use Rattle.aml_space.specs.Namespace.{kind_at, count_at, namespace_of, declared_at};
 ghost use Rattle.aml_space.specs.Runs.{sure_at};
 ghost use Rattle.aml_space.specs.Nodes.{known_by};
-ghost use Rattle.aml_space.specs.Candidates.{IsScope};
+ghost use Rattle.aml_space.specs.Near.{with_scopes, IsNear};
+ghost use Rattle.aml_space.specs.Candidates.{names_of, outlook_at, IsScope};
 ghost use Rattle.aml_space.specs.Known.{StandsFor, nothing_known, once, with_declaration, with_declared, with_again};
 ghost use Rattle.aml_space.specs.Known.{with_external, with_given};
 ghost use Rattle.aml_space.specs.Known.{is_declared as declared_yet, namespace_in, outlook_in, row_of, AreRows};
@@ -19,7 +20,9 @@ use crate::growing::{declare_again, declare_first, extend, is_taken, set_given, 
 use crate::kinds::Kind;
 use crate::listing::{Rows, list_rows};
 use crate::nodes::Node;
-use crate::opened::{Hints, Opened, node_along, reach_along, shares_its_scope};
+use crate::opened::{
+    Hints, Keeps, Near, Opened, forget_scope, keep_scope, node_near, reach_along, reach_near,
+};
 use crate::predefined::Predefined;
 use crate::rows::Row;
 use crate::scopes::Scope;
@@ -32,6 +35,17 @@ use std::marker::Model;
 /// To find out of a node where searches go on takes as long as so many looks at levels.
 const LOOKS: usize = 8;
 
+/// What is kept besides the nodes of a space.
+macro_rules! hints_of {
+    ($space:ident) => {
+        Hints::new(
+            $space.opened.as_slice(),
+            $space.scopes.as_slice(),
+            $space.settled.as_slice(),
+        )
+    };
+}
+
 /// The namespace of the tables so far: what they declare, and what Externals name, over the predefined names; and the
 /// argument counts that the user gives to paths of which no table says one.
 #[derive(Drop)]
@@ -42,8 +56,10 @@ pub struct Space {
     pub(crate) predefined: Predefined,
     /// How many paths are declared.
     rows: usize,
-    /// The scopes that are open, and those by which something is kept, so that what stands in them is found soon.
+    /// The scopes that were opened and by which something is kept, so that what stands in them is found soon.
     opened: Vec<Opened>,
+    /// The scopes that are open, each inside those before it.
+    scopes: Vec<Opened>,
     /// Where the search for a segment goes on from some first nodes.
     settled: Vec<Settled>,
     /// How many levels were looked at at most since the last time that this was found out.
@@ -57,12 +73,11 @@ impl Model for Space {
 
     ghost coded = { coded_known };
 
-    ghost use Rattle.aml_space.specs.Nodes.{known_by};
-    ghost use Rattle.aml_space.specs.Opened.{IsSpace};
+    ghost use Rattle.aml_space.specs.Opened.{known_in, IsSpace};
 
-    ghost view = { λ s. known_by s.nodes.items };
+    ghost view = { λ s. known_in s.nodes.items s.scopes.items };
 
-    ghost invariant = { λ s. IsSpace s.nodes.items s.rows s.opened.items s.settled.items };
+    ghost invariant = { λ s. IsSpace s.nodes.items s.rows s.opened.items s.scopes.items s.settled.items };
 }
 
 /// A declared path, the kind of its first declaration, whether a declaration is sure, and how many there are.
@@ -90,6 +105,7 @@ impl Space {
             predefined: Predefined::new(),
             rows: 0,
             opened,
+            scopes: Vec::new(alloc),
             settled: Vec::new(alloc),
             looked: 0,
         })
@@ -106,7 +122,7 @@ impl Space {
             IsTrue (declared_yet self.old path))) }
         ensures duplicate { IsTrue (declared_yet self.old path) → result ≡ Err (SpaceFault.Duplicate path) }
     {
-        if self.put_once(&path.parts(), kind, true)? {
+        if self.put_once(Near::root(), &path.parts(), kind, true)? {
             Ok(())
         } else {
             Err(SpaceFault::Duplicate(path))
@@ -115,7 +131,14 @@ impl Space {
 
     /// Declares a path that isn't declared yet, surely or not, and answers whether it did: `false` where the path is
     /// declared already, which takes no memory. A refused call changes nothing.
-    pub fn put_once(&mut self, path: &Parts<'_>, kind: Kind, surely: bool) -> Result<bool, NoMemory>
+    pub fn put_once(
+        &mut self,
+        near: Near,
+        path: &Parts<'_>,
+        kind: Kind,
+        surely: bool,
+    ) -> Result<bool, NoMemory>
+        requires { IsNear self.old.scopes near path.now }
         ensures put { IfOk result (λ put. put ≡ not (declared_yet self.old path.now)) }
         ensures known { IfOk result (λ put. self.new
             ≡ cond put (with_declaration self.old path.now (once kind surely)) self.old) }
@@ -128,8 +151,8 @@ impl Space {
             IfOk result (λ put. StandsFor self.new
             (cond put (es ++ declares path.now kind body surely ∷ []) es)) }
     {
-        let hints = Hints::new(self.opened.as_slice(), self.settled.as_slice());
-        let reach = reach_along(self.nodes.as_slice(), hints, path);
+        let hints = hints_of!(self);
+        let reach = reach_near(self.nodes.as_slice(), hints, near, path);
         unsettle(&mut self.settled, self.nodes.as_slice(), path, reach);
         if is_taken(self.nodes.as_slice(), path, reach) {
             return Ok(false);
@@ -140,7 +163,7 @@ impl Space {
         declare_first(
             self.alloc,
             &mut self.nodes,
-            Hints::new(self.opened.as_slice(), self.settled.as_slice()),
+            hints_of!(self),
             path,
             kind,
             surely,
@@ -158,18 +181,25 @@ impl Space {
             OnOk result (StandsFor self.new (es ++ declares path kind body sure ∷ [])) }
         ensures err { OnErr result (self.new ≡ self.old) }
     {
-        self.put_again(&path.parts(), kind, sure)
+        self.put_again(Near::root(), &path.parts(), kind, sure)
     }
 
     /// The same of a path in parts.
-    pub fn put_again(&mut self, path: &Parts<'_>, kind: Kind, sure: bool) -> Result<(), NoMemory>
+    pub fn put_again(
+        &mut self,
+        near: Near,
+        path: &Parts<'_>,
+        kind: Kind,
+        sure: bool,
+    ) -> Result<(), NoMemory>
+        requires { IsNear self.old.scopes near path.now }
         ensures ok { OnOk result (self.new ≡ with_again self.old path.now kind sure) }
         ensures stands { (es : List Entry) (body : Option Body) → StandsFor self.old es →
             OnOk result (StandsFor self.new (es ++ declares path.now kind body sure ∷ [])) }
         ensures err { OnErr result (self.new ≡ self.old) }
     {
-        let hints = Hints::new(self.opened.as_slice(), self.settled.as_slice());
-        let reach = reach_along(self.nodes.as_slice(), hints, path);
+        let hints = hints_of!(self);
+        let reach = reach_near(self.nodes.as_slice(), hints, near, path);
         unsettle(&mut self.settled, self.nodes.as_slice(), path, reach);
         if is_taken(self.nodes.as_slice(), path, reach) {
             return declare_again(self.alloc, &mut self.nodes, path, reach.node, kind, sure);
@@ -180,7 +210,7 @@ impl Space {
         declare_first(
             self.alloc,
             &mut self.nodes,
-            Hints::new(self.opened.as_slice(), self.settled.as_slice()),
+            hints_of!(self),
             path,
             kind,
             sure,
@@ -198,18 +228,19 @@ impl Space {
             OnOk result (StandsFor self.new (es ++ outside path count ∷ [])) }
         ensures err { OnErr result (self.new ≡ self.old) }
     {
-        self.put_external(&path.parts(), count)
+        self.put_external(Near::root(), &path.parts(), count)
     }
 
     /// The same of a path in parts.
-    pub fn put_external(&mut self, path: &Parts<'_>, count: u8) -> Result<(), NoMemory>
+    pub fn put_external(&mut self, near: Near, path: &Parts<'_>, count: u8) -> Result<(), NoMemory>
+        requires { IsNear self.old.scopes near path.now }
         ensures ok { OnOk result (self.new ≡ with_external self.old path.now count) }
         ensures stands { (es : List Entry) → StandsFor self.old es →
             OnOk result (StandsFor self.new (es ++ outside path.now count ∷ [])) }
         ensures err { OnErr result (self.new ≡ self.old) }
     {
-        let hints = Hints::new(self.opened.as_slice(), self.settled.as_slice());
-        let reach = reach_along(self.nodes.as_slice(), hints, path);
+        let hints = hints_of!(self);
+        let reach = reach_near(self.nodes.as_slice(), hints, near, path);
         unsettle(&mut self.settled, self.nodes.as_slice(), path, reach);
         let at = extend(self.alloc, &mut self.nodes, path, reach)?;
         set_out(&mut self.nodes, at, count);
@@ -225,45 +256,69 @@ impl Space {
         ensures err { OnErr result (self.new ≡ self.old) }
     {
         let path = path.parts();
-        let hints = Hints::new(self.opened.as_slice(), self.settled.as_slice());
-        let reach = reach_along(self.nodes.as_slice(), hints, &path);
+        let hints = hints_of!(self);
+        let reach = reach_near(self.nodes.as_slice(), hints, Near::root(), &path);
         unsettle(&mut self.settled, self.nodes.as_slice(), &path, reach);
         let at = extend(self.alloc, &mut self.nodes, &path, reach)?;
         set_given(&mut self.nodes, at, count);
         Ok(())
     }
 
-    /// Opens a path as a scope: what stands in it is found by its node from now on, also where other scopes are opened.
-    /// A long path with a few segments of its own keeps its scope's, so that nothing is copied. What is known stays the
-    /// same.
-    pub fn open(&mut self, path: &ScopedPath) -> Result<ScopedPath, NoMemory>
-        ensures same { self.new ≡ self.old }
-        ensures scope { IfOk result (λ scope. scope ≡ path.now) }
+    /// How many scopes are open.
+    pub fn open_scopes(&self) -> usize
+        ensures { result ≡ length self.now.scopes }
     {
-        if shares_its_scope(path) {
-            return path.clone();
-        }
-        let scope = path.to_scope(self.alloc)?;
-        let hints = Hints::new(self.opened.as_slice(), self.settled.as_slice());
-        match node_along(self.nodes.as_slice(), hints, &path.parts()) {
-            None => Ok(ScopedPath::of(self.alloc, scope)),
-            Some(node) => {
-                let marked = scope.marked(self.opened.len());
-                let scope = marked.share()?;
-                self.opened.push(Opened { scope, node })?;
-                Ok(ScopedPath::of(self.alloc, marked))
-            }
-        }
+        self.scopes.len()
     }
 
-    /// Closes the scope that was opened last, unless something is kept by it: a method's path, or a name that is looked
-    /// at when all tables are there. What is known stays the same.
-    pub fn close(&mut self, scope: &ScopedPath)
+    /// Opens a path as a scope inside those that are open, so that what stands there is found by its node. A long path
+    /// with a few segments of its own keeps its scope's, so that nothing is copied: with a very few, if something is to be
+    /// kept in the scope. A refused call changes nothing.
+    pub fn enter(
+        &mut self,
+        near: Near,
+        path: &ScopedPath,
+        keeps: Keeps,
+    ) -> Result<ScopedPath, NoMemory>
+        requires { IsNear self.old.scopes near path.now }
+        ensures ok { OnOk result (self.new ≡ with_scopes self.old (self.old.scopes ++ path.now ∷ [])) }
+        ensures err { OnErr result (self.new ≡ self.old) }
+        ensures scope { IfOk result (λ scope. scope ≡ path.now) }
+    {
+        let parts = path.parts();
+        let hints = hints_of!(self);
+        let reach = reach_near(self.nodes.as_slice(), hints, near, &parts);
+        unsettle(&mut self.settled, self.nodes.as_slice(), &parts, reach);
+        let node = extend(self.alloc, &mut self.nodes, &parts, reach)?;
+        let scope = keep_scope(
+            self.alloc,
+            self.nodes.as_slice(),
+            &mut self.opened,
+            path,
+            node,
+            keeps,
+        )?;
+        self.scopes.push(Opened {
+            scope: scope.clone()?,
+            node,
+        })?;
+        Ok(scope)
+    }
+
+    /// Closes all open scopes but so many first ones. What else is known stays the same.
+    pub fn leave(&mut self, count: usize)
+        ensures { self.new ≡ with_scopes self.old (take count self.old.scopes) }
+    {
+        self.forget_innermost();
+        self.scopes.truncate(count);
+    }
+
+    /// Forgets the scope that is open inside all others, unless something is kept by it.
+    fn forget_innermost(&mut self)
         ensures { self.new ≡ self.old }
     {
-        // One owner is the space, and another who closes it.
-        if scope.mark() == self.opened.len().saturating_sub(1) && scope.owners() <= 2 {
-            self.opened.truncate(scope.mark());
+        if let Some(last) = self.scopes.last() {
+            forget_scope(&mut self.opened, &last.scope);
         }
     }
 
@@ -298,12 +353,13 @@ impl Space {
     }
 
     /// The kind with which a path is declared.
-    fn declared(&self, path: &Parts<'_>) -> Option<&Kind>
+    fn declared(&self, near: Near, path: &Parts<'_>) -> Option<&Kind>
+        requires { IsNear self.now.scopes near path.now }
         ensures { option_copied result ≡ (namespace_in self.now).declared path.now }
     {
         let nodes = self.nodes.as_slice();
-        let hints = Hints::new(self.opened.as_slice(), self.settled.as_slice());
-        kind_at(nodes, node_along(nodes, hints, path))
+        let hints = hints_of!(self);
+        kind_at(nodes, node_near(nodes, hints, near, path))
     }
 
     /// The kind of a path: the declared one, else the predefined one.
@@ -316,13 +372,23 @@ impl Space {
     }
 
     /// The same of a path in parts.
-    #[tactic(auto, using(crate::proofs::Stands::kind_listed))]
     pub fn kind_of(&self, path: &Parts<'_>) -> Option<&Kind>
         ensures known { option_copied result ≡ kind_at (namespace_in self.now) path.now }
         ensures listed { (es : List Entry) → StandsFor self.now es →
             option_copied result ≡ kind_at (namespace_of es) path.now }
     {
-        match self.declared(path) {
+        self.kind_near(Near::root(), path)
+    }
+
+    /// The same of a path near a scope that is open.
+    #[tactic(auto, using(crate::proofs::Stands::kind_listed))]
+    pub fn kind_near(&self, near: Near, path: &Parts<'_>) -> Option<&Kind>
+        requires { IsNear self.now.scopes near path.now }
+        ensures known { option_copied result ≡ kind_at (namespace_in self.now) path.now }
+        ensures listed { (es : List Entry) → StandsFor self.now es →
+            option_copied result ≡ kind_at (namespace_of es) path.now }
+    {
+        match self.declared(near, path) {
             Some(kind) => Some(kind),
             None => self.predefined.kind_of(path),
         }
@@ -344,21 +410,23 @@ impl Space {
     }
 
     /// Whether a path is declared, by whatever declaration.
-    pub fn is_declared(&self, path: &Parts<'_>) -> bool
+    pub fn is_declared(&self, near: Near, path: &Parts<'_>) -> bool
+        requires { IsNear self.now.scopes near path.now }
         ensures known { result ≡ declared_yet self.now path.now }
         ensures listed { (es : List Entry) → StandsFor self.now es → result ≡ is_some (declared_at es path.now) }
     {
-        self.declared(path).is_some()
+        self.declared(near, path).is_some()
     }
 
     /// Whether a path has a kind whatever runs: by a sure declaration, or since it is predefined.
-    pub fn is_sure(&self, path: &Parts<'_>) -> bool
+    pub fn is_sure(&self, near: Near, path: &Parts<'_>) -> bool
+        requires { IsNear self.now.scopes near path.now }
         ensures known { result ≡ (outlook_in self.now).sure path.now }
         ensures listed { (es : List Entry) → StandsFor self.now es → result ≡ sure_at es path.now }
     {
         let nodes = self.nodes.as_slice();
-        let hints = Hints::new(self.opened.as_slice(), self.settled.as_slice());
-        let node = node_along(nodes, hints, path);
+        let hints = hints_of!(self);
+        let node = node_near(nodes, hints, near, path);
         sure_met(nodes, node, self.predefined.kind_of(path))
     }
 
@@ -376,15 +444,30 @@ impl Space {
     /// A scope of the space.
     pub(crate) fn scope<'a>(&'a self, path: Parts<'a>) -> Scope<'a>
         ensures scope { IsScope result }
-        ensures known { known_by result.nodes.now ≡ self.now }
+        ensures known { known_by result.nodes.now ≡ with_scopes self.now [] }
+        ensures names { names_of result ≡ namespace_in self.now }
+        ensures outlook { outlook_at result ≡ outlook_in self.now }
         ensures path { result.path ≡ path.entry }
     {
-        Scope::new(
-            self.nodes.as_slice(),
-            Hints::new(self.opened.as_slice(), self.settled.as_slice()),
-            &self.predefined,
-            path,
-        )
+        let nodes = self.nodes.as_slice();
+        let hints = hints_of!(self);
+        let reach = reach_along(nodes, hints, &path);
+        Scope::new(nodes, hints.settled, &self.predefined, path, reach)
+    }
+
+    /// A scope near one that is open.
+    pub(crate) fn scope_near<'a>(&'a self, near: Near, path: Parts<'a>) -> Scope<'a>
+        requires { IsNear self.now.scopes near path }
+        ensures scope { IsScope result }
+        ensures known { known_by result.nodes.now ≡ with_scopes self.now [] }
+        ensures names { names_of result ≡ namespace_in self.now }
+        ensures outlook { outlook_at result ≡ outlook_in self.now }
+        ensures path { result.path ≡ path.entry }
+    {
+        let nodes = self.nodes.as_slice();
+        let hints = hints_of!(self);
+        let reach = reach_near(nodes, hints, near, &path);
+        Scope::new(nodes, hints.settled, &self.predefined, path, reach)
     }
 
     /// How many paths are declared.

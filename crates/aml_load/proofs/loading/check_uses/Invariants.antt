@@ -1,5 +1,6 @@
-use Rattle.std.proofs.Common.{◌≡◌, drop, IfSome}
+use Rattle.std.proofs.Common.{◌≡◌, [], drop, IfSome}
 use Rattle.aml_space.specs.Known.{StandsFor}
+use Rattle.aml_space.specs.Near.{with_scopes}
 use Rattle.aml_load.specs.Loading.{Listed, uses_at}
 use Rattle.aml_load.proofs.loading.check_uses.Given as goal
 
@@ -7,5 +8,5 @@ abbrev pub invariant-loop-used : goal.invariant-loop-used
 invariant-loop-used x = record {
   passed : (l : Listed) → StandsFor x.space l.entries
       → uses_at x.any_run x.unknown_zero l.entries (drop x.used-index x.uses) ≡ uses_at x.any_run x.unknown_zero l.entries x.uses;
-  kept : IfSome x.last (λ o. o.names.known ≡ x.space);
+  kept : IfSome x.last (λ o. o.names.known ≡ with_scopes x.space []);
 }

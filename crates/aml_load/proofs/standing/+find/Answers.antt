@@ -8,13 +8,13 @@ use Rattle.aml_load.proofs.Founds.{found_more, stands_op}
 use Rattle.aml_load.proofs.Holding.{uses_held, declare_op}
 use Rattle.aml_load.proofs.standing.+find.Goals as goal
 
-pub find_term-returns-in_ok-add_names-in-Op : goal.find_term-returns-in_ok-add_names-in-Op
-find_term-returns-in_ok-add_names-in-Op t c l h =
+pub find_term-returns-in_ok-add_names-in-Op-clause-finds : goal.find_term-returns-in_ok-add_names-in-Op-clause-finds
+find_term-returns-in_ok-add_names-in-Op-clause-finds t c l h =
     let site = at_site c.args.site.now in
     let x = node_view c.args.term.now in
     let role = c.role_of.result in
     let held = uses_held c.args.progress.now _ l site x h refl refl c.in_ok-add_names-in-Op.ensures in
-    let did = (rw c.as_slice.ensures.value at c.find_by_role.ensures) (with_uses site l x) held in
+    let did = (rw c.as_slice.ensures.value at c.find_by_role.ensures.finds) (with_uses site l x) held in
     let walk = declare_as role site (with_uses site l x) (parts_view c.in-Op.parts.items) (tail_view c.in-Op.tail)
     (λ l below. declare_inside below l (tail_view c.in-Op.tail)) in
     let list = inside_as role site (with_uses site l x) (parts_view c.in-Op.parts.items) (λ l below. inside_stand below l (tail_view c.in-Op.tail)) in

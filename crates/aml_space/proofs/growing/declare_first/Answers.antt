@@ -11,6 +11,7 @@ use Rattle.aml_space.proofs.growing.declare_first.Goals.{After-set_declared}
 pub aim_of-requires-clause-hints : goal.aim_of-requires-clause-hints
 aim_of-requires-clause-hints c = record {
   opened = kept_opened c.args.nodes.now.items c.extend.new.nodes.items c.args.hints.opened.now c.extend.ensures.kept c.requires.hints.opened;
+  scopes = kept_opened c.args.nodes.now.items c.extend.new.nodes.items c.args.hints.scopes.now c.extend.ensures.kept c.requires.hints.scopes;
   settled = settled_grown c.args.nodes.now.items c.extend.new.nodes.items c.args.hints.settled.now c.requires.index c.extend.ensures.kept
       c.extend.ensures.known c.requires.hints.settled;
 }

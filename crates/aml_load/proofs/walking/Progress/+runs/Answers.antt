@@ -1,7 +1,6 @@
 use Rattle.std.proofs.Common.{◌≡◌, ◌+◌, ◌-◌, Ok, refl, sym, ap, subst, ◌∙◌, arith, rules}
 use Rattle.aml_code.specs.View.{node_view}
 use Rattle.aml_parse.specs.Running.{run_term_at, run_terms_at}
-use Rattle.aml_space.specs.Known.{StandsFor}
 use Rattle.aml_load.specs.Running.{run_names}
 use Rattle.aml_load.specs.Runner.{front_of, below, RoomBy, HasRoom}
 use Rattle.aml_load.specs.Tables.{Fails}
@@ -9,47 +8,46 @@ use Rattle.aml_load.proofs.Ran.{found_then, found_none, span_is, opened_ok, done
 use Rattle.aml_load.proofs.Ran.{behind_is, term_is, term_fails}
 use Rattle.aml_load.proofs.walking.Progress.+runs.Goals as goal
 
-pub open-returns-in_ok-terms-in-Some : goal.open-returns-in_ok-terms-in-Some
-open-returns-in_ok-terms-in-Some t c l h =
+pub open-returns-in_ok-terms-in-Some-clause-opens : goal.open-returns-in_ok-terms-in-Some-clause-opens
+open-returns-in_ok-terms-in-Some-clause-opens t c l h =
     let site = c.args.inner.now in
     let code = c.args.code.now in
     let is = sym c.span_inside.ensures ∙ c.in-Some.is in
-    let room = subst (RoomBy code c.args.levels) is c.requires in
-    let walk = c.in_ok-terms-in-Some.ensures l h in (
+    let room = subst (RoomBy code c.args.levels) is c.requires.room in
+    let walk = c.in_ok-terms-in-Some.ensures.runs l h in (
       walk.0,
-      record {
-        space = subst (λ k. StandsFor k walk.0.entries) (sym c.close.ensures) walk.1.space;
-        methods = walk.1.methods;
-        uses = walk.1.uses;
-      },
+      walk.1,
       opened_ok site.table code c.args.levels (node_view c.args.head) (front_of site l) (c.in-Some.start, c.in-Some.len) _ _ is room.0 walk.2
           ∙ ap (λ t. Ok (t, front_of site walk.0)) (sym c.with_terms.ensures),
     )
 
 pub run_term-open-requires : goal.run_term-open-requires
-run_term-open-requires t c = (search rules, room_in c.args.code.now c.args.rest _ _ c.requires c.in_ok-head.ensures.there)
+run_term-open-requires t c = (
+  search rules,
+  (room_in c.args.code.now c.args.rest _ _ c.requires.room c.in_ok-head.ensures.there, c.in_ok-inner.ensures.opens.0),
+)
 
 pub run_term-returns-in_err-node-clause-term : goal.run_term-returns-in_err-node-clause-term
 run_term-returns-in_err-node-clause-term t c l h =
     let site = c.args.site.now in
     let code = c.args.code.now in
-    let inner = c.in_ok-inner.ensures l h in
+    let inner = c.in_ok-inner.ensures.comes l h in
     let bad = term_fails site code c.args.rest l inner.1.0 c.in_ok-inner.inner _ c.in_err-node.field-0.0 (c.in_ok-head.ensures.step l h) inner.1.2 inner.0
-    (c.in_err-node.ensures inner.1.0 inner.1.1) in
+    (c.in_err-node.ensures.opens inner.1.0 inner.1.1) in
     search rules
 
 pub run_term-returns-clause-bounds : goal.run_term-returns-clause-bounds
 run_term-returns-clause-bounds t c =
-    behind_is c.args.code.now c.args.rest _ _ c.next_position-position.result c.requires c.in_ok-head.ensures.there c.next_position-position.ensures
+    behind_is c.args.code.now c.args.rest _ _ c.next_position-position.result c.requires.room c.in_ok-head.ensures.there c.next_position-position.ensures
 
 pub run_term-returns-clause-term : goal.run_term-returns-clause-term
 run_term-returns-clause-term t c l h =
     let site = c.args.site.now in
     let code = c.args.code.now in
-    let inner = c.in_ok-inner.ensures l h in
-    let node = c.in_ok-node.ensures inner.1.0 inner.1.1 in (
+    let inner = c.in_ok-inner.ensures.comes l h in
+    let node = c.in_ok-node.ensures.opens inner.1.0 inner.1.1 in (
       node.0,
-      node.1,
+      c.close_scopes.ensures.holds node.0 node.1,
       node_view c.in_ok-head.head,
       term_is site code c.args.rest l inner.1.0 node.0 c.in_ok-inner.inner (node_view c.in_ok-head.head, c.in_ok-head.behind) (node_view c.in_ok-node.node)
           (c.in_ok-head.ensures.step l h) inner.1.2 inner.0 node.2,
@@ -61,10 +59,11 @@ run_terms-loop-turn-init t c =
     let site = c.args.site.now in
     let r = c.args.rest in
     let code = c.args.code.now in (
-      c.requires,
+      c.requires.room,
       refl,
       refl,
       omega arith,
+      refl,
       λ l h. (
         l,
         h,
@@ -74,26 +73,26 @@ run_terms-loop-turn-init t c =
       ),
     )
 
-pub run_terms-returns-then-here-rest : goal.run_terms-returns-then-here-rest
-run_terms-returns-then-here-rest t c l h =
+pub run_terms-returns-then-here-rest-clause-runs : goal.run_terms-returns-then-here-rest-clause-runs
+run_terms-returns-then-here-rest-clause-runs t c l h =
     let site = c.args.site.now in
     let r = c.args.rest in
     let here = c.loop-turn.here in
-    let w = c.loop-turn.invariant.4 l h in (
+    let w = c.loop-turn.invariant.5 l h in (
       w.0,
       w.1,
       done site.table c.args.code.now r.levels (below r.levels site.table c.args.code.now) c.loop-turn.found.items _ here.position here.at r.end
           (front_of site w.0) (r.end - c.loop-turn._turn) (omega (arith, c.if-here-rest.true)) w.2,
     )
 
-pub run_terms-returns-in_err-term : goal.run_terms-returns-in_err-term
-run_terms-returns-in_err-term t c l h =
+pub run_terms-returns-in_err-term-clause-runs : goal.run_terms-returns-in_err-term-clause-runs
+run_terms-returns-in_err-term-clause-runs t c l h =
     let site = c.args.site.now in
     let r = c.args.rest in
     let here = c.loop-turn.here in
     let code = c.args.code.now in
     let inv = c.loop-turn.invariant in
-    let w = inv.4 l h in
+    let w = inv.5 l h in
     let e = c.in_err-term.field-0.0 in
     let term = c.in_err-term.ensures.term w.0 w.1 in
     let here_fails : Fails e (run_term_at (run_names site.table) code r.levels (below r.levels site.table code) here.position here.at r.end (front_of site w.0)) =
@@ -123,8 +122,9 @@ run_terms-loop-turn-preserved t c =
       refl,
       refl,
       omega (arith, inv.3, on.0),
+      c.in_ok-term.ensures.stays ∙ inv.4,
       λ l h.
-          let w = inv.4 l h in
+          let w = inv.5 l h in
           let term = c.in_ok-term.ensures.term w.0 w.1 in
           let here_is : run_term_at (run_names site.table) code r.levels read here.position here.at r.end (front_of site w.0)
           ≡ Ok ((term.2, node_view x.node), (x.behind, front_of site term.0)) =
@@ -137,12 +137,12 @@ run_terms-loop-turn-preserved t c =
           (term.0, term.1, rw (c.in_ok-push.ensures.items, less, term.4) next),
     )
 
-pub run_terms-returns : goal.run_terms-returns
-run_terms-returns t c l h =
+pub run_terms-returns-clause-runs : goal.run_terms-returns-clause-runs
+run_terms-returns-clause-runs t c l h =
     let site = c.args.site.now in
     let r = c.args.rest in
     let here = c.loop-turn.here in
-    let w = c.loop-turn.invariant.4 l h in (
+    let w = c.loop-turn.invariant.5 l h in (
       w.0,
       w.1,
       done site.table c.args.code.now r.levels (below r.levels site.table c.args.code.now) c.loop-turn.found.items _ here.position here.at r.end

@@ -3,7 +3,7 @@ use Rattle.aml_parse.specs.Running.{run_terms_at, run_span_at}
 use Rattle.aml_load.specs.Loading.{Listed}
 use Rattle.aml_load.specs.Running.{run_names}
 use Rattle.aml_load.specs.Runner.{front_of, below, HasRoom}
-use Rattle.aml_load.specs.Walking.{Holds}
+use Rattle.aml_load.specs.Walking.{Holds, Stays}
 use Rattle.aml_load.proofs.Ran.{found_then}
 use Rattle.aml_load.proofs.walking.Progress.+runs.Given as goal
 
@@ -19,6 +19,7 @@ decreases-run_terms l = 4 * l.rest.levels + 2
 abbrev pub invariant-run_terms-loop-turn : goal.invariant-run_terms-loop-turn
 invariant-run_terms-loop-turn x =
     HasRoom x.code x.here × (x.here.end ≡ x.rest.end) × (x.here.levels ≡ x.rest.levels) × (x._turn ≤ x.here.at)
+    × Stays x.initial.self x.self
     × ((l : Listed) → Holds x.initial.self l → (m : Listed) × Holds x.self m
     × (found_then x.found.items (run_terms_at (run_names x.site.table) x.code x.rest.levels (below x.rest.levels x.site.table x.code) (x.rest.end - x._turn)
     x.here.position x.here.at x.rest.end (front_of x.site m))

@@ -8,11 +8,11 @@ use Rattle.aml_load.specs.Walking.{at_site, Walked}
 use Rattle.aml_load.proofs.Holding.{uses_held, declare_op}
 use Rattle.aml_load.proofs.walking.Progress.+walk.Goals as goal
 
-pub walk-returns-in_ok-add_names-in-Op : goal.walk-returns-in_ok-add_names-in-Op
-walk-returns-in_ok-add_names-in-Op t c l h =
+pub walk-returns-in_ok-add_names-in-Op-clause-walks : goal.walk-returns-in_ok-add_names-in-Op-clause-walks
+walk-returns-in_ok-add_names-in-Op-clause-walks t c l h =
     let site = at_site c.args.site.now in
     let x = node_view c.args.node.now in
-    let did = c.walk_role.ensures in
+    let did = c.walk_role.ensures.walks in
     let held = uses_held c.args.self.now _ l site x h refl refl c.in_ok-add_names-in-Op.ensures in
     subst (Walked c.walk_role.new.self c.walk_role.result)
     (sym (declare_op site l c.args.node.now c.in-Op.opcode c.in-Op.width c.in-Op.parts c.in-Op.tail c.role_of.result c.in-Op.is c.role_of.ensures))
@@ -24,6 +24,6 @@ unfolding declare_all
 nothing_declared w l [] none = refl
 nothing_declared w l (n ∷ ns) none = absurd (omega (arith, eqb-true (length (n ∷ ns)) 0 (sym none)))
 
-pub walk_below-returns-then-is_empty : goal.walk_below-returns-then-is_empty
-walk_below-returns-then-is_empty t c l h =
-    (l, h, nothing_declared (under (at_site c.args.site.now) c.args.path.now) l c.args.terms.now c.if-is_empty.ensures)
+pub walk_below-returns-then-is_empty-clause-walks : goal.walk_below-returns-then-is_empty-clause-walks
+walk_below-returns-then-is_empty-clause-walks t c l h =
+    (l, h, nothing_declared (under (at_site c.args.site.now) c.args.path.now.path) l c.args.terms.now c.if-is_empty.ensures)

@@ -3,7 +3,7 @@ use Rattle.aml_load.specs.Walking.{at_site}
 use Rattle.aml_load.proofs.Holding.{declared_walked}
 use Rattle.aml_load.proofs.walking.Progress.declare.Goals as goal
 
-pub returns : goal.returns
-returns c l h =
-    declared_walked c.args.self.now c.declare_path.new.self l (at_site c.args.site.now) c.args.path.now c.args.kind c.declare_path.result h
-    (c.declare_path.ensures l.entries None h.space)
+pub returns-clause-walks : goal.returns-clause-walks
+returns-clause-walks c l h =
+    declared_walked c.args.self.now c.declare_path.new.self l (at_site c.args.site.now) c.args.path.now.path c.args.kind c.declare_path.result h
+    (c.declare_path.ensures.declared l.entries None h.space)

@@ -4,13 +4,16 @@ use Rattle.aml_space.specs.Known.{outlook_in}
 use Rattle.aml_space.proofs.Stands.{same_outlook}
 use Rattle.aml_space.proofs.bodies.BodyScopeArity.count.Goals as goal
 
+pub scope_near-scope-requires : goal.scope_near-scope-requires
+scope_near-scope-requires c = c.root.ensures.near _ _
+
 pub returns-clause-known : goal.returns-clause-known
 returns-clause-known c =
     let body = c.args.self.now in
     subst (λ p. IfOk c.count_name.result (λ count. count ≡ agreed_arity (outlook_in body.space.now) body.unknown_zero p c.args.locals.now c.args.name.now))
-    (c.scope-scope.ensures.path ∙ c.parts.ensures)
+    (c.scope_near-scope.ensures.path ∙ c.parts.ensures)
     (subst (λ k. IfOk c.count_name.result (λ count. count ≡ agreed_arity (outlook_in k)
-    body.unknown_zero c.scope-scope.result.path c.args.locals.now c.args.name.now)) c.scope-scope.ensures.known c.count_name.ensures)
+    body.unknown_zero c.scope_near-scope.result.path c.args.locals.now c.args.name.now)) c.scope_near-scope.ensures.known c.count_name.ensures)
 
 pub returns-clause-listed : goal.returns-clause-listed
 returns-clause-listed c = λ es stands.

@@ -2,7 +2,9 @@ use Rattle.std.proofs.Common.{◌≡◌, length, ◌++◌, ◌∷◌, [], sym, s
 use Rattle.std.specs.FinMap as map
 use Rattle.aml_space.specs.Namespace.{given as said}
 use Rattle.aml_space.specs.Known.{Known, StandsFor, with_given}
+use Rattle.aml_space.specs.Near.{with_scopes}
 use Rattle.aml_space.specs.Nodes.{known_by, IsIndex}
+use Rattle.aml_space.specs.Opened.{known_in, scopes_of}
 use Rattle.aml_space.proofs.Opening.{kept_opened, kept_on, content_kept}
 use Rattle.aml_space.proofs.Stands.{stands_given}
 use Rattle.aml_space.proofs.Index.{put_given}
@@ -19,8 +21,11 @@ put c =
     (put.0, put.1 ∙ ap (λ k. with_given k c.parts-path.result c.args.count) c.extend.ensures.known)
 
 put_here : (c : After-set_given)
-    → known_by c.set_given.new.nodes.items ≡ with_given c.args.self.now c.args.path.now c.args.count
-put_here c = (put c).1 ∙ (λ i. with_given (c.self.view_is i) (c.parts-path.ensures i) c.args.count)
+    → known_in c.set_given.new.nodes.items c.self.inside.scopes.items ≡ with_given c.args.self.now c.args.path.now c.args.count
+put_here c = ap (λ k. with_scopes k (scopes_of c.self.inside.scopes.items)) (put c).1 ∙ (λ i. with_given (c.self.view_is i) (c.parts-path.ensures i) c.args.count)
+
+pub reach_near-reach-requires-clause-near : goal.reach_near-reach-requires-clause-near
+reach_near-reach-requires-clause-near c = c.root.ensures.near _ _
 
 pub invariant_of-self-2 : goal.invariant_of-self-2
 invariant_of-self-2 c = record {
@@ -30,8 +35,11 @@ invariant_of-self-2 c = record {
   opened = kept_opened c.extend.new.nodes.items c.set_given.new.nodes.items c.self.inside.opened.items
       (content_kept c.extend.new.nodes.items c.set_given.new.nodes.items c.in_ok-at.at _ c.set_given.ensures)
       (kept_opened c.self.inside.nodes.items c.extend.new.nodes.items c.self.inside.opened.items c.extend.ensures.kept c.self.invariant.opened);
-  settled = settled_kept c.self.inside.nodes.items c.set_given.new.nodes.items c.as_slice-4.result.now
-      c.unsettle.new.settled.items c.parts-path.result c.as_slice-4.ensures.value c.self.invariant.index
+  scopes = kept_opened c.extend.new.nodes.items c.set_given.new.nodes.items c.self.inside.scopes.items
+      (content_kept c.extend.new.nodes.items c.set_given.new.nodes.items c.in_ok-at.at _ c.set_given.ensures)
+      (kept_opened c.self.inside.nodes.items c.extend.new.nodes.items c.self.inside.scopes.items c.extend.ensures.kept c.self.invariant.scopes);
+  settled = settled_kept c.self.inside.nodes.items c.set_given.new.nodes.items c.as_slice-5.result.now
+      c.unsettle.new.settled.items c.parts-path.result c.as_slice-5.ensures.value c.self.invariant.index
       (kept_on c.self.inside.nodes.items c.extend.new.nodes.items c.set_given.new.nodes.items c.extend.ensures.kept
       (content_kept c.extend.new.nodes.items c.set_given.new.nodes.items c.in_ok-at.at _ c.set_given.ensures))
       (said_given (known_by c.self.inside.nodes.items) _ _ c.args.count (put (goal.at.invariant_of-self-2 c).After-set_given).1)

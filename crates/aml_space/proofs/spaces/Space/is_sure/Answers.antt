@@ -6,7 +6,7 @@ use Rattle.aml_space.proofs.spaces.Space.is_sure.Goals as goal
 
 pub returns-clause-known : goal.returns-clause-known
 returns-clause-known c = c.sure_met.ensures
-    ∙ (λ i. sure_by (part_met (λ c. c.declared) _ _ _ _ _ _ refl c.node_along-node.ensures.node c.as_slice-nodes.ensures.value refl
+    ∙ (λ i. sure_by (part_met (λ c. c.declared) _ _ _ _ _ _ refl c.node_near-node.ensures.node c.as_slice-nodes.ensures.value refl
     c.self.invariant.index.shape i) (c.kind_of.ensures i))
     ∙ ap (λ k. (outlook_in k).sure c.args.path.now) c.self.view_is
 

@@ -3,7 +3,9 @@ use Rattle.std.proofs.Common.{refl, sym, subst, ap, ◌∙◌, arith}
 use Rattle.std.specs.FinMap as map
 use Rattle.std.specs.declared.alloc.AllocError.{AllocError}
 use Rattle.aml_space.specs.Namespace.{Entry, Body, declares}
+use Rattle.aml_space.specs.Near.{with_scopes}
 use Rattle.aml_space.specs.Nodes.{known_by}
+use Rattle.aml_space.specs.Opened.{known_in, scopes_of}
 use Rattle.aml_space.specs.Known.{Known, StandsFor, once, with_declaration, with_again}
 use Rattle.aml_space.proofs.Stands.{stands_declared, again_first, none_from_test}
 use Rattle.aml_space.proofs.Index.{known_taken, one_declared}
@@ -15,20 +17,22 @@ use Rattle.aml_space.proofs.spaces.Space.put_again.Goals.{In_ok-declare_first, A
 
 not_declared : (c : After-is_taken) → c.is_taken.result ≡ false
     → map.get c.args.self.now.declarations c.args.path.now ≡ None
-not_declared c free = none_from_test _ (sym (known_taken _ _ _ _ _ _ c.is_taken.ensures.taken c.as_slice-5.ensures.value refl c.self.invariant.index.shape c.self.view_is) ∙ free)
+not_declared c free = none_from_test _ (sym (known_taken _ _ _ _ _ c.args.self.now c.is_taken.ensures.taken c.as_slice-6.ensures.value refl c.self.invariant.index.shape
+    (ap (λ k. k.declarations) c.self.view_is)) ∙ free)
 
 put_here : (c : In_ok-declare_first) → map.get c.args.self.now.declarations c.args.path.now ≡ None
-    → known_by c.declare_first.new.nodes.items
+    → known_in c.declare_first.new.nodes.items c.self.inside.scopes.items
     ≡ with_again c.args.self.now c.args.path.now c.args.kind c.args.sure
-put_here c none = c.in_ok-declare_first.ensures.ok ∙ ap (λ k. with_declaration k c.args.path.now (once c.args.kind c.args.sure)) c.self.view_is
+put_here c none = ap (λ k. with_scopes k (scopes_of c.self.inside.scopes.items)) c.in_ok-declare_first.ensures.ok
+    ∙ ap (λ k. with_declaration k c.args.path.now (once c.args.kind c.args.sure)) c.self.view_is
     ∙ sym (again_first c.args.self.now c.args.path.now c.args.kind c.args.sure none)
 
 -- what is kept for searches stays right
 still_settled : (c : After-declare_first)
     → IsSaidOf (known_by c.self.inside.nodes.items) (known_by c.declare_first.new.nodes.items) c.args.path.now
     → AreSettled c.declare_first.new.nodes.items c.unsettle.new.settled.items
-still_settled c said = settled_kept c.self.inside.nodes.items c.declare_first.new.nodes.items c.as_slice-4.result.now
-    c.unsettle.new.settled.items c.args.path.now c.as_slice-4.ensures.value
+still_settled c said = settled_kept c.self.inside.nodes.items c.declare_first.new.nodes.items c.as_slice-5.result.now
+    c.unsettle.new.settled.items c.args.path.now c.as_slice-5.ensures.value
     c.self.invariant.index c.declare_first.ensures.kept said c.unsettle.ensures.ready c.unsettle.ensures.settled
 
 pub invariant_of-self-in_err-declare_first : goal.invariant_of-self-in_err-declare_first
@@ -37,6 +41,8 @@ invariant_of-self-in_err-declare_first c = record {
   rows = c.self.invariant.rows ∙ ap (λ (k : Known). length (map.entries k.declarations)) (sym c.in_err-declare_first.ensures.err);
   opened = kept_opened c.self.inside.nodes.items c.declare_first.new.nodes.items c.self.inside.opened.items c.declare_first.ensures.kept
       c.self.invariant.opened;
+  scopes = kept_opened c.self.inside.nodes.items c.declare_first.new.nodes.items c.self.inside.scopes.items c.declare_first.ensures.kept
+      c.self.invariant.scopes;
   settled = still_settled (goal.at.invariant_of-self-in_err-declare_first c).After-declare_first
       (said_nothing _ _ c.args.path.now c.in_err-declare_first.ensures.err);
 }
@@ -47,8 +53,10 @@ invariant_of-self c = record {
   rows = c.self.invariant.rows ∙ sym c.declare_again.ensures.rows;
   opened = kept_opened c.self.inside.nodes.items c.declare_again.new.nodes.items c.self.inside.opened.items c.declare_again.ensures.kept
       c.self.invariant.opened;
-  settled = settled_kept c.self.inside.nodes.items c.declare_again.new.nodes.items c.as_slice-4.result.now
-      c.unsettle.new.settled.items c.args.path.now c.as_slice-4.ensures.value c.self.invariant.index c.declare_again.ensures.kept (said c.declare_again.result c.declare_again.ensures.ok c.declare_again.ensures.err)
+  scopes = kept_opened c.self.inside.nodes.items c.declare_again.new.nodes.items c.self.inside.scopes.items c.declare_again.ensures.kept
+      c.self.invariant.scopes;
+  settled = settled_kept c.self.inside.nodes.items c.declare_again.new.nodes.items c.as_slice-5.result.now
+      c.unsettle.new.settled.items c.args.path.now c.as_slice-5.ensures.value c.self.invariant.index c.declare_again.ensures.kept (said c.declare_again.result c.declare_again.ensures.ok c.declare_again.ensures.err)
       c.unsettle.ensures.ready c.unsettle.ensures.settled;
 }
   where
@@ -73,6 +81,8 @@ invariant_of-self-2 c =
       rows = omega (arith, before, after);
       opened = kept_opened c.self.inside.nodes.items c.declare_first.new.nodes.items c.self.inside.opened.items c.declare_first.ensures.kept
           c.self.invariant.opened;
+      scopes = kept_opened c.self.inside.nodes.items c.declare_first.new.nodes.items c.self.inside.scopes.items c.declare_first.ensures.kept
+          c.self.invariant.scopes;
       settled = still_settled (goal.at.invariant_of-self-2 c).After-declare_first
           (said_declared _ _ c.args.path.now (once c.args.kind c.args.sure) c.in_ok-declare_first.ensures.ok);
     }
@@ -91,8 +101,8 @@ returns-then-is_taken-clause-stands c = λ es body stands. by c.declare_again.re
     by : (r : Result (Unit {0}) AllocError) → OnOk r (known_by c.declare_again.new.nodes.items
         ≡ with_again (known_by c.self.inside.nodes.items) c.args.path.now c.args.kind c.args.sure)
         → (es : List Entry) (body : Option Body) → StandsFor c.args.self.now es
-        → OnOk r (StandsFor (known_by c.declare_again.new.nodes.items) (es ++ declares c.args.path.now c.args.kind body c.args.sure ∷ []))
+        → OnOk r (StandsFor (known_in c.declare_again.new.nodes.items c.self.inside.scopes.items) (es ++ declares c.args.path.now c.args.kind body c.args.sure ∷ []))
     by (Err e) ok es body stands = tt
     by (Ok u) ok es body stands = subst (λ k. StandsFor k (es ++ declares c.args.path.now c.args.kind body c.args.sure ∷ []))
-        (sym (ok ∙ ap (λ k. with_again k c.args.path.now c.args.kind c.args.sure) c.self.view_is))
+        (sym (ap (λ k. with_scopes k (scopes_of c.self.inside.scopes.items)) ok ∙ ap (λ k. with_again k c.args.path.now c.args.kind c.args.sure) c.self.view_is))
         (stands_declared c.args.self.now es stands c.args.path.now c.args.kind body c.args.sure)

@@ -3,7 +3,9 @@ use Rattle.std.proofs.Common.{◌≡◌, ◌+◌, length, List, ◌++◌, ◌∷
 use Rattle.std.proofs.Common.{ap, ◌∙◌, arith}
 use Rattle.std.specs.FinMap as map
 use Rattle.aml_space.specs.Namespace.{Entry, declares, declared_at}
+use Rattle.aml_space.specs.Near.{with_scopes}
 use Rattle.aml_space.specs.Nodes.{known_by}
+use Rattle.aml_space.specs.Opened.{known_in, scopes_of}
 use Rattle.aml_space.specs.Known.{Known, StandsFor, once, with_declaration, is_declared}
 use Rattle.aml_space.proofs.Stands.{stands_declared, again_first, none_from_test, declared_listed}
 use Rattle.aml_space.proofs.Index.{known_taken, one_declared}
@@ -14,7 +16,8 @@ use Rattle.aml_space.proofs.spaces.Space.put_once.Goals as goal
 use Rattle.aml_space.proofs.spaces.Space.put_once.Goals.{After-is_taken, After-declare_first, In_ok-declare_first}
 
 taken : (c : After-is_taken) → c.is_taken.result ≡ is_declared c.args.self.now c.args.path.now
-taken c = known_taken _ _ _ _ _ _ c.is_taken.ensures.taken c.as_slice-5.ensures.value refl c.self.invariant.index.shape c.self.view_is
+taken c = known_taken _ _ _ _ _ c.args.self.now c.is_taken.ensures.taken c.as_slice-6.ensures.value refl c.self.invariant.index.shape
+    (ap (λ k. k.declarations) c.self.view_is)
 
 not_declared : (c : After-is_taken) → c.is_taken.result ≡ false
     → map.get c.args.self.now.declarations c.args.path.now ≡ None
@@ -24,16 +27,17 @@ never : (c : After-is_taken) → c.is_taken.result ≡ false → {A : Type 0}
     → is_declared c.args.self.now c.args.path.now ≡ true → A
 never c free there = absurd (true≢false (sym there ∙ sym (taken c) ∙ free))
 
-put_here : (c : In_ok-declare_first) → known_by c.declare_first.new.nodes.items
+put_here : (c : In_ok-declare_first) → known_in c.declare_first.new.nodes.items c.self.inside.scopes.items
     ≡ with_declaration c.args.self.now c.args.path.now (once c.args.kind c.args.surely)
-put_here c = c.in_ok-declare_first.ensures.ok ∙ ap (λ k. with_declaration k c.args.path.now (once c.args.kind c.args.surely)) c.self.view_is
+put_here c = ap (λ k. with_scopes k (scopes_of c.self.inside.scopes.items)) c.in_ok-declare_first.ensures.ok
+    ∙ ap (λ k. with_declaration k c.args.path.now (once c.args.kind c.args.surely)) c.self.view_is
 
 -- what is kept for searches stays right
 still_settled : (c : After-declare_first)
     → IsSaidOf (known_by c.self.inside.nodes.items) (known_by c.declare_first.new.nodes.items) c.args.path.now
     → AreSettled c.declare_first.new.nodes.items c.unsettle.new.settled.items
-still_settled c said = settled_kept c.self.inside.nodes.items c.declare_first.new.nodes.items c.as_slice-4.result.now
-    c.unsettle.new.settled.items c.args.path.now c.as_slice-4.ensures.value
+still_settled c said = settled_kept c.self.inside.nodes.items c.declare_first.new.nodes.items c.as_slice-5.result.now
+    c.unsettle.new.settled.items c.args.path.now c.as_slice-5.ensures.value
     c.self.invariant.index c.declare_first.ensures.kept said c.unsettle.ensures.ready c.unsettle.ensures.settled
 
 pub invariant_of-self-in_err-declare_first : goal.invariant_of-self-in_err-declare_first
@@ -42,6 +46,8 @@ invariant_of-self-in_err-declare_first c = record {
   rows = c.self.invariant.rows ∙ ap (λ (k : Known). length (map.entries k.declarations)) (sym c.in_err-declare_first.ensures.err);
   opened = kept_opened c.self.inside.nodes.items c.declare_first.new.nodes.items c.self.inside.opened.items c.declare_first.ensures.kept
       c.self.invariant.opened;
+  scopes = kept_opened c.self.inside.nodes.items c.declare_first.new.nodes.items c.self.inside.scopes.items c.declare_first.ensures.kept
+      c.self.invariant.scopes;
   settled = still_settled (goal.at.invariant_of-self-in_err-declare_first c).After-declare_first
       (said_nothing _ _ c.args.path.now c.in_err-declare_first.ensures.err);
 }
@@ -59,6 +65,8 @@ invariant_of-self-2 c =
       rows = omega (arith, before, after);
       opened = kept_opened c.self.inside.nodes.items c.declare_first.new.nodes.items c.self.inside.opened.items c.declare_first.ensures.kept
           c.self.invariant.opened;
+      scopes = kept_opened c.self.inside.nodes.items c.declare_first.new.nodes.items c.self.inside.scopes.items c.declare_first.ensures.kept
+          c.self.invariant.scopes;
       settled = still_settled (goal.at.invariant_of-self-2 c).After-declare_first
           (said_declared _ _ c.args.path.now (once c.args.kind c.args.surely) c.in_ok-declare_first.ensures.ok);
     }

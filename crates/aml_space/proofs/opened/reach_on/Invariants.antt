@@ -1,6 +1,6 @@
 use Rattle.std.proofs.Common.{◌≡◌, ◌<◌, ◌≤◌, ◌-◌, length, take, Some}
 use Rattle.aml_space.specs.Nodes.{walk, kids_of}
-use Rattle.aml_space.proofs.opened.reach_along.Given as goal
+use Rattle.aml_space.proofs.opened.reach_on.Given as goal
 
 abbrev pub invariant-loop-reach : goal.invariant-loop-reach
 invariant-loop-reach l = record {

@@ -2,14 +2,13 @@ use Rattle.std.proofs.Common.{◌≡◌, ◌<◌, length, Some, get_or, take, []
 use Rattle.aml_children.specs.Children.{child_in}
 use Rattle.aml_space.specs.Nodes.{kids_of}
 use Rattle.aml_space.proofs.Walks.{kid_range, led_more, node_range}
-use Rattle.aml_space.proofs.opened.reach_along.Goals as goal
+use Rattle.aml_space.proofs.opened.reach_on.Goals as goal
 
 pub loop-reach-init : goal.loop-reach-init
 loop-reach-init c = record {
-  led = c.reach_of_scope-reach.ensures.led;
-  inside = node_range c.requires.index.shape (take c.reach_of_scope-reach.result.known c.args.path.now) c.reach_of_scope-reach.result.node
-      c.reach_of_scope-reach.ensures.led;
-  within = c.reach_of_scope-reach.ensures.within;
+  led = c.requires.led;
+  inside = node_range c.requires.index.shape (take c.args.from.known c.args.path.now) c.args.from.node c.requires.led;
+  within = c.requires.within;
 }
 
 pub loop-reach-preserved : goal.loop-reach-preserved

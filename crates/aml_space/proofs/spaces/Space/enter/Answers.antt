@@ -1,0 +1,61 @@
+use Rattle.std.proofs.Common.{length, sym, ap, subst, ◌∙◌}
+use Rattle.std.specs.FinMap as map
+use Rattle.aml_space.specs.Candidates.{AreSettled}
+use Rattle.aml_space.specs.Known.{Known}
+use Rattle.aml_space.specs.Nodes.{walk, kids_of}
+use Rattle.aml_space.specs.Opened.{AreOpened}
+use Rattle.aml_space.proofs.Opening.{kept_opened, more_opened}
+use Rattle.aml_space.proofs.Resting.{settled_grown}
+use Rattle.aml_space.proofs.spaces.Space.enter.Goals as goal
+use Rattle.aml_space.proofs.spaces.Space.enter.Goals.{After-extend, After-keep_scope}
+
+-- what is kept for searches stays right
+still_settled : (c : After-extend) → AreSettled c.extend.new.nodes.items c.unsettle.new.settled.items
+still_settled c = settled_grown c.self.inside.nodes.items c.extend.new.nodes.items c.unsettle.new.settled.items c.self.invariant.index
+    c.extend.ensures.kept c.extend.ensures.known (subst (λ ns. AreSettled ns c.unsettle.new.settled.items) c.as_slice-5.ensures.value c.unsettle.ensures.settled)
+
+still_open : (c : After-extend) → AreOpened c.extend.new.nodes.items c.self.inside.scopes.items
+still_open c = kept_opened c.self.inside.nodes.items c.extend.new.nodes.items c.self.inside.scopes.items c.extend.ensures.kept c.self.invariant.scopes
+
+now_opened : (c : After-keep_scope) → AreOpened c.extend.new.nodes.items c.keep_scope.new.opened.items
+now_opened c = subst (λ ns. AreOpened ns c.keep_scope.new.opened.items) c.as_slice-6.ensures.value c.keep_scope.ensures.opened
+
+pub invariant_of-self-in_err-scope : goal.invariant_of-self-in_err-scope
+invariant_of-self-in_err-scope c = record {
+  index = c.extend.ensures.index;
+  rows = c.self.invariant.rows ∙ ap (λ (k : Known). length (map.entries k.declarations)) (sym c.extend.ensures.known);
+  opened = now_opened (goal.at.invariant_of-self-in_err-scope c).After-keep_scope;
+  scopes = still_open (goal.at.invariant_of-self-in_err-scope c).After-extend;
+  settled = still_settled (goal.at.invariant_of-self-in_err-scope c).After-extend;
+}
+
+pub invariant_of-self-in_err-clone : goal.invariant_of-self-in_err-clone
+invariant_of-self-in_err-clone c = record {
+  index = c.extend.ensures.index;
+  rows = c.self.invariant.rows ∙ ap (λ (k : Known). length (map.entries k.declarations)) (sym c.extend.ensures.known);
+  opened = now_opened (goal.at.invariant_of-self-in_err-clone c).After-keep_scope;
+  scopes = still_open (goal.at.invariant_of-self-in_err-clone c).After-extend;
+  settled = still_settled (goal.at.invariant_of-self-in_err-clone c).After-extend;
+}
+
+pub invariant_of-self-in_err-push : goal.invariant_of-self-in_err-push
+invariant_of-self-in_err-push c = record {
+  index = c.extend.ensures.index;
+  rows = c.self.invariant.rows ∙ ap (λ (k : Known). length (map.entries k.declarations)) (sym c.extend.ensures.known);
+  opened = now_opened (goal.at.invariant_of-self-in_err-push c).After-keep_scope;
+  scopes = subst (AreOpened c.extend.new.nodes.items) (sym c.in_err-push.ensures.items) (still_open (goal.at.invariant_of-self-in_err-push c).After-extend);
+  settled = still_settled (goal.at.invariant_of-self-in_err-push c).After-extend;
+}
+
+pub invariant_of-self-2 : goal.invariant_of-self-2
+invariant_of-self-2 c =
+    let same = c.in_ok-clone.ensures.cases ∙ c.in_ok-scope.ensures.scope ∙ sym c.parts-parts.ensures in
+    record {
+      index = c.extend.ensures.index;
+      rows = c.self.invariant.rows ∙ ap (λ (k : Known). length (map.entries k.declarations)) (sym c.extend.ensures.known);
+      opened = now_opened (goal.at.invariant_of-self-2 c).After-keep_scope;
+      scopes = more_opened c.extend.new.nodes.items c.self.inside.scopes.items c.push.new.self.items _ c.in_ok-push.ensures.items
+          (still_open (goal.at.invariant_of-self-2 c).After-extend)
+          (ap (walk (kids_of c.extend.new.nodes.items) 0) same ∙ c.in_ok-node.ensures.node);
+      settled = still_settled (goal.at.invariant_of-self-2 c).After-extend;
+    }
