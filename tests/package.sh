@@ -120,7 +120,7 @@ has 'the handles' "Handles, beside files and the terminal: $(sed 's/.*: \(.*\)\.
 has 'that no licence is given' 'Licence: none is given. copyright has the licences of the libraries.'
 how=$(grep -F 'find src' papers/made_of.txt)
 crates=$(sed -n 's/^  [0-9a-f]\{64\}  //p' papers/made_of.txt)
-is 'all crates of the program' "$(printf '%s\n' "$crates" | wc -l)" 17
+is 'all crates of the program' "$(printf '%s\n' "$crates" | wc -l)" 18
 for crate in $crates; do
     has "the crate $crate" "  $(cd "first/crates/$crate" && eval "$how" | cut -c 1-64)  $crate"
 done
@@ -156,7 +156,7 @@ is 'its sources stay as they are' "$(git -C first status --porcelain)" ''
 rm log
 is 'it is not built again' "$(built) $(cat log 2>&1)" "$said cat: log: No such file or directory"
 git -C first commit -q --allow-empty -m 'another commit'
-is 'it is, from another commit' "$(built | wc -l) $(wc -l <log)" '2 17'
+is 'it is, from another commit' "$(built | wc -l) $(wc -l <log)" '2 18'
 is 'of which the program tells' "$(first/out/acpidis)" "acpidis $version commit $(git -C first rev-parse HEAD) logic $logic"
 git -C first reset -q --hard HEAD~
 first/package >/dev/null

@@ -9,7 +9,7 @@ use Rattle.acpidis.proofs.Common.{read, raw, all_lines, body_lines, BodyText, Is
 use Rattle.acpidis.proofs.Common.{Became, BecameIn}
 use Rattle.acpidis.proofs.Common.{AreBodies, has_raw, mark_of, marks_of, IsKept, AreKept, AreKeptOf, IsSame, has_fault}
 use Rattle.acpidis.proofs.Common.{tried_mark, tried_marks, get_or}
-use Rattle.aml_space.specs.Known.{StandsFor}
+use Rattle.aml_namespace.specs.Known.{StandsFor}
 use Rattle.asl_text.specs.declared.bodies.Body.TheVariants as bodies
 use Rattle.asl_text.specs.declared.bodies.BodyText.TheVariants as kept_texts
 

@@ -25,7 +25,7 @@ pub use Rattle.aml_set.specs.declared.tables.Table.{Table}
 pub use Rattle.aml_set.specs.declared.tables.TableSet.{TableSet}
 pub use Rattle.aml_set.specs.declared.methods.Method.{Method}
 pub use Rattle.aml_names.specs.declared.faults.CodeFault.{CodeFault}
-pub use Rattle.aml_space.specs.Namespace.{Entry, Givens}
+pub use Rattle.aml_namespace.specs.Namespace.{Entry, Givens}
 pub use Rattle.asl_text.proofs.LevelLaws.{AgreeAt}
 pub use Rattle.asl_text.specs.Bodies.{IsText, body_view, printed_lines, block_view}
 pub use Rattle.aml_text.specs.Listing.{blocks_of, names_in, whole_text, listing_text, blocks_at, blocks_in, indexes_in}

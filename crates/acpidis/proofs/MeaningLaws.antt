@@ -12,7 +12,7 @@ use Rattle.acpidis.specs.Refusals.{IsWant, StopsBy, TellsLoad, TellsBlocks, load
 use Rattle.aml_load.specs.Tables.{StopsFor, load_at}
 use Rattle.aml_load.specs.declared.faults.LoadFault.{LoadFault}
 use Rattle.aml_load.specs.declared.faults.LoadFault.TheVariants as loads
-use Rattle.aml_space.specs.Namespace.{Givens}
+use Rattle.aml_namespace.specs.Namespace.{Givens}
 use Rattle.std.specs.Prelude.{Bool, Err}
 use Rattle.acpidis.proofs.BodyLaws.{are_entries, the_entries, are_told}
 use Rattle.acpidis.specs.declared.refusal.Refusal.TheVariants as refusals

@@ -11,8 +11,8 @@ use Rattle.acpidis.proofs.Common.{AreBodies, marks_of, checks_with, check_lines,
 use Rattle.acpidis.proofs.Common.{has_fault, tried_marks, Meaning}
 use Rattle.acpidis.proofs.Common.{Means, Shows, order_of, codes_of, IsSet, Options}
 use Rattle.aml_code.specs.View.{nodes_view}
-use Rattle.aml_space.specs.Known.{Known, StandsFor}
-use Rattle.aml_space.proofs.Stands.{declarations_alone}
+use Rattle.aml_namespace.specs.Known.{Known, StandsFor}
+use Rattle.aml_namespace.proofs.Stands.{declarations_alone}
 use Rattle.acpi_text.specs.Dumps.{dumps_text}
 use Rattle.aml_text.specs.declared.listing.Listing.{Listing}
 use Rattle.aml_text.specs.Rows.{namespace_text}

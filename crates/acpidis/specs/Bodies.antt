@@ -9,8 +9,8 @@ use Rattle.std.specs.List.Sorted.{IsStrictlyIncreasing}
 use Rattle.aml_names.specs.declared.faults.CodeFault.{CodeFault}
 use Rattle.aml_code.specs.Tree.{Trees}
 use Rattle.aml_code.specs.View.{nodes_view}
-use Rattle.aml_space.specs.Namespace.{Entry}
-use Rattle.aml_space.specs.Known.{StandsFor}
+use Rattle.aml_namespace.specs.Namespace.{Entry}
+use Rattle.aml_namespace.specs.Known.{StandsFor}
 use Rattle.aml_set.specs.Views.{table_codes}
 use Rattle.aml_load.specs.Views.{IsBody, IsUnread, body_at, OfMethod}
 use Rattle.aml_set.specs.declared.tables.TableSet.{TableSet}

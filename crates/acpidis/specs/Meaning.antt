@@ -4,8 +4,8 @@ use Rattle.std.specs.List.{AllZip}
 use Rattle.std.specs.FinMap as finite
 use Rattle.aml_names.specs.declared.segments.Seg.{Seg}
 use Rattle.aml_code.specs.Tree.{Trees}
-use Rattle.aml_space.specs.Namespace.{Entry}
-use Rattle.aml_space.specs.Known.{Declared, declarations_in}
+use Rattle.aml_namespace.specs.Namespace.{Entry}
+use Rattle.aml_namespace.specs.Known.{Declared, declarations_in}
 use Rattle.aml_load.specs.Loading.{Listed, methods_of}
 use Rattle.aml_load.specs.Tables.{LoadsTo}
 use Rattle.aml_load.specs.Views.{HoldsLoad, HoldsTables}

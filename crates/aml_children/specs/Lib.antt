@@ -1,3 +1,4 @@
 pub mod Children
 pub mod Codes
+pub mod Numbered
 pub mod Trees

@@ -6,7 +6,7 @@ use Rattle.aml_code.specs.declared.rows.Role.TheVariants as roles
 use Rattle.aml_code.specs.Lawful.{last_label}
 use Rattle.aml_code.specs.Tree.{Tree, nothing, named, op, Trees, no_trees, tree_more, Parts, Tail, terms}
 use Rattle.aml_space.specs.declared.faults.SpaceFault.TheVariants as faults
-use Rattle.aml_space.specs.Namespace.{Givens, declares}
+use Rattle.aml_namespace.specs.Namespace.{Givens, declares}
 use Rattle.aml_load.specs.declared.faults.LoadFault.{LoadFault}
 use Rattle.aml_load.specs.Loading.{◌>>=◌, strict, Listed, first_listed, with_uses, role_of, kind_of, place_at, lead_at}
 use Rattle.aml_load.specs.Loading.{entry_at, declare_as, declare, declare_inside, declare_all}

@@ -15,10 +15,10 @@ use Rattle.aml_code.specs.Lawful.{ReadsBody}
 use Rattle.aml_parse.specs.Reading.{all_at}
 use Rattle.aml_parse.proofs.Readings.{BodySaid, body_said}
 use Rattle.aml_names.proofs.StepLaws.{IsBytes}
-use Rattle.aml_space.specs.Known.{BodyView, Known, StandsFor, outlook_in}
-use Rattle.aml_space.specs.Namespace.{Entry}
-use Rattle.aml_space.specs.Runs.{Outlook, outlook_of, agreed_arity}
-use Rattle.aml_space.proofs.Stands.{same_outlook}
+use Rattle.aml_namespace.specs.Known.{BodyView, Known, StandsFor, outlook_in}
+use Rattle.aml_namespace.specs.Namespace.{Entry}
+use Rattle.aml_namespace.specs.Runs.{Outlook, outlook_of, agreed_arity}
+use Rattle.aml_namespace.proofs.Stands.{same_outlook}
 use Rattle.aml_set.specs.declared.methods.Method.{Method}
 use Rattle.aml_set.specs.Code.{AreShort}
 use Rattle.aml_set.specs.Views.{span_of}

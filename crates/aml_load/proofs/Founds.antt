@@ -12,7 +12,7 @@ use Rattle.aml_code.specs.declared.tree.Tail.{Tail as CodeTail}
 use Rattle.aml_code.specs.Tree.{Tree, op, Trees, tree_more}
 use Rattle.aml_code.specs.View.{node_view, parts_view, tail_view}
 use Rattle.aml_code.proofs.Views.{view-Op}
-use Rattle.aml_space.specs.Namespace.{Givens}
+use Rattle.aml_namespace.specs.Namespace.{Givens}
 use Rattle.aml_load.specs.declared.faults.LoadFault.{LoadFault}
 use Rattle.aml_load.specs.declared.faults.LoadFault.TheVariants as loads
 use Rattle.aml_load.specs.declared.standing.StandingTerm.{StandingTerm}

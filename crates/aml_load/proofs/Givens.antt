@@ -2,7 +2,7 @@
 use Rattle.std.proofs.Common.{◌≡◌, ℕ, zero, suc, ◌+◌, ◌<◌, List, [], ◌∷◌, ◌++◌, length, take, get_or, refl, sym, ap}
 use Rattle.std.proofs.Common.{◌∙◌, arith}
 use Rattle.aml_names.specs.declared.segments.Seg.{Seg}
-use Rattle.aml_space.specs.Namespace.{Givens, given, given_entries}
+use Rattle.aml_namespace.specs.Namespace.{Givens, given, given_entries}
 use Rattle.aml_load.specs.Loading.{methods_of}
 
 -- they have no methods

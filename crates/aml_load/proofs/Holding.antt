@@ -18,11 +18,11 @@ use Rattle.aml_code.proofs.Views.{view-Op}
 use Rattle.std.specs.Option.{ok_or}
 use Rattle.std.specs.List.{cons_option}
 use Rattle.aml_names.specs.declared.segments.Seg.{Seg}
-use Rattle.aml_space.specs.declared.kinds.Kind.{Kind}
-use Rattle.aml_space.specs.declared.kinds.Kind.TheVariants as kinds
+use Rattle.aml_namespace.specs.declared.kinds.Kind.{Kind}
+use Rattle.aml_namespace.specs.declared.kinds.Kind.TheVariants as kinds
 use Rattle.aml_space.specs.declared.faults.SpaceFault.TheVariants as faults
-use Rattle.aml_space.specs.Namespace.{Entry, Body, declares, declared_at}
-use Rattle.aml_space.specs.Known.{StandsFor}
+use Rattle.aml_namespace.specs.Namespace.{Entry, Body, declares, declared_at}
+use Rattle.aml_namespace.specs.Known.{StandsFor}
 use Rattle.aml_load.specs.declared.faults.LoadFault.{LoadFault}
 use Rattle.aml_load.specs.declared.faults.LoadFault.TheVariants as loads
 use Rattle.aml_set.specs.declared.methods.Method.{Method}

@@ -22,7 +22,7 @@ use Rattle.aml_parse.specs.Reading.{all_at}
 use Rattle.aml_parse.specs.Running.{ReadsTable, StopsTerms, run_table_at}
 use Rattle.aml_parse.proofs.Readings.{module_sound, module_again, all_placed}
 use Rattle.aml_parse.proofs.Forward as forward
-use Rattle.aml_space.specs.Namespace.{Entry, Givens}
+use Rattle.aml_namespace.specs.Namespace.{Entry, Givens}
 use Rattle.aml_set.specs.Code.{IsCode, AreCodes, AreShort}
 use Rattle.aml_set.specs.Views.{codes_view}
 use Rattle.aml_set.specs.declared.loaded.Loaded.{Loaded}

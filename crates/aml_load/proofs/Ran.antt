@@ -22,9 +22,9 @@ use Rattle.aml_names.specs.declared.names.Name.{Name}
 use Rattle.aml_names.specs.declared.segments.Seg.{Seg}
 use Rattle.aml_names.specs.Paths.{PathSet}
 use Rattle.aml_code.specs.Faults.{Arities}
-use Rattle.aml_space.specs.Known.{BodyView, Known, StandsFor, outlook_in}
-use Rattle.aml_space.specs.Runs.{Outlook, agreed_arity}
-use Rattle.aml_space.proofs.Stands.{same_outlook}
+use Rattle.aml_namespace.specs.Known.{BodyView, Known, StandsFor, outlook_in}
+use Rattle.aml_namespace.specs.Runs.{Outlook, agreed_arity}
+use Rattle.aml_namespace.proofs.Stands.{same_outlook}
 use Rattle.std.specs.Option.{unwrap_or}
 use Rattle.aml_load.specs.declared.faults.LoadFault.{LoadFault}
 use Rattle.aml_load.specs.Loading.{◌>>=◌, Listed, code_fault}

@@ -21,7 +21,7 @@ use Rattle.aml_code.specs.Lawful.{next_position, terms_in, tail_in}
 use Rattle.aml_code.proofs.RowFacts.{rows_say}
 use Rattle.aml_parse.specs.Running.{has_terms, is_block, ReadsTerms, Opens}
 use Rattle.aml_parse.proofs.Forward.{is_run, runs_on}
-use Rattle.aml_space.specs.Namespace.{Givens, declares, external}
+use Rattle.aml_namespace.specs.Namespace.{Givens, declares, external}
 use Rattle.aml_load.specs.declared.faults.LoadFault.{LoadFault}
 use Rattle.aml_load.specs.Loading.{◌>>=◌, role_of, kind_of, Listed, first_listed, byte_of, body_span, first_label}
 use Rattle.aml_load.specs.Loading.{methods_of, most_methods}

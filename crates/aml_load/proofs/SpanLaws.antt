@@ -29,8 +29,8 @@ use Rattle.aml_code.specs.Lawful.{terms_in, tail_in, next_position, setting_of}
 use Rattle.aml_code.specs.Lawful.{no_arguments}
 use Rattle.aml_code.proofs.RowFacts.{and_left, and_right, rows_say}
 use Rattle.aml_parse.specs.Reading.{takes_names}
-use Rattle.aml_space.specs.declared.kinds.Kind.TheVariants as kinds
-use Rattle.aml_space.specs.Namespace.{Entry, declares, external, declared_at}
+use Rattle.aml_namespace.specs.declared.kinds.Kind.TheVariants as kinds
+use Rattle.aml_namespace.specs.Namespace.{Entry, declares, external, declared_at}
 use Rattle.aml_load.specs.declared.faults.LoadFault.{LoadFault}
 use Rattle.aml_load.specs.Loading.{◌>>=◌, role_of, kind_of, Where, strict, under, Listed, with_uses, first_label}
 use Rattle.aml_load.specs.Loading.{byte_of, body_span, method_entry}

@@ -25,11 +25,11 @@ use Rattle.aml_code.specs.Tree.{part_more, Tail, elements, fields, Field, connec
 use Rattle.aml_code.specs.Tree.{buffer, label, terms, body, tree_count}
 use Rattle.aml_space.specs.declared.faults.SpaceFault.{SpaceFault}
 use Rattle.aml_space.specs.declared.faults.SpaceFault.TheVariants as faults
-use Rattle.aml_space.specs.declared.kinds.Kind.{Kind}
-use Rattle.aml_space.specs.declared.kinds.Kind.TheVariants as kinds
-use Rattle.aml_space.specs.Namespace.{Entry, Givens, declares, external, given_entries, declared_at, namespace_of}
-use Rattle.aml_space.specs.Namespace.{kind_at, found}
-use Rattle.aml_space.specs.Runs.{outlook_of, agreed_arity, agreed_path}
+use Rattle.aml_namespace.specs.declared.kinds.Kind.{Kind}
+use Rattle.aml_namespace.specs.declared.kinds.Kind.TheVariants as kinds
+use Rattle.aml_namespace.specs.Namespace.{Entry, Givens, declares, external, given_entries, declared_at, namespace_of}
+use Rattle.aml_namespace.specs.Namespace.{kind_at, found}
+use Rattle.aml_namespace.specs.Runs.{outlook_of, agreed_arity, agreed_path}
 use Rattle.aml_load.specs.declared.faults.LoadFault.{LoadFault}
 use Rattle.aml_load.specs.declared.faults.LoadFault.TheVariants as loads
 use Rattle.aml_set.specs.declared.methods.Method.{Method}

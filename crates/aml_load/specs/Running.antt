@@ -15,9 +15,9 @@ use Rattle.aml_code.specs.Lawful.{last_label}
 use Rattle.aml_code.specs.Tree.{Tree, op, Parts, Tail}
 use Rattle.aml_parse.specs.Running.{Names}
 use Rattle.aml_space.specs.declared.faults.SpaceFault.TheVariants as faults
-use Rattle.aml_space.specs.declared.kinds.Kind.{Kind}
-use Rattle.aml_space.specs.Namespace.{Entry, declares, declared_at, namespace_of, found}
-use Rattle.aml_space.specs.Runs.{sure_at, outlook_of, agreed_arity}
+use Rattle.aml_namespace.specs.declared.kinds.Kind.{Kind}
+use Rattle.aml_namespace.specs.Namespace.{Entry, declares, declared_at, namespace_of, found}
+use Rattle.aml_namespace.specs.Runs.{sure_at, outlook_of, agreed_arity}
 use Rattle.aml_load.specs.declared.faults.LoadFault.{LoadFault}
 use Rattle.aml_load.specs.declared.faults.LoadFault.TheVariants as loads
 use Rattle.aml_load.specs.Loading.{◌>>=◌, role_of, kind_of, Where, Listed, with_uses, lead_of, place_at}

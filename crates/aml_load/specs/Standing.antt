@@ -8,7 +8,7 @@ use Rattle.aml_code.specs.declared.rows.Role.TheVariants as roles
 use Rattle.aml_code.specs.Lawful.{last_label}
 use Rattle.aml_code.specs.Tree.{Tree, op, Trees, no_trees, tree_more, Parts, Tail, terms}
 use Rattle.aml_space.specs.declared.faults.SpaceFault.TheVariants as faults
-use Rattle.aml_space.specs.Namespace.{Givens, declares}
+use Rattle.aml_namespace.specs.Namespace.{Givens, declares}
 use Rattle.aml_load.specs.declared.faults.LoadFault.{LoadFault}
 use Rattle.aml_load.specs.Loading.{Where, strict, under, Listed, first_listed, with_uses, role_of, kind_of, place_at}
 use Rattle.aml_load.specs.Loading.{lead_at, entry_at, declare, declare_all}

@@ -1,7 +1,7 @@
 -- A law of where terms stand: by themselves, each at its place, they declare what their tables load to.
 use Rattle.std.specs.Prelude.{◌≡◌, ℕ, Bool, false, List, [], ◌∷◌, Result, Ok}
 use Rattle.aml_code.specs.Tree.{Tree, op, Trees}
-use Rattle.aml_space.specs.Namespace.{Givens}
+use Rattle.aml_namespace.specs.Namespace.{Givens}
 use Rattle.aml_load.specs.declared.faults.LoadFault.{LoadFault}
 use Rattle.aml_load.specs.Loading.{◌>>=◌, Where, strict, Listed, first_listed, with_uses, role_of, declare_as}
 use Rattle.aml_load.specs.Standing.{Standing, set_stands}

@@ -13,8 +13,8 @@ use Rattle.aml_code.specs.Lawful.{no_arguments, ReadsModule, BodiesStand}
 use Rattle.aml_code.specs.Tree.{Trees, encodings}
 use Rattle.aml_parse.specs.Reading.{all_at}
 use Rattle.aml_parse.specs.Running.{ReadsTable, StopsTerms, run_table_at}
-use Rattle.aml_space.specs.Namespace.{Entry, Givens}
-use Rattle.aml_space.specs.Runs.{AreSure, times_at, StaysAsItIs}
+use Rattle.aml_namespace.specs.Namespace.{Entry, Givens}
+use Rattle.aml_namespace.specs.Runs.{AreSure, times_at, StaysAsItIs}
 use Rattle.aml_set.specs.Code.{AreCodes}
 use Rattle.aml_set.specs.declared.loaded.Loaded.{Loaded}
 use Rattle.aml_set.specs.declared.tables.TableSet.{TableSet}

@@ -2,7 +2,7 @@
 use Rattle.std.specs.Prelude.{◌≡◌, ℕ, List, Option, Some, None, ◌≢◌, Bool, ◌⊎◌}
 use Rattle.std.specs.Prelude.{Result, Ok, Err}
 use Rattle.aml_code.specs.Tree.{Trees}
-use Rattle.aml_space.specs.Known.{StandsFor}
+use Rattle.aml_namespace.specs.Known.{StandsFor}
 use Rattle.aml_set.specs.declared.loaded.Loaded.{Loaded}
 use Rattle.aml_set.specs.declared.methods.Method.{Method}
 use Rattle.aml_set.specs.declared.tables.TableSet.{TableSet}
@@ -15,8 +15,8 @@ use Rattle.aml_code.specs.declared.rows.Position.TheVariants as positions
 use Rattle.aml_code.specs.Faults.{StandsAt}
 use Rattle.aml_code.specs.Lawful.{ReadsBody}
 use Rattle.aml_parse.specs.Reading.{all_at}
-use Rattle.aml_space.specs.Namespace.{Entry}
-use Rattle.aml_space.specs.Runs.{outlook_of, agreed_arity}
+use Rattle.aml_namespace.specs.Namespace.{Entry}
+use Rattle.aml_namespace.specs.Runs.{outlook_of, agreed_arity}
 
 -- The namespace and the methods of a loaded set are those of these entries.
 pub record HoldsLoad (x : Loaded) (codes : List (List ℕ)) (ts : List Trees) (m : Listed) : Type 0 where

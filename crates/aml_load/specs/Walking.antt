@@ -2,9 +2,9 @@
 use Rattle.std.specs.Prelude.{◌≡◌, ◌⊎◌, ◌&&◌, true, false, not, List, [], ◌∷◌, ◌++◌, Option, Result, Ok, Err, is_some}
 use Rattle.aml_names.specs.declared.segments.Seg.{Seg}
 use Rattle.aml_space.specs.declared.faults.SpaceFault.TheVariants as faults
-use Rattle.aml_space.specs.declared.kinds.Kind.{Kind}
-use Rattle.aml_space.specs.Namespace.{Entry, Body, declares, declared_at}
-use Rattle.aml_space.specs.Known.{Known, StandsFor}
+use Rattle.aml_namespace.specs.declared.kinds.Kind.{Kind}
+use Rattle.aml_namespace.specs.Namespace.{Entry, Body, declares, declared_at}
+use Rattle.aml_namespace.specs.Known.{Known, StandsFor}
 use Rattle.aml_space.specs.Near.{IsOpen, IsBelow}
 use Rattle.aml_space.specs.declared.opened.PlacedPath.{PlacedPath}
 use Rattle.aml_load.specs.declared.faults.LoadFault.{LoadFault}

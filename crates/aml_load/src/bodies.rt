@@ -1,14 +1,14 @@
 //! The bodies of methods.
 ghost use Rattle.std.specs.Prelude.{◌≡◌, ◌≤◌, ℕ, List, length};
 ghost use Rattle.aml_code.specs.View.{nodes_view};
-ghost use Rattle.aml_space.specs.Namespace.{Entry};
-ghost use Rattle.aml_space.specs.Known.{StandsFor};
+ghost use Rattle.aml_namespace.specs.Namespace.{Entry};
+ghost use Rattle.aml_namespace.specs.Known.{StandsFor};
 ghost use Rattle.aml_set.specs.Code.{AreShort};
 ghost use Rattle.aml_set.specs.Views.{codes_view, span_of};
 ghost use Rattle.aml_load.specs.Views.{IsReading, GivesBody};
 
 use aml_code::{CodeFault, Node};
-use aml_parse::body_terms;
+use aml_parse::own_body_terms;
 use aml_set::{Method, span_of};
 use aml_space::{BodyNames, Space};
 use std::alloc::Global;
@@ -60,5 +60,5 @@ pub fn read_span(
         GivesBody (λ nodes. nodes_view nodes.items) unknown_zero es tables method.now result }
 {
     let names = BodyNames::new(space, method.path.parts(), unknown_zero);
-    body_terms(alloc, bytes, &names, &method.path.parts())
+    own_body_terms(alloc, bytes, &names, &method.path.parts())
 }

@@ -1,7 +1,7 @@
 //! Laws of loads, about the definitions alone: each the contract of a function that does nothing. They hold whether the
 //! code outside methods may run or not.
 ghost use Rattle.std.specs.Prelude.{List, Bool, ℕ};
-ghost use Rattle.aml_space.specs.Namespace.{Givens};
+ghost use Rattle.aml_namespace.specs.Namespace.{Givens};
 ghost use Rattle.aml_load.specs.Tables.{LoadsOneWay, LoadsForward, LoadsAgain, AreSpelled, LoadsInTextOrder};
 ghost use Rattle.aml_load.specs.Tables.{LoadsStrictly};
 

@@ -4,8 +4,8 @@ ghost use Rattle.aml_code.specs.View.{node_view, nodes_view, parts_view, tail_vi
 ghost use Rattle.std.specs.Prelude.{is_some, ◌&&◌};
 ghost use Rattle.std.specs.Option.{option_copied, option_and_then};
 ghost use Rattle.std.specs.FinSet as set;
-ghost use Rattle.aml_space.specs.Namespace.{namespace_of, found};
-ghost use Rattle.aml_space.specs.Known.{StandsFor};
+ghost use Rattle.aml_namespace.specs.Namespace.{namespace_of, found};
+ghost use Rattle.aml_namespace.specs.Known.{StandsFor};
 ghost use Rattle.aml_space.specs.Near.{IsBelow};
 ghost use Rattle.aml_load.specs.Loading.{Listed, declare_as};
 ghost use Rattle.aml_load.specs.Running.{opened_at, object_at, scope_at, enter_as};
@@ -19,7 +19,7 @@ use crate::roles::{kind_of, role_of};
 use crate::uses::{Site, add_names};
 use crate::walking::Progress;
 use aml_code::{
-    Arity, Locals, Name, NoMemory, Node, Part, Position, Role, Tail, TailKind, last_name,
+    Arity, Name, NoMemory, Node, Part, Position, Role, SeenLocals, Tail, TailKind, last_name,
     listed_row,
 };
 use aml_names::ScopedPath;
@@ -129,16 +129,23 @@ struct RunNames<'a> {
 }
 
 impl Arity for RunNames<'_> {
-    ghost use Rattle.std.specs.Prelude.{Some};
+    ghost use Rattle.std.specs.Prelude.{◌≡◌, Some};
     ghost use Rattle.std.specs.Option.{unwrap_or};
-    ghost use Rattle.aml_space.specs.Runs.{agreed_arity};
-    ghost use Rattle.aml_space.specs.Known.{outlook_in};
+    ghost use Rattle.aml_namespace.specs.Runs.{agreed_arity};
+    ghost use Rattle.aml_namespace.specs.Known.{outlook_in};
 
     ghost arity = { λ self locals name. Some (unwrap_or
         (agreed_arity (outlook_in self.names.known) self.names.unknown_zero self.names.method locals name) 0) };
 
-    fn count(&self, alloc: Global, locals: &Locals, name: &Name) -> Result<Option<u8>, NoMemory> {
-        let count = self.names.count(alloc, locals, name)?;
+    ghost stands = { λ self scope. scope ≡ self.names.method };
+
+    fn count_seen(
+        &self,
+        alloc: Global,
+        locals: &SeenLocals<'_>,
+        name: &Name,
+    ) -> Result<Option<u8>, NoMemory> {
+        let count = self.names.count_seen(alloc, locals, name)?;
         Ok(Some(count.unwrap_or(0)))
     }
 }

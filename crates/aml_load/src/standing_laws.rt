@@ -1,6 +1,6 @@
 //! A law of where terms stand, about the definitions alone: the contract of a function that does nothing.
 ghost use Rattle.std.specs.Prelude.{List, Bool, ℕ};
-ghost use Rattle.aml_space.specs.Namespace.{Givens};
+ghost use Rattle.aml_namespace.specs.Namespace.{Givens};
 ghost use Rattle.aml_load.specs.StandingLaws.{StandAsDeclared};
 
 /// The terms of a set, each by itself where it stands, declare one after the other what its tables load to.

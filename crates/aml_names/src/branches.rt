@@ -144,6 +144,50 @@ impl Branches {
         }
     }
 
+    /// Whether a path is there, without a look at its other segments where none of the paths ends as it does.
+    pub(crate) fn has(&self, path: &[Seg]) -> bool
+        ensures { result ≡ set.contains self.now.paths path.now }
+    {
+        self.may_end(path) && self.contains(0, path)
+    }
+
+    /// Whether the path of some segments behind a front of another scope is there.
+    pub(crate) fn has_elsewhere(
+        &self,
+        scope: &Parts<'_>,
+        front: usize,
+        segs: &[Seg],
+    ) -> Result<bool, NoMemory>
+        requires { front ≤ length scope.now }
+        ensures { IfOk result (λ local. local ≡ set.contains self.now.paths (take front scope.now ++ segs.now)) }
+    {
+        let path = scope.first(front).below(self.alloc, segs)?;
+        Ok(self.has(path.segs()))
+    }
+
+    /// The nearest in another scope, by a question for each of its parents.
+    pub(crate) fn nearest_elsewhere(
+        &self,
+        alloc: Global,
+        scope: &Parts<'_>,
+        segment: Seg,
+    ) -> Result<Option<usize>, NoMemory>
+        ensures { IfOk result (λ depth. depth ≡ nearest self.now.paths scope.now (segment ∷ [])) }
+    {
+        let mut path = scope.below(alloc, &[segment])?;
+        let mut depth = scope.len();
+        'depths: loop {
+            if self.has(path.segs()) {
+                return Ok(Some(depth));
+            }
+            if depth == 0 {
+                return Ok(None);
+            }
+            depth -= 1;
+            path.raise();
+        }
+    }
+
     /// The nearest of the paths that are a segment in the scope or in a parent of it: how many segments of the scope
     /// stand before it.
     pub(crate) fn nearest(&self, segment: Seg) -> Option<usize>

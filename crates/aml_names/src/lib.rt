@@ -5,6 +5,7 @@
 #![tactic(auto)]
 
 mod arities;
+mod body_locals;
 mod branches;
 mod faults;
 mod locals;
@@ -13,11 +14,13 @@ mod parts;
 mod paths;
 mod placing;
 mod reading;
+mod seen;
 mod segments;
 mod shared;
 mod stepping;
 
 pub use arities::Arity;
+pub use body_locals::BodyLocals;
 pub use faults::{CodeFault, NoMemory};
 pub use locals::Locals;
 pub use names::{Name, NameForm};
@@ -25,6 +28,7 @@ pub use parts::Parts;
 pub use paths::{Path, common};
 pub use placing::{front_of, place};
 pub use reading::{is_name_lead, name_of, read_name, segment_of};
+pub use seen::SeenLocals;
 pub use segments::{Seg, Segs};
 pub use shared::{ScopedPath, SharedPath};
 pub use stepping::{byte_of, offset_of};

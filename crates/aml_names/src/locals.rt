@@ -1,5 +1,5 @@
 //! The paths that a method body has declared so far.
-ghost use Rattle.std.specs.Prelude.{◌≡◌, ◌↔◌, ◌≤◌, ◌++◌, [], ◌∷◌, length, take, IsTrue, OnOk, OnErr, IfOk};
+ghost use Rattle.std.specs.Prelude.{◌≡◌, ◌↔◌, ◌≤◌, ◌++◌, [], ◌∷◌, length, take, None, IsTrue, OnOk, OnErr, IfOk};
 ghost use Rattle.std.specs.FinSet as set;
 ghost use Rattle.aml_names.specs.Searching.{nearest};
 
@@ -7,6 +7,7 @@ use crate::branches::Branches;
 use crate::faults::NoMemory;
 use crate::parts::Parts;
 use crate::paths::Path;
+use crate::seen::SeenLocals;
 use crate::segments::Seg;
 use std::alloc::Global;
 use std::marker::Model;
@@ -89,12 +90,19 @@ impl Locals {
         self.branches.is_empty()
     }
 
+    /// The paths as names see them that stand in any scope.
+    pub fn seen(&self) -> SeenLocals<'_>
+        ensures { result ≡ record { paths = self.now; scope = None } }
+    {
+        SeenLocals::new(&self.branches, false)
+    }
+
     /// Whether the path is there, in time logarithmic in their number, and without a look at the path's other segments
     /// where none of them ends as the path does.
     pub fn has(&self, path: &Path) -> bool
         ensures { result ≡ set.contains self.now path.now }
     {
-        self.branches.may_end(path.segs()) && self.branches.contains(0, path.segs())
+        self.branches.has(path.segs())
     }
 
     /// Whether the path of some segments behind a front of a scope is there.
@@ -102,17 +110,7 @@ impl Locals {
         requires { front ≤ length scope.now }
         ensures { IfOk result (λ local. local ≡ set.contains self.now (take front scope.now ++ segs.now)) }
     {
-        if self.is_empty() {
-            return Ok(false);
-        }
-        if !self.branches.may_end(segs) {
-            return Ok(false);
-        }
-        if self.branches.are_of(scope) {
-            return Ok(self.branches.contains(front, segs));
-        }
-        let path = scope.first(front).below(self.alloc, segs)?;
-        Ok(self.has(&path))
+        self.seen().has_below(scope, front, segs)
     }
 
     /// The nearest of the paths that are a segment in a scope or in a parent of it: how many segments of the scope
@@ -125,35 +123,6 @@ impl Locals {
     ) -> Result<Option<usize>, NoMemory>
         ensures { IfOk result (λ depth. depth ≡ nearest self.now scope.now (segment ∷ [])) }
     {
-        if !self.branches.may_end(&[segment]) {
-            return Ok(None);
-        }
-        if self.branches.are_of(scope) {
-            return Ok(self.branches.nearest(segment));
-        }
-        self.nearest_of_all(alloc, scope, segment)
-    }
-
-    /// The same by a question for each of the scope's parents.
-    fn nearest_of_all(
-        &self,
-        alloc: Global,
-        scope: &Parts<'_>,
-        segment: Seg,
-    ) -> Result<Option<usize>, NoMemory>
-        ensures { IfOk result (λ depth. depth ≡ nearest self.now scope.now (segment ∷ [])) }
-    {
-        let mut path = scope.below(alloc, &[segment])?;
-        let mut depth = scope.len();
-        'depths: loop {
-            if self.has(&path) {
-                return Ok(Some(depth));
-            }
-            if depth == 0 {
-                return Ok(None);
-            }
-            depth -= 1;
-            path.raise();
-        }
+        self.seen().nearest(alloc, scope, segment)
     }
 }

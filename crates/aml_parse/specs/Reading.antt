@@ -10,6 +10,7 @@ use Rattle.aml_names.specs.declared.faults.CodeFault.{CodeFault}
 use Rattle.aml_names.specs.declared.segments.Seg.{Seg}
 use Rattle.aml_names.specs.declared.names.Name.{Name}
 use Rattle.aml_names.specs.Paths.{PathSet}
+use Rattle.aml_names.specs.Branches.{Seen}
 use Rattle.aml_names.specs.Names.{is_name_lead}
 use Rattle.aml_names.specs.NameReading.{name_at, segment_at, has_segment, ◌>>=◌, Left, byte_at}
 use Rattle.aml_code.specs.Opcodes.{Row, row_of, takes}
@@ -330,6 +331,12 @@ scope_of scope = option_map (λ b. b.now) scope
 abbrev pub Adds : {X A : Type 0} → (X → A) → List X → List X → PathSet → List ℕ
     → Result (A × PathSet × List ℕ) CodeFault → Type 0
 Adds {X = X} see old new ls rest read = (x : X) × ((new ≡ old ++ x ∷ []) × (read ≡ Ok (see x, ls, rest)))
+
+-- The paths that a body has declared are placed from the parser's scope, if it is known from which; and its names stand
+-- there, if the parser says so.
+pub record ArePlaced {A : Type 0} (stands : A → List Seg → Type 0) (p : Parser A) (locals : Seen) : Type 0 where
+  pub same : (s : List Seg) → locals.scope ≡ Some s → scope_of p.scope ≡ Some s
+  pub own : (s : List Seg) → p.own ≡ true → scope_of p.scope ≡ Some s → stands p.arity.now s
 
 -- a term, as a parser reads it
 abbrev pub read_in : {A : Type 0} → (A → Arities) → Parser A → Position → Reader Tree

@@ -1,7 +1,7 @@
 //! The bytes of a method's body.
 #![tactic(auto, unfolding(crate::specs::Reading::all_at))]
 
-ghost use Rattle.std.specs.Prelude.{◌≡◌, ◌⊎◌, ◌≤◌, ◌<◌, ◌^◌, Some, length, IfOk, IfErr};
+ghost use Rattle.std.specs.Prelude.{◌≡◌, ◌⊎◌, ◌≤◌, ◌<◌, ◌^◌, Some, length, IfOk, IfErr, IsTrue};
 ghost use Rattle.aml_names.specs.NameReading.{Gives};
 ghost use Rattle.aml_code.specs.Faults.{StandsAt};
 ghost use Rattle.aml_code.specs.Lawful.{ReadsBody};
@@ -11,9 +11,35 @@ ghost use Rattle.aml_parse.specs.Reading.{all_at};
 
 use crate::parser::{MOST_LEVELS, Parser};
 use crate::room::without_room;
-use aml_code::{Arity, CodeFault, Locals, Node, Path, Position};
+use aml_code::{Arity, BodyLocals, CodeFault, Node, Path, Position};
 use aml_names::Parts;
 use std::alloc::Global;
+
+/// The terms, and the fault that is met first. `own`: whether the names are known to stand in the scope.
+fn terms_of<A: Arity>(
+    alloc: Global,
+    code: &[u8],
+    arity: &A,
+    scope: &Parts<'_>,
+    own: bool,
+) -> Result<Vec<Node>, CodeFault>
+    requires table { length code.now < 2 ^ 32 }
+    requires own { IsTrue own → A.stands arity.now scope.now }
+    ensures { Gives (λ x. nodes_view x.items) result
+        (all_at (A.arity arity.now) (Some scope.now) Position.BodyTerm code.now) }
+{
+    let parser = Parser {
+        alloc,
+        arity,
+        scope: Some(scope),
+        levels: MOST_LEVELS,
+        own,
+    };
+    let mut locals = BodyLocals::new(alloc);
+    let end = code.len() as u32;
+    let nodes = parser.terms(Position::BodyTerm, end, &mut locals, code)?;
+    Ok(without_room(nodes))
+}
 
 /// What `parse_body` answers, by the method's path in parts: the terms, and the fault that is met first.
 pub fn body_terms<A: Arity>(
@@ -26,16 +52,22 @@ pub fn body_terms<A: Arity>(
     ensures { Gives (λ x. nodes_view x.items) result
         (all_at (A.arity arity.now) (Some scope.now) Position.BodyTerm code.now) }
 {
-    let parser = Parser {
-        alloc,
-        arity,
-        scope: Some(scope),
-        levels: MOST_LEVELS,
-    };
-    let mut locals = Locals::new(alloc);
-    let end = code.len() as u32;
-    let nodes = parser.terms(Position::BodyTerm, end, &mut locals, code)?;
-    Ok(without_room(nodes))
+    terms_of(alloc, code, arity, scope, false)
+}
+
+/// The same where names are known to stand in this scope, so that it needn't be compared with theirs.
+pub fn own_body_terms<A: Arity>(
+    alloc: Global,
+    code: &[u8],
+    arity: &A,
+    scope: &Parts<'_>,
+) -> Result<Vec<Node>, CodeFault>
+    requires table { length code.now < 2 ^ 32 }
+    requires own { A.stands arity.now scope.now }
+    ensures { Gives (λ x. nodes_view x.items) result
+        (all_at (A.arity arity.now) (Some scope.now) Position.BodyTerm code.now) }
+{
+    terms_of(alloc, code, arity, scope, true)
 }
 
 /// The terms of a method's body, which `code` holds whole. How many arguments a name takes is asked of `arity`, by the

@@ -15,7 +15,7 @@ mod step;
 mod terms;
 mod units;
 
-pub use body::{body_terms, parse_body};
+pub use body::{body_terms, own_body_terms, parse_body};
 pub use module::parse_module;
 pub use positions::next_position;
 pub use running::{reads_forward, reads_one_way, spells_table};

@@ -11,7 +11,7 @@ ghost use Rattle.aml_parse.specs.Reading.{all_at};
 
 use crate::parser::{MOST_LEVELS, Parser};
 use crate::room::without_room;
-use aml_code::{Arity, CodeFault, Locals, Name, NoMemory, Node, Position};
+use aml_code::{Arity, BodyLocals, CodeFault, Name, NoMemory, Node, Position, SeenLocals};
 use std::alloc::Global;
 
 /// In a table no name has arguments.
@@ -19,12 +19,16 @@ use std::alloc::Global;
 struct NoArguments;
 
 impl Arity for NoArguments {
+    ghost use Rattle.std.specs.Prelude.{⊤};
+
     ghost arity = { λ _ _ _. Some 0 };
 
-    fn count(
+    ghost stands = { λ _ _. ⊤ };
+
+    fn count_seen(
         &self,
         _alloc: Global,
-        _locals: &Locals,
+        _locals: &SeenLocals<'_>,
         _name: &Name,
     ) -> Result<Option<u8>, NoMemory> {
         Ok(Some(0))
@@ -41,8 +45,9 @@ fn module_terms(alloc: Global, code: &[u8]) -> Result<Vec<Node>, CodeFault>
         arity: &NoArguments,
         scope: None,
         levels: MOST_LEVELS,
+        own: false,
     };
-    let mut locals = Locals::new(alloc);
+    let mut locals = BodyLocals::new(alloc);
     let end = code.len() as u32;
     let nodes = parser.terms(Position::ModuleTerm, end, &mut locals, code)?;
     Ok(without_room(nodes))

@@ -2,14 +2,15 @@
 ghost use Rattle.std.specs.Prelude.{◌≡◌, None, OnOk, option_to_list, ok_or};
 ghost use Rattle.aml_names.specs.NameReading.{Gives};
 ghost use Rattle.aml_names.specs.Names.{placed};
+ghost use Rattle.aml_names.specs.Branches.{AreOf};
 ghost use Rattle.aml_code.specs.Tree.{no_fields, field_more};
 ghost use Rattle.aml_code.specs.Lawful.{field_names, last_label, names_declared, unit_names, with_declared, with_names};
 ghost use Rattle.aml_code.specs.Lawful.{with_path, count_in};
 ghost use Rattle.aml_code.specs.View.{field_view, fields_view, parts_view, tail_view};
-ghost use Rattle.aml_parse.specs.Reading.{scope_of};
+ghost use Rattle.aml_parse.specs.Reading.{scope_of, ArePlaced};
 
 use aml_code::{
-    Arity, CodeFault, Field, Locals, Name, NoMemory, Part, Position, Role, Tail, front_of,
+    Arity, BodyLocals, CodeFault, Field, Name, NoMemory, Part, Position, Role, Tail, front_of,
     last_name,
 };
 use aml_names::Parts;
@@ -26,6 +27,8 @@ pub struct Parser<'a, A> {
     pub arity: &'a A,
     pub scope: Option<&'a Parts<'a>>,
     pub levels: u16,
+    /// Whether the names are known to stand in the scope.
+    pub own: bool,
 }
 
 impl<'a, A: Arity> Parser<'a, A> {
@@ -34,11 +37,12 @@ impl<'a, A: Arity> Parser<'a, A> {
         &self,
         position: Position,
         at: u32,
-        locals: &Locals,
+        locals: &BodyLocals,
         name: &Name,
     ) -> Result<u8, CodeFault>
+        requires { ArePlaced A.stands self.now locals.now }
         ensures { Gives (λ n. n) result (ok_or
-            (count_in (A.arity self.now.arity.now) position locals.now name.now) (CodeFault.UnknownName at)) }
+            (count_in (A.arity self.now.arity.now) position locals.now.paths name.now) (CodeFault.UnknownName at)) }
     {
         match position {
             Position::Target | Position::Data => Ok(0),
@@ -48,7 +52,8 @@ impl<'a, A: Arity> Parser<'a, A> {
             | Position::BodyTerm
             | Position::AfterIf
             | Position::Argument => {
-                match self.arity.count(self.alloc, locals, name)? {
+                let seen = locals.seen(self.own);
+                match self.arity.count_seen(self.alloc, &seen, name)? {
                     None => Err(CodeFault::UnknownName { at }),
                     Some(count) => Ok(count),
                 }
@@ -62,10 +67,12 @@ impl<'a, A: Arity> Parser<'a, A> {
         role: Role,
         parts: &[Part],
         tail: &Tail,
-        locals: &mut Locals,
+        locals: &mut BodyLocals,
     ) -> Result<(), NoMemory>
-        ensures { OnOk result (locals.new ≡ with_declared (scope_of self.now.scope) locals.old
+        requires { ArePlaced A.stands self.now locals.old }
+        ensures declared { OnOk result (locals.new.paths ≡ with_declared (scope_of self.now.scope) locals.old.paths
             (names_declared role (parts_view parts.now) (tail_view tail.now))) }
+        ensures placed { ArePlaced A.stands self.now locals.new }
     {
         let Some(scope) = self.scope else {
             return Ok(());
@@ -79,9 +86,11 @@ impl<'a, A: Arity> Parser<'a, A> {
 }
 
 /// Adds the path of the last part that is a name.
-fn declare_last(scope: &Parts<'_>, parts: &[Part], locals: &mut Locals) -> Result<(), NoMemory>
-    ensures { OnOk result (locals.new ≡ with_names scope.now locals.old
+fn declare_last(scope: &Parts<'_>, parts: &[Part], locals: &mut BodyLocals) -> Result<(), NoMemory>
+    requires { AreOf locals.old scope.now }
+    ensures declared { OnOk result (locals.new.paths ≡ with_names scope.now locals.old.paths
         (option_to_list (last_label None (parts_view parts.now)))) }
+    ensures own { AreOf locals.new scope.now }
 {
     match last_name(parts) {
         None => Ok(()),
@@ -90,8 +99,10 @@ fn declare_last(scope: &Parts<'_>, parts: &[Part], locals: &mut Locals) -> Resul
 }
 
 /// Adds the path of a name, if there is one.
-fn declare_name(scope: &Parts<'_>, name: &Name, locals: &mut Locals) -> Result<(), NoMemory>
-    ensures { OnOk result (locals.new ≡ with_path locals.old (placed scope.now name.now)) }
+fn declare_name(scope: &Parts<'_>, name: &Name, locals: &mut BodyLocals) -> Result<(), NoMemory>
+    requires { AreOf locals.old scope.now }
+    ensures declared { OnOk result (locals.new.paths ≡ with_path locals.old.paths (placed scope.now name.now)) }
+    ensures own { AreOf locals.new scope.now }
 {
     match front_of(scope, name) {
         None => Ok(()),
@@ -100,8 +111,11 @@ fn declare_name(scope: &Parts<'_>, name: &Name, locals: &mut Locals) -> Result<(
 }
 
 /// Adds the paths of the named units of a field list.
-fn declare_units(scope: &Parts<'_>, tail: &Tail, locals: &mut Locals) -> Result<(), NoMemory>
-    ensures { OnOk result (locals.new ≡ with_names scope.now locals.old (field_names (tail_view tail.now))) }
+fn declare_units(scope: &Parts<'_>, tail: &Tail, locals: &mut BodyLocals) -> Result<(), NoMemory>
+    requires { AreOf locals.old scope.now }
+    ensures declared { OnOk result (locals.new.paths
+        ≡ with_names scope.now locals.old.paths (field_names (tail_view tail.now))) }
+    ensures own { AreOf locals.new scope.now }
 {
     match tail {
         Tail::Fields(fields) => declare_fields(scope, fields.as_slice(), locals),
@@ -109,8 +123,15 @@ fn declare_units(scope: &Parts<'_>, tail: &Tail, locals: &mut Locals) -> Result<
     }
 }
 
-fn declare_fields(scope: &Parts<'_>, fields: &[Field], locals: &mut Locals) -> Result<(), NoMemory>
-    ensures { OnOk result (locals.new ≡ with_names scope.now locals.old (unit_names (fields_view fields.now))) }
+fn declare_fields(
+    scope: &Parts<'_>,
+    fields: &[Field],
+    locals: &mut BodyLocals,
+) -> Result<(), NoMemory>
+    requires { AreOf locals.old scope.now }
+    ensures declared { OnOk result (locals.new.paths
+        ≡ with_names scope.now locals.old.paths (unit_names (fields_view fields.now))) }
+    ensures own { AreOf locals.new scope.now }
 {
     for field in fields {
         declare_field(scope, field, locals)?;
@@ -119,9 +140,11 @@ fn declare_fields(scope: &Parts<'_>, fields: &[Field], locals: &mut Locals) -> R
 }
 
 /// Adds the path of a named unit.
-fn declare_field(scope: &Parts<'_>, field: &Field, locals: &mut Locals) -> Result<(), NoMemory>
-    ensures { OnOk result (locals.new ≡ with_names scope.now locals.old
+fn declare_field(scope: &Parts<'_>, field: &Field, locals: &mut BodyLocals) -> Result<(), NoMemory>
+    requires { AreOf locals.old scope.now }
+    ensures declared { OnOk result (locals.new.paths ≡ with_names scope.now locals.old.paths
         (unit_names (field_more (field_view field.now) no_fields))) }
+    ensures own { AreOf locals.new scope.now }
 {
     match field {
         Field::NamedUnit { seg, .. } => locals.push_below(scope, scope.len(), &[*seg]),

@@ -10,7 +10,7 @@ ghost use Rattle.aml_code.specs.View.{node_view};
 ghost use Rattle.aml_parse.specs.Reading.{step_at};
 
 use crate::parser::Parser;
-use aml_code::{Arity, CodeFault, Locals, Node, Position, offset_of};
+use aml_code::{Arity, BodyLocals, CodeFault, Node, Position, offset_of};
 use std::alloc::Global;
 
 /// The term, and the fault that is met first.
@@ -31,8 +31,9 @@ fn step<A: Arity>(
         arity,
         scope: None,
         levels,
+        own: false,
     };
-    let mut locals = Locals::new(alloc);
+    let mut locals = BodyLocals::new(alloc);
     let bytes = &code[at as usize..end as usize];
     let (node, rest) = parser.term(position, end, &mut locals, bytes)?;
     Ok((node, offset_of(end, rest)))

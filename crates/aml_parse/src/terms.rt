@@ -8,7 +8,7 @@ ghost use Rattle.aml_code.specs.View.{node_view, nodes_view, part_view, parts_vi
 ghost use Rattle.aml_code.specs.View.{link_view};
 ghost use Rattle.aml_parse.specs.Reading.{scope_of, held_inside, read_in, part_at, parts_at, arguments_at, terms_at};
 ghost use Rattle.aml_parse.specs.Reading.{fields_at, field_at, link_at, call_at, tail_at, plain_at, packed_at, row_at};
-ghost use Rattle.aml_parse.specs.Reading.{Adds};
+ghost use Rattle.aml_parse.specs.Reading.{Adds, ArePlaced};
 
 use crate::flat::{
     any_name_part_of, byte_part_of, count_part_of, dword_part_of, name_part_of, qword_part_of,
@@ -24,7 +24,7 @@ use crate::units::{
     access_unit_of, extended_unit_of, named_link_of, named_unit_of, reserved_unit_of,
 };
 use aml_code::{
-    Arity, Bytes, CodeFault, Field, Link, Locals, Node, OpRow, Part, PartKind, Position, Tail,
+    Arity, BodyLocals, Bytes, CodeFault, Field, Link, Node, OpRow, Part, PartKind, Position, Tail,
     TailKind, byte_of, offset_of,
 };
 use aml_names::name_of;
@@ -64,11 +64,13 @@ impl<'a, A: Arity> Parser<'a, A> {
         &self,
         position: Position,
         end: u32,
-        locals: &mut Locals,
+        locals: &mut BodyLocals,
         bytes: &'b [u8],
     ) -> Result<(Node, &'b [u8]), CodeFault>
-        ensures { Gives (λ x. (node_view x.0, locals.new, x.1.now)) result
-            (read_in A.arity self.now position end locals.old bytes.now) }
+        requires { ArePlaced A.stands self.now locals.old }
+        ensures read { Gives (λ x. (node_view x.0, locals.new.paths, x.1.now)) result
+            (read_in A.arity self.now position end locals.old.paths bytes.now) }
+        ensures placed { ArePlaced A.stands self.now locals.new }
     {
         let (lead, rest) = byte_of(end, bytes)?;
         let at = offset_of(end, bytes);
@@ -116,12 +118,14 @@ impl<'a, A: Arity> Parser<'a, A> {
         &self,
         position: Position,
         end: u32,
-        locals: &mut Locals,
+        locals: &mut BodyLocals,
         bytes: &'b [u8],
     ) -> Result<(Node, &'b [u8]), CodeFault>
-        ensures { Gives (λ x. (node_view x.0, locals.new, x.1.now)) result
-            (call_at (A.arity self.now.arity.now) (read_in A.arity self.now) position end locals.old
+        requires { ArePlaced A.stands self.now locals.old }
+        ensures read { Gives (λ x. (node_view x.0, locals.new.paths, x.1.now)) result
+            (call_at (A.arity self.now.arity.now) (read_in A.arity self.now) position end locals.old.paths
             bytes.now) }
+        ensures placed { ArePlaced A.stands self.now locals.new }
     {
         let (name, rest) = name_of(self.alloc, end, bytes)?;
         let count = self.count(position, offset_of(end, bytes), locals, &name)?;
@@ -135,11 +139,13 @@ impl<'a, A: Arity> Parser<'a, A> {
         &self,
         count: u8,
         end: u32,
-        locals: &mut Locals,
+        locals: &mut BodyLocals,
         bytes: &'b [u8],
     ) -> Result<(Vec<Node>, &'b [u8]), CodeFault>
-        ensures { Gives (λ x. (nodes_view x.0.items, locals.new, x.1.now)) result
-            (arguments_at (read_in A.arity self.now) count end locals.old bytes.now) }
+        requires { ArePlaced A.stands self.now locals.old }
+        ensures read { Gives (λ x. (nodes_view x.0.items, locals.new.paths, x.1.now)) result
+            (arguments_at (read_in A.arity self.now) count end locals.old.paths bytes.now) }
+        ensures placed { ArePlaced A.stands self.now locals.new }
     {
         let mut found = Vec::with_capacity(self.alloc, count as usize)?;
         let mut rest = bytes;
@@ -157,12 +163,14 @@ impl<'a, A: Arity> Parser<'a, A> {
         &self,
         row: &OpRow,
         end: u32,
-        locals: &mut Locals,
+        locals: &mut BodyLocals,
         bytes: &'b [u8],
     ) -> Result<(Node, &'b [u8]), CodeFault>
-        ensures { Gives (λ x. (node_view x.0, locals.new, x.1.now)) result
+        requires { ArePlaced A.stands self.now locals.old }
+        ensures read { Gives (λ x. (node_view x.0, locals.new.paths, x.1.now)) result
             (plain_at (scope_of self.now.scope) (read_in A.arity self.now)
-            (row_view row.now) end locals.old bytes.now) }
+            (row_view row.now) end locals.old.paths bytes.now) }
+        ensures placed { ArePlaced A.stands self.now locals.new }
     {
         let (parts, rest) = self.parts(row.parts, end, locals, bytes)?;
         let tail = Tail::Empty;
@@ -178,12 +186,14 @@ impl<'a, A: Arity> Parser<'a, A> {
         &self,
         found: &Found<'_>,
         end: u32,
-        locals: &mut Locals,
+        locals: &mut BodyLocals,
         bytes: &'b [u8],
     ) -> Result<(Node, &'b [u8]), CodeFault>
-        ensures { Gives (λ x. (node_view x.0, locals.new, x.1.now)) result
+        requires { ArePlaced A.stands self.now locals.old }
+        ensures read { Gives (λ x. (node_view x.0, locals.new.paths, x.1.now)) result
             (packed_at (scope_of self.now.scope) (read_in A.arity self.now) found.now.position found.now.at
-            (row_view found.now.row.now) found.now.tail end locals.old bytes.now) }
+            (row_view found.now.row.now) found.now.tail end locals.old.paths bytes.now) }
+        ensures placed { ArePlaced A.stands self.now locals.new }
     {
         let row = found.row;
         let (width, inner, inside, behind) = package_of(end, bytes)?;
@@ -201,11 +211,13 @@ impl<'a, A: Arity> Parser<'a, A> {
         &self,
         kinds: &[PartKind],
         end: u32,
-        locals: &mut Locals,
+        locals: &mut BodyLocals,
         bytes: &'b [u8],
     ) -> Result<(Vec<Part>, &'b [u8]), CodeFault>
-        ensures { Gives (λ x. (parts_view x.0.items, locals.new, x.1.now)) result
-            (parts_at (read_in A.arity self.now) kinds.now end locals.old bytes.now) }
+        requires { ArePlaced A.stands self.now locals.old }
+        ensures read { Gives (λ x. (parts_view x.0.items, locals.new.paths, x.1.now)) result
+            (parts_at (read_in A.arity self.now) kinds.now end locals.old.paths bytes.now) }
+        ensures placed { ArePlaced A.stands self.now locals.new }
     {
         let mut found = Vec::with_capacity(self.alloc, kinds.len())?;
         let mut rest = bytes;
@@ -221,14 +233,16 @@ impl<'a, A: Arity> Parser<'a, A> {
         &self,
         kind: PartKind,
         end: u32,
-        locals: &mut Locals,
+        locals: &mut BodyLocals,
         found: &mut Vec<Part>,
         bytes: &'b [u8],
     ) -> Result<&'b [u8], CodeFault>
-        ensures added { IfOk result (λ rest. Adds part_view found.old.items found.new.items locals.new rest.now
-            (part_at (read_in A.arity self.now) kind end locals.old bytes.now)) }
+        requires { ArePlaced A.stands self.now locals.old }
+        ensures added { IfOk result (λ rest. Adds part_view found.old.items found.new.items locals.new.paths rest.now
+            (part_at (read_in A.arity self.now) kind end locals.old.paths bytes.now)) }
         ensures fails { IfErr result (λ e. Fails e
-            (part_at (read_in A.arity self.now) kind end locals.old bytes.now)) }
+            (part_at (read_in A.arity self.now) kind end locals.old.paths bytes.now)) }
+        ensures placed { ArePlaced A.stands self.now locals.new }
     {
         let (part, rest) = match kind {
             PartKind::Term => {
@@ -258,14 +272,16 @@ impl<'a, A: Arity> Parser<'a, A> {
         &self,
         position: Position,
         end: u32,
-        locals: &mut Locals,
+        locals: &mut BodyLocals,
         found: &mut Vec<Part>,
         bytes: &'b [u8],
     ) -> Result<&'b [u8], CodeFault>
-        ensures added { IfOk result (λ rest. Adds part_view found.old.items found.new.items locals.new rest.now
-            (held_inside child (read_in A.arity self.now position end locals.old bytes.now))) }
+        requires { ArePlaced A.stands self.now locals.old }
+        ensures added { IfOk result (λ rest. Adds part_view found.old.items found.new.items locals.new.paths rest.now
+            (held_inside child (read_in A.arity self.now position end locals.old.paths bytes.now))) }
         ensures fails { IfErr result (λ e. Fails e
-            (held_inside child (read_in A.arity self.now position end locals.old bytes.now))) }
+            (held_inside child (read_in A.arity self.now position end locals.old.paths bytes.now))) }
+        ensures placed { ArePlaced A.stands self.now locals.new }
     {
         let (node, rest) = self.term(position, end, locals, bytes)?;
         found.push(Part::Child(node))?;
@@ -278,12 +294,14 @@ impl<'a, A: Arity> Parser<'a, A> {
         &self,
         found: &Found<'_>,
         end: u32,
-        locals: &mut Locals,
+        locals: &mut BodyLocals,
         inside: &[u8],
     ) -> Result<Tail, CodeFault>
-        ensures { Gives (λ x. (tail_view x, locals.new)) result
+        requires { ArePlaced A.stands self.now locals.old }
+        ensures read { Gives (λ x. (tail_view x, locals.new.paths)) result
             (tail_at (read_in A.arity self.now) (terms_in found.now.position found.now.row.now.place)
-            (tail_in found.now.position found.now.tail) end locals.old inside.now) }
+            (tail_in found.now.position found.now.tail) end locals.old.paths inside.now) }
+        ensures placed { ArePlaced A.stands self.now locals.new }
     {
         match tail_in(found.position, found.tail) {
             TailKind::Terms => {
@@ -310,9 +328,16 @@ impl<'a, A: Arity> Parser<'a, A> {
     /// The elements of a field list, to the end of the span. Each takes a byte at least, so as many turns as there are
     /// bytes are enough.
     #[cycle(terms)]
-    fn fields(&self, end: u32, locals: &mut Locals, bytes: &[u8]) -> Result<Vec<Field>, CodeFault>
-        ensures { Gives (λ x. (fields_view x.items, locals.new)) result
-            (fields_at (read_in A.arity self.now) (length bytes.now) end locals.old bytes.now) }
+    fn fields(
+        &self,
+        end: u32,
+        locals: &mut BodyLocals,
+        bytes: &[u8],
+    ) -> Result<Vec<Field>, CodeFault>
+        requires { ArePlaced A.stands self.now locals.old }
+        ensures read { Gives (λ x. (fields_view x.items, locals.new.paths)) result
+            (fields_at (read_in A.arity self.now) (length bytes.now) end locals.old.paths bytes.now) }
+        ensures placed { ArePlaced A.stands self.now locals.new }
     {
         let mut found = Vec::new(self.alloc);
         let mut rest = bytes;
@@ -337,11 +362,13 @@ impl<'a, A: Arity> Parser<'a, A> {
     fn field<'b>(
         &self,
         end: u32,
-        locals: &mut Locals,
+        locals: &mut BodyLocals,
         bytes: &'b [u8],
     ) -> Result<(Field, &'b [u8]), CodeFault>
-        ensures { Gives (λ x. (field_view x.0, locals.new, x.1.now)) result
-            (field_at (read_in A.arity self.now) end locals.old bytes.now) }
+        requires { ArePlaced A.stands self.now locals.old }
+        ensures read { Gives (λ x. (field_view x.0, locals.new.paths, x.1.now)) result
+            (field_at (read_in A.arity self.now) end locals.old.paths bytes.now) }
+        ensures placed { ArePlaced A.stands self.now locals.new }
     {
         let (lead, rest) = byte_of(end, bytes)?;
         match lead {
@@ -361,11 +388,13 @@ impl<'a, A: Arity> Parser<'a, A> {
     fn link<'b>(
         &self,
         end: u32,
-        locals: &mut Locals,
+        locals: &mut BodyLocals,
         bytes: &'b [u8],
     ) -> Result<(Link, &'b [u8]), CodeFault>
-        ensures { Gives (λ x. (link_view x.0, locals.new, x.1.now)) result
-            (link_at (read_in A.arity self.now) end locals.old bytes.now) }
+        requires { ArePlaced A.stands self.now locals.old }
+        ensures read { Gives (λ x. (link_view x.0, locals.new.paths, x.1.now)) result
+            (link_at (read_in A.arity self.now) end locals.old.paths bytes.now) }
+        ensures placed { ArePlaced A.stands self.now locals.new }
     {
         let (lead, _) = byte_of(end, bytes)?;
         if lead != BUFFER {
@@ -381,11 +410,13 @@ impl<'a, A: Arity> Parser<'a, A> {
         &self,
         position: Position,
         end: u32,
-        locals: &mut Locals,
+        locals: &mut BodyLocals,
         bytes: &[u8],
     ) -> Result<Vec<Node>, CodeFault>
-        ensures { Gives (λ x. (nodes_view x.items, locals.new)) result
-            (terms_at (read_in A.arity self.now) (length bytes.now) position end locals.old bytes.now) }
+        requires { ArePlaced A.stands self.now locals.old }
+        ensures read { Gives (λ x. (nodes_view x.items, locals.new.paths)) result
+            (terms_at (read_in A.arity self.now) (length bytes.now) position end locals.old.paths bytes.now) }
+        ensures placed { ArePlaced A.stands self.now locals.new }
     {
         let mut found = Vec::new(self.alloc);
         let mut here = position;

@@ -13,15 +13,17 @@ use Rattle.aml_names.specs.declared.segments.Seg.{Seg}
 use Rattle.aml_names.specs.Paths.{PathSet}
 use Rattle.aml_children.specs.Children.{child_in}
 use Rattle.aml_space.specs.declared.nodes.Node.{Node}
-use Rattle.aml_space.specs.Nodes.{walk, Content, kids_of, content_of, part_by, known_by, IsShape}
-use Rattle.aml_space.specs.Known.{declared_kind, namespace_in}
-use Rattle.aml_space.specs.Namespace.{Namespace, kind_at, decides, is_outside}
-use Rattle.aml_space.specs.Predefined.{predefined}
-use Rattle.aml_space.specs.Candidates.{IsBare, HasBareChildren, IsSilent, IsNext}
-use Rattle.aml_space.proofs.Basics.{alone}
-use Rattle.aml_space.proofs.Walks.{walk_push}
+use Rattle.aml_children.specs.Numbered.{walk}
+use Rattle.aml_space.specs.Nodes.{Content, kids_of, content_of, part_by, known_by, IsShape}
+use Rattle.aml_namespace.specs.Known.{declared_kind, namespace_in}
+use Rattle.aml_namespace.specs.Namespace.{Namespace, kind_at, decides, is_outside}
+use Rattle.aml_namespace.specs.Predefined.{predefined}
+use Rattle.aml_space.specs.Candidates.{IsBare, HasBareChildren}
+use Rattle.aml_namespace.specs.Searching.{IsSilent, IsNext}
+use Rattle.aml_children.proofs.Basics.{alone}
+use Rattle.aml_children.proofs.Walks.{walk_push}
 use Rattle.aml_space.proofs.Index.{part_at}
-use Rattle.aml_space.proofs.Meaning.{predefined_deep}
+use Rattle.aml_namespace.proofs.NotPredefined.{predefined_deep}
 
 module _ (ns : List Node) where
   bare_at : {X : Type 0} (part : Content → Option X) → ((j : ℕ) → IsBare ns j → part (content_of ns j) ≡ None)

@@ -8,18 +8,20 @@ use Rattle.std.specs.Option.{option_and_then, option_map, option_to_list}
 use Rattle.std.proofs.lemmas.List.{append-nil, map-append}
 use Rattle.std.specs.FinMap as map
 use Rattle.aml_names.specs.declared.segments.Seg.{Seg}
-use Rattle.aml_space.specs.Known.{Declared}
+use Rattle.aml_namespace.specs.Known.{Declared}
 use Rattle.aml_children.specs.declared.children.Child.{Child}
 use Rattle.aml_children.specs.Children.{child_in}
 use Rattle.aml_space.specs.declared.nodes.Node.{Node}
-use Rattle.aml_space.specs.Nodes.{walk, own, under, gather, kids_of, declared_of, rows_of, path_of, known_by, visited}
-use Rattle.aml_space.specs.Nodes.{ahead, rows_ahead, links_of, next_node}
+use Rattle.aml_children.specs.Numbered.{walk, own, under, gather, visited}
+use Rattle.aml_space.specs.Nodes.{kids_of, declared_of, rows_of, path_of, known_by}
+use Rattle.aml_children.specs.Numbered.{ahead}
+use Rattle.aml_space.specs.Nodes.{rows_ahead, links_of, next_node}
 use Rattle.aml_space.specs.Nodes.{IsIndex}
-use Rattle.aml_space.proofs.Walks.{walk_push}
-use Rattle.aml_space.proofs.Family.{at_found}
-use Rattle.aml_space.proofs.Visiting.{one_on}
+use Rattle.aml_children.proofs.Walks.{walk_push}
+use Rattle.aml_children.proofs.Family.{at_found}
+use Rattle.aml_children.proofs.Visiting.{one_on}
 use Rattle.aml_space.proofs.Named.{path_led}
-use Rattle.aml_space.proofs.Order.{rises_gather, entries_of_rising}
+use Rattle.aml_children.proofs.Order.{rises_gather, entries_of_rising}
 
 -- the rows at and below a node, to a depth
 abbrev rows_below : List Node → ℕ → ℕ → List (List Seg × Declared)

@@ -15,13 +15,14 @@ use Rattle.aml_names.specs.Paths.{seg_cmp, paths_total, exact_paths, exact_segs}
 use Rattle.aml_children.specs.declared.children.Child.{Child}
 use Rattle.aml_children.specs.Children.{child_in, put}
 use Rattle.aml_space.specs.declared.nodes.Node.{Node}
-use Rattle.aml_space.specs.Nodes.{walk, IsFamily, Content, nothing, kids_in, kids_of, links_of, content_in, content_of}
+use Rattle.aml_children.specs.Numbered.{walk, IsFamily}
+use Rattle.aml_space.specs.Nodes.{Content, nothing, kids_in, kids_of, links_of, content_in, content_of}
 use Rattle.aml_space.specs.Nodes.{kinds_of, part_by, known_by, IsShape}
 use Rattle.aml_space.specs.Nodes.{IsLinked, IsAim, IsIndex, IsKept}
-use Rattle.aml_space.specs.Known.{declared_kind}
-use Rattle.aml_space.proofs.Family.{same_itself, found_put, wider_family, family_put}
+use Rattle.aml_namespace.specs.Known.{declared_kind}
+use Rattle.aml_children.proofs.Family.{same_itself, found_put, wider_family, family_put}
 use Rattle.aml_space.proofs.Index.{part_at}
-use Rattle.aml_space.proofs.Walks.{kid_range, node_range}
+use Rattle.aml_children.proofs.Walks.{kid_range, node_range}
 
 -- new has the nodes of old and an empty one after them, a child of node i
 pub record HasGrown (old new : List Node) (i : ℕ) (seg : Seg) : Type 0 where

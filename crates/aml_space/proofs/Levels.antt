@@ -11,11 +11,12 @@ use Rattle.aml_children.specs.declared.children.Child.{Child}
 use Rattle.aml_children.specs.Children.{child_in}
 use Rattle.aml_space.specs.declared.nodes.Node.{Node}
 use Rattle.aml_space.specs.declared.growing.Reach.{Reach}
-use Rattle.aml_space.specs.Nodes.{walk, kids_of, links_of, IsIndex, Reaches}
-use Rattle.aml_space.specs.Namespace.{Namespace}
-use Rattle.aml_space.specs.Candidates.{IsNext, IsSilent}
-use Rattle.aml_space.proofs.Basics.{alone}
-use Rattle.aml_space.proofs.Walks.{walk_push, walk_none, led_more, kid_range}
+use Rattle.aml_children.specs.Numbered.{walk}
+use Rattle.aml_space.specs.Nodes.{kids_of, links_of, IsIndex, Reaches}
+use Rattle.aml_namespace.specs.Namespace.{Namespace}
+use Rattle.aml_namespace.specs.Searching.{IsNext, IsSilent}
+use Rattle.aml_children.proofs.Basics.{alone}
+use Rattle.aml_children.proofs.Walks.{walk_push, walk_none, led_more, kid_range}
 
 none_seg : Seg
 none_seg = record { 0 = [] }

@@ -1,30 +1,30 @@
 -- What is known of a path, by its node (`kind_of_met`, `out_of_met`, `count_of_met`), and what the tests of a candidate
 -- say of its path (`meant_path`, `outside_path`).
-use Rattle.std.proofs.Common.{◌≡◌, ℕ, zero, suc, ◌≤◌, Bool, true, false, cond, List, [], ◌∷◌, ◌++◌, length, take}
+use Rattle.std.proofs.Common.{◌≡◌, ℕ, zero, suc, Bool, true, false, cond, List, [], ◌∷◌, ◌++◌, take}
 use Rattle.std.proofs.Common.{Option, Some, None, IfSome, is_some, refl}
 use Rattle.std.proofs.Common.{sym, ap, ◌∙◌, arith}
-use Rattle.std.specs.Prelude.{◌||◌, ◌==◌}
-use Rattle.std.proofs.lemmas.Bool.{false≢true}
+use Rattle.std.specs.Prelude.{◌||◌}
 use Rattle.std.specs.Option.{option_or, option_and_then, option_map}
 use Rattle.std.specs.FinMap as map
 use Rattle.std.specs.FinSet as set
 use Rattle.aml_names.specs.declared.segments.Seg.{Seg}
 use Rattle.aml_names.specs.Paths.{PathSet}
 use Rattle.aml_names.specs.Searching.{upward}
-use Rattle.aml_space.specs.declared.kinds.Kind.{Kind}
-use Rattle.aml_space.specs.declared.kinds.Kind.TheVariants.{Method, Alias}
+use Rattle.aml_namespace.specs.declared.kinds.Kind.{Kind}
+use Rattle.aml_namespace.specs.declared.kinds.Kind.TheVariants.{Method, Alias}
 use Rattle.aml_space.specs.declared.nodes.Node.{Node}
 use Rattle.aml_space.specs.declared.scopes.Candidate.{Candidate}
-use Rattle.aml_space.specs.Predefined.{predefined}
-use Rattle.aml_space.specs.Namespace.{Namespace, kind_at, count_at, count_by, arity_at, unknown_count, first_of}
-use Rattle.aml_space.specs.Namespace.{decides, is_outside}
-use Rattle.aml_space.specs.Known.{namespace_in}
-use Rattle.aml_space.specs.Runs.{is_known}
-use Rattle.aml_space.specs.Nodes.{walk, kids_of, kinds_of, declared_of, outs_of, known_by, IsShape}
+use Rattle.aml_namespace.specs.Predefined.{predefined}
+use Rattle.aml_namespace.specs.Namespace.{Namespace, kind_at, count_at, count_by, arity_at, unknown_count, first_of}
+use Rattle.aml_namespace.specs.Namespace.{decides, is_outside}
+use Rattle.aml_namespace.specs.Known.{namespace_in}
+use Rattle.aml_namespace.specs.Runs.{is_known}
+use Rattle.aml_children.specs.Numbered.{walk}
+use Rattle.aml_space.specs.Nodes.{kids_of, kinds_of, declared_of, outs_of, known_by, IsShape}
 use Rattle.aml_space.specs.Candidates.{path_at, IsCandidate}
-use Rattle.aml_space.proofs.Basics.{cond_of}
+use Rattle.aml_children.proofs.Basics.{cond_of}
 use Rattle.aml_space.proofs.Index.{part_at, kind_at_path}
-use Rattle.aml_space.proofs.Upward.{rest_of}
+use Rattle.aml_namespace.proofs.Upward.{rest_of}
 
 module _ (ns : List Node) (shape : IsShape ns) (p : List Seg) (node : Option ℕ) (met : node ≡ walk (kids_of ns) 0 p) where
   pub kind_of_met : (standing : Option Kind) → standing ≡ predefined p
@@ -47,26 +47,6 @@ module _ (ns : List Node) (shape : IsShape ns) (p : List Seg) (node : Option ℕ
       count_by (namespace_in (known_by ns)) (option_or (option_and_then (kinds_of ns) node) standing) (option_and_then (outs_of ns) node)
       ≡ count_at (namespace_in (known_by ns)) p
   count_of_met standing is = λ i. count_by (namespace_in (known_by ns)) (kind_of_met standing is i) (out_of_met i)
-
--- no path of two segments or more is predefined
-pub predefined_deep : (d : ℕ) (scope segment : List Seg) → (d ≡ 0 → ⊥) → d ≤ length scope → length segment ≡ 1
-    → predefined (take d scope ++ segment) ≡ None
-predefined_deep zero scope segment deep within one = absurd (deep refl)
-predefined_deep (suc d) [] segment deep within one = absurd (omega (arith, within))
-predefined_deep (suc d) (s ∷ scope) [] deep within one = absurd (omega (arith, one))
-predefined_deep (suc d) (s ∷ scope) (t ∷ rest) deep within one = by (take d scope)
-  where
-    by : (front : List Seg) → predefined (s ∷ (front ++ t ∷ rest)) ≡ None
-    by [] = refl
-    by (u ∷ front) = refl
-
--- nor is one of two parts that have segments both
-pub predefined_parts : (front own : List Seg) → false ≡ (length front == 0) → false ≡ (length own == 0)
-    → predefined (front ++ own) ≡ None
-predefined_parts [] own some more = absurd (false≢true some)
-predefined_parts (s ∷ []) [] some more = absurd (false≢true more)
-predefined_parts (s ∷ []) (t ∷ rest) some more = refl
-predefined_parts (s ∷ t ∷ front) own some more = refl
 
 -- a kind has a count
 kind_counts : (n : Namespace) (k : Kind) (o other : Option ℕ)

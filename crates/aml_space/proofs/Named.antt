@@ -11,9 +11,10 @@ use Rattle.std.proofs.lemmas.Option.{same_Some}
 use Rattle.aml_names.specs.declared.segments.Seg.{Seg}
 use Rattle.aml_children.specs.Children.{child_in}
 use Rattle.aml_space.specs.declared.nodes.Node.{Node}
-use Rattle.aml_space.specs.Nodes.{walk, kids_of, links_of, path_of, segs_down, links_up, IsIndex}
-use Rattle.aml_space.proofs.Visiting.{links_on}
-use Rattle.aml_space.proofs.Walks.{kid_range}
+use Rattle.aml_children.specs.Numbered.{walk, segs_down, links_up}
+use Rattle.aml_space.specs.Nodes.{kids_of, links_of, path_of, IsIndex}
+use Rattle.aml_children.proofs.Visiting.{links_on}
+use Rattle.aml_children.proofs.Walks.{kid_range}
 
 -- only the root has no segments
 pub not_root : (ns : List Node) (j : ℕ) → 0 < length (path_of ns j) → 0 < j

@@ -7,9 +7,10 @@ use Rattle.std.proofs.Common.{arith}
 use Rattle.aml_names.specs.declared.segments.Seg.{Seg}
 use Rattle.aml_space.specs.declared.nodes.Node.{Node}
 use Rattle.aml_space.specs.declared.opened.Opened.{Opened}
-use Rattle.aml_space.specs.Nodes.{walk, kids_of, Content, HasContent, IsKept}
+use Rattle.aml_children.specs.Numbered.{walk}
+use Rattle.aml_space.specs.Nodes.{kids_of, Content, HasContent, IsKept}
 use Rattle.aml_space.specs.Opened.{AreOpened}
-use Rattle.aml_space.proofs.Basics.{each_more}
+use Rattle.aml_children.proofs.Basics.{each_more}
 
 kept_at : (old new : List Node) (o : Option Opened) → IsKept old new
     → IfSome o (λ o. walk (kids_of old) 0 o.scope ≡ Some o.node)

@@ -9,8 +9,9 @@ use Rattle.aml_names.specs.declared.segments.Seg.{Seg}
 use Rattle.aml_children.specs.declared.children.Child.{Child}
 use Rattle.aml_children.specs.Children.{child_in}
 use Rattle.aml_space.specs.declared.nodes.Node.{Node}
-use Rattle.aml_space.specs.Nodes.{walk, kids_of, known_by, IsIndex, IsKept, empty, chain, with_child, with_path}
-use Rattle.aml_space.proofs.Walks.{walk_push, node_range}
+use Rattle.aml_children.specs.Numbered.{walk}
+use Rattle.aml_space.specs.Nodes.{kids_of, known_by, IsIndex, IsKept, empty, chain, with_child, with_path}
+use Rattle.aml_children.proofs.Walks.{walk_push, node_range}
 use Rattle.aml_space.proofs.Grow.{more_if, has_grown, length_with, with_pushed, last_leaf}
 use Rattle.aml_space.proofs.Growth.{grown_index, grown_known, grown_kept, new_child, still}
 use Rattle.aml_space.proofs.Opening.{kept_on}

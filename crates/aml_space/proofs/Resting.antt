@@ -14,15 +14,17 @@ use Rattle.aml_names.specs.declared.segments.Seg.{Seg}
 use Rattle.aml_names.specs.Paths.{path_cmp, exact_paths, paths_total}
 use Rattle.aml_space.specs.declared.nodes.Node.{Node}
 use Rattle.aml_space.specs.declared.settling.Settled.{Settled}
-use Rattle.aml_space.specs.Nodes.{walk, kids_of, links_of, known_by, IsIndex, IsKept}
-use Rattle.aml_space.specs.Namespace.{same_path, greater}
-use Rattle.aml_space.specs.Known.{Known, Declared, declared_kind, namespace_in, with_declaration, with_external}
-use Rattle.aml_space.specs.Known.{with_given}
-use Rattle.aml_space.specs.Candidates.{IsSilent, IsPassed, IsSettled, AreSettled, IsReady, HasBareChildren}
+use Rattle.aml_children.specs.Numbered.{walk}
+use Rattle.aml_space.specs.Nodes.{kids_of, links_of, known_by, IsIndex, IsKept}
+use Rattle.aml_namespace.specs.Namespace.{same_path, greater}
+use Rattle.aml_namespace.specs.Known.{Known, Declared, declared_kind, namespace_in, with_declaration, with_external}
+use Rattle.aml_namespace.specs.Known.{with_given}
+use Rattle.aml_namespace.specs.Searching.{IsSilent}
+use Rattle.aml_space.specs.Candidates.{IsPassed, IsSettled, AreSettled, IsReady, HasBareChildren}
 use Rattle.aml_space.proofs.Asked.{next_itself, next_further, silent_at}
-use Rattle.aml_space.proofs.Basics.{each_more, read_front, read_last}
+use Rattle.aml_children.proofs.Basics.{each_more, read_front, read_last}
 use Rattle.aml_space.proofs.Levels.{root_depth, led_above}
-use Rattle.aml_space.proofs.Walks.{front_led}
+use Rattle.aml_children.proofs.Walks.{front_led}
 
 -- what is kept of one node
 abbrev Keeps : List Node → List Settled → ℕ → Settled → Type 0

@@ -1,23 +1,24 @@
 -- A stepping stone of the proofs: the paths that a name of one segment may mean in a scope, by their nodes.
-use Rattle.std.specs.Prelude.{◌≡◌, ℕ, zero, suc, ◌<◌, ◌≤◌, Bool, false, nat_le, ◌==◌, cond, List, [], ◌∷◌, ◌++◌, length}
+use Rattle.std.specs.Prelude.{◌≡◌, ℕ, ◌<◌, ◌≤◌, false, List, [], ◌∷◌, ◌++◌, length}
 use Rattle.std.specs.Prelude.{take}
 use Rattle.std.specs.Prelude.{slice_get}
-use Rattle.std.specs.Prelude.{Option, Some, None, IfSome}
+use Rattle.std.specs.Prelude.{Some, None, IfSome}
 use Rattle.std.specs.FinSet as set
 use Rattle.aml_names.specs.declared.segments.Seg.{Seg}
 use Rattle.aml_names.specs.Paths.{PathSet}
+use Rattle.aml_children.specs.declared.children.Child.{Child}
 use Rattle.aml_children.specs.Children.{child_in}
 use Rattle.aml_space.specs.declared.nodes.Node.{Node}
 use Rattle.aml_space.specs.declared.scopes.Scope.{Scope}
 use Rattle.aml_space.specs.declared.scopes.Level.{Level}
 use Rattle.aml_space.specs.declared.scopes.Candidate.{Candidate}
 use Rattle.aml_space.specs.declared.settling.Settled.{Settled}
-use Rattle.aml_space.specs.Nodes.{walk, kids_of, declared_of, outs_of, givens_of, known_by, IsIndex}
-use Rattle.aml_space.specs.Known.{namespace_in, outlook_in}
-use Rattle.aml_space.specs.Runs.{Outlook, counts_met, arity_met, first_agreed, agreed_or}
-use Rattle.aml_space.specs.Namespace.{Namespace, first_given, arity_at, first_of, is_outside}
-use Rattle.aml_names.specs.Searching.{upward}
-use Rattle.std.specs.List.{find}
+use Rattle.aml_children.specs.Numbered.{walk}
+use Rattle.aml_space.specs.Nodes.{kids_of, declared_of, outs_of, givens_of, known_by, IsIndex}
+use Rattle.aml_namespace.specs.Known.{namespace_in, outlook_in}
+use Rattle.aml_namespace.specs.Searching.{IsNext}
+use Rattle.aml_namespace.specs.Runs.{Outlook}
+use Rattle.aml_namespace.specs.Namespace.{Namespace}
 
 -- the namespace in which a scope stands
 abbrev pub names_of : Scope → Namespace
@@ -36,17 +37,6 @@ pub record IsBare (ns : List Node) (i : ℕ) : Type 0 where
 -- and a node has only such children
 abbrev pub HasBareChildren : List Node → ℕ → Type 0
 HasBareChildren ns i = (s : Seg) → IfSome (child_in (kids_of ns i) s) (IsBare ns)
-
--- nothing is known of a segment below a path
-pub record IsSilent (n : Namespace) (path : List Seg) : Type 0 where
-  pub declared : (s : Seg) → n.declared (path ++ s ∷ []) ≡ None
-  pub out : (s : Seg) → n.outs (path ++ s ∷ []) ≡ None
-  pub given : (s : Seg) → n.givens (path ++ s ∷ []) ≡ None
-
--- from one depth of a path up another is the next to be asked: the fronts between them are silent
-pub record IsNext (n : Namespace) (path : List Seg) (from asked : ℕ) : Type 0 where
-  pub within : asked ≤ from
-  pub silent : (d : ℕ) → asked < d → d ≤ from → IsSilent n (take d path)
 
 -- where a path leads to a node of which something is kept, this goes on further up
 abbrev pub IsPassed : List Node → List Settled → List Seg → Type 0
@@ -76,6 +66,20 @@ abbrev pub IsReady : List Node → List Settled → List Seg → Type 0
 IsReady ns settled path = (q : List Seg) (s : Seg) (i : ℕ) → path ≡ q ++ s ∷ [] → walk (kids_of ns) 0 q ≡ Some i →
     IfSome (slice_get settled i) (λ here. here.asked ≡ i)
 
+-- a node is the one child of another
+abbrev pub IsOnlyChild : List Node → ℕ → ℕ → Type 0
+IsOnlyChild ns i j = (c : Child) × (kids_of ns i ≡ c ∷ []) × (c.node ≡ j)
+
+-- a path leads through a node further down to another
+abbrev pub LeadsOn : List Node → List Seg → ℕ → ℕ → ℕ → ℕ → Type 0
+LeadsOn ns path e d i x = (e < d) × (d ≤ length path) × (walk (kids_of ns) 0 (take e path) ≡ Some i)
+    × (walk (kids_of ns) 0 (take d path) ≡ Some x)
+
+-- what is kept of nodes below one leads no further up than there
+abbrev pub LeadsTo : List Node → List Settled → ℕ → Type 0
+LeadsTo ns settled node = (x : ℕ) → IfSome (slice_get settled x) (λ s. (path : List Seg) (e d : ℕ) →
+    LeadsOn ns path e d node x → node ≤ s.asked)
+
 -- a level of a scope: a front of its path, and the node to which this leads
 pub record IsLevel (s : Scope) (l : Level) : Type 0 where
   pub within : l.depth ≤ length s.path
@@ -102,27 +106,3 @@ pub record IsCandidate (ns : List Node) (locals : PathSet) (scope segment : List
   pub within : c.depth ≤ length scope
   pub node : c.local ≡ false → c.node ≡ walk (kids_of ns) 0 (take c.depth scope ++ segment)
   pub local : c.local ≡ set.contains locals (take c.depth scope ++ segment)
-
--- the nearest local, where it stands at a depth or further down
-abbrev pub local_from : Option ℕ → ℕ → Option ℕ
-local_from None d = None
-local_from (Some n) d = cond (nat_le d n) (Some n) None
-
--- whether the nearest local stands at a depth
-abbrev pub stands_at : Option ℕ → ℕ → Bool
-stands_at None d = false
-stands_at (Some n) d = n == d
-
--- how many arguments a name takes whatever runs, by the paths that it may mean
-abbrev pub agreed_at : Outlook → Bool → PathSet → List (List Seg) → Option ℕ
-agreed_at o unknown_zero locals paths = arity_met (counts_met o locals paths) (first_given o.first paths)
-    (arity_at o.first unknown_zero locals paths (first_of o.first locals paths))
-
--- and which of them a Scope opens or an Alias names
-abbrev pub agreed_among : Outlook → List (List Seg) → Option (List Seg)
-agreed_among o paths = agreed_or (first_agreed o paths) (find (is_outside o.first) paths)
-
--- the candidates of a segment further up than a depth
-abbrev pub above : List Seg → List Seg → ℕ → List (List Seg)
-above scope segment zero = []
-above scope segment (suc d) = upward d scope segment

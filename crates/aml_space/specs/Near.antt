@@ -4,11 +4,6 @@ use Rattle.std.specs.Option.{option_map}
 use Rattle.aml_names.specs.declared.segments.Seg.{Seg}
 use Rattle.aml_space.specs.declared.opened.Near.{Near}
 use Rattle.aml_space.specs.declared.opened.PlacedPath.{PlacedPath}
-use Rattle.aml_space.specs.Known.{Known}
-
--- with these scopes open
-abbrev pub with_scopes : Known → List (List Seg) → Known
-with_scopes k scopes = record k { scopes = scopes }
 
 -- a scope is open at a place
 abbrev pub IsOpen : List (List Seg) → ℕ → List Seg → Type 0

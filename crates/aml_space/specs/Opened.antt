@@ -7,9 +7,10 @@ use Rattle.aml_space.specs.declared.opened.Opened.{Opened}
 use Rattle.aml_space.specs.declared.opened.Hints.{Hints}
 use Rattle.aml_space.specs.declared.settling.Settled.{Settled}
 use Rattle.aml_space.specs.Candidates.{AreSettled}
-use Rattle.aml_space.specs.Known.{Known}
-use Rattle.aml_space.specs.Near.{with_scopes}
-use Rattle.aml_space.specs.Nodes.{walk, kids_of, known_by, IsIndex}
+use Rattle.aml_namespace.specs.Known.{Known}
+use Rattle.aml_namespace.specs.Known.{with_scopes}
+use Rattle.aml_children.specs.Numbered.{walk}
+use Rattle.aml_space.specs.Nodes.{kids_of, known_by, IsIndex}
 
 -- each of these scopes leads to the node that is kept with it
 abbrev pub AreOpened : List Node → List Opened → Type 0

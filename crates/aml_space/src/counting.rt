@@ -2,22 +2,20 @@
 ghost use Rattle.std.specs.Prelude.{◌≡◌, ◌<◌, ◌∷◌, ◌||◌, List, Some, None, cond, is_some, length, map, flat_map};
 ghost use Rattle.std.specs.Prelude.{option_to_list, IfSome};
 ghost use Rattle.std.specs.Option.{option_or, option_and_then, option_copied};
-ghost use Rattle.aml_space.specs.Namespace.{kind_at as kind_of_path, count_at, count_by, target_count};
-ghost use Rattle.aml_space.specs.Known.{namespace_in, outlook_in, kinds_by, sure_by};
-ghost use Rattle.aml_space.specs.Runs.{target_counts, counts_by};
-ghost use Rattle.aml_space.specs.Nodes.{walk, kids_of, kinds_of, declared_of, outs_of, known_by, IsShape, IsAim};
+ghost use Rattle.aml_namespace.specs.Namespace.{kind_at as kind_of_path, count_at, count_by, target_count};
+ghost use Rattle.aml_namespace.specs.Known.{namespace_in, outlook_in, kinds_by, sure_by};
+ghost use Rattle.aml_namespace.specs.Runs.{target_counts, counts_by};
+ghost use Rattle.aml_children.specs.Numbered.{walk};
+ghost use Rattle.aml_space.specs.Nodes.{kids_of, kinds_of, declared_of, outs_of, known_by, IsShape, IsAim};
 ghost use Rattle.aml_space.specs.Nodes.{IsAimed};
-ghost use Rattle.aml_space.specs.declared.kinds.Kind.TheVariants.{Alias};
+ghost use Rattle.aml_namespace.specs.declared.kinds.Kind.TheVariants.{Alias};
 ghost use Rattle.aml_names.specs.declared.segments.Seg.{Seg};
-ghost use Rattle.aml_space.specs.Tallies.{joined, counts_in, own_count, is_nothing};
+ghost use Rattle.aml_namespace.specs.Tallies.{joined, counts_in, own_count, is_nothing};
 
-use crate::declarations::Declarations;
-use crate::kinds::{Kind, Target};
 use crate::nodes::Node;
-use crate::predefined::Predefined;
-use crate::tallies::{Counts, own_counts};
 use crate::walking::{aim_at, declared_at, kind_at, node_of, out_at};
 use aml_names::Path;
+use aml_namespace::{Counts, Declarations, Kind, Predefined, Target, own_counts};
 
 /// The kind of a path: the declared one of its node, else the predefined one.
 pub(crate) fn kind_met<'a>(

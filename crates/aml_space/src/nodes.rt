@@ -2,9 +2,9 @@
 ghost use Rattle.std.specs.Prelude.{◌≡◌};
 ghost use Rattle.aml_space.specs.Nodes.{empty};
 
-use crate::declarations::Declarations;
 use aml_children::Children;
 use aml_names::Seg;
+use aml_namespace::Declarations;
 
 /// A node of the index. It stands for one path.
 #[derive(Drop)]

@@ -2,7 +2,8 @@
 ghost use Rattle.std.specs.Prelude.{◌≡◌, ◌+◌, ◌<◌, ◌≤◌, ◌++◌, [], List, Some, length, take, IfOk, IfSome};
 ghost use Rattle.aml_names.specs.declared.segments.Seg.{Seg as AnySeg};
 ghost use Rattle.aml_space.specs.declared.nodes.Node.{Node as AnyNode};
-ghost use Rattle.aml_space.specs.Nodes.{walk, kids_of, links_of, IsIndex, Reaches};
+ghost use Rattle.aml_children.specs.Numbered.{walk};
+ghost use Rattle.aml_space.specs.Nodes.{kids_of, links_of, IsIndex, Reaches};
 ghost use Rattle.aml_space.specs.Candidates.{AreSettled};
 ghost use Rattle.aml_space.specs.Near.{IsOpen, IsNear, IsBelow};
 ghost use Rattle.aml_space.specs.Opened.{AreHints, AreOpened, scopes_of};

@@ -2,11 +2,10 @@
 ghost use Rattle.std.specs.Prelude.{◌≡◌, ◌<◌, ◌-◌, length, take, drop, min, IfOk};
 ghost use Rattle.aml_space.specs.Nodes.{path_of, IsIndex, IsPlace};
 
-use crate::declarations::Declarations;
-use crate::kinds::Kind;
 use crate::nodes::Node;
 use crate::parents::{Place, ancestor, fill};
 use aml_names::{NoMemory, Path, Seg};
+use aml_namespace::{Declarations, Kind};
 use std::alloc::Global;
 use std::marker::Model;
 
@@ -23,7 +22,7 @@ pub struct Row<'a> {
 impl<'a> Model for Row<'a> {
     ghost use Rattle.std.specs.Prelude.{List};
     ghost use Rattle.aml_names.specs.declared.segments.Seg.{Seg};
-    ghost use Rattle.aml_space.specs.Known.{Declared, coded_row};
+    ghost use Rattle.aml_namespace.specs.Known.{Declared, coded_row};
     ghost use Rattle.aml_space.specs.Nodes.{path_of, IsIndex, IsPlace};
 
     ghost Value = { List Seg × Declared };

@@ -8,27 +8,28 @@ ghost use Rattle.std.specs.Bool.{OnFalse, OnTrue};
 ghost use Rattle.std.specs.Option.{option_or, option_and_then, option_copied, option_map};
 ghost use Rattle.std.specs.FinSet as set;
 ghost use Rattle.aml_names.specs.declared.segments.Seg.{Seg};
+ghost use Rattle.aml_names.specs.Branches.{AreOf};
 ghost use Rattle.aml_names.specs.Searching.{upward};
-ghost use Rattle.aml_space.specs.Predefined.{predefined};
-ghost use Rattle.aml_space.specs.Namespace.{first_of, first_given, count_at, kind_at as kind_of_path};
-ghost use Rattle.aml_space.specs.Nodes.{walk, kids_of, outs_of, known_by, IsShape, IsIndex, Reaches};
-ghost use Rattle.aml_space.specs.Known.{namespace_in};
-ghost use Rattle.aml_space.specs.Runs.{counts_met as met, counts_of, is_known};
-ghost use Rattle.aml_space.specs.Tallies.{counts_in};
-ghost use Rattle.aml_space.specs.Candidates.{path_at, local_from, names_of, outlook_at, agreed_among, above, IsBare};
+ghost use Rattle.aml_namespace.specs.Predefined.{predefined};
+ghost use Rattle.aml_namespace.specs.Namespace.{first_of, first_given, count_at, kind_at as kind_of_path};
+ghost use Rattle.aml_children.specs.Numbered.{walk};
+ghost use Rattle.aml_space.specs.Nodes.{kids_of, outs_of, known_by, IsShape, IsIndex, Reaches};
+ghost use Rattle.aml_namespace.specs.Known.{namespace_in};
+ghost use Rattle.aml_namespace.specs.Runs.{counts_met as met, counts_of, is_known};
+ghost use Rattle.aml_namespace.specs.Tallies.{counts_in};
+ghost use Rattle.aml_space.specs.Candidates.{path_at, names_of, outlook_at, IsBare};
+ghost use Rattle.aml_namespace.specs.Searching.{local_from, agreed_among, above};
 ghost use Rattle.aml_space.specs.Candidates.{HasBareChildren, AreSettled};
 ghost use Rattle.aml_space.specs.Candidates.{IsLevel, IsScope, IsNextFrom, IsCandidate};
 
 use crate::counting::{count_met, counts_met, kind_met, known_met, sure_met};
 use crate::growing::Reach;
-use crate::kinds::Kind;
 use crate::nodes::Node;
 use crate::parents::link;
-use crate::predefined::Predefined;
 use crate::settling::Settled;
-use crate::tallies::Counts;
 use crate::walking::{child, children_at, given_at, kind_at, node_from, out_at};
-use aml_names::{Locals, NoMemory, Parts, Path, Seg};
+use aml_names::{Locals, NoMemory, Parts, Path, SeenLocals, Seg};
+use aml_namespace::{Counts, Kind, Predefined};
 use std::alloc::Global;
 
 /// A scope, with the way up from it.
@@ -168,16 +169,17 @@ impl<'a> Scope<'a> {
     pub(crate) fn search(
         &self,
         alloc: Global,
-        locals: &Locals,
+        locals: &SeenLocals<'_>,
         segment: &[Seg],
     ) -> Result<Option<Candidate>, NoMemory>
         requires scope { IsScope self.now }
+        requires seen { AreOf locals.now self.now.path }
         requires one { length segment.now ≡ 1 }
         ensures found { IfOk result (λ met. option_map (path_at self.now.path segment.now) met
-            ≡ first_of (names_of self.now) locals.now
+            ≡ first_of (names_of self.now) locals.now.paths
             (upward (length self.now.path) self.now.path segment.now)) }
         ensures met { IfOk result
-            (λ met. IfSome met (IsCandidate self.now.nodes.now locals.now self.now.path segment.now)) }
+            (λ met. IfSome met (IsCandidate self.now.nodes.now locals.now.paths self.now.path segment.now)) }
     {
         let nearest = locals.nearest(alloc, &self.path, segment[0])?;
         let mut outside: Option<Candidate> = None;
@@ -229,7 +231,7 @@ impl<'a> Scope<'a> {
         ensures within { IfOk result (λ met. IfSome met (λ c. c.depth ≤ length self.now.path)) }
     {
         let locals = Locals::new(alloc);
-        match self.search(alloc, &locals, segment)? {
+        match self.search(alloc, &locals.seen(), segment)? {
             None => Ok(None),
             Some(here) => {
                 if self.may_lead_further(segment, here) {
@@ -422,12 +424,13 @@ impl<'a> Scope<'a> {
     pub(crate) fn counts(
         &self,
         alloc: Global,
-        locals: &Locals,
+        locals: &SeenLocals<'_>,
         segment: &[Seg],
     ) -> Result<Counts, NoMemory>
         requires scope { IsScope self.now }
+        requires seen { AreOf locals.now self.now.path }
         requires one { length segment.now ≡ 1 }
-        ensures { IfOk result (λ counts. counts ≡ counts_in (met (outlook_at self.now) locals.now
+        ensures { IfOk result (λ counts. counts ≡ counts_in (met (outlook_at self.now) locals.now.paths
             (upward (length self.now.path) self.now.path segment.now))) }
     {
         let nearest = locals.nearest(alloc, &self.path, segment[0])?;

@@ -1,16 +1,21 @@
 //! Where the search for a segment goes on, from each node.
-ghost use Rattle.std.specs.Prelude.{◌≡◌, ◌<◌, ◌≤◌, ◌∷◌, ◌++◌, [], List, length, slice_get, Some, IfSome};
+ghost use Rattle.std.specs.Prelude.{◌≡◌, ◌<◌, ◌≤◌, ◌∷◌, ◌++◌, [], List, length, slice_get, Some, IfSome, IsTrue};
 ghost use Rattle.std.specs.Option.{option_map};
-ghost use Rattle.std.specs.Bool.{OnTrue};
+ghost use Rattle.std.specs.Bool.{OnTrue, OnFalse};
 ghost use Rattle.aml_names.specs.declared.segments.Seg.{Seg};
-ghost use Rattle.aml_space.specs.Nodes.{walk, kids_of, IsIndex, Reaches};
-ghost use Rattle.aml_space.specs.Candidates.{AreSettled, IsReady};
+ghost use Rattle.aml_children.specs.Numbered.{walk};
+ghost use Rattle.aml_space.specs.Nodes.{kids_of, IsIndex, Reaches};
+ghost use Rattle.aml_space.specs.Candidates.{AreSettled, IsReady, IsOnlyChild, LeadsTo};
 
 use crate::growing::Reach;
 use crate::nodes::Node;
 use crate::parents::link;
 use crate::scopes::has_to_be_asked;
+use crate::walking::children_at;
 use aml_names::{NoMemory, Parts};
+
+/// So many only children are followed, one below the other, before what is kept of all later nodes is dropped.
+const LONGEST: usize = 1024;
 
 /// What is kept of a node for the search of a segment.
 #[derive(Clone, Copy)]
@@ -118,7 +123,8 @@ fn node_above(nodes: &[Node], path: &Parts<'_>, reach: Reach) -> Option<usize>
 
 /// Whether what is kept of a node doesn't pass over it, if anything is.
 fn is_asked(settled: &[Settled], at: usize) -> bool
-    ensures { OnTrue result (IfSome (slice_get settled.now at) (λ here. here.asked ≡ at)) }
+    ensures asked { OnTrue result (IfSome (slice_get settled.now at) (λ here. here.asked ≡ at)) }
+    ensures kept { OnFalse result (at < length settled.now) }
 {
     match settled.get(at) {
         None => true,
@@ -126,7 +132,77 @@ fn is_asked(settled: &[Settled], at: usize) -> bool
     }
 }
 
-/// Drops what may pass over the node above a path that leads this far, of which something will be said.
+/// The child of a node, where it has one alone.
+fn only_child(nodes: &[Node], at: usize) -> Option<usize>
+    requires { at < length nodes.now }
+    ensures { IfSome result (IsOnlyChild nodes.now at) }
+{
+    let children = children_at(nodes, at);
+    if children.are_several() {
+        None
+    } else {
+        children.first()
+    }
+}
+
+/// Lets what is kept of all nodes below one lead no further up than there, and tells whether it does so. What passes
+/// over a node passes over the next one on its way there too: so only children are followed, down to one that isn't
+/// passed over.
+fn lead_to(settled: &mut [Settled], nodes: &[Node], node: usize) -> bool
+    requires index { IsIndex nodes.now }
+    requires within { node < length nodes.now }
+    requires settled { AreSettled nodes.now settled.old }
+    ensures settled { AreSettled nodes.now settled.new }
+    ensures led { IsTrue result → LeadsTo nodes.now settled.new node }
+{
+    let mut at = node;
+    for _step in 0..LONGEST {
+        match only_child(nodes, at) {
+            None => return false,
+            Some(child) => at = child,
+        }
+        if is_asked(settled, at) {
+            return true;
+        }
+        if settled[at].asked > node {
+            return false;
+        }
+        settled[at].asked = node;
+    }
+    false
+}
+
+/// Keeps of a node that it has to be asked, and tells whether it does so: not where many others may pass over it.
+fn ask(settled: &mut [Settled], nodes: &[Node], node: usize) -> bool
+    requires index { IsIndex nodes.now }
+    requires settled { AreSettled nodes.now settled.old }
+    ensures settled { AreSettled nodes.now settled.new }
+    ensures asked { IsTrue result → IfSome (slice_get settled.new node) (λ here. here.asked ≡ node) }
+{
+    if is_asked(settled, node) {
+        return true;
+    }
+    if !lead_to(settled, nodes, node) {
+        return false;
+    }
+    settled[node].asked = node;
+    true
+}
+
+/// The same of a node that gets a further child by a path that leads this far: what passes over it is found only while
+/// it has one child.
+fn ask_parent(settled: &mut [Settled], nodes: &[Node], path: &Parts<'_>, reach: Reach)
+    requires index { IsIndex nodes.now }
+    requires settled { AreSettled nodes.now settled.old }
+    ensures { AreSettled nodes.now settled.new }
+{
+    if reach.known < path.len() {
+        let _asked = ask(settled, nodes, reach.node);
+    }
+}
+
+/// Lets nothing that is kept pass over the node above a path that leads this far, since something will be said of the
+/// path.
 pub(crate) fn unsettle(settled: &mut Vec<Settled>, nodes: &[Node], path: &Parts<'_>, reach: Reach)
     requires index { IsIndex nodes.now }
     requires reach { Reaches nodes.now path.now reach }
@@ -134,8 +210,9 @@ pub(crate) fn unsettle(settled: &mut Vec<Settled>, nodes: &[Node], path: &Parts<
     ensures settled { AreSettled nodes.now settled.new.items }
     ensures ready { IsReady nodes.now settled.new.items path.now }
 {
+    ask_parent(settled.as_mut_slice(), nodes, path, reach);
     if let Some(above) = node_above(nodes, path, reach) {
-        if !is_asked(settled.as_slice(), above) {
+        if !ask(settled.as_mut_slice(), nodes, above) {
             settled.truncate(above);
         }
     }

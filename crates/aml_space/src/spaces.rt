@@ -4,31 +4,32 @@ ghost use Rattle.std.specs.Prelude.{is_some, not, cond, take, Ok};
 ghost use Rattle.std.specs.Prelude.{map as map_list, ◌⊎◌, OnOk, OnErr, IfOk, IfErr, IsTrue};
 ghost use Rattle.std.specs.Option.{option_copied};
 ghost use Rattle.std.specs.FinMap as map;
-ghost use Rattle.aml_space.specs.Namespace.{Entry, Body, declares, external as outside, given as said};
-ghost use Rattle.aml_space.specs.Namespace.{kind_at, count_at, namespace_of, declared_at};
-ghost use Rattle.aml_space.specs.Runs.{sure_at};
+ghost use Rattle.aml_namespace.specs.Namespace.{Entry, Body, declares, external as outside, given as said};
+ghost use Rattle.aml_namespace.specs.Namespace.{kind_at, count_at, namespace_of, declared_at};
+ghost use Rattle.aml_namespace.specs.Runs.{sure_at};
 ghost use Rattle.aml_space.specs.Nodes.{known_by};
-ghost use Rattle.aml_space.specs.Near.{with_scopes, IsNear};
+ghost use Rattle.aml_namespace.specs.Known.{with_scopes};
+ghost use Rattle.aml_space.specs.Near.{IsNear};
 ghost use Rattle.aml_space.specs.Candidates.{names_of, outlook_at, IsScope};
-ghost use Rattle.aml_space.specs.Known.{StandsFor, nothing_known, once, with_declaration, with_declared, with_again};
-ghost use Rattle.aml_space.specs.Known.{with_external, with_given};
-ghost use Rattle.aml_space.specs.Known.{is_declared as declared_yet, namespace_in, outlook_in, row_of, AreRows};
+ghost use Rattle.aml_namespace.specs.Known.{StandsFor, nothing_known, once, with_declaration, with_declared};
+ghost use Rattle.aml_namespace.specs.Known.{with_again};
+ghost use Rattle.aml_namespace.specs.Known.{with_external, with_given};
+ghost use Rattle.aml_namespace.specs.Known.{is_declared as declared_yet, namespace_in, outlook_in, row_of, AreRows};
 
 use crate::counting::{count_of, sure_met};
 use crate::faults::SpaceFault;
 use crate::growing::{declare_again, declare_first, extend, is_taken, set_given, set_out};
-use crate::kinds::Kind;
 use crate::listing::{Rows, list_rows};
 use crate::nodes::Node;
 use crate::opened::{
     Hints, Keeps, Near, Opened, forget_scope, keep_scope, node_near, reach_along, reach_near,
 };
-use crate::predefined::Predefined;
 use crate::rows::Row;
 use crate::scopes::Scope;
 use crate::settling::{Settled, settle, unsettle};
 use crate::walking::{kind_at, walk_counted};
 use aml_names::{NoMemory, Parts, Path, ScopedPath, Seg};
+use aml_namespace::{Kind, Predefined, SpaceRow};
 use std::alloc::{AllocError, Global};
 use std::marker::Model;
 
@@ -67,7 +68,7 @@ pub struct Space {
 }
 
 impl Model for Space {
-    ghost use Rattle.aml_space.specs.Known.{Known, coded_known};
+    ghost use Rattle.aml_namespace.specs.Known.{Known, coded_known};
 
     ghost Value = { Known };
 
@@ -78,15 +79,6 @@ impl Model for Space {
     ghost view = { λ s. known_in s.nodes.items s.scopes.items };
 
     ghost invariant = { λ s. IsSpace s.nodes.items s.rows s.opened.items s.scopes.items s.settled.items };
-}
-
-/// A declared path, the kind of its first declaration, whether a declaration is sure, and how many there are.
-#[derive(Drop)]
-pub struct SpaceRow {
-    pub path: Path,
-    pub kind: Kind,
-    pub sure: bool,
-    pub times: usize,
 }
 
 impl Space {
@@ -381,7 +373,7 @@ impl Space {
     }
 
     /// The same of a path near a scope that is open.
-    #[tactic(auto, using(crate::proofs::Stands::kind_listed))]
+    #[tactic(auto, using(aml_namespace::proofs::Stands::kind_listed))]
     pub fn kind_near(&self, near: Near, path: &Parts<'_>) -> Option<&Kind>
         requires { IsNear self.now.scopes near path.now }
         ensures known { option_copied result ≡ kind_at (namespace_in self.now) path.now }
@@ -395,7 +387,7 @@ impl Space {
     }
 
     /// What `kind` answers, and how many comparisons of segments the look-up made.
-    #[tactic(auto, using(crate::proofs::Stands::kind_listed))]
+    #[tactic(auto, using(aml_namespace::proofs::Stands::kind_listed))]
     pub fn kind_counted(&self, path: &Path) -> (Option<&Kind>, u128)
         ensures known { option_copied result.0 ≡ kind_at (namespace_in self.now) path.now }
         ensures listed { (es : List Entry) → StandsFor self.now es →
@@ -433,7 +425,7 @@ impl Space {
     /// How many arguments a path takes where the first declaration of a path counts: those of a method, also through an
     /// Alias; none for another kind. Where the path
     /// has no kind, the greatest count of its Externals. Nothing where no table names it.
-    #[tactic(auto, using(crate::proofs::Stands::count_listed))]
+    #[tactic(auto, using(aml_namespace::proofs::Stands::count_listed))]
     pub fn count(&self, path: &Path) -> Option<u8>
         ensures known { result ≡ count_at (namespace_in self.now) path.now }
         ensures listed { (es : List Entry) → StandsFor self.now es → result ≡ count_at (namespace_of es) path.now }

@@ -6,7 +6,7 @@ use Rattle.std.proofs.lemmas.Bool.{eqb-true, false≢true}
 use Rattle.std.proofs.lemmas.List.{append-nil, map-append}
 use Rattle.std.proofs.lemmas.List.Concat.{flat_map-append}
 use Rattle.text_writer.proofs.PrintLaws.{straight}
-use Rattle.aml_space.specs.Known.{Declared}
+use Rattle.aml_namespace.specs.Known.{Declared}
 use Rattle.aml_text.proofs.Common.{refl}
 use Rattle.aml_text.specs.Rows.{marked_text}
 unfoldable use Rattle.aml_text.specs.Rows.{path_text, row_line}

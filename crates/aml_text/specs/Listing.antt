@@ -7,7 +7,7 @@ use Rattle.acpi_tables.specs.Order.{name_of}
 use Rattle.acpi_text.specs.Dumps.{dumps_text}
 use Rattle.aml_names.specs.declared.segments.Seg.{Seg}
 use Rattle.aml_code.specs.Tree.{Trees}
-use Rattle.aml_space.specs.Known.{Declared}
+use Rattle.aml_namespace.specs.Known.{Declared}
 use Rattle.aml_set.specs.Views.{codes_view, trees_view, table_dumps, table_codes, table_terms}
 use Rattle.asl_text.specs.Texts.{OneBody, OneBlock, BodyLines, body_lines, blocks_text}
 use Rattle.asl_text.specs.Bodies.{body_view}

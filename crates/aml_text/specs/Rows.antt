@@ -1,11 +1,11 @@
 -- The second part of a listing: the namespace, a line for each declared path.
 use Rattle.std.specs.Prelude.{ℕ, Bool, nat_lt, decimal, List, [], ◌++◌, map, flat_map, length, cond}
 use Rattle.aml_names.specs.declared.segments.Seg.{Seg}
-use Rattle.aml_space.specs.declared.kinds.Kind.{Kind}
-use Rattle.aml_space.specs.declared.kinds.Kind.TheVariants.{Scope, Name, Method, Alias, Device, Processor}
-use Rattle.aml_space.specs.declared.kinds.Kind.TheVariants.{PowerResource, ThermalZone, Mutex, Event, Region}
-use Rattle.aml_space.specs.declared.kinds.Kind.TheVariants.{DataRegion, Field, BufferField}
-use Rattle.aml_space.specs.Known.{Declared}
+use Rattle.aml_namespace.specs.declared.kinds.Kind.{Kind}
+use Rattle.aml_namespace.specs.declared.kinds.Kind.TheVariants.{Scope, Name, Method, Alias, Device, Processor}
+use Rattle.aml_namespace.specs.declared.kinds.Kind.TheVariants.{PowerResource, ThermalZone, Mutex, Event, Region}
+use Rattle.aml_namespace.specs.declared.kinds.Kind.TheVariants.{DataRegion, Field, BufferField}
+use Rattle.aml_namespace.specs.Known.{Declared}
 use Rattle.text_writer.specs.Prints.{word}
 use Rattle.asl_text.specs.Texts.{separated, segment_text, line}
 

@@ -4,7 +4,7 @@ use Rattle.std.specs.Prelude.{ℕ, suc, Bool, List, [], ◌∷◌, ◌++◌, Opt
 use Rattle.std.specs.List.{find}
 use Rattle.std.specs.Option.{option_map, option_or}
 use Rattle.aml_names.specs.declared.segments.Seg.{Seg}
-use Rattle.aml_space.specs.Namespace.{same_path}
+use Rattle.aml_namespace.specs.Namespace.{same_path}
 use Rattle.aml_load.specs.Standing.{Standing}
 use Rattle.aml_walk.specs.declared.fields.FieldUnit.{FieldUnit}
 use Rattle.aml_walk.specs.declared.units.UnitPlace.{UnitPlace}

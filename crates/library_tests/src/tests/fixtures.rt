@@ -6,7 +6,7 @@ ghost use Rattle.aml_set.specs.Views.{codes_view};
 
 use acpi_tables::Dump;
 use acpidis::{Options, Refusal, disassemble, run};
-use aml_code::{Arity, Locals};
+use aml_code::{Arity, SeenLocals};
 use aml_load::{LoadFault, load};
 use aml_names::{Name, Path};
 use aml_pool::{Board, FreeGate, Gate, NoMemory, PoolFault, Results, Share, Work, crew, harvest};
@@ -97,10 +97,12 @@ pub struct Bare;
 impl Arity for Bare {
     ghost arity = { λ _ _ _. Some 0 };
 
-    fn count(
+    ghost stands = { λ _ _. ⊤ };
+
+    fn count_seen(
         &self,
         _alloc: Global,
-        _locals: &Locals,
+        _locals: &SeenLocals<'_>,
         _name: &Name,
     ) -> Result<Option<u8>, aml_code::NoMemory> {
         Ok(Some(0))

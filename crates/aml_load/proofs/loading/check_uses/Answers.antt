@@ -2,8 +2,8 @@ use Rattle.std.proofs.Common.{◌≡◌, [], ◌∷◌, ◌+◌, if◌then◌els
 use Rattle.std.specs.Prelude.{nat_eq}
 use Rattle.std.specs.Option.{option_eq}
 use Rattle.std.proofs.lemmas.List.{drop_more}
-use Rattle.aml_space.specs.Known.{StandsFor}
-use Rattle.aml_space.proofs.Stands.{stands_inside}
+use Rattle.aml_namespace.specs.Known.{StandsFor}
+use Rattle.aml_namespace.proofs.Stands.{stands_inside}
 use Rattle.aml_load.specs.Loading.{use_count, call_fault, uses_at}
 use Rattle.aml_load.proofs.loading.check_uses.Goals as goal
 

@@ -1,6 +1,6 @@
 use Rattle.std.proofs.Common.{◌≡◌, [], drop, IfSome}
-use Rattle.aml_space.specs.Known.{StandsFor}
-use Rattle.aml_space.specs.Near.{with_scopes}
+use Rattle.aml_namespace.specs.Known.{StandsFor}
+use Rattle.aml_namespace.specs.Known.{with_scopes}
 use Rattle.aml_load.specs.Loading.{Listed, uses_at}
 use Rattle.aml_load.proofs.loading.check_uses.Given as goal
 

@@ -1,7 +1,7 @@
 use Rattle.std.specs.Prelude.{IfOk}
 use Rattle.std.proofs.Common.{◌≡◌, subst}
-use Rattle.aml_space.specs.Runs.{agreed_arity}
-use Rattle.aml_space.proofs.Stands.{same_outlook}
+use Rattle.aml_namespace.specs.Runs.{agreed_arity}
+use Rattle.aml_namespace.proofs.Stands.{same_outlook}
 use Rattle.aml_load.proofs.loading.count_of.Goals as goal
 
 pub returns : goal.returns

@@ -1,6 +1,6 @@
 use Rattle.std.proofs.Common.{refl, sym, subst, ◌∙◌}
 use Rattle.std.proofs.lemmas.Result.{err_from_is_err_and}
-use Rattle.aml_space.specs.Known.{StandsFor}
+use Rattle.aml_namespace.specs.Known.{StandsFor}
 use Rattle.aml_load.specs.Loading.{first_listed}
 use Rattle.aml_set.specs.Views.{table_codes, table_terms}
 use Rattle.aml_load.proofs.Loads.{load_gives, load_refused}

@@ -1,5 +1,5 @@
 use Rattle.std.proofs.Common.{sym, subst}
-use Rattle.aml_space.specs.Known.{StandsFor}
+use Rattle.aml_namespace.specs.Known.{StandsFor}
 use Rattle.aml_load.proofs.Givens.{one_more}
 use Rattle.aml_load.proofs.loading.space_with.Goals as goal
 

@@ -1,5 +1,5 @@
 use Rattle.std.proofs.Common.{arith}
-use Rattle.aml_space.proofs.Walks.{node_range}
+use Rattle.aml_children.proofs.Walks.{node_range}
 use Rattle.aml_space.proofs.counting.aimed_node.Goals as goal
 
 pub returns-clause-within : goal.returns-clause-within

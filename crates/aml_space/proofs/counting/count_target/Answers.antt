@@ -1,6 +1,6 @@
 use Rattle.std.proofs.Common.{ap, ◌∙◌}
-use Rattle.aml_space.specs.Predefined.{predefined}
-use Rattle.aml_space.specs.Namespace.{target_count}
+use Rattle.aml_namespace.specs.Predefined.{predefined}
+use Rattle.aml_namespace.specs.Namespace.{target_count}
 use Rattle.aml_space.proofs.Meaning.{kind_of_met, out_of_met}
 use Rattle.aml_space.proofs.counting.count_target.Goals as goal
 

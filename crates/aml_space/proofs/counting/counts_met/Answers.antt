@@ -2,10 +2,10 @@ use Rattle.std.proofs.Common.{◌∷◌, cond, sym, ap, ◌∙◌}
 use Rattle.std.specs.Prelude.{flat_map, option_to_list}
 use Rattle.std.specs.Option.{option_copied}
 use Rattle.aml_space.specs.Nodes.{known_by}
-use Rattle.aml_space.specs.Known.{kinds_by, outlook_in}
-use Rattle.aml_space.specs.Runs.{counts_by}
-use Rattle.aml_space.specs.Tallies.{joined, counts_in}
-use Rattle.aml_space.proofs.Joined.{counts_declared}
+use Rattle.aml_namespace.specs.Known.{kinds_by, outlook_in}
+use Rattle.aml_namespace.specs.Runs.{counts_by}
+use Rattle.aml_namespace.specs.Tallies.{joined, counts_in}
+use Rattle.aml_namespace.proofs.Joined.{counts_declared}
 use Rattle.aml_space.proofs.counting.counts_met.Goals as goal
 
 pub returns-in-Some : goal.returns-in-Some

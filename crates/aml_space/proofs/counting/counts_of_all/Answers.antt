@@ -2,12 +2,12 @@ use Rattle.std.proofs.Common.{◌≡◌, ◌∷◌, false, sym, ap, ◌∙◌}
 use Rattle.std.specs.Prelude.{flat_map}
 use Rattle.std.specs.List.{list_any}
 use Rattle.aml_space.specs.Nodes.{known_by}
-use Rattle.aml_space.specs.Known.{outlook_in}
-use Rattle.aml_space.specs.Runs.{counts_by}
-use Rattle.aml_space.specs.Tallies.{joined, counts_in, is_alias}
-use Rattle.aml_space.specs.declared.tallies.Tally.{Tally}
-use Rattle.aml_space.proofs.Basics.{not_true}
-use Rattle.aml_space.proofs.Joined.{counts_plain, counts_more}
+use Rattle.aml_namespace.specs.Known.{outlook_in}
+use Rattle.aml_namespace.specs.Runs.{counts_by}
+use Rattle.aml_namespace.specs.Tallies.{joined, counts_in, is_alias}
+use Rattle.aml_namespace.specs.declared.tallies.Tally.{Tally}
+use Rattle.aml_children.proofs.Basics.{not_true}
+use Rattle.aml_namespace.proofs.Joined.{counts_plain, counts_more}
 use Rattle.aml_space.proofs.counting.counts_of_all.Goals as goal
 
 pub returns-then-not-tally : goal.returns-then-not-tally

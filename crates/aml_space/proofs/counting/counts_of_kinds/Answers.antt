@@ -2,10 +2,10 @@ use Rattle.std.proofs.Common.{◌+◌, ◌∷◌, drop, sym, ap, ◌∙◌}
 use Rattle.std.specs.Prelude.{flat_map}
 use Rattle.std.proofs.lemmas.List.{drop_more}
 use Rattle.aml_space.specs.Nodes.{known_by}
-use Rattle.aml_space.specs.Known.{outlook_in}
-use Rattle.aml_space.specs.Runs.{counts_by}
-use Rattle.aml_space.specs.Tallies.{joined, counts_in}
-use Rattle.aml_space.proofs.Joined.{counts_step}
+use Rattle.aml_namespace.specs.Known.{outlook_in}
+use Rattle.aml_namespace.specs.Runs.{counts_by}
+use Rattle.aml_namespace.specs.Tallies.{joined, counts_in}
+use Rattle.aml_namespace.proofs.Joined.{counts_step}
 use Rattle.aml_space.proofs.counting.counts_of_kinds.Goals as goal
 
 pub loop-kind-preserved : goal.loop-kind-preserved

@@ -1,9 +1,9 @@
 use Rattle.std.proofs.Common.{◌≡◌, drop}
 use Rattle.std.specs.Prelude.{flat_map}
 use Rattle.aml_space.specs.Nodes.{known_by}
-use Rattle.aml_space.specs.Known.{outlook_in}
-use Rattle.aml_space.specs.Runs.{counts_by}
-use Rattle.aml_space.specs.Tallies.{joined, counts_in}
+use Rattle.aml_namespace.specs.Known.{outlook_in}
+use Rattle.aml_namespace.specs.Runs.{counts_by}
+use Rattle.aml_namespace.specs.Tallies.{joined, counts_in}
 use Rattle.aml_space.proofs.counting.counts_of_kinds.Given as goal
 
 abbrev pub invariant-loop-kind : goal.invariant-loop-kind

@@ -1,11 +1,11 @@
 use Rattle.std.proofs.Common.{None, cond, map, sym, ap, ◌∙◌}
-use Rattle.aml_space.specs.Predefined.{predefined}
+use Rattle.aml_namespace.specs.Predefined.{predefined}
 use Rattle.aml_space.specs.Nodes.{known_by}
-use Rattle.aml_space.specs.Known.{kinds_by, outlook_in}
-use Rattle.aml_space.specs.Namespace.{target_count}
-use Rattle.aml_space.specs.declared.tallies.Counts.TheVariants.{One}
-use Rattle.aml_space.specs.Tallies.{counts_in, own_count, is_nothing}
-use Rattle.aml_space.proofs.Joined.{targets}
+use Rattle.aml_namespace.specs.Known.{kinds_by, outlook_in}
+use Rattle.aml_namespace.specs.Namespace.{target_count}
+use Rattle.aml_namespace.specs.declared.tallies.Counts.TheVariants.{One}
+use Rattle.aml_namespace.specs.Tallies.{counts_in, own_count, is_nothing}
+use Rattle.aml_namespace.proofs.Joined.{targets}
 use Rattle.aml_space.proofs.Meaning.{declared_there, out_of_met}
 use Rattle.aml_space.proofs.counting.counts_of_target.Goals as goal
 

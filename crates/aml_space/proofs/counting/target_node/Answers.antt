@@ -1,6 +1,6 @@
 use Rattle.std.proofs.Common.{List, Some, sym, ap}
 use Rattle.aml_names.specs.declared.segments.Seg.{Seg}
-use Rattle.aml_space.specs.declared.kinds.Kind.TheVariants.{Alias}
+use Rattle.aml_namespace.specs.declared.kinds.Kind.TheVariants.{Alias}
 use Rattle.aml_space.proofs.counting.target_node.Goals as goal
 
 pub aimed_node-requires-clause-aim : goal.aimed_node-requires-clause-aim

@@ -1,9 +1,9 @@
 use Rattle.std.proofs.Common.{◌∷◌, cond, map, sym, ap, ◌∙◌}
 use Rattle.std.specs.Prelude.{option_to_list}
 use Rattle.std.specs.Option.{option_copied}
-use Rattle.aml_space.specs.Known.{kinds_by}
-use Rattle.aml_space.specs.Tallies.{joined, counts_in, own_count}
-use Rattle.aml_space.proofs.Joined.{targets_declared}
+use Rattle.aml_namespace.specs.Known.{kinds_by}
+use Rattle.aml_namespace.specs.Tallies.{joined, counts_in, own_count}
+use Rattle.aml_namespace.proofs.Joined.{targets_declared}
 use Rattle.aml_space.proofs.counting.targets_met.Goals as goal
 
 pub returns-in-Some : goal.returns-in-Some

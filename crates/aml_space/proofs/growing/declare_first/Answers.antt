@@ -1,7 +1,7 @@
 use Rattle.std.proofs.Common.{◌≡◌, Some, subst, ap, ◌∙◌}
-use Rattle.aml_space.specs.Known.{Declared, once, with_declaration}
+use Rattle.aml_namespace.specs.Known.{Declared, once, with_declaration}
 use Rattle.aml_space.specs.Nodes.{known_by, IsAim, HasDeclared, IsIndex}
-use Rattle.aml_space.proofs.Walks.{node_range}
+use Rattle.aml_children.proofs.Walks.{node_range}
 use Rattle.aml_space.proofs.Index.{put_declared}
 use Rattle.aml_space.proofs.Opening.{content_kept, kept_on, kept_opened}
 use Rattle.aml_space.proofs.Resting.{settled_grown}

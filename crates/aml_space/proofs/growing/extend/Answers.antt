@@ -1,7 +1,8 @@
 use Rattle.std.proofs.Common.{◌≡◌, ◌+◌, arith, [], Some, length, take, drop, sym, ap, ◌∙◌}
-use Rattle.aml_space.specs.Nodes.{walk, kids_of, with_path}
+use Rattle.aml_children.specs.Numbered.{walk}
+use Rattle.aml_space.specs.Nodes.{kids_of, with_path}
 use Rattle.aml_space.proofs.Paths.{Leads, path_grown}
-use Rattle.aml_space.proofs.Walks.{node_range}
+use Rattle.aml_children.proofs.Walks.{node_range}
 use Rattle.aml_space.proofs.growing.extend.Goals as goal
 use Rattle.aml_space.proofs.growing.extend.Goals.{In_ok-node}
 

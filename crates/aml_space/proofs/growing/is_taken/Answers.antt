@@ -3,8 +3,9 @@ use Rattle.std.proofs.lemmas.Bool.{ne_eqb}
 use Rattle.std.proofs.lemmas.List.{drop_more}
 use Rattle.std.specs.Option.{option_and_then}
 use Rattle.aml_names.specs.declared.segments.Seg.{Seg}
-use Rattle.aml_space.specs.Nodes.{walk, kids_of, kinds_of}
-use Rattle.aml_space.proofs.Walks.{node_range}
+use Rattle.aml_children.specs.Numbered.{walk}
+use Rattle.aml_space.specs.Nodes.{kids_of, kinds_of}
+use Rattle.aml_children.proofs.Walks.{node_range}
 use Rattle.aml_space.proofs.Levels.{led_no_further}
 use Rattle.aml_space.proofs.growing.is_taken.Goals as goal
 

@@ -3,8 +3,8 @@ use Rattle.std.proofs.lemmas.Option.{slice_get-get_or}
 use Rattle.aml_children.specs.declared.children.Child.{Child}
 use Rattle.aml_children.specs.Children.{child_in, Rise}
 use Rattle.aml_space.specs.Nodes.{kids_in, kids_of, chain, with_child}
-use Rattle.aml_space.proofs.Basics.{read_front}
-use Rattle.aml_space.proofs.Family.{family_rises}
+use Rattle.aml_children.proofs.Basics.{read_front}
+use Rattle.aml_children.proofs.Family.{family_rises}
 use Rattle.aml_space.proofs.Grow.{set_with, with_front}
 use Rattle.aml_space.proofs.growing.push_below.Goals as goal
 use Rattle.aml_space.proofs.growing.push_below.Goals.{After-index_mut-parent}

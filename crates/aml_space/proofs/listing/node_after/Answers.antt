@@ -1,6 +1,6 @@
 use Rattle.std.proofs.Common.{◌<◌, length, sym, subst}
 use Rattle.std.specs.Prelude.{IfSome}
-use Rattle.aml_space.proofs.Visiting.{first_within}
+use Rattle.aml_children.proofs.Visiting.{first_within}
 use Rattle.aml_space.proofs.listing.node_after.Goals as goal
 
 pub returns-in-None-clause-within : goal.returns-in-None-clause-within

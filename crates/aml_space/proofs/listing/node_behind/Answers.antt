@@ -1,9 +1,10 @@
 use Rattle.std.proofs.Common.{◌≡◌, ◌<◌, None, length, sym, subst, ap, ◌∙◌, arith}
 use Rattle.std.specs.Option.{option_or}
 use Rattle.aml_children.specs.Children.{behind, first_node, Rise}
-use Rattle.aml_space.specs.Nodes.{kids_of, links_of, up}
-use Rattle.aml_space.proofs.Family.{family_rises}
-use Rattle.aml_space.proofs.Visiting.{up_on}
+use Rattle.aml_space.specs.Nodes.{kids_of, links_of}
+use Rattle.aml_children.specs.Numbered.{up}
+use Rattle.aml_children.proofs.Family.{family_rises}
+use Rattle.aml_children.proofs.Visiting.{up_on}
 use Rattle.aml_space.proofs.listing.node_behind.Goals as goal
 
 pub after-requires : goal.after-requires

@@ -1,5 +1,6 @@
 use Rattle.std.proofs.Common.{◌≡◌, ◌<◌, length}
-use Rattle.aml_space.specs.Nodes.{kids_of, links_of, up}
+use Rattle.aml_space.specs.Nodes.{kids_of, links_of}
+use Rattle.aml_children.specs.Numbered.{up}
 use Rattle.aml_space.proofs.listing.node_behind.Given as goal
 
 abbrev pub invariant-levels : goal.invariant-levels

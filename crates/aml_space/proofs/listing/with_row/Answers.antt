@@ -1,8 +1,9 @@
 use Rattle.std.specs.Prelude.{IfSome}
 use Rattle.std.proofs.Common.{◌≡◌, ◌++◌, ◌<◌, ◌∷◌, [], None, length, sym, subst, ap, ◌∙◌, arith}
 use Rattle.std.specs.Option.{option_copied, option_map, option_to_list}
-use Rattle.aml_space.specs.Nodes.{kids_of, links_of, rows_of, path_of, ahead, rows_ahead, next_node}
-use Rattle.aml_space.proofs.Stands.{none_from_test}
+use Rattle.aml_space.specs.Nodes.{kids_of, links_of, rows_of, path_of, rows_ahead, next_node}
+use Rattle.aml_children.specs.Numbered.{ahead}
+use Rattle.aml_namespace.proofs.Stands.{none_from_test}
 use Rattle.aml_space.proofs.Gathered.{rows_on, nodes_on}
 use Rattle.aml_space.proofs.listing.with_row.Goals as goal
 

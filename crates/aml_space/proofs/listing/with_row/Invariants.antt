@@ -1,5 +1,6 @@
 use Rattle.std.proofs.Common.{◌≡◌, ◌<◌, ◌∷◌, [], length, IfSome}
-use Rattle.aml_space.specs.Nodes.{kids_of, links_of, ahead, rows_ahead}
+use Rattle.aml_space.specs.Nodes.{kids_of, links_of, rows_ahead}
+use Rattle.aml_children.specs.Numbered.{ahead}
 use Rattle.aml_space.proofs.listing.with_row.Given as goal
 
 abbrev pub invariant-nodes : goal.invariant-nodes

@@ -1,5 +1,6 @@
 use Rattle.std.proofs.Common.{ap, ◌∙◌}
-use Rattle.aml_space.specs.Nodes.{walk, kids_of}
+use Rattle.aml_children.specs.Numbered.{walk}
+use Rattle.aml_space.specs.Nodes.{kids_of}
 use Rattle.aml_space.proofs.Opening.{more_opened}
 use Rattle.aml_space.proofs.opened.keep_scope.Goals as goal
 

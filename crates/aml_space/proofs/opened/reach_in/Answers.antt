@@ -1,7 +1,8 @@
 use Rattle.std.proofs.Common.{◌≡◌, ◌+◌, Some, take, sym, ap, ◌∙◌, arith}
-use Rattle.aml_space.specs.Nodes.{walk, kids_of}
+use Rattle.aml_children.specs.Numbered.{walk}
+use Rattle.aml_space.specs.Nodes.{kids_of}
 use Rattle.aml_space.proofs.Levels.{led_above}
-use Rattle.aml_space.proofs.Walks.{node_range}
+use Rattle.aml_children.proofs.Walks.{node_range}
 use Rattle.aml_space.proofs.opened.reach_in.Goals as goal
 
 pub reach_above-reach-requires-clause-within : goal.reach_above-reach-requires-clause-within

@@ -1,7 +1,7 @@
 use Rattle.std.proofs.Common.{◌≡◌, ◌<◌, length, Some, get_or, take, [], sym, ap, ◌∙◌, arith}
 use Rattle.aml_children.specs.Children.{child_in}
 use Rattle.aml_space.specs.Nodes.{kids_of}
-use Rattle.aml_space.proofs.Walks.{kid_range, led_more, node_range}
+use Rattle.aml_children.proofs.Walks.{kid_range, led_more, node_range}
 use Rattle.aml_space.proofs.opened.reach_on.Goals as goal
 
 pub loop-reach-init : goal.loop-reach-init

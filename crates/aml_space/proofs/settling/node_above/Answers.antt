@@ -2,9 +2,10 @@ use Rattle.std.proofs.Common.{ℕ, Some, ◌≡◌, ◌+◌, ◌∷◌, [], leng
 use Rattle.std.proofs.lemmas.List.{take_all}
 use Rattle.std.proofs.Math.Seq.{take-append_seam}
 use Rattle.aml_names.specs.declared.segments.Seg.{Seg}
-use Rattle.aml_space.specs.Nodes.{walk, kids_of}
+use Rattle.aml_children.specs.Numbered.{walk}
+use Rattle.aml_space.specs.Nodes.{kids_of}
 use Rattle.aml_space.proofs.Levels.{parent_led, reach_past}
-use Rattle.aml_space.proofs.Walks.{node_range}
+use Rattle.aml_children.proofs.Walks.{node_range}
 use Rattle.aml_space.proofs.settling.node_above.Goals as goal
 
 pub link-parent-requires : goal.link-parent-requires

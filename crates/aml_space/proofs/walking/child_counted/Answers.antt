@@ -1,7 +1,7 @@
 use Rattle.std.proofs.Common.{sym, subst, length}
 use Rattle.aml_children.specs.Children.{Rise}
 use Rattle.aml_space.specs.Nodes.{kids_of}
-use Rattle.aml_space.proofs.Family.{family_rises}
+use Rattle.aml_children.proofs.Family.{family_rises}
 use Rattle.aml_space.proofs.walking.child_counted.Goals as goal
 
 pub find-requires : goal.find-requires

@@ -1,6 +1,6 @@
 use Rattle.std.proofs.Common.{Some, sym, ◌∙◌}
 use Rattle.aml_space.specs.Nodes.{kids_of}
-use Rattle.aml_space.proofs.Walks.{kid_range, led_step}
+use Rattle.aml_children.proofs.Walks.{kid_range, led_step}
 use Rattle.aml_space.proofs.walking.node_from.Goals as goal
 
 pub loop-seg-preserved : goal.loop-seg-preserved

@@ -1,5 +1,6 @@
 use Rattle.std.proofs.Common.{◌≡◌, ◌<◌, length, drop}
-use Rattle.aml_space.specs.Nodes.{walk, kids_of}
+use Rattle.aml_children.specs.Numbered.{walk}
+use Rattle.aml_space.specs.Nodes.{kids_of}
 use Rattle.aml_space.proofs.walking.node_from.Given as goal
 
 abbrev pub invariant-loop-seg : goal.invariant-loop-seg

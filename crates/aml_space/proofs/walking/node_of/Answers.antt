@@ -1,7 +1,8 @@
 use Rattle.std.proofs.Common.{sym, ap, ◌∙◌}
 use Rattle.std.specs.Option.{option_and_then}
-use Rattle.aml_space.specs.Nodes.{walk, kids_of}
-use Rattle.aml_space.proofs.Walks.{walk_append, walk_none}
+use Rattle.aml_children.specs.Numbered.{walk}
+use Rattle.aml_space.specs.Nodes.{kids_of}
+use Rattle.aml_children.proofs.Walks.{walk_append, walk_none}
 use Rattle.aml_space.proofs.walking.node_of.Goals as goal
 
 pub returns-in_err-above-clause-node : goal.returns-in_err-above-clause-node

@@ -4,7 +4,7 @@ use Rattle.aml_text.proofs.Common.{ap, ◌∙◌, append_assoc, unwrap_or, appen
 use Rattle.aml_text.proofs.Common.{prints_then}
 use Rattle.aml_text.proofs.Common.{line, row_line, namespace_text}
 use Rattle.std.specs.FinMap as map
-use Rattle.aml_space.specs.Known.{Declared}
+use Rattle.aml_namespace.specs.Known.{Declared}
 use Rattle.aml_text.proofs.rows.print_rows.Goals as goal
 
 first_split : {X : Type 0} (xs : List X) (x : X) → slice_get xs 0 ≡ Some x → xs ≡ x ∷ drop 1 xs

@@ -1,6 +1,6 @@
 use Rattle.aml_text.proofs.Common.{◌≡◌, List, ◌++◌, flat_map, length, Seg, Prints, row_line}
 use Rattle.std.specs.FinMap as map
-use Rattle.aml_space.specs.Known.{Declared}
+use Rattle.aml_namespace.specs.Known.{Declared}
 use Rattle.aml_text.proofs.rows.print_rows.Given as goal
 
 abbrev pub invariant-rows : goal.invariant-rows

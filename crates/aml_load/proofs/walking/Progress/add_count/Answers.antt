@@ -1,6 +1,6 @@
 use Rattle.std.proofs.Common.{◌++◌, ◌∷◌, [], refl, subst}
-use Rattle.aml_space.specs.Namespace.{external}
-use Rattle.aml_space.specs.Known.{StandsFor}
+use Rattle.aml_namespace.specs.Namespace.{external}
+use Rattle.aml_namespace.specs.Known.{StandsFor}
 use Rattle.aml_load.specs.Loading.{plus}
 use Rattle.aml_load.proofs.Holding.{plain_held}
 use Rattle.aml_load.proofs.walking.Progress.add_count.Goals as goal

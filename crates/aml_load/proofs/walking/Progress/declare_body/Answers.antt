@@ -1,6 +1,6 @@
 use Rattle.std.proofs.Common.{Some, ap, ◌∙◌, ◌++◌, ◌∷◌, [], ◌%◌, refl, rules}
-use Rattle.aml_space.specs.Namespace.{Body}
-use Rattle.aml_space.specs.declared.kinds.Kind.TheVariants as kinds
+use Rattle.aml_namespace.specs.Namespace.{Body}
+use Rattle.aml_namespace.specs.declared.kinds.Kind.TheVariants as kinds
 use Rattle.aml_load.specs.Loading.{plus, method_entry}
 use Rattle.aml_load.specs.Walking.{at_site}
 use Rattle.aml_load.proofs.Holding.{method_held, entry_free, entry_taken}

@@ -1,6 +1,6 @@
 use Rattle.std.proofs.Common.{[]}
-use Rattle.aml_space.specs.Near.{with_scopes}
-use Rattle.aml_space.proofs.Stands.{stands_inside}
+use Rattle.aml_namespace.specs.Known.{with_scopes}
+use Rattle.aml_namespace.proofs.Stands.{stands_inside}
 use Rattle.aml_load.proofs.Ran.{step_read, step_unread}
 use Rattle.aml_load.proofs.walking.Progress.read_head.Goals as goal
 

@@ -1,8 +1,9 @@
 use Rattle.std.proofs.Common.{◌≡◌, ◌+◌, ◌-◌, ℕ, Some, take, sym, ap, ◌∙◌, arith}
 use Rattle.aml_names.specs.declared.segments.Seg.{Seg}
-use Rattle.aml_space.specs.Nodes.{walk, kids_of}
+use Rattle.aml_children.specs.Numbered.{walk}
+use Rattle.aml_space.specs.Nodes.{kids_of}
 use Rattle.aml_space.proofs.Levels.{led_above}
-use Rattle.aml_space.proofs.Walks.{node_range}
+use Rattle.aml_children.proofs.Walks.{node_range}
 use Rattle.aml_space.proofs.scopes.Scope.above.Goals as goal
 
 pub link-parent-requires : goal.link-parent-requires

@@ -1,9 +1,10 @@
 use Rattle.std.proofs.Common.{◌≡◌, ◌-◌, take, subst, arith}
 use Rattle.std.proofs.lemmas.Bool.{OnFalse_at}
-use Rattle.aml_space.specs.Candidates.{names_of, IsNext}
+use Rattle.aml_space.specs.Candidates.{names_of}
+use Rattle.aml_namespace.specs.Searching.{IsNext}
 use Rattle.aml_space.proofs.Asked.{silent_at}
 use Rattle.aml_space.proofs.Levels.{next_up}
-use Rattle.aml_space.proofs.Walks.{node_range}
+use Rattle.aml_children.proofs.Walks.{node_range}
 use Rattle.aml_space.proofs.scopes.Scope.climb.Goals as goal
 
 pub has_to_be_asked-requires-clause-within : goal.has_to_be_asked-requires-clause-within

@@ -1,9 +1,9 @@
 use Rattle.std.proofs.Common.{Some, cond, take, ◌++◌, ap, sym, ◌∙◌}
-use Rattle.aml_space.specs.Namespace.{count_at}
-use Rattle.aml_space.specs.Known.{namespace_in}
+use Rattle.aml_namespace.specs.Namespace.{count_at}
+use Rattle.aml_namespace.specs.Known.{namespace_in}
 use Rattle.aml_space.specs.Nodes.{known_by}
 use Rattle.aml_space.proofs.Meaning.{count_of_met}
-use Rattle.aml_space.proofs.Walks.{node_within}
+use Rattle.aml_children.proofs.Walks.{node_within}
 use Rattle.aml_space.proofs.scopes.Scope.count.Goals as goal
 
 pub count_met-requires-clause-within : goal.count_met-requires-clause-within

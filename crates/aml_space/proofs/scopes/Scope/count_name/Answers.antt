@@ -3,7 +3,8 @@ use Rattle.std.specs.Option.{option_map, option_to_list}
 use Rattle.std.proofs.Common.{◌≡◌, [], ◌∷◌, ◌++◌, List, length, take, cond, sym, ap, subst, ◌∙◌}
 use Rattle.aml_names.specs.declared.segments.Seg.{Seg}
 use Rattle.aml_names.specs.Searching.{upward, candidates}
-use Rattle.aml_space.specs.Candidates.{outlook_at, agreed_at}
+use Rattle.aml_space.specs.Candidates.{outlook_at}
+use Rattle.aml_namespace.specs.Searching.{agreed_at}
 use Rattle.aml_space.proofs.scopes.Scope.count_name.Goals as goal
 
 pub returns-in-Some : goal.returns-in-Some
@@ -16,5 +17,5 @@ returns-in-Some c =
     let one : candidates scope name ≡ (take c.in-Some.front scope ++ name.segs) ∷ [] =
     λ i. cond (single i) (upward (length scope) scope name.segs) (option_to_list (led i)) in
     let same = ap (λ (segs : List Seg). (take c.in-Some.front scope ++ segs) ∷ []) c.as_slice-in-Some.ensures in
-    subst (λ paths. IfOk c.count_placed.result (λ count. count ≡ agreed_at (outlook_at s) c.args.unknown_zero c.args.locals.now paths)) (same ∙ sym one)
+    subst (λ paths. IfOk c.count_placed.result (λ count. count ≡ agreed_at (outlook_at s) c.args.unknown_zero c.args.locals.now.paths paths)) (same ∙ sym one)
     c.count_placed.ensures

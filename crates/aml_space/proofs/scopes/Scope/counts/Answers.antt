@@ -8,14 +8,16 @@ use Rattle.aml_names.specs.Paths.{PathSet}
 use Rattle.aml_names.specs.Searching.{upward, nearest}
 use Rattle.aml_space.specs.declared.scopes.Scope.{Scope}
 use Rattle.aml_space.specs.Nodes.{known_by}
-use Rattle.aml_space.specs.Runs.{counts_met, counts_of}
-use Rattle.aml_space.specs.Tallies.{joined, counts_in}
-use Rattle.aml_space.specs.Candidates.{names_of, outlook_at, IsNext}
+use Rattle.aml_namespace.specs.Runs.{counts_met, counts_of}
+use Rattle.aml_namespace.specs.Tallies.{joined, counts_in}
+use Rattle.aml_space.specs.Candidates.{names_of, outlook_at}
+use Rattle.aml_namespace.specs.Searching.{IsNext}
 use Rattle.aml_space.proofs.Asked.{none_known_below}
 use Rattle.aml_space.proofs.Levels.{next_sooner}
-use Rattle.aml_space.proofs.Nearest.{near_within, passed_by, local_there, other_there, no_local, some_local, less_above}
-use Rattle.aml_space.proofs.Nearest.{less_here}
-use Rattle.aml_space.proofs.Meeting.{first_in, at_local, at_sure, at_root, on_from, skip_met}
+use Rattle.aml_namespace.proofs.Nearest.{near_within, passed_by, local_there, other_there, no_local, some_local}
+use Rattle.aml_namespace.proofs.Nearest.{less_above}
+use Rattle.aml_namespace.proofs.Nearest.{less_here}
+use Rattle.aml_namespace.proofs.Meeting.{first_in, at_local, at_sure, at_root, on_from, skip_met}
 use Rattle.aml_space.proofs.scopes.Scope.counts.Goals as goal
 use Rattle.aml_space.proofs.scopes.Scope.counts.Goals.{After-joined-counts}
 
@@ -33,19 +35,19 @@ none_here : (c : After-joined-counts) → IfSome c.in_ok-nearest.nearest (λ n. 
 none_here c = no_local c.in_ok-nearest.nearest c.levels.level.depth (sym (c.is_some.ensures ∙ ap is_some c.nearer.ensures) ∙ c.if-is_some.false)
 
 other : (c : After-joined-counts)
-    → set.contains c.args.locals.now (take c.levels.level.depth c.args.self.now.path ++ c.args.segment.now) ≡ false
-other c = other_there c.args.locals.now c.args.self.now.path c.args.segment.now c.requires.one c.in_ok-nearest.nearest c.in_ok-nearest.ensures
+    → set.contains c.args.locals.now.paths (take c.levels.level.depth c.args.self.now.path ++ c.args.segment.now) ≡ false
+other c = other_there c.args.locals.now.paths c.args.self.now.path c.args.segment.now c.requires.one c.in_ok-nearest.nearest c.in_ok-nearest.ensures
     c.levels.level.depth c.levels.invariant.1.next.level.within (none_here c)
 
 -- what is left to meet, from the level on
 same_here : (c : After-joined-counts)
-    → counts_in (counts_met (outlook_at c.args.self.now) c.args.locals.now (upward (length c.args.self.now.path) c.args.self.now.path c.args.segment.now))
+    → counts_in (counts_met (outlook_at c.args.self.now) c.args.locals.now.paths (upward (length c.args.self.now.path) c.args.self.now.path c.args.segment.now))
     ≡ joined c.levels.counts
-    (counts_in (counts_met (outlook_at c.args.self.now) c.args.locals.now (upward c.levels.level.depth c.args.self.now.path c.args.segment.now)))
+    (counts_in (counts_met (outlook_at c.args.self.now) c.args.locals.now.paths (upward c.levels.level.depth c.args.self.now.path c.args.segment.now)))
 same_here c =
     let inv = c.levels.invariant.1 in
     inv.same ∙ ap (λ ns. joined c.levels.counts (counts_in ns))
-    (further c.args.self.now c.args.locals.now c.args.segment.now c.requires.one c.in_ok-nearest.nearest c.in_ok-nearest.ensures
+    (further c.args.self.now c.args.locals.now.paths c.args.segment.now c.requires.one c.in_ok-nearest.nearest c.in_ok-nearest.ensures
     c.levels.invariant.0 c.levels.level.depth inv.within inv.next.next (less_here c.in_ok-nearest.nearest c.levels.level.depth (none_here c)))
 
 so_far : (c : After-joined-counts) → c.joined-counts.result
@@ -58,7 +60,7 @@ levels-init c =
       length s.path,
       record {
         within = omega arith;
-        above = near_within c.args.locals.now s.path c.args.segment.now c.requires.one c.in_ok-nearest.nearest c.in_ok-nearest.ensures;
+        above = near_within c.args.locals.now.paths s.path c.args.segment.now c.requires.one c.in_ok-nearest.nearest c.in_ok-nearest.ensures;
         next = c.first_asked-level.ensures;
         same = refl;
       },
@@ -72,25 +74,25 @@ returns-then-is_some c =
     let near = c.in_ok-nearest.nearest in
     let there = some_local near c.levels.level.depth (sym (c.is_some.ensures ∙ ap is_some c.nearer.ensures) ∙ c.if-is_some.true) in
     let within : there.0 ≤ from = subst (λ o. IfSome o (λ n. n ≤ from)) there.1 inv.above in
-    c.joined.ensures ∙ sym (inv.same ∙ ap (λ ns. joined c.levels.counts (counts_in ns)) (further s c.args.locals.now c.args.segment.now
+    c.joined.ensures ∙ sym (inv.same ∙ ap (λ ns. joined c.levels.counts (counts_in ns)) (further s c.args.locals.now.paths c.args.segment.now
     c.requires.one near c.in_ok-nearest.ensures from there.0
     inv.within (next_sooner (names_of s) s.path from c.levels.level.depth there.0 there.2 within inv.next.next)
     (subst (λ o. IfSome o (λ n. n ≤ there.0)) (sym there.1) (omega arith)))
-    ∙ at_local (outlook_at s) c.args.locals.now s.path c.args.segment.now c.levels.counts there.0
-    (local_there c.args.locals.now s.path c.args.segment.now c.requires.one near c.in_ok-nearest.ensures there.0 there.1))
+    ∙ at_local (outlook_at s) c.args.locals.now.paths s.path c.args.segment.now c.levels.counts there.0
+    (local_there c.args.locals.now.paths s.path c.args.segment.now c.requires.one near c.in_ok-nearest.ensures there.0 there.1))
 
 pub returns-then-level-eq0 : goal.returns-then-level-eq0
 returns-then-level-eq0 c =
     let s = c.args.self.now in
     let b = (goal.at.returns-then-level-eq0 c).After-joined-counts in
-    so_far b ∙ sym (same_here b ∙ at_root (outlook_at s) c.args.locals.now s.path c.args.segment.now c.levels.counts c.levels.level.depth
+    so_far b ∙ sym (same_here b ∙ at_root (outlook_at s) c.args.locals.now.paths s.path c.args.segment.now c.levels.counts c.levels.level.depth
     c.if-level-eq0.true (other b))
 
 pub returns-then-sure : goal.returns-then-sure
 returns-then-sure c =
     let s = c.args.self.now in
     let b = (goal.at.returns-then-sure c).After-joined-counts in
-    so_far b ∙ sym (same_here b ∙ at_sure (outlook_at s) c.args.locals.now s.path c.args.segment.now c.levels.counts c.levels.level.depth (other b)
+    so_far b ∙ sym (same_here b ∙ at_sure (outlook_at s) c.args.locals.now.paths s.path c.args.segment.now c.levels.counts c.levels.level.depth (other b)
     (sym c.counts_at-here.ensures.sure ∙ c.if-sure.true))
 
 pub levels-preserved : goal.levels-preserved
@@ -105,8 +107,8 @@ levels-preserved c =
         within = omega (arith, inv.next.level.within);
         above = less_above c.in_ok-nearest.nearest d positive (none_here b);
         next = c.asked_above-level.ensures;
-        same = same_here b ∙ on_from (outlook_at s) c.args.locals.now s.path c.args.segment.now c.levels.counts d (other b)
+        same = same_here b ∙ on_from (outlook_at s) c.args.locals.now.paths s.path c.args.segment.now c.levels.counts d (other b)
             (sym c.counts_at-here.ensures.sure ∙ c.if-sure.false) positive
-            ∙ ap (λ m. joined m (counts_in (counts_met (outlook_at s) c.args.locals.now (upward (d - 1) s.path c.args.segment.now)))) (sym (so_far b));
+            ∙ ap (λ m. joined m (counts_in (counts_met (outlook_at s) c.args.locals.now.paths (upward (d - 1) s.path c.args.segment.now)))) (sym (so_far b));
       },
     )

@@ -1,8 +1,8 @@
 use Rattle.std.proofs.Common.{◌≡◌, ℕ, ◌≤◌, length, IfSome}
 use Rattle.aml_names.specs.Searching.{upward}
 use Rattle.aml_space.specs.Candidates.{outlook_at, IsNextFrom}
-use Rattle.aml_space.specs.Runs.{counts_met}
-use Rattle.aml_space.specs.Tallies.{joined, counts_in}
+use Rattle.aml_namespace.specs.Runs.{counts_met}
+use Rattle.aml_namespace.specs.Tallies.{joined, counts_in}
 use Rattle.aml_space.proofs.scopes.Scope.counts.Given as goal
 
 abbrev pub invariant-levels : goal.invariant-levels
@@ -10,8 +10,8 @@ invariant-levels l = (from : ℕ) × record {
   within : from ≤ length l.self.path;
   above : IfSome l.nearest (λ n. n ≤ from);
   next : IsNextFrom l.self from l.level;
-  same : counts_in (counts_met (outlook_at l.self) l.locals (upward (length l.self.path) l.self.path l.segment))
-      ≡ joined l.counts (counts_in (counts_met (outlook_at l.self) l.locals (upward from l.self.path l.segment)));
+  same : counts_in (counts_met (outlook_at l.self) l.locals.paths (upward (length l.self.path) l.self.path l.segment))
+      ≡ joined l.counts (counts_in (counts_met (outlook_at l.self) l.locals.paths (upward from l.self.path l.segment)));
 }
 
 abbrev pub decreases-levels : goal.decreases-levels

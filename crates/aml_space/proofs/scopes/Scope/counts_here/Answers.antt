@@ -1,9 +1,9 @@
 use Rattle.std.proofs.Common.{take, ◌++◌, ◌∙◌}
 use Rattle.std.specs.Prelude.{flat_map}
-use Rattle.aml_space.specs.Known.{kinds_by}
-use Rattle.aml_space.specs.Runs.{counts_by}
+use Rattle.aml_namespace.specs.Known.{kinds_by}
+use Rattle.aml_namespace.specs.Runs.{counts_by}
 use Rattle.aml_space.specs.Candidates.{outlook_at}
-use Rattle.aml_space.specs.Tallies.{counts_in}
+use Rattle.aml_namespace.specs.Tallies.{counts_in}
 use Rattle.aml_space.proofs.Meaning.{declared_there}
 use Rattle.aml_space.proofs.scopes.Scope.counts_here.Goals as goal
 

@@ -3,10 +3,11 @@ use Rattle.std.specs.FinSet as set
 use Rattle.aml_names.specs.declared.segments.Seg.{Seg}
 use Rattle.aml_names.specs.Searching.{upward}
 use Rattle.aml_space.specs.declared.scopes.Scope.{Scope}
-use Rattle.aml_space.specs.Candidates.{names_of, IsNext}
-use Rattle.aml_space.specs.Namespace.{first_given}
+use Rattle.aml_space.specs.Candidates.{names_of}
+use Rattle.aml_namespace.specs.Searching.{IsNext}
+use Rattle.aml_namespace.specs.Namespace.{first_given}
 use Rattle.aml_space.proofs.Asked.{none_given_below}
-use Rattle.aml_space.proofs.Given.{here_given, above_given, root_given, skip_given}
+use Rattle.aml_namespace.proofs.Given.{here_given, above_given, root_given, skip_given}
 use Rattle.aml_space.proofs.Index.{part_met}
 use Rattle.aml_space.proofs.scopes.Scope.given.Goals as goal
 use Rattle.aml_space.proofs.scopes.Scope.given.Goals.{After-given_at, In_default}

@@ -1,6 +1,6 @@
 use Rattle.std.proofs.Common.{◌≡◌, ℕ, ◌≤◌, length}
 use Rattle.aml_names.specs.Searching.{upward}
-use Rattle.aml_space.specs.Namespace.{first_given}
+use Rattle.aml_namespace.specs.Namespace.{first_given}
 use Rattle.aml_space.specs.Candidates.{names_of, IsNextFrom}
 use Rattle.aml_space.proofs.scopes.Scope.given.Given as goal
 

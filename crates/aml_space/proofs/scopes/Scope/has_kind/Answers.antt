@@ -1,7 +1,7 @@
 use Rattle.std.proofs.Common.{take, ◌++◌, is_some, ap, ◌∙◌}
-use Rattle.aml_space.proofs.Basics.{copied_some}
+use Rattle.aml_children.proofs.Basics.{copied_some}
 use Rattle.aml_space.proofs.Meaning.{kind_of_met}
-use Rattle.aml_space.proofs.Walks.{node_within}
+use Rattle.aml_children.proofs.Walks.{node_within}
 use Rattle.aml_space.proofs.scopes.Scope.has_kind.Goals as goal
 
 pub kind_met-requires : goal.kind_met-requires

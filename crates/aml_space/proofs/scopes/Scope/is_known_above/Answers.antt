@@ -4,10 +4,11 @@ use Rattle.std.specs.FinSet as set
 use Rattle.aml_names.specs.declared.segments.Seg.{Seg}
 use Rattle.aml_names.specs.Searching.{upward}
 use Rattle.aml_space.specs.declared.scopes.Scope.{Scope}
-use Rattle.aml_space.specs.Runs.{is_known}
-use Rattle.aml_space.specs.Candidates.{names_of, above, IsNext}
+use Rattle.aml_namespace.specs.Runs.{is_known}
+use Rattle.aml_space.specs.Candidates.{names_of}
+use Rattle.aml_namespace.specs.Searching.{above, IsNext}
 use Rattle.aml_space.proofs.Asked.{none_known_below}
-use Rattle.aml_space.proofs.Meeting.{known_here, known_on, known_root, skip_known}
+use Rattle.aml_namespace.proofs.Meeting.{known_here, known_on, known_root, skip_known}
 use Rattle.aml_space.proofs.scopes.Scope.is_known_above.Goals as goal
 use Rattle.aml_space.proofs.scopes.Scope.is_known_above.Goals.{After-is_known_at}
 

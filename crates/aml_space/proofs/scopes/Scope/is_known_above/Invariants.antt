@@ -1,8 +1,9 @@
 use Rattle.std.proofs.Common.{◌≡◌, ℕ, ◌≤◌, length}
 use Rattle.std.specs.List.{find}
 use Rattle.aml_names.specs.Searching.{upward}
-use Rattle.aml_space.specs.Candidates.{names_of, above, IsNextFrom}
-use Rattle.aml_space.specs.Runs.{is_known}
+use Rattle.aml_space.specs.Candidates.{names_of, IsNextFrom}
+use Rattle.aml_namespace.specs.Searching.{above}
+use Rattle.aml_namespace.specs.Runs.{is_known}
 use Rattle.aml_space.proofs.scopes.Scope.is_known_above.Given as goal
 
 abbrev pub invariant-levels : goal.invariant-levels

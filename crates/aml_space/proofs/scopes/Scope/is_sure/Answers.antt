@@ -1,7 +1,7 @@
 use Rattle.std.proofs.Common.{take, ◌++◌, ◌∙◌}
-use Rattle.aml_space.specs.Known.{sure_by}
+use Rattle.aml_namespace.specs.Known.{sure_by}
 use Rattle.aml_space.proofs.Meaning.{declared_there}
-use Rattle.aml_space.proofs.Walks.{node_within}
+use Rattle.aml_children.proofs.Walks.{node_within}
 use Rattle.aml_space.proofs.scopes.Scope.is_sure.Goals as goal
 
 pub sure_met-requires : goal.sure_met-requires

@@ -1,6 +1,6 @@
 use Rattle.std.proofs.Common.{take, [], ◌∙◌}
 use Rattle.aml_space.proofs.Levels.{candidate_node}
-use Rattle.aml_space.proofs.Walks.{kid_within, node_range}
+use Rattle.aml_children.proofs.Walks.{kid_within, node_range}
 use Rattle.aml_space.proofs.scopes.Scope.node_at.Goals as goal
 
 pub child-requires-clause-within : goal.child-requires-clause-within

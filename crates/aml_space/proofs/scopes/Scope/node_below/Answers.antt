@@ -1,7 +1,8 @@
 use Rattle.std.proofs.Common.{◌≡◌, Some, take, sym, ap, ◌∙◌}
 use Rattle.std.specs.Option.{option_and_then}
-use Rattle.aml_space.specs.Nodes.{walk, kids_of}
-use Rattle.aml_space.proofs.Walks.{node_range, walk_append, walk_none}
+use Rattle.aml_children.specs.Numbered.{walk}
+use Rattle.aml_space.specs.Nodes.{kids_of}
+use Rattle.aml_children.proofs.Walks.{node_range, walk_append, walk_none}
 use Rattle.aml_space.proofs.scopes.Scope.node_below.Goals as goal
 use Rattle.aml_space.proofs.scopes.Scope.node_below.Goals.{In_ok-front}
 

@@ -10,14 +10,15 @@ use Rattle.aml_names.specs.Paths.{PathSet}
 use Rattle.aml_names.specs.Searching.{upward, nearest}
 use Rattle.aml_space.specs.declared.scopes.Candidate.{Candidate}
 use Rattle.aml_space.specs.declared.scopes.Scope.{Scope}
-use Rattle.aml_space.specs.Namespace.{kind_at, first_of, decides, is_outside}
+use Rattle.aml_namespace.specs.Namespace.{kind_at, first_of, decides, is_outside}
 use Rattle.aml_space.specs.Nodes.{outs_of}
-use Rattle.aml_space.specs.Candidates.{path_at, names_of, IsNext, IsCandidate}
+use Rattle.aml_space.specs.Candidates.{path_at, names_of, IsCandidate}
+use Rattle.aml_namespace.specs.Searching.{IsNext}
 use Rattle.aml_space.proofs.Asked.{none_met_below}
 use Rattle.aml_space.proofs.Levels.{next_sooner}
-use Rattle.aml_space.proofs.Nearest.{near_within, passed_by, local_met, local_there, other_there, none_local}
-use Rattle.aml_space.proofs.Nearest.{less_above, less_here}
-use Rattle.aml_space.proofs.Upward.{rest_of, hit, step, skip}
+use Rattle.aml_namespace.proofs.Nearest.{near_within, passed_by, local_met, local_there, other_there, none_local}
+use Rattle.aml_namespace.proofs.Nearest.{less_above, less_here}
+use Rattle.aml_namespace.proofs.Upward.{rest_of, hit, step, skip}
 use Rattle.aml_space.proofs.Meaning.{meant_path, outside_path, outside_depth, outside_still, ended}
 use Rattle.aml_space.proofs.scopes.Scope.search.Goals as goal
 use Rattle.aml_space.proofs.scopes.Scope.search.Goals.{After-has_kind}
@@ -39,18 +40,18 @@ none_here : (c : After-has_kind) → IfSome c.in_ok-nearest.nearest (λ n. n < c
 none_here c = none_local c.in_ok-nearest.nearest c.levels.level.depth c.nearer.result c.nearer.ensures c.in_default.not-Some
 
 other : (c : After-has_kind)
-    → set.contains c.args.locals.now (take c.levels.level.depth c.args.self.now.path ++ c.args.segment.now) ≡ false
-other c = other_there c.args.locals.now c.args.self.now.path c.args.segment.now c.requires.one c.in_ok-nearest.nearest c.in_ok-nearest.ensures
+    → set.contains c.args.locals.now.paths (take c.levels.level.depth c.args.self.now.path ++ c.args.segment.now) ≡ false
+other c = other_there c.args.locals.now.paths c.args.self.now.path c.args.segment.now c.requires.one c.in_ok-nearest.nearest c.in_ok-nearest.ensures
     c.levels.level.depth c.levels.invariant.1.next.level.within (none_here c)
 
 -- what is left to find, from the level on
 same_here : (c : After-has_kind)
-    → first_of (names_of c.args.self.now) c.args.locals.now (upward (length c.args.self.now.path) c.args.self.now.path c.args.segment.now)
-    ≡ rest_of (names_of c.args.self.now) c.args.locals.now c.args.self.now.path c.args.segment.now (depth_of c.levels.outside)
+    → first_of (names_of c.args.self.now) c.args.locals.now.paths (upward (length c.args.self.now.path) c.args.self.now.path c.args.segment.now)
+    ≡ rest_of (names_of c.args.self.now) c.args.locals.now.paths c.args.self.now.path c.args.segment.now (depth_of c.levels.outside)
     (upward c.levels.level.depth c.args.self.now.path c.args.segment.now)
 same_here c =
     let inv = c.levels.invariant.1 in
-    inv.same ∙ further c.args.self.now c.args.locals.now c.args.segment.now c.requires.one c.in_ok-nearest.nearest c.in_ok-nearest.ensures
+    inv.same ∙ further c.args.self.now c.args.locals.now.paths c.args.segment.now c.requires.one c.in_ok-nearest.nearest c.in_ok-nearest.ensures
     (depth_of c.levels.outside) c.levels.invariant.0 c.levels.level.depth inv.within inv.next.next
     (less_here c.in_ok-nearest.nearest c.levels.level.depth (none_here c))
 
@@ -59,12 +60,12 @@ abbrev here : After-has_kind → Candidate
 here c = record { depth = c.levels.level.depth; node = c.node_at.result; local = false }
 
 is_here : (c : After-has_kind)
-    → IsCandidate c.args.self.now.nodes.now c.args.locals.now c.args.self.now.path c.args.segment.now (here c)
+    → IsCandidate c.args.self.now.nodes.now c.args.locals.now.paths c.args.self.now.path c.args.segment.now (here c)
 is_here c = record { within = c.levels.invariant.1.next.level.within; node = λ same. c.node_at.ensures.node; local = sym (other c) }
 
 meant : (c : After-has_kind)
-    → c.has_kind.result ≡ decides (names_of c.args.self.now) c.args.locals.now (take c.levels.level.depth c.args.self.now.path ++ c.args.segment.now)
-meant c = c.has_kind.ensures ∙ meant_path c.args.self.now.nodes.now c.args.locals.now c.args.self.now.path c.args.segment.now
+    → c.has_kind.result ≡ decides (names_of c.args.self.now) c.args.locals.now.paths (take c.levels.level.depth c.args.self.now.path ++ c.args.segment.now)
+meant c = c.has_kind.ensures ∙ meant_path c.args.self.now.nodes.now c.args.locals.now.paths c.args.self.now.path c.args.segment.now
     c.requires.scope.index.shape (here c) (is_here c) refl
 
 -- the first that an External names, up to here
@@ -73,14 +74,14 @@ first_here : (c : After-has_kind) (o : Option Candidate)
     → o ≡ option_or c.levels.outside
     (cond (is_outside (names_of c.args.self.now) (take c.levels.level.depth c.args.self.now.path ++ c.args.segment.now)) (Some (here c)) None)
 first_here c o is = is ∙ ap (λ b. option_or c.levels.outside (cond b (Some (here c)) None))
-    (outside_path c.args.self.now.nodes.now c.args.locals.now c.args.self.now.path c.args.segment.now c.requires.scope.index.shape (here c)
+    (outside_path c.args.self.now.nodes.now c.args.locals.now.paths c.args.self.now.path c.args.segment.now c.requires.scope.index.shape (here c)
     (is_here c) refl)
 
 outside_here : (c : After-has_kind) (o : Option Candidate)
     → o ≡ option_or c.levels.outside (cond (is_some (option_and_then (outs_of c.args.self.now.nodes.now) c.node_at.result)) (Some (here c)) None)
-    → IfSome o (IsCandidate c.args.self.now.nodes.now c.args.locals.now c.args.self.now.path c.args.segment.now)
+    → IfSome o (IsCandidate c.args.self.now.nodes.now c.args.locals.now.paths c.args.self.now.path c.args.segment.now)
 outside_here c o is =
-    let candidate = IsCandidate c.args.self.now.nodes.now c.args.locals.now c.args.self.now.path c.args.segment.now in
+    let candidate = IsCandidate c.args.self.now.nodes.now c.args.locals.now.paths c.args.self.now.path c.args.segment.now in
     subst (λ o. IfSome o candidate) (sym is) (outside_still candidate c.levels.outside _ (here c) c.levels.invariant.1.outside (is_here c))
 
 pub levels-init : goal.levels-init
@@ -89,7 +90,7 @@ levels-init c =
       length s.path,
       record {
         within = omega arith;
-        above = near_within c.args.locals.now s.path c.args.segment.now c.requires.one c.in_ok-nearest.nearest c.in_ok-nearest.ensures;
+        above = near_within c.args.locals.now.paths s.path c.args.segment.now c.requires.one c.in_ok-nearest.nearest c.in_ok-nearest.ensures;
         next = c.first_asked-level.ensures;
         outside = tt;
         same = refl;
@@ -99,7 +100,7 @@ levels-init c =
 pub returns-in-Some-clause-found : goal.returns-in-Some-clause-found
 returns-in-Some-clause-found c =
     let s = c.args.self.now in
-    let locals = c.args.locals.now in
+    let locals = c.args.locals.now.paths in
     let from = c.levels.invariant.0 in
     let inv = c.levels.invariant.1 in
     let near = c.in_ok-nearest.nearest in
@@ -120,16 +121,16 @@ returns-in-Some-clause-met c =
     let met = local_met near c.levels.level.depth n (sym c.nearer.ensures ∙ c.in-Some.is) in
     record {
       within = subst (λ o. IfSome o (λ m. m ≤ length s.path)) met.0
-          (near_within c.args.locals.now s.path c.args.segment.now c.requires.one near c.in_ok-nearest.ensures);
+          (near_within c.args.locals.now.paths s.path c.args.segment.now c.requires.one near c.in_ok-nearest.ensures);
       node = λ same. absurd (Rattle.std.proofs.lemmas.Bool.false≢true (sym same));
-      local = sym (local_there c.args.locals.now s.path c.args.segment.now c.requires.one near c.in_ok-nearest.ensures n met.0);
+      local = sym (local_there c.args.locals.now.paths s.path c.args.segment.now c.requires.one near c.in_ok-nearest.ensures n met.0);
     }
 
 pub returns-then-has_kind-clause-found : goal.returns-then-has_kind-clause-found
 returns-then-has_kind-clause-found c =
     let s = c.args.self.now in
     let b = (goal.at.returns-then-has_kind-clause-found c).After-has_kind in
-    sym (same_here b ∙ hit (names_of s) c.args.locals.now s.path c.args.segment.now c.levels.level.depth _ _ refl (sym (meant b) ∙ c.if-has_kind.true))
+    sym (same_here b ∙ hit (names_of s) c.args.locals.now.paths s.path c.args.segment.now c.levels.level.depth _ _ refl (sym (meant b) ∙ c.if-has_kind.true))
 
 pub returns-then-has_kind-clause-met : goal.returns-then-has_kind-clause-met
 returns-then-has_kind-clause-met c = is_here (goal.at.returns-then-has_kind-clause-met c).After-has_kind
@@ -139,7 +140,7 @@ returns-then-level-eq0-clause-found c =
     let s = c.args.self.now in
     let b = (goal.at.returns-then-level-eq0-clause-found c).After-has_kind in
     ap (option_map (path_at s.path c.args.segment.now)) (first_here b _ c.first_outside-outside.ensures)
-    ∙ sym (same_here b ∙ ended (names_of s) c.args.locals.now s.path c.args.segment.now c.levels.outside c.levels.level.depth
+    ∙ sym (same_here b ∙ ended (names_of s) c.args.locals.now.paths s.path c.args.segment.now c.levels.outside c.levels.level.depth
     c.node_at.result false c.if-level-eq0.true (sym (meant b) ∙ c.if-has_kind.false))
 
 pub returns-then-level-eq0-clause-met : goal.returns-then-level-eq0-clause-met
@@ -149,7 +150,7 @@ returns-then-level-eq0-clause-met c =
 pub levels-preserved : goal.levels-preserved
 levels-preserved c =
     let s = c.args.self.now in
-    let locals = c.args.locals.now in
+    let locals = c.args.locals.now.paths in
     let segment = c.args.segment.now in
     let d = c.levels.level.depth in
     let b = (goal.at.levels-preserved c).After-has_kind in

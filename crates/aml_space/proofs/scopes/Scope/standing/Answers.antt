@@ -1,5 +1,5 @@
 use Rattle.std.proofs.Common.{sym}
-use Rattle.aml_space.proofs.Meaning.{predefined_deep}
+use Rattle.aml_namespace.proofs.NotPredefined.{predefined_deep}
 use Rattle.aml_space.proofs.scopes.Scope.standing.Goals as goal
 
 pub returns-else-depth-eq0 : goal.returns-else-depth-eq0

@@ -1,7 +1,7 @@
 use Rattle.std.proofs.Common.{◌≡◌, false, ◌==◌, length, take, sym, arith}
 use Rattle.std.proofs.lemmas.Bool.{ne_eqb}
 use Rattle.std.proofs.lemmas.List.{length-take}
-use Rattle.aml_space.proofs.Meaning.{predefined_parts}
+use Rattle.aml_namespace.proofs.NotPredefined.{predefined_parts}
 use Rattle.aml_space.proofs.scopes.Scope.standing_below.Goals as goal
 
 pub returns : goal.returns

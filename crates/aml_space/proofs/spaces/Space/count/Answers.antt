@@ -1,8 +1,8 @@
 use Rattle.std.proofs.Common.{ap, ◌∙◌}
-use Rattle.aml_space.specs.Namespace.{count_at}
-use Rattle.aml_space.specs.Known.{namespace_in}
+use Rattle.aml_namespace.specs.Namespace.{count_at}
+use Rattle.aml_namespace.specs.Known.{namespace_in}
 use Rattle.aml_space.specs.Nodes.{known_by}
-use Rattle.aml_space.proofs.Stands.{count_listed}
+use Rattle.aml_namespace.proofs.Stands.{count_listed}
 use Rattle.aml_space.proofs.spaces.Space.count.Goals as goal
 
 pub returns-clause-known : goal.returns-clause-known

@@ -1,5 +1,5 @@
 use Rattle.std.proofs.Common.{refl, ap, ◌∙◌}
-use Rattle.aml_space.specs.Known.{namespace_in}
+use Rattle.aml_namespace.specs.Known.{namespace_in}
 use Rattle.aml_space.proofs.Index.{kind_met}
 use Rattle.aml_space.proofs.spaces.Space.declared.Goals as goal
 

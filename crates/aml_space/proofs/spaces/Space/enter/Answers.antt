@@ -1,8 +1,9 @@
 use Rattle.std.proofs.Common.{length, sym, ap, subst, ◌∙◌}
 use Rattle.std.specs.FinMap as map
 use Rattle.aml_space.specs.Candidates.{AreSettled}
-use Rattle.aml_space.specs.Known.{Known}
-use Rattle.aml_space.specs.Nodes.{walk, kids_of}
+use Rattle.aml_namespace.specs.Known.{Known}
+use Rattle.aml_children.specs.Numbered.{walk}
+use Rattle.aml_space.specs.Nodes.{kids_of}
 use Rattle.aml_space.specs.Opened.{AreOpened}
 use Rattle.aml_space.proofs.Opening.{kept_opened, more_opened}
 use Rattle.aml_space.proofs.Resting.{settled_grown}

@@ -1,6 +1,6 @@
 use Rattle.std.specs.FinSet as set
 use Rattle.aml_space.specs.Near.{path_of}
-use Rattle.aml_space.proofs.Stands.{if_found}
+use Rattle.aml_namespace.proofs.Stands.{if_found}
 use Rattle.aml_space.proofs.spaces.Space.find_scoped.Goals as goal
 
 pub returns-clause-listed : goal.returns-clause-listed

@@ -1,12 +1,12 @@
 use Rattle.std.proofs.Common.{◌≡◌, length, ◌++◌, ◌∷◌, [], sym, subst, ap, ◌∙◌}
 use Rattle.std.specs.FinMap as map
-use Rattle.aml_space.specs.Namespace.{given as said}
-use Rattle.aml_space.specs.Known.{Known, StandsFor, with_given}
-use Rattle.aml_space.specs.Near.{with_scopes}
+use Rattle.aml_namespace.specs.Namespace.{given as said}
+use Rattle.aml_namespace.specs.Known.{Known, StandsFor, with_given}
+use Rattle.aml_namespace.specs.Known.{with_scopes}
 use Rattle.aml_space.specs.Nodes.{known_by, IsIndex}
 use Rattle.aml_space.specs.Opened.{known_in, scopes_of}
 use Rattle.aml_space.proofs.Opening.{kept_opened, kept_on, content_kept}
-use Rattle.aml_space.proofs.Stands.{stands_given}
+use Rattle.aml_namespace.proofs.Stands.{stands_given}
 use Rattle.aml_space.proofs.Index.{put_given}
 use Rattle.aml_space.proofs.Resting.{said_given, settled_kept}
 use Rattle.aml_space.proofs.spaces.Space.given.Goals as goal

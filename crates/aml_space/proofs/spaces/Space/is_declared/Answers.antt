@@ -1,7 +1,7 @@
 use Rattle.std.proofs.Common.{is_some, ap, ◌∙◌}
 use Rattle.std.specs.FinMap as map
-use Rattle.aml_space.proofs.Basics.{some_map, copied_some}
-use Rattle.aml_space.proofs.Stands.{declared_listed}
+use Rattle.aml_children.proofs.Basics.{some_map, copied_some}
+use Rattle.aml_namespace.proofs.Stands.{declared_listed}
 use Rattle.aml_space.proofs.spaces.Space.is_declared.Goals as goal
 
 pub returns-clause-known : goal.returns-clause-known

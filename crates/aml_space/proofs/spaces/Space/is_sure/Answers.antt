@@ -1,7 +1,7 @@
 use Rattle.std.proofs.Common.{refl, ap, ◌∙◌}
-use Rattle.aml_space.specs.Known.{sure_by, outlook_in}
+use Rattle.aml_namespace.specs.Known.{sure_by, outlook_in}
 use Rattle.aml_space.proofs.Index.{part_met}
-use Rattle.aml_space.proofs.Stands.{sure_listed}
+use Rattle.aml_namespace.proofs.Stands.{sure_listed}
 use Rattle.aml_space.proofs.spaces.Space.is_sure.Goals as goal
 
 pub returns-clause-known : goal.returns-clause-known

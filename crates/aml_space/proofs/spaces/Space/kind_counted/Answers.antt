@@ -1,5 +1,5 @@
 use Rattle.std.proofs.Common.{rules}
-use Rattle.aml_space.proofs.Stands.{kind_listed}
+use Rattle.aml_namespace.proofs.Stands.{kind_listed}
 use Rattle.aml_space.proofs.spaces.Space.kind_counted.Goals as goal
 
 pub returns-in-Some-clause-known : goal.returns-in-Some-clause-known

@@ -1,5 +1,5 @@
 use Rattle.aml_space.specs.Near.{path_of}
-use Rattle.aml_space.proofs.Stands.{if_agreed}
+use Rattle.aml_namespace.proofs.Stands.{if_agreed}
 use Rattle.aml_space.proofs.spaces.Space.lead.Goals as goal
 
 pub returns-clause-listed : goal.returns-clause-listed

@@ -2,12 +2,12 @@ use Rattle.std.proofs.Common.{◌≡◌, false, ◌+◌, length, ◌++◌, ◌�
 use Rattle.std.proofs.Common.{refl, sym, subst, ap, ◌∙◌, arith}
 use Rattle.std.specs.FinMap as map
 use Rattle.std.specs.declared.alloc.AllocError.{AllocError}
-use Rattle.aml_space.specs.Namespace.{Entry, Body, declares}
-use Rattle.aml_space.specs.Near.{with_scopes}
+use Rattle.aml_namespace.specs.Namespace.{Entry, Body, declares}
+use Rattle.aml_namespace.specs.Known.{with_scopes}
 use Rattle.aml_space.specs.Nodes.{known_by}
 use Rattle.aml_space.specs.Opened.{known_in, scopes_of}
-use Rattle.aml_space.specs.Known.{Known, StandsFor, once, with_declaration, with_again}
-use Rattle.aml_space.proofs.Stands.{stands_declared, again_first, none_from_test}
+use Rattle.aml_namespace.specs.Known.{Known, StandsFor, once, with_declaration, with_again}
+use Rattle.aml_namespace.proofs.Stands.{stands_declared, again_first, none_from_test}
 use Rattle.aml_space.proofs.Index.{known_taken, one_declared}
 use Rattle.aml_space.specs.Candidates.{AreSettled}
 use Rattle.aml_space.proofs.Resting.{IsSaidOf, said_declared, said_nothing, settled_kept}

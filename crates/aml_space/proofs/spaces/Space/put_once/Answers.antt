@@ -2,12 +2,12 @@ use mathlib.Core.Bool.{true≢false}
 use Rattle.std.proofs.Common.{◌≡◌, ◌+◌, length, List, ◌++◌, ◌∷◌, [], None, is_some, not, true, false, refl, sym, subst}
 use Rattle.std.proofs.Common.{ap, ◌∙◌, arith}
 use Rattle.std.specs.FinMap as map
-use Rattle.aml_space.specs.Namespace.{Entry, declares, declared_at}
-use Rattle.aml_space.specs.Near.{with_scopes}
+use Rattle.aml_namespace.specs.Namespace.{Entry, declares, declared_at}
+use Rattle.aml_namespace.specs.Known.{with_scopes}
 use Rattle.aml_space.specs.Nodes.{known_by}
 use Rattle.aml_space.specs.Opened.{known_in, scopes_of}
-use Rattle.aml_space.specs.Known.{Known, StandsFor, once, with_declaration, is_declared}
-use Rattle.aml_space.proofs.Stands.{stands_declared, again_first, none_from_test, declared_listed}
+use Rattle.aml_namespace.specs.Known.{Known, StandsFor, once, with_declaration, is_declared}
+use Rattle.aml_namespace.proofs.Stands.{stands_declared, again_first, none_from_test, declared_listed}
 use Rattle.aml_space.proofs.Index.{known_taken, one_declared}
 use Rattle.aml_space.specs.Candidates.{AreSettled}
 use Rattle.aml_space.proofs.Resting.{IsSaidOf, said_declared, said_nothing, settled_kept}

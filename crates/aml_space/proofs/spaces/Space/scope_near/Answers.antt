@@ -1,5 +1,5 @@
 use Rattle.std.proofs.Common.{ap, ◌∙◌}
-use Rattle.aml_space.specs.Known.{namespace_in, outlook_in}
+use Rattle.aml_namespace.specs.Known.{namespace_in, outlook_in}
 use Rattle.aml_space.specs.Nodes.{known_by}
 use Rattle.aml_space.proofs.spaces.Space.scope_near.Goals as goal
 

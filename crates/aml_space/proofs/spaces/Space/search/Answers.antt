@@ -1,4 +1,4 @@
-use Rattle.aml_space.proofs.Stands.{if_found}
+use Rattle.aml_namespace.proofs.Stands.{if_found}
 use Rattle.aml_space.proofs.spaces.Space.search.Goals as goal
 
 pub returns-clause-listed : goal.returns-clause-listed

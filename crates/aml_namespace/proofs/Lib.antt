@@ -1,0 +1,16 @@
+pub mod Stands
+pub mod Ordered
+pub mod NotPredefined
+pub mod Upward
+pub mod Given
+mod Agreeing
+mod Strict
+mod Leading
+mod Quick
+mod RunRows
+mod Showing
+mod Frozen
+pub mod Joined
+pub mod Nearest
+pub mod Meeting
+pub mod Finding

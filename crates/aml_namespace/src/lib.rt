@@ -1,0 +1,23 @@
+//! What a namespace is: what tables declare, where a name leads, and how many arguments it takes.
+//!
+//! It follows the ACPI Specification 6.5, section 5.3 (the namespace) and section 5.3.1 (the predefined names).
+#![tactic(auto)]
+
+mod declarations;
+mod kinds;
+mod laws;
+mod predefined;
+mod rows;
+mod runs;
+mod tallies;
+
+pub use declarations::Declarations;
+pub use kinds::{Kind, Target};
+pub use laws::rows_are_declared;
+pub use predefined::Predefined;
+pub use rows::SpaceRow;
+pub use runs::{
+    every_run_agrees, every_run_leads_there, quick_way_holds, runs_differ, stays_as_it_is,
+    sure_stays,
+};
+pub use tallies::{Counts, Tally, own_counts};

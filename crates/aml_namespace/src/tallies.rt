@@ -1,0 +1,102 @@
+//! What the counts of several kinds come to.
+ghost use Rattle.std.specs.Prelude.{◌≡◌, ◌∷◌, ◌++◌, [], map, List};
+ghost use Rattle.std.specs.Option.{option_copied};
+ghost use Rattle.std.specs.Prelude.{option_to_list};
+ghost use Rattle.aml_namespace.specs.declared.kinds.Kind.{Kind as AnyKind};
+ghost use Rattle.aml_namespace.specs.Tallies.{joined, counts_in, own_count as own, is_alias as aliases, tally_of};
+
+use crate::kinds::Kind;
+
+/// Whether there are counts, and whether they are all the same.
+#[derive(Clone, Copy)]
+pub enum Counts {
+    Nothing,
+    One(u8),
+    Several,
+}
+
+impl Counts {
+    /// What these and others come to.
+    pub fn joined(self, others: Counts) -> Counts
+        ensures { result ≡ joined self others }
+    {
+        match (self, others) {
+            (Counts::Nothing, counts) => counts,
+            (Counts::Several, _) => Counts::Several,
+            (counts, Counts::Nothing) => counts,
+            (Counts::One(one), Counts::One(other)) => same_or_several(one, other),
+            (Counts::One(_), Counts::Several) => Counts::Several,
+        }
+    }
+}
+
+/// What two counts come to.
+fn same_or_several(one: u8, other: u8) -> Counts
+    ensures { result ≡ joined (Counts.One one) (Counts.One other) }
+{
+    if other == one {
+        Counts::One(one)
+    } else {
+        Counts::Several
+    }
+}
+
+/// What the own counts of some kinds come to, and whether an Alias is among them.
+#[derive(Clone, Copy)]
+pub struct Tally {
+    pub counts: Counts,
+    pub aliased: bool,
+}
+
+impl Tally {
+    /// That of one kind.
+    pub fn of(kind: &Kind) -> Tally
+        ensures { result ≡ tally_of (kind.now ∷ []) }
+    {
+        Tally {
+            counts: Counts::One(own_count(kind)),
+            aliased: is_alias(kind),
+        }
+    }
+
+    /// That of one kind more.
+    #[tactic(auto, using(crate::proofs::Joined::tally_more))]
+    pub fn with(self, kind: &Kind) -> Tally
+        ensures { (kinds : List AnyKind) → self ≡ tally_of kinds → result ≡ tally_of (kinds ++ kind.now ∷ []) }
+    {
+        Tally {
+            counts: self.counts.joined(Counts::One(own_count(kind))),
+            aliased: self.aliased || is_alias(kind),
+        }
+    }
+}
+
+/// The arguments that a kind takes by itself.
+fn own_count(kind: &Kind) -> u8
+    ensures { result ≡ own kind.now }
+{
+    match kind {
+        Kind::Method { args } => *args,
+        _ => 0,
+    }
+}
+
+/// Whether a kind is an Alias.
+fn is_alias(kind: &Kind) -> bool
+    ensures { result ≡ aliases kind.now }
+{
+    match kind {
+        Kind::Alias { target: _ } => true,
+        _ => false,
+    }
+}
+
+/// What the own count of a kind comes to, if there is one.
+pub fn own_counts(kind: Option<&Kind>) -> Counts
+    ensures { result ≡ counts_in (map own (option_to_list (option_copied kind.entry))) }
+{
+    match kind {
+        None => Counts::Nothing,
+        Some(kind) => Counts::One(own_count(kind)),
+    }
+}

@@ -1,5 +1,0 @@
-use Rattle.aml_space.proofs.Agreeing.{every_run_agrees}
-use Rattle.aml_space.proofs.runs.every_run_agrees.Goals as goal
-
-pub returns : goal.returns
-returns c = every_run_agrees

@@ -1,5 +1,0 @@
-use Rattle.aml_space.proofs.Leading.{every_run_leads_there}
-use Rattle.aml_space.proofs.runs.every_run_leads_there.Goals as goal
-
-pub returns : goal.returns
-returns c = every_run_leads_there
