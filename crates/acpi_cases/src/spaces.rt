@@ -161,6 +161,7 @@ impl Names<'_> {
             "count" => push_count(out, self.space.count(&path)),
             "kind" => self.push_kind(out, &path),
             "counted" => self.push_counted(out, &path),
+            "is_local" => self.push_local(out, &path),
             _ => self.push_declared(out, &path),
         }
     }
@@ -182,6 +183,15 @@ impl Names<'_> {
             "many"
         };
         writeln!(out, "  {said} comparisons")
+    }
+
+    /// Whether a body has declared a path.
+    fn push_local(&self, out: &mut String, path: &Path) -> Result<(), AllocError> {
+        out.push_str(if self.locals.has(path) {
+            "  local\n"
+        } else {
+            "  not local\n"
+        })
     }
 
     /// Whether a path is declared, and whether it has a kind in every run.

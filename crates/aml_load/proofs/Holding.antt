@@ -22,7 +22,8 @@ use Rattle.aml_namespace.specs.declared.kinds.Kind.{Kind}
 use Rattle.aml_namespace.specs.declared.kinds.Kind.TheVariants as kinds
 use Rattle.aml_space.specs.declared.faults.SpaceFault.TheVariants as faults
 use Rattle.aml_namespace.specs.Namespace.{Entry, Body, declares, declared_at}
-use Rattle.aml_namespace.specs.Known.{StandsFor}
+use Rattle.aml_namespace.specs.Known.{Known, StandsFor, with_scopes}
+use Rattle.aml_namespace.proofs.Stands.{stands_inside}
 use Rattle.aml_load.specs.declared.faults.LoadFault.{LoadFault}
 use Rattle.aml_load.specs.declared.faults.LoadFault.TheVariants as loads
 use Rattle.aml_set.specs.declared.methods.Method.{Method}
@@ -31,7 +32,9 @@ use Rattle.aml_load.specs.Loading.{◌>>=◌, Where, Listed, plus, with_uses, te
 use Rattle.aml_load.specs.Loading.{place_at, entry_at, new_at}
 use Rattle.aml_load.specs.Loading.{units_at, declare_as, declare, declare_inside}
 use Rattle.aml_load.specs.Tables.{Fails}
-use Rattle.aml_load.specs.Walking.{Holds, IsFree, IsDeclared, Walked}
+use Rattle.aml_load.specs.Groups.{AreGrouped}
+use Rattle.aml_load.proofs.Grouping.{grouped_inside}
+use Rattle.aml_load.specs.Walking.{Holds, IsFree, IsDeclared, KeepsUses, Walked}
 
 pub methods_more : (es : List Entry) (x : Entry) → methods_of (es ++ x ∷ []) ≡ methods_of es ++ methods_of (x ∷ [])
 methods_more [] x = refl
@@ -42,37 +45,59 @@ methods_more (e ∷ es) x = by (method_of e) (methods_more es x)
     by None more = more
     by (Some m) more = ap (λ (ms : List Method). m ∷ ms) more
 
+-- the uses are grouped as they were
+grouped_as : (old new : Progress) → KeepsUses old new → AreGrouped old.space.scopes old.uses.items old.groups
+    → AreGrouped new.space.scopes new.uses.items new.groups
+grouped_as old new keeps grouped =
+    subst (λ scopes. AreGrouped scopes new.uses.items new.groups) (sym keeps.scopes)
+    (subst (λ us. AreGrouped old.space.scopes us new.groups) (sym keeps.uses)
+    (subst (AreGrouped old.space.scopes old.uses.items) (sym keeps.groups) grouped))
+
 -- an entry without a body
 pub plain_held : (old new : Progress) (l : Listed) (x : Entry) → methods_of (x ∷ []) ≡ [] → Holds old l
     → StandsFor new.space (l.entries ++ x ∷ [])
-    → new.methods.items ≡ old.methods.items → new.uses.items ≡ old.uses.items → Holds new (plus l x)
-plain_held old new l x none h s ms us = record {
+    → new.methods.items ≡ old.methods.items → KeepsUses old new → Holds new (plus l x)
+plain_held old new l x none h s ms keeps = record {
   space = s;
   methods = ms ∙ h.methods ∙ sym (methods_more l.entries x ∙ ap (λ zs. methods_of l.entries ++ zs) none ∙ append-nil (methods_of l.entries));
-  uses = us ∙ h.uses;
+  uses = keeps.uses ∙ h.uses;
+  grouped = grouped_as old new keeps h.grouped;
 }
 
 pub method_held : (old new : Progress) (l : Listed) (p : List Seg) (k : Kind) (b : Body) (sure : Bool) (m : Method)
     → Holds old l
     → StandsFor new.space (l.entries ++ declares p k (Some b) sure ∷ [])
     → new.methods.items ≡ old.methods.items ++ m ∷ []
-    → m ≡ record { path = p; table = b.table; start = b.start; len = b.len; flags = b.flags } → new.uses.items ≡ old.uses.items
+    → m ≡ record { path = p; table = b.table; start = b.start; len = b.len; flags = b.flags } → KeepsUses old new
     → Holds new (plus l (declares p k (Some b) sure))
-method_held old new l p k b sure m h s ms is us = record {
+method_held old new l p k b sure m h s ms is keeps = record {
   space = s;
   methods = ms ∙ ap (λ xs. xs ++ m ∷ []) h.methods ∙ ap (λ (x : Method). methods_of l.entries ++ x ∷ []) is
       ∙ sym (methods_more l.entries (declares p k (Some b) sure));
+  uses = keeps.uses ∙ h.uses;
+  grouped = grouped_as old new keeps h.grouped;
+}
+
+-- a scope more is open
+pub inside_held : (old new : Progress) (l : Listed) (scope : List Seg) → new.space ≡ with_scopes old.space (old.space.scopes ++ scope ∷ [])
+    → new.methods.items ≡ old.methods.items → new.uses.items ≡ old.uses.items → new.groups ≡ old.groups → Holds old l → Holds new l
+inside_held old new l scope is ms us gs h = record {
+  space = subst (λ k. StandsFor k l.entries) (sym is) (stands_inside old.space (old.space.scopes ++ scope ∷ []) l.entries h.space);
+  methods = ms ∙ h.methods;
   uses = us ∙ h.uses;
+  grouped = grouped_inside old.space.scopes new.space.scopes scope new.uses.items new.groups (ap (λ (k : Known). k.scopes) is)
+      (subst (λ us. AreGrouped old.space.scopes us new.groups) (sym us) (subst (AreGrouped old.space.scopes old.uses.items) (sym gs) h.grouped));
 }
 
 -- the names of a term more
 pub uses_held : (old new : Progress) (l : Listed) (site : Where) (x : Tree) → Holds old l → new.space ≡ old.space
-    → new.methods.items ≡ old.methods.items
-    → new.uses.items ≡ old.uses.items ++ term_uses site x → Holds new (with_uses site l x)
-uses_held old new l site x h s ms us = record {
+    → new.methods.items ≡ old.methods.items → new.uses.items ≡ old.uses.items ++ term_uses site x
+    → AreGrouped new.space.scopes new.uses.items new.groups → Holds new (with_uses site l x)
+uses_held old new l site x h s ms us grouped = record {
   space = subst (λ k. StandsFor k l.entries) (sym s) h.space;
   methods = ms ∙ h.methods;
   uses = us ∙ ap (λ us. us ++ term_uses site x) h.uses;
+  grouped = grouped;
 }
 
 -- what an opcode declares

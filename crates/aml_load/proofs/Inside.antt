@@ -1,6 +1,6 @@
 -- A scope that is opened inside others is open behind them (`last_open`), and they stay open (`before_last`).
 use Rattle.std.specs.Prelude.{slice_get}
-use Rattle.std.proofs.Common.{◌≡◌, List, [], ◌∷◌, ◌++◌, length, take, Some, refl, ap, ◌∙◌}
+use Rattle.std.proofs.Common.{◌≡◌, List, [], ◌∷◌, ◌++◌, length, take, refl, ap, ◌∙◌}
 use Rattle.std.proofs.Math.Seq.{take-append_seam}
 use Rattle.aml_names.specs.declared.segments.Seg.{Seg}
 use Rattle.aml_space.specs.Near.{IsOpen}

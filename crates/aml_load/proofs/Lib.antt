@@ -1,5 +1,6 @@
 pub mod Holding
 pub mod Inside
+mod Grouping
 pub mod Loads
 mod Givens
 pub mod BodyLaws

@@ -1,3 +1,4 @@
+pub mod Groups
 pub mod Loading
 pub mod Views
 pub mod Spans

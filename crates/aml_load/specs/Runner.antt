@@ -25,7 +25,7 @@ use Rattle.aml_load.specs.declared.runner.Term.{Term}
 use Rattle.aml_load.specs.declared.walking.Progress.{Progress}
 use Rattle.aml_code.specs.declared.rows.Role.{Role}
 use Rattle.aml_code.specs.declared.rows.Role.TheVariants as roles
-use Rattle.aml_load.specs.Loading.{Where, Listed, with_uses}
+use Rattle.aml_load.specs.Loading.{Where, Listed}
 use Rattle.aml_load.specs.Running.{Front, table_front, counts_in, entered_at, run_names}
 use Rattle.std.specs.Prelude.{[]}
 use Rattle.aml_load.specs.Tables.{Fails}
@@ -123,14 +123,6 @@ IsFlat roles.Alias = Unit {0}
 IsFlat roles.External = Unit {0}
 IsFlat roles.Fields = Unit {0}
 IsFlat _ = ⊥
-
--- the names of a term more, or memory was refused
-abbrev pub Asked : Progress → RunSite → Listed → Tree → Result (Unit {0}) LoadFault → Type 0
-Asked new s l head (Ok u) = Holds new (with_uses (run_site s) l head)
-Asked new s l head (Err e) = e ≡ loads.NoMemory
-
-abbrev pub Asks : Progress → Progress → RunSite → Tree → Result (Unit {0}) LoadFault → Type 0
-Asks old new s head answer = (l : Listed) → Holds old l → Asked new s l head answer
 
 -- declaring what a term declares itself
 abbrev pub Enters : Progress → Progress → RunSite → Tree → Result RunSite LoadFault → Type 0

@@ -12,6 +12,7 @@ use Rattle.aml_load.specs.declared.faults.LoadFault.TheVariants as loads
 use Rattle.aml_load.specs.declared.uses.Site.{Site}
 use Rattle.aml_load.specs.declared.walking.Progress.{Progress}
 use Rattle.aml_load.specs.Loading.{Listed, methods_of, Where}
+use Rattle.aml_load.specs.Groups.{AreGrouped}
 use Rattle.aml_load.specs.Tables.{Fails}
 use Rattle.aml_code.specs.Tree.{Trees}
 use Rattle.aml_set.specs.declared.tables.Table.{Table}
@@ -27,20 +28,27 @@ IsFree site es p (Ok u) = (not site.any_run && is_some (declared_at es p)) ≡ f
 IsFree site es p (Err e) = (e ≡ loads.NoMemory)
     ⊎ (((not site.any_run && is_some (declared_at es p)) ≡ true) × (e ≡ loads.Space site.table (faults.Duplicate p)))
 
+-- the names outside the methods, their groups and the open scopes are as before
+pub record KeepsUses (old new : Progress) : Type 0 where
+  pub uses : new.uses.items ≡ old.uses.items
+  pub groups : new.groups ≡ old.groups
+  pub scopes : new.space.scopes ≡ old.space.scopes
+
 -- What declaring a path made of the progress, whatever entries it held and whatever body the path has: an entry more,
 -- and nothing else; or the fault that it may not be added, or want of memory.
 abbrev pub IsDeclared : Where → List Entry → List Seg → Kind → Option Body → Progress → Progress
     → Result (Unit {0}) LoadFault → Type 0
 IsDeclared site es p kind body old new (Ok u) = IsFree site es p (Ok u)
     × StandsFor new.space (es ++ declares p kind body site.sure ∷ [])
-    × (new.methods.items ≡ old.methods.items) × (new.uses.items ≡ old.uses.items)
+    × (new.methods.items ≡ old.methods.items) × KeepsUses old new
 IsDeclared site es p kind body old new (Err e) = IsFree site es p (Err e)
 
--- the namespace, the methods and the uses so far are those of what is listed
+-- the namespace, the methods and the uses so far are those of what is listed, and the uses are grouped
 pub record Holds (p : Progress) (l : Listed) : Type 0 where
   pub space : StandsFor p.space l.entries
   pub methods : p.methods.items ≡ methods_of l.entries
   pub uses : p.uses.items ≡ l.uses
+  pub grouped : AreGrouped p.space.scopes p.uses.items p.groups
 
 -- what a function answered, seen by a view, is what the walk gives, unless memory was refused
 abbrev pub Gives : {X Y : Type 0} → (X → Y) → Result X LoadFault → Result Y LoadFault → Type 0

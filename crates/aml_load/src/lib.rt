@@ -6,6 +6,7 @@
 
 mod bodies;
 mod faults;
+mod groups;
 mod keeping;
 mod laws;
 mod loading;

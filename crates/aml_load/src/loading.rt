@@ -1,5 +1,10 @@
 //! The load of tables in their order.
-ghost use Rattle.std.specs.Prelude.{◌≡◌, ◌⊎◌, true, false, [], List, Bool, Err, IfOk, IfErr, IfSome, Some, length};
+ghost use Rattle.std.specs.Prelude.{◌≡◌, ◌⊎◌, true, false, [], List, Bool, Err, IfOk, IfErr, IfSome, None, Some};
+ghost use Rattle.std.specs.Prelude.{◌∷◌, Option, length};
+ghost use Rattle.aml_names.specs.declared.segments.Seg.{Seg as AnySeg};
+ghost use Rattle.aml_load.specs.declared.used.Use.{Use as AnyUse};
+ghost use Rattle.std.specs.Bool.{OnTrue};
+ghost use Rattle.aml_load.specs.Groups.{AreJoined};
 ghost use Rattle.std.specs.Prelude.{nat_eq, ◌≤◌, ◌||◌};
 ghost use Rattle.std.specs.Option.{option_eq};
 ghost use Rattle.aml_code.specs.Tree.{Trees};
@@ -15,11 +20,12 @@ ghost use Rattle.aml_set.specs.Code.{AreCodes, AreShort};
 ghost use Rattle.aml_set.specs.Views.{codes_view, table_codes, table_dumps};
 
 use crate::faults::LoadFault;
+use crate::groups::Groups;
 use crate::used::Use;
 use crate::uses::Site;
 use crate::walking::Progress;
 use aml_code::{Locals, NoMemory, Node, Path};
-use aml_names::{Arity, Parts, ScopedPath};
+use aml_names::{Arity, ScopedPath};
 use aml_parse::parse_module;
 use aml_set::{Loaded, Table, TableSet};
 use aml_space::{BodyNames, Space};
@@ -91,51 +97,48 @@ fn read_tables(
     Ok(())
 }
 
-/// The names of a scope, which serve each name that stands in it.
-#[derive(Drop)]
-struct Opened<'a> {
-    scope: Parts<'a>,
-    unknown_zero: bool,
-    names: BodyNames<'a>,
-    ghost method: { names.method ≡ scope },
-    ghost unknown: { names.unknown_zero ≡ unknown_zero },
+/// Whether the first of some names is known to stand in the scope of the one in front, and the marks of those behind it.
+fn first_mark(marks: &[bool]) -> (bool, &[bool])
+    ensures { (front : Option (List AnySeg)) (used : AnyUse) (behind : List AnyUse) →
+        AreJoined front (used ∷ behind) marks.now →
+        OnTrue result.0 (front ≡ Some used.scope) × AreJoined (Some used.scope) behind result.1.now }
+{
+    match marks {
+        [] => (false, marks),
+        [joined, behind @ ..] => (*joined, behind),
+    }
 }
 
-/// The names of the scope in which a name stands: those that were opened last, where they are the same.
-fn opened_for<'a>(
-    alloc: Global,
+/// The names as a name sees them that stands outside the methods: as the one in front did, where it is known to stand in
+/// the same scope.
+fn names_for<'a>(
     space: &'a Space,
-    last: Option<Opened<'a>>,
+    last: Option<BodyNames<'a>>,
+    joined: bool,
     used: &'a Use,
     unknown_zero: bool,
-) -> Result<Opened<'a>, NoMemory>
-    requires { IfSome last (λ o. o.names.known ≡ with_scopes space.now []) }
-    ensures known { IfOk result (λ o. o.names.known ≡ with_scopes space.now []) }
-    ensures scope { IfOk result (λ o. o.names.method ≡ used.now.scope) }
-    ensures unknown { IfOk result (λ o. o.names.unknown_zero ≡ (unknown_zero || used.now.declaring)) }
+) -> BodyNames<'a>
+    requires { IfSome last (λ names. names.known ≡ with_scopes space.now []) }
+    ensures known { result.known ≡ with_scopes space.now [] }
+    ensures scope { OnTrue joined (IfSome last.entry (λ names. names.method ≡ used.now.scope)) →
+        result.method ≡ used.now.scope }
+    ensures unknown { result.unknown_zero ≡ (unknown_zero || used.now.declaring) }
 {
-    let scope = used.scope.parts();
     let unknown_zero = unknown_zero || used.declaring;
-    if let Some(open) = last {
-        if open.unknown_zero == unknown_zero && open.scope.is(&scope) {
-            return Ok(open);
-        }
+    match last {
+        Some(names) if joined => names.with_unknown(unknown_zero),
+        _ => BodyNames::new(space, used.scope.parts(), unknown_zero),
     }
-    Ok(Opened {
-        scope,
-        unknown_zero,
-        names: BodyNames::new(space, used.scope.parts(), unknown_zero),
-    })
 }
 
 /// How many arguments a name takes that stands outside the methods, once all tables are there.
-fn count_of(alloc: Global, opened: &Opened<'_>, used: &Use) -> Result<Option<u8>, NoMemory>
-    ensures { (l : Listed) (unknown_zero : Bool) → StandsFor opened.now.names.known l.entries →
-        opened.now.names.method ≡ used.now.scope →
-        opened.now.names.unknown_zero ≡ (unknown_zero || used.now.declaring) →
+fn count_of(alloc: Global, names: &BodyNames<'_>, used: &Use) -> Result<Option<u8>, NoMemory>
+    ensures { (l : Listed) (unknown_zero : Bool) → StandsFor names.now.known l.entries →
+        names.now.method ≡ used.now.scope →
+        names.now.unknown_zero ≡ (unknown_zero || used.now.declaring) →
         IfOk result (λ n. n ≡ use_count unknown_zero l.entries used.now) }
 {
-    opened.names.count(alloc, &Locals::new(alloc), &used.name)
+    names.count(alloc, &Locals::new(alloc), &used.name)
 }
 
 /// Whether a count is this number.
@@ -170,15 +173,19 @@ fn check_uses(
     any_run: bool,
     unknown_zero: bool,
     uses: &[Use],
+    joined: &[bool],
 ) -> Result<(), LoadFault>
-    ensures { (l : Listed) → StandsFor space.now l.entries →
+    ensures { (l : Listed) → StandsFor space.now l.entries → AreJoined None uses.now joined.now →
         Gives (λ x. x) result (uses_at any_run unknown_zero l.entries uses.now) }
 {
-    let mut last: Option<Opened<'_>> = None;
+    let mut last: Option<BodyNames<'_>> = None;
+    let mut marks = joined;
     for used in uses {
-        let opened = opened_for(alloc, space, last, used, unknown_zero)?;
-        let count = count_of(alloc, &opened, used)?;
-        last = Some(opened);
+        let (joined, behind) = first_mark(marks);
+        marks = behind;
+        let names = names_for(space, last, joined, used, unknown_zero);
+        let count = count_of(alloc, &names, used)?;
+        last = Some(names);
         if !is_count(used.args, count) {
             return Err(call_fault(alloc, any_run, used)?);
         }
@@ -206,6 +213,7 @@ pub fn first_progress(alloc: Global, givens: &[(Path, u8)]) -> Result<Progress, 
         space: space_with(alloc, givens)?,
         methods: Vec::new(alloc),
         uses: Vec::new(alloc),
+        groups: Groups::new(alloc),
     })
 }
 
@@ -229,6 +237,7 @@ fn load_each<'a>(
         any_run,
         unknown_zero,
         progress.uses.as_slice(),
+        progress.groups.joined.as_slice(),
     )?;
     Ok(TableSet {
         tables,

@@ -10,13 +10,13 @@ ghost use Rattle.aml_space.specs.Near.{IsBelow};
 ghost use Rattle.aml_load.specs.Loading.{Listed, declare_as};
 ghost use Rattle.aml_load.specs.Running.{opened_at, object_at, scope_at, enter_as};
 ghost use Rattle.aml_load.specs.Walking.{at_site, GivesIn, Walks, Holds, IsInside, Stays, AreBelow};
-ghost use Rattle.aml_load.specs.Runner.{IsFlat, Asks, IsSite, Comes, opens, span_inside, with_terms, HasRoom};
+ghost use Rattle.aml_load.specs.Runner.{IsFlat, IsSite, Comes, opens, span_inside, with_terms, HasRoom};
 ghost use Rattle.aml_load.specs.Runner.{run_site, IsWithin, IsEntered};
 ghost use Rattle.aml_load.specs.Runner.{HasRoomInside, IsOn, IsThere, Steps, Enters, Opens, Runs, RunsAll, RunsTable};
 
 use crate::faults::LoadFault;
 use crate::roles::{kind_of, role_of};
-use crate::uses::{Site, add_names};
+use crate::uses::Site;
 use crate::walking::Progress;
 use aml_code::{
     Arity, Name, NoMemory, Node, Part, Position, Role, SeenLocals, Tail, TailKind, last_name,
@@ -373,16 +373,6 @@ impl Progress {
 }
 
 impl Progress {
-    /// Adds the names of a term.
-    fn ask(&mut self, here: &RunSite, head: &Node) -> Result<(), LoadFault>
-        ensures asks { Asks self.old self.new here.now (node_view head.now) result }
-        ensures stays { OnOk result (Stays self.old self.new) }
-    {
-        let site = here.site();
-        add_names(&site, head, &mut self.uses)?;
-        Ok(())
-    }
-
     /// Declares what a term declares itself, and says where the terms inside it stand.
     #[tactic(auto, unfolding(crate::specs::Running::entered_at))]
     fn enter(&mut self, site: &RunSite, head: &Node) -> Result<RunSite, LoadFault>
@@ -390,7 +380,7 @@ impl Progress {
         ensures comes { Enters self.old self.new site.now (node_view head.now) result }
         ensures opens { IfOk result (λ inner. IsEntered self.old.space.scopes self.new inner) }
     {
-        self.ask(site, head)?;
+        self.ask(&site.site(), head)?;
         match head {
             Node::Nothing | Node::Named { .. } => site.also(true),
             Node::Op {

@@ -14,7 +14,7 @@ ghost use Rattle.aml_space.specs.Near.{IsBelow};
 use crate::faults::LoadFault;
 use crate::loading::first_progress;
 use crate::roles::{kind_of, role_of};
-use crate::uses::{Site, add_names};
+use crate::uses::Site;
 use crate::walking::Progress;
 use aml_code::{NoMemory, Node, Part, Path, Role, Tail, last_name};
 use aml_names::ScopedPath;
@@ -73,7 +73,7 @@ fn find_term<'a>(
             tail,
             ..
         } => {
-            add_names(site, term, &mut progress.uses)?;
+            progress.ask(site, term)?;
             find_by_role(
                 progress,
                 site,

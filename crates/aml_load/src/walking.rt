@@ -7,12 +7,13 @@ ghost use Rattle.aml_code.specs.View.{node_view, nodes_view, parts_view, tail_vi
 ghost use Rattle.aml_namespace.specs.Namespace.{Entry, Body, declares, external as outside};
 ghost use Rattle.aml_namespace.specs.Known.{StandsFor};
 ghost use Rattle.aml_space.specs.Near.{IsBelow, path_of};
-ghost use Rattle.aml_load.specs.Loading.{under, Listed, plus, method_entry, first_label, byte_of, lead_of, target_of};
+ghost use Rattle.aml_load.specs.Loading.{under, Listed, plus, with_uses, method_entry, first_label, byte_of, lead_of, target_of};
 ghost use Rattle.aml_load.specs.Loading.{body_span, place_at, lead_at, entry_at, new_at, method_at, alias_at};
 ghost use Rattle.aml_load.specs.Loading.{external_at, units_at, declare_as, declare, declare_inside, declare_all};
 ghost use Rattle.aml_load.specs.Walking.{at_site, Gives, GivesIn, IsDeclared, Walks, IsInside, Stays, Holds, AreBelow};
 
 use crate::faults::LoadFault;
+use crate::groups::Groups;
 use crate::keeping::kept_of;
 use crate::roles::{kind_of, role_of};
 use crate::used::Use;
@@ -33,6 +34,7 @@ pub struct Progress {
     pub space: Space,
     pub methods: Vec<Method>,
     pub uses: Vec<Use>,
+    pub groups: Groups,
 }
 
 /// The last byte of the parts: a method's flags, an External's number of arguments.
@@ -426,6 +428,21 @@ impl Progress {
         ensures fewer { self.new.space.scopes ≡ take count self.old.space.scopes }
     {
         self.space.leave(count);
+        self.groups.close(count);
+    }
+}
+
+impl Progress {
+    /// Adds the names that stand as TermArgs in a term, or as the term, outside the terms inside it.
+    pub fn ask(&mut self, site: &Site<'_>, term: &Node) -> Result<(), NoMemory>
+        requires { IsInside self.old site.now }
+        ensures asks { OnOk result ((l : Listed) → Holds self.old l →
+            Holds self.new (with_uses (at_site site.now) l (node_view term.now))) }
+        ensures stays { OnOk result (Stays self.old self.new) }
+    {
+        let before = self.uses.len();
+        add_names(site, term, &mut self.uses)?;
+        self.groups.add(site.place, self.uses.len() - before)
     }
 }
 
@@ -446,7 +463,7 @@ impl Progress {
                 tail,
                 ..
             } => {
-                add_names(site, node, &mut self.uses)?;
+                self.ask(site, node)?;
                 self.walk_role(site, role_of(*opcode), tail, parts.as_slice())
             }
         }

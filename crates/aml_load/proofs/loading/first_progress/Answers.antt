@@ -7,4 +7,8 @@ returns c = record {
   space = c.in_ok-space_with.ensures;
   methods = c.new.ensures.items ∙ sym (no_methods c.args.givens.now);
   uses = c.new-2.ensures.items;
+  grouped = record {
+    joined = rw (c.new-2.ensures.items, c.new-3.ensures.joined) tt;
+    last = rw c.new-3.ensures.last tt;
+  };
 }

@@ -16,7 +16,7 @@ returns-clause-gives c =
     let read = c.in_ok-read_tables.ensures (first_listed gs) c.in_ok-progress.ensures in
     let m = read.2.0 in
     let stands = subst (λ k. StandsFor k m.entries) (sym c.settle.ensures) read.2.1.space in
-    let free = c.in_ok-check_uses.ensures m stands in (
+    let free = c.in_ok-check_uses.ensures m stands (rw (c.as_slice.ensures.value, c.as_slice-2.ensures.value) read.2.1.grouped.joined) in (
       table_terms c.read_tables.new.tables.items,
       m,
       record { tables = read.1; trees = refl; space = stands; methods = read.2.1.methods },
@@ -33,4 +33,5 @@ returns-in_err-check_uses-clause-gives c =
     rw (gave.1, gave.2)
     (load_refused c.args.any_run c.args.unknown_zero gs (table_codes c.args.tables.items) (table_terms c.read_tables.new.tables.items) m
     c.as_slice.result.now c.in_err-check_uses.field-0.0 read.2.2 (c.as_slice.ensures.value ∙ read.2.1.uses)
-    (c.in_err-check_uses.ensures m (subst (λ k. StandsFor k m.entries) (sym c.settle.ensures) read.2.1.space)))
+    (c.in_err-check_uses.ensures m (subst (λ k. StandsFor k m.entries) (sym c.settle.ensures) read.2.1.space)
+    (rw (c.as_slice.ensures.value, c.as_slice-2.ensures.value) read.2.1.grouped.joined)))

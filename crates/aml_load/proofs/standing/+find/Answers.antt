@@ -1,19 +1,19 @@
-use Rattle.std.proofs.Common.{refl, sym, subst}
+use Rattle.std.proofs.Common.{sym, subst}
 use Rattle.aml_code.specs.View.{node_view, parts_view, tail_view}
 use Rattle.aml_load.specs.Loading.{with_uses, declare_as, declare_inside}
 use Rattle.aml_load.specs.Standing.{stands, inside_as, term_stands, inside_stand}
 use Rattle.aml_load.specs.Standings.{Found}
 use Rattle.aml_load.specs.Walking.{at_site}
 use Rattle.aml_load.proofs.Founds.{found_more, stands_op}
-use Rattle.aml_load.proofs.Holding.{uses_held, declare_op}
+use Rattle.aml_load.proofs.Holding.{declare_op}
 use Rattle.aml_load.proofs.standing.+find.Goals as goal
 
-pub find_term-returns-in_ok-add_names-in-Op-clause-finds : goal.find_term-returns-in_ok-add_names-in-Op-clause-finds
-find_term-returns-in_ok-add_names-in-Op-clause-finds t c l h =
+pub find_term-returns-in_ok-ask-in-Op-clause-finds : goal.find_term-returns-in_ok-ask-in-Op-clause-finds
+find_term-returns-in_ok-ask-in-Op-clause-finds t c l h =
     let site = at_site c.args.site.now in
     let x = node_view c.args.term.now in
     let role = c.role_of.result in
-    let held = uses_held c.args.progress.now _ l site x h refl refl c.in_ok-add_names-in-Op.ensures in
+    let held = c.in_ok-ask-in-Op.ensures.asks l h in
     let did = (rw c.as_slice.ensures.value at c.find_by_role.ensures.finds) (with_uses site l x) held in
     let walk = declare_as role site (with_uses site l x) (parts_view c.in-Op.parts.items) (tail_view c.in-Op.tail)
     (λ l below. declare_inside below l (tail_view c.in-Op.tail)) in

@@ -5,15 +5,15 @@ use Rattle.aml_code.specs.declared.tree.Node.{Node}
 use Rattle.aml_code.specs.View.{node_view, nodes_view}
 use Rattle.aml_load.specs.Loading.{Listed, Where, under, with_uses, declare_all}
 use Rattle.aml_load.specs.Walking.{at_site, Walked}
-use Rattle.aml_load.proofs.Holding.{uses_held, declare_op}
+use Rattle.aml_load.proofs.Holding.{declare_op}
 use Rattle.aml_load.proofs.walking.Progress.+walk.Goals as goal
 
-pub walk-returns-in_ok-add_names-in-Op-clause-walks : goal.walk-returns-in_ok-add_names-in-Op-clause-walks
-walk-returns-in_ok-add_names-in-Op-clause-walks t c l h =
+pub walk-returns-in_ok-ask-in-Op-clause-walks : goal.walk-returns-in_ok-ask-in-Op-clause-walks
+walk-returns-in_ok-ask-in-Op-clause-walks t c l h =
     let site = at_site c.args.site.now in
     let x = node_view c.args.node.now in
     let did = c.walk_role.ensures.walks in
-    let held = uses_held c.args.self.now _ l site x h refl refl c.in_ok-add_names-in-Op.ensures in
+    let held = c.in_ok-ask-in-Op.ensures.asks l h in
     subst (Walked c.walk_role.new.self c.walk_role.result)
     (sym (declare_op site l c.args.node.now c.in-Op.opcode c.in-Op.width c.in-Op.parts c.in-Op.tail c.role_of.result c.in-Op.is c.role_of.ensures))
     ((rw c.as_slice.ensures.value at did) (with_uses site l x) held)

@@ -1,6 +1,6 @@
-use Rattle.std.proofs.Common.{◌++◌, ◌∷◌, [], refl, subst}
+use Rattle.std.proofs.Common.{◌++◌, ◌∷◌, [], refl, ap, subst}
 use Rattle.aml_namespace.specs.Namespace.{external}
-use Rattle.aml_namespace.specs.Known.{StandsFor}
+use Rattle.aml_namespace.specs.Known.{Known, StandsFor}
 use Rattle.aml_load.specs.Loading.{plus}
 use Rattle.aml_load.proofs.Holding.{plain_held}
 use Rattle.aml_load.proofs.walking.Progress.add_count.Goals as goal
@@ -13,6 +13,7 @@ returns-clause-walks c l h = (
   plus l (external c.args.path.now.path c.args.count),
   plain_held c.args.self.now _ l (external c.args.path.now.path c.args.count) refl h
       (subst (λ p. StandsFor c.put_external.new.self (l.entries ++ external p c.args.count ∷ [])) c.parts.ensures
-      (c.in_ok-put_external.ensures.stands l.entries h.space)) refl refl,
+      (c.in_ok-put_external.ensures.stands l.entries h.space)) refl
+      (record { uses = refl; groups = refl; scopes = ap (λ (k : Known). k.scopes) c.in_ok-put_external.ensures.ok }),
   refl,
 )

@@ -24,6 +24,6 @@ returns-clause-walks c l h =
     let e = method_entry site p c.args.flags (c.args.start, c.args.len) in
     let d = c.in_ok-declare_path.ensures.declared l.entries (Some b) h.space in (
       plus l e,
-      method_held c.args.self.now _ l p k b site.sure _ h d.1 (c.in_ok-push.ensures.items ∙ ap (λ xs. xs ++ record { path = p; table = site.table; start = c.args.start; len = c.args.len; flags = c.args.flags } ∷ []) d.2) refl d.3,
+      method_held c.args.self.now _ l p k b site.sure _ h d.1 (c.in_ok-push.ensures.items ∙ ap (λ xs. xs ++ record { path = p; table = site.table; start = c.args.start; len = c.args.len; flags = c.args.flags } ∷ []) d.2) refl (record { uses = d.3.uses; groups = d.3.groups; scopes = d.3.scopes }),
       entry_free site l p e d.0,
     )

@@ -1,8 +1,4 @@
-use Rattle.std.proofs.Common.{subst}
-use Rattle.std.specs.Prelude.{IfOk}
 use Rattle.aml_space.specs.Near.{IsOpen}
-use Rattle.aml_load.specs.Runner.{IsEntered}
-use Rattle.aml_load.specs.Walking.{IsInside}
 use Rattle.aml_load.proofs.walking.Progress.enter_scope.Goals as goal
 
 pub is_sure-sure-requires : goal.is_sure-sure-requires
