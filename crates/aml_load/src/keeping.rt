@@ -1,12 +1,12 @@
-//! Whether something is kept of terms by the path of the scope in which they stand. It decides over memory alone: how much
-//! of the path is copied when the scope is opened.
+//! Whether something is kept of terms by the path of the scope in which they stand. It decides over memory alone: how
+//! much of the path is copied when the scope is opened.
 
 use crate::roles::role_of;
 use aml_code::{Node, Part, Role, Tail};
 use aml_space::Keeps;
 
-/// What may be kept in the scope of these terms, or of one right inside it: a method's path, what an Alias names, the scope
-/// of a name that is looked at when all tables are there.
+/// What may be kept in the scope of these terms, or of one right inside it: a method's path, what an Alias names, the
+/// scope of a name that is looked at when all tables are there.
 pub fn kept_of(terms: &[Node]) -> Keeps {
     for term in terms {
         if keeps_its_scope(term) || keeps_inside(term) {

@@ -97,7 +97,8 @@ fn read_tables(
     Ok(())
 }
 
-/// Whether the first of some names is known to stand in the scope of the one in front, and the marks of those behind it.
+/// Whether the first of some names is known to stand in the scope of the one in front, and the marks of those behind
+/// it.
 fn first_mark(marks: &[bool]) -> (bool, &[bool])
     ensures { (front : Option (List AnySeg)) (used : AnyUse) (behind : List AnyUse) →
         AreJoined front (used ∷ behind) marks.now →
@@ -109,8 +110,8 @@ fn first_mark(marks: &[bool]) -> (bool, &[bool])
     }
 }
 
-/// The names as a name sees them that stands outside the methods: as the one in front did, where it is known to stand in
-/// the same scope.
+/// The names as a name sees them that stands outside the methods: as the one in front did, where it is known to stand
+/// in the same scope.
 fn names_for<'a>(
     space: &'a Space,
     last: Option<BodyNames<'a>>,

@@ -7,7 +7,8 @@ ghost use Rattle.aml_code.specs.View.{node_view, nodes_view, parts_view, tail_vi
 ghost use Rattle.aml_namespace.specs.Namespace.{Entry, Body, declares, external as outside};
 ghost use Rattle.aml_namespace.specs.Known.{StandsFor};
 ghost use Rattle.aml_space.specs.Near.{IsBelow, path_of};
-ghost use Rattle.aml_load.specs.Loading.{under, Listed, plus, with_uses, method_entry, first_label, byte_of, lead_of, target_of};
+ghost use Rattle.aml_load.specs.Loading.{under, Listed, plus, with_uses, method_entry, first_label, byte_of, lead_of};
+ghost use Rattle.aml_load.specs.Loading.{target_of};
 ghost use Rattle.aml_load.specs.Loading.{body_span, place_at, lead_at, entry_at, new_at, method_at, alias_at};
 ghost use Rattle.aml_load.specs.Loading.{external_at, units_at, declare_as, declare, declare_inside, declare_all};
 ghost use Rattle.aml_load.specs.Walking.{at_site, Gives, GivesIn, IsDeclared, Walks, IsInside, Stays, Holds, AreBelow};

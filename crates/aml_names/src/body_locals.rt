@@ -1,5 +1,6 @@
 //! The paths that a method body has declared so far, while it is read.
-ghost use Rattle.std.specs.Prelude.{◌≡◌, ◌≤◌, ◌++◌, cond, is_some, length, take, Some, None, IfSome, IsTrue, OnOk, OnErr};
+ghost use Rattle.std.specs.Prelude.{◌≡◌, ◌≤◌, ◌++◌, cond, is_some, length, take, Some, None, IfSome, IsTrue};
+ghost use Rattle.std.specs.Prelude.{OnOk, OnErr};
 ghost use Rattle.std.specs.FinSet as set;
 ghost use Rattle.aml_names.specs.Branches.{AreOf};
 

@@ -129,8 +129,8 @@ pub enum Keeps {
 }
 
 impl Keeps {
-    /// How many segments of its own such a scope has at most if it isn't copied. With fewer the copies of scopes that are
-    /// open, one inside the other, take more memory, and with more what is kept does.
+    /// How many segments of its own such a scope has at most if it isn't copied. With fewer the copies of scopes that
+    /// are open, one inside the other, take more memory, and with more what is kept does.
     fn most_own(self) -> usize {
         match self {
             Keeps::Something => 16,

@@ -263,9 +263,9 @@ impl Space {
         self.scopes.len()
     }
 
-    /// Opens a path as a scope inside those that are open, so that what stands there is found by its node. A long path
-    /// with a few segments of its own keeps its scope's, so that nothing is copied: with a very few, if something is to be
-    /// kept in the scope. A refused call changes nothing.
+    /// Opens a path as a scope inside those that are open, so that what stands there is found by its node. A long
+    /// path with a few segments of its own keeps its scope's, so that nothing is copied: with a very few, if
+    /// something is to be kept in the scope. A refused call changes nothing.
     pub fn enter(
         &mut self,
         near: Near,

@@ -31,7 +31,7 @@ loop-used-preserved c =
     let here = c.names_for-names.ensures in
     let cut : drop n us ≡ u ∷ rest = drop_more us n u c.loop-used-test.true ∙ ap (λ u. u ∷ rest) (sym c.used-item.is) in
     let next : (front : Option (List Seg)) → AreJoined front (drop n us) c.loop-used.marks.now
-        → OnTrue c.first_mark-joined.result.0 (front ≡ Some u.scope) × AreJoined (Some u.scope) rest c.first_mark-joined.result.1.now =
+    → OnTrue c.first_mark-joined.result.0 (front ≡ Some u.scope) × AreJoined (Some u.scope) rest c.first_mark-joined.result.1.now =
     λ front marked. c.first_mark-joined.ensures front u rest (subst (λ xs. AreJoined front xs c.loop-used.marks.now) cut marked) in
     record {
       passed = λ l h all.
