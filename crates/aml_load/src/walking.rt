@@ -5,8 +5,9 @@ ghost use Rattle.aml_code.specs.Lawful.{last_label, field_names, plain_name, uni
 ghost use Rattle.aml_code.specs.Tree.{no_fields, field_more};
 ghost use Rattle.aml_code.specs.View.{node_view, nodes_view, parts_view, tail_view, fields_view, field_view};
 ghost use Rattle.aml_namespace.specs.Namespace.{Entry, Body, declares, external as outside};
-ghost use Rattle.aml_namespace.specs.Known.{StandsFor};
-ghost use Rattle.aml_space.specs.Near.{IsBelow, path_of};
+ghost use Rattle.aml_namespace.specs.Known.{StandsFor, namespace_in};
+ghost use Rattle.aml_namespace.specs.declared.kinds.Kind.TheVariants.{Alias};
+ghost use Rattle.aml_space.specs.Near.{IsBelow, IsSourceOf, IsTarget, path_of};
 ghost use Rattle.aml_load.specs.Loading.{under, Listed, plus, with_uses, method_entry, first_label, byte_of, lead_of};
 ghost use Rattle.aml_load.specs.Loading.{target_of};
 ghost use Rattle.aml_load.specs.Loading.{body_span, place_at, lead_at, entry_at, new_at, method_at, alias_at};
@@ -22,7 +23,7 @@ use crate::uses::{Site, add_names};
 use aml_code::{Field, Name, NoMemory, Node, Part, Role, Seg, Tail, last_byte, last_name};
 use aml_names::{Path, ScopedPath, front_of};
 use aml_set::Method;
-use aml_space::{Keeps, Kind, Near, PlacedPath, Space, SpaceFault, Target};
+use aml_space::{Keeps, Kind, Near, PlacedPath, Source, Space, SpaceFault, Target};
 use std::alloc::Global;
 
 /// The most methods that a set of tables may have.
@@ -161,7 +162,8 @@ impl Progress {
     fn target_of(&self, site: &Site<'_>, source: &PlacedPath) -> Result<Target, NoMemory>
         requires inside { IsInside self.now site.now }
         requires below { IsBelow source.now.front site.now.scope.now source.now.path }
-        ensures { (l : Listed) → StandsFor self.now.space l.entries →
+        ensures known { IfOk result (λ target. IsTarget (namespace_in self.now.space) source.now.path target) }
+        ensures listed { (l : Listed) → StandsFor self.now.space l.entries →
             IfOk result (λ target. target ≡ target_of l.entries source.now.path) }
     {
         let near = source.near(site.place);
@@ -175,14 +177,17 @@ impl Progress {
     }
 
     /// Declares a path: once where the code outside methods may not run, else `Duplicate`; and also again where it may.
+    /// `source`: what an Alias is declared of.
     fn declare_path(
         &mut self,
         site: &Site<'_>,
         path: &PlacedPath,
         kind: Kind,
+        source: Option<Source<'_>>,
     ) -> Result<(), LoadFault>
         requires inside { IsInside self.old site.now }
         requires below { IsBelow path.now.front site.now.scope.now path.now.path }
+        requires source { IfSome source (IsSourceOf self.old.space kind) }
         ensures declared { (es : List Entry) (body : Option Body) → StandsFor self.old.space es →
             IsDeclared (at_site site.now) es path.now.path kind body self.old self.new result }
         ensures stays { OnOk result (Stays self.old self.new) }
@@ -190,12 +195,12 @@ impl Progress {
         let near = path.near(site.place);
         if site.any_run {
             self.space
-                .put_again(near, &path.path.parts(), kind, site.sure)?;
+                .put_again(near, &path.path.parts(), kind, source, site.sure)?;
             return Ok(());
         }
         if self
             .space
-            .put_once(near, &path.path.parts(), kind, site.sure)?
+            .put_once(near, &path.path.parts(), kind, source, site.sure)?
         {
             return Ok(());
         }
@@ -203,8 +208,26 @@ impl Progress {
         Err(LoadFault::Space(site.table, taken))
     }
 
-    /// Declares a path that has no body.
+    /// Declares a path that has no body. `source`: what an Alias is declared of.
     #[tactic(auto, unfolding(crate::specs::Loading::entry_at))]
+    fn declare_of(
+        &mut self,
+        site: &Site<'_>,
+        path: &PlacedPath,
+        kind: Kind,
+        source: Option<Source<'_>>,
+    ) -> Result<(), LoadFault>
+        requires inside { IsInside self.old site.now }
+        requires below { IsBelow path.now.front site.now.scope.now path.now.path }
+        requires source { IfSome source (IsSourceOf self.old.space kind) }
+        ensures walks { Walks self.old self.new result (λ l.
+            entry_at (at_site site.now) l path.now.path (declares path.now.path kind None site.now.sure)) }
+        ensures stays { OnOk result (Stays self.old self.new) }
+    {
+        self.declare_path(site, path, kind, source)
+    }
+
+    /// Declares a path that has no body and is no Alias of anything.
     pub fn declare(
         &mut self,
         site: &Site<'_>,
@@ -217,7 +240,7 @@ impl Progress {
             entry_at (at_site site.now) l path.now.path (declares path.now.path kind None site.now.sure)) }
         ensures stays { OnOk result (Stays self.old self.new) }
     {
-        self.declare_path(site, path, kind)
+        self.declare_of(site, path, kind, None)
     }
 
     /// Declares the path of a method with a body that begins here, so long.
@@ -235,7 +258,7 @@ impl Progress {
             (method_entry (at_site site.now) path.path flags (start, len))) }
         ensures stays { OnOk result (Stays self.old self.new) }
     {
-        self.declare_path(site, &path, Kind::Method { args: flags % 8 })?;
+        self.declare_path(site, &path, Kind::Method { args: flags % 8 }, None)?;
         self.methods.push(Method {
             path: path.path,
             table: site.table,
@@ -249,20 +272,28 @@ impl Progress {
 
 #[tactic(auto, unfolding(crate::specs::Loading::new_at))]
 impl Progress {
-    /// Declares a name with a kind.
-    fn declare_name(
+    /// Declares a name as an Alias of a source, which stands for this path.
+    fn declare_alias(
         &mut self,
         site: &Site<'_>,
         name: Option<&Name>,
-        kind: Kind,
+        target: Target,
+        source: &PlacedPath,
     ) -> Result<(), LoadFault>
-        requires { IsInside self.old site.now }
+        requires inside { IsInside self.old site.now }
+        requires below { IsBelow source.now.front site.now.scope.now source.now.path }
+        requires target { IsTarget (namespace_in self.old.space) source.now.path target }
         ensures walks { Walks self.old self.new result (λ l.
-            new_at (at_site site.now) l (option_copied name.entry) (λ p. declares p kind None site.now.sure)) }
+            new_at (at_site site.now) l (option_copied name.entry) (λ p.
+            declares p (Alias target) None site.now.sure)) }
         ensures stays { OnOk result (Stays self.old self.new) }
     {
         let path = self.own_path(site, name)?;
-        self.declare(site, &path, kind)
+        let source = Source {
+            near: source.near(site.place),
+            path: &source.path,
+        };
+        self.declare_of(site, &path, Kind::Alias { target }, Some(source))
     }
 
     /// Declares a method, however many there are.
@@ -316,7 +347,7 @@ impl Progress {
         self.expect_search(site, first_name(parts));
         let source = self.source_path(site, first_name(parts))?;
         let target = self.target_of(site, &source)?;
-        self.declare_name(site, last_name(parts), Kind::Alias { target })
+        self.declare_alias(site, last_name(parts), target, &source)
     }
 
     /// Adds an External of a path.

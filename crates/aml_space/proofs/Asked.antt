@@ -1,8 +1,10 @@
 -- Which depths of a scope have to be asked. Where a node has bare children alone, nothing is known of a segment there
 -- (`silent_at`, `silent_past`); such depths are passed over (`next_further`, `next_past`), and no candidate of a
--- segment stands there (`none_given_below`, `none_met_below`).
+-- segment stands there (`next_of`). Nor does one where the segment leads to no node (`unknown_at`, `of_up`): such depths
+-- are passed over too (`of_through`), since no candidate of the segment is met there (`none_given_below`,
+-- `none_met_below`).
 use Rattle.std.specs.Prelude.{◌||◌}
-use Rattle.std.proofs.Common.{◌≡◌, ℕ, ◌+◌, ◌<◌, ◌≤◌, false, List, [], ◌∷◌, ◌++◌, length, take, get_or, Option, Some}
+use Rattle.std.proofs.Common.{◌≡◌, ℕ, ◌+◌, ◌-◌, ◌<◌, ◌≤◌, false, List, [], ◌∷◌, ◌++◌, length, take, get_or, Option, Some}
 use Rattle.std.proofs.Common.{None, IfSome, is_some, inl, inr, refl, sym}
 use Rattle.std.proofs.Common.{ap, subst, ◌∙◌, arith}
 use Rattle.std.specs.FinMap as map
@@ -18,7 +20,7 @@ use Rattle.aml_space.specs.Nodes.{Content, kids_of, content_of, part_by, known_b
 use Rattle.aml_namespace.specs.Known.{declared_kind, namespace_in}
 use Rattle.aml_namespace.specs.Namespace.{Namespace, kind_at, decides, is_outside}
 use Rattle.aml_namespace.specs.Predefined.{predefined}
-use Rattle.aml_space.specs.Candidates.{IsBare, HasBareChildren}
+use Rattle.aml_space.specs.Candidates.{IsBare, HasBareChildren, IsUnknown, IsNextOf}
 use Rattle.aml_namespace.specs.Searching.{IsSilent, IsNext}
 use Rattle.aml_children.proofs.Basics.{alone}
 use Rattle.aml_children.proofs.Walks.{walk_push}
@@ -86,31 +88,85 @@ module _ (n : Namespace) (path : List Seg) where
     ];
   }
 
--- what silence says of a segment
-module _ (n : Namespace) (path segment : List Seg) (one : length segment ≡ 1) where
-  below : {X : Type 0} (part : List Seg → Option X) (q : List Seg) → ((s : Seg) → part (q ++ s ∷ []) ≡ None)
-      → part (q ++ segment) ≡ None
-  below part q none = subst (λ t. part (q ++ t) ≡ None) (alone segment (record { 0 = [] }) one) (none (get_or segment 0 (record { 0 = [] })))
+-- nothing is known of a path that leads nowhere
+pub unknown_at : (ns : List Node) → IsShape ns → (p : List Seg) (at : Option ℕ) → at ≡ walk (kids_of ns) 0 p → at ≡ None
+    → IsUnknown (namespace_in (known_by ns)) p
+unknown_at ns shape p at led none = record {
+  declared = ap declared_kind (by (λ c. c.declared));
+  out = by (λ c. c.out);
+  given = by (λ c. c.given);
+}
+  where
+    by : {X : Type 0} (part : Content → Option X) → map.get (part_by part ns) p ≡ None
+    by part = sym (part_at part ns shape p) ∙ ap (option_and_then (λ j. part (content_of ns j))) (sym led ∙ none)
 
-  pub none_given_below : (d asked : ℕ) → IsNext n path d asked → (e : ℕ) → asked < e → e ≤ d
+-- what is said of a segment depth by depth
+module _ (n : Namespace) (path segment : List Seg) where
+  -- where nothing is known of it at a depth, the one above comes next
+  pub of_up : (from next : ℕ) → 0 < next → IsNextOf n path segment from next → IsUnknown n (take next path ++ segment)
+      → IsNextOf n path segment from (next - 1)
+  of_up from next some is here = record {
+    within = omega (arith, is.within);
+    unknown = λ d above below. elim (cases_lt next d) [
+      | inl further ↦ is.unknown d further below
+      | inr up ↦ subst (λ m. IsUnknown n (take m path ++ segment)) {x = next} {y = d} (omega (arith, up, above, some)) here
+    ];
+  }
+
+  -- one step behind another
+  pub of_through : (from middle next : ℕ) → IsNextOf n path segment from middle → IsNextOf n path segment middle next
+      → IsNextOf n path segment from next
+  of_through from middle next one two = record {
+    within = omega (arith, one.within, two.within);
+    unknown = λ d above below. elim (cases_lt middle d) [
+      | inl further ↦ one.unknown d further below
+      | inr up ↦ two.unknown d above up
+    ];
+  }
+
+  -- a depth between is next as well
+  pub of_sooner : (from next m : ℕ) → next ≤ m → m ≤ from → IsNextOf n path segment from next
+      → IsNextOf n path segment from m
+  of_sooner from next m less within is =
+      record { within = within; unknown = λ d above below. is.unknown d (omega (arith, above, less)) below }
+
+  pub none_given_below : (d next : ℕ) → IsNextOf n path segment d next → (e : ℕ) → next < e → e ≤ d
       → n.givens (take e path ++ segment) ≡ None
-  none_given_below d asked next e more less = below n.givens (take e path) (next.silent e more less).given
+  none_given_below d next is e more less = (is.unknown e more less).given
 
-  pub none_known_below : (d asked : ℕ) → d ≤ length path → IsNext n path d asked → (e : ℕ) → asked < e → e ≤ d
-      → (kind_at n (take e path ++ segment) ≡ None) × (n.outs (take e path ++ segment) ≡ None)
-  none_known_below d asked within next e more less =
-      let silent = next.silent e more less in
-      let undeclared = below n.declared (take e path) silent.declared in
-      let no_name : predefined (take e path ++ segment) ≡ None =
-      predefined_deep e path segment (λ root. omega (arith, root, more)) (omega (arith, less, within)) one in
-      ((λ i. option_or (undeclared i) (no_name i)), below n.outs (take e path) silent.out)
+  module _ (one : length segment ≡ 1) where
+    no_name : (d e : ℕ) → d ≤ length path → 0 < e → e ≤ d → predefined (take e path ++ segment) ≡ None
+    no_name d e within some less =
+        predefined_deep e path segment (λ root. omega (arith, root, some)) (omega (arith, less, within)) one
 
-  pub none_met_below : (locals : PathSet) (d asked : ℕ) → d ≤ length path → IsNext n path d asked →
-      ((e : ℕ) → asked < e → e ≤ d → set.contains locals (take e path ++ segment) ≡ false) →
-      (e : ℕ) → asked < e → e ≤ d → (decides n locals (take e path ++ segment) ≡ false) × (is_outside n (take e path ++ segment) ≡ false)
-  none_met_below locals d asked within next no_local e more less =
-      let silent = next.silent e more less in
-      let undeclared = below n.declared (take e path) silent.declared in
-      let no_name : predefined (take e path ++ segment) ≡ None =
-      predefined_deep e path segment (λ root. omega (arith, root, more)) (omega (arith, less, within)) one in
-      (λ i. no_local e more less i || is_some (option_or (undeclared i) (no_name i)), ap is_some (below n.outs (take e path) silent.out))
+    pub none_known_below : (d next : ℕ) → d ≤ length path → IsNextOf n path segment d next → (e : ℕ) → next < e → e ≤ d
+        → (kind_at n (take e path ++ segment) ≡ None) × (n.outs (take e path ++ segment) ≡ None)
+    none_known_below d next within is e more less =
+        let here = is.unknown e more less in
+        let mute = no_name d e within (omega (arith, more)) less in
+        ((λ i. option_or (here.declared i) (mute i)), here.out)
+
+    pub none_met_below : (locals : PathSet) (d next : ℕ) → d ≤ length path → IsNextOf n path segment d next →
+        ((e : ℕ) → next < e → e ≤ d → set.contains locals (take e path ++ segment) ≡ false) →
+        (e : ℕ) → next < e → e ≤ d → (decides n locals (take e path ++ segment) ≡ false) × (is_outside n (take e path ++ segment) ≡ false)
+    none_met_below locals d next within is no_local e more less =
+        let here = is.unknown e more less in
+        let mute = no_name d e within (omega (arith, more)) less in
+        ((λ i. no_local e more less i || is_some (option_or (here.declared i) (mute i))), ap is_some here.out)
+
+    -- what silence says of it
+    below : {X : Type 0} (part : List Seg → Option X) (q : List Seg) → ((s : Seg) → part (q ++ s ∷ []) ≡ None)
+        → part (q ++ segment) ≡ None
+    below part q none = subst (λ t. part (q ++ t) ≡ None) (alone segment (record { 0 = [] }) one) (none (get_or segment 0 (record { 0 = [] })))
+
+    pub next_of : (d next : ℕ) → IsNext n path d next → IsNextOf n path segment d next
+    next_of d next is = record {
+      within = is.within;
+      unknown = λ e more less.
+          let silent = is.silent e more less in
+          record {
+            declared = below n.declared (take e path) silent.declared;
+            out = below n.outs (take e path) silent.out;
+            given = below n.givens (take e path) silent.given;
+          };
+    }

@@ -97,6 +97,22 @@ pub record IsNextFrom (s : Scope) (from : ℕ) (l : Level) : Type 0 where
   pub level : IsLevel s l
   pub next : IsNext (names_of s) s.path from l.depth
 
+-- nothing is known of a path
+pub record IsUnknown (n : Namespace) (p : List Seg) : Type 0 where
+  pub declared : n.declared p ≡ None
+  pub out : n.outs p ≡ None
+  pub given : n.givens p ≡ None
+
+-- from one depth of a path up another is the next at which a segment may stand: of it nothing is known between them
+pub record IsNextOf (n : Namespace) (path segment : List Seg) (from next : ℕ) : Type 0 where
+  pub within : next ≤ from
+  pub unknown : (d : ℕ) → next < d → d ≤ from → IsUnknown n (take d path ++ segment)
+
+-- that level of a scope, from a depth up
+pub record IsNextWith (s : Scope) (segment : List Seg) (from : ℕ) (l : Level) : Type 0 where
+  pub level : IsLevel s l
+  pub next : IsNextOf (names_of s) s.path segment from l.depth
+
 -- the path of a candidate
 abbrev pub path_at : List Seg → List Seg → Candidate → List Seg
 path_at scope segment c = take c.depth scope ++ segment

@@ -1,9 +1,15 @@
--- A stepping stone of the proofs: the scopes that are open while tables load, and how a path stands near one.
+-- A stepping stone of the proofs: the scopes that are open while tables load, how a path stands near one, and what an
+-- Alias of a path stands for.
 use Rattle.std.specs.Prelude.{◌≡◌, ℕ, ◌≤◌, List, length, take, slice_get, Option, Some, IfSome}
 use Rattle.std.specs.Option.{option_map}
 use Rattle.aml_names.specs.declared.segments.Seg.{Seg}
 use Rattle.aml_space.specs.declared.opened.Near.{Near}
 use Rattle.aml_space.specs.declared.opened.PlacedPath.{PlacedPath}
+use Rattle.aml_space.specs.declared.opened.Source.{Source}
+use Rattle.aml_namespace.specs.declared.kinds.Kind.{Kind}
+use Rattle.aml_namespace.specs.declared.kinds.Kind.TheVariants.{Alias}
+use Rattle.aml_namespace.specs.Namespace.{Namespace, kind_at}
+use Rattle.aml_namespace.specs.Known.{Known, namespace_in}
 
 -- a scope is open at a place
 abbrev pub IsOpen : List (List Seg) → ℕ → List Seg → Type 0
@@ -20,6 +26,18 @@ pub record IsBelow (front : ℕ) (scope path : List Seg) : Type 0 where
   pub own : front ≤ length path
   pub deep : front ≤ length scope
   pub common : take front path ≡ take front scope
+
+-- what an Alias of a source stands for: an Alias' own target, else the source
+pub record IsTarget (n : Namespace) (source target : List Seg) : Type 0 where
+  pub alias : (own : List Seg) → kind_at n source ≡ Some (Alias own) → target ≡ own
+  pub other : ((own : List Seg) → kind_at n source ≡ Some (Alias own) → ⊥) → target ≡ source
+
+-- a source is near a scope that is open, and a kind is that of an Alias of it
+pub record IsSourceOf (k : Known) (kind : Kind) (s : Source) : Type 0 where
+  pub near : IsNear k.scopes s.near s.path.now
+  pub target : List Seg
+  pub alias : kind ≡ Alias target
+  pub is : IsTarget (namespace_in k) s.path.now target
 
 -- the path that was found, if one was
 abbrev pub path_of : Option PlacedPath → Option (List Seg)

@@ -3,17 +3,20 @@ ghost use Rattle.std.specs.Prelude.{◌≡◌, ◌+◌, ◌<◌, ◌≤◌, ◌+
 ghost use Rattle.aml_names.specs.declared.segments.Seg.{Seg as AnySeg};
 ghost use Rattle.aml_space.specs.declared.nodes.Node.{Node as AnyNode};
 ghost use Rattle.aml_children.specs.Numbered.{walk};
-ghost use Rattle.aml_space.specs.Nodes.{kids_of, links_of, IsIndex, Reaches};
+ghost use Rattle.aml_namespace.specs.declared.kinds.Kind.TheVariants.{Alias};
+ghost use Rattle.aml_namespace.specs.Known.{namespace_in};
+ghost use Rattle.aml_space.specs.Nodes.{kids_of, links_of, known_by, IsAim, IsIndex, Reaches};
 ghost use Rattle.aml_space.specs.Candidates.{AreSettled};
-ghost use Rattle.aml_space.specs.Near.{IsOpen, IsNear, IsBelow};
-ghost use Rattle.aml_space.specs.Opened.{AreHints, AreOpened, scopes_of};
+ghost use Rattle.aml_space.specs.Near.{IsOpen, IsNear, IsBelow, IsTarget, IsSourceOf};
+ghost use Rattle.aml_space.specs.Opened.{AreHints, AreOpened, known_in, scopes_of};
 
-use crate::growing::Reach;
+use crate::growing::{Aimed, Reach};
 use crate::nodes::Node;
 use crate::parents::link;
 use crate::settling::{Settled, skipped};
-use crate::walking::child;
+use crate::walking::{aim_at, child, kind_at};
 use aml_names::{NoMemory, Parts, Path, ScopedPath, Seg};
+use aml_namespace::Kind;
 use std::alloc::Global;
 
 /// A scope that was opened, and its node.
@@ -86,6 +89,13 @@ impl PlacedPath {
             front: self.front,
         }
     }
+}
+
+/// What an Alias is declared of, near a scope that is open: it stands for that, or for an Alias' own target.
+#[derive(Clone, Copy)]
+pub struct Source<'a> {
+    pub near: Near,
+    pub path: &'a ScopedPath,
 }
 
 /// What is kept besides the nodes, by which they are found sooner.
@@ -286,6 +296,47 @@ pub(crate) fn node_near(
         Some(reach.node)
     } else {
         None
+    }
+}
+
+/// The node of what an Alias of a source stands for, or 0 where it isn't known: that of the source, or the one that is
+/// kept of an Alias.
+pub(crate) fn aim_by(nodes: &[Node], hints: Hints<'_>, source: Source<'_>) -> usize
+    requires index { IsIndex nodes.now }
+    requires hints { AreHints nodes.now hints }
+    requires near { IsNear (scopes_of hints.scopes.now) source.near source.path.now }
+    ensures { (t : List AnySeg) → IsTarget (namespace_in (known_by nodes.now)) source.entry.path.now t →
+        IsAim nodes.now (Some (Alias t)) result }
+{
+    let node = node_near(nodes, hints, source.near, &source.path.parts());
+    match kind_at(nodes, node) {
+        None => 0,
+        Some(kind) => match kind {
+            Kind::Alias { .. } => aim_at(nodes, node),
+            _ => node.unwrap_or(0),
+        },
+    }
+}
+
+/// A kind, with that node where its source is told.
+pub(crate) fn aimed_by(
+    nodes: &[Node],
+    hints: Hints<'_>,
+    kind: Kind,
+    source: Option<Source<'_>>,
+) -> Aimed
+    requires index { IsIndex nodes.now }
+    requires hints { AreHints nodes.now hints }
+    requires source { IfSome source (IsSourceOf (known_in nodes.now hints.scopes.now) kind) }
+    ensures kind { result.kind ≡ kind }
+    ensures aim { IsAim nodes.now (Some kind) result.aim }
+{
+    match source {
+        None => Aimed { kind, aim: 0 },
+        Some(source) => Aimed {
+            kind,
+            aim: aim_by(nodes, hints, source),
+        },
     }
 }
 

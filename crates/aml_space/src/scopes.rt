@@ -20,7 +20,7 @@ ghost use Rattle.aml_namespace.specs.Tallies.{counts_in};
 ghost use Rattle.aml_space.specs.Candidates.{path_at, names_of, outlook_at, IsBare};
 ghost use Rattle.aml_namespace.specs.Searching.{local_from, agreed_among, above};
 ghost use Rattle.aml_space.specs.Candidates.{HasBareChildren, AreSettled};
-ghost use Rattle.aml_space.specs.Candidates.{IsLevel, IsScope, IsNextFrom, IsCandidate};
+ghost use Rattle.aml_space.specs.Candidates.{IsLevel, IsScope, IsNextFrom, IsNextWith, IsCandidate};
 
 use crate::counting::{count_met, counts_met, kind_met, known_met, sure_met};
 use crate::growing::Reach;
@@ -164,16 +164,54 @@ impl<'a> Scope<'a> {
         self.next_asked(above)
     }
 
+    /// The nearest level from this one up that has a child by a segment, else the root's.
+    fn next_with(&self, segment: &[Seg], level: Level) -> Level
+        requires scope { IsScope self.now }
+        requires level { IsLevel self.now level }
+        requires one { length segment.now ≡ 1 }
+        ensures { IsNextWith self.now segment.now level.depth result }
+    {
+        let mut at = level;
+        while at.depth > 0 && self.node_at(segment, at).is_none() {
+            at = self.asked_above(at);
+        }
+        at
+    }
+
+    /// The first such level, from the scope up. Nothing is known of the segment further down.
+    pub(crate) fn first_with(&self, segment: &[Seg]) -> Level
+        requires scope { IsScope self.now }
+        requires one { length segment.now ≡ 1 }
+        ensures { IsNextWith self.now segment.now (length self.now.path) result }
+    {
+        let first = self.first_asked();
+        self.next_with(segment, first)
+    }
+
+    /// The next one, above a level.
+    fn with_above(&self, segment: &[Seg], level: Level) -> Level
+        requires scope { IsScope self.now }
+        requires level { IsLevel self.now level }
+        requires one { length segment.now ≡ 1 }
+        requires deep { 0 < level.depth }
+        ensures { IsNextWith self.now segment.now (level.depth - 1) result }
+    {
+        let above = self.asked_above(level);
+        self.next_with(segment, above)
+    }
+
     /// Each candidate is a child of one of the scope's nodes. The first one that decides is meant, else the first one
-    /// that an External names.
+    /// that an External names. `first`: the first level that has such a child.
     pub(crate) fn search(
         &self,
         alloc: Global,
         locals: &SeenLocals<'_>,
+        first: Level,
         segment: &[Seg],
     ) -> Result<Option<Candidate>, NoMemory>
         requires scope { IsScope self.now }
         requires seen { AreOf locals.now self.now.path }
+        requires first { IsNextWith self.now segment.now (length self.now.path) first }
         requires one { length segment.now ≡ 1 }
         ensures found { IfOk result (λ met. option_map (path_at self.now.path segment.now) met
             ≡ first_of (names_of self.now) locals.now.paths
@@ -183,7 +221,7 @@ impl<'a> Scope<'a> {
     {
         let nearest = locals.nearest(alloc, &self.path, segment[0])?;
         let mut outside: Option<Candidate> = None;
-        let mut level = self.first_asked();
+        let mut level = first;
         'levels: loop {
             if let Some(local) = nearer(nearest, level.depth) {
                 return Ok(Some(Candidate {
@@ -204,7 +242,7 @@ impl<'a> Scope<'a> {
             if level.depth == 0 {
                 return Ok(outside);
             }
-            level = self.asked_above(level);
+            level = self.with_above(segment, level);
         }
     }
 
@@ -231,7 +269,8 @@ impl<'a> Scope<'a> {
         ensures within { IfOk result (λ met. IfSome met (λ c. c.depth ≤ length self.now.path)) }
     {
         let locals = Locals::new(alloc);
-        match self.search(alloc, &locals.seen(), segment)? {
+        let first = self.first_with(segment);
+        match self.search(alloc, &locals.seen(), first, segment)? {
             None => Ok(None),
             Some(here) => {
                 if self.may_lead_further(segment, here) {
@@ -420,22 +459,24 @@ impl<'a> Scope<'a> {
     }
 
     /// The counts of all that a segment may mean: of each candidate up to and with the first that is one of the locals,
-    /// whose count is 0, or has a kind in every run.
+    /// whose count is 0, or has a kind in every run. `first`: the first level that has a child by the segment.
     pub(crate) fn counts(
         &self,
         alloc: Global,
         locals: &SeenLocals<'_>,
+        first: Level,
         segment: &[Seg],
     ) -> Result<Counts, NoMemory>
         requires scope { IsScope self.now }
         requires seen { AreOf locals.now self.now.path }
+        requires first { IsNextWith self.now segment.now (length self.now.path) first }
         requires one { length segment.now ≡ 1 }
         ensures { IfOk result (λ counts. counts ≡ counts_in (met (outlook_at self.now) locals.now.paths
             (upward (length self.now.path) self.now.path segment.now))) }
     {
         let nearest = locals.nearest(alloc, &self.path, segment[0])?;
         let mut counts = Counts::Nothing;
-        let mut level = self.first_asked();
+        let mut level = first;
         'levels: loop {
             if nearer(nearest, level.depth).is_some() {
                 return Ok(counts.joined(Counts::One(0)));
@@ -448,7 +489,7 @@ impl<'a> Scope<'a> {
             if sure {
                 return Ok(counts);
             }
-            level = self.asked_above(level);
+            level = self.with_above(segment, level);
         }
     }
 
@@ -479,14 +520,16 @@ impl<'a> Scope<'a> {
         sure_met(self.nodes, here.node, self.standing(segment, here.depth))
     }
 
-    /// The count that the user gives to the first candidate of a segment that has one.
-    pub(crate) fn given(&self, segment: &[Seg]) -> Option<u8>
+    /// The count that the user gives to the first candidate of a segment that has one. `first`: the first level that
+    /// has a child by the segment.
+    pub(crate) fn given(&self, first: Level, segment: &[Seg]) -> Option<u8>
         requires scope { IsScope self.now }
+        requires first { IsNextWith self.now segment.now (length self.now.path) first }
         requires one { length segment.now ≡ 1 }
         ensures { result ≡ first_given (names_of self.now)
             (upward (length self.now.path) self.now.path segment.now) }
     {
-        let mut level = self.first_asked();
+        let mut level = first;
         'levels: loop {
             let node = self.node_at(segment, level);
             if let Some(count) = given_at(self.nodes, node) {
@@ -495,7 +538,7 @@ impl<'a> Scope<'a> {
             if level.depth == 0 {
                 return None;
             }
-            level = self.asked_above(level);
+            level = self.with_above(segment, level);
         }
     }
 }

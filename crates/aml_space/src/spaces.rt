@@ -1,7 +1,7 @@
 //! The namespace that tables make.
 ghost use Rattle.std.specs.Prelude.{◌≡◌, ◌≤◌, ◌*◌, length, slice_get, [], ◌∷◌, ◌++◌, List, Option, true, false};
 ghost use Rattle.std.specs.Prelude.{is_some, not, cond, take, Ok};
-ghost use Rattle.std.specs.Prelude.{map as map_list, ◌⊎◌, OnOk, OnErr, IfOk, IfErr, IsTrue};
+ghost use Rattle.std.specs.Prelude.{map as map_list, ◌⊎◌, OnOk, OnErr, IfOk, IfErr, IfSome, IsTrue};
 ghost use Rattle.std.specs.Option.{option_copied};
 ghost use Rattle.std.specs.FinMap as map;
 ghost use Rattle.aml_namespace.specs.Namespace.{Entry, Body, declares, external as outside, given as said};
@@ -9,7 +9,7 @@ ghost use Rattle.aml_namespace.specs.Namespace.{kind_at, count_at, namespace_of,
 ghost use Rattle.aml_namespace.specs.Runs.{sure_at};
 ghost use Rattle.aml_space.specs.Nodes.{known_by};
 ghost use Rattle.aml_namespace.specs.Known.{with_scopes};
-ghost use Rattle.aml_space.specs.Near.{IsNear};
+ghost use Rattle.aml_space.specs.Near.{IsNear, IsSourceOf};
 ghost use Rattle.aml_space.specs.Candidates.{names_of, outlook_at, IsScope};
 ghost use Rattle.aml_namespace.specs.Known.{StandsFor, nothing_known, once, with_declaration, with_declared};
 ghost use Rattle.aml_namespace.specs.Known.{with_again};
@@ -22,7 +22,8 @@ use crate::growing::{declare_again, declare_first, extend, is_taken, set_given, 
 use crate::listing::{Rows, list_rows};
 use crate::nodes::Node;
 use crate::opened::{
-    Hints, Keeps, Near, Opened, forget_scope, keep_scope, node_near, reach_along, reach_near,
+    Hints, Keeps, Near, Opened, Source, aimed_by, forget_scope, keep_scope, node_near, reach_along,
+    reach_near,
 };
 use crate::rows::Row;
 use crate::scopes::Scope;
@@ -114,7 +115,7 @@ impl Space {
             IsTrue (declared_yet self.old path))) }
         ensures duplicate { IsTrue (declared_yet self.old path) → result ≡ Err (SpaceFault.Duplicate path) }
     {
-        if self.put_once(Near::root(), &path.parts(), kind, true)? {
+        if self.put_once(Near::root(), &path.parts(), kind, None, true)? {
             Ok(())
         } else {
             Err(SpaceFault::Duplicate(path))
@@ -122,15 +123,18 @@ impl Space {
     }
 
     /// Declares a path that isn't declared yet, surely or not, and answers whether it did: `false` where the path is
-    /// declared already, which takes no memory. A refused call changes nothing.
+    /// declared already, which takes no memory. A refused call changes nothing. `source`: what an Alias is declared of,
+    /// by which that is found without a search.
     pub fn put_once(
         &mut self,
         near: Near,
         path: &Parts<'_>,
         kind: Kind,
+        source: Option<Source<'_>>,
         surely: bool,
     ) -> Result<bool, NoMemory>
-        requires { IsNear self.old.scopes near path.now }
+        requires near { IsNear self.old.scopes near path.now }
+        requires source { IfSome source (IsSourceOf self.old kind) }
         ensures put { IfOk result (λ put. put ≡ not (declared_yet self.old path.now)) }
         ensures known { IfOk result (λ put. self.new
             ≡ cond put (with_declaration self.old path.now (once kind surely)) self.old) }
@@ -152,12 +156,14 @@ impl Space {
         if self.rows == usize::MAX {
             return Err(AllocError);
         }
+        let hints = hints_of!(self);
+        let aimed = aimed_by(self.nodes.as_slice(), hints, kind, source);
         declare_first(
             self.alloc,
             &mut self.nodes,
-            hints_of!(self),
+            hints,
             path,
-            kind,
+            aimed,
             surely,
             reach,
         )?;
@@ -173,18 +179,20 @@ impl Space {
             OnOk result (StandsFor self.new (es ++ declares path kind body sure ∷ [])) }
         ensures err { OnErr result (self.new ≡ self.old) }
     {
-        self.put_again(Near::root(), &path.parts(), kind, sure)
+        self.put_again(Near::root(), &path.parts(), kind, None, sure)
     }
 
-    /// The same of a path in parts.
+    /// The same of a path in parts. `source`: what an Alias is declared of, by which that is found without a search.
     pub fn put_again(
         &mut self,
         near: Near,
         path: &Parts<'_>,
         kind: Kind,
+        source: Option<Source<'_>>,
         sure: bool,
     ) -> Result<(), NoMemory>
-        requires { IsNear self.old.scopes near path.now }
+        requires near { IsNear self.old.scopes near path.now }
+        requires source { IfSome source (IsSourceOf self.old kind) }
         ensures ok { OnOk result (self.new ≡ with_again self.old path.now kind sure) }
         ensures stands { (es : List Entry) (body : Option Body) → StandsFor self.old es →
             OnOk result (StandsFor self.new (es ++ declares path.now kind body sure ∷ [])) }
@@ -199,12 +207,14 @@ impl Space {
         if self.rows == usize::MAX {
             return Err(AllocError);
         }
+        let hints = hints_of!(self);
+        let aimed = aimed_by(self.nodes.as_slice(), hints, kind, source);
         declare_first(
             self.alloc,
             &mut self.nodes,
-            hints_of!(self),
+            hints,
             path,
-            kind,
+            aimed,
             sure,
             reach,
         )?;

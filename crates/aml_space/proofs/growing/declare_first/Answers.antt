@@ -24,16 +24,16 @@ put_here : (c : After-set_declared)
     → HasDeclared c.aim_of.new.nodes.items c.set_declared.new.nodes.items c.in_ok-at.at c.in_ok-said.said.value
     c.in_ok-aim.aim
     → IsIndex c.set_declared.new.nodes.items × (known_by c.set_declared.new.nodes.items
-    ≡ with_declaration (known_by c.args.nodes.now.items) c.args.path.now (once c.args.kind c.args.sure))
+    ≡ with_declaration (known_by c.args.nodes.now.items) c.args.path.now (once c.args.aimed.kind c.args.sure))
 put_here c has =
-    let said : c.in_ok-said.said.value ≡ once c.args.kind c.args.sure = c.in_ok-said.ensures.ok ∙ c.in_ok-new.ensures in
+    let said : c.in_ok-said.said.value ≡ once c.args.aimed.kind c.args.sure = c.in_ok-said.ensures.ok ∙ c.in_ok-new.ensures in
     let kind = c.kind.ensures ∙ ap (λ (d : Declared). d.kind) (c.deref.ensures ∙ said) in
     let led = c.aim_of.ensures.kept.there c.args.path.now c.in_ok-at.at c.in_ok-at.ensures.node in
     let put = put_declared c.aim_of.new.nodes.items c.set_declared.new.nodes.items c.args.path.now c.in_ok-at.at c.aim_of.ensures.index
-    led (once c.args.kind c.args.sure) c.in_ok-aim.aim
+    led (once c.args.aimed.kind c.args.sure) c.in_ok-aim.aim
     (subst (λ k. IsAim c.aim_of.new.nodes.items (Some k) c.in_ok-aim.aim) kind c.in_ok-aim.ensures.aim)
     (subst (λ d. HasDeclared c.aim_of.new.nodes.items c.set_declared.new.nodes.items c.in_ok-at.at d c.in_ok-aim.aim) said has) in
-    (put.0, put.1 ∙ ap (λ k. with_declaration k c.args.path.now (once c.args.kind c.args.sure)) (c.aim_of.ensures.known ∙ c.extend.ensures.known))
+    (put.0, put.1 ∙ ap (λ k. with_declaration k c.args.path.now (once c.args.aimed.kind c.args.sure)) (c.aim_of.ensures.known ∙ c.extend.ensures.known))
 
 pub returns-clause-index : goal.returns-clause-index
 returns-clause-index c = (put_here (goal.at.returns-clause-index c).After-set_declared c.set_declared.ensures).0

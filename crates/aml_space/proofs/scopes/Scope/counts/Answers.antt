@@ -10,10 +10,8 @@ use Rattle.aml_space.specs.declared.scopes.Scope.{Scope}
 use Rattle.aml_space.specs.Nodes.{known_by}
 use Rattle.aml_namespace.specs.Runs.{counts_met, counts_of}
 use Rattle.aml_namespace.specs.Tallies.{joined, counts_in}
-use Rattle.aml_space.specs.Candidates.{names_of, outlook_at}
-use Rattle.aml_namespace.specs.Searching.{IsNext}
-use Rattle.aml_space.proofs.Asked.{none_known_below}
-use Rattle.aml_space.proofs.Levels.{next_sooner}
+use Rattle.aml_space.specs.Candidates.{names_of, outlook_at, IsNextOf}
+use Rattle.aml_space.proofs.Asked.{none_known_below, of_sooner}
 use Rattle.aml_namespace.proofs.Nearest.{near_within, passed_by, local_there, other_there, no_local, some_local}
 use Rattle.aml_namespace.proofs.Nearest.{less_above}
 use Rattle.aml_namespace.proofs.Nearest.{less_here}
@@ -24,7 +22,7 @@ use Rattle.aml_space.proofs.scopes.Scope.counts.Goals.{After-joined-counts}
 -- from a depth up to another, between which nothing stands
 further : (s : Scope) (locals : PathSet) (segment : List Seg) → length segment ≡ 1 → (o : Option ℕ) →
     o ≡ nearest locals s.path (get_or segment 0 (record { 0 = [] }) ∷ []) → (d asked : ℕ) → d ≤ length s.path →
-    IsNext (names_of s) s.path d asked → IfSome o (λ n. n ≤ asked) →
+    IsNextOf (names_of s) s.path segment d asked → IfSome o (λ n. n ≤ asked) →
     counts_met (outlook_at s) locals (upward d s.path segment) ≡ counts_met (outlook_at s) locals (upward asked s.path segment)
 further s locals segment one o is d asked within next above = skip_met (outlook_at s) locals s.path segment (first_in (known_by s.nodes.now)) asked d
     next.within (passed_by locals s.path segment one o is d asked within above)
@@ -61,7 +59,7 @@ levels-init c =
       record {
         within = omega arith;
         above = near_within c.args.locals.now.paths s.path c.args.segment.now c.requires.one c.in_ok-nearest.nearest c.in_ok-nearest.ensures;
-        next = c.first_asked-level.ensures;
+        next = c.requires.first;
         same = refl;
       },
     )
@@ -76,7 +74,7 @@ returns-then-is_some c =
     let within : there.0 ≤ from = subst (λ o. IfSome o (λ n. n ≤ from)) there.1 inv.above in
     c.joined.ensures ∙ sym (inv.same ∙ ap (λ ns. joined c.levels.counts (counts_in ns)) (further s c.args.locals.now.paths c.args.segment.now
     c.requires.one near c.in_ok-nearest.ensures from there.0
-    inv.within (next_sooner (names_of s) s.path from c.levels.level.depth there.0 there.2 within inv.next.next)
+    inv.within (of_sooner (names_of s) s.path c.args.segment.now from c.levels.level.depth there.0 there.2 within inv.next.next)
     (subst (λ o. IfSome o (λ n. n ≤ there.0)) (sym there.1) (omega arith)))
     ∙ at_local (outlook_at s) c.args.locals.now.paths s.path c.args.segment.now c.levels.counts there.0
     (local_there c.args.locals.now.paths s.path c.args.segment.now c.requires.one near c.in_ok-nearest.ensures there.0 there.1))
@@ -106,7 +104,7 @@ levels-preserved c =
       record {
         within = omega (arith, inv.next.level.within);
         above = less_above c.in_ok-nearest.nearest d positive (none_here b);
-        next = c.asked_above-level.ensures;
+        next = c.with_above-level.ensures;
         same = same_here b ∙ on_from (outlook_at s) c.args.locals.now.paths s.path c.args.segment.now c.levels.counts d (other b)
             (sym c.counts_at-here.ensures.sure ∙ c.if-sure.false) positive
             ∙ ap (λ m. joined m (counts_in (counts_met (outlook_at s) c.args.locals.now.paths (upward (d - 1) s.path c.args.segment.now)))) (sym (so_far b));

@@ -1,6 +1,6 @@
 use Rattle.std.proofs.Common.{◌≡◌, ℕ, ◌≤◌, length, IfSome}
 use Rattle.aml_names.specs.Searching.{upward}
-use Rattle.aml_space.specs.Candidates.{outlook_at, IsNextFrom}
+use Rattle.aml_space.specs.Candidates.{outlook_at, IsNextWith}
 use Rattle.aml_namespace.specs.Runs.{counts_met}
 use Rattle.aml_namespace.specs.Tallies.{joined, counts_in}
 use Rattle.aml_space.proofs.scopes.Scope.counts.Given as goal
@@ -9,7 +9,7 @@ abbrev pub invariant-levels : goal.invariant-levels
 invariant-levels l = (from : ℕ) × record {
   within : from ≤ length l.self.path;
   above : IfSome l.nearest (λ n. n ≤ from);
-  next : IsNextFrom l.self from l.level;
+  next : IsNextWith l.self l.segment from l.level;
   same : counts_in (counts_met (outlook_at l.self) l.locals.paths (upward (length l.self.path) l.self.path l.segment))
       ≡ joined l.counts (counts_in (counts_met (outlook_at l.self) l.locals.paths (upward from l.self.path l.segment)));
 }

@@ -3,8 +3,7 @@ use Rattle.std.specs.FinSet as set
 use Rattle.aml_names.specs.declared.segments.Seg.{Seg}
 use Rattle.aml_names.specs.Searching.{upward}
 use Rattle.aml_space.specs.declared.scopes.Scope.{Scope}
-use Rattle.aml_space.specs.Candidates.{names_of}
-use Rattle.aml_namespace.specs.Searching.{IsNext}
+use Rattle.aml_space.specs.Candidates.{names_of, IsNextOf}
 use Rattle.aml_namespace.specs.Namespace.{first_given}
 use Rattle.aml_space.proofs.Asked.{none_given_below}
 use Rattle.aml_namespace.proofs.Given.{here_given, above_given, root_given, skip_given}
@@ -13,10 +12,10 @@ use Rattle.aml_space.proofs.scopes.Scope.given.Goals as goal
 use Rattle.aml_space.proofs.scopes.Scope.given.Goals.{After-given_at, In_default}
 
 -- from a depth up to the next one that is asked
-further : (s : Scope) (segment : List Seg) → length segment ≡ 1 → (d asked : ℕ) → IsNext (names_of s) s.path d asked →
+further : (s : Scope) (segment : List Seg) (d asked : ℕ) → IsNextOf (names_of s) s.path segment d asked →
     first_given (names_of s) (upward d s.path segment) ≡ first_given (names_of s) (upward asked s.path segment)
-further s segment one d asked next = skip_given (names_of s) set.empty s.path segment asked d next.within
-    (none_given_below (names_of s) s.path segment one d asked next)
+further s segment d asked next = skip_given (names_of s) set.empty s.path segment asked d next.within
+    (none_given_below (names_of s) s.path segment d asked next)
 
 none_by : (o : Option ℕ) → ((x : ℕ) → o ≡ Some x → ⊥) → o ≡ None
 none_by None h = refl
@@ -33,7 +32,7 @@ same_here : (c : After-given_at)
     → first_given (names_of c.args.self.now) (upward (length c.args.self.now.path) c.args.self.now.path c.args.segment.now)
     ≡ first_given (names_of c.args.self.now) (upward c.levels.level.depth c.args.self.now.path c.args.segment.now)
 same_here c = c.levels.invariant.1.same
-    ∙ further c.args.self.now c.args.segment.now c.requires.one c.levels.invariant.0 c.levels.level.depth c.levels.invariant.1.next.next
+    ∙ further c.args.self.now c.args.segment.now c.levels.invariant.0 c.levels.level.depth c.levels.invariant.1.next.next
 
 pub returns-in-Some : goal.returns-in-Some
 returns-in-Some c =
@@ -62,7 +61,7 @@ levels-preserved c =
       d - 1,
       record {
         within = omega (arith, c.levels.invariant.1.next.level.within);
-        next = c.asked_above-level.ensures;
+        next = c.with_above-level.ensures;
         same = same_here (goal.at.levels-preserved c).After-given_at ∙ above_given (names_of s) set.empty s.path c.args.segment.now d
             (take d s.path ++ c.args.segment.now) refl (none_here (goal.at.levels-preserved c).In_default) (omega (arith, c.if-level-eq0.false));
       },

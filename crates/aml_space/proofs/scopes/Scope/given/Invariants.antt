@@ -1,13 +1,13 @@
 use Rattle.std.proofs.Common.{◌≡◌, ℕ, ◌≤◌, length}
 use Rattle.aml_names.specs.Searching.{upward}
 use Rattle.aml_namespace.specs.Namespace.{first_given}
-use Rattle.aml_space.specs.Candidates.{names_of, IsNextFrom}
+use Rattle.aml_space.specs.Candidates.{names_of, IsNextWith}
 use Rattle.aml_space.proofs.scopes.Scope.given.Given as goal
 
 abbrev pub invariant-levels : goal.invariant-levels
 invariant-levels l = (from : ℕ) × record {
   within : from ≤ length l.self.path;
-  next : IsNextFrom l.self from l.level;
+  next : IsNextWith l.self l.segment from l.level;
   same : first_given (names_of l.self) (upward (length l.self.path) l.self.path l.segment)
       ≡ first_given (names_of l.self) (upward from l.self.path l.segment);
 }

@@ -7,7 +7,7 @@ use Rattle.aml_space.specs.declared.scopes.Scope.{Scope}
 use Rattle.aml_namespace.specs.Runs.{is_known}
 use Rattle.aml_space.specs.Candidates.{names_of}
 use Rattle.aml_namespace.specs.Searching.{above, IsNext}
-use Rattle.aml_space.proofs.Asked.{none_known_below}
+use Rattle.aml_space.proofs.Asked.{none_known_below, next_of}
 use Rattle.aml_namespace.proofs.Meeting.{known_here, known_on, known_root, skip_known}
 use Rattle.aml_space.proofs.scopes.Scope.is_known_above.Goals as goal
 use Rattle.aml_space.proofs.scopes.Scope.is_known_above.Goals.{After-is_known_at}
@@ -17,7 +17,7 @@ further : (s : Scope) (segment : List Seg) → length segment ≡ 1 → (d asked
     → IsNext (names_of s) s.path d asked
     → find (is_known (names_of s)) (upward d s.path segment) ≡ find (is_known (names_of s)) (upward asked s.path segment)
 further s segment one d asked within next = skip_known (names_of s) set.empty s.path segment asked d next.within
-    (none_known_below (names_of s) s.path segment one d asked within next)
+    (none_known_below (names_of s) s.path segment one d asked within (next_of (names_of s) s.path segment one d asked next))
 
 above_on : (scope segment : List Seg) (d : ℕ) → (d ≡ 0 → ⊥) → above scope segment d ≡ upward (d - 1) scope segment
 above_on scope segment zero some = absurd (some refl)

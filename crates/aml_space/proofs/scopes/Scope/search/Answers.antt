@@ -12,10 +12,8 @@ use Rattle.aml_space.specs.declared.scopes.Candidate.{Candidate}
 use Rattle.aml_space.specs.declared.scopes.Scope.{Scope}
 use Rattle.aml_namespace.specs.Namespace.{kind_at, first_of, decides, is_outside}
 use Rattle.aml_space.specs.Nodes.{outs_of}
-use Rattle.aml_space.specs.Candidates.{path_at, names_of, IsCandidate}
-use Rattle.aml_namespace.specs.Searching.{IsNext}
-use Rattle.aml_space.proofs.Asked.{none_met_below}
-use Rattle.aml_space.proofs.Levels.{next_sooner}
+use Rattle.aml_space.specs.Candidates.{path_at, names_of, IsCandidate, IsNextOf}
+use Rattle.aml_space.proofs.Asked.{none_met_below, of_sooner}
 use Rattle.aml_namespace.proofs.Nearest.{near_within, passed_by, local_met, local_there, other_there, none_local}
 use Rattle.aml_namespace.proofs.Nearest.{less_above, less_here}
 use Rattle.aml_namespace.proofs.Upward.{rest_of, hit, step, skip}
@@ -26,7 +24,7 @@ use Rattle.aml_space.proofs.scopes.Scope.search.Goals.{After-has_kind}
 -- from a depth up to another, between which nothing stands
 further : (s : Scope) (locals : PathSet) (segment : List Seg) → length segment ≡ 1 → (o : Option ℕ) →
     o ≡ nearest locals s.path (get_or segment 0 (record { 0 = [] }) ∷ []) → (outside : Option ℕ) (d asked : ℕ) → d ≤ length s.path →
-    IsNext (names_of s) s.path d asked → IfSome o (λ n. n ≤ asked) →
+    IsNextOf (names_of s) s.path segment d asked → IfSome o (λ n. n ≤ asked) →
     rest_of (names_of s) locals s.path segment outside (upward d s.path segment)
     ≡ rest_of (names_of s) locals s.path segment outside (upward asked s.path segment)
 further s locals segment one o is outside d asked within next above = skip (names_of s) locals s.path segment asked d outside next.within
@@ -91,7 +89,7 @@ levels-init c =
       record {
         within = omega arith;
         above = near_within c.args.locals.now.paths s.path c.args.segment.now c.requires.one c.in_ok-nearest.nearest c.in_ok-nearest.ensures;
-        next = c.first_asked-level.ensures;
+        next = c.requires.first;
         outside = tt;
         same = refl;
       },
@@ -109,7 +107,7 @@ returns-in-Some-clause-found c =
     let within : n ≤ from = subst (λ o. IfSome o (λ n. n ≤ from)) met.0 inv.above in
     let there = local_there locals s.path c.args.segment.now c.requires.one near c.in_ok-nearest.ensures n met.0 in
     sym (inv.same ∙ further s locals c.args.segment.now c.requires.one near c.in_ok-nearest.ensures (depth_of c.levels.outside) from n inv.within
-    (next_sooner (names_of s) s.path from c.levels.level.depth n met.1 within inv.next.next) (subst (λ o. IfSome o (λ m. m ≤ n)) (sym met.0) (omega arith))
+    (of_sooner (names_of s) s.path c.args.segment.now from c.levels.level.depth n met.1 within inv.next.next) (subst (λ o. IfSome o (λ m. m ≤ n)) (sym met.0) (omega arith))
     ∙ hit (names_of s) locals s.path c.args.segment.now n _ _ refl
     (ap (λ b. b || is_some (kind_at (names_of s) (take n s.path ++ c.args.segment.now))) there))
 
@@ -159,7 +157,7 @@ levels-preserved c =
       record {
         within = omega (arith, c.levels.invariant.1.next.level.within);
         above = less_above c.in_ok-nearest.nearest d positive (none_here b);
-        next = c.asked_above-level.ensures;
+        next = c.with_above-level.ensures;
         outside = outside_here b c.first_outside-outside.result c.first_outside-outside.ensures;
         same = same_here b ∙ step (names_of s) locals s.path segment d (take d s.path ++ segment) (depth_of c.levels.outside) refl
             (sym (meant b) ∙ c.if-has_kind.false) positive

@@ -23,7 +23,8 @@ not_declared c free = none_from_test _ (sym (known_taken _ _ _ _ _ c.args.self.n
 put_here : (c : In_ok-declare_first) → map.get c.args.self.now.declarations c.args.path.now ≡ None
     → known_in c.declare_first.new.nodes.items c.self.inside.scopes.items
     ≡ with_again c.args.self.now c.args.path.now c.args.kind c.args.sure
-put_here c none = ap (λ k. with_scopes k (scopes_of c.self.inside.scopes.items)) c.in_ok-declare_first.ensures.ok
+put_here c none = ap (λ k. with_scopes k (scopes_of c.self.inside.scopes.items)) (c.in_ok-declare_first.ensures.ok
+    ∙ ap (λ kind. with_declaration (known_by c.self.inside.nodes.items) c.args.path.now (once kind c.args.sure)) c.aimed_by-aimed.ensures.kind)
     ∙ ap (λ k. with_declaration k c.args.path.now (once c.args.kind c.args.sure)) c.self.view_is
     ∙ sym (again_first c.args.self.now c.args.path.now c.args.kind c.args.sure none)
 
@@ -84,7 +85,7 @@ invariant_of-self-2 c =
       scopes = kept_opened c.self.inside.nodes.items c.declare_first.new.nodes.items c.self.inside.scopes.items c.declare_first.ensures.kept
           c.self.invariant.scopes;
       settled = still_settled (goal.at.invariant_of-self-2 c).After-declare_first
-          (said_declared _ _ c.args.path.now (once c.args.kind c.args.sure) c.in_ok-declare_first.ensures.ok);
+          (said_declared _ _ c.args.path.now _ c.in_ok-declare_first.ensures.ok);
     }
 
 pub returns-clause-ok : goal.returns-clause-ok

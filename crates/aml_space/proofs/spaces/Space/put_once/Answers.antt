@@ -29,7 +29,8 @@ never c free there = absurd (true≢false (sym there ∙ sym (taken c) ∙ free)
 
 put_here : (c : In_ok-declare_first) → known_in c.declare_first.new.nodes.items c.self.inside.scopes.items
     ≡ with_declaration c.args.self.now c.args.path.now (once c.args.kind c.args.surely)
-put_here c = ap (λ k. with_scopes k (scopes_of c.self.inside.scopes.items)) c.in_ok-declare_first.ensures.ok
+put_here c = ap (λ k. with_scopes k (scopes_of c.self.inside.scopes.items)) (c.in_ok-declare_first.ensures.ok
+    ∙ ap (λ kind. with_declaration (known_by c.self.inside.nodes.items) c.args.path.now (once kind c.args.surely)) c.aimed_by-aimed.ensures.kind)
     ∙ ap (λ k. with_declaration k c.args.path.now (once c.args.kind c.args.surely)) c.self.view_is
 
 -- what is kept for searches stays right
@@ -68,7 +69,7 @@ invariant_of-self-2 c =
       scopes = kept_opened c.self.inside.nodes.items c.declare_first.new.nodes.items c.self.inside.scopes.items c.declare_first.ensures.kept
           c.self.invariant.scopes;
       settled = still_settled (goal.at.invariant_of-self-2 c).After-declare_first
-          (said_declared _ _ c.args.path.now (once c.args.kind c.args.surely) c.in_ok-declare_first.ensures.ok);
+          (said_declared _ _ c.args.path.now _ c.in_ok-declare_first.ensures.ok);
     }
 
 pub returns-clause-stands : goal.returns-clause-stands

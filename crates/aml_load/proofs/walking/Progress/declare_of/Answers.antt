@@ -1,7 +1,7 @@
 use Rattle.std.proofs.Common.{None}
 use Rattle.aml_load.specs.Walking.{at_site}
 use Rattle.aml_load.proofs.Holding.{declared_walked}
-use Rattle.aml_load.proofs.walking.Progress.declare.Goals as goal
+use Rattle.aml_load.proofs.walking.Progress.declare_of.Goals as goal
 
 pub returns-clause-walks : goal.returns-clause-walks
 returns-clause-walks c l h =

@@ -1,0 +1,21 @@
+use Rattle.std.proofs.Common.{◌≡◌, Some, rules}
+use Rattle.std.specs.Option.{option_and_then}
+use Rattle.aml_space.specs.Nodes.{kinds_of}
+use Rattle.aml_space.proofs.Opening.{aim_kept, aim_here}
+use Rattle.aml_space.proofs.opened.aim_by.Goals as goal
+
+pub returns-in-Alias : goal.returns-in-Alias
+returns-in-Alias c t aims =
+    let ns = c.args.nodes.now in
+    let node = c.node_near-node.result in
+    let has : option_and_then (kinds_of ns) node ≡ Some c.in-Some.kind.now = search rules in
+    aim_kept ns c.requires.index c.args.source.path.now t node (rw (← c.parts.ensures) c.node_near-node.ensures.node) aims c.in-Some.kind.now c.in-Alias.target
+    c.aim_at.result has c.in-Alias.is (c.aim_at.ensures.aim c.requires.index.aimed)
+
+pub returns-in_default : goal.returns-in_default
+returns-in_default c t aims =
+    let ns = c.args.nodes.now in
+    let node = c.node_near-node.result in
+    let has : option_and_then (kinds_of ns) node ≡ Some c.in-Some.kind.now = search rules in
+    aim_here ns c.requires.index c.args.source.path.now t node (rw (← c.parts.ensures) c.node_near-node.ensures.node) aims c.in-Some.kind.now c.unwrap_or.result has
+    c.in_default.not-Alias c.unwrap_or.ensures
