@@ -1,5 +1,5 @@
 //! The bodies of all methods, read by workers, and what is kept of them.
-ghost use Rattle.std.specs.Prelude.{◌≡◌, ◌≤◌, ℕ, List, IfOk, IfErr, length};
+ghost use Rattle.std.specs.Prelude.{◌≡◌, ◌≤◌, ℕ, List, Some, IfOk, IfErr, length, slice_get};
 ghost use Rattle.aml_set.specs.Views.{body_in_set, span_of, table_codes};
 ghost use Rattle.asl_text.specs.declared.bodies.Body.{Body};
 ghost use Rattle.acpidis.specs.Refusals.{IsWant};
@@ -9,7 +9,7 @@ ghost use Rattle.acpidis.specs.Checks.{AreKeptOf};
 use crate::crew::Crew;
 use crate::refusal::Refusal;
 use aml_code::CodeFault;
-use aml_load::read_span;
+use aml_load::read_kept;
 use aml_pool::{Gate, NoMemory, PoolFault, Results, Work, harvest};
 use aml_set::{Method, TableSet};
 use asl_text::Body;
@@ -39,16 +39,18 @@ struct Keeping<'a, 'b, K> {
 }
 
 impl<'a, 'b, K> Keeping<'a, 'b, K> {
-    /// What the body of a method becomes, by its bytes: its terms, or why it can't be read.
-    fn read(&self, method: &Method, bytes: &[u8]) -> Result<Body, NoMemory>
+    /// What the body of a method becomes, by its number and its bytes: its terms, or why it can't be read.
+    fn read(&self, number: u32, method: &Method, bytes: &[u8]) -> Result<Body, NoMemory>
+        requires kept { slice_get self.now.set.now.space.kept number ≡ Some method.now.path }
         requires short { length bytes.now ≤ 16777216 }
         requires body { bytes.now ≡ span_of (table_codes self.now.set.now.tables.items) method.now }
         ensures { IfOk result (BecameIn self.now.unknown_zero self.now.set.now method.now) }
     {
-        match read_span(
+        match read_kept(
             self.alloc,
             bytes,
             &self.set.space,
+            number as usize,
             method,
             self.unknown_zero,
         ) {
@@ -70,7 +72,7 @@ impl<'a, 'b, K: Keep> Work for Keeping<'a, 'b, K> {
     fn work(&self, number: u32) -> Result<K::Kept, NoMemory> {
         let method = &self.set.methods[number as usize];
         let bytes = self.set.span(method);
-        let body = self.read(method, bytes)?;
+        let body = self.read(number, method, bytes)?;
         self.keep.keep(number, bytes, body)
     }
 }

@@ -27,6 +27,7 @@ use Rattle.aml_namespace.proofs.Stands.{stands_inside}
 use Rattle.aml_load.specs.declared.faults.LoadFault.{LoadFault}
 use Rattle.aml_load.specs.declared.faults.LoadFault.TheVariants as loads
 use Rattle.aml_set.specs.declared.methods.Method.{Method}
+use Rattle.aml_set.specs.Kept.{AreKept, paths_in}
 use Rattle.aml_load.specs.declared.walking.Progress.{Progress}
 use Rattle.aml_load.specs.Loading.{◌>>=◌, Where, Listed, plus, with_uses, term_uses, method_of, methods_of, role_of}
 use Rattle.aml_load.specs.Loading.{place_at, entry_at, new_at}
@@ -53,11 +54,22 @@ grouped_as old new keeps grouped =
     (subst (λ us. AreGrouped old.space.scopes us new.groups) (sym keeps.uses)
     (subst (AreGrouped old.space.scopes old.uses.items) (sym keeps.groups) grouped))
 
+-- the methods' paths are kept as they were
+kept_as : (old new : Progress) → AreKept old.space old.methods.items → new.space.kept ≡ old.space.kept
+    → new.methods.items ≡ old.methods.items → AreKept new.space new.methods.items
+kept_as old new kept same ms = same ∙ kept ∙ ap paths_in (sym ms)
+
+-- and one more is
+kept_more : (old : List Method) (m : Method) → paths_in (old ++ m ∷ []) ≡ paths_in old ++ m.path ∷ []
+kept_more [] m = refl
+kept_more (first ∷ old) m = ap (λ paths. first.path ∷ paths) (kept_more old m)
+
 -- an entry without a body
 pub plain_held : (old new : Progress) (l : Listed) (x : Entry) → methods_of (x ∷ []) ≡ [] → Holds old l
     → StandsFor new.space (l.entries ++ x ∷ [])
-    → new.methods.items ≡ old.methods.items → KeepsUses old new → Holds new (plus l x)
-plain_held old new l x none h s ms keeps = record {
+    → new.methods.items ≡ old.methods.items → KeepsUses old new → new.space.kept ≡ old.space.kept → Holds new (plus l x)
+plain_held old new l x none h s ms keeps kept = record {
+  kept = kept_as old new h.kept kept ms;
   space = s;
   methods = ms ∙ h.methods ∙ sym (methods_more l.entries x ∙ ap (λ zs. methods_of l.entries ++ zs) none ∙ append-nil (methods_of l.entries));
   uses = keeps.uses ∙ h.uses;
@@ -69,8 +81,10 @@ pub method_held : (old new : Progress) (l : Listed) (p : List Seg) (k : Kind) (b
     → StandsFor new.space (l.entries ++ declares p k (Some b) sure ∷ [])
     → new.methods.items ≡ old.methods.items ++ m ∷ []
     → m ≡ record { path = p; table = b.table; start = b.start; len = b.len; flags = b.flags } → KeepsUses old new
-    → Holds new (plus l (declares p k (Some b) sure))
-method_held old new l p k b sure m h s ms is keeps = record {
+    → new.space.kept ≡ old.space.kept ++ p ∷ [] → Holds new (plus l (declares p k (Some b) sure))
+method_held old new l p k b sure m h s ms is keeps kept = record {
+  kept = kept ∙ ap (λ paths. paths ++ p ∷ []) h.kept ∙ ap (λ (x : Method). paths_in old.methods.items ++ x.path ∷ []) (sym is)
+      ∙ sym (ap paths_in ms ∙ kept_more old.methods.items m);
   space = s;
   methods = ms ∙ ap (λ xs. xs ++ m ∷ []) h.methods ∙ ap (λ (x : Method). methods_of l.entries ++ x ∷ []) is
       ∙ sym (methods_more l.entries (declares p k (Some b) sure));
@@ -82,6 +96,7 @@ method_held old new l p k b sure m h s ms is keeps = record {
 pub inside_held : (old new : Progress) (l : Listed) (scope : List Seg) → new.space ≡ with_scopes old.space (old.space.scopes ++ scope ∷ [])
     → new.methods.items ≡ old.methods.items → new.uses.items ≡ old.uses.items → new.groups ≡ old.groups → Holds old l → Holds new l
 inside_held old new l scope is ms us gs h = record {
+  kept = kept_as old new h.kept (ap (λ (k : Known). k.kept) is) ms;
   space = subst (λ k. StandsFor k l.entries) (sym is) (stands_inside old.space (old.space.scopes ++ scope ∷ []) l.entries h.space);
   methods = ms ∙ h.methods;
   uses = us ∙ h.uses;
@@ -94,6 +109,7 @@ pub uses_held : (old new : Progress) (l : Listed) (site : Where) (x : Tree) → 
     → new.methods.items ≡ old.methods.items → new.uses.items ≡ old.uses.items ++ term_uses site x
     → AreGrouped new.space.scopes new.uses.items new.groups → Holds new (with_uses site l x)
 uses_held old new l site x h s ms us grouped = record {
+  kept = kept_as old new h.kept (ap (λ (k : Known). k.kept) s) ms;
   space = subst (λ k. StandsFor k l.entries) (sym s) h.space;
   methods = ms ∙ h.methods;
   uses = us ∙ ap (λ us. us ++ term_uses site x) h.uses;
@@ -166,5 +182,5 @@ pub declared_walked : (old new : Progress) (l : Listed) (site : Where) (p : List
     → IsDeclared site l.entries p kind None old new r
     → Walked new r (entry_at site l p (declares p kind None site.sure))
 declared_walked old new l site p kind (Ok u) h d =
-    let x = declares p kind None site.sure in (plus l x, plain_held old new l x refl h d.1 d.2 d.3, entry_free site l p x d.0)
+    let x = declares p kind None site.sure in (plus l x, plain_held old new l x refl h d.1 d.2 d.3 d.4, entry_free site l p x d.0)
 declared_walked old new l site p kind (Err e) h d = entry_taken site l p (declares p kind None site.sure) e d

@@ -16,6 +16,7 @@ use Rattle.aml_load.specs.Groups.{AreGrouped}
 use Rattle.aml_load.specs.Tables.{Fails}
 use Rattle.aml_code.specs.Tree.{Trees}
 use Rattle.aml_set.specs.declared.tables.Table.{Table}
+use Rattle.aml_set.specs.Kept.{AreKept}
 use Rattle.aml_set.specs.Views.{table_dumps, table_codes, table_terms}
 
 -- where a site is
@@ -40,13 +41,15 @@ abbrev pub IsDeclared : Where → List Entry → List Seg → Kind → Option Bo
     → Result (Unit {0}) LoadFault → Type 0
 IsDeclared site es p kind body old new (Ok u) = IsFree site es p (Ok u)
     × StandsFor new.space (es ++ declares p kind body site.sure ∷ [])
-    × (new.methods.items ≡ old.methods.items) × KeepsUses old new
+    × (new.methods.items ≡ old.methods.items) × KeepsUses old new × (new.space.kept ≡ old.space.kept)
 IsDeclared site es p kind body old new (Err e) = IsFree site es p (Err e)
 
--- the namespace, the methods and the uses so far are those of what is listed, and the uses are grouped
+-- the namespace, the methods and the uses so far are those of what is listed, the methods' paths are kept, and the uses
+-- are grouped
 pub record Holds (p : Progress) (l : Listed) : Type 0 where
   pub space : StandsFor p.space l.entries
   pub methods : p.methods.items ≡ methods_of l.entries
+  pub kept : AreKept p.space p.methods.items
   pub uses : p.uses.items ≡ l.uses
   pub grouped : AreGrouped p.space.scopes p.uses.items p.groups
 

@@ -1,5 +1,5 @@
 //! The bodies of methods.
-ghost use Rattle.std.specs.Prelude.{◌≡◌, ◌≤◌, ℕ, List, length};
+ghost use Rattle.std.specs.Prelude.{◌≡◌, ◌≤◌, ℕ, List, length, slice_get, Some};
 ghost use Rattle.aml_code.specs.View.{nodes_view};
 ghost use Rattle.aml_namespace.specs.Namespace.{Entry};
 ghost use Rattle.aml_namespace.specs.Known.{StandsFor};
@@ -60,5 +60,51 @@ pub fn read_span(
         GivesBody (λ nodes. nodes_view nodes.items) unknown_zero es tables method.now result }
 {
     let names = BodyNames::new(space, method.path.parts(), unknown_zero);
-    own_body_terms(alloc, bytes, &names, &method.path.parts())
+    read_by(alloc, bytes, &names, method)
+}
+
+/// The same of a method whose path the space keeps by this number, so that it isn't looked up.
+pub fn read_kept(
+    alloc: Global,
+    bytes: &[u8],
+    space: &Space,
+    number: usize,
+    method: &Method,
+    unknown_zero: bool,
+) -> Result<Vec<Node>, CodeFault>
+    // The limit of a table.
+    requires short { length bytes.now ≤ 16777216 }
+    requires kept { slice_get space.now.kept number ≡ Some method.now.path }
+
+    // In whatever tables they are the method's body: it reads as its terms and as no others; or memory was refused; or
+    // it reads as none, and the fault is true of it.
+    ensures reading { (tables : List (List ℕ)) → bytes.now ≡ span_of tables method.now →
+        (es : List Entry) → StandsFor space.now es →
+        IsReading (λ nodes. nodes_view nodes.items) unknown_zero es tables method.now result }
+    // Which fault it is: the first that is met in reading forward.
+    ensures forward { (tables : List (List ℕ)) → bytes.now ≡ span_of tables method.now →
+        (es : List Entry) → StandsFor space.now es →
+        GivesBody (λ nodes. nodes_view nodes.items) unknown_zero es tables method.now result }
+{
+    let names = BodyNames::kept(space, number, method.path.parts(), unknown_zero);
+    read_by(alloc, bytes, &names, method)
+}
+
+/// The same by the names of the method's body.
+fn read_by(
+    alloc: Global,
+    bytes: &[u8],
+    names: &BodyNames<'_>,
+    method: &Method,
+) -> Result<Vec<Node>, CodeFault>
+    requires short { length bytes.now ≤ 16777216 }
+    requires own { names.now.method ≡ method.now.path }
+    ensures reading { (tables : List (List ℕ)) → bytes.now ≡ span_of tables method.now →
+        (es : List Entry) → StandsFor names.now.known es →
+        IsReading (λ nodes. nodes_view nodes.items) names.now.unknown_zero es tables method.now result }
+    ensures forward { (tables : List (List ℕ)) → bytes.now ≡ span_of tables method.now →
+        (es : List Entry) → StandsFor names.now.known es →
+        GivesBody (λ nodes. nodes_view nodes.items) names.now.unknown_zero es tables method.now result }
+{
+    own_body_terms(alloc, bytes, names, &method.path.parts())
 }

@@ -11,7 +11,7 @@ ghost use Rattle.aml_code.specs.Tree.{Trees};
 ghost use Rattle.aml_code.specs.View.{nodes_view};
 ghost use Rattle.aml_namespace.specs.Namespace.{given_entries};
 ghost use Rattle.aml_namespace.specs.Known.{StandsFor};
-ghost use Rattle.aml_namespace.specs.Known.{with_scopes};
+ghost use Rattle.aml_namespace.specs.Known.{of_paths};
 ghost use Rattle.aml_load.specs.Loading.{Listed, first_listed, most_methods, use_count, call_fault, uses_at};
 ghost use Rattle.aml_load.specs.Tables.{LoadsTo, StopsFor, table_at, tables_at, GivesLoad, GivesSet};
 ghost use Rattle.aml_load.specs.Views.{HoldsLoad, HoldsTables};
@@ -119,8 +119,8 @@ fn names_for<'a>(
     used: &'a Use,
     unknown_zero: bool,
 ) -> BodyNames<'a>
-    requires { IfSome last (λ names. names.known ≡ with_scopes space.now []) }
-    ensures known { result.known ≡ with_scopes space.now [] }
+    requires { IfSome last (λ names. names.known ≡ of_paths space.now) }
+    ensures known { result.known ≡ of_paths space.now }
     ensures scope { OnTrue joined (IfSome last.entry (λ names. names.method ≡ used.now.scope)) →
         result.method ≡ used.now.scope }
     ensures unknown { result.unknown_zero ≡ (unknown_zero || used.now.declaring) }
@@ -196,7 +196,8 @@ fn check_uses(
 
 /// A namespace before any table, with the counts that the user gives.
 fn space_with(alloc: Global, givens: &[(Path, u8)]) -> Result<Space, NoMemory>
-    ensures { IfOk result (λ space. StandsFor space (given_entries givens.now)) }
+    ensures stands { IfOk result (λ space. StandsFor space (given_entries givens.now)) }
+    ensures kept { IfOk result (λ space. space.kept ≡ []) }
 {
     let mut space = Space::new(alloc)?;
     for (path, count) in givens {

@@ -187,7 +187,7 @@ impl Progress {
     ) -> Result<(), LoadFault>
         requires inside { IsInside self.old site.now }
         requires below { IsBelow path.now.front site.now.scope.now path.now.path }
-        requires source { IfSome source (IsSourceOf self.old.space kind) }
+        requires source { IfSome source (IsSourceOf self.old.space.scopes (namespace_in self.old.space) kind) }
         ensures declared { (es : List Entry) (body : Option Body) → StandsFor self.old.space es →
             IsDeclared (at_site site.now) es path.now.path kind body self.old self.new result }
         ensures stays { OnOk result (Stays self.old self.new) }
@@ -219,7 +219,7 @@ impl Progress {
     ) -> Result<(), LoadFault>
         requires inside { IsInside self.old site.now }
         requires below { IsBelow path.now.front site.now.scope.now path.now.path }
-        requires source { IfSome source (IsSourceOf self.old.space kind) }
+        requires source { IfSome source (IsSourceOf self.old.space.scopes (namespace_in self.old.space) kind) }
         ensures walks { Walks self.old self.new result (λ l.
             entry_at (at_site site.now) l path.now.path (declares path.now.path kind None site.now.sure)) }
         ensures stays { OnOk result (Stays self.old self.new) }
@@ -259,6 +259,7 @@ impl Progress {
         ensures stays { OnOk result (Stays self.old self.new) }
     {
         self.declare_path(site, &path, Kind::Method { args: flags % 8 }, None)?;
+        self.space.keep(path.near(site.place), &path.path.parts())?;
         self.methods.push(Method {
             path: path.path,
             table: site.table,

@@ -116,12 +116,13 @@ coded_rows = coded_list coded_row
 -- ---- What a space knows: three finite maps by path, and the lists of entries that these stand for.
 
 -- What the declarations of each path say, the greatest count of its Externals, and the greatest that the user gives it;
--- and the scopes that are open while tables load, each inside those before it.
+-- the scopes that are open while tables load, each inside those before it; and the paths that are kept by numbers.
 pub record Known : Type 0 where
   pub declarations : map.FinMap path_cmp Declared
   pub outs : map.FinMap path_cmp ℕ
   pub givens : map.FinMap path_cmp ℕ
   pub scopes : List (List Seg)
+  pub kept : List (List Seg)
 
 -- the namespace of what is known
 abbrev pub namespace_in : Known → Namespace
@@ -147,7 +148,7 @@ pub record StandsFor (k : Known) (es : List Entry) : Type 0 where
   pub same_givens : (q : List Seg) → map.get k.givens q ≡ given_at es q
 
 abbrev pub nothing_known : Known
-nothing_known = record { declarations = map.empty; outs = map.empty; givens = map.empty; scopes = [] }
+nothing_known = record { declarations = map.empty; outs = map.empty; givens = map.empty; scopes = []; kept = [] }
 
 abbrev pub with_declaration : Known → List Seg → Declared → Known
 with_declaration k p d = record k { declarations = map.insert k.declarations p d }
@@ -173,6 +174,14 @@ with_given k p n = record k { givens = map.insert k.givens p (greater n (map.get
 abbrev pub with_scopes : Known → List (List Seg) → Known
 with_scopes k scopes = record k { scopes = scopes }
 
+-- with these paths kept
+abbrev pub with_kept : Known → List (List Seg) → Known
+with_kept k kept = record k { kept = kept }
+
+-- what is known of paths alone
+abbrev pub of_paths : Known → Known
+of_paths k = with_kept (with_scopes k []) []
+
 -- what a list of entries makes known
 abbrev pub known : List Entry → Known
 known [] = nothing_known
@@ -187,14 +196,15 @@ declarations_in es = (known es).declarations
 abbrev pub is_declared : Known → List Seg → Bool
 is_declared k p = is_some (map.get k.declarations p)
 
--- what is known is three maps and a list of paths, and nothing more
+-- what is known is three maps and two lists of paths, and nothing more
 abbrev pub coded_known : Coded Known
 coded_known =
-    code_by (map.FinMap path_cmp Declared × (map.FinMap path_cmp ℕ × (map.FinMap path_cmp ℕ × List (List Seg))))
-    (coded× (map.code coded_path coded_declared)
-    (coded× (map.code coded_path coded_ℕ) (coded× (map.code coded_path coded_ℕ) (coded_list coded_path))))
-    (λ k. (k.declarations, (k.outs, (k.givens, k.scopes))))
-    (λ p. record { declarations = p.0; outs = p.1.0; givens = p.1.1.0; scopes = p.1.1.1 }) (λ _. refl)
+    code_by (map.FinMap path_cmp Declared
+    × (map.FinMap path_cmp ℕ × (map.FinMap path_cmp ℕ × (List (List Seg) × List (List Seg)))))
+    (coded× (map.code coded_path coded_declared) (coded× (map.code coded_path coded_ℕ)
+    (coded× (map.code coded_path coded_ℕ) (coded× (coded_list coded_path) (coded_list coded_path)))))
+    (λ k. (k.declarations, (k.outs, (k.givens, (k.scopes, k.kept)))))
+    (λ p. record { declarations = p.0; outs = p.1.0; givens = p.1.1.0; scopes = p.1.1.1.0; kept = p.1.1.1.1 }) (λ _. refl)
 
 -- ---- What the names of a method's body are read by.
 

@@ -1,6 +1,7 @@
 //! A set of tables that were loaded as one, each with its AML and its terms.
 ghost use Rattle.std.specs.Prelude.{◌≡◌, ◌≤◌, length};
 ghost use Rattle.aml_set.specs.Code.{IsCode};
+ghost use Rattle.aml_set.specs.Kept.{AreKept};
 
 use crate::methods::Method;
 use aml_code::{Node, slice};
@@ -46,6 +47,8 @@ pub struct TableSet<'a> {
     pub space: Space,
     /// The methods of all tables, in load order and in the order of the text. Their numbers begin at 0.
     pub methods: Vec<Method>,
+    /// The space keeps the path of each method by the method's number.
+    pub ghost kept: { AreKept space methods.items },
 }
 
 impl<'a> TableSet<'a> {

@@ -204,6 +204,7 @@ module _ (ns new : List Node) (i : ℕ) (seg : Seg) (is : IsIndex ns) (within : 
     outs = grown_part (λ c. c.out) refl t;
     givens = grown_part (λ c. c.given) refl t;
     scopes = [];
+    kept = [];
   }
 
   pub new_child : child_in (kids_of new i) seg ≡ Some (length ns)

@@ -1,9 +1,12 @@
 -- Scopes that were opened lead to their nodes also where paths keep theirs (`kept_opened`), as they do where other
 -- content comes to a node (`content_kept`), and by one step behind another (`kept_on`); and so does one more
--- (`more_opened`), and the root (`root_opened`). The node of what an Alias stands for is told by its source (`aim_kept`,
--- `aim_here`).
+-- (`more_opened`), and the root (`root_opened`). Nodes that are kept by numbers have the same paths then (`kept_there`,
+-- `known_again`). The node of what an Alias stands for is told by its source (`aim_kept`, `aim_here`).
 use Rattle.std.specs.Prelude.{slice_get}
 use Rattle.std.proofs.Common.{◌≡◌, ℕ, zero, suc, List, [], ◌∷◌, ◌++◌, Option, Some, None, IfSome, refl, sym, ap, subst, ◌∙◌}
+use Rattle.std.proofs.Common.{length, take, drop, get_or, Result, Ok, Err, OnOk, OnErr}
+use Rattle.std.proofs.lemmas.List.{take_all}
+use Rattle.std.proofs.Math.Seq.{drop-length}
 use Rattle.std.proofs.Common.{arith}
 use Rattle.aml_names.specs.declared.segments.Seg.{Seg}
 use Rattle.aml_space.specs.declared.nodes.Node.{Node}
@@ -14,12 +17,13 @@ use Rattle.std.proofs.lemmas.Option.{none-some, same_Some}
 use Rattle.aml_namespace.specs.declared.kinds.Kind.{Kind}
 use Rattle.aml_namespace.specs.declared.kinds.Kind.TheVariants.{Alias}
 use Rattle.aml_namespace.specs.Namespace.{kind_at}
-use Rattle.aml_namespace.specs.Known.{namespace_in}
+use Rattle.aml_namespace.specs.Known.{Known, namespace_in, with_scopes, with_kept}
 use Rattle.aml_namespace.specs.Predefined.{predefined}
 use Rattle.aml_space.specs.Near.{IsTarget}
-use Rattle.aml_space.specs.Nodes.{kids_of, kinds_of, known_by, Content, HasContent, IsAim, IsIndex, IsKept}
+use Rattle.aml_space.specs.Nodes.{kids_of, kinds_of, known_by, path_of, Content, HasContent, IsAim, IsIndex, IsKept, Reaches}
 use Rattle.aml_space.proofs.Index.{kind_at_path}
-use Rattle.aml_space.specs.Opened.{AreOpened}
+use Rattle.aml_space.specs.Opened.{AreOpened, AreThere, known_in, paths_of, scopes_of}
+use Rattle.aml_space.proofs.Named.{path_led}
 use Rattle.aml_children.proofs.Basics.{each_more}
 
 kept_at : (old new : List Node) (o : Option Opened) → IsKept old new
@@ -42,6 +46,75 @@ content_kept old new i x has = record {
   where
     same : (q : List Seg) → walk (kids_of new) 0 q ≡ walk (kids_of old) 0 q
     same q = λ t. walk (λ k. has.kids k t) 0 q
+
+-- nodes that are there still are where paths keep theirs, and have the same paths
+pub kept_there : (old new : List Node) → IsIndex new → IsKept old new → (nodes : List ℕ) → AreThere old nodes
+    → AreThere new nodes × (paths_of new nodes ≡ paths_of old nodes)
+kept_there old new is kept [] there = (tt, refl)
+kept_there old new is kept (n ∷ nodes) (here, there) =
+    let led = kept.there (path_of old n) n here in
+    let same = path_led new is (path_of old n) n led in
+    let rest = kept_there old new is kept nodes there in
+    ((ap (walk (kids_of new) 0) same ∙ led, rest.0), λ i. same i ∷ rest.1 i)
+
+pub known_again : (old new : List Node) (scopes : List Opened) (nodes : List ℕ) (k : Known) → IsIndex new → IsKept old new
+    → AreThere old nodes → known_by new ≡ k
+    → known_in new scopes nodes ≡ with_kept (with_scopes k (scopes_of scopes)) (paths_of old nodes)
+known_again old new scopes nodes k is kept there same =
+    λ i. with_kept (with_scopes (same i) (scopes_of scopes)) ((kept_there old new is kept nodes there).1 i)
+
+-- one node more, with its path
+pub more_there : (ns : List Node) → IsIndex ns → (nodes more : List ℕ) (n : ℕ) (path : List Seg) → more ≡ nodes ++ n ∷ []
+    → walk (kids_of ns) 0 path ≡ Some n → AreThere ns nodes → AreThere ns more × (paths_of ns more ≡ paths_of ns nodes ++ path ∷ [])
+more_there ns is nodes more n path all led there =
+    subst (λ more. AreThere ns more × (paths_of ns more ≡ paths_of ns nodes ++ path ∷ [])) (sym all) (by nodes there)
+  where
+    same : path_of ns n ≡ path
+    same = path_led ns is path n led
+
+    by : (nodes : List ℕ) → AreThere ns nodes
+        → AreThere ns (nodes ++ n ∷ []) × (paths_of ns (nodes ++ n ∷ []) ≡ paths_of ns nodes ++ path ∷ [])
+    by [] there = ((ap (walk (kids_of ns) 0) same ∙ led, tt), ap (λ (q : List Seg). q ∷ []) same)
+    by (m ∷ nodes) (here, there) = let rest = by nodes there in ((here, rest.0), ap (λ qs. path_of ns m ∷ qs) rest.1)
+
+-- a path that is kept leads to its node
+kept_led : (ns : List Node) (nodes : List ℕ) (number d : ℕ) (path : List Seg) → AreThere ns nodes
+    → slice_get (paths_of ns nodes) number ≡ Some path → walk (kids_of ns) 0 path ≡ Some (get_or nodes number d)
+kept_led ns [] number d path there kept = absurd (none-some path kept)
+kept_led ns (n ∷ nodes) zero d path there kept = ap (walk (kids_of ns) 0) (sym (same_Some (path_of ns n) path kept)) ∙ there.0
+kept_led ns (n ∷ nodes) (suc number) d path there kept = kept_led ns nodes number d path there.1 kept
+
+pub reach_kept : (ns ms : List Node) (nodes : List ℕ) (number at known : ℕ) (path : List Seg) → ms ≡ ns → known ≡ length path
+    → AreThere ns nodes → slice_get (paths_of ns nodes) number ≡ Some path → at ≡ get_or nodes number at
+    → Reaches ms path (record { node = at; known = known })
+reach_kept ns ms nodes number at known path same long there kept is = record {
+  led = ap (λ ms. walk (kids_of ms) 0 (take known path)) same ∙ ap (walk (kids_of ns) 0) (take_all known path (omega (arith, long)))
+      ∙ kept_led ns nodes number at path there kept ∙ ap (λ (n : ℕ). Some n) (sym is);
+  within = omega (arith, long);
+  ends = λ s q rest. let none = sym (ap (λ n. drop n path) long ∙ drop-length path) ∙ rest in absurd cc;
+}
+
+-- one scope more is open
+pub more_scopes : (opened more : List Opened) (o : Opened) → more ≡ opened ++ o ∷ []
+    → scopes_of more ≡ scopes_of opened ++ o.scope ∷ []
+more_scopes opened more o is = ap scopes_of is ∙ by opened
+  where
+    by : (opened : List Opened) → scopes_of (opened ++ o ∷ []) ≡ scopes_of opened ++ o.scope ∷ []
+    by [] = refl
+    by (first ∷ opened) = ap (λ scopes. first.scope ∷ scopes) (by opened)
+
+-- what holds where a call was refused, or wasn't
+pub on_err : {R E X : Type 0} (r : Result R E) → X → OnErr r X
+on_err (Ok x) is = tt
+on_err (Err e) is = is
+
+pub ok_then : {R E X Y : Type 0} (r : Result R E) → (X → Y) → OnOk r X → OnOk r Y
+ok_then (Ok x) f is = f is
+ok_then (Err e) f is = tt
+
+pub err_then : {R E X Y : Type 0} (r : Result R E) → (X → Y) → OnErr r X → OnErr r Y
+err_then (Ok x) f is = tt
+err_then (Err e) f is = f is
 
 -- one step behind another
 pub kept_on : (old new later : List Node) → IsKept old new → IsKept new later → IsKept old later
@@ -86,9 +159,12 @@ module _ (ns : List Node) (is : IsIndex ns) (source target : List Seg) (node : O
 
   pub aim_here : (k : Kind) (aim : ℕ) → option_and_then (kinds_of ns) node ≡ Some k → ((own : List Seg) → k ≡ Alias own → ⊥)
       → aim ≡ unwrap_or node 0 → IsAim ns (Some (Alias target)) aim
-  aim_here k aim has other at some =
-      (target, refl, ap (walk (kids_of ns) 0) (aims.other (λ own alias. other own (same_Some k (Alias own) (sym (kind_there k has) ∙ alias))))
-      ∙ sym led ∙ there node has at)
+  aim_here k aim has other at some = (
+    target,
+    refl,
+    ap (walk (kids_of ns) 0) (aims.other (λ own alias. other own (same_Some k (Alias own) (sym (kind_there k has) ∙ alias))))
+        ∙ sym led ∙ there node has at,
+  )
     where
       there : (o : Option ℕ) → option_and_then (kinds_of ns) o ≡ Some k → aim ≡ unwrap_or o 0 → o ≡ Some aim
       there None none is = absurd (none-some k none)

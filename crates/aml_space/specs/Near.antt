@@ -9,7 +9,6 @@ use Rattle.aml_space.specs.declared.opened.Source.{Source}
 use Rattle.aml_namespace.specs.declared.kinds.Kind.{Kind}
 use Rattle.aml_namespace.specs.declared.kinds.Kind.TheVariants.{Alias}
 use Rattle.aml_namespace.specs.Namespace.{Namespace, kind_at}
-use Rattle.aml_namespace.specs.Known.{Known, namespace_in}
 
 -- a scope is open at a place
 abbrev pub IsOpen : List (List Seg) → ℕ → List Seg → Type 0
@@ -33,11 +32,11 @@ pub record IsTarget (n : Namespace) (source target : List Seg) : Type 0 where
   pub other : ((own : List Seg) → kind_at n source ≡ Some (Alias own) → ⊥) → target ≡ source
 
 -- a source is near a scope that is open, and a kind is that of an Alias of it
-pub record IsSourceOf (k : Known) (kind : Kind) (s : Source) : Type 0 where
-  pub near : IsNear k.scopes s.near s.path.now
+pub record IsSourceOf (scopes : List (List Seg)) (n : Namespace) (kind : Kind) (s : Source) : Type 0 where
+  pub near : IsNear scopes s.near s.path.now
   pub target : List Seg
   pub alias : kind ≡ Alias target
-  pub is : IsTarget (namespace_in k) s.path.now target
+  pub is : IsTarget n s.path.now target
 
 -- the path that was found, if one was
 abbrev pub path_of : Option PlacedPath → Option (List Seg)

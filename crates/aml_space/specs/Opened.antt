@@ -1,5 +1,5 @@
 -- A stepping stone of the proofs: the scopes that were opened, with their nodes.
-use Rattle.std.specs.Prelude.{◌≡◌, ℕ, List, length, map as map_list, slice_get, Some, IfSome}
+use Rattle.std.specs.Prelude.{◌≡◌, ℕ, List, [], ◌∷◌, length, map as map_list, slice_get, Some, IfSome}
 use Rattle.std.specs.FinMap as map
 use Rattle.aml_names.specs.declared.segments.Seg.{Seg}
 use Rattle.aml_space.specs.declared.nodes.Node.{Node}
@@ -8,9 +8,9 @@ use Rattle.aml_space.specs.declared.opened.Hints.{Hints}
 use Rattle.aml_space.specs.declared.settling.Settled.{Settled}
 use Rattle.aml_space.specs.Candidates.{AreSettled}
 use Rattle.aml_namespace.specs.Known.{Known}
-use Rattle.aml_namespace.specs.Known.{with_scopes}
+use Rattle.aml_namespace.specs.Known.{with_scopes, with_kept}
 use Rattle.aml_children.specs.Numbered.{walk}
-use Rattle.aml_space.specs.Nodes.{kids_of, known_by, IsIndex}
+use Rattle.aml_space.specs.Nodes.{kids_of, known_by, path_of, IsIndex}
 
 -- each of these scopes leads to the node that is kept with it
 abbrev pub AreOpened : List Node → List Opened → Type 0
@@ -20,9 +20,21 @@ AreOpened ns opened = (i : ℕ) → IfSome (slice_get opened i) (λ o. walk (kid
 abbrev pub scopes_of : List Opened → List (List Seg)
 scopes_of opened = map_list (λ (o : Opened). o.scope) opened
 
--- what nodes know, with the scopes that are open
-abbrev pub known_in : List Node → List Opened → Known
-known_in ns scopes = with_scopes (known_by ns) (scopes_of scopes)
+-- the paths of nodes
+abbrev pub paths_of : List Node → List ℕ → List (List Seg)
+paths_of ns nodes = map_list (path_of ns) nodes
+
+-- the path of a node leads to it
+abbrev pub IsThere : List Node → ℕ → Type 0
+IsThere ns at = walk (kids_of ns) 0 (path_of ns at) ≡ Some at
+
+abbrev pub AreThere : List Node → List ℕ → Type 0
+AreThere ns [] = Unit {0}
+AreThere ns (n ∷ nodes) = IsThere ns n × AreThere ns nodes
+
+-- what nodes know, with the scopes that are open and the paths that are kept
+abbrev pub known_in : List Node → List Opened → List ℕ → Known
+known_in ns scopes kept = with_kept (with_scopes (known_by ns) (scopes_of scopes)) (paths_of ns kept)
 
 -- what is kept besides the nodes is right
 pub record AreHints (ns : List Node) (h : Hints) : Type 0 where
@@ -30,11 +42,13 @@ pub record AreHints (ns : List Node) (h : Hints) : Type 0 where
   pub scopes : AreOpened ns h.scopes.now
   pub settled : AreSettled ns h.settled.now
 
--- nodes with the number of the paths that are declared, the scopes that were opened, those that are open, and where
--- searches go on
-pub record IsSpace (ns : List Node) (many : ℕ) (marked inside : List Opened) (kept : List Settled) : Type 0 where
+-- nodes with the number of the paths that are declared, the scopes that were opened, those that are open, where
+-- searches go on, and the nodes of the paths that are kept
+pub record IsSpace (ns : List Node) (many : ℕ) (marked inside : List Opened) (ways : List Settled)
+    (numbered : List ℕ) : Type 0 where
   pub index : IsIndex ns
   pub rows : many ≡ length (map.entries (known_by ns).declarations)
   pub opened : AreOpened ns marked
   pub scopes : AreOpened ns inside
-  pub settled : AreSettled ns kept
+  pub settled : AreSettled ns ways
+  pub kept : AreThere ns numbered

@@ -8,7 +8,7 @@ ghost use Rattle.aml_namespace.specs.Known.{namespace_in};
 ghost use Rattle.aml_space.specs.Nodes.{kids_of, links_of, known_by, IsAim, IsIndex, Reaches};
 ghost use Rattle.aml_space.specs.Candidates.{AreSettled};
 ghost use Rattle.aml_space.specs.Near.{IsOpen, IsNear, IsBelow, IsTarget, IsSourceOf};
-ghost use Rattle.aml_space.specs.Opened.{AreHints, AreOpened, known_in, scopes_of};
+ghost use Rattle.aml_space.specs.Opened.{AreHints, AreOpened, scopes_of};
 
 use crate::growing::{Aimed, Reach};
 use crate::nodes::Node;
@@ -327,7 +327,8 @@ pub(crate) fn aimed_by(
 ) -> Aimed
     requires index { IsIndex nodes.now }
     requires hints { AreHints nodes.now hints }
-    requires source { IfSome source (IsSourceOf (known_in nodes.now hints.scopes.now) kind) }
+    requires source { IfSome source
+        (IsSourceOf (scopes_of hints.scopes.now) (namespace_in (known_by nodes.now)) kind) }
     ensures kind { result.kind ≡ kind }
     ensures aim { IsAim nodes.now (Some kind) result.aim }
 {

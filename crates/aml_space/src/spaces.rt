@@ -8,7 +8,7 @@ ghost use Rattle.aml_namespace.specs.Namespace.{Entry, Body, declares, external 
 ghost use Rattle.aml_namespace.specs.Namespace.{kind_at, count_at, namespace_of, declared_at};
 ghost use Rattle.aml_namespace.specs.Runs.{sure_at};
 ghost use Rattle.aml_space.specs.Nodes.{known_by};
-ghost use Rattle.aml_namespace.specs.Known.{with_scopes};
+ghost use Rattle.aml_namespace.specs.Known.{with_scopes, with_kept, of_paths};
 ghost use Rattle.aml_space.specs.Near.{IsNear, IsSourceOf};
 ghost use Rattle.aml_space.specs.Candidates.{names_of, outlook_at, IsScope};
 ghost use Rattle.aml_namespace.specs.Known.{StandsFor, nothing_known, once, with_declaration, with_declared};
@@ -18,7 +18,7 @@ ghost use Rattle.aml_namespace.specs.Known.{is_declared as declared_yet, namespa
 
 use crate::counting::{count_of, sure_met};
 use crate::faults::SpaceFault;
-use crate::growing::{declare_again, declare_first, extend, is_taken, set_given, set_out};
+use crate::growing::{Reach, declare_again, declare_first, extend, is_taken, set_given, set_out};
 use crate::listing::{Rows, list_rows};
 use crate::nodes::Node;
 use crate::opened::{
@@ -66,6 +66,8 @@ pub struct Space {
     settled: Vec<Settled>,
     /// How many levels were looked at at most since the last time that this was found out.
     looked: usize,
+    /// The nodes of the paths that are kept by numbers.
+    kept: Vec<usize>,
 }
 
 impl Model for Space {
@@ -77,9 +79,10 @@ impl Model for Space {
 
     ghost use Rattle.aml_space.specs.Opened.{known_in, IsSpace};
 
-    ghost view = { λ s. known_in s.nodes.items s.scopes.items };
+    ghost view = { λ s. known_in s.nodes.items s.scopes.items s.kept.items };
 
-    ghost invariant = { λ s. IsSpace s.nodes.items s.rows s.opened.items s.scopes.items s.settled.items };
+    ghost invariant = { λ s. IsSpace s.nodes.items s.rows s.opened.items s.scopes.items s.settled.items
+        s.kept.items };
 }
 
 impl Space {
@@ -101,6 +104,7 @@ impl Space {
             scopes: Vec::new(alloc),
             settled: Vec::new(alloc),
             looked: 0,
+            kept: Vec::new(alloc),
         })
     }
 
@@ -134,7 +138,7 @@ impl Space {
         surely: bool,
     ) -> Result<bool, NoMemory>
         requires near { IsNear self.old.scopes near path.now }
-        requires source { IfSome source (IsSourceOf self.old kind) }
+        requires source { IfSome source (IsSourceOf self.old.scopes (namespace_in self.old) kind) }
         ensures put { IfOk result (λ put. put ≡ not (declared_yet self.old path.now)) }
         ensures known { IfOk result (λ put. self.new
             ≡ cond put (with_declaration self.old path.now (once kind surely)) self.old) }
@@ -192,7 +196,7 @@ impl Space {
         sure: bool,
     ) -> Result<(), NoMemory>
         requires near { IsNear self.old.scopes near path.now }
-        requires source { IfSome source (IsSourceOf self.old kind) }
+        requires source { IfSome source (IsSourceOf self.old.scopes (namespace_in self.old) kind) }
         ensures ok { OnOk result (self.new ≡ with_again self.old path.now kind sure) }
         ensures stands { (es : List Entry) (body : Option Body) → StandsFor self.old es →
             OnOk result (StandsFor self.new (es ++ declares path.now kind body sure ∷ [])) }
@@ -209,15 +213,7 @@ impl Space {
         }
         let hints = hints_of!(self);
         let aimed = aimed_by(self.nodes.as_slice(), hints, kind, source);
-        declare_first(
-            self.alloc,
-            &mut self.nodes,
-            hints,
-            path,
-            aimed,
-            sure,
-            reach,
-        )?;
+        declare_first(self.alloc, &mut self.nodes, hints, path, aimed, sure, reach)?;
         self.rows += 1;
         Ok(())
     }
@@ -322,6 +318,20 @@ impl Space {
         if let Some(last) = self.scopes.last() {
             forget_scope(&mut self.opened, &last.scope);
         }
+    }
+
+    /// Keeps a path by the next number: its node is found by that at once. A refused call changes nothing.
+    pub fn keep(&mut self, near: Near, path: &Parts<'_>) -> Result<(), NoMemory>
+        requires { IsNear self.old.scopes near path.now }
+        ensures ok { OnOk result (self.new ≡ with_kept self.old (self.old.kept ++ path.now ∷ [])) }
+        ensures err { OnErr result (self.new ≡ self.old) }
+    {
+        let hints = hints_of!(self);
+        let reach = reach_near(self.nodes.as_slice(), hints, near, path);
+        unsettle(&mut self.settled, self.nodes.as_slice(), path, reach);
+        let node = extend(self.alloc, &mut self.nodes, path, reach)?;
+        self.kept.push(node)?;
+        Ok(())
     }
 
     /// Finds out where the search for a segment goes on from each node, so that names cost the depths alone at which
@@ -446,7 +456,7 @@ impl Space {
     /// A scope of the space.
     pub(crate) fn scope<'a>(&'a self, path: Parts<'a>) -> Scope<'a>
         ensures scope { IsScope result }
-        ensures known { known_by result.nodes.now ≡ with_scopes self.now [] }
+        ensures known { known_by result.nodes.now ≡ of_paths self.now }
         ensures names { names_of result ≡ namespace_in self.now }
         ensures outlook { outlook_at result ≡ outlook_in self.now }
         ensures path { result.path ≡ path.entry }
@@ -461,7 +471,7 @@ impl Space {
     pub(crate) fn scope_near<'a>(&'a self, near: Near, path: Parts<'a>) -> Scope<'a>
         requires { IsNear self.now.scopes near path }
         ensures scope { IsScope result }
-        ensures known { known_by result.nodes.now ≡ with_scopes self.now [] }
+        ensures known { known_by result.nodes.now ≡ of_paths self.now }
         ensures names { names_of result ≡ namespace_in self.now }
         ensures outlook { outlook_at result ≡ outlook_in self.now }
         ensures path { result.path ≡ path.entry }
@@ -470,6 +480,27 @@ impl Space {
         let hints = hints_of!(self);
         let reach = reach_near(nodes, hints, near, &path);
         Scope::new(nodes, hints.settled, &self.predefined, path, reach)
+    }
+
+    /// The path that is kept by a number, as a scope.
+    pub(crate) fn scope_kept<'a>(&'a self, number: usize, path: Parts<'a>) -> Scope<'a>
+        requires { slice_get self.now.kept number ≡ Some path }
+        ensures scope { IsScope result }
+        ensures known { known_by result.nodes.now ≡ of_paths self.now }
+        ensures path { result.path ≡ path.entry }
+    {
+        let nodes = self.nodes.as_slice();
+        let reach = Reach {
+            node: self.kept[number],
+            known: path.len(),
+        };
+        Scope::new(
+            nodes,
+            self.settled.as_slice(),
+            &self.predefined,
+            path,
+            reach,
+        )
     }
 
     /// How many paths are declared.

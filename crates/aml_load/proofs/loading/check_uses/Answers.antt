@@ -6,7 +6,7 @@ use Rattle.std.specs.Option.{option_eq}
 use Rattle.std.proofs.lemmas.List.{drop_more}
 use Rattle.aml_names.specs.declared.segments.Seg.{Seg}
 use Rattle.aml_namespace.specs.Known.{StandsFor}
-use Rattle.aml_namespace.proofs.Stands.{stands_inside}
+use Rattle.aml_namespace.proofs.Stands.{stands_alone}
 use Rattle.aml_space.specs.declared.bodies.BodyNames.{BodyNames}
 use Rattle.aml_load.specs.Groups.{AreJoined}
 use Rattle.aml_load.specs.Loading.{use_count, call_fault, uses_at}
@@ -37,7 +37,7 @@ loop-used-preserved c =
       passed = λ l h all.
           let marked = c.loop-used.invariant.marked all in
           let method = here.scope (at_hand marked.0 _ u.scope c.first_mark-joined.result.0 (next marked.0 marked.1).0 marked.2) in
-          let told = c.in_ok-count.ensures l z (subst (λ k. StandsFor k l.entries) (sym here.known) (stands_inside c.args.space.now [] l.entries h)) method
+          let told = c.in_ok-count.ensures l z (subst (λ k. StandsFor k l.entries) (sym here.known) (stands_alone c.args.space.now l.entries h)) method
           here.unknown in
           let same : option_eq nat_eq (use_count z l.entries u) (Some u.args) ≡ true =
           ap (λ o. option_eq nat_eq o (Some u.args)) (sym told) ∙ sym c.if-not-is_count.ensures in
@@ -67,7 +67,7 @@ returns-then-not-is_count c = λ l h all.
     let marked = c.loop-used.invariant.marked all in
     let next = c.first_mark-joined.ensures marked.0 u rest (subst (λ xs. AreJoined marked.0 xs c.loop-used.marks.now) cut marked.1) in
     let method = here.scope (at_hand marked.0 _ u.scope c.first_mark-joined.result.0 next.0 marked.2) in
-    let told = c.in_ok-count.ensures l z (subst (λ k. StandsFor k l.entries) (sym here.known) (stands_inside c.args.space.now [] l.entries h)) method
+    let told = c.in_ok-count.ensures l z (subst (λ k. StandsFor k l.entries) (sym here.known) (stands_alone c.args.space.now l.entries h)) method
     here.unknown in
     let other : option_eq nat_eq (use_count z l.entries u) (Some u.args) ≡ false =
     ap (λ o. option_eq nat_eq o (Some u.args)) (sym told) ∙ sym c.if-not-is_count.ensures in

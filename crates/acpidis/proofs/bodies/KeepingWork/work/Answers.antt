@@ -1,7 +1,18 @@
 use Rattle.acpidis.proofs.Common.{length, refl, sym, ap, ◌∙◌, subst, IfOk-weaker, OfMethod, table_codes, body_in}
 use Rattle.acpidis.proofs.Common.{BecameIn}
-use Rattle.std.proofs.lemmas.Option.{slice_get_read}
+use Rattle.std.specs.Prelude.{slice_get}
+use Rattle.std.specs.Option.{option_map}
+use Rattle.std.proofs.lemmas.Option.{slice_get_read, slice_get-map}
+use Rattle.aml_set.specs.declared.methods.Method.{Method}
 use Rattle.acpidis.proofs.bodies.KeepingWork.work.Goals as goal
+
+pub read-requires-clause-kept : goal.read-requires-clause-kept
+read-requires-clause-kept g c =
+    let set = c.args.self.now.set.now in
+    let ms = set.methods.items in
+    let there = slice_get_read ms (length ms) c.args.number c.index-method.result.now refl c.requires c.index-method.ensures in
+    ap (λ paths. slice_get paths c.args.number) set.kept ∙ slice_get-map (λ (m : Method). m.path) ms c.args.number
+    ∙ ap (option_map (λ (m : Method). m.path)) there
 
 pub returns : goal.returns
 returns g c =

@@ -1,11 +1,11 @@
-use Rattle.std.proofs.Common.{length, sym, ap, subst, ◌∙◌}
+use Rattle.std.proofs.Common.{◌≡◌, [], ◌∷◌, ◌++◌, length, sym, ap, subst, ◌∙◌}
 use Rattle.std.specs.FinMap as map
 use Rattle.aml_space.specs.Candidates.{AreSettled}
-use Rattle.aml_namespace.specs.Known.{Known}
+use Rattle.aml_namespace.specs.Known.{Known, with_scopes}
 use Rattle.aml_children.specs.Numbered.{walk}
 use Rattle.aml_space.specs.Nodes.{kids_of}
-use Rattle.aml_space.specs.Opened.{AreOpened}
-use Rattle.aml_space.proofs.Opening.{kept_opened, more_opened}
+use Rattle.aml_space.specs.Opened.{AreOpened, AreThere, known_in, scopes_of}
+use Rattle.aml_space.proofs.Opening.{kept_opened, kept_there, known_again, more_opened, more_scopes, on_err}
 use Rattle.aml_space.proofs.Resting.{settled_grown}
 use Rattle.aml_space.proofs.spaces.Space.enter.Goals as goal
 use Rattle.aml_space.proofs.spaces.Space.enter.Goals.{After-extend, After-keep_scope}
@@ -15,8 +15,17 @@ still_settled : (c : After-extend) → AreSettled c.extend.new.nodes.items c.uns
 still_settled c = settled_grown c.self.inside.nodes.items c.extend.new.nodes.items c.unsettle.new.settled.items c.self.invariant.index
     c.extend.ensures.kept c.extend.ensures.known (subst (λ ns. AreSettled ns c.unsettle.new.settled.items) c.as_slice-5.ensures.value c.unsettle.ensures.settled)
 
+still_there : (c : After-extend) → AreThere c.extend.new.nodes.items c.self.inside.kept.items
+still_there c = (kept_there c.self.inside.nodes.items c.extend.new.nodes.items c.extend.ensures.index c.extend.ensures.kept c.self.inside.kept.items
+    c.self.invariant.kept).0
+
 still_open : (c : After-extend) → AreOpened c.extend.new.nodes.items c.self.inside.scopes.items
 still_open c = kept_opened c.self.inside.nodes.items c.extend.new.nodes.items c.self.inside.scopes.items c.extend.ensures.kept c.self.invariant.scopes
+
+still_known : (c : After-extend)
+    → known_in c.extend.new.nodes.items c.self.inside.scopes.items c.self.inside.kept.items ≡ c.args.self.now
+still_known c = known_again c.self.inside.nodes.items c.extend.new.nodes.items c.self.inside.scopes.items c.self.inside.kept.items _
+    c.extend.ensures.index c.extend.ensures.kept c.self.invariant.kept c.extend.ensures.known ∙ c.self.view_is
 
 now_opened : (c : After-keep_scope) → AreOpened c.extend.new.nodes.items c.keep_scope.new.opened.items
 now_opened c = subst (λ ns. AreOpened ns c.keep_scope.new.opened.items) c.as_slice-6.ensures.value c.keep_scope.ensures.opened
@@ -28,6 +37,7 @@ invariant_of-self-in_err-scope c = record {
   opened = now_opened (goal.at.invariant_of-self-in_err-scope c).After-keep_scope;
   scopes = still_open (goal.at.invariant_of-self-in_err-scope c).After-extend;
   settled = still_settled (goal.at.invariant_of-self-in_err-scope c).After-extend;
+  kept = still_there (goal.at.invariant_of-self-in_err-scope c).After-extend;
 }
 
 pub invariant_of-self-in_err-clone : goal.invariant_of-self-in_err-clone
@@ -37,6 +47,7 @@ invariant_of-self-in_err-clone c = record {
   opened = now_opened (goal.at.invariant_of-self-in_err-clone c).After-keep_scope;
   scopes = still_open (goal.at.invariant_of-self-in_err-clone c).After-extend;
   settled = still_settled (goal.at.invariant_of-self-in_err-clone c).After-extend;
+  kept = still_there (goal.at.invariant_of-self-in_err-clone c).After-extend;
 }
 
 pub invariant_of-self-in_err-push : goal.invariant_of-self-in_err-push
@@ -46,6 +57,7 @@ invariant_of-self-in_err-push c = record {
   opened = now_opened (goal.at.invariant_of-self-in_err-push c).After-keep_scope;
   scopes = subst (AreOpened c.extend.new.nodes.items) (sym c.in_err-push.ensures.items) (still_open (goal.at.invariant_of-self-in_err-push c).After-extend);
   settled = still_settled (goal.at.invariant_of-self-in_err-push c).After-extend;
+  kept = still_there (goal.at.invariant_of-self-in_err-push c).After-extend;
 }
 
 pub invariant_of-self-2 : goal.invariant_of-self-2
@@ -59,4 +71,23 @@ invariant_of-self-2 c =
           (still_open (goal.at.invariant_of-self-2 c).After-extend)
           (ap (walk (kids_of c.extend.new.nodes.items) 0) same ∙ c.in_ok-node.ensures.node);
       settled = still_settled (goal.at.invariant_of-self-2 c).After-extend;
+      kept = still_there (goal.at.invariant_of-self-2 c).After-extend;
     }
+
+pub returns-in_err-scope-clause-err : goal.returns-in_err-scope-clause-err
+returns-in_err-scope-clause-err c = on_err c.from_residual-in_err-scope.result (still_known (goal.at.returns-in_err-scope-clause-err c).After-extend)
+
+pub returns-in_err-clone-clause-err : goal.returns-in_err-clone-clause-err
+returns-in_err-clone-clause-err c = on_err c.from_residual-in_err-clone.result (still_known (goal.at.returns-in_err-clone-clause-err c).After-extend)
+
+pub returns-in_err-push-clause-err : goal.returns-in_err-push-clause-err
+returns-in_err-push-clause-err c = on_err c.from_residual-in_err-push.result
+    (ap (λ scopes. known_in c.extend.new.nodes.items scopes c.self.inside.kept.items) c.in_err-push.ensures.items
+    ∙ still_known (goal.at.returns-in_err-push-clause-err c).After-extend)
+
+pub returns-clause-ok : goal.returns-clause-ok
+returns-clause-ok c =
+    let same = c.in_ok-clone.ensures.cases ∙ c.in_ok-scope.ensures.scope in
+    ap (λ (k : Known). with_scopes k (scopes_of c.push.new.self.items)) (still_known (goal.at.returns-clause-ok c).After-extend)
+    ∙ ap (with_scopes c.args.self.now) (more_scopes c.self.inside.scopes.items c.push.new.self.items _ c.in_ok-push.ensures.items
+    ∙ (λ i. (c.self.view_is i).scopes ++ same i ∷ []))

@@ -2,10 +2,9 @@ use Rattle.std.proofs.Common.{◌≡◌, length, ◌++◌, ◌∷◌, [], sym, s
 use Rattle.std.specs.FinMap as map
 use Rattle.aml_namespace.specs.Namespace.{given as said}
 use Rattle.aml_namespace.specs.Known.{Known, StandsFor, with_given}
-use Rattle.aml_namespace.specs.Known.{with_scopes}
-use Rattle.aml_space.specs.Nodes.{known_by, IsIndex}
-use Rattle.aml_space.specs.Opened.{known_in, scopes_of}
-use Rattle.aml_space.proofs.Opening.{kept_opened, kept_on, content_kept}
+use Rattle.aml_space.specs.Nodes.{known_by, IsIndex, IsKept}
+use Rattle.aml_space.specs.Opened.{known_in}
+use Rattle.aml_space.proofs.Opening.{kept_opened, kept_on, kept_there, known_again, content_kept}
 use Rattle.aml_namespace.proofs.Stands.{stands_given}
 use Rattle.aml_space.proofs.Index.{put_given}
 use Rattle.aml_space.proofs.Resting.{said_given, settled_kept}
@@ -20,9 +19,15 @@ put c =
     c.in_ok-at.ensures.node c.args.count c.set_given.ensures in
     (put.0, put.1 ∙ ap (λ k. with_given k c.parts-path.result c.args.count) c.extend.ensures.known)
 
+-- and paths lead where they led
+kept : (c : After-set_given) → IsKept c.self.inside.nodes.items c.set_given.new.nodes.items
+kept c = kept_on c.self.inside.nodes.items c.extend.new.nodes.items c.set_given.new.nodes.items c.extend.ensures.kept
+    (content_kept c.extend.new.nodes.items c.set_given.new.nodes.items c.in_ok-at.at _ c.set_given.ensures)
+
 put_here : (c : After-set_given)
-    → known_in c.set_given.new.nodes.items c.self.inside.scopes.items ≡ with_given c.args.self.now c.args.path.now c.args.count
-put_here c = ap (λ k. with_scopes k (scopes_of c.self.inside.scopes.items)) (put c).1 ∙ (λ i. with_given (c.self.view_is i) (c.parts-path.ensures i) c.args.count)
+    → known_in c.set_given.new.nodes.items c.self.inside.scopes.items c.self.inside.kept.items ≡ with_given c.args.self.now c.args.path.now c.args.count
+put_here c = known_again c.self.inside.nodes.items c.set_given.new.nodes.items c.self.inside.scopes.items c.self.inside.kept.items _ (put c).0 (kept c)
+    c.self.invariant.kept (put c).1 ∙ (λ i. with_given (c.self.view_is i) (c.parts-path.ensures i) c.args.count)
 
 pub reach_near-reach-requires-clause-near : goal.reach_near-reach-requires-clause-near
 reach_near-reach-requires-clause-near c = c.root.ensures.near _ _
@@ -32,16 +37,15 @@ invariant_of-self-2 c = record {
   index = (put (goal.at.invariant_of-self-2 c).After-set_given).0;
   rows = c.self.invariant.rows ∙ ap (λ (k : Known). length (map.entries k.declarations)) c.self.view_is
       ∙ ap (λ (k : Known). length (map.entries k.declarations)) (sym (put_here (goal.at.invariant_of-self-2 c).After-set_given));
-  opened = kept_opened c.extend.new.nodes.items c.set_given.new.nodes.items c.self.inside.opened.items
-      (content_kept c.extend.new.nodes.items c.set_given.new.nodes.items c.in_ok-at.at _ c.set_given.ensures)
-      (kept_opened c.self.inside.nodes.items c.extend.new.nodes.items c.self.inside.opened.items c.extend.ensures.kept c.self.invariant.opened);
-  scopes = kept_opened c.extend.new.nodes.items c.set_given.new.nodes.items c.self.inside.scopes.items
-      (content_kept c.extend.new.nodes.items c.set_given.new.nodes.items c.in_ok-at.at _ c.set_given.ensures)
-      (kept_opened c.self.inside.nodes.items c.extend.new.nodes.items c.self.inside.scopes.items c.extend.ensures.kept c.self.invariant.scopes);
+  opened = kept_opened c.self.inside.nodes.items c.set_given.new.nodes.items c.self.inside.opened.items
+      (kept (goal.at.invariant_of-self-2 c).After-set_given) c.self.invariant.opened;
+  scopes = kept_opened c.self.inside.nodes.items c.set_given.new.nodes.items c.self.inside.scopes.items
+      (kept (goal.at.invariant_of-self-2 c).After-set_given) c.self.invariant.scopes;
+  kept = (kept_there c.self.inside.nodes.items c.set_given.new.nodes.items (put (goal.at.invariant_of-self-2 c).After-set_given).0
+      (kept (goal.at.invariant_of-self-2 c).After-set_given) c.self.inside.kept.items c.self.invariant.kept).0;
   settled = settled_kept c.self.inside.nodes.items c.set_given.new.nodes.items c.as_slice-5.result.now
       c.unsettle.new.settled.items c.parts-path.result c.as_slice-5.ensures.value c.self.invariant.index
-      (kept_on c.self.inside.nodes.items c.extend.new.nodes.items c.set_given.new.nodes.items c.extend.ensures.kept
-      (content_kept c.extend.new.nodes.items c.set_given.new.nodes.items c.in_ok-at.at _ c.set_given.ensures))
+      (kept (goal.at.invariant_of-self-2 c).After-set_given)
       (said_given (known_by c.self.inside.nodes.items) _ _ c.args.count (put (goal.at.invariant_of-self-2 c).After-set_given).1)
       c.unsettle.ensures.ready c.unsettle.ensures.settled;
 }

@@ -1,17 +1,17 @@
-use Rattle.std.proofs.Common.{◌≡◌, false, ◌+◌, length, ◌++◌, ◌∷◌, [], List, Option, None, OnOk, OnErr, Result, Ok, Err}
+use Rattle.std.proofs.Common.{IfSome, ◌≡◌, false, ◌+◌, length, ◌++◌, ◌∷◌, [], List, Option, None, OnOk, OnErr, Result, Ok, Err}
 use Rattle.std.proofs.Common.{refl, sym, subst, ap, ◌∙◌, arith}
 use Rattle.std.specs.FinMap as map
 use Rattle.std.specs.declared.alloc.AllocError.{AllocError}
 use Rattle.aml_namespace.specs.Namespace.{Entry, Body, declares}
-use Rattle.aml_namespace.specs.Known.{with_scopes}
 use Rattle.aml_space.specs.Nodes.{known_by}
 use Rattle.aml_space.specs.Opened.{known_in, scopes_of}
-use Rattle.aml_namespace.specs.Known.{Known, StandsFor, once, with_declaration, with_again}
+use Rattle.aml_space.specs.Near.{IsSourceOf}
+use Rattle.aml_namespace.specs.Known.{Known, StandsFor, namespace_in, once, with_declaration, with_again}
 use Rattle.aml_namespace.proofs.Stands.{stands_declared, again_first, none_from_test}
 use Rattle.aml_space.proofs.Index.{known_taken, one_declared}
 use Rattle.aml_space.specs.Candidates.{AreSettled}
 use Rattle.aml_space.proofs.Resting.{IsSaidOf, said_declared, said_nothing, settled_kept}
-use Rattle.aml_space.proofs.Opening.{kept_opened}
+use Rattle.aml_space.proofs.Opening.{kept_opened, kept_there, known_again, on_err, ok_then, err_then}
 use Rattle.aml_space.proofs.spaces.Space.put_again.Goals as goal
 use Rattle.aml_space.proofs.spaces.Space.put_again.Goals.{In_ok-declare_first, After-declare_first, After-is_taken}
 
@@ -21,9 +21,10 @@ not_declared c free = none_from_test _ (sym (known_taken _ _ _ _ _ c.args.self.n
     (ap (λ k. k.declarations) c.self.view_is)) ∙ free)
 
 put_here : (c : In_ok-declare_first) → map.get c.args.self.now.declarations c.args.path.now ≡ None
-    → known_in c.declare_first.new.nodes.items c.self.inside.scopes.items
+    → known_in c.declare_first.new.nodes.items c.self.inside.scopes.items c.self.inside.kept.items
     ≡ with_again c.args.self.now c.args.path.now c.args.kind c.args.sure
-put_here c none = ap (λ k. with_scopes k (scopes_of c.self.inside.scopes.items)) (c.in_ok-declare_first.ensures.ok
+put_here c none = known_again c.self.inside.nodes.items c.declare_first.new.nodes.items c.self.inside.scopes.items c.self.inside.kept.items _
+    c.declare_first.ensures.index c.declare_first.ensures.kept c.self.invariant.kept (c.in_ok-declare_first.ensures.ok
     ∙ ap (λ kind. with_declaration (known_by c.self.inside.nodes.items) c.args.path.now (once kind c.args.sure)) c.aimed_by-aimed.ensures.kind)
     ∙ ap (λ k. with_declaration k c.args.path.now (once c.args.kind c.args.sure)) c.self.view_is
     ∙ sym (again_first c.args.self.now c.args.path.now c.args.kind c.args.sure none)
@@ -44,6 +45,8 @@ invariant_of-self-in_err-declare_first c = record {
       c.self.invariant.opened;
   scopes = kept_opened c.self.inside.nodes.items c.declare_first.new.nodes.items c.self.inside.scopes.items c.declare_first.ensures.kept
       c.self.invariant.scopes;
+  kept = (kept_there c.self.inside.nodes.items c.declare_first.new.nodes.items c.declare_first.ensures.index c.declare_first.ensures.kept
+      c.self.inside.kept.items c.self.invariant.kept).0;
   settled = still_settled (goal.at.invariant_of-self-in_err-declare_first c).After-declare_first
       (said_nothing _ _ c.args.path.now c.in_err-declare_first.ensures.err);
 }
@@ -56,6 +59,8 @@ invariant_of-self c = record {
       c.self.invariant.opened;
   scopes = kept_opened c.self.inside.nodes.items c.declare_again.new.nodes.items c.self.inside.scopes.items c.declare_again.ensures.kept
       c.self.invariant.scopes;
+  kept = (kept_there c.self.inside.nodes.items c.declare_again.new.nodes.items c.declare_again.ensures.index c.declare_again.ensures.kept
+      c.self.inside.kept.items c.self.invariant.kept).0;
   settled = settled_kept c.self.inside.nodes.items c.declare_again.new.nodes.items c.as_slice-5.result.now
       c.unsettle.new.settled.items c.args.path.now c.as_slice-5.ensures.value c.self.invariant.index c.declare_again.ensures.kept (said c.declare_again.result c.declare_again.ensures.ok c.declare_again.ensures.err)
       c.unsettle.ensures.ready c.unsettle.ensures.settled;
@@ -84,6 +89,8 @@ invariant_of-self-2 c =
           c.self.invariant.opened;
       scopes = kept_opened c.self.inside.nodes.items c.declare_first.new.nodes.items c.self.inside.scopes.items c.declare_first.ensures.kept
           c.self.invariant.scopes;
+      kept = (kept_there c.self.inside.nodes.items c.declare_first.new.nodes.items c.declare_first.ensures.index c.declare_first.ensures.kept
+          c.self.inside.kept.items c.self.invariant.kept).0;
       settled = still_settled (goal.at.invariant_of-self-2 c).After-declare_first
           (said_declared _ _ c.args.path.now _ c.in_ok-declare_first.ensures.ok);
     }
@@ -102,8 +109,32 @@ returns-then-is_taken-clause-stands c = λ es body stands. by c.declare_again.re
     by : (r : Result (Unit {0}) AllocError) → OnOk r (known_by c.declare_again.new.nodes.items
         ≡ with_again (known_by c.self.inside.nodes.items) c.args.path.now c.args.kind c.args.sure)
         → (es : List Entry) (body : Option Body) → StandsFor c.args.self.now es
-        → OnOk r (StandsFor (known_in c.declare_again.new.nodes.items c.self.inside.scopes.items) (es ++ declares c.args.path.now c.args.kind body c.args.sure ∷ []))
+        → OnOk r (StandsFor (known_in c.declare_again.new.nodes.items c.self.inside.scopes.items c.self.inside.kept.items) (es ++ declares c.args.path.now c.args.kind body c.args.sure ∷ []))
     by (Err e) ok es body stands = tt
     by (Ok u) ok es body stands = subst (λ k. StandsFor k (es ++ declares c.args.path.now c.args.kind body c.args.sure ∷ []))
-        (sym (ap (λ k. with_scopes k (scopes_of c.self.inside.scopes.items)) ok ∙ ap (λ k. with_again k c.args.path.now c.args.kind c.args.sure) c.self.view_is))
+        (sym (known_again c.self.inside.nodes.items c.declare_again.new.nodes.items c.self.inside.scopes.items c.self.inside.kept.items _
+        c.declare_again.ensures.index c.declare_again.ensures.kept c.self.invariant.kept ok ∙ ap (λ k. with_again k c.args.path.now c.args.kind c.args.sure) c.self.view_is))
         (stands_declared c.args.self.now es stands c.args.path.now c.args.kind body c.args.sure)
+
+pub aimed_by-aimed-requires-clause-source : goal.aimed_by-aimed-requires-clause-source
+aimed_by-aimed-requires-clause-source c =
+    let scopes = ap scopes_of (c.new-hints-2.ensures.scopes ∙ c.as_slice-8.ensures.value) ∙ ap (λ (k : Known). k.scopes) c.self.view_is in
+    let names = ap (λ ns. namespace_in (known_by ns)) c.as_slice-10.ensures.value ∙ ap namespace_in c.self.view_is in
+    subst (λ n. IfSome c.args.source (IsSourceOf (scopes_of c.new-hints-2.result.scopes.now) n c.args.kind)) (sym names)
+    (subst (λ inside. IfSome c.args.source (IsSourceOf inside (namespace_in c.args.self.now) c.args.kind)) (sym scopes) c.requires.source)
+
+pub returns-in_err-declare_first-clause-err : goal.returns-in_err-declare_first-clause-err
+returns-in_err-declare_first-clause-err c = on_err c.from_residual.result
+    (known_again c.self.inside.nodes.items c.declare_first.new.nodes.items c.self.inside.scopes.items c.self.inside.kept.items _
+    c.declare_first.ensures.index c.declare_first.ensures.kept c.self.invariant.kept c.in_err-declare_first.ensures.err ∙ c.self.view_is)
+
+pub returns-then-is_taken-clause-ok : goal.returns-then-is_taken-clause-ok
+returns-then-is_taken-clause-ok c = ok_then c.declare_again.result
+    (λ ok. known_again c.self.inside.nodes.items c.declare_again.new.nodes.items c.self.inside.scopes.items c.self.inside.kept.items _
+    c.declare_again.ensures.index c.declare_again.ensures.kept c.self.invariant.kept ok
+    ∙ ap (λ k. with_again k c.args.path.now c.args.kind c.args.sure) c.self.view_is) c.declare_again.ensures.ok
+
+pub returns-then-is_taken-clause-err : goal.returns-then-is_taken-clause-err
+returns-then-is_taken-clause-err c = err_then c.declare_again.result
+    (λ err. known_again c.self.inside.nodes.items c.declare_again.new.nodes.items c.self.inside.scopes.items c.self.inside.kept.items _
+    c.declare_again.ensures.index c.declare_again.ensures.kept c.self.invariant.kept err ∙ c.self.view_is) c.declare_again.ensures.err

@@ -1,17 +1,17 @@
 use mathlib.Core.Bool.{true≢false}
-use Rattle.std.proofs.Common.{◌≡◌, ◌+◌, length, List, ◌++◌, ◌∷◌, [], None, is_some, not, true, false, refl, sym, subst}
+use Rattle.std.proofs.Common.{IfSome, ◌≡◌, ◌+◌, length, List, ◌++◌, ◌∷◌, [], None, is_some, not, true, false, refl, sym, subst}
 use Rattle.std.proofs.Common.{ap, ◌∙◌, arith}
 use Rattle.std.specs.FinMap as map
 use Rattle.aml_namespace.specs.Namespace.{Entry, declares, declared_at}
-use Rattle.aml_namespace.specs.Known.{with_scopes}
 use Rattle.aml_space.specs.Nodes.{known_by}
 use Rattle.aml_space.specs.Opened.{known_in, scopes_of}
-use Rattle.aml_namespace.specs.Known.{Known, StandsFor, once, with_declaration, is_declared}
+use Rattle.aml_space.specs.Near.{IsSourceOf}
+use Rattle.aml_namespace.specs.Known.{Known, StandsFor, namespace_in, once, with_declaration, is_declared}
 use Rattle.aml_namespace.proofs.Stands.{stands_declared, again_first, none_from_test, declared_listed}
 use Rattle.aml_space.proofs.Index.{known_taken, one_declared}
 use Rattle.aml_space.specs.Candidates.{AreSettled}
 use Rattle.aml_space.proofs.Resting.{IsSaidOf, said_declared, said_nothing, settled_kept}
-use Rattle.aml_space.proofs.Opening.{kept_opened}
+use Rattle.aml_space.proofs.Opening.{kept_opened, kept_there, known_again, on_err}
 use Rattle.aml_space.proofs.spaces.Space.put_once.Goals as goal
 use Rattle.aml_space.proofs.spaces.Space.put_once.Goals.{After-is_taken, After-declare_first, In_ok-declare_first}
 
@@ -27,9 +27,10 @@ never : (c : After-is_taken) → c.is_taken.result ≡ false → {A : Type 0}
     → is_declared c.args.self.now c.args.path.now ≡ true → A
 never c free there = absurd (true≢false (sym there ∙ sym (taken c) ∙ free))
 
-put_here : (c : In_ok-declare_first) → known_in c.declare_first.new.nodes.items c.self.inside.scopes.items
+put_here : (c : In_ok-declare_first) → known_in c.declare_first.new.nodes.items c.self.inside.scopes.items c.self.inside.kept.items
     ≡ with_declaration c.args.self.now c.args.path.now (once c.args.kind c.args.surely)
-put_here c = ap (λ k. with_scopes k (scopes_of c.self.inside.scopes.items)) (c.in_ok-declare_first.ensures.ok
+put_here c = known_again c.self.inside.nodes.items c.declare_first.new.nodes.items c.self.inside.scopes.items c.self.inside.kept.items _
+    c.declare_first.ensures.index c.declare_first.ensures.kept c.self.invariant.kept (c.in_ok-declare_first.ensures.ok
     ∙ ap (λ kind. with_declaration (known_by c.self.inside.nodes.items) c.args.path.now (once kind c.args.surely)) c.aimed_by-aimed.ensures.kind)
     ∙ ap (λ k. with_declaration k c.args.path.now (once c.args.kind c.args.surely)) c.self.view_is
 
@@ -49,6 +50,8 @@ invariant_of-self-in_err-declare_first c = record {
       c.self.invariant.opened;
   scopes = kept_opened c.self.inside.nodes.items c.declare_first.new.nodes.items c.self.inside.scopes.items c.declare_first.ensures.kept
       c.self.invariant.scopes;
+  kept = (kept_there c.self.inside.nodes.items c.declare_first.new.nodes.items c.declare_first.ensures.index c.declare_first.ensures.kept
+      c.self.inside.kept.items c.self.invariant.kept).0;
   settled = still_settled (goal.at.invariant_of-self-in_err-declare_first c).After-declare_first
       (said_nothing _ _ c.args.path.now c.in_err-declare_first.ensures.err);
 }
@@ -68,6 +71,8 @@ invariant_of-self-2 c =
           c.self.invariant.opened;
       scopes = kept_opened c.self.inside.nodes.items c.declare_first.new.nodes.items c.self.inside.scopes.items c.declare_first.ensures.kept
           c.self.invariant.scopes;
+      kept = (kept_there c.self.inside.nodes.items c.declare_first.new.nodes.items c.declare_first.ensures.index c.declare_first.ensures.kept
+          c.self.inside.kept.items c.self.invariant.kept).0;
       settled = still_settled (goal.at.invariant_of-self-2 c).After-declare_first
           (said_declared _ _ c.args.path.now _ c.in_ok-declare_first.ensures.ok);
     }
@@ -105,3 +110,15 @@ returns-then-is_taken-clause-listed c = λ es s. ap not (sym c.if-is_taken.true 
 
 pub returns-clause-listed : goal.returns-clause-listed
 returns-clause-listed c = λ es s. ap not (sym c.if-is_taken.false ∙ sym (listed (goal.at.returns-clause-listed c).After-is_taken es s))
+
+pub aimed_by-aimed-requires-clause-source : goal.aimed_by-aimed-requires-clause-source
+aimed_by-aimed-requires-clause-source c =
+    let scopes = ap scopes_of (c.new-hints-2.ensures.scopes ∙ c.as_slice-8.ensures.value) ∙ ap (λ (k : Known). k.scopes) c.self.view_is in
+    let names = ap (λ ns. namespace_in (known_by ns)) c.as_slice-10.ensures.value ∙ ap namespace_in c.self.view_is in
+    subst (λ n. IfSome c.args.source (IsSourceOf (scopes_of c.new-hints-2.result.scopes.now) n c.args.kind)) (sym names)
+    (subst (λ inside. IfSome c.args.source (IsSourceOf inside (namespace_in c.args.self.now) c.args.kind)) (sym scopes) c.requires.source)
+
+pub returns-in_err-declare_first-clause-err : goal.returns-in_err-declare_first-clause-err
+returns-in_err-declare_first-clause-err c = on_err c.from_residual.result
+    (known_again c.self.inside.nodes.items c.declare_first.new.nodes.items c.self.inside.scopes.items c.self.inside.kept.items _
+    c.declare_first.ensures.index c.declare_first.ensures.kept c.self.invariant.kept c.in_err-declare_first.ensures.err ∙ c.self.view_is)
