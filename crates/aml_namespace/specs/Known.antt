@@ -204,7 +204,8 @@ coded_known =
     (coded× (map.code coded_path coded_declared) (coded× (map.code coded_path coded_ℕ)
     (coded× (map.code coded_path coded_ℕ) (coded× (coded_list coded_path) (coded_list coded_path)))))
     (λ k. (k.declarations, (k.outs, (k.givens, (k.scopes, k.kept)))))
-    (λ p. record { declarations = p.0; outs = p.1.0; givens = p.1.1.0; scopes = p.1.1.1.0; kept = p.1.1.1.1 }) (λ _. refl)
+    (λ p. record { declarations = p.0; outs = p.1.0; givens = p.1.1.0; scopes = p.1.1.1.0; kept = p.1.1.1.1 })
+    (λ _. refl)
 
 -- ---- What the names of a method's body are read by.
 

@@ -7,7 +7,7 @@ use Rattle.std.proofs.Common.{◌≡◌, ℕ, zero, suc, List, [], ◌∷◌, �
 use Rattle.std.proofs.Common.{length, take, drop, get_or, Result, Ok, Err, OnOk, OnErr}
 use Rattle.std.proofs.lemmas.List.{take_all}
 use Rattle.std.proofs.Math.Seq.{drop-length}
-use Rattle.std.proofs.Common.{arith}
+use Rattle.std.proofs.Common.{arith, Bool, true, false, cond}
 use Rattle.aml_names.specs.declared.segments.Seg.{Seg}
 use Rattle.aml_space.specs.declared.nodes.Node.{Node}
 use Rattle.aml_space.specs.declared.opened.Opened.{Opened}
@@ -15,10 +15,10 @@ use Rattle.aml_children.specs.Numbered.{walk}
 use Rattle.std.specs.Option.{option_or, option_and_then, unwrap_or}
 use Rattle.std.proofs.lemmas.Option.{none-some, same_Some}
 use Rattle.aml_namespace.specs.declared.kinds.Kind.{Kind}
-use Rattle.aml_namespace.specs.declared.kinds.Kind.TheVariants.{Alias}
+use Rattle.aml_namespace.specs.declared.kinds.Kind.TheVariants.{Scope, Name, Method, Mutex, Alias}
 use Rattle.aml_namespace.specs.Namespace.{kind_at}
 use Rattle.aml_namespace.specs.Known.{Known, namespace_in, with_scopes, with_kept}
-use Rattle.aml_namespace.specs.Predefined.{predefined}
+use Rattle.aml_namespace.specs.Predefined.{predefined, is_one_of}
 use Rattle.aml_space.specs.Near.{IsTarget}
 use Rattle.aml_space.specs.Nodes.{kids_of, kinds_of, known_by, path_of, Content, HasContent, IsAim, IsIndex, IsKept, Reaches}
 use Rattle.aml_space.proofs.Index.{kind_at_path}
@@ -144,28 +144,47 @@ pub root_opened : (ns : List Node) (none one : List Opened) (o : Opened) → non
 root_opened ns none one o empty is root first = more_opened ns none one o is (none_opened ns none empty)
     (ap (walk (kids_of ns) 0) root ∙ ap (λ (n : ℕ). Some n) (sym first))
 
+-- no predefined path is an Alias
+no_alias : (p own : List Seg) → predefined p ≡ Some (Alias own) → ⊥
+no_alias [] own is = absurd cc
+no_alias (s ∷ t ∷ rest) own is = absurd cc
+no_alias (s ∷ []) own is = by (is_one_of ("_GPE" ∷ "_PR_" ∷ "_SB_" ∷ "_SI_" ∷ "_TZ_" ∷ []) s) (is_one_of ("_GL_" ∷ []) s)
+    (is_one_of ("_OS_" ∷ "_REV" ∷ []) s) (is_one_of ("_OSI" ∷ []) s) is
+  where
+    by : (a b c d : Bool)
+        → cond a (Some Scope) (cond b (Some Mutex) (cond c (Some Name) (cond d (Some (Method 1)) None))) ≡ Some (Alias own) → ⊥
+    by true b c d is = absurd cc
+    by false true c d is = absurd cc
+    by false false true d is = absurd cc
+    by false false false true is = absurd cc
+    by false false false false is = absurd cc
+
 -- What an Alias of a source stands for, by the source's node: where the source is an Alias, the node that is kept of
 -- this leads there, and else the source's own.
 module _ (ns : List Node) (is : IsIndex ns) (source target : List Seg) (node : Option ℕ) (led : node ≡ walk (kids_of ns) 0 source)
     (aims : IsTarget (namespace_in (known_by ns)) source target) where
-  kind_there : (k : Kind) → option_and_then (kinds_of ns) node ≡ Some k → kind_at (namespace_in (known_by ns)) source ≡ Some k
-  kind_there k has = ap (λ o. option_or o (predefined source))
-      (sym (kind_at_path ns is.shape source) ∙ ap (option_and_then (kinds_of ns)) (sym led) ∙ has)
+  kind_there : kind_at (namespace_in (known_by ns)) source ≡ option_or (option_and_then (kinds_of ns) node) (predefined source)
+  kind_there = ap (λ o. option_or o (predefined source)) (sym (kind_at_path ns is.shape source) ∙ ap (option_and_then (kinds_of ns)) (sym led))
 
-  pub aim_kept : (k : Kind) (own : List Seg) (aim : ℕ) → option_and_then (kinds_of ns) node ≡ Some k → k ≡ Alias own
+  pub aim_kept : (own : List Seg) (aim : ℕ) → option_and_then (kinds_of ns) node ≡ Some (Alias own)
       → IsAim ns (option_and_then (kinds_of ns) node) aim → IsAim ns (Some (Alias target)) aim
-  aim_kept k own aim has alias kept = subst (λ o. IsAim ns o aim) (has ∙ ap (λ (k : Kind). Some k)
-      (alias ∙ ap (λ (t : List Seg). Alias t) (sym (aims.alias own (kind_there k has ∙ ap (λ (k : Kind). Some k) alias))))) kept
+  aim_kept own aim has kept = subst (λ o. IsAim ns o aim) (has ∙ ap (λ (t : List Seg). Some (Alias t)) (sym (aims.alias own
+      (kind_there ∙ ap (λ o. option_or o (predefined source)) has)))) kept
 
-  pub aim_here : (k : Kind) (aim : ℕ) → option_and_then (kinds_of ns) node ≡ Some k → ((own : List Seg) → k ≡ Alias own → ⊥)
+  pub aim_here : (aim : ℕ) → ((own : List Seg) → option_and_then (kinds_of ns) node ≡ Some (Alias own) → ⊥)
       → aim ≡ unwrap_or node 0 → IsAim ns (Some (Alias target)) aim
-  aim_here k aim has other at some = (
+  aim_here aim other at some = (
     target,
     refl,
-    ap (walk (kids_of ns) 0) (aims.other (λ own alias. other own (same_Some k (Alias own) (sym (kind_there k has) ∙ alias))))
-        ∙ sym led ∙ there node has at,
+    ap (walk (kids_of ns) 0) (aims.other (λ own alias. by (option_and_then (kinds_of ns) node) refl own (sym kind_there ∙ alias)))
+        ∙ sym led ∙ there node at,
   )
     where
-      there : (o : Option ℕ) → option_and_then (kinds_of ns) o ≡ Some k → aim ≡ unwrap_or o 0 → o ≡ Some aim
-      there None none is = absurd (none-some k none)
-      there (Some i) has is = ap (λ (n : ℕ). Some n) (sym is)
+      by : (o : Option Kind) → option_and_then (kinds_of ns) node ≡ o → (own : List Seg)
+          → option_or o (predefined source) ≡ Some (Alias own) → ⊥
+      by None none own alias = no_alias source own alias
+      by (Some k) has own alias = other own (has ∙ alias)
+
+      there : (o : Option ℕ) → aim ≡ unwrap_or o 0 → o ≡ Some aim
+      there None is = absurd (omega (arith, is, some))
+      there (Some i) is = ap (λ (n : ℕ). Some n) (sym is)

@@ -299,7 +299,7 @@ pub(crate) fn node_near(
     }
 }
 
-/// The node of what an Alias of a source stands for, or 0 where it isn't known: that of the source, or the one that is
+/// The node of what an Alias of a source stands for, or 0 where there is none: that of the source, or the one that is
 /// kept of an Alias.
 pub(crate) fn aim_by(nodes: &[Node], hints: Hints<'_>, source: Source<'_>) -> usize
     requires index { IsIndex nodes.now }
@@ -310,7 +310,7 @@ pub(crate) fn aim_by(nodes: &[Node], hints: Hints<'_>, source: Source<'_>) -> us
 {
     let node = node_near(nodes, hints, source.near, &source.path.parts());
     match kind_at(nodes, node) {
-        None => 0,
+        None => node.unwrap_or(0),
         Some(kind) => match kind {
             Kind::Alias { .. } => aim_at(nodes, node),
             _ => node.unwrap_or(0),
