@@ -5,13 +5,15 @@
 
 PROGRAM is out/acpidis if left out. With --stop the first cut that fails ends it. The independent reading of tests/oracle says what has to come of 19 tables cut at each
 byte, of all bodies of two bytes, of 20,000 methods in a mixed order with a call of each, and of the most files and bytes.
-It says it too of blocks outside methods and of a path that is declared again and again, with the option --any-run.
+It says it too of blocks outside methods and of a path that is declared again and again, with the option --any-run; and
+by 1, 4 and 64 workers of paths below what only may stand, of chains of Aliases, and of Scopes of what is no scope.
 For a long body, a name of sixteen million `^` and a million methods it would take too long: what has to come of these is
 written down here, after docs/listing.md, docs/limits.md and docs/loading.md. The last line is 'N passed, N failed'.
 """
 
 import argparse
 import concurrent.futures
+import dataclasses
 import gc
 import io
 import itertools
@@ -30,11 +32,13 @@ sys.path.insert(0, str(pathlib.Path(__file__).resolve().parent / "oracle"))
 from compare import PROGRAM  # noqa: E402
 from dumps import HEADER_LENGTH, MOST_BYTES, MOST_DUMPS, Dump  # noqa: E402
 from loading import MOST_METHODS  # noqa: E402
+from made_code import MOST_SEGMENTS  # noqa: E402
 from pages import table  # noqa: E402
 from running import DONE, RAW, REFUSED, Options, run, run_folder  # noqa: E402
 
 LIST, CHECK = Options(), Options(check=True)
 LIST_RUNS, CHECK_RUNS = Options(any_run=True), Options(any_run=True, check=True)
+WORKERS = 1, 4, 64
 LONGEST_RUN = 120
 MOST_SHOWN = 200
 BLOCK = "dsdt.dat"
@@ -71,6 +75,8 @@ TAKEN_CUTS, READ_BODIES = 60, 880
 # The methods of the mixed order, and how many names are looked up that nothing declares. The step has no factor in common
 # with the number of methods, so that each comes once.
 MIXED, OTHERS, STEP = 20_000, 500, 7_919
+# The Aliases of a chain, of which each so manieth is called, and the methods inside a Scope of what is no scope
+CHAINED, STRIDE, INNER = 1_000, 50, 100
 
 
 class Ending(NamedTuple):
@@ -186,9 +192,17 @@ def with_length(opcode, content):
     return opcode + bytes([0xC0 | size & 15]) + (size >> 4).to_bytes(3, "little") + content
 
 
-def method(name, body):
-    """A method without arguments."""
-    return with_length(b"\x14", name + b"\0" + body)
+def method(name, body, count=0):
+    """A method of so many arguments, mostly none."""
+    return with_length(b"\x14", name + bytes([count]) + body)
+
+
+def within_if(code):
+    return with_length(b"\xA0", b"\1" + code)
+
+
+def device(name, code=b""):
+    return with_length(b"\x5B\x82", name + code)
 
 
 def bodies_of_two_bytes():
@@ -222,7 +236,7 @@ def blocks(count):
     """Ifs, one in the other. The predicate of the last one is a level below it."""
     code = b""
     for _ in range(count):
-        code = with_length(b"\xA0", b"\x01" + code)
+        code = within_if(code)
     return one(code)
 
 
@@ -238,6 +252,62 @@ def a_path_declared_again():
     files = {BLOCK: table(b"DSDT", code), "ssdt1.dat": table(b"SSDT", code)}
     yield Trial("a path declared 200 times", files, LIST_RUNS)
     yield Trial("a path declared 200 times", files, LIST)
+
+
+def by_workers(name, code):
+    """The listing and the check of a set with code outside methods, each by some numbers of workers."""
+    files = one(code)
+    for options in LIST_RUNS, CHECK_RUNS:
+        outcome = run([Dump(file, None, data) for file, data in files.items()], options)
+        for workers in WORKERS:
+            yield Trial(name, files, dataclasses.replace(options, workers=workers), ending_of(outcome))
+
+
+def below_maybes():
+    """A path as long as a name can be, below paths each of which only may stand: to the end; until they are declared
+    once more, with another method at the path; and with each Device inside the one before."""
+    segments = [segment(number) for number in range(MOST_SEGMENTS)]
+    *above, whole = [b"\\/%c" % count + b"".join(segments[:count]) for count in range(1, MOST_SEGMENTS + 1)]
+    maybes = b"".join(within_if(device(name)) for name in above) + method(whole, b"", 1)
+    sure, call = b"".join(map(device, above)) + method(whole, b"", 2), method(b"CALL", whole + b"\1\1")
+    yield from by_workers("a long path below maybes", maybes + call)
+    yield from by_workers("a long path below what is sure at the end", maybes + sure + call)
+    nested = method(segments[-1], segments[-1] + b"\1", 1) + method(whole, b"", 2)
+    for name in reversed(segments[1:-1]):
+        nested = within_if(device(name, nested))
+    yield from by_workers("a long path inside of maybes", device(segments[0], nested) + call)
+
+
+def chains_of_aliases():
+    """Aliases of Aliases, the first of which may be that of one method or of another, may be there, or is; and what
+    calls them."""
+    methods = method(b"MET1", b"", 1) + method(b"MET2", b"", 2)
+    first, second = (b"\x06" + name + segment(0) for name in (b"MET1", b"MET2"))
+    starts = {"two methods": within_if(first) + within_if(second), "one that may be": within_if(first), "one": first}
+    chain = b"".join(b"\x06" + segment(number) + segment(number + 1) for number in range(CHAINED))
+    called = range(0, CHAINED, STRIDE)
+    calls = b"".join(method(b"Z%03d" % number, segment(CHAINED - number) + b"\1\1") for number in called)
+    for what, start in starts.items():
+        yield from by_workers(f"Aliases of Aliases of {what}", methods + start + chain + calls)
+
+
+def scopes_of_no_scope():
+    """Scopes of a Mutex, a method, a Name, an Alias of a Device, what may be a Device, and a Device. In each are
+    methods and a Device, and behind it others of their paths, and what calls them."""
+    declared = {
+        b"MTX0": b"\x5B\x01MTX0\0", b"MTH0": method(b"MTH0", b""), b"NAM0": b"\x08NAM0\0", b"ALI0": b"\x06DEV0ALI0",
+        b"MAY0": within_if(device(b"MAY0")) + method(b"MAY0", b""), b"DEV0": b"",
+    }
+    names = [segment(number) for number in range(INNER)]
+    code = device(b"DEV0")
+    for opened, declaration in declared.items():
+        inside = b"".join(method(name, name + b"\1", 1) for name in names) + device(b"INNR", method(b"FOO_", b"", 1))
+        code += declaration + with_length(b"\x10", opened + inside)
+        paths = [b"\\." + opened + name for name in names] + [b"\\/\3" + opened + b"INNRFOO_"]
+        code += b"".join(method(path, b"", 2) for path in paths)
+        callers = (b"\\." + opened + b"Z%03d" % number for number in range(len(paths)))
+        code += b"".join(method(caller, path + b"\1\1") for caller, path in zip(callers, paths))
+    return by_workers("Scopes of what is no scope", code)
 
 
 def the_most_files():
@@ -322,6 +392,9 @@ def large_trials():
     yield from bodies_of_two_bytes()
     yield from nested_blocks()
     yield from a_path_declared_again()
+    yield from below_maybes()
+    yield from chains_of_aliases()
+    yield from scopes_of_no_scope()
     yield from a_mixed_order()
     yield from the_most_files()
     yield from the_most_bytes()

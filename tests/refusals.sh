@@ -83,8 +83,9 @@ is_whole_or_want() {
         return
     fi
     [ "$calls" -ge "$n" ] || return
-    case $status:$(cat text lines) in
-    '1:acpidis: NoMemory' | '1:acpidis: NoThread') ;;
+    # Want of memory may refuse a start too, but a refused start is no want of memory.
+    case $how:$status:$(cat text lines) in
+    *:'1:acpidis: NoThread' | REFUSE_[GF]*:'1:acpidis: NoMemory') ;;
     *) return 1 ;;
     esac
 }

@@ -44,6 +44,13 @@ POOL_STUBS = {
 # A reading by which a declaration that only may stand hides those in the scopes around it
 RUNS = "tests/oracle/any_run.py"
 SURE, ALONE = (f"            if {it}:\n                return met\n" for it in ("self.is_sure(path)", "met"))
+# The rules by which a run passes over terms and aims Aliases, each with a reading that takes no heed of it
+RULES = {
+    "a parent that isn't there": ("path is not None and self.is_sure(path[:-1])", "True"),
+    "a Scope of no scope": ("self.is_sure(path) and self.is_scope(path)", "self.is_sure(path)"),
+    "an Alias that may have another target": ('"Alias", target, is_open', '"Alias", target, False'),
+    "an Alias whose source isn't there": (", self.space.is_sure(source))", ")"),
+}
 # What is told of pages without a word
 EMPTY_PAGES = {
     "docs/listing.md": "it has no command",
@@ -78,6 +85,7 @@ def trials(room):
         "tests/worked_runs.py": [],
         "tests/large_sets.py": ["--stop"],
         "tests/oracle/compare.py": ["--sets", "20"],
+        "tests/oracle/terms_agree.py": [],
         "tests/fuzz.py": ["--count", "2"],
     }
     for script, words in of_program.items():
@@ -97,8 +105,14 @@ def trials(room):
     yield Trial("tests/meaning.py, an empty page", ["tests/meaning.py"], {"docs/meaning.md": ""})
     yield Trial("tests/refusals.sh, no C compiler", ["tests/refusals.sh", "program"], placed(REFUSES), without_compilers(room))
     yield Trial("tests/worked_runs.py, no examples", ["tests/worked_runs.py"], {"tests/worked_runs.txt": "", **placed(EMPTY)})
-    runs = (TOP / RUNS).read_text().replace(SURE, ALONE)
-    yield Trial("tests/oracle/runs_agree.py, a maybe that decides alone", ["tests/oracle/runs_agree.py"], {RUNS: runs})
+    runs = (TOP / RUNS).read_text()
+    readings = {"a maybe that decides alone": (SURE, ALONE), "an open Alias that counts": ("if is_open:", "if False:")}
+    for what, (rule, other) in readings.items():
+        wrong = {RUNS: runs.replace(rule, other)}
+        yield Trial(f"tests/oracle/runs_agree.py, {what}", ["tests/oracle/runs_agree.py"], wrong)
+    for what, (rule, without) in RULES.items():
+        words, wrong = ["tests/oracle/terms_agree.py", "--read"], {RUNS: runs.replace(rule, without)}
+        yield Trial(f"tests/oracle/terms_agree.py, a reading without heed of {what}", words, wrong)
     yield Trial("tests/public_calls.py, an empty table", ["tests/public_calls.py"], {"tests/public_calls.txt": ""})
     yield Trial("tests/library.sh, an empty page", ["tests/library.sh"], {"docs/library.md": ""})
     pages = {**dict.fromkeys(EMPTY_PAGES, ""), **placed(ONE_TEXT)}

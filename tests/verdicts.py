@@ -25,6 +25,7 @@ COUNTEREXAMPLE += "the facts known there allow values at which this goal is fals
 # What was printed, the verdict, and words of its reason
 SAMPLES = [
     (["fn aml_names::reading::read_name: proved"], "PROVED", ""),
+    (["fn aml_names::reading::read_name: proved, may wait"], "PROVED", ""),
     ([NO_PROOF + "`search` did not prove `returns-in-0`"], "refused", "returns-in-0 of reading/read_name"),
     ([NO_PROOF + "`search` did not prove `a`, `b`; it calls `aml_names::reading::path_of`, which is not proved"], "refused", "b of "),
     ([COUNTEREXAMPLE.format("a"), NO_PROOF + "`search` did not prove `a`"], "refused", "a (false at some values)"),

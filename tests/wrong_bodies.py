@@ -41,6 +41,8 @@ TOP = os.path.dirname(os.path.dirname(os.path.abspath(__file__)))
 FUNCTION = re.compile(r"( {4})?(?:pub(?:\(\w+\))? )?(?:(?:const|final|unsafe|ghost) )*fn (\w+)")
 BLOCK = re.compile(r"(?:unsafe )?(?:pub )?(?:impl|trait)\b(?:<[^{]*?> )?\s*(?:(?P<trait>[\w:]+(?:<[^{]*?>)?) for )?(?P<type>\w+)")
 
+# What is added to the verdict on a function under `Wait`
+MAY_WAIT = ", may wait"
 TYPE = re.compile(r"^(?:pub(?:\(\w+\))? )?(?:struct|enum) (\w+)", re.M)
 TABLE = re.compile(r"^(?:pub(?:\(\w+\))? )?static (\w+): .*?^[}\]];$", re.M | re.S)
 
@@ -398,7 +400,7 @@ def read_output(printed, proofs):
             if unproved:
                 found = re.findall(r"`([^`]+)`", unproved[1])
                 goals.setdefault(path, []).extend(f"{it}{' (false at some values)' * (it in false)}" for it in found)
-            elif said not in ("proved", "no holes") and not said.startswith("depends on a hole"):
+            elif said.removesuffix(MAY_WAIT) not in ("proved", "no holes") and not said.startswith("depends on a hole"):
                 others.setdefault(path, []).append(said)
             false = set()
     return goals, others
@@ -416,7 +418,7 @@ def verdict_of(wrong, goals, others, printed):
         return Verdict("refused", "; ".join(dict.fromkeys(f"{goal} of {path}" for path, goal in own)))
     told = [f"{path}: {it}" for path in others if is_own(path) for it in others[path]]
     ends = [said for name, said in re.findall(r"^fn \w+::(\S+): (.*)", printed, re.M) if is_own(name.replace("::", "/"))]
-    if not told and ends and all(it == "proved" for it in ends):
+    if not told and ends and all(it.removesuffix(MAY_WAIT) == "proved" for it in ends):
         return Verdict("PROVED", "the contract lets it through")
     if any("it calls" not in it for it in told):
         return Verdict("UNDECIDED", "\n".join(told))

@@ -97,16 +97,17 @@ class Names:
     """The paths of a listing, and the meanings of its names.
 
     `lines` has the line at which each path is declared first, `declarations` all of them, `sure` the paths of which one
-    stands in every run, `externals` the first that names a path where none declares it, `led` where Scopes and Aliases
-    lead, `then` what a name that runs outside the methods meant there, `meanings` the meanings of each line's names in
-    their order, `uses` the lines from which names lead to an anchor, by the method, or the scope, that they stand in,
-    and `strays` the same of names that lead nowhere, by the name."""
+    stands in every run, `terms` what declares each path up to the first that is sure, `externals` the first that names a
+    path where none declares it, `led` where Scopes and Aliases lead, `then` what a name that runs outside the methods meant
+    there, `meanings` the meanings of each line's names in their order, `uses` the lines from which names lead to an anchor,
+    by the method, or the scope, that they stand in, and `strays` the same of names that lead nowhere, by the name."""
 
     def __init__(self, listing: Listing, most_others: int = MOST_OTHERS):
         self.most_others = most_others
         self.lines: dict[Path, Line] = {}
         self.declarations: dict[Path, list[Line]] = defaultdict(list)
         self.sure: set[Path] = set()
+        self.terms: dict[Path, list[str]] = defaultdict(list)
         self.externals: dict[Path, Line] = {}
         self.led: dict[int, Path] = {}
         self.then: dict[tuple[int, str], list[Path]] = {}
@@ -125,6 +126,11 @@ class Names:
 
     def is_sure(self, path: Path) -> bool:
         return path in self.sure or path in PREDEFINED
+
+    def is_scope(self, path: Path) -> bool:
+        """Whether a path is a scope in every run that has it: of other kinds an interpreter passes over a Scope."""
+        is_left = path not in PREDEFINED or path in self.sure or PREDEFINED[path] == "Scope"
+        return is_left and SCOPES.issuperset(self.terms[path])
 
     def find(self, scope: Path, name: Name, own: Container[Path] = ()) -> list[Path]:
         """The paths that a name may mean, the nearest first: those that may stand, up to one that is sure to."""
@@ -180,7 +186,7 @@ class Names:
             self.externals.setdefault(self.place(line, word_at(line, 1)), line)
         elif line.term == "Scope":
             path = self.led[line.number] = self.opened(line, line.words[1] if len(line.words) > 1 else "")
-            return path, inner.is_sure and self.is_sure(path)
+            return path, inner.is_sure and self.is_sure(path) and self.is_scope(path)
         elif not inner.is_field_list and line.term not in FIELD_LISTS:
             for word in filter(is_name, line.words):
                 self.then[line.number, word] = self.find(line.scope, name_of(word))
@@ -189,10 +195,15 @@ class Names:
     def declare_path(self, line: Line, is_sure: bool) -> tuple[Path, bool]:
         path = self.place(line, word_at(line, line.declared))
         is_again = path in self.lines
+        # An interpreter passes over what has no parent, and over an Alias without a source.
+        is_sure = is_sure and self.is_sure(path[:-1])
         if line.term == "Alias":
             self.led[line.number] = self.lead(line, line.words[1])
+            is_sure = is_sure and self.is_sure(self.led[line.number])
         self.lines.setdefault(path, line)
         self.declarations[path].append(line)
+        if path not in self.sure:
+            self.terms[path].append(line.term)
         if is_sure:
             self.sure.add(path)
         if line.term in SCOPES:

@@ -7,6 +7,9 @@ from typing import NamedTuple
 from loading import MOST_METHODS, PREDEFINED, Loaded, Method, Namespace, Unloadable, path_text, placed
 from reading import ALIAS, EXTERNAL, FIELD_LISTS, KINDS, METHOD, ROWS, SCOPE, SCOPES, Name, Reader, Refused
 
+# The kinds of paths that a Scope opens in every run that has them
+SCOPE_KINDS = {"Scope", *(KINDS[opcode] for opcode in SCOPES - {SCOPE})}
+
 
 class Use(NamedTuple):
     """A name where a value is wanted or a term stands, with the number of its arguments that were read."""
@@ -20,7 +23,7 @@ class Use(NamedTuple):
 
 class RunNamespace(Namespace):
     """What stands after a run, whichever it is. `declarations` are those of a path in their order, each a kind and whether
-    it is sure."""
+    it is sure. The kind of an Alias has its target, and whether it is open: the target may be another in some run."""
 
     def __init__(self, given=()):
         super().__init__(given)
@@ -53,13 +56,16 @@ class RunNamespace(Namespace):
     # ---- counts
 
     def counts(self, path):
-        """How many arguments each of the kinds takes that may stand at a path."""
+        """How many arguments each of the kinds takes that may stand at a path; None where nobody knows."""
         return [count for kind in self.kinds_of(path) for count in self.counts_of(kind)]
 
     def counts_of(self, kind):
         if kind[0] != "Alias":
             return [own_count(kind)]
-        return list(map(own_count, self.kinds_of(kind[1]))) or [self.externals.get(kind[1], 0)]
+        _, target, is_open = kind
+        if is_open:
+            return [None]
+        return list(map(own_count, self.kinds_of(target))) or [self.externals.get(target, 0)]
 
     def counts_met(self, scope, name, declared):
         """The counts of all that a name may mean, whichever run it is."""
@@ -77,7 +83,8 @@ class RunNamespace(Namespace):
             met = self.counts_met(scope, name, declared)
             if not met:
                 return self.untold_count(scope, name, unknown_zero)
-            return met[0] if len(set(met)) == 1 else self.given_count(scope, name)
+            told = agreed(met)
+            return self.given_count(scope, name) if told is None else told
 
         return count
 
@@ -103,11 +110,30 @@ class RunNamespace(Namespace):
         return next((path for path in candidates if path in self.externals), None)
 
     def opened(self, scope, name):
-        """The path that a Scope opens, and whether it is sure to stand."""
+        """The path that a Scope opens, and whether every run goes inside."""
         if not any(map(self.is_known, name.candidates(scope))):
             return placed(scope, name), False
         path = self.lead(scope, name, "ScopeMissing")
-        return path, self.is_sure(path)
+        return path, self.is_sure(path) and self.is_scope(path)
+
+    def is_scope(self, path):
+        """Whether a path is a scope in every run that has it. An interpreter passes over a Scope of another kind, as of
+        a method or an Alias, with all that stands inside; of a Name it goes by the value."""
+        return all(kind[0] in SCOPE_KINDS for kind in self.kinds_of(path))
+
+    def has_parent(self, scope, name):
+        """Whether every run has the path above a declared one. Where it isn't there, an interpreter passes over the
+        declaration, with all that stands inside."""
+        path = name.placed(scope)
+        return path is not None and self.is_sure(path[:-1])
+
+    def alias_of(self, source):
+        """The kind of an Alias whose source leads to a path: what that one aims at, if it is an Alias. It is open where
+        the source may be an Alias and something else, or an open one."""
+        kinds = self.kinds_of(source)
+        target = kinds[0][1] if kinds and kinds[0][0] == "Alias" else source
+        is_open = any(kind[0] == "Alias" and (kind[2] or len(kinds) > 1) for kind in kinds)
+        return "Alias", target, is_open
 
     def declare_so(self, scope, name, kind, is_sure, method=None):
         """Declares a path, and says whether it was declared before."""
@@ -119,6 +145,11 @@ class RunNamespace(Namespace):
         if method:
             self.methods.append(Method(path, *method))
         return path, is_again
+
+
+def agreed(counts):
+    """The count that all of them are, or None."""
+    return counts[0] if len(set(counts)) == 1 else None
 
 
 def own_count(kind):
@@ -174,27 +205,29 @@ class RunReader(Reader):
             path, is_sure = self.space.opened(self.scope, names[0])
             return path, self.is_sure and is_sure
         if opcode in SCOPES:
-            path, is_again = self.declare(names[0], (KINDS[opcode],))
-            return path, self.is_sure and not is_again
+            return self.declare(names[0], (KINDS[opcode],))
         return self.scope, False
 
     def leave(self, term):
         """Declares what a term without a block declares."""
         opcode, names = term.opcode, term.names()
         if opcode == METHOD:
-            self.declare(names[0], ("Method", term.parts[1][1] & 7), (self.table, *term.tail))
+            self.declare(names[0], ("Method", term.parts[1][1] & 7), method=(self.table, *term.tail))
         elif opcode == ALIAS:
-            target = self.space.lead(self.scope, names[0], "AliasMissing")
-            kind = self.space.kind(target)
-            self.declare(names[1], ("Alias", kind[1] if kind and kind[0] == "Alias" else target))
+            source = self.space.lead(self.scope, names[0], "AliasMissing")
+            self.declare(names[1], self.space.alias_of(source), self.space.is_sure(source))
         elif opcode == EXTERNAL:
             self.space.add_external(placed(self.scope, names[0]), term.parts[2][1])
         elif opcode not in SCOPES:
             for name in term.declared():
                 self.declare(name, ("Field",) if opcode in FIELD_LISTS else (KINDS[opcode],))
 
-    def declare(self, name, kind, method=None):
-        return self.space.declare_so(self.scope, name, kind, self.is_sure, method)
+    def declare(self, name, kind, has_source=True, method=None):
+        """Declares a path, and gives it with whether every run goes inside: an interpreter that has the path already
+        passes over a Device, with all that stands inside. It passes over an Alias too whose source isn't there."""
+        is_sure = self.is_sure and has_source and self.space.has_parent(self.scope, name)
+        path, is_again = self.space.declare_so(self.scope, name, kind, is_sure, method)
+        return path, is_sure and not is_again
 
 
 def load(codes, given=(), unknown_zero=False):

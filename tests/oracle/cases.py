@@ -174,7 +174,12 @@ def path_or_none(path):
 def declaration_of(words):
     """The path and the kind of a declaration."""
     path, word, *more = words.split()
-    return path_of(path), (word, int(more[0])) if word == "Method" else (word, path_of(more[0])) if word == "Alias" else (word,)
+    kinds = {
+        "Method": lambda: (word, int(more[0])),
+        "Alias": lambda: ("Alias", path_of(more[0]), False),
+        "OpenAlias": lambda: ("Alias", path_of(more[0]), True),
+    }
+    return path_of(path), kinds.get(word, lambda: (word,))()
 
 
 class Rows:
@@ -314,6 +319,13 @@ class Rows:
         declared = "declared" if path in self.names.declarations else "not declared"
         return [f"{declared}, {'sure' if self.names.is_sure(path) else 'not sure'}"]
 
+    def row_scope(self, words, _):
+        path = path_of(words)
+        return ["a scope" if self.names.is_sure(path) and self.names.is_scope(path) else "no scope"]
+
+    def row_alias(self, words, _):
+        return ["open" if self.names.alias_of(path_of(words))[2] else "not open"]
+
     def row_external(self, words, _):
         path, count = words.split()
         self.names.add_external(path_of(path), int(count))
@@ -358,6 +370,9 @@ class Rows:
 
     def row_locals(self, _, __):
         return ["some" if self.declared else "none"]
+
+    def row_is_local(self, words, _):
+        return ["local" if path_of(words) in self.declared else "not local"]
 
     def row_rows(self, _, __):
         return [row_text(*row) for row in self.names.rows()]

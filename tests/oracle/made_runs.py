@@ -1,8 +1,9 @@
 """Makes up the AML of sets with code outside the methods, for --any-run: blocks, branches that declare a path again, calls
-with arguments, Scopes of what nothing declares, inner names that only may stand, and counts that differ."""
+with arguments, Scopes of what nothing declares and of what is no scope, declarations below what only may stand, inner
+names that only may stand, Aliases of what may be another Alias, and counts that differ."""
 
 from any_run import RunNamespace
-from made_code import ARGUMENT_COUNTS, IN_DEEP_TABLES, IN_TABLES, MOST_DEPTH, Maker, spelled
+from made_code import ARGUMENT_COUNTS, IN_DEEP_TABLES, IN_TABLES, MOST_DEPTH, MOST_SEGMENTS, Maker, spelled
 from reading import ALIAS, ELSE, EXTERNAL, IF, KINDS, METHOD, MOST_LEVELS, RETURN, ROWS, SCOPES, Name
 
 WHILE, DEVICE, BYTE = 0xA2, 0x5B82, 0x0A
@@ -14,15 +15,15 @@ MOST_TRIES = 5
 class RunMaker(Maker):
     """Makes the AML of one set with code outside the methods.
 
-    `space` has what stands where the code does, `is_sure` says whether what is declared there is, and `opened_is_sure` the same
-    of what stands inside the path that was opened last. `opcode` is the term that is being made, `alias_target` an Alias' target;
-    `in_declaration` says whether the term that runs is a declaration.
+    `space` has what stands where the code does, `is_sure` says whether what is declared there is, and `opened_is_sure` the
+    same of what stands inside the path that was opened last. `opcode` is the term that is being made, `alias_source` where
+    an Alias' source leads; `in_declaration` says whether the term that runs is a declaration.
     """
 
     def __init__(self, chance, gives=False, segments=0):
         super().__init__(chance, gives, segments)
         self.space, self.is_sure, self.opened_is_sure = RunNamespace(), True, True
-        self.opcode, self.alias_target, self.in_declaration = None, (), False
+        self.opcode, self.alias_source, self.in_declaration = None, (), False
         if gives:
             self.given = {path: count for path, count in self.methods.items() if self.happens(0.4)}
         for path, count in self.given.items():
@@ -78,6 +79,7 @@ class RunMaker(Maker):
         self.in_declaration = False
         if depth < MOST_DEPTH and self.happens(0.06):
             scenes = (self.shadow, self.shadow, self.aliased, self.imported, self.again, self.predefined)
+            scenes += (self.chained, self.chained, self.missed_alias, self.missed_parent, self.missed_scope)
             return self.chance.choice(scenes)(depth + 1)
         if self.happens(0.1):
             return self.value(depth, "table")
@@ -133,28 +135,35 @@ class RunMaker(Maker):
         return self.declared_name(self.new_or_known_name(), count)
 
     def new_or_known_name(self):
-        """A name to be declared: a new one, or seldom one of a path declared before, or of the last segment of one."""
+        """A name to be declared: a new one, or seldom one of a path declared before, of the last segment of one, of
+        what stands below one, or below nothing."""
         how, paths = self.chance.random(), [path for path in self.known if path]
         if how < 0.05:
             return self.root_name(self.chance.choice(paths))
         if how < 0.09:
             return Name(False, 0, [self.chance.choice(paths)[-1]])
+        if how < 0.12:
+            return self.root_name((*self.chance.choice(paths)[:MOST_SEGMENTS - 1], self.fresh_segment()))
+        if how < 0.13:
+            return Name(False, 0, [self.fresh_segment(), self.fresh_segment()])
         return self.fresh_name("table")
 
     def declared_name(self, name, count):
         self.opened = name.placed(self.scope)
-        self.opened_is_sure = self.opened not in self.space.declarations
+        is_sure = self.is_sure and self.space.has_parent(self.scope, name)
+        is_sure = is_sure and (self.opcode != ALIAS or self.space.is_sure(self.alias_source))
+        self.opened_is_sure = is_sure and self.opened not in self.space.declarations
         self.known.setdefault(self.opened, count)
         if self.opcode == EXTERNAL:
             self.space.add_external(self.opened, count)
         else:
-            self.space.declare_so(self.scope, name, self.declared_kind(count), self.is_sure)
+            self.space.declare_so(self.scope, name, self.declared_kind(count), is_sure)
         return spelled(self.chance, name)
 
     def declared_kind(self, count):
         if self.opcode == METHOD:
             return "Method", count
-        return ("Alias", self.alias_target) if self.opcode == ALIAS else (KINDS.get(self.opcode, "Name"),)
+        return self.space.alias_of(self.alias_source) if self.opcode == ALIAS else (KINDS.get(self.opcode, "Name"),)
 
     def alias_names(self, inside):
         if inside != "table":
@@ -164,17 +173,21 @@ class RunMaker(Maker):
         found = self.space.find(self.scope, source) or ()
         if not found and self.happens(0.8):
             source, found = self.root_name(path), path
-        kind = self.space.kind(found)
-        self.alias_target = kind[1] if kind and kind[0] == "Alias" else found
+        self.alias_source = found
         return spelled(self.chance, source) + self.new_name(inside)
 
     def scope_name(self):
-        """The name of the path that a Scope opens: now and then of one that nothing declares."""
-        if self.happens(0.15):
+        """The name of the path that a Scope opens: now and then of one that nothing declares, or that is no scope."""
+        how = self.chance.random()
+        if how < 0.15:
             self.opened, self.opened_is_sure = (self.fresh_segment(), self.fresh_segment())[:self.chance.choice((1, 2))], False
             return spelled(self.chance, self.root_name(self.opened))
-        code = super().scope_name()
-        self.opened_is_sure = self.space.is_sure(self.opened)
+        if how < 0.6:
+            self.opened = self.chance.choice([path for path in self.known if self.space.is_scope(path)])
+            code = self.name_to(self.opened)
+        else:
+            code = super().scope_name()
+        self.opened_is_sure = self.space.is_sure(self.opened) and self.space.is_scope(self.opened)
         return code
 
     def new_unit(self, inside):
@@ -212,12 +225,44 @@ class RunMaker(Maker):
 
     # ---- scenes
 
+    def within(self, scope, is_sure, declare, *parts):
+        """A declaration in a scope, which may be as sure as what stands around it."""
+        outside = self.scope, self.is_sure
+        self.scope, self.is_sure = scope, self.is_sure and is_sure
+        code = declare(*parts)
+        self.scope, self.is_sure = outside
+        return code
+
+    def maybe(self, declare, *parts):
+        """A declaration in an If."""
+        return self.packed(b"\xA0", b"\1" + self.within(self.scope, False, declare, *parts))
+
     def maybe_method(self, name, count):
-        """A method in an If."""
-        outside, self.is_sure, self.opcode = self.is_sure, False, METHOD
-        method = self.method(self.declared_name(name, count), self.opened, count)
-        self.is_sure = outside
-        return self.packed(b"\xA0", b"\1" + method)
+        return self.maybe(self.sure_method, name, count)
+
+    def sure_method(self, name, count):
+        """A method that is as sure as the code around it."""
+        self.opcode = METHOD
+        return self.method(self.declared_name(name, count), self.opened, count)
+
+    def alias(self, source, name):
+        self.opcode, self.alias_source = ALIAS, self.space.find(self.scope, source) or ()
+        return b"\x06" + spelled(self.chance, source) + self.declared_name(name, self.known.get(self.alias_source, 0))
+
+    def device(self, name, declare, *parts):
+        """A Device with a declaration inside."""
+        self.opcode = DEVICE
+        code = self.declared_name(name, 0)
+        return self.packed(b"\x5B\x82", code + self.within(self.opened, self.opened_is_sure, declare, *parts))
+
+    def bare_device(self, name):
+        return self.device(name, bytes)
+
+    def fresh(self):
+        return Name(False, 0, [self.fresh_segment()])
+
+    def two_counts(self):
+        return self.chance.choice(ARGUMENT_COUNTS), self.chance.choice(ARGUMENT_COUNTS)
 
     def caller(self, depth, name, counts, front=b""):
         """A method that calls a name with one of these counts of arguments."""
@@ -248,9 +293,8 @@ class RunMaker(Maker):
         name, count = self.fresh_name("table"), self.chance.choice(ARGUMENT_COUNTS)
         other = self.same_or_other(count)
         code = self.maybe_method(name, count) + self.packed(b"\xA1", self.maybe_method(name, other))
-        source, alias = name.placed(self.scope), Name(False, 0, [self.fresh_segment()])
-        self.opcode, self.alias_target = ALIAS, source
-        code += b"\x06" + spelled(self.chance, self.root_name(source)) + self.declared_name(alias, count)
+        alias = self.fresh()
+        code += self.alias(name, alias)
         return code + self.caller(depth, alias, (count, other))
 
     def again(self, depth):
@@ -258,6 +302,59 @@ class RunMaker(Maker):
         self.opcode = DEVICE
         device = self.declared_name(self.root_name(self.chance.choice([path for path in self.known if path])), 0)
         return self.packed(b"\x5B\x82", device + self.block(DEVICE, depth, "table"))
+
+    def chained(self, depth):
+        """A path that may be an Alias of one method, of another, or something else, Aliases of it, and a call."""
+        counts = [self.chance.choice(ARGUMENT_COUNTS) for _ in range(3)]
+        methods = [self.fresh() for _ in range(2)]
+        code = b"".join(self.sure_method(name, count) for name, count in zip(methods, counts))
+        source, aliases = self.fresh(), [self.fresh() for _ in range(self.chance.choice((1, 1, 2)))]
+        for method in methods:
+            how = self.chance.random()
+            code += self.maybe(self.alias, method, source) if how < 0.7 else b""
+            code += self.maybe_method(source, counts[2]) if how > 0.6 else b""
+        if self.happens(0.2) or not self.space.kinds_of(source.placed(self.scope)):
+            code += self.alias(methods[0], source)
+        for one, other in zip([source, *aliases], aliases):
+            code += self.alias(one, other)
+        if self.gives and self.happens(0.5):
+            self.given[aliases[-1].placed(self.scope)] = self.chance.choice(counts)
+        return code + self.caller(depth, aliases[-1], counts)
+
+    def missed_alias(self, depth):
+        """An Alias of a method that only may stand, a method of its name, and what calls that."""
+        source, name, (count, other) = self.fresh(), self.fresh(), self.two_counts()
+        code = self.maybe_method(source, count) + self.alias(source, name)
+        return code + self.sure_method(name, other) + self.caller(depth, name, (count, other))
+
+    def missed_parent(self, depth):
+        """A Device that only may stand so far, or doesn't; a method by a path below it, or a Device there with a method
+        at the root; then the Device with a method of the same path; and what calls this."""
+        device, inner, outer, (count, other) = self.fresh(), self.fresh(), self.fresh(), self.two_counts()
+        below, path = Name(False, 0, [*device.segs, *inner.segs]), (*device.placed(self.scope), *inner.segs)
+        is_device = self.happens(0.3)
+        code = self.maybe(self.bare_device, device) if self.happens(0.7) else b""
+        if is_device:
+            code += self.device(below, self.sure_method, self.root_name(outer.segs), count)
+        else:
+            code += self.sure_method(below, count)
+        code += self.device(device, self.sure_method, self.root_name(outer.segs) if is_device else inner, other)
+        return code + self.caller(depth, self.root_name(outer.segs if is_device else path), (count, other))
+
+    def missed_scope(self, depth):
+        """What may be no scope, a Scope of it with a method, another method of the same path, and what calls it."""
+        opened, inner, (count, other) = self.fresh(), self.fresh(), self.two_counts()
+        code = self.maybe(self.bare_device, opened) if self.happens(0.5) else b""
+        if self.happens(0.5):
+            code += self.sure_method(opened, 0)
+        else:
+            device = self.fresh()
+            code += self.bare_device(device) + self.alias(device, opened)
+        path, scope = opened.placed(self.scope), spelled(self.chance, opened)
+        is_sure = self.space.is_sure(path) and self.space.is_scope(path)
+        code += self.packed(b"\x10", scope + self.within(path, is_sure, self.sure_method, inner, count))
+        code += self.sure_method(Name(False, 0, [*opened.segs, *inner.segs]), other)
+        return code + self.caller(depth, self.root_name((*path, *inner.segs)), (count, other))
 
     def predefined(self, depth):
         """A method at a predefined path that only may stand, and what calls it."""

@@ -99,8 +99,9 @@ def body_lines(body, level):
 
 
 def row_text(path, kind, marks=()):
-    """A path of the namespace with its kind, and with the marks of one that only may stand or is declared several times."""
-    word, *more = kind
+    """A path of the namespace with its kind, of which an Alias' target is the last part that is listed, and with the
+    marks of one that only may stand or is declared several times."""
+    word, *more = kind[:2]
     texts = (path_text(one) if isinstance(one, tuple) else str(one) for one in more)
     return " ".join([path_text(path), word, *texts, *marks])
 

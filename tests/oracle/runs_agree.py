@@ -5,6 +5,7 @@ that finds the name has this count; and where it tells none, of kinds that are n
     python3 tests/oracle/runs_agree.py [--lists N] [--seed N]
 
 A run is a selection of the declarations that keeps the sure ones; all are tried. Of a path the first that is kept counts.
+An open Alias is kept with any target.
 The last line is 'N passed, N failed', by the lists; 150 names are asked of each.
 """
 
@@ -17,7 +18,7 @@ import sys
 sys.dont_write_bytecode = True
 sys.path.insert(0, str(pathlib.Path(__file__).resolve().parent))
 
-from any_run import RunNamespace  # noqa: E402
+from any_run import RunNamespace, agreed  # noqa: E402
 from loading import Namespace, path_text  # noqa: E402
 from reading import Name  # noqa: E402
 
@@ -26,18 +27,24 @@ PATHS = [(one,) for one in SEGMENTS] + [("_SB_", "AAAA"), ("_SB_", "BBBB"), ("_S
 SCOPES = [(), *PATHS, ("_SB_", "AAAA", "AAAA")]
 NAMES = [Name(False, 0, [one]) for one in SEGMENTS[:3]] + [Name(True, 0, ["_SB_", "AAAA"]), Name(False, 1, ["BBBB"])]
 LOCALS = [(), {("AAAA",)}, {("_SB_", "BBBB")}]
-MOST_MAYBES = 7
+MOST_MAYBES, MOST_OPEN = 7, 1
 
 
 def made_declarations(chance):
     """Paths with a kind, and whether it is sure."""
-    made, maybes = [], 0
+    made, maybes, opens = [], 0, 0
     for _ in range(chance.randrange(1, 10)):
         is_sure = maybes == MOST_MAYBES or chance.random() < 0.3
         maybes += not is_sure
-        kinds = [("Name",), ("Alias", chance.choice(PATHS)), *(("Method", count) for count in (0, 1, 1, 2))]
+        is_open = opens < MOST_OPEN and chance.random() < 0.3
+        kinds = [("Name",), ("Alias", chance.choice(PATHS), is_open), *(("Method", count) for count in (0, 1, 1, 2))]
         made.append((chance.choice(PATHS), chance.choice(kinds), is_sure))
+        opens += is_open_alias(made[-1][1])
     return made
+
+
+def is_open_alias(kind):
+    return kind[0] == "Alias" and kind[2]
 
 
 def made_counts(chance):
@@ -56,14 +63,20 @@ def space_of(declarations, externals):
 
 def runs_of(declarations, externals):
     """The namespaces of all runs."""
-    for kept in itertools.product(*((True,) if is_sure else (True, False) for _, _, is_sure in declarations)):
+    for kinds in itertools.product(*(kept_as(kind, is_sure) for _, kind, is_sure in declarations)):
         run = Namespace()
-        for (path, kind, _), is_kept in zip(declarations, kept):
-            if is_kept:
+        for (path, _, _), kind in zip(declarations, kinds):
+            if kind:
                 run.kinds.setdefault(path, kind)
         for path, count in externals:
             run.add_external(path, count)
         yield run
+
+
+def kept_as(kind, is_sure):
+    """The kinds that a run may keep a declaration as; None is one that leaves it out."""
+    kinds = [("Alias", path) for path in PATHS] if is_open_alias(kind) else [kind[:2]]
+    return kinds if is_sure else [None, *kinds]
 
 
 def found_count(run, scope, name, local):
@@ -85,7 +98,7 @@ def holds(space, runs, scope, name, local):
     """Whether the promise and its converse hold of a name."""
     met = space.counts_met(scope, name, local)
     counts = {found_count(run, scope, name, local) for run in runs} - {None}
-    if met and len(set(met)) == 1:
+    if met and agreed(met) is not None:
         return counts <= {space.arity(scope)(local, name)} == set(met)
     return not met or has_alias(space, scope, name) or len(counts) > 1
 

@@ -117,7 +117,7 @@ impl Cases {
             "external" | "given" | "local" => {
                 spaces::add(alloc, &mut self.space, &mut self.locals, line)
             }
-            "count" | "kind" | "counted" | "declared" | "is_local" => {
+            "count" | "kind" | "counted" | "declared" | "is_local" | "scope" | "alias" => {
                 self.names().push_known(alloc, out, line)
             }
             "locals" => spaces::push_locals(out, &self.locals),

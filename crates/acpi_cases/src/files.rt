@@ -1,7 +1,7 @@
 //! Rows of files beside the dumps: `tables.map`, and the counts that the user gives.
 
 use acpi_folder::{ExternalsFault, MapFault, parse_externals, parse_map};
-use aml_names::Path;
+use aml_names::{ArgumentCount, Path};
 use std::alloc::{AllocError, Global};
 use std::fmt::Write;
 
@@ -36,9 +36,9 @@ pub fn push_externals(alloc: Global, out: &mut String, text: &[u8]) -> Result<()
     }
 }
 
-fn push_givens(out: &mut String, givens: &[(Path, u8)]) -> Result<(), AllocError> {
+fn push_givens(out: &mut String, givens: &[(Path, ArgumentCount)]) -> Result<(), AllocError> {
     for (path, count) in givens {
-        writeln!(out, "  {path} {count}")?;
+        writeln!(out, "  {path} {}", count.get())?;
     }
     Ok(())
 }

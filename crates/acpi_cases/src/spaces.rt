@@ -162,6 +162,8 @@ impl Names<'_> {
             "kind" => self.push_kind(out, &path),
             "counted" => self.push_counted(out, &path),
             "is_local" => self.push_local(out, &path),
+            "scope" => self.push_scope(out, &path),
+            "alias" => self.push_alias(out, &path),
             _ => self.push_declared(out, &path),
         }
     }
@@ -192,6 +194,28 @@ impl Names<'_> {
         } else {
             "  not local\n"
         })
+    }
+
+    /// Whether a Scope may open a path in every run.
+    fn push_scope(&self, out: &mut String, path: &Path) -> Result<(), AllocError> {
+        let parts = path.parts();
+        let scope = if self.space.is_scope(Near::root(), &parts) {
+            "a scope"
+        } else {
+            "no scope"
+        };
+        writeln!(out, "  {scope}")
+    }
+
+    /// Whether an Alias of a path is open.
+    fn push_alias(&self, out: &mut String, path: &Path) -> Result<(), AllocError> {
+        let parts = path.parts();
+        let open = if self.space.is_open(Near::root(), &parts) {
+            "open"
+        } else {
+            "not open"
+        };
+        writeln!(out, "  {open}")
     }
 
     /// Whether a path is declared, and whether it has a kind in every run.
@@ -326,7 +350,7 @@ fn push_kind(out: &mut String, path: &Path, kind: &Kind) -> Result<(), AllocErro
     let word = kind_word(kind);
     match kind {
         Kind::Method { args } => write!(out, "  {path} {word} {args}"),
-        Kind::Alias { target } => write!(out, "  {path} {word} {target}"),
+        Kind::Alias { target, .. } => write!(out, "  {path} {word} {target}"),
         _ => write!(out, "  {path} {word}"),
     }
 }
@@ -357,9 +381,11 @@ fn kind_of(alloc: Global, words: &str) -> Result<Kind, AllocError> {
         "Method" => Kind::Method {
             args: count_of(more),
         },
-        "Alias" => Kind::Alias {
+        "Alias" | "OpenAlias" => Kind::Alias {
+            is_open: word == "OpenAlias",
             target: Target::new(alloc, ScopedPath::whole(alloc, path_of(alloc, more)?)?)?,
         },
+        "Mutex" => Kind::Mutex,
         "Device" => Kind::Device,
         _ => Kind::Name,
     })

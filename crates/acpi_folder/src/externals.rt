@@ -6,7 +6,7 @@ ghost use Rattle.acpi_folder.specs.Externals.{AreGiven, AreGiving, Gives, IsGivi
 ghost use Rattle.acpi_folder.specs.Externals.{BeginsWith, BeginsWithNone, RefusesExternals};
 
 use crate::lines::first_line;
-use aml_names::{CodeFault, Path, Seg, segment_of};
+use aml_names::{ArgumentCount, CodeFault, Path, Seg, segment_of};
 use std::alloc::{AllocError, AllocFailed, Global};
 use std::error::Error;
 use std::fmt;
@@ -63,7 +63,10 @@ impl<T: Drop> From<AllocFailed<T>> for ExternalsFault {
 /// # Errors
 /// `ExternalsFault::BadLine` with the number of the first line, from 1, that hasn't this form.
 /// `ExternalsFault::NoMemory` where a growth was refused.
-pub fn parse_externals(alloc: Global, text: &[u8]) -> Result<Vec<(Path, u8)>, ExternalsFault>
+pub fn parse_externals(
+    alloc: Global,
+    text: &[u8],
+) -> Result<Vec<(Path, ArgumentCount)>, ExternalsFault>
     ensures lines { IfOk result (λ given. AreGiven (lines_of text.now) given.items) }
 
     ensures refused { IfErr result (λ fault. (fault ≡ NoMemory) ⊎ RefusesExternals text.now fault) }
@@ -83,20 +86,23 @@ pub fn parse_externals(alloc: Global, text: &[u8]) -> Result<Vec<(Path, u8)>, Ex
 }
 
 /// The path and the count that a line gives, if it has the form.
-fn read_given(alloc: Global, line: &[u8]) -> Result<Option<(Path, u8)>, ExternalsFault>
+fn read_given(alloc: Global, line: &[u8]) -> Result<Option<(Path, ArgumentCount)>, ExternalsFault>
     ensures given { IfOk result (λ found. MatchOption found (¬ IsGiving line.now) (Gives line.now)) }
     ensures memory { IfErr result (λ fault. fault ≡ NoMemory) }
 {
     let [text @ .., space, digit] = line else {
         return Ok(None);
     };
-    if *space != b' ' || *digit < b'0' || *digit > b'7' {
+    if *space != b' ' || *digit < b'0' {
         return Ok(None);
     }
+    let Some(count) = ArgumentCount::new(*digit - b'0') else {
+        return Ok(None);
+    };
     let Some(path) = read_path(alloc, text)? else {
         return Ok(None);
     };
-    Ok(Some((path, *digit - b'0')))
+    Ok(Some((path, count)))
 }
 
 /// The path that is printed so, if it is one below the root.

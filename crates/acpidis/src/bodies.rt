@@ -109,8 +109,19 @@ where
     let count = set.methods.len() as u32;
     match harvest(crew.rt, crew.alloc, crew.workers, count, &work, crew.gate) {
         Ok(found) => Ok(found),
-        Err(PoolFault::NoThread) => Err(Refusal::NoThread),
-        Err(PoolFault::NoMemory) => Err(Refusal::NoMemory),
+        Err(fault) => Err(pool_refusal(fault)),
+    }
+}
+
+/// What a fault of the pool refuses a run for.
+fn pool_refusal(fault: PoolFault) -> Refusal
+    ensures want { IsWant result }
+    ensures thread { fault ≡ PoolFault.NoThread → result ≡ Refusal.NoThread }
+    ensures memory { fault ≡ PoolFault.NoMemory → result ≡ Refusal.NoMemory }
+{
+    match fault {
+        PoolFault::NoThread => Refusal::NoThread,
+        PoolFault::NoMemory => Refusal::NoMemory,
     }
 }
 

@@ -1,5 +1,5 @@
 //! How a set of tables is read.
-use aml_names::Path;
+use aml_names::{ArgumentCount, Path};
 
 /// What is taken that is refused else, and what the user says of the set.
 #[derive(Drop)]
@@ -10,7 +10,7 @@ pub struct Options {
     pub any_run: bool,
     /// Whether a name of which nothing tells an argument count is taken to have none.
     pub unknown_zero: bool,
-    /// Argument counts, 0 to 7, of paths that no table declares or names by an External. Of a name that leads nowhere,
-    /// the first of the paths that it may mean decides, and the greatest count of it.
-    pub externals: Vec<(Path, u8)>,
+    /// Argument counts of paths that no table declares or names by an External. Of a name that leads nowhere, the first
+    /// of the paths that it may mean decides, and the greatest count of it.
+    pub externals: Vec<(Path, ArgumentCount)>,
 }

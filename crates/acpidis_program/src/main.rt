@@ -5,7 +5,7 @@ mod version;
 
 use acpi_folder::{DiskFolder, gather};
 use acpidis::{Options, run};
-use aml_names::Path;
+use aml_names::{ArgumentCount, Path};
 use aml_pool::FreeGate;
 use command_line::{CommandLine, FileFault, Stop, read, read_externals};
 use std::io::{BufWriter, Write};
@@ -110,7 +110,7 @@ fn run_folder<T: Threads + Wait + Sync, E: Write>(
 fn externals_of<'a>(
     rt: &HostRuntime,
     line: &'a CommandLine,
-) -> Result<Vec<(Path, u8)>, FileFault<'a>> {
+) -> Result<Vec<(Path, ArgumentCount)>, FileFault<'a>> {
     match &line.externals {
         Some(file) => read_externals(rt, file.as_str()),
         None => Ok(Vec::new(rt.alloc())),

@@ -1,7 +1,8 @@
 -- The terms that a walk finds, step by step.
-use Rattle.std.proofs.Common.{◌≡◌, ℕ, ◌+◌, suc, false, List, [], ◌∷◌, ◌++◌, Vec, Option, Result, Ok, Err, sym, ap, ◌∙◌}
-use Rattle.std.proofs.Common.{append_assoc}
-use Rattle.std.proofs.Common.{Bool, add-one, ◌⊎◌, inl, inr}
+use Rattle.std.proofs.Common.{◌≡◌, ℕ, suc, true, false, List, [], ◌∷◌, ◌++◌, Vec, Option, Result, Ok, Err, sym, ap}
+use Rattle.std.proofs.Common.{append_assoc, refl, ◌∙◌}
+use Rattle.std.proofs.Common.{Bool, ◌⊎◌, inl, inr}
+use Rattle.std.specs.Prelude.{IfErr}
 use Rattle.std.proofs.lemmas.List.{append-nil}
 use Rattle.std.specs.declared.alloc.Global.{Global}
 use Rattle.aml_code.specs.declared.packages.PkgWidth.{PkgWidth}
@@ -9,7 +10,7 @@ use Rattle.aml_code.specs.declared.rows.Role.{Role}
 use Rattle.aml_code.specs.declared.tree.Node.{Node, Op}
 use Rattle.aml_code.specs.declared.tree.Part.{Part}
 use Rattle.aml_code.specs.declared.tree.Tail.{Tail as CodeTail}
-use Rattle.aml_code.specs.Tree.{Tree, op, Trees, tree_more}
+use Rattle.aml_code.specs.Tree.{Tree, nothing, named, op, Trees}
 use Rattle.aml_code.specs.View.{node_view, parts_view, tail_view}
 use Rattle.aml_code.proofs.Views.{view-Op}
 use Rattle.aml_namespace.specs.Namespace.{Givens}
@@ -17,12 +18,14 @@ use Rattle.aml_load.specs.declared.faults.LoadFault.{LoadFault}
 use Rattle.aml_load.specs.declared.faults.LoadFault.TheVariants as loads
 use Rattle.aml_load.specs.declared.standing.StandingTerm.{StandingTerm}
 use Rattle.aml_load.specs.declared.walking.Progress.{Progress}
-use Rattle.aml_load.specs.Loading.{◌>>=◌, Where, strict, Listed, first_listed, with_uses, role_of, declare, declare_all}
-use Rattle.aml_load.specs.Standing.{◌>>>◌, Standing, stands, inside_as, term_stands, inside_stand, all_stand}
-use Rattle.aml_load.specs.Standing.{tables_stand}
-use Rattle.aml_load.specs.Standings.{standings_view, Found, declare_tables}
+use Rattle.aml_load.specs.Loading.{◌>>=◌, Where, Listed, first_listed, with_uses, role_of}
+use Rattle.aml_load.specs.Running.{Front, entered_at, behind_tree}
+use Rattle.aml_load.specs.Standing.{◌>>>◌, Standing, stands, inside_as, term_stands, inside_stand}
+use Rattle.aml_load.specs.Standing.{run_term_stands}
+use Rattle.aml_load.specs.Standings.{standings_view, Found, declare_tables, set_declares, behind_within, within_stand}
 use Rattle.aml_load.specs.Tables.{Fails, ReadTables, LoadsTo}
 use Rattle.aml_load.specs.Walking.{Walked}
+use Rattle.aml_load.proofs.Behind.{tables_behind}
 
 -- a step that finds no term
 pub found_none : {X : Type 0} (new : Progress) (xs : List StandingTerm) (r : Result X LoadFault) (walk : Result Listed LoadFault)
@@ -52,35 +55,6 @@ stands_op site l node o w ps r role e is =
     (parts_view ps.items) (λ l below. inside_stand below l (tail_view r))) (sym is)
     ∙ ap (λ x. stands site x ∷ inside_as role site (with_uses site l x) (parts_view ps.items) (λ l below. inside_stand below l (tail_view r))) (sym view)
 
--- ---- one term more of a list, and one table more
-
-module _ (site : Where) (m k : Listed) (x : Tree) (xs : Trees) (is : declare site m x ≡ Ok k) where
-  pub declared_more : declare_all site k xs ≡ declare_all site m (tree_more x xs)
-  unfolding declare_all
-  declared_more = sym (ap (λ (r : Result Listed LoadFault). r >>= λ j. declare_all site j xs) is)
-
-  pub stood_more : (before now : List Standing) → now ≡ before ++ term_stands site m x
-      → now ++ all_stand site k xs ≡ before ++ all_stand site m (tree_more x xs)
-  unfolding all_stand
-  stood_more before now found =
-      ap (λ ys. ys ++ all_stand site k xs) found ∙ append_assoc before (term_stands site m x) (all_stand site k xs)
-      ∙ sym (ap (λ (r : Result Listed LoadFault). before ++ (term_stands site m x ++ (r >>> λ j. all_stand site j xs))) is)
-
-module _ (t : ℕ) (m k : Listed) (ts : Trees) (rest : List Trees) (is : declare_all (strict t []) m ts ≡ Ok k) where
-  pub declared_on : declare_tables (t + 1) k rest ≡ declare_tables t m (ts ∷ rest)
-  unfolding declare_tables
-  declared_on =
-      ap (λ n. declare_tables n k rest) (add-one t)
-      ∙ sym (ap (λ (r : Result Listed LoadFault). r >>= λ j. declare_tables (suc t) j rest) is)
-
-  pub stood_on : (before now : List Standing) → now ≡ before ++ all_stand (strict t []) m ts
-      → now ++ tables_stand (t + 1) k rest ≡ before ++ tables_stand t m (ts ∷ rest)
-  unfolding tables_stand
-  stood_on before now found =
-      ap (λ n. now ++ tables_stand n k rest) (add-one t)
-      ∙ ap (λ ys. ys ++ tables_stand (suc t) k rest) found ∙ append_assoc before (all_stand (strict t []) m ts) (tables_stand (suc t) k rest)
-      ∙ sym (ap (λ (r : Result Listed LoadFault). before ++ (all_stand (strict t []) m ts ++ (r >>> λ j. tables_stand (suc t) j rest))) is)
-
 -- ---- what tables load to, their terms declare
 
 pub read_declares : (t : ℕ) (l : Listed) (cs : List (List ℕ)) (trees : List Trees) (m : Listed)
@@ -93,15 +67,67 @@ read_declares t l (c ∷ cs) [] m read = absurd read
 read_declares t l (c ∷ cs) (ts ∷ rest) m (k, reads, read) =
     ap (λ (r : Result Listed LoadFault). r >>= λ j. declare_tables (suc t) j rest) reads.1 ∙ read_declares (suc t) k cs rest m read
 
--- so no tables load to trees whose terms declare nothing for a fault
-pub no_load : (z : Bool) (gs : Givens) (tables : List (List ℕ)) (trees : List Trees) (m : Listed) (e : LoadFault)
-    → declare_tables 0 (first_listed gs) trees ≡ Err e → LoadsTo false z gs tables trees m → ⊥
-no_load z gs tables trees m e fails loads =
-    let all : declare_tables 0 (first_listed gs) trees ≡ Ok m = read_declares 0 (first_listed gs) tables trees m loads.read in
-    absurd (cc (all, fails))
+pub load_declares : (any z : Bool) (gs : Givens) (tables : List (List ℕ)) (trees : List Trees) (m : Listed)
+    → LoadsTo any z gs tables trees m → set_declares any gs trees ≡ Ok m
+load_declares false z gs tables trees m loads = read_declares 0 (first_listed gs) tables trees m loads.read
+load_declares true z gs tables trees m loads = tables_behind 0 (first_listed gs) tables trees m loads.read
 
 -- a fault of the trees' terms is want of memory, or no tables load to the trees
-pub refused : (gs : Givens) (trees : List Trees) (e : LoadFault) → Fails e (declare_tables 0 (first_listed gs) trees)
-    → (e ≡ loads.NoMemory) ⊎ ((z : Bool) (tables : List (List ℕ)) (m : Listed) → LoadsTo false z gs tables trees m → ⊥)
-refused gs trees e (inl want) = inl want
-refused gs trees e (inr fails) = inr (λ z tables m. no_load z gs tables trees m e fails)
+pub refused : {X : Type 0} (r : Result X LoadFault) (any : Bool) (gs : Givens) (trees : List Trees)
+    → IfErr r (λ e. Fails e (set_declares any gs trees))
+    → IfErr r (λ e. (e ≡ loads.NoMemory) ⊎ ((z : Bool) (tables : List (List ℕ)) (m : Listed) → LoadsTo any z gs tables trees m → ⊥))
+refused (Ok x) any gs trees h = tt
+refused (Err e) any gs trees (inl want) = inl want
+refused (Err e) any gs trees (inr fails) = inr (λ z tables m loads.
+    let all : set_declares any gs trees ≡ Ok m = load_declares any z gs tables trees m loads in absurd (cc (all, fails)))
+
+-- ---- a step where the code outside methods may run
+
+-- what stands behind a term, and which terms stand there, by the terms inside it
+behind_is : (f : Front) (t : Tree)
+    → behind_tree f t ≡ (entered_at f t >>= λ i. (behind_within i t >>= λ e. Ok (record f { listed = e.listed })))
+unfolding behind_tree entered_at
+behind_is f nothing = refl
+behind_is f (named n ts) = refl
+behind_is f (op o w ps r) = refl
+
+stood_is : (f : Front) (t : Tree)
+    → run_term_stands f t ≡ stands f.site t ∷ (entered_at f t >>> λ i. within_stand i t)
+unfolding run_term_stands entered_at
+stood_is f nothing = refl
+stood_is f (named n ts) = refl
+stood_is f (op o w ps r) = refl
+
+module _ (f : Front) (t : Tree) where
+  -- what a term declares itself stops
+  pub enter_fails : (e : LoadFault) → Fails e (entered_at f t) → Fails e (behind_tree f t)
+  enter_fails e (inl want) = inl want
+  enter_fails e (inr fails) = inr (
+      behind_is f t
+      ∙ ap (λ (r : Result Front LoadFault). r >>= λ i. (behind_within i t >>= λ e. Ok (record f { listed = e.listed }))) fails)
+
+  module _ (inner : Front) (is : entered_at f t ≡ Ok inner) where
+    behind_on : behind_tree f t ≡ (behind_within inner t >>= λ e. Ok (record f { listed = e.listed }))
+    behind_on = behind_is f t
+        ∙ ap (λ (r : Result Front LoadFault). r >>= λ i. (behind_within i t >>= λ e. Ok (record f { listed = e.listed }))) is
+
+    -- what the terms inside it declare stops
+    pub within_fails : (e : LoadFault) → Fails e (behind_within inner t) → Fails e (behind_tree f t)
+    within_fails e (inl want) = inl want
+    within_fails e (inr fails) = inr (
+        behind_on ∙ ap (λ (r : Result Front LoadFault). r >>= λ e. Ok (record f { listed = e.listed })) fails)
+
+    pub within_behind : (ended : Front) → behind_within inner t ≡ Ok ended
+        → behind_tree f t ≡ Ok (record f { listed = ended.listed })
+    within_behind ended e = behind_on ∙ ap (λ (r : Result Front LoadFault). r >>= λ e. Ok (record f { listed = e.listed })) e
+
+    -- the term, and those inside it
+    pub within_stood : (before mid after : List StandingTerm)
+        → standings_view mid ≡ standings_view before ++ stands f.site t ∷ []
+        → standings_view after ≡ standings_view mid ++ within_stand inner t
+        → standings_view after ≡ standings_view before ++ run_term_stands f t
+    within_stood before mid after first rest =
+        rest ∙ ap (λ xs. xs ++ within_stand inner t) first
+        ∙ append_assoc (standings_view before) (stands f.site t ∷ []) (within_stand inner t)
+        ∙ ap (λ (r : Result Front LoadFault). standings_view before ++ (stands f.site t ∷ (r >>> λ i. within_stand i t))) (sym is)
+        ∙ ap (λ xs. standings_view before ++ xs) (sym (stood_is f t))

@@ -30,7 +30,7 @@ use Rattle.aml_set.specs.declared.methods.Method.{Method}
 use Rattle.aml_set.specs.Kept.{AreKept, paths_in}
 use Rattle.aml_load.specs.declared.walking.Progress.{Progress}
 use Rattle.aml_load.specs.Loading.{◌>>=◌, Where, Listed, plus, with_uses, term_uses, method_of, methods_of, role_of}
-use Rattle.aml_load.specs.Loading.{place_at, entry_at, new_at}
+use Rattle.aml_load.specs.Loading.{plain_entry, place_at, entry_at, new_at}
 use Rattle.aml_load.specs.Loading.{units_at, declare_as, declare, declare_inside}
 use Rattle.aml_load.specs.Tables.{Fails}
 use Rattle.aml_load.specs.Groups.{AreGrouped}
@@ -144,10 +144,10 @@ field_placed scope s =
     rw (le, all) (ap (λ front. Some (front ++ s ∷ [])) (take_all (length scope) scope (omega arith)))
 
 pub unit_is : (site : Where) (l : Listed) (p : List Seg) (s : Seg) → p ≡ site.scope ++ s ∷ []
-    → entry_at site l p (declares p kinds.Field None site.sure) ≡ units_at site l (plain_name s ∷ [])
+    → entry_at site l p (plain_entry site l.entries kinds.Field p) ≡ units_at site l (plain_name s ∷ [])
 unfolding units_at new_at place_at
 unit_is site l p s e =
-    let entry : List Seg → Entry = λ q. declares q kinds.Field None site.sure in
+    let entry : List Seg → Entry = plain_entry site l.entries kinds.Field in
     ap (λ q. entry_at site l q (entry q)) e
     ∙ sym (ap (λ r. r >>= λ q. entry_at site l q (entry q)) (ap (λ o. ok_or o (loads.Space site.table faults.AboveRoot)) (field_placed site.scope s)))
     ∙ sym (ended (new_at site l (Some (plain_name s)) entry))
@@ -158,7 +158,7 @@ pub units_more : (site : Where) (m k : Listed) (u : CodeField) (us : Fields)
     → units_at site k (unit_names us) ≡ units_at site m (unit_names (field_more u us))
 unfolding units_at
 units_more site m k (unit s w n) us e =
-    let new : Result Listed LoadFault = new_at site m (Some (plain_name s)) (λ p. declares p kinds.Field None site.sure) in
+    let new : Result Listed LoadFault = new_at site m (Some (plain_name s)) (plain_entry site m.entries kinds.Field) in
     sym (ap (λ (r : Result Listed LoadFault). r >>= λ j. units_at site j (unit_names us)) (sym (ended new) ∙ e))
 units_more site m k _ us e = let same : k ≡ m = cc in ap (λ j. units_at site j (unit_names us)) same
 
@@ -178,9 +178,9 @@ entry_taken site l p x e (inr (taken, is)) =
     inr (ap (λ b. cond b (Err (loads.Space site.table (faults.Duplicate p))) (the_ok (plus l x))) taken ∙ ap (λ (d : LoadFault). Err d) (sym is))
 
 -- an entry of a path without a body more, as it is declared
-pub declared_walked : (old new : Progress) (l : Listed) (site : Where) (p : List Seg) (kind : Kind) (r : Result (Unit {0}) LoadFault) → Holds old l
-    → IsDeclared site l.entries p kind None old new r
-    → Walked new r (entry_at site l p (declares p kind None site.sure))
-declared_walked old new l site p kind (Ok u) h d =
-    let x = declares p kind None site.sure in (plus l x, plain_held old new l x refl h d.1 d.2 d.3 d.4, entry_free site l p x d.0)
-declared_walked old new l site p kind (Err e) h d = entry_taken site l p (declares p kind None site.sure) e d
+pub declared_walked : (old new : Progress) (l : Listed) (site : Where) (p : List Seg) (kind : Kind) (sure : Bool) (r : Result (Unit {0}) LoadFault)
+    → Holds old l → IsDeclared site l.entries p (declares p kind None sure) old new r
+    → Walked new r (entry_at site l p (declares p kind None sure))
+declared_walked old new l site p kind sure (Ok u) h d =
+    let x = declares p kind None sure in (plus l x, plain_held old new l x refl h d.1 d.2 d.3 d.4, entry_free site l p x d.0)
+declared_walked old new l site p kind sure (Err e) h d = entry_taken site l p (declares p kind None sure) e d

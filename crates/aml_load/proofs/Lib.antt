@@ -9,6 +9,7 @@ pub mod SpanLaws
 pub mod Asking
 pub mod RunSpans
 pub mod Ran
+pub mod Behind
 pub mod Founds
 pub mod Strict
 pub mod Alone

@@ -21,10 +21,10 @@ use Rattle.aml_code.specs.Lawful.{next_position, terms_in, tail_in}
 use Rattle.aml_code.proofs.RowFacts.{rows_say}
 use Rattle.aml_parse.specs.Running.{has_terms, is_block, ReadsTerms, Opens}
 use Rattle.aml_parse.proofs.Forward.{is_run, runs_on}
-use Rattle.aml_namespace.specs.Namespace.{Givens, declares, external}
+use Rattle.aml_namespace.specs.Namespace.{Givens, external}
 use Rattle.aml_load.specs.declared.faults.LoadFault.{LoadFault}
 use Rattle.aml_load.specs.Loading.{◌>>=◌, role_of, kind_of, Listed, first_listed, byte_of, body_span, first_label}
-use Rattle.aml_load.specs.Loading.{methods_of, most_methods}
+use Rattle.aml_load.specs.Loading.{methods_of, most_methods, plain_entry}
 use Rattle.aml_load.specs.Loading.{place_at, lead_at, entry_at, method_at, alias_at, external_at, units_at, declare_as}
 use Rattle.aml_load.specs.Spans.{Span, tree_spans, all_spans, parts_spans, tail_spans, tables_spans, method_span}
 use Rattle.aml_load.specs.Running.{Front, table_front, asked, opened_at, object_at, scope_at, enter_as, entered_at}
@@ -81,7 +81,7 @@ more_of (Err d) l m spans h e = absurd cc
 enter_adds : (r : Role) (f : Front) (ps : Parts) (x : Tail) → Enters (enter_as r f ps x) f (own_spans r f.site.table x)
 unfolding enter_as object_at scope_at declare_as method_at alias_at external_at is_method
 enter_adds (roles.Declares o) f ps x = then_enters (place_at f.site (last_label None ps)) _ f [] (λ p _.
-    let e = declares p (kind_of o) None f.site.sure in
+    let e = plain_entry f.site f.listed.entries (kind_of o) p in
     then_enters (entry_at f.site f.listed p e) _ f [] (λ m is.
     (more_of _ f.listed m [] (entry_adds f.site f.listed p e [] (plain_adds f.listed.entries e refl)) is, refl)))
 enter_adds roles.Scope f ps x =

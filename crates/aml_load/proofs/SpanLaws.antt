@@ -33,7 +33,7 @@ use Rattle.aml_namespace.specs.declared.kinds.Kind.TheVariants as kinds
 use Rattle.aml_namespace.specs.Namespace.{Entry, declares, external, declared_at}
 use Rattle.aml_load.specs.declared.faults.LoadFault.{LoadFault}
 use Rattle.aml_load.specs.Loading.{◌>>=◌, role_of, kind_of, Where, strict, under, Listed, with_uses, first_label}
-use Rattle.aml_load.specs.Loading.{byte_of, body_span, method_entry}
+use Rattle.aml_load.specs.Loading.{byte_of, body_span, plain_entry, method_entry}
 use Rattle.aml_load.specs.Loading.{methods_of, most_methods, place_at, lead_at, entry_at, new_at, method_at, alias_at}
 use Rattle.aml_load.specs.Loading.{external_at, units_at, declare_as}
 use Rattle.aml_load.specs.Loading.{declare, declare_inside, declare_all}
@@ -146,9 +146,9 @@ one_span t x = record { table = t; start = (body_span x).0; len = (body_span x).
 
 pub method_adds : (site : Where) (es : List Entry) (p : List Seg) (flags : ℕ) (x : Tail)
     → nat_le most_methods (length (methods_of es)) ≡ false
-    → Adds es (es ++ method_entry site p flags (body_span x) ∷ []) (one_span site.table x)
+    → Adds es (es ++ method_entry site es flags (body_span x) p ∷ []) (one_span site.table x)
 method_adds site es p flags x room =
-    let e = method_entry site p flags (body_span x) in
+    let e = method_entry site es flags (body_span x) p in
     let less : length (methods_of es) < 1048576 = grind (arith, nat_tests, room) in
     record {
       grow = ap (map method_span) (methods_more es e) ∙ map-append method_span (methods_of es) (methods_of (e ∷ []));
@@ -200,8 +200,8 @@ pub units_add : (site : Where) (l : Listed) (ns : List Name) → GivesMore (unit
 unfolding units_at
 units_add site l [] = nothing_more l.entries
 units_add site l (n ∷ ns) =
-    more_adds (new_at site l (Some n) (λ p. declares p kinds.Field None site.sure)) _ l [] []
-    (new_adds site l (Some n) _ [] (λ p. plain_adds l.entries (declares p kinds.Field None site.sure) refl)) (λ k. units_add site k ns)
+    more_adds (new_at site l (Some n) (plain_entry site l.entries kinds.Field)) _ l [] []
+    (new_adds site l (Some n) _ [] (λ p. plain_adds l.entries (plain_entry site l.entries kinds.Field p) refl)) (λ k. units_add site k ns)
 
 -- what a tail of this kind has: no spans, its own body's span, or what the terms inside it add
 record TailSpans (k : Option TailKind) (site : Where) (x : Tail) (inside : Listed → Where → Result Listed LoadFault) : Type 0 where
@@ -221,7 +221,7 @@ role_adds : (r : Role) (k : Option TailKind) (site : Where) (l : Listed) (ps : P
 unfolding fits declare_as method_at alias_at external_at
 role_adds (roles.Declares o) k site l ps x inside fit has =
     after_adds (place_at site (last_label None ps)) _ l (tail_spans site.table x) (λ p.
-    let e = declares p (kind_of o) None site.sure in
+    let e = plain_entry site l.entries (kind_of o) p in
     more_adds (entry_at site l p e) _ l [] (tail_spans site.table x) (entry_adds site l p e [] (plain_adds l.entries e refl)) (λ m. has.inner fit m p))
 role_adds roles.Method k site l ps x inside fit has =
     as_spans _ l (one_span site.table x) (tail_spans site.table x) (has.one fit)

@@ -1,10 +1,12 @@
 -- In tables whose code outside methods may not run each declaration is sure, and each path is declared at most once.
 use Rattle.std.proofs.Common.{◌≡◌, ◌≤◌, ℕ, suc, ◌+◌, Bool, true, false, cond, List, [], ◌∷◌, ◌++◌, Option, Some, None}
-use Rattle.std.proofs.Common.{Result, Ok, Err, is_some}
+use Rattle.std.proofs.Common.{Result, Ok, Err, is_some, not}
 use Rattle.std.proofs.Common.{refl, sym, ap, subst, arith, is_eq, Ordering, Less, Equal, Greater, nat_le, length}
 use Rattle.std.specs.Prelude.{IfOk}
 use Rattle.aml_names.specs.declared.segments.Seg.{Seg}
 use Rattle.aml_names.specs.declared.names.Name.{Name}
+use Rattle.aml_code.specs.declared.rows.Object.{Object}
+use Rattle.aml_code.specs.declared.rows.Object.TheVariants as objects
 use Rattle.aml_code.specs.declared.rows.Role.{Role}
 use Rattle.aml_code.specs.declared.rows.Role.TheVariants as roles
 use Rattle.aml_code.specs.Tree.{Tree, op, Trees, no_trees, tree_more, Parts, Tail, terms}
@@ -14,11 +16,12 @@ use Rattle.aml_namespace.specs.declared.kinds.Kind.{Kind}
 use Rattle.aml_namespace.specs.declared.kinds.Kind.TheVariants as kinds
 use Rattle.aml_namespace.specs.Namespace.{Entry, Body, Givens, declares, external, given, given_entries, same_path}
 use Rattle.aml_namespace.specs.Namespace.{declared_at}
-use Rattle.aml_namespace.specs.Runs.{AreSure, StaysAsItIs, times_at}
+use Rattle.aml_namespace.specs.Runs.{is_open_alias, AreSure, StaysAsItIs, times_at}
+use Rattle.aml_namespace.proofs.Strict.{never_open}
 use Rattle.aml_load.specs.declared.faults.LoadFault.{LoadFault}
 use Rattle.aml_load.specs.Loading.{◌>>=◌, role_of, kind_of, Where, strict, Listed, first_listed, with_uses, byte_of}
 use Rattle.aml_load.specs.Loading.{first_label}
-use Rattle.aml_load.specs.Loading.{most_methods, methods_of, place_at, lead_at, entry_at, new_at, method_at, alias_at}
+use Rattle.aml_load.specs.Loading.{most_methods, methods_of, plain_entry, place_at, lead_at, entry_at, new_at, method_at, alias_at}
 use Rattle.aml_load.specs.Loading.{external_at, units_at, declare_as}
 use Rattle.aml_load.specs.Loading.{declare, declare_inside, declare_all}
 use Rattle.aml_load.specs.Tables.{ReadTables, LoadsStrictly}
@@ -27,7 +30,7 @@ use Rattle.aml_load.specs.Tables.{ReadTables, LoadsStrictly}
 
 sure_more : (es : List Entry) (x : Entry) → AreSure es → AreSure (x ∷ []) → AreSure (es ++ x ∷ [])
 sure_more [] x h one = one
-sure_more (declares p k b sure ∷ es) x h one = (h.0, sure_more es x h.1 one)
+sure_more (declares p k b sure ∷ es) x h one = (h.0, h.1, sure_more es x h.2 one)
 sure_more (external p n ∷ es) x h one = sure_more es x h one
 sure_more (given p n ∷ es) x h one = sure_more es x h one
 
@@ -67,12 +70,28 @@ record Plain (es : List Entry) : Type 0 where
   sure : AreSure es
   once : (q : List Seg) → times_at es q ≤ 1
 
+-- no kind but that of an open Alias
+abbrev IsClosed : Kind → Type 0
+IsClosed k = not (is_open_alias k) ≡ true
+
+object_closed : (o : Object) → IsClosed (kind_of o)
+object_closed objects.Name = refl
+object_closed objects.Mutex = refl
+object_closed objects.Event = refl
+object_closed objects.Region = refl
+object_closed objects.DataRegion = refl
+object_closed objects.BufferField = refl
+object_closed objects.Device = refl
+object_closed objects.Processor = refl
+object_closed objects.PowerResource = refl
+object_closed objects.ThermalZone = refl
+
 -- a path that wasn't declared
-declared_plain : (es : List Entry) (p : List Seg) (k : Kind) (b : Option Body) → is_some (declared_at es p) ≡ false
-    → Plain es
+declared_plain : (es : List Entry) (p : List Seg) (k : Kind) (b : Option Body) → IsClosed k
+    → is_some (declared_at es p) ≡ false → Plain es
     → Plain (es ++ declares p k b true ∷ [])
-declared_plain es p k b free h = record {
-  sure = sure_more es (declares p k b true) h.sure (refl, tt);
+declared_plain es p k b closed free h = record {
+  sure = sure_more es (declares p k b true) h.sure (refl, closed, tt);
   once = λ q. by q (same_path q p) refl;
 }
   where
@@ -114,21 +133,23 @@ unless_keeps true d r h = tt
 unless_keeps false d r h = h refl
 
 module _ (t : ℕ) (scope : List Seg) where
-  entry_keeps : (l : Listed) (p : List Seg) (k : Kind) (b : Option Body) → Plain l.entries
+  entry_keeps : (l : Listed) (p : List Seg) (k : Kind) (b : Option Body) → IsClosed k → Plain l.entries
       → Keeps (entry_at (strict t scope) l p (declares p k b true))
   unfolding entry_at
-  entry_keeps l p k b h = unless_keeps (is_some (declared_at l.entries p)) _ _ (λ free. declared_plain l.entries p k b free h)
+  entry_keeps l p k b closed h = unless_keeps (is_some (declared_at l.entries p)) _ _ (λ free. declared_plain l.entries p k b closed free h)
 
-  new_keeps : (l : Listed) (n : Option Name) (k : List Seg → Kind) (b : List Seg → Option Body) → Plain l.entries
+  new_keeps : (l : Listed) (n : Option Name) (k : List Seg → Kind) (b : List Seg → Option Body)
+      → ((p : List Seg) → IsClosed (k p)) → Plain l.entries
       → Keeps (new_at (strict t scope) l n (λ p. declares p (k p) (b p) true))
   unfolding new_at
-  new_keeps l n k b h = then_keeps (place_at (strict t scope) n) _ (λ p. entry_keeps l p (k p) (b p) h)
+  new_keeps l n k b closed h = then_keeps (place_at (strict t scope) n) _ (λ p. entry_keeps l p (k p) (b p) (closed p) h)
 
   units_keep : (l : Listed) (ns : List Name) → Plain l.entries → Keeps (units_at (strict t scope) l ns)
   unfolding units_at
   units_keep l [] h = h
   units_keep l (n ∷ ns) h =
-      more_keeps (new_at (strict t scope) l (Some n) (λ p. declares p kinds.Field None true)) _ (new_keeps l (Some n) (λ p. kinds.Field) (λ p. None) h)
+      more_keeps (new_at (strict t scope) l (Some n) (plain_entry (strict t scope) l.entries kinds.Field)) _
+      (new_keeps l (Some n) (λ p. kinds.Field) (λ p. None) (λ p. refl) h)
       (λ m. units_keep m ns)
 
   role_keeps : (r : Role) (l : Listed) (ps : Parts) (x : Tail) (inside : Listed → Where → Result Listed LoadFault)
@@ -137,12 +158,14 @@ module _ (t : ℕ) (scope : List Seg) where
       → Keeps (declare_as r (strict t scope) l ps x inside)
   unfolding declare_as method_at alias_at external_at
   role_keeps (roles.Declares o) l ps x inside h more = then_keeps (place_at (strict t scope) (last_label None ps)) _ (λ p.
-      more_keeps (entry_at (strict t scope) l p (declares p (kind_of o) None true)) _ (entry_keeps l p (kind_of o) None h) (λ m. more m p))
+      more_keeps (entry_at (strict t scope) l p (plain_entry (strict t scope) l.entries (kind_of o) p)) _
+      (entry_keeps l p (kind_of o) None (object_closed o) h) (λ m. more m p))
   role_keeps roles.Method l ps x inside h more = unless_keeps (nat_le most_methods (length (methods_of l.entries))) _ _ (λ room.
-      new_keeps l (last_label None ps) (λ p. kinds.Method _) (λ p. Some _) h)
+      new_keeps l (last_label None ps) (λ p. kinds.Method _) (λ p. Some _) (λ p. refl) h)
   role_keeps roles.Scope l ps x inside h more = then_keeps (lead_at (strict t scope) l.entries (last_label None ps) _) _ (λ p. more l p h)
   role_keeps roles.Alias l ps x inside h more =
-      then_keeps (lead_at (strict t scope) l.entries (first_label ps) _) _ (λ q. new_keeps l (last_label None ps) (λ p. kinds.Alias _) (λ p. None) h)
+      then_keeps (lead_at (strict t scope) l.entries (first_label ps) _) _ (λ q.
+      new_keeps l (last_label None ps) (λ p. kinds.Alias _ _) (λ p. None) (λ p. ap not (never_open l.entries h.sure q)) h)
   role_keeps roles.External l ps x inside h more =
       then_keeps (place_at (strict t scope) (last_label None ps)) _ (λ p. external_plain l.entries p (byte_of ps) h)
   role_keeps roles.Fields l ps x inside h more = units_keep l (field_names x) h

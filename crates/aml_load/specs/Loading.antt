@@ -1,7 +1,7 @@
 -- What the terms of tables declare, and where a load stops (ACPI 6.5, 5.2.11, 5.3, 20.2.5.1 and 20.2.5.2).
 use Rattle.std.specs.Prelude.{ℕ, Option, Some, None, Bool, true, false, List, [], ◌∷◌, ◌++◌, ◌≡◌, ◌%◌, length}
-use Rattle.std.specs.Prelude.{Result, Ok, Err, is_some, nat_le, if◌then◌else◌, cond, not, ◌&&◌, ◌||◌, nat_eq}
-use Rattle.std.specs.List.{filter_map}
+use Rattle.std.specs.Prelude.{Result, Ok, Err, is_some, nat_le, if◌then◌else◌, cond, not, ◌&&◌, ◌||◌, nat_eq, take, ◌-◌}
+use Rattle.std.specs.List.{filter_map, list_all}
 use Rattle.std.specs.Option.{unwrap_or, option_map, option_and_then, option_eq, ok_or}
 use Rattle.std.specs.FinSet as set
 use Rattle.aml_names.specs.declared.faults.CodeFault.{CodeFault}
@@ -29,7 +29,7 @@ use Rattle.aml_namespace.specs.declared.kinds.Kind.{Kind}
 use Rattle.aml_namespace.specs.declared.kinds.Kind.TheVariants as kinds
 use Rattle.aml_namespace.specs.Namespace.{Entry, Givens, declares, external, given_entries, declared_at, namespace_of}
 use Rattle.aml_namespace.specs.Namespace.{kind_at, found}
-use Rattle.aml_namespace.specs.Runs.{outlook_of, agreed_arity, agreed_path}
+use Rattle.aml_namespace.specs.Runs.{outlook_of, sure_at, open_in, agreed_arity, agreed_path}
 use Rattle.aml_load.specs.declared.faults.LoadFault.{LoadFault}
 use Rattle.aml_load.specs.declared.faults.LoadFault.TheVariants as loads
 use Rattle.aml_set.specs.declared.methods.Method.{Method}
@@ -182,10 +182,28 @@ abbrev pub body_span : Tail → ℕ × ℕ
 body_span (body start len) = (start, len)
 body_span _ = (0, 0)
 
--- the entry of a method at a site: bits 0 to 2 of its flags are its number of arguments
-abbrev pub method_entry : Where → List Seg → ℕ → ℕ × ℕ → Entry
-method_entry site p flags span = declares p (kinds.Method (flags % 8))
-    (Some (record { table = site.table; start = span.0; len = span.1; flags = flags })) site.sure
+-- the path above a path: its segments but the last
+abbrev pub parent_of : List Seg → List Seg
+parent_of p = take (length p - 1) p
+
+-- Whether what is declared at a site is declared in every run, if these paths have a kind in every run so far. Where
+-- the code outside methods may not run, everything is.
+abbrev pub sure_with : Where → List Entry → List (List Seg) → Bool
+sure_with site es ps = site.sure && (not site.any_run || list_all (sure_at es) ps)
+
+-- whether a path is declared there in every run: an interpreter passes over a declaration of which the path above isn't
+-- there
+abbrev pub sure_here : Where → List Entry → List Seg → Bool
+sure_here site es p = sure_with site es (parent_of p ∷ [])
+
+-- the entry of a path without a body, at a site
+abbrev pub plain_entry : Where → List Entry → Kind → List Seg → Entry
+plain_entry site es kind p = declares p kind None (sure_here site es p)
+
+-- the entry of a method: bits 0 to 2 of its flags are its number of arguments
+abbrev pub method_entry : Where → List Entry → ℕ → ℕ × ℕ → List Seg → Entry
+method_entry site es flags span p = declares p (kinds.Method (flags % 8))
+    (Some (record { table = site.table; start = span.0; len = span.1; flags = flags })) (sure_here site es p)
 
 -- what a name leads to at a site, among the entries so far; where the code outside methods may run, in every run
 abbrev pub lead_of : Where → List Entry → Option Name → Option (List Seg)
@@ -194,11 +212,16 @@ lead_of site es n = option_and_then
 
 -- what an Alias of a path stands for: the path, or that path's own target if it is an Alias
 abbrev pub target_by : Option Kind → List Seg → List Seg
-target_by (Some (kinds.Alias q)) p = q
+target_by (Some (kinds.Alias is_open q)) p = q
 target_by _ p = p
 
 abbrev pub target_of : List Entry → List Seg → List Seg
 target_of es p = target_by (kind_at (namespace_of es) p) p
+
+-- the entry of an Alias of a source, which is declared in every run only where its source has a kind in every run
+abbrev pub alias_entry : Where → List Entry → List Seg → List Seg → Entry
+alias_entry site es source p = declares p (kinds.Alias (open_in (outlook_of es) source) (target_of es source)) None
+    (sure_with site es (parent_of p ∷ source ∷ []))
 
 -- ---- What a term declares: what is listed behind it, or the fault at which the load stops.
 
@@ -233,13 +256,13 @@ new_at site l n entry = do
 -- a method, with its flags and the span of its body (20.2.5.2): the limit is met before its name
 unfoldable pub method_at : Where → Listed → Option Name → ℕ → ℕ × ℕ → Result Listed LoadFault
 method_at site l n flags span = if nat_le most_methods (length (methods_of l.entries))
-    then Err loads.TooManyMethods else new_at site l n (λ p. method_entry site p flags span)
+    then Err loads.TooManyMethods else new_at site l n (method_entry site l.entries flags span)
 
 -- an Alias (20.2.5.1): first where its source leads, then its own name
 unfoldable pub alias_at : Where → Listed → Option Name → Option Name → Result Listed LoadFault
 alias_at site l source n = do
   q ← lead_at site l.entries source (λ p. faults.AliasMissing p)
-  new_at site l n (λ p. declares p (kinds.Alias (target_of l.entries q)) None site.sure)
+  new_at site l n (alias_entry site l.entries q)
 
 -- an External, which counts for a path (20.2.5.2)
 unfoldable pub external_at : Where → Listed → Option Name → ℕ → Result Listed LoadFault
@@ -251,7 +274,7 @@ external_at site l n count = do
 unfoldable pub units_at : Where → Listed → List Name → Result Listed LoadFault
 units_at site l [] = Ok l
 units_at site l (n ∷ ns) = do
-  k ← new_at site l (Some n) (λ p. declares p kinds.Field None site.sure)
+  k ← new_at site l (Some n) (plain_entry site l.entries kinds.Field)
   units_at site k ns
 
 -- What a term does by its role, at a site, after l. `inside` is what the terms inside it declare, after what is listed
@@ -260,7 +283,7 @@ unfoldable pub declare_as : Role → Where → Listed → Parts → Tail → (Li
     → Result Listed LoadFault
 declare_as (roles.Declares o) site l ps r inside = do
   p ← place_at site (last_label None ps)
-  m ← entry_at site l p (declares p (kind_of o) None site.sure)
+  m ← entry_at site l p (plain_entry site l.entries (kind_of o) p)
   inside m (under site p)
 declare_as roles.Method site l ps r inside = method_at site l (last_label None ps) (byte_of ps) (body_span r)
 declare_as roles.Scope site l ps r inside = do

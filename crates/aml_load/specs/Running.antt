@@ -1,8 +1,8 @@
 -- What the terms of tables declare where the code outside methods may run (ACPI 6.5, 5.3, 20.2.1 and 20.2.5). Each
 -- table is read from the left: a name outside methods has as many arguments as every run agrees on by what is declared
--- in front of it. What is declared in code that may not run, or under a path that may not be there, is no sure
--- declaration.
-use Rattle.std.specs.Prelude.{ℕ, Bool, true, false, not, ◌&&◌, List, [], Option}
+-- in front of it. What is declared in code that may not run, below a path that may not be there, or of which another
+-- declaration may be there first, is no sure declaration.
+use Rattle.std.specs.Prelude.{ℕ, suc, Bool, true, false, not, ◌&&◌, List, [], ◌∷◌, Option}
 use Rattle.std.specs.Prelude.{Some, None, Result, Ok, Err, is_some}
 use Rattle.std.specs.Option.{unwrap_or, option_and_then}
 use Rattle.std.specs.FinSet as set
@@ -12,16 +12,16 @@ use Rattle.aml_code.specs.declared.rows.Role.{Role}
 use Rattle.aml_code.specs.declared.rows.Role.TheVariants as roles
 use Rattle.aml_code.specs.Faults.{Arities}
 use Rattle.aml_code.specs.Lawful.{last_label}
-use Rattle.aml_code.specs.Tree.{Tree, op, Parts, Tail}
+use Rattle.aml_code.specs.Tree.{Tree, op, Trees, no_trees, tree_more, Parts, Tail, terms}
 use Rattle.aml_parse.specs.Running.{Names}
 use Rattle.aml_space.specs.declared.faults.SpaceFault.TheVariants as faults
 use Rattle.aml_namespace.specs.declared.kinds.Kind.{Kind}
-use Rattle.aml_namespace.specs.Namespace.{Entry, declares, declared_at, namespace_of, found}
-use Rattle.aml_namespace.specs.Runs.{sure_at, outlook_of, agreed_arity}
+use Rattle.aml_namespace.specs.Namespace.{Entry, declared_at, namespace_of, found}
+use Rattle.aml_namespace.specs.Runs.{scope_in, outlook_of, agreed_arity}
 use Rattle.aml_load.specs.declared.faults.LoadFault.{LoadFault}
 use Rattle.aml_load.specs.declared.faults.LoadFault.TheVariants as loads
 use Rattle.aml_load.specs.Loading.{◌>>=◌, role_of, kind_of, Where, Listed, with_uses, lead_of, place_at}
-use Rattle.aml_load.specs.Loading.{entry_at, declare_as, code_fault}
+use Rattle.aml_load.specs.Loading.{sure_here, plain_entry, entry_at, declare_as, code_fault}
 
 -- What stands in front of a term: what is listed so far, and where the term stands.
 pub record Front : Type 0 where
@@ -48,9 +48,9 @@ asked f t = record f { listed = with_uses f.site f.listed t }
 abbrev pub in_block : Front → Front
 in_block f = record f { site = record f.site { sure = false } }
 
--- under a path, where what is declared is as sure as here if this holds
+-- under a path, where what is declared is sure or isn't
 abbrev pub in_path : Front → Listed → List Seg → Bool → Front
-in_path f l p also = record { listed = l; site = record f.site { scope = p; sure = f.site.sure && also } }
+in_path f l p sure = record { listed = l; site = record f.site { scope = p; sure = sure } }
 
 -- The path that a Scope opens: the one that every run agrees on; its own where nothing at all is there; and none where
 -- runs may differ.
@@ -69,14 +69,14 @@ opened_at site es n = do
 unfoldable pub object_at : Front → Option Name → Kind → Result Front LoadFault
 object_at f n kind = do
   p ← place_at f.site n
-  m ← entry_at f.site f.listed p (declares p kind None f.site.sure)
-  Ok (in_path f m p (not (is_some (declared_at f.listed.entries p))))
+  m ← entry_at f.site f.listed p (plain_entry f.site f.listed.entries kind p)
+  Ok (in_path f m p (sure_here f.site f.listed.entries p && not (is_some (declared_at f.listed.entries p))))
 
--- a Scope
+-- a Scope, which an interpreter passes over where it leads to what is no scope in a run
 unfoldable pub scope_at : Front → Option Name → Result Front LoadFault
 scope_at f n = do
   p ← opened_at f.site f.listed.entries n
-  Ok (in_path f f.listed p (sure_at f.listed.entries p))
+  Ok (in_path f f.listed p (f.site.sure && scope_in (outlook_of f.listed.entries) p))
 
 -- What a term does by its role. A Device and its like declare their path and open it, and an interpreter that finds the
 -- path declared already passes over what is inside; a Scope opens a path, which may not be there; If, Else and While
@@ -94,6 +94,37 @@ enter_as role f ps r = do
 unfoldable pub entered_at : Front → Tree → Result Front LoadFault
 entered_at f (op o w ps r) = enter_as (role_of o) (asked f (op o w ps r)) ps r
 entered_at f t = Ok (asked f t)
+
+-- ---- What terms declare that were read so, by themselves.
+
+unfoldable mutual
+  -- what stands behind a term: what it declares itself, and then what the terms inside it do
+  pub behind_tree : Front → Tree → Result Front LoadFault
+  behind_tree f (op o w ps r) = do
+    inner ← entered_at f (op o w ps r)
+    ended ← behind_inside inner r
+    Ok (record f { listed = ended.listed })
+  behind_tree f t = entered_at f t
+
+  pub behind_inside : Front → Tail → Result Front LoadFault
+  behind_inside f (terms ts) = behind_trees f ts
+  behind_inside f _ = Ok f
+
+  -- terms, in the order of the text
+  pub behind_trees : Front → Trees → Result Front LoadFault
+  behind_trees f no_trees = Ok f
+  behind_trees f (tree_more t ts) = do
+    g ← behind_tree f t
+    behind_trees g ts
+
+-- the tables from number t on, each from the root
+unfoldable pub behind_tables : ℕ → Listed → List Trees → Result Listed LoadFault
+behind_tables t l [] = Ok l
+behind_tables t l (ts ∷ rest) = do
+  f ← behind_trees (table_front t l) ts
+  behind_tables (suc t) f.listed rest
+
+-- ---- The namespace as the reading asks it.
 
 -- The namespace as the reading of table t asks it. Behind a term stands what is listed then, where the term stood.
 abbrev pub run_names : ℕ → Names Front LoadFault

@@ -1,17 +1,18 @@
 -- A stepping stone: what the load holds so far, and what a step of it gives, as `Loading` and `Tables` say it.
-use Rattle.std.specs.Prelude.{◌≡◌, ◌⊎◌, ◌&&◌, true, false, not, List, [], ◌∷◌, ◌++◌, Option, Result, Ok, Err, is_some}
+use Rattle.std.specs.Prelude.{◌≡◌, ◌⊎◌, ◌&&◌, Bool, true, false, not, List, [], ◌∷◌, ◌++◌, Option, Some, None, Result, Ok}
+use Rattle.std.specs.Prelude.{Err, is_some}
 use Rattle.aml_names.specs.declared.segments.Seg.{Seg}
 use Rattle.aml_space.specs.declared.faults.SpaceFault.TheVariants as faults
-use Rattle.aml_namespace.specs.declared.kinds.Kind.{Kind}
-use Rattle.aml_namespace.specs.Namespace.{Entry, Body, declares, declared_at}
+use Rattle.aml_namespace.specs.Namespace.{Entry, declared_at}
 use Rattle.aml_namespace.specs.Known.{Known, StandsFor}
 use Rattle.aml_space.specs.Near.{IsOpen, IsBelow}
 use Rattle.aml_space.specs.declared.opened.PlacedPath.{PlacedPath}
+use Rattle.aml_space.specs.declared.opened.Source.{Source}
 use Rattle.aml_load.specs.declared.faults.LoadFault.{LoadFault}
 use Rattle.aml_load.specs.declared.faults.LoadFault.TheVariants as loads
 use Rattle.aml_load.specs.declared.uses.Site.{Site}
 use Rattle.aml_load.specs.declared.walking.Progress.{Progress}
-use Rattle.aml_load.specs.Loading.{Listed, methods_of, Where}
+use Rattle.aml_load.specs.Loading.{Listed, methods_of, Where, parent_of, sure_with}
 use Rattle.aml_load.specs.Groups.{AreGrouped}
 use Rattle.aml_load.specs.Tables.{Fails}
 use Rattle.aml_code.specs.Tree.{Trees}
@@ -35,14 +36,21 @@ pub record KeepsUses (old new : Progress) : Type 0 where
   pub groups : new.groups ≡ old.groups
   pub scopes : new.space.scopes ≡ old.space.scopes
 
--- What declaring a path made of the progress, whatever entries it held and whatever body the path has: an entry more,
--- and nothing else; or the fault that it may not be added, or want of memory.
-abbrev pub IsDeclared : Where → List Entry → List Seg → Kind → Option Body → Progress → Progress
-    → Result (Unit {0}) LoadFault → Type 0
-IsDeclared site es p kind body old new (Ok u) = IsFree site es p (Ok u)
-    × StandsFor new.space (es ++ declares p kind body site.sure ∷ [])
+-- What declaring a path made of the progress, whatever entries it held: this entry more, and nothing else; or the fault
+-- that it may not be added, or want of memory.
+abbrev pub IsDeclared : Where → List Entry → List Seg → Entry → Progress → Progress → Result (Unit {0}) LoadFault → Type 0
+IsDeclared site es p x old new (Ok u) = IsFree site es p (Ok u) × StandsFor new.space (es ++ x ∷ [])
     × (new.methods.items ≡ old.methods.items) × KeepsUses old new × (new.space.kept ≡ old.space.kept)
-IsDeclared site es p kind body old new (Err e) = IsFree site es p (Err e)
+IsDeclared site es p x old new (Err e) = IsFree site es p (Err e)
+
+-- the path of which an Alias is declared
+abbrev pub source_paths : Option Source → List (List Seg)
+source_paths None = []
+source_paths (Some s) = s.path.now ∷ []
+
+-- whether a path is declared at a site in every run, and if it is an Alias, what it is declared of
+abbrev pub sure_of : Where → List Entry → List Seg → Option Source → Bool
+sure_of site es p source = sure_with site es (parent_of p ∷ source_paths source)
 
 -- the namespace, the methods and the uses so far are those of what is listed, the methods' paths are kept, and the uses
 -- are grouped

@@ -25,7 +25,7 @@ use crate::used::Use;
 use crate::uses::Site;
 use crate::walking::Progress;
 use aml_code::{Locals, NoMemory, Node, Path};
-use aml_names::{Arity, ScopedPath};
+use aml_names::{ArgumentCount, Arity, ScopedPath};
 use aml_parse::parse_module;
 use aml_set::{Loaded, Table, TableSet};
 use aml_space::{BodyNames, Space};
@@ -195,19 +195,19 @@ fn check_uses(
 }
 
 /// A namespace before any table, with the counts that the user gives.
-fn space_with(alloc: Global, givens: &[(Path, u8)]) -> Result<Space, NoMemory>
+fn space_with(alloc: Global, givens: &[(Path, ArgumentCount)]) -> Result<Space, NoMemory>
     ensures stands { IfOk result (λ space. StandsFor space (given_entries givens.now)) }
     ensures kept { IfOk result (λ space. space.kept ≡ []) }
 {
     let mut space = Space::new(alloc)?;
     for (path, count) in givens {
-        space.given(path, *count)?;
+        space.given(path, count.get())?;
     }
     Ok(space)
 }
 
 /// What the tables have made before any of them.
-pub fn first_progress(alloc: Global, givens: &[(Path, u8)]) -> Result<Progress, NoMemory>
+pub fn first_progress(alloc: Global, givens: &[(Path, ArgumentCount)]) -> Result<Progress, NoMemory>
     ensures { IfOk result (λ progress. Holds progress (first_listed givens.now)) }
 {
     Ok(Progress {
@@ -223,7 +223,7 @@ pub fn first_progress(alloc: Global, givens: &[(Path, u8)]) -> Result<Progress, 
 fn load_each<'a>(
     alloc: Global,
     mut tables: Vec<Table<'a>>,
-    givens: &[(Path, u8)],
+    givens: &[(Path, ArgumentCount)],
     any_run: bool,
     unknown_zero: bool,
 ) -> Result<TableSet<'a>, LoadFault>
@@ -253,7 +253,7 @@ fn load_each<'a>(
 pub fn load_tables<'a>(
     alloc: Global,
     tables: Vec<Table<'a>>,
-    givens: &[(Path, u8)],
+    givens: &[(Path, ArgumentCount)],
     any_run: bool,
     unknown_zero: bool,
 ) -> Result<TableSet<'a>, LoadFault>
@@ -297,7 +297,7 @@ fn unread_tables<'a>(alloc: Global, codes: &[&'a [u8]]) -> Result<Vec<Table<'a>>
 fn load_lists<'a>(
     alloc: Global,
     codes: &[&'a [u8]],
-    givens: &[(Path, u8)],
+    givens: &[(Path, ArgumentCount)],
     any_run: bool,
     unknown_zero: bool,
 ) -> Result<Loaded<'a>, LoadFault>
@@ -317,12 +317,12 @@ fn load_lists<'a>(
 /// an Alias needs a name that is predefined or came earlier; there are at most 1,048,576 methods; and no name that
 /// takes arguments stands as a TermArg outside the methods. The fault is the first that is met.
 ///
-/// `givens` are argument counts, 0 to 7, that the user gives to paths. They count for a name that leads nowhere that
+/// `givens` are argument counts that the user gives to paths. They count for a name that leads nowhere that
 /// any table names, by the first of the paths that it may mean, and the greatest of a path; and they declare nothing.
 pub fn load<'a>(
     alloc: Global,
     tables: &[&'a [u8]],
-    givens: &[(Path, u8)],
+    givens: &[(Path, ArgumentCount)],
 ) -> Result<Loaded<'a>, LoadFault>
     // The limit of a table.
     requires { AreShort (codes_view tables.now) }
@@ -357,7 +357,7 @@ pub fn load<'a>(
 pub fn load_any_run<'a>(
     alloc: Global,
     tables: &[&'a [u8]],
-    givens: &[(Path, u8)],
+    givens: &[(Path, ArgumentCount)],
     unknown_zero: bool,
 ) -> Result<Loaded<'a>, LoadFault>
     // The limit of a table.

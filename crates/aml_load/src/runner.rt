@@ -44,7 +44,7 @@ pub struct RunSite {
 
 impl RunSite {
     /// The same, as a site.
-    fn site(&self) -> Site<'_>
+    pub fn site(&self) -> Site<'_>
         ensures site { at_site result ≡ run_site self.now }
         ensures place { result.place ≡ self.now.place }
         ensures scope { result.scope.now ≡ self.now.scope }
@@ -285,8 +285,9 @@ impl Progress {
         let declared = self
             .space
             .is_declared(path.near(site.place), &path.path.parts());
+        let sure = self.is_sure_here(&site, &path, None) && !declared;
         self.declare(&site, &path, kind)?;
-        here.under(self, &path, here.sure && !declared)
+        here.under(self, &path, sure)
     }
 
     /// Opens the path of a Scope.
@@ -302,7 +303,7 @@ impl Progress {
         let sure = here.sure
             && self
                 .space
-                .is_sure(path.near(site.place), &path.path.parts());
+                .is_scope(path.near(site.place), &path.path.parts());
         here.under(self, &path, sure)
     }
 
@@ -375,7 +376,7 @@ impl Progress {
 impl Progress {
     /// Declares what a term declares itself, and says where the terms inside it stand.
     #[tactic(auto, unfolding(crate::specs::Running::entered_at))]
-    fn enter(&mut self, site: &RunSite, head: &Node) -> Result<RunSite, LoadFault>
+    pub fn enter(&mut self, site: &RunSite, head: &Node) -> Result<RunSite, LoadFault>
         requires { IsWithin self.old site.now }
         ensures comes { Enters self.old self.new site.now (node_view head.now) result }
         ensures opens { IfOk result (λ inner. IsEntered self.old.space.scopes self.new inner) }

@@ -1,23 +1,28 @@
 //! The terms of a loaded set outside the methods' bodies, each where it stands.
-ghost use Rattle.std.specs.Prelude.{◌≡◌, ◌⊎◌, ◌++◌, ◌∷◌, [], List, ℕ, Bool, false, Ok, IfOk, IfErr, OnOk};
+ghost use Rattle.std.specs.Prelude.{◌≡◌, ◌⊎◌, ◌++◌, ◌∷◌, [], List, ℕ, Bool, Ok, IfOk, IfErr, OnOk, length, true};
 ghost use Rattle.aml_code.specs.View.{node_view, nodes_view, parts_view, tail_view};
 ghost use Rattle.aml_set.specs.Views.{trees_view};
 ghost use Rattle.aml_load.specs.Loading.{Listed, first_listed, strict, declare_as, declare, declare_inside};
 ghost use Rattle.aml_load.specs.Loading.{declare_all, under};
+ghost use Rattle.aml_load.specs.Runner.{IsWithin};
+ghost use Rattle.aml_load.specs.Running.{behind_tree, behind_inside, behind_trees, behind_tables};
 ghost use Rattle.aml_load.specs.Standing.{stands, inside_as, term_stands, inside_stand, all_stand, set_stands};
-ghost use Rattle.aml_load.specs.Standing.{tables_stand};
-ghost use Rattle.aml_load.specs.Standings.{standings_view, Finds, Found, declare_tables};
-ghost use Rattle.aml_load.specs.Tables.{LoadsTo};
+ghost use Rattle.aml_load.specs.Standing.{tables_stand, run_term_stands, run_inside_stand, run_all_stand};
+ghost use Rattle.aml_load.specs.Standing.{run_tables_stand, stand_by};
+ghost use Rattle.aml_load.specs.Standings.{standings_view, Finds, Found, declare_tables, declares_by, set_declares};
+ghost use Rattle.aml_load.specs.Standings.{FindsRun, behind_within, within_stand};
+ghost use Rattle.aml_load.specs.Tables.{LoadsTo, Fails};
 ghost use Rattle.aml_load.specs.Walking.{at_site, Holds, IsInside, Stays};
 ghost use Rattle.aml_space.specs.Near.{IsBelow};
 
 use crate::faults::LoadFault;
 use crate::loading::first_progress;
 use crate::roles::{kind_of, role_of};
+use crate::runner::RunSite;
 use crate::uses::Site;
 use crate::walking::Progress;
 use aml_code::{NoMemory, Node, Part, Path, Role, Tail, last_name};
-use aml_names::ScopedPath;
+use aml_names::{ArgumentCount, ScopedPath};
 use aml_space::{Keeps, PlacedPath};
 use std::alloc::Global;
 
@@ -28,6 +33,8 @@ pub struct StandingTerm<'a> {
     pub table: usize,
     /// The scope in which it stands.
     pub scope: ScopedPath,
+    /// Whether it stands there in every run of the code outside methods. Where that code may not run, each does.
+    pub sure: bool,
     pub term: &'a Node,
 }
 
@@ -44,6 +51,7 @@ fn add_term<'a>(
     found.push(StandingTerm {
         table: site.table,
         scope,
+        sure: site.sure,
         term,
     })?;
     Ok(())
@@ -247,24 +255,166 @@ fn find_tables<'a>(
     Ok(())
 }
 
-/// The terms of a loaded set outside the methods' bodies, each with the scope in which `load` places what it declares:
-/// in load order and in the order of the text, a term before those inside it.
-///
-/// `trees` are the terms of each table, as a set has them that was loaded by `load` with these counts (`givens`). A set
-/// that `load_any_run` gave is another one: its terms may be refused here.
-pub fn standing_terms<'a>(
+/// Finds a term whose code may run and those inside it, and declares what they declare.
+#[cycle(find_run)]
+fn find_run_term<'a>(
+    progress: &mut Progress,
+    site: &RunSite,
+    term: &'a Node,
+    found: &mut Vec<StandingTerm<'a>>,
+) -> Result<(), LoadFault>
+    requires { IsWithin progress.old site.now }
+    ensures finds { FindsRun progress.old progress.new site.now found.old.items found.new.items result
+        (λ f. behind_tree f (node_view term.now)) (λ f. run_term_stands f (node_view term.now)) }
+    ensures stays { OnOk result (Stays progress.old progress.new) }
+{
+    add_term(&site.site(), term, found)?;
+    let place = progress.space.open_scopes();
+    let inner = progress.enter(site, term)?;
+    find_run_inside(progress, &inner, term, found)?;
+    progress.close_scopes(place);
+    Ok(())
+}
+
+/// Finds the terms inside a term, which stand at this site.
+#[cycle(find_run)]
+#[tactic(auto, unfolding(crate::specs::Running::behind_inside, crate::specs::Standing::run_inside_stand))]
+fn find_run_inside<'a>(
+    progress: &mut Progress,
+    site: &RunSite,
+    term: &'a Node,
+    found: &mut Vec<StandingTerm<'a>>,
+) -> Result<(), LoadFault>
+    requires { IsWithin progress.old site.now }
+    ensures finds { FindsRun progress.old progress.new site.now found.old.items found.new.items result
+        (λ f. behind_within f (node_view term.now)) (λ f. within_stand f (node_view term.now)) }
+    ensures stays { OnOk result (Stays progress.old progress.new) }
+{
+    match term {
+        Node::Op {
+            tail: Tail::Terms(terms),
+            ..
+        } => find_run_terms(progress, site, terms.as_slice(), found),
+        _ => Ok(()),
+    }
+}
+
+/// Finds terms whose code may run and those inside them, in the order of the text.
+#[cycle(find_run)]
+#[tactic(auto, unfolding(crate::specs::Running::behind_trees, crate::specs::Standing::run_all_stand))]
+fn find_run_terms<'a>(
+    progress: &mut Progress,
+    site: &RunSite,
+    terms: &'a [Node],
+    found: &mut Vec<StandingTerm<'a>>,
+) -> Result<(), LoadFault>
+    requires { IsWithin progress.old site.now }
+    ensures finds { FindsRun progress.old progress.new site.now found.old.items found.new.items result
+        (λ f. behind_trees f (nodes_view terms.now)) (λ f. run_all_stand f (nodes_view terms.now)) }
+    ensures stays { OnOk result (Stays progress.old progress.new) }
+{
+    for term in terms {
+        find_run_term(progress, site, term, found)?;
+    }
+    Ok(())
+}
+
+/// Finds the terms of a table whose code may run, from the root.
+fn find_run_table<'a>(
+    progress: &mut Progress,
+    table: usize,
+    terms: &'a [Node],
+    found: &mut Vec<StandingTerm<'a>>,
+) -> Result<(), LoadFault>
+    ensures { FindsRun progress.old progress.new
+        (record { table = table; scope = []; place = length progress.old.space.scopes; sure = true })
+        found.old.items found.new.items result
+        (λ f. behind_trees f (nodes_view terms.now)) (λ f. run_all_stand f (nodes_view terms.now)) }
+{
+    let place = progress.space.open_scopes();
+    let root = RunSite {
+        table,
+        scope: progress.open_root()?,
+        place,
+        sure: true,
+    };
+    find_run_terms(progress, &root, terms, found)?;
+    progress.close_scopes(place);
+    Ok(())
+}
+
+/// Finds the terms of all tables, whose code may run.
+#[tactic(auto, unfolding(crate::specs::Running::behind_tables, crate::specs::Standing::run_tables_stand))]
+fn find_run_tables<'a>(
+    progress: &mut Progress,
+    trees: &'a [Vec<Node>],
+    found: &mut Vec<StandingTerm<'a>>,
+) -> Result<(), LoadFault>
+    ensures { Finds progress.old progress.new found.old.items found.new.items result
+        (λ l. behind_tables 0 l (trees_view trees.now))
+        (λ l. run_tables_stand 0 l (trees_view trees.now)) }
+{
+    for table in 0..trees.len() {
+        find_run_table(progress, table, trees[table].as_slice(), found)?;
+    }
+    Ok(())
+}
+
+/// Finds the terms of all tables, whose code may run or may not.
+fn find_set<'a>(
+    progress: &mut Progress,
+    any_run: bool,
+    trees: &'a [Vec<Node>],
+    found: &mut Vec<StandingTerm<'a>>,
+) -> Result<(), LoadFault>
+    ensures { Finds progress.old progress.new found.old.items found.new.items result
+        (λ l. declares_by any_run l (trees_view trees.now))
+        (λ l. stand_by any_run l (trees_view trees.now)) }
+{
+    if any_run {
+        find_run_tables(progress, trees, found)
+    } else {
+        find_tables(progress, trees, found)
+    }
+}
+
+/// The terms of all tables, where the user gives these counts.
+fn found_terms<'a>(
     alloc: Global,
     trees: &'a [Vec<Node>],
-    givens: &[(Path, u8)],
+    givens: &[(Path, ArgumentCount)],
+    any_run: bool,
 ) -> Result<Vec<StandingTerm<'a>>, LoadFault>
-    // Just these terms, each where it stands.
-    ensures found { IfOk result (λ x. standings_view x.items ≡ set_stands givens.now (trees_view trees.now)) }
-    // A refusal for another cause than memory comes only where no tables load to these trees.
-    ensures complete { IfErr result (λ e. (e ≡ LoadFault.NoMemory) ⊎ ((unknown_zero : Bool) (tables : List (List ℕ))
-        (m : Listed) → LoadsTo false unknown_zero givens.now tables (trees_view trees.now) m → ⊥)) }
+    ensures found { IfOk result (λ x.
+        standings_view x.items ≡ set_stands any_run givens.now (trees_view trees.now)) }
+    ensures forward { IfErr result (λ e. Fails e (set_declares any_run givens.now (trees_view trees.now))) }
 {
     let mut progress = first_progress(alloc, givens)?;
     let mut found = Vec::new(alloc);
-    find_tables(&mut progress, trees, &mut found)?;
+    find_set(&mut progress, any_run, trees, &mut found)?;
     Ok(found)
+}
+
+/// The terms of a loaded set outside the methods' bodies, each with the scope in which the load places what it
+/// declares: in load order and in the order of the text, a term before those inside it.
+///
+/// `trees` are the terms of each table, as a set has them that was loaded with these counts (`givens`): by
+/// `load_any_run` where `any_run` says so, else by `load`. The terms of another set may be refused here, by the fault
+/// at which declaring them stops.
+pub fn standing_terms<'a>(
+    alloc: Global,
+    trees: &'a [Vec<Node>],
+    givens: &[(Path, ArgumentCount)],
+    any_run: bool,
+) -> Result<Vec<StandingTerm<'a>>, LoadFault>
+    // Just these terms, each where it stands.
+    ensures found { IfOk result (λ x.
+        standings_view x.items ≡ set_stands any_run givens.now (trees_view trees.now)) }
+    // A refusal for another cause than memory comes only where no tables load to these trees.
+    ensures complete { IfErr result (λ e. (e ≡ LoadFault.NoMemory) ⊎ ((unknown_zero : Bool) (tables : List (List ℕ))
+        (m : Listed) → LoadsTo any_run unknown_zero givens.now tables (trees_view trees.now) m → ⊥)) }
+    // Which fault it is: the first that is met in declaring what the terms declare.
+    ensures forward { IfErr result (λ e. Fails e (set_declares any_run givens.now (trees_view trees.now))) }
+{
+    found_terms(alloc, trees, givens, any_run)
 }

@@ -5,5 +5,6 @@ ghost use Rattle.aml_load.specs.StandingLaws.{StandAsDeclared};
 
 /// The terms of a set, each by itself where it stands, declare one after the other what its tables load to.
 pub fn terms_stand_as_declared()
-    ensures { (unknown_zero : Bool) (gs : Givens) (tables : List (List ℕ)) → StandAsDeclared unknown_zero gs tables }
+    ensures { (any_run unknown_zero : Bool) (gs : Givens) (tables : List (List ℕ)) →
+        StandAsDeclared any_run unknown_zero gs tables }
 {}

@@ -1,18 +1,21 @@
 //! What the terms of a table declare.
-ghost use Rattle.std.specs.Prelude.{◌≡◌, ◌%◌, ◌∷◌, ◌++◌, [], List, Option, None, Ok, IfOk, IfSome, OnOk, true, take};
+ghost use Rattle.std.specs.Prelude.{◌≡◌, ◌∷◌, ◌++◌, [], Option, None, Ok, IfOk, IfSome, OnOk, true, take};
 ghost use Rattle.std.specs.Option.{option_copied, ok_or};
+ghost use Rattle.std.specs.List.{list_all};
 ghost use Rattle.aml_code.specs.Lawful.{last_label, field_names, plain_name, unit_names};
 ghost use Rattle.aml_code.specs.Tree.{no_fields, field_more};
 ghost use Rattle.aml_code.specs.View.{node_view, nodes_view, parts_view, tail_view, fields_view, field_view};
-ghost use Rattle.aml_namespace.specs.Namespace.{Entry, Body, declares, external as outside};
+ghost use Rattle.aml_namespace.specs.Namespace.{Body, declares, external as outside};
+ghost use Rattle.aml_namespace.specs.Runs.{outlook_of, sure_at, open_in};
 ghost use Rattle.aml_namespace.specs.Known.{StandsFor, namespace_in};
 ghost use Rattle.aml_namespace.specs.declared.kinds.Kind.TheVariants.{Alias};
-ghost use Rattle.aml_space.specs.Near.{IsBelow, IsSourceOf, IsTarget, path_of};
+ghost use Rattle.aml_space.specs.Near.{IsBelow, IsNear, IsSourceOf, IsTarget, path_of};
 ghost use Rattle.aml_load.specs.Loading.{under, Listed, plus, with_uses, method_entry, first_label, byte_of, lead_of};
-ghost use Rattle.aml_load.specs.Loading.{target_of};
+ghost use Rattle.aml_load.specs.Loading.{parent_of, sure_with, plain_entry, target_of};
 ghost use Rattle.aml_load.specs.Loading.{body_span, place_at, lead_at, entry_at, new_at, method_at, alias_at};
 ghost use Rattle.aml_load.specs.Loading.{external_at, units_at, declare_as, declare, declare_inside, declare_all};
 ghost use Rattle.aml_load.specs.Walking.{at_site, Gives, GivesIn, IsDeclared, Walks, IsInside, Stays, Holds, AreBelow};
+ghost use Rattle.aml_load.specs.Walking.{source_paths, sure_of};
 
 use crate::faults::LoadFault;
 use crate::groups::Groups;
@@ -168,12 +171,56 @@ impl Progress {
     {
         let near = source.near(site.place);
         match self.space.kind_near(near, &source.path.parts()) {
-            Some(Kind::Alias { target }) => target.clone(),
+            Some(Kind::Alias { target, .. }) => target.clone(),
             _ => {
                 let path = source.path.clone()?;
                 Target::new(self.alloc, path)
             }
         }
+    }
+
+    /// Whether the path above one has a kind whatever runs.
+    fn is_sure_above(&self, site: &Site<'_>, path: &PlacedPath) -> bool
+        requires inside { IsInside self.now site.now }
+        requires below { IsBelow path.now.front site.now.scope.now path.now.path }
+        ensures { (l : Listed) → StandsFor self.now.space l.entries →
+            result ≡ sure_at l.entries (parent_of path.now.path) }
+    {
+        let path_parts = path.path.parts();
+        let count = path_parts.len().saturating_sub(1);
+        let near = path.near(site.place).first(count);
+        self.space.is_sure(near, &path_parts.first(count))
+    }
+
+    /// Whether what an Alias is declared of has a kind whatever runs; true of another kind.
+    fn is_source_sure(&self, source: Option<Source<'_>>) -> bool
+        requires { IfSome source (λ s. IsNear self.now.space.scopes s.near s.path.now) }
+        ensures { (l : Listed) → StandsFor self.now.space l.entries →
+            result ≡ list_all (sure_at l.entries) (source_paths source.entry) }
+    {
+        match source {
+            None => true,
+            Some(source) => self.space.is_sure(source.near, &source.path.parts()),
+        }
+    }
+
+    /// Whether a path that is declared at a site is declared in every run. `source`: what an Alias is declared of.
+    pub fn is_sure_here(
+        &self,
+        site: &Site<'_>,
+        path: &PlacedPath,
+        source: Option<Source<'_>>,
+    ) -> bool
+        requires inside { IsInside self.now site.now }
+        requires below { IsBelow path.now.front site.now.scope.now path.now.path }
+        requires source { IfSome source (λ s. IsNear self.now.space.scopes s.near s.path.now) }
+        ensures { (l : Listed) → StandsFor self.now.space l.entries →
+            result ≡ sure_of (at_site site.now) l.entries path.now.path source.entry }
+    {
+        if !site.any_run {
+            return site.sure;
+        }
+        site.sure && self.is_sure_above(site, path) && self.is_source_sure(source)
     }
 
     /// Declares a path: once where the code outside methods may not run, else `Duplicate`; and also again where it may.
@@ -188,19 +235,21 @@ impl Progress {
         requires inside { IsInside self.old site.now }
         requires below { IsBelow path.now.front site.now.scope.now path.now.path }
         requires source { IfSome source (IsSourceOf self.old.space.scopes (namespace_in self.old.space) kind) }
-        ensures declared { (es : List Entry) (body : Option Body) → StandsFor self.old.space es →
-            IsDeclared (at_site site.now) es path.now.path kind body self.old self.new result }
+        ensures declared { (l : Listed) (body : Option Body) → StandsFor self.old.space l.entries →
+            IsDeclared (at_site site.now) l.entries path.now.path (declares path.now.path kind body
+            (sure_of (at_site site.now) l.entries path.now.path source.entry)) self.old self.new result }
         ensures stays { OnOk result (Stays self.old self.new) }
     {
         let near = path.near(site.place);
+        let sure = self.is_sure_here(site, path, source);
         if site.any_run {
             self.space
-                .put_again(near, &path.path.parts(), kind, source, site.sure)?;
+                .put_again(near, &path.path.parts(), kind, source, sure)?;
             return Ok(());
         }
         if self
             .space
-            .put_once(near, &path.path.parts(), kind, source, site.sure)?
+            .put_once(near, &path.path.parts(), kind, source, sure)?
         {
             return Ok(());
         }
@@ -221,7 +270,8 @@ impl Progress {
         requires below { IsBelow path.now.front site.now.scope.now path.now.path }
         requires source { IfSome source (IsSourceOf self.old.space.scopes (namespace_in self.old.space) kind) }
         ensures walks { Walks self.old self.new result (λ l.
-            entry_at (at_site site.now) l path.now.path (declares path.now.path kind None site.now.sure)) }
+            entry_at (at_site site.now) l path.now.path (declares path.now.path kind None
+            (sure_of (at_site site.now) l.entries path.now.path source.entry))) }
         ensures stays { OnOk result (Stays self.old self.new) }
     {
         self.declare_path(site, path, kind, source)
@@ -237,7 +287,8 @@ impl Progress {
         requires inside { IsInside self.old site.now }
         requires below { IsBelow path.now.front site.now.scope.now path.now.path }
         ensures walks { Walks self.old self.new result (λ l.
-            entry_at (at_site site.now) l path.now.path (declares path.now.path kind None site.now.sure)) }
+            entry_at (at_site site.now) l path.now.path
+            (plain_entry (at_site site.now) l.entries kind path.now.path)) }
         ensures stays { OnOk result (Stays self.old self.new) }
     {
         self.declare_of(site, path, kind, None)
@@ -255,7 +306,7 @@ impl Progress {
         requires inside { IsInside self.old site.now }
         requires below { IsBelow path.front site.now.scope.now path.path }
         ensures walks { Walks self.old self.new result (λ l. entry_at (at_site site.now) l path.path
-            (method_entry (at_site site.now) path.path flags (start, len))) }
+            (method_entry (at_site site.now) l.entries flags (start, len) path.path)) }
         ensures stays { OnOk result (Stays self.old self.new) }
     {
         self.declare_path(site, &path, Kind::Method { args: flags % 8 }, None)?;
@@ -286,15 +337,18 @@ impl Progress {
         requires target { IsTarget (namespace_in self.old.space) source.now.path target }
         ensures walks { Walks self.old self.new result (λ l.
             new_at (at_site site.now) l (option_copied name.entry) (λ p.
-            declares p (Alias target) None site.now.sure)) }
+            declares p (Alias (open_in (outlook_of l.entries) source.now.path) target) None
+            (sure_with (at_site site.now) l.entries (parent_of p ∷ source.now.path ∷ [])))) }
         ensures stays { OnOk result (Stays self.old self.new) }
     {
         let path = self.own_path(site, name)?;
+        let near = source.near(site.place);
+        let is_open = self.space.is_open(near, &source.path.parts());
         let source = Source {
-            near: source.near(site.place),
+            near,
             path: &source.path,
         };
-        self.declare_of(site, &path, Kind::Alias { target }, Some(source))
+        self.declare_of(site, &path, Kind::Alias { is_open, target }, Some(source))
     }
 
     /// Declares a method, however many there are.
@@ -306,8 +360,9 @@ impl Progress {
     ) -> Result<(), LoadFault>
         requires { IsInside self.old site.now }
         ensures walks { Walks self.old self.new result (λ l.
-            new_at (at_site site.now) l (last_label None (parts_view parts.now)) (λ p.
-            method_entry (at_site site.now) p (byte_of (parts_view parts.now)) (body_span (tail_view tail.now)))) }
+            new_at (at_site site.now) l (last_label None (parts_view parts.now))
+            (method_entry (at_site site.now) l.entries (byte_of (parts_view parts.now))
+            (body_span (tail_view tail.now)))) }
         ensures stays { OnOk result (Stays self.old self.new) }
     {
         let path = self.own_path(site, last_name(parts))?;

@@ -7,6 +7,7 @@
 mod arities;
 mod body_locals;
 mod branches;
+mod counts;
 mod faults;
 mod locals;
 mod names;
@@ -21,6 +22,7 @@ mod stepping;
 
 pub use arities::Arity;
 pub use body_locals::BodyLocals;
+pub use counts::ArgumentCount;
 pub use faults::{CodeFault, NoMemory};
 pub use locals::Locals;
 pub use names::{Name, NameForm};

@@ -22,7 +22,7 @@ use Rattle.aml_namespace.specs.Namespace.{target_count, count_by, count_at, arit
 use Rattle.aml_namespace.specs.Runs.{outlook_of, surely_declared}
 use Rattle.aml_namespace.specs.Runs.{kinds_at, sure_at, target_counts, counts_by, counts_of, counts_met, common}
 use Rattle.aml_namespace.specs.Runs.{arity_by_kinds}
-use Rattle.aml_namespace.specs.Runs.{arity_met, agreed_arity, IsRun, ended, taken, missed, leads, stands}
+use Rattle.aml_namespace.specs.Runs.{arity_met, agreed_arity, IsRun, ended, taken, missed, aimed, leads, stands}
 use Rattle.aml_namespace.specs.Runs.{EveryRunAgrees}
 
 -- ---- Lists of which each element is something.
@@ -56,11 +56,11 @@ common_all (m ∷ ns) n h = let r = cond_some (list_all (λ l. l == m) ns) m n h
 
 -- ---- What stands in a run.
 
-one_more : (P : Kind → Type 0) (same sure : Bool) (k : Kind) (ks : List Kind) (o standing : Option Kind)
-    → (AllByRecursion P ks → IfSome (option_or o standing) P)
-    → AllByRecursion P (cond same (k ∷ cond sure [] ks) ks) → IfSome (option_or (cond same (Some k) o) standing) P
-one_more P true sure k ks o standing rest all = all.0
-one_more P false sure k ks o standing rest all = rest all
+one_more : (P : Kind → Type 0) (same sure : Bool) (k l : Kind) (ks : List Kind) (o standing : Option Kind)
+    → (P k → P l) → (AllByRecursion P ks → IfSome (option_or o standing) P)
+    → AllByRecursion P (cond same (k ∷ cond sure [] ks) ks) → IfSome (option_or (cond same (Some l) o) standing) P
+one_more P true sure k l ks o standing turns rest all = turns all.0
+one_more P false sure k l ks o standing turns rest all = rest all
 
 but_one : (P : Kind → Type 0) (same sure : Bool) (k : Kind) (ks : List Kind) → not sure ≡ true
     → AllByRecursion P (cond same (k ∷ cond sure [] ks) ks)
@@ -73,29 +73,40 @@ standing_alone : (P : Kind → Type 0) (o : Option Kind) → AllByRecursion P (o
 standing_alone P None all = tt
 standing_alone P (Some k) all = all.0
 
--- the kind of a path in a run is one of the path's kinds
-kind_among : {es : List Entry} {rs : List Entry} → IsRun es rs → (q : List Seg) (P : Kind → Type 0)
+-- what holds of an open Alias holds of it with any target
+abbrev pub Turns : (Kind → Type 0) → Type 0
+Turns P = (target other : List Seg) → P (Alias true target) → P (Alias false other)
+
+-- the kind of a path in a run is one of the path's kinds, an open Alias with any target
+kind_among : {es : List Entry} {rs : List Entry} → IsRun es rs → (q : List Seg) (P : Kind → Type 0) → Turns P
     → AllByRecursion P (kinds_at es q)
     → IfSome (kind_at (namespace_of rs) q) P
-kind_among ended q P all = standing_alone P (predefined q) all
-kind_among (taken (declares p k b sure) run) q P all = one_more P (same_path q p) sure k _ _ _ (kind_among run q P) all
-kind_among (taken (external p n) run) q P all = kind_among run q P all
-kind_among (taken (given p n) run) q P all = kind_among run q P all
-kind_among (missed (declares p k b sure) may run) q P all = kind_among run q P (but_one P (same_path q p) sure k _ may all)
-kind_among (missed (external p n) may run) q P all = kind_among run q P all
-kind_among (missed (given p n) may run) q P all = kind_among run q P all
+kind_among ended q P turns all = standing_alone P (predefined q) all
+kind_among (taken (declares p k b sure) run) q P turns all =
+    one_more P (same_path q p) sure k k _ _ _ (λ h. h) (kind_among run q P turns) all
+kind_among (taken (external p n) run) q P turns all = kind_among run q P turns all
+kind_among (taken (given p n) run) q P turns all = kind_among run q P turns all
+kind_among (missed (declares p k b sure) may run) q P turns all =
+    kind_among run q P turns (but_one P (same_path q p) sure k _ may all)
+kind_among (missed (external p n) may run) q P turns all = kind_among run q P turns all
+kind_among (missed (given p n) may run) q P turns all = kind_among run q P turns all
+kind_among (aimed p target other b sure run) q P turns all =
+    one_more P (same_path q p) sure (Alias true target) (Alias false other) _ _ _ (turns target other)
+    (kind_among run q P turns) all
 
 -- a sure path is declared in each run
+sure_here : (same sure more : Bool) (k : Kind) (o : Option Kind) → (more ≡ true → is_some o ≡ true)
+    → ((same && sure) || more) ≡ true
+    → is_some (cond same (Some k) o) ≡ true
+sure_here true sure more k o rest h = refl
+sure_here false sure more k o rest h = rest h
+
 pub sure_declared : {es : List Entry} {rs : List Entry} → IsRun es rs → (q : List Seg) → surely_declared es q ≡ true
     → is_some (declared_at rs q) ≡ true
 sure_declared ended q h = absurd (false≢true h)
-sure_declared (taken (declares p k b sure) {es = es} {rs = rs} run) q h = by (same_path q p) (sure_declared run q) h
-  where
-    by : (same : Bool) → (surely_declared es q ≡ true → is_some (declared_at rs q) ≡ true)
-        → ((same && sure) || surely_declared es q) ≡ true
-        → is_some (cond same (Some k) (declared_at rs q)) ≡ true
-    by true rest h = refl
-    by false rest h = rest h
+sure_declared (taken (declares p k b sure) run) q h = sure_here (same_path q p) sure _ k _ (sure_declared run q) h
+sure_declared (aimed p target other b sure run) q h =
+    sure_here (same_path q p) sure _ (Alias false other) _ (sure_declared run q) h
 sure_declared (taken (external p n) run) q h = sure_declared run q h
 sure_declared (taken (given p n) run) q h = sure_declared run q h
 sure_declared (missed (declares p k b sure) {es = es} {rs = rs} may run) q h = sure_declared run q (by (same_path q p) sure may h)
@@ -110,9 +121,9 @@ sure_declared (missed (given p n) may run) q h = sure_declared run q h
 
 module _ (es : List Entry) (rs : List Entry) (run : IsRun es rs) where
   -- the kind of a path in a run is one of the path's kinds
-  pub among : (p : List Seg) (P : Kind → Type 0) → AllByRecursion P (kinds_at es p)
+  pub among : (p : List Seg) (P : Kind → Type 0) → Turns P → AllByRecursion P (kinds_at es p)
       → IfSome (kind_at (namespace_of rs) p) P
-  among p P all = kind_among run p P all
+  among p P turns all = kind_among run p P turns all
 
   -- a path at which a run has nothing isn't sure
   pub unsure : (p : List Seg) → kind_at (namespace_of rs) p ≡ None → sure_at es p ≡ false
@@ -145,23 +156,29 @@ module _ (es : List Entry) (rs : List Entry) (run : IsRun es rs) where
         → is_some (kind_at (namespace_of rs) target) ≡ true
         → target_count (kind_at (namespace_of rs) target) (outs_at rs target) ≡ n
     by_target target [] is all some =
-        absurd (nothing_there _ (among target (λ _. ⊥) (subst (AllByRecursion (λ _. ⊥)) (sym is) tt)) some)
+        absurd (nothing_there _ (among target (λ _. ⊥) (λ t u h. h) (subst (AllByRecursion (λ _. ⊥)) (sym is) tt)) some)
     by_target target (k ∷ kinds) is all some = at_target _ _ _
-        (among target (λ l. target_count (Some l) (outs_at es target) ≡ n)
+        (among target (λ l. target_count (Some l) (outs_at es target) ≡ n) (λ t u h. h)
         (subst (AllByRecursion _) (sym is) (every_map (λ m. m ≡ n) _ (k ∷ kinds) all))) some
+
+    -- two counts aren't one
+    untold : AllByRecursion (λ m. m ≡ n) (0 ∷ 1 ∷ []) → ⊥
+    untold all = omega (arith, all.0, all.1.0)
 
     by_kind : (k : Kind) → AllByRecursion (λ m. m ≡ n) (counts_by (outlook_of es) k)
         → leads (namespace_of rs) (Some k) ≡ true → (out : Option ℕ)
         → count_by (namespace_of rs) (Some k) out ≡ Some n
     by_kind (Method args) all here out = ap Some all.0
-    by_kind (Alias target) all here out = ap Some (by_target target (kinds_at es target) refl all here)
+    by_kind (Alias true target) all here out = absurd (untold all)
+    by_kind (Alias false target) all here out = ap Some (by_target target (kinds_at es target) refl all here)
     by_kind _ all here out = ap Some all.0
 
     counted : (p : List Seg) → AllByRecursion (λ m. m ≡ n) (counts_of (outlook_of es) p) → (k : Kind)
         → kind_at (namespace_of rs) p ≡ Some k
         → leads (namespace_of rs) (Some k) ≡ true → (out : Option ℕ) → count_by (namespace_of rs) (Some k) out ≡ Some n
     counted p all k is = by_kind k (subst (λ o. IfSome o (λ l. AllByRecursion (λ m. m ≡ n) (counts_by (outlook_of es) l))) is
-        (among p _ (every_flat (λ m. m ≡ n) (counts_by (outlook_of es)) (kinds_at es p) all)))
+        (among p (λ l. AllByRecursion (λ m. m ≡ n) (counts_by (outlook_of es) l)) (λ t u told. absurd (untold told))
+        (every_flat (λ m. m ≡ n) (counts_by (outlook_of es)) (kinds_at es p) all)))
 
     -- what the nearest candidate that decides has in a run is one of the counts that are met
     count_met : (locals : PathSet) (paths : List (List Seg))

@@ -21,7 +21,7 @@ use Rattle.aml_namespace.specs.Runs.{Outlook, is_known, first_agreed, agreed_or}
 use Rattle.aml_namespace.specs.Searching.{agreed_among, above}
 
 -- what is found passes the test, and where nothing is found what another test finds doesn't
-found_holds : (f : List Seg → Bool) (ps : List (List Seg)) (p : List Seg) → find f ps ≡ Some p → f p ≡ true
+pub found_holds : (f : List Seg → Bool) (ps : List (List Seg)) (p : List Seg) → find f ps ≡ Some p → f p ≡ true
 found_holds f [] p is = absurd cc
 found_holds f (q ∷ ps) p is = by (f q) refl (found_holds f ps p) is
   where
@@ -29,7 +29,7 @@ found_holds f (q ∷ ps) p is = by (f q) refl (found_holds f ps p) is
     by true holds rest is = ap f (sym (same_Some q p is)) ∙ holds
     by false fails rest is = rest is
 
-not_found : (f g : List Seg → Bool) (ps : List (List Seg)) (p : List Seg) → find f ps ≡ None → find g ps ≡ Some p
+pub not_found : (f g : List Seg → Bool) (ps : List (List Seg)) (p : List Seg) → find f ps ≡ None → find g ps ≡ Some p
     → f p ≡ false
 not_found f g [] p none is = absurd cc
 not_found f g (q ∷ ps) p none is = by (f q) refl (g q) (not_found f g ps p) none is

@@ -20,7 +20,8 @@ use Rattle.aml_names.specs.Paths.{PathSet}
 use Rattle.aml_namespace.specs.Namespace.{target_count, first_given, arity_at, first_of}
 use Rattle.aml_namespace.specs.Searching.{agreed_at}
 use Rattle.aml_namespace.specs.Runs.{Outlook, counts_by, counts_of, counts_met, target_counts, arity_met}
-use Rattle.aml_namespace.specs.Tallies.{joined, counts_in, chosen, own_count, is_alias, is_nothing, tally_of}
+use Rattle.aml_namespace.specs.Runs.{is_alias, opens_scope}
+use Rattle.aml_namespace.specs.Tallies.{joined, counts_in, chosen, own_count, is_nothing, tally_of}
 
 pub joined_nothing : (c : Counts) → joined c Nothing ≡ c
 joined_nothing Nothing = refl
@@ -122,12 +123,29 @@ any_more f (l ∷ ks) k = ap (λ b. f l || b) (any_more f ks k) ∙ by (f l) (li
     by true b c = refl
     by false b c = refl
 
+all_more : (f : Kind → Bool) (ks : List Kind) (k : Kind) → list_all f (ks ++ k ∷ []) ≡ (list_all f ks && f k)
+all_more f [] k = by (f k)
+  where
+    by : (b : Bool) → (b && true) ≡ b
+    by true = refl
+    by false = refl
+all_more f (l ∷ ks) k = ap (λ b. f l && b) (all_more f ks k) ∙ by (f l) (list_all f ks) (f k)
+  where
+    by : (a b c : Bool) → (a && (b && c)) ≡ ((a && b) && c)
+    by true b c = refl
+    by false b c = refl
+
 pub tally_more : (ks : List Kind) (k : Kind) (t : Tally) → t ≡ tally_of ks
-    → tally_of (ks ++ k ∷ []) ≡ record { counts = joined t.counts (One (own_count k)); aliased = t.aliased || is_alias k }
+    → tally_of (ks ++ k ∷ []) ≡ record {
+      counts = joined t.counts (One (own_count k));
+      aliased = t.aliased || is_alias k;
+      scopes = t.scopes && opens_scope k;
+    }
 tally_more ks k t is = λ i. record {
   counts = (ap counts_in (map-append own_count ks (k ∷ [])) ∙ counts_more (map own_count ks) (own_count k ∷ [])
       ∙ ap (λ (u : Tally). joined u.counts (One (own_count k))) (sym is)) i;
   aliased = (any_more is_alias ks k ∙ ap (λ (u : Tally). u.aliased || is_alias k) (sym is)) i;
+  scopes = (all_more opens_scope ks k ∙ ap (λ (u : Tally). u.scopes && opens_scope k) (sym is)) i;
 }
 
 own_target : (out : Option ℕ) (k : Kind) → target_count (Some k) out ≡ own_count k
@@ -159,7 +177,7 @@ targets (k ∷ ks) out c is = ap counts_in (own_targets out (k ∷ ks)) ∙ some
 module _ (o : Outlook) where
   own_by : (k : Kind) → is_alias k ≡ false → counts_by o k ≡ own_count k ∷ []
   own_by (Method args) plain = refl
-  own_by (Alias target) plain = absurd (false≢true (sym plain))
+  own_by (Alias is_open target) plain = absurd (false≢true (sym plain))
   own_by _ plain = refl
 
   -- without an Alias the own counts are the counts

@@ -51,7 +51,7 @@ no_kinds (external p n ∷ es) q h = no_kinds es q h
 no_kinds (given p n ∷ es) q h = no_kinds es q h
 
 -- a weaker test finds nothing where a stronger one doesn't
-none_found : (f g : List Seg → Bool) → ((p : List Seg) → f p ≡ false → g p ≡ false) → (paths : List (List Seg))
+pub none_found : (f g : List Seg → Bool) → ((p : List Seg) → f p ≡ false → g p ≡ false) → (paths : List (List Seg))
     → is_some (find f paths) ≡ false
     → find g paths ≡ None
 none_found f g weaker [] h = refl
@@ -66,7 +66,7 @@ none_found f g weaker (p ∷ paths) h = by (f p) refl (none_found f g weaker pat
 module _ (es : List Entry) (rs : List Entry) (run : IsRun es rs) where
   pub no_more : (p : List Seg) → is_some (kind_at (namespace_of es) p) ≡ false
       → is_some (kind_at (namespace_of rs) p) ≡ false
-  no_more p h = by (kind_at (namespace_of rs) p) (among es rs run p (λ _. ⊥) (subst (AllByRecursion (λ _. ⊥)) (sym (no_kinds es p h)) tt))
+  no_more p h = by (kind_at (namespace_of rs) p) (among es rs run p (λ _. ⊥) (λ t u h. h) (subst (AllByRecursion (λ _. ⊥)) (sym (no_kinds es p h)) tt))
     where
       by : (o : Option Kind) → IfSome o (λ _. ⊥) → is_some o ≡ false
       by None none = refl

@@ -4,7 +4,7 @@ pub mod NotPredefined
 pub mod Upward
 pub mod Given
 mod Agreeing
-mod Strict
+pub mod Strict
 mod Leading
 mod Quick
 mod RunRows
@@ -14,3 +14,5 @@ pub mod Joined
 pub mod Nearest
 pub mod Meeting
 pub mod Finding
+pub mod Growing
+pub mod Said

@@ -68,27 +68,26 @@ none_first [] h = refl
 none_first (k ∷ ks) h = absurd (false≢true (ap is_some h))
 
 module _ (o : Outlook) (is : FirstCounts o) where
-  first_by : (k : Kind) (out : Option ℕ)
-      → (c : ℕ) × (slice_get (counts_by o k) 0 ≡ Some c) × (count_by o.first (Some k) out ≡ Some c)
-  first_by (Method args) out = (args, refl, refl)
-  first_by (Alias target) out = (
-    target_count (kind_at o.first target) (o.first.outs target),
-    first_target (o.kinds target) (o.first.outs target) ∙ ap (λ k. Some (target_count k (o.first.outs target))) (sym (is.first target)),
-    refl,
-  )
-  first_by _ out = (0, refl, refl)
+  -- where the counts of a kind and of others are all the same, that is the one by this kind
+  first_by : (k : Kind) (out : Option ℕ) (others : List ℕ) (c : ℕ) → common (counts_by o k ++ others) ≡ Some c
+      → count_by o.first (Some k) out ≡ Some c
+  first_by (Method args) out others c told = common_first (args ∷ others) c told
+  first_by (Alias true target) out others c told = absurd (false≢true (ap is_some told))
+  first_by (Alias false target) out others c told =
+      sym (front (target_counts (o.kinds target) (o.first.outs target)) others (target_count (kind_at o.first target) (o.first.outs target))
+      (first_target (o.kinds target) (o.first.outs target) ∙ ap (λ k. Some (target_count k (o.first.outs target))) (sym (is.first target))))
+      ∙ common_first (target_counts (o.kinds target) (o.first.outs target) ++ others) c told
+  first_by k out others c told = common_first (0 ∷ others) c told
 
-  count_first : (p : List Seg) (k : Kind) → kind_at o.first p ≡ Some k
-      → slice_get (counts_of o p) 0 ≡ count_at o.first p
-  count_first p k at = by (o.kinds p) (sym (is.first p) ∙ at)
+  count_first : (p : List Seg) (k : Kind) → kind_at o.first p ≡ Some k → (c : ℕ) → common (counts_of o p) ≡ Some c
+      → count_at o.first p ≡ Some c
+  count_first p k at c told = by (o.kinds p) (sym (is.first p) ∙ at) told
     where
-      c : (c : ℕ) × (slice_get (counts_by o k) 0 ≡ Some c) × (count_by o.first (Some k) (o.first.outs p) ≡ Some c)
-      c = first_by k (o.first.outs p)
-
-      by : (ks : List Kind) → slice_get ks 0 ≡ Some k → slice_get (flat_map (counts_by o) ks) 0 ≡ count_at o.first p
-      by [] here = absurd (false≢true (ap is_some here))
-      by (l ∷ ks) here = front (counts_by o l) _ c.0 (subst (λ x. IfSome x (λ m. slice_get (counts_by o m) 0 ≡ Some c.0)) (sym here) c.1)
-          ∙ sym c.2 ∙ ap (λ x. count_by o.first x (o.first.outs p)) (sym at)
+      by : (ks : List Kind) → slice_get ks 0 ≡ Some k → common (flat_map (counts_by o) ks) ≡ Some c
+          → count_at o.first p ≡ Some c
+      by [] here told = absurd (false≢true (ap is_some here))
+      by (l ∷ ks) here told = ap (λ x. count_by o.first x (o.first.outs p)) (at ∙ sym here)
+          ∙ first_by l (o.first.outs p) (flat_map (counts_by o) ks) c told
 
   abbrev IsTold : PathSet → Option (List Seg) → List ℕ → Type 0
   IsTold locals found counts = MatchOption found (counts ≡ [])
@@ -109,7 +108,7 @@ module _ (o : Outlook) (is : FirstCounts o) where
           let c = value_of (common (counts_of o p)) r.1 in (
             c.0,
             ap (λ b. common (cond b (counts_of o p) (counts_of o p ++ counts_met o locals paths))) r.0 ∙ c.1,
-            ap (λ b. cond b (Some 0) (count_at o.first p)) here ∙ sym (count_first p k at) ∙ common_first (counts_of o p) c.0 c.1,
+            ap (λ b. cond b (Some 0) (count_at o.first p)) here ∙ count_first p k at c.0 c.1,
           )
       by false here None at rest = subst (IsTold locals (find (decides o.first locals) paths))
           (sym (ap (λ b. cond b (counts_of o p) (counts_of o p ++ counts_met o locals paths)) (is.unsure p at)

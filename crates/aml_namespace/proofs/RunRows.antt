@@ -9,7 +9,7 @@ use Rattle.aml_namespace.specs.declared.kinds.Kind.{Kind}
 use Rattle.aml_namespace.specs.declared.kinds.Kind.TheVariants.{Name, Method, Alias, Device}
 use Rattle.aml_namespace.specs.Namespace.{Entry, declares, external, given}
 use Rattle.aml_namespace.specs.Known.{declaration_at, once, again, row_of}
-use Rattle.aml_namespace.specs.Runs.{outlook_of, agreed_arity, agreed_path}
+use Rattle.aml_namespace.specs.Runs.{outlook_of, scope_in, open_in, agreed_arity, agreed_path}
 
 abbrev ABCD : Seg
 ABCD = record { 0 = codes "ABCD" }
@@ -96,11 +96,41 @@ predefined_hidden : InBar (sure _OSI (Method 2) ∷ []) false _OSI (Some 2)
 predefined_hidden locals none = simp none
 
 -- an Alias among the kinds of an Alias's target doesn't hide the others
-alias_of_two : InBar (sure ABCD (Alias (TTTT ∷ [])) ∷ maybe TTTT (Alias (UUUU ∷ [])) ∷ maybe TTTT (Method 2) ∷ []) false ABCD None
+alias_of_two : InBar (sure ABCD (Alias false (TTTT ∷ [])) ∷ maybe TTTT (Alias false (UUUU ∷ [])) ∷ maybe TTTT (Method 2) ∷ []) false ABCD None
 alias_of_two locals none = simp none
 
-alias_of_one : InBar (sure ABCD (Alias (TTTT ∷ [])) ∷ maybe TTTT (Method 2) ∷ external (TTTT ∷ []) 3 ∷ []) false ABCD (Some 2)
+alias_of_one : InBar (sure ABCD (Alias false (TTTT ∷ [])) ∷ maybe TTTT (Method 2) ∷ external (TTTT ∷ []) 3 ∷ []) false ABCD (Some 2)
 alias_of_one locals none = simp none
+
+-- an Alias of what may be an Alias among others is open, and so is one of an open one, and nobody knows its count
+open_alias : InBar (sure ABCD (Alias true (TTTT ∷ [])) ∷ sure TTTT (Method 2) ∷ []) true ABCD None
+open_alias locals none = simp none
+
+open_given : InBar (sure ABCD (Alias true (TTTT ∷ [])) ∷ sure TTTT (Method 2) ∷ given (ABCD ∷ []) 2 ∷ []) false ABCD (Some 2)
+open_given locals none = simp none
+
+of_two : open_in (outlook_of (maybe TTTT (Method 0) ∷ maybe TTTT (Alias false (UUUU ∷ [])) ∷ [])) (TTTT ∷ []) ≡ true
+of_two = refl
+
+of_open : open_in (outlook_of (sure TTTT (Alias true (UUUU ∷ [])) ∷ [])) (TTTT ∷ []) ≡ true
+of_open = refl
+
+-- an Alias that is alone, two other kinds, a kind behind a sure one
+of_alone : open_in (outlook_of (maybe TTTT (Alias false (UUUU ∷ [])) ∷ [])) (TTTT ∷ []) ≡ false
+of_alone = refl
+
+of_methods : open_in (outlook_of (maybe TTTT (Method 1) ∷ maybe TTTT (Method 2) ∷ [])) (TTTT ∷ []) ≡ false
+of_methods = refl
+
+of_sure : open_in (outlook_of (sure TTTT (Method 1) ∷ sure TTTT (Alias false (UUUU ∷ [])) ∷ [])) (TTTT ∷ []) ≡ false
+of_sure = refl
+
+-- a Scope of what may be a Method
+scope_or_method : scope_in (outlook_of (maybe DEV0 Device ∷ sure DEV0 (Method 1) ∷ [])) (DEV0 ∷ []) ≡ false
+scope_or_method = refl
+
+scope_alone : scope_in (outlook_of (sure DEV0 Device ∷ sure DEV0 (Method 1) ∷ [])) (DEV0 ∷ []) ≡ true
+scope_alone = refl
 
 -- without any kind as before
 external_alone : InBar (external (FOO_ ∷ []) 3 ∷ []) false FOO_ (Some 3)

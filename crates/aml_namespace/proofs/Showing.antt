@@ -2,7 +2,7 @@
 -- other paths that may be missing (`shown`).
 use Rattle.std.specs.Prelude.{◌||◌, ◌&&◌, ◌==◌, ◌≢◌, option_to_list, flat_map}
 use Rattle.std.proofs.Common.{◌≡◌, ℕ, Bool, true, false, not, cond, List, [], ◌∷◌, ◌++◌, Option, Some, None, is_some}
-use Rattle.std.proofs.Common.{refl, sym, ap, subst, ◌∙◌, arith}
+use Rattle.std.proofs.Common.{refl, sym, ap, subst, ◌∙◌, arith, ◌⊎◌, inl, inr}
 use Rattle.std.proofs.Common.{is_eq, Ordering, Less, Equal, Greater}
 use Rattle.std.proofs.lemmas.Bool.{false≢true}
 use Rattle.std.proofs.lemmas.Bool.Decides.{nat_tests}
@@ -20,7 +20,7 @@ use Rattle.aml_namespace.specs.Namespace.{namespace_of, declared_at, same_path, 
 use Rattle.aml_namespace.specs.Namespace.{count_by, count_at, arity_at}
 use Rattle.aml_namespace.specs.Runs.{outlook_of, surely_declared}
 use Rattle.aml_namespace.specs.Runs.{kinds_at, sure_at, counts_by, counts_of, counts_met, common, IsRun, ended, taken}
-use Rattle.aml_namespace.specs.Runs.{missed, least_run, IsNoAlias, HaveNoAlias, HasInRun, EachIsMet, RunsDiffer}
+use Rattle.aml_namespace.specs.Runs.{missed, least_run, IsNoAlias, MeetNoAlias, HasInRun, EachIsMet, RunsDiffer}
 use Rattle.aml_namespace.proofs.Leading.{least_is_run}
 
 every_weaker : {X : Type 0} (P Q : X → Type 0) → ((x : X) → P x → Q x) → (xs : List X) → AllByRecursion P xs
@@ -38,10 +38,10 @@ is_equal Less h = absurd (false≢true h)
 is_equal Equal h = refl
 is_equal Greater h = absurd (false≢true h)
 
-same_is : (p q : List Seg) → same_path p q ≡ true → p ≡ q
+pub same_is : (p q : List Seg) → same_path p q ≡ true → p ≡ q
 same_is p q h = exact_paths p q (is_equal (path_cmp p q) h)
 
-none_is : (o : Option Kind) → is_some o ≡ false → o ≡ None
+pub none_is : (o : Option Kind) → is_some o ≡ false → o ≡ None
 none_is None h = refl
 none_is (Some k) h = absurd (false≢true (sym h))
 
@@ -143,7 +143,7 @@ module _ (es : List Entry) (locals : PathSet) where
   counts_found q paths other [] all none = tt
   counts_found q paths other (Method n ∷ ks) all none =
       (found_here q paths other (Method n) n (λ rs. refl) all.0, counts_found q paths other ks all.1 none.1)
-  counts_found q paths other (Alias target ∷ ks) all none = absurd none.0
+  counts_found q paths other (Alias is_open target ∷ ks) all none = absurd none.0
   counts_found q paths other (k ∷ ks) all none =
       (found_here q paths other k 0 (λ rs. refl) all.0, counts_found q paths other ks all.1 none.1)
 
@@ -159,16 +159,17 @@ module _ (es : List Entry) (locals : PathSet) where
       by true is (Some k) at = (λ i. cond (other i || is_some (at i)) (Some q) (find (decides (namespace_of w.0) locals) paths)) ∙ ap Some (same_is q w.2 is)
       by false is (Some k) at = absurd (false≢true (ap is_some (sym (w.5 q is unsure) ∙ at)))
 
-  met_found : (paths : List (List Seg)) → HaveNoAlias es paths
+  met_found : (paths : List (List Seg)) → MeetNoAlias (outlook_of es) locals paths
       → AllByRecursion (IsFound paths) (counts_met (outlook_of es) locals paths)
   met_found [] none = tt
-  met_found (q ∷ paths) none = by (set.contains locals q) refl (sure_at es q) refl (met_found paths none.1)
+  met_found (q ∷ paths) none = by (set.contains locals q) refl (sure_at es q) refl (met_found paths) none
     where
       by : (local : Bool) → set.contains locals q ≡ local → (sure : Bool) → sure_at es q ≡ sure
-          → AllByRecursion (IsFound paths) (counts_met (outlook_of es) locals paths)
+          → (MeetNoAlias (outlook_of es) locals paths → AllByRecursion (IsFound paths) (counts_met (outlook_of es) locals paths))
+          → (local ≡ true) ⊎ (AllByRecursion IsNoAlias (kinds_at es q) × ((sure ≡ true) ⊎ MeetNoAlias (outlook_of es) locals paths))
           → AllByRecursion (IsFound (q ∷ paths))
           (cond local (0 ∷ []) (cond sure (counts_of (outlook_of es) q) (counts_of (outlook_of es) q ++ counts_met (outlook_of es) locals paths)))
-      by true is sure at rest = (
+      by true is sure at rest none = (
         (
           least_run es,
           least_is_run es,
@@ -179,10 +180,12 @@ module _ (es : List Entry) (locals : PathSet) where
         ),
         tt,
       )
-      by false is true at rest = counts_found q paths is (kinds_at es q) (shown es q) none.0
-      by false is false at rest = every_join (IsFound (q ∷ paths)) (counts_of (outlook_of es) q) (counts_met (outlook_of es) locals paths)
-          (counts_found q paths is (kinds_at es q) (shown es q) none.0)
-          (every_weaker (IsFound paths) (IsFound (q ∷ paths)) (found_above q paths is at) (counts_met (outlook_of es) locals paths) rest)
+      by false is sure at rest (inl here) = absurd (false≢true here)
+      by false is true at rest (inr none) = counts_found q paths is (kinds_at es q) (shown es q) none.0
+      by false is false at rest (inr (none, inl here)) = absurd (false≢true here)
+      by false is false at rest (inr (none, inr more)) = every_join (IsFound (q ∷ paths)) (counts_of (outlook_of es) q) (counts_met (outlook_of es) locals paths)
+          (counts_found q paths is (kinds_at es q) (shown es q) none)
+          (every_weaker (IsFound paths) (IsFound (q ∷ paths)) (found_above q paths is at) (counts_met (outlook_of es) locals paths) (rest more))
 
 pub each_is_met : (es : List Entry) → EachIsMet es
 each_is_met es zero_too scope locals name none = every_weaker (IsFound es locals (candidates scope name)) (HasInRun es zero_too scope locals name)

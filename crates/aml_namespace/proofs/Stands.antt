@@ -297,8 +297,8 @@ module _ (k : Known) (es : List Entry) where
       by None = refl
       by (Some d) = refl
 
-  pub sure_listed : (p : List Seg) (b : Bool) → StandsFor k es → b ≡ (outlook_in k).sure p → b ≡ sure_at es p
-  sure_listed p b s e = e ∙ ap (λ (o : Outlook). o.sure p) (same_outlook s)
+  pub outlook_listed : (f : Outlook → Bool) (b : Bool) → StandsFor k es → b ≡ f (outlook_in k) → b ≡ f (outlook_of es)
+  outlook_listed f b s e = e ∙ ap f (same_outlook s)
 
   pub count_listed : (p : List Seg) (o : Option ℕ) → StandsFor k es → o ≡ count_at (namespace_in k) p
       → o ≡ count_at (namespace_of es) p

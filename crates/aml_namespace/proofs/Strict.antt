@@ -2,7 +2,8 @@
 -- none is met.
 use Rattle.std.specs.Prelude.{◌||◌, ◌&&◌, option_to_list, flat_map, MatchOption}
 use Rattle.std.proofs.Common.{◌≡◌, ℕ, Bool, true, false, cond, List, [], ◌∷◌, ◌++◌, Option, Some, None, is_some, refl}
-use Rattle.std.proofs.Common.{sym, ap, subst, ◌∙◌}
+use Rattle.std.proofs.Common.{sym, ap, subst, ◌∙◌, not, IfSome}
+use Rattle.std.proofs.lemmas.Bool.{false≢true}
 use Rattle.std.specs.List.{find}
 use Rattle.std.specs.Option.{option_or}
 use Rattle.std.specs.FinSet as set
@@ -16,10 +17,14 @@ use Rattle.aml_namespace.specs.Namespace.{Entry, declares, external, given, name
 use Rattle.aml_namespace.specs.Namespace.{Namespace, declared_at, same_path, outs_at, kind_at, decides, is_outside}
 use Rattle.aml_namespace.specs.Namespace.{first_given}
 use Rattle.aml_namespace.specs.Namespace.{target_count, count_by, count_at, arity_at, arity_of}
-use Rattle.aml_namespace.specs.Runs.{outlook_of, surely_declared}
+use Rattle.aml_namespace.specs.Runs.{outlook_of, surely_declared, is_alias, is_open_alias, open_among, open_in}
 use Rattle.aml_namespace.specs.Runs.{kinds_at, sure_at, target_counts, counts_by, counts_of, counts_met, arity_met}
 use Rattle.aml_namespace.specs.Runs.{agreed_arity}
 use Rattle.aml_namespace.specs.Runs.{AreSure, StaysAsItIs}
+use Rattle.aml_namespace.proofs.Said.{no_alias}
+
+abbrev IsClosed : Kind → Type 0
+IsClosed k = not (is_open_alias k) ≡ true
 
 one_kind : (same sure : Bool) (k : Kind) (ks : List Kind) (o standing : Option Kind) → sure ≡ true
     → ks ≡ option_to_list (option_or o standing)
@@ -35,15 +40,34 @@ one_sure false sure more k o is rest = rest
 kinds_once : (es : List Entry) → AreSure es → (q : List Seg)
     → kinds_at es q ≡ option_to_list (kind_at (namespace_of es) q)
 kinds_once [] strict q = refl
-kinds_once (declares p k b sure ∷ es) strict q = one_kind (same_path q p) sure k (kinds_at es q) _ _ strict.0 (kinds_once es strict.1 q)
+kinds_once (declares p k b sure ∷ es) strict q = one_kind (same_path q p) sure k (kinds_at es q) _ _ strict.0 (kinds_once es strict.2 q)
 kinds_once (external p n ∷ es) strict q = kinds_once es strict q
 kinds_once (given p n ∷ es) strict q = kinds_once es strict q
 
 all_sure : (es : List Entry) → AreSure es → (q : List Seg) → surely_declared es q ≡ is_some (declared_at es q)
 all_sure [] strict q = refl
-all_sure (declares p k b sure ∷ es) strict q = one_sure (same_path q p) sure (surely_declared es q) k (declared_at es q) strict.0 (all_sure es strict.1 q)
+all_sure (declares p k b sure ∷ es) strict q = one_sure (same_path q p) sure (surely_declared es q) k (declared_at es q) strict.0 (all_sure es strict.2 q)
 all_sure (external p n ∷ es) strict q = all_sure es strict q
 all_sure (given p n ∷ es) strict q = all_sure es strict q
+
+-- no Alias is open
+closed_more : (same : Bool) (k : Kind) (o standing : Option Kind) → not (is_open_alias k) ≡ true
+    → IfSome (option_or o standing) IsClosed
+    → IfSome (option_or (cond same (Some k) o) standing) IsClosed
+closed_more true k o standing closed rest = closed
+closed_more false k o standing closed rest = rest
+
+closed_standing : (o : Option Kind) → IfSome o (λ k. is_alias k ≡ false) → IfSome o IsClosed
+closed_standing None h = tt
+closed_standing (Some (Alias is_open target)) h = absurd (false≢true (sym h))
+closed_standing (Some k) h = refl
+
+closed : (es : List Entry) → AreSure es → (q : List Seg) → IfSome (kind_at (namespace_of es) q) IsClosed
+closed [] strict q = closed_standing (predefined q) (no_alias q)
+closed (declares p k b sure ∷ es) strict q =
+    closed_more (same_path q p) k (declared_at es q) (predefined q) strict.1 (closed es strict.2 q)
+closed (external p n ∷ es) strict q = closed es strict q
+closed (given p n ∷ es) strict q = closed es strict q
 
 -- what is met is the count of what is found
 abbrev IsMet : Namespace → PathSet → Option (List Seg) → List ℕ → Type 0
@@ -61,10 +85,26 @@ module _ (es : List Entry) (strict : AreSure es) where
       by None = refl
       by (Some k) = refl
 
-  one_count : (k : Kind) (out : Option ℕ)
+  -- an Alias isn't open
+  pub never_open : (p : List Seg) → open_in (outlook_of es) p ≡ false
+  never_open p = ap open_among (kinds_same p)
+      ∙ by (kind_at (namespace_of es) p) (closed es strict p)
+    where
+      one : (alias is_open : Bool) → not is_open ≡ true → ((alias && (false || is_open)) || false) ≡ false
+      one true true h = absurd (false≢true h)
+      one true false h = refl
+      one false is_open h = refl
+
+      by : (o : Option Kind) → IfSome o IsClosed
+          → open_among (option_to_list o) ≡ false
+      by None h = refl
+      by (Some k) h = one (is_alias k) (is_open_alias k) h
+
+  one_count : (k : Kind) (out : Option ℕ) → IsClosed k
       → (c : ℕ) × (counts_by (outlook_of es) k ≡ c ∷ []) × (count_by (namespace_of es) (Some k) out ≡ Some c)
-  one_count (Method args) out = (args, refl, refl)
-  one_count (Alias target) out = (
+  one_count (Method args) out h = (args, refl, refl)
+  one_count (Alias true target) out h = absurd (false≢true h)
+  one_count (Alias false target) out h = (
     target_count (kind_at (namespace_of es) target) (outs_at es target),
     ap (λ ks. target_counts ks (outs_at es target)) (kinds_same target) ∙ by (kind_at (namespace_of es) target) (outs_at es target),
     refl,
@@ -74,7 +114,7 @@ module _ (es : List Entry) (strict : AreSure es) where
       by None out = refl
       by (Some (Method args)) out = refl
       by (Some _) out = refl
-  one_count _ out = (0, refl, refl)
+  one_count _ out h = (0, refl, refl)
 
   met_once : (locals : PathSet) (paths : List (List Seg))
       → IsMet (namespace_of es) locals (find (decides (namespace_of es) locals) paths)
@@ -87,7 +127,7 @@ module _ (es : List Entry) (strict : AreSure es) where
           → IsMet (namespace_of es) locals (cond (local || is_some o) (Some p) (find (decides (namespace_of es) locals) paths))
           (cond local (0 ∷ []) (cond (sure_at es p) (counts_of (outlook_of es) p) (counts_of (outlook_of es) p ++ counts_met (outlook_of es) locals paths)))
       by true is o at rest = (0, refl, ap (λ b. cond b (Some 0) (count_at (namespace_of es) p)) is)
-      by false is (Some k) at rest = let c = one_count k (outs_at es p) in (
+      by false is (Some k) at rest = let c = one_count k (outs_at es p) (subst (λ o. IfSome o IsClosed) at (closed es strict p)) in (
         c.0,
         ap (λ b. cond b (counts_of (outlook_of es) p) (counts_of (outlook_of es) p ++ counts_met (outlook_of es) locals paths)) (sure_same p ∙ ap is_some at)
             ∙ ap (flat_map (counts_by (outlook_of es))) (kinds_same p ∙ ap option_to_list at) ∙ ap (λ ns. ns ++ []) c.1,

@@ -4,7 +4,7 @@ use Rattle.std.specs.Prelude.{◌≡◌, ℕ, ◌+◌, refl, List, [], Bool, con
 use Rattle.std.specs.Prelude.{slice_get}
 use Rattle.std.specs.Prelude.{◌||◌, get_or, option_to_list}
 use Rattle.std.specs.Option.{option_map}
-use Rattle.std.specs.Prelude.{true}
+use Rattle.std.specs.Prelude.{true, false, ◌==◌}
 use Rattle.std.specs.Coded.{Coded, code_by, coded×, coded_ℕ, coded_list, coded_bool}
 use Rattle.aml_names.specs.declared.segments.Seg.{Seg}
 use Rattle.aml_names.specs.Paths.{coded_path, path_cmp}
@@ -26,7 +26,7 @@ abbrev pub kind_parts : Kind → ℕ × (ℕ × List Seg)
 kind_parts Scope = (0, (0, []))
 kind_parts Name = (1, (0, []))
 kind_parts (Method n) = (2, (n, []))
-kind_parts (Alias t) = (3, (0, t))
+kind_parts (Alias is_open t) = (3, (cond is_open 1 0, t))
 kind_parts Device = (4, (0, []))
 kind_parts Processor = (5, (0, []))
 kind_parts PowerResource = (6, (0, []))
@@ -39,11 +39,13 @@ kind_parts Field = (12, (0, []))
 kind_parts BufferField = (13, (0, []))
 
 abbrev pub kind_whole : ℕ × (ℕ × List Seg) → Kind
-kind_whole p = get_or (Scope ∷ Name ∷ Method p.1.0 ∷ Alias p.1.1 ∷ Device ∷ Processor ∷ PowerResource ∷ ThermalZone
+kind_whole p = get_or (Scope ∷ Name ∷ Method p.1.0 ∷ Alias (p.1.0 == 1) p.1.1 ∷ Device ∷ Processor ∷ PowerResource ∷ ThermalZone
     ∷ Mutex ∷ Event ∷ Region ∷ DataRegion ∷ Field ∷ BufferField ∷ []) p.0 Scope
 
 pub kind_again : (k : Kind) → kind_whole (kind_parts k) ≡ k
 kind_again Scope = refl
+kind_again (Alias true t) = refl
+kind_again (Alias false t) = refl
 kind_again _ = refl
 
 abbrev pub coded_kind : Coded Kind

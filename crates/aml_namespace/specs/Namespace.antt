@@ -105,7 +105,7 @@ target_count (Some _) out = 0
 abbrev pub count_by : Namespace → Option Kind → Option ℕ → Option ℕ
 count_by n None out = out
 count_by n (Some (Method args)) out = Some args
-count_by n (Some (Alias target)) out = Some (target_count (kind_at n target) (n.outs target))
+count_by n (Some (Alias is_open target)) out = Some (target_count (kind_at n target) (n.outs target))
 count_by n (Some _) out = Some 0
 
 -- how many arguments a path takes: by its kind, else the greatest count of its Externals

@@ -3,8 +3,8 @@
 use Rattle.std.specs.Prelude.{◌≡◌, ◌≢◌, ℕ, Bool, true, false, not, cond, List, [], ◌∷◌, ◌++◌, Option, Some, None}
 use Rattle.std.specs.Prelude.{◌||◌, ◌&&◌, ◌==◌, is_some, IfSome, IsSome, IsSomeAnd, IsTrue, map, flat_map}
 use Rattle.std.specs.Prelude.{option_to_list}
-use Rattle.std.specs.Prelude.{◌+◌, slice_get}
-use Rattle.std.specs.List.{find, list_all, AllByRecursion}
+use Rattle.std.specs.Prelude.{◌+◌, slice_get, nat_lt, length, ◌⊎◌}
+use Rattle.std.specs.List.{find, list_all, list_any, AllByRecursion}
 use Rattle.std.specs.Option.{option_or}
 use Rattle.std.specs.FinSet as set
 use Rattle.aml_names.specs.declared.segments.Seg.{Seg}
@@ -12,9 +12,11 @@ use Rattle.aml_names.specs.declared.names.Name.{Name}
 use Rattle.aml_names.specs.Paths.{PathSet}
 use Rattle.aml_names.specs.Searching.{candidates}
 use Rattle.aml_namespace.specs.declared.kinds.Kind.{Kind}
-use Rattle.aml_namespace.specs.declared.kinds.Kind.TheVariants.{Method, Alias}
+use Rattle.aml_namespace.specs.declared.kinds.Kind.TheVariants.{Scope, Method, Alias, Device, Processor, PowerResource}
+use Rattle.aml_namespace.specs.declared.kinds.Kind.TheVariants.{ThermalZone}
 use Rattle.aml_namespace.specs.Predefined.{predefined}
-use Rattle.aml_namespace.specs.Namespace.{Entry, declares, external, given, Namespace, namespace_of, same_path, kind_at}
+use Rattle.aml_namespace.specs.Namespace.{Entry, Body, declares, external, given, Namespace, namespace_of, same_path}
+use Rattle.aml_namespace.specs.Namespace.{kind_at}
 use Rattle.aml_namespace.specs.Namespace.{decides, is_outside, target_count, first_given, arity_of}
 
 -- ---- What may stand at a path.
@@ -53,6 +55,37 @@ pub record Outlook : Type 0 where
 abbrev pub outlook_of : List Entry → Outlook
 outlook_of es = record { first = namespace_of es; kinds = kinds_at es; sure = sure_at es }
 
+-- whether a Scope may open a path of this kind (ACPI 6.5, 19.6.122)
+abbrev pub opens_scope : Kind → Bool
+opens_scope Scope = true
+opens_scope Device = true
+opens_scope Processor = true
+opens_scope PowerResource = true
+opens_scope ThermalZone = true
+opens_scope _ = false
+
+-- whether a Scope may open a path in every run
+abbrev pub scope_in : Outlook → List Seg → Bool
+scope_in o p = o.sure p && list_all opens_scope (o.kinds p)
+
+abbrev pub is_alias : Kind → Bool
+is_alias (Alias is_open target) = true
+is_alias _ = false
+
+-- whether a kind is that of an open Alias
+abbrev pub is_open_alias : Kind → Bool
+is_open_alias (Alias is_open target) = is_open
+is_open_alias _ = false
+
+-- Whether an Alias is open of what may be one of these kinds: where one is an Alias that isn't the only kind, or is open
+-- itself. In one run it stands for that one's target then, and in another for something else.
+abbrev pub open_among : List Kind → Bool
+open_among ks = list_any (λ k. is_alias k && (nat_lt 1 (length ks) || is_open_alias k)) ks
+
+-- whether an Alias of a path is open
+abbrev pub open_in : Outlook → List Seg → Bool
+open_in o p = open_among (o.kinds p)
+
 -- ---- How many arguments a name takes.
 
 -- the counts of what may stand at the target of an Alias: of each of its kinds, and only without any that of its
@@ -61,10 +94,12 @@ abbrev pub target_counts : List Kind → Option ℕ → List ℕ
 target_counts [] out = target_count None out ∷ []
 target_counts (k ∷ ks) out = map (λ l. target_count (Some l) out) (k ∷ ks)
 
--- the counts of a kind: a method's own, an Alias's by its target, else 0
+-- The counts of a kind: a method's own, an Alias's by its target, else 0. Nobody knows that of an open Alias, for which
+-- two counts stand, so that none is common.
 abbrev pub counts_by : Outlook → Kind → List ℕ
 counts_by o (Method args) = args ∷ []
-counts_by o (Alias target) = target_counts (o.kinds target) (o.first.outs target)
+counts_by o (Alias true target) = 0 ∷ 1 ∷ []
+counts_by o (Alias false target) = target_counts (o.kinds target) (o.first.outs target)
 counts_by o _ = 0 ∷ []
 
 abbrev pub counts_of : Outlook → List Seg → List ℕ
@@ -126,12 +161,14 @@ may_miss (declares p k b sure) = not sure
 may_miss (external p n) = true
 may_miss (given p n) = true
 
--- A run takes some of the entries, in their order, and all that are sure. Of a path's declarations that it takes the
--- first counts, as `namespace_of` says.
+-- A run takes some of the entries, in their order, and all that are sure; an open Alias with any target. Of a path's
+-- declarations that it takes the first counts, as `namespace_of` says.
 pub data IsRun : List Entry → List Entry → Type 0 where
   ended : IsRun [] []
   taken : (e : Entry) {es rs : List Entry} → IsRun es rs → IsRun (e ∷ es) (e ∷ rs)
   missed : (e : Entry) {es rs : List Entry} → IsTrue (may_miss e) → IsRun es rs → IsRun (e ∷ es) rs
+  aimed : (p target other : List Seg) (b : Option Body) (sure : Bool) {es rs : List Entry} → IsRun es rs
+      → IsRun (declares p (Alias true target) b sure ∷ es) (declares p (Alias false other) b sure ∷ rs)
 
 -- the run that takes the sure ones alone; all entries are one too
 abbrev pub least_run : List Entry → List Entry
@@ -141,7 +178,7 @@ least_run (e ∷ es) = cond (may_miss e) (least_run es) (e ∷ least_run es)
 -- whether what stands at a path is no Alias of a path at which nothing stands
 abbrev pub leads : Namespace → Option Kind → Bool
 leads n None = false
-leads n (Some (Alias target)) = is_some (kind_at n target)
+leads n (Some (Alias is_open target)) = is_some (kind_at n target)
 leads n (Some _) = true
 
 -- whether a path is one of the locals, or something stands there, through an Alias too
@@ -175,10 +212,10 @@ EveryRunLeadsThere es =
 
 -- ---- Entries without code outside methods.
 
--- all are sure
+-- all are sure, and no Alias is open
 abbrev pub AreSure : List Entry → Type 0
 AreSure [] = Unit {0}
-AreSure (declares p k b sure ∷ es) = IsTrue sure × AreSure es
+AreSure (declares p k b sure ∷ es) = IsTrue sure × IsTrue (not (is_open_alias k)) × AreSure es
 AreSure (external p n ∷ es) = AreSure es
 AreSure (given p n ∷ es) = AreSure es
 
@@ -210,12 +247,15 @@ QuickWayHolds o =
 -- ---- That no more can be told.
 
 abbrev pub IsNoAlias : Kind → Type 0
-IsNoAlias (Alias target) = ⊥
+IsNoAlias (Alias is_open target) = ⊥
 IsNoAlias _ = Unit {0}
 
--- none of some paths may be an Alias
-abbrev pub HaveNoAlias : List Entry → List (List Seg) → Type 0
-HaveNoAlias es paths = AllByRecursion (λ p. AllByRecursion IsNoAlias (kinds_at es p)) paths
+-- none of the kinds that are met is an Alias: those of these paths up to the first that is one of the locals, or up to
+-- and with the first that is sure
+abbrev pub MeetNoAlias : Outlook → PathSet → List (List Seg) → Type 0
+MeetNoAlias o locals [] = Unit {0}
+MeetNoAlias o locals (p ∷ paths) = IsTrue (set.contains locals p) ⊎ (AllByRecursion IsNoAlias (o.kinds p)
+    × (IsTrue (o.sure p) ⊎ MeetNoAlias o locals paths))
 
 -- a count that a name has in a run
 abbrev pub HasInRun : List Entry → Bool → List Seg → PathSet → Name → ℕ → Type 0
@@ -225,14 +265,14 @@ HasInRun es unknown_zero scope locals name n =
 -- each count that is met is that of the name in some run
 abbrev pub EachIsMet : List Entry → Type 0
 EachIsMet es =
-    (unknown_zero : Bool) (scope : List Seg) (locals : PathSet) (name : Name) → HaveNoAlias es (candidates scope name) →
+    (unknown_zero : Bool) (scope : List Seg) (locals : PathSet) (name : Name) → MeetNoAlias (outlook_of es) locals (candidates scope name) →
     AllByRecursion (HasInRun es unknown_zero scope locals name)
     (counts_met (outlook_of es) locals (candidates scope name))
 
 -- where something is met, and no count told, two runs differ
 abbrev pub RunsDiffer : List Entry → Type 0
 RunsDiffer es =
-    (unknown_zero : Bool) (scope : List Seg) (locals : PathSet) (name : Name) → HaveNoAlias es (candidates scope name) →
+    (unknown_zero : Bool) (scope : List Seg) (locals : PathSet) (name : Name) → MeetNoAlias (outlook_of es) locals (candidates scope name) →
     (counts_met (outlook_of es) locals (candidates scope name) ≢ []) →
     arity_by_kinds (outlook_of es) scope locals name ≡ None →
     (a b : ℕ) × (a ≢ b) × HasInRun es unknown_zero scope locals name a × HasInRun es unknown_zero scope locals name b

@@ -1,7 +1,7 @@
 -- A stepping stone of the proofs: what the counts of several kinds come to.
 use Rattle.std.specs.Prelude.{◌≡◌, ℕ, Bool, true, false, cond, List, [], ◌∷◌, Option, Some, None, ◌==◌, map}
 use Rattle.std.specs.Prelude.{◌+◌, ◌++◌, ◌||◌}
-use Rattle.std.specs.List.{list_any}
+use Rattle.std.specs.List.{list_any, list_all}
 use Rattle.std.specs.Global.{Box}
 use Rattle.aml_namespace.specs.declared.kinds.Kind.{Kind}
 use Rattle.aml_namespace.specs.declared.kinds.Kind.TheVariants.{Method, Alias}
@@ -10,6 +10,7 @@ use Rattle.aml_namespace.specs.declared.tallies.Counts.TheVariants.{Nothing, One
 use Rattle.aml_namespace.specs.declared.tallies.Tally.{Tally}
 use Rattle.aml_namespace.specs.declared.declarations.Again.{Again}
 use Rattle.aml_namespace.specs.Known.{Declared, once}
+use Rattle.aml_namespace.specs.Runs.{is_alias, opens_scope}
 
 -- what two come to
 abbrev pub joined : Counts → Counts → Counts
@@ -35,13 +36,13 @@ abbrev pub own_count : Kind → ℕ
 own_count (Method args) = args
 own_count _ = 0
 
-abbrev pub is_alias : Kind → Bool
-is_alias (Alias target) = true
-is_alias _ = false
-
--- what the own counts of some kinds come to, and whether an Alias is among them
+-- what the own counts of some kinds come to, whether an Alias is among them, and whether a Scope may open each
 abbrev pub tally_of : List Kind → Tally
-tally_of ks = record { counts = counts_in (map own_count ks); aliased = list_any is_alias ks }
+tally_of ks = record {
+  counts = counts_in (map own_count ks);
+  aliased = list_any is_alias ks;
+  scopes = list_all opens_scope ks;
+}
 
 -- what is kept of the declarations of a path: by its kind, and by what the further ones say
 abbrev pub declared_with : Kind → Option (Box Again) → Declared

@@ -20,4 +20,4 @@ pub use runs::{
     every_run_agrees, every_run_leads_there, quick_way_holds, runs_differ, stays_as_it_is,
     sure_stays,
 };
-pub use tallies::{Counts, Tally, own_counts};
+pub use tallies::{Counts, Tally, is_open_alias, opens_scope, own_counts};

@@ -3,7 +3,8 @@ ghost use Rattle.std.specs.Prelude.{◌≡◌, ◌∷◌, ◌++◌, [], map, Lis
 ghost use Rattle.std.specs.Option.{option_copied};
 ghost use Rattle.std.specs.Prelude.{option_to_list};
 ghost use Rattle.aml_namespace.specs.declared.kinds.Kind.{Kind as AnyKind};
-ghost use Rattle.aml_namespace.specs.Tallies.{joined, counts_in, own_count as own, is_alias as aliases, tally_of};
+ghost use Rattle.aml_namespace.specs.Tallies.{joined, counts_in, own_count as own, tally_of};
+ghost use Rattle.aml_namespace.specs.Runs.{is_alias as aliases, is_open_alias as is_open_one, opens_scope as scopes};
 
 use crate::kinds::Kind;
 
@@ -41,11 +42,12 @@ fn same_or_several(one: u8, other: u8) -> Counts
     }
 }
 
-/// What the own counts of some kinds come to, and whether an Alias is among them.
+/// What the own counts of some kinds come to, whether an Alias is among them, and whether a Scope may open each.
 #[derive(Clone, Copy)]
 pub struct Tally {
     pub counts: Counts,
     pub aliased: bool,
+    pub scopes: bool,
 }
 
 impl Tally {
@@ -56,6 +58,7 @@ impl Tally {
         Tally {
             counts: Counts::One(own_count(kind)),
             aliased: is_alias(kind),
+            scopes: opens_scope(kind),
         }
     }
 
@@ -67,6 +70,7 @@ impl Tally {
         Tally {
             counts: self.counts.joined(Counts::One(own_count(kind))),
             aliased: self.aliased || is_alias(kind),
+            scopes: self.scopes && opens_scope(kind),
         }
     }
 }
@@ -86,7 +90,28 @@ fn is_alias(kind: &Kind) -> bool
     ensures { result ≡ aliases kind.now }
 {
     match kind {
-        Kind::Alias { target: _ } => true,
+        Kind::Alias { .. } => true,
+        _ => false,
+    }
+}
+
+/// Whether a kind is that of an open Alias.
+pub fn is_open_alias(kind: &Kind) -> bool
+    ensures { result ≡ is_open_one kind.now }
+{
+    match kind {
+        Kind::Alias { is_open, .. } => *is_open,
+        _ => false,
+    }
+}
+
+/// Whether a Scope may open a path of a kind (ACPI 6.5, 19.6.122).
+pub fn opens_scope(kind: &Kind) -> bool
+    ensures { result ≡ scopes kind.now }
+{
+    match kind {
+        Kind::Scope | Kind::Device | Kind::Processor | Kind::PowerResource | Kind::ThermalZone =>
+            true,
         _ => false,
     }
 }

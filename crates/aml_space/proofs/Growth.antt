@@ -169,7 +169,7 @@ module _ (ns new : List Node) (i : ℕ) (seg : Seg) (is : IsIndex ns) (within : 
   aimed : (k : ℕ) → IsAim new (kinds_of new k) (content_of new k).aim
   aimed k = elim (cases_lt k (length ns)) [
     | inl inside ↦ subst (λ (c : Content). IsAim new (declared_kind c.declared) c.aim) (sym (has.contents k inside))
-        (λ some. let a = is.aimed k some in (a.0, a.1, still a.0 (content_of ns k).aim a.2))
+        (λ some. let a = is.aimed k some in (a.0, a.1, a.2, still a.1 (content_of ns k).aim a.3))
     | inr past ↦ λ some. absurd (omega (arith, some, ap (λ (c : Content). c.aim) (none k past)))
   ]
     where

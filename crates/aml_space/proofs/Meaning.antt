@@ -52,7 +52,7 @@ module _ (ns : List Node) (shape : IsShape ns) (p : List Seg) (node : Option ℕ
 kind_counts : (n : Namespace) (k : Kind) (o other : Option ℕ)
     → option_or (count_by n (Some k) o) other ≡ count_by n (Some k) o
 kind_counts n (Method args) o other = refl
-kind_counts n (Alias target) o other = refl
+kind_counts n (Alias is_open target) o other = refl
 kind_counts n _ o other = refl
 
 -- a name that leads to one path

@@ -5,9 +5,11 @@
 use Rattle.std.specs.Prelude.{slice_get}
 use Rattle.std.proofs.Common.{◌≡◌, ℕ, zero, suc, List, [], ◌∷◌, ◌++◌, Option, Some, None, IfSome, refl, sym, ap, subst, ◌∙◌}
 use Rattle.std.proofs.Common.{length, take, drop, get_or, Result, Ok, Err, OnOk, OnErr}
-use Rattle.std.proofs.lemmas.List.{take_all}
+use Rattle.std.proofs.lemmas.List.{take_all, length-take-le}
 use Rattle.std.proofs.Math.Seq.{drop-length}
-use Rattle.std.proofs.Common.{arith, Bool, true, false, cond}
+use Rattle.std.proofs.Common.{arith, Bool, false, cond}
+use Rattle.std.specs.Prelude.{◌<◌, ◌≤◌}
+use Rattle.std.proofs.lemmas.Bool.{false≢true}
 use Rattle.aml_names.specs.declared.segments.Seg.{Seg}
 use Rattle.aml_space.specs.declared.nodes.Node.{Node}
 use Rattle.aml_space.specs.declared.opened.Opened.{Opened}
@@ -15,11 +17,14 @@ use Rattle.aml_children.specs.Numbered.{walk}
 use Rattle.std.specs.Option.{option_or, option_and_then, unwrap_or}
 use Rattle.std.proofs.lemmas.Option.{none-some, same_Some}
 use Rattle.aml_namespace.specs.declared.kinds.Kind.{Kind}
-use Rattle.aml_namespace.specs.declared.kinds.Kind.TheVariants.{Scope, Name, Method, Mutex, Alias}
+use Rattle.aml_namespace.specs.declared.kinds.Kind.TheVariants.{Alias}
 use Rattle.aml_namespace.specs.Namespace.{kind_at}
 use Rattle.aml_namespace.specs.Known.{Known, namespace_in, with_scopes, with_kept}
-use Rattle.aml_namespace.specs.Predefined.{predefined, is_one_of}
-use Rattle.aml_space.specs.Near.{IsTarget}
+use Rattle.aml_namespace.specs.Predefined.{predefined}
+use Rattle.aml_namespace.specs.Runs.{is_alias}
+use Rattle.aml_namespace.proofs.Said.{no_alias}
+use Rattle.aml_space.specs.Near.{IsNear, IsTarget}
+use Rattle.aml_space.specs.declared.opened.Near.{Near}
 use Rattle.aml_space.specs.Nodes.{kids_of, kinds_of, known_by, path_of, Content, HasContent, IsAim, IsIndex, IsKept, Reaches}
 use Rattle.aml_space.proofs.Index.{kind_at_path}
 use Rattle.aml_space.specs.Opened.{AreOpened, AreThere, known_in, paths_of, scopes_of}
@@ -144,20 +149,45 @@ pub root_opened : (ns : List Node) (none one : List Opened) (o : Opened) → non
 root_opened ns none one o empty is root first = more_opened ns none one o is (none_opened ns none empty)
     (ap (walk (kids_of ns) 0) root ∙ ap (λ (n : ℕ). Some n) (sym first))
 
--- no predefined path is an Alias
-no_alias : (p own : List Seg) → predefined p ≡ Some (Alias own) → ⊥
-no_alias [] own is = absurd cc
-no_alias (s ∷ t ∷ rest) own is = absurd cc
-no_alias (s ∷ []) own is = by (is_one_of ("_GPE" ∷ "_PR_" ∷ "_SB_" ∷ "_SI_" ∷ "_TZ_" ∷ []) s) (is_one_of ("_GL_" ∷ []) s)
-    (is_one_of ("_OS_" ∷ "_REV" ∷ []) s) (is_one_of ("_OSI" ∷ []) s) is
+fewer : (m n : ℕ) (xs : List Seg) → m ≤ n → take m (take n xs) ≡ take m xs
+fewer zero n xs h = refl
+fewer (suc m) zero xs h = absurd (omega (arith, h))
+fewer (suc m) (suc n) [] h = refl
+fewer (suc m) (suc n) (x ∷ xs) h = ap (λ ys. x ∷ ys) (fewer m n xs (omega (arith, h)))
+
+-- a path has so many first segments in common with a scope, if there is one
+abbrev HasCommon : Option (List Seg) → ℕ → List Seg → Type 0
+HasCommon o front path = IfSome o (λ scope. (front ≤ length scope) × (take front path ≡ take front scope))
+
+common_first : (o : Option (List Seg)) (front first count : ℕ) (path : List Seg) → first ≤ front → first ≤ count
+    → HasCommon o front path
+    → HasCommon o first (take count path)
+common_first None front first count path less short h = tt
+common_first (Some scope) front first count path less short h = (
+  omega (arith, h.0, less),
+  fewer first count path short ∙ sym (fewer first front path less) ∙ ap (take first) h.1 ∙ fewer first front scope less,
+)
+
+-- first segments of a path are near a scope as the path is
+pub near_first : (scopes : List (List Seg)) (near first : Near) (path : List Seg) (count : ℕ) → IsNear scopes near path
+    → first.place ≡ near.place → first.front ≤ near.front → first.front ≤ count → count ≤ length path
+    → IsNear scopes first (take count path)
+near_first scopes near first path count is place front short long = record {
+  own = subst (λ n. first.front ≤ n) (sym (length-take-le count path long)) short;
+  common = subst (λ n. HasCommon (slice_get scopes n) first.front (take count path)) (sym place)
+      (common_first (slice_get scopes near.place) near.front first.front count path front short is.common);
+}
+
+-- where a node is kept for an Alias, its target leads to it
+pub aim_leads : (ns : List Node) (kind : Option Kind) (aim : ℕ) → IsAim ns kind aim → (is_open : Bool) (target : List Seg)
+    → kind ≡ Some (Alias is_open target) → 0 < aim
+    → walk (kids_of ns) 0 target ≡ Some aim
+aim_leads ns kind aim is is_open target same some = let a = is some in
+    subst (λ t. walk (kids_of ns) 0 t ≡ Some aim) (ap target_in (sym a.2 ∙ same)) a.3
   where
-    by : (a b c d : Bool)
-        → cond a (Some Scope) (cond b (Some Mutex) (cond c (Some Name) (cond d (Some (Method 1)) None))) ≡ Some (Alias own) → ⊥
-    by true b c d is = absurd cc
-    by false true c d is = absurd cc
-    by false false true d is = absurd cc
-    by false false false true is = absurd cc
-    by false false false false is = absurd cc
+    target_in : Option Kind → List Seg
+    target_in (Some (Alias is_open target)) = target
+    target_in _ = []
 
 -- What an Alias of a source stands for, by the source's node: where the source is an Alias, the node that is kept of
 -- this leads there, and else the source's own.
@@ -166,24 +196,37 @@ module _ (ns : List Node) (is : IsIndex ns) (source target : List Seg) (node : O
   kind_there : kind_at (namespace_in (known_by ns)) source ≡ option_or (option_and_then (kinds_of ns) node) (predefined source)
   kind_there = ap (λ o. option_or o (predefined source)) (sym (kind_at_path ns is.shape source) ∙ ap (option_and_then (kinds_of ns)) (sym led))
 
-  pub aim_kept : (own : List Seg) (aim : ℕ) → option_and_then (kinds_of ns) node ≡ Some (Alias own)
-      → IsAim ns (option_and_then (kinds_of ns) node) aim → IsAim ns (Some (Alias target)) aim
-  aim_kept own aim has kept = subst (λ o. IsAim ns o aim) (has ∙ ap (λ (t : List Seg). Some (Alias t)) (sym (aims.alias own
-      (kind_there ∙ ap (λ o. option_or o (predefined source)) has)))) kept
+  -- an Alias of it, open or not
+  abbrev IsAimOf : ℕ → Type 0
+  IsAimOf aim = (is_open : Bool) → IsAim ns (Some (Alias is_open target)) aim
 
-  pub aim_here : (aim : ℕ) → ((own : List Seg) → option_and_then (kinds_of ns) node ≡ Some (Alias own) → ⊥)
-      → aim ≡ unwrap_or node 0 → IsAim ns (Some (Alias target)) aim
-  aim_here aim other at some = (
+  pub aim_kept : (is_open : Bool) (own : List Seg) (aim : ℕ)
+      → option_and_then (kinds_of ns) node ≡ Some (Alias is_open own)
+      → IsAim ns (option_and_then (kinds_of ns) node) aim → IsAimOf aim
+  aim_kept is_open own aim has kept other some = (
+    other,
     target,
     refl,
-    ap (walk (kids_of ns) 0) (aims.other (λ own alias. by (option_and_then (kinds_of ns) node) refl own (sym kind_there ∙ alias)))
+    ap (walk (kids_of ns) 0) (aims.alias is_open own (kind_there ∙ ap (λ o. option_or o (predefined source)) has))
+        ∙ aim_leads ns _ aim kept is_open own has some,
+  )
+
+  pub aim_here : (aim : ℕ)
+      → ((is_open : Bool) (own : List Seg) → option_and_then (kinds_of ns) node ≡ Some (Alias is_open own) → ⊥)
+      → aim ≡ unwrap_or node 0 → IsAimOf aim
+  aim_here aim other at any some = (
+    any,
+    target,
+    refl,
+    ap (walk (kids_of ns) 0) (aims.other (λ is_open own alias. by (option_and_then (kinds_of ns) node) refl is_open own (sym kind_there ∙ alias)))
         ∙ sym led ∙ there node at,
   )
     where
-      by : (o : Option Kind) → option_and_then (kinds_of ns) node ≡ o → (own : List Seg)
-          → option_or o (predefined source) ≡ Some (Alias own) → ⊥
-      by None none own alias = no_alias source own alias
-      by (Some k) has own alias = other own (has ∙ alias)
+      by : (o : Option Kind) → option_and_then (kinds_of ns) node ≡ o → (is_open : Bool) (own : List Seg)
+          → option_or o (predefined source) ≡ Some (Alias is_open own) → ⊥
+      by None none is_open own alias =
+          false≢true (sym (subst (λ o. IfSome o (λ k. is_alias k ≡ false)) alias (no_alias source)))
+      by (Some k) has is_open own alias = other is_open own (has ∙ alias)
 
       there : (o : Option ℕ) → aim ≡ unwrap_or o 0 → o ≡ Some aim
       there None is = absurd (omega (arith, is, some))

@@ -1,10 +1,12 @@
 //! How many arguments a path takes.
 ghost use Rattle.std.specs.Prelude.{◌≡◌, ◌<◌, ◌∷◌, ◌||◌, List, Some, None, cond, is_some, length, map, flat_map};
-ghost use Rattle.std.specs.Prelude.{option_to_list, IfSome};
+ghost use Rattle.std.specs.Prelude.{option_to_list, IfSome, ◌&&◌, not, nat_lt, Bool, false};
+ghost use Rattle.std.specs.List.{list_all, list_any};
 ghost use Rattle.std.specs.Option.{option_or, option_and_then, option_copied};
 ghost use Rattle.aml_namespace.specs.Namespace.{kind_at as kind_of_path, count_at, count_by, target_count};
 ghost use Rattle.aml_namespace.specs.Known.{namespace_in, outlook_in, kinds_by, sure_by};
-ghost use Rattle.aml_namespace.specs.Runs.{target_counts, counts_by};
+ghost use Rattle.aml_namespace.specs.Runs.{target_counts, counts_by, opens_scope as opens_a_scope, is_alias};
+ghost use Rattle.aml_namespace.specs.Runs.{is_open_alias as is_open_kind, open_among};
 ghost use Rattle.aml_children.specs.Numbered.{walk};
 ghost use Rattle.aml_space.specs.Nodes.{kids_of, kinds_of, declared_of, outs_of, known_by, IsShape, IsAim};
 ghost use Rattle.aml_space.specs.Nodes.{IsAimed};
@@ -15,7 +17,9 @@ ghost use Rattle.aml_namespace.specs.Tallies.{joined, counts_in, own_count, is_n
 use crate::nodes::Node;
 use crate::walking::{aim_at, declared_at, kind_at, node_of, out_at};
 use aml_names::Path;
-use aml_namespace::{Counts, Declarations, Kind, Predefined, Target, own_counts};
+use aml_namespace::{
+    Counts, Declarations, Kind, Predefined, Target, is_open_alias, opens_scope, own_counts,
+};
 
 /// The kind of a path: the declared one of its node, else the predefined one.
 pub(crate) fn kind_met<'a>(
@@ -60,7 +64,7 @@ pub(crate) fn count_met(
     match kind_met(nodes, node, standing) {
         None => out_at(nodes, node),
         Some(Kind::Method { args }) => Some(*args),
-        Some(Kind::Alias { target }) => {
+        Some(Kind::Alias { target, .. }) => {
             let at = target_node(nodes, node, target);
             Some(count_target(nodes, predefined, at, target))
         }
@@ -73,7 +77,8 @@ fn target_node(nodes: &[Node], alias: Option<usize>, target: &Target) -> Option<
     requires shape { IsShape nodes.now }
     requires aimed { IsAimed nodes.now }
     requires within { IfSome alias (λ i. i < length nodes.now) }
-    requires kind { (t : List Seg) → option_and_then (kinds_of nodes.now) alias ≡ Some (Alias t) → t ≡ target.now }
+    requires kind { (is_open : Bool) (t : List Seg) → option_and_then (kinds_of nodes.now) alias ≡ Some (Alias is_open t) →
+        t ≡ target.now }
     ensures node { result ≡ walk (kids_of nodes.now) 0 target.now }
     ensures within { IfSome result (λ i. i < length nodes.now) }
 {
@@ -83,7 +88,7 @@ fn target_node(nodes: &[Node], alias: Option<usize>, target: &Target) -> Option<
 /// The node of a path, which is kept for an Alias of it, or looked up.
 fn aimed_node(nodes: &[Node], aim: usize, target: &Target) -> Option<usize>
     requires shape { IsShape nodes.now }
-    requires aim { IsAim nodes.now (Some (Alias target.now)) aim }
+    requires aim { 0 < aim → walk (kids_of nodes.now) 0 target.now ≡ Some aim }
     ensures node { result ≡ walk (kids_of nodes.now) 0 target.now }
     ensures within { IfSome result (λ i. i < length nodes.now) }
 {
@@ -179,7 +184,8 @@ fn counts_of_target(
     or_outside(counts, out_at(nodes, node))
 }
 
-/// The counts of a kind: a method's own, an Alias's by its target, whose node may be kept for it.
+/// The counts of a kind: a method's own, an Alias's by its target, whose node may be kept for it. Those of an open Alias
+/// never agree.
 fn counts_of_kind(nodes: &[Node], predefined: &Predefined, aim: usize, kind: &Kind) -> Counts
     requires shape { IsShape nodes.now }
     requires aim { IsAim nodes.now (Some kind.now) aim }
@@ -187,7 +193,10 @@ fn counts_of_kind(nodes: &[Node], predefined: &Predefined, aim: usize, kind: &Ki
 {
     match kind {
         Kind::Method { args } => Counts::One(*args),
-        Kind::Alias { target } => {
+        Kind::Alias { is_open, target } => {
+            if *is_open {
+                return Counts::Several;
+            }
             let at = aimed_node(nodes, aim, target);
             counts_of_target(nodes, predefined, at, target)
         }
@@ -264,6 +273,50 @@ pub(crate) fn sure_met(nodes: &[Node], node: Option<usize>, standing: Option<&Ki
     ensures { result ≡ sure_by (option_and_then (declared_of nodes.now) node) (option_copied standing.entry) }
 {
     standing.is_some() || is_surely_declared(declared_at(nodes, node))
+}
+
+/// Whether a Scope may open a path in every run, by its node and its predefined kind.
+pub(crate) fn scope_met(nodes: &[Node], node: Option<usize>, standing: Option<&Kind>) -> bool
+    requires { IfSome node (λ i. i < length nodes.now) }
+    ensures { let said = option_and_then (declared_of nodes.now) node in let other = option_copied standing.entry in
+        result ≡ (sure_by said other && list_all opens_a_scope (kinds_by said other)) }
+{
+    match declared_at(nodes, node) {
+        None => stands_as_scope(standing),
+        Some(said) => said.tally().scopes && (said.is_sure() || stands_as_scope(standing)),
+    }
+}
+
+/// Whether a predefined kind is a scope's, if there is one.
+fn stands_as_scope(standing: Option<&Kind>) -> bool
+    ensures { let other = option_copied standing.entry in
+        result ≡ (is_some other && list_all opens_a_scope (option_to_list other)) }
+{
+    match standing {
+        None => false,
+        Some(kind) => opens_scope(kind),
+    }
+}
+
+/// Whether an Alias of a path is open, by the path's node and its predefined kind, which is no Alias.
+pub(crate) fn open_met(nodes: &[Node], node: Option<usize>, standing: Option<&Kind>) -> bool
+    requires within { IfSome node (λ i. i < length nodes.now) }
+    requires standing { IfSome (option_copied standing) (λ kind. is_alias kind ≡ false) }
+    ensures { result ≡ open_among (kinds_by (option_and_then (declared_of nodes.now) node) (option_copied standing.entry)) }
+{
+    match declared_at(nodes, node) {
+        None => false,
+        Some(said) => is_open_by(said, standing.is_some()),
+    }
+}
+
+/// The same by what a path's declarations say, and whether it is predefined.
+fn is_open_by(said: &Declarations, standing: bool) -> bool
+    ensures { result ≡ (list_any is_alias (said.now.kind ∷ said.now.others) && (is_open_kind said.now.kind
+        || (nat_lt 0 (length said.now.others) || (not said.now.sure && standing)))) }
+{
+    let others = 0 < said.others().len() || (!said.is_sure() && standing);
+    said.tally().aliased && (is_open_alias(said.kind()) || others)
 }
 
 fn is_surely_declared(said: Option<&Declarations>) -> bool

@@ -1,5 +1,5 @@
 //! The scopes that were opened, by whose nodes the paths below them are found.
-ghost use Rattle.std.specs.Prelude.{◌≡◌, ◌+◌, ◌<◌, ◌≤◌, ◌++◌, [], List, Some, length, take, IfOk, IfSome};
+ghost use Rattle.std.specs.Prelude.{◌≡◌, ◌+◌, ◌<◌, ◌≤◌, ◌++◌, [], Bool, List, Some, length, take, IfOk, IfSome};
 ghost use Rattle.aml_names.specs.declared.segments.Seg.{Seg as AnySeg};
 ghost use Rattle.aml_space.specs.declared.nodes.Node.{Node as AnyNode};
 ghost use Rattle.aml_children.specs.Numbered.{walk};
@@ -52,6 +52,17 @@ impl Near {
         ensures near { (scopes : List (List AnySeg)) (path : List AnySeg) → IsNear scopes result path }
     {
         Near { place: 0, front: 0 }
+    }
+
+    /// Where so many first segments of a path are found.
+    pub fn first(self, count: usize) -> Near
+        ensures { (scopes : List (List AnySeg)) (path : List AnySeg) → IsNear scopes self path →
+            count ≤ length path → IsNear scopes result (take count path) }
+    {
+        Near {
+            place: self.place,
+            front: self.front.min(count),
+        }
     }
 }
 
@@ -305,8 +316,8 @@ pub(crate) fn aim_by(nodes: &[Node], hints: Hints<'_>, source: Source<'_>) -> us
     requires index { IsIndex nodes.now }
     requires hints { AreHints nodes.now hints }
     requires near { IsNear (scopes_of hints.scopes.now) source.near source.path.now }
-    ensures { (t : List AnySeg) → IsTarget (namespace_in (known_by nodes.now)) source.entry.path.now t →
-        IsAim nodes.now (Some (Alias t)) result }
+    ensures { (is_open : Bool) (t : List AnySeg) → IsTarget (namespace_in (known_by nodes.now)) source.entry.path.now t →
+        IsAim nodes.now (Some (Alias is_open t)) result }
 {
     let node = node_near(nodes, hints, source.near, &source.path.parts());
     match kind_at(nodes, node) {

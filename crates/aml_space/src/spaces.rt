@@ -6,7 +6,7 @@ ghost use Rattle.std.specs.Option.{option_copied};
 ghost use Rattle.std.specs.FinMap as map;
 ghost use Rattle.aml_namespace.specs.Namespace.{Entry, Body, declares, external as outside, given as said};
 ghost use Rattle.aml_namespace.specs.Namespace.{kind_at, count_at, namespace_of, declared_at};
-ghost use Rattle.aml_namespace.specs.Runs.{sure_at};
+ghost use Rattle.aml_namespace.specs.Runs.{outlook_of, sure_at, scope_in, open_in};
 ghost use Rattle.aml_space.specs.Nodes.{known_by};
 ghost use Rattle.aml_namespace.specs.Known.{with_scopes, with_kept, of_paths};
 ghost use Rattle.aml_space.specs.Near.{IsNear, IsSourceOf};
@@ -16,7 +16,7 @@ ghost use Rattle.aml_namespace.specs.Known.{with_again};
 ghost use Rattle.aml_namespace.specs.Known.{with_external, with_given};
 ghost use Rattle.aml_namespace.specs.Known.{is_declared as declared_yet, namespace_in, outlook_in, row_of, AreRows};
 
-use crate::counting::{count_of, sure_met};
+use crate::counting::{count_of, open_met, scope_met, sure_met};
 use crate::faults::SpaceFault;
 use crate::growing::{Reach, declare_again, declare_first, extend, is_taken, set_given, set_out};
 use crate::listing::{Rows, list_rows};
@@ -440,6 +440,31 @@ impl Space {
         let hints = hints_of!(self);
         let node = node_near(nodes, hints, near, path);
         sure_met(nodes, node, self.predefined.kind_of(path))
+    }
+
+    /// Whether a Scope may open a path whatever runs: it has a kind then, and each of its kinds is a scope's (ACPI 6.5,
+    /// 19.6.122).
+    pub fn is_scope(&self, near: Near, path: &Parts<'_>) -> bool
+        requires { IsNear self.now.scopes near path.now }
+        ensures known { result ≡ scope_in (outlook_in self.now) path.now }
+        ensures listed { (es : List Entry) → StandsFor self.now es → result ≡ scope_in (outlook_of es) path.now }
+    {
+        let nodes = self.nodes.as_slice();
+        let hints = hints_of!(self);
+        let node = node_near(nodes, hints, near, path);
+        scope_met(nodes, node, self.predefined.kind_of(path))
+    }
+
+    /// Whether an Alias of a path is open: one of the path's kinds is an Alias that isn't the only kind, or is open.
+    pub fn is_open(&self, near: Near, path: &Parts<'_>) -> bool
+        requires { IsNear self.now.scopes near path.now }
+        ensures known { result ≡ open_in (outlook_in self.now) path.now }
+        ensures listed { (es : List Entry) → StandsFor self.now es → result ≡ open_in (outlook_of es) path.now }
+    {
+        let nodes = self.nodes.as_slice();
+        let hints = hints_of!(self);
+        let node = node_near(nodes, hints, near, path);
+        open_met(nodes, node, self.predefined.kind_of(path))
     }
 
     /// How many arguments a path takes where the first declaration of a path counts: those of a method, also through an

@@ -18,7 +18,7 @@ abbrev pub kind_text : Kind → List ℕ
 kind_text Scope = word "Scope"
 kind_text Name = word "Name"
 kind_text (Method args) = word "Method " ++ decimal args
-kind_text (Alias target) = word "Alias " ++ path_text target
+kind_text (Alias is_open target) = word "Alias " ++ path_text target
 kind_text Device = word "Device"
 kind_text Processor = word "Processor"
 kind_text PowerResource = word "PowerResource"

@@ -1,7 +1,7 @@
 //! The namespace: a line for each declared path.
 #![tactic(auto, using(crate::proofs::RowLaws::printing))]
 
-ghost use Rattle.std.specs.Prelude.{◌≡◌, ◌≤◌, ◌++◌, length, decimal, map as map_list};
+ghost use Rattle.std.specs.Prelude.{◌≡◌, ◌≤◌, ◌++◌, false, length, decimal, map as map_list};
 ghost use Rattle.std.specs.FinMap as map;
 ghost use Rattle.text_writer.specs.Prints.{Prints, word};
 ghost use Rattle.asl_text.specs.Texts.{line, segment_text, separated};
@@ -58,7 +58,7 @@ fn print_method<W: Write>(out: &mut Out<'_, W>, args: u8)
 }
 
 fn print_alias<W: Write>(out: &mut Out<'_, W>, target: &Target)
-    ensures { Prints W.contents out.old out.new (kind_text (Kind.Alias target.now)) }
+    ensures { Prints W.contents out.old out.new (kind_text (Kind.Alias false target.now)) }
 {
     out.put(b"Alias ");
     print_path(out, &target.parts());
@@ -72,7 +72,7 @@ fn print_kind<W: Write>(out: &mut Out<'_, W>, kind: &Kind)
         Kind::Scope => out.put(b"Scope"),
         Kind::Name => out.put(b"Name"),
         Kind::Method { args } => print_method(out, *args),
-        Kind::Alias { target } => print_alias(out, target),
+        Kind::Alias { target, .. } => print_alias(out, target),
         Kind::Device => out.put(b"Device"),
         Kind::Processor => out.put(b"Processor"),
         Kind::PowerResource => out.put(b"PowerResource"),

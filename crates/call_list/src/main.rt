@@ -118,7 +118,7 @@ impl Caller<'_> {
 
     fn is_method(&self, path: &Path) -> bool {
         match self.space.kind(path) {
-            Some(Kind::Alias { target }) => matches!(
+            Some(Kind::Alias { target, .. }) => matches!(
                 self.space.kind_of(&target.parts()),
                 Some(Kind::Method { .. })
             ),

@@ -1,6 +1,6 @@
 //! The file of argument counts that the user gives.
 use acpi_folder::{ExternalsFault, Quoted, parse_externals};
-use aml_names::Path;
+use aml_names::{ArgumentCount, Path};
 use std::alloc::AllocError;
 use std::io::Read;
 use std::{fs, io};
@@ -45,7 +45,7 @@ impl<'a> From<ExternalsFault> for FileFault<'a> {
 pub fn read_externals<'a>(
     rt: &HostRuntime,
     file: &'a str,
-) -> Result<Vec<(Path, u8)>, FileFault<'a>> {
+) -> Result<Vec<(Path, ArgumentCount)>, FileFault<'a>> {
     let text = read_text(rt, file)?;
     Ok(parse_externals(rt.alloc(), &text)?)
 }

@@ -8,7 +8,7 @@ use acpi_tables::Dump;
 use acpidis::{Options, Refusal, disassemble, run};
 use aml_code::{Arity, SeenLocals};
 use aml_load::{LoadFault, load};
-use aml_names::{Name, Path};
+use aml_names::{ArgumentCount, Name, Path};
 use aml_pool::{Board, FreeGate, Gate, NoMemory, PoolFault, Results, Share, Work, crew, harvest};
 use aml_set::Loaded;
 use aml_text::{Body, Listing};
@@ -159,7 +159,7 @@ pub fn holds_of_loaded<L: OfLoad>(
 pub fn holds_of_load<L: OfLoad>(
     alloc: Global,
     codes: &[&[u8]],
-    givens: &[(Path, u8)],
+    givens: &[(Path, ArgumentCount)],
     asked: &L,
 ) -> Result<bool, Want>
     requires { AreShort (codes_view codes.now) }

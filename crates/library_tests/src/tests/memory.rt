@@ -18,7 +18,7 @@ use acpi_tables::{Bad, Dump, load_order};
 use acpidis::{Checked, check};
 use aml_code::{CodeFault, Node};
 use aml_load::load_any_run;
-use aml_names::{Path, Seg};
+use aml_names::{ArgumentCount, Path, Seg};
 use aml_parse::parse_body;
 use aml_pool::FreeGate;
 use aml_set::{Loaded, rebuild};
@@ -54,15 +54,15 @@ fn whole_folder_or_no_memory(rt: HostRuntime) {
 }
 
 /// Whether these are one argument for a path of three segments, and two for one of one.
-fn are_counts(given: &[(Path, u8)]) -> bool {
+fn are_counts(given: &[(Path, ArgumentCount)]) -> bool {
     let [(long, one), (short, two)] = given else {
         return false;
     };
-    long.segs().len() == 3 && short.segs().len() == 1 && *one == 1 && *two == 2
+    long.segs().len() == 3 && short.segs().len() == 1 && one.get() == 1 && two.get() == 2
 }
 
 /// Whether an answer is these counts.
-fn is_counted(answer: &Result<Vec<(Path, u8)>, ExternalsFault>) -> Result<bool, Want> {
+fn is_counted(answer: &Result<Vec<(Path, ArgumentCount)>, ExternalsFault>) -> Result<bool, Want> {
     match answer {
         Ok(given) => Ok(are_counts(given)),
         Err(ExternalsFault::NoMemory) => Err(Want::Memory),
@@ -135,7 +135,10 @@ const PLAIN: Table = Table {
 
 /// Whether it loads, with a count that is given.
 fn has_load(alloc: Global) -> Result<bool, Want> {
-    let given = [(Path::below(alloc, &[Seg(*b"ZZZZ")], &[])?, 0)];
+    let Some(none) = ArgumentCount::new(0) else {
+        return Ok(false);
+    };
+    let given = [(Path::below(alloc, &[Seg(*b"ZZZZ")], &[])?, none)];
     holds_of_load(alloc, &[PLAIN.code], &given, &PLAIN)
 }
 

@@ -1,7 +1,7 @@
 //! The terms of a load, each where it stands, with the constants, the field units and the regions in them.
-use super::fixtures::{OfLoad, Want, holds_of_load, is_whole_or_no_memory};
+use super::fixtures::{OfLoad, Want, holds_of_load, holds_of_loaded, is_whole_or_no_memory};
 use aml_code::{Name, Node, Part, Path, Seg, listed_row};
-use aml_load::{LoadFault, StandingTerm, standing_terms};
+use aml_load::{LoadFault, StandingTerm, load_any_run, standing_terms};
 use aml_set::Loaded;
 use aml_walk::{FieldBase, FieldUnit, base_of, number_of, unit_at, units_of};
 use std::alloc::{AllocError, Global};
@@ -16,8 +16,20 @@ const CODES: [&[u8]; 2] = [
         [\x87\x10REG0FLD0\x01\x01BNKA\x04",
 ];
 
-/// Their terms: the table, the scope, the mnemonic, the constants; what a field list lies over, and its units.
-const TERMS: &str = "0 \\ Device
+/// The unit right below the root that has a segment: the place of its term, its first bit and its number of bits.
+type Unit = (&'static [u8; 4], Option<(usize, u64, u32)>);
+
+/// The terms of a load: the table, the scope, the mnemonic, the constants; what a field list lies over, and its units;
+/// and whether it only may stand there. Units that are found by their paths, and a name that is none.
+struct Terms {
+    any_run: bool,
+    text: &'static str,
+    units: &'static [Unit],
+}
+
+const PLAIN: Terms = Terms {
+    any_run: false,
+    text: "0 \\ Device
 0 \\ Scope
 0 \\_SB_ Scope
 0 \\DEV0 Name 1
@@ -32,7 +44,42 @@ const TERMS: &str = "0 \\ Device
 1 \\ Method
 1 \\ IndexField over \\FLD0 \\FLD1 IDXA 0 8
 1 \\ BankField 1 over \\REG0 \\FLD0 BNKA 0 4
-";
+",
+    units: &[
+        (b"FLD1", Some((9, 24, 8))),
+        (b"BNKA", Some((14, 0, 4))),
+        (b"CCCC", None),
+    ],
+};
+
+/// Tables whose code outside methods may run: a device in a branch, which stands once more behind it; a scope that
+/// nothing declares; and a region with its field in a branch.
+const RUN_CODES: [&[u8]; 2] = [
+    b"\x08CCCC\x01\xA0\x0CCCCC[\x82\x05DEV0\xA1\x07\x08AAAA\x00[\x82\x0BDEV0\x08BBBB\x01\
+        \x10\x0BGONE\x08EEEE\x00\xA2\x0F\x01\x10\x0CDEV0\x08FFFF\x0A\x02",
+    b"\xA0\x1B\x01[\x80REG0\x01\x0B\x00\x01\x0A\x10[\x81\x0BREG0\x01FLD0\x08",
+];
+
+const RUN: Terms = Terms {
+    any_run: true,
+    text: "0 \\ Name 1
+0 \\ If
+0 \\ Device Maybe
+0 \\ Else
+0 \\ Name 0 Maybe
+0 \\ Device
+0 \\DEV0 Name 1 Maybe
+0 \\ Scope
+0 \\GONE Name 0 Maybe
+0 \\ While 1
+0 \\ Scope Maybe
+0 \\DEV0 Name 2 Maybe
+1 \\ If 1
+1 \\ OperationRegion 256 16 Maybe
+1 \\ Field over \\REG0 FLD0 0 8 Maybe
+",
+    units: &[(b"FLD0", Some((14, 0, 8)))],
+};
 
 /// Adds the constants among the parts of a term.
 fn push_numbers(out: &mut String, parts: &[Part]) -> Result<(), AllocError> {
@@ -119,7 +166,7 @@ fn push_term(
     write!(out, "{} {} {title}", standing.table, standing.scope)?;
     push_numbers(out, parts.as_slice())?;
     push_fields(alloc, out, loaded, standing)?;
-    out.push_str("\n")
+    out.push_str(if standing.sure { "\n" } else { " Maybe\n" })
 }
 
 fn push_terms(
@@ -152,52 +199,63 @@ fn has_unit(
     })
 }
 
-/// Whether units are found by their paths: one of the Field, one of the BankField, and none with the name of an
-/// External.
-fn has_units(alloc: Global, terms: &[StandingTerm<'_>]) -> Result<bool, AllocError> {
-    Ok(
-        has_unit(alloc, terms, b"FLD1", Some((9, 24, 8)))?
-            && has_unit(alloc, terms, b"BNKA", Some((14, 0, 4)))?
-            && has_unit(alloc, terms, b"CCCC", None)?,
-    )
+/// Whether units are found by their paths.
+fn has_units(
+    alloc: Global,
+    terms: &[StandingTerm<'_>],
+    units: &[Unit],
+) -> Result<bool, AllocError> {
+    for unit in units {
+        if !has_unit(alloc, terms, unit.0, unit.1)? {
+            return Ok(false);
+        }
+    }
+    Ok(true)
 }
 
-/// Whether these are the terms above.
+/// Whether these are the wanted terms.
 fn are_terms(
     alloc: Global,
     loaded: &Loaded<'_>,
     terms: &[StandingTerm<'_>],
+    wanted: &Terms,
 ) -> Result<bool, AllocError> {
     let mut text = String::new(alloc);
     push_terms(alloc, &mut text, loaded, terms)?;
-    Ok(text.as_str() == TERMS && has_units(alloc, terms)?)
+    Ok(text.as_str() == wanted.text && has_units(alloc, terms, wanted.units)?)
 }
 
-/// Whether an answer is the terms above.
+/// Whether an answer is the wanted terms.
 fn has_terms(
     alloc: Global,
     loaded: &Loaded<'_>,
     answer: &Result<Vec<StandingTerm<'_>>, LoadFault>,
+    wanted: &Terms,
 ) -> Result<bool, Want> {
     match answer {
-        Ok(terms) => Ok(are_terms(alloc, loaded, terms)?),
+        Ok(terms) => Ok(are_terms(alloc, loaded, terms, wanted)?),
         Err(LoadFault::NoMemory) => Err(Want::Memory),
         Err(_) => Ok(false),
     }
 }
 
-/// That the terms of a load are the ones above.
-struct Terms;
-
+/// That a load has these terms.
 impl OfLoad for Terms {
     fn holds(&self, alloc: Global, loaded: &Loaded<'_>) -> Result<bool, Want> {
-        let answer = standing_terms(alloc, loaded.trees.as_slice(), &[]);
-        has_terms(alloc, loaded, &answer)
+        let answer = standing_terms(alloc, loaded.trees.as_slice(), &[], self.any_run);
+        has_terms(alloc, loaded, &answer, self)
     }
+}
+
+/// Whether the load of the tables whose code may run has its terms.
+fn has_run_terms(alloc: Global) -> Result<bool, Want> {
+    let answer = load_any_run(alloc, &RUN_CODES, &[], false);
+    holds_of_loaded(alloc, &answer, &RUN)
 }
 
 #[test]
 fn terms_where_they_stand_or_no_memory(rt: HostRuntime) {
-    let answer = holds_of_load(rt.alloc(), &CODES, &[], &Terms);
+    let answer = holds_of_load(rt.alloc(), &CODES, &[], &PLAIN);
     assert!(rt; is_whole_or_no_memory(&rt, answer));
+    assert!(rt; is_whole_or_no_memory(&rt, has_run_terms(rt.alloc())));
 }

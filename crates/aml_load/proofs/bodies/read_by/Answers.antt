@@ -1,6 +1,5 @@
 use Rattle.std.proofs.Common.{◌≡◌, arith}
 use Rattle.aml_code.specs.View.{nodes_view}
-use Rattle.aml_namespace.specs.Known.{BodyView}
 use Rattle.aml_load.proofs.BodyLaws.{reading_is, forward_is}
 use Rattle.aml_load.proofs.bodies.read_by.Goals as goal
 use Rattle.aml_load.proofs.bodies.read_by.Goals.{After-own_body_terms}

@@ -1,4 +1,4 @@
-use Rattle.std.proofs.Common.{◌≡◌, [], ◌∷◌, ◌+◌, if◌then◌else◌, false, true, Bool, List, Option, Err, Some, IfSome, drop}
+use Rattle.std.proofs.Common.{◌≡◌, ◌∷◌, ◌+◌, if◌then◌else◌, false, true, Bool, List, Option, Err, Some, IfSome, drop}
 use Rattle.std.proofs.Common.{sym, ap, subst, inr, ◌∙◌}
 use Rattle.std.specs.Prelude.{nat_eq}
 use Rattle.std.specs.Bool.{OnTrue}

@@ -1,4 +1,4 @@
-use Rattle.std.proofs.Common.{◌≡◌, [], List, Option, None, drop, IfSome}
+use Rattle.std.proofs.Common.{◌≡◌, List, Option, None, drop, IfSome}
 use Rattle.aml_names.specs.declared.segments.Seg.{Seg}
 use Rattle.aml_namespace.specs.Known.{StandsFor}
 use Rattle.aml_namespace.specs.Known.{of_paths}

@@ -7,6 +7,8 @@ pub loop-path-preserved : goal.loop-path-preserved
 loop-path-preserved c =
     let more = one_more c.args.givens.now c.loop-path.path-index c.loop-path-item.result c.loop-path-test.true c.loop-path-item.is in
     record {
-      stands = subst (λ es. StandsFor c.given.new.self es) (sym more) (c.in_ok-given.ensures.stands _ c.loop-path.invariant.stands);
+      stands =
+          subst (λ es. StandsFor c.given.new.self es) (sym more)
+          (rw c.get.ensures.value at (c.in_ok-given.ensures.stands _ c.loop-path.invariant.stands));
       kept = ap (λ (k : Known). k.kept) c.in_ok-given.ensures.ok ∙ c.loop-path.invariant.kept;
     }

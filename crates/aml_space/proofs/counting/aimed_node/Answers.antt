@@ -3,6 +3,5 @@ use Rattle.aml_children.proofs.Walks.{node_range}
 use Rattle.aml_space.proofs.counting.aimed_node.Goals as goal
 
 pub returns-clause-within : goal.returns-clause-within
-returns-clause-within c =
-    let a = c.requires.aim (omega (arith, c.if-aim-eq0.false)) in
-    node_range c.requires.shape a.0 c.args.aim a.2
+returns-clause-within c = node_range c.requires.shape c.args.target.now c.args.aim
+    (c.requires.aim (omega (arith, c.if-aim-eq0.false)))

@@ -3,8 +3,8 @@ use Rattle.std.specs.Prelude.{flat_map}
 use Rattle.std.specs.List.{list_any}
 use Rattle.aml_space.specs.Nodes.{known_by}
 use Rattle.aml_namespace.specs.Known.{outlook_in}
-use Rattle.aml_namespace.specs.Runs.{counts_by}
-use Rattle.aml_namespace.specs.Tallies.{joined, counts_in, is_alias}
+use Rattle.aml_namespace.specs.Runs.{is_alias, counts_by}
+use Rattle.aml_namespace.specs.Tallies.{joined, counts_in}
 use Rattle.aml_namespace.specs.declared.tallies.Tally.{Tally}
 use Rattle.aml_children.proofs.Basics.{not_true}
 use Rattle.aml_namespace.proofs.Joined.{counts_plain, counts_more}

@@ -9,4 +9,4 @@ pub returns-in-Some-clause-aim : goal.returns-in-Some-clause-aim
 returns-in-Some-clause-aim c =
     let ns = c.args.nodes.now in
     let s = subst (λ o. IfSome o (IsSourceOf (scopes_of c.args.hints.scopes.now) (namespace_in (known_by ns)) c.args.kind)) c.in-Some.is c.requires.source in
-    subst (λ k. IsAim ns (Some k) c.aim_by.result) (sym s.alias) (c.aim_by.ensures s.target s.is)
+    subst (λ k. IsAim ns (Some k) c.aim_by.result) (sym s.alias) (c.aim_by.ensures s.is_open s.target s.is)

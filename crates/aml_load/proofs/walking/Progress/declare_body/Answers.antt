@@ -1,10 +1,10 @@
 use Rattle.std.proofs.Common.{Some, sym, subst, ap, ◌∙◌, ◌++◌, ◌∷◌, [], ◌%◌, refl, rules}
-use Rattle.aml_namespace.specs.Namespace.{Body, declares}
+use Rattle.aml_namespace.specs.Namespace.{Body}
 use Rattle.aml_namespace.specs.Known.{Known, StandsFor}
 use Rattle.aml_namespace.proofs.Stands.{stands_kept}
 use Rattle.aml_namespace.specs.declared.kinds.Kind.TheVariants as kinds
 use Rattle.aml_space.specs.Near.{IsNear}
-use Rattle.aml_load.specs.Loading.{plus, method_entry}
+use Rattle.aml_load.specs.Loading.{plus, sure_here, method_entry}
 use Rattle.aml_load.specs.Walking.{at_site}
 use Rattle.aml_load.proofs.Holding.{method_held, entry_free, entry_taken}
 use Rattle.aml_load.proofs.walking.Progress.declare_body.Goals as goal
@@ -18,8 +18,8 @@ returns-in_err-declare_path-clause-walks c l h =
     let site = at_site c.args.site.now in
     let p = c.args.path.path in
     let b : Body = record { table = site.table; start = c.args.start; len = c.args.len; flags = c.args.flags } in
-    let bad = c.in_err-declare_path.ensures.declared l.entries (Some b) h.space in
-    let fails = entry_taken site l p (method_entry site p c.args.flags (c.args.start, c.args.len)) c.in_err-declare_path.field-0.0 bad in
+    let bad = c.in_err-declare_path.ensures.declared l (Some b) h.space in
+    let fails = entry_taken site l p (method_entry site l.entries c.args.flags (c.args.start, c.args.len) p) c.in_err-declare_path.field-0.0 bad in
     search rules
 
 pub returns-clause-walks : goal.returns-clause-walks
@@ -28,12 +28,12 @@ returns-clause-walks c l h =
     let site = at_site c.args.site.now in
     let b : Body = record { table = site.table; start = c.args.start; len = c.args.len; flags = c.args.flags } in
     let k = kinds.Method (c.args.flags % 8) in
-    let e = method_entry site p c.args.flags (c.args.start, c.args.len) in
-    let d = c.in_ok-declare_path.ensures.declared l.entries (Some b) h.space in
-    let more = l.entries ++ declares p k (Some b) site.sure ∷ [] in
+    let e = method_entry site l.entries c.args.flags (c.args.start, c.args.len) p in
+    let d = c.in_ok-declare_path.ensures.declared l (Some b) h.space in
+    let more = l.entries ++ e ∷ [] in
     let stands = subst (λ known. StandsFor known more) (sym c.in_ok-keep.ensures.ok) (stands_kept _ _ more d.1) in (
       plus l e,
-      method_held c.args.self.now _ l p k b site.sure _ h stands (c.in_ok-push.ensures.items ∙ ap (λ xs. xs ++ record { path = p; table = site.table; start = c.args.start; len = c.args.len; flags = c.args.flags } ∷ []) d.2) refl (record { uses = d.3.uses; groups = d.3.groups; scopes = ap (λ (k : Known). k.scopes) c.in_ok-keep.ensures.ok ∙ d.3.scopes })
+      method_held c.args.self.now _ l p k b (sure_here site l.entries p) _ h stands (c.in_ok-push.ensures.items ∙ ap (λ xs. xs ++ record { path = p; table = site.table; start = c.args.start; len = c.args.len; flags = c.args.flags } ∷ []) d.2) refl (record { uses = d.3.uses; groups = d.3.groups; scopes = ap (λ (k : Known). k.scopes) c.in_ok-keep.ensures.ok ∙ d.3.scopes })
           (ap (λ (k : Known). k.kept) c.in_ok-keep.ensures.ok ∙ (λ i. d.4 i ++ c.parts.ensures i ∷ [])),
       entry_free site l p e d.0,
     )

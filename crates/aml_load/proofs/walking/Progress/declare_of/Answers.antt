@@ -1,9 +1,11 @@
 use Rattle.std.proofs.Common.{None}
-use Rattle.aml_load.specs.Walking.{at_site}
+use Rattle.aml_load.specs.Walking.{at_site, sure_of}
 use Rattle.aml_load.proofs.Holding.{declared_walked}
 use Rattle.aml_load.proofs.walking.Progress.declare_of.Goals as goal
 
 pub returns-clause-walks : goal.returns-clause-walks
 returns-clause-walks c l h =
-    declared_walked c.args.self.now c.declare_path.new.self l (at_site c.args.site.now) c.args.path.now.path c.args.kind c.declare_path.result h
-    (c.declare_path.ensures.declared l.entries None h.space)
+    let site = at_site c.args.site.now in
+    let p = c.args.path.now.path in
+    declared_walked c.args.self.now c.declare_path.new.self l site p c.args.kind (sure_of site l.entries p c.args.source) c.declare_path.result h
+    (c.declare_path.ensures.declared l None h.space)

@@ -1,4 +1,3 @@
-use Rattle.std.proofs.Common.{[]}
 use Rattle.aml_namespace.specs.Known.{of_paths}
 use Rattle.aml_namespace.proofs.Stands.{stands_alone}
 use Rattle.aml_load.proofs.Ran.{step_read, step_unread}

@@ -1,7 +1,8 @@
 use Rattle.std.proofs.Common.{refl, ap, ◌∙◌}
 use Rattle.aml_namespace.specs.Known.{sure_by, outlook_in}
 use Rattle.aml_space.proofs.Index.{part_met}
-use Rattle.aml_namespace.proofs.Stands.{sure_listed}
+use Rattle.aml_namespace.specs.Runs.{Outlook}
+use Rattle.aml_namespace.proofs.Stands.{outlook_listed}
 use Rattle.aml_space.proofs.spaces.Space.is_sure.Goals as goal
 
 pub returns-clause-known : goal.returns-clause-known
@@ -11,4 +12,4 @@ returns-clause-known c = c.sure_met.ensures
     ∙ ap (λ k. (outlook_in k).sure c.args.path.now) c.self.view_is
 
 pub returns-clause-listed : goal.returns-clause-listed
-returns-clause-listed c = λ es stands. sure_listed c.args.self.now es c.args.path.now _ stands (returns-clause-known c)
+returns-clause-listed c = λ es stands. outlook_listed c.args.self.now es (λ (o : Outlook). o.sure c.args.path.now) _ stands (returns-clause-known c)

@@ -1,8 +1,8 @@
-use Rattle.std.proofs.Common.{◌≡◌, length, List, [], ◌∷◌, ◌++◌, sym, ap, subst, ◌∙◌}
+use Rattle.std.proofs.Common.{◌≡◌, length, [], ◌∷◌, ◌++◌, sym, ap, subst, ◌∙◌}
 use Rattle.std.specs.FinMap as map
 use Rattle.aml_namespace.specs.Known.{Known, with_kept}
 use Rattle.aml_space.specs.Candidates.{AreSettled}
-use Rattle.aml_space.specs.Opened.{AreOpened, AreThere, known_in, paths_of}
+use Rattle.aml_space.specs.Opened.{AreThere, known_in, paths_of}
 use Rattle.aml_space.proofs.Opening.{kept_opened, kept_there, more_there, known_again, on_err}
 use Rattle.aml_space.proofs.Resting.{settled_grown}
 use Rattle.aml_space.proofs.spaces.Space.keep.Goals as goal

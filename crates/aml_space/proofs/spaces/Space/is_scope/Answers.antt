@@ -1,0 +1,20 @@
+use Rattle.std.proofs.Common.{refl, ap, ◌∙◌}
+use Rattle.std.specs.Prelude.{◌&&◌}
+use Rattle.std.specs.List.{list_all}
+use Rattle.aml_namespace.specs.Known.{kinds_by, sure_by, outlook_in}
+use Rattle.aml_namespace.specs.Runs.{Outlook, opens_scope, scope_in}
+use Rattle.aml_space.proofs.Index.{part_met}
+use Rattle.aml_namespace.proofs.Stands.{outlook_listed}
+use Rattle.aml_space.proofs.spaces.Space.is_scope.Goals as goal
+
+pub returns-clause-known : goal.returns-clause-known
+returns-clause-known c =
+    let said = part_met (λ c. c.declared) _ _ _ _ _ _ refl c.node_near-node.ensures.node c.as_slice-nodes.ensures.value refl
+    c.self.invariant.index.shape in
+    c.scope_met.ensures
+    ∙ (λ i. sure_by (said i) (c.kind_of.ensures i) && list_all opens_scope (kinds_by (said i) (c.kind_of.ensures i)))
+    ∙ ap (λ k. scope_in (outlook_in k) c.args.path.now) c.self.view_is
+
+pub returns-clause-listed : goal.returns-clause-listed
+returns-clause-listed c = λ es stands.
+    outlook_listed c.args.self.now es (λ (o : Outlook). scope_in o c.args.path.now) _ stands (returns-clause-known c)

@@ -1,0 +1,301 @@
+#!/usr/bin/env python3
+"""Runs made-up tables in every way, and compares what stands then with what acpidis --any-run tells of them.
+
+    python3 tests/oracle/terms_agree.py [--counts N] [--seed N] [--read] [--program PROGRAM]
+
+Each table has a few terms that declare, open and alias a few paths. All runs of them are made here, as an interpreter
+would run them, in a namespace of their own: a declaration is passed over, with all that stands inside, where its path
+is there already, or the path above it isn't; an Alias too where its source isn't; a Scope where its path isn't, or is
+of another kind than a scope's, but one of a Name may run; and of a block the first terms run, up to all, or none.
+
+Behind the terms stand methods that ask: in the body of each a name, now and then behind a local path, and seven values,
+so that the text tells how many of them the name takes. Where it takes so many by what the tables declare, it has this
+count in each run that finds something for it. Besides, what a run declares stands in the namespace, and what is no
+Maybe there stands in each run.
+
+With --read the independent reading is tried in place of the program. What is counted are the counts of names in runs,
+and whatever else is wrong. The last line is 'N passed, N failed'.
+"""
+
+import argparse
+import itertools
+import pathlib
+import random
+import re
+import sys
+import tempfile
+from typing import NamedTuple
+
+sys.dont_write_bytecode = True
+sys.path.insert(0, str(pathlib.Path(__file__).resolve().parent))
+
+from compare import PROGRAM, run_program, write_trial  # noqa: E402
+from loading import PREDEFINED, path_text  # noqa: E402
+from made_sets import Trial, table  # noqa: E402
+from made_terms import BLOCKS, DEVICES, RARE_SEGMENTS, SEGMENTS, TermMaker  # noqa: E402
+from made_terms import code_of, name_code, root_name, text_of  # noqa: E402
+from mutating import package_length  # noqa: E402
+from printing import row_text  # noqa: E402
+from reading import Name  # noqa: E402
+from running import DONE, RAW, REFUSED, Options, run_folder  # noqa: E402
+
+SCOPES = {"Scope", *DEVICES}
+MOST_RUNS, QUESTIONS = 100, 12
+# As many values as a method can take arguments
+VALUES = 7
+# What the segments of the methods that ask begin with
+ASKING = "Q"
+LAWFUL_FAULTS = {"ScopeMissing", "AliasMissing", "AboveRoot"}
+# It ends after so many sets with something wrong, or so many in which no count is told, one after the other.
+MOST_WRONG, MOST_SILENT = 5, 200
+ROW = re.compile(r"^  (\\\S*) \w+.*?( Maybe)?(?: Times \d+)?$", re.MULTILINE)
+METHOD = re.compile(r"^  Method \((\\\S*), 0, NotSerialized, 0\) \{\n((?:    .*\n)*)  \}$", re.MULTILINE)
+
+
+# ---- runs: of each the paths that it declared, with their kinds; that of an Alias has the path at which it aims
+
+
+def kind_at(run, path):
+    return run.get(path) or PREDEFINED.get(path)
+
+
+def found(run, scope, name):
+    """The first candidate of a name at which a run has something."""
+    return next((path for path in name.candidates(scope) if kind_at(run, path)), None)
+
+
+def runs_of(tables):
+    runs = [{}]
+    for terms in tables:
+        runs = behind_all(runs, (), terms)
+    return runs
+
+
+def behind_all(runs, scope, terms):
+    """How runs may be behind some terms, each of which they meet."""
+    for term in terms:
+        runs = distinct(after for run in runs for after in behind(run, scope, term))
+    return runs
+
+
+def distinct(runs):
+    return list({frozenset(run.items()): run for run in runs}.values())
+
+
+def behind(run, scope, term):
+    """How a run may be behind a term."""
+    if term.word in BLOCKS:
+        return behind_block(run, scope, term.inside)
+    if term.word == "Scope":
+        return behind_scope(run, scope, term)
+    if term.word == "Field":
+        return behind_all([run], scope, term.inside)
+    path, kind = term.names[-1].placed(scope), kind_of(run, scope, term)
+    if path is None or kind is None or path in run or not kind_at(run, path[:-1]):
+        return [run]
+    return behind_all([{**run, path: kind}], path, term.inside)
+
+
+def behind_block(run, scope, terms):
+    runs = ends = [run]
+    for term in terms:
+        runs = behind_all(runs, scope, [term])
+        ends = ends + runs
+    return ends
+
+
+def behind_scope(run, scope, term):
+    path = found(run, scope, term.names[0])
+    word = kind_at(run, path)[0] if path is not None else None
+    if word in SCOPES:
+        return behind_all([run], path, term.inside)
+    return [run, *behind_all([run], path, term.inside)] if word == "Name" else [run]
+
+
+def kind_of(run, scope, term):
+    """The kind that a run declares by a term, if any."""
+    if term.word == "Method":
+        return "Method", term.count
+    if term.word == "Alias":
+        source = found(run, scope, term.names[0])
+        kind = None if source is None else kind_at(run, source)
+        return kind and ("Alias", kind[1] if kind[0] == "Alias" else source)
+    return None if term.word == "External" else (term.word,)
+
+
+def count_in(run, question):
+    """What a name takes in a run, if this finds something for it."""
+    for path in question.candidates():
+        kind = kind_at(run, path)
+        if path == question.local:
+            return 0
+        if kind:
+            kind = kind_at(run, kind[1]) if kind[0] == "Alias" else kind
+            return kind[1] if kind[0] == "Method" else 0
+    return None
+
+
+# ---- questions
+
+
+class Question(NamedTuple):
+    """A method that asks what a name takes, with a local path in front, if there is one."""
+
+    method: tuple
+    name: Name
+    local: tuple | None
+
+    def __str__(self):
+        local = f" behind the local {path_text(self.local)}" if self.local else ""
+        return f"{self.name} in {path_text(self.method)}{local}"
+
+    def candidates(self):
+        return self.name.candidates(self.method)
+
+    def local_code(self):
+        return b"\x08" + name_code(root_name(self.local)) + b"\0" if self.local else b""
+
+    def code(self):
+        content = name_code(root_name(self.method)) + b"\0" + self.local_code() + name_code(self.name) + b"\1" * VALUES
+        return b"\x14" + package_length(len(content), 1) + content
+
+    def lines(self, count):
+        """The lines of the body where the name takes so many arguments."""
+        local = [f"Name ({path_text(self.local)}, Zero)"] if self.local else []
+        taken = f" ({', '.join(['One'] * count)})" if count else ""
+        return [*local, f"{self.name}{taken}", *["One"] * (VALUES - count)]
+
+    def fault(self):
+        """What is said of the body where nobody knows what the name takes."""
+        return f"acpidis: body {path_text(self.method)}: UnknownName at {len(self.local_code())}"
+
+
+def questions_of(chance, runs):
+    """What is asked of the paths that runs declare, and in them. The methods that ask are no candidates of a name."""
+    paths = sorted({path for run in runs for path in run})
+    scopes = [(), *paths, *itertools.product(SEGMENTS, SEGMENTS)]
+    names = [root_name(path) for path in paths] * 3 + [Name(False, 1, list(path)) for path in paths]
+    names += [Name(False, ups, [segment]) for segment in SEGMENTS + RARE_SEGMENTS for ups in range(3)]
+    for number in range(QUESTIONS):
+        local = chance.choice(paths) if paths and chance.random() < 0.1 else None
+        yield Question((*chance.choice(scopes), f"{ASKING}{number:03}"), chance.choice(names), local)
+
+
+# ---- what is told
+
+
+class Wrong(Exception):
+    """What is told that can't be."""
+
+
+class Told:
+    """What a text tells: the rows of its namespace, each a path with whether it is sure, and how many arguments names
+    take."""
+
+    def __init__(self, outcome, questions):
+        rows = ROW.findall(outcome.out.partition("\nNamespace ")[2].partition("\nDefinitionBlock ")[0])
+        rows = {tuple(path[1:].split(".")): not mark for path, mark in rows}
+        self.rows = {path: is_sure for path, is_sure in rows.items() if not path[-1].startswith(ASKING)}
+        bodies = METHOD.findall(outcome.out)
+        self.bodies = {path: [line.strip() for line in lines.splitlines()] for path, lines in bodies}
+        self.errors = set(outcome.err.splitlines())
+        self.counts = {question.method: self.told(question) for question in questions}
+
+    def told(self, question):
+        """How many arguments a name takes, if anybody knows that by the kinds that may stand at its candidates."""
+        lines = self.bodies.get(path_text(question.method), [])
+        if "".join(lines).startswith("Raw ") and question.fault() in self.errors:
+            return None
+        counts = [count for count in range(VALUES + 1) if lines == question.lines(count)]
+        if not counts:
+            raise Wrong(f"{question}: the body is {lines}")
+        declared = {question.local, *self.rows, *PREDEFINED}
+        return counts[0] if declared.intersection(question.candidates()) else None
+
+    def compared(self, run, questions):
+        """Of each count in a run None where it is told so, else what is wrong; and what is wrong with the rows."""
+        for question in questions:
+            told, count = self.counts[question.method], count_in(run, question)
+            if told is not None and count is not None:
+                yield None if told == count else f"{question} takes {told}, but {count}"
+        yield from (f"{path_text(path)} is in no row, but" for path in run if path not in self.rows)
+        missing = (path for path, is_sure in self.rows.items() if is_sure and path not in run)
+        yield from (f"{path_text(path)} is sure, but not" for path in missing)
+
+
+def told_by(outcome, questions):
+    """What a run tells; None where it refuses the tables as it may."""
+    if outcome.status in (DONE, RAW):
+        return Told(outcome, questions)
+    fault = outcome.err.strip().rpartition(": ")[2].partition(" ")[0]
+    if outcome.status == REFUSED and fault in LAWFUL_FAULTS:
+        return None
+    raise Wrong(f"status {outcome.status}, {outcome.err.strip()}")
+
+
+def outcome_of(program, chance, codes):
+    """How a program, or the independent reading where there is none, ends over the AML of tables."""
+    names = ["dsdt.dat", *(f"ssdt{number}.dat" for number in range(1, len(codes)))]
+    files = {name: table(chance, name[:4].upper().encode(), code) for name, code in zip(names, codes)}
+    with tempfile.TemporaryDirectory() as room:
+        folder, options = write_trial(pathlib.Path(room), Trial(files, Options(any_run=True)))
+        return run_program(program, folder, options) if program else run_folder(folder, options)
+
+
+class Comparison:
+    """Compares one made-up set after another. `wrong` counts those with something wrong, `silent` the last ones without
+    a count."""
+
+    def __init__(self, program):
+        self.program, self.passed, self.failed, self.wrong, self.silent = program, 0, 0, 0, 0
+
+    def is_over(self, counts):
+        return self.passed + self.failed >= counts or self.wrong >= MOST_WRONG or self.silent >= MOST_SILENT
+
+    def compare(self, maker):
+        tables = maker.tables()
+        runs = runs_of(tables)
+        if len(runs) > MOST_RUNS:
+            return
+        questions = list(questions_of(maker.chance, runs))
+        outcome = outcome_of(self.program, maker.chance, [*map(code_of, tables), code_of(questions)])
+        try:
+            told = told_by(outcome, questions)
+            compared = [(run, it) for run in runs for it in told.compared(run, questions)] if told else []
+        except Wrong as wrong:
+            compared = [(None, str(wrong))]
+        self.silent = 0 if compared else self.silent + 1
+        self.count(tables, compared)
+
+    def count(self, tables, compared):
+        wrong = [(run, it) for run, it in compared if it]
+        self.passed += len(compared) - len(wrong)
+        self.failed += len(wrong)
+        self.wrong += bool(wrong)
+        for run, it in wrong[:1]:
+            stands = ", ".join(itertools.starmap(row_text, run.items())) or "nothing" if run is not None else ""
+            print(f"FAILED {' | '.join(map(text_of, tables))}: {it}" + (f" in the run with {stands}" if stands else ""))
+
+
+def main():
+    words = argparse.ArgumentParser(description=__doc__, formatter_class=argparse.RawDescriptionHelpFormatter)
+    words.add_argument("--counts", type=int, default=20_000)
+    words.add_argument("--seed", type=int, default=0)
+    words.add_argument("--read", action="store_true", help="try the independent reading")
+    words.add_argument("--program", type=pathlib.Path, default=PROGRAM, help="another program than out/acpidis")
+    asked = words.parse_args()
+    if not asked.read and not asked.program.exists():
+        sys.exit("the program isn't built: ./acpidis demo builds it")
+    comparison = Comparison(None if asked.read else asked.program.resolve())
+    maker = TermMaker(random.Random(asked.seed))
+    while not comparison.is_over(asked.counts):
+        comparison.compare(maker)
+    if comparison.silent >= MOST_SILENT:
+        comparison.failed += 1
+        print(f"FAILED {MOST_SILENT} sets one after the other tell no count")
+    print(f"{comparison.passed} passed, {comparison.failed} failed")
+    return int(comparison.failed > 0)
+
+
+if __name__ == "__main__":
+    sys.exit(main())
