@@ -1,0 +1,5 @@
+pub mod Selecting
+pub mod Entering
+pub mod Leading
+pub mod Following
+pub mod WorkedRuns

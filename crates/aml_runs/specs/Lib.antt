@@ -1,0 +1,2 @@
+pub mod TableRuns
+pub mod Worked
