@@ -4,8 +4,9 @@
     python3 tests/meaning.py [--write]
 
 The page has the definitions that `Means` and `Shows` of crates/acpidis/specs/Meaning.antt are made of, as they stand in
-the specs, each before what it is made of, and each type of the sources behind the definition that names it first. What
-only --any-run adds stands apart, cut off at the names of ADDED. The head of the page is tests/meaning_words.md: each
+the specs, each before what it is made of, and each type of the sources behind the definition that names it first.
+Definitions that share a comment stay together, in the order of their file. What only --any-run adds stands apart, cut off
+at the names of ADDED, and so does what PRINTED names. The head of the page is tests/meaning_words.md: each
 word of the kit's library that the definitions name has to stand in its last table, and no other. Without --write the
 page is compared with docs/meaning.md. The last line is 'N passed, N failed'.
 """
@@ -28,6 +29,7 @@ PARTS = [
     ("What a listing in memory shows", "acpidis: Shows"),
 ]
 ADDED = ("What `--any-run` adds", "aml_parse: ReadsTable aml_load: run_names table_front Front aml_namespace: agreed_path agreed_arity outlook_of")
+PRINTED = ("What a run prints", "acpidis: Lists")
 # Types that are met only as the fault of a Result, which no Ok has: they stand in a part of their own.
 FAULTS = ("What a fault can be", ["TableFault", "Bad", "LoadFault", "CodeFault", "SpaceFault"])
 LINES_A_MINUTE = 22
@@ -36,7 +38,7 @@ ROWS_A_MINUTE = 40
 LEAST_ROWS = 3
 WORD = re.compile(r"(?<![\w.\-])(?:([A-Za-z]\w*)\.)?([^\W\d][\w\-×]*)(?![\w\-]*\s=\s)")
 SIGN = re.compile(r"(?<=\s)[^\w\s(){}\[\],.;:\"→λ×∀=|¬⊥_]+(?=\s|\)|$)|(?<=\s)(?:==|\|\|)(?=\s)|\[\]|\bif\b")
-TYPE = re.compile(r"((?:^ *///.*\n|^#\[.*\n)*)^pub (?:struct|enum) (\w+)[^;{]*(?:\{\n(?:.*\n)*?\}|.*;)$", re.MULTILINE)
+TYPE = re.compile(r"((?:^ *///.*\n|^#\[.*\n)*)^pub(?:\(crate\))? (?:struct|enum) (\w+)[^;{]*(?:\{\n(?:.*\n)*?\}|.*;)$", re.MULTILINE)
 
 
 class File:
@@ -53,6 +55,7 @@ class File:
                 self.imports[word.split(" as ")[-1]] = (module, word.split(" as ")[0])
             if not words:
                 self.aliases[module.split(" as ")[1]] = module.split(" as ")[0]
+        self.groups = 0
         first = next(number for number, line in enumerate(lines) if not line.startswith("--"))
         self.add([line for line in lines[first:] if line not in uses], [], (self, tuple(lines[:first])))
 
@@ -64,14 +67,20 @@ class File:
             elif code[0].startswith("module _"):
                 self.add(block[block.index(code[0]) + 1 :], [code[0], ""], section)
             else:
+                self.groups += code != block or section != self.last_section()
                 self.definitions.append(Definition(self, section, block, around))
+
+    def last_section(self):
+        return self.definitions[-1].section if self.definitions else None
 
 
 class Definition:
-    """A paragraph of a file of specs, which may define several names."""
+    """A paragraph of a file of specs, which may define several names. Its group is that of the comment that it stands
+    under."""
 
     def __init__(self, file, section, lines, around):
         self.file, self.section, self.lines, self.around, self.code = file, section, lines, around, code_of(lines)
+        self.group = (file, file.groups)
         self.names, self.forms = names_in(self.code)
         self.uses, self.types, self.kit = [], [], []
         rows = [line for line in self.code if re.match(r"\s+∷ ", line) or line.endswith(" ∷")]
@@ -197,13 +206,28 @@ def topmost_first(roots, parts_of):
     return order
 
 
+def in_groups(definitions):
+    """Definitions with those of a group together, as they stand in their file, and each group before what it is made of."""
+    parted = set()
+    while True:
+        key = lambda it: it if it.group in parted else it.group
+        groups = {key(it): [d for d in it.file.definitions if d in definitions and key(d) == key(it)] for it in definitions}
+        uses = lambda group: [key(used) for it in groups[group] for used in it.uses if used in definitions and key(used) != group]
+        order = [it for group in topmost_first(list(groups), uses) for it in groups[group]]
+        # Groups that are made of each other can't stay together.
+        late = {it.group for number, it in enumerate(order) for used in it.uses if used in order[:number] and used.group != it.group}
+        if not late - parted:
+            return order
+        parted |= late
+
+
 class Page:
     """The page while it is made: its lines, the definitions and types on it, and what each part has of them."""
 
     def __init__(self, sources):
         self.sources, self.lines, self.known, self.shown, self.parts = sources, [], [], [], []
-        roots = [sources.named(names)[0] for _, names in [*PARTS, ADDED]]
-        for number, (title, _) in enumerate([*PARTS, ADDED]):
+        roots = [sources.named(names)[0] for _, names in [*PARTS, ADDED, PRINTED]]
+        for number, (title, _) in enumerate([*PARTS, ADDED, PRINTED]):
             others = {it for other in roots[:number] + roots[number + 1 :] for it in other}
             self.part(title, roots[number], others.union(self.known))
         self.fault_types()
@@ -211,7 +235,7 @@ class Page:
     def part(self, title, roots, others):
         definitions = topmost_first(roots, lambda it: [used for used in it.uses if used not in others])
         shown, file, inside = len(self.shown), None, set(definitions)
-        sections = {it.section: [d for d in definitions if d.section == it.section] for it in definitions}
+        sections = {it.section: in_groups([d for d in definitions if d.section == it.section]) for it in definitions}
         self.lines += [f"## {title}", ""]
         if title == ADDED[0]:
             self.lines += ["Cut off at " + ", ".join(f"`{name}`" for it in roots for name in it.names) + ": what is met through these alone.", ""]
@@ -261,7 +285,7 @@ class Page:
     def counts(self):
         comments = sum(line.lstrip().startswith("--") for it in self.known for line in it.lines)
         files = len({(it.file.crate, it.file.name) for it in self.known})
-        *parts, added, faults = self.parts
+        *parts, added, printed, faults = self.parts
         sums = ("All of this", [it for part in parts for it in part[1]], [it for part in parts for it in part[2]])
         return [
             "## How much it is",
@@ -271,7 +295,7 @@ class Page:
             "",
             "| Part | Names | Lines of definitions | Rows of tables | Lines of types | Minutes |",
             "|---|---|---|---|---|---|",
-            *[counts_of(*part) for part in (*parts, sums, added, faults)],
+            *[counts_of(*part) for part in (*parts, sums, added, printed, faults)],
             "",
         ]
 
@@ -285,8 +309,12 @@ def counts_of(title, definitions, types):
 
 
 def late_in(parts):
-    """The names that stand behind what they are made of, inside a part."""
-    return [it.names for _, some, _ in parts for number, it in enumerate(some) if set(it.uses) & set(some[:number])]
+    """The names that stand behind what they are made of, inside a part, but for what is of their own group, or of a section
+    that is made of theirs too."""
+    above = lambda it, used: any(u.section == it.section for d in used.file.definitions if d.section == used.section for u in d.uses)
+    is_late = lambda it, used: used.group != it.group and (used.section == it.section or not above(it, used))
+    earlier = lambda it, some: {used for used in it.uses if used in some and is_late(it, used)}
+    return [it.names for _, some, _ in parts for number, it in enumerate(some) if earlier(it, some[:number])]
 
 
 def words_of_head(head):
@@ -303,9 +331,9 @@ def main():
     there = PAGE.read_text() if PAGE.exists() else ""
     lines = zip(text.split("\n"), there.split("\n"))
     other = next((f"{number}: {here}" for number, (here, old) in enumerate(lines, 1) if here != old), "behind its last line")
-    lost = [word for _, names in [*PARTS, ADDED] for word in sources.named(names)[1]]
+    lost = [word for _, names in [*PARTS, ADDED, PRINTED] for word in sources.named(names)[1]]
     checks = {
-        f"PARTS and ADDED: no specs have {lost}": bool(lost),
+        f"PARTS, ADDED, PRINTED: no specs have {lost}": bool(lost),
         f"these stand behind what they are made of: {late_in(page.parts)}": bool(late_in(page.parts)),
         f"tests/meaning_words.md and the definitions: {sorted(words_of_head(head) ^ page.kit())}": words_of_head(head) != page.kit(),
         f"docs/meaning.md is made anew by --write; it differs in line {other}": there != text,
