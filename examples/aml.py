@@ -329,6 +329,8 @@ class Reader:
             term.tail = self.elements(at, end, level)
         elif tail == "f":
             term.tail = self.units(at, end, level)
+        elif tail == "b":
+            term.tail = self.body(term, at, end, level)
         elif tail:
             term.tail = end - at
         if kind == "R" and tail != "t":
@@ -348,6 +350,10 @@ class Reader:
             return self.code[at:close], close + 1
         width = int(kind)
         return (width, int.from_bytes(self.span(at, width, end), "little")), at + width
+
+    def body(self, term, at, end, level):
+        """A method's body isn't read."""
+        return end - at
 
     def elements(self, at, end, level):
         elements = []

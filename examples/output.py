@@ -1,7 +1,8 @@
-"""Ends a script in one line where standard output takes no more, or memory ends: for the scripts beside this file."""
+"""Writes files, and ends a script in one line where that fails, or memory ends: for the scripts beside this file."""
 
 import os
 import sys
+import tempfile
 
 AT_FAULT = 2
 
@@ -21,6 +22,19 @@ def run(script, main):
         leave(f"{script}: there is not enough memory")
     except KeyboardInterrupt:
         leave(f"{script}: interrupted")
+
+
+def write(file, data):
+    """Writes a file as a whole, or not at all."""
+    with tempfile.NamedTemporaryFile(dir=os.path.dirname(os.path.abspath(file)), prefix=".part", delete=False) as part:
+        try:
+            part.write(data)
+            part.close()
+            os.chmod(part.name, 0o644)
+            os.replace(part.name, file)
+        except BaseException:
+            os.unlink(part.name)
+            raise
 
 
 def leave(text=""):

@@ -3,8 +3,8 @@
 
     python3 tests/hostile.py [--mutations N]
 
-First come texts that are written down here, for page.py, facts.py, calls.py and missing.py, each with at most 2 seconds of
-processor time and 1 GB of memory; then files of errors that are others, and outputs that take nothing; then N damaged
+First come texts that are written down here, for page.py, facts.py, asl.py, calls.py and missing.py, each with at most 2 seconds
+of processor time and 1 GB of memory; then files of errors that are others, and outputs that take nothing; then N damaged
 listings, 200 if left out, for page.py and facts.py: nothing but a word may come of them. The last line is
 'N passed, N failed'.
 """
@@ -142,15 +142,16 @@ def check_texts(checks: Checks, room: pathlib.Path) -> None:
     spoken = set()
     for what, text in TEXTS.items():
         file.write_text(text)
-        trials = [("page.py", file), ("facts.py", "--jobs", "1", file, room / "facts")]
+        trials = [("page.py", file), ("facts.py", "--jobs", "1", file, room / "facts"), ("asl.py", "--edit", file, room / "asl")]
         trials += [("calls.py", room), ("missing.py", room)] if LOOKED_FOR.search(what) else []
         for script, *words in trials:
             with open(room / "printed", "w+b") as printed:
                 status, said, seconds = run(script, *map(str, words), printed=printed.fileno(), ACPIDIS=str(fake))
-                spoken.update([script] if printed.tell() or (room / "facts").exists() and script == "facts.py" else [])
+                made = {"facts.py": room / "facts", "asl.py": room / "asl"}.get(script)
+                spoken.update([script] if printed.tell() or made and made.exists() else [])
             checks.is_so(f"{script}, {what}: status {status}, {said[:500]}", is_word(script, status, said))
             checks.is_so(f"{script}, {what}: {seconds:.1f} seconds", seconds < SECONDS)
-    for script in ("page.py", "facts.py"):
+    for script in ("page.py", "facts.py", "asl.py"):
         checks.is_so(f"{script} tells of none of the texts", script in spoken)
 
 

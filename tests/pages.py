@@ -26,7 +26,7 @@ from board import VERSIONS
 
 TOP = pathlib.Path(__file__).resolve().parent.parent
 LISTING = "docs/listing.md"
-PAGES = ["folders", "refusals", "externals", "any_run", "reading", "many", "facts"]
+PAGES = ["folders", "refusals", "externals", "any_run", "reading", "changing", "many", "facts"]
 MANUAL = "docs/acpidis.1"
 LINTS = [["mandoc", "-T", "lint"], ["groff", "-ww", "-man", "-z"]]
 REFUSALS = "docs/refusals.md"

@@ -80,6 +80,7 @@ def trials(room):
         "tests/survey.sh": ["--stop"],
         "tests/install.sh": [],
         "tests/examples.py": ["--stop"],
+        "tests/asl.py": ["--sets", "0", "--stop"],
         "tests/refusals.sh": ["program"],
         "tests/limits.sh": ["--short", "--stop"],
         "tests/worked_runs.py": [],

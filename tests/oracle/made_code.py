@@ -81,13 +81,13 @@ class Maker:
         code = self.terms(0, "table")
         self.scope = ()
         for begin, end in reversed(list(zip(cuts, cuts[1:]))):
-            code = spelled(self.chance, Name(False, 0, list(path[begin:end]))) + code
+            code = self.spelled(Name(False, 0, list(path[begin:end]))) + code
             code = (b"\x5b\x82" if is_first else bytes([SCOPE])) + self.length(len(code)) + code
         return code
 
     def late_method(self, path, count):
         """The declaration of a method that the set calls; seldom it is an External, or missing, or given."""
-        name, how = spelled(self.chance, self.root_name(path)), self.chance.random()
+        name, how = self.spelled(self.root_name(path)), self.chance.random()
         if self.gives and self.chance.random() < 0.4:
             self.given[path] = count
             return b""
@@ -122,6 +122,9 @@ class Maker:
 
     # ---- names
 
+    def spelled(self, name):
+        return spelled(self.chance, name)
+
     def fresh_segment(self):
         self.fresh_count += 1
         high, low = divmod(self.fresh_count, 10)
@@ -131,7 +134,7 @@ class Maker:
         """A name with so many segments that may lead nowhere."""
         prefix = self.chance.choice(["", "", "\\", "^", "^^"])
         segs = [self.chance.choice(STRANGE_SEGMENTS) for _ in range(self.chance.choice(lengths))]
-        return spelled(self.chance, Name(prefix == "\\", prefix.count("^"), segs))
+        return self.spelled(Name(prefix == "\\", prefix.count("^"), segs))
 
     def new_name(self, inside, count=0):
         """A name to be declared."""
@@ -143,7 +146,7 @@ class Maker:
             self.locals.append(self.opened)
         else:
             self.known[self.opened] = count
-        return spelled(self.chance, name)
+        return self.spelled(name)
 
     def fresh_name(self, inside):
         ups = self.chance.randrange(len(self.scope) + 1) if self.chance.random() < 0.1 else 0
@@ -159,7 +162,7 @@ class Maker:
         return Name(True, 0, list(path[:MOST_SEGMENTS]))
 
     def name_to(self, path):
-        return spelled(self.chance, self.leading_name(path))
+        return self.spelled(self.leading_name(path))
 
     def leading_name(self, path):
         """A name that leads to a path from where the code stands, if there is one."""

@@ -3,7 +3,7 @@ with arguments, Scopes of what nothing declares and of what is no scope, declara
 names that only may stand, Aliases of what may be another Alias, and counts that differ."""
 
 from any_run import RunNamespace
-from made_code import ARGUMENT_COUNTS, IN_DEEP_TABLES, IN_TABLES, MOST_DEPTH, MOST_SEGMENTS, Maker, spelled
+from made_code import ARGUMENT_COUNTS, IN_DEEP_TABLES, IN_TABLES, MOST_DEPTH, MOST_SEGMENTS, Maker
 from reading import ALIAS, ELSE, EXTERNAL, IF, KINDS, METHOD, MOST_LEVELS, RETURN, ROWS, SCOPES, Name
 
 WHILE, DEVICE, BYTE = 0xA2, 0x5B82, 0x0A
@@ -46,7 +46,7 @@ class RunMaker(Maker):
 
     def late_method(self, path, count):
         """The declaration of a method that bodies call; now and then there is one in each of two branches."""
-        name, how = spelled(self.chance, self.root_name(path)), self.chance.random()
+        name, how = self.spelled(self.root_name(path)), self.chance.random()
         if path in self.given or how < 0.03:
             return b""
         if how < 0.1:
@@ -158,7 +158,7 @@ class RunMaker(Maker):
             self.space.add_external(self.opened, count)
         else:
             self.space.declare_so(self.scope, name, self.declared_kind(count), is_sure)
-        return spelled(self.chance, name)
+        return self.spelled(name)
 
     def declared_kind(self, count):
         if self.opcode == METHOD:
@@ -174,14 +174,14 @@ class RunMaker(Maker):
         if not found and self.happens(0.8):
             source, found = self.root_name(path), path
         self.alias_source = found
-        return spelled(self.chance, source) + self.new_name(inside)
+        return self.spelled(source) + self.new_name(inside)
 
     def scope_name(self):
         """The name of the path that a Scope opens: now and then of one that nothing declares, or that is no scope."""
         how = self.chance.random()
         if how < 0.15:
             self.opened, self.opened_is_sure = (self.fresh_segment(), self.fresh_segment())[:self.chance.choice((1, 2))], False
-            return spelled(self.chance, self.root_name(self.opened))
+            return self.spelled(self.root_name(self.opened))
         if how < 0.6:
             self.opened = self.chance.choice([path for path in self.known if self.space.is_scope(path)])
             code = self.name_to(self.opened)
@@ -201,7 +201,7 @@ class RunMaker(Maker):
         if self.is_strange(inside) or inside == "body" and self.locals and self.happens(0.3):
             return super().called(depth, inside)
         if inside == "table" and self.happens(0.1 if self.in_declaration else 0.002):
-            return spelled(self.chance, Name(False, 0, [self.fresh_segment()]))
+            return self.spelled(Name(False, 0, [self.fresh_segment()]))
         for _ in range(MOST_TRIES):
             path = self.chance.choice(self.callable_paths(inside))
             name = self.leading_name(path)
@@ -209,9 +209,9 @@ class RunMaker(Maker):
             if count is None and inside == "body":
                 count = self.methods.get(path)
             if count is not None:
-                return spelled(self.chance, name) + b"".join(self.value(depth + 1, inside) for _ in range(count))
+                return self.spelled(name) + b"".join(self.value(depth + 1, inside) for _ in range(count))
             if self.happens(0.05):
-                return spelled(self.chance, name)
+                return self.spelled(name)
         return b"\1"
 
     def callable_paths(self, inside):
@@ -247,7 +247,7 @@ class RunMaker(Maker):
 
     def alias(self, source, name):
         self.opcode, self.alias_source = ALIAS, self.space.find(self.scope, source) or ()
-        return b"\x06" + spelled(self.chance, source) + self.declared_name(name, self.known.get(self.alias_source, 0))
+        return b"\x06" + self.spelled(source) + self.declared_name(name, self.known.get(self.alias_source, 0))
 
     def device(self, name, declare, *parts):
         """A Device with a declaration inside."""
@@ -267,7 +267,7 @@ class RunMaker(Maker):
     def caller(self, depth, name, counts, front=b""):
         """A method that calls a name with one of these counts of arguments."""
         self.opcode = METHOD
-        content = self.declared_name(self.fresh_name("table"), 0) + b"\0" + front + spelled(self.chance, name)
+        content = self.declared_name(self.fresh_name("table"), 0) + b"\0" + front + self.spelled(name)
         content += b"".join(self.operation(BYTE, depth, "body") for _ in range(self.chance.choice(counts)))
         return self.packed(b"\x14", content)
 
@@ -281,10 +281,10 @@ class RunMaker(Maker):
         code = self.maybe_method(name, other)
         if self.gives and self.happens(0.5):
             self.given |= {outer: count, name.placed(self.scope): other}
-        local = b"\x08" + spelled(self.chance, self.root_name(outer)) + b"\0"
+        local = b"\x08" + self.spelled(self.root_name(outer)) + b"\0"
         code += self.caller(depth, name, (count, other, 0), local if self.happens(0.2) else b"")
         if self.happens(0.06):
-            code += self.packed(b"\x10", spelled(self.chance, name))
+            code += self.packed(b"\x10", self.spelled(name))
         self.scope, self.is_sure = outside
         return self.packed(b"\x5B\x82", device + code)
 
@@ -350,7 +350,7 @@ class RunMaker(Maker):
         else:
             device = self.fresh()
             code += self.bare_device(device) + self.alias(device, opened)
-        path, scope = opened.placed(self.scope), spelled(self.chance, opened)
+        path, scope = opened.placed(self.scope), self.spelled(opened)
         is_sure = self.space.is_sure(path) and self.space.is_scope(path)
         code += self.packed(b"\x10", scope + self.within(path, is_sure, self.sure_method, inner, count))
         code += self.sure_method(Name(False, 0, [*opened.segs, *inner.segs]), other)
@@ -368,6 +368,6 @@ class RunMaker(Maker):
         external = b"\x15" + self.declared_name(name, 0) + b"\6\0"
         outside = self.scope, self.is_sure
         self.scope, self.is_sure = self.opened, False
-        scope = spelled(self.chance, self.root_name(self.scope)) + self.terms(depth + 1, "table")
+        scope = self.spelled(self.root_name(self.scope)) + self.terms(depth + 1, "table")
         self.scope, self.is_sure = outside
         return external + self.packed(b"\x10", scope)

@@ -1,0 +1,135 @@
+#!/usr/bin/env python3
+"""Makes ASL of a listing of acpidis, which iasl compiles to the same AML.
+
+    examples/asl.py [--edit | --method PATH] [--tables FOLDER] LISTING OUT
+
+LISTING is what acpidis wrote to standard output. Each of its definition blocks becomes a file of the folder OUT, whose first
+line is the command that compiles it: to the bytes of the dump, but for the header's creator and sum. Each line of the listing
+becomes a line. What ASL can't spell as the listing has it is told on standard error, with the listing's line, and the status
+is 3: what iasl makes of that has other bytes, or is refused by it.
+
+With --edit the text is one to be changed: what other tables declare is declared as External, so that iasl finds a name that
+is typed wrongly. With --method it is an SSDT with one method alone, for splice.py. --tables names the folder of the dumps, and
+tells which of them has lengths or names that aren't in their shortest form: the listing doesn't show that, and iasl writes the
+shortest.
+
+Status 1 is a text that is no listing, or that hasn't got the method: then nothing is written. 2 is a command line that is at
+fault, or a file that can't be read or written.
+"""
+
+import argparse
+import os
+import pathlib
+import re
+import shlex
+import sys
+
+sys.dont_write_bytecode = True
+sys.path.insert(0, str(pathlib.Path(__file__).resolve().parent / "asl"))
+
+import forms  # noqa: E402
+import output  # noqa: E402
+import paths  # noqa: E402
+import standard  # noqa: E402
+from blocks import Block, MethodBlock, Reader, Refused  # noqa: E402
+
+TOLD = 3
+# What all blocks together have no more Externals than, of what they don't use.
+MOST_EXTERNALS = 200_000
+
+
+def read(file):
+    with open(file, "rb") as opened:
+        text = opened.read()
+    try:
+        return text.decode("ascii")
+    except UnicodeDecodeError as fault:
+        raise Refused(f"line {text.count(10, 0, fault.start) + 1} has a byte that isn't ASCII") from fault
+
+
+class Made:
+    """A text that is to be written: the table that it is of, its lines, and what ASL can't spell."""
+
+    def __init__(self, table, lines, told):
+        self.table, self.lines, self.told = table, lines, told
+
+
+def of_listing(asked):
+    """The blocks of the listing, and the texts that are to be written."""
+    reader = Reader(
+        lambda table, space: MethodBlock(table, space, asked.method) if asked.method else Block(table, space, asked.edit)
+    )
+    reader.read(read(asked.listing))
+    found = [method for block in reader.blocks for method in block.found] if asked.method else reader.blocks
+    if not found:
+        raise Refused(f"it declares no method {asked.method}")
+    if asked.method and len(found) > 1:
+        raise Refused(f"it declares {asked.method} on the lines {', '.join(str(method.number) for method in found)}")
+    rows = reader.rows if len(reader.rows) * len(found) <= MOST_EXTERNALS else []
+    return reader.blocks, [Made(it.table, it.text(rows), it.told) for it in found]
+
+
+def files_of(made):
+    """A name for the file of each table, of signs that no command takes for anything else."""
+    taken = set()
+    for it in made:
+        base = name = re.sub(r"\\x..|[^A-Za-z0-9._+-]|^[.-]", "_", it.table.file[1:-1])
+        number = 1
+        while name in taken:
+            number += 1
+            name = f"{base}-{number}"
+        taken.add(name)
+        yield name + ".asl"
+
+
+def head(file, is_edited):
+    """The command that compiles a file, and a word on each message that it turns off."""
+    off = standard.OF_VALUES if is_edited else {**standard.OF_VALUES, **standard.OF_NAMES}
+    words = ["iasl", "-oa", "-of", *([] if is_edited else ["-oE"]), *(f"-vw {number}" for number in off), shlex.quote(file)]
+    yield f"// {' '.join(words)}"
+    yield "// iasl doesn't ask about"
+    for number, what in off.items():
+        yield f"//   {number} {what}"
+
+
+def write(folder, made, is_edited):
+    """Writes the files."""
+    os.makedirs(folder, exist_ok=True)
+    for it, file in zip(made, files_of(made)):
+        lines = "".join(f"{line}\n" for line in (*head(file, is_edited), *it.lines))
+        output.write(os.path.join(folder, file), lines.encode("ascii"))
+
+
+def tell(made, more):
+    """Says what can't be had, and whether there was something."""
+    lines = [f"{it.table.file[1:-1]}: line {number}: {what}" for it in made for number, what in it.told]
+    for line in (*lines, *more):
+        print(f"asl: {line}", file=sys.stderr)
+    return bool(lines or more)
+
+
+def main():
+    words = argparse.ArgumentParser(description=__doc__, formatter_class=argparse.RawDescriptionHelpFormatter)
+    kinds = words.add_mutually_exclusive_group()
+    kinds.add_argument("--edit", action="store_true")
+    kinds.add_argument("--method", metavar="PATH", type=paths.path_of)
+    words.add_argument("--tables", metavar="FOLDER")
+    words.add_argument("listing", metavar="LISTING")
+    words.add_argument("out", metavar="OUT")
+    asked = words.parse_args()
+    try:
+        blocks, made = of_listing(asked)
+        more = list(forms.told(asked.tables, blocks)) if asked.tables else []
+        write(asked.out, made, asked.edit or asked.method)
+    except Refused as fault:
+        sys.exit(f"asl: {asked.listing!r}: {fault}")
+    except forms.Misfit as fault:
+        output.leave(f"asl: {fault}")
+    except OSError as fault:
+        output.leave(f"asl: {fault.filename!r}: {fault.strerror}")
+    if tell(made, more):
+        sys.exit(TOLD)
+
+
+if __name__ == "__main__":
+    output.run("asl", main)

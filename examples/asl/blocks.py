@@ -1,0 +1,204 @@
+"""The definition blocks of a listing as texts of ASL."""
+
+import re
+
+import fields
+import listing
+import standard
+import terms
+from names import Externals, Names, Scope, TooDeep, Use
+
+TABLE = re.compile(r'Table ("[^"]*") ("[^"]*") Length \d+ Revision (\d{1,3}) Oem ("[^"]*") ("[^"]*") ([0-9A-F]{8}) Creator .*')
+BLOCK = re.compile(r'DefinitionBlock \(("[^"]*")\) \{')
+RAW = "Raw {"
+GUARD = "If (Zero) {"
+OTHERS = "  // What else the tables declare:"
+
+
+class Refused(Exception):
+    """The text is no listing, or hasn't got what is asked for: why."""
+
+
+class Table:
+    """A line of the listing about a table with a header: its number, and the header's fields as the line has them."""
+
+    def __init__(self, number, form):
+        self.number = number
+        self.file, self.signature, self.revision, self.oem, self.oem_table, self.oem_revision = form.groups()
+
+    def name(self):
+        """The name of the dump, in bytes."""
+        return re.sub(rb"\\x(..)", lambda found: bytes.fromhex(found[1].decode()), self.file[1:-1].encode())
+
+    def head(self, signature, tell):
+        """The line that begins its definition block."""
+        oem, oem_table = (terms.quoted(re.sub(r"(\\x00)+$", "", it[1:-1]), tell) for it in (self.oem, self.oem_table))
+        return f'DefinitionBlock ("", {signature}, {self.revision}, {oem}, {oem_table}, 0x{self.oem_revision}) {{'
+
+
+class Block:
+    """A definition block. `told` is what ASL can't spell, with the numbers of the lines. `said` are the names on its
+    lines, in their order, with their counts of arguments, and `bodies` tell of each method whether it has terms. A text
+    that is to be changed has the Externals that it needs."""
+
+    def __init__(self, table, space, is_edited=False):
+        self.table, self.names, self.is_edited, self.lines = table, Names(space), is_edited, []
+        self.told, self.said, self.bodies = [], [], []
+        self.open, self.number, self.guard = [""], table.number, None
+        self.head = table.head(table.signature, self.tell)
+
+    def tell(self, what):
+        self.told.append((self.number, what))
+
+    def add(self, number, line):
+        """Takes the next line, and says whether it ends the block."""
+        self.number, text = number, line.lstrip(" ")
+        indent = line[: len(line) - len(text)]
+        if text == "}":
+            return self.close(indent)
+        if self.open[-1] in standard.FLAGS:
+            turned, unit, used = fields.element(text, self.tell)
+            self.names.unit(unit, used, number)
+            self.said += [(name, 0) for name in (unit, used) if name]
+            self.lines.append(indent + turned)
+        elif self.open[-1] == "Method" and text.startswith(RAW):
+            self.tell("a body without terms")
+            self.bodies[-1] = False
+            self.lines.append(f"{indent}// {text}")
+        else:
+            self.term(indent, text)
+        return False
+
+    def term(self, indent, text):
+        turned, names = terms.term(text, int(self.table.revision), self.tell)
+        self.said += [(named.name, named.count) for named in names if named.name]
+        word, opens = text.split(" ", 1)[0], text.endswith("{")
+        self.met(word, self.names.line(word, names, opens, self.number), text)
+        self.lines.append(indent + turned)
+        if opens:
+            self.open.append(word)
+            if word == "Method":
+                self.bodies.append(True)
+
+    def close(self, indent):
+        self.open.pop()
+        if self.open:
+            self.names.close()
+            self.lines.append(indent + "}")
+            self.closed()
+        else:
+            self.told = sorted([*self.told, *self.names.told()], key=lambda it: it[0])
+        return not self.open
+
+    def met(self, word, node, text):
+        """Remembers where an If begins that has Externals alone: iasl writes one of its own around those."""
+        if text == GUARD and len(self.open) == 1:
+            self.guard = len(self.lines)
+        elif word != "External" or len(self.open) != 2:
+            self.guard = None
+
+    def closed(self):
+        """A block inside is closed."""
+        if self.guard is not None and len(self.open) == 1:
+            if self.is_edited:
+                self.lines[self.guard :] = [line[2:] for line in self.lines[self.guard + 1 : -1]]
+            self.guard = None
+
+    def text(self, rows):
+        """The lines of the block in ASL. With Externals those of these rows stand at its end."""
+        if not self.is_edited:
+            return [self.head, *self.lines, "}"]
+        names = self.names
+        return around(self.head, Externals(names.space, names.uses, names.own | names.externals.keys()), self.lines, rows)
+
+
+def around(head, externals, lines, rows):
+    """A definition block of these lines with its Externals."""
+    wanted, others = ([f"  {line}" for line in some] for some in (externals.wanted(), externals.others(rows)))
+    return [head, *wanted, *lines, *([OTHERS, *others] if others else []), "}"]
+
+
+class MethodBlock(Block):
+    """A definition block, of which one method is wanted: the lines of those with its path, and what they use."""
+
+    def __init__(self, table, space, path):
+        super().__init__(table, space)
+        self.path, self.found, self.begun = path, [], None
+
+    def met(self, word, node, text):
+        if word == "Method" and node.path() == self.path and not self.begun:
+            self.begun = Found(self, node)
+
+    def closed(self):
+        if self.begun and len(self.open) == self.begun.depth:
+            self.begun.end(self)
+            self.found.append(self.begun)
+            self.begun = None
+
+
+class Found:
+    """A method of a listing, as a definition block with nothing else."""
+
+    def __init__(self, block, node):
+        self.block, self.table, self.node, self.number, self.depth = block, block.table, node, block.number, len(block.open)
+        self.at, self.told_at, self.uses_at = len(block.lines), len(block.told), len(block.names.uses)
+
+    def end(self, block):
+        self.lines = block.lines[self.at :]
+        self.told, self.uses = block.told[self.told_at :], block.names.uses[self.uses_at :]
+        del block.lines[self.at :]
+
+    def text(self, rows):
+        space, indent = self.block.names.space, len(self.lines[0]) - len(self.lines[0].lstrip(" ")) - 2
+        # By its whole path the method needs no Scope around it.
+        head = re.sub(r"Method \([^,]*", lambda _: f"Method ({self.node.path()}", self.lines[0])
+        lines = [line[indent:] for line in (head, *self.lines[1:])]
+        above = Use(Scope(space.root, None), terms.Named(self.node.above.path()), self.number)
+        externals = Externals(space, [*self.uses, above], {self.node})
+        return around(self.table.head('"SSDT"', self.block.tell), externals, lines, rows)
+
+
+class Reader:
+    """Reads a listing from the left. `make` makes the block of a table, with the namespace of the listing."""
+
+    def __init__(self, make):
+        self.make, self.space, self.rows, self.tables, self.blocks = make, listing.Namespace(), [], {}, []
+        self.block, self.number = None, 0
+
+    def read(self, text):
+        for self.number, line in enumerate(text.split("\n")[:-1], 1):
+            try:
+                self.take(line.removesuffix("\r"))
+            except (terms.Misread, ValueError) as fault:
+                raise Refused(f"line {self.number} isn't one of a listing of acpidis") from fault
+            except TooDeep as fault:
+                raise Refused(f"line {self.number}: {fault}") from fault
+        if self.block or not self.blocks or not text.endswith("\n"):
+            raise Refused(f"it is cut behind line {self.number}" if self.number else "it is empty")
+
+    def take(self, line):
+        if self.block:
+            if self.block.add(self.number, line):
+                self.blocks.append(self.block)
+                self.block = None
+        elif line.startswith("DefinitionBlock ("):
+            self.begin(BLOCK.fullmatch(line))
+        elif self.blocks:
+            raise terms.Misread
+        else:
+            self.front(line)
+
+    def begin(self, form):
+        """A definition block begins. Each stands once, behind the line of its table."""
+        if not form or form[1] not in self.tables:
+            raise terms.Misread
+        self.block = self.make(self.tables.pop(form[1]), self.space)
+
+    def front(self, line):
+        """A line in front of the definition blocks."""
+        table, row = TABLE.fullmatch(line), listing.ROW.fullmatch(line)
+        if line.startswith("Table ") and table:
+            self.tables[table[1]] = Table(self.number, table)
+        elif row:
+            self.space.add(row)
+            self.rows.append(self.space.node(row[1]))

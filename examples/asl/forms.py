@@ -1,0 +1,99 @@
+"""Which lengths and names of a table aren't in the form that iasl writes: a listing doesn't show forms."""
+
+import os
+
+import aml
+
+LIMITS = (1 << 6, 1 << 12, 1 << 20, 1 << 28)
+
+
+class Misfit(Exception):
+    """A file isn't the dump of its table in the listing."""
+
+
+def shortest(size):
+    """How many bytes iasl takes for the length of so many bytes behind it, or of a unit of so many bits."""
+    return next((width for width, limit in enumerate(LIMITS, 1) if size + width < limit), len(LIMITS))
+
+
+class Counts:
+    """How many there are, and how many in another form than the shortest."""
+
+    def __init__(self):
+        self.all = self.long = 0
+
+    def add(self, is_long):
+        self.all, self.long = self.all + 1, self.long + is_long
+
+    def told(self, what):
+        return f"{self.long} of {self.all} {what}" if self.long else ""
+
+
+class Reader(aml.Reader):
+    """Reads a table by its text: `said` are the names of that, each with how many arguments it has, and `bodies` tell of
+    each method whether it has terms."""
+
+    def __init__(self, code, said, bodies):
+        super().__init__("", code, aml.Space(0))
+        self.said, self.bodies, self.lengths, self.names = iter(said), iter(bodies), Counts(), Counts()
+        self.in_units, self.arguments = False, 0
+
+    def length(self, at, end):
+        value, width = super().length(at, end)
+        self.lengths.add(width > shortest(value if self.in_units else value - width))
+        return value, width
+
+    def name(self, at, end):
+        name, after = super().name(at, end)
+        count, text = len(name.segments), str(name)
+        self.names.add(after - at > name.root + name.ups + 4 * count + (1 if count in (0, 2) else 2 * (count > 2)))
+        if text:
+            said, self.arguments = next(self.said, None) or ("", 0)
+            if said != text:
+                raise aml.Stopped(at)
+        return name, after
+
+    def named(self, at, end, kind, level):
+        name, rest = self.name(at, end)
+        for _ in range(self.arguments if kind in "TR" and name.segments else 0):
+            rest = self.term(rest, end, "T", level + 1)[1]
+        return aml.Term(at, str(name)), rest
+
+    def units(self, at, end, level):
+        self.in_units = True
+        units = super().units(at, end, level)
+        self.in_units = False
+        return units
+
+    def link(self, at, end, level):
+        self.in_units = False
+        after = super().link(at, end, level)
+        self.in_units = True
+        return after
+
+    def block(self, term, at, end, level):
+        self.terms(at, end, level + 1)
+
+    def body(self, term, at, end, level):
+        if next(self.bodies, False):
+            self.terms(at, end, level + 1)
+
+    def declare(self, term):
+        """Nothing is looked up here."""
+
+
+def told(folder, blocks):
+    """A line for each dump of the folder that has a length or a name in another form than the shortest."""
+    for block in blocks:
+        file = block.table.name()
+        path = os.path.join(os.fsencode(folder), file)
+        with open(path, "rb") as opened:
+            dump = opened.read()
+        code = dump[36 : int.from_bytes(dump[4:8], "little")]
+        reader = Reader(code, block.said, block.bodies)
+        at = reader.read()
+        if at < len(code) or next(reader.said, None):
+            raise Misfit(f"{os.fsdecode(path)!r} isn't the dump of this listing: they differ at byte {at + 36}")
+        what = ", ".join(filter(None, (reader.lengths.told("lengths"), reader.names.told("names"))))
+        if what:
+            yield f"{block.table.file[1:-1]}: {what} aren't in their shortest form, which iasl writes"

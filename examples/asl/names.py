@@ -1,0 +1,175 @@
+"""The names of a definition block: what iasl knows of them, and the Externals that the text needs."""
+
+import aml
+import listing
+import standard
+import terms
+
+CREATORS = {word for word in aml.DECLARERS if word.startswith("Create")} | {"Alias"}
+
+
+class TooDeep(Exception):
+    """A scope has more segments than this looks through."""
+
+
+class Scope:
+    """A block that is open: the node of its path, and what the body of a method declared so far, where it is in one."""
+
+    __slots__ = ("node", "local")
+
+    def __init__(self, node, local):
+        self.node, self.local = node, local
+
+
+class Use:
+    """A name that is used: where it stands, and how."""
+
+    __slots__ = ("scope", "named", "number")
+
+    def __init__(self, scope, named, number):
+        self.scope, self.named, self.number = scope, named, number
+
+
+class Names:
+    """What a definition block declares and uses. `own` are the nodes that it declares outside the methods, `externals`
+    those of its Externals, each with the names and the numbers of their lines, and `scopes` those that a Scope opens."""
+
+    def __init__(self, space):
+        self.space, self.own, self.externals, self.uses, self.scopes = space, set(), {}, [], set()
+        self.open = [Scope(space.root, None)]
+
+    def close(self):
+        self.open.pop()
+
+    def unit(self, name, used, number):
+        """An element of a field list: a unit that it declares, or a name that it uses."""
+        if name:
+            self.declare(name)
+        if used:
+            self.uses.append(Use(self.open[-1], terms.Named(used), number))
+
+    def line(self, word, names, opens, number):
+        """A term with these names. Answers the node that it declares."""
+        scope, node, names = self.open[-1], None, list(names)
+        if names and word == "External":
+            self.external(names.pop(), number)
+        elif names and word in CREATORS:
+            node = self.declare(names.pop().name)
+        elif names and word in aml.DECLARERS:
+            node = self.declare(names.pop(0).name)
+        self.uses += [Use(scope, named, number) for named in names]
+        if opens:
+            self.open.append(self.opened(scope, word, node, names))
+            if self.open[-1].node.depth > listing.MOST_SEGMENTS:
+                raise TooDeep(f"a scope of more than {listing.MOST_SEGMENTS} segments is too deep for this script")
+        return node
+
+    def external(self, named, number):
+        node = self.space.place(self.open[-1].node, named.name)
+        self.externals.setdefault(node, []).append((named, number))
+
+    def opened(self, scope, word, node, names):
+        if word == "Method":
+            return Scope(node, set())
+        if word == "Scope" and names:
+            node = self.space.found(scope.node, names[0].name)
+            self.scopes.add(node)
+            return Scope(node, scope.local)
+        return Scope(node if word in aml.OPENERS else scope.node, scope.local)
+
+    def declare(self, name):
+        scope = self.open[-1]
+        node = self.space.place(scope.node, name)
+        (self.own if scope.local is None else scope.local).add(node)
+        return node
+
+    # ---- what iasl knows
+
+    def told(self):
+        """What iasl makes otherwise, since it knows other names than the tables do: with the numbers of the lines."""
+        called = {}
+        for use in self.uses:
+            if use.named.is_call or self.externals and use.named.is_value:
+                node, is_local = self.known(use)
+                if use.named.is_call and (is_local or node and not self.is_method(node)):
+                    yield use.number, f"{use.named.name} as a call, where nothing says that it is a method"
+                elif node in self.externals:
+                    called.setdefault(node, use.named.count)
+        for node, lines in self.externals.items():
+            for named, number in lines:
+                if named.is_call:
+                    yield from ((number, what) for what in of_method(named, called.get(node)))
+
+    def known(self, use):
+        """The node that iasl finds for a name, and whether it is one of the body's own."""
+        for node in self.space.candidates(use.scope.node, use.named.name):
+            if use.scope.local and node in use.scope.local:
+                return node, True
+            if node in self.own or node in self.externals or node in self.scopes or node.path() in listing.PREDEFINED:
+                return node, False
+        return None, False
+
+    def is_method(self, node):
+        if node in self.scopes:
+            return False
+        if node in self.externals:
+            return any(named.is_call for named, _ in self.externals[node])
+        if node in self.own and isinstance(node.kind, str) and node.kind.startswith("\\"):
+            target = self.space.node(node.kind)  # of an Alias
+            return (target in self.own or target in self.externals) and target is not node and self.is_method(target)
+        if node in self.own:
+            return node.most is not None or isinstance(node.kind, int)
+        return isinstance(listing.PREDEFINED.get(node.path()), int)
+
+
+def of_method(named, called):
+    """What iasl makes of the External of a method, which is called with so many arguments, or not at all."""
+    if called is None and named.count == 0:
+        yield "an External of a method without arguments that nothing calls"
+    elif called is not None and called != named.count:
+        yield "an External of a method that is called with another count"
+    elif called is not None and not named.name.startswith("\\"):
+        yield "an External of a method that is called, by a name that isn't from the root"
+
+
+class Externals:
+    """The Externals of a text: `wanted` of what it uses and doesn't declare, which have to stand in front; `others` of all
+    else that the rows of the listing have, so that iasl finds what is typed, and not what isn't there. `own` are the nodes
+    that the text declares itself."""
+
+    def __init__(self, space, uses, own):
+        self.space, self.own = space, own
+        self.counts = {}
+        for use in uses:
+            node = meant(space, use.scope, use.named.name)
+            if node and self.is_other(node):
+                self.counts[node] = max(use.named.count, self.counts.get(node, 0))
+
+    def is_other(self, node):
+        return node.above and node not in self.own and node.path() not in listing.PREDEFINED
+
+    def wanted(self):
+        return [external(self.space, node, self.counts[node]) for node in sorted(self.counts, key=listing.Node.path)]
+
+    def others(self, rows):
+        return [external(self.space, node, 0) for node in rows if node not in self.counts and self.is_other(node)]
+
+
+def meant(space, scope, name):
+    """The node that a name means: the nearest that is declared, else the root's; None where that is the body's own."""
+    for node in space.candidates(scope.node, name):
+        if scope.local and node in scope.local:
+            return None
+        if node.kind is not None:
+            return node
+    _, _, is_searched = space.start(scope.node, name)
+    return space.place(space.root if is_searched else scope.node, name)
+
+
+def external(space, node, count):
+    """The External of a node, which is used with so many arguments."""
+    kinds = space.kinds_of(node) if node.kind is not None else []
+    kind = kinds[0] if kinds else count or ""
+    if isinstance(kind, int):
+        return terms.declared(node.path(), "MethodObj", max(kind, count))
+    return terms.declared(node.path(), standard.OBJECT_OF.get(kind, "UnknownObj"))

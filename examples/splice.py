@@ -1,0 +1,202 @@
+#!/usr/bin/env python3
+"""Puts a method, a name or a device that iasl compiled into the dump of a table, and changes nothing else.
+
+    examples/splice.py [--oem-revision] [--initrd FILE] DUMP NEW PATH.. >PATCHED
+
+NEW is a table in which iasl compiled what stands at each PATH, as \\_SB_.PCI0._PTS: all of DUMP beside it, or that alone. Of
+DUMP change the bytes of what is declared there behind its name, the package lengths around them, each in its width while its
+value has room, the header's length and its sum. With --oem-revision the header's OEM revision is one more: Linux passes over an
+override that isn't newer. With --initrd FILE the table is also written as an archive for the front of an initrd.
+
+Status 1 is a table in which PATH is declared not at all, several times or as something else, or that can't be read: nothing is
+written then. 2 is a command line that is at fault, or a file that can't be read or written.
+"""
+
+import argparse
+import pathlib
+import sys
+
+sys.dont_write_bytecode = True
+sys.path.insert(0, str(pathlib.Path(__file__).resolve().parent))
+
+import aml  # noqa: E402
+import output  # noqa: E402
+import paths  # noqa: E402
+
+HEADER, SUM, OEM_REVISION = 36, 9, 24
+# The terms with a scope of their own, so that names inside mean the same wherever they stand.
+SCOPED = aml.OPENERS | {"Method"}
+MOST = (1 << 6, 1 << 12, 1 << 20, 1 << 28)
+ARCHIVE = "kernel/firmware/acpi"
+
+
+class Refused(Exception):
+    """Why there is no patched table."""
+
+
+class Place:
+    """Where a path is declared: the term's word, its first byte, the byte behind its name, and the one behind it; the path
+    of the scope that it stands in, and the package lengths around it, the outer first, with its own where it has one."""
+
+    def __init__(self, word, start, named, end, scope, lengths):
+        self.word, self.start, self.named, self.end, self.scope, self.lengths = word, start, named, end, scope, lengths
+
+
+class Reader(aml.Reader):
+    """Keeps where each path is declared."""
+
+    def __init__(self, code):
+        super().__init__("", code, aml.Space(len(code)))
+        self.found, self.packages, self.named_at = {}, [], 0
+
+    def operation(self, term, kinds, at, end, kind, level):
+        scope, around = self.scope, len(self.packages)
+        if kinds[:1] == "P":
+            self.packages.append(at)
+        lengths = list(self.packages)
+        made, after = super().operation(term, kinds, at, end, kind, level)
+        del self.packages[around:]
+        if kind == "R" and term.word in aml.DECLARERS and term.word not in ("Alias", *CREATORS):
+            self.keep(term, kinds, at, after, scope, lengths)
+        return made, after
+
+    def keep(self, term, kinds, at, after, scope, lengths):
+        start = at + (self.length(at, len(self.code))[1] if kinds[:1] == "P" else 0)
+        name, named = self.name(start, len(self.code))
+        node = self.space.place(scope, name)
+        if node:
+            self.found.setdefault(node.path(), []).append(Place(term.word, term.at, named, after, scope.path(), lengths))
+
+
+CREATORS = {word for word in aml.DECLARERS if word.startswith("Create")}
+
+
+def code_of(dump, file):
+    """The AML of a dump."""
+    length = int.from_bytes(dump[4:8], "little")
+    if len(dump) < HEADER or not HEADER <= length <= len(dump):
+        raise Refused(f"{file!r} is no table")
+    return dump[HEADER:length]
+
+
+def place_in(code, path, file):
+    """Where the one declaration of a path is."""
+    reader = Reader(code)
+    stopped = reader.read()
+    if stopped < len(code):
+        raise Refused(f"{file!r} can't be read behind byte {HEADER + stopped}")
+    found = reader.found.get(path, [])
+    if len(found) != 1:
+        raise Refused(f"{file!r} declares {path} {len(found)} times" if found else f"{file!r} doesn't declare {path}")
+    return found[0]
+
+
+def spelled(value, width):
+    """A package length in so many bytes, or in as many as it needs."""
+    while value >= MOST[width - 1]:
+        width += 1
+        if width > len(MOST):
+            raise Refused("a package would be longer than a package length can say")
+    if width == 1:
+        return bytes([value])
+    return bytes([width - 1 << 6 | value & 15]) + (value >> 4).to_bytes(width - 1, "little")
+
+
+def length_at(code, at):
+    """The value of a package length, and in how many bytes it stands."""
+    more = code[at] >> 6
+    rest = int.from_bytes(code[at + 1 : at + 1 + more], "little")
+    return (code[at] & 15 | rest << 4 if more else code[at] & 63), 1 + more
+
+
+def spliced(code, place, content):
+    """The code in which this follows the name of a declaration."""
+    grown = len(content) - (place.end - place.named)
+    code = code[: place.named] + content + code[place.end :]
+    for at in reversed(place.lengths):
+        value, width = length_at(code, at)
+        again = spelled(value + grown, width)
+        again = spelled(value + grown + len(again) - width, len(again))
+        code = code[:at] + again + code[at + width :]
+        grown += len(again) - width
+    return code
+
+
+def patched(dump, new, path, files):
+    """The dump in which what the new table declares at a path stands there."""
+    code, other = code_of(dump, files[0]), code_of(new, files[1])
+    place, source = place_in(code, path, files[0]), place_in(other, path, files[1])
+    if place.word != source.word:
+        raise Refused(f"{path} is a {place.word} in {files[0]!r}, and a {source.word} in {files[1]!r}")
+    if place.word not in SCOPED and place.scope != source.scope:
+        raise Refused(f"{path} stands in the scope {place.scope} of {files[0]!r}, and in {source.scope} of {files[1]!r}")
+    return sealed(dump[:HEADER] + spliced(code, place, other[source.named : source.end]))
+
+
+def sealed(table):
+    """A table with the length and the sum that it wants."""
+    table = bytearray(table)
+    table[4:8] = len(table).to_bytes(4, "little")
+    table[SUM] = 0
+    table[SUM] = -sum(table) & 255
+    return bytes(table)
+
+
+def raised(table):
+    """A table whose OEM revision is one more."""
+    revision = int.from_bytes(table[OEM_REVISION : OEM_REVISION + 4], "little") + 1
+    if revision >> 32:
+        raise Refused("the OEM revision can't be raised: it is FFFFFFFF")
+    return sealed(table[:OEM_REVISION] + revision.to_bytes(4, "little") + table[OEM_REVISION + 4 :])
+
+
+# ---- an archive for the front of an initrd
+
+
+def archive(table):
+    """A cpio archive, in the form that Linux wants, of a table where it looks for overrides."""
+    name = f"{ARCHIVE}/{table[:4].decode('ascii', 'replace').lower()}.aml"
+    folders = [ARCHIVE[:at] for at in range(len(ARCHIVE) + 1) if at == len(ARCHIVE) or ARCHIVE[at] == "/"]
+    entries = [entry(number, folder, 0o040755, b"") for number, folder in enumerate(folders, 1)]
+    whole = b"".join([*entries, entry(len(folders) + 1, name, 0o100644, table), entry(0, "TRAILER!!!", 0, b"")])
+    return whole + bytes(-len(whole) % 512)
+
+
+def entry(number, name, mode, data):
+    """A file of a cpio archive, padded to four bytes."""
+    fields = (number, mode, 0, 0, 1, 0, len(data), 0, 0, 0, 0, len(name) + 1, 0)
+    head = b"070701" + b"".join(b"%08X" % field for field in fields) + name.encode() + b"\0"
+    return head + bytes(-len(head) % 4) + data + bytes(-len(data) % 4)
+
+
+def read(file):
+    with open(file, "rb") as opened:
+        return opened.read()
+
+
+def main():
+    words = argparse.ArgumentParser(description=__doc__, formatter_class=argparse.RawDescriptionHelpFormatter)
+    words.add_argument("--oem-revision", action="store_true")
+    words.add_argument("--initrd", metavar="FILE")
+    words.add_argument("dump", metavar="DUMP")
+    words.add_argument("new", metavar="NEW")
+    words.add_argument("paths", metavar="PATH", nargs="+", type=paths.path_of)
+    asked = words.parse_args()
+    if sys.stdout.isatty():
+        words.error("a table isn't for a terminal: write it to a file, as with >PATCHED")
+    try:
+        table, new = read(asked.dump), read(asked.new)
+        for path in asked.paths:
+            table = patched(table, new, path, (asked.dump, asked.new))
+        table = raised(table) if asked.oem_revision else table
+        if asked.initrd:
+            output.write(asked.initrd, archive(table))
+    except Refused as fault:
+        sys.exit(f"splice: {fault}")
+    except OSError as fault:
+        output.leave(f"splice: {fault.filename!r}: {fault.strerror}")
+    sys.stdout.buffer.write(table)
+
+
+if __name__ == "__main__":
+    output.run("splice", main)

@@ -1,0 +1,191 @@
+#!/usr/bin/env python3
+"""Makes a folder of dumps, as acpidis takes it, of a file that has ACPI tables in it.
+
+    examples/unpack.py FILE FOLDER
+
+FILE is what acpidump printed, as text, which may stand in a bug report with other lines around; or tables one behind the
+other; or an image, as of a firmware, in which tables stand as they are: there those with a right sum are taken, each once.
+What is compressed in an image has to be unpacked before. The files have the names that `acpixtract -a` gives. Where the text
+tells the addresses, and they lead from the RSDP to the DSDT, they are written to tables.map.
+
+Standard output has a line for each file. Status 1 is a file without tables, or with one that isn't whole: nothing is written
+then. 2 is a command line that is at fault, a FOLDER that isn't empty, or a file that can't be read or written.
+"""
+
+import argparse
+import itertools
+import os
+import pathlib
+import re
+import shutil
+import sys
+import tempfile
+
+sys.dont_write_bytecode = True
+sys.path.insert(0, str(pathlib.Path(__file__).resolve().parent))
+
+import output  # noqa: E402
+
+TITLE = re.compile(r"[> \t]*(RSD PTR|[A-Z0-9!_]{4}) @ 0x([0-9A-Fa-f]{1,16})\s*")
+ROW = re.compile(r"[> \t]*([0-9A-Fa-f]{4,8}): ((?:[0-9A-Fa-f]{2}(?: |$)){1,16})")
+HEADER, ROOT, ROOT_LENGTH = 36, b"RSD PTR ", 20
+# A header as tables in images have them: a signature, a length, a revision, and names of printable bytes.
+HEAD = re.compile(rb"(?=([A-Z][A-Z0-9]{3}|[A-Z0-9]{3}!).{4}[\0-\x20].[ -~\0]{6}[ -~\0]{8}.{4}[ -~\0]{4})", re.DOTALL)
+SIGNATURE = re.compile(rb"[A-Z0-9_!]{4}")
+
+
+class Refused(Exception):
+    """Why there is no folder."""
+
+
+class Table:
+    """A table of the file: its signature, its bytes, and its address, 0 where none is known."""
+
+    def __init__(self, data, signature=None, address=0):
+        self.data, self.address = data, address
+        self.signature = signature or ("RSDP" if data.startswith(ROOT) else data[:4].decode("latin-1"))
+
+
+def little(data, at, width):
+    return int.from_bytes(data[at : at + width], "little")
+
+
+def length_of(data):
+    """The length that a table says it has."""
+    if data.startswith(ROOT):
+        return little(data, ROOT_LENGTH, 4) if len(data) > 15 and data[15] >= 2 else ROOT_LENGTH
+    return little(data, 4, 4)
+
+
+# ---- the text of acpidump
+
+
+def dumped(text):
+    """The tables of acpidump's text."""
+    tables, title = [], None
+    for number, line in enumerate(text.split("\n"), 1):
+        found, row = TITLE.fullmatch(line.rstrip("\r")), ROW.match(line.rstrip("\r"))
+        if found:
+            title = (number, found[1].replace("RSD PTR", "RSDP"), int(found[2], 16))
+            tables.append((title, bytearray()))
+        elif row and title:
+            if int(row[1], 16) != len(tables[-1][1]):
+                raise Refused(
+                    f"line {number}: the row of {title[1]} at {row[1]} stands where that at {len(tables[-1][1]):04X} should"
+                )
+            tables[-1][1].extend(bytes.fromhex(row[2]))
+        elif not line.strip("> \t\r"):
+            title = None
+    return [Table(whole(number, name, bytes(data)), name, address) for (number, name, address), data in tables]
+
+
+def whole(number, name, data):
+    if len(data) < 8 or length_of(data) > len(data):
+        raise Refused(f"line {number}: {name} has {len(data)} bytes of {length_of(data) if len(data) > 7 else 'its header'}")
+    return data
+
+
+# ---- tables as bytes
+
+
+def behind_each_other(data):
+    """The tables of a file that has nothing else, or none."""
+    tables, at = [], 0
+    while at < len(data):
+        size = length_of(data[at : at + HEADER])
+        least = ROOT_LENGTH if data.startswith(ROOT, at) else HEADER
+        if not SIGNATURE.match(data, at) and not data.startswith(ROOT, at) or not least <= size <= len(data) - at:
+            return []
+        tables.append(Table(data[at : at + size]))
+        at += size
+    return tables
+
+
+def found_in(image):
+    """The tables in an image. What stands inside one that was found is part of it."""
+    sums = bytes(itertools.accumulate(image, lambda total, byte: total + byte & 255, initial=0))
+    tables, end = {}, 0
+    for place in HEAD.finditer(image):
+        at, size = place.start(), little(image, place.start() + 4, 4)
+        if at >= end and HEADER <= size <= len(image) - at and sums[at] == sums[at + size]:
+            end = at + size
+            tables.setdefault(image[at:end], None)
+    return [Table(data) for data in tables]
+
+
+def tables_of(data):
+    text = data.decode("latin-1")
+    tables = (
+        dumped(text)
+        if any(map(TITLE.fullmatch, map(str.rstrip, text.split("\n"))))
+        else behind_each_other(data) or found_in(data)
+    )
+    if not tables:
+        raise Refused("no table is in it")
+    return tables
+
+
+# ---- the folder
+
+
+def names_of(tables):
+    """The names of the files, as acpixtract gives them: numbered where several tables have a signature."""
+    counts, numbers = {}, {}
+    for table in tables:
+        counts[table.signature] = counts.get(table.signature, 0) + 1
+    for table in tables:
+        signature = table.signature
+        numbers[signature] = number = numbers.get(signature, 0) + 1
+        base = re.sub(r"[^a-z0-9_!]", "_", signature.lower())
+        yield f"{base}{number if counts[signature] > 1 else ''}.dat"
+
+
+def leads(tables):
+    """Whether the addresses lead from the RSDP to the DSDT (ACPI 6.5, 5.2.5 to 5.2.9)."""
+    at = {table.address: table.data for table in reversed(tables) if table.address}
+    root = next((table.data for table in tables if table.signature == "RSDP" and table.address), b"")
+    extended = little(root, 24, 8) if len(root) >= HEADER and root[15] >= 2 else 0
+    listed, width = at.get(extended or little(root, 16, 4), b""), 8 if extended else 4
+    entries = (at.get(little(listed, place, width), b"") for place in range(HEADER, len(listed) - width + 1, width))
+    fadt = next((data for data in entries if data.startswith(b"FACP")), b"")
+    dsdt = (little(fadt, 140, 8) if len(fadt) >= 148 else 0) or little(fadt, 40, 4)
+    return at.get(dsdt, b"").startswith(b"DSDT")
+
+
+def write(folder, tables):
+    """Writes the folder as a whole, or not at all."""
+    place = os.path.abspath(folder)
+    if os.path.lexists(place) and (not os.path.isdir(place) or os.listdir(place)):
+        output.leave(f"unpack: {folder!r} is there, and isn't an empty folder")
+    part = tempfile.mkdtemp(dir=os.path.dirname(place), prefix=".part")
+    try:
+        names = list(names_of(tables))
+        for name, table in zip(names, tables):
+            pathlib.Path(part, name).write_bytes(table.data)
+        if leads(tables):
+            lines = (f"{table.address:016X} {name}\n" for name, table in zip(names, tables) if table.address)
+            pathlib.Path(part, "tables.map").write_text("".join(lines), encoding="ascii")
+        os.chmod(part, 0o755)
+        os.replace(part, place)
+    except BaseException:
+        shutil.rmtree(part, ignore_errors=True)
+        raise
+    for name, table in zip(names, tables):
+        print(name, table.signature, len(table.data))
+
+
+def main():
+    words = argparse.ArgumentParser(description=__doc__, formatter_class=argparse.RawDescriptionHelpFormatter)
+    words.add_argument("file", metavar="FILE")
+    words.add_argument("folder", metavar="FOLDER")
+    asked = words.parse_args()
+    try:
+        write(asked.folder, tables_of(pathlib.Path(asked.file).read_bytes()))
+    except Refused as fault:
+        sys.exit(f"unpack: {asked.file!r}: {fault}")
+    except OSError as fault:
+        output.leave(f"unpack: {fault.filename!r}: {fault.strerror}")
+
+
+if __name__ == "__main__":
+    output.run("unpack", main)

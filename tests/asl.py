@@ -1,0 +1,681 @@
+#!/usr/bin/env python3
+"""Checks examples/asl.py, splice.py and unpack.py.
+
+    python3 tests/asl.py [--sets N] [--stop] [FOLDER ..]
+
+Of sample sets, of N made-up sets of which ASL has each term, 200 if left out, and of each FOLDER of dumps, asl.py makes ASL
+of the listing. Where iasl is there it compiles each block of which nothing is told, which has to give the dump's bytes
+again. Each spelling that ASL hasn't got is told. 150 methods, grown by 1 to 70,000 bytes, are put into their dumps by
+splice.py: acpidis reads those, and the listings differ in the lines that are new. unpack.py takes texts, files and images
+apart, as acpixtract does where that is there. With --stop the first row that fails ends it. The last line is
+'N passed, N failed'.
+"""
+
+import argparse
+import concurrent.futures
+import contextlib
+import itertools
+import os
+import pathlib
+import random
+import re
+import resource
+import shutil
+import subprocess
+import sys
+import tempfile
+
+sys.dont_write_bytecode = True
+TOP = pathlib.Path(__file__).resolve().parent.parent
+sys.path[:0] = [str(TOP / "tests/oracle"), str(TOP / "tests"), str(TOP / "examples")]
+
+import board  # noqa: E402
+from compare import PROGRAM  # noqa: E402
+from dumps import Dump  # noqa: E402
+from folders import read_folder  # noqa: E402
+from hostile import mutated  # noqa: E402
+from made_plain import PlainMaker  # noqa: E402
+from made_sets import sealed  # noqa: E402
+from running import REFUSED, Options, run  # noqa: E402
+from telling import DEMO, HOSTILE_FILES, PAGES_FILES, RUNS_FILES, method, packed  # noqa: E402
+
+ASL, SPLICE, UNPACK = (TOP / "examples" / script for script in ("asl.py", "splice.py", "unpack.py"))
+IASL, ACPIXTRACT = shutil.which("iasl"), shutil.which("acpixtract")
+HEADER, MOST_GROWN, GROWN = 36, 70_000, 150
+NOOP = b"\xA3"
+SAMPLES = {"pages": PAGES_FILES, "hostile": HOSTILE_FILES, "runs": RUNS_FILES, **board.VERSIONS}
+
+
+def table(signature, code, revision=2):
+    return sealed(signature + bytes(4) + bytes([revision]) + b"\0TEST  EXAMPLE \1\0\0\0TEST\1\0\0\0" + code)
+
+
+class Stopped(Exception):
+    """A row failed, and no other is wanted."""
+
+
+class Checks:
+    def __init__(self, room, stops):
+        self.room, self.stops, self.passed, self.failed, self.same, self.told = room, stops, 0, 0, 0, 0
+
+    def is_same(self, what, got, wanted):
+        if got == wanted:
+            self.passed += 1
+        else:
+            self.failed += 1
+            print(f"FAILED {what}: got\n{got}\nnot\n{wanted}")
+            if self.stops:
+                raise Stopped
+
+    def is_true(self, what, holds):
+        self.is_same(what, bool(holds), True)
+
+    def folder(self, name, files):
+        place = self.room / name
+        place.mkdir()
+        for file, data in files.items():
+            (place / file).write_bytes(data)
+        return place
+
+    def run(self, script, *words):
+        return subprocess.run([sys.executable, script, *words], cwd=self.room, capture_output=True, text=True, check=False)
+
+
+# ---- whole sets
+
+
+def compiled(path):
+    """What iasl makes of a file by the command on its first line; None where it makes nothing."""
+    command = path.read_text("ascii").partition("\n")[0].removeprefix("// ").split()
+    subprocess.run(command[:-1] + [path.name], cwd=path.parent, stdin=subprocess.DEVNULL, capture_output=True, check=False)
+    made = path.with_suffix(".aml")
+    return made.read_bytes() if made.exists() else None
+
+
+def is_again(dump, made):
+    """Whether these are the bytes of a dump, but for its sum and its creator."""
+    dump = dump[: int.from_bytes(dump[4:8], "little")]
+    return made is not None and (made[:9], made[10:28], made[HEADER:]) == (dump[:9], dump[10:28], dump[HEADER:])
+
+
+def check_set(checks, name, dumps, options):
+    """Each block of a set's listing of which nothing is told compiles to its dump."""
+    outcome = run(dumps, options)
+    if outcome.status == REFUSED:
+        return
+    place = checks.folder(name, {})
+    text, out = place / "text", place / "out"
+    text.write_text(outcome.out, "ascii")
+    tables = checks.folder(f"{name}/dumps", {dump.name: dump.data for dump in dumps})
+    ran = checks.run(ASL, "--tables", tables, text, out)
+    told = {line.removeprefix("asl: ").partition(": ")[0] for line in ran.stderr.splitlines()}
+    checks.is_true(f"{name}: {ran.stderr[-500:]}", ran.returncode in (0, 3) and "Traceback" not in ran.stderr)
+    files = dict(zip(re.findall(r'^DefinitionBlock \("(.*)"\) \{$', outcome.out, re.M), sorted(out.iterdir(), key=made_at)))
+    data = {escaped(dump.name): dump.data for dump in dumps}
+    for file, path in files.items():
+        checks.told += file in told
+        if IASL and file not in told:
+            checks.same += 1
+            checks.is_true(f"{name}: {file} again", is_again(data[file], compiled(path)))
+
+
+def made_at(path):
+    return path.stat().st_mtime_ns
+
+
+def escaped(name):
+    return "".join(chr(it) if 0x20 <= it <= 0x7E and it not in b'"\\' else f"\\x{it:02X}" for it in name.encode())
+
+
+def plain_set(seed):
+    codes = PlainMaker(random.Random(seed)).tables()
+    names = ["dsdt.dat", *(f"ssdt{number}.dat" for number in range(1, len(codes)))]
+    return [Dump(name, None, table(name[:4].upper().encode(), code)) for name, code in zip(names, codes)]
+
+
+def check_sets(checks, count, folders):
+    jobs = [
+        (name, [Dump(file, None, data) for file, data in files.items()], Options(any_run=True))
+        for name, files in SAMPLES.items()
+    ]
+    jobs += [("demo", read_folder(DEMO), Options())]
+    jobs += [(f"plain{seed}", plain_set(seed), Options()) for seed in range(count)]
+    for folder in map(pathlib.Path, folders):
+        jobs.append((f"of_{folder.name}", read_folder(folder), Options(any_run=True, any_sum=True)))
+    with concurrent.futures.ThreadPoolExecutor(os.cpu_count()) as pool:
+        list(pool.map(lambda job: check_set(checks, *job), jobs))
+    if IASL:
+        checks.is_true(f"most made-up tables are compiled: {checks.same} of {checks.same + checks.told}", checks.same >= count)
+
+
+# ---- what ASL hasn't got
+
+HEAD = 'Table "a.dat" "DSDT" Length 36 Revision {} Oem "TEST  " "EXAMPLE " 00000001 Creator "TEST" 00000001\n'
+ROWS = r"""
+  \FOO_ Method 1
+  \BAR_ Name
+  \DEV0 Device
+  \DEV0._STA Method 0
+"""
+# A body, or in front of it what stands outside, and what is told of it.
+UNSPELLED = [
+    ("Store (0x0001, Local0)", "0x0001, which is wider than it needs to be"),
+    ("Store (0x00000000000000FF, Local0)", "0x00000000000000FF, which is wider than it needs to be"),
+    ("Store (Package (0x01) {One, One}, Local0)", "a Package of more than its size"),
+    ("Store (Buffer (0x01) {AA, BB}, Local0)", "a Buffer of more than its size"),
+    ("Store (Buffer (Zero) {AA}, Local0)", "a Buffer of more than its size"),
+    ("Store (VarPackage (0x02) {}, Local0)", "a VarPackage of a constant size"),
+    ("Store (VarPackage (One) {}, Local0)", "a VarPackage of a constant size"),
+    ('Store ("a\\x80", Local0)', "a text with bytes that aren't ASCII"),
+    ('Store ("\\xFF", Local0)', "a text with bytes that aren't ASCII"),
+    ("Raw {A4}", "a body without terms"),
+    ("Local0", "a value that nothing takes"),
+    ("0x05", "a value that nothing takes"),
+    ('"a {"', "a value that nothing takes"),
+    ("Buffer (One) {}", "a value that nothing takes"),
+    ("BAR_", "BAR_ as a call, where nothing says that it is a method"),
+    ("Store (Debug, Local0)", "Debug as a value"),
+    ("Store (Load (BAR_, Local0), Local0)", "Load as a value"),
+    ("Store (DerefOf (One), Local0)", "DerefOf of what is no reference"),
+    ('Store (DerefOf ("A"), Local0)', "DerefOf of what is no reference"),
+    ("Store (DerefOf (Add (One, One, )), Local0)", "DerefOf of what is no reference"),
+    ("RefOf (RefOf (BAR_))", "RefOf of RefOf"),
+    ("CondRefOf (RefOf (BAR_), Local0)", "CondRefOf of RefOf"),
+    ("CopyObject (One, Debug)", "CopyObject of Debug"),
+    ("CopyObject (One, Index (Local0, One, ))", "CopyObject of Index"),
+    ('LoadTable ("A", "B", "C", Zero, Zero, One)', "LoadTable of Zero"),
+    ("Store (One, )", "Store without a target"),
+    ("Increment ()", "Increment without a target"),
+    ("CondRefOf (, Local0)", "CondRefOf without a target"),
+    ("Match (Local0, 0x06, One, 0x00, One, One)", "Match by the operator 6"),
+    ("Name (WAIT, One)", "the name WAIT, which is a word of ASL"),
+    ("Store (LOCK, Local0)", "the name LOCK, which is a word of ASL"),
+    ("Name (NEW0, BAR_)", "a name as the value of a Name"),
+    ("Mutex (NEW0, 0x10)", "a Mutex of the level 16"),
+    ("OperationRegion (NEW0, 0x0C, One, One)", "a region in the space 0x0C"),
+    ("External (NEW0, 0x10, 0x00)", "an External of the type 16"),
+    ("External (NEW0, 0x06, 0x01)", "an External of the type DeviceObj with arguments"),
+    ("External (NEW0, 0x08, 0x00)", "an External of a method without arguments that nothing calls"),
+    ("Alias (, NEW0)", "an empty name"),
+    ("Field (REG0, 0x06) {\n    }", "the access type 6"),
+    ("Field (REG0, 0x61) {\n    }", "the update rule 3"),
+    ("Field (REG0, 0x81) {\n    }", "bit 7 of a field list's flags"),
+    ("Field (REG0, 0x01) {\n      UNI0, 0\n    }", "the unit UNI0 without a bit"),
+    ("Field (REG0, 0x01) {\n      EDGE, 8\n    }", "the name EDGE, which is a word of ASL"),
+    ("Field (REG0, 0x01) {\n      Access (0x06, 0x00)\n    }", "the access type 6"),
+    ("Field (REG0, 0x01) {\n      Access (0x01, 0x0B)\n    }", "an Access of the attribute 11"),
+    ("Field (REG0, 0x01) {\n      ExtendedAccess (0x01, 0x00, 0x04)\n    }", "an ExtendedAccess of the attribute 0"),
+    ("Field (REG0, 0x01) {\n      Connection (Buffer (0x02) {79, 00})\n    }", "a Connection of bytes that no macro here has"),
+]
+CALLED = (
+    "External (NEW0, 0x08, 0x01)\n    NEW0 (One)",
+    "an External of a method that is called, by a name that isn't from the root",
+)
+SCOPED = "FOO_ (One)\n  }\n  Scope (FOO_) {", "FOO_ as a call, where nothing says that it is a method"
+# Texts that are no listings, with what is said of them.
+WHOLE = (
+    HEAD.format(2)
+    + "Namespace 4"
+    + ROWS
+    + 'DefinitionBlock ("a.dat") {\n  Method (FOO_, 1, NotSerialized, 0) {\n    Noop\n  }\n}\n'
+)
+MISREAD = [
+    ("", "it is empty"),
+    ("\n", "it is cut behind line 1"),
+    (WHOLE[:-1], "it is cut behind line 10"),
+    (WHOLE[:-2], "it is cut behind line 10"),
+    (WHOLE.replace("Noop", "noop"), "line 9 isn't one of a listing of acpidis"),
+    (WHOLE.replace("Noop", ""), "line 9 isn't one of a listing of acpidis"),
+    (WHOLE.replace("Noop", "Noop Noop"), "line 9 isn't one of a listing of acpidis"),
+    (WHOLE.replace("Noop", "Add (One One, )"), "line 9 isn't one of a listing of acpidis"),
+    (WHOLE.replace("Noop", "{"), "line 9 isn't one of a listing of acpidis"),
+    (WHOLE.replace("Noop", "Add (One, One, "), "line 9 isn't one of a listing of acpidis"),
+    (WHOLE.replace("Noop", "Add One, One)"), "line 9 isn't one of a listing of acpidis"),
+    (WHOLE.replace("Noop", 'Store ("a, Local0)'), "line 9 isn't one of a listing of acpidis"),
+    (WHOLE.replace("Noop", "Store (One, Local0) /* a */"), "line 9 isn't one of a listing of acpidis"),
+    (WHOLE.replace("Noop", "(" * 50_000), "line 9 isn't one of a listing of acpidis"),
+    (WHOLE.replace("Noop", "LNot (" * 100_000), "line 9 isn't one of a listing of acpidis"),
+    (WHOLE.replace("Noop", "\u00e9"), "line 9 has a byte that isn't ASCII"),
+    (WHOLE.replace(", 1, NotSerialized", ", 9, NotSerialized"), "line 8 isn't one of a listing of acpidis"),
+    (WHOLE.replace('Block ("a.dat")', 'Block ("b.dat")'), "line 7 isn't one of a listing of acpidis"),
+    (WHOLE + WHOLE[WHOLE.index("DefinitionBlock") :], "line 12 isn't one of a listing of acpidis"),
+    (WHOLE + "more\n", "line 12 isn't one of a listing of acpidis"),
+    (
+        WHOLE.replace("Noop", ".".join(["Scope (AAAA"] + ["AAAA"] * 70) + ") {\n    }"),
+        "line 9: a scope of more than 64 segments is too deep for this script",
+    ),
+]
+
+
+def text_with(body, revision=2):
+    return (
+        HEAD.format(revision)
+        + "Namespace 4"
+        + ROWS
+        + (
+            f'DefinitionBlock ("a.dat") {{\n  Method (FOO_, 1, NotSerialized, 0) {{\n    {body}\n  }}\n  Name (BAR_, One)\n'
+            "  Device (DEV0) {\n    Method (_STA, 0, NotSerialized, 0) {\n    }\n  }\n}\n"
+        )
+    )
+
+
+def check_told(checks):
+    text, out = checks.room / "told.text", checks.room / "told"
+    rows = [(*row, 2) for row in (*UNSPELLED, SCOPED)] + [("Store (0x1122334455667788, Local0)",
+        "0x1122334455667788 in a table of revision 1, whose integers have 4 bytes", 1)]  # fmt: skip
+    for body, what, revision in rows:
+        text.write_text(text_with(body, revision), "ascii")
+        ran = checks.run(ASL, text, out)
+        number = 9 + (body.count("\n") > 0 and body.startswith("Field") and body.count("\n") > 1)
+        checks.is_same(body, (ran.returncode, ran.stderr), (3, f"asl: a.dat: line {number}: {what}\n"))
+    text.write_text(text_with(CALLED[0]), "ascii")
+    ran = checks.run(ASL, text, out)
+    checks.is_same(CALLED[0], (ran.returncode, ran.stderr), (3, f"asl: a.dat: line 9: {CALLED[1]}\n"))
+
+
+def check_misread(checks):
+    text = checks.room / "misread.text"
+    for content, what in MISREAD:
+        text.write_text(content, "utf-8")
+        ran = checks.run(ASL, text, "misread")
+        checks.is_same(content[-300:], (ran.returncode, ran.stderr), (1, f"asl: {str(text)!r}: {what}\n"))
+        ran = checks.run(ASL, "--edit", text, "misread")
+        checks.is_same(content[-300:], (ran.returncode, ran.stderr), (1, f"asl: {str(text)!r}: {what}\n"))
+    checks.is_true("nothing is written", not (checks.room / "misread").exists())
+    ran = checks.run(ASL, "nowhere", "out")
+    checks.is_same("no such text", (ran.returncode, ran.stderr), (2, "asl: 'nowhere': No such file or directory\n"))
+    text.write_text(WHOLE, "ascii")
+    ran = checks.run(ASL, text, text)
+    checks.is_same("a file in the way", (ran.returncode, ran.stderr), (2, f"asl: {str(text)!r}: File exists\n"))
+    text.write_bytes(WHOLE.replace("\n", "\r\n").encode())
+    checks.is_same("lines as on Windows", checks.run(ASL, text, "windows").returncode, 0)
+
+
+def check_names(checks):
+    """Files of names that a command could take for something else, and many blocks."""
+    names = ["-o", "a b;$(touch bad)", "..", "*/ \\x0A", "DSDT", "_-o"]
+    tables = "".join(HEAD.format(2).replace('"a.dat" "DSDT"', f'"{name}" "SSDT"') for name in names)
+    blocks = "".join(f'DefinitionBlock ("{name}") {{\n}}\n' for name in names)
+    (checks.room / "names.text").write_text(tables + "Namespace 0\n" + blocks, "ascii")
+    checks.is_same("names of files", checks.run(ASL, "names.text", "names").returncode, 0)
+    found = sorted(path.name for path in (checks.room / "names").iterdir())
+    checks.is_true(
+        f"files of harmless names: {found}",
+        len(found) == len(names) and all(re.fullmatch(r"[A-Za-z0-9_.-]+", it) for it in found),
+    )
+    checks.is_true("none begins with a sign", not [it for it in found if it[0] in "-."])
+    many = [f"f{number}.dat" for number in range(512)]
+    tables = "".join(HEAD.format(2).replace('"a.dat"', f'"{name}"') for name in many)
+    (checks.room / "many.text").write_text(
+        tables + "Namespace 0\n" + "".join(f'DefinitionBlock ("{name}") {{\n}}\n' for name in many), "ascii"
+    )
+    checks.is_same("512 blocks", checks.run(ASL, "many.text", "many").returncode, 0)
+    checks.is_same("512 files", len(list((checks.room / "many").iterdir())), 512)
+
+
+def check_speed(checks):
+    """Time grows as the text: 1 MB in a second, and three for a machine that is busy."""
+    block = text_with("Store (Add (FOO_ (0x12), Buffer (0x08) {01, 02, 03, 04, 05, 06, 07, 08}, Local0), BAR_)")
+    head, _, body = block.partition('DefinitionBlock ("a.dat") {\n')
+    times = []
+    for size in (1_000_000, 4_000_000):
+        text = checks.room / f"{size}.text"
+        text.write_text(head + 'DefinitionBlock ("a.dat") {\n' + body[:-2] * (size // len(body)) + "}\n", "ascii")
+        before = resource.getrusage(resource.RUSAGE_CHILDREN).ru_utime
+        checks.run(ASL, "--edit", text, f"of{size}")
+        times.append(resource.getrusage(resource.RUSAGE_CHILDREN).ru_utime - before)
+    checks.is_true(f"seconds of 1 MB and 4 MB: {times}", times[0] < 3 and times[1] < 5 * times[0])
+
+
+# Reads each text of a folder, and says what isn't taken for no listing.
+READER = """
+import pathlib, sys
+sys.path[:0] = sys.argv[2:]
+from blocks import Block, Reader, Refused
+for path in pathlib.Path(sys.argv[1]).iterdir():
+    reader = Reader(lambda table, space: Block(table, space, True))
+    try:
+        reader.read(path.read_text("ascii"))
+        [block.text(reader.rows) for block in reader.blocks]
+    except Refused:
+        print("refused")
+    except Exception as fault:
+        print(path, repr(fault))
+"""
+
+
+def check_mutations(checks):
+    """Damaged listings are read, or are no listings."""
+    outcomes = [
+        run([Dump(file, None, data) for file, data in files.items()], Options(any_run=True)) for files in SAMPLES.values()
+    ]
+    dice, place = random.Random(0), checks.folder("mutations", {})
+    for number in range(500):
+        lines = outcomes[number % len(outcomes)].out.splitlines()
+        (place / str(number)).write_text(mutated(lines, dice), "ascii")
+    ran = checks.run("-c", READER, place, TOP / "examples/asl", TOP / "examples")
+    said = ran.stdout.splitlines()
+    checks.is_same("mutations", [line for line in said if line != "refused"] + ran.stderr.splitlines(), [])
+    checks.is_true(f"some are no listings: {len(said)}", 20 < len(said) < 480)
+
+
+# ---- one method, changed
+
+
+def added(checks, name, dumps, options):
+    """A statement is put into each method of a set: compiled alone, spliced, read, and the listings differ in its line."""
+    place = checks.folder(name, {dump.name: dump.data for dump in dumps})
+    text = checks.room / f"{name}.text"
+    text.write_text(listed(place, options), "ascii")
+    paths = re.findall(r"^  (\S+) Method [0-7]$", text.read_text(), re.M)
+    for number, path in enumerate(paths):
+        out = checks.room / f"{name}.{number}"
+        if checks.run(ASL, "--method", path, text, out).returncode:
+            continue
+        (source,) = out.iterdir()
+        lines = source.read_text("ascii").split("\n")
+        at = next(number for number, line in enumerate(lines) if line.lstrip().startswith("Method ("))
+        indent = len(lines[at]) - len(lines[at].lstrip()) + 2
+        source.write_text("\n".join([*lines[: at + 1], " " * indent + "Store (0x11223344, Debug)", *lines[at + 1 :]]), "ascii")
+        made = compiled(source)
+        file = place / source.name.removesuffix(".asl")
+        whole = file.read_bytes()
+        if made:
+            source.with_suffix(".aml").write_bytes(made)
+            new = spliced(checks, file, source.with_suffix(".aml"), path)
+            file.write_bytes(new)
+            check_difference(checks, f"{name}: {path}", text.read_text(), listed(place, options), ["Store (0x11223344, Debug)"])
+            file.write_bytes(whole)
+        checks.is_true(f"{name}: {path} is compiled", made)
+
+
+def check_edit(checks):
+    """Whole tables to be changed are compiled, but with a name that nothing declares."""
+    place = checks.folder("edit", board.VERSIONS["first"])
+    (checks.room / "edit.text").write_text(listed(place), "ascii")
+    checks.is_same("--edit", checks.run(ASL, "--edit", "edit.text", "edited").returncode, 0)
+    for source in (checks.room / "edited").iterdir():
+        checks.is_true(f"{source.name} is compiled", compiled(source))
+        text = source.read_text("ascii")
+        for statement, holds in (("Store (Arg0, DBG0)", True), ("Store (Arg0, DBGX)", False)):
+            source.write_text(re.sub(r"(Method \([A-Z_]*, 1, .*\n)", rf"\g<1>{statement}\n", text), "ascii")
+            source.with_suffix(".aml").unlink(missing_ok=True)
+            checks.is_same(f"{source.name} with {statement}", compiled(source) is not None, holds)
+
+
+def listed(folder, options=()):
+    ran = subprocess.run([PROGRAM, *options, folder], capture_output=True, check=False)
+    return ran.stdout.decode("ascii")
+
+
+def spliced(checks, *words):
+    ran = subprocess.run([sys.executable, SPLICE, *words], cwd=checks.room, capture_output=True, check=False)
+    checks.is_same(f"splice {words}", (ran.returncode, ran.stderr), (0, b""))
+    return ran.stdout
+
+
+def check_difference(checks, what, before, after, lines):
+    """The second listing has these lines more, one behind the other, and another length of one table."""
+    before, after = (
+        re.sub(r'^(Table "[^"]*" "[^"]*") Length \d+', r"\1", text, flags=re.M).split("\n") for text in (before, after)
+    )
+    same = next((at for at, (one, two) in enumerate(zip(before, after)) if one != two), len(before))
+    new = after[same : same + len(lines)]
+    checks.is_true(
+        f"{what}: only these lines more", after == before[:same] + new + before[same:] and [it.strip() for it in new] == lines
+    )
+
+
+def check_grown(checks):
+    """Methods of made-up sets, each with so many more statements at its end."""
+    chance, number = random.Random(0), 0
+    for seed in itertools.takewhile(lambda _: number < GROWN, range(1000, 1200)):
+        dumps = plain_set(seed)
+        place = checks.folder(f"grown{seed}", {dump.name: dump.data for dump in dumps})
+        before = listed(place)
+        paths = re.findall(r"^  (\S+) Method ([0-7])$", before, re.M)
+        for path, count in chance.sample(paths, min(4, len(paths))):
+            number += grown(checks, place, before, path, int(count), chance)
+    checks.is_true(f"{number} methods are grown", number >= GROWN)
+
+
+def grown(checks, place, before, path, count, chance):
+    head = re.compile(rf"^( *)Method \(\S*{path[-4:]}, {count}, ", re.M)
+    found = list(head.finditer(before))
+    if len(found) != 1 or before[found[0].end() :].partition("\n")[2].lstrip().startswith("Raw {"):
+        return 0
+    file = place / re.findall(r'^DefinitionBlock \("(.*)"\) \{$', before[: found[0].start()], re.M)[-1]
+    more = chance.choice((1, 2, 50, 63, 4000, chance.randrange(1, MOST_GROWN), MOST_GROWN))
+    dump = file.read_bytes()
+    body = body_of(dump, path)
+    if body is None:
+        return 0
+    segments = path[1:].split(".")
+    name = b"\\" + (b"/%c" % len(segments) if len(segments) > 1 else b"") + "".join(segments).encode()
+    content = name + body + NOOP * more
+    length = len(content) + 4
+    code = b"\x14" + bytes([0xC0 | length & 15]) + (length >> 4).to_bytes(3, "little") + content
+    (checks.room / "new.aml").write_bytes(table(b"SSDT", code))
+    file.write_bytes(spliced(checks, file, "new.aml", path))
+    same = listed(place, ["--check"])
+    checks.is_true(f"{place}: {path}: {same}", " Differs" not in same and f'Check "{file.name}"' in same)
+    check_difference(checks, f"{place}: {path}", before, listed(place), ["Noop"] * more)
+    file.write_bytes(dump)
+    return 1
+
+
+def body_of(dump, path):
+    """The flags and the body of a method of a dump, by splice.py's own reader."""
+    import splice
+
+    try:
+        place = splice.place_in(splice.code_of(dump, "dump"), path, "dump")
+    except splice.Refused:
+        return None
+    return splice.code_of(dump, "dump")[place.named : place.end]
+
+
+def check_splice(checks):
+    """What is refused, what else may be put in, revisions and archives."""
+    device = packed(b"\x5B\x82", b"DEV0" + b"\x08NAM0\x01" + method(b"MET0", 0, b""))
+    files = {
+        "old": table(b"DSDT", device + b"\x08NAM1\x01" + method(b"TWIC", 0, b"") * 2),
+        "new": table(b"SSDT", packed(b"\x10", b"\\DEV0" + method(b"MET0", 1, NOOP) + b"\x08NAM0\x0A\x07") + b"\x08NAM1\x0D1\x00"),
+        "other": table(b"SSDT", packed(b"\x5B\x82", b"NAM1") + b"\x08DEV0.\x01" + b"\x08TWIC\x01"),
+        "cut": table(b"SSDT", b"\x08NAM1")[:-1], "short": b"DSDT", "broken": table(b"SSDT", b"\x08NAM1\x01\x02"),
+        "far": table(b"SSDT", b"\x08\\.DEV0NAM0\x12\x06\x01NAM1"),
+    }  # fmt: skip
+    checks.folder("splice", files)
+    place = "splice/"
+    for words, what in [
+        (["old", "new", "NONE"], "'splice/old' doesn't declare \\NONE"), (["old", "new", "TWIC"], "'splice/old' declares \\TWIC 2 times"),
+        (["old", "new", "DEV0"], "'splice/new' doesn't declare \\DEV0"),
+        (["old", "other", "NAM1"], "\\NAM1 is a Name in 'splice/old', and a Device in 'splice/other'"),
+        (["cut", "new", "NAM1"], "'splice/cut' is no table"), (["old", "short", "NAM1"], "'splice/short' is no table"),
+        (["broken", "new", "NAM1"], "'splice/broken' can't be read behind byte 42"),
+        (["old", "far", "DEV0.NAM0"], "\\DEV0.NAM0 stands in the scope \\DEV0 of 'splice/old', and in \\ of 'splice/far'"),
+    ]:  # fmt: skip
+        if words[1] == "other":
+            (checks.room / "splice/other").write_bytes(table(b"SSDT", packed(b"\x5B\x82", b"NAM1")))
+        ran = checks.run(SPLICE, place + words[0], place + words[1], words[2])
+        checks.is_same(f"splice {words}", (ran.returncode, ran.stdout, ran.stderr), (1, "", f"splice: {what}\n"))
+    ran = checks.run(SPLICE, place + "old", place + "none", "NAM1")
+    checks.is_same("no such file", (ran.returncode, ran.stderr), (2, "splice: 'splice/none': No such file or directory\n"))
+    checks.is_same("no path", checks.run(SPLICE, place + "old", place + "new", "1").returncode, 2)
+    patched = spliced(
+        checks, "--oem-revision", "--initrd", "acpi.cpio", place + "old", place + "new", "\\DEV0.MET0", "dev0.nam0", "\\NAM1"
+    )
+    wanted = (
+        packed(b"\x5B\x82", b"DEV0" + b"\x08NAM0\x0A\x07" + method(b"MET0", 1, NOOP))
+        + b"\x08NAM1\x0D1\x00"
+        + method(b"TWIC", 0, b"") * 2
+    )
+    head = bytearray(files["old"][:HEADER])
+    head[24] += 1
+    checks.is_same("what is put in", patched, sealed(bytes(head) + wanted))
+    check_archive(checks, patched)
+    last = bytearray(files["old"])
+    last[24:28] = b"\xFF" * 4
+    (checks.room / "splice/old").write_bytes(sealed(bytes(last)))
+    ran = checks.run(SPLICE, "--oem-revision", place + "old", place + "new", "NAM1")
+    checks.is_same(
+        "the last revision", (ran.returncode, ran.stderr), (1, "splice: the OEM revision can't be raised: it is FFFFFFFF\n")
+    )
+
+
+def check_archive(checks, patched):
+    """The archive has the folders and the table, as cpio reads it where it is there."""
+    data = (checks.room / "acpi.cpio").read_bytes()
+    names = re.findall(rb"070701[0-9A-F]{104}([^\0]+)\0", data)
+    wanted = [b"kernel", b"kernel/firmware", b"kernel/firmware/acpi", b"kernel/firmware/acpi/dsdt.aml", b"TRAILER!!!"]
+    checks.is_same("names of the archive", names, wanted)
+    checks.is_true("blocks of the archive", len(data) % 512 == 0 and patched in data)
+    if shutil.which("cpio"):
+        (checks.room / "cpio").mkdir()
+        subprocess.run(["cpio", "-i", "--quiet"], cwd=checks.room / "cpio", input=data, check=False)
+        checks.is_same("cpio", (checks.room / "cpio/kernel/firmware/acpi/dsdt.aml").read_bytes(), patched)
+
+
+# ---- files with tables in them
+
+
+def acpidump(tables):
+    """The text of acpidump: signatures, addresses and bytes."""
+    lines = []
+    for name, address, data in tables:
+        lines.append(f"{name} @ 0x{address:016X}")
+        for at in range(0, len(data), 16):
+            row = data[at : at + 16]
+            shown = "".join(chr(it) if 0x20 <= it < 0x7F else "." for it in row)
+            lines.append(f"    {at:04X}: {row.hex(' ').upper():48} {shown}")
+        lines.append("")
+    return "\n".join(lines) + "\n"
+
+
+def check_unpack(checks):
+    dsdt, ssdt = table(b"DSDT", b"\x08AAAA\x01"), table(b"SSDT", b"\x08BBBB" + b"\x0D" + b"x" * 70_000 + b"\0")
+    oem, asf = table(b"OEM1", b"12345"), table(b"ASF!", b"1")
+    dumped = [("DSDT", 0, dsdt), ("SSDT", 0, ssdt), ("SSDT", 0, dsdt), ("OEM1", 0, oem), ("ASF!", 0, asf)]
+    text = acpidump(dumped)
+    names = {"dsdt.dat": dsdt, "ssdt1.dat": ssdt, "ssdt2.dat": dsdt, "oem1.dat": oem, "asf!.dat": asf}
+    quoted = "".join(f"> {line}\r\n" for line in ["Hello,", "", *text.split("\n"), "Regards"])
+    for name, content in (("plain", text), ("quoted", quoted), ("lower", text.replace("    0000: 44", "0000: 44"))):
+        check_folder(checks, name, content.encode(), names)
+    if ACPIXTRACT:
+        place = checks.folder("acpixtract", {})
+        subprocess.run([ACPIXTRACT, "-a", checks.room / "plain"], cwd=place, capture_output=True, check=False)
+        checks.is_same("as acpixtract", {path.name: path.read_bytes() for path in place.iterdir()}, names)
+    one_by_one = {"dsdt.dat": dsdt, "ssdt.dat": ssdt, "oem1.dat": oem}
+    check_folder(checks, "behind", dsdt + ssdt + oem, one_by_one)
+    check_folder(
+        checks, "image", random.Random(0).randbytes(5000) + dsdt + b"\xFF" * 100 + ssdt + oem + dsdt + bytes(77), one_by_one
+    )
+    wrong = dsdt[:9] + bytes([dsdt[9] ^ 1]) + dsdt[10:]
+    check_folder(checks, "wrong sum", wrong + ssdt, {"dsdt.dat": wrong, "ssdt.dat": ssdt})
+    for name, content, what in [
+        ("no table", b"hello", "no table is in it"), ("nothing", b"", "no table is in it"),
+        ("cut", text[: text.index("    0020:")].encode() + b"\n", "line 1: DSDT has 32 bytes of 42"),
+        ("gap", text.replace("    0010:", "    0020:", 1).encode(), "line 3: the row of DSDT at 0020 stands where that at 0010 should"),
+        ("title", b"DSDT @ 0x0\n", "line 1: DSDT has 0 bytes of its header"),
+    ]:  # fmt: skip
+        (checks.room / name).write_bytes(content)
+        ran = checks.run(UNPACK, name, name + ".d")
+        checks.is_same(name, (ran.returncode, ran.stderr), (1, f"unpack: {name!r}: {what}\n"))
+        checks.is_true(f"{name}: nothing is written", not (checks.room / f"{name}.d").exists())
+    ran = checks.run(UNPACK, "plain", "plain.d")
+    checks.is_same(
+        "a folder in the way", (ran.returncode, ran.stderr), (2, "unpack: 'plain.d' is there, and isn't an empty folder\n")
+    )
+    check_chain(checks)
+    image = b"DSDT\xFF\xFF\x00\x00\1\0TEST  EXAMPLE \1\0\0\0TEST\1\0\0\0" * 30_000 + b"DSDT"
+    (checks.room / "claims").write_bytes(image)
+    before = resource.getrusage(resource.RUSAGE_CHILDREN).ru_utime
+    checks.run(UNPACK, "claims", "claims.d")
+    seconds = resource.getrusage(resource.RUSAGE_CHILDREN).ru_utime - before
+    checks.is_true(f"an image of 1 MB that claims many tables: {seconds} s", seconds < 3)
+
+
+def check_folder(checks, name, content, wanted):
+    (checks.room / name).write_bytes(content)
+    ran = checks.run(UNPACK, name, name + ".d")
+    lines = "".join(
+        f"{file} {'SSDT' if file == 'ssdt2.dat' else data[:4].decode()} {len(data)}\n" for file, data in wanted.items()
+    )
+    checks.is_same(name, (ran.returncode, ran.stdout, ran.stderr), (0, lines, ""))
+    checks.is_same(f"{name}: files", {path.name: path.read_bytes() for path in (checks.room / f"{name}.d").iterdir()}, wanted)
+
+
+def check_chain(checks):
+    """Addresses are written where they lead to the DSDT, and acpidis takes the folder."""
+    dsdt, ssdt = table(b"DSDT", b"\x08AAAA\x01"), table(b"SSDT", b"\x08BBBB\x01")
+    fadt = table(b"FACP", bytes(104) + (0x4000).to_bytes(8, "little") + bytes(96))
+    xsdt = table(b"XSDT", (0x3000).to_bytes(8, "little") + (0x5000).to_bytes(8, "little"))
+    root = bytearray(b"RSD PTR \0TEST  \2\0\0\0\0\x24\0\0\0" + (0x2000).to_bytes(8, "little") + bytes(4))
+    root[8] = -sum(root[:20]) & 255
+    root[32] = -sum(root) & 255
+    tables = [
+        ("RSD PTR", 0x1000, bytes(root)),
+        ("XSDT", 0x2000, xsdt),
+        ("FACP", 0x3000, fadt),
+        ("DSDT", 0x4000, dsdt),
+        ("SSDT", 0x5000, ssdt),
+    ]
+    for name, known, lines in (("chain", tables, 5), ("broken chain", tables[1:], 0)):
+        (checks.room / name).write_text(acpidump(known))
+        checks.run(UNPACK, name, name + ".d")
+        place = checks.room / f"{name}.d" / "tables.map"
+        checks.is_same(name, len(place.read_text().splitlines()) if place.exists() else 0, lines)
+        checks.is_true(f"{name} is read", "BBBB" in listed(checks.room / f"{name}.d"))
+
+
+def check_forms(checks):
+    """Lengths and names that aren't in their shortest form are told by the dumps."""
+    code = b"\x5B\x82\x49\x01DEV0" + b"\x08\x2F\1NAM0\1" + method(b"NAM1", 0, b"")
+    length = len(code) - 2
+    code = code[:2] + bytes([0x40 | length & 15, length >> 4]) + code[4:]
+    data = table(b"DSDT", code)
+    place = checks.folder("forms", {"dsdt.dat": data})
+    (checks.room / "forms.text").write_text(listed(place), "ascii")
+    ran = checks.run(ASL, "--tables", place, "forms.text", "formed")
+    what = "asl: dsdt.dat: 2 of 2 lengths, 1 of 3 names aren't in their shortest form, which iasl writes\n"
+    checks.is_same("forms", (ran.returncode, ran.stderr), (3, what))
+    (place / "dsdt.dat").write_bytes(table(b"DSDT", b"\x08NAM0\1"))
+    ran = checks.run(ASL, "--tables", place, "forms.text", "formed")
+    what = f"asl: {str(place / 'dsdt.dat')!r} isn't the dump of this listing: they differ at byte 37\n"
+    checks.is_same("another dump", (ran.returncode, ran.stderr), (2, what))
+
+
+def main():
+    words = argparse.ArgumentParser(description=__doc__, formatter_class=argparse.RawDescriptionHelpFormatter)
+    words.add_argument("--sets", metavar="N", type=int, default=200)
+    words.add_argument("--stop", action="store_true")
+    words.add_argument("folders", metavar="FOLDER", nargs="*")
+    asked = words.parse_args()
+    if not IASL:
+        print("iasl isn't there (acpica-tools): nothing is compiled")
+    with tempfile.TemporaryDirectory() as room, contextlib.suppress(Stopped):
+        checks = Checks(pathlib.Path(room), asked.stop)
+        for check in (
+            check_forms,
+            check_told,
+            check_misread,
+            check_mutations,
+            check_names,
+            check_speed,
+            check_splice,
+            check_unpack,
+            check_grown,
+        ):
+            check(checks)
+        check_sets(checks, asked.sets, asked.folders)
+        if IASL:
+            dumps = [Dump(file, None, data) for file, data in board.VERSIONS["first"].items()]
+            added(checks, "board", dumps, ["--any-run"])
+            added(checks, "a plain set", plain_set(2), [])
+            check_edit(checks)
+    print(f"{checks.passed} passed, {checks.failed} failed")
+    sys.exit(checks.failed > 0)
+
+
+if __name__ == "__main__":
+    main()
