@@ -9,7 +9,7 @@ becomes a line. What ASL can't spell as the listing has it is told on standard e
 is 3: what iasl makes of that has other bytes, or is refused by it.
 
 With --edit the text is one to be changed: what other tables declare is declared as External, so that iasl finds a name that
-is typed wrongly. With --method it is an SSDT with one method alone, for splice.py. --tables names the folder of the dumps, and
+is typed wrongly. With --method it is an SSDT with one method alone, for splice.py. Such a file is never written again. --tables names the folder of the dumps, and
 tells which of them has lengths or names that aren't in their shortest form: the listing doesn't show that, and iasl writes the
 shortest.
 
@@ -31,20 +31,11 @@ import forms  # noqa: E402
 import output  # noqa: E402
 import paths  # noqa: E402
 import standard  # noqa: E402
-from blocks import Block, MethodBlock, Reader, Refused  # noqa: E402
+from blocks import Block, MethodBlock, Reader, Refused, read  # noqa: E402
 
 TOLD = 3
 # What all blocks together have no more Externals than, of what they don't use.
 MOST_EXTERNALS = 200_000
-
-
-def read(file):
-    with open(file, "rb") as opened:
-        text = opened.read()
-    try:
-        return text.decode("ascii")
-    except UnicodeDecodeError as fault:
-        raise Refused(f"line {text.count(10, 0, fault.start) + 1} has a byte that isn't ASCII") from fault
 
 
 class Made:
@@ -84,7 +75,7 @@ def files_of(made):
 
 def head(file, is_edited):
     """The command that compiles a file, and a word on each message that it turns off."""
-    off = standard.OF_VALUES if is_edited else {**standard.OF_VALUES, **standard.OF_NAMES}
+    off = standard.OFF if is_edited else dict(sorted({**standard.OFF, **standard.OFF_UNCHANGED}.items()))
     words = ["iasl", "-oa", "-of", *([] if is_edited else ["-oE"]), *(f"-vw {number}" for number in off), shlex.quote(file)]
     yield f"// {' '.join(words)}"
     yield "// iasl doesn't ask about"
@@ -93,11 +84,15 @@ def head(file, is_edited):
 
 
 def write(folder, made, is_edited):
-    """Writes the files."""
+    """Writes the files. One that is to be changed is written once: it may have been."""
     os.makedirs(folder, exist_ok=True)
-    for it, file in zip(made, files_of(made)):
-        lines = "".join(f"{line}\n" for line in (*head(file, is_edited), *it.lines))
-        output.write(os.path.join(folder, file), lines.encode("ascii"))
+    files = [os.path.join(folder, file) for file in files_of(made)]
+    there = next((file for file in files if is_edited and os.path.lexists(file)), None)
+    if there:
+        output.leave(f"asl: {there!r} is there, and may have been changed: remove it, or name another folder")
+    for it, file in zip(made, files):
+        lines = "".join(f"{line}\n" for line in (*head(os.path.basename(file), is_edited), *it.lines))
+        output.write(file, lines.encode("ascii"))
 
 
 def tell(made, more):

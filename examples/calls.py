@@ -6,7 +6,8 @@
 Where an operator wants a target or an object, as SizeOf, Notify, Acquire and the last operand of Add do, the grammar
 of docs/grammar.md has no call with arguments. If a compiler wrote one, the arguments stand behind the operator as terms
 of their own, or the body is raw. Each line says where to look: the method or scope, the name, how many arguments its
-method takes, the operator, and the line of the text. CondRefOf, ObjectType and RefOf may name the method itself.
+method takes, the operator, and the line of the text. CondRefOf, ObjectType and RefOf may name the method itself, and are listed
+only where a value that nothing takes stands on the next line.
 
 Raw bodies aren't looked through. Each OPTION is one of acpidis, as --any-run, but not --check. ACPIDIS names another
 program. Status 0 is no such name, 3 one at least, 1 a folder that is refused, and 2 a command line or a program that is
@@ -22,6 +23,8 @@ import output
 import passing
 
 SHOWN = 100
+# The operators that may take a method, and none of its values.
+OF_METHODS = ("CondRefOf", "ObjectType", "RefOf")
 COUNT = re.compile(r"(\\\S*) ([0-7])\n?")
 EXTERNAL = re.compile(rf"External \(({listing.NAME.pattern}), \S+, (Zero|One|0x0[0-7])\)")
 NUMBERS = {"Zero": 0, "One": 1}
@@ -61,12 +64,13 @@ def add_externals(lines, namespace):
 def calls(text):
     """The method or scope, the name, its count, the operator and the line of each such name."""
     own, own_of = set(), None
-    for line, scope, method in text.lines:
+    following = [*text.lines[1:], ("", text.namespace.root, None)]
+    for (line, scope, method), (behind, scope_behind, _) in zip(text.lines, following):
         if method is not own_of:
             own, own_of = set(), method
         for operator, name in targets(line):
             counts = [kind for kind in text.namespace.may_be(scope, name, own) if isinstance(kind, int)]
-            if any(counts):
+            if any(counts) and (operator not in OF_METHODS or listing.is_lone(behind, scope_behind, text.namespace)):
                 yield scope.path(), name, max(counts), operator, line
         declared = DECLARED.match(line) if method else None
         if declared:

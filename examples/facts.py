@@ -280,6 +280,8 @@ def main() -> None:
         pathlib.Path(f"{asked.facts}.part").unlink(missing_ok=True)
         print(f"facts: cannot write {asked.facts!r}: {error}", file=sys.stderr)
         sys.exit(output.AT_FAULT)
+    if not facts.bases["machine"]:
+        sys.exit(f"facts: no listing is in {asked.listing!r}: a file `text` is one, in a folder of each machine")
     if facts.lacking and not os.path.isdir(asked.listing):
         sys.exit(f"facts: {asked.listing!r}: {fault}")
     if facts.lacking:

@@ -1,12 +1,13 @@
 #!/usr/bin/env python3
 """Puts a method, a name or a device that iasl compiled into the dump of a table, and changes nothing else.
 
-    examples/splice.py [--oem-revision] [--initrd FILE] DUMP NEW PATH.. >PATCHED
+    examples/splice.py [--oem-revision] [--initrd FILE] [-o PATCHED] DUMP NEW PATH..
 
 NEW is a table in which iasl compiled what stands at each PATH, as \\_SB_.PCI0._PTS: all of DUMP beside it, or that alone. Of
 DUMP change the bytes of what is declared there behind its name, the package lengths around them, each in its width while its
 value has room, the header's length and its sum. With --oem-revision the header's OEM revision is one more: Linux passes over an
-override that isn't newer. With --initrd FILE the table is also written as an archive for the front of an initrd.
+override that isn't newer. With --initrd FILE the table is also written as an archive for the front of an initrd. Without -o it
+goes to standard output.
 
 Status 1 is a table in which PATH is declared not at all, several times or as something else, or that can't be read: nothing is
 written then. 2 is a command line that is at fault, or a file that can't be read or written.
@@ -178,12 +179,13 @@ def main():
     words = argparse.ArgumentParser(description=__doc__, formatter_class=argparse.RawDescriptionHelpFormatter)
     words.add_argument("--oem-revision", action="store_true")
     words.add_argument("--initrd", metavar="FILE")
+    words.add_argument("-o", "--output", metavar="PATCHED")
     words.add_argument("dump", metavar="DUMP")
     words.add_argument("new", metavar="NEW")
     words.add_argument("paths", metavar="PATH", nargs="+", type=paths.path_of)
     asked = words.parse_args()
-    if sys.stdout.isatty():
-        words.error("a table isn't for a terminal: write it to a file, as with >PATCHED")
+    if sys.stdout.isatty() and not asked.output:
+        words.error("a table isn't for a terminal: name a file for it by -o")
     try:
         table, new = read(asked.dump), read(asked.new)
         for path in asked.paths:
@@ -191,6 +193,9 @@ def main():
         table = raised(table) if asked.oem_revision else table
         if asked.initrd:
             output.write(asked.initrd, archive(table))
+        if asked.output:
+            output.write(asked.output, table)
+            return
     except Refused as fault:
         sys.exit(f"splice: {fault}")
     except OSError as fault:

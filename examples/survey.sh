@@ -198,6 +198,7 @@ survey() {
         printf '%s\0' "${folders[@]}" |
             xargs -0 -n "$batch" -s 100000 -P "$jobs" "$BASH" "$script" --one "$sets" "$@" -- | cat >>"$results"
     fi
+    [ ${#folders[@]} -gt 0 ] || [ -s "$results" ] || fail "no folder with tables is below $sets"
     report "$sets" "$results"
 }
 

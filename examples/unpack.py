@@ -31,6 +31,8 @@ ROW = re.compile(r"[> \t]*([0-9A-Fa-f]{4,8}): ((?:[0-9A-Fa-f]{2}(?: |$)){1,16})"
 HEADER, ROOT, ROOT_LENGTH = 36, b"RSD PTR ", 20
 # A header as tables in images have them: a signature, a length, a revision, and names of printable bytes.
 HEAD = re.compile(rb"(?=([A-Z][A-Z0-9]{3}|[A-Z0-9]{3}!).{4}[\0-\x20].[ -~\0]{6}[ -~\0]{8}.{4}[ -~\0]{4})", re.DOTALL)
+# How files begin that are packed.
+PACKED = (b"\x1f\x8b", b"BZh", b"\xfd7zXZ", b"PK\3\4", b"\x28\xb5\x2f\xfd")
 SIGNATURE = re.compile(rb"[A-Z0-9_!]{4}")
 
 
@@ -121,7 +123,7 @@ def tables_of(data):
         else behind_each_other(data) or found_in(data)
     )
     if not tables:
-        raise Refused("no table is in it")
+        raise Refused("it is packed: unpack it first" if data.startswith(PACKED) else "no table is in it")
     return tables
 
 

@@ -1,5 +1,5 @@
 #!/usr/bin/env python3
-"""Checks examples/asl.py, splice.py and unpack.py.
+"""Checks examples/asl.py, splice.py, unpack.py and show.py.
 
     python3 tests/asl.py [--sets N] [--stop] [FOLDER ..]
 
@@ -7,7 +7,7 @@ Of sample sets, of N made-up sets of which ASL has each term, 200 if left out, a
 of the listing. Where iasl is there it compiles each block of which nothing is told, which has to give the dump's bytes
 again. Each spelling that ASL hasn't got is told. 150 methods, grown by 1 to 70,000 bytes, are put into their dumps by
 splice.py: acpidis reads those, and the listings differ in the lines that are new. unpack.py takes texts, files and images
-apart, as acpixtract does where that is there. With --stop the first row that fails ends it. The last line is
+apart, as acpixtract does where that is there. show.py shows what is at a path. With --stop the first row that fails ends it. The last line is
 'N passed, N failed'.
 """
 
@@ -39,7 +39,7 @@ from made_sets import sealed  # noqa: E402
 from running import REFUSED, Options, run  # noqa: E402
 from telling import DEMO, HOSTILE_FILES, PAGES_FILES, RUNS_FILES, method, packed  # noqa: E402
 
-ASL, SPLICE, UNPACK = (TOP / "examples" / script for script in ("asl.py", "splice.py", "unpack.py"))
+ASL, SPLICE, UNPACK, SHOW = (TOP / "examples" / f"{script}.py" for script in ("asl", "splice", "unpack", "show"))
 IASL, ACPIXTRACT = shutil.which("iasl"), shutil.which("acpixtract")
 HEADER, MOST_GROWN, GROWN = 36, 70_000, 150
 NOOP = b"\xA3"
@@ -364,7 +364,7 @@ def check_mutations(checks):
 
 def added(checks, name, dumps, options):
     """A statement is put into each method of a set: compiled alone, spliced, read, and the listings differ in its line."""
-    place = checks.folder(name, {dump.name: dump.data for dump in dumps})
+    place = checks.folder(f"changed {name}", {dump.name: dump.data for dump in dumps})
     text = checks.room / f"{name}.text"
     text.write_text(listed(place, options), "ascii")
     paths = re.findall(r"^  (\S+) Method [0-7]$", text.read_text(), re.M)
@@ -394,10 +394,18 @@ def check_edit(checks):
     place = checks.folder("edit", board.VERSIONS["first"])
     (checks.room / "edit.text").write_text(listed(place), "ascii")
     checks.is_same("--edit", checks.run(ASL, "--edit", "edit.text", "edited").returncode, 0)
+    ran = checks.run(ASL, "--edit", "edit.text", "edited")
+    what = "asl: 'edited/dsdt.dat.asl' is there, and may have been changed: remove it, or name another folder\n"
+    checks.is_same("--edit once more", (ran.returncode, ran.stderr), (2, what))
     for source in (checks.room / "edited").iterdir():
         checks.is_true(f"{source.name} is compiled", compiled(source))
         text = source.read_text("ascii")
-        for statement, holds in (("Store (Arg0, DBG0)", True), ("Store (Arg0, DBGX)", False)):
+        for statement, holds in (
+            ("Store (Arg0, DBG0)", True),
+            ("Store (Arg0, DBGX)", False),
+            ("POST (Arg0)", True),
+            ("POST ()", False),
+        ):
             source.write_text(re.sub(r"(Method \([A-Z_]*, 1, .*\n)", rf"\g<1>{statement}\n", text), "ascii")
             source.with_suffix(".aml").unlink(missing_ok=True)
             checks.is_same(f"{source.name} with {statement}", compiled(source) is not None, holds)
@@ -573,7 +581,8 @@ def check_unpack(checks):
     wrong = dsdt[:9] + bytes([dsdt[9] ^ 1]) + dsdt[10:]
     check_folder(checks, "wrong sum", wrong + ssdt, {"dsdt.dat": wrong, "ssdt.dat": ssdt})
     for name, content, what in [
-        ("no table", b"hello", "no table is in it"), ("nothing", b"", "no table is in it"),
+        ("no table", b"hello", "no table is in it"),
+        ("packed", b"\x1f\x8b\x08", "it is packed: unpack it first"), ("nothing", b"", "no table is in it"),
         ("cut", text[: text.index("    0020:")].encode() + b"\n", "line 1: DSDT has 32 bytes of 42"),
         ("gap", text.replace("    0010:", "    0020:", 1).encode(), "line 3: the row of DSDT at 0020 stands where that at 0010 should"),
         ("title", b"DSDT @ 0x0\n", "line 1: DSDT has 0 bytes of its header"),
@@ -628,6 +637,48 @@ def check_chain(checks):
         checks.is_true(f"{name} is read", "BBBB" in listed(checks.room / f"{name}.d"))
 
 
+# What show.py shows of a path of the made-up board.
+SHOWN = [
+    ("smi", """DefinitionBlock ("dsdt.dat") {
+  Scope (\\_SB_) {
+    Device (PCI0) {
+      Method (SMI_, 2, Serialized, 0) {
+        Store (Arg1, APMD)
+        Store (Arg0, APMC)
+        Return (APMD)
+      }
+"""),
+    ("\\_SB.PCI0.APMD", """DefinitionBlock ("dsdt.dat") {
+  Scope (\\_SB_) {
+    Device (PCI0) {
+      Field (SMIP, 0x01) {
+        APMD, 8
+"""),
+    ("\\DBGP", """DefinitionBlock ("ssdt1.dat") {
+  OperationRegion (DBGP, 0x01, 0x80, One)
+"""),
+]  # fmt: skip
+
+
+def check_show(checks):
+    """What is declared at a path, or at paths that end so."""
+    place = checks.folder("show", board.VERSIONS["first"])
+    text = checks.room / "show.text"
+    text.write_text(listed(place), "ascii")
+    for path, wanted in SHOWN:
+        ran = checks.run(SHOW, text, path)
+        checks.is_same(f"show {path}", (ran.returncode, ran.stdout, ran.stderr), (0, wanted, ""))
+    heads = checks.run(SHOW, text, "_hid").stdout.count("Name (_HID, ")
+    checks.is_same("each _HID", heads, text.read_text().count("Name (_HID, "))
+    device = checks.run(SHOW, text, "EC0").stdout
+    checks.is_true("a device whole", device.count("{") == device.count("}") + 3 and "Method (_Q13" in device)
+    ran = checks.run(SHOW, text, "\\SMI_")
+    checks.is_same("no such path", (ran.returncode, ran.stderr), (1, f"show: {str(text)!r} declares no such path\n"))
+    checks.is_same("no path", checks.run(SHOW, text, "1").returncode, 2)
+    ran = checks.run(SHOW, place / "dsdt.dat", "SMI")
+    checks.is_same("no listing", (ran.returncode, ran.stderr.count("\n")), (1, 1))
+
+
 def check_forms(checks):
     """Lengths and names that aren't in their shortest form are told by the dumps."""
     code = b"\x5B\x82\x49\x01DEV0" + b"\x08\x2F\1NAM0\1" + method(b"NAM1", 0, b"")
@@ -664,14 +715,15 @@ def main():
             check_speed,
             check_splice,
             check_unpack,
+            check_show,
             check_grown,
         ):
             check(checks)
         check_sets(checks, asked.sets, asked.folders)
         if IASL:
-            dumps = [Dump(file, None, data) for file, data in board.VERSIONS["first"].items()]
-            added(checks, "board", dumps, ["--any-run"])
-            added(checks, "a plain set", plain_set(2), [])
+            for version, files in board.VERSIONS.items():
+                added(checks, version, [Dump(file, None, data) for file, data in files.items()], ["--any-run"])
+            added(checks, "of the demo", read_folder(DEMO), [])
             check_edit(checks)
     print(f"{checks.passed} passed, {checks.failed} failed")
     sys.exit(checks.failed > 0)

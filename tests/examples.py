@@ -57,6 +57,7 @@ TARGETS = (
     + method(b"LAST", b"\x72\x01\x01ALIA")
     + b"\x15EXTM\x08\x02"
     + method(b"MORE", b"\x87EXTM")
+    + method(b"REFS", b"\x5b\x12FOO_\x60\xa3\x70\x71FOO_\x60" + block(b"\xa0", b"\x8eFOO_\xa3") + b"\x8eFOO_\x0a\x07")
 )
 BRANCH = b"\x08CCCC\0" + device(b"DEV0", SUN, block(b"\xa0", b"\x93CCCC\x01" + method(b"FOO_", b"", 1)))
 ANY_RUN = "`--any-run` reads it, as whatever a run would declare"
@@ -209,6 +210,7 @@ def try_calls(tries):
         "\\MAIN: FOO_ takes 1, in Acquire: Acquire (FOO_, 0xFF62)\n"
         "\\LAST: ALIA takes 1, in Add: Add (One, One, ALIA)\n"
         "\\MORE: EXTM takes 2, in SizeOf: SizeOf (EXTM)\n"
+        "\\REFS: FOO_ takes 1, in ObjectType: ObjectType (FOO_)\n"
     )
     tries.row("calls", tries.run("calls.py", targets), 3, wanted)
     tries.row("no calls", tries.run("calls.py", "rounds"), 0, "", "calls: 1 raw body isn't looked through")

@@ -359,6 +359,11 @@ def check_words(checks: Checks, room: pathlib.Path) -> None:
         checks.is_same(f"{words}: {found.stderr}", (found.returncode, found.stderr.count("\n")), (1, 1))
     found = run(text, "/dev/full/facts")
     checks.is_same(f"a file that can't be made: {found.stderr}", (found.returncode, found.stderr.count("\n")), (2, 1))
+    (room / "listed/none/dumps").mkdir(parents=True)
+    (room / "listed/none/dumps/dsdt.dat").write_bytes(b"DSDT")
+    found = run(room / "listed/none", room / "none")
+    said = f"facts: no listing is in {str(room / 'listed/none')!r}: a file `text` is one, in a folder of each machine\n"
+    checks.is_same("a folder without a listing", (found.returncode, found.stderr), (1, said))
     with open("/dev/full", "wb") as full:
         words = [sys.executable, FACTS, "--json", text]
         found = subprocess.run(words, stdout=full, stderr=subprocess.PIPE, text=True, check=False)

@@ -97,6 +97,10 @@ is 'no program' "$? $(cat none)" '1 '
 is 'no sets' "$? $(cat none)" '1 '
 "$survey" sets >/dev/null 2>&1
 is 'too few words' "$?" 1
+mkdir nothing
+is 'an empty folder' "$("$survey" nothing none 2>&1; echo "$?")" $'survey: no folder with tables is below nothing\n1'
+is 'a set itself' "$("$survey" sets/text none 2>&1; echo "$?")" \
+    $'survey: no folder with tables is below sets/text\n1'
 
 # options are the program's
 mkdir summed

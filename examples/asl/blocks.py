@@ -19,6 +19,16 @@ class Refused(Exception):
     """The text is no listing, or hasn't got what is asked for: why."""
 
 
+def read(file):
+    """The text of a file."""
+    with open(file, "rb") as opened:
+        text = opened.read()
+    try:
+        return text.decode("ascii")
+    except UnicodeDecodeError as fault:
+        raise Refused(f"line {text.count(10, 0, fault.start) + 1} has a byte that isn't ASCII") from fault
+
+
 class Table:
     """A line of the listing about a table with a header: its number, and the header's fields as the line has them."""
 
@@ -58,7 +68,7 @@ class Block:
             return self.close(indent)
         if self.open[-1] in standard.FLAGS:
             turned, unit, used = fields.element(text, self.tell)
-            self.names.unit(unit, used, number)
+            self.met("Unit", self.names.unit(unit, used, number), text)
             self.said += [(name, 0) for name in (unit, used) if name]
             self.lines.append(indent + turned)
         elif self.open[-1] == "Method" and text.startswith(RAW):

@@ -42,11 +42,10 @@ class Names:
         self.open.pop()
 
     def unit(self, name, used, number):
-        """An element of a field list: a unit that it declares, or a name that it uses."""
-        if name:
-            self.declare(name)
+        """An element of a field list: a unit that it declares, or a name that it uses. Answers the node of the former."""
         if used:
             self.uses.append(Use(self.open[-1], terms.Named(used), number))
+        return self.declare(name) if name else None
 
     def line(self, word, names, opens, number):
         """A term with these names. Answers the node that it declares."""
