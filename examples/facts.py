@@ -25,9 +25,11 @@ import os
 import pathlib
 import re
 import sqlite3
+import stat
 import sys
 from collections import deque
 from collections.abc import Callable, Iterator
+from concurrent.futures.process import BrokenProcessPool
 
 sys.dont_write_bytecode = True
 sys.path.insert(0, str(pathlib.Path(__file__).resolve().parent / "page"))
@@ -39,11 +41,13 @@ from listing import Dump, Listing, NoListing, read_dumps, read_listing  # noqa: 
 from names import Names  # noqa: E402
 from schema import COLUMNS, INDEXES, OF_CODE, SCHEMA, insertion, shifted  # noqa: E402
 
-MOST_BYTES = 256_000_000
+# A line takes half a kilobyte of memory.
+MOST_BYTES, MOST_LINES = 256_000_000, 1_000_000
 MOST_DUMP = 16_777_216
 ALL_OTHERS = 1_000
 LONGEST_FAULT = 200
 INCOMPLETE = 3
+NO_MEMORY, ENDED = "there is not enough memory to read it", "the process that read it was ended"
 # So many machines a process wait in their order.
 WAITING = 4
 BLOCKS = re.compile(rb"^Namespace [0-9]", re.MULTILINE)
@@ -53,20 +57,28 @@ BLOCKS = re.compile(rb"^Namespace [0-9]", re.MULTILINE)
 
 
 class Machine:
-    """A machine: its name, its listing, its standard error and the folder of its dumps; what it prints is read once."""
+    """A machine: its name, its listing, its standard error and the folder of its dumps."""
 
     def __init__(self, name: str, text: pathlib.Path, errors: pathlib.Path | None, dumps: pathlib.Path | None):
-        self.name, self.dumps = name, dumps
+        self.name, self.files, self.dumps = printable(name), (text, errors), dumps
         self.fault, self.text, self.errors, self.tables, self.above = "", b"", b"", [], None
         try:
-            self.text = read_file(text)
-            self.errors = read_file(errors) if errors else b""
+            self.text, self.errors = self.read()
             if not self.text:
                 raise NoListing(refusal_in(self.errors))
+            if self.text.count(b"\n") > MOST_LINES:
+                raise NoListing(f"it has more than {MOST_LINES:,} lines")
             found, files, self.above = read_dumps(self.text)
             self.tables = table_rows(found, files, self.sums(found))
         except (NoListing, OSError) as fault:
             self.fault = said(fault)
+        except MemoryError:
+            self.fault = NO_MEMORY
+
+    def read(self) -> tuple[bytes, bytes]:
+        """Its listing and its standard error."""
+        text, errors = self.files
+        return read_file(text), read_file(errors) if errors else b""
 
     def sums(self, found: list[Dump]) -> dict[str, str]:
         """The sums of the dumps by the names of files as the listing has them."""
@@ -75,6 +87,8 @@ class Machine:
 
 
 def read_file(file: pathlib.Path) -> bytes:
+    if stat.S_ISFIFO(os.stat(file).st_mode) and file.parts[:2] != ("/", "dev"):
+        raise NoListing("it is a pipe, which may never end")
     with open(file, "rb") as opened:
         data = opened.read(MOST_BYTES + 1)
     if len(data) > MOST_BYTES:
@@ -91,9 +105,15 @@ def file_of(folder: pathlib.Path, quoted: str) -> pathlib.Path | None:
     return file if file.is_file() and not file.is_symlink() and file.stat().st_size <= MOST_DUMP else None
 
 
+def printable(name: str) -> str:
+    """A name of a file, with each byte that isn't UTF-8 as \\x and two digits."""
+    return os.fsencode(name).decode("utf-8", "backslashreplace")
+
+
 def said(fault: Exception) -> str:
-    text = f"cannot read {fault.filename}: {fault.strerror}" if isinstance(fault, OSError) else str(fault)
-    return text[:LONGEST_FAULT]
+    if isinstance(fault, OSError):
+        return f"cannot read {printable(os.fsdecode(fault.filename))}: {fault.strerror}"[:LONGEST_FAULT]
+    return str(fault)[:LONGEST_FAULT]
 
 
 def refusal_in(errors: bytes) -> str:
@@ -212,6 +232,27 @@ def machines_of(asked: argparse.Namespace) -> Iterator[Machine]:
                 yield Machine(file, here / file, None, dumps and dumps / file)
 
 
+class Processes:
+    """Processes that read listings. Where one is ended, the others are, and new ones take their place."""
+
+    def __init__(self, jobs: int):
+        self.jobs, self.pool = jobs, concurrent.futures.ProcessPoolExecutor(jobs)
+
+    def __enter__(self) -> Processes:
+        return self
+
+    def __exit__(self, *_: object) -> None:
+        self.pool.shutdown()
+
+    def submit(self, make: Callable, *words: object) -> concurrent.futures.Future:
+        try:
+            return self.pool.submit(make, *words)
+        except BrokenProcessPool:
+            self.pool.shutdown()
+            self.pool = concurrent.futures.ProcessPoolExecutor(self.jobs)
+            return self.pool.submit(make, *words)
+
+
 class Here:
     """In place of a pool, where there is no other process."""
 
@@ -223,7 +264,10 @@ class Here:
 
     def submit(self, make: Callable, *words: object) -> concurrent.futures.Future:
         future: concurrent.futures.Future = concurrent.futures.Future()
-        future.set_result(make(*words))
+        try:
+            future.set_result(make(*words))
+        except MemoryError as fault:
+            future.set_exception(fault)
         return future
 
 
@@ -232,7 +276,7 @@ def add_all(facts: Facts, machines: Iterator[Machine], jobs: int) -> str:
     waiting: deque = deque()
     fault = ""
     seen: set[str] = set()
-    with Here() if jobs == 1 else concurrent.futures.ProcessPoolExecutor(jobs) as pool:
+    with Here() if jobs == 1 else Processes(jobs) as pool:
         for machine in machines:
             code_sum = "" if machine.fault else sum_of(machine.text, machine.errors)
             future = None
@@ -250,8 +294,28 @@ def add_all(facts: Facts, machines: Iterator[Machine], jobs: int) -> str:
 
 def add_next(facts: Facts, machine: Machine, code_sum: str, future: concurrent.futures.Future | None) -> str:
     if future:
-        facts.add_code(code_sum, *future.result())
+        facts.add_code(code_sum, *outcome(machine, future))
     return facts.add_machine(machine, code_sum)
+
+
+def outcome(machine: Machine, future: concurrent.futures.Future) -> tuple[str, dict[str, list[list]]]:
+    """What comes of a machine's listing. Where a process was ended, which may have read another one's, this is read again
+    by a process of its own."""
+    try:
+        return future.result()
+    except BrokenProcessPool:
+        pass
+    except MemoryError:
+        return NO_MEMORY, {}
+    try:
+        with concurrent.futures.ProcessPoolExecutor(1) as pool:
+            return pool.submit(facts_of, *machine.read()).result()
+    except BrokenProcessPool:
+        return ENDED, {}
+    except MemoryError:
+        return NO_MEMORY, {}
+    except (NoListing, OSError) as fault:
+        return said(fault), {}
 
 
 def arguments() -> argparse.Namespace:
@@ -277,9 +341,11 @@ def main() -> None:
         fault = add_all(facts, machines_of(asked), asked.jobs if os.path.isdir(asked.listing) else 1)
         facts.sink.close()
     except sqlite3.Error as error:
-        pathlib.Path(f"{asked.facts}.part").unlink(missing_ok=True)
         print(f"facts: cannot write {asked.facts!r}: {error}", file=sys.stderr)
         sys.exit(output.AT_FAULT)
+    finally:
+        if asked.facts:
+            pathlib.Path(f"{asked.facts}.part").unlink(missing_ok=True)
     if not facts.bases["machine"]:
         sys.exit(f"facts: no listing is in {asked.listing!r}: a file `text` is one, in a folder of each machine")
     if facts.lacking and not os.path.isdir(asked.listing):

@@ -28,6 +28,7 @@ MOST_NAMES = 1000
 MOST_PASSES = 3
 MOST_RUNS = 1000
 SEGMENT = re.compile(listing.SEGMENT)
+ANYWHERE = re.compile(rf"(?=({listing.SEGMENT}))".encode())
 OUTSIDE = re.compile(r'table "[^"]*": ModuleCall (\\\S+)')
 NAME = re.compile(rb"(\\|\^*)(?:\x2e(.{8})|\x2f(.)|([A-Z_][A-Z0-9_]{3})|\x00)", re.DOTALL)
 
@@ -225,8 +226,8 @@ def bodies_by_segment(waiting):
     found = {}
     for bodies in waiting.values():
         for body in bodies:
-            for at in range(len(body.raw) - 3):
-                found.setdefault(body.raw[at : at + 4], set()).add(body.number)
+            for form in ANYWHERE.finditer(body.raw):
+                found.setdefault(form[1], set()).add(body.number)
     return found
 
 

@@ -14,6 +14,7 @@ import contextlib
 import hashlib
 import importlib.util
 import json
+import os
 import pathlib
 import random
 import sqlite3
@@ -322,6 +323,58 @@ def check_many(checks: Checks, room: pathlib.Path) -> None:
     checks.is_same("their names", names, set(rows_of(room / "facts", "SELECT id, path FROM name")))
 
 
+# Facts of a folder, whose processes are ended at a text of these words, as by a system without memory, or get none.
+ENDS = """
+import importlib.util, os, sys
+sys.path.insert(0, os.path.dirname(sys.argv[1]))
+spec = importlib.util.spec_from_file_location("facts", sys.argv[1])
+facts = importlib.util.module_from_spec(spec)
+spec.loader.exec_module(facts)
+real = facts.facts_of
+def facts_of(text, errors):
+    if b"ENDED" in text:
+        os.kill(os.getpid(), 9)
+    if b"LARGE" in text:
+        raise MemoryError
+    return real(text, errors)
+facts.facts_of = facts_of
+sys.argv = sys.argv[1:]
+facts.main()
+"""
+
+
+def check_fleet(checks: Checks, room: pathlib.Path) -> None:
+    """A machine that can't be read takes no other's facts with it."""
+    good = (room / "texts/rack/a/text").read_text()
+    fleet = room / "fleet"
+    for number in range(12):
+        place = fleet / f"good{number:02d}"
+        place.mkdir(parents=True)
+        (place / "text").write_text(good.replace(", 0x80)", f", 0x{number:02X})"))
+    for name in ("ENDED", "LARGE"):
+        (fleet / name).mkdir()
+        (fleet / name / "text").write_text(good.replace("_INI", name[:4]) + f"{name}\n")
+    os.mkdir(os.fsencode(fleet) + b"/odd\xff")
+    with open(os.fsencode(fleet) + b"/odd\xff/text", "w") as text:
+        text.write(good)
+    (fleet / "pipe").mkdir()
+    os.mkfifo(fleet / "pipe/text")
+    (fleet / "long").mkdir()
+    (fleet / "long/text").write_text("\n" * 1_000_001)
+    words = [sys.executable, "-c", ENDS, FACTS, "--jobs", "2", fleet, room / "fleet.facts"]
+    found = subprocess.run(list(map(str, words)), capture_output=True, text=True, check=False, timeout=60)
+    checks.is_same(f"the status of a fleet: {found.stderr}", (found.returncode, found.stderr.count("\n")), (3, 1))
+    machines = dict(rows_of(room / "fleet.facts", "SELECT name, fault FROM machine WHERE fault IS NOT NULL"))
+    wanted = {
+        "ENDED": "the process that read it was ended", "LARGE": "there is not enough memory to read it",
+        "pipe": "it is a pipe, which may never end", "long": "it has more than 1,000,000 lines",
+    }
+    checks.is_same("those without facts", machines, wanted)
+    names = [row[0] for row in rows_of(room / "fleet.facts", "SELECT name FROM machine WHERE fault IS NULL ORDER BY name")]
+    checks.is_same("those with facts", names, [f"good{number:02d}" for number in range(12)] + ["odd\\xff"])
+    checks.is_same("no part is left", (room / "fleet.facts.part").exists(), False)
+
+
 def check_board(checks: Checks, room: pathlib.Path) -> None:
     """The facts of a board that are written down here, by its listing in docs/facts.md."""
     file = room / "facts"
@@ -390,6 +443,7 @@ def main() -> None:
         check_made_up(checks, asked.sets, True)
         (room / "many").mkdir()
         check_many(checks, room / "many")
+        check_fleet(checks, room / "many")
         check_board(checks, room / "many")
         check_words(checks, room / "many")
     print(f"{checks.passed} passed, {checks.failed} failed")

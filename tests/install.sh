@@ -120,6 +120,7 @@ is 'another word' "$("$top/install" --delete 2>&1 | head -n 1 | cut -c 1-6)" 'Us
 "$top/install" --remove more >/dev/null 2>&1
 is 'two words' "$?" 2
 is 'a prefix that is no whole path' "$(PREFIX=usr "$top/install" 2>&1)" 'install: PREFIX has to begin with /: usr'
+is 'an empty prefix' "$(PREFIX='' "$top/install" 2>&1)" 'install: PREFIX has to begin with /: '
 mkdir shut
 : >shut/bin
 said=$(PREFIX=$work/shut "$top/install" 2>&1 | tail -n 1)

@@ -204,6 +204,8 @@ late) sleep 9 ;;
 large) head -c 3000000 /dev/zero ;;
 loud) head -c 100000 /dev/zero | tr '\\0' x >&2; printf '\\nno \\033[31mway\\007\\n' >&2; exit 1 ;;
 odd*) exec tar -C '$work/odd' -cf - . ;;
+packed) exec tar -C '$work/zeros' -czf - . ;;
+many) exec tar -C '$work/crowd' -cf - . ;;
 *) echo first >&2; echo "no way to \$2" >&2; exit 255 ;;
 esac
 S
@@ -236,9 +238,17 @@ is 'only those are asked again that have none' "$(sort asked | tr '\n' ' ')" 'de
 is 'nothing ran' "$(find . -name 'bad*')" ''
 
 # what a host sends may be anything: too much, control bytes, links, rights
+mkdir zeros crowd
+head -c 900000 /dev/zero >zeros/one
+cp zeros/one zeros/two
+(cd crowd && seq 4200 | xargs touch)
 printf '%s\n' large loud odd1 >hosts
 PATH=$work/commands:$PATH COLLECT_MEGABYTES=1 "$collect" hosts collected 2>errors
 is 'too much, and control bytes' "$(LC_ALL=C sort errors)" $'large: more than 1 MB\nloud: no [31mway'
+printf '%s\n' packed many >hosts
+PATH=$work/commands:$PATH "$collect" hosts collected 2>errors
+is 'what is packed, and too many files' "$(cut -d : -f 1 errors | LC_ALL=C sort | tr '\n' ' ')" 'many packed '
+is 'so many files' "$(grep many errors)" 'many: more than 4096 files'
 is 'regular files alone' "$(cd collected/odd1 && find . -printf '%p %m|' | tr '|' '\n' | LC_ALL=C sort | tr '\n' ' ')" \
     '. 755 ./dsdt.dat 644 ./shut 755 ./shut/dsdt.dat 644 '
 # shellcheck disable=SC2012 # the names are known
