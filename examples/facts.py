@@ -35,7 +35,7 @@ sys.dont_write_bytecode = True
 sys.path.insert(0, str(pathlib.Path(__file__).resolve().parent / "page"))
 
 import output  # noqa: E402
-from collecting import Collector, table_rows  # noqa: E402
+from collecting import Collector, record_rows, table_rows  # noqa: E402
 from errors import Fault, read_errors  # noqa: E402
 from listing import Dump, Listing, NoListing, read_dumps, read_listing  # noqa: E402
 from names import Names  # noqa: E402
@@ -61,7 +61,7 @@ class Machine:
 
     def __init__(self, name: str, text: pathlib.Path, errors: pathlib.Path | None, dumps: pathlib.Path | None):
         self.name, self.files, self.dumps = printable(name), (text, errors), dumps
-        self.fault, self.text, self.errors, self.tables, self.above = "", b"", b"", [], None
+        self.fault, self.text, self.errors, self.tables, self.records, self.above = "", b"", b"", [], [], None
         try:
             self.text, self.errors = self.read()
             if not self.text:
@@ -69,7 +69,7 @@ class Machine:
             if self.text.count(b"\n") > MOST_LINES:
                 raise NoListing(f"it has more than {MOST_LINES:,} lines")
             found, files, self.above = read_dumps(self.text)
-            self.tables = table_rows(found, files, self.sums(found))
+            self.tables, self.records = table_rows(found, files, self.sums(found)), record_rows(found)
         except (NoListing, OSError) as fault:
             self.fault = said(fault)
         except MemoryError:
@@ -207,7 +207,10 @@ class Facts:
         number, before = self.bases["machine"], self.bases["acpi_table"]
         self.sink.add("machine", [[number, machine.name, code, machine.above, fault or None]])
         self.sink.add("acpi_table", [[before + place, number, *row] for place, row in enumerate(machine.tables, 1)])
+        records = enumerate(machine.records, self.bases["record"] + 1)
+        self.sink.add("record", [[place, before + table, *row] for place, (table, *row) in records])
         self.bases["acpi_table"] += len(machine.tables)
+        self.bases["record"] += len(machine.records)
         self.lacking += bool(fault)
         return fault
 

@@ -29,7 +29,7 @@ sys.path.append(str(TOP / "examples"))
 
 from board import VERSIONS, table  # noqa: E402
 from dumps import aml_of, order_of  # noqa: E402
-from facts_picture import picture  # noqa: E402
+from facts_picture import columns_text, picture  # noqa: E402
 from folders import read_folder  # noqa: E402
 from loading import path_text  # noqa: E402
 from made_sets import SetMaker  # noqa: E402
@@ -401,6 +401,64 @@ def check_board(checks: Checks, room: pathlib.Path) -> None:
     checks.is_same("a region by value", regions, [("\\_SB_.PCI0.GNVS", "SystemMemory", None, 0x100, "NVSA")])
 
 
+TABLES = """Table "apic.dat" "APIC" Length 55 Revision 2 Oem "TEST  " "EXAMPLE " 00000001 Creator "TEST" 00000001
+  Controller FEE00000 Flags 00000001
+  LocalApic Uid 10 Apic 2 Flags 00000010
+  AddressOverride 00000000FEE00000
+  Record 128 Length 4 AA BB
+Table "dsdt.dat" "DSDT" Length 100 Revision 2 Oem "TEST  " "EXAMPLE " 00000001 Creator "TEST" 00000001
+Table "facp.dat" "FACP" Length 116 Revision 1 Oem "TEST  " "EXAMPLE " 00000001 Creator "TEST" 00000001
+  SmiCmd 000000B2
+  AcpiEnable 10
+Table "xsdt.dat" "XSDT" Length 44 Revision 1 Oem "TEST  " "EXAMPLE " 00000001 Creator "TEST" 00000001
+  Entry 0000000000006000 "facp.dat"
+Namespace 3
+  \\DEV0 Device
+  \\MAIN Method 0
+  \\NAME Name
+DefinitionBlock ("dsdt.dat") {
+  Device (DEV0) {
+  }
+  Name (NAME, One)
+  Method (MAIN, 0, NotSerialized, 0) {
+    Notify (DEV0, 0x81)
+    Notify (DEV0, Local0)
+    Store (LoadTable ("OEM1", "A", "B", "", "", Zero), Local0)
+    Load (NAME, Local1)
+    Fatal (0x01, 0x00000002, Local0)
+    If (One) {
+      Sleep (0x0A)
+      Stall (NAME)
+    }
+  }
+}
+"""
+
+
+def check_records(checks: Checks, room: pathlib.Path) -> None:
+    """Fields of tables, and statements."""
+    (room / "records").write_text(TABLES)
+    run(room / "records", room / "records.facts")
+    sql = "SELECT signature, place, kind, label, value, number FROM record JOIN acpi_table ON acpi_table.id = acpi_table ORDER BY record.id"
+    wanted = [
+        ("APIC", 1, "", "Controller", "FEE00000", 0xFEE00000), ("APIC", 1, "", "Flags", "00000001", 1),
+        ("APIC", 2, "LocalApic", "Uid", "10", 10), ("APIC", 2, "LocalApic", "Apic", "2", 2),
+        ("APIC", 2, "LocalApic", "Flags", "00000010", 0x10), ("APIC", 3, "", "AddressOverride", "00000000FEE00000", 0xFEE00000),
+        ("APIC", 4, "Record", "Type", "128", 128), ("APIC", 4, "Record", "Length", "4", 4), ("APIC", 4, "Record", "Bytes", "AA BB", None),
+        ("FACP", 1, "", "SmiCmd", "000000B2", 0xB2), ("FACP", 2, "", "AcpiEnable", "10", 0x10),
+        ("XSDT", 1, "", "Entry", "0000000000006000", 0x6000),
+    ]
+    checks.is_same("records", rows_of(room / "records.facts", sql), wanted)
+    sql = "SELECT statement.kind, path, number, text FROM statement LEFT JOIN name ON name.id = statement.name WHERE method = 1 ORDER BY statement.id"
+    wanted = [
+        ("Notify", "\\DEV0", 0x81, "Notify (DEV0, 0x81)"), ("Notify", "\\DEV0", None, "Notify (DEV0, Local0)"),
+        ("LoadTable", None, None, 'Store (LoadTable ("OEM1", "A", "B", "", "", Zero), Local0)'),
+        ("Load", "\\NAME", None, "Load (NAME, Local1)"), ("Fatal", None, 2, "Fatal (0x01, 0x00000002, Local0)"),
+        ("Sleep", None, 10, "Sleep (0x0A)"), ("Stall", None, None, "Stall (NAME)"),
+    ]
+    checks.is_same("statements", rows_of(room / "records.facts", sql), wanted)
+
+
 def check_words(checks: Checks, room: pathlib.Path) -> None:
     """What the command line refuses, and outputs that take nothing."""
     text = room / "texts/rack/a/text"
@@ -421,6 +479,7 @@ def check_words(checks: Checks, room: pathlib.Path) -> None:
         words = [sys.executable, FACTS, "--json", text]
         found = subprocess.run(words, stdout=full, stderr=subprocess.PIPE, text=True, check=False)
     checks.is_same("a full disk", (found.returncode, found.stderr), (2, "facts: cannot write: No space left on device\n"))
+    checks.is_same("the columns", columns_text() in (TOP / "docs/facts.md").read_text(), True)
     checks.is_same("the picture", (TOP / "docs/facts.svg").read_text(), picture())
 
 
@@ -444,6 +503,7 @@ def main() -> None:
         (room / "many").mkdir()
         check_many(checks, room / "many")
         check_fleet(checks, room / "many")
+        check_records(checks, room / "many")
         check_board(checks, room / "many")
         check_words(checks, room / "many")
     print(f"{checks.passed} passed, {checks.failed} failed")

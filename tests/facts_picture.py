@@ -9,7 +9,10 @@ sys.path.insert(0, str(pathlib.Path(__file__).resolve().parent.parent / "example
 from schema import COLUMNS, REFERENCES  # noqa: E402
 
 # The boxes in columns, from the left.
-LAYOUT = [["machine", "acpi_table", "code"], ["name", "method"], ["use", "region"], ["field"], ["resource", "identifier"]]
+LAYOUT = [
+    ["machine", "acpi_table", "code"], ["name", "method", "record"], ["use", "region"], ["field", "statement"],
+    ["resource", "identifier"],
+]
 WIDTH, GAP, LINE, HEAD, MARGIN = 168, 30, 17, 24, 12
 STYLE = """
 text { font: 12px ui-monospace, Menlo, Consolas, "DejaVu Sans Mono", monospace; fill: #1f2328; }
@@ -38,6 +41,16 @@ def box(table: str, left: int, top: int) -> str:
         kind = ' class="key"' if to else ""
         lines.append(f'<text{kind} x="{left + 10}" y="{top + HEAD + 15 + LINE * place}">{column}{to}</text>')
     return "\n".join(lines)
+
+
+def columns_text() -> str:
+    """The tables with their columns, and behind those that name a row the table that it is of: as docs/facts.md has them."""
+    lines = []
+    for table, columns in COLUMNS.items():
+        targets = {place: other for place, other in REFERENCES[table]}
+        shown = (column + (f" > {targets[place]}" if place in targets else "") for place, column in enumerate(columns))
+        lines.append(f"{table:<12}{', '.join(shown)}\n")
+    return "".join(lines)
 
 
 def picture() -> str:

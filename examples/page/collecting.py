@@ -31,6 +31,17 @@ HEADER = re.compile(
 )
 
 
+# What a field of a record has in hexadecimal; any other is decimal.
+HEXADECIMAL = ("Flags", "Address", "Controller", "AddressOverride", "Entry")
+UNKNOWN_RECORD = re.compile(r"Record (\d+) Length (\d+) ?(.*)")
+# The statements that are facts, each with the part that is an object, and the part that is a number.
+STATEMENTS = {
+    "Load": (0, None), "LoadTable": (None, None), "Unload": (0, None), "Notify": (0, 1), "Sleep": (None, 0), "Stall": (None, 0),
+    "Fatal": (None, 1),
+}  # fmt: skip
+LONGEST_STATEMENT = 1_000
+
+
 def small(number: int | None) -> int | None:
     """A number that SQLite has as an integer."""
     return number if number is not None and number < TOO_LARGE else None
@@ -54,6 +65,33 @@ def header_of(dump: Dump) -> list:
         *(found.get(word) for word in ("oem", "table", "revision", "creator", "creator_revision", "address")),
         int(not dump.text.endswith(" BadSum")),
     ]
+
+
+def record_rows(dumps: list[Dump]) -> list[list]:
+    """The rows of record, without their first column: each begins with the place of its table among the dumps."""
+    return [
+        [number, place, *row]
+        for number, dump in enumerate(dumps, 1) for place, (_, note) in enumerate(dump.notes, 1)
+        for row in fields_of(note.strip(" "), dump.signature == '"FACP"')
+    ]
+
+
+def fields_of(note: str, is_fadt: bool) -> list[tuple[str, str, str, int | None]]:
+    """The fields of a line below a dump's: the kind of the record, label, value and number of each."""
+    unknown, words = UNKNOWN_RECORD.fullmatch(note), note.split(" ")
+    if unknown:
+        pairs = [("Type", unknown[1]), ("Length", unknown[2]), ("Bytes", unknown[3])]
+        return [("Record", label, value, number_of(value, 10)) for label, value in pairs]
+    if words[0] == "Entry":
+        words = words[:2]
+    kind = words.pop(0) if len(words) % 2 else ""
+    pairs = list(zip(words[::2], words[1::2]))
+    return [(kind, label, value, number_of(value, 16 if is_fadt or label in HEXADECIMAL else 10)) for label, value in pairs]
+
+
+def number_of(value: str, base: int) -> int | None:
+    digits = "[0-9A-F]{1,16}" if base == 16 else "[0-9]{1,10}"
+    return small(int(value, base)) if re.fullmatch(digits, value) else None
 
 
 def sum_of(said: Said) -> str:
@@ -212,6 +250,7 @@ class Collector:
             self.add_field(line)
             self.add_resources(line)
             self.add_identifiers(line)
+            self.add_statements(line)
         self.method = None
 
     def add_uses(self, line: Line) -> None:
@@ -228,6 +267,19 @@ class Collector:
                 name = None if is_local or meant.path is None else self.ids.get(meant.path)
                 how = self.how(term, place, meant, is_local)
                 self.add("use", self.method, scope, term.word, name, int(is_local), number, how, self.file, line.number)
+
+    def add_statements(self, line: Line) -> None:
+        if STATEMENTS.keys().isdisjoint(line.words):
+            return
+        meanings = self.decoder.meanings(line)
+        for term, _ in places(self.decoder.terms(line)):
+            if term.word in STATEMENTS:
+                named, counted = (term.argument(at) if at is not None else None for at in STATEMENTS[term.word])
+                meaning = meanings.get(named.place) if named else None
+                is_known = meaning and meaning.path is not None and not meaning.anchor.isdigit()
+                name, number = self.ids.get(meaning.path) if is_known else None, small(counted.number) if counted else None
+                text = line.text.strip(" ")[:LONGEST_STATEMENT]
+                self.add("statement", self.method, path_text(line.scope), term.word, name, number, text, self.file, line.number)
 
     def how(self, term: Term, place: Place, meant: Meaning, is_local: bool) -> str:
         """What becomes of what a name means: it is called, read, written, passed on, or named."""

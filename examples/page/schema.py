@@ -16,6 +16,10 @@ CREATE TABLE acpi_table (
     length INTEGER, revision INTEGER, oem TEXT, oem_table TEXT, oem_revision TEXT, creator TEXT, creator_revision TEXT,
     address TEXT, is_sum_right INTEGER NOT NULL, load_order INTEGER, dump_sum TEXT
 );
+CREATE TABLE record (
+    id INTEGER PRIMARY KEY, acpi_table INTEGER NOT NULL REFERENCES acpi_table, place INTEGER NOT NULL, kind TEXT NOT NULL,
+    label TEXT NOT NULL, value TEXT NOT NULL, number INTEGER
+);
 CREATE TABLE name (
     id INTEGER PRIMARY KEY, code INTEGER NOT NULL REFERENCES code, path TEXT NOT NULL, kind TEXT NOT NULL, arguments INTEGER,
     target INTEGER REFERENCES name, stands TEXT NOT NULL, times INTEGER NOT NULL, value TEXT, sum TEXT, file TEXT, line INTEGER
@@ -45,6 +49,10 @@ CREATE TABLE resource (
     kind TEXT NOT NULL, first INTEGER, last INTEGER, length INTEGER, lines TEXT, text TEXT NOT NULL, patched_by TEXT,
     file TEXT NOT NULL, line INTEGER NOT NULL
 );
+CREATE TABLE statement (
+    id INTEGER PRIMARY KEY, code INTEGER NOT NULL REFERENCES code, method INTEGER REFERENCES method, scope TEXT NOT NULL,
+    kind TEXT NOT NULL, name INTEGER REFERENCES name, number INTEGER, text TEXT NOT NULL, file TEXT NOT NULL, line INTEGER NOT NULL
+);
 CREATE TABLE identifier (
     id INTEGER PRIMARY KEY, code INTEGER NOT NULL REFERENCES code, device INTEGER REFERENCES name, object TEXT NOT NULL,
     text TEXT NOT NULL, number INTEGER, meaning TEXT, file TEXT NOT NULL, line INTEGER NOT NULL
@@ -55,6 +63,8 @@ INDEXES = """
 CREATE INDEX machine_by_code ON machine (code);
 CREATE INDEX acpi_table_by_machine ON acpi_table (machine);
 CREATE INDEX acpi_table_by_signature ON acpi_table (signature, oem_table);
+CREATE INDEX record_by_label ON record (label, number);
+CREATE INDEX record_by_table ON record (acpi_table);
 CREATE INDEX name_by_path ON name (path, code);
 CREATE INDEX name_by_code ON name (code);
 CREATE INDEX name_by_target ON name (target);
@@ -65,6 +75,7 @@ CREATE INDEX region_by_place ON region (space, first);
 CREATE INDEX field_by_region ON field (region);
 CREATE INDEX field_by_name ON field (name);
 CREATE INDEX resource_by_device ON resource (device);
+CREATE INDEX statement_by_kind ON statement (kind, number);
 CREATE INDEX identifier_by_text ON identifier (text);
 """
 
