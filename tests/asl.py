@@ -522,6 +522,11 @@ def check_splice(checks):
     head[24] += 1
     checks.is_same("what is put in", patched, sealed(bytes(head) + wanted))
     check_archive(checks, patched)
+    code = "import splice; print(splice.spelled(63, 1), splice.spelled(64, 1), splice.spelled(4095, 2)); splice.spelled(1 << 28, 1)"
+    ran = checks.run("-c", f"import sys; sys.path.insert(0, {str(TOP / 'examples')!r}); {code}")
+    checks.is_same("lengths", ran.stdout, "b'?' b'@\\x04' b'O\\xff'\n")
+    said = "splice.Refused: a package would be longer than a package length can say\n"
+    checks.is_true("a length that no longer fits", ran.stderr.endswith(said))
     last = bytearray(files["old"])
     last[24:28] = b"\xFF" * 4
     (checks.room / "splice/old").write_bytes(sealed(bytes(last)))

@@ -3,7 +3,8 @@
  * REFUSE_GROWTH=N refuses the Nth call of malloc, calloc and realloc, be it the program's own or the C library's, as at
  * the start of a thread; REFUSE_FROM=N that call and all later ones; REFUSE_START=N the Nth start. Once something is
  * refused the variable REFUSED, where there is one, is 1. At the program's end file 3 gets a line: how many growths
- * there were, how many starts, how many of these were refused, and how many joins. */
+ * there were, how many starts, how many of these were refused, how many joins, how many writes to standard output, and
+ * how many blocks of memory were let go behind the last of these. */
 #define _GNU_SOURCE
 #include <dlfcn.h>
 #include <errno.h>
@@ -16,8 +17,9 @@
 extern void *__libc_malloc(size_t);
 extern void *__libc_calloc(size_t, size_t);
 extern void *__libc_realloc(void *, size_t);
+extern void __libc_free(void *);
 
-static atomic_ulong growths, starts, refused_starts, joins;
+static atomic_ulong growths, starts, refused_starts, joins, writes, freed;
 
 static unsigned long number_in(const char *name) {
     const char *word = getenv(name);
@@ -44,6 +46,20 @@ void *calloc(size_t count, size_t size) { return refuses_growth() ? NULL : __lib
 
 void *realloc(void *old, size_t size) { return refuses_growth() ? NULL : __libc_realloc(old, size); }
 
+void free(void *block) {
+    atomic_fetch_add(&freed, 1);
+    __libc_free(block);
+}
+
+ssize_t write(int file, const void *bytes, size_t count) {
+    ssize_t (*send)(int, const void *, size_t) = dlsym(RTLD_NEXT, "write");
+    if (file == STDOUT_FILENO) {
+        atomic_fetch_add(&writes, 1);
+        atomic_store(&freed, 0);
+    }
+    return send(file, bytes, count);
+}
+
 int pthread_create(pthread_t *thread, const pthread_attr_t *attributes, void *(*run)(void *), void *argument) {
     int (*create)(pthread_t *, const pthread_attr_t *, void *(*)(void *), void *) = dlsym(RTLD_NEXT, "pthread_create");
     unsigned long number = atomic_fetch_add(&starts, 1) + 1;
@@ -62,8 +78,9 @@ int pthread_join(pthread_t thread, void **result) {
 
 void _exit(int status) {
     void (*leave)(int) = dlsym(RTLD_NEXT, "_exit");
-    char line[100];
-    int length = snprintf(line, sizeof line, "%lu %lu %lu %lu\n", growths, starts, refused_starts, joins);
+    char line[150];
+    const char *form = "%lu %lu %lu %lu %lu %lu\n";
+    int length = snprintf(line, sizeof line, form, growths, starts, refused_starts, joins, writes, freed);
     if (write(3, line, length) == length) leave(status);
     leave(status);
     __builtin_unreachable();

@@ -36,7 +36,7 @@ run_refused() {
     : >counts
     timeout 60 env "$refusal" REFUSED=0 LD_PRELOAD="$work/refusals.so" "$@" >text 2>lines 3>counts
     status=$?
-    read -r growths starts refused joins <counts || status="$status, and no counts"
+    read -r growths starts refused joins _others <counts || status="$status, and no counts"
 }
 
 # run_sweep RIGHT HOW COMMAND..: the command has a right answer whichever of its calls is refused. The last run is the

@@ -99,6 +99,8 @@ def trials(room):
         (room / what).write_text(text)
         (room / what).chmod(0o755)
         yield Trial(f"tests/page.py, a script that {what}", ["tests/page.py", "--sets", "1"], page)
+    for what in ("refuses", "prints nothing"):
+        yield Trial(f"tests/costs.py, a program that {what}", ["tests/costs.py"], placed(STUBS[what]))
     yield Trial("tests/package.sh, a ./package that makes nothing", ["tests/package.sh"], {"package": "#!/bin/sh\n"})
     yield Trial("tests/facts.py, a script that writes nothing", ["tests/facts.py"], {"examples/facts.py": ""})
     yield Trial("tests/decoding.py, nothing decoded", ["tests/decoding.py"], {"examples/page/decoding.py": ""})

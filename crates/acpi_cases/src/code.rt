@@ -173,7 +173,8 @@ fn push_terms(
     }
     let bodies = raw_bodies(alloc, code)?;
     let mut text = Vec::new(alloc);
-    let mut sink = Out::new(&mut text);
+    let mut buffer = [0; 1024];
+    let mut sink = Out::new(&mut text, &mut buffer);
     print_block(&mut sink, b"", code, nodes, Bodies::Read(&bodies));
     match sink.finish() {
         Err(_) => Err(AllocError),

@@ -12,6 +12,9 @@ use aml_text::{Blocks, Listing};
 use std::io::Write;
 use text_writer::{Out, WriteFault};
 
+/// How many bytes of the lines wait to be written.
+const ROOM: usize = 1024;
+
 /// The file's name, and what is counted first.
 fn print_check_head<W: Write>(out: &mut Out<'_, W>, name: &[u8], checked: Checked)
     ensures { Prints W.contents out.old out.new (check_head name.now checked) }
@@ -58,7 +61,8 @@ pub(crate) fn write_tables<W: Write, T: Blocks>(
     ensures { Writes (W.contents out.old) (W.contents out.new)
         (check_lines (T.blocks tables.now) checks.now) result }
 {
-    let mut sink = Out::new(out);
+    let mut buffer = [0; ROOM];
+    let mut sink = Out::new(out, &mut buffer);
     print_checks(&mut sink, tables, checks);
     sink.finish()
 }

@@ -24,6 +24,7 @@ use aml_set::Method;
 use aml_text::{Tables, body_levels, write_printed};
 use std::alloc::Global;
 use std::io::Write;
+use std::mem::forget;
 use std::sync::Wait;
 use std::thread::Threads;
 
@@ -45,7 +46,7 @@ const UNWRITTEN: u8 = 4;
 ///
 /// Returns the exit status: 0 where all is written, 1 where the set is refused, and nothing is written, 3 where all is
 /// written and the body of a method can't be read, so that it stands there as its bytes, and 4 where the writer took no
-/// more. The terms of a body are let go once its text is made.
+/// more. The terms of a body are let go once its text is made; what else a run holds goes with the process alone.
 pub fn run<R: Threads + Wait + Sync, G: Gate + Sync, O: Write, E: Write>(
     rt: &R,
     alloc: Global,
@@ -99,7 +100,24 @@ fn run_set<R: Threads + Wait + Sync, G: Gate + Sync, O: Write, E: Write>(
     ensures { Ends dumps.now options.now check (O.contents out.old) (O.contents out.new) result }
 {
     let (_order, set) = load_set(crew.alloc, dumps, options)?;
-    let tables = Tables { dumps, set: &set };
+    let ended = run_loaded(crew, Tables { dumps, set: &set }, options, check, out, err);
+    forget(set);
+    ended
+}
+
+/// Writes what is printed of a loaded set. Answers the status.
+fn run_loaded<R: Threads + Wait + Sync, G: Gate + Sync, O: Write, E: Write>(
+    crew: &Crew<'_, R, G>,
+    tables: Tables<'_, '_>,
+    options: &Options,
+    check: bool,
+    out: &mut O,
+    err: &mut E,
+) -> Result<u8, RunFault>
+    requires workers { (1 ≤ crew.now.workers) × (crew.now.workers ≤ 64) }
+    requires set { IsSet tables.dumps.now options.now tables.set.now }
+    ensures { Ends tables.entry.dumps.now options.now check (O.contents out.old) (O.contents out.new) result }
+{
     if check {
         run_checks(crew, tables, options, out, err)
     } else {
@@ -130,7 +148,9 @@ fn run_listing<R: Threads + Wait + Sync, G: Gate + Sync, O: Write, E: Write>(
     let texts = found.items.as_slice();
     write_printed(out, tables, texts)?;
     print_raw_bodies(set.methods.as_slice(), texts, err);
-    Ok(status_of_bodies(texts))
+    let status = status_of_bodies(texts);
+    forget((levels, found));
+    Ok(status)
 }
 
 /// Writes a line for each table of a loaded set, and a line on `err` for each body that can't be read. Each body is

@@ -9,6 +9,7 @@ use aml_names::{ArgumentCount, Path};
 use aml_pool::FreeGate;
 use command_line::{CommandLine, FileFault, Stop, read, read_externals};
 use std::io::{BufWriter, Write};
+use std::mem::forget;
 use std::process::ExitCode;
 use std::sync::Wait;
 use std::thread;
@@ -88,7 +89,7 @@ fn run_folder<T: Threads + Wait + Sync, E: Write>(
             return REFUSED;
         }
     };
-    run(
+    let status = run(
         threads,
         rt.alloc(),
         &dumps,
@@ -103,7 +104,10 @@ fn run_folder<T: Threads + Wait + Sync, E: Write>(
         &FreeGate,
         &mut rt.stdout(),
         err,
-    )
+    );
+    // The process ends: the system has the memory back sooner than it is let go piece by piece.
+    forget(dumps);
+    status
 }
 
 /// The argument counts of the file that the command line names, or none.

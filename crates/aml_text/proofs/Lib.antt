@@ -1,5 +1,6 @@
 pub mod Common
 pub mod Pairs
 mod RowLaws
+mod RowLines
 pub mod ListingLaws
 pub mod SameBlocks

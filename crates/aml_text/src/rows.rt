@@ -1,7 +1,7 @@
 //! The namespace: a line for each declared path.
 #![tactic(auto, using(crate::proofs::RowLaws::printing))]
 
-ghost use Rattle.std.specs.Prelude.{◌≡◌, ◌≤◌, ◌++◌, false, length, decimal, map as map_list};
+ghost use Rattle.std.specs.Prelude.{◌≡◌, ◌≤◌, ◌++◌, ◌∷◌, false, length, decimal, flat_map, map as map_list};
 ghost use Rattle.std.specs.FinMap as map;
 ghost use Rattle.text_writer.specs.Prints.{Prints, word};
 ghost use Rattle.asl_text.specs.Texts.{line, segment_text, separated};
@@ -9,13 +9,16 @@ ghost use Rattle.aml_text.specs.Rows.{path_text, kind_text, maybe_text, times_te
 ghost use Rattle.aml_text.specs.Rows.{namespace_text};
 
 use aml_names::{Parts, Seg};
-use aml_space::{Kind, Row, Space, Target};
+use aml_space::{Kind, Row, Rows, Space, Target};
 use asl_text::{print_indent, print_segments};
 use std::io::Write;
 use text_writer::{Out, print_decimal};
 
-/// How many segments of a path are printed at a time, 512 KB of them on the stack: a little more than the deepest path
-/// has that 510 Devices of 255 segments make. A deeper path would be gone up once for each so many.
+/// How many segments of a path are printed at a time, as long as no path is deeper.
+const SMALL_WINDOW: usize = 64;
+
+/// How many behind the first deeper one, 512 KB of them on the stack: a little more than the deepest path has that 510
+/// Devices of 255 segments make. A deeper path would be gone up once for each so many.
 const WINDOW: usize = 131_072;
 
 /// What each path begins with.
@@ -171,15 +174,47 @@ fn print_count<W: Write>(out: &mut Out<'_, W>, count: usize)
     out.put(b"\n");
 }
 
+/// The lines of rows whose paths may be of any depth.
+fn print_others<W: Write>(out: &mut Out<'_, W>, rows: Rows<'_>, window: &mut [Seg])
+    requires { 1 ≤ length window.old }
+    ensures { Prints W.contents out.old out.new (flat_map row_line rows.entry) }
+{
+    let mut left = rows;
+    'rows: while let Some(row) = left.next() {
+        print_row(out, &row, window);
+    }
+}
+
+/// The lines of a row and of those behind it. They stand apart, so that no other set pays for the window.
+#[cold]
+#[inline(never)]
+fn print_deep<W: Write>(out: &mut Out<'_, W>, row: &Row<'_>, others: Rows<'_>)
+    ensures { Prints W.contents out.old out.new (flat_map row_line (row.now ∷ others.entry)) }
+{
+    let mut window = [Seg::default(); WINDOW];
+    print_row(out, row, &mut window);
+    print_others(out, others, &mut window);
+}
+
+/// The lines of rows.
+fn print_lines<W: Write>(out: &mut Out<'_, W>, rows: Rows<'_>)
+    ensures { Prints W.contents out.old out.new (flat_map row_line rows.entry) }
+{
+    let mut window = [Seg::default(); SMALL_WINDOW];
+    let mut left = rows;
+    'rows: while let Some(row) = left.next() {
+        if row.depth() > SMALL_WINDOW {
+            return print_deep(out, &row, left);
+        }
+        print_row(out, &row, &mut window);
+    }
+}
+
 /// The namespace: how many paths are declared, and a line for each, in the order of the paths.
 pub fn print_rows<W: Write>(out: &mut Out<'_, W>, space: &Space)
     ensures { Prints W.contents out.old out.new (namespace_text (map.entries space.now.declarations)) }
 {
     let count = space.row_count();
     print_count(out, count);
-    let mut window = [Seg::default(); WINDOW];
-    let mut rows = space.in_order();
-    'rows: while let Some(row) = rows.next() {
-        print_row(out, &row, &mut window);
-    }
+    print_lines(out, space.in_order());
 }

@@ -15,7 +15,10 @@ use aml_code::CodeFault;
 use aml_space::Space;
 use asl_text::{Bodies, BodyText};
 use std::io::Write;
-use text_writer::{Out, Print, WriteFault, write_text};
+use text_writer::{Out, Print, WriteFault, write_text_in};
+
+/// How many bytes of a listing wait to be written: each call of the writer takes so many.
+const ROOM: usize = 65_536;
 
 /// The parts of a listing: dumps, the namespace of their tables, and these with the bodies of their methods.
 #[derive(Drop)]
@@ -55,7 +58,7 @@ pub fn write_listing<W: Write>(out: &mut W, listing: &Listing<'_>) -> Result<(),
         tables: listing,
         bodies: Bodies::Read(listing.bodies.as_slice()),
     };
-    write_text(out, &parts)
+    write_text_in(out, &parts, &mut [0; ROOM])
 }
 
 /// Writes the same of tables of whose bodies this is kept, each at its level (`body_levels`), or which can't be read.
@@ -77,5 +80,5 @@ pub fn write_printed<W: Write>(
         tables: &tables,
         bodies: Bodies::Printed(bodies),
     };
-    write_text(out, &parts)
+    write_text_in(out, &parts, &mut [0; ROOM])
 }

@@ -44,13 +44,13 @@ module _ {W : Type 0} (f : W → Option (List ℕ)) where
   Went-trans s t u xs ys now end bytes p sent whole = record {
     bytes = p.bytes ++ bytes;
     sent = Sends-trans s t u p.bytes bytes p.sent sent;
-    whole = joined_whole (waiting s.pending) now xs ys p.bytes bytes end p.whole whole;
+    whole = joined_whole (waiting s) now xs ys p.bytes bytes end p.whole whole;
   }
 
   by_then : (a b c : Bool) (s t u : Out W) (xs ys : List ℕ) → PrintsBy a b f s t xs → PrintsBy b c f t u ys
       → PrintsBy a c f s u (xs ++ ys)
-  by_then false false false s t u xs ys p q = Went-trans s t u xs ys (waiting t.pending) (waiting u.pending) q.bytes p q.sent q.whole
-  by_then false false true s t u xs ys p q = (q.0, q.1, Went-trans s t u xs ys (waiting t.pending) q.0 q.2.bytes p q.2.sent q.2.whole)
+  by_then false false false s t u xs ys p q = Went-trans s t u xs ys (waiting t) (waiting u) q.bytes p q.sent q.whole
+  by_then false false true s t u xs ys p q = (q.0, q.1, Went-trans s t u xs ys (waiting t) q.0 q.2.bytes p q.2.sent q.2.whole)
   by_then false true true s t u xs ys p q =
       (p.0 ++ ys, omega (arith, p.1, length-append p.0 ys), Went-trans s t u xs ys p.0 (p.0 ++ ys) [] p.2 q refl)
   by_then true true true s t u xs ys p q = Sends-trans s t u [] [] p q
@@ -63,7 +63,7 @@ module _ {W : Type 0} (f : W → Option (List ℕ)) where
   prints_then s t u xs ys p q = by_then s.failed t.failed u.failed s t u xs ys p q
 
   by_none : (a : Bool) (s : Out W) → PrintsBy a a f s s []
-  by_none false s = record { bytes = []; sent = Sends-nil s; whole = append-nil (waiting s.pending) }
+  by_none false s = record { bytes = []; sent = Sends-nil s; whole = append-nil (waiting s) }
   by_none true s = Sends-nil s
 
   -- nothing
@@ -109,7 +109,7 @@ module _ {W : Type 0} (f : W → Option (List ℕ)) where
   -- the text waits
   pub prints_added : (s t : Out W) (xs : List ℕ) → s.failed ≡ false → t.failed ≡ false
       → t.inner.ghost_name ≡ s.inner.ghost_name
-      → f t.inner.now ≡ f s.inner.now → t.wrote ≡ s.wrote → waiting t.pending ≡ waiting s.pending ++ xs
+      → f t.inner.now ≡ f s.inner.now → t.wrote ≡ s.wrote → waiting t ≡ waiting s ++ xs
       → Prints f s t xs
   unfolding Prints
   prints_added s t xs d e n i w p = rw (d, e) (record {
@@ -118,9 +118,9 @@ module _ {W : Type 0} (f : W → Option (List ℕ)) where
     whole = sym p;
   })
 
-  by_sent : (b : Bool) (s t : Out W) (xs all : List ℕ) (n : ℕ) → waiting s.pending ++ xs ≡ all
+  by_sent : (b : Bool) (s t : Out W) (xs all : List ℕ) (n : ℕ) → waiting s ++ xs ≡ all
       → Sends f s t (take n all)
-      → b ≡ nat_lt n (length all) → waiting t.pending ≡ [] → PrintsBy false b f s t xs
+      → b ≡ nat_lt n (length all) → waiting t ≡ [] → PrintsBy false b f s t xs
   by_sent false s t xs all n e sent is empty = record {
     bytes = take n all;
     sent = sent;
@@ -133,10 +133,10 @@ module _ {W : Type 0} (f : W → Option (List ℕ)) where
   )
 
   -- what waited and the text were sent, n bytes of them
-  pub prints_sent : (s t : Out W) (xs all : List ℕ) (n : ℕ) → s.failed ≡ false → waiting s.pending ++ xs ≡ all
+  pub prints_sent : (s t : Out W) (xs all : List ℕ) (n : ℕ) → s.failed ≡ false → waiting s ++ xs ≡ all
       → t.inner.ghost_name ≡ s.inner.ghost_name
       → Appends (f s.inner.now) (f t.inner.now) (take n all) → n ≤ length all
-      → t.wrote ≡ min (s.wrote + n) (2 ^ 64 - 1) → t.failed ≡ nat_lt n (length all) → waiting t.pending ≡ []
+      → t.wrote ≡ min (s.wrote + n) (2 ^ 64 - 1) → t.failed ≡ nat_lt n (length all) → waiting t ≡ []
       → Prints f s t xs
   unfolding Prints
   prints_sent s t xs all n d e same grew fits count is empty = subst (λ b. PrintsBy b t.failed f s t xs) (sym d)
@@ -149,8 +149,8 @@ module _ {W : Type 0} (f : W → Option (List ℕ)) where
       (by_then f s.failed true true s t t xs ys (subst (λ b. PrintsBy s.failed b f s t xs) e p) (Sends-nil f t))
 
   finished : (b : Bool) (s t : Out W) (text : List ℕ) (r : Result (Unit {0}) WriteFault) → s.wrote ≡ 0
-      → waiting s.pending ≡ []
-      → PrintsBy false b f s t text → OnOk r ((b ≡ false) × (waiting t.pending ≡ []))
+      → waiting s ≡ []
+      → PrintsBy false b f s t text → OnOk r ((b ≡ false) × (waiting t ≡ []))
       → IfErr r (λ e. (b ≡ true) × (e.wrote ≡ t.wrote))
       → Writes (f s.inner.now) (f t.inner.now) text r
   finished true s t text (Ok _) z e p o q = cc o.0
@@ -169,8 +169,8 @@ module _ {W : Type 0} (f : W → Option (List ℕ)) where
 
   -- what a caller learns once all is printed and sent
   pub writes_listing : (s t u : Out W) (text : List ℕ) (r : Result (Unit {0}) WriteFault) → s.failed ≡ false
-      → s.wrote ≡ 0 → waiting s.pending ≡ []
-      → Prints f s t text → Prints f t u [] → OnOk r ((u.failed ≡ false) × (waiting u.pending ≡ []))
+      → s.wrote ≡ 0 → waiting s ≡ []
+      → Prints f s t text → Prints f t u [] → OnOk r ((u.failed ≡ false) × (waiting u ≡ []))
       → IfErr r (λ e. (u.failed ≡ true) × (e.wrote ≡ u.wrote)) → Writes (f s.inner.now) (f u.inner.now) text r
   unfolding Prints
   writes_listing s t u text r d z e p q o h =

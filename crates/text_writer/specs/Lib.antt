@@ -1,3 +1,2 @@
 -- What printing means, and the text of numbers.
-pub mod Room
 pub mod Prints

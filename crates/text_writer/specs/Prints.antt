@@ -3,7 +3,6 @@ use Prim.Native.String.{String}
 use Rattle.std.specs.Prelude.{ℕ, List, codes, Bool, ◌/◌, ◌%◌, [], ◌∷◌, ◌++◌, flat_map, slice_index, nat_eq, nat_le}
 use Rattle.std.specs.Prelude.{◌&&◌, not, if◌then◌else◌, take, ◌≡◌, ◌+◌, ◌-◌, ◌^◌, ◌<◌, min, true, false, length, Option}
 use Rattle.std.specs.Prelude.{Result, MatchResult}
-use Rattle.text_writer.specs.declared.pending.Pending.{Pending}
 use Rattle.std.specs.Io.KnownBytes.{Appends}
 use Rattle.text_writer.specs.declared.output.Out.{Out}
 use Rattle.text_writer.specs.declared.output.WriteFault.{WriteFault}
@@ -47,8 +46,8 @@ quoted bs = word "\"" ++ flat_map quoted_byte bs ++ word "\""
 -- ---- The bytes that wait to be written.
 
 -- the bytes that wait
-abbrev pub waiting : Pending → List ℕ
-waiting p = take p.len p.bytes
+abbrev pub waiting : {W : Type 0} → Out W → List ℕ
+waiting out = take out.len out.buffer.now
 
 -- ---- What a writer took, and how much of it.
 
@@ -62,11 +61,11 @@ pub record Sends {W : Type 0} (contents : W → Option (List ℕ)) (before after
 pub record Went {W : Type 0} (contents : W → Option (List ℕ)) (before after : Out W) (text rest : List ℕ) : Type 0 where
   pub bytes : List ℕ
   pub sent : Sends contents before after bytes
-  pub whole : waiting before.pending ++ text ≡ bytes ++ rest
+  pub whole : waiting before ++ text ≡ bytes ++ rest
 
 -- by whether a fault came before, and has come since: all went out but for what waits now, or it was cut short
 abbrev pub PrintsBy : Bool → Bool → {W : Type 0} → (W → Option (List ℕ)) → Out W → Out W → List ℕ → Type 0
-PrintsBy false false contents before after text = Went contents before after text (waiting after.pending)
+PrintsBy false false contents before after text = Went contents before after text (waiting after)
 PrintsBy false true contents before after text =
     (rest : List ℕ) × (0 < length rest) × Went contents before after text rest
 PrintsBy true true contents before after text = Sends contents before after []

@@ -1,10 +1,9 @@
 //! A writer that collects what it is given, counts what went out, and stops at the first fault.
-ghost use Rattle.std.specs.Prelude.{◌≡◌, ◌≤◌, ◌∷◌, length, take, [], true, false, OnOk, IfErr, IfSome};
+ghost use Rattle.std.specs.Prelude.{◌≡◌, ◌≤◌, ◌∷◌, ◌+◌, length, take, [], true, false, OnOk, IfErr, IfSome};
 ghost use Rattle.std.specs.Option.{unwrap_or};
 ghost use Rattle.std.specs.Io.KnownBytes.{Appends};
-ghost use Rattle.text_writer.specs.Prints.{waiting, Prints};
 
-use crate::pending::Pending;
+use crate::buffer::{place, place_two};
 use std::io::{ErrorKind, Write};
 use thiserror::Error;
 
@@ -19,9 +18,12 @@ pub struct WriteFault {
 #[derive(Drop)]
 pub struct Out<'w, W> {
     inner: &'w mut W,
-    pending: Pending,
+    /// The bytes that wait are its first.
+    buffer: &'w mut [u8],
+    len: usize,
     wrote: u64,
     failed: bool,
+    ghost within: { len ≤ length buffer.now },
 }
 
 /// How many of these bytes the writer took in one call: none where the call was interrupted, and no answer where it
@@ -64,17 +66,20 @@ fn send<W: Write>(to: &mut W, bytes: &[u8]) -> usize
 }
 
 impl<'w, W: Write> Out<'w, W> {
-    /// An output that has written nothing so far.
-    pub fn new(inner: &'w mut W) -> Out<'w, W>
+    ghost use Rattle.text_writer.specs.Prints.{waiting, Prints};
+
+    /// An output that has written nothing so far. What waits to be written does so in the buffer.
+    pub fn new(inner: &'w mut W, buffer: &'w mut [u8]) -> Out<'w, W>
         ensures same { result.inner.ghost_name ≡ inner.entry.ghost_name }
         ensures now { result.inner.now ≡ inner.old }
-        ensures empty { waiting result.pending ≡ [] }
+        ensures empty { waiting result ≡ [] }
         ensures none { result.wrote ≡ 0 }
         ensures well { result.failed ≡ false }
     {
         Out {
             inner,
-            pending: Pending::new(),
+            buffer,
+            len: 0,
             wrote: 0,
             failed: false,
         }
@@ -87,23 +92,29 @@ impl<'w, W: Write> Out<'w, W> {
         if self.failed {
             return;
         }
-        if bytes.len() <= self.pending.room() {
-            self.pending.add(bytes);
+        if bytes.len() <= self.room() {
+            self.len = place(self.buffer, self.len, bytes);
         } else {
             self.spill(bytes);
         }
     }
 
-    /// Prints two bytes. They go to their places one by one: a copy of a pair that was only just put together waits for
-    /// its parts.
+    /// How many more bytes can wait.
+    fn room(&self) -> usize
+        ensures { result + length (waiting self.now) ≡ length self.now.buffer.now }
+    {
+        self.buffer.len() - self.len
+    }
+
+    /// Prints two bytes.
     pub(crate) fn put_two(&mut self, first: u8, second: u8)
         ensures { Prints W.contents self.old self.new (first ∷ second ∷ []) }
     {
         if self.failed {
             return;
         }
-        if 2 <= self.pending.room() {
-            self.pending.add_two(first, second);
+        if 2 <= self.room() {
+            self.len = place_two(self.buffer, self.len, first, second);
         } else {
             self.spill(&[first, second]);
         }
@@ -120,8 +131,8 @@ impl<'w, W: Write> Out<'w, W> {
         if self.failed {
             return;
         }
-        if bytes.len() <= self.pending.room() {
-            self.pending.add(bytes);
+        if bytes.len() <= self.room() {
+            self.len = place(self.buffer, self.len, bytes);
             return;
         }
         let taken = send(self.inner, bytes);
@@ -133,20 +144,19 @@ impl<'w, W: Write> Out<'w, W> {
     fn write_pending(&mut self)
         requires { self.old.failed ≡ false }
         ensures prints { Prints W.contents self.old self.new [] }
-        ensures empty { self.new.failed ≡ false → waiting self.new.pending ≡ [] }
+        ensures empty { self.new.failed ≡ false → waiting self.new ≡ [] }
     {
-        let waiting = self.pending.as_slice();
-        let len = waiting.len();
+        let waiting = &self.buffer[..self.len];
         let taken = send(self.inner, waiting);
         self.wrote = self.wrote.saturating_add(taken as u64);
-        self.failed = taken < len;
-        self.pending.clear();
+        self.failed = taken < waiting.len();
+        self.len = 0;
     }
 
     /// Writes what waits, and says how it went.
     pub fn finish(&mut self) -> Result<(), WriteFault>
         ensures prints { Prints W.contents self.old self.new [] }
-        ensures ok { OnOk result ((self.new.failed ≡ false) × (waiting self.new.pending ≡ [])) }
+        ensures ok { OnOk result ((self.new.failed ≡ false) × (waiting self.new ≡ [])) }
         ensures err { IfErr result (λ e. (self.new.failed ≡ true) × (e.wrote ≡ self.new.wrote)) }
     {
         if self.failed {

@@ -5,6 +5,9 @@ ghost use Rattle.text_writer.specs.Prints.{Prints, Writes};
 use crate::output::{Out, WriteFault};
 use std::io::Write;
 
+/// How many bytes of a text wait to be written, where no buffer is given.
+const ROOM: usize = 1024;
+
 /// What prints as one text.
 pub trait Print {
     /// The condition of printing it: none, where an impl names none.
@@ -26,7 +29,20 @@ pub fn write_text<W: Write, T: Print>(out: &mut W, item: &T) -> Result<(), Write
     requires { T.can_print item.now }
     ensures { Writes (W.contents out.old) (W.contents out.new) (T.text item.now) result }
 {
-    let mut sink = Out::new(out);
+    write_text_in(out, item, &mut [0; ROOM])
+}
+
+/// Writes the same, where so many bytes wait to be written as the buffer has. The more there are, the fewer calls of the
+/// writer.
+pub fn write_text_in<W: Write, T: Print>(
+    out: &mut W,
+    item: &T,
+    buffer: &mut [u8],
+) -> Result<(), WriteFault>
+    requires { T.can_print item.now }
+    ensures { Writes (W.contents out.old) (W.contents out.new) (T.text item.now) result }
+{
+    let mut sink = Out::new(out, buffer);
     item.print(&mut sink);
     sink.finish()
 }

@@ -16,4 +16,4 @@ returns g c =
     let set = c.args.tables in
     let levels = c.as_slice-2.ensures.value ∙ c.in_ok-levels.ensures ∙ ap (λ ts. levels_of (table_terms ts)) c.as_slice.ensures.value in
     let output = texts_output set.dumps.now c.args.options.now set.set.now c.requires.set _ _ _ levels c.as_slice-texts.ensures.value
-    c.in_ok-found.ensures.kept in (_, rw c.status_of_bodies.ensures output, c.in_ok-write_printed.ensures)
+    c.in_ok-found.ensures.kept in (_, rw c.status_of_bodies-status.ensures output, c.in_ok-write_printed.ensures)

@@ -6,4 +6,4 @@ pub returns-then-self : goal.returns-then-self
 returns-then-self g c = prints_failed g.W.Write.contents _ _ c.if-self.true
 
 pub returns-then-bytes-room : goal.returns-then-bytes-room
-returns-then-bytes-room g c = prints_added g.W.Write.contents _ _ _ c.if-self.false c.if-self.false refl refl refl c.add.ensures
+returns-then-bytes-room g c = prints_added g.W.Write.contents _ _ _ c.if-self.false c.if-self.false refl refl refl c.place-self.ensures.placed

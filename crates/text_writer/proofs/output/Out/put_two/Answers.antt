@@ -6,4 +6,4 @@ pub returns-then-self : goal.returns-then-self
 returns-then-self g c = prints_failed g.W.Write.contents _ _ c.if-self.true
 
 pub returns-then-room-ge2 : goal.returns-then-room-ge2
-returns-then-room-ge2 g c = prints_added g.W.Write.contents _ _ _ c.if-self.false c.if-self.false refl refl refl c.add_two.ensures
+returns-then-room-ge2 g c = prints_added g.W.Write.contents _ _ _ c.if-self.false c.if-self.false refl refl refl c.place_two-self.ensures.placed

@@ -8,7 +8,7 @@ returns-then-self g c = prints_fault g.W.Write.contents _ _ [] c.args.bytes.now 
 pub returns-then-bytes-room : goal.returns-then-bytes-room
 returns-then-bytes-room g c =
     prints_then g.W.Write.contents _ c.write_pending.new.self _ [] c.args.bytes.now c.write_pending.ensures.prints
-    (prints_added g.W.Write.contents _ _ _ c.if-self.false c.if-self.false refl refl refl c.add.ensures)
+    (prints_added g.W.Write.contents _ _ _ c.if-self.false c.if-self.false refl refl refl c.place-self.ensures.placed)
 
 pub returns : goal.returns
 returns g c =

@@ -1,10 +1,9 @@
-use Rattle.std.proofs.Common.{[], append-nil, refl, sym, ◌∙◌}
+use Rattle.std.proofs.Common.{[], append-nil, refl}
 use Rattle.text_writer.specs.Prints.{waiting}
 use Rattle.text_writer.proofs.PrintLaws.{prints_sent}
 use Rattle.text_writer.proofs.output.Out.write_pending.Goals as goal
 
 pub returns-clause-prints : goal.returns-clause-prints
 returns-clause-prints g c =
-    let all = c.as_slice-waiting.result.now in
-    prints_sent g.W.Write.contents _ _ [] all c.send-taken.result c.requires (append-nil (waiting c.args.self.now.pending) ∙ sym c.as_slice-waiting.ensures)
-    refl c.send-taken.ensures.sent c.send-taken.ensures.bound c.saturating_add-self.ensures refl c.clear.ensures
+    prints_sent g.W.Write.contents _ _ [] _ c.send-taken.result c.requires (append-nil (waiting c.args.self.now))
+    refl c.send-taken.ensures.sent c.send-taken.ensures.bound c.saturating_add-self.ensures refl refl

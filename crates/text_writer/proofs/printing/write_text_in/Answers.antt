@@ -1,6 +1,6 @@
 use Rattle.std.proofs.Common.{sym, ◌∙◌}
 use Rattle.text_writer.proofs.PrintLaws.{writes_listing, prints_same}
-use Rattle.text_writer.proofs.printing.write_text.Goals as goal
+use Rattle.text_writer.proofs.printing.write_text_in.Goals as goal
 
 pub returns : goal.returns
 returns g c =

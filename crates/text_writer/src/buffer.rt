@@ -1,0 +1,25 @@
+//! Bytes that are put one behind the other into a buffer.
+ghost use Rattle.std.specs.Prelude.{◌≡◌, ◌≤◌, ◌+◌, ◌++◌, ◌∷◌, [], length, take};
+
+/// Puts bytes at a place of a buffer. Returns where they end.
+pub(crate) fn place(buffer: &mut [u8], at: usize, bytes: &[u8]) -> usize
+    requires { at + length bytes.now ≤ length buffer.old }
+    ensures placed { take result buffer.new ≡ take at buffer.old ++ bytes.now }
+    ensures within { result ≤ length buffer.new }
+{
+    let end = at + bytes.len();
+    buffer[at..end].copy_from_slice(bytes);
+    end
+}
+
+/// Puts two bytes at a place of a buffer. Returns where they end. They go to their places one by one: a copy of a pair
+/// that was only just put together waits for its parts.
+pub(crate) fn place_two(buffer: &mut [u8], at: usize, first: u8, second: u8) -> usize
+    requires { at + 2 ≤ length buffer.old }
+    ensures placed { take result buffer.new ≡ take at buffer.old ++ first ∷ second ∷ [] }
+    ensures within { result ≤ length buffer.new }
+{
+    buffer[at] = first;
+    buffer[at + 1] = second;
+    at + 2
+}

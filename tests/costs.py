@@ -1,0 +1,82 @@
+#!/usr/bin/env python3
+"""Counts what a run costs where no contract speaks of it: writes, memory let go behind the last one, and page faults.
+
+usage: tests/costs.py [PROGRAM]
+
+PROGRAM is out/acpidis if left out. It needs a C compiler, for refusals.c. The last line is 'N passed, N failed'.
+"""
+
+import os
+import pathlib
+import shutil
+import subprocess
+import sys
+import tempfile
+
+sys.dont_write_bytecode = True
+TOP = pathlib.Path(__file__).resolve().parent.parent
+sys.path.insert(0, str(TOP / "bench"))
+
+import bodies  # noqa: E402
+
+DEMO = TOP / "crates/acpidis_program/data/demo"
+METHODS = 20_000
+# A write takes 64 KB, and less only where a body's text doesn't fit any more.
+LEAST_WRITE = 32_768
+# What is let go behind the last write are a few buffers, whatever the set is.
+MOST_FREED = 100
+# A run touches few pages that a program doesn't touch which only says its version. 128 are the large window of the rows.
+MOST_FAULTS = 80
+
+
+def count_calls(program, shim, folder):
+    """The length of a set's text, the writes of it, and the blocks of memory that are let go behind the last one."""
+    counts, end = os.pipe()
+    words = ["sh", "-c", f'exec "$0" "$@" 3>&{end}', program, "--workers", "1", folder]
+    run = subprocess.run(
+        words, env={**os.environ, "LD_PRELOAD": shim}, stdout=subprocess.PIPE, check=True, pass_fds=[end]
+    )
+    os.close(end)
+    with os.fdopen(counts) as lines:
+        *_others, writes, freed = map(int, lines.read().split("\n")[-2].split())
+    return len(run.stdout), writes, freed
+
+
+def count_faults(*words):
+    """The page faults of a run."""
+    process = subprocess.Popen(words, stdout=subprocess.DEVNULL)
+    _, status, usage = os.wait4(process.pid, 0)
+    process.returncode = os.waitstatus_to_exitcode(status)
+    assert process.returncode == 0, words
+    return usage.ru_minflt
+
+
+def measure(program, room):
+    """What was counted of two runs, each with its bound."""
+    compiler = os.environ.get("CC") or next(filter(None, map(shutil.which, ["cc", "gcc", "clang"])))
+    shim, folder = room / "refusals.so", room / "set"
+    subprocess.run([compiler, "-O1", "-shared", "-fPIC", "-o", shim, TOP / "tests/refusals.c", "-ldl"], check=True)
+    folder.mkdir()
+    (folder / "dsdt.dat").write_bytes(bodies.many_methods(METHODS))
+    length, writes, freed = count_calls(program, shim, folder)
+    assert length > 100 * METHODS, length
+    faults = count_faults(program, DEMO) - count_faults(program, "--version")
+    return [
+        (f"writes of {length} bytes", writes, length // LEAST_WRITE),
+        ("blocks let go behind the last write", freed, MOST_FREED),
+        ("page faults of a small set", faults, MOST_FAULTS),
+    ]
+
+
+def main():
+    program = os.path.abspath(sys.argv[1] if len(sys.argv) > 1 else TOP / "out/acpidis")
+    with tempfile.TemporaryDirectory() as room:
+        rows = measure(program, pathlib.Path(room))
+    for name, count, most in rows:
+        print(f"{'FAILED ' if count > most else ''}{name}: {count}, at most {most}")
+    failed = sum(count > most for _, count, most in rows)
+    print(f"{len(rows) - failed} passed, {failed} failed")
+    sys.exit(failed > 0)
+
+
+main()
