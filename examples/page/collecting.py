@@ -22,6 +22,10 @@ METHOD_OBJECT = 8
 REGIONS = ("OperationRegion", "DataRegion")
 USING = (Sort.LEADS, Sort.NOTHING)
 FIELD_REGION = COLUMNS["field"].index("region")
+REGION_NUMBERS = COLUMNS["region"].index("first"), COLUMNS["region"].index("length")
+RAW, USED, HOW = COLUMNS["method"].index("is_raw"), COLUMNS["use"].index("name"), COLUMNS["use"].index("how")
+TARGET = COLUMNS["name"].index("target")
+CONSTANT = [COLUMNS["name"].index(column) for column in ("kind", "stands", "times", "value")]
 DEVICES = ("Device", "Processor", "ThermalZone")
 HEADER = re.compile(
     r'(?:Table|Root) "[^"]*"(?: "(?P<signature>[^"]*)" Length (?P<length>\d+))?(?: Revision (?P<before>\d+))?'
@@ -110,6 +114,8 @@ class Collector:
         self.regions: dict[str, int] = {}
         self.field_regions: dict[str, int | None] = {}
         self.waiting: list[tuple[list, str]] = []
+        # Columns of regions that are values of names, and these.
+        self.named: list[tuple[list, int, int]] = []
         self.method_ids: dict[int, int] = {}
         self.method: int | None = None
         self.file = ""
@@ -124,6 +130,7 @@ class Collector:
             self.add_block(block)
         for row, anchor in self.waiting:
             row[FIELD_REGION] = self.field_regions.get(anchor)
+        self.add_constants()
         for row in (row for table in self.rows for row in self.rows[table]):
             # The line is the last column, and the lines above the namespace aren't the code's.
             if row[-1] is not None:
@@ -225,6 +232,28 @@ class Collector:
             values = [space, space_name(space) if space is not None else "", small(first), small(length), *(*texts, "", "")[2:4]]
         anchor, name, path = self.declared(line)
         self.regions.setdefault(anchor, self.add("region", name, self.method, path, *values, self.file, line.number))
+        if line.term != "DataRegion":
+            self.add_named(line, arguments[2:4])
+
+    def add_named(self, line: Line, terms: list[Term | None]) -> None:
+        """Keeps which numbers of a region are values of names."""
+        meanings = self.decoder.meanings(line)
+        for column, term in zip(REGION_NUMBERS, terms):
+            meaning = meanings.get(term.place) if term and not term.arguments else None
+            name = self.ids.get(meaning.path) if meaning and meaning.path is not None and not meaning.others else None
+            if name and not meaning.anchor.isdigit():
+                self.named.append((self.rows["region"][-1], column, name))
+
+    def add_constants(self) -> None:
+        """The numbers of regions that are Names with a constant which nothing changes, as far as all bodies tell."""
+        if any(row[RAW] for row in self.rows["method"]):
+            return
+        changed = {row[USED] for row in self.rows["use"] if row[HOW] in ("written", "passed")}
+        changed |= {self.rows["name"][name - 1][TARGET] for name in changed if name}
+        for row, column, name in self.named:
+            kind, stands, times, value = (self.rows["name"][name - 1][at] for at in CONSTANT)
+            if name not in changed and (kind, stands, times) == ("Name", "always", 1) and value:
+                row[column] = small(Term(value, 0).number)
 
     def declared(self, line: Line) -> tuple[str, int | None, str]:
         """The anchor of the name that a line declares, its row, and its path as text."""
