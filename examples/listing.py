@@ -45,7 +45,7 @@ class Refused(Exception):
 def command():
     """The command that ACPIDIS names, else the launcher of this repository, else the installed program."""
     named = os.environ.get("ACPIDIS")
-    if not named and LAUNCHER.exists():
+    if not named and LAUNCHER.is_file():
         return str(LAUNCHER)
     found = shutil.which(named or "acpidis")
     if not found:

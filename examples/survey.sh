@@ -23,7 +23,7 @@ top=${script%/*/*}
 # Sets ACPIDIS to the program: the one it names, else that of this repository, which is built where it isn't, else the
 # installed one.
 find_program() {
-    if [ -z "${ACPIDIS-}" ] && [ -x "$top/acpidis" ]; then
+    if [ -z "${ACPIDIS-}" ] && [ -f "$top/acpidis" ] && [ -x "$top/acpidis" ]; then
         ACPIDIS=$("$top/acpidis" --program) || exit
     fi
     ACPIDIS=$(command -v -- "${ACPIDIS:-acpidis}") || fail 'no program acpidis: install it, or name it in ACPIDIS'

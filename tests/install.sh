@@ -21,7 +21,7 @@ is() {
 }
 
 files() {
-    find "$1" -type f | LC_ALL=C sort
+    find "$1" -type f -o -type l | LC_ALL=C sort
 }
 
 modes() {
@@ -52,8 +52,17 @@ if command -v man >/dev/null; then
     is 'the page is found' "$(man -M "$prefix/share/man" -w acpidis 2>&1)" "$page"
 fi
 docs=$prefix/share/doc/acpidis
-is 'the examples find the program' \
-    "$(ACPIDIS=$prefix/bin/acpidis "$docs/examples/missing.py" "$program/data/demo" 2>&1)" '# no body waits for a name'
+is 'commands find the program' "$(PATH=$prefix/bin:$PATH acpidis-missing "$program/data/demo" 2>&1)" '# no body waits for a name'
+is 'another program' "$(ACPIDIS=/none/acpidis "$prefix/bin/acpidis-missing" "$program/data/demo" 2>&1)" \
+    'missing: no program acpidis: install it, or name it in ACPIDIS'
+for script in "$top"/examples/*.py "$top"/examples/*.sh; do
+    name=${script##*/}
+    if [ -x "$script" ]; then
+        is "acpidis-${name%.*}" "$(PATH=$prefix/bin:$PATH "acpidis-${name%.*}" --help 2>&1 | grep -c .)" "$("$script" --help 2>&1 | grep -c .)"
+    fi
+done
+is 'the survey as a command' "$(cd "$work" && mkdir -p sets && cp -r "$program/data/demo" sets &&
+    PATH=$prefix/bin:$PATH acpidis-survey sets lines 2>&1 && cut -f 1-3 lines)" "$(printf 'survey: status 0: 1\ndemo\t0\t-')"
 is 'pages that the manual names' "$(sed -n 's|.*doc/acpidis/\([a-z_]*\.md\).*|\1|p' "$page" | sort -u |
     while read -r name; do [ -f "$docs/$name" ] || echo "$name"; done)" ''
 # those of a quoted source are its own
@@ -62,9 +71,9 @@ links() {
 }
 is 'links of the pages' "$(links | while read -r name; do [ -z "$name" ] || [ -f "$docs/$name" ] || echo "$name"; done)" ''
 is 'links there are' "$(links | grep -cx 'README.md\|page.png\|figures.svg')" 3
-is 'all examples are there' "$(cd "$docs/examples" && find . -type f | sort)" \
+is 'all scripts are there' "$(cd "$prefix/share/acpidis" && find . -type f | sort)" \
     "$(cd "$top/examples" && find . -type f ! -name '*.pyc' ! -name '*.bash' | sort)"
-is 'the page of a listing' "$("$docs/examples/page.py" "$program/stdout" 2>&1 | cksum)" \
+is 'the page of a listing' "$("$prefix/bin/acpidis-page" "$program/stdout" 2>&1 | cksum)" \
     "$("$top/examples/page.py" "$program/stdout" | cksum)"
 is 'a second time' "$(PREFIX=$prefix sorted "$top/install")" "$said"
 touch "$prefix/bin/other"
@@ -102,7 +111,7 @@ ln -s "$work/aside/file" "$prefix/bin/acpidis"
 ln -s "$work/aside/file" "$prefix/bin/acpidis.new"
 PREFIX=$prefix "$top/install" >/dev/null
 is 'no link is followed' "$(cat aside/file)$(stat -c %F "$prefix/bin/acpidis")" 'regular file'
-is 'no other file is left' "$(cd "$prefix/bin" && echo *)" 'acpidis acpidis.new'
+is 'no other file is left' "$(cd "$prefix/bin" && echo acpidis acpidis.*)" 'acpidis acpidis.new'
 prefix=$work/taken
 mkdir -p "$prefix/bin/acpidis"
 is 'a folder is refused' "$(PREFIX=$prefix "$top/install" 2>&1)" "install: $prefix/bin/acpidis is a folder"

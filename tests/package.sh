@@ -82,7 +82,7 @@ tar -xJf "first/out/package/$archive.tar.xz" -C archive
 DESTDIR=$work/installed PREFIX=/ first/install >/dev/null
 docs=share/doc/acpidis
 is 'owners and modes' "$(dpkg-deb -c "$package" | awk '{ print $1, $2 }' | sort -u)" \
-    "$(lines '-rw-r--r-- root/root' '-rwxr-xr-x root/root' 'drwxr-xr-x root/root')"
+    "$(lines '-rw-r--r-- root/root' '-rwxr-xr-x root/root' 'drwxr-xr-x root/root' 'lrwxrwxrwx root/root')"
 is 'all has the time of the commit' "$(dpkg-deb -c "$package" | awk '{ print $4, $5 }' | sort -u)" \
     "$(date -d "@$(git -C first log -1 --format=%ct)" '+%F %H:%M')"
 is 'the sums of files' "$(cd debian && md5sum -c --quiet DEBIAN/md5sums 2>&1)" ''

@@ -78,12 +78,12 @@ is 'its files are whole' "$(inside 'dpkg --verify acpidis')" ''
 is 'its version' "$(inside 'acpidis --version' | cut -d ' ' -f 1-2)" "acpidis $version"
 is 'the demo' "$(inside 'acpidis demo')" "$(cat "$shown/stdout")"
 is 'a check of the demo' "$(inside 'acpidis --check demo')" 'Check "dsdt.dat" Bytes 9 Methods 1 Raw 0 Same'
-page=/usr/share/doc/acpidis/examples/page.py
+page=acpidis-page
 is 'a page' "$(inside "acpidis demo >listing && $page listing" | cksum)" \
     "$(cd "$root" && "$top/examples/page.py" listing | cksum)"
 is 'it is a page' "$(inside "$page listing" | grep -c '^<!DOCTYPE html>')" 1
 rm "$root/listing"
-is 'a script that runs it' "$(inside '/usr/share/doc/acpidis/examples/missing.py demo')" '# no body waits for a name'
+is 'a script that runs it' "$(inside 'acpidis-missing demo')" '# no body waits for a name'
 inside 'dpkg --purge acpidis' >/dev/null
 all >"$work/after"
 is 'nothing is left of it' "$(diff "$work/before" "$work/after")" ''
@@ -107,10 +107,10 @@ nobody() {
 is 'nothing can be written' "$(nobody 'find / -xdev -writable ! -type l ! -path "/dev/*" ! -path "/proc/*" 2>/dev/null')" ''
 is 'the demo, from a folder with blanks' "$(nobody 'bin/acpidis /demo')" "$(cat "$shown/stdout")"
 is 'its version, from there' "$(nobody 'bin/acpidis --version' | cut -d ' ' -f 1-2)" "acpidis $version"
-is 'a page, from there' "$(nobody 'share/doc/acpidis/examples/page.py /listing' | grep -c '^<!DOCTYPE html>')" 1
+is 'a page, from there' "$(nobody 'bin/acpidis-page /listing' | grep -c '^<!DOCTYPE html>')" 1
 chmod 1777 "$root/tmp"
 is 'a script that runs it, from there' \
-    "$(nobody "ACPIDIS='$folder/bin/acpidis' share/doc/acpidis/examples/missing.py /demo")" '# no body waits for a name'
+    "$(nobody "ACPIDIS='$folder/bin/acpidis' bin/acpidis-missing /demo")" '# no body waits for a name'
 
 # the commands of the page, in a folder with both packages; ssh leads into the new root, where root needs no sudo
 mkdir "$work/bin" "$work/here"
