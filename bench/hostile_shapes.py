@@ -184,6 +184,14 @@ def upward_crowded(count, depth):
     return named(count) + code
 
 
+def upward_turning(count, depth):
+    """Uses of a name at the root in a method of so many Devices, before each of which another one has that name too."""
+    code = main_method(LEAF * count)
+    for _ in range(depth):
+        code = package(b"\x5b\x82", NEAR + package(b"\x5b\x82", OTHER + b"\x08" + LEAF + b"\0") + code)
+    return b"\x08" + LEAF + b"\0" + code
+
+
 def upward_outside(count, depth):
     """Regions in a deep scope, with an offset and a length that nothing declares."""
     regions = (b"\x5b\x80" + segment(number) + b"\0" + NOTHING + NOTHING for number in range(count))
@@ -513,6 +521,7 @@ SHAPES = (
     Shape("upward-deepest", 100_000, "names", one(lambda count: upward(count, DEEPEST))),
     Shape("upward-crowded", 100_000, "names", one(lambda count: upward_crowded(count, 1000))),
     Shape("upward-crowded-deep", 1_000, "segments", one(lambda count: upward_crowded(100_000, count))),
+    Shape("upward-turning", 100_000, "names", one(lambda count: upward_turning(count, 500))),
     Shape("upward-local", 2_000, "names", one(lambda count: upward_with_local(count, 1000))),
     Shape("upward-local-deep", 1_000, "segments", one(lambda count: upward_with_local(2000, count))),
     Shape("upward-locals", 5_700, "names", one(lambda count: upward_with_locals(count, 5_700))),

@@ -1,5 +1,6 @@
 #!/usr/bin/env python3
-"""Counts what a run costs where no contract speaks of it: writes, memory let go behind the last one, and page faults.
+"""Counts what a run costs where no contract speaks of it: writes, memory let go behind the last one, page faults, and the
+processor time of shapes that would take long without the ways that are there for them.
 
 usage: tests/costs.py [PROGRAM]
 
@@ -18,6 +19,7 @@ TOP = pathlib.Path(__file__).resolve().parent.parent
 sys.path.insert(0, str(TOP / "bench"))
 
 import bodies  # noqa: E402
+import hostile_shapes as shapes  # noqa: E402
 
 DEMO = TOP / "crates/acpidis_program/data/demo"
 METHODS = 20_000
@@ -27,6 +29,11 @@ LEAST_WRITE = 32_768
 MOST_FREED = 100
 # A run touches few pages that a program doesn't touch which only says its version. 128 are the large window of the rows.
 MOST_FAULTS = 80
+# Seconds of processor time, several times what each takes, and less than without the order of segments (14 for the first).
+SHAPES = {
+    "names used below 13,000 levels with another child": (lambda: shapes.upward_crowded(80_000, 13_000), 4),
+    "uses of a name that is declared before each level": (lambda: shapes.upward_turning(100_000, 500), 4),
+}
 
 
 def count_calls(program, shim, folder):
@@ -42,17 +49,26 @@ def count_calls(program, shim, folder):
     return len(run.stdout), writes, freed
 
 
-def count_faults(*words):
-    """The page faults of a run."""
+def usage_of(*words):
+    """What a run takes of the system."""
     process = subprocess.Popen(words, stdout=subprocess.DEVNULL)
     _, status, usage = os.wait4(process.pid, 0)
     process.returncode = os.waitstatus_to_exitcode(status)
     assert process.returncode == 0, words
-    return usage.ru_minflt
+    return usage
+
+
+def seconds_of(program, make, folder):
+    """The processor time of a check of a shape."""
+    folder.mkdir()
+    for file, content in shapes.one(lambda _size: make())(0).items():
+        shapes.write_file(folder / file, content)
+    usage = usage_of(program, "--check", "--workers", "1", folder)
+    return round(usage.ru_utime + usage.ru_stime, 2)
 
 
 def measure(program, room):
-    """What was counted of two runs, each with its bound."""
+    """What was counted, each with its bound."""
     compiler = os.environ.get("CC") or next(filter(None, map(shutil.which, ["cc", "gcc", "clang"])))
     shim, folder = room / "refusals.so", room / "set"
     subprocess.run([compiler, "-O1", "-shared", "-fPIC", "-o", shim, TOP / "tests/refusals.c", "-ldl"], check=True)
@@ -60,11 +76,16 @@ def measure(program, room):
     (folder / "dsdt.dat").write_bytes(bodies.many_methods(METHODS))
     length, writes, freed = count_calls(program, shim, folder)
     assert length > 100 * METHODS, length
-    faults = count_faults(program, DEMO) - count_faults(program, "--version")
+    faults = usage_of(program, DEMO).ru_minflt - usage_of(program, "--version").ru_minflt
+    shaped = [
+        (f"seconds: {name}", seconds_of(program, make, room / str(number)), most)
+        for number, (name, (make, most)) in enumerate(SHAPES.items())
+    ]
     return [
         (f"writes of {length} bytes", writes, length // LEAST_WRITE),
         ("blocks let go behind the last write", freed, MOST_FREED),
         ("page faults of a small set", faults, MOST_FAULTS),
+        *shaped,
     ]
 
 

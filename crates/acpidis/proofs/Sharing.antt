@@ -4,6 +4,7 @@ use denote.Ref.{NamedLft}
 use denote.RattleType.{RattleType}
 use denote.Struct.Declared.{shape}
 use Rattle.std.proofs.Crossing.{crosses}
+use Rattle.std.proofs.MapsCrossing as Maps
 use Rattle.aml_code.proofs.tree.Field.TheLaws.TheKnot as Field
 use Rattle.aml_code.specs.contracts.tree.Node as Node
 use Rattle.aml_names.proofs.shared.ScopedPath.TheSendSync as Scoped
@@ -13,7 +14,7 @@ use Rattle.aml_space.specs.contracts.spaces.Space as Space
 use Rattle.acpidis.specs.contracts.bodies.Keeping as Keeping
 
 space_sync : IsSync Space.the_row
-space_sync = search (crosses, Tree.crosses, Scoped.the_sync, sendable) depth 80 fits 60000
+space_sync = search (crosses, Maps.crosses, Tree.crosses, Scoped.the_sync, sendable) depth 80 fits 60000
 
 node_sync : IsSync Node.the_row
 node_sync = search (crosses, Field.crosses, sendable) depth 80 fits 60000

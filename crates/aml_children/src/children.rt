@@ -1,6 +1,6 @@
 //! The children of a node, ordered by segment.
 ghost use Rattle.std.specs.Ordering.{is_lt};
-ghost use Rattle.std.specs.Prelude.{◌≡◌, ◌↔◌, ◌≤◌, ◌<◌, [], ◌∷◌, length, None, IsTrue, OnOk, OnErr};
+ghost use Rattle.std.specs.Prelude.{◌≡◌, ◌≤◌, [], ◌∷◌, None, OnOk, OnErr};
 ghost use Rattle.aml_names.specs.Paths.{seg_cmp};
 ghost use Rattle.aml_children.specs.Children.{child_in, Rise, put, behind, first_node};
 
@@ -77,17 +77,6 @@ impl Children {
             Kept::Nobody => None,
             Kept::Only(child) => Some(child.node),
             Kept::Many(tree) => tree.first(),
-        }
-    }
-
-    /// Whether there are two or more, without a look at any.
-    pub fn are_several(&self) -> bool
-        ensures { IsTrue result ↔ 1 < length self.now }
-    {
-        match &self.kept {
-            Kept::Nobody => false,
-            Kept::Only(_) => false,
-            Kept::Many(_) => true,
         }
     }
 

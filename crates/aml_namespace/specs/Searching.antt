@@ -1,5 +1,5 @@
 -- A stepping stone of the proofs: a search in a scope, depth by depth, and what of it is told by paths alone.
-use Rattle.std.specs.Prelude.{◌≡◌, ℕ, zero, suc, ◌<◌, ◌≤◌, Bool, false, nat_le, ◌==◌, cond, List, [], ◌∷◌, ◌++◌, take}
+use Rattle.std.specs.Prelude.{ℕ, zero, suc, Bool, false, nat_le, ◌==◌, cond, List, []}
 use Rattle.std.specs.Prelude.{Option, Some, None}
 use Rattle.std.specs.List.{find}
 use Rattle.aml_names.specs.declared.segments.Seg.{Seg}
@@ -7,17 +7,6 @@ use Rattle.aml_names.specs.Paths.{PathSet}
 use Rattle.aml_names.specs.Searching.{upward}
 use Rattle.aml_namespace.specs.Namespace.{Namespace, first_given, arity_at, first_of, is_outside}
 use Rattle.aml_namespace.specs.Runs.{Outlook, counts_met, arity_met, first_agreed, agreed_or}
-
--- nothing is known of a segment below a path
-pub record IsSilent (n : Namespace) (path : List Seg) : Type 0 where
-  pub declared : (s : Seg) → n.declared (path ++ s ∷ []) ≡ None
-  pub out : (s : Seg) → n.outs (path ++ s ∷ []) ≡ None
-  pub given : (s : Seg) → n.givens (path ++ s ∷ []) ≡ None
-
--- from one depth of a path up another is the next to be asked: the fronts between them are silent
-pub record IsNext (n : Namespace) (path : List Seg) (from asked : ℕ) : Type 0 where
-  pub within : asked ≤ from
-  pub silent : (d : ℕ) → asked < d → d ≤ from → IsSilent n (take d path)
 
 -- the nearest local, where it stands at a depth or further down
 abbrev pub local_from : Option ℕ → ℕ → Option ℕ

@@ -1,10 +1,10 @@
 -- The levels of a scope. A level's parent is the one before it (`led_above`); only the root stands at the depth 0
--- (`root_depth`).
-use Rattle.std.proofs.Common.{◌≡◌, ℕ, zero, suc, ◌+◌, ◌-◌, ◌<◌, ◌≤◌, List, [], ◌∷◌, ◌++◌, length, take, drop, get_or}
-use Rattle.std.proofs.Common.{Option, Some, None, inl, inr, refl, sym, ap, subst}
+-- (`root_depth`); further down the numbers are greater (`rises`).
+use Rattle.std.proofs.Common.{◌≡◌, ℕ, zero, suc, ◌+◌, ◌<◌, ◌≤◌, List, [], ◌∷◌, ◌++◌, length, take, drop, get_or}
+use Rattle.std.proofs.Common.{Option, Some, None, refl, sym, ap}
 use Rattle.std.proofs.Common.{◌∙◌, arith}
 use Rattle.std.specs.Option.{option_and_then}
-use Rattle.std.proofs.lemmas.Bool.{cases_lt}
+use Rattle.std.proofs.lemmas.Option.{same_Some}
 use Rattle.std.proofs.lemmas.List.{take_more, take-append-drop, take-take, drop_more}
 use Rattle.aml_names.specs.declared.segments.Seg.{Seg}
 use Rattle.aml_children.specs.declared.children.Child.{Child}
@@ -13,10 +13,8 @@ use Rattle.aml_space.specs.declared.nodes.Node.{Node}
 use Rattle.aml_space.specs.declared.growing.Reach.{Reach}
 use Rattle.aml_children.specs.Numbered.{walk}
 use Rattle.aml_space.specs.Nodes.{kids_of, links_of, IsIndex, Reaches}
-use Rattle.aml_namespace.specs.Namespace.{Namespace}
-use Rattle.aml_namespace.specs.Searching.{IsNext, IsSilent}
 use Rattle.aml_children.proofs.Basics.{alone}
-use Rattle.aml_children.proofs.Walks.{walk_push, walk_none, led_more, kid_range}
+use Rattle.aml_children.proofs.Walks.{walk_push, walk_none, led_more, kid_range, front_led}
 
 none_seg : Seg
 none_seg = record { 0 = [] }
@@ -88,19 +86,11 @@ module _ (ns : List Node) (is : IsIndex ns) (path : List Seg) where
       let deep = deep_node d 0 (omega (arith, within)) (ap (λ n. walk (kids_of ns) 0 (take n path)) {x = d + 1} {y = suc d} (omega arith) ∙ led) in
       absurd (omega (arith, deep))
 
--- where nothing is known at a level, the one above it comes next
-pub next_up : (n : Namespace) (path : List Seg) (from asked : ℕ) → 0 < asked → IsNext n path from asked
-    → IsSilent n (take asked path)
-    → IsNext n path from (asked - 1)
-next_up n path from asked some is here = record {
-  within = omega (arith, is.within);
-  silent = λ d above below. elim (cases_lt asked d) [
-    | inl further ↦ is.silent d further below
-    | inr up ↦ subst (λ m. IsSilent n (take m path)) {x = asked} {y = d} (omega (arith, up, above, some)) here
-  ];
-}
-
--- a depth between is next as well
-pub next_sooner : (n : Namespace) (path : List Seg) (from asked m : ℕ) → asked ≤ m → m ≤ from → IsNext n path from asked
-    → IsNext n path from m
-next_sooner n path from asked m less within is = record { within = within; silent = λ d above below. is.silent d (omega (arith, above, less)) below }
+  -- a longer front leads to a greater number
+  pub rises : (d e i j : ℕ) → d < e → e ≤ length path → walk (kids_of ns) 0 (take d path) ≡ Some i
+      → walk (kids_of ns) 0 (take e path) ≡ Some j → i < j
+  rises d e i j less within upper lower =
+      let next = front_led is.shape path (d + 1) e j (omega (arith, less)) lower in
+      let there = before d next.0 (omega (arith, less, within)) next.1 in
+      let range = kid_range is.shape there.0 (get_or path d none_seg) next.0 there.2 in
+      omega (arith, range.0, next.2, same_Some there.0 i (sym there.1 ∙ upper))

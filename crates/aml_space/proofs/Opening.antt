@@ -3,11 +3,12 @@
 -- (`more_opened`), and the root (`root_opened`). Nodes that are kept by numbers have the same paths then (`kept_there`,
 -- `known_again`). The node of what an Alias stands for is told by its source (`aim_kept`, `aim_here`).
 use Rattle.std.specs.Prelude.{slice_get}
+use Rattle.std.specs.FinMap as map
 use Rattle.std.proofs.Common.{◌≡◌, ℕ, zero, suc, List, [], ◌∷◌, ◌++◌, Option, Some, None, IfSome, refl, sym, ap, subst, ◌∙◌}
 use Rattle.std.proofs.Common.{length, take, drop, get_or, Result, Ok, Err, OnOk, OnErr}
 use Rattle.std.proofs.lemmas.List.{take_all, length-take-le}
 use Rattle.std.proofs.Math.Seq.{drop-length}
-use Rattle.std.proofs.Common.{arith, Bool, false, cond}
+use Rattle.std.proofs.Common.{arith, Bool, false}
 use Rattle.std.specs.Prelude.{◌<◌, ◌≤◌}
 use Rattle.std.proofs.lemmas.Bool.{false≢true}
 use Rattle.aml_names.specs.declared.segments.Seg.{Seg}
@@ -27,8 +28,10 @@ use Rattle.aml_space.specs.Near.{IsNear, IsTarget}
 use Rattle.aml_space.specs.declared.opened.Near.{Near}
 use Rattle.aml_space.specs.Nodes.{kids_of, kinds_of, known_by, path_of, Content, HasContent, IsAim, IsIndex, IsKept, Reaches}
 use Rattle.aml_space.proofs.Index.{kind_at_path}
-use Rattle.aml_space.specs.Opened.{AreOpened, AreThere, known_in, paths_of, scopes_of}
+use Rattle.aml_space.specs.declared.ways.Ways.{Ways}
+use Rattle.aml_space.specs.Opened.{AreOpened, AreThere, IsSpace, known_in, paths_of, scopes_of}
 use Rattle.aml_space.proofs.Named.{path_led}
+use Rattle.aml_space.proofs.Stepping.{ways_kept}
 use Rattle.aml_children.proofs.Basics.{each_more}
 
 kept_at : (old new : List Node) (o : Option Opened) → IsKept old new
@@ -61,6 +64,19 @@ kept_there old new is kept (n ∷ nodes) (here, there) =
     let same = path_led new is (path_of old n) n led in
     let rest = kept_there old new is kept nodes there in
     ((ap (walk (kids_of new) 0) same ∙ led, rest.0), λ i. same i ∷ rest.1 i)
+
+-- so what is kept besides the nodes stays right
+pub still_space : (old new : List Node) (before many : ℕ) (marked inside : List Opened) (ways : Ways) (numbered : List ℕ) → IsIndex new
+    → IsKept old new → many ≡ length (map.entries (known_by new).declarations)
+    → IsSpace old before marked inside ways numbered → IsSpace new many marked inside ways numbered
+still_space old new before many marked inside ways numbered index kept rows is = record {
+  index = index;
+  rows = rows;
+  opened = kept_opened old new marked kept is.opened;
+  scopes = kept_opened old new inside kept is.scopes;
+  ways = ways_kept old new ways is.index kept is.ways;
+  kept = (kept_there old new index kept numbered is.kept).0;
+}
 
 pub known_again : (old new : List Node) (scopes : List Opened) (nodes : List ℕ) (k : Known) → IsIndex new → IsKept old new
     → AreThere old nodes → known_by new ≡ k

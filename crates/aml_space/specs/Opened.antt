@@ -5,8 +5,8 @@ use Rattle.aml_names.specs.declared.segments.Seg.{Seg}
 use Rattle.aml_space.specs.declared.nodes.Node.{Node}
 use Rattle.aml_space.specs.declared.opened.Opened.{Opened}
 use Rattle.aml_space.specs.declared.opened.Hints.{Hints}
-use Rattle.aml_space.specs.declared.settling.Settled.{Settled}
-use Rattle.aml_space.specs.Candidates.{AreSettled}
+use Rattle.aml_space.specs.declared.ways.Ways.{Ways}
+use Rattle.aml_space.specs.Candidates.{AreSteps, AreWays}
 use Rattle.aml_namespace.specs.Known.{Known}
 use Rattle.aml_namespace.specs.Known.{with_scopes, with_kept}
 use Rattle.aml_children.specs.Numbered.{walk}
@@ -40,15 +40,15 @@ known_in ns scopes kept = with_kept (with_scopes (known_by ns) (scopes_of scopes
 pub record AreHints (ns : List Node) (h : Hints) : Type 0 where
   pub opened : AreOpened ns h.opened.now
   pub scopes : AreOpened ns h.scopes.now
-  pub settled : AreSettled ns h.settled.now
+  pub steps : AreSteps ns h.steps.now
 
--- nodes with the number of the paths that are declared, the scopes that were opened, those that are open, where
--- searches go on, and the nodes of the paths that are kept
-pub record IsSpace (ns : List Node) (many : ℕ) (marked inside : List Opened) (ways : List Settled)
+-- nodes with the number of the paths that are declared, the scopes that were opened, those that are open, the ways up,
+-- and the nodes of the paths that are kept
+pub record IsSpace (ns : List Node) (many : ℕ) (marked inside : List Opened) (upward : Ways)
     (numbered : List ℕ) : Type 0 where
   pub index : IsIndex ns
   pub rows : many ≡ length (map.entries (known_by ns).declarations)
   pub opened : AreOpened ns marked
   pub scopes : AreOpened ns inside
-  pub settled : AreSettled ns ways
+  pub ways : AreWays ns upward
   pub kept : AreThere ns numbered

@@ -4,6 +4,7 @@
 
 mod bodies;
 mod counting;
+mod edges;
 mod faults;
 mod growing;
 mod listing;
@@ -13,9 +14,9 @@ mod parents;
 mod rows;
 mod scopes;
 mod searching;
-mod settling;
 mod spaces;
 mod walking;
+mod ways;
 
 pub use aml_namespace::{
     Kind, SpaceRow, Target, every_run_agrees, every_run_leads_there, quick_way_holds,

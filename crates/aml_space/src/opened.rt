@@ -6,15 +6,15 @@ ghost use Rattle.aml_children.specs.Numbered.{walk};
 ghost use Rattle.aml_namespace.specs.declared.kinds.Kind.TheVariants.{Alias};
 ghost use Rattle.aml_namespace.specs.Known.{namespace_in};
 ghost use Rattle.aml_space.specs.Nodes.{kids_of, links_of, known_by, IsAim, IsIndex, Reaches};
-ghost use Rattle.aml_space.specs.Candidates.{AreSettled};
+ghost use Rattle.aml_space.specs.Candidates.{AreSteps};
 ghost use Rattle.aml_space.specs.Near.{IsOpen, IsNear, IsBelow, IsTarget, IsSourceOf};
 ghost use Rattle.aml_space.specs.Opened.{AreHints, AreOpened, scopes_of};
 
 use crate::growing::{Aimed, Reach};
 use crate::nodes::Node;
 use crate::parents::link;
-use crate::settling::{Settled, skipped};
 use crate::walking::{aim_at, child, kind_at};
+use crate::ways::{Step, stepped};
 use aml_names::{NoMemory, Parts, Path, ScopedPath, Seg};
 use aml_namespace::Kind;
 use std::alloc::Global;
@@ -116,23 +116,19 @@ pub(crate) struct Hints<'a> {
     pub opened: &'a [Opened],
     /// Those that are open.
     pub scopes: &'a [Opened],
-    pub settled: &'a [Settled],
+    pub steps: &'a [Step],
 }
 
 impl<'a> Hints<'a> {
-    pub(crate) fn new(
-        opened: &'a [Opened],
-        scopes: &'a [Opened],
-        settled: &'a [Settled],
-    ) -> Hints<'a>
+    pub(crate) fn new(opened: &'a [Opened], scopes: &'a [Opened], steps: &'a [Step]) -> Hints<'a>
         ensures opened { result.opened.now ≡ opened.now }
         ensures scopes { result.scopes.now ≡ scopes.now }
-        ensures settled { result.settled.now ≡ settled.now }
+        ensures steps { result.steps.now ≡ steps.now }
     {
         Hints {
             opened,
             scopes,
-            settled,
+            steps,
         }
     }
 }
@@ -168,16 +164,10 @@ fn shares_its_scope(path: &ScopedPath, keeps: Keeps) -> bool {
 }
 
 /// How far a path leads with so many first segments that it has in common with a scope. Where that is less than half of
-/// the scope, and little or no skips are kept of the scope's node, it is sooner found from the root.
-fn reach_in(
-    nodes: &[Node],
-    settled: &[Settled],
-    near: &Opened,
-    known: usize,
-    path: &Parts<'_>,
-) -> Reach
+/// the scope, and a few steps lead up or none is kept of the scope's node, it is sooner found from the root.
+fn reach_in(nodes: &[Node], steps: &[Step], near: &Opened, known: usize, path: &Parts<'_>) -> Reach
     requires index { IsIndex nodes.now }
-    requires settled { AreSettled nodes.now settled.now }
+    requires steps { AreSteps nodes.now steps.now }
     requires near { walk (kids_of nodes.now) 0 near.now.scope ≡ Some near.now.node }
     requires own { known ≤ length path.now }
     requires scopes { known ≤ length near.now.scope }
@@ -186,7 +176,7 @@ fn reach_in(
     ensures within { result.known ≤ length path.now }
 {
     let deep = near.scope.parts().len();
-    if known < deep - known && (known < FEW || settled.len() <= near.node) {
+    if known < deep - known && (known < FEW || steps.len() <= near.node) {
         return Reach { node: 0, known: 0 };
     }
     let mut reach = Reach {
@@ -194,7 +184,7 @@ fn reach_in(
         known: deep,
     };
     while reach.known > known {
-        reach = match skipped(settled, reach, known) {
+        reach = match stepped(steps, reach, known) {
             Some(further) => further,
             None => reach_above(nodes, reach),
         };
@@ -227,7 +217,7 @@ fn reach_of_scope(nodes: &[Node], hints: Hints<'_>, path: &Parts<'_>) -> Reach
         None => Reach { node: 0, known: 0 },
         Some(near) => {
             let known = path.common(&near.scope.parts());
-            reach_in(nodes, hints.settled, near, known, path)
+            reach_in(nodes, hints.steps, near, known, path)
         }
     }
 }
@@ -242,7 +232,7 @@ fn reach_of_near(nodes: &[Node], hints: Hints<'_>, near: Near, path: &Parts<'_>)
 {
     match hints.scopes.get(near.place) {
         None => Reach { node: 0, known: 0 },
-        Some(scope) => reach_in(nodes, hints.settled, scope, near.front, path),
+        Some(scope) => reach_in(nodes, hints.steps, scope, near.front, path),
     }
 }
 

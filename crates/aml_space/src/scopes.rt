@@ -17,27 +17,28 @@ ghost use Rattle.aml_space.specs.Nodes.{kids_of, outs_of, known_by, IsShape, IsI
 ghost use Rattle.aml_namespace.specs.Known.{namespace_in};
 ghost use Rattle.aml_namespace.specs.Runs.{counts_met as met, counts_of, is_known};
 ghost use Rattle.aml_namespace.specs.Tallies.{counts_in};
-ghost use Rattle.aml_space.specs.Candidates.{path_at, names_of, outlook_at, IsBare};
+ghost use Rattle.aml_space.specs.Candidates.{path_at, names_of, outlook_at, AreAbove, AreWays};
 ghost use Rattle.aml_namespace.specs.Searching.{local_from, agreed_among, above};
-ghost use Rattle.aml_space.specs.Candidates.{HasBareChildren, AreSettled};
-ghost use Rattle.aml_space.specs.Candidates.{IsLevel, IsScope, IsNextFrom, IsNextWith, IsCandidate};
+ghost use Rattle.aml_space.specs.Candidates.{IsLevel, IsScope, IsNextWith, IsCandidate};
 
 use crate::counting::{count_met, counts_met, kind_met, known_met, sure_met};
 use crate::growing::Reach;
 use crate::nodes::Node;
 use crate::parents::link;
-use crate::settling::Settled;
-use crate::walking::{child, children_at, given_at, kind_at, node_from, out_at};
+use crate::walking::{child, given_at, node_from, out_at};
+use crate::ways::Ways;
 use aml_names::{Locals, NoMemory, Parts, Path, SeenLocals, Seg};
 use aml_namespace::{Counts, Kind, Predefined};
 use std::alloc::Global;
+
+/// So many levels are looked at one by one before the order of segments is asked, which takes as long.
+pub(crate) const NEAR: usize = 8;
 
 /// A scope, with the way up from it.
 #[derive(Drop)]
 pub(crate) struct Scope<'a> {
     pub nodes: &'a [Node],
-    /// Where the search goes on from each node, if this is kept.
-    pub settled: &'a [Settled],
+    pub ways: &'a Ways,
     pub predefined: &'a Predefined,
     pub path: Parts<'a>,
     /// The last level of the path that stands in the index.
@@ -67,13 +68,13 @@ impl<'a> Scope<'a> {
     /// By how far the path leads in the index.
     pub(crate) fn new(
         nodes: &'a [Node],
-        settled: &'a [Settled],
+        ways: &'a Ways,
         predefined: &'a Predefined,
         path: Parts<'a>,
         reach: Reach,
     ) -> Scope<'a>
         requires index { IsIndex nodes.now }
-        requires settled { AreSettled nodes.now settled.now }
+        requires ways { AreWays nodes.now ways.now }
         requires reach { Reaches nodes.now path reach }
         ensures scope { IsScope result }
         ensures nodes { result.nodes.now ≡ nodes.now }
@@ -81,7 +82,7 @@ impl<'a> Scope<'a> {
     {
         Scope {
             nodes,
-            settled,
+            ways,
             predefined,
             path,
             last: Level {
@@ -106,62 +107,83 @@ impl<'a> Scope<'a> {
         }
     }
 
-    /// The nearest level from this one up that has to be asked, as it is kept.
-    fn settled_from(&self, level: Level) -> Option<Level>
+    /// The level to which the step from one leads, if it is kept.
+    fn over(&self, level: Level) -> Option<Level>
         requires scope { IsScope self.now }
         requires level { IsLevel self.now level }
-        ensures { IfSome result (IsNextFrom self.now level.depth) }
+        ensures { IfSome result (IsLevel self.now) }
     {
-        let here = self.settled.get(level.node)?;
-        let there = self.settled.get(here.asked)?;
+        let here = self.ways.steps.get(level.node)?;
+        let there = self.ways.steps.get(here.over)?;
         Some(Level {
-            node: here.asked,
+            node: here.over,
             depth: there.depth,
         })
     }
 
-    /// The same by a look at each level.
-    fn climb(&self, level: Level) -> Level
+    /// A level further up, by a step, or the next one. It passes over none whose node has a number up to a floor.
+    fn step(&self, level: Level, floor: usize) -> Level
         requires scope { IsScope self.now }
         requires level { IsLevel self.now level }
-        ensures { IsNextFrom self.now level.depth result }
+        requires deep { 0 < level.depth }
+        requires high { floor < level.node }
+        ensures level { IsLevel self.now result }
+        ensures higher { result.depth < level.depth }
+        ensures above { AreAbove self.now floor result.depth level.depth }
+    {
+        match self.over(level) {
+            Some(over) if floor <= over.node && over.depth < level.depth => over,
+            _ => self.above(level),
+        }
+    }
+
+    /// The nearest level from this one up whose node isn't above a floor.
+    fn up_to(&self, level: Level, floor: usize) -> Level
+        requires scope { IsScope self.now }
+        requires level { IsLevel self.now level }
+        ensures level { IsLevel self.now result }
+        ensures higher { result.depth ≤ level.depth }
+        ensures above { AreAbove self.now floor result.depth level.depth }
     {
         let mut at = level;
-        while at.depth > 0 && !has_to_be_asked(self.nodes, at.node) {
-            at = self.above(at);
+        'steps: while at.depth > 0 && floor < at.node {
+            at = self.step(at, floor);
         }
         at
     }
 
-    /// The nearest level from this one up that has to be asked.
-    fn next_asked(&self, level: Level) -> Level
+    /// The nearest level from this one up that may have a child by a segment: by the order of numbers, where it is kept
+    /// of all nodes.
+    fn skip(&self, segment: &[Seg], level: Level) -> Level
         requires scope { IsScope self.now }
         requires level { IsLevel self.now level }
-        ensures { IsNextFrom self.now level.depth result }
+        requires one { length segment.now ≡ 1 }
+        ensures { IsNextWith self.now segment.now level.depth result }
     {
-        match self.settled_from(level) {
-            Some(next) => next,
-            None => self.climb(level),
+        if self.ways.steps.len() < self.nodes.len() {
+            return level;
+        }
+        match self.ways.edges.before(segment[0], level.node) {
+            None => Level { node: 0, depth: 0 },
+            Some(floor) => self.up_to(level, floor),
         }
     }
 
-    /// The first level that has to be asked, from the scope up.
-    fn first_asked(&self) -> Level
-        requires { IsScope self.now }
-        ensures { IsNextFrom self.now (length self.now.path) result }
-    {
-        self.next_asked(self.last)
-    }
-
-    /// The next one, above a level.
-    fn asked_above(&self, level: Level) -> Level
+    /// A level above one, of which so many were looked at before. The more there were, the later the order is asked
+    /// again, so that a way on which it never helps takes no longer.
+    fn next_above(&self, segment: &[Seg], level: Level, looks: usize) -> Level
         requires scope { IsScope self.now }
         requires level { IsLevel self.now level }
+        requires one { length segment.now ≡ 1 }
         requires deep { 0 < level.depth }
-        ensures { IsNextFrom self.now (level.depth - 1) result }
+        ensures { IsNextWith self.now segment.now (level.depth - 1) result }
     {
         let above = self.above(level);
-        self.next_asked(above)
+        if looks < NEAR || looks & (looks - 1) != 0 {
+            above
+        } else {
+            self.skip(segment, above)
+        }
     }
 
     /// The nearest level from this one up that has a child by a segment, else the root's.
@@ -172,8 +194,10 @@ impl<'a> Scope<'a> {
         ensures { IsNextWith self.now segment.now level.depth result }
     {
         let mut at = level;
+        let mut looks: usize = 0;
         while at.depth > 0 && self.node_at(segment, at).is_none() {
-            at = self.asked_above(at);
+            at = self.next_above(segment, at, looks);
+            looks = looks.saturating_add(1);
         }
         at
     }
@@ -184,8 +208,7 @@ impl<'a> Scope<'a> {
         requires one { length segment.now ≡ 1 }
         ensures { IsNextWith self.now segment.now (length self.now.path) result }
     {
-        let first = self.first_asked();
-        self.next_with(segment, first)
+        self.next_with(segment, self.last)
     }
 
     /// The next one, above a level.
@@ -196,7 +219,7 @@ impl<'a> Scope<'a> {
         requires deep { 0 < level.depth }
         ensures { IsNextWith self.now segment.now (level.depth - 1) result }
     {
-        let above = self.asked_above(level);
+        let above = self.above(level);
         self.next_with(segment, above)
     }
 
@@ -311,16 +334,17 @@ impl<'a> Scope<'a> {
         kind_met(self.nodes, here.node, self.standing(segment, here.depth)).is_some()
     }
 
-    /// The first level that has to be asked, above a depth.
-    fn asked_below(&self, depth: usize) -> Level
+    /// The first level above a depth that has a child by a segment, else the root's.
+    fn with_below(&self, segment: &[Seg], depth: usize) -> Level
         requires scope { IsScope self.now }
+        requires one { length segment.now ≡ 1 }
         requires deep { 0 < depth }
         requires within { depth ≤ length self.now.path }
-        ensures { IsNextFrom self.now (depth - 1) result }
+        ensures { IsNextWith self.now segment.now (depth - 1) result }
     {
-        let mut level = self.first_asked();
+        let mut level = self.first_with(segment);
         while level.depth >= depth {
-            level = self.asked_above(level);
+            level = self.with_above(segment, level);
         }
         level
     }
@@ -336,7 +360,7 @@ impl<'a> Scope<'a> {
         if below == 0 {
             return false;
         }
-        let mut level = self.asked_below(below);
+        let mut level = self.with_below(segment, below);
         'levels: loop {
             if self.is_known_at(segment, level) {
                 return true;
@@ -344,7 +368,7 @@ impl<'a> Scope<'a> {
             if level.depth == 0 {
                 return false;
             }
-            level = self.asked_above(level);
+            level = self.with_above(segment, level);
         }
     }
 
@@ -541,28 +565,6 @@ impl<'a> Scope<'a> {
             level = self.with_above(segment, level);
         }
     }
-}
-
-/// Whether a child of a node may have content, or comes to have it first. An only child, as each segment of a long path
-/// is one, is looked at.
-pub(crate) fn has_to_be_asked(nodes: &[Node], at: usize) -> bool
-    requires within { at < length nodes.now }
-    requires shape { IsShape nodes.now }
-    ensures { OnFalse result (HasBareChildren nodes.now at) }
-{
-    let children = children_at(nodes, at);
-    match children.first() {
-        None => true,
-        only => children.are_several() || has_content(nodes, only),
-    }
-}
-
-/// Whether a node has a kind, an External or a given count.
-fn has_content(nodes: &[Node], at: Option<usize>) -> bool
-    requires { IfSome at (λ i. i < length nodes.now) }
-    ensures { OnFalse result (IfSome at (IsBare nodes.now)) }
-{
-    kind_at(nodes, at).is_some() || out_at(nodes, at).is_some() || given_at(nodes, at).is_some()
 }
 
 /// The nearest local, where it stands at this depth or further down.

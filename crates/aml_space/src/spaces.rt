@@ -26,15 +26,15 @@ use crate::opened::{
     reach_near,
 };
 use crate::rows::Row;
-use crate::scopes::Scope;
-use crate::settling::{Settled, settle, unsettle};
+use crate::scopes::{NEAR, Scope};
 use crate::walking::{kind_at, walk_counted};
+use crate::ways::Ways;
 use aml_names::{NoMemory, Parts, Path, ScopedPath, Seg};
 use aml_namespace::{Kind, Predefined, SpaceRow};
 use std::alloc::{AllocError, Global};
 use std::marker::Model;
 
-/// To find out of a node where searches go on takes as long as so many looks at levels.
+/// To keep the ways up from a node takes as long as so many looks at levels.
 const LOOKS: usize = 8;
 
 /// What is kept besides the nodes of a space.
@@ -43,7 +43,7 @@ macro_rules! hints_of {
         Hints::new(
             $space.opened.as_slice(),
             $space.scopes.as_slice(),
-            $space.settled.as_slice(),
+            $space.ways.steps.as_slice(),
         )
     };
 }
@@ -62,10 +62,12 @@ pub struct Space {
     opened: Vec<Opened>,
     /// The scopes that are open, each inside those before it.
     scopes: Vec<Opened>,
-    /// Where the search for a segment goes on from some first nodes.
-    settled: Vec<Settled>,
-    /// How many levels were looked at at most since the last time that this was found out.
+    /// The ways up from some first nodes.
+    ways: Ways,
+    /// How many levels, but for the nearest, were looked at at most since the last time that ways were kept.
     looked: usize,
+    /// How many segments the longest path has from which names may be searched.
+    deepest: usize,
     /// The nodes of the paths that are kept by numbers.
     kept: Vec<usize>,
 }
@@ -81,7 +83,7 @@ impl Model for Space {
 
     ghost view = { λ s. known_in s.nodes.items s.scopes.items s.kept.items };
 
-    ghost invariant = { λ s. IsSpace s.nodes.items s.rows s.opened.items s.scopes.items s.settled.items
+    ghost invariant = { λ s. IsSpace s.nodes.items s.rows s.opened.items s.scopes.items s.ways
         s.kept.items };
 }
 
@@ -102,8 +104,9 @@ impl Space {
             rows: 0,
             opened,
             scopes: Vec::new(alloc),
-            settled: Vec::new(alloc),
+            ways: Ways::new(alloc),
             looked: 0,
+            deepest: 0,
             kept: Vec::new(alloc),
         })
     }
@@ -153,14 +156,12 @@ impl Space {
     {
         let hints = hints_of!(self);
         let reach = reach_near(self.nodes.as_slice(), hints, near, path);
-        unsettle(&mut self.settled, self.nodes.as_slice(), path, reach);
         if is_taken(self.nodes.as_slice(), path, reach) {
             return Ok(false);
         }
         if self.rows == usize::MAX {
             return Err(AllocError);
         }
-        let hints = hints_of!(self);
         let aimed = aimed_by(self.nodes.as_slice(), hints, kind, source);
         declare_first(
             self.alloc,
@@ -204,14 +205,12 @@ impl Space {
     {
         let hints = hints_of!(self);
         let reach = reach_near(self.nodes.as_slice(), hints, near, path);
-        unsettle(&mut self.settled, self.nodes.as_slice(), path, reach);
         if is_taken(self.nodes.as_slice(), path, reach) {
             return declare_again(self.alloc, &mut self.nodes, path, reach.node, kind, sure);
         }
         if self.rows == usize::MAX {
             return Err(AllocError);
         }
-        let hints = hints_of!(self);
         let aimed = aimed_by(self.nodes.as_slice(), hints, kind, source);
         declare_first(self.alloc, &mut self.nodes, hints, path, aimed, sure, reach)?;
         self.rows += 1;
@@ -239,7 +238,6 @@ impl Space {
     {
         let hints = hints_of!(self);
         let reach = reach_near(self.nodes.as_slice(), hints, near, path);
-        unsettle(&mut self.settled, self.nodes.as_slice(), path, reach);
         let at = extend(self.alloc, &mut self.nodes, path, reach)?;
         set_out(&mut self.nodes, at, count);
         Ok(())
@@ -256,7 +254,6 @@ impl Space {
         let path = path.parts();
         let hints = hints_of!(self);
         let reach = reach_near(self.nodes.as_slice(), hints, Near::root(), &path);
-        unsettle(&mut self.settled, self.nodes.as_slice(), &path, reach);
         let at = extend(self.alloc, &mut self.nodes, &path, reach)?;
         set_given(&mut self.nodes, at, count);
         Ok(())
@@ -284,9 +281,9 @@ impl Space {
         ensures scope { IfOk result (λ scope. scope ≡ path.now) }
     {
         let parts = path.parts();
+        self.deepest = self.deepest.max(parts.len());
         let hints = hints_of!(self);
         let reach = reach_near(self.nodes.as_slice(), hints, near, &parts);
-        unsettle(&mut self.settled, self.nodes.as_slice(), &parts, reach);
         let node = extend(self.alloc, &mut self.nodes, &parts, reach)?;
         let scope = keep_scope(
             self.alloc,
@@ -326,21 +323,24 @@ impl Space {
         ensures ok { OnOk result (self.new ≡ with_kept self.old (self.old.kept ++ path.now ∷ [])) }
         ensures err { OnErr result (self.new ≡ self.old) }
     {
+        self.deepest = self.deepest.max(path.len());
         let hints = hints_of!(self);
         let reach = reach_near(self.nodes.as_slice(), hints, near, path);
-        unsettle(&mut self.settled, self.nodes.as_slice(), path, reach);
         let node = extend(self.alloc, &mut self.nodes, path, reach)?;
         self.kept.push(node)?;
         Ok(())
     }
 
-    /// Finds out where the search for a segment goes on from each node, so that names cost the depths alone at which
-    /// something may stand. What is known stays the same, also where memory is refused.
+    /// Keeps the ways up from all nodes, where searches may go far up, so that names cost the levels alone that have
+    /// such a child. What is known stays the same, also where memory is refused.
     pub fn settle(&mut self) -> Result<(), NoMemory>
         ensures { self.new ≡ self.old }
     {
+        if self.deepest <= NEAR {
+            return Ok(());
+        }
         self.looked = 0;
-        settle(&mut self.settled, self.nodes.as_slice())
+        self.ways.fill(self.nodes.as_slice())
     }
 
     /// Does this once looks at levels may have taken as long, with those of a search that comes next. Where memory is
@@ -348,8 +348,9 @@ impl Space {
     pub fn expect_search(&mut self, levels: usize)
         ensures { self.new ≡ self.old }
     {
-        self.looked = self.looked.saturating_add(levels);
-        if self.looked / LOOKS >= self.nodes.len() - self.settled.len() {
+        self.deepest = self.deepest.max(levels);
+        self.looked = self.looked.saturating_add(levels.saturating_sub(NEAR));
+        if self.looked / LOOKS >= self.nodes.len() - self.ways.steps.len() {
             let _settled = self.settle();
         }
     }
@@ -489,7 +490,7 @@ impl Space {
         let nodes = self.nodes.as_slice();
         let hints = hints_of!(self);
         let reach = reach_along(nodes, hints, &path);
-        Scope::new(nodes, hints.settled, &self.predefined, path, reach)
+        Scope::new(nodes, &self.ways, &self.predefined, path, reach)
     }
 
     /// A scope near one that is open.
@@ -504,7 +505,7 @@ impl Space {
         let nodes = self.nodes.as_slice();
         let hints = hints_of!(self);
         let reach = reach_near(nodes, hints, near, &path);
-        Scope::new(nodes, hints.settled, &self.predefined, path, reach)
+        Scope::new(nodes, &self.ways, &self.predefined, path, reach)
     }
 
     /// The path that is kept by a number, as a scope.
@@ -519,13 +520,7 @@ impl Space {
             node: self.kept[number],
             known: path.len(),
         };
-        Scope::new(
-            nodes,
-            self.settled.as_slice(),
-            &self.predefined,
-            path,
-            reach,
-        )
+        Scope::new(nodes, &self.ways, &self.predefined, path, reach)
     }
 
     /// How many paths are declared.

@@ -4,7 +4,7 @@ use Rattle.aml_space.specs.Nodes.{known_by, IsAim, HasDeclared, IsIndex}
 use Rattle.aml_children.proofs.Walks.{node_range}
 use Rattle.aml_space.proofs.Index.{put_declared}
 use Rattle.aml_space.proofs.Opening.{content_kept, kept_on, kept_opened}
-use Rattle.aml_space.proofs.Resting.{settled_grown}
+use Rattle.aml_space.proofs.Stepping.{steps_kept}
 use Rattle.aml_space.proofs.growing.declare_first.Goals as goal
 use Rattle.aml_space.proofs.growing.declare_first.Goals.{After-set_declared}
 
@@ -12,8 +12,7 @@ pub aim_of-requires-clause-hints : goal.aim_of-requires-clause-hints
 aim_of-requires-clause-hints c = record {
   opened = kept_opened c.args.nodes.now.items c.extend.new.nodes.items c.args.hints.opened.now c.extend.ensures.kept c.requires.hints.opened;
   scopes = kept_opened c.args.nodes.now.items c.extend.new.nodes.items c.args.hints.scopes.now c.extend.ensures.kept c.requires.hints.scopes;
-  settled = settled_grown c.args.nodes.now.items c.extend.new.nodes.items c.args.hints.settled.now c.requires.index c.extend.ensures.kept
-      c.extend.ensures.known c.requires.hints.settled;
+  steps = steps_kept c.args.nodes.now.items c.extend.new.nodes.items c.args.hints.steps.now c.extend.ensures.kept c.requires.hints.steps;
 }
 
 pub set_declared-requires : goal.set_declared-requires

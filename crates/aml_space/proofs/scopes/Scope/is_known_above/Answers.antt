@@ -5,19 +5,19 @@ use Rattle.aml_names.specs.declared.segments.Seg.{Seg}
 use Rattle.aml_names.specs.Searching.{upward}
 use Rattle.aml_space.specs.declared.scopes.Scope.{Scope}
 use Rattle.aml_namespace.specs.Runs.{is_known}
-use Rattle.aml_space.specs.Candidates.{names_of}
-use Rattle.aml_namespace.specs.Searching.{above, IsNext}
-use Rattle.aml_space.proofs.Asked.{none_known_below, next_of}
+use Rattle.aml_space.specs.Candidates.{names_of, IsNextOf}
+use Rattle.aml_namespace.specs.Searching.{above}
+use Rattle.aml_space.proofs.Asked.{none_known_below}
 use Rattle.aml_namespace.proofs.Meeting.{known_here, known_on, known_root, skip_known}
 use Rattle.aml_space.proofs.scopes.Scope.is_known_above.Goals as goal
 use Rattle.aml_space.proofs.scopes.Scope.is_known_above.Goals.{After-is_known_at}
 
 -- from a depth up to the next one that is asked
 further : (s : Scope) (segment : List Seg) → length segment ≡ 1 → (d asked : ℕ) → d ≤ length s.path
-    → IsNext (names_of s) s.path d asked
+    → IsNextOf (names_of s) s.path segment d asked
     → find (is_known (names_of s)) (upward d s.path segment) ≡ find (is_known (names_of s)) (upward asked s.path segment)
 further s segment one d asked within next = skip_known (names_of s) set.empty s.path segment asked d next.within
-    (none_known_below (names_of s) s.path segment one d asked within (next_of (names_of s) s.path segment one d asked next))
+    (none_known_below (names_of s) s.path segment one d asked within next)
 
 above_on : (scope segment : List Seg) (d : ℕ) → (d ≡ 0 → ⊥) → above scope segment d ≡ upward (d - 1) scope segment
 above_on scope segment zero some = absurd (some refl)
@@ -36,7 +36,7 @@ levels-init c = (
   c.args.below - 1,
   record {
     within = omega (arith, c.requires.within);
-    next = c.asked_below-level.ensures;
+    next = c.with_below-level.ensures;
     same = ap (find (is_known (names_of c.args.self.now))) (above_on c.args.self.now.path c.args.segment.now c.args.below c.if-below-eq0.false);
   },
 )
@@ -61,7 +61,7 @@ levels-preserved c =
       d - 1,
       record {
         within = omega (arith, c.levels.invariant.1.next.level.within);
-        next = c.asked_above-level.ensures;
+        next = c.with_above-level.ensures;
         same = same_here (goal.at.levels-preserved c).After-is_known_at ∙ known_on (names_of s) set.empty s.path c.args.segment.now d
             (sym c.is_known_at.ensures ∙ c.if-is_known_at.false) (omega (arith, c.if-level-eq0.false));
       },

@@ -9,7 +9,7 @@ returns-clause-scope c =
     let reach : Reaches ns c.args.path r = c.requires.reach in
     record {
       index = c.requires.index;
-      settled = c.requires.settled;
+      ways = c.requires.ways;
       last = record { within = reach.within; led = reach.led };
       past = reach_past ns c.args.path r reach;
     }

@@ -1,7 +1,7 @@
 use Rattle.std.proofs.Common.{rules, take, ◌++◌, arith}
 use Rattle.std.proofs.Common.{◌≡◌, ◌-◌, None}
 use Rattle.aml_space.specs.Candidates.{names_of}
-use Rattle.aml_space.proofs.Asked.{unknown_at, next_of, of_up, of_through}
+use Rattle.aml_space.proofs.Asked.{unknown_at, of_up, of_through}
 use Rattle.aml_space.proofs.scopes.Scope.next_with.Goals as goal
 
 pub loop-at-preserved : goal.loop-at-preserved
@@ -10,12 +10,12 @@ loop-at-preserved c =
     let segment = c.args.segment.now in
     let at = c.loop-at.at in
     let inv = c.loop-at.invariant in
-    let above = c.asked_above-at.ensures in
+    let above = c.next_above-at.ensures in
     let none : c.node_at.result ≡ None = search rules in
     record {
       level = above.level;
-      next = of_through (names_of s) s.path segment c.args.level.depth (at.depth - 1) c.asked_above-at.result.depth
+      next = of_through (names_of s) s.path segment c.args.level.depth (at.depth - 1) c.next_above-at.result.depth
           (of_up (names_of s) s.path segment c.args.level.depth at.depth (omega (arith, c.loop-at-test.true)) inv.next
           (unknown_at s.nodes.now c.requires.scope.index.shape (take at.depth s.path ++ segment) c.node_at.result c.node_at.ensures.node none))
-          (next_of (names_of s) s.path segment c.requires.one (at.depth - 1) c.asked_above-at.result.depth above.next);
+          above.next;
     }

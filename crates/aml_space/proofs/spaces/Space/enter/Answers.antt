@@ -1,19 +1,18 @@
 use Rattle.std.proofs.Common.{◌≡◌, [], ◌∷◌, ◌++◌, length, sym, ap, subst, ◌∙◌}
 use Rattle.std.specs.FinMap as map
-use Rattle.aml_space.specs.Candidates.{AreSettled}
+use Rattle.aml_space.specs.Candidates.{AreWays}
 use Rattle.aml_namespace.specs.Known.{Known, with_scopes}
 use Rattle.aml_children.specs.Numbered.{walk}
 use Rattle.aml_space.specs.Nodes.{kids_of}
 use Rattle.aml_space.specs.Opened.{AreOpened, AreThere, known_in, scopes_of}
 use Rattle.aml_space.proofs.Opening.{kept_opened, kept_there, known_again, more_opened, more_scopes, on_err}
-use Rattle.aml_space.proofs.Resting.{settled_grown}
+use Rattle.aml_space.proofs.Stepping.{ways_kept}
 use Rattle.aml_space.proofs.spaces.Space.enter.Goals as goal
 use Rattle.aml_space.proofs.spaces.Space.enter.Goals.{After-extend, After-keep_scope}
 
 -- what is kept for searches stays right
-still_settled : (c : After-extend) → AreSettled c.extend.new.nodes.items c.unsettle.new.settled.items
-still_settled c = settled_grown c.self.inside.nodes.items c.extend.new.nodes.items c.unsettle.new.settled.items c.self.invariant.index
-    c.extend.ensures.kept c.extend.ensures.known (subst (λ ns. AreSettled ns c.unsettle.new.settled.items) c.as_slice-5.ensures.value c.unsettle.ensures.settled)
+still_ways : (c : After-extend) → AreWays c.extend.new.nodes.items c.self.inside.ways
+still_ways c = ways_kept c.self.inside.nodes.items c.extend.new.nodes.items c.self.inside.ways c.self.invariant.index c.extend.ensures.kept c.self.invariant.ways
 
 still_there : (c : After-extend) → AreThere c.extend.new.nodes.items c.self.inside.kept.items
 still_there c = (kept_there c.self.inside.nodes.items c.extend.new.nodes.items c.extend.ensures.index c.extend.ensures.kept c.self.inside.kept.items
@@ -28,7 +27,7 @@ still_known c = known_again c.self.inside.nodes.items c.extend.new.nodes.items c
     c.extend.ensures.index c.extend.ensures.kept c.self.invariant.kept c.extend.ensures.known ∙ c.self.view_is
 
 now_opened : (c : After-keep_scope) → AreOpened c.extend.new.nodes.items c.keep_scope.new.opened.items
-now_opened c = subst (λ ns. AreOpened ns c.keep_scope.new.opened.items) c.as_slice-6.ensures.value c.keep_scope.ensures.opened
+now_opened c = subst (λ ns. AreOpened ns c.keep_scope.new.opened.items) c.as_slice-5.ensures.value c.keep_scope.ensures.opened
 
 pub invariant_of-self-in_err-scope : goal.invariant_of-self-in_err-scope
 invariant_of-self-in_err-scope c = record {
@@ -36,7 +35,7 @@ invariant_of-self-in_err-scope c = record {
   rows = c.self.invariant.rows ∙ ap (λ (k : Known). length (map.entries k.declarations)) (sym c.extend.ensures.known);
   opened = now_opened (goal.at.invariant_of-self-in_err-scope c).After-keep_scope;
   scopes = still_open (goal.at.invariant_of-self-in_err-scope c).After-extend;
-  settled = still_settled (goal.at.invariant_of-self-in_err-scope c).After-extend;
+  ways = still_ways (goal.at.invariant_of-self-in_err-scope c).After-extend;
   kept = still_there (goal.at.invariant_of-self-in_err-scope c).After-extend;
 }
 
@@ -46,7 +45,7 @@ invariant_of-self-in_err-clone c = record {
   rows = c.self.invariant.rows ∙ ap (λ (k : Known). length (map.entries k.declarations)) (sym c.extend.ensures.known);
   opened = now_opened (goal.at.invariant_of-self-in_err-clone c).After-keep_scope;
   scopes = still_open (goal.at.invariant_of-self-in_err-clone c).After-extend;
-  settled = still_settled (goal.at.invariant_of-self-in_err-clone c).After-extend;
+  ways = still_ways (goal.at.invariant_of-self-in_err-clone c).After-extend;
   kept = still_there (goal.at.invariant_of-self-in_err-clone c).After-extend;
 }
 
@@ -56,7 +55,7 @@ invariant_of-self-in_err-push c = record {
   rows = c.self.invariant.rows ∙ ap (λ (k : Known). length (map.entries k.declarations)) (sym c.extend.ensures.known);
   opened = now_opened (goal.at.invariant_of-self-in_err-push c).After-keep_scope;
   scopes = subst (AreOpened c.extend.new.nodes.items) (sym c.in_err-push.ensures.items) (still_open (goal.at.invariant_of-self-in_err-push c).After-extend);
-  settled = still_settled (goal.at.invariant_of-self-in_err-push c).After-extend;
+  ways = still_ways (goal.at.invariant_of-self-in_err-push c).After-extend;
   kept = still_there (goal.at.invariant_of-self-in_err-push c).After-extend;
 }
 
@@ -70,7 +69,7 @@ invariant_of-self-2 c =
       scopes = more_opened c.extend.new.nodes.items c.self.inside.scopes.items c.push.new.self.items _ c.in_ok-push.ensures.items
           (still_open (goal.at.invariant_of-self-2 c).After-extend)
           (ap (walk (kids_of c.extend.new.nodes.items) 0) same ∙ c.in_ok-node.ensures.node);
-      settled = still_settled (goal.at.invariant_of-self-2 c).After-extend;
+      ways = still_ways (goal.at.invariant_of-self-2 c).After-extend;
       kept = still_there (goal.at.invariant_of-self-2 c).After-extend;
     }
 

@@ -4,10 +4,9 @@ use Rattle.aml_namespace.specs.Namespace.{given as said}
 use Rattle.aml_namespace.specs.Known.{Known, StandsFor, with_given}
 use Rattle.aml_space.specs.Nodes.{known_by, IsIndex, IsKept}
 use Rattle.aml_space.specs.Opened.{known_in}
-use Rattle.aml_space.proofs.Opening.{kept_opened, kept_on, kept_there, known_again, content_kept}
+use Rattle.aml_space.proofs.Opening.{kept_on, known_again, still_space, content_kept}
 use Rattle.aml_namespace.proofs.Stands.{stands_given}
 use Rattle.aml_space.proofs.Index.{put_given}
-use Rattle.aml_space.proofs.Resting.{said_given, settled_kept}
 use Rattle.aml_space.proofs.spaces.Space.given.Goals as goal
 use Rattle.aml_space.proofs.spaces.Space.given.Goals.{After-set_given}
 
@@ -33,22 +32,12 @@ pub reach_near-reach-requires-clause-near : goal.reach_near-reach-requires-claus
 reach_near-reach-requires-clause-near c = c.root.ensures.near _ _
 
 pub invariant_of-self-2 : goal.invariant_of-self-2
-invariant_of-self-2 c = record {
-  index = (put (goal.at.invariant_of-self-2 c).After-set_given).0;
-  rows = c.self.invariant.rows ∙ ap (λ (k : Known). length (map.entries k.declarations)) c.self.view_is
-      ∙ ap (λ (k : Known). length (map.entries k.declarations)) (sym (put_here (goal.at.invariant_of-self-2 c).After-set_given));
-  opened = kept_opened c.self.inside.nodes.items c.set_given.new.nodes.items c.self.inside.opened.items
-      (kept (goal.at.invariant_of-self-2 c).After-set_given) c.self.invariant.opened;
-  scopes = kept_opened c.self.inside.nodes.items c.set_given.new.nodes.items c.self.inside.scopes.items
-      (kept (goal.at.invariant_of-self-2 c).After-set_given) c.self.invariant.scopes;
-  kept = (kept_there c.self.inside.nodes.items c.set_given.new.nodes.items (put (goal.at.invariant_of-self-2 c).After-set_given).0
-      (kept (goal.at.invariant_of-self-2 c).After-set_given) c.self.inside.kept.items c.self.invariant.kept).0;
-  settled = settled_kept c.self.inside.nodes.items c.set_given.new.nodes.items c.as_slice-5.result.now
-      c.unsettle.new.settled.items c.parts-path.result c.as_slice-5.ensures.value c.self.invariant.index
-      (kept (goal.at.invariant_of-self-2 c).After-set_given)
-      (said_given (known_by c.self.inside.nodes.items) _ _ c.args.count (put (goal.at.invariant_of-self-2 c).After-set_given).1)
-      c.unsettle.ensures.ready c.unsettle.ensures.settled;
-}
+invariant_of-self-2 c =
+    let b = (goal.at.invariant_of-self-2 c).After-set_given in
+    still_space c.self.inside.nodes.items c.set_given.new.nodes.items c.self.inside.rows _ c.self.inside.opened.items
+    c.self.inside.scopes.items c.self.inside.ways c.self.inside.kept.items (put b).0 (kept b)
+    (c.self.invariant.rows ∙ ap (λ (k : Known). length (map.entries k.declarations)) c.self.view_is
+    ∙ ap (λ (k : Known). length (map.entries k.declarations)) (sym (put_here b))) c.self.invariant
 
 pub returns-clause-ok : goal.returns-clause-ok
 returns-clause-ok c = put_here (goal.at.returns-clause-ok c).After-set_given

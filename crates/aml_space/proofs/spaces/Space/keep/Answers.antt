@@ -1,17 +1,16 @@
 use Rattle.std.proofs.Common.{◌≡◌, length, [], ◌∷◌, ◌++◌, sym, ap, subst, ◌∙◌}
 use Rattle.std.specs.FinMap as map
 use Rattle.aml_namespace.specs.Known.{Known, with_kept}
-use Rattle.aml_space.specs.Candidates.{AreSettled}
+use Rattle.aml_space.specs.Candidates.{AreWays}
 use Rattle.aml_space.specs.Opened.{AreThere, known_in, paths_of}
 use Rattle.aml_space.proofs.Opening.{kept_opened, kept_there, more_there, known_again, on_err}
-use Rattle.aml_space.proofs.Resting.{settled_grown}
+use Rattle.aml_space.proofs.Stepping.{ways_kept}
 use Rattle.aml_space.proofs.spaces.Space.keep.Goals as goal
 use Rattle.aml_space.proofs.spaces.Space.keep.Goals.{After-extend, In_ok-push}
 
 -- what is kept for searches stays right
-still_settled : (c : After-extend) → AreSettled c.extend.new.nodes.items c.unsettle.new.settled.items
-still_settled c = settled_grown c.self.inside.nodes.items c.extend.new.nodes.items c.unsettle.new.settled.items c.self.invariant.index
-    c.extend.ensures.kept c.extend.ensures.known (subst (λ ns. AreSettled ns c.unsettle.new.settled.items) c.as_slice-5.ensures.value c.unsettle.ensures.settled)
+still_ways : (c : After-extend) → AreWays c.extend.new.nodes.items c.self.inside.ways
+still_ways c = ways_kept c.self.inside.nodes.items c.extend.new.nodes.items c.self.inside.ways c.self.invariant.index c.extend.ensures.kept c.self.invariant.ways
 
 still_there : (c : After-extend)
     → AreThere c.extend.new.nodes.items c.self.inside.kept.items
@@ -41,7 +40,7 @@ invariant_of-self-in_err-push c =
       rows = c.self.invariant.rows ∙ ap (λ (k : Known). length (map.entries k.declarations)) (sym c.extend.ensures.known);
       opened = kept_opened c.self.inside.nodes.items c.extend.new.nodes.items c.self.inside.opened.items c.extend.ensures.kept c.self.invariant.opened;
       scopes = kept_opened c.self.inside.nodes.items c.extend.new.nodes.items c.self.inside.scopes.items c.extend.ensures.kept c.self.invariant.scopes;
-      settled = still_settled b;
+      ways = still_ways b;
       kept = subst (AreThere c.extend.new.nodes.items) (sym c.in_err-push.ensures.items) (still_there b).0;
     }
 
@@ -58,7 +57,7 @@ invariant_of-self-2 c =
       rows = c.self.invariant.rows ∙ ap (λ (k : Known). length (map.entries k.declarations)) (sym c.extend.ensures.known);
       opened = kept_opened c.self.inside.nodes.items c.extend.new.nodes.items c.self.inside.opened.items c.extend.ensures.kept c.self.invariant.opened;
       scopes = kept_opened c.self.inside.nodes.items c.extend.new.nodes.items c.self.inside.scopes.items c.extend.ensures.kept c.self.invariant.scopes;
-      settled = still_settled b;
+      ways = still_ways b;
       kept = (one_more (goal.at.invariant_of-self-2 c).In_ok-push).0;
     }
 

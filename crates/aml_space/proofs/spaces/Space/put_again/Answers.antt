@@ -1,4 +1,4 @@
-use Rattle.std.proofs.Common.{IfSome, ◌≡◌, false, ◌+◌, length, ◌++◌, ◌∷◌, [], List, Option, None, OnOk, OnErr, Result, Ok, Err}
+use Rattle.std.proofs.Common.{IfSome, ◌≡◌, false, ◌+◌, length, ◌++◌, ◌∷◌, [], List, Option, None, OnOk, Result, Ok, Err}
 use Rattle.std.proofs.Common.{refl, sym, subst, ap, ◌∙◌, arith}
 use Rattle.std.specs.FinMap as map
 use Rattle.std.specs.declared.alloc.AllocError.{AllocError}
@@ -9,15 +9,13 @@ use Rattle.aml_space.specs.Near.{IsSourceOf}
 use Rattle.aml_namespace.specs.Known.{Known, StandsFor, namespace_in, once, with_declaration, with_again}
 use Rattle.aml_namespace.proofs.Stands.{stands_declared, again_first, none_from_test}
 use Rattle.aml_space.proofs.Index.{known_taken, one_declared}
-use Rattle.aml_space.specs.Candidates.{AreSettled}
-use Rattle.aml_space.proofs.Resting.{IsSaidOf, said_declared, said_nothing, settled_kept}
-use Rattle.aml_space.proofs.Opening.{kept_opened, kept_there, known_again, on_err, ok_then, err_then}
+use Rattle.aml_space.proofs.Opening.{still_space, known_again, on_err, ok_then, err_then}
 use Rattle.aml_space.proofs.spaces.Space.put_again.Goals as goal
 use Rattle.aml_space.proofs.spaces.Space.put_again.Goals.{In_ok-declare_first, After-declare_first, After-is_taken}
 
 not_declared : (c : After-is_taken) → c.is_taken.result ≡ false
     → map.get c.args.self.now.declarations c.args.path.now ≡ None
-not_declared c free = none_from_test _ (sym (known_taken _ _ _ _ _ c.args.self.now c.is_taken.ensures.taken c.as_slice-6.ensures.value refl c.self.invariant.index.shape
+not_declared c free = none_from_test _ (sym (known_taken _ _ _ _ _ c.args.self.now c.is_taken.ensures.taken c.as_slice-5.ensures.value refl c.self.invariant.index.shape
     (ap (λ k. k.declarations) c.self.view_is)) ∙ free)
 
 put_here : (c : In_ok-declare_first) → map.get c.args.self.now.declarations c.args.path.now ≡ None
@@ -29,49 +27,15 @@ put_here c none = known_again c.self.inside.nodes.items c.declare_first.new.node
     ∙ ap (λ k. with_declaration k c.args.path.now (once c.args.kind c.args.sure)) c.self.view_is
     ∙ sym (again_first c.args.self.now c.args.path.now c.args.kind c.args.sure none)
 
--- what is kept for searches stays right
-still_settled : (c : After-declare_first)
-    → IsSaidOf (known_by c.self.inside.nodes.items) (known_by c.declare_first.new.nodes.items) c.args.path.now
-    → AreSettled c.declare_first.new.nodes.items c.unsettle.new.settled.items
-still_settled c said = settled_kept c.self.inside.nodes.items c.declare_first.new.nodes.items c.as_slice-5.result.now
-    c.unsettle.new.settled.items c.args.path.now c.as_slice-5.ensures.value
-    c.self.invariant.index c.declare_first.ensures.kept said c.unsettle.ensures.ready c.unsettle.ensures.settled
-
 pub invariant_of-self-in_err-declare_first : goal.invariant_of-self-in_err-declare_first
-invariant_of-self-in_err-declare_first c = record {
-  index = c.declare_first.ensures.index;
-  rows = c.self.invariant.rows ∙ ap (λ (k : Known). length (map.entries k.declarations)) (sym c.in_err-declare_first.ensures.err);
-  opened = kept_opened c.self.inside.nodes.items c.declare_first.new.nodes.items c.self.inside.opened.items c.declare_first.ensures.kept
-      c.self.invariant.opened;
-  scopes = kept_opened c.self.inside.nodes.items c.declare_first.new.nodes.items c.self.inside.scopes.items c.declare_first.ensures.kept
-      c.self.invariant.scopes;
-  kept = (kept_there c.self.inside.nodes.items c.declare_first.new.nodes.items c.declare_first.ensures.index c.declare_first.ensures.kept
-      c.self.inside.kept.items c.self.invariant.kept).0;
-  settled = still_settled (goal.at.invariant_of-self-in_err-declare_first c).After-declare_first
-      (said_nothing _ _ c.args.path.now c.in_err-declare_first.ensures.err);
-}
+invariant_of-self-in_err-declare_first c = still_space c.self.inside.nodes.items c.declare_first.new.nodes.items c.self.inside.rows _ c.self.inside.opened.items
+    c.self.inside.scopes.items c.self.inside.ways c.self.inside.kept.items c.declare_first.ensures.index c.declare_first.ensures.kept
+    (c.self.invariant.rows ∙ ap (λ (k : Known). length (map.entries k.declarations)) (sym c.in_err-declare_first.ensures.err)) c.self.invariant
 
 pub invariant_of-self : goal.invariant_of-self
-invariant_of-self c = record {
-  index = c.declare_again.ensures.index;
-  rows = c.self.invariant.rows ∙ sym c.declare_again.ensures.rows;
-  opened = kept_opened c.self.inside.nodes.items c.declare_again.new.nodes.items c.self.inside.opened.items c.declare_again.ensures.kept
-      c.self.invariant.opened;
-  scopes = kept_opened c.self.inside.nodes.items c.declare_again.new.nodes.items c.self.inside.scopes.items c.declare_again.ensures.kept
-      c.self.invariant.scopes;
-  kept = (kept_there c.self.inside.nodes.items c.declare_again.new.nodes.items c.declare_again.ensures.index c.declare_again.ensures.kept
-      c.self.inside.kept.items c.self.invariant.kept).0;
-  settled = settled_kept c.self.inside.nodes.items c.declare_again.new.nodes.items c.as_slice-5.result.now
-      c.unsettle.new.settled.items c.args.path.now c.as_slice-5.ensures.value c.self.invariant.index c.declare_again.ensures.kept (said c.declare_again.result c.declare_again.ensures.ok c.declare_again.ensures.err)
-      c.unsettle.ensures.ready c.unsettle.ensures.settled;
-}
-  where
-    said : (r : Result (Unit {0}) AllocError) → OnOk r (known_by c.declare_again.new.nodes.items
-        ≡ with_again (known_by c.self.inside.nodes.items) c.args.path.now c.args.kind c.args.sure)
-        → OnErr r (known_by c.declare_again.new.nodes.items ≡ known_by c.self.inside.nodes.items)
-        → IsSaidOf (known_by c.self.inside.nodes.items) (known_by c.declare_again.new.nodes.items) c.args.path.now
-    said (Ok u) ok err = said_declared _ _ c.args.path.now _ ok
-    said (Err e) ok err = said_nothing _ _ c.args.path.now err
+invariant_of-self c = still_space c.self.inside.nodes.items c.declare_again.new.nodes.items c.self.inside.rows _ c.self.inside.opened.items
+    c.self.inside.scopes.items c.self.inside.ways c.self.inside.kept.items c.declare_again.ensures.index c.declare_again.ensures.kept
+    (c.self.invariant.rows ∙ sym c.declare_again.ensures.rows) c.self.invariant
 
 pub invariant_of-self-2 : goal.invariant_of-self-2
 invariant_of-self-2 c =
@@ -82,18 +46,9 @@ invariant_of-self-2 c =
     ap (λ (k : Known). length (map.entries k.declarations))
     (put_here (goal.at.invariant_of-self-2 c).In_ok-declare_first none ∙ again_first c.args.self.now c.args.path.now c.args.kind c.args.sure none)
     ∙ one_declared c.args.self.now c.args.path.now (once c.args.kind c.args.sure) none in
-    record {
-      index = c.declare_first.ensures.index;
-      rows = omega (arith, before, after);
-      opened = kept_opened c.self.inside.nodes.items c.declare_first.new.nodes.items c.self.inside.opened.items c.declare_first.ensures.kept
-          c.self.invariant.opened;
-      scopes = kept_opened c.self.inside.nodes.items c.declare_first.new.nodes.items c.self.inside.scopes.items c.declare_first.ensures.kept
-          c.self.invariant.scopes;
-      kept = (kept_there c.self.inside.nodes.items c.declare_first.new.nodes.items c.declare_first.ensures.index c.declare_first.ensures.kept
-          c.self.inside.kept.items c.self.invariant.kept).0;
-      settled = still_settled (goal.at.invariant_of-self-2 c).After-declare_first
-          (said_declared _ _ c.args.path.now _ c.in_ok-declare_first.ensures.ok);
-    }
+    still_space c.self.inside.nodes.items c.declare_first.new.nodes.items c.self.inside.rows _ c.self.inside.opened.items
+    c.self.inside.scopes.items c.self.inside.ways c.self.inside.kept.items c.declare_first.ensures.index c.declare_first.ensures.kept
+    (omega (arith, before, after)) c.self.invariant
 
 pub returns-clause-ok : goal.returns-clause-ok
 returns-clause-ok c = put_here (goal.at.returns-clause-ok c).In_ok-declare_first (not_declared (goal.at.returns-clause-ok c).After-is_taken c.if-is_taken.false)
@@ -118,9 +73,9 @@ returns-then-is_taken-clause-stands c = λ es body stands. by c.declare_again.re
 
 pub aimed_by-aimed-requires-clause-source : goal.aimed_by-aimed-requires-clause-source
 aimed_by-aimed-requires-clause-source c =
-    let scopes = ap scopes_of (c.new-hints-2.ensures.scopes ∙ c.as_slice-8.ensures.value) ∙ ap (λ (k : Known). k.scopes) c.self.view_is in
-    let names = ap (λ ns. namespace_in (known_by ns)) c.as_slice-10.ensures.value ∙ ap namespace_in c.self.view_is in
-    subst (λ n. IfSome c.args.source (IsSourceOf (scopes_of c.new-hints-2.result.scopes.now) n c.args.kind)) (sym names)
+    let scopes = ap scopes_of (c.new-hints.ensures.scopes ∙ c.as_slice-2.ensures.value) ∙ ap (λ (k : Known). k.scopes) c.self.view_is in
+    let names = ap (λ ns. namespace_in (known_by ns)) c.as_slice-6.ensures.value ∙ ap namespace_in c.self.view_is in
+    subst (λ n. IfSome c.args.source (IsSourceOf (scopes_of c.new-hints.result.scopes.now) n c.args.kind)) (sym names)
     (subst (λ inside. IfSome c.args.source (IsSourceOf inside (namespace_in c.args.self.now) c.args.kind)) (sym scopes) c.requires.source)
 
 pub returns-in_err-declare_first-clause-err : goal.returns-in_err-declare_first-clause-err

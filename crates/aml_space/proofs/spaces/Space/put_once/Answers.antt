@@ -9,14 +9,12 @@ use Rattle.aml_space.specs.Near.{IsSourceOf}
 use Rattle.aml_namespace.specs.Known.{Known, StandsFor, namespace_in, once, with_declaration, is_declared}
 use Rattle.aml_namespace.proofs.Stands.{stands_declared, again_first, none_from_test, declared_listed}
 use Rattle.aml_space.proofs.Index.{known_taken, one_declared}
-use Rattle.aml_space.specs.Candidates.{AreSettled}
-use Rattle.aml_space.proofs.Resting.{IsSaidOf, said_declared, said_nothing, settled_kept}
-use Rattle.aml_space.proofs.Opening.{kept_opened, kept_there, known_again, on_err}
+use Rattle.aml_space.proofs.Opening.{still_space, known_again, on_err}
 use Rattle.aml_space.proofs.spaces.Space.put_once.Goals as goal
 use Rattle.aml_space.proofs.spaces.Space.put_once.Goals.{After-is_taken, After-declare_first, In_ok-declare_first}
 
 taken : (c : After-is_taken) → c.is_taken.result ≡ is_declared c.args.self.now c.args.path.now
-taken c = known_taken _ _ _ _ _ c.args.self.now c.is_taken.ensures.taken c.as_slice-6.ensures.value refl c.self.invariant.index.shape
+taken c = known_taken _ _ _ _ _ c.args.self.now c.is_taken.ensures.taken c.as_slice-5.ensures.value refl c.self.invariant.index.shape
     (ap (λ k. k.declarations) c.self.view_is)
 
 not_declared : (c : After-is_taken) → c.is_taken.result ≡ false
@@ -34,27 +32,10 @@ put_here c = known_again c.self.inside.nodes.items c.declare_first.new.nodes.ite
     ∙ ap (λ kind. with_declaration (known_by c.self.inside.nodes.items) c.args.path.now (once kind c.args.surely)) c.aimed_by-aimed.ensures.kind)
     ∙ ap (λ k. with_declaration k c.args.path.now (once c.args.kind c.args.surely)) c.self.view_is
 
--- what is kept for searches stays right
-still_settled : (c : After-declare_first)
-    → IsSaidOf (known_by c.self.inside.nodes.items) (known_by c.declare_first.new.nodes.items) c.args.path.now
-    → AreSettled c.declare_first.new.nodes.items c.unsettle.new.settled.items
-still_settled c said = settled_kept c.self.inside.nodes.items c.declare_first.new.nodes.items c.as_slice-5.result.now
-    c.unsettle.new.settled.items c.args.path.now c.as_slice-5.ensures.value
-    c.self.invariant.index c.declare_first.ensures.kept said c.unsettle.ensures.ready c.unsettle.ensures.settled
-
-pub invariant_of-self-in_err-declare_first : goal.invariant_of-self-in_err-declare_first
-invariant_of-self-in_err-declare_first c = record {
-  index = c.declare_first.ensures.index;
-  rows = c.self.invariant.rows ∙ ap (λ (k : Known). length (map.entries k.declarations)) (sym c.in_err-declare_first.ensures.err);
-  opened = kept_opened c.self.inside.nodes.items c.declare_first.new.nodes.items c.self.inside.opened.items c.declare_first.ensures.kept
-      c.self.invariant.opened;
-  scopes = kept_opened c.self.inside.nodes.items c.declare_first.new.nodes.items c.self.inside.scopes.items c.declare_first.ensures.kept
-      c.self.invariant.scopes;
-  kept = (kept_there c.self.inside.nodes.items c.declare_first.new.nodes.items c.declare_first.ensures.index c.declare_first.ensures.kept
-      c.self.inside.kept.items c.self.invariant.kept).0;
-  settled = still_settled (goal.at.invariant_of-self-in_err-declare_first c).After-declare_first
-      (said_nothing _ _ c.args.path.now c.in_err-declare_first.ensures.err);
-}
+pub invariant_of-self : goal.invariant_of-self
+invariant_of-self c = still_space c.self.inside.nodes.items c.declare_first.new.nodes.items c.self.inside.rows _ c.self.inside.opened.items
+    c.self.inside.scopes.items c.self.inside.ways c.self.inside.kept.items c.declare_first.ensures.index c.declare_first.ensures.kept
+    (c.self.invariant.rows ∙ ap (λ (k : Known). length (map.entries k.declarations)) (sym c.in_err-declare_first.ensures.err)) c.self.invariant
 
 pub invariant_of-self-2 : goal.invariant_of-self-2
 invariant_of-self-2 c =
@@ -64,18 +45,9 @@ invariant_of-self-2 c =
     ap (λ (k : Known). length (map.entries k.declarations)) (put_here (goal.at.invariant_of-self-2 c).In_ok-declare_first)
     ∙ one_declared c.args.self.now c.args.path.now (once c.args.kind c.args.surely)
     (not_declared (goal.at.invariant_of-self-2 c).After-is_taken c.if-is_taken.false) in
-    record {
-      index = c.declare_first.ensures.index;
-      rows = omega (arith, before, after);
-      opened = kept_opened c.self.inside.nodes.items c.declare_first.new.nodes.items c.self.inside.opened.items c.declare_first.ensures.kept
-          c.self.invariant.opened;
-      scopes = kept_opened c.self.inside.nodes.items c.declare_first.new.nodes.items c.self.inside.scopes.items c.declare_first.ensures.kept
-          c.self.invariant.scopes;
-      kept = (kept_there c.self.inside.nodes.items c.declare_first.new.nodes.items c.declare_first.ensures.index c.declare_first.ensures.kept
-          c.self.inside.kept.items c.self.invariant.kept).0;
-      settled = still_settled (goal.at.invariant_of-self-2 c).After-declare_first
-          (said_declared _ _ c.args.path.now _ c.in_ok-declare_first.ensures.ok);
-    }
+    still_space c.self.inside.nodes.items c.declare_first.new.nodes.items c.self.inside.rows _ c.self.inside.opened.items
+    c.self.inside.scopes.items c.self.inside.ways c.self.inside.kept.items c.declare_first.ensures.index c.declare_first.ensures.kept
+    (omega (arith, before, after)) c.self.invariant
 
 pub returns-clause-stands : goal.returns-clause-stands
 returns-clause-stands c = λ es body stands. subst (λ k. StandsFor k (es ++ declares c.args.path.now c.args.kind body c.args.surely ∷ []))
@@ -113,9 +85,9 @@ returns-clause-listed c = λ es s. ap not (sym c.if-is_taken.false ∙ sym (list
 
 pub aimed_by-aimed-requires-clause-source : goal.aimed_by-aimed-requires-clause-source
 aimed_by-aimed-requires-clause-source c =
-    let scopes = ap scopes_of (c.new-hints-2.ensures.scopes ∙ c.as_slice-8.ensures.value) ∙ ap (λ (k : Known). k.scopes) c.self.view_is in
-    let names = ap (λ ns. namespace_in (known_by ns)) c.as_slice-10.ensures.value ∙ ap namespace_in c.self.view_is in
-    subst (λ n. IfSome c.args.source (IsSourceOf (scopes_of c.new-hints-2.result.scopes.now) n c.args.kind)) (sym names)
+    let scopes = ap scopes_of (c.new-hints.ensures.scopes ∙ c.as_slice-2.ensures.value) ∙ ap (λ (k : Known). k.scopes) c.self.view_is in
+    let names = ap (λ ns. namespace_in (known_by ns)) c.as_slice-6.ensures.value ∙ ap namespace_in c.self.view_is in
+    subst (λ n. IfSome c.args.source (IsSourceOf (scopes_of c.new-hints.result.scopes.now) n c.args.kind)) (sym names)
     (subst (λ inside. IfSome c.args.source (IsSourceOf inside (namespace_in c.args.self.now) c.args.kind)) (sym scopes) c.requires.source)
 
 pub returns-in_err-declare_first-clause-err : goal.returns-in_err-declare_first-clause-err
