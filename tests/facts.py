@@ -27,7 +27,7 @@ TOP = pathlib.Path(__file__).resolve().parent.parent
 sys.path[:0] = [str(TOP / "examples/page"), str(TOP / "tests/oracle"), str(TOP / "tests")]
 sys.path.append(str(TOP / "examples"))
 
-from board import VERSIONS, table  # noqa: E402
+from board import VERSIONS, packed, table  # noqa: E402
 from dumps import aml_of, order_of  # noqa: E402
 from facts_picture import columns_text, picture  # noqa: E402
 from folders import read_folder  # noqa: E402
@@ -462,6 +462,14 @@ DefinitionBlock ("dsdt.dat") {
 """
 
 
+# I2cSerialBusV2, GpioInt by level and low, IRQ 5 by edge, an end tag.
+WIRED = bytes.fromhex(
+    "8E 19 00 02 00 01 02 00 00 01 06 00 80 1A 06 00 2C 00 5C 5F 53 42 2E 49 32 43 30 00"
+    "8C 1B 00 01 00 01 00 0A 00 00 00 00 64 00 17 00 00 19 00 1E 00 00 00 07 00 47 50 49 30 00"
+    "22 20 00 79 00"
+)
+
+
 def check_records(checks: Checks, room: pathlib.Path) -> None:
     """Fields of tables, and statements."""
     (room / "records").write_text(TABLES)
@@ -484,6 +492,22 @@ def check_records(checks: Checks, room: pathlib.Path) -> None:
         ("Sleep", None, 10, "Sleep (0x0A)"), ("Stall", None, None, "Stall (NAME)"),
     ]
     checks.is_same("statements", rows_of(room / "records.facts", sql), wanted)
+    code = b"\x5B\x82" + packed(b"", b"DEV0" + b"\x08_CRS" + packed(b"\x11", b"\x0A" + bytes([len(WIRED)]) + WIRED))
+    outcome = run_folder(written(room / "wired", {"dsdt.dat": table(b"DSDT", b"WIRED", code)}), Options())
+    (room / "wired.text").write_text(outcome.out)
+    run(room / "wired.text", room / "wired.facts")
+    wanted = [
+        ("I2cSerialBus", None, "\\_SB_.I2C0", 400_000, None, None), ("GpioInt", "7", "\\GPI0", None, "level", "low"),
+        ("IRQ", "5", None, None, "edge", "high"),
+    ]
+    code = b"\x5B\x82" + packed(b"", b"DEV0\x08_ADR\x0C\x03\x00\x1F\x00\x5B\x80REG0\x02\x0A\x40\x01" + b"\x5B\x82\x0EDEV1\x5B\x80REG1\x02\0\x01")
+    outcome = run_folder(written(room / "pci", {"dsdt.dat": table(b"DSDT", b"PCI", code)}), Options())
+    (room / "pci.text").write_text(outcome.out)
+    run(room / "pci.text", room / "pci.facts")
+    found = rows_of(room / "pci.facts", "SELECT path, pci_device, pci_function FROM region ORDER BY id")
+    checks.is_same("PCI addresses", found, [("\\DEV0.REG0", 31, 3), ("\\DEV0.DEV1.REG1", None, None)])
+    sql = "SELECT kind, lines, controller, speed, trigger, polarity FROM resource ORDER BY id"
+    checks.is_same("controllers and wires", rows_of(room / "wired.facts", sql), wanted)
 
 
 def check_words(checks: Checks, room: pathlib.Path) -> None:

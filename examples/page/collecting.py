@@ -12,13 +12,14 @@ from errors import Fault
 from identifiers import eisa_number
 from listing import Block, Dump, Line, Listing, Path, path_of, path_text
 from names import FIELD_LISTS, PREDEFINED, Meaning, Names, Sort, name_of
+from resources import Descriptor
 from schema import COLUMNS
 from standard import DEVICE_NAMES, space_name
 from terms import Place, Term, is_written, places
 
 # SQLite's integers have 64 bits, one of which is the sign.
 TOO_LARGE = 1 << 63
-METHOD_OBJECT = 8
+METHOD_OBJECT, PCI_CONFIG = 8, 2
 REGIONS = ("OperationRegion", "DataRegion")
 USING = (Sort.LEADS, Sort.NOTHING)
 FIELD_REGION = COLUMNS["field"].index("region")
@@ -44,6 +45,8 @@ STATEMENTS = {
     "Fatal": (None, 1),
 }  # fmt: skip
 LONGEST_STATEMENT = 1_000
+SEGMENT, SPEED = re.compile(r"[A-Z_][A-Z0-9_]{0,3}"), re.compile(r"([0-9]+) (?:Hz|baud)")
+INTERRUPTS = ("IRQ", "IRQNoFlags", "Interrupt", "GpioInt")
 
 
 def small(number: int | None) -> int | None:
@@ -231,9 +234,19 @@ class Collector:
             space, first, length = (one.number if one else None for one in (*arguments, None, None, None)[1:4])
             values = [space, space_name(space) if space is not None else "", small(first), small(length), *(*texts, "", "")[2:4]]
         anchor, name, path = self.declared(line)
-        self.regions.setdefault(anchor, self.add("region", name, self.method, path, *values, self.file, line.number))
+        address = self.pci_address(line.scope) if values[0] == PCI_CONFIG else (None, None)
+        self.regions.setdefault(anchor, self.add("region", name, self.method, path, *values, *address, self.file, line.number))
         if line.term != "DataRegion":
             self.add_named(line, arguments[2:4])
+
+    def pci_address(self, scope: Path) -> tuple[int | None, int | None]:
+        """The device and the function by the constant _ADR of the nearest device around (6.1.1)."""
+        while scope and self.kinds.get(scope) != "Device":
+            scope = scope[:-1]
+        name = self.ids.get((*scope, "_ADR")) if scope else None
+        value = self.rows["name"][name - 1][CONSTANT[-1]] if name else None
+        number = Term(value, 0).number if value else None
+        return (None, None) if number is None or number >> 32 else (number >> 16, number & 0xFFFF)
 
     def add_named(self, line: Line, terms: list[Term | None]) -> None:
         """Keeps which numbers of a region are values of names."""
@@ -375,7 +388,7 @@ class Collector:
         for one, patches in zip(template.descriptors, template.patches):
             self.add(
                 "resource", device, object_path, one.kind, small(one.first), small(one.last), small(one.length),
-                ", ".join(map(str, one.lines)) or None, one.text, ", ".join(dict.fromkeys(patches)) or None,
+                ", ".join(map(str, one.lines)) or None, *wires_of(one), one.text, ", ".join(dict.fromkeys(patches)) or None,
                 self.file, line.number,
             )
 
@@ -384,6 +397,17 @@ class Collector:
         for _, text in self.decoder.identifiers(line):
             device = self.device_of(line)
             self.add("identifier", device, name, text, eisa_number(text), DEVICE_NAMES.get(text), self.file, line.number)
+
+
+def wires_of(one: Descriptor) -> tuple[str | None, int | None, str | None, str | None]:
+    """The path of the controller, the speed in Hz or baud, and of an interrupt its trigger and polarity."""
+    parts = one.source.removeprefix("\\").split(".")
+    path = "\\" + ".".join(part.ljust(4, "_") for part in parts) if all(map(SEGMENT.fullmatch, parts)) else one.source
+    speed = next((int(form[1]) for form in map(SPEED.fullmatch, one.words) if form), None)
+    if one.kind not in INTERRUPTS:
+        return path or None, speed, None, None
+    polarity = next((word for word in one.words if word in ("low", "both") or word.startswith("polarity ")), "high")
+    return path or None, speed, "edge" if "edge" in one.words else "level", polarity
 
 
 def number_in(text: str) -> int:

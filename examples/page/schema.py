@@ -37,7 +37,7 @@ CREATE TABLE use (
 CREATE TABLE region (
     id INTEGER PRIMARY KEY, code INTEGER NOT NULL REFERENCES code, name INTEGER REFERENCES name, method INTEGER REFERENCES method,
     path TEXT NOT NULL, space INTEGER, space_name TEXT NOT NULL, first INTEGER, length INTEGER, first_text TEXT NOT NULL,
-    length_text TEXT NOT NULL, file TEXT NOT NULL, line INTEGER NOT NULL
+    length_text TEXT NOT NULL, pci_device INTEGER, pci_function INTEGER, file TEXT NOT NULL, line INTEGER NOT NULL
 );
 CREATE TABLE field (
     id INTEGER PRIMARY KEY, code INTEGER NOT NULL REFERENCES code, name INTEGER REFERENCES name, method INTEGER REFERENCES method,
@@ -46,7 +46,8 @@ CREATE TABLE field (
 );
 CREATE TABLE resource (
     id INTEGER PRIMARY KEY, code INTEGER NOT NULL REFERENCES code, device INTEGER REFERENCES name, object TEXT NOT NULL,
-    kind TEXT NOT NULL, first INTEGER, last INTEGER, length INTEGER, lines TEXT, text TEXT NOT NULL, patched_by TEXT,
+    kind TEXT NOT NULL, first INTEGER, last INTEGER, length INTEGER, lines TEXT, controller TEXT, speed INTEGER, trigger TEXT,
+    polarity TEXT, text TEXT NOT NULL, patched_by TEXT,
     file TEXT NOT NULL, line INTEGER NOT NULL
 );
 CREATE TABLE statement (
