@@ -29,6 +29,7 @@ sys.path.append(str(TOP / "examples"))
 import lines as lines_module  # noqa: E402
 import pages  # noqa: E402
 import tree as tree_module  # noqa: E402
+from comparison import differences  # noqa: E402
 from decoding import Decoder  # noqa: E402
 from dumps import aml_of, order_of  # noqa: E402
 from errors import read_errors  # noqa: E402
@@ -45,7 +46,7 @@ from telling import DEMO, HOSTILE_FILES, PAGES_FILES, RUNS_FILES, Teller, method
 PAGE = TOP / "examples/page.py"
 ELEMENTS = set(
     "html head meta title style body nav header h1 h2 h3 p input div span small details summary a main section ul li "
-    "table tr th td dfn b i q u em mark pre script button ins".split()
+    "table tr th td dfn b i q u em mark pre script button ins del".split()
 )
 # Few lines and paths make a chunk and a branch, so that small sets have several.
 lines_module.CHUNK, tree_module.MANY = 7, 3
@@ -217,8 +218,23 @@ def check_comparison_lines(checks: Checks) -> None:
     lines = texts[0].out.splitlines()
     marked = [lines[int(number) - 1].strip() for number in re.findall(r"<(?:p|tr|summary) id=(\d+) class=differs>", html)]
     checks.is_same("the lines that differ", marked, [lines[1], "Store (0x05, Local1)"])
-    checks.is_same("the other's lines", re.findall("<ins>(.*?)</ins>", html), ["  Store (0x06, Local1)"])
+    shown = re.findall("<(ins|del)>(.*?)</", html)
+    checks.is_same("both lines", shown, [("del", "  Store (0x05, Local1)"), ("ins", "  Store (0x06, Local1)")])
+    checks.is_same("whose they are", "1 path that other has otherwise than" in html, True)
     checks.is_same("the other's tables", "\"OEM6\"" in html.replace("&quot;", '"'), True)
+
+
+def check_differences(checks: Checks) -> None:
+    """Each text stands in the differences of two, whatever both are; and large ones take no long time."""
+    chance = random.Random(0)
+    for _ in range(300):
+        here, there = (tuple(chance.choice("abcd") for _ in range(chance.randrange(8))) for _ in range(2))
+        found = differences(here, there)
+        ours = tuple(line for mark, line in found if mark != "ins")
+        theirs = tuple(line for mark, line in found if mark != "del")
+        checks.is_same(f"differences of {here} and {there}", (ours, theirs), (here, there))
+    many = tuple(map(str, range(100_000)))
+    checks.is_same("of long texts", len(differences(many, ("x", *many[1:-1], "y"))), 2 * len(many))
 
 
 def check_only(checks: Checks, outcome: Outcome) -> None:
@@ -295,6 +311,7 @@ def check_all(checks: Checks, asked: argparse.Namespace) -> None:
     check_made_up(checks, asked.sets, True)
     check_comparison(checks)
     check_comparison_lines(checks)
+    check_differences(checks)
     check_only(checks, run_folder(hostile, Options()))
     check_names(checks, run_folder(hostile, Options()))
     check_refusals(checks, run_folder(hostile, Options()))

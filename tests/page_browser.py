@@ -256,6 +256,9 @@ def look_for_forms(browser: Browser, checks: Checks) -> None:
     )
     bare = ".".join(segment.rstrip("_") for segment in path[1:].split("."))
     tails = path.rpartition(".")[2].rstrip("_").lower()
+    browser.value("(() => { const nav = tree.closest('nav'); nav.style.maxHeight = '80px'; nav.scrollTop = 300; })(); find.value = 'a'; showFound()")
+    checks.is_so("what is found is shown from its beginning", browser.until("!found.hidden && tree.closest('nav').scrollTop === 0"))
+    browser.value("tree.closest('nav').style.maxHeight = ''; find.value = ''; showFound()")
     for form in (path, f"\\{bare}", bare, bare.lower(), f"{bare.lower()} {kind.lower()}"):
         browser.value(f"find.value = {json.dumps(form)}; showFound()")
         checks.is_so(f"{form} finds {path} first", browser.until(f"{FOUND} === {json.dumps(path)}"))
@@ -335,6 +338,7 @@ def look_at_comparison(browser: Browser, url: str, checks: Checks) -> None:
     rows = browser.value("document.querySelectorAll('#tables .differs').length")
     checks.is_so("tables that differ are marked", rows > 0)
     checks.is_so("what the other has is shown", browser.value("document.querySelectorAll('#comparison ins').length") > 0)
+    checks.is_so("and what this one has", browser.value("document.querySelectorAll('#comparison del').length") > 0)
     check_log(browser, checks)
 
 

@@ -6,12 +6,15 @@ import hashlib
 import re
 from collections import Counter
 from dataclasses import dataclass
+from difflib import SequenceMatcher
 from typing import Optional
 
 from listing import Dump, Line, Listing, Path, path_text
 from names import FIELD_LISTS, FIRST_WORD, SCOPES, Names
 
 LONGEST = 200
+# Of more pairs of lines the longest common ones aren't looked for: that takes time as their product.
+MOST_PAIRS = 10_000
 # The text of a declaration, in lines, each with the number of the line that it is of.
 Said = list[tuple[int, str]]
 Text = tuple[str, ...]
@@ -57,12 +60,33 @@ def text_of(said: Said) -> Text:
     return tuple(text for _, text in said)
 
 
+def alike(here: Text, there: Text) -> tuple[int, int]:
+    """How many lines two texts begin, and how many more they end with alike."""
+    least = min(len(here), len(there))
+    first = next((place for place in range(least) if here[place] != there[place]), least)
+    rest = least - first
+    return first, next((place for place in range(rest) if here[-1 - place] != there[-1 - place]), rest)
+
+
+def differences(here: Text, there: Text) -> list[tuple[str, str]]:
+    """The lines of two texts in their order, each with `del` where the first alone has it, and `ins` where the second."""
+    first, last = alike(here, there)
+    ours, theirs = here[first:len(here) - last], there[first:len(there) - last]
+    found = [("", line) for line in here[:first]]
+    if len(ours) * len(theirs) <= MOST_PAIRS:
+        blocks = SequenceMatcher(None, ours, theirs, autojunk=False).get_opcodes()
+    else:
+        blocks = [("replace", 0, len(ours), 0, len(theirs))]
+    for word, one, end, other, other_end in blocks:
+        is_same = word == "equal"
+        found += [("" if is_same else "del", line) for line in ours[one:end]]
+        found += [("ins", line) for line in theirs[other:other_end] if not is_same]
+    return found + [("", line) for line in here[len(here) - last:]]
+
+
 def different_lines(here: Said, there: Text) -> list[int]:
     """The numbers of the lines that the other text hasn't, between what both begin and end with alike."""
-    least = min(len(here), len(there))
-    first = next((place for place in range(least) if here[place][1] != there[place]), least)
-    rest = least - first
-    last = next((place for place in range(rest) if here[-1 - place][1] != there[-1 - place]), rest)
+    first, last = alike(text_of(here), there)
     others = Counter(there[first:len(there) - last])
     numbers = []
     for number, text in here[first:len(here) - last]:

@@ -11,7 +11,7 @@ import pathlib
 import re
 from html import escape
 
-from comparison import Text
+from comparison import Text, differences
 from errors import raw_lines
 from lines import blocks_html, uses_html
 from listing import TEXT, Listing, Path, path_text
@@ -61,9 +61,14 @@ def undeclared_html(sheet: Sheet) -> list[str]:
 # ---- the comparison
 
 
-def text_html(text: Text, here: set[str]) -> str:
-    """A text of the other listing, of which the lines are marked that this one hasn't."""
-    lines = (f"<ins>{escape(line)}</ins>" if here and line not in here else escape(line) for line in text)
+def text_html(text: Text) -> str:
+    return f"<pre>{escape(chr(10).join(text))}</pre>"
+
+
+def difference_html(here: Text, there: Text) -> str:
+    """Two texts as one: the lines that this listing alone has are struck out, those that the other one alone has stand
+    where it has them."""
+    lines = (f"<{mark}>{escape(line)}</{mark}>" if mark else escape(line) for mark, line in differences(here, there))
     return f"<pre>{chr(10).join(lines)}</pre>"
 
 
@@ -81,18 +86,20 @@ def comparison_html(sheet: Sheet) -> list[str]:
     lacks = [f"<li class=lacking>{links[path]}</li>\n" for path in sorted(found.lacks)]
     adds = [
         f"<li class=added><details{anchor_of_added(sheet, path)}><summary>{path_text(path)}</summary>"
-        f"{text_html(text, set())}</details></li>\n"
+        f"{text_html(text)}</details></li>\n"
         for path, text in found.adds.items()
     ]
     changes = [
         f"<li class=changed><details id=c{names[path].number}><summary>{links[path]}</summary>"
-        f"{text_html(text, set(found.here[path]))}</details></li>\n"
+        f"{difference_html(found.here[path], text)}</details></li>\n"
         for path, text in found.changes.items()
     ]
     written = [f"<section id=comparison><h2>Beside {escape(found.other)}</h2>\n", *table_changes_html(sheet)]
-    for items, word in ((adds, "that it adds"), (lacks, "that it lacks"), (changes, "that it changes")):
+    ours, theirs = escape(sheet.name), escape(found.other)
+    kinds = ((adds, f"{theirs} alone has"), (lacks, f"{ours} alone has"), (changes, f"{theirs} has otherwise than {ours}"))
+    for items, word in kinds:
         state = " open" if len(items) <= MOST_OPEN else ""
-        head = f"<summary>{counted(len(items), 'path')} {word}</summary>"
+        head = f"<summary>{counted(len(items), 'path')} that {word}</summary>"
         written += [f"<details{state}>{head}<ul>\n", *items, "</ul></details>\n"]
     return [*written, "</section>\n"]
 

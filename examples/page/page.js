@@ -157,7 +157,7 @@ async function showFound() {
   found.hidden = !forms.length;
   tree.hidden = !found.hidden;
   if (found.hidden) return;
-  navigation.scrollTop = 0;
+  tree.closest("nav").scrollTop = 0;
   const fitting = fittingNodes(text);
   const lines = fitting.slice(0, MOST_FOUND).map((node) => foundNode(node, forms));
   const more = fitting.length - lines.length;
