@@ -32,6 +32,7 @@ import output  # noqa: E402
 import paths  # noqa: E402
 import standard  # noqa: E402
 from blocks import Block, MethodBlock, Reader, Refused, read  # noqa: E402
+from names import said_by  # noqa: E402
 
 TOLD = 3
 # What all blocks together have no more Externals than, of what they don't use.
@@ -57,7 +58,8 @@ def of_listing(asked):
     if asked.method and len(found) > 1:
         raise Refused(f"it declares {asked.method} on the lines {', '.join(str(method.number) for method in found)}")
     rows = reader.rows if len(reader.rows) * len(found) <= MOST_EXTERNALS else []
-    return reader.blocks, [Made(it.table, it.text(rows), it.told) for it in found]
+    said = said_by(reader.blocks)
+    return reader.blocks, [Made(it.table, it.text(rows, said), it.told) for it in found]
 
 
 def files_of(made):

@@ -332,11 +332,12 @@ READER = """
 import pathlib, sys
 sys.path[:0] = sys.argv[2:]
 from blocks import Block, Reader, Refused
+from names import said_by
 for path in pathlib.Path(sys.argv[1]).iterdir():
     reader = Reader(lambda table, space: Block(table, space, True))
     try:
         reader.read(path.read_text("ascii"))
-        [block.text(reader.rows) for block in reader.blocks]
+        [block.text(reader.rows, said_by(reader.blocks)) for block in reader.blocks]
     except Refused:
         print("refused")
     except Exception as fault:
@@ -409,6 +410,14 @@ def check_edit(checks):
             source.write_text(re.sub(r"(Method \([A-Z_]*, 1, .*\n)", rf"\g<1>{statement}\n", text), "ascii")
             source.with_suffix(".aml").unlink(missing_ok=True)
             checks.is_same(f"{source.name} with {statement}", compiled(source) is not None, holds)
+
+
+# A method that only Externals name, called where it is found by a search and by its path; one without arguments; a unit.
+EXTERNALS = (
+    b"\x15\\\x2E_SB_MPTS\x08\x01" + b"\x15\\\x2E_SB_MINI\x08\x00" + b"\x15\\UNIT\x05\x00"
+    + packed(b"\x10", b"\\_SB_" + packed(b"\x5B\x82", b"DEV0" + method(b"CALL", 0, b"\x5B\x12MPTS\0MPTS\x01\x70\x01UNIT")))
+    + method(b"MAIN", 0, b"\\\x2E_SB_MPTS\x01" + b"\\\x2E_SB_MINI" + b"\xA4UNIT")
+)  # fmt: skip
 
 
 def listed(folder, options=()):
@@ -729,6 +738,7 @@ def main():
             for version, files in board.VERSIONS.items():
                 added(checks, version, [Dump(file, None, data) for file, data in files.items()], ["--any-run"])
             added(checks, "of the demo", read_folder(DEMO), [])
+            added(checks, "of Externals", [Dump("dsdt.dat", None, table(b"DSDT", EXTERNALS))], [])
             check_edit(checks)
     print(f"{checks.passed} passed, {checks.failed} failed")
     sys.exit(checks.failed > 0)

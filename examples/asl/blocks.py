@@ -114,12 +114,13 @@ class Block:
                 self.lines[self.guard :] = [line[2:] for line in self.lines[self.guard + 1 : -1]]
             self.guard = None
 
-    def text(self, rows):
+    def text(self, rows, said):
         """The lines of the block in ASL. With Externals those of these rows stand at its end."""
         if not self.is_edited:
             return [self.head, *self.lines, "}"]
         names = self.names
-        return around(self.head, Externals(names.space, names.uses, names.own | names.externals.keys()), self.lines, rows)
+        externals = Externals(names, names.uses, names.own | names.externals.keys(), said)
+        return around(self.head, externals, self.lines, rows)
 
 
 def around(head, externals, lines, rows):
@@ -158,13 +159,13 @@ class Found:
         self.told, self.uses = block.told[self.told_at :], block.names.uses[self.uses_at :]
         del block.lines[self.at :]
 
-    def text(self, rows):
-        space, indent = self.block.names.space, len(self.lines[0]) - len(self.lines[0].lstrip(" ")) - 2
+    def text(self, rows, said):
+        names, indent = self.block.names, len(self.lines[0]) - len(self.lines[0].lstrip()) - 2
         # By its whole path the method needs no Scope around it.
         head = re.sub(r"Method \([^,]*", lambda _: f"Method ({self.node.path()}", self.lines[0])
         lines = [line[indent:] for line in (head, *self.lines[1:])]
-        above = Use(Scope(space.root, None), terms.Named(self.node.above.path()), self.number)
-        externals = Externals(space, [*self.uses, above], {self.node})
+        above = Use(Scope(names.space.root, None), terms.Named(self.node.above.path()), self.number)
+        externals = Externals(names, [*self.uses, above], {self.node}, said)
         return around(self.table.head('"SSDT"', self.block.tell), externals, lines, rows)
 
 

@@ -134,13 +134,13 @@ def of_method(named, called):
 class Externals:
     """The Externals of a text: `wanted` of what it uses and doesn't declare, which have to stand in front; `others` of all
     else that the rows of the listing have, so that iasl finds what is typed, and not what isn't there. `own` are the nodes
-    that the text declares itself."""
+    that the text declares itself, `said` what the Externals of the tables say of nodes."""
 
-    def __init__(self, space, uses, own):
-        self.space, self.own = space, own
+    def __init__(self, names, uses, own, said):
+        self.space, self.own, self.said = names.space, own, said
         self.counts = {}
         for use in uses:
-            node = meant(space, use.scope, use.named.name)
+            node = self.meant(use.scope, use.named.name)
             if node and self.is_other(node):
                 self.counts[node] = max(use.named.count, self.counts.get(node, 0))
 
@@ -148,27 +148,44 @@ class Externals:
         return node.above and node not in self.own and node.path() not in listing.PREDEFINED
 
     def wanted(self):
-        return [external(self.space, node, self.counts[node]) for node in sorted(self.counts, key=listing.Node.path)]
+        return [self.external(node, self.counts[node]) for node in sorted(self.counts, key=listing.Node.path)]
 
     def others(self, rows):
-        return [external(self.space, node, 0) for node in rows if node not in self.counts and self.is_other(node)]
+        return [self.external(node, 0) for node in rows if node not in self.counts and self.is_other(node)]
+
+    def meant(self, scope, name):
+        """The node that a name means: the nearest that is declared, else that of an External, else the root's; None where
+        that is the body's own."""
+        outside = None
+        for node in self.space.candidates(scope.node, name):
+            if scope.local and node in scope.local:
+                return None
+            if node.kind is not None:
+                return node
+            if outside is None and node in self.said:
+                outside = node
+        _, _, is_searched = self.space.start(scope.node, name)
+        return outside or self.space.place(self.space.root if is_searched else scope.node, name)
+
+    def external(self, node, count):
+        """The External of a node, which is used with so many arguments."""
+        kinds = self.space.kinds_of(node) if node.kind is not None else []
+        said = self.said.get(node)
+        if not kinds and said:
+            return terms.declared(node.path(), said.word, max(said.count, count if said.is_call else 0))
+        kind = kinds[0] if kinds else count or ""
+        if isinstance(kind, int):
+            return terms.declared(node.path(), "MethodObj", max(kind, count))
+        return terms.declared(node.path(), standard.OBJECT_OF.get(kind, "UnknownObj"))
 
 
-def meant(space, scope, name):
-    """The node that a name means: the nearest that is declared, else the root's; None where that is the body's own."""
-    for node in space.candidates(scope.node, name):
-        if scope.local and node in scope.local:
-            return None
-        if node.kind is not None:
-            return node
-    _, _, is_searched = space.start(scope.node, name)
-    return space.place(space.root if is_searched else scope.node, name)
-
-
-def external(space, node, count):
-    """The External of a node, which is used with so many arguments."""
-    kinds = space.kinds_of(node) if node.kind is not None else []
-    kind = kinds[0] if kinds else count or ""
-    if isinstance(kind, int):
-        return terms.declared(node.path(), "MethodObj", max(kind, count))
-    return terms.declared(node.path(), standard.OBJECT_OF.get(kind, "UnknownObj"))
+def said_by(blocks):
+    """What the Externals of all blocks say of nodes: the first of each, a method's with the most arguments."""
+    said = {}
+    for names in (block.names for block in blocks):
+        for node, lines in names.externals.items():
+            for named, _ in lines:
+                known = said.get(node)
+                if not known or named.is_call and (not known.is_call or named.count > known.count):
+                    said[node] = named
+    return said

@@ -13,6 +13,7 @@ OFF = {
     6080: "the value of a method that returns none",
     6105: "a predefined name of another type",
     6108: "a predefined name where none is wanted",
+    6114: "a value that nothing takes",
     6163: "a name that another method declares",
 }
 # Those that are turned off where the text isn't one to be changed.
@@ -28,7 +29,6 @@ OFF_UNCHANGED = {
     6084: "a name that nothing declares",
     6085: "a name that isn't found from its scope",
     6088: "a name of another method's",
-    6114: "a value that nothing takes",
     6117: "a Scope of what has none",
     6142: "a name in front of its declaration",
     6152: "a method that declares names and calls itself",

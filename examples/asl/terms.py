@@ -82,7 +82,7 @@ def external(text, tell):
     word = picked(standard.OBJECTS, kind, "an External of the type", tell)
     if count and word != "MethodObj":
         tell(f"an External of the type {word} with arguments")
-    return declared(plain(name, tell), word, count), [Named(name, count, is_call=word == "MethodObj")]
+    return declared(plain(name, tell), word, count), [Named(name, count, is_call=word == "MethodObj", word=word)]
 
 
 def declared(name, word, count=0):
@@ -92,12 +92,13 @@ def declared(name, word, count=0):
 
 
 class Named:
-    """A name on a line: how many arguments it has there, whether it is a value, and whether ASL has it as a call."""
+    """A name on a line: how many arguments it has there, whether it is a value, and whether ASL has it as a call; of an
+    External's the word of its type."""
 
-    __slots__ = ("name", "count", "is_value", "is_call")
+    __slots__ = ("name", "count", "is_value", "is_call", "word")
 
-    def __init__(self, name, count=0, is_value=False, is_call=False):
-        self.name, self.count, self.is_value, self.is_call = name, count, is_value, is_call
+    def __init__(self, name, count=0, is_value=False, is_call=False, word=""):
+        self.name, self.count, self.is_value, self.is_call, self.word = name, count, is_value, is_call, word
 
 
 class Bracket:
