@@ -41,6 +41,8 @@ DECLARERS = OPENERS | {
     "Name", "Method", "Mutex", "Event", "OperationRegion", "DataRegion", "Alias", "CreateField", "CreateDWordField",
     "CreateWordField", "CreateByteField", "CreateBitField", "CreateQWordField",
 }
+# Those that have other names too, before the one that they declare.
+NAMED_LAST = {"Alias"} | {word for word in DECLARERS if word.startswith("Create")}
 CONSTANTS = {"Byte", "Word", "Dword", "Qword", "Text"}
 PREDEFINED = {"_GPE": 0, "_PR_": 0, "_SB_": 0, "_SI_": 0, "_TZ_": 0, "_GL_": 0, "_OS_": 0, "_REV": 0, "_OSI": 1}
 

@@ -48,7 +48,7 @@ class Reader(aml.Reader):
 
     def __init__(self, code):
         super().__init__("", code, aml.Space(len(code)))
-        self.found, self.packages, self.named_at = {}, [], 0
+        self.found, self.packages = {}, []
 
     def operation(self, term, kinds, at, end, kind, level):
         scope, around = self.scope, len(self.packages)
@@ -57,7 +57,7 @@ class Reader(aml.Reader):
         lengths = list(self.packages)
         made, after = super().operation(term, kinds, at, end, kind, level)
         del self.packages[around:]
-        if kind == "R" and term.word in aml.DECLARERS and term.word not in ("Alias", *CREATORS):
+        if kind == "R" and term.word in aml.DECLARERS and term.word not in aml.NAMED_LAST:
             self.keep(term, kinds, at, after, scope, lengths)
         return made, after
 
@@ -67,9 +67,6 @@ class Reader(aml.Reader):
         node = self.space.place(scope, name)
         if node:
             self.found.setdefault(node.path(), []).append(Place(term.word, term.at, named, after, scope.path(), lengths))
-
-
-CREATORS = {word for word in aml.DECLARERS if word.startswith("Create")}
 
 
 def code_of(dump, file):

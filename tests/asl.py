@@ -314,7 +314,7 @@ def check_names(checks):
 
 
 def check_speed(checks):
-    """Time grows as the text: 1 MB in a second, and three for a machine that is busy."""
+    """Time grows as the text: 1 MB in three seconds, and four times the text in less than eight times that (its square: 16)."""
     block = text_with("Store (Add (FOO_ (0x12), Buffer (0x08) {01, 02, 03, 04, 05, 06, 07, 08}, Local0), BAR_)")
     head, _, body = block.partition('DefinitionBlock ("a.dat") {\n')
     times = []
@@ -324,7 +324,7 @@ def check_speed(checks):
         before = resource.getrusage(resource.RUSAGE_CHILDREN).ru_utime
         checks.run(ASL, "--edit", text, f"of{size}")
         times.append(resource.getrusage(resource.RUSAGE_CHILDREN).ru_utime - before)
-    checks.is_true(f"seconds of 1 MB and 4 MB: {times}", times[0] < 3 and times[1] < 5 * times[0])
+    checks.is_true(f"seconds of 1 MB and 4 MB: {times}", times[0] < 3 and times[1] < 8 * times[0])
 
 
 # Reads each text of a folder, and says what isn't taken for no listing.

@@ -5,8 +5,6 @@ import listing
 import standard
 import terms
 
-CREATORS = {word for word in aml.DECLARERS if word.startswith("Create")} | {"Alias"}
-
 
 class TooDeep(Exception):
     """A scope has more segments than this looks through."""
@@ -52,7 +50,7 @@ class Names:
         scope, node, names = self.open[-1], None, list(names)
         if names and word == "External":
             self.external(names.pop(), number)
-        elif names and word in CREATORS:
+        elif names and word in aml.NAMED_LAST:
             node = self.declare(names.pop().name)
         elif names and word in aml.DECLARERS:
             node = self.declare(names.pop(0).name)
