@@ -188,6 +188,7 @@ cat >commands/rt <<S
 #!/bin/sh
 name=\${PWD##*/}
 echo "begin \$name \$*" >>'$work/log'
+ps -o ni= \$\$ >>'$work/nices'
 sleep 0.2
 if [ "\$1" = run ]; then
     mkdir -p out
@@ -221,10 +222,16 @@ for width in 1 2 4; do
     is "crates below first, $width at a time" "$(order)" ''
     is "each crate once, $width at a time" "$(grep -c '^begin' log) $(grep -c 'acpidis: built ' printed)" '18 18'
 done
+is 'the seconds of each crate are kept' "$(cut -d ' ' -f 1 copy/out/seconds | wc -l)" 18
+is 'no crate gives way to all others' "$(sort -n nices | awk 'NR == 1 { least = $1 } END { print $1 - least }')" 3
 is 'the longest chain first' "$(grep -m 1 'acpidis: building [a-z_]* ' printed)" 'acpidis: building aml_names (1 of 18)'
 is 'the next of the longest chain beside three others, two jobs' "$(grep 'begin aml_names ' log)" 'begin aml_names lib --jobs 2'
 is 'a crate of a short chain, one job' "$(grep 'begin aml_pool' log)" 'begin aml_pool lib --jobs 1'
 is 'one crate, four processors' "$(grep 'begin acpidis_program' log | cut -d ' ' -f 3-5)" 'run --jobs 4'
+rm -rf copy/crates/acpidis_program/out
+echo 'text_writer 9000' >copy/out/seconds
+row 'a build by the times of the last one' 0 'acpidis: building text_writer (1 of 18)' \
+    env PATH="$path" RT_JOBS=1 copy/acpidis folder
 row 'a built program, without a kit' 0 'built|folder|' env PATH="$none" copy/acpidis folder
 row 'words go to the program' 0 'built|--wrong|a b||' env PATH="$none" copy/acpidis --wrong 'a b' ''
 where=$(cd copy && pwd -P)

@@ -22,7 +22,10 @@ further wrong body of one function stands in a copy of it, behind it, with a cop
 function of a cycle of calls have no copies: their wrong bodies are tried in different checks. What such checks don't refuse is
 tried with all bodies, and at last alone, as one is at once that stands in no function, over all functions of the crate. A table
 that one function alone names counts as a part of its body. One whose text can't be read is told so, and the others are tried
-without it. `rt must-fail CRATE` tries one after the other.
+without it.
+
+`rt must-fail CRATE` tries one after the other, each in a check of its own, 10 to 25 s long, so that 800 of them take
+hours. What this file adds to it is that alone: which bodies go together, and whose goal was refused.
 """
 
 import argparse
