@@ -37,8 +37,9 @@ prefix="$work/a prefix"
 said=$(umask 077 && PREFIX=$prefix sorted "$top/install")
 is 'what is said' "$said" "$(files "$prefix")"
 page=$prefix/share/man/man1/acpidis.1
-completion=$prefix/share/bash-completion/completions/acpidis
-for file in "$prefix/bin/acpidis" "$page" "$completion" "$prefix/share/doc/acpidis/refusals.md"; do
+shells="bash-completion/completions/acpidis zsh/site-functions/_acpidis fish/vendor_completions.d/acpidis.fish"
+for file in bin/acpidis share/man/man1/acpidis.1 $(printf 'share/%s ' $shells) share/doc/acpidis/refusals.md; do
+    file=$prefix/$file
     is "$file" "$(printf '%s\n' "$said" | grep -cxF -- "$file")" 1
 done
 program=$top/crates/acpidis_program
@@ -72,7 +73,7 @@ links() {
 is 'links of the pages' "$(links | while read -r name; do [ -z "$name" ] || [ -f "$docs/$name" ] || echo "$name"; done)" ''
 is 'links there are' "$(links | grep -cx 'README.md\|page.png\|figures.svg')" 3
 is 'all scripts are there' "$(cd "$prefix/share/acpidis" && find . -type f | sort)" \
-    "$(cd "$top/examples" && find . -type f ! -name '*.pyc' ! -name '*.bash' | sort)"
+    "$(cd "$top/examples" && find . -type f ! -name '*.pyc' ! -name 'acpidis.*' | sort)"
 is 'the page of a listing' "$("$prefix/bin/acpidis-page" "$program/stdout" 2>&1 | cksum)" \
     "$("$top/examples/page.py" "$program/stdout" | cksum)"
 is 'a second time' "$(PREFIX=$prefix sorted "$top/install")" "$said"
@@ -101,6 +102,24 @@ S
 chmod +x later
 is 'options of another help' "$(completed ./later -)" '--from --flag'
 is 'a file for one of them' "$(completed ./later --from fil)" file
+if command -v zsh >/dev/null; then
+    # shellcheck disable=SC2016 # zsh expands it
+    zsh -fc 'words=("$1"); _call_program() { shift; "$@" }; _arguments() { print -l -- "$@" }; . "$2"' - \
+        "$top/acpidis" "$top/examples/acpidis.zsh" >told
+    is 'the options for zsh' "$(grep -o -- '^--[a-z-]*' told | sort | tr '\n' ' ')" "$options"
+    is 'their values for zsh' "$(sed -n 's/^--\([a-z]*\).*\]:/\1 /p' told)" 'workers number:(1 2 4 8 16 32 64)
+externals file:_files'
+fi
+if command -v fish >/dev/null; then
+    # fish_completed LINE
+    fish_completed() {
+        PATH=$top:$PATH fish --no-config -c 'source $argv[1]; complete -C $argv[2]' "$top/examples/acpidis.fish" "$1" | cut -f 1 | tr '\n' ' '
+    }
+    is 'the options for fish' "$(fish_completed 'acpidis --' | tr ' ' '\n' | sort | tr '\n' ' ' | sed 's/^ //')" "$options"
+    is 'a folder for fish' "$(fish_completed 'acpidis f')" 'folder/ '
+    is 'a file for fish' "$(fish_completed 'acpidis --externals fi')" 'file '
+    is 'a number for fish' "$(fish_completed 'acpidis --workers 3')" '32 '
+fi
 rm -r folder file
 
 # links and folders in the way

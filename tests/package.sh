@@ -107,6 +107,7 @@ done
 rm "debian/usr/$docs/changelog.gz"
 gunzip debian/usr/share/man/man1/acpidis.1.gz
 sed -i 's|/usr/local/|/usr/|' installed/share/man/man1/acpidis.1
+mv installed/share/zsh/site-functions installed/share/zsh/vendor-completions
 is "Debian's package and ./install have the same" "$(diff -r installed debian/usr 2>&1)" ''
 
 # what they say that they are made of
