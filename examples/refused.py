@@ -34,7 +34,7 @@ OUT = "take the table out"
 HEADER_ALONE = "a header alone in its place lists the SSDTs (docs/refusals.md)"
 IASL = "`iasl -d` reads this table by itself, with guesses"
 ANY_RUN = "`--any-run` reads it, as whatever a run would declare"
-EXTERNALS = "`--externals FILE` with its count (docs/externals.md)"
+EXTERNALS = "`--externals FILE` with its count (docs/tables.md)"
 NO_COUNT = "take its count out of the file of `--externals`"
 
 # What a word says, and the ways on: for an SSDT, for a DSDT.

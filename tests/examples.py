@@ -287,7 +287,7 @@ def try_refused_runs(tries):
         "ZZZZ at dsdt.dat, offset 3, byte 39 of the file, in the scope \\, in If (ZZZZ)\n"
         "  read with 0 arguments; nothing tells how many it takes\n"
         "Outside the methods stands a name whose count nothing tells, or another at the end than before it.\n"
-        "Way on: `--externals FILE` with its count (docs/externals.md); or `--unknown-zero`, where nothing declares it and it"
+        "Way on: `--externals FILE` with its count (docs/tables.md); or `--unknown-zero`, where nothing declares it and it"
         " is no call; or a header alone in its place lists the SSDTs (docs/refusals.md)\n"
     )
     tries.row("a name that nothing tells of", tries.run("refused.py", "--any-run", "predicate"), 1, wanted)

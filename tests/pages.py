@@ -6,9 +6,9 @@
 A block that begins with ```console has commands behind `$ `, more lines of theirs behind `> `, and below what they
 print. They run in a folder with `mine`, the set of docs/listing.md, whose text is the first block of that page, with
 `boards`, the sets of tests/board.py, and with `examples`. `./acpidis` is the launcher. What README quotes from a
-source has to stand there, and README has at most 2,000 words. Each definition that docs/definitions.md names stands in
-the file that it names, each planted fault of docs/planted_faults.md in its crate, and each name of the sources' kind
-that a page marks as code stands in some source. Then the manual page is looked through by mandoc and groff, each where
+source has to stand there. README has at most 2,000 words, and docs no more pages and words than they may. Each link leads to a
+file, and to a heading of it. Each contract and definition that docs/work/proofs.md names stands in its crate, each wrong body
+of a file wrong-bodies.goals too, and each name of the sources' kind that a page marks as code stands in some source. Then the manual page is looked through by mandoc and groff, each where
 it is installed, and its options and README's are compared with the program's, its words and docs/refusals.md's with the
 sources'. Last, the scripts that the pages speak of are tried, but with --no-scripts. The last line is
 'N passed, N failed'.
@@ -26,14 +26,16 @@ from board import VERSIONS
 
 TOP = pathlib.Path(__file__).resolve().parent.parent
 LISTING = "docs/listing.md"
-PAGES = ["folders", "refusals", "externals", "any_run", "reading", "changing", "many", "facts"]
+PAGES = ["listing", "tables", "refusals", "any_run", "changing", "many", "facts"]
 MANUAL = "docs/acpidis.1"
 LINTS = [["mandoc", "-T", "lint"], ["groff", "-ww", "-man", "-z"]]
 REFUSALS = "docs/refusals.md"
 README = "README.md"
-DEFINITIONS = "docs/definitions.md"
-PLANTED = "docs/planted_faults.md"
+PROOFS = "docs/work/proofs.md"
+MEANING = "docs/meaning.md"
 MOST_WORDS = 2000
+# Of docs without meaning.md, which is made of the sources
+MOST_PAGES, MOST_WORDS_OF_PAGES = 15, 27000
 # What pages call a thing that no source names
 MADE_UP = {"draw_copy1", "Lts"}
 SCRIPTS = ["tests/meaning.py", "tests/survey.sh", "tests/install.sh", "tests/examples.py", "tests/library.sh"]
@@ -102,8 +104,8 @@ def commands_of(page):
 def checks_of(page):
     """What has to be run for a page, and what has to come."""
     if page == LISTING:
-        return [("./acpidis mine 2>/dev/null", block) for block in blocks_of(page, "")[:1]]
-    return commands_of(page)
+        yield from (("./acpidis mine 2>/dev/null", block) for block in blocks_of(page, "")[:1])
+    yield from commands_of(page)
 
 
 def fails_of(page):
@@ -149,30 +151,58 @@ def fails_of_readme():
     yield words > MOST_WORDS
 
 
-def words_in(text):
-    """The words that a page marks as code."""
-    return re.findall(r"`([\w.]+)`", text)
+def pages():
+    """All pages that are written by hand, and the installed README's neighbours among them."""
+    files = [TOP / README, TOP / "CONTRIBUTING.md", *TOP.glob("docs/**/*.md"), *TOP.glob("crates/*/README.md")]
+    return sorted(str(file.relative_to(TOP)) for file in files)
 
 
-def fails_of_definitions():
-    """Of each definition that the page names, whether it doesn't stand in one of the files that its line names."""
-    text = (TOP / DEFINITIONS).read_text()
-    parts = re.findall(r"^## `(\w+)`(.*?)(?=^## |\Z)", text, re.MULTILINE | re.DOTALL)
-    if not parts:
-        print(f"FAILED {DEFINITIONS}: it names no crate")
-        yield True
-    for crate, part in parts:
-        folder = TOP / "crates" / crate
-        for line in re.findall(r"^\| `.*$", part, re.MULTILINE):
-            names, _, files, _ = line.strip("| ").split(" | ")
-            there = [it for it in words_in(files.split("(")[0]) if (folder / f"specs/{it}.antt").exists()]
-            text = "".join((folder / f"specs/{it}.antt").read_text() for it in there)
-            text += "".join(it.read_text() for it in folder.glob("src/*.rt") if it.name in files)
-            form = r"^ *[a-z ]*\b{0}\b.* : |\bstruct {0}\b"
-            lacking = [it for it in words_in(names) if not re.search(form.format(it), text, re.MULTILINE)]
-            if lacking:
-                print(f"FAILED {DEFINITIONS}: {crate} has not in {files}: {', '.join(lacking)}")
-            yield bool(lacking)
+def prose_of(page):
+    """A page without its blocks of code."""
+    return re.sub(r"^ *```.*?^ *```$", "", (TOP / page).read_text(), flags=re.MULTILINE | re.DOTALL)
+
+
+def anchors_of(page):
+    """The anchors that the headings of a page have."""
+    headings = re.findall(r"^#+ (.*)$", prose_of(page), re.MULTILINE)
+    return {re.sub(r"[^\w\- ]", "", re.sub(r"\]\([^)]*\)", "", it).lower()).replace(" ", "-") for it in headings}
+
+
+def fails_of_links():
+    """Of each page, whether one of its links leads nowhere; and whether the pages are too many, or too long."""
+    for page in pages():
+        lost = []
+        for link in re.findall(r"\]\(([^)\s]*)\)", prose_of(page)):
+            name, _, anchor = link.partition("#")
+            file = os.path.relpath(os.path.normpath(TOP / pathlib.Path(page).parent / name), TOP) if name else page
+            if "://" not in link and (not (TOP / file).exists() or anchor and anchor not in anchors_of(file)):
+                lost.append(link)
+        if lost:
+            print(f"FAILED {page}: these lead nowhere: {', '.join(lost)}")
+        yield bool(lost)
+    own = [page for page in pages() if page.startswith("docs/") and page != MEANING]
+    words = sum(len((TOP / page).read_text().split()) for page in own)
+    if len(own) > MOST_PAGES or words > MOST_WORDS_OF_PAGES:
+        print(f"FAILED docs: {len(own)} pages with {words} words, and not {MOST_PAGES} with {MOST_WORDS_OF_PAGES} at most")
+    yield len(own) > MOST_PAGES or words > MOST_WORDS_OF_PAGES
+
+
+def fails_of_proofs():
+    """Of each crate, whether the page of proofs names a contract or a definition that isn't there."""
+    rows = re.findall(r"^\| (`\w+`(?:, `\w+`)*) \| (.*?) \| (.*?) \|(.*)\|$", (TOP / PROOFS).read_text(), re.MULTILINE)
+    rows = [(re.findall(r"\w+", crates), row) for crates, *row in rows if (TOP / "crates" / re.search(r"\w+", crates)[0]).is_dir()]
+    if len(rows) < 10:
+        print(f"FAILED {PROOFS}: it names no crate")
+    yield len(rows) < 10
+    for crates, (_, contracts, definitions) in rows:
+        files = [file for crate in crates for kind in ("src/**/*.rt", "specs/*.antt", "proofs/*.antt") for file in (TOP / "crates" / crate).glob(kind)]
+        text = "\n".join(file.read_text() for file in files)
+        names = [name.split("::")[-1] for name in re.findall(r"`([\w:]+)`", contracts + definitions)]
+        form = r"^ *[a-z ()]*\b{0}\b.*?(?: : |[(<])|\b(?:struct|enum|trait|fn|impl) {0}\b|\b{0} for\b"
+        lacking = [name for name in names if not re.search(form.format(name), text, re.MULTILINE)]
+        if lacking:
+            print(f"FAILED {PROOFS}: {', '.join(crates)} has not {', '.join(lacking)}")
+        yield bool(lacking)
 
 
 def words_of_sources():
@@ -186,8 +216,8 @@ def words_of_sources():
 def fails_of_names():
     """Of each page, whether it marks as code a name of several words that no source has."""
     known = words_of_sources() | MADE_UP
-    for page in [README, *(f"docs/{it.name}" for it in sorted((TOP / "docs").glob("*.md")))]:
-        text = re.sub(r"^```.*?^```$", "", (TOP / page).read_text(), flags=re.MULTILINE | re.DOTALL)
+    for page in pages():
+        text = prose_of(page)
         names = [it for it in re.findall(r"`([A-Za-z_]\w*(?:(?:::|\.)\w+)*)`", text) if re.search(r"[a-z]_[a-z]|[A-Z][a-z]", it)]
         stale = {it for it in names for word in re.findall(r"\w+", it) if word not in known}
         if stale:
@@ -195,15 +225,14 @@ def fails_of_names():
         yield bool(stale)
 
 
-def fails_of_planted():
-    """Of each crate, whether the page of the planted faults has one that isn't there."""
-    for crate, part in re.findall(r"^## `(\w+)`\n\n```\n(.*?)^```$", (TOP / PLANTED).read_text(), re.MULTILINE | re.DOTALL):
-        folder = TOP / "crates" / crate
-        there = [it.stem for it in folder.glob("must-fail/*.edit")]
-        there += [name for it in folder.glob("*.edits") for name in re.findall(r"^edit: (\w+)", it.read_text(), re.MULTILINE)]
-        lost = [line.split()[0] for line in part.splitlines() if line.split()[0] not in there]
+def fails_of_goals():
+    """Of each crate, whether the list of goals has a wrong body that isn't there."""
+    for goals in sorted(TOP.glob("crates/*/wrong-bodies.goals")):
+        there = [it.stem for it in goals.parent.glob("must-fail/*.edit")]
+        there += re.findall(r"^edit: (\w+)", (goals.parent / "wrong-bodies.edits").read_text(), re.MULTILINE)
+        lost = [line.split()[0] for line in goals.read_text().splitlines() if line[0] != "#" and line.split()[0] not in there]
         if lost:
-            print(f"FAILED {PLANTED}: {crate} has not {', '.join(lost)}")
+            print(f"FAILED {goals.relative_to(TOP)}: {', '.join(lost)} isn't there")
         yield bool(lost)
 
 
@@ -261,8 +290,9 @@ def fails_of_scripts():
 
 
 def main():
-    fails = [fail for page in [LISTING, *(f"docs/{name}.md" for name in PAGES)] for fail in fails_of(page)]
-    fails += [*fails_of_readme(), *fails_of_definitions(), *fails_of_names(), *fails_of_planted(), *fails_of_manual(), *fails_of_words()]
+    fails = [fail for name in PAGES for fail in fails_of(f"docs/{name}.md")]
+    fails += [*fails_of_readme(), *fails_of_links(), *fails_of_proofs(), *fails_of_names(), *fails_of_goals()]
+    fails += [*fails_of_manual(), *fails_of_words()]
     if "--no-scripts" not in sys.argv:
         fails += fails_of_scripts()
     print(f"{fails.count(False)} passed, {fails.count(True)} failed")

@@ -55,7 +55,7 @@ RULES = {
 EMPTY_PAGES = {
     "docs/listing.md": "it has no command",
     "docs/refusals.md": "it has no command",
-    "docs/definitions.md": "it names no crate",
+    "docs/work/proofs.md": "it names no crate",
     "docs/acpidis.1": "FAILED words of the manual",
 }
 COMPILERS = {"cc", "gcc", "clang", "c89", "c99"}

@@ -1,4 +1,4 @@
-"""What each name of a listing means, after docs/names.md, loading.md and any_run.md, and where each path is used."""
+"""What each name of a listing means, after docs/names.md and any_run.md, and where each path is used."""
 
 from __future__ import annotations
 

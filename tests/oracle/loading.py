@@ -1,4 +1,4 @@
-"""The namespace of several tables after docs/loading.md and docs/names.md, and the bodies of their methods."""
+"""The namespace of several tables after docs/names.md, and the bodies of their methods."""
 
 from dataclasses import dataclass
 
