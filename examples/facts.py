@@ -184,28 +184,29 @@ class Lines:
 
 
 class Facts:
-    """Numbers the rows of all machines, and hands them on. Code that machines share is kept once: `codes` has its row, or
-    why there is none, by its sum."""
+    """Numbers the rows of all machines, and hands them on. Code that machines share is kept once, with the lines of the first
+    one's text: `codes` has its row, or why there is none, and how many lines stand above it there, by its sum."""
 
     def __init__(self, sink: Database | Lines):
         self.sink = sink
         self.bases = dict.fromkeys(COLUMNS, 0)
-        self.codes: dict[str, tuple[int | None, str]] = {}
+        self.codes: dict[str, tuple[int | None, str, int]] = {}
         self.lacking = 0
 
-    def add_code(self, code_sum: str, fault: str, rows: dict[str, list[list]]) -> None:
+    def add_code(self, code_sum: str, above: int, fault: str, rows: dict[str, list[list]]) -> None:
         numbered = {table: shifted(rows.get(table, []), table, self.bases) for table in ("code", *OF_CODE)} if rows else {}
         for table, found in numbered.items():
             self.sink.add(table, found)
             self.bases[table] += len(found)
-        self.codes[code_sum] = (self.bases["code"] if rows else None), fault
+        self.codes[code_sum] = (self.bases["code"] if rows else None), fault, above
 
     def add_machine(self, machine: Machine, code_sum: str) -> str:
         """Answers why the machine has no facts."""
-        code, fault = self.codes[code_sum] if code_sum else (None, machine.fault)
+        code, fault, above = self.codes[code_sum] if code_sum else (None, machine.fault, 0)
+        shift = machine.above - above if code else None
         self.bases["machine"] += 1
         number, before = self.bases["machine"], self.bases["acpi_table"]
-        self.sink.add("machine", [[number, machine.name, code, machine.above, fault or None]])
+        self.sink.add("machine", [[number, machine.name, code, shift, fault or None]])
         self.sink.add("acpi_table", [[before + place, number, *row] for place, row in enumerate(machine.tables, 1)])
         records = enumerate(machine.records, self.bases["record"] + 1)
         self.sink.add("record", [[place, before + table, *row] for place, (table, *row) in records])
@@ -297,7 +298,7 @@ def add_all(facts: Facts, machines: Iterator[Machine], jobs: int) -> str:
 
 def add_next(facts: Facts, machine: Machine, code_sum: str, future: concurrent.futures.Future | None) -> str:
     if future:
-        facts.add_code(code_sum, *outcome(machine, future))
+        facts.add_code(code_sum, machine.above, *outcome(machine, future))
     return facts.add_machine(machine, code_sum)
 
 

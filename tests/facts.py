@@ -270,8 +270,8 @@ def check_set(checks: Checks, what: str, folder: pathlib.Path, options: Options)
 
 
 def wrong_lines(read: Read, out: str) -> list:
-    """The uses whose line of the text, from its namespace on, doesn't have their name."""
-    lines = out[out.index("\nNamespace ") + 1:].splitlines()
+    """The uses whose line of the text doesn't have their name."""
+    lines = out.splitlines()
     return [row for row in read.of("use") if row["text"] not in lines[row["line"] - 1]]
 
 
@@ -311,7 +311,7 @@ def check_many(checks: Checks, room: pathlib.Path) -> None:
     """Machines with one code, and machines without facts."""
     first = VERSIONS["first"]
     sets = {"rack/a": first, "rack/b": {**first, "dmar.dat": first["dmar.dat"][:-1] + b"\7"}, "none": {"notes": b"no table"}}
-    sets["rack/b"]["dmar.dat"] = table(b"DMAR", b"BOARD", b"\7\7")
+    sets["rack/b"] |= {"dmar.dat": table(b"DMAR", b"BOARD", b"\7\7"), "more.dat": table(b"MORE", b"BOARD", b"")}
     texts = written_texts(room, {**sets, "second": VERSIONS["second"]})
     (texts / "cut").mkdir()
     lines = (texts / "second/text").read_text().splitlines(keepends=True)
@@ -325,6 +325,8 @@ def check_many(checks: Checks, room: pathlib.Path) -> None:
     ]
     machines = rows_of(room / "facts", "SELECT name, code, fault FROM machine ORDER BY name")
     checks.is_same("the machines", machines, wanted)
+    shifts = rows_of(room / "facts", "SELECT name, shift FROM machine WHERE code = 1 ORDER BY name")
+    checks.is_same("lines of another machine", shifts, [("rack/a", 0), ("rack/b", 1)])
     sql = "SELECT signature, length, oem_table, is_sum_right, load_order FROM acpi_table WHERE machine = 3"
     tables = rows_of(room / "facts", sql)
     wanted = [("DMAR", 38, "BOARD   ", 1, None), ("DSDT", 460, "BOARD   ", 1, 1), ("SSDT", 74, "DbgPort ", 1, 2)]

@@ -134,10 +134,6 @@ class Collector:
         for row, anchor in self.waiting:
             row[FIELD_REGION] = self.field_regions.get(anchor)
         self.add_constants()
-        for row in (row for table in self.rows for row in self.rows[table]):
-            # The line is the last column, and the lines above the namespace aren't the code's.
-            if row[-1] is not None:
-                row[-1] -= self.listing.above
         return self.rows
 
     def add(self, table: str, *values: object) -> int:
