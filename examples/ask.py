@@ -1,4 +1,4 @@
-#!/usr/bin/env python3
+#!/usr/bin/env -S python3 -B
 """Asks a file of facts by SQL, as sqlite3 does where that is installed.
 
     examples/ask.py FACTS SQL
@@ -7,12 +7,11 @@ FACTS is what examples/facts.py made; it is only read. SQL is one question, or `
 line has the names of the columns, the others the rows, with tabs between the values. docs/facts.md has the tables.
 """
 
-import argparse
 import pathlib
 import sqlite3
 import sys
 
-import output
+from acpidis_tools import command
 
 
 def shown(value):
@@ -22,7 +21,7 @@ def shown(value):
 
 
 def main():
-    words = argparse.ArgumentParser(description=__doc__, formatter_class=argparse.RawDescriptionHelpFormatter)
+    words = command.parser(__doc__)
     words.add_argument("facts", metavar="FACTS")
     words.add_argument("sql", metavar="SQL")
     asked = words.parse_args()
@@ -39,4 +38,4 @@ def main():
 
 
 if __name__ == "__main__":
-    output.run("ask", main)
+    command.run("ask", main)

@@ -1,4 +1,4 @@
-#!/usr/bin/env python3
+#!/usr/bin/env -S python3 -B
 """Makes ASL of a listing of acpidis, which iasl compiles to the same AML.
 
     examples/asl.py [--edit | --method PATH] [--tables FOLDER] LISTING OUT
@@ -17,22 +17,15 @@ Status 1 is a text that is no listing, or that hasn't got the method: then nothi
 fault, or a file that can't be read or written.
 """
 
-import argparse
 import os
-import pathlib
 import re
 import shlex
 import sys
 
-sys.dont_write_bytecode = True
-sys.path.insert(0, str(pathlib.Path(__file__).resolve().parent / "asl"))
-
-import forms  # noqa: E402
-import output  # noqa: E402
-import paths  # noqa: E402
-import standard  # noqa: E402
-from blocks import Block, MethodBlock, Reader, Refused, read  # noqa: E402
-from names import said_by  # noqa: E402
+from acpidis_tools import command
+from acpidis_tools.asl import forms, language
+from acpidis_tools.asl.blocks import Block, MethodBlock, Reader, Refused, read
+from acpidis_tools.asl.names import said_by
 
 TOLD = 3
 # What all blocks together have no more Externals than, of what they don't use.
@@ -77,7 +70,7 @@ def files_of(made):
 
 def head(file, is_edited):
     """The command that compiles a file, and a word on each message that it turns off."""
-    off = standard.OFF if is_edited else dict(sorted({**standard.OFF, **standard.OFF_UNCHANGED}.items()))
+    off = language.OFF if is_edited else dict(sorted({**language.OFF, **language.OFF_UNCHANGED}.items()))
     words = ["iasl", "-oa", "-of", *([] if is_edited else ["-oE"]), *(f"-vw {number}" for number in off), shlex.quote(file)]
     yield f"// {' '.join(words)}"
     yield "// iasl doesn't ask about"
@@ -91,10 +84,10 @@ def write(folder, made, is_edited):
     files = [os.path.join(folder, file) for file in files_of(made)]
     there = next((file for file in files if is_edited and os.path.lexists(file)), None)
     if there:
-        output.leave(f"asl: {there!r} is there, and may have been changed: remove it, or name another folder")
+        command.leave(f"asl: {there!r} is there, and may have been changed: remove it, or name another folder")
     for it, file in zip(made, files):
         lines = "".join(f"{line}\n" for line in (*head(os.path.basename(file), is_edited), *it.lines))
-        output.write(file, lines.encode("ascii"))
+        command.write(file, lines.encode("ascii"))
 
 
 def tell(made, more):
@@ -106,10 +99,10 @@ def tell(made, more):
 
 
 def main():
-    words = argparse.ArgumentParser(description=__doc__, formatter_class=argparse.RawDescriptionHelpFormatter)
+    words = command.parser(__doc__)
     kinds = words.add_mutually_exclusive_group()
     kinds.add_argument("--edit", action="store_true")
-    kinds.add_argument("--method", metavar="PATH", type=paths.path_of)
+    kinds.add_argument("--method", metavar="PATH", type=command.path_of)
     words.add_argument("--tables", metavar="FOLDER")
     words.add_argument("listing", metavar="LISTING")
     words.add_argument("out", metavar="OUT")
@@ -121,12 +114,12 @@ def main():
     except Refused as fault:
         sys.exit(f"asl: {asked.listing!r}: {fault}")
     except forms.Misfit as fault:
-        output.leave(f"asl: {fault}")
+        command.leave(f"asl: {fault}")
     except OSError as fault:
-        output.leave(f"asl: {fault.filename!r}: {fault.strerror}")
+        command.leave(f"asl: {fault.filename!r}: {fault.strerror}")
     if tell(made, more):
         sys.exit(TOLD)
 
 
 if __name__ == "__main__":
-    output.run("asl", main)
+    command.run("asl", main)

@@ -1,4 +1,4 @@
-#!/usr/bin/env python3
+#!/usr/bin/env -S python3 -B
 """Lists the names of methods with arguments that stand where this reader gives a name none.
 
     python3 examples/calls.py [OPTION..] FOLDER
@@ -17,19 +17,15 @@ at fault.
 import re
 import sys
 
-import aml
-import listing
-import output
-import passing
+from acpidis_tools import aml, command, running
 
 SHOWN = 100
 # The operators that may take a method, and none of its values.
 OF_METHODS = ("CondRefOf", "ObjectType", "RefOf")
 COUNT = re.compile(r"(\\\S*) ([0-7])\n?")
-EXTERNAL = re.compile(rf"External \(({listing.NAME.pattern}), \S+, (Zero|One|0x0[0-7])\)")
-NUMBERS = {"Zero": 0, "One": 1}
+EXTERNAL = re.compile(rf"External \(({running.NAME.pattern}), \S+, (Zero|One|0x0[0-7])\)")
 # The positions of each operator that take a target or an object.
-PLACES = {word: [at for at, kind in enumerate(kinds.lstrip("P")) if kind == "S"] for word, kinds in aml.ROWS.values()}
+PLACES = {word: [at for at, kind in enumerate(kinds) if kind == "S"] for word, kinds in aml.PARTS.items()}
 # The name that a term of a body declares, a field's unit among them.
 DECLARED = re.compile(
     r"(?:Name|Mutex|Event|OperationRegion|DataRegion) \(([^\s,)]+)|(?:Create\w*Field|Alias) \(.*, ([^\s,)]+)\)"
@@ -40,7 +36,7 @@ DECLARED = re.compile(
 def targets(line):
     """The names in a line that stand as targets or objects, each with its operator."""
     stack, word = [("", 0)], ""
-    for token in listing.TOKEN.findall(line):
+    for token in running.TOKEN.findall(line):
         operator, place = stack[-1]
         if token in "({":
             stack.append((word if token == "(" else "", 0))
@@ -48,7 +44,7 @@ def targets(line):
             stack.pop()
         elif token == ",":
             stack[-1] = operator, place + 1
-        elif place in PLACES.get(operator, ()) and listing.NAME.fullmatch(token):
+        elif place in PLACES.get(operator, ()) and running.NAME.fullmatch(token):
             yield operator, token
         word = token
 
@@ -58,7 +54,7 @@ def add_externals(lines, namespace):
         form = EXTERNAL.fullmatch(line)
         if form:
             node = namespace.place(scope, form[1])
-            node.count = max(NUMBERS[form[4]] if form[4] in NUMBERS else int(form[4], 16), node.count or 0)
+            node.count = max(aml.SMALL[form[4]] if form[4] in aml.SMALL else int(form[4], 16), node.count or 0)
 
 
 def calls(text):
@@ -70,7 +66,7 @@ def calls(text):
             own, own_of = set(), method
         for operator, name in targets(line):
             counts = [kind for kind in text.namespace.may_be(scope, name, own) if isinstance(kind, int)]
-            if any(counts) and (operator not in OF_METHODS or listing.is_lone(behind, scope_behind, text.namespace)):
+            if any(counts) and (operator not in OF_METHODS or running.is_lone(behind, scope_behind, text.namespace)):
                 yield scope.path(), name, max(counts), operator, line
         declared = DECLARED.match(line) if method else None
         if declared:
@@ -82,17 +78,17 @@ def add_given(file, namespace):
     with open(file, encoding="ascii") as opened:
         for number, line in enumerate(opened, 1):
             form = COUNT.fullmatch(line)
-            if not form or not listing.NAME.fullmatch(form[1]):
-                raise listing.Unusable(f"line {number} of {file} isn't a path and a count")
+            if not form or not running.NAME.fullmatch(form[1]):
+                raise running.Unusable(f"line {number} of {file} isn't a path and a count")
             node = namespace.node(form[1])
             if node.count is None:
                 node.count = int(form[2])
 
 
 def listing_of(asked):
-    run = listing.run([listing.program(), *passing.words_of(asked.options), "--", asked.folder])
+    run = running.run([running.program(), *command.words_of(asked.options), "--", asked.folder])
     if run.refused:
-        raise listing.Refused(run.refused)
+        raise running.Refused(run.refused)
     add_externals(run.listing.lines, run.listing.namespace)
     if "--externals" in asked.options:
         add_given(asked.options["--externals"], run.listing.namespace)
@@ -100,13 +96,13 @@ def listing_of(asked):
 
 
 def main():
-    words = passing.parser(__doc__)
+    words = command.folder_parser(__doc__)
     try:
-        run = listing_of(passing.parse(words))
-    except listing.Refused as fault:
+        run = listing_of(command.parse(words))
+    except running.Refused as fault:
         print(f"calls: the set is refused: {fault}", file=sys.stderr)
         sys.exit(1)
-    except (listing.Unusable, OSError, ValueError) as fault:
+    except (running.Unusable, OSError, ValueError) as fault:
         print(f"calls: {fault}", file=sys.stderr)
         sys.exit(2)
     found = list(calls(run.listing))
@@ -119,4 +115,4 @@ def main():
 
 
 if __name__ == "__main__":
-    output.run("calls", main)
+    command.run("calls", main)

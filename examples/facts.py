@@ -1,4 +1,4 @@
-#!/usr/bin/env python3
+#!/usr/bin/env -S python3 -B
 """Makes facts of listings of acpidis, to be asked by SQL: names, uses, regions, fields, resources and more.
 
     examples/facts.py [--errors FILE] [--dumps FOLDER] LISTING FACTS
@@ -31,15 +31,12 @@ from collections import deque
 from collections.abc import Callable, Iterator
 from concurrent.futures.process import BrokenProcessPool
 
-sys.dont_write_bytecode = True
-sys.path.insert(0, str(pathlib.Path(__file__).resolve().parent / "page"))
-
-import output  # noqa: E402
-from collecting import Collector, record_rows, table_rows  # noqa: E402
-from errors import Fault, read_errors  # noqa: E402
-from listing import Dump, Listing, NoListing, read_dumps, read_listing  # noqa: E402
-from names import Names  # noqa: E402
-from schema import COLUMNS, INDEXES, OF_CODE, SCHEMA, insertion, shifted  # noqa: E402
+from acpidis_tools import command
+from acpidis_tools.collecting import Collector, record_rows, table_rows
+from acpidis_tools.errors import Fault, read_errors
+from acpidis_tools.listing import Dump, Listing, NoListing, read_dumps, read_listing
+from acpidis_tools.names import Names
+from acpidis_tools.schema import COLUMNS, INDEXES, OF_CODE, SCHEMA, insertion, shifted
 
 # A line takes half a kilobyte of memory.
 MOST_BYTES, MOST_LINES = 256_000_000, 1_000_000
@@ -323,7 +320,7 @@ def outcome(machine: Machine, future: concurrent.futures.Future) -> tuple[str, d
 
 
 def arguments() -> argparse.Namespace:
-    words = argparse.ArgumentParser(description=__doc__, formatter_class=argparse.RawDescriptionHelpFormatter)
+    words = command.parser(__doc__)
     words.add_argument("listing", metavar="LISTING|TEXTS")
     words.add_argument("facts", metavar="FACTS", nargs="?")
     words.add_argument("--json", action="store_true", help="lines of JSON on standard output in place of FACTS")
@@ -346,7 +343,7 @@ def main() -> None:
         facts.sink.close()
     except sqlite3.Error as error:
         print(f"facts: cannot write {asked.facts!r}: {error}", file=sys.stderr)
-        sys.exit(output.AT_FAULT)
+        sys.exit(command.AT_FAULT)
     finally:
         if asked.facts:
             pathlib.Path(f"{asked.facts}.part").unlink(missing_ok=True)
@@ -360,4 +357,4 @@ def main() -> None:
 
 
 if __name__ == "__main__":
-    output.run("facts", main)
+    command.run("facts", main)

@@ -1,4 +1,4 @@
-#!/usr/bin/env python3
+#!/usr/bin/env -S python3 -B
 """Names what the bodies of a set wait for: the names that no table declares, each as a line for --externals.
 
     python3 examples/missing.py [--try] [OPTION..] FOLDER >counts
@@ -19,16 +19,14 @@ import re
 import sys
 import tempfile
 
-import listing
-import output
-import passing
+from acpidis_tools import command, paths, running
 
 COUNTS = range(8)
 MOST_NAMES = 1000
 MOST_PASSES = 3
 MOST_RUNS = 1000
-SEGMENT = re.compile(listing.SEGMENT)
-ANYWHERE = re.compile(rf"(?=({listing.SEGMENT}))".encode())
+SEGMENT = re.compile(running.SEGMENT)
+ANYWHERE = re.compile(rf"(?=({running.SEGMENT}))".encode())
 OUTSIDE = re.compile(r'table "[^"]*": ModuleCall (\\\S+)')
 NAME = re.compile(rb"(\\|\^*)(?:\x2e(.{8})|\x2f(.)|([A-Z_][A-Z0-9_]{3})|\x00)", re.DOTALL)
 
@@ -45,17 +43,17 @@ class Body:
         """The path of the name at the fault, as a line for --externals wants it; None where it leads above the root."""
         prefix, segments = name_at(self.raw, self.at)
         if prefix == "" and len(segments) == 1:
-            return listing.joined(segments)  # looked for in every scope above: the root's is found from each
-        scope = [] if prefix == "\\" else listing.parts(self.path)
+            return paths.joined(segments)  # looked for in every scope above: the root's is found from each
+        scope = [] if prefix == "\\" else paths.parts(self.path)
         left = len(scope) - prefix.count("^")
-        return listing.joined(scope[:left] + segments) if left >= 0 else None
+        return paths.joined(scope[:left] + segments) if left >= 0 else None
 
 
 def name_at(raw, at):
     """The prefix and the segments of the name that stands there."""
     form = NAME.match(raw, at)
     if not form:
-        raise listing.Unusable(f"no name stands at {at} of a body that wants one: is this another version of acpidis?")
+        raise running.Unusable(f"no name stands at {at} of a body that wants one: is this another version of acpidis?")
     path = form[2] or form[4] or b""
     if form[3]:
         path = raw[form.end() : form.end() + 4 * form[3][0]]
@@ -115,7 +113,7 @@ class Search:
     def run(self, counts, more=()):
         self.runs += 1
         if self.runs > MOST_RUNS:
-            raise listing.Unusable(
+            raise running.Unusable(
                 f"more than {MOST_RUNS} runs are wanted: the {len(self.counts)} names that are met so far stand in the same"
                 " bodies; give what you know by --externals"
             )
@@ -123,7 +121,7 @@ class Search:
             file.write(self.given)
             file.writelines(f"{path} {count}\n" for path, count in counts.items())
             file.flush()
-            return listing.run([self.program, *self.options, *more, "--externals", file.name, "--", self.folder])
+            return running.run([self.program, *self.options, *more, "--externals", file.name, "--", self.folder])
 
     def trials(self, names, more=()):
         """What comes of each count of some names, with the others as they are: eight trials for each name."""
@@ -151,11 +149,11 @@ class Search:
             bodies = [] if run.refused else bodies_of(run)
             found = self.found_outside(run.refused) if run.refused else self.found_in(bodies)
             if run.refused and not found:
-                raise listing.Refused(run.refused)
+                raise running.Refused(run.refused)
             if not found:
                 return bodies
             if len(self.counts) + len(found) > MOST_NAMES:
-                raise listing.Unusable(f"more than {MOST_NAMES} names are missing: a table is, more likely")
+                raise running.Unusable(f"more than {MOST_NAMES} names are missing: a table is, more likely")
             if not run.refused and "--any-run" in self.options:
                 self.outside = segments_outside(run.listing)
             self.waiting.update(found)
@@ -170,7 +168,7 @@ class Search:
         bodies_with = bodies_by_segment(self.waiting)
         groups, taken, alone = [], [], []
         for name in names:
-            segment = listing.parts(name)[-1]
+            segment = paths.parts(name)[-1]
             bodies = bodies_with.get(segment.encode(), set()) | {body.number for body in self.waiting[name]}
             if not self.waiting[name] or segment in self.outside:
                 alone.append([name])  # its count may change how the tables themselves are read
@@ -314,27 +312,27 @@ def search_of(asked):
             given = file.read()
     if given and not given.endswith("\n"):
         given += "\n"
-    return Search(listing.program(), asked.folder, passing.words_of(asked.options), given)
+    return Search(running.program(), asked.folder, command.words_of(asked.options), given)
 
 
 def main():
-    words = passing.parser(__doc__, "[--try] [--externals FILE] ")
+    words = command.folder_parser(__doc__, "[--try] [--externals FILE] ")
     words.add_argument("--try", action="store_true", dest="must_be_one", help="lines only where just one count reads")
     words.add_argument("--externals", metavar="FILE", help="counts that are known already")
     try:
         # With --unknown-zero no body waits for a name.
-        asked = passing.parse(words, ("--externals", "--unknown-zero"))
+        asked = command.parse(words, ("--externals", "--unknown-zero"))
         search = search_of(asked)
         left = search.go()
         show(search, asked.must_be_one)
         say_left(left)
-    except listing.Refused as fault:
+    except running.Refused as fault:
         print(f"missing: the set is refused: {fault}", file=sys.stderr)
         sys.exit(1)
-    except (listing.Unusable, OSError, ValueError) as fault:
+    except (running.Unusable, OSError, ValueError) as fault:
         print(f"missing: {fault}", file=sys.stderr)
         sys.exit(2)
 
 
 if __name__ == "__main__":
-    output.run("missing", main)
+    command.run("missing", main)

@@ -1,4 +1,4 @@
-#!/usr/bin/env python3
+#!/usr/bin/env -S python3 -B
 """Makes one HTML page of a listing of acpidis, to be looked at in a browser.
 
     examples/page.py [--errors FILE] [--compare OTHER] [--name NAME] [--only WHAT] LISTING >page.html
@@ -20,17 +20,14 @@ import sys
 from collections.abc import Callable
 from typing import TypeVar
 
-sys.dont_write_bytecode = True
-sys.path.insert(0, str(pathlib.Path(__file__).resolve().parent / "page"))
-
-import output  # noqa: E402
-from comparison import compare  # noqa: E402
-from decoding import Decoder  # noqa: E402
-from errors import read_errors  # noqa: E402
-from listing import NoListing, read_listing  # noqa: E402
-from markup import page  # noqa: E402
-from names import Names  # noqa: E402
-from sheet import LONG_TEXT, Sheet  # noqa: E402
+from acpidis_tools import command
+from acpidis_tools.comparison import compare
+from acpidis_tools.decoding import Decoder
+from acpidis_tools.errors import read_errors
+from acpidis_tools.listing import NoListing, read_listing
+from acpidis_tools.names import Names
+from acpidis_tools.page.markup import page
+from acpidis_tools.page.sheet import LONG_TEXT, Sheet
 
 # A browser opens the page of the first in some seconds. The second can be read, for a part of it.
 MOST_BYTES, MOST_TO_READ = 20_000_000, 256_000_000
@@ -90,7 +87,7 @@ def sheet_of(asked: argparse.Namespace) -> Sheet:
 
 
 def main() -> None:
-    words = argparse.ArgumentParser(description=__doc__, formatter_class=argparse.RawDescriptionHelpFormatter)
+    words = command.parser(__doc__)
     words.add_argument("listing", metavar="LISTING")
     words.add_argument("--errors", metavar="FILE")
     words.add_argument("--compare", metavar="OTHER")
@@ -100,4 +97,4 @@ def main() -> None:
 
 
 if __name__ == "__main__":
-    output.run("page", main)
+    command.run("page", main)

@@ -1,4 +1,4 @@
-#!/usr/bin/env python3
+#!/usr/bin/env -S python3 -B
 """Says what stands where a set is refused: the term, its scope, both declarations or who wants a name; and the way on.
 
     python3 examples/refused.py [OPTION..] FOLDER
@@ -17,10 +17,7 @@ import subprocess
 import sys
 import tempfile
 
-import aml
-import listing
-import output
-import passing
+from acpidis_tools import aml, command, running
 
 HEADER, MOST_BYTES, SHOWN_BYTES, MOST_SHOWN = 36, 16_777_216, 16, 5
 BLOCKS = (b"DSDT", b"SSDT")
@@ -127,11 +124,11 @@ def refusal_of(program, options, folder):
         done = subprocess.run(words, stdin=subprocess.DEVNULL, capture_output=True, check=False)
         said = done.stderr.decode(errors="surrogateescape").splitlines()
     except (OSError, ValueError) as fault:
-        raise listing.Unusable(f"cannot run {program}: {fault}") from fault
+        raise running.Unusable(f"cannot run {program}: {fault}") from fault
     if done.returncode == 1 and len(said) == 1:
         return Refusal(said[0])
     if done.returncode not in (0, 3):
-        raise listing.Unusable(f"{program} ended with status {done.returncode}: {' '.join(said[:1])}")
+        raise running.Unusable(f"{program} ended with status {done.returncode}: {' '.join(said[:1])}")
     return None
 
 
@@ -411,22 +408,22 @@ def say_all(asked, program, refusal):
 
 def say(asked):
     """The lines to print, and the status."""
-    program = listing.program()
-    refusal = refusal_of(program, passing.words_of(asked.options), asked.folder)
+    program = running.program()
+    refusal = refusal_of(program, command.words_of(asked.options), asked.folder)
     if refusal is None:
         return ["the set isn't refused"], 0
     asked.any_run, asked.externals = "--any-run" in asked.options, asked.options.get("--externals")
-    asked.has_any_run = "--any-run" in passing.known()
+    asked.has_any_run = "--any-run" in command.known()
     return list(say_all(asked, program, refusal)), 1
 
 
 def main():
-    words = passing.parser(__doc__)
+    words = command.folder_parser(__doc__)
     sys.stdout.reconfigure(errors="backslashreplace")
     sys.stderr.reconfigure(errors="backslashreplace")
     try:
-        said, status = say(passing.parse(words))
-    except (listing.Unusable, OSError, ValueError) as fault:
+        said, status = say(command.parse(words))
+    except (running.Unusable, OSError, ValueError) as fault:
         print(f"refused: {fault}", file=sys.stderr)
         sys.exit(2)
     print("\n".join(said))
@@ -434,4 +431,4 @@ def main():
 
 
 if __name__ == "__main__":
-    output.run("refused", main)
+    command.run("refused", main)

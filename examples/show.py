@@ -1,4 +1,4 @@
-#!/usr/bin/env python3
+#!/usr/bin/env -S python3 -B
 """Shows what a listing has at a path, with the blocks that it stands in.
 
     examples/show.py LISTING PATH
@@ -10,16 +10,10 @@ with all that is in it, a unit of a field list by itself.
 Status 1 is a text that is no listing, or that declares no such path; 2 a command line that is at fault.
 """
 
-import argparse
-import pathlib
 import sys
 
-sys.dont_write_bytecode = True
-sys.path.insert(0, str(pathlib.Path(__file__).resolve().parent / "asl"))
-
-import output  # noqa: E402
-import paths  # noqa: E402
-from blocks import Block, Reader, Refused, read  # noqa: E402
+from acpidis_tools import command
+from acpidis_tools.asl.blocks import Block, Reader, Refused, read
 
 
 class Shown:
@@ -57,12 +51,12 @@ class ShownBlock(Block):
 
 def wanted(word):
     """Whether a path is the one that a word means, or ends so."""
-    path = paths.path_of(word)
+    path = command.path_of(word)
     return (lambda it: it == path) if word.startswith("\\") else lambda it: it == path or it.endswith("." + path[1:])
 
 
 def main():
-    words = argparse.ArgumentParser(description=__doc__, formatter_class=argparse.RawDescriptionHelpFormatter)
+    words = command.parser(__doc__)
     words.add_argument("listing", metavar="LISTING")
     words.add_argument("path", metavar="PATH", type=wanted)
     asked = words.parse_args()
@@ -72,7 +66,7 @@ def main():
     except Refused as fault:
         sys.exit(f"show: {asked.listing!r}: {fault}")
     except OSError as fault:
-        output.leave(f"show: {fault.filename!r}: {fault.strerror}")
+        command.leave(f"show: {fault.filename!r}: {fault.strerror}")
     shown = [it for block in reader.blocks for it in block.shown]
     if not shown:
         sys.exit(f"show: {asked.listing!r} declares no such path")
@@ -81,4 +75,4 @@ def main():
 
 
 if __name__ == "__main__":
-    output.run("show", main)
+    command.run("show", main)

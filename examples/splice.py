@@ -1,4 +1,4 @@
-#!/usr/bin/env python3
+#!/usr/bin/env -S python3 -B
 """Puts a method, a name or a device that iasl compiled into the dump of a table, and changes nothing else.
 
     examples/splice.py [--oem-revision] [--initrd FILE] [-o PATCHED] DUMP NEW PATH..
@@ -13,16 +13,9 @@ Status 1 is a table in which PATH is declared not at all, several times or as so
 written then. 2 is a command line that is at fault, or a file that can't be read or written.
 """
 
-import argparse
-import pathlib
 import sys
 
-sys.dont_write_bytecode = True
-sys.path.insert(0, str(pathlib.Path(__file__).resolve().parent))
-
-import aml  # noqa: E402
-import output  # noqa: E402
-import paths  # noqa: E402
+from acpidis_tools import aml, command
 
 HEADER, SUM, OEM_REVISION = 36, 9, 24
 # The terms with a scope of their own, so that names inside mean the same wherever they stand.
@@ -173,13 +166,13 @@ def read(file):
 
 
 def main():
-    words = argparse.ArgumentParser(description=__doc__, formatter_class=argparse.RawDescriptionHelpFormatter)
+    words = command.parser(__doc__)
     words.add_argument("--oem-revision", action="store_true")
     words.add_argument("--initrd", metavar="FILE")
     words.add_argument("-o", "--output", metavar="PATCHED")
     words.add_argument("dump", metavar="DUMP")
     words.add_argument("new", metavar="NEW")
-    words.add_argument("paths", metavar="PATH", nargs="+", type=paths.path_of)
+    words.add_argument("paths", metavar="PATH", nargs="+", type=command.path_of)
     asked = words.parse_args()
     if sys.stdout.isatty() and not asked.output:
         words.error("a table isn't for a terminal: name a file for it by -o")
@@ -189,16 +182,16 @@ def main():
             table = patched(table, new, path, (asked.dump, asked.new))
         table = raised(table) if asked.oem_revision else table
         if asked.initrd:
-            output.write(asked.initrd, archive(table))
+            command.write(asked.initrd, archive(table))
         if asked.output:
-            output.write(asked.output, table)
+            command.write(asked.output, table)
             return
     except Refused as fault:
         sys.exit(f"splice: {fault}")
     except OSError as fault:
-        output.leave(f"splice: {fault.filename!r}: {fault.strerror}")
+        command.leave(f"splice: {fault.filename!r}: {fault.strerror}")
     sys.stdout.buffer.write(table)
 
 
 if __name__ == "__main__":
-    output.run("splice", main)
+    command.run("splice", main)

@@ -1,4 +1,4 @@
-#!/usr/bin/env python3
+#!/usr/bin/env -S python3 -B
 """Makes a folder of dumps, as acpidis takes it, of a file that has ACPI tables in it.
 
     examples/unpack.py FILE FOLDER
@@ -12,7 +12,6 @@ Standard output has a line for each file. Status 1 is a file without tables, or 
 then. 2 is a command line that is at fault, a FOLDER that isn't empty, or a file that can't be read or written.
 """
 
-import argparse
 import itertools
 import os
 import pathlib
@@ -21,10 +20,7 @@ import shutil
 import sys
 import tempfile
 
-sys.dont_write_bytecode = True
-sys.path.insert(0, str(pathlib.Path(__file__).resolve().parent))
-
-import output  # noqa: E402
+from acpidis_tools import command
 
 TITLE = re.compile(r"[> \t]*(RSD PTR|[A-Z0-9!_]{4}) @ 0x([0-9A-Fa-f]{1,16})\s*")
 ROW = re.compile(r"[> \t]*([0-9A-Fa-f]{4,8}): ((?:[0-9A-Fa-f]{2}(?: |$)){1,16})")
@@ -158,7 +154,7 @@ def write(folder, tables):
     """Writes the folder as a whole, or not at all."""
     place = os.path.abspath(folder)
     if os.path.lexists(place) and (not os.path.isdir(place) or os.listdir(place)):
-        output.leave(f"unpack: {folder!r} is there, and isn't an empty folder")
+        command.leave(f"unpack: {folder!r} is there, and isn't an empty folder")
     part = tempfile.mkdtemp(dir=os.path.dirname(place), prefix=".part")
     try:
         names = list(names_of(tables))
@@ -177,7 +173,7 @@ def write(folder, tables):
 
 
 def main():
-    words = argparse.ArgumentParser(description=__doc__, formatter_class=argparse.RawDescriptionHelpFormatter)
+    words = command.parser(__doc__)
     words.add_argument("file", metavar="FILE")
     words.add_argument("folder", metavar="FOLDER")
     asked = words.parse_args()
@@ -186,8 +182,8 @@ def main():
     except Refused as fault:
         sys.exit(f"unpack: {asked.file!r}: {fault}")
     except OSError as fault:
-        output.leave(f"unpack: {fault.filename!r}: {fault.strerror}")
+        command.leave(f"unpack: {fault.filename!r}: {fault.strerror}")
 
 
 if __name__ == "__main__":
-    output.run("unpack", main)
+    command.run("unpack", main)

@@ -331,8 +331,8 @@ def check_speed(checks):
 READER = """
 import pathlib, sys
 sys.path[:0] = sys.argv[2:]
-from blocks import Block, Reader, Refused
-from names import said_by
+from acpidis_tools.asl.blocks import Block, Reader, Refused
+from acpidis_tools.asl.names import said_by
 for path in pathlib.Path(sys.argv[1]).iterdir():
     reader = Reader(lambda table, space: Block(table, space, True))
     try:
@@ -354,7 +354,7 @@ def check_mutations(checks):
     for number in range(500):
         lines = outcomes[number % len(outcomes)].out.splitlines()
         (place / str(number)).write_text(mutated(lines, dice), "ascii")
-    ran = checks.run("-c", READER, place, TOP / "examples/asl", TOP / "examples")
+    ran = checks.run("-c", READER, place, TOP / "examples")
     said = ran.stdout.splitlines()
     checks.is_same("mutations", [line for line in said if line != "refused"] + ran.stderr.splitlines(), [])
     checks.is_true(f"some are no listings: {len(said)}", 20 < len(said) < 480)

@@ -20,19 +20,19 @@ import tempfile
 
 sys.dont_write_bytecode = True
 TOP = pathlib.Path(__file__).resolve().parent.parent
-sys.path[:0] = [str(TOP / "examples/page"), str(TOP / "examples"), str(TOP / "tests/oracle"), str(TOP / "tests")]
+sys.path[:0] = [str(TOP / "examples"), str(TOP / "tests/oracle"), str(TOP / "tests")]
 
-from decoding import Decoder, bits_text, flag_words  # noqa: E402
+from acpidis_tools.decoding import Decoder, bits_text, flag_words  # noqa: E402
 from dumps import order_of  # noqa: E402
 from folders import read_folder  # noqa: E402
-from identifiers import eisa_id, eisa_number, uuid_text  # noqa: E402
+from acpidis_tools.identifiers import eisa_id, eisa_number, uuid_text  # noqa: E402
 from iasl import facts_of  # noqa: E402
-from listing import read_listing  # noqa: E402
-from names import FIELD_LISTS, Names  # noqa: E402
+from acpidis_tools.listing import read_listing  # noqa: E402
+from acpidis_tools.names import FIELD_LISTS, Names  # noqa: E402
 from pages import table  # noqa: E402
-from resources import descriptors  # noqa: E402
+from acpidis_tools.resources import descriptors  # noqa: E402
 from running import REFUSED, Options, run_folder  # noqa: E402
-from standard import space_name, status_words  # noqa: E402
+from acpidis_tools.standard import space_name, status_words  # noqa: E402
 from telling import method, packed  # noqa: E402
 
 EISA = re.compile("[A-Z]{3}[0-9A-F]{4}")
@@ -194,7 +194,7 @@ Method (_OSC, 0, NotSerialized, 0) {: capabilities of the operating system
 If (LEqual (Arg0,: UUID 33db4d5b-1ff7-401c-9657-7441c03dd766 PCI host bridge
 Method (_PRS, 0, NotSerialized, 0) {: possible resources
 Name (BUF1,: Memory32Fixed 0xFED00000 +0x400 (patched by LEN0); IRQ 0 edge
-OperationRegion (GPO0, 0x08, Zero, One): GeneralPurposeIO
+OperationRegion (GPO0, 0x08, Zero, One): GeneralPurposeIo
 Field (GPO0, 0x01) {: ByteAcc, NoLock, Preserve
 Connection (: GpioIo 1, 2 input shared by \\_SB_
 PIN0, 1: byte 0x00, bit 0

@@ -24,7 +24,7 @@ import tempfile
 
 sys.dont_write_bytecode = True
 TOP = pathlib.Path(__file__).resolve().parent.parent
-sys.path[:0] = [str(TOP / "examples/page"), str(TOP / "tests/oracle"), str(TOP / "tests")]
+sys.path[:0] = [str(TOP / "tests/oracle"), str(TOP / "tests")]
 sys.path.append(str(TOP / "examples"))
 
 from board import VERSIONS, packed, table  # noqa: E402
@@ -36,7 +36,7 @@ from made_sets import SetMaker  # noqa: E402
 from page import Checks, first_difference  # noqa: E402
 from reading import EXTERNAL, FIELD_LISTS, Name, Named, Op  # noqa: E402
 from running import REFUSED, Options, run_folder  # noqa: E402
-from schema import COLUMNS  # noqa: E402
+from acpidis_tools.schema import COLUMNS  # noqa: E402
 from telling import DEMO, HOSTILE_FILES, PAGES_FILES, RUNS_FILES, Teller, may_mean, written  # noqa: E402
 
 FACTS = TOP / "examples/facts.py"

@@ -4,9 +4,9 @@ import pathlib
 import sys
 
 sys.dont_write_bytecode = True
-sys.path.insert(0, str(pathlib.Path(__file__).resolve().parent.parent / "examples/page"))
+sys.path.append(str(pathlib.Path(__file__).resolve().parent.parent / "examples"))
 
-from schema import COLUMNS, REFERENCES  # noqa: E402
+from acpidis_tools.schema import COLUMNS, REFERENCES  # noqa: E402
 
 # The boxes in columns, from the left.
 LAYOUT = [

@@ -22,16 +22,16 @@ import tempfile
 
 sys.dont_write_bytecode = True
 TOP = pathlib.Path(__file__).resolve().parent.parent
-sys.path[:0] = [str(TOP / "examples/page"), str(TOP / "tests/oracle"), str(TOP / "tests")]
+sys.path[:0] = [str(TOP / "tests/oracle"), str(TOP / "tests")]
 sys.path.append(str(TOP / "examples"))
 
-from decoding import Decoder  # noqa: E402
-from errors import read_errors  # noqa: E402
-from listing import NoListing, read_listing  # noqa: E402
-from markup import page  # noqa: E402
-from names import Names  # noqa: E402
+from acpidis_tools.decoding import Decoder  # noqa: E402
+from acpidis_tools.errors import read_errors  # noqa: E402
+from acpidis_tools.listing import NoListing, read_listing  # noqa: E402
+from acpidis_tools.page.markup import page  # noqa: E402
+from acpidis_tools.names import Names  # noqa: E402
 from running import Options, run_folder  # noqa: E402
-from sheet import Sheet  # noqa: E402
+from acpidis_tools.page.sheet import Sheet  # noqa: E402
 from telling import HOSTILE_FILES, RUNS_FILES, written  # noqa: E402
 
 SPEC = importlib.util.spec_from_file_location("facts_script", TOP / "examples/facts.py")

@@ -1,4 +1,4 @@
-"""Reads what `iasl -d` prints of a table, for tests/decoding.py: its macros as the words of examples/page."""
+"""Reads what `iasl -d` prints of a table, for tests/decoding.py: its macros as the words of acpidis_tools."""
 
 import pathlib
 import re
@@ -36,7 +36,7 @@ def facts_of(data: bytes, room: pathlib.Path) -> "dict[str, list] | None":
         return None
     text = re.sub(r"//.*|/\*.*?\*/", "", (room / "table.dsl").read_text("latin-1"))
     # The standard's word has a capital O.
-    text = text.partition("DefinitionBlock")[2].replace("GeneralPurposeIo", "GeneralPurposeIO")
+    text = text.partition("DefinitionBlock")[2]
     return {
         "resources": [line for template in templates(text) for line in map(macro_text, MACRO.finditer(template))],
         "UUIDs": [found.lower() for found in re.findall(r'ToUUID \("([^"]*)"\)', text)],

@@ -23,24 +23,24 @@ from collections import Counter
 
 sys.dont_write_bytecode = True
 TOP = pathlib.Path(__file__).resolve().parent.parent
-sys.path[:0] = [str(TOP / "examples/page"), str(TOP / "tests/oracle")]
+sys.path[:0] = [str(TOP / "tests/oracle")]
 sys.path.append(str(TOP / "examples"))
 
-import lines as lines_module  # noqa: E402
+from acpidis_tools.page import lines as lines_module  # noqa: E402
 import pages  # noqa: E402
-import tree as tree_module  # noqa: E402
-from comparison import differences  # noqa: E402
-from decoding import Decoder  # noqa: E402
+from acpidis_tools.page import tree as tree_module  # noqa: E402
+from acpidis_tools.comparison import differences  # noqa: E402
+from acpidis_tools.decoding import Decoder  # noqa: E402
 from dumps import aml_of, order_of  # noqa: E402
-from errors import read_errors  # noqa: E402
+from acpidis_tools.errors import read_errors  # noqa: E402
 from folders import read_folder  # noqa: E402
-from listing import read_listing  # noqa: E402
+from acpidis_tools.listing import read_listing  # noqa: E402
 from made_sets import SetMaker  # noqa: E402
-from markup import page  # noqa: E402
-from names import Names  # noqa: E402
+from acpidis_tools.page.markup import page  # noqa: E402
+from acpidis_tools.names import Names  # noqa: E402
 from page_html import Read, read_page  # noqa: E402
 from running import REFUSED, Options, Outcome, run_folder  # noqa: E402
-from sheet import Sheet  # noqa: E402
+from acpidis_tools.page.sheet import Sheet  # noqa: E402
 from telling import DEMO, HOSTILE_FILES, PAGES_FILES, RUNS_FILES, Teller, method, written  # noqa: E402
 
 PAGE = TOP / "examples/page.py"

@@ -7,11 +7,11 @@ from dataclasses import dataclass, field
 from html.parser import HTMLParser
 
 TOP = pathlib.Path(__file__).resolve().parent.parent
-sys.path[:0] = [str(TOP / "examples/page")]
+sys.path.append(str(TOP / "examples"))
 sys.path.append(str(TOP / "tests/oracle"))
 
 from loading import path_text  # noqa: E402
-from packing import BETWEEN, unpacked  # noqa: E402
+from acpidis_tools.page.packing import BETWEEN, unpacked  # noqa: E402
 
 Path = tuple[str, ...]
 Told = tuple[str, str, object, tuple]

@@ -103,7 +103,7 @@ def trials(room):
         yield Trial(f"tests/costs.py, a program that {what}", ["tests/costs.py"], placed(STUBS[what]))
     yield Trial("tests/package.sh, a ./package that makes nothing", ["tests/package.sh"], {"package": "#!/bin/sh\n"})
     yield Trial("tests/facts.py, a script that writes nothing", ["tests/facts.py"], {"examples/facts.py": ""})
-    yield Trial("tests/decoding.py, nothing decoded", ["tests/decoding.py"], {"examples/page/decoding.py": ""})
+    yield Trial("tests/decoding.py, nothing decoded", ["tests/decoding.py"], {"examples/acpidis_tools/decoding.py": ""})
     yield Trial("tests/hostile.py, a script that prints nothing", ["tests/hostile.py"], {"examples/page.py": ""})
     yield Trial("tests/meaning.py, an empty page", ["tests/meaning.py"], {"docs/meaning.md": ""})
     yield Trial("tests/refusals.sh, no C compiler", ["tests/refusals.sh", "program"], placed(REFUSES), without_compilers(room))

@@ -2,7 +2,7 @@
 
 import re
 
-from terms import NAME, Misread, plain
+from acpidis_tools.asl.terms import NAME, Misread, plain
 
 BUFFER = re.compile(r"Buffer \((.*)\) \{((?:[0-9A-F]{2}(?:, [0-9A-F]{2})*)?)\}")
 USAGES, LEVELS = ("ResourceProducer", "ResourceConsumer"), ("ActiveHigh", "ActiveLow", "ActiveBoth")

@@ -2,7 +2,7 @@
 
 import os
 
-import aml
+from acpidis_tools import aml
 
 LIMITS = (1 << 6, 1 << 12, 1 << 20, 1 << 28)
 

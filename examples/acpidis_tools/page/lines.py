@@ -6,11 +6,11 @@ from __future__ import annotations
 import re
 from html import escape
 
-from errors import Fault, raw_bytes, spelled_name
-from listing import Block, Line, path_text
-from names import Meaning, Names, Sort, Uses, is_name
-from packing import BETWEEN, chunk_html
-from sheet import Sheet, classed, counted
+from acpidis_tools.errors import Fault, raw_bytes, spelled_name
+from acpidis_tools.listing import Block, Line, path_text
+from acpidis_tools.names import Meaning, Names, Sort, Uses, is_name
+from acpidis_tools.page.packing import BETWEEN, chunk_html
+from acpidis_tools.page.sheet import Sheet, classed, counted
 
 # A browser's tree of elements ends at 512 levels.
 DEEPEST_FOLD = 60

@@ -2,9 +2,10 @@
 
 import re
 
-import standard
+from acpidis_tools import aml, standard
+from acpidis_tools.asl import language
+from acpidis_tools.listing import SEGMENT
 
-SEGMENT = r"[A-Z_][A-Z0-9_]{3}"
 NAME = re.compile(rf"\\|\^+|(?:\\|\^*){SEGMENT}(?:\.{SEGMENT})*")
 NUMBER = re.compile(r"0x(?:[0-9A-F]{2}){1,8}")
 TOKEN = re.compile(
@@ -45,7 +46,7 @@ def plain(name, tell):
     """A name, where ASL doesn't take it for a word of its own."""
     if not name:
         tell("an empty name")
-    if name in standard.WORDS:
+    if name in language.WORDS:
         tell(f"the name {name}, which is a word of ASL")
     return name
 
@@ -79,7 +80,7 @@ def external(text, tell):
     if not form:
         raise Misread
     name, kind, count = form[1], int(form[2], 16), int(form[3])
-    word = picked(standard.OBJECTS, kind, "an External of the type", tell)
+    word = picked(language.OBJECTS, kind, "an External of the type", tell)
     if count and word != "MethodObj":
         tell(f"an External of the type {word} with arguments")
     return declared(plain(name, tell), word, count), [Named(name, count, is_call=word == "MethodObj", word=word)]
@@ -109,11 +110,11 @@ class Bracket:
 
     def __init__(self, word, names, mark, size=None):
         self.word, self.names, self.mark, self.size = word, names, mark, size
-        self.kinds = standard.PARTS.get(word, "") if mark == "(" else ""
+        self.kinds = aml.PARTS.get(word, "") if mark == "(" else ""
         self.place, self.is_empty = 0, True
 
     def kind(self):
-        """The kind of the part that comes next, as in standard.PARTS."""
+        """The kind of the part that comes next, as in aml.PARTS."""
         return self.kinds[self.place] if self.place < len(self.kinds) else "T"
 
 
@@ -188,14 +189,14 @@ class Turner:
                 self.empty(inner)
             while self.out[-1] == ", ":  # targets that aren't there
                 self.out.pop()
-            if inner.word not in standard.PARTS:
+            if inner.word not in aml.PARTS:
                 self.names[inner.names - 1] = Named(inner.word, inner.place + 1, is_value=True, is_call=True)
         self.word, self.size = inner.word, inner.size
 
     def bytes(self, token):
         """The bytes of a Buffer, or a package without elements."""
         inner = token[1:-1].split(", ") if len(token) > 2 else []
-        if self.word not in standard.SIZED or inner and self.word != "Buffer":
+        if self.word not in language.SIZED or inner and self.word != "Buffer":
             raise Misread
         self.check_size(self.word, self.size, len(inner))
         self.out.append("{" + ", ".join("0x" + byte for byte in inner) + "}")
@@ -211,13 +212,13 @@ class Turner:
             self.tell("an empty name")
         elif kind != "S":
             raise Misread
-        elif inner.word in standard.TARGETED or inner.word == "CondRefOf" and inner.place == 0:
+        elif inner.word in language.TARGETED or inner.word == "CondRefOf" and inner.place == 0:
             self.tell(f"{inner.word} without a target")
 
     # ---- what stands between them
 
     def part(self, kind, token, inner):
-        if inner.mark == "(" and inner.word in standard.SIZED:
+        if inner.mark == "(" and inner.word in language.SIZED:
             inner.size = self.size_of(token, inner.word)
         if kind == "text":
             self.check(token, kind, inner)
@@ -225,9 +226,9 @@ class Turner:
         if token[0] == "0" and NUMBER.fullmatch(token):
             self.check(token, kind, inner)
             return self.number(token, inner)
-        if token in standard.PARTS:
+        if token in aml.PARTS:
             self.check(token, kind, inner)
-            return standard.RENAMED.get(token, token)
+            return language.RENAMED.get(token, token)
         if not NAME.fullmatch(token):
             raise Misread
         if inner.word == "Name" and inner.place == 1:
@@ -239,14 +240,14 @@ class Turner:
         """Whether ASL takes this, which is no name, as a part of the word in front of the bracket."""
         if inner.mark and (token == "Load" or token == "Debug" and inner.kind() in "TD"):
             self.tell(f"{token} as a value")
-        elif token in standard.PICKY.get((inner.word, inner.place), ()):
+        elif token in language.PICKY.get((inner.word, inner.place), ()):
             self.tell(f"{inner.word} of {token}")
-        elif inner.word == "DerefOf" and not (token in standard.REFERENCES or STORAGE.fullmatch(token)):
+        elif inner.word == "DerefOf" and not (token in language.REFERENCES or STORAGE.fullmatch(token)):
             self.tell("DerefOf of what is no reference")
 
     def size_of(self, token, word):
         """The size of a Buffer or of a package, where it is a constant."""
-        size = int(token, 16) if NUMBER.fullmatch(token) else standard.SMALL.get(token)
+        size = int(token, 16) if NUMBER.fullmatch(token) else aml.SMALL.get(token)
         if word == "VarPackage" and size is not None and size < 256:
             self.tell("a VarPackage of a constant size")
         return size
@@ -265,14 +266,14 @@ class Turner:
         """A number of a width of its own, for most of which ASL has words."""
         word, place = inner.word, inner.place
         if word == "OperationRegion":
-            if value not in standard.SPACES and value < standard.FIRST_VENDOR_SPACE:
+            if value not in standard.SPACES and value < standard.FIRST_OF_VENDORS:
                 self.tell(f"a region in the space {token}")
             return standard.SPACES.get(value, token)
         if word == "Match":
-            return picked(standard.MATCHES, value, "Match by the operator", self.tell)
-        if standard.FLAGS.get(word) == place:
+            return picked(language.MATCHES, value, "Match by the operator", self.tell)
+        if language.FLAGS.get(word) == place:
             return self.flags(value)
-        if word == "Mutex" and value > standard.MOST_SYNC_LEVEL:
+        if word == "Mutex" and value > language.MOST_SYNC_LEVEL:
             self.tell(f"a Mutex of the level {value}")
         return token
 
@@ -280,6 +281,6 @@ class Turner:
         """The flags of a field list (20.2.5.2)."""
         if value & 0x80:
             self.tell("bit 7 of a field list's flags")
-        access = picked(standard.ACCESS, value & 15, "the access type", self.tell)
-        update = picked(standard.UPDATES, value >> 5 & 3, "the update rule", self.tell)
-        return f"{access}, {standard.LOCKS[value >> 4 & 1]}, {update}"
+        access = picked(standard.ACCESS_TYPES, value & 15, "the access type", self.tell)
+        update = picked(standard.UPDATE_RULES, value >> 5 & 3, "the update rule", self.tell)
+        return f"{access}, {standard.LOCK_RULES[value >> 4 & 1]}, {update}"

@@ -7,12 +7,12 @@ from collections.abc import Iterable
 from dataclasses import dataclass
 from html import escape
 
-from errors import raw_lines
-from listing import Path, Row, path_of, path_text
-from names import PREDEFINED
-from packing import branch_html
-from sheet import Sheet, classed, link
-from standard import DEVICE_NAMES
+from acpidis_tools.errors import raw_lines
+from acpidis_tools.listing import Path, Row, path_of, path_text
+from acpidis_tools.names import PREDEFINED
+from acpidis_tools.page.packing import branch_html
+from acpidis_tools.page.sheet import Sheet, classed, link
+from acpidis_tools.standard import DEVICE_NAMES
 
 DEEPEST_FOLD = 60
 # What has so many paths below it is packed.

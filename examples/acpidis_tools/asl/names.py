@@ -1,9 +1,7 @@
 """The names of a definition block: what iasl knows of them, and the Externals that the text needs."""
 
-import aml
-import listing
-import standard
-import terms
+from acpidis_tools import aml, running
+from acpidis_tools.asl import language, terms
 
 
 class TooDeep(Exception):
@@ -57,8 +55,8 @@ class Names:
         self.uses += [Use(scope, named, number) for named in names]
         if opens:
             self.open.append(self.opened(scope, word, node, names))
-            if self.open[-1].node.depth > listing.MOST_SEGMENTS:
-                raise TooDeep(f"a scope of more than {listing.MOST_SEGMENTS} segments is too deep for this script")
+            if self.open[-1].node.depth > running.MOST_SEGMENTS:
+                raise TooDeep(f"a scope of more than {running.MOST_SEGMENTS} segments is too deep for this script")
         return node
 
     def external(self, named, number):
@@ -102,7 +100,7 @@ class Names:
         for node in self.space.candidates(use.scope.node, use.named.name):
             if use.scope.local and node in use.scope.local:
                 return node, True
-            if node in self.own or node in self.externals or node in self.scopes or node.path() in listing.PREDEFINED:
+            if node in self.own or node in self.externals or node in self.scopes or node.path() in running.PREDEFINED:
                 return node, False
         return None, False
 
@@ -116,7 +114,7 @@ class Names:
             return (target in self.own or target in self.externals) and target is not node and self.is_method(target)
         if node in self.own:
             return node.most is not None or isinstance(node.kind, int)
-        return isinstance(listing.PREDEFINED.get(node.path()), int)
+        return isinstance(running.PREDEFINED.get(node.path()), int)
 
 
 def of_method(named, called):
@@ -143,10 +141,10 @@ class Externals:
                 self.counts[node] = max(use.named.count, self.counts.get(node, 0))
 
     def is_other(self, node):
-        return node.above and node not in self.own and node.path() not in listing.PREDEFINED
+        return node.above and node not in self.own and node.path() not in running.PREDEFINED
 
     def wanted(self):
-        return [self.external(node, self.counts[node]) for node in sorted(self.counts, key=listing.Node.path)]
+        return [self.external(node, self.counts[node]) for node in sorted(self.counts, key=running.Node.path)]
 
     def others(self, rows):
         return [self.external(node, 0) for node in rows if node not in self.counts and self.is_other(node)]
@@ -174,7 +172,7 @@ class Externals:
         kind = kinds[0] if kinds else count or ""
         if isinstance(kind, int):
             return terms.declared(node.path(), "MethodObj", max(kind, count))
-        return terms.declared(node.path(), standard.OBJECT_OF.get(kind, "UnknownObj"))
+        return terms.declared(node.path(), language.OBJECT_OF.get(kind, "UnknownObj"))
 
 
 def said_by(blocks):

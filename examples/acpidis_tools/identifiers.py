@@ -5,7 +5,7 @@ from __future__ import annotations
 import re
 import uuid
 
-from standard import DEVICE_NAMES, UUID_NAMES
+from acpidis_tools.standard import DEVICE_NAMES, UUID_NAMES
 
 # A compiler writes one as short as it may.
 EISA_NUMBER = re.compile(r"0x[0-9A-F]{4}(?:[0-9A-F]{4})?")

@@ -6,14 +6,11 @@ import re
 from collections.abc import Iterator
 from typing import NamedTuple, Optional
 
-import aml
-from listing import Line
+from acpidis_tools import aml
+from acpidis_tools.listing import Line
 
 # Between two words stand parentheses, commas, decimal numbers and the bytes of a buffer.
 MARK = re.compile(r"\{[0-9A-F]{2}(?:, [0-9A-F]{2})*\}|[(){},]|[0-9A-F]+")
-CONSTANTS = {"Zero": 0, "One": 1}
-# The kinds of an operator's parts: T a value, S a target or an object, N a name, and more (aml.py).
-OPERANDS = {word: kinds.lstrip("P").rstrip("tyefb") for word, kinds in aml.ROWS.values()}
 # Those whose last or only target is handed on as an object, or changed in its place.
 OBJECT_OPERATORS = {
     "RefOf", "SizeOf", "ObjectType", "Wait", "Acquire", "Signal", "Reset", "Release", "Unload", "Notify",
@@ -36,7 +33,7 @@ class Term:
         """The value of an integer constant, but for Ones, whose width depends on the table."""
         if self.word.startswith("0x"):
             return int(self.word, 16)
-        return CONSTANTS.get(self.word)
+        return aml.SMALL.get(self.word)
 
     def argument(self, place: int) -> Term | None:
         return self.arguments[place] if place < len(self.arguments) else None
@@ -130,7 +127,7 @@ def places(terms: list[Term]) -> Iterator[tuple[Term, Place]]:
     while waiting:
         term, place = waiting.pop()
         yield term, place
-        kinds = OPERANDS.get(term.word, "")
+        kinds = aml.PARTS.get(term.word, "")
         parts = [
             (part, Place(term, kinds[number] if number < len(kinds) else "A", number))
             for number, part in enumerate(term.arguments) if part is not None

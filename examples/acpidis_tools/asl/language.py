@@ -1,7 +1,5 @@
 """What ASL and iasl have for the numbers and words of a listing (ACPI 6.5, chapters 19 and 20)."""
 
-import aml
-
 # The numbers of iasl's messages that are turned off, with what each says. Not among them are 6139, a constant out of range, and
 # 6086, arguments of what is no method: without them iasl writes other bytes, and says nothing.
 OFF = {
@@ -36,16 +34,6 @@ OFF_UNCHANGED = {
     6161: "a path whose objects aren't there",
 }
 
-SPACES = dict(
-    enumerate(
-        "SystemMemory SystemIO PCI_Config EmbeddedControl SMBus SystemCMOS PciBarTarget IPMI GeneralPurposeIo "
-        "GenericSerialBus PCC PlatformRtMechanism".split()
-    )
-)
-SPACES[0x7F] = "FFixedHW"
-FIRST_VENDOR_SPACE = 0x80
-ACCESS = "AnyAcc ByteAcc WordAcc DWordAcc QWordAcc BufferAcc".split()
-LOCKS, UPDATES = ("NoLock", "Lock"), ("Preserve", "WriteAsOnes", "WriteAsZeros")
 # The attributes of an access that have a length behind them.
 EXTENDED = {0x0B: "AttribBytes", 0x0E: "AttribRawBytes", 0x0F: "AttribRawProcessBytes"}
 MATCHES = "MTR MEQ MLE MLT MGE MGT".split()
@@ -64,10 +52,8 @@ MOST_SYNC_LEVEL = 15
 # The mnemonics that ASL has otherwise, and the names that are words of ASL.
 RENAMED = {"DataRegion": "DataTableRegion", "VarPackage": "Package"}
 WORDS = set("CASE EDGE ELSE IPMI LAND LNOT LOAD LOCK NAME NAND NOOP ONES WAIT ZERO ARG0 ARG1 ARG2 ARG3 ARG4 ARG5 ARG6".split())
-# The kinds of each mnemonic's parts, as in aml.OPCODES: N a name, 1 2 4 8 bytes, and so on.
-PARTS = {word: kinds.lstrip("P").rstrip("tyefb") for word, kinds in aml.ROWS.values()}
 FLAGS = {"Field": 1, "IndexField": 2, "BankField": 3}
-SIZED, SMALL = ("Buffer", "Package", "VarPackage"), {"Zero": 0, "One": 1}
+SIZED = ("Buffer", "Package", "VarPackage")
 # The operators that have to have a target.
 TARGETED = set(
     "Store Increment Decrement CopyObject SizeOf RefOf ObjectType Notify Acquire Release Wait Signal Reset Load Unload".split()

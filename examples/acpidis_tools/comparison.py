@@ -9,8 +9,8 @@ from dataclasses import dataclass
 from difflib import SequenceMatcher
 from typing import Optional
 
-from listing import Dump, Line, Listing, Path, path_text
-from names import FIELD_LISTS, FIRST_WORD, SCOPES, Names
+from acpidis_tools.listing import Dump, Line, Listing, Path, path_text
+from acpidis_tools.names import FIELD_LISTS, FIRST_WORD, SCOPES, Names
 
 LONGEST = 200
 # Of more pairs of lines the longest common ones aren't looked for: that takes time as their product.

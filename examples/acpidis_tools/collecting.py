@@ -6,16 +6,16 @@ import hashlib
 import re
 from collections import defaultdict
 
-from comparison import Said, text_of, texts_of
-from decoding import Decoder, Template, flag_words, hardware_name
-from errors import Fault
-from identifiers import eisa_number
-from listing import Block, Dump, Line, Listing, Path, path_of, path_text
-from names import FIELD_LISTS, PREDEFINED, Meaning, Names, Sort, name_of
-from resources import Descriptor
-from schema import COLUMNS
-from standard import DEVICE_NAMES, space_name
-from terms import Place, Term, is_written, places
+from acpidis_tools.comparison import Said, text_of, texts_of
+from acpidis_tools.decoding import Decoder, Template, flag_words, hardware_name
+from acpidis_tools.errors import Fault
+from acpidis_tools.identifiers import eisa_number
+from acpidis_tools.listing import Block, Dump, Line, Listing, Path, path_of, path_text
+from acpidis_tools.names import FIELD_LISTS, PREDEFINED, Meaning, Names, Sort, name_of
+from acpidis_tools.resources import Descriptor
+from acpidis_tools.schema import COLUMNS
+from acpidis_tools.standard import DEVICE_NAMES, space_name
+from acpidis_tools.terms import Place, Term, is_written, places
 
 # SQLite's integers have 64 bits, one of which is the sign.
 TOO_LARGE = 1 << 63

@@ -2,9 +2,10 @@
 
 import re
 
-import connections
-import standard
-from terms import NAME, SEGMENT, Misread, picked, plain
+from acpidis_tools import standard
+from acpidis_tools.asl import connections, language
+from acpidis_tools.asl.terms import NAME, Misread, picked, plain
+from acpidis_tools.listing import SEGMENT
 
 UNIT = re.compile(rf"({SEGMENT}|Reserved), (\d{{1,9}})")
 ACCESS = re.compile(r"(?:Extended)?Access \((0x[0-9A-F]{2}(?:, 0x[0-9A-F]{2}){1,2})\)")
@@ -34,7 +35,7 @@ def of_unit(name, bits, tell):
 
 def of_access(numbers, tell):
     kind, attribute, *length = numbers
-    if bool(length) != (attribute in standard.EXTENDED):
+    if bool(length) != (attribute in language.EXTENDED):
         tell(f"{'an ExtendedAccess' if length else 'an Access'} of the attribute {attribute}")
-    more = f"{standard.EXTENDED.get(attribute, 'AttribBytes')} (0x{length[0]:02X})" if length else f"0x{attribute:02X}"
-    return f"AccessAs ({picked(standard.ACCESS, kind, 'the access type', tell)}, {more}),"
+    more = f"{language.EXTENDED.get(attribute, 'AttribBytes')} (0x{length[0]:02X})" if length else f"0x{attribute:02X}"
+    return f"AccessAs ({picked(standard.ACCESS_TYPES, kind, 'the access type', tell)}, {more}),"

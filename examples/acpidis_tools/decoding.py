@@ -6,12 +6,12 @@ import re
 from collections import defaultdict
 from typing import NamedTuple
 
-from identifiers import EISA_NUMBER, eisa_id, uuid_text, uuid_with_name, with_name
-from listing import Line, Listing
-from names import FIELD_LISTS, FIRST_WORD, Meaning, Names, Sort, is_name
-from resources import Descriptor, descriptors
-from standard import ACCESS_TYPES, LOCK_RULES, PREDEFINED_NAMES, UPDATE_RULES, named, space_name, status_words
-from terms import Term, places, terms_of
+from acpidis_tools.identifiers import EISA_NUMBER, eisa_id, uuid_text, uuid_with_name, with_name
+from acpidis_tools.listing import Line, Listing
+from acpidis_tools.names import FIELD_LISTS, FIRST_WORD, Meaning, Names, is_name
+from acpidis_tools.resources import Descriptor, descriptors
+from acpidis_tools.standard import ACCESS_TYPES, LOCK_RULES, PREDEFINED_NAMES, UPDATE_RULES, named, space_name, status_words
+from acpidis_tools.terms import Term, places, terms_of
 
 HARDWARE_NAMES = ("_HID", "_CID")
 # A field over more descriptors is told of these alone.

@@ -11,15 +11,15 @@ import pathlib
 import re
 from html import escape
 
-from comparison import Text, differences
-from errors import raw_lines
-from lines import blocks_html, uses_html
-from listing import TEXT, Listing, Path, path_text
-from names import PREDEFINED
-from packing import index_html
-from sheet import Sheet, counted, link
-from tables import table_changes_html, tables_html
-from tree import TreeWriter
+from acpidis_tools.comparison import Text, differences
+from acpidis_tools.errors import raw_lines
+from acpidis_tools.listing import TEXT, Listing, Path, path_text
+from acpidis_tools.names import PREDEFINED
+from acpidis_tools.page.lines import blocks_html, uses_html
+from acpidis_tools.page.packing import index_html
+from acpidis_tools.page.sheet import Sheet, counted, link
+from acpidis_tools.page.tables import table_changes_html, tables_html
+from acpidis_tools.page.tree import TreeWriter
 
 HERE = pathlib.Path(__file__).resolve().parent
 # Longer lists of a comparison are folded.

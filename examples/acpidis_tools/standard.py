@@ -1,11 +1,20 @@
 """Words of the ACPI Specification 6.5 for numbers and names that a listing has: in a few words each."""
 
+# 5.3.1, 5.7, what is there before any table is loaded, below the root
+PREDEFINED = {
+    **dict.fromkeys(("_GPE", "_PR_", "_SB_", "_SI_", "_TZ_"), "Scope"), "_GL_": "Mutex", "_OS_": "Name", "_REV": "Name",
+    "_OSI": "Method 1",
+}  # fmt: skip
+
 # Table 5.6.2.1, the address spaces of an OperationRegion, by their numbers
-SPACES = (
-    "SystemMemory", "SystemIO", "PCI_Config", "EmbeddedControl", "SMBus", "SystemCMOS", "PciBarTarget", "IPMI",
-    "GeneralPurposeIO", "GenericSerialBus", "PCC", "PlatformRtMechanism",
+SPACES = dict(
+    enumerate(
+        "SystemMemory SystemIO PCI_Config EmbeddedControl SMBus SystemCMOS PciBarTarget IPMI GeneralPurposeIo "
+        "GenericSerialBus PCC PlatformRtMechanism".split()
+    )
 )
-FIXED_HARDWARE, FIRST_OF_VENDORS = 0x7F, 0x80
+SPACES[0x7F] = "FFixedHW"
+FIRST_OF_VENDORS = 0x80
 
 # 20.2.5.2, the flags of a field list: bits 0 to 3, bit 4, bits 5 and 6
 ACCESS_TYPES = ("AnyAcc", "ByteAcc", "WordAcc", "DWordAcc", "QWordAcc", "BufferAcc")
@@ -105,11 +114,7 @@ UUID_NAMES = {
 
 
 def space_name(number: int) -> str:
-    if number < len(SPACES):
-        return SPACES[number]
-    if number == FIXED_HARDWARE:
-        return "FFixedHW"
-    return f"0x{number:02X}" if number < FIRST_OF_VENDORS else f"vendor's 0x{number:02X}"
+    return SPACES.get(number) or (f"0x{number:02X}" if number < FIRST_OF_VENDORS else f"vendor's 0x{number:02X}")
 
 
 def named(words: tuple, number: int) -> str:

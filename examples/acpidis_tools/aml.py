@@ -7,6 +7,8 @@ tables mean the program alone says. Each byte is read once, and the search for n
 import re
 import sys
 
+from acpidis_tools import paths, standard
+
 MOST_LEVELS = 512
 # A level of terms is a few calls deep.
 sys.setrecursionlimit(20_000)
@@ -34,6 +36,9 @@ OPCODES = (
     + ";".join(f"{0x60 + n:02X} Local{n}" for n in range(8)) + ";" + ";".join(f"{0x68 + n:02X} Arg{n}" for n in range(7))
 )
 ROWS = {int(opcode, 16): (word, kinds[0] if kinds else "") for opcode, word, *kinds in map(str.split, OPCODES.split(";"))}
+# The kinds of each mnemonic's parts, without the letters of what has a length.
+PARTS = {word: kinds.lstrip("P").rstrip("tyefb") for word, kinds in ROWS.values()}
+SMALL = {"Zero": 0, "One": 1}
 OPENERS = {"Device", "Processor", "PowerResource", "ThermalZone"}
 FIELD_LISTS = {"Field", "IndexField", "BankField"}
 # The terms that declare the last of their names.
@@ -44,7 +49,6 @@ DECLARERS = OPENERS | {
 # Those that have other names too, before the one that they declare.
 NAMED_LAST = {"Alias"} | {word for word in DECLARERS if word.startswith("Create")}
 CONSTANTS = {"Byte", "Word", "Dword", "Qword", "Text"}
-PREDEFINED = {"_GPE": 0, "_PR_": 0, "_SB_": 0, "_SI_": 0, "_TZ_": 0, "_GL_": 0, "_OS_": 0, "_REV": 0, "_OSI": 1}
 
 
 class Stopped(Exception):
@@ -83,33 +87,18 @@ class Term:
 # ---- the namespace
 
 
-class Node:
+class Node(paths.Node):
     """A path: what declares it, each a table, an offset and a mnemonic; how many arguments it takes, as far as is known."""
 
-    __slots__ = ("above", "segment", "below", "places", "is_predefined", "count", "external", "given", "target")
+    __slots__ = ("places", "is_predefined", "count", "external", "given", "target")
 
     def __init__(self, above, segment):
-        self.above, self.segment, self.below, self.places = above, segment, None, None
-        self.is_predefined, self.count, self.target = False, 0, None
-        self.external = self.given = None
+        super().__init__(above, segment)
+        self.is_predefined, self.count, self.places = False, 0, None
+        self.external = self.given = self.target = None
 
     def is_declared(self):
         return self.is_predefined or bool(self.places)
-
-    def child(self, segment):
-        """The node of a segment below it, made where it isn't there."""
-        if self.below is None:
-            self.below = {}
-        if segment not in self.below:
-            self.below[segment] = Node(self, segment)
-        return self.below[segment]
-
-    def path(self):
-        segments, node = [], self
-        while node.above:
-            segments.append(node.segment)
-            node = node.above
-        return "\\" + ".".join(reversed(segments))
 
 
 class Space:
@@ -119,16 +108,13 @@ class Space:
         self.root = Node(None, "")
         self.root.is_predefined = True
         self.steps = STEPS_PER_BYTE * size + 100_000
-        for segment, count in PREDEFINED.items():
+        for segment, kind in standard.PREDEFINED.items():
             node = self.root.child(segment)
-            node.is_predefined, node.count = True, count
+            node.is_predefined, node.count = True, int(kind.partition(" ")[2] or 0)
 
     def node(self, path):
         """The node of a path of the program's text, made where it isn't there."""
-        node = self.root
-        for segment in path[1:].split(".") if len(path) > 1 else []:
-            node = node.child(segment)
-        return node
+        return self.root.at(paths.parts(path))
 
     def start(self, scope, name):
         """The node below which the segments of a name are placed; None above the root."""
@@ -142,9 +128,7 @@ class Space:
 
     def place(self, scope, name):
         node = self.start(scope, name)
-        for segment in name.segments if node else ():
-            node = node.child(segment)
-        return node
+        return node and node.at(name.segments)
 
     def candidates(self, scope, name):
         """The nodes that are there at the paths that a name may mean, the nearest first."""
@@ -159,8 +143,7 @@ class Space:
                 scope = scope.above
             return
         node = self.start(scope, name)
-        for segment in name.segments if node else ():
-            node = node.below.get(segment) if node and node.below else None
+        node = node and node.there(name.segments)
         if node:
             yield node
 

@@ -8,28 +8,18 @@ from enum import Enum
 from functools import lru_cache
 from typing import NamedTuple, Optional
 
-from listing import ROOT, Line, Listing, NoListing, Path, path_text
+from acpidis_tools import aml, standard
+from acpidis_tools.listing import ROOT, Line, Listing, NoListing, Path, path_text
 
-PREDEFINED = {
-    **{path: "Scope" for path in [ROOT, ("_GPE",), ("_PR_",), ("_SB_",), ("_SI_",), ("_TZ_",)]},
-    ("_GL_",): "Mutex",
-    ("_OS_",): "Name",
-    ("_REV",): "Name",
-    ("_OSI",): "Method 1",
-}
-SCOPES = {"Device", "Processor", "PowerResource", "ThermalZone"}
-FIELD_LISTS = {"Field", "IndexField", "BankField"}
+PREDEFINED = {ROOT: "Scope", **{(segment,): kind for segment, kind in standard.PREDEFINED.items()}}
+SCOPES, FIELD_LISTS = aml.OPENERS, aml.FIELD_LISTS
 # What is declared inside one of these outside the methods only may stand.
 BLOCKS = {"If", "Else", "While"}
 # A name is looked for in each scope around it, so that a hostile listing could make a page take days.
 MOST_SEGMENTS = 32
 MOST_OTHERS = 3
 # The place of the name that a term declares, among the words of its line.
-DECLARED = {
-    **dict.fromkeys([*SCOPES, "Name", "Method", "Mutex", "Event", "OperationRegion", "DataRegion"], 1),
-    **dict.fromkeys(["Alias", "CreateField", "CreateBitField", "CreateByteField", "CreateWordField"], -1),
-    **dict.fromkeys(["CreateDWordField", "CreateQWordField"], -1),
-}
+DECLARED = {word: -1 if word in aml.NAMED_LAST else 1 for word in aml.DECLARERS}
 FIRST_WORD = 0
 
 

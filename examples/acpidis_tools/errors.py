@@ -6,7 +6,7 @@ import re
 from collections import defaultdict, deque
 from dataclasses import dataclass
 
-from listing import PATH, SEGMENT, Line, Listing, NoListing, Path, path_of, path_text
+from acpidis_tools.listing import PATH, SEGMENT, Line, Listing, NoListing, path_of, path_text
 
 BODY = "acpidis: body "
 MOST_SHOWN = 80

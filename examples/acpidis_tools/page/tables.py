@@ -5,8 +5,8 @@ from __future__ import annotations
 import re
 from html import escape
 
-from listing import TEXT, Dump
-from sheet import Sheet, classed, counted
+from acpidis_tools.listing import TEXT, Dump
+from acpidis_tools.page.sheet import Sheet, classed, counted
 
 ADDRESS_OF_ENTRY = re.compile(rf"(  Entry [0-9A-F]+) ({TEXT})")
 DUMP_FORM = re.compile(

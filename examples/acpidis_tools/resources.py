@@ -5,7 +5,7 @@ from __future__ import annotations
 from collections.abc import Callable
 from typing import NamedTuple, Optional
 
-from standard import space_name
+from acpidis_tools.standard import space_name
 
 # Where the content of a descriptor begins.
 SMALL, LARGE = 1, 3

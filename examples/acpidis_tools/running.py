@@ -10,8 +10,10 @@ import re
 import shutil
 import subprocess
 
-LAUNCHER = pathlib.Path(__file__).resolve().parent.parent / "acpidis"
-SEGMENT = r"[A-Z_][A-Z0-9_]{3}"
+from acpidis_tools import paths, standard
+from acpidis_tools.listing import SEGMENT
+
+LAUNCHER = pathlib.Path(__file__).resolve().parents[2] / "acpidis"
 NAME = re.compile(rf"(\\|\^*)({SEGMENT}(?:\.{SEGMENT})*|)")
 TOKEN = re.compile(r'"[^"]*"|[\\^A-Za-z0-9_.]+|[(){},]')
 # With --any-run a row may end in marks: one that only may stand, one that is declared several times.
@@ -29,9 +31,7 @@ VALUE = re.compile(
     r"(Buffer|Package|VarPackage|LAnd|LOr|LNot|LEqual|LGreater|LLess|DerefOf|RefOf|SizeOf|ObjectType|Match) \(.*"
     r"|(Add|Subtract|Multiply|Mod|And|NAnd|Or|NOr|XOr|Not|ShiftLeft|ShiftRight|Concatenate|Index|Mid|To\w+) \(.*, \)"
 )
-PREDEFINED = {"\\": "Scope", "\\_OSI": 1}
-PREDEFINED.update((f"\\{word}", "Scope") for word in ("_GPE", "_PR_", "_SB_", "_SI_", "_TZ_"))
-PREDEFINED.update({"\\_GL_": "Mutex", "\\_OS_": "Name", "\\_REV": "Name"})
+PREDEFINED = {"\\": "Scope", **{f"\\{segment}": kind for segment, kind in standard.PREDEFINED.items()}, "\\_OSI": 1}
 
 
 class Unusable(Exception):
@@ -64,43 +64,20 @@ def program():
     return os.fsdecode(run.stdout.rstrip(b"\n"))
 
 
-def parts(path):
-    return path[1:].split(".") if len(path) > 1 else []
-
-
-def joined(segments):
-    return "\\" + ".".join(segments)
-
-
-class Node:
+class Node(paths.Node):
     """A path: its kind, a method's as its count and an Alias's as the path that it stands for, whether it only may stand,
     the greatest count of the methods that are declared there, and the count of a path that isn't declared."""
 
-    __slots__ = ("above", "segment", "depth", "below", "kind", "is_maybe", "most", "count")
+    __slots__ = ("kind", "is_maybe", "most", "count")
 
     def __init__(self, above, segment):
-        self.above, self.segment, self.depth = above, segment, above.depth + 1 if above else 0
-        self.below = self.kind = self.most = self.count = None
+        super().__init__(above, segment)
+        self.kind = self.most = self.count = None
         self.is_maybe = False
-
-    def child(self, segment):
-        """The node of a segment below it, made where it isn't there."""
-        if self.below is None:
-            self.below = {}
-        if segment not in self.below:
-            self.below[segment] = Node(self, segment)
-        return self.below[segment]
-
-    def path(self):
-        segments, node = [], self
-        while node.above:
-            segments.append(node.segment)
-            node = node.above
-        return joined(reversed(segments))
 
 
 class Namespace:
-    """The paths of a text, as a tree, so that a name is found without making each path at which it may stand."""
+    """The paths of a text."""
 
     def __init__(self):
         self.root = Node(None, "")
@@ -109,10 +86,7 @@ class Namespace:
 
     def node(self, path):
         """The node of a path, made where it isn't there."""
-        node = self.root
-        for segment in parts(path):
-            node = node.child(segment)
-        return node
+        return self.root.at(paths.parts(path))
 
     def start(self, scope, name):
         """The node below which the segments of a name are placed, its segments, and whether they are looked for above."""
@@ -129,9 +103,7 @@ class Namespace:
     def place(self, scope, name):
         """The node at which a name is placed, made where it isn't there."""
         node, segments, _ = self.start(scope, name)
-        for segment in segments:
-            node = node.child(segment)
-        return node
+        return node.at(segments)
 
     def candidates(self, scope, name):
         """The nodes that are there at the paths at which a name may stand, the nearest first."""
@@ -140,8 +112,7 @@ class Namespace:
             if node.below and segments[0] in node.below:
                 yield node.below[segments[0]]
             node = node.above
-        for segment in segments if node else ():
-            node = node.below.get(segment) if node and node.below else None
+        node = node and node.there(segments)
         if node:
             yield node
 

@@ -2,11 +2,9 @@
 
 import re
 
-import fields
-import listing
-import standard
-import terms
-from names import Externals, Names, Scope, TooDeep, Use
+from acpidis_tools import running
+from acpidis_tools.asl import fields, language, terms
+from acpidis_tools.asl.names import Externals, Names, Scope, TooDeep, Use
 
 TABLE = re.compile(r'Table ("[^"]*") ("[^"]*") Length \d+ Revision (\d{1,3}) Oem ("[^"]*") ("[^"]*") ([0-9A-F]{8}) Creator .*')
 BLOCK = re.compile(r'DefinitionBlock \(("[^"]*")\) \{')
@@ -66,7 +64,7 @@ class Block:
         indent = line[: len(line) - len(text)]
         if text == "}":
             return self.close(indent)
-        if self.open[-1] in standard.FLAGS:
+        if self.open[-1] in language.FLAGS:
             turned, unit, used = fields.element(text, self.tell)
             self.met("Unit", self.names.unit(unit, used, number), text)
             self.said += [(name, 0) for name in (unit, used) if name]
@@ -173,7 +171,7 @@ class Reader:
     """Reads a listing from the left. `make` makes the block of a table, with the namespace of the listing."""
 
     def __init__(self, make):
-        self.make, self.space, self.rows, self.tables, self.blocks = make, listing.Namespace(), [], {}, []
+        self.make, self.space, self.rows, self.tables, self.blocks = make, running.Namespace(), [], {}, []
         self.block, self.number = None, 0
 
     def read(self, text):
@@ -207,7 +205,7 @@ class Reader:
 
     def front(self, line):
         """A line in front of the definition blocks."""
-        table, row = TABLE.fullmatch(line), listing.ROW.fullmatch(line)
+        table, row = TABLE.fullmatch(line), running.ROW.fullmatch(line)
         if line.startswith("Table ") and table:
             self.tables[table[1]] = Table(self.number, table)
         elif row:

@@ -5,11 +5,11 @@ from __future__ import annotations
 from dataclasses import dataclass, field
 from typing import Optional
 
-from comparison import Comparison
-from decoding import Decoder
-from errors import Fault
-from listing import Line, Listing, NoListing, Path, path_of, path_text
-from names import PREDEFINED, Meaning, Names, Sort
+from acpidis_tools.comparison import Comparison
+from acpidis_tools.decoding import Decoder
+from acpidis_tools.errors import Fault
+from acpidis_tools.listing import Line, Listing, NoListing, Path, path_of, path_text
+from acpidis_tools.names import PREDEFINED, Meaning, Names, Sort
 
 # The page of a longer listing has its lines packed.
 LONG_TEXT = 200_000

@@ -1,0 +1,121 @@
+"""What all scripts have of a command: the words of its line, the options of acpidis that it passes on, and how it ends."""
+
+import argparse
+import os
+import re
+import subprocess
+import sys
+import tempfile
+
+from acpidis_tools import running
+
+AT_FAULT = 2
+OPTION = re.compile(r"^ {2}(?:-\w, | {4})(--[a-z][a-z-]*)(?: <(\w+)>)?(?= |$)", re.MULTILINE)
+# What comes with these is no listing.
+NO_LISTING = ("--help", "--version", "--check")
+SEGMENT = re.compile(r"[A-Z_][A-Z0-9_]{0,3}")
+
+
+# ---- the line
+
+
+def parser(about, **more):
+    """The command line of a script, whose help is what its first lines say."""
+    return argparse.ArgumentParser(description=about, formatter_class=argparse.RawDescriptionHelpFormatter, **more)
+
+
+def folder_parser(about, own=""):
+    """That of a script that reads a folder, with options of its own."""
+    words = parser(about, usage=f"%(prog)s {own}[OPTION..] FOLDER")
+    words.add_argument("folder", metavar="FOLDER")
+    words.set_defaults(options={})
+    return words
+
+
+def path_of(word):
+    """The path that a word means, with four signs in each segment: of \\_SB.PCI0._PTS or _sb_.pci0._pts it is
+    \\_SB_.PCI0._PTS."""
+    segments = word.upper().removeprefix("\\").split(".")
+    if not all(map(SEGMENT.fullmatch, segments)):
+        raise argparse.ArgumentTypeError(f"{word!r} is no path, as \\_SB_.PCI0._PTS is one")
+    return "\\" + ".".join(segment.ljust(4, "_") for segment in segments)
+
+
+# ---- options of acpidis
+
+
+def known():
+    """The options of acpidis, each with the name of its value, which is empty where it takes none."""
+    words = [running.command(), "--help"]
+    try:
+        done = subprocess.run(words, stdin=subprocess.DEVNULL, capture_output=True, check=False)
+    except (OSError, ValueError) as fault:
+        raise running.Unusable(f"cannot run {words[0]}: {fault}") from fault
+    options = done.stdout.decode(errors="replace").partition("\nOptions:\n")[2].partition("\n\n")[0]
+    return dict(OPTION.findall(options))
+
+
+class Keep(argparse.Action):
+    """Keeps an option with its value, or with None where it takes none. One with an empty value is as good as none."""
+
+    def __call__(self, parser, namespace, values, option_string=None):
+        if values != "":
+            namespace.options = {**namespace.options, self.option_strings[0]: values or None}
+
+
+def parse(words, but=()):
+    """What the command line asks for, with the options of acpidis in `options`, but for those that the script has
+    itself or can't do with. Only where an option isn't the script's own is acpidis asked which it has."""
+    _, more = words.parse_known_args()
+    if any(word.startswith("-") for word in more):
+        for option, value in known().items():
+            if option not in (*NO_LISTING, *but):
+                takes = {"metavar": value} if value else {"nargs": 0}
+                words.add_argument(option, action=Keep, dest="options", **takes)
+    return words.parse_args()
+
+
+def words_of(options):
+    """Options with their values, as words of the command line."""
+    return [word for item in options.items() for word in item if word is not None]
+
+
+# ---- the end
+
+
+def run(script, main):
+    """Runs the main function of a script, and writes out what it printed. Where writing fails, or memory ends, it ends in a line."""
+    try:
+        try:
+            main()
+        finally:
+            sys.stdout.flush()
+    except BrokenPipeError:
+        leave()  # who reads it has enough
+    except OSError as fault:
+        leave(f"{script}: cannot write: {fault.strerror}")
+    except MemoryError:
+        leave(f"{script}: there is not enough memory")
+    except KeyboardInterrupt:
+        leave(f"{script}: interrupted")
+
+
+def write(file, data):
+    """Writes a file as a whole, or not at all."""
+    with tempfile.NamedTemporaryFile(dir=os.path.dirname(os.path.abspath(file)), prefix=".part", delete=False) as part:
+        try:
+            part.write(data)
+            part.close()
+            os.chmod(part.name, 0o644)
+            os.replace(part.name, file)
+        except BaseException:
+            os.unlink(part.name)
+            raise
+
+
+def leave(text=""):
+    """Ends the script. What standard output didn't take isn't tried again at the end."""
+    if text:
+        print(text, file=sys.stderr)
+    os.dup2(os.open(os.devnull, os.O_WRONLY), 1)
+    sys.exit(AT_FAULT)

@@ -1,0 +1,48 @@
+"""Paths as nodes of a tree, so that a name is found without making each path at which it may stand."""
+
+
+class Node:
+    """A path below another one. What is below it is made where it is asked for."""
+
+    __slots__ = ("above", "segment", "depth", "below")
+
+    def __init__(self, above, segment):
+        self.above, self.segment, self.below = above, segment, None
+        self.depth = above.depth + 1 if above else 0
+
+    def child(self, segment):
+        """The node of a segment below it, made where it isn't there."""
+        if self.below is None:
+            self.below = {}
+        if segment not in self.below:
+            self.below[segment] = type(self)(self, segment)
+        return self.below[segment]
+
+    def at(self, segments):
+        """The node of some segments below it, made where it isn't there."""
+        node = self
+        for segment in segments:
+            node = node.child(segment)
+        return node
+
+    def there(self, segments):
+        """The same, where it is there, else None."""
+        node = self
+        for segment in segments:
+            node = node.below.get(segment) if node and node.below else None
+        return node
+
+    def path(self):
+        segments, node = [], self
+        while node.above:
+            segments.append(node.segment)
+            node = node.above
+        return joined(reversed(segments))
+
+
+def parts(path):
+    return path[1:].split(".") if len(path) > 1 else []
+
+
+def joined(segments):
+    return "\\" + ".".join(segments)
