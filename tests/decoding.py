@@ -201,6 +201,57 @@ PIN0, 1: byte 0x00, bit 0
 """
 
 
+def package(*elements: bytes) -> bytes:
+    return packed(b"\x12", bytes([len(elements)]) + b"".join(elements))
+
+
+def text(word: str) -> bytes:
+    return b"\x0D" + word.encode() + b"\0"
+
+
+# Objects of chapters 6 and 9, and one of WMI
+ROUTES = package(
+    package(b"\x0C\xFF\xFF\x01\0", b"\0", b"LNKA", b"\0"), package(b"\x0C\xFF\xFF\x1F\0", b"\1", b"\0", b"\x0A\x13"),
+    package(b"\x0C\1\0\x02\0", b"\x0A\2", b"LNKB", b"\x0A\3"),
+)  # fmt: skip
+PROPERTIES = buffer(data_of("14 D8 FF DA BA 6E 8C 4D 8A 91 BC 9B BF 4A A3 01"))
+PAIRS = package(package(text("label"), text("fan")), package(text("gpios"), package(b"^GPI0", b"\x0A\x13", b"\0")))
+PLACE = buffer(data_of("81 00 00 00 00 00 00 00 29 91 80 01 00 00 00 00"))
+BLOCKS = buffer(
+    data_of("21 12 90 05 66 D5 D1 11 B2 F0 00 A0 C9 06 29 10 41 41 01 00")
+    + data_of("21 12 90 05 66 D5 D1 11 B2 F0 00 A0 C9 06 29 10 42 41 01 02")
+    + data_of("6B 0F BC AB A1 8E D1 11 00 A0 C9 06 29 10 00 00 D0 00 02 09")
+)
+OBJECTS = (
+    b"\x08PR00" + ROUTES + method(b"_PRT", 0, b"\xA4PR00") + b"\x08_DSD" + package(PROPERTIES, PAIRS) + b"\x08_PLD" + package(PLACE)
+    + b"\x08_UPC" + package(b"\x0A\xFF", b"\x0A\3", b"\0", b"\0") + b"\x08_WDG" + BLOCKS
+    + method(b"_ADR", 0, b"\xA4" + ROUTES)
+)  # fmt: skip
+
+
+def check_objects(checks: Checks, room: pathlib.Path) -> None:
+    """Predefined objects in words, and values of another form without any."""
+    code = packed(b"\x5B\x82", b"PCI0" + OBJECTS)
+    odd = packed(b"\x5B\x82", b"PCI1" + b"\x08_PRT" + package(b"\0", package(b"\0")) + b"\x08_UPC\0" + b"\x08_WDG" + HPET)
+    (room / "objects").mkdir()
+    (room / "objects/dsdt.dat").write_bytes(table(b"DSDT", code + odd))
+    listing = read_listing(run_folder(room / "objects", Options()).out.encode())
+    decoder = Decoder(listing, Names(listing))
+    found = [(line.words[1], row) for line in listing.lines for row in decoder.rows(line)]
+    wanted = [("PR00", route) for route in (
+        "device 0x01 INTA to LNKA", "device 0x1F INTB to interrupt 19", "device 0x02 function 1 INTC to LNKB 3",
+    )]
+    guid, event = "05901221-d566-11d1-b2f0-00a0c9062910", "abbc0f6b-8ea1-11d1-00a0-c90629100000"
+    wanted += [
+        ("_DSD", "UUID daffd814-6eba-4d8c-8a91-bc9bbf4aa301 device properties"), ("_DSD", "label: \"fan\""),
+        ("_DSD", "gpios: (^GPI0, 0x13, 0)"),
+        ("_PLD", "visible, panel back, upper center, horizontal rectangle, group 1 position 3"),
+        ("_UPC", "connectable, USB 3 type A"), ("_WDG", f"{guid} data WQAA"), ("_WDG", f"{guid} method WMBA"),
+        ("_WDG", f"{event} event 0xD0, 2 instances, expensive"),
+    ]  # fmt: skip
+    checks.is_same("predefined objects", found, wanted)
+
+
 def check_notes(checks: Checks, folder: pathlib.Path) -> None:
     listing = read_listing(run_folder(folder, Options()).out.encode())
     decoder = Decoder(listing, Names(listing))
@@ -285,6 +336,7 @@ def main() -> None:
     with tempfile.TemporaryDirectory() as room:
         made = made_set(pathlib.Path(room))
         check_notes(checks, made)
+        check_objects(checks, pathlib.Path(room))
         if shutil.which("iasl"):
             for folder in (DEMO, made, *map(pathlib.Path, sys.argv[1:])):
                 compare(checks, folder.name, folder)

@@ -300,6 +300,12 @@ def look_at_text(browser: Browser, checks: Checks) -> None:
     gaps = "[...document.querySelectorAll('#tables details')].every((fold) => fold.getBoundingClientRect().height" \
         " < 26 * (fold.querySelectorAll('p').length + 1))"
     checks.is_so("tables aren't double-spaced", browser.value(gaps))
+    folded = "[...document.querySelectorAll('.bytes')]"
+    if browser.value(f"{folded}.length"):
+        is_short = f"{folded}.every((one) => one.scrollWidth > one.clientWidth && one.getClientRects().length === 1)"
+        checks.is_so("bytes with their meaning below are folded", browser.value(is_short))
+        browser.value(f"{folded}[0].focus()")
+        checks.is_so("a click shows them", browser.value(f"getComputedStyle({folded}[0]).display") == "inline")
     title = browser.value("document.title")
     checks.is_so(f"the title has a name and no NUL: {title}", ": " in title and "\\x00" not in title)
 

@@ -6,6 +6,7 @@ import re
 from collections import defaultdict
 from typing import NamedTuple
 
+from acpidis_tools import objects
 from acpidis_tools.identifiers import EISA_NUMBER, eisa_id, uuid_text, uuid_with_name, with_name
 from acpidis_tools.listing import Line, Listing
 from acpidis_tools.names import FIELD_LISTS, FIRST_WORD, Meaning, Names, is_name
@@ -55,12 +56,13 @@ class Template(NamedTuple):
 class Decoder:
     """`terms` keeps those of a line that was asked for last, `patches` has the fields that are made of a buffer, by the
     anchor of its name: first bit, the bit behind the last, and the field's name. `units` are those of field lists by the
-    numbers of their lines, `heads` the flags of the lists."""
+    numbers of their lines, `returned` has the last segments of the methods that return a name, by its anchor."""
 
     def __init__(self, listing: Listing, names: Names):
         self.names = names
         self.patches: dict[str, list[tuple[int, int, str]]] = defaultdict(list)
         self.units: dict[int, Unit] = {}
+        self.returned: dict[str, str] = {}
         self.kept: tuple[int, list[Term]] = (0, [])
         for block in listing.blocks:
             self.read(block.lines)
@@ -81,6 +83,10 @@ class Decoder:
                 bit += width
             elif line.term.startswith("Create"):
                 self.add_patch(line)
+            elif line.term == "Return" and line.method and line.method[-1] in objects.MAKERS and len(line.words) == 2:
+                meaning = self.meanings(line).get(1)
+                if meaning and meaning.anchor:
+                    self.returned[meaning.anchor] = line.method[-1]
 
     def terms(self, line: Line) -> list[Term]:
         if self.kept[0] != line.number:
@@ -154,6 +160,26 @@ class Decoder:
 
     def uuids(self, line: Line) -> list[str]:
         return [text for term in self.buffers(line) for text in [uuid_text(term.braced)] if text]
+
+    # ---- predefined objects
+
+    def rows(self, line: Line) -> list[str]:
+        """What the value of a predefined object says, which a line declares or returns."""
+        if line.term not in ("Name", "Return") or len(line.words) < 2:
+            return []
+        terms = self.terms(line)
+        value = terms[0].argument(1 if line.term == "Name" else 0) if terms else None
+        return objects.rows_of(self.object_name(line), value) if value else []
+
+    def object_name(self, line: Line) -> str:
+        """The name of the object whose value a line has."""
+        if line.term == "Return":
+            return line.method[-1] if line.method else ""
+        name = line.words[1][-4:]
+        if name in objects.MAKERS or not self.returned:
+            return name
+        meaning = self.meanings(line).get(1)
+        return self.returned.get(meaning.anchor, "") if meaning else ""
 
     # ---- identifiers
 

@@ -20,6 +20,8 @@ LONG_BLOCK = 12
 CHUNK = 300
 NUMBERS = ("Zero", "One", "Ones")
 PLAIN = re.compile("Local[0-7]|Arg[0-6]|(Not)?Serialized")
+# The bytes of a buffer of more than eight.
+BYTES = re.compile(r"\{[0-9A-F]{2}(?:, [0-9A-F]{2}){8,}\}")
 
 
 def name_html(word: str, meaning: Meaning, sheet: Sheet) -> str:
@@ -43,8 +45,11 @@ def others_title(meaning: Meaning) -> str:
     return f' title="or {" or ".join(paths)}"' if paths else ""
 
 
-def line_html(line: Line, sheet: Sheet) -> str:
+def line_html(line: Line, sheet: Sheet, is_decoded: bool) -> str:
+    """A line. Bytes whose meaning stands below it are shown when they are clicked on."""
     pieces = line.pieces.copy()
+    if is_decoded:
+        pieces[::2] = [BYTES.sub(r"<span class=bytes tabindex=0>\g<0></span>", piece) for piece in pieces[::2]]
     next_meaning = iter(sheet.names.meanings[line.number])
     for place in range(1, len(pieces), 2):
         word = pieces[place]
@@ -74,9 +79,8 @@ def raw_html(line: Line, fault: Fault | None) -> str:
     return f"{'  ' * line.depth}<b>Raw</b>{shown}<em class=note>{said}</em>"
 
 
-def said_html(line: Line, sheet: Sheet) -> str:
-    """What the line's numbers and bytes mean."""
-    notes, rows = said_of(line, sheet)
+def said_html(notes: list[str], rows: list[str]) -> str:
+    """What a line's numbers and bytes mean."""
     shown = "".join(f"<small class=say>{escape(note)}</small>" for note in notes)
     return shown + "".join(f'<small class="say row">{escape(row)}</small>' for row in rows)
 
@@ -84,7 +88,7 @@ def said_html(line: Line, sheet: Sheet) -> str:
 def said_of(line: Line, sheet: Sheet) -> tuple[list[str], list[str]]:
     """What is said behind a line, and in rows below it."""
     templates = [template.texts() or ["no resources"] for template in sheet.decoder.templates(line)]
-    return sheet.decoder.notes(line), [text for texts in templates for text in texts]
+    return sheet.decoder.notes(line), [text for texts in (*templates, sheet.decoder.rows(line)) for text in texts]
 
 
 class BlockWriter:
@@ -172,7 +176,8 @@ class BlockWriter:
         """A line's text with its notes, and how its path differs from another listing's."""
         if line.term == "Raw" and line.method:
             return raw_html(line, self.sheet.faults.get(line.number)), "raw"
-        text, mark = line_html(line, self.sheet), ""
+        notes, rows = said_of(line, self.sheet)
+        text, mark = line_html(line, self.sheet, bool(rows) and not line.end), ""
         for meaning in self.sheet.names.meanings[line.number]:
             if meaning.sort in (Sort.DECLARES, Sort.LOCAL):
                 uses = self.sheet.names.uses.get(meaning.anchor)
@@ -184,7 +189,7 @@ class BlockWriter:
             text += f"<a class=note href=#c{line.number}>changed</a>"
         elif line.number in self.changed:
             mark = "differs"
-        return text + self.nexts.get(line.number, "") + said_html(line, self.sheet), mark
+        return text + self.nexts.get(line.number, "") + said_html(notes, rows), mark
 
 
 def next_notes(names: Names, sheet: Sheet) -> dict[int, str]:
