@@ -1,6 +1,6 @@
 #!/bin/sh
-# The launcher ./acpidis and the script ./build: the demo, what is answered without a build, crates side by side, and
-# what they say where they can't build. With the word copy only the rows that need no built program are tried: they use a
+# The launcher ./acpidis and the script ./build: the demo, the help, crates side by side, and what they say where they can't
+# build. With the word copy only the rows that need no built program are tried: they use a
 # copy of the launcher beside a command rt that only pretends. Else the program is built first where that is wanted. With the
 # word real only the rows that need it are tried.
 
@@ -49,6 +49,7 @@ is() {
 
 mkdir copy empty commands folder
 cp "$top/acpidis" "$top/build" "$top/crates.txt" copy
+mkdir copy/docs && cp "$top/docs/help.txt" copy/docs
 mkdir -p copy/crates/acpidis_program/data/demo
 cp -r "$top/crates/acpidis_program/src" copy/crates/acpidis_program
 sed -n 's/^\([a-z_]*\)[ :].*/\1/p' copy/crates.txt | while read -r crate; do mkdir -p "copy/crates/$crate/src"; done
@@ -70,38 +71,7 @@ real_rows() {
     row 'a file that is named demo' 1 'acpidis: cannot read "demo"' "$top/acpidis" --externals demo demo
     row 'two folders' 2 "For more information, try '--help'." "$top/acpidis" demo demo
 
-    # the launcher's own help has the options of the program, with the same values
-    options() {
-        grep -o -- '--[a-z][a-z-]*\( <[A-Z]*>\)*' | sort -u
-    }
-    "$top/acpidis" --help | sed '/^Of this launcher alone/,/^$/d' | options >own
-    "$top/out/acpidis" --help 2>&1 | options >program
-    if [ -s own ] && cmp -s own program; then
-        passed=$((passed + 1))
-    else
-        failed=$((failed + 1))
-        echo 'FAILED the options of the help: the own ones, those of the program'
-        sed 's/^/  /' own program
-    fi
-
-
-    # what the launcher answers without the program is what the program answers
-    rm -rf copy/out copy/crates/acpidis_program/out
-    for words in --version '' --wrong '--workers 0 .' '--workers 65 .' --workers '. .' nowhere; do
-        # shellcheck disable=SC2086
-        "$top/out/acpidis" $words >printed 2>&1
-        status=$?
-        # shellcheck disable=SC2086
-        copy/acpidis $words >own 2>&1
-        case $?$(head -n 1 printed) in
-        "$status$(head -n 1 own)"*) passed=$((passed + 1)) ;;
-        *)
-            failed=$((failed + 1))
-            echo "FAILED the words $words: without the program, with it"
-            cat own printed
-            ;;
-        esac
-    done
+    is 'the help that needs no build' "$("$top/acpidis" --help)" "$("$top/out/acpidis" --help 2>&1)"
 }
 
 # done: the last line
@@ -121,37 +91,8 @@ none=$work/empty:/usr/bin:/bin
 for word in --help -h; do
     row "$word, with nothing built" 0 'Usage: acpidis [OPTIONS] <FOLDER>' env PATH="$none" copy/acpidis "$word"
 done
-row 'help behind an option' 0 'Usage: acpidis [OPTIONS] <FOLDER>' env PATH="$none" copy/acpidis --check --help
-for word in --version -V; do
-    row "$word, with nothing built" 0 'acpidis 0.1.0' env PATH="$none" copy/acpidis "$word"
-done
-row 'no words' 2 "For more information, try '--help'." env PATH="$none" copy/acpidis
-row 'a wrong option' 2 "error: unexpected argument '--wrong' found" env PATH="$none" copy/acpidis --wrong folder
-row 'a wrong short option' 2 "error: unexpected argument '-x' found" env PATH="$none" copy/acpidis folder -x
-row 'an option with its help' 2 "error: unexpected argument '--check  print' found" \
-    env PATH="$none" copy/acpidis '--check  print' folder
-row "the launcher's own option behind others" 2 "error: unexpected argument '--program' found" \
-    env PATH="$none" copy/acpidis folder --program
-row 'two folders' 2 "error: unexpected argument 'other' found" env PATH="$none" copy/acpidis folder other
-row 'no value' 2 "error: a value is required for '--externals <FILE>' but none was supplied" \
-    env PATH="$none" copy/acpidis folder --externals
-for number in 0 65 08 x ''; do
-    fault="error: invalid value '$number' for '--workers <N>'"
-    row "workers $number" 2 "$fault" env PATH="$none" copy/acpidis --workers "$number" folder
-    row "workers=$number" 2 "$fault" env PATH="$none" copy/acpidis --workers="$number" folder
-done
-row 'a folder that is not there' 1 'acpidis: cannot read folder' env PATH="$none" copy/acpidis --check nowhere
-row 'a folder like an option' 1 'acpidis: cannot read folder' env PATH="$none" copy/acpidis -- --check
 nokit="acpidis: the Rattle kit isn't there: its command rt proves and builds this program"
 row 'no kit' 127 "$nokit" env PATH="$none" copy/acpidis demo
-row 'all options, and no kit' 127 "$nokit" env PATH="$none" \
-    copy/acpidis --any-sum --any-run --workers 64 --workers=1 --externals e --externals=e --unknown-zero --check folder
-sed 's/^      --check .*/&\n      --later <WORD>  takes one\n      --latest        takes none/' copy/acpidis >copy/later
-row 'options that stand in the help alone' 127 "$nokit" \
-    env PATH="$none" sh copy/later --later --latest --latest --later= folder
-row 'no value for one of them' 2 "error: a value is required for '--later <WORD>' but none was supplied" \
-    env PATH="$none" sh copy/later folder --latest --later
-rm copy/later
 
 # a build that fails, with an older program in place
 mkdir copy/crates/acpidis_program/out
