@@ -229,7 +229,7 @@ def fails_of_goals():
     """Of each crate, whether the list of goals has a wrong body that isn't there."""
     for goals in sorted(TOP.glob("crates/*/wrong-bodies.goals")):
         there = [it.stem for it in goals.parent.glob("must-fail/*.edit")]
-        there += re.findall(r"^edit: (\w+)", (goals.parent / "wrong-bodies.edits").read_text(), re.MULTILINE)
+        there += [name for it in goals.parent.glob("*.edits") for name in re.findall(r"^edit: (\w+)", it.read_text(), re.MULTILINE)]
         lost = [line.split()[0] for line in goals.read_text().splitlines() if line[0] != "#" and line.split()[0] not in there]
         if lost:
             print(f"FAILED {goals.relative_to(TOP)}: {', '.join(lost)} isn't there")
