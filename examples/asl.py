@@ -24,8 +24,9 @@ import sys
 
 from acpidis_tools import command
 from acpidis_tools.asl import forms, language
-from acpidis_tools.asl.blocks import Block, MethodBlock, Reader, Refused, read
+from acpidis_tools.asl.blocks import Block, MethodBlock, Reader, Refused
 from acpidis_tools.asl.names import said_by
+from acpidis_tools.listing import NoListing
 
 TOLD = 3
 # What all blocks together have no more Externals than, of what they don't use.
@@ -44,7 +45,7 @@ def of_listing(asked):
     reader = Reader(
         lambda table, space: MethodBlock(table, space, asked.method) if asked.method else Block(table, space, asked.edit)
     )
-    reader.read(read(asked.listing))
+    reader.read(asked.listing)
     found = [method for block in reader.blocks for method in block.found] if asked.method else reader.blocks
     if not found:
         raise Refused(f"it declares no method {asked.method}")
@@ -111,7 +112,7 @@ def main():
         blocks, made = of_listing(asked)
         more = list(forms.told(asked.tables, blocks)) if asked.tables else []
         write(asked.out, made, asked.edit or asked.method)
-    except Refused as fault:
+    except NoListing as fault:
         sys.exit(f"asl: {asked.listing!r}: {fault}")
     except forms.Misfit as fault:
         command.leave(f"asl: {fault}")

@@ -13,7 +13,8 @@ Status 1 is a text that is no listing, or that declares no such path; 2 a comman
 import sys
 
 from acpidis_tools import command
-from acpidis_tools.asl.blocks import Block, Reader, Refused, read
+from acpidis_tools.asl.blocks import Block, Reader
+from acpidis_tools.listing import NoListing
 
 
 class Shown:
@@ -62,8 +63,8 @@ def main():
     asked = words.parse_args()
     reader = Reader(lambda table, space: ShownBlock(table, space, asked.path))
     try:
-        reader.read(read(asked.listing))
-    except Refused as fault:
+        reader.read(asked.listing)
+    except NoListing as fault:
         sys.exit(f"show: {asked.listing!r}: {fault}")
     except OSError as fault:
         command.leave(f"show: {fault.filename!r}: {fault.strerror}")

@@ -221,8 +221,8 @@ WHOLE = (
 )
 MISREAD = [
     ("", "it is empty"),
-    ("\n", "it is cut behind line 1"),
-    (WHOLE[:-1], "it is cut behind line 10"),
+    ("\n", "it doesn't begin as a listing of acpidis does, with a line Table or Root"),
+    (WHOLE[:-1], "it is cut in line 11"),
     (WHOLE[:-2], "it is cut behind line 10"),
     (WHOLE.replace("Noop", "noop"), "line 9 isn't one of a listing of acpidis"),
     (WHOLE.replace("Noop", ""), "line 9 isn't one of a listing of acpidis"),
@@ -331,14 +331,15 @@ def check_speed(checks):
 READER = """
 import pathlib, sys
 sys.path[:0] = sys.argv[2:]
-from acpidis_tools.asl.blocks import Block, Reader, Refused
+from acpidis_tools.asl.blocks import Block, Reader
 from acpidis_tools.asl.names import said_by
+from acpidis_tools.listing import NoListing
 for path in pathlib.Path(sys.argv[1]).iterdir():
     reader = Reader(lambda table, space: Block(table, space, True))
     try:
-        reader.read(path.read_text("ascii"))
+        reader.read(path)
         [block.text(reader.rows, said_by(reader.blocks)) for block in reader.blocks]
-    except Refused:
+    except NoListing:
         print("refused")
     except Exception as fault:
         print(path, repr(fault))

@@ -77,6 +77,8 @@ BAD_NAME = "a\" {\n      Raw {5A}\n$(touch bad)`touch bad`.dat"
 
 class Stopped(Exception):
     """A row failed, and no other is wanted."""
+# The line of a table, without which nothing is a listing
+LINE = 'Table "a" "DSDT" Length 36 Revision 2 Oem "TEST  " "EXAMPLE " 00000001 Creator "TEST" 00000001'
 
 
 class Tries:
@@ -216,7 +218,7 @@ def try_calls(tries):
     tries.row("no calls", tries.run("calls.py", "rounds"), 0, "", "calls: 1 raw body isn't looked through")
     (tries.room / "counts").write_text("\\PCIU 0\n\\_SB_.PCIU 0\n\\_SB_.PCID 0\n")
     tries.row("given counts", tries.run("calls.py", "--externals", "counts", "rounds"), 0, "")
-    text = "Namespace 1\n  \\FOO_ Method 1 Maybe Times 2\nDefinitionBlock (\"a\") {\n  Notify (FOO_, One)\n}\n"
+    text = f"{LINE}\nNamespace 1\n  \\FOO_ Method 1 Maybe Times 2\nDefinitionBlock (\"a\") {{\n  Notify (FOO_, One)\n}}\n"
     fake = tries.room / "marked"
     fake.write_text(f"#!/bin/sh\ncat <<'END'\n{text}END\n")
     fake.chmod(0o755)
@@ -315,6 +317,8 @@ Another part:
 END
 esac
 printf '%s\\n' "$@" >>'{said}'
+echo '{LINE}'
+echo Namespace 0
 echo 'DefinitionBlock ("a") {{'
 echo }}
 """)
@@ -401,7 +405,7 @@ def try_hostile(tries):
         tries.row(f"{script}: no program", tries.run(script, text, ACPIDIS="/none/acpidis"), 2, "", none)
         for number, line in enumerate(("acpidis: body \\A: UnknownName at 0", "Raw {5A}", "")):
             fake = tries.room / f"{name}{number}"
-            fake.write_text(f"#!/bin/sh\necho 'DefinitionBlock (\"a\") {{'\necho '{line}'\necho '{line}' >&2\nexit 3\n")
+            fake.write_text(f"#!/bin/sh\necho '{LINE}'\necho Namespace 0\necho 'DefinitionBlock (\"a\") {{'\necho '{line}'\necho '{line}' >&2\nexit 3\n")
             fake.chmod(0o755)
             misfit = f"{name}: the lines of standard error don't fit the raw bodies of the text"
             tries.row(f"{script}: another program", tries.run(script, text, ACPIDIS=str(fake)), 2, "", misfit)

@@ -180,7 +180,8 @@ class Reader:
         if bare == "}":
             depth -= 1
         pieces = WORD.split(bare)
-        if len(text) - len(bare) != 2 * depth or not all(map(BETWEEN.fullmatch, pieces[::2])) or not bare:
+        is_empty = len(pieces) == 1 and bare != "}"
+        if len(text) - len(bare) != 2 * depth or is_empty or not all(map(BETWEEN.fullmatch, pieces[::2])):
             raise self.refuse()
         if bare.startswith("Raw") and not RAW.fullmatch(bare):
             raise self.refuse()
@@ -189,12 +190,13 @@ class Reader:
 
 
 def reader_of(text: bytes) -> Reader:
-    """Reads a text that begins and ends as a listing does."""
+    """Reads a text that begins and ends as a listing does. Its lines may end as on Windows."""
     if not text:
         raise NoListing("it is empty")
     if not text.isascii():
-        raise NoListing("it isn't ASCII, as a listing of acpidis is")
-    lines = text.decode().split("\n")
+        number = next(number for number, line in enumerate(text.split(b"\n"), 1) if not line.isascii())
+        raise NoListing(f"line {number} has a byte that isn't ASCII")
+    lines = text.decode().replace("\r\n", "\n").split("\n")
     if not DUMP.fullmatch(lines[0]):
         raise NoListing("it doesn't begin as a listing of acpidis does, with a line Table or Root")
     if lines[-1]:

@@ -11,13 +11,11 @@ import shutil
 import subprocess
 
 from acpidis_tools import paths, standard
-from acpidis_tools.listing import SEGMENT
+from acpidis_tools.listing import SEGMENT, NoListing, reader_of
 
 LAUNCHER = pathlib.Path(__file__).resolve().parents[2] / "acpidis"
 NAME = re.compile(rf"(\\|\^*)({SEGMENT}(?:\.{SEGMENT})*|)")
 TOKEN = re.compile(r'"[^"]*"|[\\^A-Za-z0-9_.]+|[(){},]')
-# With --any-run a row may end in marks: one that only may stand, one that is declared several times.
-ROW = re.compile(r"  (\\\S*) (\w+)(?: ([0-7]|\\\S*))?( Maybe)?(?: Times \d+)?")
 # A name is looked for in each scope around it, which a hostile set could make many.
 MOST_SEGMENTS = 64
 MOST_SHOWN = 40
@@ -117,10 +115,11 @@ class Namespace:
             yield node
 
     def add(self, row):
-        path, kind, more, is_maybe = row.groups()
-        node = self.node(path)
-        node.is_maybe = bool(is_maybe) and path not in PREDEFINED
-        node.kind = int(more or 0) if kind == "Method" else more if kind == "Alias" else kind
+        """The node of a row of a listing."""
+        node, (kind, _, more) = self.root.at(row.path), row.kind.partition(" ")
+        node.is_maybe = row.is_maybe and node.path() not in PREDEFINED
+        node.kind = int(more) if kind == "Method" else more if kind == "Alias" else kind
+        return node
 
     def may_be(self, scope, name, own=()):
         """What a name may be: methods' counts and other kinds, those of the nearest path first, up to one that is sure;
@@ -182,22 +181,19 @@ class Listing:
     """A text: its namespace, and its methods in their order. `lines` are those of the definition blocks, as in walk."""
 
     def __init__(self, text):
-        lines = text.split("\n")
-        block = next((at for at, line in enumerate(lines) if line.startswith("DefinitionBlock (")), len(lines))
-        self.namespace = Namespace()
-        for row in filter(None, map(ROW.fullmatch, self.rows(lines[:block]))):
-            self.namespace.add(row)
-        self.lines, self.methods = [], []
-        self.walk(lines[block:], block + 1)
+        self.namespace, self.lines, self.methods = Namespace(), [], []
+        try:
+            reader = reader_of(text)
+            reader.dumps()
+            for row in reader.rows():
+                self.namespace.add(row)
+        except NoListing as fault:
+            raise Unusable(f"what it printed is no listing: {fault}") from fault
+        self.walk(reader.lines[reader.at :], reader.at + 1)
 
     def lone_values(self):
         """How many terms outside the methods are values that nothing takes."""
         return sum(is_lone(line, scope, self.namespace) for line, scope, method in self.lines if method is None)
-
-    @staticmethod
-    def rows(lines):
-        start = next((at for at, line in enumerate(lines) if re.fullmatch(r"Namespace \d+", line)), len(lines))
-        return lines[start + 1 :]
 
     def walk(self, lines, first):
         """Gives each line its scope, and the method in whose body it stands. `first` is the first line's number."""
@@ -245,7 +241,7 @@ def run(words):
     """Runs the program with these words."""
     try:
         done = subprocess.run(words, stdin=subprocess.DEVNULL, capture_output=True, check=False)
-        out, err = done.stdout.decode("ascii"), done.stderr.decode().splitlines()
+        out, err = done.stdout, done.stderr.decode().splitlines()
     except (OSError, ValueError) as fault:
         raise Unusable(f"cannot run {words[0]}: {fault}") from fault
     if done.returncode == 1 and len(err) == 1:

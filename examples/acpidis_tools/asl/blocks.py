@@ -2,29 +2,18 @@
 
 import re
 
-from acpidis_tools import running
+from acpidis_tools import listing, running
 from acpidis_tools.asl import fields, language, terms
 from acpidis_tools.asl.names import Externals, Names, Scope, TooDeep, Use
 
 TABLE = re.compile(r'Table ("[^"]*") ("[^"]*") Length \d+ Revision (\d{1,3}) Oem ("[^"]*") ("[^"]*") ([0-9A-F]{8}) Creator .*')
-BLOCK = re.compile(r'DefinitionBlock \(("[^"]*")\) \{')
 RAW = "Raw {"
 GUARD = "If (Zero) {"
 OTHERS = "  // What else the tables declare:"
 
 
-class Refused(Exception):
-    """The text is no listing, or hasn't got what is asked for: why."""
-
-
-def read(file):
-    """The text of a file."""
-    with open(file, "rb") as opened:
-        text = opened.read()
-    try:
-        return text.decode("ascii")
-    except UnicodeDecodeError as fault:
-        raise Refused(f"line {text.count(10, 0, fault.start) + 1} has a byte that isn't ASCII") from fault
+class Refused(listing.NoListing):
+    """The listing hasn't got what is asked for: why."""
 
 
 class Table:
@@ -168,46 +157,37 @@ class Found:
 
 
 class Reader:
-    """Reads a listing from the left. `make` makes the block of a table, with the namespace of the listing."""
+    """Reads a listing block by block. `make` makes the block of a table, with the namespace of the listing."""
 
     def __init__(self, make):
-        self.make, self.space, self.rows, self.tables, self.blocks = make, running.Namespace(), [], {}, []
-        self.block, self.number = None, 0
+        self.make, self.space, self.rows, self.blocks = make, running.Namespace(), [], []
 
-    def read(self, text):
-        for self.number, line in enumerate(text.split("\n")[:-1], 1):
+    def read(self, file):
+        """Reads the listing of a file."""
+        with open(file, "rb") as opened:
+            lines = listing.reader_of(opened.read())
+        dumps = lines.dumps()
+        forms = [(dump, TABLE.fullmatch(dump.text)) for dump in dumps]
+        tables = {dump.file: Table(dump.number, form) for dump, form in forms if form}
+        self.rows = [self.space.add(row) for row in lines.rows()]
+        while lines.at < len(lines.lines):
+            number, block = lines.at + 1, lines.block()
+            # Each stands once, behind the line of its table.
+            if block.file not in tables:
+                raise misread(number)
+            self.blocks.append(self.make(tables.pop(block.file), self.space))
+            self.turn(block)
+        listing.check_blocks(dumps, self.blocks, len(lines.lines))
+
+    def turn(self, block):
+        for line in block.lines[1:]:
             try:
-                self.take(line.removesuffix("\r"))
+                self.blocks[-1].add(line.number, line.text)
             except (terms.Misread, ValueError) as fault:
-                raise Refused(f"line {self.number} isn't one of a listing of acpidis") from fault
+                raise misread(line.number) from fault
             except TooDeep as fault:
-                raise Refused(f"line {self.number}: {fault}") from fault
-        if self.block or not self.blocks or not text.endswith("\n"):
-            raise Refused(f"it is cut behind line {self.number}" if self.number else "it is empty")
+                raise listing.NoListing(f"line {line.number}: {fault}") from fault
 
-    def take(self, line):
-        if self.block:
-            if self.block.add(self.number, line):
-                self.blocks.append(self.block)
-                self.block = None
-        elif line.startswith("DefinitionBlock ("):
-            self.begin(BLOCK.fullmatch(line))
-        elif self.blocks:
-            raise terms.Misread
-        else:
-            self.front(line)
 
-    def begin(self, form):
-        """A definition block begins. Each stands once, behind the line of its table."""
-        if not form or form[1] not in self.tables:
-            raise terms.Misread
-        self.block = self.make(self.tables.pop(form[1]), self.space)
-
-    def front(self, line):
-        """A line in front of the definition blocks."""
-        table, row = TABLE.fullmatch(line), running.ROW.fullmatch(line)
-        if line.startswith("Table ") and table:
-            self.tables[table[1]] = Table(self.number, table)
-        elif row:
-            self.space.add(row)
-            self.rows.append(self.space.node(row[1]))
+def misread(number):
+    return listing.NoListing(f"line {number} isn't one of a listing of acpidis")
