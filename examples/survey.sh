@@ -1,14 +1,15 @@
 #!/usr/bin/env bash
 # Runs acpidis over many sets of tables, and writes one line a set. docs/many.md says how to use it.
 #
-#   survey.sh [-j JOBS] [-s SECONDS] SETS RESULTS [OPTION..]
+#   survey.sh [-j JOBS] [-s SECONDS] [-m MEGABYTES] SETS RESULTS [OPTION..]
 #   survey.sh --left SETS RESULTS
 #   survey.sh --one SETS [OPTION..] -- FOLDER..
 #
 # The first form runs each set below SETS that has no line in RESULTS yet, JOBS at a time (as many as there are
-# processors, if left out), each for SECONDS at most (600). The second prints the folders of these sets, each ended by a
-# NUL. The third prints the lines of the given ones. Each OPTION is one of acpidis. ACPIDIS names another program,
-# SURVEY_SECONDS is the third form's SECONDS. It needs bash 5, awk, and of Linux find, flock, sort, timeout and xargs.
+# processors, if left out), each for SECONDS at most (600), and with no more memory than MEGABYTES, where that is given. The
+# second prints the folders of these sets, each ended by a NUL. The third prints the lines of the given ones. Each OPTION is one
+# of acpidis. ACPIDIS names another program, SURVEY_SECONDS and SURVEY_MEGABYTES are the third form's SECONDS and MEGABYTES. It
+# needs bash 5, awk, and of Linux find, flock, sort, timeout and xargs.
 set -u
 export LC_ALL=C CDPATH=
 
@@ -124,15 +125,25 @@ oem_of() {
     printf -v oem '"%s" "%s" %02X%02X%02X%02X' "${texts[@]}" "${bytes[17]}" "${bytes[16]}" "${bytes[15]}" "${bytes[14]}"
 }
 
-# is_read WORD..: whether the program takes the set with these words
-is_read() {
-    timeout --foreground -k 5 "${SURVEY_SECONDS:-600}" "$ACPIDIS" --check --workers 1 "$@" >/dev/null 2>&1 </dev/null
-    case $? in 0 | 3) ;; *) return 1 ;; esac
+# check WORD..: runs the program with these words, no longer and with no more memory than it may. It is a process of its own.
+check() (
+    [ -z "${SURVEY_MEGABYTES-}" ] || ulimit -v $((SURVEY_MEGABYTES * 1024)) || exit 126
+    exec timeout --foreground -k 5 "${SURVEY_SECONDS:-600}" "$ACPIDIS" --check --workers 1 "$@" 2>&1 </dev/null
+)
+
+# hint WORD..: sets `said` to whether the program takes the set with these words, or that it was ended before it said so
+hint() {
+    check "$@" >/dev/null
+    case $? in
+    0 | 3) said=' (read with --any-run)' ;;
+    1) said= ;;
+    *) said=' (--any-run was cut off)' ;;
+    esac
 }
 
 # one SET OPTION..: the line of the set in the folder `folder`
 one() {
-    local from=$EPOCHREALTIME set=$1 until counts status micros oem fault
+    local from=$EPOCHREALTIME set=$1 until counts status micros oem fault said=
     shift
     show "$folder"
     if [ "$shown" != "$folder" ] && [ -r "$set" ]; then
@@ -140,8 +151,7 @@ one() {
         set=/dev/fd/8
     fi
     counts=$(
-        timeout --foreground -k 5 "${SURVEY_SECONDS:-600}" "$ACPIDIS" --check --workers 1 "$@" "$set" 2>&1 </dev/null |
-            count_checks
+        check "$@" "$set" | count_checks
         exit "${PIPESTATUS[0]}"
     )
     status=$? until=$EPOCHREALTIME
@@ -149,7 +159,7 @@ one() {
     fault=${counts%%$'\t'*} counts=${counts#*$'\t'}
     case $status$fault in
     *': Short' | *': TooLarge' | *': Bad'[SR]* | *': FadtShort' | *': MadtRecord at '* | *': TwoDsdts') ;; # of files alone
-    '1table "'*) [[ " $* " == *' --any-run '* ]] || ! is_read --any-run "$@" "$set" || fault+=' (read with --any-run)' ;;
+    '1table "'*) [[ " $* " == *' --any-run '* ]] || hint --any-run "$@" "$set" && fault+=$said ;;
     esac
     micros=$((${until/./} - ${from/./}))
     oem_of "$set" "${counts##*$'\t'}"
@@ -216,14 +226,16 @@ case ${1-} in
     exit
     ;;
 esac
-while getopts j:s: option; do
+while getopts j:s:m: option; do
     case $option in
     j) jobs=$OPTARG ;;
     s) export SURVEY_SECONDS=$OPTARG ;;
+    m) export SURVEY_MEGABYTES=$OPTARG ;;
     *) exit 1 ;;
     esac
 done
 shift $((OPTIND - 1))
 case $jobs in '' | 0* | *[!0-9]*) fail "-j takes a number of jobs, not $jobs" ;; esac
-[ $# -ge 2 ] || fail 'usage: survey.sh [-j JOBS] [-s SECONDS] SETS RESULTS [OPTION..]'
+case ${SURVEY_MEGABYTES-} in 0* | *[!0-9]*) fail "-m takes a number of megabytes, not $SURVEY_MEGABYTES" ;; esac
+[ $# -ge 2 ] || fail 'usage: survey.sh [-j JOBS] [-s SECONDS] [-m MEGABYTES] SETS RESULTS [OPTION..]'
 survey "$@"

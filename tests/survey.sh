@@ -147,6 +147,18 @@ chmod +x late.sh
 ACPIDIS=$work/late.sh "$survey" -s 0.1 -j 3 some late 2>/dev/null
 is 'too long' "$(lines late)" $'1\t124\t-\t-\t-\t-\n2\t124\t-\t-\t-\t-\n3\t124\t-\t-\t-\t-'
 
+# bounded memory, and a hint that takes too long
+cat >bound.sh <<'S'
+#!/bin/sh
+case $* in *--help*) exit ;; *--any-run*) exec sleep 20 ;; esac
+echo "acpidis: table \"dsdt.dat\": ModuleCode at $(ulimit -v)" >&2
+exit 1
+S
+chmod +x bound.sh
+ACPIDIS=$work/bound.sh "$survey" -s 0.5 -m 100 -j 3 some bound 2>/dev/null
+is 'bounds' "$(cut -f 1-3 bound | sort | head -n 1)" $'1\t1\ttable "dsdt.dat": ModuleCode at 102400 (--any-run was cut off)'
+is 'no number of megabytes' "$("$survey" -m 0 some bound 2>&1; echo "$?")" $'survey: -m takes a number of megabytes, not 0\n1'
+
 # killed in the middle, again and again, with all that it started: each set gets just one line in the end
 mkdir many
 for number in {001..150}; do cp -r "$demo" many/"$number"; done
