@@ -5,13 +5,14 @@
 
 A block that begins with ```console has commands behind `$ `, more lines of theirs behind `> `, and below what they
 print. They run in a folder with `mine`, the set of docs/listing.md, whose text is the first block of that page, with
-`boards`, the sets of tests/board.py, and with `examples`. `./acpidis` is the launcher. What README quotes from a
-source has to stand there. README has at most 2,000 words, and docs no more pages and words than they may. Each link leads to a
-file, and to a heading of it. Each contract and definition that docs/work/proofs.md names stands in its crate, each wrong body
-of a file wrong-bodies.goals too, and each name of the sources' kind that a page marks as code stands in some source. Then the manual page is looked through by mandoc and groff, each where
-it is installed, and its options and README's are compared with the program's, its words and docs/refusals.md's with the
-sources'. Last, the scripts that the pages speak of are tried, but with --no-scripts. The last line is
-'N passed, N failed'.
+`boards`, the sets of tests/board.py, and with `examples`; `./acpidis` is the launcher. Then they run once more as the
+commands of an installed program, `acpidis-page` for `examples/page.py`. What README quotes from a source has to stand there.
+README has at most 2,000 words, and docs no more pages and words than they may. Each link leads to a file, and to a heading of
+it. Each contract and definition that docs/work/proofs.md names stands in its crate, each wrong body of a file
+wrong-bodies.goals too, and each name of the sources' kind that a page marks as code stands in some source. Then the manual page
+is looked through by mandoc and groff, each where it is installed, and its options and README's are compared with the
+program's, its words and docs/refusals.md's with the sources'. Last, the scripts that the pages speak of are tried, but with
+--no-scripts. The last line is 'N passed, N failed'.
 """
 
 import os
@@ -61,7 +62,7 @@ def table(signature, code):
     return bytes(data)
 
 
-def make_room(room):
+def make_room(room, is_installed):
     (room / "mine").mkdir()
     (room / "mine/dsdt.dat").write_bytes(table(b"DSDT", DSDT))
     (room / "mine/ssdt1.dat").write_bytes(table(b"SSDT", SSDT))
@@ -69,10 +70,14 @@ def make_room(room):
         (room / "boards" / version).mkdir(parents=True)
         for name, data in files.items():
             (room / "boards" / version / name).write_bytes(data)
-    (room / "examples").symlink_to(TOP / "examples")
-    (room / "acpidis").write_text(f"#!/bin/sh\nexec '{TOP}/acpidis' \"$@\"\n")
-    (room / "acpidis").chmod(0o755)
     (room / "bin").mkdir()
+    if is_installed:
+        program = {"PROGRAM": str(TOP / "out/acpidis"), "PREFIX": str(room), "DESTDIR": ""}
+        subprocess.run([TOP / "install"], env={**os.environ, **program}, stdout=subprocess.DEVNULL, check=True)
+    else:
+        (room / "examples").symlink_to(TOP / "examples")
+        (room / "acpidis").write_text(f"#!/bin/sh\nexec '{TOP}/acpidis' \"$@\"\n")
+        (room / "acpidis").chmod(0o755)
     (room / "bin/ssh").write_text(SSH)
     (room / "bin/ssh").chmod(0o755)
 
@@ -108,15 +113,21 @@ def checks_of(page):
     yield from commands_of(page)
 
 
-def fails_of(page):
+def as_installed(command):
+    """A command of a page as it is where the program is installed."""
+    return re.sub(r"(?:python3 )?\bexamples/(\w+)\.(?:py|sh)\b", r"acpidis-\1", command).replace("./acpidis", "acpidis")
+
+
+def fails_of(page, is_installed):
     """Whether each command of a page fails, in its order."""
     checks = list(checks_of(page))
     if not checks:
         print(f"FAILED {page}: it has no command")
         yield True
     with tempfile.TemporaryDirectory() as room:
-        make_room(pathlib.Path(room))
+        make_room(pathlib.Path(room), is_installed)
         for command, wanted in checks:
+            command = as_installed(command) if is_installed else command
             printed = printed_by(command, room)
             if printed != wanted:
                 print(f"FAILED {page}: {command}\nprinted\n{printed}not\n{wanted}", end="")
@@ -190,12 +201,19 @@ def fails_of_links():
 def fails_of_proofs():
     """Of each crate, whether the page of proofs names a contract or a definition that isn't there."""
     rows = re.findall(r"^\| (`\w+`(?:, `\w+`)*) \| (.*?) \| (.*?) \|(.*)\|$", (TOP / PROOFS).read_text(), re.MULTILINE)
-    rows = [(re.findall(r"\w+", crates), row) for crates, *row in rows if (TOP / "crates" / re.search(r"\w+", crates)[0]).is_dir()]
+    rows = [
+        (re.findall(r"\w+", crates), row) for crates, *row in rows if (TOP / "crates" / re.search(r"\w+", crates)[0]).is_dir()
+    ]
     if len(rows) < 10:
         print(f"FAILED {PROOFS}: it names no crate")
     yield len(rows) < 10
     for crates, (_, contracts, definitions) in rows:
-        files = [file for crate in crates for kind in ("src/**/*.rt", "specs/*.antt", "proofs/*.antt") for file in (TOP / "crates" / crate).glob(kind)]
+        files = [
+            file
+            for crate in crates
+            for kind in ("src/**/*.rt", "specs/*.antt", "proofs/*.antt")
+            for file in (TOP / "crates" / crate).glob(kind)
+        ]
         text = "\n".join(file.read_text() for file in files)
         names = [name.split("::")[-1] for name in re.findall(r"`([\w:]+)`", contracts + definitions)]
         form = r"^ *[a-z ()]*\b{0}\b.*?(?: : |[(<])|\b(?:struct|enum|trait|fn|impl) {0}\b|\b{0} for\b"
@@ -207,8 +225,24 @@ def fails_of_proofs():
 
 def words_of_sources():
     """All words of the sources and scripts, and the names of their files."""
-    kinds = ("crates/*/src/**/*.rt", "crates/*/specs/*.antt", "crates/*/proofs/**/*.antt", "crates/*/must-fail/*", "crates/*/*.edits")
-    kinds += ("crates/acpi_cases/std*", "tests/**/*.*", "examples/**/*.*", "bench/*.*", "acpidis", "build", "install", "package", "test")
+    kinds = (
+        "crates/*/src/**/*.rt",
+        "crates/*/specs/*.antt",
+        "crates/*/proofs/**/*.antt",
+        "crates/*/must-fail/*",
+        "crates/*/*.edits",
+    )
+    kinds += (
+        "crates/acpi_cases/std*",
+        "tests/**/*.*",
+        "examples/**/*.*",
+        "bench/*.*",
+        "acpidis",
+        "build",
+        "install",
+        "package",
+        "test",
+    )
     files = [file for kind in kinds for file in TOP.glob(kind) if file.is_file() and file.suffix not in (".pyc", ".png")]
     return {word for file in files for word in (*re.findall(r"\w+", file.read_text(errors="replace")), *file.parts, file.stem)}
 
@@ -218,7 +252,9 @@ def fails_of_names():
     known = words_of_sources() | MADE_UP
     for page in pages():
         text = prose_of(page)
-        names = [it for it in re.findall(r"`([A-Za-z_]\w*(?:(?:::|\.)\w+)*)`", text) if re.search(r"[a-z]_[a-z]|[A-Z][a-z]", it)]
+        names = [
+            it for it in re.findall(r"`([A-Za-z_]\w*(?:(?:::|\.)\w+)*)`", text) if re.search(r"[a-z]_[a-z]|[A-Z][a-z]", it)
+        ]
         stale = {it for it in names for word in re.findall(r"\w+", it) if word not in known}
         if stale:
             print(f"FAILED {page}: no source has {', '.join(sorted(stale))}")
@@ -229,7 +265,9 @@ def fails_of_goals():
     """Of each crate, whether the list of goals has a wrong body that isn't there."""
     for goals in sorted(TOP.glob("crates/*/wrong-bodies.goals")):
         there = [it.stem for it in goals.parent.glob("must-fail/*.edit")]
-        there += [name for it in goals.parent.glob("*.edits") for name in re.findall(r"^edit: (\w+)", it.read_text(), re.MULTILINE)]
+        there += [
+            name for it in goals.parent.glob("*.edits") for name in re.findall(r"^edit: (\w+)", it.read_text(), re.MULTILINE)
+        ]
         lost = [line.split()[0] for line in goals.read_text().splitlines() if line[0] != "#" and line.split()[0] not in there]
         if lost:
             print(f"FAILED {goals.relative_to(TOP)}: {', '.join(lost)} isn't there")
@@ -245,7 +283,9 @@ def words_of_program():
     messages = [
         message
         for source in (TOP / "crates").glob("*/src/**/*.rt")
-        for message in re.findall(r'(?:#\[error\("|"acpidis: |Fault::\w+(?:\(_\))? => f\.write_str\(")([^"{]+)', source.read_text())
+        for message in re.findall(
+            r'(?:#\[error\("|"acpidis: |Fault::\w+(?:\(_\))? => f\.write_str\(")([^"{]+)', source.read_text()
+        )
     ]
     return {word for message in messages for word in re.findall(r"^[A-Z][A-Za-z]+", message)}
 
@@ -290,7 +330,7 @@ def fails_of_scripts():
 
 
 def main():
-    fails = [fail for name in PAGES for fail in fails_of(f"docs/{name}.md")]
+    fails = [fail for name in PAGES for is_installed in (False, True) for fail in fails_of(f"docs/{name}.md", is_installed)]
     fails += [*fails_of_readme(), *fails_of_links(), *fails_of_proofs(), *fails_of_names(), *fails_of_goals()]
     fails += [*fails_of_manual(), *fails_of_words()]
     if "--no-scripts" not in sys.argv:
