@@ -37,6 +37,7 @@ from hostile import mutated  # noqa: E402
 from made_plain import PlainMaker  # noqa: E402
 from made_sets import sealed  # noqa: E402
 from running import REFUSED, Options, run  # noqa: E402
+from tally import Stopped, Tally  # noqa: E402
 from telling import DEMO, HOSTILE_FILES, PAGES_FILES, RUNS_FILES, method, packed  # noqa: E402
 
 ASL, SPLICE, UNPACK, SHOW = (TOP / "examples" / f"{script}.py" for script in ("asl", "splice", "unpack", "show"))
@@ -50,25 +51,10 @@ def table(signature, code, revision=2):
     return sealed(signature + bytes(4) + bytes([revision]) + b"\0TEST  EXAMPLE \1\0\0\0TEST\1\0\0\0" + code)
 
 
-class Stopped(Exception):
-    """A row failed, and no other is wanted."""
-
-
-class Checks:
+class Checks(Tally):
     def __init__(self, room, stops):
-        self.room, self.stops, self.passed, self.failed, self.same, self.told = room, stops, 0, 0, 0, 0
-
-    def is_same(self, what, got, wanted):
-        if got == wanted:
-            self.passed += 1
-        else:
-            self.failed += 1
-            print(f"FAILED {what}: got\n{got}\nnot\n{wanted}")
-            if self.stops:
-                raise Stopped
-
-    def is_true(self, what, holds):
-        self.is_same(what, bool(holds), True)
+        super().__init__(room, stops)
+        self.same = self.told = 0
 
     def folder(self, name, files):
         place = self.room / name
@@ -109,14 +95,14 @@ def check_set(checks, name, dumps, options):
     tables = checks.folder(f"{name}/dumps", {dump.name: dump.data for dump in dumps})
     ran = checks.run(ASL, "--tables", tables, text, out)
     told = {line.removeprefix("asl: ").partition(": ")[0] for line in ran.stderr.splitlines()}
-    checks.is_true(f"{name}: {ran.stderr[-500:]}", ran.returncode in (0, 3) and "Traceback" not in ran.stderr)
+    checks.is_so(f"{name}: {ran.stderr[-500:]}", ran.returncode in (0, 3) and "Traceback" not in ran.stderr)
     files = dict(zip(re.findall(r'^DefinitionBlock \("(.*)"\) \{$', outcome.out, re.M), sorted(out.iterdir(), key=made_at)))
     data = {escaped(dump.name): dump.data for dump in dumps}
     for file, path in files.items():
         checks.told += file in told
         if IASL and file not in told:
             checks.same += 1
-            checks.is_true(f"{name}: {file} again", is_again(data[file], compiled(path)))
+            checks.is_so(f"{name}: {file} again", is_again(data[file], compiled(path)))
 
 
 def made_at(path):
@@ -145,7 +131,7 @@ def check_sets(checks, count, folders):
     with concurrent.futures.ThreadPoolExecutor(os.cpu_count()) as pool:
         list(pool.map(lambda job: check_set(checks, *job), jobs))
     if IASL:
-        checks.is_true(f"most made-up tables are compiled: {checks.same} of {checks.same + checks.told}", checks.same >= count)
+        checks.is_so(f"most made-up tables are compiled: {checks.same} of {checks.same + checks.told}", checks.same >= count)
 
 
 # ---- what ASL hasn't got
@@ -281,7 +267,7 @@ def check_misread(checks):
         checks.is_same(content[-300:], (ran.returncode, ran.stderr), (1, f"asl: {str(text)!r}: {what}\n"))
         ran = checks.run(ASL, "--edit", text, "misread")
         checks.is_same(content[-300:], (ran.returncode, ran.stderr), (1, f"asl: {str(text)!r}: {what}\n"))
-    checks.is_true("nothing is written", not (checks.room / "misread").exists())
+    checks.is_so("nothing is written", not (checks.room / "misread").exists())
     ran = checks.run(ASL, "nowhere", "out")
     checks.is_same("no such text", (ran.returncode, ran.stderr), (2, "asl: 'nowhere': No such file or directory\n"))
     text.write_text(WHOLE, "ascii")
@@ -299,11 +285,11 @@ def check_names(checks):
     (checks.room / "names.text").write_text(tables + "Namespace 0\n" + blocks, "ascii")
     checks.is_same("names of files", checks.run(ASL, "names.text", "names").returncode, 0)
     found = sorted(path.name for path in (checks.room / "names").iterdir())
-    checks.is_true(
+    checks.is_so(
         f"files of harmless names: {found}",
         len(found) == len(names) and all(re.fullmatch(r"[A-Za-z0-9_.-]+", it) for it in found),
     )
-    checks.is_true("none begins with a sign", not [it for it in found if it[0] in "-."])
+    checks.is_so("none begins with a sign", not [it for it in found if it[0] in "-."])
     many = [f"f{number}.dat" for number in range(512)]
     tables = "".join(HEAD.format(2).replace('"a.dat"', f'"{name}"') for name in many)
     (checks.room / "many.text").write_text(
@@ -324,7 +310,7 @@ def check_speed(checks):
         before = resource.getrusage(resource.RUSAGE_CHILDREN).ru_utime
         checks.run(ASL, "--edit", text, f"of{size}")
         times.append(resource.getrusage(resource.RUSAGE_CHILDREN).ru_utime - before)
-    checks.is_true(f"seconds of 1 MB and 4 MB: {times}", times[0] < 3 and times[1] < 8 * times[0])
+    checks.is_so(f"seconds of 1 MB and 4 MB: {times}", times[0] < 3 and times[1] < 8 * times[0])
 
 
 # Reads each text of a folder, and says what isn't taken for no listing.
@@ -358,7 +344,7 @@ def check_mutations(checks):
     ran = checks.run("-c", READER, place, TOP / "examples")
     said = ran.stdout.splitlines()
     checks.is_same("mutations", [line for line in said if line != "refused"] + ran.stderr.splitlines(), [])
-    checks.is_true(f"some are no listings: {len(said)}", 20 < len(said) < 480)
+    checks.is_so(f"some are no listings: {len(said)}", 20 < len(said) < 480)
 
 
 # ---- one method, changed
@@ -388,7 +374,7 @@ def added(checks, name, dumps, options):
             file.write_bytes(new)
             check_difference(checks, f"{name}: {path}", text.read_text(), listed(place, options), ["Store (0x11223344, Debug)"])
             file.write_bytes(whole)
-        checks.is_true(f"{name}: {path} is compiled", made)
+        checks.is_so(f"{name}: {path} is compiled", made)
 
 
 def check_edit(checks):
@@ -400,7 +386,7 @@ def check_edit(checks):
     what = "asl: 'edited/dsdt.dat.asl' is there, and may have been changed: remove it, or name another folder\n"
     checks.is_same("--edit once more", (ran.returncode, ran.stderr), (2, what))
     for source in (checks.room / "edited").iterdir():
-        checks.is_true(f"{source.name} is compiled", compiled(source))
+        checks.is_so(f"{source.name} is compiled", compiled(source))
         text = source.read_text("ascii")
         for statement, holds in (
             ("Store (Arg0, DBG0)", True),
@@ -439,7 +425,7 @@ def check_difference(checks, what, before, after, lines):
     )
     same = next((at for at, (one, two) in enumerate(zip(before, after)) if one != two), len(before))
     new = after[same : same + len(lines)]
-    checks.is_true(
+    checks.is_so(
         f"{what}: only these lines more", after == before[:same] + new + before[same:] and [it.strip() for it in new] == lines
     )
 
@@ -454,7 +440,7 @@ def check_grown(checks):
         paths = re.findall(r"^  (\S+) Method ([0-7])$", before, re.M)
         for path, count in chance.sample(paths, min(4, len(paths))):
             number += grown(checks, place, before, path, int(count), chance)
-    checks.is_true(f"{number} methods are grown", number >= GROWN)
+    checks.is_so(f"{number} methods are grown", number >= GROWN)
 
 
 def grown(checks, place, before, path, count, chance):
@@ -476,7 +462,7 @@ def grown(checks, place, before, path, count, chance):
     (checks.room / "new.aml").write_bytes(table(b"SSDT", code))
     file.write_bytes(spliced(checks, file, "new.aml", path))
     same = listed(place, ["--check"])
-    checks.is_true(f"{place}: {path}: {same}", " Differs" not in same and f'Check "{file.name}"' in same)
+    checks.is_so(f"{place}: {path}: {same}", " Differs" not in same and f'Check "{file.name}"' in same)
     check_difference(checks, f"{place}: {path}", before, listed(place), ["Noop"] * more)
     file.write_bytes(dump)
     return 1
@@ -536,7 +522,7 @@ def check_splice(checks):
     ran = checks.run("-c", f"import sys; sys.path.insert(0, {str(TOP / 'examples')!r}); {code}")
     checks.is_same("lengths", ran.stdout, "b'?' b'@\\x04' b'O\\xff'\n")
     said = "splice.Refused: a package would be longer than a package length can say\n"
-    checks.is_true("a length that no longer fits", ran.stderr.endswith(said))
+    checks.is_so("a length that no longer fits", ran.stderr.endswith(said))
     last = bytearray(files["old"])
     last[24:28] = b"\xFF" * 4
     (checks.room / "splice/old").write_bytes(sealed(bytes(last)))
@@ -552,7 +538,7 @@ def check_archive(checks, patched):
     names = re.findall(rb"070701[0-9A-F]{104}([^\0]+)\0", data)
     wanted = [b"kernel", b"kernel/firmware", b"kernel/firmware/acpi", b"kernel/firmware/acpi/dsdt.aml", b"TRAILER!!!"]
     checks.is_same("names of the archive", names, wanted)
-    checks.is_true("blocks of the archive", len(data) % 512 == 0 and patched in data)
+    checks.is_so("blocks of the archive", len(data) % 512 == 0 and patched in data)
     if shutil.which("cpio"):
         (checks.room / "cpio").mkdir()
         subprocess.run(["cpio", "-i", "--quiet"], cwd=checks.room / "cpio", input=data, check=False)
@@ -605,7 +591,7 @@ def check_unpack(checks):
         (checks.room / name).write_bytes(content)
         ran = checks.run(UNPACK, name, name + ".d")
         checks.is_same(name, (ran.returncode, ran.stderr), (1, f"unpack: {name!r}: {what}\n"))
-        checks.is_true(f"{name}: nothing is written", not (checks.room / f"{name}.d").exists())
+        checks.is_so(f"{name}: nothing is written", not (checks.room / f"{name}.d").exists())
     ran = checks.run(UNPACK, "plain", "plain.d")
     checks.is_same(
         "a folder in the way", (ran.returncode, ran.stderr), (2, "unpack: 'plain.d' is there, and isn't an empty folder\n")
@@ -616,7 +602,7 @@ def check_unpack(checks):
     before = resource.getrusage(resource.RUSAGE_CHILDREN).ru_utime
     checks.run(UNPACK, "claims", "claims.d")
     seconds = resource.getrusage(resource.RUSAGE_CHILDREN).ru_utime - before
-    checks.is_true(f"an image of 1 MB that claims many tables: {seconds} s", seconds < 3)
+    checks.is_so(f"an image of 1 MB that claims many tables: {seconds} s", seconds < 3)
 
 
 def check_folder(checks, name, content, wanted):
@@ -649,7 +635,7 @@ def check_chain(checks):
         checks.run(UNPACK, name, name + ".d")
         place = checks.room / f"{name}.d" / "tables.map"
         checks.is_same(name, len(place.read_text().splitlines()) if place.exists() else 0, lines)
-        checks.is_true(f"{name} is read", "BBBB" in listed(checks.room / f"{name}.d"))
+        checks.is_so(f"{name} is read", "BBBB" in listed(checks.room / f"{name}.d"))
 
 
 # What show.py shows of a path of the made-up board.
@@ -686,7 +672,7 @@ def check_show(checks):
     heads = checks.run(SHOW, text, "_hid").stdout.count("Name (_HID, ")
     checks.is_same("each _HID", heads, text.read_text().count("Name (_HID, "))
     device = checks.run(SHOW, text, "EC0").stdout
-    checks.is_true("a device whole", device.count("{") == device.count("}") + 3 and "Method (_Q13" in device)
+    checks.is_so("a device whole", device.count("{") == device.count("}") + 3 and "Method (_Q13" in device)
     ran = checks.run(SHOW, text, "\\SMI_")
     checks.is_same("no such path", (ran.returncode, ran.stderr), (1, f"show: {str(text)!r} declares no such path\n"))
     checks.is_same("no path", checks.run(SHOW, text, "1").returncode, 2)
@@ -741,8 +727,7 @@ def main():
             added(checks, "of the demo", read_folder(DEMO), [])
             added(checks, "of Externals", [Dump("dsdt.dat", None, table(b"DSDT", EXTERNALS))], [])
             check_edit(checks)
-    print(f"{checks.passed} passed, {checks.failed} failed")
-    sys.exit(checks.failed > 0)
+    checks.end()
 
 
 if __name__ == "__main__":

@@ -1,5 +1,5 @@
 #!/usr/bin/env python3
-"""Checks what examples/page says of numbers and bytes: resources, identifiers, flags, places of field units.
+"""Tally what examples/page says of numbers and bytes: resources, identifiers, flags, places of field units.
 
     python3 tests/decoding.py [FOLDER ..]
 
@@ -33,6 +33,7 @@ from pages import table  # noqa: E402
 from acpidis_tools.resources import descriptors  # noqa: E402
 from running import REFUSED, Options, run_folder  # noqa: E402
 from acpidis_tools.standard import space_name, status_words  # noqa: E402
+from tally import Tally  # noqa: E402
 from telling import method, packed  # noqa: E402
 
 EISA = re.compile("[A-Z]{3}[0-9A-F]{4}")
@@ -110,18 +111,7 @@ def data_of(text: str) -> bytes:
     return bytes.fromhex(text.replace("LONG", LONG_NAME))
 
 
-class Checks:
-    def __init__(self) -> None:
-        self.passed = self.failed = 0
-
-    def is_same(self, what: str, got: object, wanted: object) -> None:
-        self.passed += got == wanted
-        self.failed += got != wanted
-        if got != wanted:
-            print(f"FAILED {what}: got\n{got}\nnot\n{wanted}")
-
-
-def check_rows(checks: Checks) -> None:
+def check_rows(checks: Tally) -> None:
     whole, texts = b"", []
     for row in ROWS.strip().splitlines():
         wanted, _, code = row.rpartition(": ")
@@ -138,7 +128,7 @@ def check_rows(checks: Checks) -> None:
         checks.is_same(f"no template: {code}", descriptors(data_of(code)), None)
 
 
-def check_words(checks: Checks) -> None:
+def check_words(checks: Tally) -> None:
     """Identifiers, spaces, status, places: by the standard's own examples and tables."""
     ids = [eisa_id(it) for it in ("0x080AD041", "0xD041", "0x00000000", "0xFFFFFFFF")]
     checks.is_same("EisaId", ids, ["PNP0A08", "PNP0000", "", ""])
@@ -229,7 +219,7 @@ OBJECTS = (
 )  # fmt: skip
 
 
-def check_objects(checks: Checks, room: pathlib.Path) -> None:
+def check_objects(checks: Tally, room: pathlib.Path) -> None:
     """Predefined objects in words, and values of another form without any."""
     code = packed(b"\x5B\x82", b"PCI0" + OBJECTS)
     odd = packed(b"\x5B\x82", b"PCI1" + b"\x08_PRT" + package(b"\0", package(b"\0")) + b"\x08_UPC\0" + b"\x08_WDG" + HPET)
@@ -252,7 +242,7 @@ def check_objects(checks: Checks, room: pathlib.Path) -> None:
     checks.is_same("predefined objects", found, wanted)
 
 
-def check_notes(checks: Checks, folder: pathlib.Path) -> None:
+def check_notes(checks: Tally, folder: pathlib.Path) -> None:
     listing = read_listing(run_folder(folder, Options()).out.encode())
     decoder = Decoder(listing, Names(listing))
     said = {}
@@ -292,7 +282,7 @@ def our_facts(folder: pathlib.Path) -> dict[str, dict[str, list]] | None:
     return found
 
 
-def compare(checks: Checks, what: str, folder: pathlib.Path) -> None:
+def compare(checks: Tally, what: str, folder: pathlib.Path) -> None:
     """What is said of a set beside iasl's text of each of its tables."""
     ours = our_facts(folder)
     if ours is None:
@@ -330,7 +320,7 @@ def made_set(room: pathlib.Path) -> pathlib.Path:
 
 
 def main() -> None:
-    checks = Checks()
+    checks = Tally()
     check_rows(checks)
     check_words(checks)
     with tempfile.TemporaryDirectory() as room:
@@ -342,8 +332,7 @@ def main() -> None:
                 compare(checks, folder.name, folder)
         else:
             print("iasl is not there, so nothing is compared with it: on Debian, apt-get install acpica-tools")
-    print(f"{checks.passed} passed, {checks.failed} failed")
-    sys.exit(checks.failed > 0)
+    checks.end()
 
 
 if __name__ == "__main__":

@@ -18,6 +18,7 @@ import sys
 import tempfile
 
 from pages import TOP, table
+from tally import Stopped, Tally
 
 
 def block(opcode, content):
@@ -73,18 +74,11 @@ PROMISED = b"\x15PCRB\x08\x02PCRB\x01\x01" + method(b"PCRB", b"", 1)
 WANTS = block(b"\x10", b"\\RP99" + method(b"HOTP", b"", 2))
 REGION = b"\x5b\x80REG0\0"
 BAD_NAME = "a\" {\n      Raw {5A}\n$(touch bad)`touch bad`.dat"
-
-
-class Stopped(Exception):
-    """A row failed, and no other is wanted."""
 # The line of a table, without which nothing is a listing
 LINE = 'Table "a" "DSDT" Length 36 Revision 2 Oem "TEST  " "EXAMPLE " 00000001 Creator "TEST" 00000001'
 
 
-class Tries:
-    def __init__(self, room, stops):
-        self.room, self.stops, self.passed, self.failed = room, stops, 0, 0
-
+class Tries(Tally):
     def folder(self, name, code, file="dsdt.dat"):
         (self.room / name).mkdir()
         (self.room / name / file).write_bytes(table(b"DSDT", code))
@@ -106,23 +100,9 @@ class Tries:
     def row(self, name, run, status, out, *said):
         """This status and standard output, and these lines among those of standard error."""
         missing = [line for line in said if line not in run.stderr.splitlines()]
-        if run.returncode == status and run.stdout == out and not missing:
-            self.passed += 1
-        else:
-            printed = f"{run.stdout}{run.stderr}wanted\n{out}{missing}"
-            self.fail(f"{name}: status {run.returncode}, not {status}\n{printed}")
-
-    def is_true(self, name, holds):
-        if holds:
-            self.passed += 1
-        else:
-            self.fail(name)
-
-    def fail(self, text):
-        self.failed += 1
-        print(f"FAILED {text}")
-        if self.stops:
-            raise Stopped
+        printed = f"{run.stdout}{run.stderr}wanted\n{out}{missing}"
+        is_right = run.returncode == status and run.stdout == out and not missing
+        self.is_so(f"{name}: status {run.returncode}, not {status}\n{printed}", is_right)
 
 
 def try_missing(tries):
@@ -159,7 +139,7 @@ def try_many_missing(tries):
     found = tries.run("missing.py", "--try", tries.folder("many", many), ACPIDIS=counting(tries, "many"))
     wanted = "".join(f"\\{name.decode()} 0\n" for name in names)
     tries.row("300 names", found, 0, wanted, "# \\X299: 1 body waits, the first \\M299 at 1")
-    tries.is_true("few runs", len((tries.room / "many.calls").read_text().splitlines()) < 30)
+    tries.is_so("few runs", len((tries.room / "many.calls").read_text().splitlines()) < 30)
     pair = method(b"MAIN", b"\x72AAAA\\BBBB\1\x60") + method(b"NEXT", b"\x70BBBB\x0a\1\x5b\x31")
     found = tries.run("missing.py", tries.folder("pair", pair))
     tries.row("two names of one body", found, 0, "\\AAAA ?\n\\BBBB ?\n", "#   with 0: 1 reads")
@@ -243,7 +223,7 @@ def try_refused(tries):
     tries.row("code outside methods", tries.run("refused.py", tries.folder("branch", BRANCH)), 1, wanted)
     shifted = tries.folder("shifted", method(b"FOO_", b"", 1) + REGION + b"FOO_\x01\x04")
     told = "  FOO_ takes 1 argument (Method at dsdt.dat, offset 0, byte 36 of the file), and was read without them"
-    tries.is_true("a call that shifts what follows", told in tries.run("refused.py", shifted).stdout)
+    tries.is_so("a call that shifts what follows", told in tries.run("refused.py", shifted).stdout)
     tries.row("a set that is read", tries.run("refused.py", "targets"), 0, "the set isn't refused\n")
 
 
@@ -295,7 +275,7 @@ def try_refused_runs(tries):
     tries.row("a name that nothing tells of", tries.run("refused.py", "--any-run", "predicate"), 1, wanted)
     tries.row("a set that it reads", tries.run("refused.py", "--any-run", "twice"), 0, "the set isn't refused\n")
     found = tries.run("refused.py", tries.folder("returns", b"\xa4\0")).stdout
-    tries.is_true("a Return, which the option doesn't take", ANY_RUN not in found and "A Return outside the methods" in found)
+    tries.is_so("a Return, which the option doesn't take", ANY_RUN not in found and "A Return outside the methods" in found)
 
 
 def try_options(tries):
@@ -329,34 +309,34 @@ echo }}
         found = tries.run(script, "--from", "a file", "rounds", "--later", "--from=--later", ACPIDIS=str(fake))
         tries.row(f"{script}: options", found, 0, line)
         passed = said.read_text()
-        tries.is_true(f"{script}: words of options\n{passed}", passed.startswith("--from\n--later\n--later\n"))
+        tries.is_so(f"{script}: words of options\n{passed}", passed.startswith("--from\n--later\n--later\n"))
         for option in ("--check", "--version", "--other", "--froma", "--later=1"):
             found = tries.run(script, option, "rounds", ACPIDIS=str(fake))
-            tries.is_true(f"{script}: {option}", found.returncode == 2 and not found.stdout)
-        tries.is_true(f"{script}: no run with them", said.read_text() == passed)
+            tries.is_so(f"{script}: {option}", found.returncode == 2 and not found.stdout)
+        tries.is_so(f"{script}: no run with them", said.read_text() == passed)
 
 
 def try_damage(tries):
     """No table is so damaged that there is no answer."""
     found = tries.run("refused.py", tries.folder("odd", BRANCH, BAD_NAME))
     place = 'a" {\\x0A      Raw {5A}\\x0A$(touch bad)`touch bad`.dat, offset 20, byte 56 of the file, in the scope \\DEV0'
-    tries.is_true("a file's name", found.returncode == 1 and place in found.stdout.splitlines())
+    tries.is_so("a file's name", found.returncode == 1 and place in found.stdout.splitlines())
     (tries.room / "twice/notes.txt").write_text("no table")
     found = tries.run("refused.py", "twice")
-    tries.is_true("a text", found.returncode == 1 and "  6E 6F 20 74 61 62 6C 65\n" in found.stdout)
+    tries.is_so("a text", found.returncode == 1 and "  6E 6F 20 74 61 62 6C 65\n" in found.stdout)
     (tries.room / "twice/notes.txt").unlink()
     with open("/dev/full", "wb") as full:
         run = subprocess.run(
             [sys.executable, TOP / "examples/refused.py", "twice"], cwd=tries.room, stdout=full, stderr=subprocess.PIPE,
             text=True, check=False,
         )
-    tries.is_true("a full disk", run.returncode == 2 and run.stderr == "refused: cannot write: No space left on device\n")
+    tries.is_so("a full disk", run.returncode == 2 and run.stderr == "refused: cannot write: No space left on device\n")
     tries.folder("damaged", BRANCH)
     data, file = table(b"DSDT", BRANCH + REGION), tries.room / "damaged/dsdt.dat"
     for at, byte in itertools.product(range(36, 86, 7), (0x00, 0x5B, 0xFF)):
         file.write_bytes(data[:at] + bytes([byte]) + data[at + 1 :])
         found = tries.run("refused.py", "--any-sum", "damaged")
-        tries.is_true("a damaged table", found.returncode in (0, 1) and not found.stderr)
+        tries.is_so("a damaged table", found.returncode in (0, 1) and not found.stderr)
 
 
 def nested(levels):
@@ -382,10 +362,10 @@ def try_deep(tries):
             run = tries.run(script, *words, folder)
             seconds = resource.getrusage(resource.RUSAGE_CHILDREN).ru_utime - before
             is_said = run.returncode in (0, 1, 2) and "Traceback" not in run.stderr and len(run.stderr.splitlines()) < 50
-            tries.is_true(f"{script}, {folder}: {run.returncode}, {run.stderr[-300:]}", is_said)
-            tries.is_true(f"{script}, {folder}: {seconds} seconds", seconds < 2)
+            tries.is_so(f"{script}, {folder}: {run.returncode}, {run.stderr[-300:]}", is_said)
+            tries.is_so(f"{script}, {folder}: {seconds} seconds", seconds < 2)
     found = tries.run("missing.py", "--any-run", "nested").stderr
-    tries.is_true("the line of a deep scope", re.fullmatch("missing: line [0-9]+: a scope of more than 64 segments.*\n", found))
+    tries.is_so("the line of a deep scope", re.fullmatch("missing: line [0-9]+: a scope of more than 64 segments.*\n", found))
 
 
 def try_hostile(tries):
@@ -410,19 +390,19 @@ def try_hostile(tries):
             misfit = f"{name}: the lines of standard error don't fit the raw bodies of the text"
             tries.row(f"{script}: another program", tries.run(script, text, ACPIDIS=str(fake)), 2, "", misfit)
         fake.write_text("#!/bin/sh\necho 'Raw {A}'\nexit 3\n")
-        tries.is_true(f"{script}: no bytes", tries.run(script, text, ACPIDIS=str(fake)).returncode in (0, 2))
+        tries.is_so(f"{script}: no bytes", tries.run(script, text, ACPIDIS=str(fake)).returncode in (0, 2))
         fake.write_text("#!/bin/sh\nkill -9 $$\n")
-        tries.is_true(f"{script}: a signal", tries.run(script, text, ACPIDIS=str(fake)).returncode == 2)
-        tries.is_true(f"{script}: no option", tries.run(script, "--none", text).returncode == 2)
-        tries.is_true(f"{script}: no folder named", tries.run(script).returncode == 2)
+        tries.is_so(f"{script}: a signal", tries.run(script, text, ACPIDIS=str(fake)).returncode == 2)
+        tries.is_so(f"{script}: no option", tries.run(script, "--none", text).returncode == 2)
+        tries.is_so(f"{script}: no folder named", tries.run(script).returncode == 2)
     none = "refused: no program acpidis: install it, or name it in ACPIDIS"
     tries.row("refused.py: no program", tries.run("refused.py", text, ACPIDIS="/none/acpidis"), 2, "", none)
-    tries.is_true("refused.py: a signal", tries.run("refused.py", text, ACPIDIS=str(fake)).returncode == 2)
+    tries.is_so("refused.py: a signal", tries.run("refused.py", text, ACPIDIS=str(fake)).returncode == 2)
     wanted = "cannot read folder\nWay on: look at `ls -la` of it\n"
     tries.row("refused.py: no folder", tries.run("refused.py", "nowhere"), 1, wanted)
     fake.write_text("#!/bin/sh\necho 'acpidis: table \"dsdt.dat\": BadName at 999999' >&2\nexit 1\n")
-    tries.is_true("refused.py: another program", tries.run("refused.py", text, ACPIDIS=str(fake)).returncode == 1)
-    tries.is_true("nothing is executed", not list(tries.room.glob("**/bad")))
+    tries.is_so("refused.py: another program", tries.run("refused.py", text, ACPIDIS=str(fake)).returncode == 1)
+    tries.is_so("nothing is executed", not list(tries.room.glob("**/bad")))
 
 
 def main():
@@ -440,8 +420,7 @@ def main():
         try_damage(tries)
         try_deep(tries)
         try_hostile(tries)
-    print(f"{tries.passed} passed, {tries.failed} failed")
-    sys.exit(tries.failed > 0)
+    tries.end()
 
 
 if __name__ == "__main__":

@@ -559,8 +559,7 @@ def main() -> None:
         check_records(checks, room / "many")
         check_board(checks, room / "many")
         check_words(checks, room / "many")
-    print(f"{checks.passed} passed, {checks.failed} failed")
-    sys.exit(checks.failed > 0)
+    checks.end()
 
 
 if __name__ == "__main__":

@@ -32,6 +32,7 @@ from acpidis_tools.page.markup import page  # noqa: E402
 from acpidis_tools.names import Names  # noqa: E402
 from running import Options, run_folder  # noqa: E402
 from acpidis_tools.page.sheet import Sheet  # noqa: E402
+from tally import Tally  # noqa: E402
 from telling import HOSTILE_FILES, RUNS_FILES, written  # noqa: E402
 
 SPEC = importlib.util.spec_from_file_location("facts_script", TOP / "examples/facts.py")
@@ -103,17 +104,6 @@ TEXTS = {
 LOOKED_FOR = re.compile("names|scopes|calls|brackets|segments|Raw|digits")
 
 
-class Checks:
-    def __init__(self) -> None:
-        self.passed = self.failed = 0
-
-    def is_so(self, what: str, holds: object) -> None:
-        self.passed += bool(holds)
-        self.failed += not holds
-        if not holds:
-            print(f"FAILED {what}")
-
-
 def bounded() -> None:
     resource.setrlimit(resource.RLIMIT_AS, (MOST_MEMORY, MOST_MEMORY))
 
@@ -135,7 +125,7 @@ def is_word(script: str, status: int, said: str) -> bool:
     return status in (0, 3) or status in (1, 2) and said.startswith(f"{name}: ") and said.count("\n") == 1 and len(said) < 500
 
 
-def check_texts(checks: Checks, room: pathlib.Path) -> None:
+def check_texts(checks: Tally, room: pathlib.Path) -> None:
     file, fake = room / "text", room / "acpidis"
     fake.write_text(f"#!/bin/sh\nexec cat '{file}'\n")
     fake.chmod(0o755)
@@ -155,7 +145,7 @@ def check_texts(checks: Checks, room: pathlib.Path) -> None:
         checks.is_so(f"{script} tells of none of the texts", script in spoken)
 
 
-def check_outputs(checks: Checks, room: pathlib.Path) -> None:
+def check_outputs(checks: Tally, room: pathlib.Path) -> None:
     """Files of errors that are others, and outputs that take nothing."""
     text, errors = room / "text", room / "errors"
     text.write_text(body("Raw {A4, 5A, 5A, 5A, 5A}"))
@@ -205,7 +195,7 @@ def mutated(lines: list, dice: random.Random) -> str:
     return "\n".join(lines) + "\n"
 
 
-def check_mutations(checks: Checks, room: pathlib.Path, count: int) -> None:
+def check_mutations(checks: Tally, room: pathlib.Path, count: int) -> None:
     outcomes = [
         run_folder(written(room / "hostile", HOSTILE_FILES), Options()),
         run_folder(written(room / "runs", RUNS_FILES), Options(any_run=True)),
@@ -235,13 +225,12 @@ def main() -> None:
     words = argparse.ArgumentParser(description=__doc__, formatter_class=argparse.RawDescriptionHelpFormatter)
     words.add_argument("--mutations", type=int, default=200)
     asked = words.parse_args()
-    checks = Checks()
+    checks = Tally()
     with tempfile.TemporaryDirectory() as room:
         check_texts(checks, pathlib.Path(room))
         check_outputs(checks, pathlib.Path(room))
         check_mutations(checks, pathlib.Path(room), asked.mutations)
-    print(f"{checks.passed} passed, {checks.failed} failed")
-    sys.exit(checks.failed > 0)
+    checks.end()
 
 
 if __name__ == "__main__":

@@ -41,6 +41,7 @@ from acpidis_tools.names import Names  # noqa: E402
 from page_html import Read, read_page  # noqa: E402
 from running import REFUSED, Options, Outcome, run_folder  # noqa: E402
 from acpidis_tools.page.sheet import Sheet  # noqa: E402
+from tally import Tally  # noqa: E402
 from telling import DEMO, HOSTILE_FILES, PAGES_FILES, RUNS_FILES, Teller, method, written  # noqa: E402
 
 PAGE = TOP / "examples/page.py"
@@ -55,16 +56,7 @@ lines_module.CHUNK, tree_module.MANY = 7, 3
 # ---- checks
 
 
-class Checks:
-    def __init__(self, room: pathlib.Path):
-        self.room, self.passed, self.failed = room, 0, 0
-
-    def is_same(self, what: str, got: object, wanted: object) -> None:
-        self.passed += got == wanted
-        self.failed += got != wanted
-        if got != wanted:
-            print(f"FAILED {what}: got\n{got}\nnot\n{wanted}")
-
+class Checks(Tally):
     def run(self, *words: str) -> subprocess.CompletedProcess:
         return subprocess.run([sys.executable, PAGE, *words], capture_output=True, text=True, check=False)
 
@@ -335,8 +327,7 @@ def main() -> None:
     with tempfile.TemporaryDirectory() as room:
         checks = Checks(pathlib.Path(room))
         check_all(checks, asked)
-    print(f"{checks.passed} passed, {checks.failed} failed")
-    sys.exit(checks.failed > 0)
+    checks.end()
 
 
 if __name__ == "__main__":

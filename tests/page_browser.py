@@ -15,6 +15,8 @@ import sys
 import tempfile
 import time
 
+from tally import Tally
+
 WIDTH, HEIGHT = 1240, 800
 LONGEST_WAIT = 60
 MOST_SECONDS_TO_OPEN = 2
@@ -157,17 +159,6 @@ class Browser:
         self.child.wait(LONGEST_WAIT)
 
 
-class Checks:
-    def __init__(self) -> None:
-        self.passed = self.failed = 0
-
-    def is_so(self, what: str, holds: object) -> None:
-        self.passed += bool(holds)
-        self.failed += not holds
-        if not holds:
-            print(f"FAILED: {what}")
-
-
 IS_SEEN = "(({ top, bottom }) => top >= 0 && bottom <= innerHeight)" \
     "(document.getElementById(%s).getBoundingClientRect())"
 # The method that is used most often, but not too often to be shown whole.
@@ -188,7 +179,7 @@ def seen_if_there(path: object) -> str:
     return f"!!byId({json.dumps(path)}) && {seen(path)}"
 
 
-def look(browser: Browser, url: str, picture: pathlib.Path, checks: Checks) -> None:
+def look(browser: Browser, url: str, picture: pathlib.Path, checks: Tally) -> None:
     seconds = min(browser.open(url) for _ in range(OPENINGS))
     print(f"opened in {seconds:.2f} s")
     checks.is_so(f"it opens in {MOST_SECONDS_TO_OPEN} s", seconds <= MOST_SECONDS_TO_OPEN)
@@ -206,12 +197,12 @@ def look(browser: Browser, url: str, picture: pathlib.Path, checks: Checks) -> N
     check_log(browser, checks)
 
 
-def check_log(browser: Browser, checks: Checks) -> None:
+def check_log(browser: Browser, checks: Tally) -> None:
     complaints = [*browser.events_of("Log.entryAdded"), *browser.events_of("Runtime.exceptionThrown")]
     checks.is_so(f"the browser's log is empty, not {complaints}", not complaints)
 
 
-def look_for(browser: Browser, wanted: str, checks: Checks) -> None:
+def look_for(browser: Browser, wanted: str, checks: Tally) -> None:
     browser.press("/")
     checks.is_so("/ leads to the field", browser.value("document.activeElement.id") == "find")
     browser.type(wanted.lower())
@@ -223,7 +214,7 @@ def look_for(browser: Browser, wanted: str, checks: Checks) -> None:
     checks.is_so("Escape leaves the field", browser.value("document.activeElement.id + find.value") == "")
 
 
-def follow(browser: Browser, wanted: str, picture: pathlib.Path, checks: Checks) -> None:
+def follow(browser: Browser, wanted: str, picture: pathlib.Path, checks: Tally) -> None:
     """A name, what is folded, and the uses of a declaration."""
     # More names are there once more is in sight, so the element is kept.
     browser.value(f"globalThis.chosen = {NAME}; 1")
@@ -247,7 +238,7 @@ def follow(browser: Browser, wanted: str, picture: pathlib.Path, checks: Checks)
     checks.is_so("Escape closes them", browser.value("!document.querySelector('#pop')"))
 
 
-def look_for_forms(browser: Browser, checks: Checks) -> None:
+def look_for_forms(browser: Browser, checks: Tally) -> None:
     """A path in the forms that people paste, an identifier, a kind: what is meant comes first."""
     path, kind, text = browser.value(
         "(() => { const row = [...document.querySelectorAll('#tree .id')].at(-1).parentNode;"
@@ -273,7 +264,7 @@ def look_for_forms(browser: Browser, checks: Checks) -> None:
     browser.press("Escape")
 
 
-def look_at_places(browser: Browser, checks: Checks) -> None:
+def look_at_places(browser: Browser, checks: Tally) -> None:
     """The bar tells the path and the file after each jump."""
     paths = browser.value("[...document.querySelectorAll('#tree a:first-child')].map((link) => link.hash.slice(1))")
     is_there = "!!document.querySelector('.block dfn[id=' + CSS.escape(%s) + ']')"
@@ -287,7 +278,7 @@ def look_at_places(browser: Browser, checks: Checks) -> None:
     checks.is_so(f"the bar tells the place of each of {len(declared)} paths, not {wrong[:5]}", declared and not wrong)
 
 
-def look_at_text(browser: Browser, checks: Checks) -> None:
+def look_at_text(browser: Browser, checks: Tally) -> None:
     """What is said of numbers is text, raw notes are in one piece, and no line of a table has a gap above it."""
     text = "document.querySelector('main').textContent"
     checks.is_so("identifiers are text", browser.value(f"/[^\"](PNP|ACPI)[0-9A-F]{{4}}/.test({text})"))
@@ -310,7 +301,7 @@ def look_at_text(browser: Browser, checks: Checks) -> None:
     checks.is_so(f"the title has a name and no NUL: {title}", ": " in title and "\\x00" not in title)
 
 
-def look_by_keys(browser: Browser, checks: Checks) -> None:
+def look_by_keys(browser: Browser, checks: Tally) -> None:
     """The tab key leads over the tree to the text, and arrows through the tree."""
     browser.value("document.activeElement.blur(); scrollTo(0, 0)")
     stops = browser.value("[...tree.querySelectorAll('a, summary')].filter((one) => one.tabIndex === 0).length")
@@ -329,7 +320,7 @@ def look_by_keys(browser: Browser, checks: Checks) -> None:
     checks.is_so("an arrow closes", browser.until("!document.activeElement.closest('details').open"))
 
 
-def look_narrow(browser: Browser, checks: Checks) -> None:
+def look_narrow(browser: Browser, checks: Tally) -> None:
     for width in (NARROW, 320):
         browser.width(width)
         wide = browser.value("document.documentElement.scrollWidth")
@@ -337,7 +328,7 @@ def look_narrow(browser: Browser, checks: Checks) -> None:
     browser.width(None)
 
 
-def look_at_comparison(browser: Browser, url: str, checks: Checks) -> None:
+def look_at_comparison(browser: Browser, url: str, checks: Tally) -> None:
     browser.open(url)
     marked = browser.value("[...document.querySelectorAll('.block .differs, .block .changed')].length")
     checks.is_so("lines that differ are marked", marked > 0)
@@ -348,7 +339,7 @@ def look_at_comparison(browser: Browser, url: str, checks: Checks) -> None:
     check_log(browser, checks)
 
 
-def look_at_large(browser: Browser, most: float, file: pathlib.Path, checks: Checks) -> None:
+def look_at_large(browser: Browser, most: float, file: pathlib.Path, checks: Tally) -> None:
     """A page with packed parts: it opens in time, a path far down is found, told and shown, and so are its uses."""
     seconds = min(browser.open(file.resolve().as_uri()) for _ in range(OPENINGS))
     size = file.stat().st_size / 1e6
@@ -372,7 +363,7 @@ def look_at_large(browser: Browser, most: float, file: pathlib.Path, checks: Che
 
 def main() -> None:
     file, picture, *more = map(pathlib.Path, sys.argv[1:])
-    checks = Checks()
+    checks = Tally()
     with tempfile.TemporaryDirectory(ignore_cleanup_errors=True) as room:
         browser = Browser(room)
         try:
@@ -383,8 +374,7 @@ def main() -> None:
                 look_at_large(browser, float(str(seconds)), large, checks)
         finally:
             browser.close()
-    print(f"{checks.passed} passed, {checks.failed} failed")
-    sys.exit(checks.failed > 0)
+    checks.end()
 
 
 if __name__ == "__main__":
