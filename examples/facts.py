@@ -275,7 +275,7 @@ class Here:
 def add_all(facts: Facts, machines: Iterator[Machine], jobs: int) -> str:
     """Adds the facts of all machines in their order, and answers why the last one that has none has none."""
     waiting: deque = deque()
-    fault = ""
+    fault, progress = "", command.Progress("machine")
     seen: set[str] = set()
     with Here() if jobs == 1 else Processes(jobs) as pool:
         for machine in machines:
@@ -288,8 +288,11 @@ def add_all(facts: Facts, machines: Iterator[Machine], jobs: int) -> str:
             waiting.append((machine, code_sum, future))
             while len(waiting) > WAITING * jobs:
                 fault = add_next(facts, *waiting.popleft()) or fault
+                progress.step()
         while waiting:
             fault = add_next(facts, *waiting.popleft()) or fault
+            progress.step()
+    progress.end()
     return fault
 
 

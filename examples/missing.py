@@ -107,11 +107,12 @@ class Search:
         self.counts = {}
         self.waiting = {}  # the bodies that wait for each name
         self.rounds = []
-        self.runs = 0
+        self.runs, self.progress = 0, command.Progress("run")
         self.outside = set()  # the segments outside the methods
 
     def run(self, counts, more=()):
         self.runs += 1
+        self.progress.step()
         if self.runs > MOST_RUNS:
             raise running.Unusable(
                 f"more than {MOST_RUNS} runs are wanted: the {len(self.counts)} names that are met so far stand in the same"
@@ -280,7 +281,10 @@ def report(name, bodies, trials):
 
 
 def show(search, must_be_one):
-    all_trials = search.settle()
+    try:
+        all_trials = search.settle()
+    finally:
+        search.progress.end()
     for number, names in enumerate(search.rounds, 1):
         say(f"Round {number}")
         for name in names:
@@ -323,7 +327,10 @@ def main():
         # With --unknown-zero no body waits for a name.
         asked = command.parse(words, ("--externals", "--unknown-zero"))
         search = search_of(asked)
-        left = search.go()
+        try:
+            left = search.go()
+        finally:
+            search.progress.end()
         show(search, asked.must_be_one)
         say_left(left)
     except running.Refused as fault:

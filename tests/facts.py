@@ -13,6 +13,7 @@ import argparse
 import contextlib
 import hashlib
 import importlib.util
+import io
 import json
 import os
 import pathlib
@@ -27,6 +28,7 @@ TOP = pathlib.Path(__file__).resolve().parent.parent
 sys.path[:0] = [str(TOP / "tests/oracle"), str(TOP / "tests")]
 sys.path.append(str(TOP / "examples"))
 
+from acpidis_tools import command  # noqa: E402
 from board import VERSIONS, packed, table  # noqa: E402
 from dumps import aml_of, order_of  # noqa: E402
 from facts_picture import columns_text, picture  # noqa: E402
@@ -369,6 +371,23 @@ facts.main()
 """
 
 
+class Terminal(io.StringIO):
+    def isatty(self) -> bool:
+        return True
+
+
+def check_progress(checks: Checks) -> None:
+    """A line on a terminal alone, and from two seconds on."""
+    for stream, after, wanted in ((Terminal(), 0, "\rmachine 1\r\x1b[K"), (Terminal(), 2, ""), (io.StringIO(), 0, "")):
+        with contextlib.redirect_stderr(stream):
+            progress = command.Progress("machine")
+            progress.next += after - progress.AFTER
+            progress.step()
+            progress.step()
+            progress.end()
+        checks.is_same("progress", stream.getvalue(), wanted)
+
+
 def check_fleet(checks: Checks, room: pathlib.Path) -> None:
     """A machine that can't be read takes no other's facts with it."""
     good = (room / "texts/rack/a/text").read_text()
@@ -556,6 +575,7 @@ def main() -> None:
         (room / "many").mkdir()
         check_many(checks, room / "many")
         check_fleet(checks, room / "many")
+        check_progress(checks)
         check_records(checks, room / "many")
         check_board(checks, room / "many")
         check_words(checks, room / "many")

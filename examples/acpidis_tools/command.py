@@ -6,6 +6,7 @@ import re
 import subprocess
 import sys
 import tempfile
+import time
 
 from acpidis_tools import running
 
@@ -78,6 +79,31 @@ def parse(words, but=()):
 def words_of(options):
     """Options with their values, as words of the command line."""
     return [word for item in options.items() for word in item if word is not None]
+
+
+# ---- on the way
+
+
+class Progress:
+    """How far a script is, in a line of a terminal, from two seconds on. Into a file or a pipe it says nothing."""
+
+    AFTER, BETWEEN = 2, 0.2
+
+    def __init__(self, what):
+        self.what, self.done, self.next = what, 0, time.monotonic() + self.AFTER
+        self.is_shown = False
+
+    def step(self):
+        self.done += 1
+        if sys.stderr.isatty() and time.monotonic() >= self.next:
+            self.is_shown, self.next = True, time.monotonic() + self.BETWEEN
+            print(f"\r{self.what} {self.done:,}", end="", file=sys.stderr, flush=True)
+
+    def end(self):
+        """Takes the line away."""
+        if self.is_shown:
+            print("\r\x1b[K", end="", file=sys.stderr, flush=True)
+            self.is_shown = False
 
 
 # ---- the end
