@@ -178,7 +178,8 @@ def fails_of_definitions():
 def words_of_sources():
     """All words of the sources and scripts, and the names of their files."""
     kinds = ("crates/*/src/**/*.rt", "crates/*/specs/*.antt", "crates/*/proofs/**/*.antt", "crates/*/must-fail/*", "crates/*/*.edits")
-    kinds += ("crates/acpi_cases/std*", "tests/**/*.*", "examples/**/*.*", "bench/*.*", "acpidis", "build", "install", "package", "test")
+    kinds += ("crates/acpi_cases/std*", "tests/**/*.*", "examples/**/*.*", "bench/*.*", "library/*.*")
+    kinds += ("acpidis", "build", "install", "package", "test")
     files = [file for kind in kinds for file in TOP.glob(kind) if file.is_file() and file.suffix not in (".pyc", ".png")]
     return {word for file in files for word in (*re.findall(r"\w+", file.read_text(errors="replace")), *file.parts, file.stem)}
 
