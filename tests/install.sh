@@ -6,7 +6,7 @@ top=${here%/*}
 work=$(mktemp -d) || exit 1
 trap 'rm -rf "$work"' EXIT
 cd "$work" || exit 1
-unset PREFIX DESTDIR PROGRAM
+unset PREFIX DESTDIR PROGRAM LIBRARY
 passed=0
 failed=0
 
@@ -33,6 +33,13 @@ sorted() {
     "$@" 2>&1 | LC_ALL=C sort
 }
 
+prefix="$work/a library's prefix"
+mkdir library && touch library/libacpidis.so.0 library/libacpidis.a library/acpidis.pc
+said=$(LIBRARY=$work/library PREFIX=$prefix sorted "$top/install" --library)
+is 'what is said of the library' "$said" "$(files "$prefix")"
+is 'what the library is' "$(files "$prefix" | wc -l)" 8
+is 'what is said of its removal' "$(PREFIX=$prefix sorted "$top/install" --remove)" "$said"
+is 'what is left of it' "$(files "$prefix")" ''
 prefix="$work/a prefix"
 said=$(umask 077 && PREFIX=$prefix sorted "$top/install")
 is 'what is said' "$said" "$(files "$prefix")"
@@ -143,7 +150,7 @@ is 'another program' "$(cksum <other/bin/acpidis)" "$(cksum <"$top/build")"
 is 'a package' "$(DESTDIR=$work/package "$top/install" | head -n 1)" "$work/package/usr/local/bin/acpidis"
 DESTDIR=$work/package "$top/install" --remove >/dev/null
 is 'a package that is taken away' "$(files package)" ''
-is 'help' "$("$top/install" --help | head -n 1)" 'Usage: [PREFIX=..] [DESTDIR=..] [PROGRAM=..] ./install [--remove]'
+is 'help' "$("$top/install" --help | head -n 1)" 'Usage: [PREFIX=..] [DESTDIR=..] [PROGRAM=..] [LIBRARY=..] ./install [--library] [--remove]'
 is 'another word' "$("$top/install" --delete 2>&1 | head -n 1 | cut -c 1-6)" 'Usage:'
 "$top/install" --remove more >/dev/null 2>&1
 is 'two words' "$?" 2

@@ -8,7 +8,7 @@ top=${here%/*}
 work=$(mktemp -d) || exit 1
 trap 'rm -rf "$work"' EXIT
 cd "$work" || exit 1
-unset PREFIX DESTDIR
+unset PREFIX DESTDIR LIBRARY
 export GIT_CONFIG_GLOBAL=/dev/null
 passed=0
 failed=0

@@ -36,7 +36,7 @@ PROOFS = "docs/work/proofs.md"
 MEANING = "docs/meaning.md"
 MOST_WORDS = 2000
 # Of docs without meaning.md, which is made of the sources
-MOST_PAGES, MOST_WORDS_OF_PAGES = 15, 25800
+MOST_PAGES, MOST_WORDS_OF_PAGES = 16, 27000
 # What pages call a thing that no source names
 MADE_UP = {"draw_copy1", "Lts"}
 SCRIPTS = ["tests/meaning.py", "tests/survey.sh", "tests/install.sh", "tests/examples.py", "tests/library.sh"]
@@ -237,6 +237,7 @@ def words_of_sources():
         "tests/**/*.*",
         "examples/**/*.*",
         "bench/*.*",
+        "library/*.*",
         "acpidis",
         "build",
         "install",

@@ -10,7 +10,7 @@ use crate::crew::Crew;
 use crate::refusal::Refusal;
 use aml_code::CodeFault;
 use aml_load::read_kept;
-use aml_pool::{Gate, NoMemory, PoolFault, Results, Work, harvest};
+use aml_pool::{Gate, NoMemory, PoolFault, Results, Work, harvest, harvest_alone};
 use aml_set::{Method, TableSet};
 use asl_text::Body;
 use std::alloc::Global;
@@ -109,6 +109,33 @@ where
     let count = set.methods.len() as u32;
     match harvest(crew.rt, crew.alloc, crew.workers, count, &work, crew.gate) {
         Ok(found) => Ok(found),
+        Err(fault) => Err(pool_refusal(fault)),
+    }
+}
+
+/// The caller alone reads them, and keeps something of each.
+pub(crate) fn keep_bodies_alone<K: Keep>(
+    alloc: Global,
+    set: &TableSet<'_>,
+    unknown_zero: bool,
+    keep: &K,
+) -> Result<Results<K::Kept>, Refusal>
+where
+    K::Kept: Drop,
+    requires few { length set.now.methods.items ≤ 1048576 }
+    ensures kept { IfOk result (λ r.
+        AreKeptOf (λ n. K.keeps keep.now n (body_in_set set.now n)) unknown_zero set.now r.items.items) }
+    ensures each { IfOk result (λ r. length r.items.items ≡ length set.now.methods.items) }
+    ensures memory { IfErr result (λ e. e ≡ Refusal.NoMemory) }
+{
+    let work = Keeping {
+        alloc,
+        set,
+        unknown_zero,
+        keep,
+    };
+    match harvest_alone(alloc, set.methods.len() as u32, &work) {
+        Ok(results) => Ok(results),
         Err(fault) => Err(pool_refusal(fault)),
     }
 }

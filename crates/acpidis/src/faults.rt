@@ -9,7 +9,7 @@ use text_writer::WriteFault;
 
 /// Why a run ends before its end.
 #[derive(Drop)]
-pub(crate) enum RunFault {
+pub enum RunFault {
     /// The set isn't disassembled. Nothing was written.
     Refused(Refusal),
     /// The writer took no more.

@@ -1,6 +1,7 @@
 //! A whole run: from the dumps of a set to its listing and the text of it.
 #![tactic(auto)]
 
+mod alone;
 mod bodies;
 mod check_lines;
 mod checking;
@@ -15,9 +16,11 @@ mod texts;
 mod trials;
 
 pub use acpi_folder::{MapFault, parse_map};
+pub use alone::run_alone;
 pub use check_lines::write_checks;
 pub use checking::{Checked, check};
 pub use disassembling::disassemble;
+pub use faults::RunFault;
 pub use options::Options;
 pub use refusal::Refusal;
-pub use running::run;
+pub use running::{print_fault, run};

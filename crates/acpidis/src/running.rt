@@ -1,8 +1,11 @@
 //! A whole run over the dumps of a folder.
-ghost use Rattle.std.specs.Prelude.{◌≡◌, ◌⊎◌, ◌≤◌, ℕ, List, true, false, cond};
+ghost use Rattle.std.specs.Prelude.{◌≡◌, ◌⊎◌, ◌≤◌, ℕ, List, true, false, cond, length, get_or};
 ghost use Rattle.std.specs.Io.KnownBytes.{Appends};
 ghost use Rattle.acpidis.specs.Endings.{Lists, IsCut, Ends, status_of};
-ghost use Rattle.acpidis.specs.Checks.{has_fault};
+ghost use Rattle.aml_set.specs.Views.{body_in_set, table_terms};
+ghost use Rattle.asl_text.specs.Bodies.{IsText};
+ghost use Rattle.asl_text.specs.Texts.{levels_of};
+ghost use Rattle.acpidis.specs.Checks.{AreKeptOf, IsKept, IsSame, has_fault};
 ghost use Rattle.acpidis.specs.Meaning.{IsSet};
 
 use crate::bodies::keep_bodies;
@@ -19,9 +22,9 @@ use acpi_folder::Quoted;
 use acpi_tables::Dump;
 use aml_code::CodeFault;
 use aml_load::LoadFault;
-use aml_pool::Gate;
+use aml_pool::{Gate, Results};
 use aml_set::Method;
-use aml_text::{Tables, body_levels, write_printed};
+use aml_text::{BodyText, Tables, body_levels, write_printed};
 use std::alloc::Global;
 use std::io::Write;
 use std::mem::forget;
@@ -83,7 +86,7 @@ pub fn run<R: Threads + Wait + Sync, G: Gate + Sync, O: Write, E: Write>(
     };
     match run_set(&crew, dumps, &options, check, out, err) {
         Ok(status) => status,
-        Err(fault) => print_fault(dumps, fault, err),
+        Err(fault) => print_fault(dumps, &fault, err),
     }
 }
 
@@ -145,12 +148,33 @@ fn run_listing<R: Threads + Wait + Sync, G: Gate + Sync, O: Write, E: Write>(
         levels: levels.as_slice(),
     };
     let found = keep_bodies(crew, set, options.unknown_zero, &keep)?;
+    let ended = print_listing(tables, options, keep, &found, out, err);
+    forget((levels, found));
+    ended
+}
+
+/// Writes the listing of a loaded set of whose bodies this is kept, and a line on `err` for each that can't be read.
+/// Answers the status.
+pub(crate) fn print_listing<O: Write, E: Write>(
+    tables: Tables<'_, '_>,
+    options: &Options,
+    keep: Texts<'_>,
+    found: &Results<Result<BodyText, CodeFault>>,
+    out: &mut O,
+    err: &mut E,
+) -> Result<u8, RunFault>
+    requires set { IsSet tables.dumps.now options.now tables.set.now }
+    requires levels { keep.levels.now ≡ levels_of (table_terms tables.set.now.tables.items) }
+    requires kept { AreKeptOf (λ n. IsKept (IsText (get_or keep.levels.now n 0))) options.now.unknown_zero
+        tables.set.now found.now.items.items }
+    ensures { Ends tables.entry.dumps.now options.now false (O.contents out.old) (O.contents out.new) result }
+{
+    let _ = options;
+    let _ = keep;
     let texts = found.items.as_slice();
     write_printed(out, tables, texts)?;
-    print_raw_bodies(set.methods.as_slice(), texts, err);
-    let status = status_of_bodies(texts);
-    forget((levels, found));
-    Ok(status)
+    print_raw_bodies(tables.set.methods.as_slice(), texts, err);
+    Ok(status_of_bodies(texts))
 }
 
 /// Writes a line for each table of a loaded set, and a line on `err` for each body that can't be read. Each body is
@@ -167,10 +191,30 @@ fn run_checks<R: Threads + Wait + Sync, G: Gate + Sync, O: Write, E: Write>(
     ensures { Ends tables.entry.dumps.now options.now true (O.contents out.old) (O.contents out.new) result }
 {
     let keep = Trials { alloc: crew.alloc };
-    let methods = tables.set.methods.as_slice();
     let found = keep_bodies(crew, tables.set, options.unknown_zero, &keep)?;
+    print_trials(crew.alloc, tables, options, &found, out, err)
+}
+
+/// Writes a line for each table of a loaded set whose bodies were tried so, and a line on `err` for each that can't be
+/// read. Answers the status.
+pub(crate) fn print_trials<O: Write, E: Write>(
+    alloc: Global,
+    tables: Tables<'_, '_>,
+    options: &Options,
+    found: &Results<Result<bool, CodeFault>>,
+    out: &mut O,
+    err: &mut E,
+) -> Result<u8, RunFault>
+    requires set { IsSet tables.dumps.now options.now tables.set.now }
+    requires each { length found.now.items.items ≡ length tables.set.now.methods.items }
+    requires kept { AreKeptOf (λ n. IsKept (IsSame (body_in_set tables.set.now n))) options.now.unknown_zero
+        tables.set.now found.now.items.items }
+    ensures { Ends tables.entry.dumps.now options.now true (O.contents out.old) (O.contents out.new) result }
+{
+    let _ = options;
+    let methods = tables.set.methods.as_slice();
     let tried = found.items.as_slice();
-    let checks = check_tables(crew.alloc, &tables, methods, tried)?;
+    let checks = check_tables(alloc, &tables, methods, tried)?;
     write_tables(out, &tables, checks.as_slice())?;
     if !are_same(checks.as_slice()) {
         return Err(RunFault::Differs);
@@ -193,9 +237,10 @@ fn status_of_bodies<T>(bodies: &[Result<T, CodeFault>]) -> u8
     if is_any_raw(bodies) { RAW } else { DONE }
 }
 
-/// Prints why a run is refused, and returns its status. A fault of the writer is passed over.
-fn print_fault<E: Write>(dumps: &[Dump], fault: RunFault, err: &mut E) -> u8
-    ensures { result ≡ status_of fault }
+/// Prints why a run of these dumps ends early, as `run` does, and returns its status. A fault of the writer is passed
+/// over.
+pub fn print_fault<E: Write>(dumps: &[Dump], fault: &RunFault, err: &mut E) -> u8
+    ensures { result ≡ status_of fault.now }
 {
     match fault {
         RunFault::Write(fault) => {
@@ -203,7 +248,7 @@ fn print_fault<E: Write>(dumps: &[Dump], fault: RunFault, err: &mut E) -> u8
             UNWRITTEN
         }
         RunFault::Refused(refusal) => {
-            print_refusal(dumps, &refusal, err);
+            print_refusal(dumps, refusal, err);
             REFUSED
         }
         RunFault::Differs => REFUSED,

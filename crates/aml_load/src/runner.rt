@@ -204,13 +204,20 @@ fn with_terms(head: Node, terms: Vec<Node>) -> Node
 }
 
 impl Progress {
-    /// The term that stands there, without the terms inside it, and the offset behind it.
-    fn read_head(&self, site: &RunSite, rest: Rest, code: &[u8]) -> Result<(Node, u32), LoadFault>
+    /// The term that stands there, without the terms inside it, and the offset behind it. Each name in it is searched.
+    fn read_head(
+        &mut self,
+        site: &RunSite,
+        rest: Rest,
+        code: &[u8],
+    ) -> Result<(Node, u32), LoadFault>
         requires room { HasRoom code.now rest }
-        requires inside { IsWithin self.now site.now }
+        requires inside { IsWithin self.old site.now }
         ensures there { IfOk result (λ x. IsThere code.now rest (node_view x.0) x.1) }
-        ensures step { Steps self.now site.now rest code.now result }
+        ensures step { Steps self.old site.now rest code.now result }
+        ensures same { self.new ≡ self.old }
     {
+        self.space.expect_search(site.scope.parts().len());
         let names = RunNames {
             names: BodyNames::near(&self.space, site.site().near(), site.scope.parts(), false),
         };

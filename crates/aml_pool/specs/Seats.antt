@@ -85,6 +85,11 @@ pub record IsShare {D : Type 0} (gives : ℕ → D → Type 0) (fresh : Seat) (w
   pub once : (x : ℕ) → times x (all_of share.drawn.items) ≤ 1
   pub parts : AreParts gives workers share.done.items share.drawn.items
 
+-- That of a board's first seat, which has the whole weight
+abbrev pub IsShareOf : {D : Type 0} → (ℕ → D → Type 0) → Board → ℕ → Share D → Type 0
+IsShareOf gives board workers share =
+    (seat : Seat) × IsSeatOf board seat × (weight_of seat ≡ 64) × IsShare gives seat workers share
+
 -- ---- What the faults print.
 
 abbrev pub fault_text : PoolFault → List ℕ

@@ -16,7 +16,7 @@ mod workers;
 pub use board::{Board, Drawn, Seat};
 pub use faults::{NoMemory, PoolFault};
 pub use gate::{FreeGate, Gate};
-pub use results::{Results, harvest};
+pub use results::{Results, harvest, harvest_alone};
 pub use shelf::{Shelf, ShelfFault};
 pub use work::Work;
 pub use workers::{Share, crew};

@@ -1,14 +1,14 @@
 //! A harvest: the results of all numbers, in number order.
-ghost use Rattle.std.specs.Prelude.{◌≡◌, ℕ, ◌≤◌, All, length, map, IfOk, IfErr};
+ghost use Rattle.std.specs.Prelude.{◌≡◌, ℕ, ◌≤◌, None, All, length, map, replicate, IfOk, IfErr};
 ghost use Rattle.aml_pool.specs.Counting.{times, vacant, free, AllGive};
-ghost use Rattle.aml_pool.specs.Seats.{EachBelow, places_of, IsHarvest};
+ghost use Rattle.aml_pool.specs.Seats.{EachBelow, IsShareOf, count_of, places_of, IsHarvest};
 
 use crate::board::Board;
 use crate::faults::PoolFault;
-use crate::gate::Gate;
+use crate::gate::{FreeGate, Gate};
 use crate::shelf::Shelf;
 use crate::work::Work;
-use crate::workers::{Share, crew};
+use crate::workers::{Share, alone, crew};
 use std::alloc::Global;
 use std::sync::Wait;
 use std::thread::Threads;
@@ -43,10 +43,49 @@ where
 {
     let shelf = Shelf::new(alloc, count)?;
     let (board, seat) = Board::new(alloc, count)?;
-    let Share { seat, done, drawn } = crew(rt, alloc, &board, seat, 0, workers, work, gate)?;
+    let share = crew(rt, alloc, &board, seat, 0, workers, work, gate)?;
+    Ok(reaped(work, workers, shelf, board, share))
+}
+
+/// Does the same by the caller alone, which takes no runtime: no thread is started, and nothing waits.
+pub fn harvest_alone<W: Work>(
+    alloc: Global,
+    count: u32,
+    work: &W,
+) -> Result<Results<W::Done>, PoolFault>
+where
+    W::Done: Drop,
+    requires few { count ≤ 1048576 }
+    requires can { EachBelow count (W.can_work work.now) }
+    ensures results { IfOk result (λ r. IsHarvest (W.gives work.now) 1 count
+        r.items.items r.drawn.items) }
+    ensures no_thread { IfErr result (λ fault. fault ≡ PoolFault.NoMemory) }
+{
+    let shelf = Shelf::new(alloc, count)?;
+    let (board, seat) = Board::new(alloc, count)?;
+    let share = alone(alloc, &board, seat, 0, work, &FreeGate)?;
+    Ok(reaped(work, 1, shelf, board, share))
+}
+
+/// The results of a share that so many workers handed over, and their lists. The board is closed.
+fn reaped<W: Work>(
+    work: &W,
+    workers: u32,
+    shelf: Shelf<W::Done>,
+    board: Board,
+    share: Share<W::Done>,
+) -> Results<W::Done>
+where
+    W::Done: Drop,
+    requires empty { places_of shelf ≡ replicate (count_of board) None }
+    requires share { IsShareOf (W.gives work.now) board workers share }
+    ensures { IsHarvest (W.gives work.now) workers (count_of board) result.items.items result.drawn.items }
+{
+    let _ = workers;
+    let Share { seat, done, drawn } = share;
     let _drawn = board.close(seat);
     let items = filed(work, shelf, done).finish();
-    Ok(Results { items, drawn })
+    Results { items, drawn }
 }
 
 /// The shelf with all results. `Double` and `Stranger` can't occur, since each number was drawn once.

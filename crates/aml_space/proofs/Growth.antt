@@ -1,9 +1,9 @@
 -- An index with an empty node more is an index, and knows the same (`grown_index`, `grown_known`): each path leads
 -- where it led, or, where it led nowhere, maybe to the new node, at which nothing is kept (`grown_walk`).
 use Rattle.std.specs.Prelude.{◌==◌, ◌&&◌}
-use Rattle.std.proofs.Common.{◌≡◌, ℕ, ◌+◌, ◌<◌, ◌≤◌, Bool, true, false, cond, List, [], ◌∷◌, ◌++◌, length, Option, Some}
+use Rattle.std.proofs.Common.{◌≡◌, ℕ, zero, suc, ◌+◌, ◌<◌, ◌≤◌, ◌^◌, Bool, true, false, cond, List, [], ◌∷◌, ◌++◌, length, Option, Some}
 use Rattle.std.proofs.Common.{None, ◌⊎◌, inl, inr, refl, sym, ap}
-use Rattle.std.proofs.Common.{subst, ◌∙◌, arith}
+use Rattle.std.proofs.Common.{subst, ◌∙◌, arith, length-append}
 use Rattle.std.specs.Option.{option_and_then}
 use Rattle.std.specs.Ordering.{eq_by_cmp}
 use Rattle.std.specs.FinMap as map
@@ -15,14 +15,15 @@ use Rattle.aml_names.specs.Paths.{seg_cmp, paths_total, exact_paths, exact_segs}
 use Rattle.aml_children.specs.declared.children.Child.{Child}
 use Rattle.aml_children.specs.Children.{child_in, put}
 use Rattle.aml_space.specs.declared.nodes.Node.{Node}
-use Rattle.aml_children.specs.Numbered.{walk, IsFamily}
-use Rattle.aml_space.specs.Nodes.{Content, nothing, kids_in, kids_of, links_of, content_in, content_of}
+use Rattle.aml_children.specs.Numbered.{walk, IsFamily, links_up, segs_down}
+use Rattle.aml_space.specs.Nodes.{Content, nothing, kids_in, kids_of, links_of, depths_of, path_of, content_in, content_of}
 use Rattle.aml_space.specs.Nodes.{kinds_of, part_by, known_by, IsShape}
 use Rattle.aml_space.specs.Nodes.{IsLinked, IsAim, IsIndex, IsKept}
 use Rattle.aml_namespace.specs.Known.{declared_kind}
 use Rattle.aml_children.proofs.Family.{same_itself, found_put, wider_family, family_put}
 use Rattle.aml_space.proofs.Index.{part_at}
 use Rattle.aml_children.proofs.Walks.{kid_range, node_range}
+use Rattle.aml_children.proofs.Visiting.{links_on}
 
 -- new has the nodes of old and an empty one after them, a child of node i
 pub record HasGrown (old new : List Node) (i : ℕ) (seg : Seg) : Type 0 where
@@ -32,10 +33,13 @@ pub record HasGrown (old new : List Node) (i : ℕ) (seg : Seg) : Type 0 where
   pub leaf : kids_of new (length old) ≡ []
   pub links : (k : ℕ) → k < length old → links_of new k ≡ links_of old k
   pub new_link : links_of new (length old) ≡ (i, seg)
+  pub depths : (k : ℕ) → k < length old → depths_of new k ≡ depths_of old k
+  pub new_depth : depths_of new (length old) ≡ depths_of old i + 1
   pub contents : (k : ℕ) → k < length old → content_of new k ≡ content_of old k
   pub no_content : content_of new (length old) ≡ nothing
 
-module _ (ns new : List Node) (i : ℕ) (seg : Seg) (is : IsIndex ns) (within : i < length ns) (absent : child_in (kids_of ns i) seg ≡ None)
+module _ (ns new : List Node) (i : ℕ) (seg : Seg) (is : IsIndex ns) (within : i < length ns) (room : length ns < 2 ^ 32)
+    (absent : child_in (kids_of ns i) seg ≡ None)
     (has : HasGrown ns new i seg) where
   abbrev added : Child
   added = record { seg = seg; node = length ns }
@@ -179,8 +183,30 @@ module _ (ns new : List Node) (i : ℕ) (seg : Seg) (is : IsIndex ns) (within : 
         | inr near ↦ ap (content_of new) {x = k} {y = length ns} (omega (arith, near, past)) ∙ has.no_content
       ]
 
+  links_same : (n j : ℕ) → j < length ns → links_up (links_of new) n j ≡ links_up (links_of ns) n j
+  links_same zero j inside = refl
+  links_same (suc n) zero inside = refl
+  links_same (suc n) (suc j) inside =
+      let less = is.linked.lower (suc j) (omega arith) inside in
+      (λ t. has.links (suc j) inside t ∷ links_up (links_of new) n (has.links (suc j) inside t).0)
+      ∙ ap (λ ls. links_of ns (suc j) ∷ ls) (links_same n (links_of ns (suc j)).0 (omega (arith, less, inside)))
+
+  same_path : (j : ℕ) → j < length ns → path_of new j ≡ path_of ns j
+  same_path j inside = ap segs_down (links_same j j inside)
+
+  deep : (j : ℕ) → j < length new → depths_of new j ≡ length (path_of new j)
+  deep j range = elim (cases_lt j (length ns)) [
+    | inl inside ↦ has.depths j inside ∙ is.deep j inside ∙ ap length (sym (same_path j inside))
+    | inr past ↦
+        let here : j ≡ length ns = omega (arith, past, range, has.long) in
+        let step = ap (λ ls. length (segs_down ls)) (links_on shape (links_of new) lower (length ns) (omega (arith, within)) (omega (arith, has.long)))
+        ∙ length-append (path_of new (links_of new (length ns)).0) ((links_of new (length ns)).1 ∷ [])
+        ∙ ap (λ (l : ℕ × Seg). length (path_of new l.0) + 1) has.new_link ∙ ap (λ q. length q + 1) (same_path i within) in
+        ap (depths_of new) here ∙ has.new_depth ∙ ap (λ n. n + 1) (is.deep i within) ∙ sym (ap (λ k. length (path_of new k)) here ∙ step)
+  ]
+
   pub grown_index : IsIndex new
-  grown_index = record { shape = shape; linked = linked; aimed = aimed }
+  grown_index = record { shape = shape; linked = linked; aimed = aimed; deep = deep; few = omega (arith, has.long, room) }
 
   grown_part : {X : Type 0} (part : Content → Option X) → part nothing ≡ None → part_by part new ≡ part_by part ns
   grown_part {X} part none = map.same_map paths_total exact_paths _ _ (λ q. sym (part_at part new shape q) ∙ same q ∙ part_at part ns is.shape q)

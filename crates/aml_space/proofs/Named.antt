@@ -5,16 +5,16 @@ use Rattle.std.proofs.Common.{Some, None, inl, inr, refl, sym, ap}
 use Rattle.std.proofs.Common.{subst, ◌∙◌, arith, append_assoc, length-append}
 use Rattle.std.specs.Option.{option_and_then}
 use Rattle.std.proofs.lemmas.Bool.{cases_lt}
-use Rattle.std.proofs.lemmas.List.{append-nil, drop-take, length-take}
+use Rattle.std.proofs.lemmas.List.{append-nil, drop-take, length-take, length-take-le}
 use Rattle.std.proofs.Math.Seq.{drop-length}
 use Rattle.std.proofs.lemmas.Option.{same_Some}
 use Rattle.aml_names.specs.declared.segments.Seg.{Seg}
 use Rattle.aml_children.specs.Children.{child_in}
 use Rattle.aml_space.specs.declared.nodes.Node.{Node}
 use Rattle.aml_children.specs.Numbered.{walk, segs_down, links_up}
-use Rattle.aml_space.specs.Nodes.{kids_of, links_of, path_of, IsIndex}
+use Rattle.aml_space.specs.Nodes.{kids_of, links_of, depths_of, path_of, IsIndex}
 use Rattle.aml_children.proofs.Visiting.{links_on}
-use Rattle.aml_children.proofs.Walks.{kid_range}
+use Rattle.aml_children.proofs.Walks.{kid_range, node_range}
 
 -- only the root has no segments
 pub not_root : (ns : List Node) (j : ℕ) → 0 < length (path_of ns j) → 0 < j
@@ -82,3 +82,8 @@ module _ (ns : List Node) (is : IsIndex ns) where
 
   pub path_led : (q : List Seg) (j : ℕ) → walk (kids_of ns) 0 q ≡ Some j → path_of ns j ≡ q
   path_led q j led = led_on 0 q j led
+
+  -- so many segments has a front that leads to a node
+  pub depth_led : (path : List Seg) (e i : ℕ) → e ≤ length path → walk (kids_of ns) 0 (take e path) ≡ Some i → depths_of ns i ≡ e
+  depth_led path e i within led =
+      is.deep i (node_range is.shape (take e path) i led) ∙ ap length (path_led (take e path) i led) ∙ length-take-le e path within

@@ -1,91 +1,89 @@
 -- The ways up from nodes. Those of one node more come from its parent's (`steps_more`, `edged_more`), and they stay right
 -- where paths lead where they led (`steps_kept`, `ways_kept`).
-use Rattle.std.specs.Prelude.{slice_get}
-use Rattle.std.proofs.Common.{◌≡◌, ℕ, zero, suc, ◌+◌, ◌<◌, ◌≤◌, true, List, [], ◌∷◌, ◌++◌, length, take, Option}
-use Rattle.std.proofs.Common.{Some, None, IfSome, ◌⊎◌, inl, inr, refl, sym}
+use Rattle.std.proofs.Common.{◌≡◌, ℕ, zero, suc, ◌+◌, ◌<◌, ◌≤◌, true, List, [], ◌∷◌, ◌++◌, length, take, get_or}
+use Rattle.std.proofs.Common.{Some, ◌⊎◌, inl, inr, sym}
 use Rattle.std.proofs.Common.{ap, subst, ◌∙◌, arith, length-append}
-use Rattle.std.specs.Option.{option_map}
 use Rattle.std.proofs.lemmas.Bool.{cases_lt}
-use Rattle.std.proofs.lemmas.Option.{same_Some, slice_get_within}
+use Rattle.std.proofs.lemmas.List.{get_or_append_left, get_or_push, get_or_past}
+use Rattle.std.proofs.lemmas.Option.{same_Some}
 use Rattle.aml_names.specs.declared.segments.Seg.{Seg}
 use Rattle.aml_space.specs.declared.nodes.Node.{Node}
 use Rattle.aml_space.specs.declared.edges.Edges.{Edges}
-use Rattle.aml_space.specs.declared.ways.Step.{Step}
 use Rattle.aml_space.specs.declared.ways.Ways.{Ways}
 use Rattle.aml_children.specs.Numbered.{walk}
 use Rattle.aml_space.specs.Nodes.{kids_of, links_of, IsIndex, IsKept}
 use Rattle.aml_space.specs.Edges.{has_edge}
-use Rattle.aml_space.specs.Candidates.{IsStep, AreSteps, AreEdged, AreWays}
-use Rattle.aml_children.proofs.Basics.{each_more}
-use Rattle.aml_space.proofs.Levels.{root_depth, led_above, step_above}
+use Rattle.aml_space.specs.Candidates.{IsOver, AreSteps, AreEdged, AreWays}
+use Rattle.aml_space.proofs.Levels.{led_above, step_above}
 use Rattle.aml_children.proofs.Walks.{kid_range}
 
--- what is kept of one node
-abbrev Keeps : List Node → ℕ → Step → Type 0
-Keeps ns i s = (path : List Seg) (d : ℕ) → d ≤ length path → walk (kids_of ns) 0 (take d path) ≡ Some i → IsStep ns path d s
-
-module _ (ns : List Node) (is : IsIndex ns) (steps : List Step) (are : AreSteps ns steps) (new : Step) where
+module _ (ns : List Node) (is : IsIndex ns) (steps : List ℕ) (are : AreSteps ns steps) (new : ℕ) where
   abbrev at : ℕ
   at = length steps
 
-  abbrev more : List Step
+  abbrev more : List ℕ
   more = steps ++ new ∷ []
 
-  all : new.depth ≤ at → at < length ns → Keeps ns at new → AreSteps ns more
-  all shallow within here = record {
+  -- what is read of a node with one more
+  read : (i : ℕ) → (get_or more i i ≡ get_or steps i i) ⊎ ((i ≡ at) × (get_or more i i ≡ new))
+  read i = elim (cases_lt i at) [
+    | inl less ↦ inl (get_or_append_left steps (new ∷ []) i i less)
+    | inr past ↦ elim (cases_lt at i) [
+      | inl far ↦ inl (get_or_past more i i (omega (arith, far, length-append steps (new ∷ []))) ∙ sym (get_or_past steps i i past))
+      | inr near ↦ inr (omega (arith, past, near), get_or_push steps new i i (omega (arith, past, near)))
+    ]
+  ]
+
+  all : new ≤ at → at < length ns → ((path : List Seg) (d : ℕ) → d ≤ length path → walk (kids_of ns) 0 (take d path) ≡ Some at → IsOver ns path d new)
+      → AreSteps ns more
+  all least within here = record {
     long = omega (arith, within, length-append steps (new ∷ []));
-    shallow = each_more (λ i (s : Step). s.depth ≤ i) steps new are.shallow shallow;
-    each = each_more (Keeps ns) steps new are.each here;
+    low = λ i inside. elim (read i) [
+      | inl same ↦ subst (λ n. n ≤ i) (sym same) (are.low i inside)
+      | inr last ↦ omega (arith, last.0, last.1, least)
+    ];
+    each = λ i path d long led. elim (read i) [
+      | inl same ↦ subst (IsOver ns path d) (sym same) (are.each i path d long led)
+      | inr last ↦ subst (IsOver ns path d) (sym last.1) (here path d long (led ∙ ap (λ (n : ℕ). Some n) last.0))
+    ];
   }
 
   -- the root
-  pub steps_root : at ≡ 0 → at < length ns → new.depth ≡ 0 → new.over ≡ 0 → AreSteps ns more
-  steps_root first within depth over = all (omega (arith, first, depth)) within (λ path d long led.
-      let root = root_depth ns is path d long (led ∙ ap (λ (i : ℕ). Some i) first) in
-      record {
-        depth = omega (arith, depth, root);
-        over = d;
-        shorter = omega arith;
-        led = led ∙ ap (λ (i : ℕ). Some i) {x = at} {y = new.over} (omega (arith, first, over));
-      })
+  pub steps_root : at ≡ 0 → at < length ns → new ≡ 0 → AreSteps ns more
+  steps_root first within root = all (omega (arith, root)) within
+      (λ path d long led. (d, omega arith, led ∙ ap (λ (i : ℕ). Some i) {x = at} {y = new} (omega (arith, first, root))))
 
   -- another one, from what is kept of its parent
-  pub steps_more : (up : ℕ) (above : Step) → 0 < at → at < length ns → up ≡ (links_of ns at).0
-      → slice_get steps up ≡ Some above → new.depth ≡ above.depth + 1
-      → (new.over ≡ up) ⊎ (option_map (λ (s : Step). s.over) (slice_get steps above.over) ≡ Some new.over)
-      → AreSteps ns more
-  steps_more up above some within parent kept deeper leads =
-      let lower : up < at = omega (arith, parent, is.linked.lower at some within) in
-      let shallow : above.depth ≤ up = subst (λ o. IfSome o (λ (s : Step). s.depth ≤ up)) kept (are.shallow up) in
-      let was : Keeps ns up above = subst (λ o. IfSome o (Keeps ns up)) kept (are.each up) in
-      all (omega (arith, deeper, shallow, lower)) within (here was)
+  pub steps_more : (up middle : ℕ) → 0 < at → at < length ns → up ≡ (links_of ns at).0 → middle ≡ get_or steps up up
+      → (new ≡ up) ⊎ (new ≡ get_or steps middle middle) → AreSteps ns more
+  steps_more up middle some within parent over leads = all (omega (arith, least, lower)) within here
     where
-      higher : (path : List Seg) (d : ℕ) → d ≤ length path → walk (kids_of ns) 0 (take d path) ≡ Some up
-          → IsStep ns path d above
-          → (m : ℕ) × (m ≤ d + 1) × (walk (kids_of ns) 0 (take m path) ≡ Some new.over)
-      higher path d long up_led so = elim leads [
-        | inl parent ↦ (d, omega arith, up_led ∙ ap (λ (i : ℕ). Some i) (sym parent))
-        | inr over ↦ by (slice_get steps above.over) (are.each above.over) over
-      ]
-        where
-          by : (o : Option Step) → IfSome o (Keeps ns above.over)
-              → option_map (λ (s : Step). s.over) o ≡ Some new.over
-              → (m : ℕ) × (m ≤ d + 1) × (walk (kids_of ns) 0 (take m path) ≡ Some new.over)
-          by None was over = absurd cc
-          by (Some middle) was over =
-              let next = was path so.over (omega (arith, so.shorter, long)) so.led in
-              (next.over, omega (arith, next.shorter, so.shorter), next.led ∙ over)
+      lower : up < at
+      lower = omega (arith, parent, is.linked.lower at some within)
 
-      here : Keeps ns up above → Keeps ns at new
-      here was path zero long led = absurd (omega (arith, some, same_Some 0 at led))
-      here was path (suc d) long led =
+      least : new ≤ up
+      least = elim leads [
+        | inl same ↦ omega (arith, same)
+        | inr far ↦
+            let near = are.low up (omega (arith, lower, within)) in
+            let next = are.low middle (omega (arith, lower, within, over, near)) in
+            omega (arith, far, over, near, next)
+      ]
+
+      here : (path : List Seg) (d : ℕ) → d ≤ length path → walk (kids_of ns) 0 (take d path) ≡ Some at → IsOver ns path d new
+      here path zero long led = absurd (omega (arith, some, same_Some 0 at led))
+      here path (suc d) long led =
           let inside : d < length path = omega (arith, long) in
           let deep : walk (kids_of ns) 0 (take (d + 1) path) ≡ Some at =
           ap (λ n. walk (kids_of ns) 0 (take n path)) {x = d + 1} {y = suc d} (omega arith) ∙ led in
           let up_led : walk (kids_of ns) 0 (take d path) ≡ Some up = led_above ns is path d at inside deep ∙ ap (λ (i : ℕ). Some i) (sym parent) in
-          let so = was path d (omega (arith, inside)) up_led in
-          let far = higher path d (omega (arith, inside)) up_led so in
-          record { depth = omega (arith, deeper, so.depth); over = far.0; shorter = omega (arith, far.1); led = far.2 }
+          elim leads [
+            | inl same ↦ (d, omega arith, up_led ∙ ap (λ (i : ℕ). Some i) (sym same))
+            | inr far ↦
+                let near = are.each up path d (omega (arith, inside)) up_led in
+                let next = are.each middle path near.0 (omega (arith, near.1, inside)) (near.2 ∙ ap (λ (i : ℕ). Some i) (sym over)) in
+                (next.0, omega (arith, next.1, near.1), next.2 ∙ ap (λ (i : ℕ). Some i) (sym far))
+          ]
 
 -- whose child the next node is, kept beside those before it
 pub edged_more : (ns : List Node) (n : ℕ) (edges more : Edges) (l : ℕ × Seg) → IsIndex ns → l ≡ links_of ns n → AreEdged ns n edges
@@ -108,25 +106,34 @@ edged_root ns edges is q s i j here there less =
     let range = kid_range is.shape up.0 s j up.2 in
     absurd (omega (arith, range.0, less))
 
-pub steps_kept : (old new : List Node) (steps : List Step) → IsKept old new → AreSteps old steps → AreSteps new steps
+pub steps_kept : (old new : List Node) (steps : List ℕ) → IsKept old new → AreSteps old steps → AreSteps new steps
 steps_kept old new steps kept are = record {
   long = omega (arith, are.long, kept.long);
-  shallow = are.shallow;
-  each = λ i. each i (slice_get steps i) refl (are.each i);
+  low = λ i within. elim (cases_lt i (length steps)) [
+    | inl less ↦ are.low i (omega (arith, less, are.long))
+    | inr past ↦ let none = get_or_past steps i i past in omega (arith, none)
+  ];
+  each = λ i path d within led. elim (cases_lt i (length steps)) [
+    | inl less ↦
+        let over = are.each i path d within (kept.back (take d path) i (omega (arith, less, are.long)) led) in
+        (over.0, over.1, kept.there (take over.0 path) _ over.2)
+    | inr past ↦ (d, omega arith, led ∙ ap (λ (n : ℕ). Some n) (sym (get_or_past steps i i past)))
+  ];
 }
-  where
-    each : (i : ℕ) (o : Option Step) → slice_get steps i ≡ o → IfSome o (Keeps old i) → IfSome o (Keeps new i)
-    each i None here was = tt
-    each i (Some s) here was = λ path d within led.
-        let so = was path d within (kept.back (take d path) i (omega (arith, slice_get_within steps i s here, are.long)) led) in
-        record { depth = so.depth; over = so.over; shorter = so.shorter; led = kept.there (take so.over path) s.over so.led }
 
 pub ways_kept : (old new : List Node) (w : Ways) → IsIndex old → IsKept old new → AreWays old w → AreWays new w
 ways_kept old new w is kept are = record {
   steps = steps_kept old new w.steps.items kept are.steps;
-  few = are.few;
   edged = λ q s i j here there less.
       let before = kept.back (q ++ s ∷ []) j (omega (arith, less, are.steps.long)) there in
       let up = step_above old is [] q s j before in
       subst (λ n. has_edge w.edges s n ≡ true) (same_Some up.0 i (sym (kept.there q up.0 up.1) ∙ here)) (are.edged q s up.0 j up.1 before less);
+}
+
+-- with the same steps in another room
+pub same_ways : (ns : List Node) (w v : Ways) → v.steps.items ≡ w.steps.items → v.edges ≡ w.edges → AreWays ns w → AreWays ns v
+same_ways ns w v steps edges are = record {
+  steps = subst (AreSteps ns) (sym steps) are.steps;
+  edged = λ q s i j here there less. subst (λ e. has_edge e s i ≡ true) (sym edges)
+      (are.edged q s i j here there (subst (λ ss. j < length ss) steps less));
 }

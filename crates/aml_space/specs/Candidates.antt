@@ -1,8 +1,7 @@
 -- A stepping stone of the proofs: the paths that a name of one segment may mean in a scope, by their nodes.
-use Rattle.std.specs.Prelude.{◌≡◌, ℕ, ◌<◌, ◌≤◌, ◌^◌, false, true, List, [], ◌∷◌, ◌++◌, length}
-use Rattle.std.specs.Prelude.{take}
-use Rattle.std.specs.Prelude.{slice_get}
-use Rattle.std.specs.Prelude.{Some, None, IfSome}
+use Rattle.std.specs.Prelude.{◌≡◌, ℕ, ◌<◌, ◌≤◌, false, true, List, [], ◌∷◌, ◌++◌, length}
+use Rattle.std.specs.Prelude.{take, get_or}
+use Rattle.std.specs.Prelude.{Some, None}
 use Rattle.std.specs.FinSet as set
 use Rattle.aml_names.specs.declared.segments.Seg.{Seg}
 use Rattle.aml_names.specs.Paths.{PathSet}
@@ -11,7 +10,6 @@ use Rattle.aml_space.specs.declared.scopes.Scope.{Scope}
 use Rattle.aml_space.specs.declared.scopes.Level.{Level}
 use Rattle.aml_space.specs.declared.scopes.Candidate.{Candidate}
 use Rattle.aml_space.specs.declared.edges.Edges.{Edges}
-use Rattle.aml_space.specs.declared.ways.Step.{Step}
 use Rattle.aml_space.specs.declared.ways.Ways.{Ways}
 use Rattle.aml_space.specs.Edges.{has_edge}
 use Rattle.aml_children.specs.Numbered.{walk}
@@ -28,20 +26,16 @@ names_of s = namespace_in (known_by s.nodes.now)
 abbrev pub outlook_at : Scope → Outlook
 outlook_at s = outlook_in (known_by s.nodes.now)
 
--- The step up from a node to which a front of a path leads: this has so many segments, and a shorter one leads to the
--- other node.
-pub record IsStep (ns : List Node) (path : List Seg) (d : ℕ) (s : Step) : Type 0 where
-  pub depth : s.depth ≡ d
-  pub over : ℕ
-  pub shorter : over ≤ d
-  pub led : walk (kids_of ns) 0 (take over path) ≡ Some s.over
+-- a shorter front of a path, or itself, leads to a node
+abbrev pub IsOver : List Node → List Seg → ℕ → ℕ → Type 0
+IsOver ns path d i = (over : ℕ) × (over ≤ d) × (walk (kids_of ns) 0 (take over path) ≡ Some i)
 
--- those of some first nodes
-pub record AreSteps (ns : List Node) (steps : List Step) : Type 0 where
+-- of some first nodes one further up each
+pub record AreSteps (ns : List Node) (steps : List ℕ) : Type 0 where
   pub long : length steps ≤ length ns
-  pub shallow : (i : ℕ) → IfSome (slice_get steps i) (λ s. s.depth ≤ i)
-  pub each : (i : ℕ) → IfSome (slice_get steps i) (λ s. (path : List Seg) (d : ℕ) → d ≤ length path →
-      walk (kids_of ns) 0 (take d path) ≡ Some i → IsStep ns path d s)
+  pub low : (i : ℕ) → i < length ns → get_or steps i i ≤ i
+  pub each : (i : ℕ) (path : List Seg) (d : ℕ) → d ≤ length path → walk (kids_of ns) 0 (take d path) ≡ Some i →
+      IsOver ns path d (get_or steps i i)
 
 -- of each child with a number below this one it is kept whose it is, by which segment
 abbrev pub AreEdged : List Node → ℕ → Edges → Type 0
@@ -51,7 +45,6 @@ AreEdged ns n edges = (q : List Seg) (s : Seg) (i j : ℕ) → walk (kids_of ns)
 -- what is kept of some first nodes
 pub record AreWays (ns : List Node) (w : Ways) : Type 0 where
   pub steps : AreSteps ns w.steps.items
-  pub few : length w.steps.items ≤ 2 ^ 32
   pub edged : AreEdged ns (length w.steps.items) w.edges
 
 -- a level of a scope: a front of its path, and the node to which this leads

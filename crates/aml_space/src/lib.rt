@@ -7,6 +7,7 @@ mod counting;
 mod edges;
 mod faults;
 mod growing;
+mod ids;
 mod listing;
 mod nodes;
 mod opened;

@@ -2,6 +2,7 @@
 ghost use Rattle.std.specs.Prelude.{◌≡◌};
 ghost use Rattle.aml_space.specs.Nodes.{empty};
 
+use crate::ids::PathId;
 use aml_children::Children;
 use aml_names::Seg;
 use aml_namespace::Declarations;
@@ -18,10 +19,12 @@ pub(crate) struct Node {
     pub given: Option<u8>,
     /// The segment by which it is a child of its parent.
     pub seg: Seg,
+    /// How many segments its path has.
+    pub depth: u32,
+    /// The number of its parent; the root is its own.
+    pub parent: PathId,
     /// Of an Alias, the node of what it stands for; 0 where none is kept, since the root's is found at once.
     pub aim: usize,
-    /// The number of its parent; the root is its own.
-    pub parent: usize,
     /// The nodes below.
     pub children: Children,
 }
@@ -31,16 +34,17 @@ const _: () = prove!(size_of::<Node>() == 64);
 
 impl Node {
     /// A node without content, a child of its parent by a segment.
-    pub(crate) fn empty(parent: usize, seg: Seg) -> Node
-        ensures { result ≡ empty parent seg }
+    pub(crate) fn empty(parent: PathId, seg: Seg, depth: u32) -> Node
+        ensures { result ≡ empty parent seg depth }
     {
         Node {
             declared: None,
             outs: None,
             given: None,
             seg,
-            aim: 0,
+            depth,
             parent,
+            aim: 0,
             children: Children::new(),
         }
     }

@@ -11,10 +11,11 @@ ghost use Rattle.aml_space.specs.Near.{IsOpen, IsNear, IsBelow, IsTarget, IsSour
 ghost use Rattle.aml_space.specs.Opened.{AreHints, AreOpened, scopes_of};
 
 use crate::growing::{Aimed, Reach};
+use crate::ids::PathId;
 use crate::nodes::Node;
 use crate::parents::link;
 use crate::walking::{aim_at, child, kind_at};
-use crate::ways::{Step, stepped};
+use crate::ways::stepped;
 use aml_names::{NoMemory, Parts, Path, ScopedPath, Seg};
 use aml_namespace::Kind;
 use std::alloc::Global;
@@ -116,11 +117,11 @@ pub(crate) struct Hints<'a> {
     pub opened: &'a [Opened],
     /// Those that are open.
     pub scopes: &'a [Opened],
-    pub steps: &'a [Step],
+    pub steps: &'a [PathId],
 }
 
 impl<'a> Hints<'a> {
-    pub(crate) fn new(opened: &'a [Opened], scopes: &'a [Opened], steps: &'a [Step]) -> Hints<'a>
+    pub(crate) fn new(opened: &'a [Opened], scopes: &'a [Opened], steps: &'a [PathId]) -> Hints<'a>
         ensures opened { result.opened.now ≡ opened.now }
         ensures scopes { result.scopes.now ≡ scopes.now }
         ensures steps { result.steps.now ≡ steps.now }
@@ -165,7 +166,13 @@ fn shares_its_scope(path: &ScopedPath, keeps: Keeps) -> bool {
 
 /// How far a path leads with so many first segments that it has in common with a scope. Where that is less than half of
 /// the scope, and a few steps lead up or none is kept of the scope's node, it is sooner found from the root.
-fn reach_in(nodes: &[Node], steps: &[Step], near: &Opened, known: usize, path: &Parts<'_>) -> Reach
+fn reach_in(
+    nodes: &[Node],
+    steps: &[PathId],
+    near: &Opened,
+    known: usize,
+    path: &Parts<'_>,
+) -> Reach
     requires index { IsIndex nodes.now }
     requires steps { AreSteps nodes.now steps.now }
     requires near { walk (kids_of nodes.now) 0 near.now.scope ≡ Some near.now.node }
@@ -184,7 +191,7 @@ fn reach_in(nodes: &[Node], steps: &[Step], near: &Opened, known: usize, path: &
         known: deep,
     };
     while reach.known > known {
-        reach = match stepped(steps, reach, known) {
+        reach = match stepped(steps, nodes, reach, known) {
             Some(further) => further,
             None => reach_above(nodes, reach),
         };

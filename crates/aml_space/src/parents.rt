@@ -1,6 +1,6 @@
 //! The path of a node, from the node up.
 ghost use Rattle.std.specs.Prelude.{◌≡◌, ◌<◌, ◌≤◌, ◌-◌, length, take, drop};
-ghost use Rattle.aml_space.specs.Nodes.{links_of, path_of, IsIndex, IsPlace};
+ghost use Rattle.aml_space.specs.Nodes.{links_of, depths_of, path_of, IsIndex};
 
 use crate::nodes::Node;
 use aml_names::Seg;
@@ -11,44 +11,16 @@ pub(crate) fn link(nodes: &[Node], at: usize) -> (usize, Seg)
     ensures { result ≡ links_of nodes.now at }
 {
     let node = &nodes[at];
-    (node.parent, node.seg)
+    (node.parent.index(), node.seg)
 }
 
-/// A node, and how many segments its path has.
-#[derive(Clone, Copy)]
-pub(crate) struct Place {
-    pub node: usize,
-    pub depth: usize,
-}
-
-/// The place of a node, by that of another: the nearer they are, the sooner. A parent has a smaller number, so the
-/// greater number goes up until both meet.
-pub(crate) fn place_by(nodes: &[Node], node: usize, near: Place) -> Place
-    requires index { IsIndex nodes.now }
-    requires within { node < length nodes.now }
-    requires near { IsPlace nodes.now near }
-    ensures place { IsPlace nodes.now result }
-    ensures node { result.node ≡ node }
+/// How many segments the path of a node has.
+pub(crate) fn depth_at(nodes: &[Node], at: usize) -> u32
+    requires { at < length nodes.now }
+    ensures { result ≡ depths_of nodes.now at }
 {
-    let mut here = node;
-    let mut there = near.node;
-    let mut up: usize = 0;
-    let mut down = near.depth;
-    while here != there {
-        if here > there {
-            let (parent, _) = link(nodes, here);
-            here = parent;
-            up += 1;
-        } else {
-            let (parent, _) = link(nodes, there);
-            there = parent;
-            down -= 1;
-        }
-    }
-    Place {
-        node,
-        depth: down + up,
-    }
+    let node = &nodes[at];
+    node.depth
 }
 
 /// The node so many levels above another.

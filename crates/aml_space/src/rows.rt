@@ -1,9 +1,9 @@
 //! The declared paths, and what their declarations say.
 ghost use Rattle.std.specs.Prelude.{◌≡◌, ◌<◌, ◌-◌, length, take, drop, min, IfOk};
-ghost use Rattle.aml_space.specs.Nodes.{path_of, IsIndex, IsPlace};
+ghost use Rattle.aml_space.specs.Nodes.{path_of, IsIndex};
 
 use crate::nodes::Node;
-use crate::parents::{Place, ancestor, fill};
+use crate::parents::{ancestor, depth_at, fill};
 use aml_names::{NoMemory, Path, Seg};
 use aml_namespace::{Declarations, Kind};
 use std::alloc::Global;
@@ -15,31 +15,31 @@ use std::marker::Model;
 pub struct Row<'a> {
     nodes: &'a [Node],
     /// The node of the path.
-    at: Place,
+    at: usize,
     said: &'a Declarations,
 }
 
 impl<'a> Model for Row<'a> {
-    ghost use Rattle.std.specs.Prelude.{List};
+    ghost use Rattle.std.specs.Prelude.{List, ◌<◌, length};
     ghost use Rattle.aml_names.specs.declared.segments.Seg.{Seg};
     ghost use Rattle.aml_namespace.specs.Known.{Declared, coded_row};
-    ghost use Rattle.aml_space.specs.Nodes.{path_of, IsIndex, IsPlace};
+    ghost use Rattle.aml_space.specs.Nodes.{path_of, IsIndex};
 
     ghost Value = { List Seg × Declared };
 
     ghost coded = { coded_row };
 
-    ghost view = { λ s. (path_of s.nodes.now s.at.node, s.said.now) };
+    ghost view = { λ s. (path_of s.nodes.now s.at, s.said.now) };
 
-    ghost invariant = { λ s. IsIndex s.nodes.now × IsPlace s.nodes.now s.at };
+    ghost invariant = { λ s. IsIndex s.nodes.now × (s.at < length s.nodes.now) };
 }
 
 impl<'a> Row<'a> {
     /// The row of a node.
-    pub(crate) fn new(nodes: &'a [Node], at: Place, said: &'a Declarations) -> Row<'a>
+    pub(crate) fn new(nodes: &'a [Node], at: usize, said: &'a Declarations) -> Row<'a>
         requires index { IsIndex nodes.now }
-        requires at { IsPlace nodes.now at }
-        ensures { result ≡ (path_of nodes.now at.node, said.now) }
+        requires at { at < length nodes.now }
+        ensures { result ≡ (path_of nodes.now at, said.now) }
     {
         Row { nodes, at, said }
     }
@@ -48,7 +48,7 @@ impl<'a> Row<'a> {
     pub fn depth(&self) -> usize
         ensures { result ≡ length self.now.0 }
     {
-        self.at.depth
+        depth_at(self.nodes, self.at) as usize
     }
 
     /// Copies the segments of the path from one on to the front of a buffer, as many as it takes. The result is how
@@ -58,9 +58,9 @@ impl<'a> Row<'a> {
         ensures copied { take result buffer.new ≡ take result (drop from self.now.0) }
         ensures long { length buffer.new ≡ length buffer.old }
     {
-        let rest = self.at.depth.saturating_sub(from);
+        let rest = self.depth().saturating_sub(from);
         let count = buffer.len().min(rest);
-        let last = ancestor(self.nodes, self.at.node, rest - count);
+        let last = ancestor(self.nodes, self.at, rest - count);
         fill(self.nodes, last, count, buffer);
         count
     }

@@ -24,9 +24,9 @@ ghost use Rattle.aml_space.specs.Candidates.{IsLevel, IsScope, IsNextWith, IsCan
 use crate::counting::{count_met, counts_met, kind_met, known_met, sure_met};
 use crate::growing::Reach;
 use crate::nodes::Node;
-use crate::parents::link;
+use crate::parents::{depth_at, link};
 use crate::walking::{child, given_at, node_from, out_at};
-use crate::ways::Ways;
+use crate::ways::{Ways, step_from};
 use aml_names::{Locals, NoMemory, Parts, Path, SeenLocals, Seg};
 use aml_namespace::{Counts, Kind, Predefined};
 use std::alloc::Global;
@@ -107,18 +107,17 @@ impl<'a> Scope<'a> {
         }
     }
 
-    /// The level to which the step from one leads, if it is kept.
-    fn over(&self, level: Level) -> Option<Level>
+    /// The level to which the step from one leads, or itself where none is kept.
+    fn over(&self, level: Level) -> Level
         requires scope { IsScope self.now }
         requires level { IsLevel self.now level }
-        ensures { IfSome result (IsLevel self.now) }
+        ensures { IsLevel self.now result }
     {
-        let here = self.ways.steps.get(level.node)?;
-        let there = self.ways.steps.get(here.over)?;
-        Some(Level {
-            node: here.over,
-            depth: there.depth,
-        })
+        let node = step_from(self.ways.steps.as_slice(), level.node);
+        Level {
+            node,
+            depth: depth_at(self.nodes, node) as usize,
+        }
     }
 
     /// A level further up, by a step, or the next one. It passes over none whose node has a number up to a floor.
@@ -131,9 +130,11 @@ impl<'a> Scope<'a> {
         ensures higher { result.depth < level.depth }
         ensures above { AreAbove self.now floor result.depth level.depth }
     {
-        match self.over(level) {
-            Some(over) if floor <= over.node && over.depth < level.depth => over,
-            _ => self.above(level),
+        let over = self.over(level);
+        if floor <= over.node && over.depth < level.depth {
+            over
+        } else {
+            self.above(level)
         }
     }
 

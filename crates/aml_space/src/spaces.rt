@@ -19,6 +19,7 @@ ghost use Rattle.aml_namespace.specs.Known.{is_declared as declared_yet, namespa
 use crate::counting::{count_of, open_met, scope_met, sure_met};
 use crate::faults::SpaceFault;
 use crate::growing::{Reach, declare_again, declare_first, extend, is_taken, set_given, set_out};
+use crate::ids::PathId;
 use crate::listing::{Rows, list_rows};
 use crate::nodes::Node;
 use crate::opened::{
@@ -94,7 +95,7 @@ impl Space {
         ensures stands { IfOk result (λ space. StandsFor space []) }
     {
         let mut nodes = Vec::new(alloc);
-        nodes.push(Node::empty(0, Seg::default()))?;
+        nodes.push(Node::empty(PathId::root(), Seg::default(), 0))?;
         let mut opened = Vec::new(alloc);
         opened.push(Opened::root(alloc)?)?;
         Ok(Space {

@@ -1,55 +1,42 @@
 //! The ways up from nodes: which nodes have a child by a segment, and steps of all lengths.
-ghost use Rattle.std.specs.Prelude.{◌≡◌, ◌+◌, ◌<◌, ◌≤◌, ◌^◌, ◌++◌, ◌∷◌, [], List, length, slice_get};
-ghost use Rattle.std.specs.Prelude.{OnOk, Some, IfSome};
-ghost use Rattle.std.specs.Option.{option_map};
+ghost use Rattle.std.specs.Prelude.{◌≡◌, ◌+◌, ◌<◌, ◌≤◌, ◌^◌, ◌++◌, ◌∷◌, [], List, length, get_or, take};
+ghost use Rattle.std.specs.Prelude.{OnOk, IfSome, Some};
 ghost use Rattle.aml_space.specs.declared.nodes.Node.{Node as AnyNode};
-ghost use Rattle.aml_space.specs.Nodes.{IsIndex};
+ghost use Rattle.aml_names.specs.declared.segments.Seg.{Seg as AnySeg};
+ghost use Rattle.aml_children.specs.Numbered.{walk};
+ghost use Rattle.aml_space.specs.Nodes.{kids_of, IsIndex};
 ghost use Rattle.aml_space.specs.Candidates.{AreEdged, AreSteps, AreWays};
 
 use crate::edges::Edges;
 use crate::growing::Reach;
+use crate::ids::PathId;
 use crate::nodes::Node;
-use crate::parents::link;
+use crate::parents::{depth_at, link};
 use aml_names::NoMemory;
 use std::alloc::Global;
-
-/// Of so many nodes ways are kept at most: an edge has its parent's number in 32 bits.
-const MOST: usize = 0xffff_ffff;
-
-/// A step up from a node.
-#[derive(Clone, Copy)]
-pub(crate) struct Step {
-    /// How many segments the node's path has.
-    pub depth: usize,
-    /// A node further up, by which each one above is found in few steps; the root's is itself.
-    pub over: usize,
-}
 
 /// By what the next node above another is found that has a child by a segment. A node's is kept once searches want it.
 #[derive(Drop)]
 pub(crate) struct Ways {
     /// Who has a child by a segment, of the children that have a step.
     pub edges: Edges,
-    /// Those of some first nodes.
-    pub steps: Vec<Step>,
+    /// Of some first nodes one further up each, by which each one above is found in few steps; the root's is itself.
+    pub steps: Vec<PathId>,
 }
 
-/// The node to which the next one steps, where its parent and the node to which that steps do so as far as each other.
-/// So from each node up steps of all lengths come.
-fn step_over(steps: &[Step], above: Step) -> Option<usize>
-    ensures { IfSome result (λ n. option_map (λ s. s.over) (slice_get steps.now above.over) ≡ Some n) }
+/// The node to which one steps, or itself where none is kept.
+pub(crate) fn step_from(steps: &[PathId], at: usize) -> usize
+    ensures { result ≡ get_or steps.now at at }
 {
-    let middle = steps.get(above.over)?;
-    let far = steps.get(middle.over)?;
-    if above.depth.saturating_sub(middle.depth) == middle.depth.saturating_sub(far.depth) {
-        Some(middle.over)
-    } else {
-        None
+    match steps.get(at) {
+        None => at,
+        Some(over) => over.index(),
     }
 }
 
-/// The step of the next node.
-fn next_step(steps: &[Step], nodes: &[Node]) -> Step
+/// The node to which the next one steps: its parent, or, where the two next steps from there are as far as each other,
+/// where both lead. So from each node up steps of all lengths come.
+fn next_step(steps: &[PathId], nodes: &[Node]) -> PathId
     requires index { IsIndex nodes.now }
     requires steps { AreSteps nodes.now steps.now }
     requires more { length steps.now < length nodes.now }
@@ -57,13 +44,16 @@ fn next_step(steps: &[Step], nodes: &[Node]) -> Step
 {
     let at = steps.len();
     if at == 0 {
-        return Step { depth: 0, over: 0 };
+        return PathId::root();
     }
     let (parent, _) = link(nodes, at);
-    let above: Step = steps[parent];
-    Step {
-        depth: above.depth + 1,
-        over: step_over(steps, above).unwrap_or(parent),
+    let middle = step_from(steps, parent);
+    let far = step_from(steps, middle);
+    let (low, high) = (depth_at(nodes, middle), depth_at(nodes, far));
+    if depth_at(nodes, parent).saturating_sub(low) == low.saturating_sub(high) {
+        PathId::new(far)
+    } else {
+        PathId::new(parent)
     }
 }
 
@@ -71,7 +61,6 @@ fn next_step(steps: &[Step], nodes: &[Node]) -> Step
 fn add_edge(edges: &mut Edges, nodes: &[Node], at: usize) -> Result<(), NoMemory>
     requires index { IsIndex nodes.now }
     requires within { at < length nodes.now }
-    requires few { at < 2 ^ 32 }
     requires edged { AreEdged nodes.now at edges.old }
     ensures old { AreEdged nodes.now at edges.new }
     ensures edged { OnOk result (AreEdged nodes.now (at + 1) edges.new) }
@@ -83,18 +72,22 @@ fn add_edge(edges: &mut Edges, nodes: &[Node], at: usize) -> Result<(), NoMemory
     edges.add(seg, parent)
 }
 
-/// The node to which one steps that stands at this depth, if that isn't above the front of so many segments.
-pub(crate) fn stepped(steps: &[Step], from: Reach, known: usize) -> Option<Reach>
-    ensures over { IfSome result (λ r. option_map (λ s. s.over) (slice_get steps.now from.node) ≡ Some r.node) }
-    ensures depth { IfSome result (λ r. option_map (λ s. s.depth) (slice_get steps.now r.node) ≡ Some r.known) }
+/// The node to which one steps, if that isn't above the front of so many segments.
+pub(crate) fn stepped(steps: &[PathId], nodes: &[Node], from: Reach, known: usize) -> Option<Reach>
+    requires index { IsIndex nodes.now }
+    requires steps { AreSteps nodes.now steps.now }
+    requires within { from.node < length nodes.now }
+    ensures led { (path : List AnySeg) → from.known ≤ length path →
+        walk (kids_of nodes.now) 0 (take from.known path) ≡ Some from.node →
+        IfSome result (λ r. walk (kids_of nodes.now) 0 (take r.known path) ≡ Some r.node) }
     ensures within { IfSome result (λ r. (known ≤ r.known) × (r.known < from.known)) }
 {
-    let here = steps.get(from.node)?;
-    let there = steps.get(here.over)?;
-    if known <= there.depth && there.depth < from.known {
+    let over = step_from(steps, from.node);
+    let depth = depth_at(nodes, over) as usize;
+    if known <= depth && depth < from.known {
         Some(Reach {
-            node: here.over,
-            known: there.depth,
+            node: over,
+            known: depth,
         })
     } else {
         None
@@ -116,7 +109,6 @@ impl Ways {
         requires index { IsIndex nodes.now }
         requires ways { AreWays nodes.now self.old }
         requires more { length self.old.steps.items < length nodes.now }
-        requires few { length self.old.steps.items < 2 ^ 32 }
         ensures ways { AreWays nodes.now self.new }
         ensures more { OnOk result (length self.new.steps.items ≡ length self.old.steps.items + 1) }
     {
@@ -133,7 +125,7 @@ impl Ways {
         ensures { AreWays nodes.now self.new }
     {
         self.steps.reserve(nodes.len() - self.steps.len())?;
-        while self.steps.len() < nodes.len() && self.steps.len() < MOST {
+        while self.steps.len() < nodes.len() {
             self.add(nodes)?;
         }
         Ok(())

@@ -1,3 +1,4 @@
+mod alone;
 mod checks;
 mod fixtures;
 mod folders;

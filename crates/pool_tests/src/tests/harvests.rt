@@ -1,7 +1,7 @@
 ghost use Rattle.std.specs.Prelude.{◌≤◌, length};
 
 use super::fixtures::{Hold, Log, Meeting, Order, Square, ThirdFails, Watch, each_once};
-use aml_pool::{FreeGate, Gate, PoolFault, Results, harvest};
+use aml_pool::{FreeGate, Gate, PoolFault, Results, harvest, harvest_alone};
 use std::alloc::Global;
 use std::panic::Expect;
 use std::sync::Wait;
@@ -45,6 +45,20 @@ fn each_number_once_by_any_number_of_workers(rt: HostRuntime) {
     for workers in [1, 2, 3, 64] {
         assert!(rt; has_squares(&rt, rt.alloc(), workers, &FreeGate, &squares));
     }
+}
+
+#[test]
+fn each_number_once_by_the_caller_alone(rt: HostRuntime) {
+    for squares in [[].as_slice(), &[0], &[0, 1, 4, 9, 16, 25, 36]] {
+        let answer = harvest_alone(rt.alloc(), squares.len() as u32, &Square);
+        assert!(rt; are_squares(rt.alloc(), &answer, 1, squares));
+    }
+}
+
+#[test]
+fn a_refused_piece_refuses_the_harvest_alone(rt: HostRuntime) {
+    let answer = harvest_alone(rt.alloc(), 7, &ThirdFails);
+    assert!(rt; matches!(answer, Err(PoolFault::NoMemory)));
 }
 
 #[test]

@@ -1,8 +1,8 @@
-use Rattle.std.proofs.Common.{◌≡◌, ◌++◌, Some, set, sym, ap, ◌∙◌, subst, length, slice_get, arith, length-append}
+use Rattle.std.proofs.Common.{◌≡◌, ◌+◌, ◌++◌, Some, set, sym, ap, ◌∙◌, subst, length, slice_get, arith, length-append}
 use Rattle.std.proofs.lemmas.Option.{slice_get-get_or}
 use Rattle.aml_children.specs.declared.children.Child.{Child}
 use Rattle.aml_children.specs.Children.{child_in, Rise}
-use Rattle.aml_space.specs.Nodes.{kids_in, kids_of, chain, with_child}
+use Rattle.aml_space.specs.Nodes.{kids_in, kids_of, depths_of, chain, with_child}
 use Rattle.aml_children.proofs.Basics.{read_front}
 use Rattle.aml_children.proofs.Family.{family_rises}
 use Rattle.aml_space.proofs.Grow.{set_with, with_front}
@@ -40,4 +40,4 @@ returns-clause-ok c =
     ∙ ap (λ ms. with_child ms c.args.at child) c.in_ok-push_chain.ensures.ok
     ∙ with_front ns _ c.args.at child c.requires.within
     ∙ (λ i. with_child ns c.args.at (record { seg = c.args.seg; node = (c.len-node.ensures ∙ c.args.nodes.now.ok.0) i })
-    ++ chain c.args.at (length ns) c.args.seg c.args.path.now)
+    ++ chain c.args.at (length ns) c.args.seg (depths_of ns c.args.at + 1) c.args.path.now)

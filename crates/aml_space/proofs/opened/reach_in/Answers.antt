@@ -9,6 +9,10 @@ pub reach_above-reach-requires-clause-within : goal.reach_above-reach-requires-c
 reach_above-reach-requires-clause-within c = node_range c.requires.index.shape (take c.loop-reach.reach.known c.args.near.now.scope) c.loop-reach.reach.node
     c.loop-reach.invariant.led
 
+pub stepped-requires-clause-within : goal.stepped-requires-clause-within
+stepped-requires-clause-within c = node_range c.requires.index.shape (take c.loop-reach.reach.known c.args.near.now.scope) c.loop-reach.reach.node
+    c.loop-reach.invariant.led
+
 pub loop-reach-preserved : goal.loop-reach-preserved
 loop-reach-preserved c =
     let ns = c.args.nodes.now in

@@ -4,6 +4,7 @@ use Rattle.aml_parse.specs.Running.{run_term_at, run_terms_at}
 use Rattle.aml_load.specs.Running.{run_names}
 use Rattle.aml_load.specs.Runner.{front_of, below, RoomBy, HasRoom}
 use Rattle.aml_load.specs.Tables.{Fails}
+use Rattle.aml_load.specs.Walking.{Holds}
 use Rattle.aml_load.proofs.Ran.{found_then, found_none, span_is, opened_ok, done, fails, goes_on, room_on, room_in}
 use Rattle.aml_load.proofs.Ran.{behind_is, term_is, term_fails}
 use Rattle.aml_load.proofs.walking.Progress.+runs.Goals as goal
@@ -31,7 +32,7 @@ pub run_term-returns-in_err-node-clause-term : goal.run_term-returns-in_err-node
 run_term-returns-in_err-node-clause-term t c l h =
     let site = c.args.site.now in
     let code = c.args.code.now in
-    let inner = c.in_ok-inner.ensures.comes l h in
+    let inner = c.in_ok-inner.ensures.comes l (subst (λ p. Holds p l) (sym c.in_ok-head.ensures.same) h) in
     let bad = term_fails site code c.args.rest l inner.1.0 c.in_ok-inner.inner _ c.in_err-node.field-0.0 (c.in_ok-head.ensures.step l h) inner.1.2 inner.0
     (c.in_err-node.ensures.opens inner.1.0 inner.1.1) in
     search rules
@@ -44,7 +45,7 @@ pub run_term-returns-clause-term : goal.run_term-returns-clause-term
 run_term-returns-clause-term t c l h =
     let site = c.args.site.now in
     let code = c.args.code.now in
-    let inner = c.in_ok-inner.ensures.comes l h in
+    let inner = c.in_ok-inner.ensures.comes l (subst (λ p. Holds p l) (sym c.in_ok-head.ensures.same) h) in
     let node = c.in_ok-node.ensures.opens inner.1.0 inner.1.1 in (
       node.0,
       c.close_scopes.ensures.holds node.0 node.1,

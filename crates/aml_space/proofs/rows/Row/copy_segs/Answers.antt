@@ -8,9 +8,9 @@ returns-clause-copied c =
     let p = c.args.self.now.0 in
     let n = c.min-count.result in
     let from = c.args.from in
-    let here : path_of c.self.inside.nodes.now c.self.inside.at.node ≡ p = ap (λ e. e.0) c.self.view_is in
+    let here : path_of c.self.inside.nodes.now c.self.inside.at ≡ p = ap (λ e. e.0) c.self.view_is in
     let rest : c.saturating_sub-rest.result ≡ length p - from = c.saturating_sub-rest.ensures
-    ∙ ap (λ d. d - from) (c.self.invariant.1.1 ∙ ap length here) in
+    ∙ ap (λ d. d - from) c.depth.ensures in
     let few : n ≤ length p - from = omega (arith, c.min-count.ensures, rest) in
     c.fill.ensures.copied ∙ last_part p from n _ few
     (c.ancestor-last.ensures.path ∙ (λ i. take (length (here i) - (rest i - n)) (here i)))

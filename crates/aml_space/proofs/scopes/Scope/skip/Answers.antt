@@ -6,7 +6,7 @@ use Rattle.aml_space.proofs.scopes.Scope.skip.Goals as goal
 pub before-requires : goal.before-requires
 before-requires c =
     let inside = node_range c.requires.scope.index.shape (take c.args.level.depth c.args.self.now.path) c.args.level.node c.requires.level.led in
-    omega (arith, inside, c.if-len-self.false, c.len.ensures, c.requires.scope.ways.few)
+    omega (arith, inside, c.requires.scope.index.few)
 
 pub returns-in-None : goal.returns-in-None
 returns-in-None c = record {

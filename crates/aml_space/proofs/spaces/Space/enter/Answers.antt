@@ -5,7 +5,7 @@ use Rattle.aml_namespace.specs.Known.{Known, with_scopes}
 use Rattle.aml_children.specs.Numbered.{walk}
 use Rattle.aml_space.specs.Nodes.{kids_of}
 use Rattle.aml_space.specs.Opened.{AreOpened, AreThere, known_in, scopes_of}
-use Rattle.aml_space.proofs.Opening.{kept_opened, kept_there, known_again, more_opened, more_scopes, on_err}
+use Rattle.aml_space.proofs.Opening.{still_space, kept_opened, kept_there, known_again, more_opened, more_scopes, on_err}
 use Rattle.aml_space.proofs.Stepping.{ways_kept}
 use Rattle.aml_space.proofs.spaces.Space.enter.Goals as goal
 use Rattle.aml_space.proofs.spaces.Space.enter.Goals.{After-extend, After-keep_scope}
@@ -90,3 +90,8 @@ returns-clause-ok c =
     ap (λ (k : Known). with_scopes k (scopes_of c.push.new.self.items)) (still_known (goal.at.returns-clause-ok c).After-extend)
     ∙ ap (with_scopes c.args.self.now) (more_scopes c.self.inside.scopes.items c.push.new.self.items _ c.in_ok-push.ensures.items
     ∙ (λ i. (c.self.view_is i).scopes ++ same i ∷ []))
+
+pub invariant_of-self : goal.invariant_of-self
+invariant_of-self c = still_space c.self.inside.nodes.items c.extend.new.nodes.items c.self.inside.rows _ c.self.inside.opened.items
+    c.self.inside.scopes.items c.self.inside.ways c.self.inside.kept.items c.extend.ensures.index c.extend.ensures.kept
+    (c.self.invariant.rows ∙ ap (λ (k : Known). length (map.entries k.declarations)) (sym c.extend.ensures.known)) c.self.invariant

@@ -45,3 +45,8 @@ returns-clause-ok c = put_here (goal.at.returns-clause-ok c).After-set_given
 pub returns-clause-stands : goal.returns-clause-stands
 returns-clause-stands c = λ es stands. subst (λ k. StandsFor k (es ++ said c.args.path.now c.args.count ∷ [])) (sym (returns-clause-ok c))
     (stands_given c.args.self.now es stands c.args.path.now c.args.count)
+
+pub invariant_of-self : goal.invariant_of-self
+invariant_of-self c = still_space c.self.inside.nodes.items c.extend.new.nodes.items c.self.inside.rows _ c.self.inside.opened.items
+    c.self.inside.scopes.items c.self.inside.ways c.self.inside.kept.items c.extend.ensures.index c.extend.ensures.kept
+    (c.self.invariant.rows ∙ ap (λ (k : Known). length (map.entries k.declarations)) (sym c.extend.ensures.known)) c.self.invariant

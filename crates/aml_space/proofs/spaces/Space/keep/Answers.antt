@@ -3,7 +3,7 @@ use Rattle.std.specs.FinMap as map
 use Rattle.aml_namespace.specs.Known.{Known, with_kept}
 use Rattle.aml_space.specs.Candidates.{AreWays}
 use Rattle.aml_space.specs.Opened.{AreThere, known_in, paths_of}
-use Rattle.aml_space.proofs.Opening.{kept_opened, kept_there, more_there, known_again, on_err}
+use Rattle.aml_space.proofs.Opening.{still_space, kept_opened, kept_there, more_there, known_again, on_err}
 use Rattle.aml_space.proofs.Stepping.{ways_kept}
 use Rattle.aml_space.proofs.spaces.Space.keep.Goals as goal
 use Rattle.aml_space.proofs.spaces.Space.keep.Goals.{After-extend, In_ok-push}
@@ -66,3 +66,8 @@ returns-clause-ok c =
     let b = (goal.at.returns-clause-ok c).After-extend in
     ap (with_kept (known_in c.extend.new.nodes.items c.self.inside.scopes.items [])) (one_more (goal.at.returns-clause-ok c).In_ok-push).1
     ∙ ap (λ (k : Known). with_kept k (k.kept ++ c.args.path.now ∷ [])) (still_known b)
+
+pub invariant_of-self : goal.invariant_of-self
+invariant_of-self c = still_space c.self.inside.nodes.items c.extend.new.nodes.items c.self.inside.rows _ c.self.inside.opened.items
+    c.self.inside.scopes.items c.self.inside.ways c.self.inside.kept.items c.extend.ensures.index c.extend.ensures.kept
+    (c.self.invariant.rows ∙ ap (λ (k : Known). length (map.entries k.declarations)) (sym c.extend.ensures.known)) c.self.invariant

@@ -3,7 +3,7 @@ use Rattle.acpidis.proofs.Common.{tried_marks, names_in, table_dumps, table_code
 use Rattle.aml_set.proofs.TableLaws.{are_short}
 use Rattle.acpidis.proofs.CheckLaws.{short_blocks}
 use Rattle.acpidis.proofs.RunLaws.{trials_output, trials_same}
-use Rattle.acpidis.proofs.running.run_checks.Goals as goal
+use Rattle.acpidis.proofs.running.print_trials.Goals as goal
 
 pub check_tables-requires-clause-short : goal.check_tables-requires-clause-short
 check_tables-requires-clause-short g c =
@@ -17,7 +17,7 @@ returns-in_err-write_tables g c =
     let checked = c.in_ok-checks.ensures
     ∙ (λ i. checks_with (blocks_at set) (tried_marks (c.as_slice-methods.ensures.value i) c.as_slice-tried.result.now)) in
     let output = trials_output set.dumps.now c.args.options.now set.set.now c.requires.set _ _ c.as_slice-tried.ensures.value
-    c.in_ok-found.ensures.kept in
+    c.requires.kept in
     let gave = err_from_is_err_and c.from_residual-in_err-write_tables.result c.from_residual-in_err-write_tables.ensures.1 in
     let cut = rw (c.as_slice.ensures.value ∙ checked) at c.in_err-write_tables.ensures in
     rw (gave.1, gave.2) (record { status = _; text = _; wrote = _; lists = output.lists; cut = cut })
@@ -28,7 +28,7 @@ returns-then-not-are_same g c =
     let checked = c.in_ok-checks.ensures
     ∙ (λ i. checks_with (blocks_at set) (tried_marks (c.as_slice-methods.ensures.value i) c.as_slice-tried.result.now)) in
     let same = trials_same set.dumps.now c.args.options.now set.set.now c.requires.set _ _ c.as_slice-tried.ensures.value
-    c.in_ok-found.ensures.kept in
+    c.requires.kept in
     absurd (true≢false (sym (ap all_same (c.as_slice-2.ensures.value ∙ checked) ∙ same) ∙ sym c.if-not-are_same.ensures))
 
 pub returns : goal.returns
@@ -37,7 +37,7 @@ returns g c =
     let checked = c.in_ok-checks.ensures
     ∙ (λ i. checks_with (blocks_at set) (tried_marks (c.as_slice-methods.ensures.value i) c.as_slice-tried.result.now)) in
     let output = trials_output set.dumps.now c.args.options.now set.set.now c.requires.set _ _ c.as_slice-tried.ensures.value
-    c.in_ok-found.ensures.kept in (
+    c.requires.kept in (
       _,
       rw c.status_of_bodies.ensures output,
       rw (c.as_slice.ensures.value ∙ checked) at c.in_ok-write_tables.ensures,

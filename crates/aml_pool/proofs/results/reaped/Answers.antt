@@ -6,28 +6,30 @@ use Rattle.std.proofs.lemmas.Option.{slice_get-map}
 use Rattle.std.specs.Option.{option_map}
 use Rattle.aml_pool.specs.Counting.{times, once_below, free, AllGive}
 use Rattle.aml_pool.proofs.Places.{free-new, gives-none}
-use Rattle.aml_pool.proofs.results.harvest.Goals as goal
+use Rattle.aml_pool.proofs.results.reaped.Goals as goal
 
 pub filed-requires-clause-places : goal.filed-requires-clause-places
 filed-requires-clause-places g c =
-    let share = c.in_ok-seat.ensures.share in
-    let whole : c.close-drawn.result.numbers ≡ c.args.count = c.close-drawn.ensures.ended share.ended ∙ c.in_ok-board.ensures.board.0 in
+    let share = c.requires.share.3 in let count = c.args.board.count in
+    let whole : c.close-drawn.result.numbers ≡ count = c.close-drawn.ensures.ended share.ended in
     λ x. ap (times x) (share.parts.numbers ∙ sym share.numbers) ∙ (c.close-drawn.ensures.each x
-    ∙ (ap (once_below x) whole ∙ (sym (free-new _ c.args.count x) ∙ ap (free x) (sym c.in_ok-shelf.ensures))))
+    ∙ (ap (once_below x) whole ∙ (sym (free-new _ count x) ∙ ap (free x) (sym c.requires.empty))))
 
 pub filed-requires-clause-gives : goal.filed-requires-clause-gives
 filed-requires-clause-gives g c =
-    let gives = g.W.Work.gives c.args.work.now in
-    (c.in_ok-seat.ensures.share.parts.results, subst (AllGive gives) (sym c.in_ok-shelf.ensures) (gives-none gives c.args.count))
+    let gives = g.W.Work.gives c.args.work.now in (
+      c.requires.share.3.parts.results,
+      subst (AllGive gives) (sym c.requires.empty) (gives-none gives c.args.board.count),
+    )
 
-pub returns-clause-results : goal.returns-clause-results
-returns-clause-results g c =
-    let share = c.in_ok-seat.ensures.share in
-    let whole : c.close-drawn.result.numbers ≡ c.args.count = c.close-drawn.ensures.ended share.ended ∙ c.in_ok-board.ensures.board.0 in
+pub returns : goal.returns
+returns g c =
+    let share = c.requires.share.3 in let count = c.args.board.count in
+    let whole : c.close-drawn.result.numbers ≡ count = c.close-drawn.ensures.ended share.ended in
     let items = c.finish-items.result.items in
     let places : map (λ d. Some d) items ≡ c.filed.result.slots.items = c.finish-items.ensures in record {
       items_len = sym (length-map items (λ d. Some d)) ∙ (ap length places
-          ∙ (c.filed.ensures.len ∙ (ap length c.in_ok-shelf.ensures ∙ length-replicate c.args.count None)));
+          ∙ (c.filed.ensures.len ∙ (ap length c.requires.empty ∙ length-replicate count None)));
       results = λ n d e. c.filed.ensures.gives n d (ap (λ l. slice_get l n) (sym places)
           ∙ (slice_get-map (λ x. Some x) items n ∙ ap (option_map (λ x. Some x)) e));
       lists = share.parts.lists;

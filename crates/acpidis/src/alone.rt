@@ -1,0 +1,78 @@
+//! What `run` writes, by the caller alone: without a runtime, threads or waiting.
+ghost use Rattle.std.specs.Prelude.{true, false};
+ghost use Rattle.acpidis.specs.Endings.{Ends};
+ghost use Rattle.acpidis.specs.Meaning.{IsSet};
+
+use crate::bodies::keep_bodies_alone;
+use crate::disassembling::load_set;
+use crate::faults::RunFault;
+use crate::options::Options;
+use crate::running::{print_listing, print_trials};
+use crate::texts::Texts;
+use crate::trials::Trials;
+use acpi_tables::Dump;
+use aml_text::{Tables, body_levels};
+use std::alloc::Global;
+use std::io::Write;
+
+/// Writes what `run` writes of these dumps to `out`, and on `err` a line for each body that can't be read, and lets go
+/// all memory that it took.
+///
+/// Answers the status, 0 or 3, where all is written, and else why the run ends early, of which `print_fault` prints
+/// what `run` does.
+pub fn run_alone<O: Write, E: Write>(
+    alloc: Global,
+    dumps: &[Dump],
+    options: &Options,
+    check: bool,
+    out: &mut O,
+    err: &mut E,
+) -> Result<u8, RunFault>
+    // The text of the one listing that the dumps mean went out, and the status is that of its bodies; or the first bytes
+    // of it; or nothing, and then they mean none, unless memory was refused.
+    ensures { Ends dumps.now options.now check (O.contents out.old) (O.contents out.new) result }
+{
+    let (_order, set) = load_set(alloc, dumps, options)?;
+    let tables = Tables { dumps, set: &set };
+    if check {
+        checks_alone(alloc, tables, options, out, err)
+    } else {
+        listing_alone(alloc, tables, options, out, err)
+    }
+}
+
+/// Writes the listing of a loaded set, and a line on `err` for each body that can't be read. Answers the status.
+fn listing_alone<O: Write, E: Write>(
+    alloc: Global,
+    tables: Tables<'_, '_>,
+    options: &Options,
+    out: &mut O,
+    err: &mut E,
+) -> Result<u8, RunFault>
+    requires set { IsSet tables.dumps.now options.now tables.set.now }
+    ensures { Ends tables.entry.dumps.now options.now false (O.contents out.old) (O.contents out.new) result }
+{
+    let levels = body_levels(alloc, tables.set.tables.as_slice())?;
+    let keep = Texts {
+        alloc,
+        levels: levels.as_slice(),
+    };
+    let found = keep_bodies_alone(alloc, tables.set, options.unknown_zero, &keep)?;
+    print_listing(tables, options, keep, &found, out, err)
+}
+
+/// Writes a line for each table of a loaded set, and a line on `err` for each body that can't be read. Answers the
+/// status.
+fn checks_alone<O: Write, E: Write>(
+    alloc: Global,
+    tables: Tables<'_, '_>,
+    options: &Options,
+    out: &mut O,
+    err: &mut E,
+) -> Result<u8, RunFault>
+    requires set { IsSet tables.dumps.now options.now tables.set.now }
+    ensures { Ends tables.entry.dumps.now options.now true (O.contents out.old) (O.contents out.new) result }
+{
+    let found = keep_bodies_alone(alloc, tables.set, options.unknown_zero, &Trials { alloc })?;
+    print_trials(alloc, tables, options, &found, out, err)
+}

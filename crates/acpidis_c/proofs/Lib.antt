@@ -1,0 +1,4 @@
+pub mod AsBox
+pub mod Full
+pub mod Calling
+pub mod Running

@@ -1,0 +1,120 @@
+/* The library's edge: it refuses null pointers and lengths that no object has, which the proved functions can't see, and
+ * calls them. What they promise stands in crates/acpidis_c/src/lib.rt. */
+#include "acpidis.h"
+
+#include <string.h>
+
+#ifndef ACPIDIS_VERSION
+#define ACPIDIS_VERSION "unknown"
+#endif
+
+struct told {
+    uint32_t code, status;
+    size_t text, errors;
+};
+
+uint32_t acpidis_c_open(acpidis_set *set);
+void acpidis_c_close(acpidis_set *set);
+uint32_t acpidis_c_add(acpidis_set *set, const void *name, size_t name_length, bool placed, uint64_t address,
+                       const void *bytes, size_t length);
+uint32_t acpidis_c_counts(acpidis_set *set, const void *text, size_t length, size_t *line);
+uint32_t acpidis_c_options(acpidis_set *set, bool any_sum, bool any_run, bool unknown_zero);
+uint32_t acpidis_c_run(acpidis_set *set, bool check);
+struct told acpidis_c_told(acpidis_set *set);
+uint32_t acpidis_c_copy(acpidis_set *set, bool errors, size_t from, void *out, size_t length);
+
+static const char *const words[] = {
+    "Ok", "Closed", "Open", "NoMemory", "BadName", "TooManyTables", "TooLong", "BadLine", "NotRun", "OutOfRange",
+    "BadOptions", "Null",
+};
+
+const char *acpidis_words(acpidis_code code) {
+    return (unsigned)code < sizeof words / sizeof *words ? words[code] : "unknown";
+}
+
+const char *acpidis_version(void) {
+    return ACPIDIS_VERSION;
+}
+
+/* Whether so many bytes can't be at a pointer. */
+static bool is_null(const void *bytes, size_t length) {
+    return bytes == NULL && length != 0;
+}
+
+/* A pointer that isn't null, for no bytes. */
+static const void *somewhere(const void *bytes) {
+    return bytes == NULL ? "" : bytes;
+}
+
+acpidis_code acpidis_open(acpidis_set *set) {
+    return set == NULL ? ACPIDIS_NULL : (acpidis_code)acpidis_c_open(set);
+}
+
+void acpidis_close(acpidis_set *set) {
+    if (set != NULL)
+        acpidis_c_close(set);
+}
+
+acpidis_code acpidis_add(acpidis_set *set, const char *name, const uint64_t *address, const void *bytes, size_t length) {
+    if (set == NULL || name == NULL || is_null(bytes, length))
+        return ACPIDIS_NULL;
+    if (length > PTRDIFF_MAX)
+        return ACPIDIS_TOO_LONG;
+    return (acpidis_code)acpidis_c_add(set, name, strlen(name), address != NULL, address == NULL ? 0 : *address,
+                                       somewhere(bytes), length);
+}
+
+acpidis_code acpidis_set_counts(acpidis_set *set, const void *text, size_t length, size_t *line) {
+    size_t place = 0;
+    acpidis_code code = ACPIDIS_NULL;
+    if (length > PTRDIFF_MAX)
+        code = ACPIDIS_TOO_LONG;
+    else if (set != NULL && !is_null(text, length))
+        code = (acpidis_code)acpidis_c_counts(set, somewhere(text), length, &place);
+    if (line != NULL)
+        *line = place;
+    return code;
+}
+
+acpidis_code acpidis_set_options(acpidis_set *set, unsigned options) {
+    if (set == NULL)
+        return ACPIDIS_NULL;
+    if (options > (ACPIDIS_ANY_SUM | ACPIDIS_ANY_RUN | ACPIDIS_UNKNOWN_ZERO))
+        return ACPIDIS_BAD_OPTIONS;
+    return (acpidis_code)acpidis_c_options(set, options & ACPIDIS_ANY_SUM, options & ACPIDIS_ANY_RUN,
+                                           options & ACPIDIS_UNKNOWN_ZERO);
+}
+
+acpidis_code acpidis_run(acpidis_set *set, bool check) {
+    return set == NULL ? ACPIDIS_NULL : (acpidis_code)acpidis_c_run(set, check);
+}
+
+acpidis_code acpidis_ended(acpidis_set *set, int *status, size_t *text, size_t *errors) {
+    struct told told = { ACPIDIS_NULL, 0, 0, 0 };
+    if (set != NULL)
+        told = acpidis_c_told(set);
+    if (status != NULL)
+        *status = (int)told.status;
+    if (text != NULL)
+        *text = told.text;
+    if (errors != NULL)
+        *errors = told.errors;
+    return (acpidis_code)told.code;
+}
+
+static acpidis_code copy(acpidis_set *set, bool errors, size_t from, void *out, size_t length) {
+    char none[1];
+    if (set == NULL || is_null(out, length))
+        return ACPIDIS_NULL;
+    if (length > PTRDIFF_MAX)
+        return ACPIDIS_OUT_OF_RANGE;
+    return (acpidis_code)acpidis_c_copy(set, errors, from, out == NULL ? none : out, length);
+}
+
+acpidis_code acpidis_text(acpidis_set *set, size_t from, void *out, size_t length) {
+    return copy(set, false, from, out, length);
+}
+
+acpidis_code acpidis_errors(acpidis_set *set, size_t from, void *out, size_t length) {
+    return copy(set, true, from, out, length);
+}

@@ -1,0 +1,287 @@
+"""The listing of ACPI tables, by the library libacpidis: its text, the rows of its namespace, its methods, its faults.
+
+    import acpidis
+
+    listing = acpidis.load("tables", any_run=True)
+    for row in listing.rows:
+        print(row.path, row.kind)
+
+`load` takes a folder of dumps, with its `tables.map` if it has one, or the bytes of dumps by their names. Nothing of a set
+stays behind once it returns. The library is libacpidis.so.0 where the system finds it, or the file that the variable
+ACPIDIS_LIBRARY names.
+"""
+
+import ctypes
+import os
+import pathlib
+import re
+from typing import Dict, Iterator, List, Mapping, NamedTuple, Optional, Tuple, Union
+
+__all__ = ["Fault", "Listing", "Method", "Refused", "Row", "check", "load", "version"]
+
+MAP = "tables.map"
+MOST_DUMPS = 512
+MOST_BYTES = 16_777_216
+ANY_SUM, ANY_RUN, UNKNOWN_ZERO = 1, 2, 4
+OK, NO_MEMORY, BAD_LINE = 0, 3, 7
+
+Source = Union[str, "os.PathLike[str]", Mapping[str, bytes]]
+Counts = Union[bytes, Mapping[str, int], None]
+
+
+class Refused(Exception):
+    """No listing: the words that the program prints after `acpidis: `."""
+
+
+class Row(NamedTuple):
+    """A path that the tables declare."""
+
+    path: str
+    kind: str  # as "Device", "Method", "Alias"
+    arguments: Optional[int]  # of a Method
+    target: Optional[str]  # of an Alias: the path that it stands for
+    maybe: bool  # whether only some run of the code outside methods declares it
+    times: int  # how many declarations it has
+
+
+class Method(NamedTuple):
+    """A row that is a Method, with the fault for which its body can't be read, if it can't."""
+
+    path: str
+    arguments: int
+    fault: Optional[str]
+
+
+class Fault(NamedTuple):
+    """A body that can't be read: its method's path, and why."""
+
+    path: str
+    why: str
+
+
+class Listing(NamedTuple):
+    """What came of a set that has a listing."""
+
+    text: str
+    status: int  # 0, or 3 where the body of a method can't be read
+    rows: List[Row]
+    methods: List[Method]
+    faults: List[Fault]
+
+
+class Set(ctypes.Structure):
+    """A set as C has it."""
+
+    _fields_ = (("at", ctypes.c_void_p), ("full", ctypes.c_bool))
+
+
+def find_library() -> ctypes.CDLL:
+    """The library, with the types of its functions."""
+    library = ctypes.CDLL(os.environ.get("ACPIDIS_LIBRARY", "libacpidis.so.0"))
+    pointer, size, place = ctypes.POINTER(Set), ctypes.c_size_t, ctypes.POINTER(ctypes.c_size_t)
+    types = {
+        "open": (pointer,),
+        "close": (pointer,),
+        "add": (pointer, ctypes.c_char_p, ctypes.POINTER(ctypes.c_uint64), ctypes.c_char_p, size),
+        "set_options": (pointer, ctypes.c_uint),
+        "set_counts": (pointer, ctypes.c_char_p, size, place),
+        "run": (pointer, ctypes.c_bool),
+        "ended": (pointer, ctypes.POINTER(ctypes.c_int), place, place),
+        "text": (pointer, size, ctypes.c_char_p, size),
+        "errors": (pointer, size, ctypes.c_char_p, size),
+        "words": (ctypes.c_int,),
+        "version": (),
+    }
+    for name, arguments in types.items():
+        getattr(library, f"acpidis_{name}").argtypes = arguments
+    library.acpidis_close.restype = None
+    library.acpidis_words.restype = library.acpidis_version.restype = ctypes.c_char_p
+    return library
+
+
+class Library:
+    """The library, found once it is needed."""
+
+    found: Optional[ctypes.CDLL] = None
+
+    @classmethod
+    def get(cls) -> ctypes.CDLL:
+        if cls.found is None:
+            cls.found = find_library()
+        return cls.found
+
+
+def version() -> str:
+    """The library's version."""
+    return Library.get().acpidis_version().decode()
+
+
+class Open:
+    """An open set, which is closed behind its block."""
+
+    def __init__(self) -> None:
+        self.library, self.set = Library.get(), Set()
+
+    def __enter__(self) -> "Open":
+        self.do("open")
+        return self
+
+    def __exit__(self, *_: object) -> None:
+        self.library.acpidis_close(self.set)
+
+    def do(self, name: str, *arguments: object) -> None:
+        """Calls a function, and raises what it can't do."""
+        code = getattr(self.library, f"acpidis_{name}")(self.set, *arguments)
+        if code == NO_MEMORY:
+            raise MemoryError
+        if code != OK:
+            raise Refused(self.library.acpidis_words(code).decode())
+
+    def count(self, text: bytes) -> None:
+        """Sets the counts of the user."""
+        line = ctypes.c_size_t()
+        try:
+            self.do("set_counts", text, len(text), line)
+        except Refused as refused:
+            raise Refused(f"externals line {line.value}: {refused}" if line.value else str(refused)) from None
+
+    def run(self, checks: bool) -> Tuple[int, str, List[str]]:
+        """Runs the set: its status, its text and its error lines."""
+        self.do("run", checks)
+        status, text, errors = ctypes.c_int(), ctypes.c_size_t(), ctypes.c_size_t()
+        self.do("ended", status, text, errors)
+        lines = self.copy("errors", errors.value).splitlines()
+        return status.value, self.copy("text", text.value), [line.partition("acpidis: ")[2] for line in lines]
+
+    def copy(self, name: str, length: int) -> str:
+        room = ctypes.create_string_buffer(length)
+        self.do(name, 0, room, length)
+        return str(memoryview(room)[:length], "ascii")
+
+
+def read_file(file: pathlib.Path) -> bytes:
+    """The first bytes of a file, one more than a dump may have."""
+    with file.open("rb") as opened:
+        return opened.read(MOST_BYTES + 1)
+
+
+def read_folder(folder: pathlib.Path) -> Dict[str, bytes]:
+    """The files of a folder, by their names."""
+    try:
+        entries = list(os.scandir(folder))
+        for entry in entries:
+            entry.name.encode()
+    except (OSError, UnicodeEncodeError):
+        raise Refused("cannot read folder") from None
+    names = [entry.name for entry in entries if entry.is_file(follow_symlinks=False)]
+    if len([name for name in names if name != MAP]) > MOST_DUMPS:
+        raise Refused("TooManyTables")
+    files = {}
+    for name in sorted(names, key=os.fsencode):
+        try:
+            files[name] = read_file(folder / name)
+        except OSError:
+            raise Refused(f'cannot read "{name}"') from None
+    return files
+
+
+def read_map(text: bytes, names: List[str]) -> Dict[str, int]:
+    """The addresses that a map gives files of these names."""
+    if len(text) > MOST_BYTES:
+        raise Refused(f'cannot read "{MAP}"')
+    placed: Dict[str, int] = {}
+    lines = text.split(b"\n")
+    for number, line in enumerate(lines[:-1] if lines[-1] == b"" else lines, 1):
+        told = re.fullmatch(rb"([0-9A-Fa-f]{16}) (.*)", line, re.DOTALL)
+        if told is None:
+            raise Refused(f"{MAP} line {number}: BadLine")
+        address, name = int(told[1], 16), told[2].decode(errors="surrogateescape")
+        if name not in names:
+            raise Refused(f"{MAP} line {number}: NoSuchFile")
+        if name in placed or address in placed.values():
+            raise Refused(f"{MAP} line {number}: Again")
+        placed[name] = address
+    return placed
+
+
+def run(source: Source, checks: bool, options: int, externals: Counts) -> Tuple[int, str, List[str]]:
+    """Runs the library over a source."""
+    files = dict(source) if isinstance(source, Mapping) else read_folder(pathlib.Path(source))
+    text = files.pop(MAP, None)
+    names = sorted(files, key=os.fsencode)
+    addresses = {} if text is None else read_map(text, names)
+    if isinstance(externals, Mapping):
+        externals = "".join(f"{path} {count}\n" for path, count in externals.items()).encode()
+    with Open() as opened:
+        opened.do("set_options", options)
+        if externals is not None:
+            opened.count(externals)
+        for name in names:
+            address = ctypes.c_uint64(addresses[name]) if name in addresses else None
+            opened.do("add", os.fsencode(name), address, files[name], len(files[name]))
+        status, text_of_run, errors = opened.run(checks)
+    if status == 1:
+        raise Refused("\n".join(errors))
+    return status, text_of_run, errors
+
+
+ROW = re.compile(r"  (\S+) (\w+)(?: (\d+))?(?: (\\\S*))?( Maybe)?(?: Times (\d+))?$", re.MULTILINE)
+
+
+def rows_of(text: str) -> Iterator[Row]:
+    """The rows of the namespace of a text."""
+    begin = re.search(r"^Namespace (\d+)\n", text, re.MULTILINE)
+    if begin is None:
+        return
+    at = begin.end()
+    for _ in range(int(begin[1])):
+        end = text.index("\n", at)
+        told = ROW.match(text, at, end)
+        at = end + 1
+        if told is None:
+            raise ValueError("the text has a row that this module doesn't know")
+        path, kind, arguments, target, maybe, times = told.groups()
+        yield Row(path, kind, None if arguments is None else int(arguments), target, maybe is not None, int(times or 1))
+
+
+def faults_of(errors: List[str]) -> Iterator[Fault]:
+    """The faults of bodies of error lines."""
+    for line in errors:
+        path, _, why = line.partition("body ")[2].partition(": ")
+        yield Fault(path, why)
+
+
+def options_of(any_sum: bool, any_run: bool, unknown_zero: bool) -> int:
+    return any_sum * ANY_SUM | any_run * ANY_RUN | unknown_zero * UNKNOWN_ZERO
+
+
+def load(
+    source: Source,
+    *,
+    any_sum: bool = False,
+    any_run: bool = False,
+    unknown_zero: bool = False,
+    externals: Counts = None,
+) -> Listing:
+    """The listing of a folder of dumps, or of the bytes of dumps by their names.
+
+    The options are the program's. `externals` is the text of a file of counts, or the counts by their paths. Raises
+    `Refused` where the set has no listing, and MemoryError where memory is short.
+    """
+    status, text, errors = run(source, False, options_of(any_sum, any_run, unknown_zero), externals)
+    rows, faults = list(rows_of(text)), list(faults_of(errors))
+    told = {fault.path: fault.why for fault in faults}
+    methods = [Method(row.path, row.arguments or 0, told.get(row.path)) for row in rows if row.kind == "Method"]
+    return Listing(text, status, rows, methods, faults)
+
+
+def check(
+    source: Source,
+    *,
+    any_sum: bool = False,
+    any_run: bool = False,
+    unknown_zero: bool = False,
+    externals: Counts = None,
+) -> str:
+    """The lines that the program prints with --check: of each table whether what was read encodes to its bytes."""
+    return run(source, True, options_of(any_sum, any_run, unknown_zero), externals)[1]
