@@ -82,6 +82,9 @@ pub trait Telling {
     ghost use Rattle.aml_names.specs.declared.faults.CodeFault.{CodeFault as Fault};
     ghost use Rattle.aml_code.specs.Pieces.{Told};
 
+    /// The condition of telling: none, where an impl names none.
+    ghost can_tell: { Self → Type 0 } = { λ _. Unit {0} };
+
     /// That it tells these pieces.
     ghost tells: { Self → List Told → Type 0 };
 
@@ -90,6 +93,7 @@ pub trait Telling {
 
     /// Tells them. What was told before a fault says nothing.
     fn tell_all<S: Sink>(&self, sink: &mut S) -> Result<(), CodeFault>
+        requires { can_tell self.now }
         ensures told { OnOk result ((ps : List Told) × (tells self.now ps × S.grew sink.old sink.new ps)) }
         ensures fails { IfErr result (fails self.now) };
 }

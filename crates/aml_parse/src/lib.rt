@@ -23,4 +23,4 @@ pub use module::parse_module;
 pub use positions::next_position;
 pub use running::{reads_forward, reads_one_way, spells_table};
 pub use step::read_step;
-pub use told::tell_body;
+pub use told::{tell_body, tell_own_body};

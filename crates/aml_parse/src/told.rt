@@ -50,9 +50,29 @@ fn tell_pieces<A: Arity, S: Sink>(
     Ok(())
 }
 
+/// What `tell_body` tells, where names are known to stand in this scope, so that it needn't be compared with theirs: the
+/// lines of the terms, up to the fault that is met first.
+pub fn tell_own_body<A: Arity, S: Sink>(
+    alloc: Global,
+    code: &[u8],
+    arity: &A,
+    scope: &Parts<'_>,
+    level: u32,
+    sink: &mut S,
+) -> Result<(), CodeFault>
+    requires table { length code.now < 2 ^ 32 }
+    requires own { A.stands arity.now scope.now }
+    ensures told { OnOk result ((ts : Trees) × ((all_at (A.arity arity.now) (Some scope.now) Position.BodyTerm code.now
+        ≡ Ok ts) × S.grew sink.old sink.new (line_pieces level ts))) }
+    ensures fails { IfErr result (λ fault. Fails fault
+        (all_at (A.arity arity.now) (Some scope.now) Position.BodyTerm code.now)) }
+{
+    tell_pieces(alloc, code, arity, scope, true, level, sink)
+}
+
 /// Tells a sink the terms of a method's body, which `code` holds whole, piece by piece as they are read, and makes no
 /// trees of them. How many arguments a name takes is asked of `arity`, by the paths that the body has declared so far;
-/// `scope` is the method's path, from which these are placed (ACPI 6.5, 5.3).
+/// `scope` is the method's path, from which these are placed (ACPI 6.5, 5.3). The terms stand in lines of this level.
 ///
 /// A fault's offset is one in `code`, and what the fault says is true there. Which of several faults is answered is the
 /// first that is met in reading forward; what was told until then says nothing.

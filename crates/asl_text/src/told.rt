@@ -161,6 +161,7 @@ pub(crate) fn print_told<W: Write, T: Telling>(
     out: &mut Out<'_, W>,
     telling: &T,
 ) -> Result<(), CodeFault>
+    requires { T.can_tell telling.now }
     ensures told { OnOk result ((ps : List Told) × (T.tells telling.now ps ×
         Prints W.contents out.old out.new (flat_map piece_text ps))) }
     ensures fails { IfErr result (T.fails telling.now) }

@@ -81,6 +81,7 @@ fn write_told<W: Write, T: Telling>(
     telling: &T,
     buffer: &mut [u8],
 ) -> Result<Result<(), WriteFault>, CodeFault>
+    requires { T.can_tell telling.now }
     ensures told { IfOk result (λ written. (ps : List Told) × (T.tells telling.now ps ×
         Writes (W.contents out.old) (W.contents out.new) (flat_map piece_text ps) written)) }
     ensures fails { IfErr result (T.fails telling.now) }
@@ -97,6 +98,7 @@ pub fn told_text<T: Telling>(
     most: usize,
     telling: &T,
 ) -> Result<Option<Vec<u8>>, CodeFault>
+    requires { T.can_tell telling.now }
     ensures told { IfOk result (λ text. IfSome text (λ t. (ps : List Told) × (T.tells telling.now ps ×
         (t.items ≡ flat_map piece_text ps)))) }
     ensures fails { IfErr result (T.fails telling.now) }
