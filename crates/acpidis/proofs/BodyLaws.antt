@@ -3,15 +3,16 @@
 -- their marks.
 use Rattle.acpidis.proofs.Common.{AllZip, ◌≡◌, ℕ, suc, Bool, false, List, [], ◌∷◌, ◌++◌, map, length, Some, Result, Ok}
 use Rattle.acpidis.proofs.Common.{Err, refl, sym, ap, ap₂, subst, arith}
-use Rattle.acpidis.proofs.Common.{slice_get, map-id, Entry, CodeFault, Trees, OfMethod, table_codes, span_of, body_in}
+use Rattle.acpidis.proofs.Common.{slice_get, Entry, CodeFault, Trees, OfMethod, table_codes, span_of, body_in}
 use Rattle.acpidis.proofs.Common.{TableSet, Method, Body, AgreeAt, OneBody}
 use Rattle.acpidis.proofs.Common.{read, raw, all_lines, body_lines, BodyText, IsText, body_view, printed_lines, IsEntry}
-use Rattle.acpidis.proofs.Common.{Became, BecameIn}
+use Rattle.acpidis.proofs.Common.{Became, Reading, reading_of, entry_of, ReadsIn, AreReadings}
 use Rattle.acpidis.proofs.Common.{AreBodies, has_raw, mark_of, marks_of, IsKept, AreKept, AreKeptOf, IsSame, has_fault}
 use Rattle.acpidis.proofs.Common.{tried_mark, tried_marks, get_or}
 use Rattle.aml_namespace.specs.Known.{StandsFor}
 use Rattle.asl_text.specs.declared.bodies.Body.TheVariants as bodies
 use Rattle.asl_text.specs.declared.bodies.BodyText.TheVariants as kept_texts
+use Rattle.aml_code.specs.View.{nodes_view}
 
 -- what is true of each pair is true of what is made of it
 all_zip_to : {A B C : Type 0} (R : A → B → Type 0) (S : A → C → Type 0) (f : B → C)
@@ -23,24 +24,24 @@ all_zip_to R S f to (x ∷ xs) [] h = absurd h
 all_zip_to R S f to (x ∷ xs) (y ∷ ys) h = (to x y h.0, all_zip_to R S f to xs ys h.1)
 
 module _ (z : Bool) (x : TableSet) (es : List Entry) (stands : StandsFor x.space es) where
-  is_entry : (m : Method) (d : Body) → BecameIn z x m d → IsEntry z es (table_codes x.tables.items) m (body_view d)
-  is_entry m (bodies.Tree nodes) h = (h es stands).0
-  is_entry m (bodies.Raw f) h = (h es stands).unread.none
+  is_entry : (m : Method) (d : Reading) → ReadsIn z x m d → IsEntry z es (table_codes x.tables.items) m (entry_of d)
+  is_entry m (Ok us) h = (h es stands).0
+  is_entry m (Err why) h = (h es stands).unread.none
 
-  the_entry : (m : Method) (d : Body) (b : OneBody) → BecameIn z x m d → IsEntry z es (table_codes x.tables.items) m b
-      → b ≡ body_view d
-  the_entry m (bodies.Tree nodes) (read ts) h e = ap read ((h es stands).1 ts e)
-  the_entry m (bodies.Tree nodes) raw h e = absurd (e _ (h es stands).0)
-  the_entry m (bodies.Raw f) (read ts) h e = absurd ((h es stands).unread.none ts e)
-  the_entry m (bodies.Raw f) raw h e = refl
+  the_entry : (m : Method) (d : Reading) (b : OneBody) → ReadsIn z x m d → IsEntry z es (table_codes x.tables.items) m b
+      → b ≡ entry_of d
+  the_entry m (Ok us) (read ts) h e = ap read ((h es stands).1 ts e)
+  the_entry m (Ok us) raw h e = absurd (e _ (h es stands).0)
+  the_entry m (Err why) (read ts) h e = absurd ((h es stands).unread.none ts e)
+  the_entry m (Err why) raw h e = refl
 
-  pub are_entries : (ms : List Method) (ds : List Body) → AllZip (BecameIn z x) ms ds
-      → AllZip (IsEntry z es (table_codes x.tables.items)) ms (map body_view ds)
-  are_entries ms ds h = all_zip_to (BecameIn z x) (IsEntry z es (table_codes x.tables.items)) body_view is_entry ms ds h
+  pub are_entries : (ms : List Method) (ds : List Reading) → AllZip (ReadsIn z x) ms ds
+      → AllZip (IsEntry z es (table_codes x.tables.items)) ms (map entry_of ds)
+  are_entries ms ds h = all_zip_to (ReadsIn z x) (IsEntry z es (table_codes x.tables.items)) entry_of is_entry ms ds h
 
-  pub the_entries : (ms : List Method) (ds : List Body) (bs : List OneBody) → AllZip (BecameIn z x) ms ds
+  pub the_entries : (ms : List Method) (ds : List Reading) (bs : List OneBody) → AllZip (ReadsIn z x) ms ds
       → AllZip (IsEntry z es (table_codes x.tables.items)) ms bs
-      → bs ≡ map body_view ds
+      → bs ≡ map entry_of ds
   the_entries [] [] [] h e = refl
   the_entries [] [] (b ∷ bs) h e = absurd e
   the_entries [] (d ∷ ds) bs h e = absurd h
@@ -48,19 +49,30 @@ module _ (z : Bool) (x : TableSet) (es : List Entry) (stands : StandsFor x.space
   the_entries (m ∷ ms) (d ∷ ds) [] h e = absurd e
   the_entries (m ∷ ms) (d ∷ ds) (b ∷ bs) h e = ap₂ ◌∷◌ (the_entry m d b h.0 e.0) (the_entries ms ds bs h.1 e.1)
 
-  pub are_told : (ms : List Method) (ds : List Body) → AllZip (BecameIn z x) ms ds
+  became : (m : Method) (d : Body) → ReadsIn z x m (reading_of d) → Became z es (table_codes x.tables.items) m d
+  became m (bodies.Tree nodes) h = h es stands
+  became m (bodies.Raw f) h = h es stands
+
+  pub are_told : (ms : List Method) (ds : List Body) → AllZip (ReadsIn z x) ms (map reading_of ds)
       → AllZip (Became z es (table_codes x.tables.items)) ms ds
-  are_told ms ds h =
-      let Told = Became z es (table_codes x.tables.items) in
-      subst (AllZip Told ms) (map-id ds) (all_zip_to (BecameIn z x) Told (λ d. d) (λ m d is. is es stands) ms ds h)
+  are_told [] [] h = tt
+  are_told [] (d ∷ ds) h = absurd h
+  are_told (m ∷ ms) [] h = absurd h
+  are_told (m ∷ ms) (d ∷ ds) h = (became m d h.0, are_told ms ds h.1)
+
+-- what a listing has of bodies in memory
+pub entries_are : (ds : List Body) → map entry_of (map reading_of ds) ≡ map body_view ds
+entries_are [] = refl
+entries_are (bodies.Tree nodes ∷ ds) = ap (λ bs. read (nodes_view nodes.items) ∷ bs) (entries_are ds)
+entries_are (bodies.Raw f ∷ ds) = ap (λ bs. raw ∷ bs) (entries_are ds)
 
 -- ---- what is kept of bodies
 
 -- the bodies of which it is kept, by number
-pub chosen : {X : Type 0} (Is : Method → Body → Type 0) (Keeps : ℕ → Body → X → Type 0) (ms : List Method) (ds : List X)
+pub chosen : {X : Type 0} (Is : Method → Reading → Type 0) (Keeps : ℕ → Reading → X → Type 0) (ms : List Method) (ds : List X)
     → length ds ≡ length ms
-    → ((n : ℕ) (d : X) → slice_get ds n ≡ Some d → (b : Body) × OfMethod (slice_get ms n) (λ m. Is m b) × Keeps n b d)
-    → (bs : List Body) × AllZip Is ms bs × AreKept Keeps bs ds
+    → ((n : ℕ) (d : X) → slice_get ds n ≡ Some d → (b : Reading) × OfMethod (slice_get ms n) (λ m. Is m b) × Keeps n b d)
+    → (bs : List Reading) × AllZip Is ms bs × AreKept Keeps bs ds
 chosen Is Keeps [] [] l h = ([], tt, tt)
 chosen Is Keeps [] (d ∷ ds) l h = absurd (omega (arith, l))
 chosen Is Keeps (m ∷ ms) [] l h = absurd (omega (arith, l))
@@ -70,7 +82,7 @@ chosen Is Keeps (m ∷ ms) (d ∷ ds) l h =
     (first.0 ∷ rest.0, (first.1, rest.1), (first.2, rest.2))
 
 -- of one body more
-pub kept_more : {X : Type 0} (Keeps : ℕ → Body → X → Type 0) (bs : List Body) (ds : List X) (b : Body) (d : X)
+pub kept_more : {X : Type 0} (Keeps : ℕ → Reading → X → Type 0) (bs : List Reading) (ds : List X) (b : Reading) (d : X)
     → AreKept Keeps bs ds → Keeps (length bs) b d
     → AreKept Keeps (bs ++ b ∷ []) (ds ++ d ∷ [])
 kept_more Keeps [] [] b d k h = (h, tt)
@@ -79,30 +91,30 @@ kept_more Keeps (c ∷ bs) [] b d k h = absurd k
 kept_more Keeps (c ∷ bs) (e ∷ ds) b d k h = (k.0, kept_more (λ n. Keeps (suc n)) bs ds b d k.1 h)
 
 -- the bodies themselves
-kept_whole : (bs ds : List Body) → AreKept (λ n body kept. kept ≡ body) bs ds → bs ≡ ds
+kept_whole : (rs : List Reading) (ds : List Body) → AreKept (λ n reading kept. reading ≡ reading_of kept) rs ds → rs ≡ map reading_of ds
 kept_whole [] [] k = refl
 kept_whole [] (d ∷ ds) k = absurd k
-kept_whole (b ∷ bs) [] k = absurd k
-kept_whole (b ∷ bs) (d ∷ ds) k = ap₂ ◌∷◌ (sym k.0) (kept_whole bs ds k.1)
+kept_whole (r ∷ rs) [] k = absurd k
+kept_whole (r ∷ rs) (d ∷ ds) k = ap₂ ◌∷◌ k.0 (kept_whole rs ds k.1)
 
-pub whole_kept : (z : Bool) (x : TableSet) (ds : List Body) → AreKeptOf (λ n body kept. kept ≡ body) z x ds
+pub whole_kept : (z : Bool) (x : TableSet) (ds : List Body) → AreKeptOf (λ n reading kept. reading ≡ reading_of kept) z x ds
     → AreBodies z x ds
-whole_kept z x ds k = subst (AllZip (BecameIn z x) x.methods.items) (kept_whole k.0 ds k.2) k.1
+whole_kept z x ds k = subst (AreReadings z x) (kept_whole k.0 ds k.2) k.1
 
 -- ---- what it says of them
 
-same_lines : (level : ℕ) (b : Body) (d : Result BodyText CodeFault) → IsKept (IsText level) b d → (bytes : List ℕ)
-    → body_lines (body_view b) level bytes ≡ printed_lines d level bytes
-same_lines level (bodies.Tree nodes) (Ok (kept_texts.Lines text)) k bytes = sym k
-same_lines level (bodies.Tree nodes) (Ok (kept_texts.Terms kept)) k bytes = sym (ap (λ ts. all_lines level ts) k)
-same_lines level (bodies.Tree nodes) (Err fault) k bytes = absurd k
-same_lines level (bodies.Raw fault) (Ok text) k bytes = absurd k
-same_lines level (bodies.Raw fault) (Err kept) k bytes = refl
+same_lines : (level : ℕ) (b : Reading) (d : Result BodyText CodeFault) → IsKept (IsText level) b d → (bytes : List ℕ)
+    → body_lines (entry_of b) level bytes ≡ printed_lines d level bytes
+same_lines level (Ok us) (Ok (kept_texts.Lines text)) k bytes = sym k
+same_lines level (Ok us) (Ok (kept_texts.Terms kept)) k bytes = sym (ap (λ ts. all_lines level ts) k)
+same_lines level (Ok us) (Err fault) k bytes = absurd k
+same_lines level (Err why) (Ok text) k bytes = absurd k
+same_lines level (Err why) (Err kept) k bytes = refl
 
 -- texts at their levels print as the bodies do
-pub texts_agree : (ls : List ℕ) (bs : List Body) (ds : List (Result BodyText CodeFault))
+pub texts_agree : (ls : List ℕ) (bs : List Reading) (ds : List (Result BodyText CodeFault))
     → AreKept (λ n. IsKept (IsText (get_or ls n 0))) bs ds
-    → AgreeAt ls (map body_lines (map body_view bs)) (map printed_lines ds)
+    → AgreeAt ls (map body_lines (map entry_of bs)) (map printed_lines ds)
 texts_agree [] bs ds k = tt
 texts_agree (l ∷ ls) [] [] k = texts_agree ls [] [] tt
 texts_agree (l ∷ ls) [] (d ∷ ds) k = absurd k
@@ -110,28 +122,28 @@ texts_agree (l ∷ ls) (b ∷ bs) [] k = absurd k
 texts_agree (l ∷ ls) (b ∷ bs) (d ∷ ds) k = (same_lines l b d k.0, texts_agree ls bs ds k.1)
 
 -- a fault is kept where a body is raw
-pub faults_are : {X : Type 0} (Gives : ℕ → Trees → X → Type 0) (bs : List Body) (ds : List (Result X CodeFault))
+pub faults_are : {X : Type 0} (Gives : ℕ → Trees → X → Type 0) (bs : List Reading) (ds : List (Result X CodeFault))
     → AreKept (λ n. IsKept (Gives n)) bs ds
-    → has_fault ds ≡ has_raw (map body_view bs)
+    → has_fault ds ≡ has_raw (map entry_of bs)
 faults_are Gives [] [] k = refl
 faults_are Gives [] (d ∷ ds) k = absurd k
 faults_are Gives (b ∷ bs) [] k = absurd k
-faults_are Gives (bodies.Tree nodes ∷ bs) (Ok x ∷ ds) k = faults_are (λ n. Gives (suc n)) bs ds k.1
-faults_are Gives (bodies.Tree nodes ∷ bs) (Err fault ∷ ds) k = absurd k.0
-faults_are Gives (bodies.Raw fault ∷ bs) (Ok x ∷ ds) k = absurd k.0
-faults_are Gives (bodies.Raw fault ∷ bs) (Err kept ∷ ds) k = refl
+faults_are Gives (Ok ts ∷ bs) (Ok x ∷ ds) k = faults_are (λ n. Gives (suc n)) bs ds k.1
+faults_are Gives (Ok ts ∷ bs) (Err fault ∷ ds) k = absurd k.0
+faults_are Gives (Err why ∷ bs) (Ok x ∷ ds) k = absurd k.0
+faults_are Gives (Err why ∷ bs) (Err kept ∷ ds) k = refl
 
 -- trials are marks of the bodies
-mark_is : (cs : List (List ℕ)) (m : Method) (b : Body) (d : Result Bool CodeFault) → IsKept (IsSame (span_of cs m)) b d
-    → tried_mark m.table d ≡ mark_of cs (m, body_view b)
-mark_is cs m (bodies.Tree nodes) (Ok same) k = λ i. record { table = m.table; raw = false; same = k i }
-mark_is cs m (bodies.Tree nodes) (Err fault) k = absurd k
-mark_is cs m (bodies.Raw fault) (Ok same) k = absurd k
-mark_is cs m (bodies.Raw fault) (Err kept) k = refl
+mark_is : (cs : List (List ℕ)) (m : Method) (b : Reading) (d : Result Bool CodeFault) → IsKept (IsSame (span_of cs m)) b d
+    → tried_mark m.table d ≡ mark_of cs (m, entry_of b)
+mark_is cs m (Ok us) (Ok same) k = λ i. record { table = m.table; raw = false; same = k i }
+mark_is cs m (Ok us) (Err fault) k = absurd k
+mark_is cs m (Err why) (Ok same) k = absurd k
+mark_is cs m (Err why) (Err kept) k = refl
 
-pub trials_are : (cs : List (List ℕ)) (ms : List Method) (bs : List Body) (ds : List (Result Bool CodeFault))
+pub trials_are : (cs : List (List ℕ)) (ms : List Method) (bs : List Reading) (ds : List (Result Bool CodeFault))
     → AreKept (λ n. IsKept (IsSame (body_in cs (slice_get ms n)))) bs ds
-    → tried_marks ms ds ≡ marks_of cs ms (map body_view bs)
+    → tried_marks ms ds ≡ marks_of cs ms (map entry_of bs)
 trials_are cs [] bs ds k = refl
 trials_are cs (m ∷ ms) [] [] k = refl
 trials_are cs (m ∷ ms) [] (d ∷ ds) k = absurd k

@@ -8,3 +8,4 @@ pub mod RunLaws
 pub mod CheckLaws
 pub mod SameLaws
 pub mod Taking
+mod UnreadLaws

@@ -3,7 +3,8 @@
 use Rattle.acpidis.proofs.Common.{AllZip, ◌≡◌, ◌≤◌, ℕ, List, [], ◌∷◌, map, length, drop, get_or, refl, sym, ap, ap₂}
 use Rattle.acpidis.proofs.Common.{◌∙◌, Trees, Listed}
 use Rattle.acpidis.proofs.Common.{LoadsBy, methods_of, HoldsTables, Loaded, TableSet, table_dumps, IsListed, Dump}
-use Rattle.acpidis.proofs.Common.{Order, IsOrder, Body, body_view, indexes_in, Options, codes_in}
+use Rattle.acpidis.proofs.Common.{Order, IsOrder, Body, indexes_in, Options, codes_in}
+use Rattle.acpidis.proofs.Common.{Reading, entry_of, AreReadings}
 use Rattle.acpidis.proofs.Common.{Became, AreBodies, Meaning, LoadsSet, HoldsSet, HasTables, Means, IsSet, codes_of}
 use Rattle.std.proofs.Common.{◌⊎◌, inl, inr}
 use Rattle.acpidis.specs.declared.refusal.Refusal.{Refusal}
@@ -81,29 +82,30 @@ module _ (dumps : List Dump) (options : Options) (order : Order) (codes : List (
 
 -- ---- a loaded set with the bodies that were read
 
-module _ (dumps : List Dump) (options : Options) (x : TableSet) (ds : List Body) (are : AreBodies options.unknown_zero x ds) where
+module _ (dumps : List Dump) (options : Options) (x : TableSet) (rs : List Reading) (are : AreReadings options.unknown_zero x rs) where
   -- the dumps mean it
   pub means_so : (k : Meaning) × LoadsSet dumps options k × HasTables x dumps k
-      → (k : Meaning) × Means dumps options k × HasTables x dumps k × (map body_view ds ≡ k.bodies)
+      → (k : Meaning) × Means dumps options k × HasTables x dumps k × (map entry_of rs ≡ k.bodies)
   means_so h =
       let k = h.0 in
-      let here = are_entries options.unknown_zero x k.listed.entries h.2.holds.space x.methods.items ds are in (
-        record { dsdt = k.dsdt; ssdts = k.ssdts; trees = k.trees; listed = k.listed; bodies = map body_view ds },
+      let here = are_entries options.unknown_zero x k.listed.entries h.2.holds.space x.methods.items rs are in (
+        record { dsdt = k.dsdt; ssdts = k.ssdts; trees = k.trees; listed = k.listed; bodies = map entry_of rs },
         record { set = record { order = h.1.order; loads = h.1.loads }; bodies = rw (← h.2.holds.tables, ← h.2.holds.methods) here },
         record { named = h.2.named; holds = h.2.holds },
         refl,
       )
 
   -- and whatever they mean has these bodies
-  pub means_only : (k : Meaning) → Means dumps options k → HasTables x dumps k → map body_view ds ≡ k.bodies
+  pub means_only : (k : Meaning) → Means dumps options k → HasTables x dumps k → map entry_of rs ≡ k.bodies
   means_only k means it =
-      sym (the_entries options.unknown_zero x k.listed.entries it.holds.space x.methods.items ds k.bodies are
+      sym (the_entries options.unknown_zero x k.listed.entries it.holds.space x.methods.items rs k.bodies are
       (rw (it.holds.tables, it.holds.methods) means.bodies))
 
-  -- and what is told of them is told of that
-  pub told_so : (k : Meaning) → HasTables x dumps k
-      → AllZip (Became options.unknown_zero k.listed.entries (codes_of dumps k)) (methods_of k.listed.entries) ds
-  told_so k it = rw (← it.holds.tables, ← it.holds.methods) (are_told options.unknown_zero x k.listed.entries it.holds.space x.methods.items ds are)
+-- and what is told of those in memory is told of that
+pub told_so : (dumps : List Dump) (options : Options) (x : TableSet) (ds : List Body) (are : AreBodies options.unknown_zero x ds) (k : Meaning)
+    → HasTables x dumps k → AllZip (Became options.unknown_zero k.listed.entries (codes_of dumps k)) (methods_of k.listed.entries) ds
+told_so dumps options x ds are k it =
+    rw (← it.holds.tables, ← it.holds.methods) (are_told options.unknown_zero x k.listed.entries it.holds.space x.methods.items ds are)
 
 -- ---- the same set with its tables in lists of their own, beside the order that it was loaded in
 

@@ -4,10 +4,11 @@
 use Rattle.acpidis.proofs.Common.{◌≡◌, ℕ, Bool, true, false, cond, List, ◌∷◌, ◌++◌, map, get_or, Result, sym, ap, ap₂}
 use Rattle.acpidis.proofs.Common.{◌∙◌, methods_of, codes_view}
 use Rattle.acpidis.proofs.Common.{table_codes, table_dumps, table_terms, body_in_set, TableSet, Method, CodeFault}
-use Rattle.acpidis.proofs.Common.{Trees, Dump, Body, BodyText, OneBody, OneBlock, levels_of}
+use Rattle.acpidis.proofs.Common.{Trees, Dump, BodyText, OneBody, OneBlock, levels_of}
 use Rattle.acpidis.proofs.Common.{blocks_of, blocks_in, body_lines, names_in, whole_text, listing_text, IsText}
 use Rattle.acpidis.proofs.Common.{body_view, printed_lines, indexes_in, has_raw}
-use Rattle.acpidis.proofs.Common.{AreBodies, marks_of, checks_with, check_lines, all_same, IsKept, AreKeptOf, IsSame}
+use Rattle.acpidis.proofs.Common.{Reading, entry_of, AreReadings}
+use Rattle.acpidis.proofs.Common.{marks_of, checks_with, check_lines, all_same, IsKept, AreKeptOf, IsSame}
 use Rattle.acpidis.proofs.Common.{has_fault, tried_marks, Meaning}
 use Rattle.acpidis.proofs.Common.{Means, Shows, order_of, codes_of, IsSet, Options}
 use Rattle.aml_code.specs.View.{nodes_view}
@@ -81,12 +82,12 @@ module _ (dumps : List Dump) (options : Options) (x : TableSet) where
   abbrev printed_set : Bool → List OneBody → List ℕ
   printed_set check bs = printed check dumps x.space blocks (table_codes x.tables.items) x.methods.items bs
 
-  module _ (set : IsSet dumps options x) (bs : List Body) (are : AreBodies options.unknown_zero x bs) where
-    bodies_are : (k : Meaning) → Means dumps options k → map body_view bs ≡ k.bodies
+  module _ (set : IsSet dumps options x) (bs : List Reading) (are : AreReadings options.unknown_zero x bs) where
+    bodies_are : (k : Meaning) → Means dumps options k → map entry_of bs ≡ k.bodies
     bodies_are k means = means_only dumps options x bs are k means (set.one k means.set)
 
-    output_so : (check : Bool) (status : ℕ) (text : List ℕ) → status ≡ cond (has_raw (map body_view bs)) 3 0
-        → text ≡ printed_set check (map body_view bs) → IsOutput dumps options check status text
+    output_so : (check : Bool) (status : ℕ) (text : List ℕ) → status ≡ cond (has_raw (map entry_of bs)) 3 0
+        → text ≡ printed_set check (map entry_of bs) → IsOutput dumps options check status text
     output_so check status text s t =
         let meant = means_so dumps options x bs are set.sound in
         let of : (k : Meaning) → Means dumps options k → (status ≡ status_with k) × (text ≡ output_of check dumps k) = λ k means.
@@ -103,7 +104,7 @@ module _ (dumps : List Dump) (options : Options) (x : TableSet) where
         }
 
     -- no table differs
-    same_so : all_same (checks_with blocks (marks_of (table_codes x.tables.items) x.methods.items (map body_view bs))) ≡ true
+    same_so : all_same (checks_with blocks (marks_of (table_codes x.tables.items) x.methods.items (map entry_of bs))) ≡ true
     same_so =
         let meant = means_so dumps options x bs are set.sound in
         let it = meant.2 in
@@ -123,7 +124,7 @@ module _ (dumps : List Dump) (options : Options) (x : TableSet) where
         let kept : AreKeptOf (λ n. IsKept (IsText (get_or (levels_of (table_terms x.tables.items)) n 0))) options.unknown_zero x ds = rw (is, ← there) was in
         let Gives : ℕ → Trees → BodyText → Type 0 = λ n. IsText (get_or (levels_of (table_terms x.tables.items)) n 0) in
         let front : List ℕ = dumps_text dumps ++ namespace_text (finite.entries x.space.declarations) in
-        let same : whole_text dumps (finite.entries x.space.declarations) blocks (map body_lines (map body_view kept.0))
+        let same : whole_text dumps (finite.entries x.space.declarations) blocks (map body_lines (map entry_of kept.0))
         ≡ whole_text dumps (finite.entries x.space.declarations) blocks (map printed_lines ds) =
         ap (λ (l : List ℕ). front ++ l) (same_blocks (names_in dumps (table_dumps x.tables.items)) (table_codes x.tables.items) (table_terms x.tables.items) _ _
         (texts_agree (levels_of (table_terms x.tables.items)) kept.0 ds kept.2)) in
@@ -134,7 +135,7 @@ module _ (dumps : List Dump) (options : Options) (x : TableSet) where
       kept : AreKeptOf (λ n. IsKept (IsSame (body_in_set x n))) options.unknown_zero x ds
       kept = rw is was
 
-      marks_are : tried_marks x.methods.items ds ≡ marks_of (table_codes x.tables.items) x.methods.items (map body_view kept.0)
+      marks_are : tried_marks x.methods.items ds ≡ marks_of (table_codes x.tables.items) x.methods.items (map entry_of kept.0)
       marks_are = trials_are (table_codes x.tables.items) x.methods.items kept.0 ds kept.2
 
       pub trials_output : IsOutput dumps options true (cond (has_fault ds) 3 0)

@@ -1,11 +1,12 @@
 -- Terms take as many bodies as stand in them.
 use Rattle.std.proofs.Common.{◌≡◌, ℕ, zero, suc, ◌+◌, List, ◌++◌, length, drop, Option, refl, sym, ap, ◌∙◌}
 use Rattle.std.proofs.lemmas.List.{length-append}
-use Rattle.asl_text.specs.Texts.{BodyLines, deeper, levels_in, tail_levels, all_levels, left_all}
+use Rattle.asl_text.specs.Texts.{BodyLines, levels_in, tail_levels, all_levels, left_all}
 use Rattle.aml_names.specs.Paths.{PathSet}
 use Rattle.aml_code.specs.declared.rows.Position.{Position}
 use Rattle.aml_code.specs.declared.rows.TailKind.{TailKind}
 use Rattle.aml_load.specs.Spans.{tree_spans, all_spans, tail_spans}
+use Rattle.aml_code.specs.Pieces.{deeper}
 use Rattle.aml_code.specs.Tree.{Tree, nothing, named, op, Trees, no_trees, tree_more, Tail, empty, terms, bytes}
 use Rattle.aml_code.specs.Tree.{elements, fields, body}
 use Rattle.aml_code.specs.Lawful.{after, Setting, IsLawful, AreTerms, IsTail, terms_in, next_position}

@@ -1,5 +1,6 @@
 -- The AML of definition blocks, and what becomes of the bodies of methods: terms, or bytes where a body reads as none.
-use Rattle.std.specs.Prelude.{ℕ, List, drop, map, ◌≡◌, ◌<◌, Bool, true, false, length, slice_get, All, Vec, Err}
+use Rattle.std.specs.Prelude.{ℕ, List, drop, map, ◌≡◌, ◌<◌, ◌≤◌, Bool, true, false, length, slice_get, All, Vec, Err}
+use Rattle.std.specs.Prelude.{Ok, Some, Result}
 use Rattle.acpi_tables.specs.declared.dump.Dump.{Dump}
 use Rattle.acpi_tables.specs.Header.{table_of}
 use Rattle.acpi_tables.specs.Order.{bytes_of}
@@ -11,7 +12,7 @@ use Rattle.aml_code.specs.Tree.{Trees}
 use Rattle.aml_code.specs.View.{nodes_view}
 use Rattle.aml_namespace.specs.Namespace.{Entry}
 use Rattle.aml_namespace.specs.Known.{StandsFor}
-use Rattle.aml_set.specs.Views.{table_codes}
+use Rattle.aml_set.specs.Views.{span_of, table_codes}
 use Rattle.aml_load.specs.Views.{IsBody, IsUnread, body_at, OfMethod}
 use Rattle.aml_set.specs.declared.tables.TableSet.{TableSet}
 use Rattle.aml_set.specs.declared.methods.Method.{Method}
@@ -20,6 +21,7 @@ use Rattle.aml_pool.specs.Seats.{all_of}
 use Rattle.asl_text.specs.declared.bodies.Body.{Body}
 use Rattle.asl_text.specs.declared.bodies.Body.TheVariants as bodies
 use Rattle.asl_text.specs.Texts.{OneBody, read, raw}
+use Rattle.acpidis.specs.declared.bodies.Unread.{Unread}
 
 -- the AML of a definition block: what follows the 36 bytes of its header (ACPI 6.5, 5.2.11.1)
 abbrev pub aml_of : List ℕ → List ℕ
@@ -68,13 +70,41 @@ pub record AreDrawn (workers count : ℕ) (drawn : List (Vec ℕ Global)) : Type
 abbrev pub CanRead : TableSet → ℕ → Type 0
 CanRead x number = number < length x.methods.items
 
--- the body of a method became this, whatever entries the namespace stands for
-abbrev pub BecameIn : Bool → TableSet → Method → Body → Type 0
-BecameIn z x m d = (es : List Entry) → StandsFor x.space es → Became z es (table_codes x.tables.items) m d
+-- What a body reads as: its terms, or the fault for which it is raw. So does one in memory.
+abbrev pub Reading : Type 0
+Reading = Result Trees CodeFault
+
+abbrev pub reading_of : Body → Reading
+reading_of (bodies.Tree nodes) = Ok (nodes_view nodes.items)
+reading_of (bodies.Raw fault) = Err fault
+
+-- what a listing has of it
+abbrev pub entry_of : Reading → OneBody
+entry_of (Ok ts) = read ts
+entry_of (Err fault) = raw
+
+-- The body of a method reads as these terms and as no others, or it is raw for this fault.
+abbrev pub ReadsAs : Bool → List Entry → List (List ℕ) → Method → Reading → Type 0
+ReadsAs z es tables m (Ok ts) =
+    IsBody z es tables m ts × ((others : Trees) → IsBody z es tables m others → others ≡ ts)
+ReadsAs z es tables m (Err fault) = IsRaw z es tables m fault
+
+-- whatever entries the namespace of a loaded set stands for
+abbrev pub ReadsIn : Bool → TableSet → Method → Reading → Type 0
+ReadsIn z x m r = (es : List Entry) → StandsFor x.space es → ReadsAs z es (table_codes x.tables.items) m r
 
 -- that of the method of this number, and those of all
-abbrev pub BecameOf : Bool → TableSet → ℕ → Body → Type 0
-BecameOf z x number d = OfMethod (slice_get x.methods.items number) (λ m. BecameIn z x m d)
+abbrev pub ReadsOf : Bool → TableSet → ℕ → Reading → Type 0
+ReadsOf z x number r = OfMethod (slice_get x.methods.items number) (λ m. ReadsIn z x m r)
+
+abbrev pub AreReadings : Bool → TableSet → List Reading → Type 0
+AreReadings z x rs = AllZip (ReadsIn z x) x.methods.items rs
 
 abbrev pub AreBodies : Bool → TableSet → List Body → Type 0
-AreBodies z x ds = AllZip (BecameIn z x) x.methods.items ds
+AreBodies z x ds = AreReadings z x (map reading_of ds)
+
+-- the body that is to be read is that of the method of its number
+pub record IsItsBody (u : Unread) : Type 0 where
+  pub kept : slice_get u.set.now.space.kept u.number ≡ Some u.method.now.path
+  pub short : length u.bytes.now ≤ 16777216
+  pub body : u.bytes.now ≡ span_of (table_codes u.set.now.tables.items) u.method.now

@@ -14,15 +14,12 @@ use Rattle.aml_text.specs.Listing.{names_in, blocks_of, blocks_in}
 use Rattle.aml_text.specs.declared.listing.Listing.{Listing}
 use Rattle.text_writer.specs.Prints.{quoted, word}
 use Rattle.acpi_tables.specs.declared.dump.Dump.{Dump}
-use Rattle.acpidis.specs.Bodies.{is_raw, AreBodies}
+use Rattle.acpidis.specs.Bodies.{is_raw, Reading, AreReadings}
 use Rattle.acpidis.specs.Meaning.{Meaning, order_of, codes_of}
 use Rattle.acpidis.specs.declared.checking.Checked.{Checked}
 use Rattle.acpidis.specs.declared.checking.Mark.{Mark}
 use Rattle.aml_names.specs.declared.faults.CodeFault.{CodeFault}
-use Rattle.aml_code.specs.View.{nodes_view}
 use Rattle.aml_set.specs.declared.tables.TableSet.{TableSet}
-use Rattle.asl_text.specs.declared.bodies.Body.{Body}
-use Rattle.asl_text.specs.declared.bodies.Body.TheVariants as bodies
 
 -- two texts have the same bytes
 abbrev pub same_bytes : List ℕ → List ℕ → Bool
@@ -111,9 +108,9 @@ checks_text dumps k =
 -- ---- A stepping stone of the proofs: what a run keeps of each body, whose terms it lets go.
 
 -- of a body that reads as terms what they give, of a raw one its fault
-abbrev pub IsKept : {X : Type 0} → (Trees → X → Type 0) → Body → Result X CodeFault → Type 0
-IsKept Gives (bodies.Tree nodes) (Ok x) = Gives (nodes_view nodes.items) x
-IsKept Gives (bodies.Raw fault) (Err kept) = kept ≡ fault
+abbrev pub IsKept : {X : Type 0} → (Trees → X → Type 0) → Reading → Result X CodeFault → Type 0
+IsKept Gives (Ok ts) (Ok x) = Gives ts x
+IsKept Gives (Err fault) (Err kept) = kept ≡ fault
 IsKept Gives _ _ = ⊥
 
 -- whether terms encode to these bytes
@@ -121,14 +118,14 @@ abbrev pub IsSame : List ℕ → Trees → Bool → Type 0
 IsSame bytes ts same = same ≡ same_bytes (encodings bytes ts) bytes
 
 -- of each body, by its number
-abbrev pub AreKept : {X : Type 0} → (ℕ → Body → X → Type 0) → List Body → List X → Type 0
+abbrev pub AreKept : {X : Type 0} → (ℕ → Reading → X → Type 0) → List Reading → List X → Type 0
 AreKept Keeps [] [] = Unit {0}
-AreKept Keeps (b ∷ bs) (d ∷ ds) = Keeps 0 b d × AreKept (λ n. Keeps (suc n)) bs ds
+AreKept Keeps (r ∷ rs) (d ∷ ds) = Keeps 0 r d × AreKept (λ n. Keeps (suc n)) rs ds
 AreKept Keeps _ _ = ⊥
 
 -- of those of a loaded set
-abbrev pub AreKeptOf : {X : Type 0} → (ℕ → Body → X → Type 0) → Bool → TableSet → List X → Type 0
-AreKeptOf Keeps z x ds = (bs : List Body) × AreBodies z x bs × AreKept Keeps bs ds
+abbrev pub AreKeptOf : {X : Type 0} → (ℕ → Reading → X → Type 0) → Bool → TableSet → List X → Type 0
+AreKeptOf Keeps z x ds = (rs : List Reading) × AreReadings z x rs × AreKept Keeps rs ds
 
 -- whether a fault is kept
 abbrev pub has_fault : {X : Type 0} → List (Result X CodeFault) → Bool

@@ -1,9 +1,8 @@
 //! The bodies of all methods, read by workers, and what is kept of them.
-ghost use Rattle.std.specs.Prelude.{◌≡◌, ◌≤◌, ℕ, List, Some, IfOk, IfErr, length, slice_get};
-ghost use Rattle.aml_set.specs.Views.{body_in_set, span_of, table_codes};
-ghost use Rattle.asl_text.specs.declared.bodies.Body.{Body};
+ghost use Rattle.std.specs.Prelude.{◌≡◌, ◌≤◌, ℕ, List, IfOk, IfErr, length};
+ghost use Rattle.aml_set.specs.Views.{body_in_set};
 ghost use Rattle.acpidis.specs.Refusals.{IsWant};
-ghost use Rattle.acpidis.specs.Bodies.{AreBodies, CanRead, BecameIn, BecameOf, AreDrawn};
+ghost use Rattle.acpidis.specs.Bodies.{AreBodies, AreDrawn, CanRead, IsItsBody, Reading, ReadsIn, ReadsOf, reading_of};
 ghost use Rattle.acpidis.specs.Checks.{AreKeptOf};
 
 use crate::crew::Crew;
@@ -17,16 +16,52 @@ use std::alloc::Global;
 use std::sync::Wait;
 use std::thread::Threads;
 
-/// What a worker keeps of a body that it has read.
+/// A body of a loaded set that is to be read, with its method and that method's number.
+#[derive(Clone, Copy)]
+pub(crate) struct Unread<'a, 'b> {
+    pub(crate) alloc: Global,
+    pub(crate) set: &'a TableSet<'b>,
+    pub(crate) unknown_zero: bool,
+    pub(crate) number: u32,
+    pub(crate) method: &'a Method,
+    pub(crate) bytes: &'a [u8],
+}
+
+impl<'a, 'b> Unread<'a, 'b> {
+    /// Its terms, or why it can't be read.
+    pub(crate) fn read(&self) -> Result<Body, NoMemory>
+        requires { IsItsBody self.now }
+        ensures { IfOk result (λ body.
+            ReadsIn self.now.unknown_zero self.now.set.now self.now.method.now (reading_of body)) }
+    {
+        match read_kept(
+            self.alloc,
+            self.bytes,
+            &self.set.space,
+            self.number as usize,
+            self.method,
+            self.unknown_zero,
+        ) {
+            Ok(nodes) => Ok(Body::Tree(nodes)),
+            Err(CodeFault::NoMemory) => Err(NoMemory),
+            Err(fault) => Ok(Body::Raw(fault)),
+        }
+    }
+}
+
+/// What a worker keeps of a body.
 pub(crate) trait Keep {
     type Kept;
 
     /// What is promised of it, by the body's number, its bytes, and what they read as.
-    ghost keeps: { Self → ℕ → List ℕ → Body → Self.Kept → Type 0 };
+    ghost keeps: { Self → ℕ → List ℕ → Reading → Self.Kept → Type 0 };
 
-    /// What is kept of the body with this number and these bytes, or `NoMemory` where a growth was refused.
-    fn keep(&self, number: u32, bytes: &[u8], body: Body) -> Result<Self::Kept, NoMemory>
-        ensures { IfOk result (λ kept. keeps self.now number bytes.now body kept) };
+    /// Reads the body, and gives what is kept of it, or `NoMemory` where a growth was refused.
+    fn keep(&self, unread: &Unread<'_, '_>) -> Result<Self::Kept, NoMemory>
+        requires { IsItsBody unread.now }
+        ensures { IfOk result (λ kept. (reading : Reading) ×
+            (ReadsIn unread.now.unknown_zero unread.now.set.now unread.now.method.now reading ×
+            keeps self.now unread.now.number unread.now.bytes.now reading kept)) };
 }
 
 /// The bodies of a loaded set, each to be read by its method's number, of which something is kept.
@@ -38,42 +73,25 @@ struct Keeping<'a, 'b, K> {
     keep: &'a K,
 }
 
-impl<'a, 'b, K> Keeping<'a, 'b, K> {
-    /// What the body of a method becomes, by its number and its bytes: its terms, or why it can't be read.
-    fn read(&self, number: u32, method: &Method, bytes: &[u8]) -> Result<Body, NoMemory>
-        requires kept { slice_get self.now.set.now.space.kept number ≡ Some method.now.path }
-        requires short { length bytes.now ≤ 16777216 }
-        requires body { bytes.now ≡ span_of (table_codes self.now.set.now.tables.items) method.now }
-        ensures { IfOk result (BecameIn self.now.unknown_zero self.now.set.now method.now) }
-    {
-        match read_kept(
-            self.alloc,
-            bytes,
-            &self.set.space,
-            number as usize,
-            method,
-            self.unknown_zero,
-        ) {
-            Ok(nodes) => Ok(Body::Tree(nodes)),
-            Err(CodeFault::NoMemory) => Err(NoMemory),
-            Err(fault) => Ok(Body::Raw(fault)),
-        }
-    }
-}
-
 impl<'a, 'b, K: Keep> Work for Keeping<'a, 'b, K> {
     type Done = K::Kept;
 
     ghost can_work = { λ w n. CanRead w.set.now n };
 
-    ghost gives = { λ w n d. (body : Body) × BecameOf w.unknown_zero w.set.now n body ×
-        K.keeps w.keep.now n (body_in_set w.set.now n) body d };
+    ghost gives = { λ w n d. (reading : Reading) × ReadsOf w.unknown_zero w.set.now n reading ×
+        K.keeps w.keep.now n (body_in_set w.set.now n) reading d };
 
     fn work(&self, number: u32) -> Result<K::Kept, NoMemory> {
         let method = &self.set.methods[number as usize];
         let bytes = self.set.span(method);
-        let body = self.read(number, method, bytes)?;
-        self.keep.keep(number, bytes, body)
+        self.keep.keep(&Unread {
+            alloc: self.alloc,
+            set: self.set,
+            unknown_zero: self.unknown_zero,
+            number,
+            method,
+            bytes,
+        })
     }
 }
 
@@ -159,10 +177,10 @@ struct Whole;
 impl Keep for Whole {
     type Kept = Body;
 
-    ghost keeps = { λ w n bytes body kept. kept ≡ body };
+    ghost keeps = { λ w n bytes reading kept. reading ≡ reading_of kept };
 
-    fn keep(&self, _number: u32, _bytes: &[u8], body: Body) -> Result<Body, NoMemory> {
-        Ok(body)
+    fn keep(&self, unread: &Unread<'_, '_>) -> Result<Body, NoMemory> {
+        unread.read()
     }
 }
 

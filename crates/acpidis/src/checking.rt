@@ -3,6 +3,7 @@ ghost use Rattle.std.specs.Prelude.{◌≡◌, ◌≤◌, ◌<◌, All, IfOk, le
 ghost use Rattle.aml_set.specs.Code.{AreShort};
 ghost use Rattle.aml_set.specs.Views.{codes_view, body_of};
 ghost use Rattle.asl_text.specs.Bodies.{block_view};
+ghost use Rattle.acpidis.specs.Bodies.{reading_of};
 ghost use Rattle.acpidis.specs.Checks.{checks_with, checks_of, Under, added, uncounted, tallied, tried_mark};
 ghost use Rattle.acpidis.specs.Checks.{tried_marks, AreKept, IsKept, IsSame};
 
@@ -144,7 +145,8 @@ fn try_bodies(
 ) -> Result<Vec<Result<bool, CodeFault>>, NoMemory>
     requires few { length listing.now.loaded.methods.items ≤ 1048576 }
     ensures kept { IfOk result (λ tried.
-        AreKept (λ n. IsKept (IsSame (body_of listing.now.loaded n))) listing.now.bodies.items tried.items) }
+        AreKept (λ n. IsKept (IsSame (body_of listing.now.loaded n))) (map reading_of listing.now.bodies.items)
+        tried.items) }
     ensures each { IfOk result (λ tried. length tried.items ≡ length listing.now.loaded.methods.items) }
 {
     let mut tried = Vec::new(alloc);

@@ -2,9 +2,10 @@
 ghost use Rattle.std.specs.Prelude.{◌≡◌, IfOk};
 ghost use Rattle.aml_code.specs.View.{nodes_view};
 ghost use Rattle.aml_code.specs.Tree.{encodings};
+ghost use Rattle.acpidis.specs.Bodies.{reading_of};
 ghost use Rattle.acpidis.specs.Checks.{same_bytes, IsKept, IsSame};
 
-use crate::bodies::Keep;
+use crate::bodies::{Keep, Unread};
 use aml_code::{CodeFault, Node, encode_terms};
 use aml_pool::NoMemory;
 use asl_text::Body;
@@ -24,7 +25,7 @@ pub(crate) fn try_body(
     bytes: &[u8],
     body: &Body,
 ) -> Result<Result<bool, CodeFault>, AllocError>
-    ensures { IfOk result (IsKept (IsSame bytes.now) body.now) }
+    ensures { IfOk result (IsKept (IsSame bytes.now) (reading_of body.now)) }
 {
     match body {
         Body::Tree(nodes) => Ok(Ok(is_encoding(alloc, bytes, nodes.as_slice())?)),
@@ -41,10 +42,11 @@ pub(crate) struct Trials {
 impl Keep for Trials {
     type Kept = Result<bool, CodeFault>;
 
-    ghost keeps = { λ w n bytes body kept. IsKept (IsSame bytes) body kept };
+    ghost keeps = { λ w n bytes reading kept. IsKept (IsSame bytes) reading kept };
 
-    fn keep(&self, _number: u32, bytes: &[u8], body: Body) -> Result<Self::Kept, NoMemory> {
-        let same = try_body(self.alloc, bytes, &body)?;
+    fn keep(&self, unread: &Unread<'_, '_>) -> Result<Self::Kept, NoMemory> {
+        let body = unread.read()?;
+        let same = try_body(self.alloc, unread.bytes, &body)?;
         Ok(same)
     }
 }

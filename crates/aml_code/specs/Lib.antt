@@ -4,4 +4,5 @@ pub mod View
 pub mod Tree
 pub mod Faults
 pub mod Lawful
+pub mod Pieces
 pub mod Laws

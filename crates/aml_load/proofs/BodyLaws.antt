@@ -39,7 +39,7 @@ abbrev Reads : Outlook → Bool → Method → List ℕ → Trees → Type 0
 Reads n z m bytes ts = ReadsBody (agreed_arity n z m.path) m.path bytes ts
 
 -- a fault is want of memory, or it isn't
-want_or : (f : CodeFault) → (f ≡ codes.NoMemory) ⊎ (f ≢ codes.NoMemory)
+pub want_or : (f : CodeFault) → (f ≡ codes.NoMemory) ⊎ (f ≢ codes.NoMemory)
 want_or (codes.Truncated at) = inr (λ e. absurd cc)
 want_or (codes.PkgBits at) = inr (λ e. absurd cc)
 want_or (codes.PkgPast at) = inr (λ e. absurd cc)

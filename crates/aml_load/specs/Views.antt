@@ -2,7 +2,7 @@
 use Rattle.std.specs.Prelude.{◌≡◌, ℕ, List, Option, Some, None, ◌≢◌, Bool, ◌⊎◌}
 use Rattle.std.specs.Prelude.{Result, Ok, Err}
 use Rattle.aml_code.specs.Tree.{Trees}
-use Rattle.aml_namespace.specs.Known.{StandsFor}
+use Rattle.aml_namespace.specs.Known.{Known, StandsFor}
 use Rattle.aml_set.specs.declared.loaded.Loaded.{Loaded}
 use Rattle.aml_set.specs.declared.methods.Method.{Method}
 use Rattle.aml_set.specs.declared.tables.TableSet.{TableSet}
@@ -12,7 +12,7 @@ use Rattle.aml_names.specs.declared.faults.CodeFault.{CodeFault}
 use Rattle.aml_names.specs.declared.faults.CodeFault.TheVariants as codes
 use Rattle.aml_names.specs.NameReading.{Gives}
 use Rattle.aml_code.specs.declared.rows.Position.TheVariants as positions
-use Rattle.aml_code.specs.Faults.{StandsAt}
+use Rattle.aml_code.specs.Faults.{StandsAt, Arities}
 use Rattle.aml_code.specs.Lawful.{ReadsBody}
 use Rattle.aml_parse.specs.Reading.{all_at}
 use Rattle.aml_namespace.specs.Namespace.{Entry}
@@ -62,6 +62,13 @@ body_at unknown_zero es tables m =
 abbrev pub GivesBody : {X : Type 0} → (X → Trees) → Bool → List Entry → List (List ℕ) → Method → Result X CodeFault
     → Type 0
 GivesBody view unknown_zero es tables m answer = Gives view answer (body_at unknown_zero es tables m)
+
+-- These bytes read as these terms by what is known: in whatever tables they are the body of the method, and whatever
+-- entries the namespace stands for.
+pub record ReadsBy (unknown_zero : Bool) (k : Known) (bytes : List ℕ) (m : Method) (ts : Trees) : Type 0 where
+  pub lawful : (arity : Arities) × ReadsBody arity m.path bytes ts
+  pub reading : (tables : List (List ℕ)) → bytes ≡ span_of tables m → (es : List Entry) → StandsFor k es
+      → IsReading (λ (read : Trees). read) unknown_zero es tables m (Ok ts)
 
 -- a fact of the method with this number, if there is one
 abbrev pub OfMethod : Option Method → (Method → Type 0) → Type 0

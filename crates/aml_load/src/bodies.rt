@@ -1,14 +1,16 @@
 //! The bodies of methods.
-ghost use Rattle.std.specs.Prelude.{◌≡◌, ◌≤◌, ℕ, List, length, slice_get, Some};
+ghost use Rattle.std.specs.Prelude.{◌≡◌, ◌≤◌, ℕ, List, length, slice_get, Some, Err, OnOk, IfErr};
+ghost use Rattle.aml_code.specs.Pieces.{line_pieces};
+ghost use Rattle.aml_code.specs.Tree.{Trees};
 ghost use Rattle.aml_code.specs.View.{nodes_view};
 ghost use Rattle.aml_namespace.specs.Namespace.{Entry};
 ghost use Rattle.aml_namespace.specs.Known.{StandsFor};
 ghost use Rattle.aml_set.specs.Code.{AreShort};
 ghost use Rattle.aml_set.specs.Views.{codes_view, span_of};
-ghost use Rattle.aml_load.specs.Views.{IsReading, GivesBody};
+ghost use Rattle.aml_load.specs.Views.{IsReading, GivesBody, ReadsBy};
 
-use aml_code::{CodeFault, Node};
-use aml_parse::own_body_terms;
+use aml_code::{CodeFault, Node, Sink};
+use aml_parse::{own_body_terms, tell_own_body};
 use aml_set::{Method, span_of};
 use aml_space::{BodyNames, Space};
 use std::alloc::Global;
@@ -107,4 +109,35 @@ fn read_by(
         GivesBody (λ nodes. nodes_view nodes.items) names.now.unknown_zero es tables method.now result }
 {
     own_body_terms(alloc, bytes, names, &method.path.parts())
+}
+
+/// Tells a sink the terms that `read_kept` reads, as lines of this level, piece by piece as they are read.
+pub fn tell_kept<S: Sink>(
+    alloc: Global,
+    bytes: &[u8],
+    space: &Space,
+    number: usize,
+    method: &Method,
+    unknown_zero: bool,
+    level: u32,
+    sink: &mut S,
+) -> Result<(), CodeFault>
+    // The limit of a table.
+    requires short { length bytes.now ≤ 16777216 }
+    requires kept { slice_get space.now.kept number ≡ Some method.now.path }
+
+    // In whatever tables they are the method's body: it reads as terms and as no others, and these are told; or memory
+    // was refused; or it reads as none, and the fault is true of it.
+    ensures told { OnOk result ((ts : Trees) × (ReadsBy unknown_zero space.now bytes.now method.now ts ×
+        S.grew sink.old sink.new (line_pieces level ts))) }
+    ensures fails { IfErr result (λ fault. (tables : List (List ℕ)) → bytes.now ≡ span_of tables method.now →
+        (es : List Entry) → StandsFor space.now es →
+        IsReading (λ (read : Trees). read) unknown_zero es tables method.now (Err fault)) }
+    // Which fault it is: the first that is met in reading forward.
+    ensures forward { IfErr result (λ fault. (tables : List (List ℕ)) → bytes.now ≡ span_of tables method.now →
+        (es : List Entry) → StandsFor space.now es →
+        GivesBody (λ (read : Trees). read) unknown_zero es tables method.now (Err fault)) }
+{
+    let names = BodyNames::kept(space, number, method.path.parts(), unknown_zero);
+    tell_own_body(alloc, bytes, &names, &method.path.parts(), level, sink)
 }

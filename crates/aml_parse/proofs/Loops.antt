@@ -8,6 +8,7 @@ use Rattle.aml_parse.proofs.Common.{read_on}
 use Rattle.aml_code.specs.declared.tree.Field.{Field}
 use Rattle.aml_code.specs.declared.tree.Node.{Node}
 use Rattle.aml_code.specs.declared.tree.Part.{Part}
+use Rattle.aml_code.specs.Tree.{Part as AnyPart}
 use Rattle.aml_parse.specs.Reading.{Reader, ReaderToEnd, part_at, parts_at, arguments_at, to_end_at}
 
 -- ---- what was found, and what is still read
@@ -43,7 +44,7 @@ pub nodes_found : (front : List Node) → onto node_view tree_more front no_tree
 nodes_found [] = refl
 nodes_found (n ∷ front) = ap (tree_more (node_view n)) (nodes_found front)
 
-parts_found : (front : List Part) → onto part_view part_more front no_parts ≡ parts_view front
+pub parts_found : (front : List Part) → onto part_view part_more front no_parts ≡ parts_view front
 parts_found [] = refl
 parts_found (p ∷ front) = ap (part_more (part_view p)) (parts_found front)
 
@@ -53,50 +54,50 @@ fields_found (f ∷ front) = ap (field_more (field_view f)) (fields_found front)
 
 -- ---- parts
 
-module _ (read : Position → Reader Tree) (front : List Part) (end : ℕ) (ls : PathSet) (bs : List ℕ) (total : Result (Parts × PathSet × List ℕ) CodeFault) where
-  pub parts_go_on : (part : Part) (k : PartKind) (ks : List PartKind) (ls' : PathSet) (rest : List ℕ)
-      → part_at read k end ls bs ≡ Ok (part_view part, ls', rest)
-      → then_rest part_view part_more front (parts_at read (k ∷ ks) end ls bs) ≡ total
-      → then_rest part_view part_more (front ++ part ∷ []) (parts_at read ks end ls' rest) ≡ total
+module _ {X : Type 0} (see : X → AnyPart) (read : Position → Reader Tree) (front : List X) (end : ℕ) (ls : PathSet) (bs : List ℕ) (total : Result (Parts × PathSet × List ℕ) CodeFault) where
+  pub parts_go_on : (part : X) (k : PartKind) (ks : List PartKind) (ls' : PathSet) (rest : List ℕ)
+      → part_at read k end ls bs ≡ Ok (see part, ls', rest)
+      → then_rest see part_more front (parts_at read (k ∷ ks) end ls bs) ≡ total
+      → then_rest see part_more (front ++ part ∷ []) (parts_at read ks end ls' rest) ≡ total
   unfolding parts_at
   parts_go_on part k ks ls' rest h so_far =
-      sym (rest_regroup part_view part_more front part (parts_at read ks end ls' rest)) ∙ rw h at so_far
+      sym (rest_regroup see part_more front part (parts_at read ks end ls' rest)) ∙ rw h at so_far
 
   pub parts_fails : (e : CodeFault) (k : PartKind) (ks : List PartKind) → Fails e (part_at read k end ls bs)
-      → then_rest part_view part_more front (parts_at read (k ∷ ks) end ls bs) ≡ total → Fails e total
+      → then_rest see part_more front (parts_at read (k ∷ ks) end ls bs) ≡ total → Fails e total
   unfolding parts_at
   parts_fails e k ks (inl h) so_far = inl h
   parts_fails e k ks (inr h) so_far = inr (sym (rw h at so_far))
 
-  pub parts_end : then_rest part_view part_more front (parts_at read [] end ls bs) ≡ total
-      → total ≡ Ok (parts_view front, ls, bs)
+  pub parts_end : then_rest see part_more front (parts_at read [] end ls bs) ≡ total
+      → total ≡ Ok (onto see part_more front no_parts, ls, bs)
   unfolding parts_at
-  parts_end so_far = sym so_far ∙ ap (λ (ps : Parts). Ok (ps, ls, bs)) (parts_found front)
+  parts_end so_far = sym so_far
 
 -- ---- arguments
 
-module _ (read : Position → Reader Tree) (front : List Node) (end : ℕ) (ls : PathSet) (bs : List ℕ) (total : Result (Trees × PathSet × List ℕ) CodeFault) where
-  pub arguments_go_on : (n : ℕ) (node : Node) (ls' : PathSet) (rest : List ℕ) → 0 < n
-      → read Position.Argument end ls bs ≡ Ok (node_view node, ls', rest)
-      → then_rest node_view tree_more front (arguments_at read n end ls bs) ≡ total
-      → then_rest node_view tree_more (front ++ node ∷ []) (arguments_at read (n - 1) end ls' rest) ≡ total
+module _ {X : Type 0} (see : X → Tree) (read : Position → Reader Tree) (front : List X) (end : ℕ) (ls : PathSet) (bs : List ℕ) (total : Result (Trees × PathSet × List ℕ) CodeFault) where
+  pub arguments_go_on : (n : ℕ) (node : X) (ls' : PathSet) (rest : List ℕ) → 0 < n
+      → read Position.Argument end ls bs ≡ Ok (see node, ls', rest)
+      → then_rest see tree_more front (arguments_at read n end ls bs) ≡ total
+      → then_rest see tree_more (front ++ node ∷ []) (arguments_at read (n - 1) end ls' rest) ≡ total
   unfolding arguments_at
   arguments_go_on zero node ls' rest some h so_far = absurd (omega arith)
   arguments_go_on (suc n) node ls' rest some h so_far =
       let less : suc n - 1 ≡ n = omega arith in
-      rw less (sym (rest_regroup node_view tree_more front node (arguments_at read n end ls' rest)) ∙ rw h at so_far)
+      rw less (sym (rest_regroup see tree_more front node (arguments_at read n end ls' rest)) ∙ rw h at so_far)
 
   pub arguments_fails : (e : CodeFault) (n : ℕ) → 0 < n → Fails e (read Position.Argument end ls bs)
-      → then_rest node_view tree_more front (arguments_at read n end ls bs) ≡ total → Fails e total
+      → then_rest see tree_more front (arguments_at read n end ls bs) ≡ total → Fails e total
   unfolding arguments_at
   arguments_fails e n some (inl h) so_far = inl h
   arguments_fails e zero some (inr h) so_far = absurd (omega arith)
   arguments_fails e (suc n) some (inr h) so_far = inr (sym (rw h at so_far))
 
-  pub arguments_end : (n : ℕ) → n ≡ 0 → then_rest node_view tree_more front (arguments_at read n end ls bs) ≡ total
-      → total ≡ Ok (nodes_view front, ls, bs)
+  pub arguments_end : (n : ℕ) → n ≡ 0 → then_rest see tree_more front (arguments_at read n end ls bs) ≡ total
+      → total ≡ Ok (onto see tree_more front no_trees, ls, bs)
   unfolding arguments_at
-  arguments_end zero none so_far = sym so_far ∙ ap (λ (ts : Trees). Ok (ts, ls, bs)) (nodes_found front)
+  arguments_end zero none so_far = sym so_far
   arguments_end (suc n) none so_far = absurd (omega (arith, none))
 
 -- ---- terms, and elements of a field list, to the end of a span

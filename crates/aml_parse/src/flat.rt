@@ -4,7 +4,7 @@
 ghost use Rattle.std.specs.Prelude.{◌≡◌, ◌<◌, ◌==◌, position, take, drop, suc, IfSome, length};
 ghost use Rattle.aml_names.specs.NameReading.{Gives, name_at};
 ghost use Rattle.aml_code.specs.Packages.{little_at};
-ghost use Rattle.aml_code.specs.Tree.{label, byte, word, dword, qword};
+ghost use Rattle.aml_code.specs.Tree.{label, byte, word, dword, qword, text};
 ghost use Rattle.aml_code.specs.View.{part_view};
 ghost use Rattle.aml_parse.specs.Reading.{held, count_part, text_part, segmented_at};
 
@@ -13,7 +13,7 @@ use aml_names::name_of;
 use std::alloc::Global;
 
 /// The most arguments that an External tells.
-const MOST_ARGUMENTS: u64 = 7;
+pub const MOST_ARGUMENTS: u64 = 7;
 
 /// A number of one byte.
 pub fn byte_part_of(end: u32, bytes: &[u8]) -> Result<(Part, &[u8]), CodeFault>
@@ -68,17 +68,23 @@ fn first_zero(bytes: &[u8]) -> Option<usize>
     bytes.iter().position(|byte| *byte == 0)
 }
 
-/// A text up to its 00. `Truncated` at the span's end where there is none.
-pub fn text_part_of(alloc: Global, end: u32, bytes: &[u8]) -> Result<(Part, &[u8]), CodeFault>
-    ensures { Gives (λ x. (part_view x.0, x.1.now)) result (text_part end bytes.now) }
+/// The bytes of a text up to its 00. `Truncated` at the span's end where there is none.
+pub fn text_of(end: u32, bytes: &[u8]) -> Result<(&[u8], &[u8]), CodeFault>
+    ensures { Gives (λ x. (text x.0.now, x.1.now)) result (text_part end bytes.now) }
 {
     match first_zero(bytes) {
         None => Err(CodeFault::Truncated { at: end }),
-        Some(len) => {
-            let text = Vec::from_slice(alloc, &bytes[..len])?;
-            Ok((Part::Text(Bytes::from_vec(text)), &bytes[len + 1..]))
-        }
+        Some(len) => Ok((&bytes[..len], &bytes[len + 1..])),
     }
+}
+
+/// A text up to its 00, as a part.
+pub fn text_part_of(alloc: Global, end: u32, bytes: &[u8]) -> Result<(Part, &[u8]), CodeFault>
+    ensures { Gives (λ x. (part_view x.0, x.1.now)) result (text_part end bytes.now) }
+{
+    let (text, rest) = text_of(end, bytes)?;
+    let text = Vec::from_slice(alloc, text)?;
+    Ok((Part::Text(Bytes::from_vec(text)), rest))
 }
 
 /// A name that may have no segment.

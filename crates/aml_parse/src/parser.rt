@@ -1,20 +1,21 @@
 //! What all readers of terms take along.
-ghost use Rattle.std.specs.Prelude.{◌≡◌, None, OnOk, option_to_list, ok_or};
+ghost use Rattle.std.specs.Prelude.{◌≡◌, None, IfOk, OnOk, map, option_to_list, ok_or};
 ghost use Rattle.aml_names.specs.NameReading.{Gives};
 ghost use Rattle.aml_names.specs.Names.{placed};
 ghost use Rattle.aml_names.specs.Branches.{AreOf};
-ghost use Rattle.aml_code.specs.Tree.{no_fields, field_more};
+ghost use Rattle.aml_code.specs.Tree.{no_fields, field_more, Parts as AnyParts, Tail as AnyTail};
 ghost use Rattle.aml_code.specs.Lawful.{field_names, last_label, names_declared, unit_names, with_declared, with_names};
-ghost use Rattle.aml_code.specs.Lawful.{with_path, count_in};
+ghost use Rattle.aml_code.specs.Lawful.{with_path, count_in, plain_name};
+ghost use Rattle.aml_parse.specs.Telling.{AreUnits, label_at};
 ghost use Rattle.aml_code.specs.View.{field_view, fields_view, parts_view, tail_view};
 ghost use Rattle.aml_parse.specs.Reading.{scope_of, ArePlaced};
 
 use aml_code::{
-    Arity, BodyLocals, CodeFault, Field, Name, NoMemory, Part, Position, Role, Tail, front_of,
+    Arity, BodyLocals, CodeFault, Field, Name, NoMemory, Part, Position, Role, Seg, Tail, front_of,
     last_name,
 };
-use aml_names::Parts;
-use std::alloc::Global;
+use aml_names::{Parts, name_of};
+use std::alloc::{AllocError, Global};
 
 /// The most levels of terms inside each other.
 pub const MOST_LEVELS: u16 = 512;
@@ -83,6 +84,82 @@ impl<'a, A: Arity> Parser<'a, A> {
             Role::Scope | Role::External | Role::Guard | Role::Other => Ok(()),
         }
     }
+
+    /// The same of a term of whose parts the last name begins at `label`, in a span that ends at `end`, and of whose tail
+    /// the named units have these segments.
+    pub fn declare_told(
+        &self,
+        role: Role,
+        end: u32,
+        label: Option<&[u8]>,
+        units: &[Seg],
+        locals: &mut BodyLocals,
+    ) -> Result<(), NoMemory>
+        requires { ArePlaced A.stands self.now locals.old }
+        ensures declared { OnOk result ((ps : AnyParts) (t : AnyTail) → label_at end label.entry ≡ last_label None ps →
+            AreUnits units.now t → locals.new.paths
+            ≡ with_declared (scope_of self.now.scope) locals.old.paths (names_declared role ps t)) }
+        ensures placed { ArePlaced A.stands self.now locals.new }
+    {
+        let Some(scope) = self.scope else {
+            return Ok(());
+        };
+        match role {
+            Role::Declares(_) | Role::Method | Role::Alias => {
+                let name = label_of(self.alloc, end, label)?;
+                declare_label(scope, &name, locals)
+            }
+            Role::Fields => declare_segments(scope, units, locals),
+            Role::Scope | Role::External | Role::Guard | Role::Other => Ok(()),
+        }
+    }
+}
+
+/// The name that begins there, in a span that ends at `end`, if one does.
+fn label_of(alloc: Global, end: u32, label: Option<&[u8]>) -> Result<Option<Name>, NoMemory>
+    ensures { IfOk result (λ name. name ≡ label_at end label.entry) }
+{
+    let Some(bytes) = label else {
+        return Ok(None);
+    };
+    match name_of(alloc, end, bytes) {
+        Ok((name, _)) => Ok(Some(name)),
+        Err(CodeFault::NoMemory) => Err(AllocError),
+        Err(_) => Ok(None),
+    }
+}
+
+/// Adds the path of a name, if there is one.
+fn declare_label(
+    scope: &Parts<'_>,
+    label: &Option<Name>,
+    locals: &mut BodyLocals,
+) -> Result<(), NoMemory>
+    requires { AreOf locals.old scope.now }
+    ensures declared { OnOk result (locals.new.paths ≡ with_names scope.now locals.old.paths
+        (option_to_list label.now)) }
+    ensures own { AreOf locals.new scope.now }
+{
+    match label {
+        None => Ok(()),
+        Some(name) => declare_name(scope, name, locals),
+    }
+}
+
+/// Adds the paths of segments below the scope.
+fn declare_segments(
+    scope: &Parts<'_>,
+    segs: &[Seg],
+    locals: &mut BodyLocals,
+) -> Result<(), NoMemory>
+    requires { AreOf locals.old scope.now }
+    ensures declared { OnOk result (locals.new.paths ≡ with_names scope.now locals.old.paths (map plain_name segs.now)) }
+    ensures own { AreOf locals.new scope.now }
+{
+    for seg in segs {
+        locals.push_below(scope, scope.len(), &[*seg])?;
+    }
+    Ok(())
 }
 
 /// Adds the path of the last part that is a name.

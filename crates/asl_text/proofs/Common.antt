@@ -1,5 +1,6 @@
 -- The names that most proofs here cite, passed on from one place. Declares nothing.
 pub use Rattle.aml_code.specs.Opcodes.{Row}
+pub use Rattle.aml_code.specs.Pieces.{deeper}
 pub use Rattle.aml_code.specs.View.{node_view, nodes_view, part_view, parts_view, tail_view, field_view, fields_view}
 pub use Rattle.aml_code.specs.View.{link_view}
 pub use Rattle.aml_code.specs.declared.packages.PkgWidth.{PkgWidth}
@@ -11,7 +12,7 @@ pub use Rattle.aml_names.specs.declared.faults.CodeFault.{CodeFault}
 pub use Rattle.aml_names.specs.declared.names.Name.{Name}
 pub use Rattle.aml_names.specs.declared.segments.Seg.{Seg}
 pub use Rattle.asl_text.specs.Bodies.{body_view, kept_lines, printed_lines, bodies_lines}
-pub use Rattle.asl_text.specs.Texts.{head_of, inline, tail_text, field_lines, deeper, block, lines, op_lines, all_lines}
+pub use Rattle.asl_text.specs.Texts.{head_of, inline, tail_text, field_lines, block, lines, op_lines, all_lines}
 pub use Rattle.asl_text.specs.Texts.{name_text, joined, is_constant}
 pub use Rattle.asl_text.specs.Texts.{inlines, part_text, part_texts, method_head, BodyLines, first_lines, levels_in}
 pub use Rattle.asl_text.specs.Texts.{tail_levels, all_levels, behind}

@@ -5,4 +5,6 @@ pub mod LineLaws
 pub mod BlockLaws
 pub mod BodyLaws
 pub mod LevelLaws
+pub mod PieceLaws
+pub mod ToldLaws
 mod EndLaws

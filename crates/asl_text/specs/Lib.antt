@@ -1,3 +1,5 @@
 -- The text of each thing.
 pub mod Texts
+pub mod Pieces
+pub mod TextLaws
 pub mod Bodies

@@ -1,6 +1,6 @@
 -- The text of names and of terms on one line.
 use Rattle.std.specs.Prelude.{ℕ, Bool, true, false, cond, List, [], ◌∷◌, ◌++◌, map, flat_map, replicate, length, drop}
-use Rattle.std.specs.Prelude.{Option, Some, None, option_map, zero, suc, min, decimal, ◌+◌, ◌/◌, ◌%◌, ◌==◌, ◌&&◌, not}
+use Rattle.std.specs.Prelude.{Option, Some, None, option_map, zero, suc, decimal, ◌/◌, ◌%◌, ◌==◌, ◌&&◌, not}
 use Rattle.aml_names.specs.declared.segments.Seg.{Seg}
 use Rattle.aml_names.specs.declared.names.Name.{Name}
 use Rattle.aml_code.specs.declared.rows.Group.{Group}
@@ -10,6 +10,7 @@ use Rattle.aml_code.specs.Tree.{Tree, nothing, named, op, Trees, no_trees, tree_
 use Rattle.aml_code.specs.Tree.{word as word_part, dword, qword, text as text_part, Parts, no_parts, part_more, Tail}
 use Rattle.aml_code.specs.Tree.{bytes, elements, terms, fields, body, Field, unit, reserved, access, connection}
 use Rattle.aml_code.specs.Tree.{extended, Fields, no_fields, field_more, Link, target, buffer, slice_of}
+use Rattle.aml_code.specs.Pieces.{deeper}
 use Rattle.text_writer.specs.Prints.{word, hex2, hex4, hex8, hex16, quoted}
 use Rattle.aml_code.specs.Lawful.{last_label, last_byte}
 
@@ -92,10 +93,6 @@ abbrev pub head_of : ℕ → Parts → List ℕ
 head_of o ps = head_text (row_of o) (part_texts ps)
 
 -- ---- The lines of terms, of field lists, of methods and of definition blocks.
-
--- the level below (a machine number)
-abbrev pub deeper : ℕ → ℕ
-deeper level = min (level + 1) 4294967295
 
 -- two spaces for each level
 unfoldable pub indent : ℕ → List ℕ

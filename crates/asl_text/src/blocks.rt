@@ -2,10 +2,11 @@
 #![tactic(auto, using(crate::proofs::BlockLaws::printing), unfolding(crate::specs::Texts::serialized_text))]
 
 ghost use Rattle.std.specs.Prelude.{◌≡◌, ◌++◌, Some, decimal};
+ghost use Rattle.aml_code.specs.Pieces.{deeper};
 ghost use Rattle.aml_code.specs.View.{node_view, nodes_view, parts_view, tail_view};
 ghost use Rattle.text_writer.specs.Prints.{Prints, quoted, word};
 ghost use Rattle.asl_text.specs.Bodies.{bodies_lines};
-ghost use Rattle.asl_text.specs.Texts.{head_of, deeper, line, opening, serialized_text, flags_text, method_text};
+ghost use Rattle.asl_text.specs.Texts.{head_of, line, opening, serialized_text, flags_text, method_text};
 ghost use Rattle.asl_text.specs.Texts.{method_head, first_lines, levels_in, tail_levels, all_levels, behind};
 ghost use Rattle.asl_text.specs.Texts.{term_lines, op_lines, terms_lines, left_all, block_text};
 

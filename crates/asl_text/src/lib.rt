@@ -1,7 +1,7 @@
 //! ASL-like text of AML, exactly as the definitions of `specs/` say: names, terms, bodies and definition blocks.
 //!
-//! Nothing here takes memory, but for `body_text` and `term_text`. Each printing function's contract gives the text
-//! that it prints.
+//! Nothing here takes memory, but for `body_text`, `term_text` and `told_text`. Each printing function's contract gives
+//! the text that it prints.
 #![tactic(auto)]
 
 mod blocks;
@@ -10,11 +10,13 @@ mod bounded;
 mod inline;
 mod lines;
 mod texts;
+mod told;
 mod words;
 mod writing;
 
 pub use blocks::{Block, print_block};
 pub use bodies::{Bodies, Body, BodyText};
 pub use lines::print_indent;
+pub use told::pieces_are_lines;
 pub use words::print_segments;
-pub use writing::{body_text, term_text};
+pub use writing::{body_text, term_text, told_text};

@@ -2,10 +2,11 @@
 #![tactic(auto, using(crate::proofs::LineLaws::printing))]
 
 ghost use Rattle.std.specs.Prelude.{◌++◌, [], None, decimal};
+ghost use Rattle.aml_code.specs.Pieces.{deeper};
 ghost use Rattle.aml_code.specs.View.{node_view, nodes_view, parts_view, tail_view, field_view, fields_view, link_view};
 ghost use Rattle.text_writer.specs.Prints.{Prints, word};
 ghost use Rattle.asl_text.specs.Texts.{head_of, tail_text, link_text, byte_pair, byte_end, field_text, field_lines};
-ghost use Rattle.asl_text.specs.Texts.{deeper, indent, line, opening, lines, op_lines, all_lines};
+ghost use Rattle.asl_text.specs.Texts.{indent, line, opening, lines, op_lines, all_lines};
 
 use crate::inline::Inline;
 use crate::texts::{Head, print_byte, print_tail};

@@ -60,7 +60,7 @@ pub fn print_byte<W: Write>(out: &mut Out<'_, W>, n: u8)
 }
 
 /// A number of two bytes as a constant.
-fn print_word<W: Write>(out: &mut Out<'_, W>, n: u16)
+pub fn print_word<W: Write>(out: &mut Out<'_, W>, n: u16)
     ensures { Prints W.contents out.old out.new (word "0x" ++ hex4 n) }
 {
     out.put(b"0x");
@@ -68,7 +68,7 @@ fn print_word<W: Write>(out: &mut Out<'_, W>, n: u16)
 }
 
 /// A number of four bytes as a constant.
-fn print_dword<W: Write>(out: &mut Out<'_, W>, n: u32)
+pub fn print_dword<W: Write>(out: &mut Out<'_, W>, n: u32)
     ensures { Prints W.contents out.old out.new (word "0x" ++ hex8 n) }
 {
     out.put(b"0x");
@@ -76,7 +76,7 @@ fn print_dword<W: Write>(out: &mut Out<'_, W>, n: u32)
 }
 
 /// A number of eight bytes as a constant.
-fn print_qword<W: Write>(out: &mut Out<'_, W>, n: u64)
+pub fn print_qword<W: Write>(out: &mut Out<'_, W>, n: u64)
     ensures { Prints W.contents out.old out.new (word "0x" ++ hex16 n) }
 {
     out.put(b"0x");
@@ -84,7 +84,7 @@ fn print_qword<W: Write>(out: &mut Out<'_, W>, n: u64)
 }
 
 /// Whether a row is that of a constant, whose value stands without a mnemonic.
-fn is_constant(row: &OpRow) -> bool
+pub fn is_constant(row: &OpRow) -> bool
     ensures { result ≡ is_constant (row_view row.now) }
 {
     row.group == Group::Value && !row.has_length() && !row.parts.is_empty()

@@ -1,18 +1,24 @@
 //! Terms, written whole to memory.
-ghost use Rattle.std.specs.Prelude.{◌≡◌, ◌++◌, IfOk, IfSome};
+ghost use Rattle.std.specs.Prelude.{◌≡◌, ◌++◌, List, flat_map, IfOk, IfErr, IfSome};
+ghost use Rattle.aml_code.specs.Pieces.{Told};
 ghost use Rattle.aml_code.specs.View.{node_view, nodes_view};
-ghost use Rattle.text_writer.specs.Prints.{word};
+ghost use Rattle.text_writer.specs.Prints.{Writes, word};
+ghost use Rattle.asl_text.specs.Pieces.{piece_text};
 ghost use Rattle.asl_text.specs.Texts.{lines, all_lines};
 ghost use Rattle.asl_text.specs.Bodies.{IsText};
 
 use crate::bodies::BodyText;
 use crate::bounded::Bounded;
 use crate::lines::print_terms;
-use aml_code::{NoMemory, Node};
+use crate::told::print_told;
+use aml_code::{CodeFault, NoMemory, Node, Telling};
 use std::alloc::{AllocError, Global};
 use std::io::Write;
 use std::slice;
-use text_writer::{Out, Print, write_text};
+use text_writer::{Out, Print, WriteFault, write_text};
+
+/// How many bytes of what is told wait to be written.
+const ROOM: usize = 1024;
 
 /// Terms that are printed at a level.
 #[derive(Drop)]
@@ -66,5 +72,40 @@ pub fn term_text(alloc: Global, node: &Node) -> Result<Vec<u8>, NoMemory>
             text.pop();
             Ok(text)
         }
+    }
+}
+
+/// Writes what is told, and says how that went; or why nothing is told.
+fn write_told<W: Write, T: Telling>(
+    out: &mut W,
+    telling: &T,
+    buffer: &mut [u8],
+) -> Result<Result<(), WriteFault>, CodeFault>
+    requires { T.can_tell telling.now }
+    ensures told { IfOk result (λ written. (ps : List Told) × (T.tells telling.now ps ×
+        Writes (W.contents out.old) (W.contents out.new) (flat_map piece_text ps) written)) }
+    ensures fails { IfErr result (T.fails telling.now) }
+{
+    let mut lines = Out::new(out, buffer);
+    print_told(&mut lines, telling)?;
+    Ok(lines.finish())
+}
+
+/// The text of what is told, in as much memory as it needs; `None` where there are more than `most` bytes of it, or no
+/// memory for these; and the fault where nothing is told.
+pub fn told_text<T: Telling>(
+    alloc: Global,
+    most: usize,
+    telling: &T,
+) -> Result<Option<Vec<u8>>, CodeFault>
+    requires { T.can_tell telling.now }
+    ensures told { IfOk result (λ text. IfSome text (λ t. (ps : List Told) × (T.tells telling.now ps ×
+        (t.items ≡ flat_map piece_text ps)))) }
+    ensures fails { IfErr result (T.fails telling.now) }
+{
+    let mut text = Bounded::new(alloc, most);
+    match write_told(&mut text, telling, &mut [0; ROOM])? {
+        Err(_) => Ok(None),
+        Ok(()) => Ok(Some(text.into_text())),
     }
 }

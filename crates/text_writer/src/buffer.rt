@@ -2,6 +2,7 @@
 ghost use Rattle.std.specs.Prelude.{◌≡◌, ◌≤◌, ◌+◌, ◌++◌, ◌∷◌, [], length, take};
 
 /// Puts bytes at a place of a buffer. Returns where they end.
+#[inline(always)]
 pub(crate) fn place(buffer: &mut [u8], at: usize, bytes: &[u8]) -> usize
     requires { at + length bytes.now ≤ length buffer.old }
     ensures placed { take result buffer.new ≡ take at buffer.old ++ bytes.now }
@@ -14,6 +15,7 @@ pub(crate) fn place(buffer: &mut [u8], at: usize, bytes: &[u8]) -> usize
 
 /// Puts two bytes at a place of a buffer. Returns where they end. They go to their places one by one: a copy of a pair
 /// that was only just put together waits for its parts.
+#[inline(always)]
 pub(crate) fn place_two(buffer: &mut [u8], at: usize, first: u8, second: u8) -> usize
     requires { at + 2 ≤ length buffer.old }
     ensures placed { take result buffer.new ≡ take at buffer.old ++ first ∷ second ∷ [] }

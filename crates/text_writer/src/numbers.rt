@@ -10,6 +10,7 @@ const DIGITS: [u8; 16] = *b"0123456789ABCDEF";
 
 /// A byte in two hexadecimal digits.
 #[tactic(auto, unfolding(crate::specs::Prints::hex2, crate::specs::Prints::hex_digit))]
+#[inline]
 pub fn print_hex2<W: Write>(out: &mut Out<'_, W>, n: u8)
     ensures { Prints W.contents out.old out.new (hex2 n) }
 {
@@ -17,6 +18,7 @@ pub fn print_hex2<W: Write>(out: &mut Out<'_, W>, n: u8)
 }
 
 #[tactic(auto, using(crate::proofs::PrintLaws::straight), unfolding(crate::specs::Prints::hex4))]
+#[inline]
 pub fn print_hex4<W: Write>(out: &mut Out<'_, W>, n: u16)
     ensures { Prints W.contents out.old out.new (hex4 n) }
 {

@@ -86,6 +86,7 @@ impl<'w, W: Write> Out<'w, W> {
     }
 
     /// Prints these bytes.
+    #[inline(always)]
     pub fn put(&mut self, bytes: &[u8])
         ensures { Prints W.contents self.old self.new bytes.now }
     {
@@ -100,6 +101,7 @@ impl<'w, W: Write> Out<'w, W> {
     }
 
     /// How many more bytes can wait.
+    #[inline(always)]
     fn room(&self) -> usize
         ensures { result + length (waiting self.now) ≡ length self.now.buffer.now }
     {
@@ -107,6 +109,7 @@ impl<'w, W: Write> Out<'w, W> {
     }
 
     /// Prints two bytes.
+    #[inline(always)]
     pub(crate) fn put_two(&mut self, first: u8, second: u8)
         ensures { Prints W.contents self.old self.new (first ∷ second ∷ []) }
     {

@@ -1,5 +1,5 @@
 use Rattle.std.proofs.Common.{rules, ◌≡◌, ◌∷◌}
-use Rattle.asl_text.proofs.Common.{map, word, subst, sym, ap, Prints, prints_then}
+use Rattle.asl_text.proofs.Common.{map, word, subst, Prints, prints_then}
 unfoldable use Rattle.asl_text.specs.Texts.{separated, segment_text}
 use Rattle.asl_text.proofs.words.print_segments.Goals as goal
 

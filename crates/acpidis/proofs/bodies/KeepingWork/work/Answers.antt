@@ -1,29 +1,32 @@
 use Rattle.acpidis.proofs.Common.{length, refl, sym, ap, ◌∙◌, subst, IfOk-weaker, OfMethod, table_codes, body_in}
-use Rattle.acpidis.proofs.Common.{BecameIn}
+use Rattle.acpidis.proofs.Common.{ReadsIn}
 use Rattle.std.specs.Prelude.{slice_get}
 use Rattle.std.specs.Option.{option_map}
 use Rattle.std.proofs.lemmas.Option.{slice_get_read, slice_get-map}
 use Rattle.aml_set.specs.declared.methods.Method.{Method}
 use Rattle.acpidis.proofs.bodies.KeepingWork.work.Goals as goal
 
-pub read-requires-clause-kept : goal.read-requires-clause-kept
-read-requires-clause-kept g c =
+pub keep-requires : goal.keep-requires
+keep-requires g c =
     let set = c.args.self.now.set.now in
     let ms = set.methods.items in
     let there = slice_get_read ms (length ms) c.args.number c.index-method.result.now refl c.requires c.index-method.ensures in
-    ap (λ paths. slice_get paths c.args.number) set.kept ∙ slice_get-map (λ (m : Method). m.path) ms c.args.number
-    ∙ ap (option_map (λ (m : Method). m.path)) there
+    record {
+      kept = ap (λ paths. slice_get paths c.args.number) set.kept ∙ slice_get-map (λ (m : Method). m.path) ms c.args.number
+          ∙ ap (option_map (λ (m : Method). m.path)) there;
+      short = c.span-bytes.ensures.short;
+      body = c.span-bytes.ensures.bytes;
+    }
 
 pub returns : goal.returns
 returns g c =
     let keeping = c.args.self.now in
     let set = keeping.set.now in
     let ms = set.methods.items in
-    let body = c.in_ok-body.body in
     let there = slice_get_read ms (length ms) c.args.number c.index-method.result.now refl c.requires c.index-method.ensures in
     let bytes = c.span-bytes.ensures.bytes ∙ ap (body_in (table_codes set.tables.items)) (sym there) in
     IfOk-weaker c.keep.result _ _ (λ done k. (
-      body,
-      subst (λ o. OfMethod o (λ m. BecameIn keeping.unknown_zero set m body)) (sym there) c.in_ok-body.ensures,
-      subst (λ bs. g.K.Keep.keeps keeping.keep.now c.args.number bs body done) bytes k,
+      k.0,
+      subst (λ o. OfMethod o (λ m. ReadsIn keeping.unknown_zero set m k.0)) (sym there) k.1.0,
+      subst (λ bs. g.K.Keep.keeps keeping.keep.now c.args.number bs k.0 done) bytes k.1.1,
     )) c.keep.ensures

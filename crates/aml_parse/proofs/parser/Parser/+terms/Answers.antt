@@ -1,10 +1,10 @@
 use Rattle.aml_parse.proofs.Common.{rules, PartKind, ◌≡◌, ◌+◌, ◌-◌, length, drop, get_or, [], ◌∷◌, inr, Some, None, Ok}
 use Rattle.aml_parse.proofs.Common.{ap, sym, ◌∙◌, arith, add-one, drop-cons, drop_all}
-use Rattle.aml_parse.proofs.Common.{row_view, no_trees, tree_more, no_fields, field_more, node_view, field_view}
+use Rattle.aml_parse.proofs.Common.{Trees, Parts, part_view, row_view, no_trees, tree_more, no_fields, field_more, node_view, field_view}
 use Rattle.aml_parse.proofs.Bare.{plain_bare}
 use Rattle.aml_parse.proofs.Opened.{opcode_read}
 use Rattle.aml_parse.proofs.Loops.{parts_go_on, parts_fails, parts_end, arguments_go_on, arguments_fails, arguments_end}
-use Rattle.aml_parse.proofs.Loops.{go_on, fails, runs_out, done, nodes_found}
+use Rattle.aml_parse.proofs.Loops.{go_on, fails, runs_out, done, nodes_found, parts_found}
 use Rattle.aml_parse.proofs.Loops.{fields_found}
 use Rattle.aml_parse.specs.Reading.{scope_of}
 use Rattle.aml_parse.proofs.parser.Parser.+terms.Goals as goal
@@ -12,7 +12,7 @@ use Rattle.aml_parse.proofs.parser.Parser.+terms.Goals as goal
 pub arguments-returns-in_err-node-clause-read : goal.arguments-returns-in_err-node-clause-read
 arguments-returns-in_err-node-clause-read g t c =
     let failed =
-    arguments_fails _ c.loop-i.found.items _ _ _ _ c.in_err-node.field-0.0 (c.args.count - c.loop-i._i)
+    arguments_fails node_view _ c.loop-i.found.items _ _ _ _ c.in_err-node.field-0.0 (c.args.count - c.loop-i._i)
     (omega (arith, c.loop-i-test.true)) c.in_err-node.ensures.read c.loop-i.invariant.1 in
     search rules
 
@@ -20,13 +20,14 @@ pub arguments-loop-i-preserved : goal.arguments-loop-i-preserved
 arguments-loop-i-preserved g t c =
     let less : c.args.count - c.loop-i._i - 1 ≡ c.args.count - (c.loop-i._i + 1) = omega arith in
     let next =
-    arguments_go_on _ c.loop-i.found.items _ _ _ _ (c.args.count - c.loop-i._i) c.in_ok-node.node _ _
+    arguments_go_on node_view _ c.loop-i.found.items _ _ _ _ (c.args.count - c.loop-i._i) c.in_ok-node.node _ _
     (omega (arith, c.loop-i-test.true)) c.in_ok-node.ensures.read c.loop-i.invariant.1 in
     (c.in_ok-node.ensures.placed, rw c.in_ok-push.ensures.items (rw less at next))
 
 pub arguments-returns-clause-read : goal.arguments-returns-clause-read
 arguments-returns-clause-read g t c =
-    arguments_end _ c.loop-i.found.items _ _ _ _ (c.args.count - c.loop-i._i) (omega (arith, c.loop-i-test.false)) c.loop-i.invariant.1
+    arguments_end node_view _ c.loop-i.found.items _ _ _ _ (c.args.count - c.loop-i._i) (omega (arith, c.loop-i-test.false)) c.loop-i.invariant.1
+    ∙ ap (λ (ts : Trees). Ok (ts, c.loop-i.locals.paths, c.loop-i.rest.now)) (nodes_found _)
 
 pub parts-returns-in_err-rest-clause-read : goal.parts-returns-in_err-rest-clause-read
 parts-returns-in_err-rest-clause-read g t c =
@@ -35,7 +36,7 @@ parts-returns-in_err-rest-clause-read g t c =
     let k = get_or ks i PartKind.Term in
     let cut : drop i ks ≡ k ∷ drop (i + 1) ks = rw add-one (drop-cons ks i PartKind.Term c.loop-kind-test.true) in
     let failed =
-    parts_fails _ c.loop-kind.found.items _ _ _ _ c.in_err-rest.field-0.0 k (drop (i + 1) ks) c.in_err-rest.ensures.fails (rw cut at c.loop-kind.invariant.1) in
+    parts_fails part_view _ c.loop-kind.found.items _ _ _ _ c.in_err-rest.field-0.0 k (drop (i + 1) ks) c.in_err-rest.ensures.fails (rw cut at c.loop-kind.invariant.1) in
     search rules
 
 pub parts-loop-kind-preserved : goal.parts-loop-kind-preserved
@@ -47,13 +48,14 @@ parts-loop-kind-preserved g t c =
     let added = c.in_ok-rest.ensures.added in (
       c.in_ok-rest.ensures.placed,
       rw added.1.0
-          (parts_go_on _ c.loop-kind.found.items _ _ _ _ added.0 k (drop (i + 1) ks) _ _ added.1.1 (rw cut at c.loop-kind.invariant.1)),
+          (parts_go_on part_view _ c.loop-kind.found.items _ _ _ _ added.0 k (drop (i + 1) ks) _ _ added.1.1 (rw cut at c.loop-kind.invariant.1)),
     )
 
 pub parts-returns-clause-read : goal.parts-returns-clause-read
 parts-returns-clause-read g t c =
     let cut : drop c.loop-kind.kind-index c.args.kinds.now ≡ [] = drop_all _ _ c.loop-kind-test.false in
-    parts_end _ c.loop-kind.found.items _ _ _ _ (rw cut at c.loop-kind.invariant.1)
+    parts_end part_view _ c.loop-kind.found.items _ _ _ _ (rw cut at c.loop-kind.invariant.1)
+    ∙ ap (λ (ps : Parts). Ok (ps, c.loop-kind.locals.paths, c.loop-kind.rest.now)) (parts_found _)
 
 pub terms-returns-then-is_empty-clause-read : goal.terms-returns-then-is_empty-clause-read
 terms-returns-then-is_empty-clause-read g t c =
