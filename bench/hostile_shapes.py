@@ -198,6 +198,17 @@ def upward_outside(count, depth):
     return within(depth, b"".join(regions))
 
 
+def names_outside(count, depth):
+    """A name at the root, as so many terms of a deep scope."""
+    return b"\x08" + LEAF + b"\0" + within(depth, LEAF * count)
+
+
+def regions_outside(count, depth):
+    """Regions in a deep scope, whose offset and length are a name at the root."""
+    regions = (b"\x5b\x80" + segment(number) + b"\0" + LEAF + LEAF for number in range(count))
+    return b"\x08" + LEAF + b"\0" + within(depth, b"".join(regions))
+
+
 def deep_names(count, depth):
     return within(depth, named(count))
 
@@ -582,6 +593,8 @@ SHAPES = (
     Shape("devices-in-blocks", 200_000, "devices", one(devices_in_blocks), any_run=True),
     Shape("maybes", 100_000, "names", one(lambda count: maybes(count, 500)), any_run=True),
     Shape("maybes-deep", 500, "levels", one(lambda count: maybes(100_000, count)), any_run=True),
+    Shape("names-outside", 8_000, "names", one(lambda count: names_outside(count, DEEPEST)), any_run=True),
+    Shape("regions-outside", 1_000, "regions", one(lambda count: regions_outside(count, DEEPEST)), any_run=True),
     Shape("again", 2_000_000, "names", again, any_run=True),
     Shape("given", 1_000_000, "lines", given, given=True),
     Shape("given-again", 2_000_000, "lines", given_again, given=True),

@@ -2,7 +2,7 @@
 # Runs the program under limits of memory (ulimit -v) and of the stack (ulimit -s), in small steps, over deep and wide sets,
 # with 1, 4 and 64 workers. Each run gives the whole text, or nothing but 'acpidis: NoMemory' or 'acpidis: NoThread' with
 # status 1; no signal ends it. What the whole text is the independent reading of tests/oracle says, and without limits it has
-# to come.
+# to come. Then the shapes of bench/hostile_shapes.py that are bounded: what each may cost at most.
 #
 #     tests/limits.sh [--short] [--stop] [PROGRAM]
 #
@@ -139,6 +139,35 @@ for set in sets/*; do
             limit=$((limit + stack_step))
         done
     done
+done
+
+# No contract speaks of what a run costs. With --check no text is written, which may be long.
+for shape in names-outside regions-outside; do
+    if PYTHONDONTWRITEBYTECODE=1 PYTHONPATH=$top/bench python3 - "$program" "$shape" <<'END'; then
+import pathlib
+import sys
+
+import hostile
+import hostile_shapes
+import runs
+
+MOST_SECONDS, STARTED_BYTES, BYTES_A_BYTE = 2, 40_000_000, 128
+
+program, name = sys.argv[1:]
+shape = next(it for it in hostile_shapes.SHAPES if it.name == name)
+folder = pathlib.Path("shapes") / name
+hostile.write(folder, shape.make, shape.size)
+most_bytes = STARTED_BYTES + BYTES_A_BYTE * sum(file.stat().st_size for file in folder.iterdir())
+command = [program, "--workers", "1", "--check", *shape.options(folder), "."]
+_, seconds, peak, status = runs.run(command, folder, 60) or (60, 60, 0, None)
+if status not in (0, 3) or seconds > MOST_SECONDS or peak > most_bytes:
+    sys.exit(f"FAILED {name}: status {status}, {seconds:.2f} s of a processor, {peak} bytes of memory of {most_bytes}")
+print(f"{name}: {seconds:.2f} s of a processor, {peak / 1e6:.0f} MB")
+END
+        passed=$((passed + 1))
+    else
+        failed=$((failed + 1))
+    fi
 done
 echo "$passed passed, $failed failed"
 [ "$failed" = 0 ]
