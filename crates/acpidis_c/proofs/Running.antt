@@ -4,7 +4,6 @@ use Rattle.std.specs.Prelude.{Option, None, Some, Result, Ok, Err, ◌⊎◌, Bo
 use Rattle.acpi_tables.specs.declared.dump.Dump.{Dump}
 use Rattle.acpidis.specs.Endings.{IsOutput, Ends}
 use Rattle.acpidis.specs.Meaning.{Meaning, Means}
-use Rattle.acpidis.specs.Refusals.{IsWant}
 use Rattle.acpidis.specs.declared.options.Options.{Options}
 use Rattle.acpidis.specs.declared.faults.RunFault.{RunFault}
 use Rattle.acpidis.specs.declared.faults.RunFault.TheVariants as ends

@@ -3,7 +3,7 @@ use mathlib.Core.Path.{refl, sym, subst}
 use mathlib.Core.List.{List, [], ◌∷◌, ◌++◌}
 use seplogic.Ra.Ura.{Ura}
 use mir.Val.{Val}
-use base.Logic.{SProp, ent, emp, id⊢}
+use base.Logic.{SProp, ent, id⊢}
 use base.Fml.{ftrue, fsep}
 use prog.Memory.{Memory}
 use prog.Routine.{Routine}
@@ -22,7 +22,7 @@ use denote.Steps.{nothing}
 use denote.Triple.Spec.{triple_of}
 use denote.Triple.Table.{entered}
 use denote.Triple.Walked.{says, Stays, stay_dropped, walk_of, ends_at, Goes-dropped, walk_Meets}
-use Rattle.std.specs.Prelude.{◌≡◌, Option, Some, None, true, is_some}
+use Rattle.std.specs.Prelude.{◌≡◌, Option, true, is_some}
 use Rattle.acpidis_c.proofs.Full.{some_of}
 use Rattle.acpidis_c.specs.contracts.handle.Held as Held
 use contract.Monad.{fact}
