@@ -138,6 +138,6 @@ pub fn tell_kept<S: Sink>(
         (es : List Entry) → StandsFor space.now es →
         GivesBody (λ (read : Trees). read) unknown_zero es tables method.now (Err fault)) }
 {
-    let names = BodyNames::kept(space, number, method.path.parts(), unknown_zero);
-    tell_own_body(alloc, bytes, &names, &method.path.parts(), level, sink)
+    let known = BodyNames::kept(space, number, method.path.parts(), unknown_zero);
+    tell_own_body(alloc, bytes, &known, &method.path.parts(), level, sink)
 }

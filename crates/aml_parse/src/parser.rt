@@ -110,7 +110,7 @@ impl<'a, A: Arity> Parser<'a, A> {
                 declare_label(scope, &name, locals)
             }
             Role::Fields => declare_segments(scope, units, locals),
-            Role::Scope | Role::External | Role::Guard | Role::Other => Ok(()),
+            Role::Other | Role::Guard | Role::External | Role::Scope => Ok(()),
         }
     }
 }
