@@ -10,7 +10,7 @@ mod rows;
 mod tables;
 mod writing;
 
-pub use asl_text::{Block, Bodies, Body, BodyText, body_text, print_block, term_text};
+pub use asl_text::{Block, Bodies, Body, BodyText, print_block, term_text, told_text};
 pub use levels::body_levels;
 pub use listing::{Listing, Tables};
 pub use rows::print_rows;

@@ -1,6 +1,6 @@
 //! ASL-like text of AML, exactly as the definitions of `specs/` say: names, terms, bodies and definition blocks.
 //!
-//! Nothing here takes memory, but for `body_text`, `term_text` and `told_text`. Each printing function's contract gives
+//! Nothing here takes memory, but for `term_text` and `told_text`. Each printing function's contract gives
 //! the text that it prints.
 #![tactic(auto)]
 
@@ -19,4 +19,4 @@ pub use bodies::{Bodies, Body, BodyText};
 pub use lines::print_indent;
 pub use told::pieces_are_lines;
 pub use words::print_segments;
-pub use writing::{body_text, term_text, told_text};
+pub use writing::{term_text, told_text};

@@ -5,9 +5,7 @@ ghost use Rattle.aml_code.specs.View.{node_view, nodes_view};
 ghost use Rattle.text_writer.specs.Prints.{Writes, word};
 ghost use Rattle.asl_text.specs.Pieces.{piece_text};
 ghost use Rattle.asl_text.specs.Texts.{lines, all_lines};
-ghost use Rattle.asl_text.specs.Bodies.{IsText};
 
-use crate::bodies::BodyText;
 use crate::bounded::Bounded;
 use crate::lines::print_terms;
 use crate::told::print_told;
@@ -32,28 +30,6 @@ impl Print for Terms<'_> {
 
     fn print<W: Write>(&self, out: &mut Out<'_, W>) {
         print_terms(out, self.level, self.nodes);
-    }
-}
-
-/// The lines of terms at a level, if there are at most so many bytes of them and memory for these.
-fn text_within(alloc: Global, level: u32, most: usize, nodes: &[Node]) -> Option<Vec<u8>>
-    ensures { IfSome result (λ text. text.items ≡ all_lines level (nodes_view nodes.now)) }
-{
-    let mut lines = Bounded::new(alloc, most);
-    match write_text(&mut lines, &Terms { level, nodes }) {
-        Err(_) => None,
-        Ok(()) => Some(lines.into_text()),
-    }
-}
-
-/// What is to be kept of a body's terms that are printed at this level: their lines, if there are at most so many bytes
-/// of them and memory for these, and else the terms themselves.
-pub fn body_text(alloc: Global, level: u32, most: usize, nodes: Vec<Node>) -> BodyText
-    ensures { IsText level (nodes_view nodes.items) result }
-{
-    match text_within(alloc, level, most, nodes.as_slice()) {
-        Some(text) => BodyText::Lines(text),
-        None => BodyText::Terms(nodes),
     }
 }
 

@@ -7,5 +7,6 @@ mod loads;
 mod memory;
 mod nesting;
 mod starts;
+mod telling;
 mod walks;
 mod writers;
