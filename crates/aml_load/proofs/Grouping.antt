@@ -19,7 +19,8 @@ last_is front (x ∷ gs) g = last_is (Some x.scope) gs g
 pub group_more : (gs : List Group) (g : Group) → uses_of (gs ++ g ∷ []) ≡ uses_of gs ++ group_uses g
 group_more gs g = sym (flat_map_more group_uses [] gs g)
 
-pub names_joined : (gs : List Group) (g h : Group) (names : List Asked) → h.scope ≡ g.scope → h.names.items ≡ g.names.items ++ names
+pub names_joined : (gs : List Group) (g h : Group) (names : List Asked) → h.scope ≡ g.scope
+    → h.names.items ≡ g.names.items ++ names
     → uses_of (gs ++ h ∷ []) ≡ uses_of (gs ++ g ∷ []) ++ named_in g.scope names
 names_joined gs g h names scope is =
     group_more gs h

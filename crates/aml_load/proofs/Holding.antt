@@ -48,7 +48,8 @@ methods_more (e ∷ es) x = by (method_of e) (methods_more es x)
     by (Some m) more = ap (λ (ms : List Method). m ∷ ms) more
 
 -- the uses are grouped as they were
-grouped_as : (old new : Progress) → KeepsUses old new → AreIn old.space.scopes old.uses → AreIn new.space.scopes new.uses
+grouped_as : (old new : Progress) → KeepsUses old new → AreIn old.space.scopes old.uses
+    → AreIn new.space.scopes new.uses
 grouped_as old new keeps grouped = subst (λ scopes. AreIn scopes new.uses) (sym keeps.scopes)
     (subst (AreIn old.space.scopes) (sym keeps.uses) grouped)
 
@@ -104,7 +105,8 @@ inside_held old new l scope is ms us h = record {
 
 -- the names of a term more
 pub uses_held : (old new : Progress) (l : Listed) (site : Where) (x : Tree) → Holds old l → new.space ≡ old.space
-    → new.methods.items ≡ old.methods.items → uses_of new.uses.list.items ≡ uses_of old.uses.list.items ++ term_uses site x
+    → new.methods.items ≡ old.methods.items
+    → uses_of new.uses.list.items ≡ uses_of old.uses.list.items ++ term_uses site x
     → AreIn new.space.scopes new.uses → Holds new (with_uses site l x)
 uses_held old new l site x h s ms us grouped = record {
   kept = kept_as old new h.kept (ap (λ (k : Known). k.kept) s) ms;

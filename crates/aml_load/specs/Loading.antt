@@ -90,8 +90,8 @@ abbrev pub in_declaration : Tree → Bool
 in_declaration (op o w ps r) = unwrap_or (option_map (λ r. declares_by r.group) (row_of o)) false
 in_declaration _ = false
 
--- A name that stands as a TermArg outside the methods, or as a term there: its table, the scope in which it stands, with
--- how many arguments it was read, and whether the term around it is a declaration.
+-- A name that stands as a TermArg outside the methods, or as a term there: its table, the scope in which it stands,
+-- with how many arguments it was read, and whether the term around it is a declaration.
 pub record Use : Type 0 where
   pub table : ℕ
   pub scope : List Seg

@@ -12,14 +12,16 @@ use Rattle.aml_load.proofs.loading.check_group.Goals.{In_ok-count}
 
 -- what is left begins with the name that is looked at
 cut : (c : In_ok-count) → (let g = c.args.group.now in let n = c.loop-asked.asked-index in
-    named_in g.scope (drop n g.names.items) ≡ use_in g.scope c.asked-item.result ∷ named_in g.scope (drop (n + 1) g.names.items))
+    named_in g.scope (drop n g.names.items)
+    ≡ use_in g.scope c.asked-item.result ∷ named_in g.scope (drop (n + 1) g.names.items))
 cut c =
     let g = c.args.group.now in
     let n = c.loop-asked.asked-index in
     let a = c.asked-item.result in
     let xs = c.deref-asked-items.result.now in
-    subst (λ names. named_in g.scope (drop n names) ≡ use_in g.scope a ∷ named_in g.scope (drop (n + 1) names)) c.deref-asked-items.ensures.value
-    (ap (named_in g.scope) (drop_more xs n a c.loop-asked-test.true ∙ ap (λ x. x ∷ drop (n + 1) xs) (sym c.asked-item.is)))
+    subst (λ names. named_in g.scope (drop n names) ≡ use_in g.scope a ∷ named_in g.scope (drop (n + 1) names))
+    c.deref-asked-items.ensures.value (ap (named_in g.scope)
+    (drop_more xs n a c.loop-asked-test.true ∙ ap (λ x. x ∷ drop (n + 1) xs) (sym c.asked-item.is)))
 
 known : (c : In_ok-count) → c.names_for-names.result.known ≡ c.loop-asked.names.known
 known c = ap (λ (names : BodyNames). names.known) c.names_for-names.ensures
@@ -31,7 +33,8 @@ method c = ap (λ (names : BodyNames). names.method) c.names_for-names.ensures �
 told : (c : In_ok-count) (l : Listed) → StandsFor c.args.space.now l.entries
     → c.in_ok-count.count ≡ use_count c.args.unknown_zero l.entries (use_in c.args.group.now.scope c.asked-item.result)
 told c l h = c.in_ok-count.ensures l c.args.group.now.scope c.args.unknown_zero
-    (subst (λ k. StandsFor k l.entries) (sym (known c ∙ c.loop-asked.invariant.known)) (stands_alone c.args.space.now l.entries h)) (method c)
+    (subst (λ k. StandsFor k l.entries) (sym (known c ∙ c.loop-asked.invariant.known))
+    (stands_alone c.args.space.now l.entries h)) (method c)
     (ap (λ (names : BodyNames). names.unknown_zero) c.names_for-names.ensures)
 
 -- a name that takes as many arguments as were read is passed over
@@ -48,7 +51,8 @@ loop-asked-preserved c =
       passed = λ l h.
           let same : option_eq nat_eq (use_count z l.entries u) (Some u.args) ≡ true =
           ap (λ o. option_eq nat_eq o (Some u.args)) (sym (told b l h)) ∙ sym c.if-not-is_count.ensures in
-          sym (ap (uses_at any z l.entries) (cut b) ∙ (λ i. if same i then uses_at any z l.entries rest else Err (call_fault any u)))
+          sym (ap (uses_at any z l.entries) (cut b)
+          ∙ (λ i. if same i then uses_at any z l.entries rest else Err (call_fault any u)))
           ∙ c.loop-asked.invariant.passed l h;
       known = known b ∙ c.loop-asked.invariant.known;
       method = method b;
@@ -67,4 +71,5 @@ returns-then-not-is_count c = λ l h.
     let other : option_eq nat_eq (use_count z l.entries u) (Some u.args) ≡ false =
     ap (λ o. option_eq nat_eq o (Some u.args)) (sym (told b l h)) ∙ sym c.if-not-is_count.ensures in
     inr (sym (c.loop-asked.invariant.passed l h) ∙ ap (uses_at any z l.entries) (cut b)
-    ∙ (λ i. if other i then uses_at any z l.entries rest else Err (call_fault any u)) ∙ ap (λ e. Err e) (sym c.in_ok-call_fault.ensures))
+    ∙ (λ i. if other i then uses_at any z l.entries rest else Err (call_fault any u))
+    ∙ ap (λ e. Err e) (sym c.in_ok-call_fault.ensures))

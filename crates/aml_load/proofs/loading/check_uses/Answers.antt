@@ -1,4 +1,5 @@
-use Rattle.std.proofs.Common.{◌≡◌, ◌++◌, ◌∷◌, [], ◌+◌, if◌then◌else◌, Bool, List, Result, Ok, Err, Some, drop, refl, subst, sym, ap, inl, inr, ◌∙◌, false, true}
+use Rattle.std.proofs.Common.{◌≡◌, ◌++◌, ◌∷◌, [], ◌+◌, if◌then◌else◌, Bool, List, Result, Ok, Err, Some, drop}
+use Rattle.std.proofs.Common.{refl, subst, sym, ap, inl, inr, ◌∙◌, false, true}
 use Rattle.std.specs.Prelude.{nat_eq}
 use Rattle.std.specs.Option.{option_eq}
 use Rattle.std.proofs.lemmas.List.{drop_more}
@@ -12,7 +13,8 @@ use Rattle.aml_load.proofs.loading.check_uses.Goals as goal
 
 module _ (any z : Bool) (es : List Entry) (vs : List Use) where
   -- behind names that take what was read
-  passed : (us : List Use) (done : Unit {0}) → uses_at any z es us ≡ Ok done → uses_at any z es (us ++ vs) ≡ uses_at any z es vs
+  passed : (us : List Use) (done : Unit {0}) → uses_at any z es us ≡ Ok done
+      → uses_at any z es (us ++ vs) ≡ uses_at any z es vs
   unfolding uses_at
   passed [] done is = refl
   passed (u ∷ us) done is = by (option_eq nat_eq (use_count z es u) (Some u.args)) is (passed us done)
@@ -47,8 +49,10 @@ loop-group-preserved c l h =
     let n = c.loop-group.group-index in
     let g = c.group-item.result in
     let rest = drop (n + 1) gs in
-    let cut : drop n gs ≡ g ∷ rest = drop_more gs n g c.loop-group-test.true ∙ ap (λ x. x ∷ rest) (sym c.group-item.is) in
-    sym (passed any z l.entries (uses_of rest) (group_uses g) c.in_ok-check_group.field-0 (c.in_ok-check_group.ensures l h))
+    let cut : drop n gs ≡ g ∷ rest = drop_more gs n g c.loop-group-test.true
+    ∙ ap (λ x. x ∷ rest) (sym c.group-item.is) in
+    sym (passed any z l.entries (uses_of rest) (group_uses g) c.in_ok-check_group.field-0
+    (c.in_ok-check_group.ensures l h))
     ∙ ap (λ xs. uses_at any z l.entries (uses_of xs)) (sym cut) ∙ c.loop-group.invariant l h
 
 pub returns-in_err-check_group : goal.returns-in_err-check_group
@@ -60,7 +64,9 @@ returns-in_err-check_group c l h =
     let g = c.group-item.result in
     let rest = drop (n + 1) gs in
     let e = c.in_err-check_group.field-0.0 in
-    let cut : drop n gs ≡ g ∷ rest = drop_more gs n g c.loop-group-test.true ∙ ap (λ x. x ∷ rest) (sym c.group-item.is) in
+    let cut : drop n gs ≡ g ∷ rest = drop_more gs n g c.loop-group-test.true
+    ∙ ap (λ x. x ∷ rest) (sym c.group-item.is) in
     let gave = err_from_is_err_and c.from_residual.result c.from_residual.ensures.1 in
     let all = ap (λ xs. uses_at any z l.entries (uses_of xs)) (sym cut) ∙ c.loop-group.invariant l h in
-    rw (gave.1, gave.2) (subst (Fails e) all (fails any z l.entries (uses_of rest) (group_uses g) e (c.in_err-check_group.ensures l h)))
+    rw (gave.1, gave.2)
+    (subst (Fails e) all (fails any z l.entries (uses_of rest) (group_uses g) e (c.in_err-check_group.ensures l h)))

@@ -26,8 +26,9 @@ returns-clause-gives c =
       table_terms c.read_tables.new.tables.items,
       m,
       record { tables = read.1; trees = refl; space = stands; methods = read.2.1.methods },
-      load_gives c.args.any_run c.args.unknown_zero gs codes (table_terms c.read_tables.new.tables.items) m (uses_of c.as_slice.result.now) c.in_ok-check_uses.field-0
-          read.2.2 (ap uses_of c.as_slice.ensures.value ∙ read.2.1.uses) free,
+      load_gives c.args.any_run c.args.unknown_zero gs codes (table_terms c.read_tables.new.tables.items) m
+          (uses_of c.as_slice.result.now) c.in_ok-check_uses.field-0 read.2.2
+          (ap uses_of c.as_slice.ensures.value ∙ read.2.1.uses) free,
     )
 
 pub returns-in_err-check_uses-clause-gives : goal.returns-in_err-check_uses-clause-gives
@@ -38,5 +39,6 @@ returns-in_err-check_uses-clause-gives c =
     let gave = err_from_is_err_and c.from_residual-in_err-check_uses.result c.from_residual-in_err-check_uses.ensures.1 in
     rw (gave.1, gave.2)
     (load_refused c.args.any_run c.args.unknown_zero gs (table_codes c.args.tables.items) (table_terms c.read_tables.new.tables.items) m
-    (uses_of c.as_slice.result.now) c.in_err-check_uses.field-0.0 read.2.2 (ap uses_of c.as_slice.ensures.value ∙ read.2.1.uses)
+    (uses_of c.as_slice.result.now) c.in_err-check_uses.field-0.0 read.2.2
+    (ap uses_of c.as_slice.ensures.value ∙ read.2.1.uses)
     (c.in_err-check_uses.ensures m (subst (λ k. StandsFor k m.entries) (sym c.settle.ensures) read.2.1.space)))

@@ -12,7 +12,8 @@ invariant-add_parts-loop-part l = (scope : List Seg) →
 
 abbrev pub invariant-add_nodes-loop-node : goal.invariant-add_nodes-loop-node
 invariant-add_nodes-loop-node l = (scope : List Seg) →
-    named_in scope l.asked.items ++ all_uses (asked_by scope l.asker) l.argument (nodes_view (drop l.node-index l.nodes))
+    named_in scope l.asked.items
+    ++ all_uses (asked_by scope l.asker) l.argument (nodes_view (drop l.node-index l.nodes))
     ≡ named_in scope l.initial.asked.items ++ all_uses (asked_by scope l.asker) l.argument (nodes_view l.nodes)
 
 abbrev pub invariant-add_fields-loop-field : goal.invariant-add_fields-loop-field

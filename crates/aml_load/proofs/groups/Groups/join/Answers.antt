@@ -10,7 +10,8 @@ use Rattle.aml_load.proofs.groups.Groups.join.Goals.{In_ok-push}
 taken : (c : In_ok-push) → c.args.self.now.list.items ≡ c.pop.new.self.items ++ c.in-Some.group ∷ []
 taken c = search rules
 
-scope_is : (c : In_ok-push) (scope : List Seg) → last_scope None c.args.self.now.list.items ≡ Some scope → c.in-Some.group.scope ≡ scope
+scope_is : (c : In_ok-push) (scope : List Seg) → last_scope None c.args.self.now.list.items ≡ Some scope
+    → c.in-Some.group.scope ≡ scope
 scope_is c scope last = same_Some c.in-Some.group.scope scope
     (sym (last_is None c.pop.new.self.items c.in-Some.group) ∙ sym (ap (last_scope None) (taken c)) ∙ last)
 
@@ -24,4 +25,5 @@ returns-clause-joined c scope last =
 pub returns-clause-there : goal.returns-clause-there
 returns-clause-there c scope last =
     let b = (goal.at.returns-clause-there c).In_ok-push in
-    ap (last_scope None) c.in_ok-push.ensures.items ∙ last_is None c.pop.new.self.items _ ∙ ap (λ s. Some s) (scope_is b scope last)
+    ap (last_scope None) c.in_ok-push.ensures.items ∙ last_is None c.pop.new.self.items _
+    ∙ ap (λ s. Some s) (scope_is b scope last)

@@ -21,6 +21,9 @@ returns-clause-asks c =
     let x = node_view c.args.term.now in
     let old = c.args.self.now in
     let names : named_in scope c.add_names.new.asked.items ≡ term_uses (at_site s) x =
-    c.in_ok-add_names.ensures scope ∙ ap (λ ns. named_in scope ns ++ term_uses (strict s.table scope) x) c.new-names.ensures.items in
-    of_both c.add.result (λ l h. c.add.ensures.added old.space.scopes c.requires h.grouped) (λ l h. c.add.ensures.open old.space.scopes c.requires h.grouped)
-    (λ l h added grouped. uses_held old _ l (at_site s) x h refl refl (added ∙ ap (λ us. uses_of old.uses.list.items ++ us) names) grouped)
+    c.in_ok-add_names.ensures scope
+    ∙ ap (λ ns. named_in scope ns ++ term_uses (strict s.table scope) x) c.new-names.ensures.items in
+    of_both c.add.result (λ l h. c.add.ensures.added old.space.scopes c.requires h.grouped)
+    (λ l h. c.add.ensures.open old.space.scopes c.requires h.grouped)
+    (λ l h added grouped. uses_held old _ l (at_site s) x h refl refl
+    (added ∙ ap (λ us. uses_of old.uses.list.items ++ us) names) grouped)
