@@ -209,6 +209,11 @@ def regions_outside(count, depth):
     return b"\x08" + LEAF + b"\0" + within(depth, b"".join(regions))
 
 
+def connections_outside(count, depth):
+    """A Field in a deep scope, whose connections are Buffers of a size that is a name which nothing declares."""
+    return within(depth, package(b"\x5b\x81", NEAR + b"\x01" + (b"\x02\x11\x05" + LEAF) * count))
+
+
 def deep_names(count, depth):
     return within(depth, named(count))
 
@@ -595,6 +600,8 @@ SHAPES = (
     Shape("maybes-deep", 500, "levels", one(lambda count: maybes(100_000, count)), any_run=True),
     Shape("names-outside", 8_000, "names", one(lambda count: names_outside(count, DEEPEST)), any_run=True),
     Shape("regions-outside", 1_000, "regions", one(lambda count: regions_outside(count, DEEPEST)), any_run=True),
+    Shape("terms-outside", 1_000_000, "names", one(lambda count: names_outside(count, 2 * SEGMENTS)), any_run=True),
+    Shape("connections-outside", 100_000, "names", one(lambda count: connections_outside(count, 9 * SEGMENTS))),
     Shape("again", 2_000_000, "names", again, any_run=True),
     Shape("given", 1_000_000, "lines", given, given=True),
     Shape("given-again", 2_000_000, "lines", given_again, given=True),

@@ -33,8 +33,9 @@ use Rattle.aml_load.specs.Loading.{◌>>=◌, Where, Listed, plus, with_uses, te
 use Rattle.aml_load.specs.Loading.{plain_entry, place_at, entry_at, new_at}
 use Rattle.aml_load.specs.Loading.{units_at, declare_as, declare, declare_inside}
 use Rattle.aml_load.specs.Tables.{Fails}
-use Rattle.aml_load.specs.Groups.{AreGrouped}
-use Rattle.aml_load.proofs.Grouping.{grouped_inside}
+use Rattle.aml_load.specs.declared.groups.Groups.{Groups}
+use Rattle.aml_load.specs.Groups.{AreIn, uses_of}
+use Rattle.aml_load.proofs.Grouping.{open_inside}
 use Rattle.aml_load.specs.Walking.{Holds, IsFree, IsDeclared, KeepsUses, Walked}
 
 pub methods_more : (es : List Entry) (x : Entry) → methods_of (es ++ x ∷ []) ≡ methods_of es ++ methods_of (x ∷ [])
@@ -47,12 +48,10 @@ methods_more (e ∷ es) x = by (method_of e) (methods_more es x)
     by (Some m) more = ap (λ (ms : List Method). m ∷ ms) more
 
 -- the uses are grouped as they were
-grouped_as : (old new : Progress) → KeepsUses old new → AreGrouped old.space.scopes old.uses.items old.groups
-    → AreGrouped new.space.scopes new.uses.items new.groups
-grouped_as old new keeps grouped =
-    subst (λ scopes. AreGrouped scopes new.uses.items new.groups) (sym keeps.scopes)
-    (subst (λ us. AreGrouped old.space.scopes us new.groups) (sym keeps.uses)
-    (subst (AreGrouped old.space.scopes old.uses.items) (sym keeps.groups) grouped))
+grouped_as : (old new : Progress) → KeepsUses old new → AreIn old.space.scopes old.uses
+    → AreIn new.space.scopes new.uses
+grouped_as old new keeps grouped = subst (λ scopes. AreIn scopes new.uses) (sym keeps.scopes)
+    (subst (AreIn old.space.scopes) (sym keeps.uses) grouped)
 
 -- the methods' paths are kept as they were
 kept_as : (old new : Progress) → AreKept old.space old.methods.items → new.space.kept ≡ old.space.kept
@@ -72,7 +71,7 @@ plain_held old new l x none h s ms keeps kept = record {
   kept = kept_as old new h.kept kept ms;
   space = s;
   methods = ms ∙ h.methods ∙ sym (methods_more l.entries x ∙ ap (λ zs. methods_of l.entries ++ zs) none ∙ append-nil (methods_of l.entries));
-  uses = keeps.uses ∙ h.uses;
+  uses = ap (λ (us : Groups). uses_of us.list.items) keeps.uses ∙ h.uses;
   grouped = grouped_as old new keeps h.grouped;
 }
 
@@ -88,26 +87,27 @@ method_held old new l p k b sure m h s ms is keeps kept = record {
   space = s;
   methods = ms ∙ ap (λ xs. xs ++ m ∷ []) h.methods ∙ ap (λ (x : Method). methods_of l.entries ++ x ∷ []) is
       ∙ sym (methods_more l.entries (declares p k (Some b) sure));
-  uses = keeps.uses ∙ h.uses;
+  uses = ap (λ (us : Groups). uses_of us.list.items) keeps.uses ∙ h.uses;
   grouped = grouped_as old new keeps h.grouped;
 }
 
 -- a scope more is open
 pub inside_held : (old new : Progress) (l : Listed) (scope : List Seg) → new.space ≡ with_scopes old.space (old.space.scopes ++ scope ∷ [])
-    → new.methods.items ≡ old.methods.items → new.uses.items ≡ old.uses.items → new.groups ≡ old.groups → Holds old l → Holds new l
-inside_held old new l scope is ms us gs h = record {
+    → new.methods.items ≡ old.methods.items → new.uses ≡ old.uses → Holds old l → Holds new l
+inside_held old new l scope is ms us h = record {
   kept = kept_as old new h.kept (ap (λ (k : Known). k.kept) is) ms;
   space = subst (λ k. StandsFor k l.entries) (sym is) (stands_inside old.space (old.space.scopes ++ scope ∷ []) l.entries h.space);
   methods = ms ∙ h.methods;
-  uses = us ∙ h.uses;
-  grouped = grouped_inside old.space.scopes new.space.scopes scope new.uses.items new.groups (ap (λ (k : Known). k.scopes) is)
-      (subst (λ us. AreGrouped old.space.scopes us new.groups) (sym us) (subst (AreGrouped old.space.scopes old.uses.items) (sym gs) h.grouped));
+  uses = ap (λ (us : Groups). uses_of us.list.items) us ∙ h.uses;
+  grouped = open_inside old.space.scopes new.space.scopes scope new.uses (ap (λ (k : Known). k.scopes) is)
+      (subst (AreIn old.space.scopes) (sym us) h.grouped);
 }
 
 -- the names of a term more
 pub uses_held : (old new : Progress) (l : Listed) (site : Where) (x : Tree) → Holds old l → new.space ≡ old.space
-    → new.methods.items ≡ old.methods.items → new.uses.items ≡ old.uses.items ++ term_uses site x
-    → AreGrouped new.space.scopes new.uses.items new.groups → Holds new (with_uses site l x)
+    → new.methods.items ≡ old.methods.items
+    → uses_of new.uses.list.items ≡ uses_of old.uses.list.items ++ term_uses site x
+    → AreIn new.space.scopes new.uses → Holds new (with_uses site l x)
 uses_held old new l site x h s ms us grouped = record {
   kept = kept_as old new h.kept (ap (λ (k : Known). k.kept) s) ms;
   space = subst (λ k. StandsFor k l.entries) (sym s) h.space;

@@ -1,22 +1,41 @@
--- A stepping stone: which names outside the methods are known to stand in the scope of the one in front.
-use Rattle.std.specs.Prelude.{◌≡◌, ◌<◌, Bool, List, [], ◌∷◌, length, slice_get, Option, Some, None, IfSome}
-use Rattle.std.specs.Bool.{OnTrue}
+-- A stepping stone: the names outside the methods in groups of one scope.
+use Rattle.std.specs.Prelude.{◌≡◌, ℕ, ◌<◌, Bool, List, [], ◌∷◌, length, map as map_list, flat_map, slice_get}
+use Rattle.std.specs.Prelude.{Option, Some, None, IfSome}
+use Rattle.aml_names.specs.declared.names.Name.{Name}
 use Rattle.aml_names.specs.declared.segments.Seg.{Seg}
-use Rattle.aml_load.specs.declared.used.Use.{Use}
+use Rattle.aml_load.specs.declared.used.Asked.{Asked}
+use Rattle.aml_load.specs.declared.uses.Asker.{Asker}
+use Rattle.aml_load.specs.declared.groups.Group.{Group}
 use Rattle.aml_load.specs.declared.groups.Groups.{Groups}
+use Rattle.aml_load.specs.Loading.{Use, use_of, strict}
 
--- the scope of the last of some names, behind one in this scope
-abbrev pub last_scope : Option (List Seg) → List Use → Option (List Seg)
+-- a name that stands in a scope
+abbrev pub use_in : List Seg → Asked → Use
+use_in scope a = record { table = a.table; scope = scope; name = a.name; args = a.args; declaring = a.declaring }
+
+abbrev pub named_in : List Seg → List Asked → List Use
+named_in scope names = map_list (use_in scope) names
+
+-- one that is asked, and there
+abbrev pub asked_as : Asker → Name → ℕ → Asked
+asked_as a n args = record { table = a.table; name = n; args = args; declaring = a.declaring }
+
+abbrev pub asked_by : List Seg → Asker → Name → ℕ → Use
+asked_by scope a = use_of (strict a.table scope) a.declaring
+
+-- the names of groups
+abbrev pub group_uses : Group → List Use
+group_uses g = named_in g.scope g.names.items
+
+abbrev pub uses_of : List Group → List Use
+uses_of gs = flat_map group_uses gs
+
+-- the scope of the last group, behind one of this scope
+abbrev pub last_scope : Option (List Seg) → List Group → Option (List Seg)
 last_scope front [] = front
-last_scope front (u ∷ us) = last_scope (Some u.scope) us
+last_scope front (g ∷ gs) = last_scope (Some g.scope) gs
 
--- of each name it is said whether it stands in the scope of the one in front, and where it is said it does
-abbrev pub AreJoined : Option (List Seg) → List Use → List Bool → Type 0
-AreJoined front [] [] = Unit {0}
-AreJoined front (u ∷ us) (b ∷ bs) = OnTrue b (front ≡ Some u.scope) × AreJoined (Some u.scope) us bs
-AreJoined front _ _ = ⊥
-
--- and the scope of the last one is open at the place that is kept of it
-pub record AreGrouped (scopes : List (List Seg)) (us : List Use) (groups : Groups) : Type 0 where
-  pub joined : AreJoined None us groups.joined.items
-  pub last : IfSome groups.last (λ place. (place < length scopes) × (last_scope None us ≡ slice_get scopes place))
+-- that scope is open at the place that is kept of it
+abbrev pub AreIn : List (List Seg) → Groups → Type 0
+AreIn scopes groups =
+    IfSome groups.last (λ place. (place < length scopes) × (last_scope None groups.list.items ≡ slice_get scopes place))

@@ -33,7 +33,6 @@ use Rattle.aml_namespace.specs.Runs.{outlook_of, sure_at, open_in, agreed_arity,
 use Rattle.aml_load.specs.declared.faults.LoadFault.{LoadFault}
 use Rattle.aml_load.specs.declared.faults.LoadFault.TheVariants as loads
 use Rattle.aml_set.specs.declared.methods.Method.{Method}
-use Rattle.aml_load.specs.declared.used.Use.{Use}
 
 -- the role of an opcode; an opcode that has no row does nothing
 unfoldable pub role_of : ℕ → Role
@@ -90,6 +89,15 @@ declares_by _ = false
 abbrev pub in_declaration : Tree → Bool
 in_declaration (op o w ps r) = unwrap_or (option_map (λ r. declares_by r.group) (row_of o)) false
 in_declaration _ = false
+
+-- A name that stands as a TermArg outside the methods, or as a term there: its table, the scope in which it stands,
+-- with how many arguments it was read, and whether the term around it is a declaration.
+pub record Use : Type 0 where
+  pub table : ℕ
+  pub scope : List Seg
+  pub name : Name
+  pub args : ℕ
+  pub declaring : Bool
 
 -- a name at a site, with so many arguments, in a declaration or not
 abbrev pub use_of : Where → Bool → Name → ℕ → Use

@@ -13,7 +13,7 @@ use Rattle.aml_load.specs.declared.faults.LoadFault.TheVariants as loads
 use Rattle.aml_load.specs.declared.uses.Site.{Site}
 use Rattle.aml_load.specs.declared.walking.Progress.{Progress}
 use Rattle.aml_load.specs.Loading.{Listed, methods_of, Where, parent_of, sure_with}
-use Rattle.aml_load.specs.Groups.{AreGrouped}
+use Rattle.aml_load.specs.Groups.{AreIn, uses_of}
 use Rattle.aml_load.specs.Tables.{Fails}
 use Rattle.aml_code.specs.Tree.{Trees}
 use Rattle.aml_set.specs.declared.tables.Table.{Table}
@@ -30,10 +30,9 @@ IsFree site es p (Ok u) = (not site.any_run && is_some (declared_at es p)) ≡ f
 IsFree site es p (Err e) = (e ≡ loads.NoMemory)
     ⊎ (((not site.any_run && is_some (declared_at es p)) ≡ true) × (e ≡ loads.Space site.table (faults.Duplicate p)))
 
--- the names outside the methods, their groups and the open scopes are as before
+-- the names outside the methods and the open scopes are as before
 pub record KeepsUses (old new : Progress) : Type 0 where
-  pub uses : new.uses.items ≡ old.uses.items
-  pub groups : new.groups ≡ old.groups
+  pub uses : new.uses ≡ old.uses
   pub scopes : new.space.scopes ≡ old.space.scopes
 
 -- What declaring a path made of the progress, whatever entries it held: this entry more, and nothing else; or the fault
@@ -58,8 +57,8 @@ pub record Holds (p : Progress) (l : Listed) : Type 0 where
   pub space : StandsFor p.space l.entries
   pub methods : p.methods.items ≡ methods_of l.entries
   pub kept : AreKept p.space p.methods.items
-  pub uses : p.uses.items ≡ l.uses
-  pub grouped : AreGrouped p.space.scopes p.uses.items p.groups
+  pub uses : uses_of p.uses.list.items ≡ l.uses
+  pub grouped : AreIn p.space.scopes p.uses
 
 -- what a function answered, seen by a view, is what the walk gives, unless memory was refused
 abbrev pub Gives : {X Y : Type 0} → (X → Y) → Result X LoadFault → Result Y LoadFault → Type 0

@@ -1,17 +1,13 @@
 //! The load of tables in their order.
-ghost use Rattle.std.specs.Prelude.{◌≡◌, ◌⊎◌, true, false, [], List, Bool, Err, IfOk, IfErr, IfSome, None, Some};
-ghost use Rattle.std.specs.Prelude.{◌∷◌, Option, length};
+ghost use Rattle.std.specs.Prelude.{◌≡◌, ◌⊎◌, true, false, [], List, Bool, Err, IfOk, IfErr, Some, length};
 ghost use Rattle.aml_names.specs.declared.segments.Seg.{Seg as AnySeg};
-ghost use Rattle.aml_load.specs.declared.used.Use.{Use as AnyUse};
-ghost use Rattle.std.specs.Bool.{OnTrue};
-ghost use Rattle.aml_load.specs.Groups.{AreJoined};
+ghost use Rattle.aml_load.specs.Groups.{group_uses, use_in, uses_of};
 ghost use Rattle.std.specs.Prelude.{nat_eq, ◌≤◌, ◌||◌};
 ghost use Rattle.std.specs.Option.{option_eq};
 ghost use Rattle.aml_code.specs.Tree.{Trees};
 ghost use Rattle.aml_code.specs.View.{nodes_view};
 ghost use Rattle.aml_namespace.specs.Namespace.{given_entries};
 ghost use Rattle.aml_namespace.specs.Known.{StandsFor};
-ghost use Rattle.aml_namespace.specs.Known.{of_paths};
 ghost use Rattle.aml_load.specs.Loading.{Listed, first_listed, most_methods, use_count, call_fault, uses_at};
 ghost use Rattle.aml_load.specs.Tables.{LoadsTo, StopsFor, table_at, tables_at, GivesLoad, GivesSet};
 ghost use Rattle.aml_load.specs.Views.{HoldsLoad, HoldsTables};
@@ -20,8 +16,8 @@ ghost use Rattle.aml_set.specs.Code.{AreCodes, AreShort};
 ghost use Rattle.aml_set.specs.Views.{codes_view, table_codes, table_dumps};
 
 use crate::faults::LoadFault;
-use crate::groups::Groups;
-use crate::used::Use;
+use crate::groups::{Group, Groups};
+use crate::used::Asked;
 use crate::uses::Site;
 use crate::walking::Progress;
 use aml_code::{Locals, NoMemory, Node, Path};
@@ -97,49 +93,25 @@ fn read_tables(
     Ok(())
 }
 
-/// Whether the first of some names is known to stand in the scope of the one in front, and the marks of those behind
-/// it.
-fn first_mark(marks: &[bool]) -> (bool, &[bool])
-    ensures { (front : Option (List AnySeg)) (used : AnyUse) (behind : List AnyUse) →
-        AreJoined front (used ∷ behind) marks.now →
-        OnTrue result.0 (front ≡ Some used.scope) × AreJoined (Some used.scope) behind result.1.now }
+/// The names as one sees them that stands in their scope outside the methods.
+fn names_for<'a>(names: BodyNames<'a>, unknown_zero: bool, asked: &Asked) -> BodyNames<'a>
+    ensures { result ≡ record {
+      known = names.entry.known;
+      method = names.entry.method;
+      unknown_zero = unknown_zero || asked.now.declaring;
+    } }
 {
-    match marks {
-        [] => (false, marks),
-        [joined, behind @ ..] => (*joined, behind),
-    }
-}
-
-/// The names as a name sees them that stands outside the methods: as the one in front did, where it is known to stand
-/// in the same scope.
-fn names_for<'a>(
-    space: &'a Space,
-    last: Option<BodyNames<'a>>,
-    joined: bool,
-    used: &'a Use,
-    unknown_zero: bool,
-) -> BodyNames<'a>
-    requires { IfSome last (λ names. names.known ≡ of_paths space.now) }
-    ensures known { result.known ≡ of_paths space.now }
-    ensures scope { OnTrue joined (IfSome last.entry (λ names. names.method ≡ used.now.scope)) →
-        result.method ≡ used.now.scope }
-    ensures unknown { result.unknown_zero ≡ (unknown_zero || used.now.declaring) }
-{
-    let unknown_zero = unknown_zero || used.declaring;
-    match last {
-        Some(names) if joined => names.with_unknown(unknown_zero),
-        _ => BodyNames::new(space, used.scope.parts(), unknown_zero),
-    }
+    names.with_unknown(unknown_zero || asked.declaring)
 }
 
 /// How many arguments a name takes that stands outside the methods, once all tables are there.
-fn count_of(alloc: Global, names: &BodyNames<'_>, used: &Use) -> Result<Option<u8>, NoMemory>
-    ensures { (l : Listed) (unknown_zero : Bool) → StandsFor names.now.known l.entries →
-        names.now.method ≡ used.now.scope →
-        names.now.unknown_zero ≡ (unknown_zero || used.now.declaring) →
-        IfOk result (λ n. n ≡ use_count unknown_zero l.entries used.now) }
+fn count_of(alloc: Global, names: &BodyNames<'_>, asked: &Asked) -> Result<Option<u8>, NoMemory>
+    ensures { (l : Listed) (scope : List AnySeg) (unknown_zero : Bool) → StandsFor names.now.known l.entries →
+        names.now.method ≡ scope →
+        names.now.unknown_zero ≡ (unknown_zero || asked.now.declaring) →
+        IfOk result (λ n. n ≡ use_count unknown_zero l.entries (use_in scope asked.now)) }
 {
-    names.count(alloc, &Locals::new(alloc), &used.name)
+    names.count(alloc, &Locals::new(alloc), &asked.name)
 }
 
 /// Whether a count is this number.
@@ -153,16 +125,44 @@ fn is_count(args: usize, count: Option<u8>) -> bool
 }
 
 /// The fault of a name that takes another number of arguments than it was read with.
-fn call_fault(alloc: Global, any_run: bool, used: &Use) -> Result<LoadFault, NoMemory>
-    ensures { IfOk result (λ fault. fault ≡ call_fault any_run used.now) }
+fn call_fault(
+    alloc: Global,
+    any_run: bool,
+    scope: &ScopedPath,
+    asked: &Asked,
+) -> Result<LoadFault, NoMemory>
+    ensures { IfOk result (λ fault. fault ≡ call_fault any_run (use_in scope.now asked.now)) }
 {
     if !any_run {
-        return Ok(LoadFault::ModuleCall(used.table));
+        return Ok(LoadFault::ModuleCall(asked.table));
     }
-    match ScopedPath::placed(alloc, &used.scope, &used.name)? {
-        None => Ok(LoadFault::ModuleCall(used.table)),
-        Some(path) => Ok(LoadFault::RunCall(used.table, path.to_path(alloc)?)),
+    match ScopedPath::placed(alloc, scope, &asked.name)? {
+        None => Ok(LoadFault::ModuleCall(asked.table)),
+        Some(path) => Ok(LoadFault::RunCall(asked.table, path.to_path(alloc)?)),
     }
+}
+
+/// Looks at each name of a group.
+#[tactic(auto, unfolding(crate::specs::Loading::uses_at))]
+fn check_group(
+    alloc: Global,
+    space: &Space,
+    any_run: bool,
+    unknown_zero: bool,
+    group: &Group,
+) -> Result<(), LoadFault>
+    ensures { (l : Listed) → StandsFor space.now l.entries →
+        Gives (λ x. x) result (uses_at any_run unknown_zero l.entries (group_uses group.now)) }
+{
+    let mut names = BodyNames::new(space, group.scope.parts(), unknown_zero);
+    for asked in &group.names {
+        names = names_for(names, unknown_zero, asked);
+        let count = count_of(alloc, &names, asked)?;
+        if !is_count(asked.args, count) {
+            return Err(call_fault(alloc, any_run, &group.scope, asked)?);
+        }
+    }
+    Ok(())
 }
 
 /// Looks at each name that stands outside the methods. `ModuleCall` or `RunCall` at the first that takes another number
@@ -173,23 +173,13 @@ fn check_uses(
     space: &Space,
     any_run: bool,
     unknown_zero: bool,
-    uses: &[Use],
-    joined: &[bool],
+    groups: &[Group],
 ) -> Result<(), LoadFault>
-    ensures { (l : Listed) → StandsFor space.now l.entries → AreJoined None uses.now joined.now →
-        Gives (λ x. x) result (uses_at any_run unknown_zero l.entries uses.now) }
+    ensures { (l : Listed) → StandsFor space.now l.entries →
+        Gives (λ x. x) result (uses_at any_run unknown_zero l.entries (uses_of groups.now)) }
 {
-    let mut last: Option<BodyNames<'_>> = None;
-    let mut marks = joined;
-    for used in uses {
-        let (joined, behind) = first_mark(marks);
-        marks = behind;
-        let names = names_for(space, last, joined, used, unknown_zero);
-        let count = count_of(alloc, &names, used)?;
-        last = Some(names);
-        if !is_count(used.args, count) {
-            return Err(call_fault(alloc, any_run, used)?);
-        }
+    for group in groups {
+        check_group(alloc, space, any_run, unknown_zero, group)?;
     }
     Ok(())
 }
@@ -214,8 +204,7 @@ pub fn first_progress(alloc: Global, givens: &[(Path, ArgumentCount)]) -> Result
         alloc,
         space: space_with(alloc, givens)?,
         methods: Vec::new(alloc),
-        uses: Vec::new(alloc),
-        groups: Groups::new(alloc),
+        uses: Groups::new(alloc),
     })
 }
 
@@ -238,8 +227,7 @@ fn load_each<'a>(
         &progress.space,
         any_run,
         unknown_zero,
-        progress.uses.as_slice(),
-        progress.groups.joined.as_slice(),
+        progress.uses.list.as_slice(),
     )?;
     Ok(TableSet {
         tables,

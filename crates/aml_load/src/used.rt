@@ -1,13 +1,11 @@
 //! The names outside methods whose numbers of arguments are compared.
-use aml_names::{Name, ScopedPath};
+use aml_names::Name;
 
 /// A name that stands as a TermArg outside the methods, or as a term there.
 #[derive(Drop)]
-pub struct Use {
+pub struct Asked {
     /// The table, by its place in load order from 0 on.
     pub table: usize,
-    /// The scope in which it stands.
-    pub scope: ScopedPath,
     pub name: Name,
     /// With how many arguments it was read.
     pub args: usize,

@@ -2,12 +2,12 @@
 ghost use Rattle.std.specs.Prelude.{◌≡◌, ◌++◌, ◌∷◌, [], List, OnOk, true, false, cond, length};
 ghost use Rattle.aml_code.specs.View.{node_view, nodes_view, part_view, parts_view, tail_view, field_view, fields_view};
 ghost use Rattle.aml_load.specs.Loading.{is_argument, kinds_in, in_declaration, declares_by, uses_in, all_uses};
-ghost use Rattle.aml_load.specs.Loading.{part_uses, parts_uses, tail_uses, fields_uses, field_uses, term_uses, use_of};
-ghost use Rattle.aml_load.specs.Walking.{at_site};
+ghost use Rattle.aml_load.specs.Loading.{part_uses, parts_uses, tail_uses, fields_uses, field_uses, term_uses, strict};
+ghost use Rattle.aml_load.specs.Groups.{named_in, asked_as, asked_by};
 ghost use Rattle.aml_names.specs.declared.segments.Seg.{Seg as AnySeg};
 ghost use Rattle.aml_space.specs.Near.{IsOpen, IsNear};
 
-use crate::used::Use;
+use crate::used::Asked;
 use aml_code::{Field, Group, Link, NoMemory, Node, Part, PartKind, Tail, listed_row};
 use aml_names::{Name, ScopedPath};
 use aml_space::Near;
@@ -64,42 +64,41 @@ fn declares_by(group: Group) -> bool
     }
 }
 
-fn add_use(
-    site: &Site<'_>,
+/// Whose names are asked.
+#[derive(Clone, Copy)]
+struct Asker {
+    /// The table, by its place in load order from 0 on.
+    table: usize,
+    /// Whether the term around them is a declaration.
     declaring: bool,
-    name: &Name,
-    args: usize,
-    uses: &mut Vec<Use>,
-) -> Result<(), NoMemory>
-    ensures { OnOk result (uses.new.items ≡ uses.old.items ++
-        use_of (at_site site.now) declaring name.now args ∷ []) }
+}
+
+fn add_use(asker: Asker, name: &Name, args: usize, asked: &mut Vec<Asked>) -> Result<(), NoMemory>
+    ensures { OnOk result (asked.new.items ≡ asked.old.items ++ asked_as asker name.now args ∷ []) }
 {
-    let scope = site.scope.clone()?;
     let name = name.clone()?;
-    uses.push(Use {
-        table: site.table,
-        scope,
+    asked.push(Asked {
+        table: asker.table,
         name,
         args,
-        declaring,
+        declaring: asker.declaring,
     })?;
     Ok(())
 }
 
 /// Adds a name that stands as a TermArg or a term.
 fn add_asked(
-    site: &Site<'_>,
-    declaring: bool,
+    asker: Asker,
     argument: bool,
     name: &Name,
     args: usize,
-    uses: &mut Vec<Use>,
+    asked: &mut Vec<Asked>,
 ) -> Result<(), NoMemory>
-    ensures { OnOk result (uses.new.items ≡ uses.old.items ++
-        cond argument (use_of (at_site site.now) declaring name.now args ∷ []) []) }
+    ensures { (scope : List AnySeg) → OnOk result (named_in scope asked.new.items ≡ named_in scope asked.old.items ++
+        cond argument (asked_by scope asker name.now args ∷ []) []) }
 {
     if argument {
-        add_use(site, declaring, name, args, uses)
+        add_use(asker, name, args, asked)
     } else {
         Ok(())
     }
@@ -108,28 +107,25 @@ fn add_asked(
 /// Adds the names of a node, which itself is a TermArg or a term, or isn't.
 #[cycle(uses)]
 fn add_node(
-    site: &Site<'_>,
-    declaring: bool,
+    asker: Asker,
     argument: bool,
     node: &Node,
-    uses: &mut Vec<Use>,
+    asked: &mut Vec<Asked>,
 ) -> Result<(), NoMemory>
-    ensures { OnOk result (uses.new.items ≡ uses.old.items ++
-        (uses_in (use_of (at_site site.now) declaring) argument (node_view node.now))) }
+    ensures { (scope : List AnySeg) → OnOk result (named_in scope asked.new.items ≡ named_in scope asked.old.items ++
+        (uses_in (asked_by scope asker) argument (node_view node.now))) }
 {
     match node {
         Node::Nothing => Ok(()),
-        Node::Named { name, args } => {
-            add_call(site, declaring, argument, name, args.as_slice(), uses)
-        }
+        Node::Named { name, args } => { add_call(asker, argument, name, args.as_slice(), asked) }
         Node::Op {
             opcode,
             parts,
             tail,
             ..
         } => {
-            add_parts(site, declaring, kinds_of(*opcode), parts.as_slice(), uses)?;
-            add_tail(site, declaring, tail, uses)
+            add_parts(asker, kinds_of(*opcode), parts.as_slice(), asked)?;
+            add_tail(asker, tail, asked)
         }
     }
 }
@@ -137,34 +133,32 @@ fn add_node(
 /// Adds a name, if it is a TermArg or a term, and those of its arguments.
 #[cycle(uses)]
 fn add_call(
-    site: &Site<'_>,
-    declaring: bool,
+    asker: Asker,
     argument: bool,
     name: &Name,
     args: &[Node],
-    uses: &mut Vec<Use>,
+    asked: &mut Vec<Asked>,
 ) -> Result<(), NoMemory>
-    ensures { OnOk result (uses.new.items ≡ uses.old.items ++
-        (cond argument (use_of (at_site site.now) declaring name.now (length args.now) ∷ []) [] ++
-        all_uses (use_of (at_site site.now) declaring) true (nodes_view args.now))) }
+    ensures { (scope : List AnySeg) → OnOk result (named_in scope asked.new.items ≡ named_in scope asked.old.items ++
+        (cond argument (asked_by scope asker name.now (length args.now) ∷ []) [] ++
+        all_uses (asked_by scope asker) true (nodes_view args.now))) }
 {
-    add_asked(site, declaring, argument, name, args.len(), uses)?;
-    add_nodes(site, declaring, true, args, uses)
+    add_asked(asker, argument, name, args.len(), asked)?;
+    add_nodes(asker, true, args, asked)
 }
 
 #[cycle(uses)]
 fn add_part(
-    site: &Site<'_>,
-    declaring: bool,
+    asker: Asker,
     argument: bool,
     part: &Part,
-    uses: &mut Vec<Use>,
+    asked: &mut Vec<Asked>,
 ) -> Result<(), NoMemory>
-    ensures { OnOk result (uses.new.items ≡ uses.old.items ++
-        (part_uses (use_of (at_site site.now) declaring) argument (part_view part.now))) }
+    ensures { (scope : List AnySeg) → OnOk result (named_in scope asked.new.items ≡ named_in scope asked.old.items ++
+        (part_uses (asked_by scope asker) argument (part_view part.now))) }
 {
     match part {
-        Part::Child(node) => add_node(site, declaring, argument, node, uses),
+        Part::Child(node) => add_node(asker, argument, node, asked),
         _ => Ok(()),
     }
 }
@@ -172,21 +166,20 @@ fn add_part(
 /// Adds the names of the parts of an opcode, outside the terms behind them.
 #[cycle(uses)]
 fn add_parts(
-    site: &Site<'_>,
-    declaring: bool,
+    asker: Asker,
     kinds: &[PartKind],
     parts: &[Part],
-    uses: &mut Vec<Use>,
+    asked: &mut Vec<Asked>,
 ) -> Result<(), NoMemory>
-    ensures { OnOk result (uses.new.items ≡ uses.old.items ++
-        (parts_uses (use_of (at_site site.now) declaring) kinds.now (parts_view parts.now))) }
+    ensures { (scope : List AnySeg) → OnOk result (named_in scope asked.new.items ≡ named_in scope asked.old.items ++
+        (parts_uses (asked_by scope asker) kinds.now (parts_view parts.now))) }
 {
     let mut left = kinds;
     for part in parts {
         match left {
             [] => return Ok(()),
             [kind, behind @ ..] => {
-                add_part(site, declaring, is_argument(*kind), part, uses)?;
+                add_part(asker, is_argument(*kind), part, asked)?;
                 left = behind;
             }
         }
@@ -195,18 +188,13 @@ fn add_parts(
 }
 
 #[cycle(uses)]
-fn add_tail(
-    site: &Site<'_>,
-    declaring: bool,
-    tail: &Tail,
-    uses: &mut Vec<Use>,
-) -> Result<(), NoMemory>
-    ensures { OnOk result (uses.new.items ≡ uses.old.items ++
-        (tail_uses (use_of (at_site site.now) declaring) (tail_view tail.now))) }
+fn add_tail(asker: Asker, tail: &Tail, asked: &mut Vec<Asked>) -> Result<(), NoMemory>
+    ensures { (scope : List AnySeg) → OnOk result (named_in scope asked.new.items ≡ named_in scope asked.old.items ++
+        (tail_uses (asked_by scope asker) (tail_view tail.now))) }
 {
     match tail {
-        Tail::Elements(nodes) => add_nodes(site, declaring, false, nodes.as_slice(), uses),
-        Tail::Fields(fields) => add_fields(site, declaring, fields.as_slice(), uses),
+        Tail::Elements(nodes) => add_nodes(asker, false, nodes.as_slice(), asked),
+        Tail::Fields(fields) => add_fields(asker, fields.as_slice(), asked),
         _ => Ok(()),
     }
 }
@@ -214,49 +202,38 @@ fn add_tail(
 /// Adds the names of several nodes, all of them TermArgs or none.
 #[cycle(uses)]
 fn add_nodes(
-    site: &Site<'_>,
-    declaring: bool,
+    asker: Asker,
     argument: bool,
     nodes: &[Node],
-    uses: &mut Vec<Use>,
+    asked: &mut Vec<Asked>,
 ) -> Result<(), NoMemory>
-    ensures { OnOk result (uses.new.items ≡ uses.old.items ++
-        (all_uses (use_of (at_site site.now) declaring) argument (nodes_view nodes.now))) }
+    ensures { (scope : List AnySeg) → OnOk result (named_in scope asked.new.items ≡ named_in scope asked.old.items ++
+        (all_uses (asked_by scope asker) argument (nodes_view nodes.now))) }
 {
     for node in nodes {
-        add_node(site, declaring, argument, node, uses)?;
+        add_node(asker, argument, node, asked)?;
     }
     Ok(())
 }
 
 #[cycle(uses)]
-fn add_fields(
-    site: &Site<'_>,
-    declaring: bool,
-    fields: &[Field],
-    uses: &mut Vec<Use>,
-) -> Result<(), NoMemory>
-    ensures { OnOk result (uses.new.items ≡ uses.old.items ++
-        (fields_uses (use_of (at_site site.now) declaring) (fields_view fields.now))) }
+fn add_fields(asker: Asker, fields: &[Field], asked: &mut Vec<Asked>) -> Result<(), NoMemory>
+    ensures { (scope : List AnySeg) → OnOk result (named_in scope asked.new.items ≡ named_in scope asked.old.items ++
+        (fields_uses (asked_by scope asker) (fields_view fields.now))) }
 {
     for field in fields {
-        add_field(site, declaring, field, uses)?;
+        add_field(asker, field, asked)?;
     }
     Ok(())
 }
 
 #[cycle(uses)]
-fn add_field(
-    site: &Site<'_>,
-    declaring: bool,
-    field: &Field,
-    uses: &mut Vec<Use>,
-) -> Result<(), NoMemory>
-    ensures { OnOk result (uses.new.items ≡ uses.old.items ++
-        (field_uses (use_of (at_site site.now) declaring) (field_view field.now))) }
+fn add_field(asker: Asker, field: &Field, asked: &mut Vec<Asked>) -> Result<(), NoMemory>
+    ensures { (scope : List AnySeg) → OnOk result (named_in scope asked.new.items ≡ named_in scope asked.old.items ++
+        (field_uses (asked_by scope asker) (field_view field.now))) }
 {
     match field {
-        Field::Connection(Link::Buffer(node)) => add_node(site, declaring, false, node, uses),
+        Field::Connection(Link::Buffer(node)) => add_node(asker, false, node, asked),
         _ => Ok(()),
     }
 }
@@ -275,9 +252,13 @@ fn in_declaration(term: &Node) -> bool
 }
 
 /// Adds the names that stand as TermArgs in a term, or as the term, outside the terms inside it.
-pub fn add_names(site: &Site<'_>, term: &Node, uses: &mut Vec<Use>) -> Result<(), NoMemory>
-    ensures { OnOk result (uses.new.items ≡ uses.old.items ++
-        term_uses (at_site site.now) (node_view term.now)) }
+pub fn add_names(table: usize, term: &Node, asked: &mut Vec<Asked>) -> Result<(), NoMemory>
+    ensures { (scope : List AnySeg) → OnOk result (named_in scope asked.new.items ≡ named_in scope asked.old.items ++
+        term_uses (strict table scope) (node_view term.now)) }
 {
-    add_node(site, in_declaration(term), true, term, uses)
+    let asker = Asker {
+        table,
+        declaring: in_declaration(term),
+    };
+    add_node(asker, true, term, asked)
 }

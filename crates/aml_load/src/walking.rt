@@ -21,7 +21,6 @@ use crate::faults::LoadFault;
 use crate::groups::Groups;
 use crate::keeping::kept_of;
 use crate::roles::{kind_of, role_of};
-use crate::used::Use;
 use crate::uses::{Site, add_names};
 use aml_code::{Field, Name, NoMemory, Node, Part, Role, Seg, Tail, last_byte, last_name};
 use aml_names::{Path, ScopedPath, front_of};
@@ -38,8 +37,7 @@ pub struct Progress {
     pub alloc: Global,
     pub space: Space,
     pub methods: Vec<Method>,
-    pub uses: Vec<Use>,
-    pub groups: Groups,
+    pub uses: Groups,
 }
 
 /// The last byte of the parts: a method's flags, an External's number of arguments.
@@ -516,7 +514,7 @@ impl Progress {
         ensures fewer { self.new.space.scopes ≡ take count self.old.space.scopes }
     {
         self.space.leave(count);
-        self.groups.close(count);
+        self.uses.close(count);
     }
 }
 
@@ -528,9 +526,9 @@ impl Progress {
             Holds self.new (with_uses (at_site site.now) l (node_view term.now))) }
         ensures stays { OnOk result (Stays self.old self.new) }
     {
-        let before = self.uses.len();
-        add_names(site, term, &mut self.uses)?;
-        self.groups.add(site.place, self.uses.len() - before)
+        let mut names = Vec::new(self.alloc);
+        add_names(site.table, term, &mut names)?;
+        self.uses.add(site.place, site.scope, names)
     }
 }
 

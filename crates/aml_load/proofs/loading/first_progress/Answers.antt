@@ -1,4 +1,4 @@
-use Rattle.std.proofs.Common.{ap, sym, ◌∙◌}
+use Rattle.std.proofs.Common.{ap, refl, sym, ◌∙◌}
 use Rattle.aml_set.specs.Kept.{paths_in}
 use Rattle.aml_load.proofs.Givens.{no_methods}
 use Rattle.aml_load.proofs.loading.first_progress.Goals as goal
@@ -8,9 +8,6 @@ returns c = record {
   space = c.in_ok-space_with.ensures.stands;
   kept = c.in_ok-space_with.ensures.kept ∙ sym (ap paths_in c.new.ensures.items);
   methods = c.new.ensures.items ∙ sym (no_methods c.args.givens.now);
-  uses = c.new-2.ensures.items;
-  grouped = record {
-    joined = rw (c.new-2.ensures.items, c.new-3.ensures.joined) tt;
-    last = rw c.new-3.ensures.last tt;
-  };
+  uses = rw c.new-2.ensures.list refl;
+  grouped = rw c.new-2.ensures.last tt;
 }

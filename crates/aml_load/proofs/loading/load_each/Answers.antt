@@ -1,6 +1,7 @@
 use Rattle.std.proofs.Common.{refl, sym, ap, subst, ◌∙◌}
 use Rattle.std.proofs.lemmas.Result.{err_from_is_err_and}
 use Rattle.aml_namespace.specs.Known.{Known, StandsFor}
+use Rattle.aml_load.specs.Groups.{uses_of}
 use Rattle.aml_load.specs.Loading.{first_listed}
 use Rattle.aml_set.specs.Views.{table_codes, table_terms}
 use Rattle.aml_load.proofs.Loads.{load_gives, load_refused}
@@ -21,12 +22,13 @@ returns-clause-gives c =
     let read = c.in_ok-read_tables.ensures (first_listed gs) c.in_ok-progress.ensures in
     let m = read.2.0 in
     let stands = subst (λ k. StandsFor k m.entries) (sym c.settle.ensures) read.2.1.space in
-    let free = c.in_ok-check_uses.ensures m stands (rw (c.as_slice.ensures.value, c.as_slice-2.ensures.value) read.2.1.grouped.joined) in (
+    let free = c.in_ok-check_uses.ensures m stands in (
       table_terms c.read_tables.new.tables.items,
       m,
       record { tables = read.1; trees = refl; space = stands; methods = read.2.1.methods },
-      load_gives c.args.any_run c.args.unknown_zero gs codes (table_terms c.read_tables.new.tables.items) m c.as_slice.result.now c.in_ok-check_uses.field-0
-          read.2.2 (c.as_slice.ensures.value ∙ read.2.1.uses) free,
+      load_gives c.args.any_run c.args.unknown_zero gs codes (table_terms c.read_tables.new.tables.items) m
+          (uses_of c.as_slice.result.now) c.in_ok-check_uses.field-0 read.2.2
+          (ap uses_of c.as_slice.ensures.value ∙ read.2.1.uses) free,
     )
 
 pub returns-in_err-check_uses-clause-gives : goal.returns-in_err-check_uses-clause-gives
@@ -37,6 +39,6 @@ returns-in_err-check_uses-clause-gives c =
     let gave = err_from_is_err_and c.from_residual-in_err-check_uses.result c.from_residual-in_err-check_uses.ensures.1 in
     rw (gave.1, gave.2)
     (load_refused c.args.any_run c.args.unknown_zero gs (table_codes c.args.tables.items) (table_terms c.read_tables.new.tables.items) m
-    c.as_slice.result.now c.in_err-check_uses.field-0.0 read.2.2 (c.as_slice.ensures.value ∙ read.2.1.uses)
-    (c.in_err-check_uses.ensures m (subst (λ k. StandsFor k m.entries) (sym c.settle.ensures) read.2.1.space)
-    (rw (c.as_slice.ensures.value, c.as_slice-2.ensures.value) read.2.1.grouped.joined)))
+    (uses_of c.as_slice.result.now) c.in_err-check_uses.field-0.0 read.2.2
+    (ap uses_of c.as_slice.ensures.value ∙ read.2.1.uses)
+    (c.in_err-check_uses.ensures m (subst (λ k. StandsFor k m.entries) (sym c.settle.ensures) read.2.1.space)))

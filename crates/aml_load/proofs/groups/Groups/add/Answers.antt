@@ -1,18 +1,27 @@
-use Rattle.std.proofs.Common.{List, ◌++◌, subst, arith}
-use Rattle.std.proofs.lemmas.List.{take_all}
-use Rattle.aml_load.specs.declared.used.Use.{Use}
-use Rattle.aml_load.specs.Groups.{AreGrouped}
-use Rattle.aml_load.proofs.Grouping.{more_grouped}
+use Rattle.std.proofs.Common.{◌≡◌, ◌<◌, ℕ, List, None, Some, IfSome, length, ap, subst, sym, ◌∙◌, rules}
+use Rattle.std.specs.Prelude.{slice_get}
+use Rattle.std.proofs.lemmas.Option.{slice_get_within}
+use Rattle.std.proofs.lemmas.Result.{on_ok_weaker}
+use Rattle.aml_load.specs.Groups.{last_scope}
+use Rattle.aml_load.proofs.Grouping.{last_is}
 use Rattle.aml_load.proofs.groups.Groups.add.Goals as goal
 
-pub loop-name-preserved : goal.loop-name-preserved
-loop-name-preserved c scopes uses more le all grouped =
-    more_grouped scopes uses more c.loop-name._name c.args.place c.loop-name.self c.push.new.self
-    (λ us u stands here. c.in_ok-push.ensures scopes us u stands here) (omega (arith, le)) all
-    (c.loop-name.invariant scopes uses more (omega (arith, le)) all grouped)
+pub returns-then-eq-clause-open : goal.returns-then-eq-clause-open
+returns-then-eq-clause-open c scopes stands are =
+    let place = c.args.place in
+    let scope = c.args.scope.now in
+    let old = last_scope None c.args.self.now.list.items in
+    let new = last_scope None c.join.new.self.list.items in
+    let known : c.args.self.now.last ≡ Some place = search rules in
+    let last = (subst (λ at. IfSome at (λ n. (n < length scopes) × (old ≡ slice_get scopes n))) known are).1 ∙ stands in
+    on_ok_weaker c.join.result (λ there. subst (λ at. IfSome at (λ n. (n < length scopes) × (new ≡ slice_get scopes n)))
+    (sym (c.join.ensures.last ∙ known)) (slice_get_within scopes place scope stands, there ∙ sym stands))
+    (c.join.ensures.there scope last)
 
-pub returns : goal.returns
-returns c scopes uses more as_many all grouped =
-    subst (λ (ms : List Use). AreGrouped scopes (uses ++ ms) c.loop-name.self)
-    (take_all c.loop-name._name more (omega (arith, as_many, c.loop-name-test.false, c.loop-name.auto)))
-    (c.loop-name.invariant scopes uses more (omega (arith, as_many, c.loop-name-test.false, c.loop-name.auto)) all grouped)
+pub returns-clause-open : goal.returns-clause-open
+returns-clause-open c scopes stands are =
+    let same : c.in_ok-scope.scope ≡ c.args.scope.now = search rules in (
+      slice_get_within scopes c.args.place c.args.scope.now stands,
+      ap (last_scope None) c.in_ok-push.ensures.items ∙ last_is None c.args.self.now.list.items _
+          ∙ ap (λ s. Some s) same ∙ sym stands,
+    )

@@ -14,7 +14,7 @@ returns-clause-walks c l h = (
   plain_held c.args.self.now _ l (external c.args.path.now.path c.args.count) refl h
       (subst (λ p. StandsFor c.put_external.new.self (l.entries ++ external p c.args.count ∷ [])) c.parts.ensures
       (c.in_ok-put_external.ensures.stands l.entries h.space)) refl
-      (record { uses = refl; groups = refl; scopes = ap (λ (k : Known). k.scopes) c.in_ok-put_external.ensures.ok })
+      (record { uses = refl; scopes = ap (λ (k : Known). k.scopes) c.in_ok-put_external.ensures.ok })
       (ap (λ (k : Known). k.kept) c.in_ok-put_external.ensures.ok),
   refl,
 )

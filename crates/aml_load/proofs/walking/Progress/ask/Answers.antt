@@ -1,23 +1,29 @@
-use Rattle.std.proofs.Common.{ap, length, refl, sym, subst, arith}
-use Rattle.std.proofs.lemmas.List.{length-append}
-use Rattle.std.proofs.lemmas.Result.{on_ok_weaker}
+use Rattle.std.specs.Prelude.{OnOk}
+use Rattle.std.proofs.Common.{Result, Ok, Err, ◌≡◌, ◌++◌, ap, refl, ◌∙◌}
 use Rattle.aml_code.specs.View.{node_view}
-use Rattle.aml_load.specs.Groups.{AreGrouped}
-use Rattle.aml_load.specs.Loading.{term_uses}
+use Rattle.aml_load.specs.Groups.{named_in, uses_of}
+use Rattle.aml_load.specs.Loading.{Listed, term_uses, strict}
 use Rattle.aml_load.specs.Walking.{at_site}
-use Rattle.aml_load.proofs.Grouping.{all_inside}
 use Rattle.aml_load.proofs.Holding.{uses_held}
 use Rattle.aml_load.proofs.walking.Progress.ask.Goals as goal
 
+-- two clauses of one call, of whatever is held
+of_both : {T E : Type 0} (r : Result T E) {Held New : Listed → Type 0} {A B : Type 0}
+    → ((l : Listed) → Held l → OnOk r A) → ((l : Listed) → Held l → OnOk r B) → ((l : Listed) → Held l → A → B → New l)
+    → OnOk r ((l : Listed) → Held l → New l)
+of_both (Ok x) a b new = λ l h. new l h (a l h) (b l h)
+of_both (Err e) a b new = tt
+
 pub returns-clause-asks : goal.returns-clause-asks
 returns-clause-asks c =
-    let site = at_site c.args.site.now in
+    let s = c.args.site.now in
+    let scope = s.scope.now in
     let x = node_view c.args.term.now in
     let old = c.args.self.now in
-    let more = term_uses site x in
-    let added = c.in_ok-add_names.ensures in
-    on_ok_weaker c.add.result (λ adds l h. uses_held old _ l site x h refl refl added
-    (subst (λ us. AreGrouped old.space.scopes us c.add.new.self) (sym added)
-    (adds old.space.scopes old.uses.items more
-    (omega (arith, c.len.ensures, c.len-before.ensures, ap length added, length-append old.uses.items more))
-    (all_inside old.space.scopes c.args.site.now.place site x c.requires) h.grouped))) c.add.ensures
+    let names : named_in scope c.add_names.new.asked.items ≡ term_uses (at_site s) x =
+    c.in_ok-add_names.ensures scope
+    ∙ ap (λ ns. named_in scope ns ++ term_uses (strict s.table scope) x) c.new-names.ensures.items in
+    of_both c.add.result (λ l h. c.add.ensures.added old.space.scopes c.requires h.grouped)
+    (λ l h. c.add.ensures.open old.space.scopes c.requires h.grouped)
+    (λ l h added grouped. uses_held old _ l (at_site s) x h refl refl
+    (added ∙ ap (λ us. uses_of old.uses.list.items ++ us) names) grouped)

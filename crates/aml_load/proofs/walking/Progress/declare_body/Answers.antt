@@ -33,7 +33,15 @@ returns-clause-walks c l h =
     let more = l.entries ++ e ∷ [] in
     let stands = subst (λ known. StandsFor known more) (sym c.in_ok-keep.ensures.ok) (stands_kept _ _ more d.1) in (
       plus l e,
-      method_held c.args.self.now _ l p k b (sure_here site l.entries p) _ h stands (c.in_ok-push.ensures.items ∙ ap (λ xs. xs ++ record { path = p; table = site.table; start = c.args.start; len = c.args.len; flags = c.args.flags } ∷ []) d.2) refl (record { uses = d.3.uses; groups = d.3.groups; scopes = ap (λ (k : Known). k.scopes) c.in_ok-keep.ensures.ok ∙ d.3.scopes })
+      method_held c.args.self.now _ l p k b (sure_here site l.entries p) _ h stands
+          (c.in_ok-push.ensures.items ∙ ap (λ xs. xs ++ record {
+            path = p;
+            table = site.table;
+            start = c.args.start;
+            len = c.args.len;
+            flags = c.args.flags;
+          } ∷ []) d.2) refl
+          (record { uses = d.3.uses; scopes = ap (λ (k : Known). k.scopes) c.in_ok-keep.ensures.ok ∙ d.3.scopes })
           (ap (λ (k : Known). k.kept) c.in_ok-keep.ensures.ok ∙ (λ i. d.4 i ++ c.parts.ensures i ∷ [])),
       entry_free site l p e d.0,
     )
