@@ -306,8 +306,11 @@ tell_plain-returns-clause-told g t c =
       (
         plain_is (scope_of c.args.self.now.scope) _ row _ _ _ parts.0 c.tell_parts.new.locals.paths _ c.in_ok-label.rest.now parts.1.0
             (c.in_ok-declare_told.ensures.declared parts.0 empty parts.1.1.0.0 refl),
-        (refl, told_op _ g.met.S.Sink.further c.args.here.level _ _ _ _ _ _ (Some row) _ None parts.0 empty c.requires.listed parts.1.1.0.1
-          c.in_ok-tell.ensures parts.1.1.1 c.in_ok-tell-2.ensures c.in_ok-tell-3.ensures),
+        (
+          refl,
+          told_op _ g.met.S.Sink.further c.args.here.level _ _ _ _ _ _ (Some row) _ None parts.0 empty c.requires.listed parts.1.1.0.1
+              c.in_ok-tell.ensures parts.1.1.1 c.in_ok-tell-2.ensures c.in_ok-tell-3.ensures,
+        ),
       ),
     )
 
@@ -324,8 +327,11 @@ tell_packed-returns-clause-told g t c =
             c.in_ok-guard_of.field-0 parts.0 c.tell_parts.new.locals.paths c.in_ok-label.rest.now tail.0 c.tell_tail.new.locals.paths _
             c.in_ok-width.ensures.exact (search rules) (rw ends at parts.1.0) (rw ends at tail.1.0)
             (c.in_ok-declare_told.ensures.declared parts.0 tail.0 parts.1.1.0.0 (ap (map plain_name) c.as_slice.ensures.value ∙ tail.1.1.0)),
-        (refl, told_op _ g.met.S.Sink.further c.args.here.level _ _ _ _ _ _ (Some row) _ (Some c.in_ok-width.width) parts.0 tail.0 c.requires.listed parts.1.1.0.1
-          c.in_ok-tell.ensures parts.1.1.1 c.in_ok-tell-2.ensures tail.1.1.1),
+        (
+          refl,
+          told_op _ g.met.S.Sink.further c.args.here.level _ _ _ _ _ _ (Some row) _ (Some c.in_ok-width.width) parts.0 tail.0 c.requires.listed parts.1.1.0.1
+              c.in_ok-tell.ensures parts.1.1.1 c.in_ok-tell-2.ensures tail.1.1.1,
+        ),
       ),
     )
 
