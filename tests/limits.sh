@@ -142,8 +142,9 @@ for set in sets/*; do
 done
 
 # No contract speaks of what a run costs. With --check no text is written, which may be long.
-for shape in names-outside regions-outside; do
-    if PYTHONDONTWRITEBYTECODE=1 PYTHONPATH=$top/bench python3 - "$program" "$shape" <<'END'; then
+# Each shape stands with the bytes of memory that a byte of it may take.
+for bound in names-outside=128 regions-outside=128 terms-outside=64 connections-outside=64; do
+    if PYTHONDONTWRITEBYTECODE=1 PYTHONPATH=$top/bench python3 - "$program" "${bound%=*}" "${bound#*=}" <<'END'; then
 import pathlib
 import sys
 
@@ -151,13 +152,13 @@ import hostile
 import hostile_shapes
 import runs
 
-MOST_SECONDS, STARTED_BYTES, BYTES_A_BYTE = 2, 40_000_000, 128
+MOST_SECONDS, STARTED_BYTES = 2, 40_000_000
 
-program, name = sys.argv[1:]
+program, name, bytes_a_byte = sys.argv[1:]
 shape = next(it for it in hostile_shapes.SHAPES if it.name == name)
 folder = pathlib.Path("shapes") / name
 hostile.write(folder, shape.make, shape.size)
-most_bytes = STARTED_BYTES + BYTES_A_BYTE * sum(file.stat().st_size for file in folder.iterdir())
+most_bytes = STARTED_BYTES + int(bytes_a_byte) * sum(file.stat().st_size for file in folder.iterdir())
 command = [program, "--workers", "1", "--check", *shape.options(folder), "."]
 _, seconds, peak, status = runs.run(command, folder, 60) or (60, 60, 0, None)
 if status not in (0, 3) or seconds > MOST_SECONDS or peak > most_bytes:
