@@ -1,5 +1,5 @@
 //! The lines of a body that are told as it is read.
-ghost use Rattle.std.specs.Prelude.{◌≤◌, length};
+ghost use Rattle.std.specs.Prelude.{◌≤◌, ⊤, length};
 
 use super::fixtures::Bare;
 use aml_code::{CodeFault, Path, Sink, Telling};
