@@ -153,7 +153,8 @@ fn declare_segments(
     locals: &mut BodyLocals,
 ) -> Result<(), NoMemory>
     requires { AreOf locals.old scope.now }
-    ensures declared { OnOk result (locals.new.paths ≡ with_names scope.now locals.old.paths (map plain_name segs.now)) }
+    ensures declared { OnOk result (locals.new.paths
+        ≡ with_names scope.now locals.old.paths (map plain_name segs.now)) }
     ensures own { AreOf locals.new scope.now }
 {
     for seg in segs {
