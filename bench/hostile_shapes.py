@@ -238,6 +238,18 @@ def deep_devices(count, depth):
     return within(depth, b"".join(devices))
 
 
+def deep_owners(count, depth, own):
+    """A method there, and Devices with a method each, in a Device of so many segments."""
+    devices = (package(b"\x5b\x82", segment(number) + method(RUN, 0, b"")) for number in range(count))
+    return within(depth, main_method(b"") + within(own, b"".join(devices)))
+
+
+def deep_pairs(count, depth):
+    """Devices there, each with a Device with a method."""
+    pair = device(method(RUN, 0, b""))
+    return within(depth, b"".join(package(b"\x5b\x82", segment(number) + pair) for number in range(count)))
+
+
 def deep_returns(count, depth):
     """Names there, each behind a Scope of a Device at the root with such a name."""
     names = (b"\x08" + segment(number) + b"\0" for number in range(count))
@@ -551,6 +563,9 @@ SHAPES = (
     Shape("deep-methods", 2_000, "methods", one(lambda count: deep_methods(count, 10_000))),
     Shape("deep-methods-left", 2_000, "methods", one(lambda count: deep_methods_left(count, 10_000))),
     Shape("deep-devices", 2_000, "devices", one(lambda count: deep_devices(count, 10_000))),
+    Shape("deep-owners", 10_000, "devices", one(lambda count: deep_owners(count, 504 * SEGMENTS, 16))),
+    Shape("deep-owners-run", 5_000, "devices", one(lambda count: deep_owners(count, 503 * SEGMENTS, SEGMENTS)), any_run=True),
+    Shape("deep-pairs", 1_000, "devices", one(lambda count: deep_pairs(count, 504 * SEGMENTS))),
     Shape("deep-returns", 2_000, "names", one(lambda count: deep_returns(count, 10_000))),
     Shape("deep-aliases-upward", 2_000, "names", one(lambda count: deep_aliases_upward(count, 10_000))),
     Shape("deep-scopes-upward", 2_000, "terms", one(lambda count: deep_scopes_upward(count, 10_000))),

@@ -143,7 +143,8 @@ done
 
 # No contract speaks of what a run costs. With --check no text is written, which may be long.
 # Each shape stands with the bytes of memory that a byte of it may take.
-for bound in names-outside=128 regions-outside=128 terms-outside=64 connections-outside=64; do
+for bound in names-outside=128 regions-outside=128 terms-outside=64 connections-outside=64 \
+    deep-owners=64 deep-owners-run=128 deep-pairs=64; do
     if PYTHONDONTWRITEBYTECODE=1 PYTHONPATH=$top/bench python3 - "$program" "${bound%=*}" "${bound#*=}" <<'END'; then
 import pathlib
 import sys

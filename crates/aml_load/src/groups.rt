@@ -58,7 +58,7 @@ impl Groups {
         &mut self,
         place: usize,
         scope: &ScopedPath,
-        names: Vec<Asked>,
+        mut names: Vec<Asked>,
     ) -> Result<(), NoMemory>
         ensures added { (scopes : List (List AnySeg)) → IsOpen scopes place scope.now → AreIn scopes self.old →
             OnOk result (uses_of self.new.list.items ≡ uses_of self.old.list.items ++ named_in scope.now names.items) }
@@ -72,6 +72,8 @@ impl Groups {
             return self.join(names);
         }
         let scope = scope.clone()?;
+        // Where scopes take turns, most groups have one name.
+        names.shrink_to_fit();
         self.list.push(Group { scope, names })?;
         self.last = Some(place);
         Ok(())

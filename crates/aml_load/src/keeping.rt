@@ -1,36 +1,47 @@
-//! Whether something is kept of terms by the path of the scope in which they stand. It decides over memory alone: how
-//! much of the path is copied when the scope is opened.
+//! How much is kept of terms by the path of the scope in which they stand. It decides over memory alone: whether the path
+//! is copied when the scope is opened.
 
 use crate::roles::role_of;
 use aml_code::{Node, Part, Role, Tail};
-use aml_space::Keeps;
+use aml_names::ScopedPath;
 
-/// What may be kept in the scope of these terms, or of one right inside it: a method's path, what an Alias names, the
-/// scope of a name that is looked at when all tables are there.
-pub fn kept_of(terms: &[Node]) -> Keeps {
+/// How many segments a name has at most (ACPI 6.5, 20.2.2).
+const MOST_SEGMENTS: usize = 255;
+
+/// How many paths are kept in the scope of these terms and in those right inside it, at most: of methods, of what an
+/// Alias names, of the scopes of names that are looked at when all tables are there.
+pub fn most_kept(terms: &[Node]) -> usize {
+    let mut most: usize = 0;
     for term in terms {
-        if keeps_its_scope(term) || keeps_inside(term) {
-            return Keeps::Something;
-        }
+        most = most.saturating_add(most_kept_by(term));
     }
-    Keeps::Nothing
+    most
 }
 
-/// Whether something may be kept right inside a term.
-fn keeps_inside(term: &Node) -> bool {
-    match term {
-        Node::Op {
-            tail: Tail::Terms(terms),
-            ..
-        } => {
-            for inner in terms {
-                if keeps_its_scope(inner) {
-                    return true;
-                }
-            }
-            false
+/// Those of a term, and of the terms right inside it.
+fn most_kept_by(term: &Node) -> usize {
+    let mut most = usize::from(keeps_its_scope(term));
+    if let Node::Op {
+        tail: Tail::Terms(terms),
+        ..
+    } = term
+    {
+        for inner in terms {
+            most = most.saturating_add(usize::from(keeps_its_scope(inner)));
         }
-        _ => false,
+    }
+    most
+}
+
+/// Those in the terms of a tail, also where these aren't read yet: no path is kept of fewer than seven bytes, as a
+/// method's is. That is far too many where most of the bytes are in a scope further inside, so a scope with no more
+/// segments of its own than a name has is taken to keep none.
+pub fn most_kept_in(tail: &Tail, path: &ScopedPath) -> usize {
+    let (_, own) = path.parts().slices();
+    match tail {
+        Tail::Terms(terms) => most_kept(terms.as_slice()),
+        Tail::Body { len, .. } if own.len() > MOST_SEGMENTS => *len as usize / 7,
+        _ => 0,
     }
 }
 

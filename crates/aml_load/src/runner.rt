@@ -15,6 +15,7 @@ ghost use Rattle.aml_load.specs.Runner.{run_site, IsWithin, IsEntered};
 ghost use Rattle.aml_load.specs.Runner.{HasRoomInside, IsOn, IsThere, Steps, Enters, Opens, Runs, RunsAll, RunsTable};
 
 use crate::faults::LoadFault;
+use crate::keeping::most_kept_in;
 use crate::roles::{kind_of, role_of};
 use crate::uses::Site;
 use crate::walking::Progress;
@@ -24,7 +25,7 @@ use aml_code::{
 };
 use aml_names::ScopedPath;
 use aml_parse::{next_position, read_step};
-use aml_space::{BodyNames, Keeps, Kind, PlacedPath, SpaceFault};
+use aml_space::{BodyNames, Kind, PlacedPath, SpaceFault};
 use std::alloc::Global;
 
 /// The most levels of terms inside each other.
@@ -58,12 +59,13 @@ impl RunSite {
         }
     }
 
-    /// Under a path, which is opened.
+    /// Under a path, which is opened, and in which so many paths are kept at most.
     fn under(
         &self,
         progress: &mut Progress,
         path: &PlacedPath,
         sure: bool,
+        most: usize,
     ) -> Result<RunSite, LoadFault>
         requires inside { IsWithin progress.old self.now }
         requires below { IsBelow path.now.front self.now.scope path.now.path }
@@ -77,7 +79,7 @@ impl RunSite {
         ensures opens { IfOk result (λ inner. IsEntered progress.old.space.scopes progress.new inner) }
     {
         let place = progress.space.open_scopes();
-        let scope = progress.open_scope(&self.site(), path, Keeps::Perhaps)?;
+        let scope = progress.open_scope(&self.site(), path, most)?;
         Ok(RunSite {
             table: self.table,
             scope,
@@ -282,6 +284,7 @@ impl Progress {
         here: &RunSite,
         name: Option<&Name>,
         kind: Kind,
+        tail: &Tail,
     ) -> Result<RunSite, LoadFault>
         requires { IsWithin self.old here.now }
         ensures comes { Comes self.old self.new here.now result (λ f. object_at f (option_copied name.entry) kind) }
@@ -294,12 +297,17 @@ impl Progress {
             .is_declared(path.near(site.place), &path.path.parts());
         let sure = self.is_sure_here(&site, &path, None) && !declared;
         self.declare(&site, &path, kind)?;
-        here.under(self, &path, sure)
+        here.under(self, &path, sure, most_kept_in(tail, &path.path))
     }
 
     /// Opens the path of a Scope.
     #[tactic(auto, unfolding(crate::specs::Running::scope_at))]
-    fn enter_scope(&mut self, here: &RunSite, name: Option<&Name>) -> Result<RunSite, LoadFault>
+    fn enter_scope(
+        &mut self,
+        here: &RunSite,
+        name: Option<&Name>,
+        tail: &Tail,
+    ) -> Result<RunSite, LoadFault>
         requires { IsWithin self.old here.now }
         ensures comes { Comes self.old self.new here.now result (λ f. scope_at f (option_copied name.entry)) }
         ensures opens { IfOk result (λ inner. IsEntered self.old.space.scopes self.new inner) }
@@ -311,7 +319,7 @@ impl Progress {
             && self
                 .space
                 .is_scope(path.near(site.place), &path.path.parts());
-        here.under(self, &path, sure)
+        here.under(self, &path, sure, most_kept_in(tail, &path.path))
     }
 
     /// Does what the role of a term does that opens nothing.
@@ -372,8 +380,13 @@ impl Progress {
         ensures opens { IfOk result (λ inner. IsEntered self.old.space.scopes self.new inner) }
     {
         match role {
-            Role::Declares(object) => self.enter_object(here, last_name(parts), kind_of(object)),
-            Role::Scope => self.enter_scope(here, last_name(parts)),
+            Role::Declares(object) => self.enter_object(
+                here,
+                last_name(parts),
+                kind_of(object),
+                tail,
+            ),
+            Role::Scope => self.enter_scope(here, last_name(parts), tail),
             Role::Guard | Role::Other => here.also(false),
             _ => self.enter_flat(here, role, parts, tail),
         }

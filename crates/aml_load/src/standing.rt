@@ -16,6 +16,7 @@ ghost use Rattle.aml_load.specs.Walking.{at_site, Holds, IsInside, Stays};
 ghost use Rattle.aml_space.specs.Near.{IsBelow};
 
 use crate::faults::LoadFault;
+use crate::keeping::most_kept_in;
 use crate::loading::first_progress;
 use crate::roles::{kind_of, role_of};
 use crate::runner::RunSite;
@@ -23,7 +24,7 @@ use crate::uses::Site;
 use crate::walking::Progress;
 use aml_code::{NoMemory, Node, Part, Path, Role, Tail, last_name};
 use aml_names::{ArgumentCount, ScopedPath};
-use aml_space::{Keeps, PlacedPath};
+use aml_space::PlacedPath;
 use std::alloc::Global;
 
 /// A term of a table outside the methods' bodies, and where it stands.
@@ -150,7 +151,7 @@ fn find_below<'a>(
     ensures stays { OnOk result (Stays progress.old progress.new) }
 {
     let place = progress.space.open_scopes();
-    let scope = progress.open_scope(site, path, Keeps::Something)?;
+    let scope = progress.open_scope(site, path, most_kept_in(tail, &path.path))?;
     find_inside(
         progress,
         &Site {

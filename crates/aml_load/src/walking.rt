@@ -19,13 +19,13 @@ ghost use Rattle.aml_load.specs.Walking.{source_paths, sure_of};
 
 use crate::faults::LoadFault;
 use crate::groups::Groups;
-use crate::keeping::kept_of;
+use crate::keeping::most_kept;
 use crate::roles::{kind_of, role_of};
 use crate::uses::{Site, add_names};
 use aml_code::{Field, Name, NoMemory, Node, Part, Role, Seg, Tail, last_byte, last_name};
 use aml_names::{Path, ScopedPath, front_of};
 use aml_set::Method;
-use aml_space::{Keeps, Kind, Near, PlacedPath, Source, Space, SpaceFault, Target};
+use aml_space::{Kind, Near, PlacedPath, Source, Space, SpaceFault, Target};
 use std::alloc::Global;
 
 /// The most methods that a set of tables may have.
@@ -489,15 +489,15 @@ impl Progress {
         ensures scope { IfOk result (λ scope. scope ≡ []) }
     {
         let root = ScopedPath::whole(self.alloc, Path::root(self.alloc))?;
-        self.space.enter(Near::root(), &root, Keeps::Something)
+        self.space.enter(Near::root(), &root, 0)
     }
 
-    /// Opens a path as a scope inside those that are open, in which something is to be kept or isn't.
+    /// Opens a path as a scope inside those that are open, in which so many paths are kept at most.
     pub fn open_scope(
         &mut self,
         site: &Site<'_>,
         path: &PlacedPath,
-        keeps: Keeps,
+        most: usize,
     ) -> Result<ScopedPath, NoMemory>
         requires inside { IsInside self.old site.now }
         requires below { IsBelow path.now.front site.now.scope.now path.now.path }
@@ -505,7 +505,7 @@ impl Progress {
         ensures more { OnOk result (self.new.space.scopes ≡ self.old.space.scopes ++ path.now.path ∷ []) }
         ensures scope { IfOk result (λ scope. scope ≡ path.now.path) }
     {
-        self.space.enter(path.near(site.place), &path.path, keeps)
+        self.space.enter(path.near(site.place), &path.path, most)
     }
 
     /// Closes all scopes but so many first ones.
@@ -618,7 +618,7 @@ impl Progress {
             return Ok(());
         }
         let place = self.space.open_scopes();
-        let scope = self.open_scope(site, path, kept_of(terms))?;
+        let scope = self.open_scope(site, path, most_kept(terms))?;
         self.walk_all(
             &Site {
                 table: site.table,

@@ -25,6 +25,9 @@ use std::alloc::Global;
 pub(crate) struct Opened {
     pub scope: ScopedPath,
     pub node: usize,
+    /// How many segments the paths that are kept in it take at most, and those that are kept in the scopes around it of
+    /// which it is no copy.
+    pub owed: usize,
 }
 
 impl Opened {
@@ -34,7 +37,11 @@ impl Opened {
         ensures node { IfOk result (λ root. root.node ≡ 0) }
     {
         let scope = ScopedPath::whole(alloc, Path::root(alloc))?;
-        Ok(Opened { scope, node: 0 })
+        Ok(Opened {
+            scope,
+            node: 0,
+            owed: 0,
+        })
     }
 }
 
@@ -137,31 +144,31 @@ impl<'a> Hints<'a> {
 /// Paths of so many segments are copied: names below them are found the sooner.
 const FEW: usize = 64;
 
-/// Whether something is to be kept in a scope, as a method's path is, which then has the scope's own segments too.
-#[derive(Clone, Copy)]
-pub enum Keeps {
-    Something,
-    Nothing,
-    /// It isn't known yet.
-    Perhaps,
-}
+/// The path of a scope itself stands so often while the scope is open.
+const OPEN: usize = 3;
 
-impl Keeps {
-    /// How many segments of its own such a scope has at most if it isn't copied. With fewer the copies of scopes that
-    /// are open, one inside the other, take more memory, and with more what is kept does.
-    fn most_own(self) -> usize {
-        match self {
-            Keeps::Something => 16,
-            Keeps::Perhaps => 255,
-            Keeps::Nothing => 2047,
-        }
-    }
-}
-
-/// Whether a path is opened as a scope without a copy.
-fn shares_its_scope(path: &ScopedPath, keeps: Keeps) -> bool {
+/// How many segments the paths that are kept in a scope take at most, `most` of them, where each has the scope's own.
+/// The scope counts too, and those that are kept in the scopes around it of which it is no copy: so of many scopes, one
+/// inside the other, some are copied, and not each. Nothing where the scope is to be copied, which takes as many
+/// segments as its path has.
+pub(crate) fn owed_in(
+    scopes: &[Opened],
+    near: Near,
+    path: &ScopedPath,
+    most: usize,
+) -> Option<usize> {
     let (front, own) = path.parts().slices();
-    FEW < front.len() && own.len() <= keeps.most_own()
+    let around = match scopes.get(near.place) {
+        None => 0,
+        Some(scope) => scope.owed,
+    };
+    let here = own.len().saturating_mul(most.saturating_add(OPEN));
+    let owed = around.saturating_add(here);
+    if FEW < front.len() && owed <= front.len() {
+        Some(owed)
+    } else {
+        None
+    }
 }
 
 /// How far a path leads with so many first segments that it has in common with a scope. Where that is less than half of
@@ -349,22 +356,22 @@ pub(crate) fn aimed_by(
     }
 }
 
-/// The path by which what stands in a scope is kept, if something is. Where it isn't long, or has many segments of its
-/// own, it is copied, and what is kept by it is found by its node.
+/// The path by which what stands in a scope is kept. It is copied, and what is kept by it is found by its node, or it
+/// keeps the segments of the scope around it.
 pub(crate) fn keep_scope(
     alloc: Global,
     nodes: &[Node],
     opened: &mut Vec<Opened>,
     path: &ScopedPath,
     node: usize,
-    keeps: Keeps,
+    copied: bool,
 ) -> Result<ScopedPath, NoMemory>
     requires opened { AreOpened nodes.now opened.old.items }
     requires node { walk (kids_of nodes.now) 0 path.now ≡ Some node }
     ensures opened { AreOpened nodes.now opened.new.items }
     ensures scope { IfOk result (λ scope. scope ≡ path.now) }
 {
-    if shares_its_scope(path, keeps) {
+    if !copied {
         return path.clone();
     }
     let marked = path.to_scope(alloc)?.marked(opened.len());
@@ -372,6 +379,7 @@ pub(crate) fn keep_scope(
     opened.push(Opened {
         scope: scope.clone()?,
         node,
+        owed: 0,
     })?;
     Ok(scope)
 }

@@ -23,8 +23,8 @@ use crate::ids::PathId;
 use crate::listing::{Rows, list_rows};
 use crate::nodes::Node;
 use crate::opened::{
-    Hints, Keeps, Near, Opened, Source, aimed_by, forget_scope, keep_scope, node_near, reach_along,
-    reach_near,
+    Hints, Near, Opened, Source, aimed_by, forget_scope, keep_scope, node_near, owed_in,
+    reach_along, reach_near,
 };
 use crate::rows::Row;
 use crate::scopes::{NEAR, Scope};
@@ -267,14 +267,14 @@ impl Space {
         self.scopes.len()
     }
 
-    /// Opens a path as a scope inside those that are open, so that what stands there is found by its node. A long
-    /// path with a few segments of its own keeps its scope's, so that nothing is copied: with a very few, if
-    /// something is to be kept in the scope. A refused call changes nothing.
+    /// Opens a path as a scope inside those that are open, so that what stands there is found by its node. `most`: how
+    /// many paths are kept in it at most, as a method's is; where they are few, a long path keeps its scope's segments,
+    /// and nothing is copied. A refused call changes nothing.
     pub fn enter(
         &mut self,
         near: Near,
         path: &ScopedPath,
-        keeps: Keeps,
+        most: usize,
     ) -> Result<ScopedPath, NoMemory>
         requires { IsNear self.old.scopes near path.now }
         ensures ok { OnOk result (self.new ≡ with_scopes self.old (self.old.scopes ++ path.now ∷ [])) }
@@ -286,17 +286,19 @@ impl Space {
         let hints = hints_of!(self);
         let reach = reach_near(self.nodes.as_slice(), hints, near, &parts);
         let node = extend(self.alloc, &mut self.nodes, &parts, reach)?;
+        let owed = owed_in(self.scopes.as_slice(), near, path, most);
         let scope = keep_scope(
             self.alloc,
             self.nodes.as_slice(),
             &mut self.opened,
             path,
             node,
-            keeps,
+            owed.is_none(),
         )?;
         self.scopes.push(Opened {
             scope: scope.clone()?,
             node,
+            owed: owed.unwrap_or(0),
         })?;
         Ok(scope)
     }

@@ -27,7 +27,7 @@ still_known c = known_again c.self.inside.nodes.items c.extend.new.nodes.items c
     c.extend.ensures.index c.extend.ensures.kept c.self.invariant.kept c.extend.ensures.known ∙ c.self.view_is
 
 now_opened : (c : After-keep_scope) → AreOpened c.extend.new.nodes.items c.keep_scope.new.opened.items
-now_opened c = subst (λ ns. AreOpened ns c.keep_scope.new.opened.items) c.as_slice-5.ensures.value c.keep_scope.ensures.opened
+now_opened c = subst (λ ns. AreOpened ns c.keep_scope.new.opened.items) c.as_slice-6.ensures.value c.keep_scope.ensures.opened
 
 pub invariant_of-self-in_err-scope : goal.invariant_of-self-in_err-scope
 invariant_of-self-in_err-scope c = record {
