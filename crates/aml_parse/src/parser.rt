@@ -87,6 +87,7 @@ impl<'a, A: Arity> Parser<'a, A> {
 
     /// The same of a term of whose parts the last name begins at `label`, in a span that ends at `end`, and of whose tail
     /// the named units have these segments.
+    #[inline(always)]
     pub fn declare_told(
         &self,
         role: Role,

@@ -240,6 +240,7 @@ impl<'a, A: Arity> Parser<'a, A> {
     }
 
     /// An opcode without a package length.
+    #[inline(always)]
     #[cycle(telling)]
     fn tell_plain<'b, S: Sink>(
         &self,
@@ -268,6 +269,7 @@ impl<'a, A: Arity> Parser<'a, A> {
     }
 
     /// An opcode with a package length.
+    #[inline(always)]
     #[cycle(telling)]
     #[tactic(auto, unfolding(crate::specs::Reading::packed_at))]
     fn tell_packed<'b, S: Sink>(
@@ -302,6 +304,7 @@ impl<'a, A: Arity> Parser<'a, A> {
     }
 
     /// The parts of these kinds, in order. Answers where the last begins that is a name, too.
+    #[inline(always)]
     #[cycle(telling)]
     fn tell_parts<'b, S: Sink>(
         &self,
@@ -333,6 +336,7 @@ impl<'a, A: Arity> Parser<'a, A> {
     }
 
     /// A part of this kind. Where it is a name, it is kept where it begins.
+    #[inline(always)]
     #[cycle(telling)]
     fn tell_part<'b, S: Sink>(
         &self,

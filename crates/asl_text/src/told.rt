@@ -58,6 +58,7 @@ fn print_called<W: Write>(out: &mut Out<'_, W>, name: &Name, count: u8)
 }
 
 /// What stands before the parts of an opcode of this row.
+#[inline(always)]
 fn print_row_opening<W: Write>(out: &mut Out<'_, W>, row: &OpRow)
     ensures { Prints W.contents out.old out.new (row_opening (Some (row_view row.now)) (length row.now.parts.now)) }
 {
@@ -68,6 +69,7 @@ fn print_row_opening<W: Write>(out: &mut Out<'_, W>, row: &OpRow)
 }
 
 /// What stands behind them.
+#[inline(always)]
 fn print_row_closing<W: Write>(out: &mut Out<'_, W>, row: &OpRow)
     ensures { Prints W.contents out.old out.new (row_closing (Some (row_view row.now)) (length row.now.parts.now)) }
 {
