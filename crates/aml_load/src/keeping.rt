@@ -4,14 +4,19 @@
 use crate::roles::role_of;
 use aml_code::{Node, Part, Role, Tail};
 use aml_names::ScopedPath;
+use aml_space::is_long;
 
 /// How many segments a name has at most (ACPI 6.5, 20.2.2).
 const MOST_SEGMENTS: usize = 255;
 
 /// How many paths are kept in the scope of these terms and in those right inside it, at most: of methods, of what an
-/// Alias names, of the scopes of names that are looked at when all tables are there.
-pub fn most_kept(terms: &[Node]) -> usize {
+/// Alias names, of the scopes of names that are looked at when all tables are there. They aren't counted where the
+/// scope's path isn't long, which is copied anyway.
+pub fn most_kept(path: &ScopedPath, terms: &[Node]) -> usize {
     let mut most: usize = 0;
+    if !is_long(path) {
+        return most;
+    }
     for term in terms {
         most = most.saturating_add(most_kept_by(term));
     }
@@ -36,10 +41,10 @@ fn most_kept_by(term: &Node) -> usize {
 /// Those in the terms of a tail, also where these aren't read yet: no path is kept of fewer than seven bytes, as a
 /// method's is. That is far too many where most of the bytes are in a scope further inside, so a scope with no more
 /// segments of its own than a name has is taken to keep none.
-pub fn most_kept_in(tail: &Tail, path: &ScopedPath) -> usize {
+pub fn most_kept_in(path: &ScopedPath, tail: &Tail) -> usize {
     let (_, own) = path.parts().slices();
     match tail {
-        Tail::Terms(terms) => most_kept(terms.as_slice()),
+        Tail::Terms(terms) => most_kept(path, terms.as_slice()),
         Tail::Body { len, .. } if own.len() > MOST_SEGMENTS => *len as usize / 7,
         _ => 0,
     }

@@ -297,7 +297,7 @@ impl Progress {
             .is_declared(path.near(site.place), &path.path.parts());
         let sure = self.is_sure_here(&site, &path, None) && !declared;
         self.declare(&site, &path, kind)?;
-        here.under(self, &path, sure, most_kept_in(tail, &path.path))
+        here.under(self, &path, sure, most_kept_in(&path.path, tail))
     }
 
     /// Opens the path of a Scope.
@@ -319,7 +319,7 @@ impl Progress {
             && self
                 .space
                 .is_scope(path.near(site.place), &path.path.parts());
-        here.under(self, &path, sure, most_kept_in(tail, &path.path))
+        here.under(self, &path, sure, most_kept_in(&path.path, tail))
     }
 
     /// Does what the role of a term does that opens nothing.

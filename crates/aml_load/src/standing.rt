@@ -151,7 +151,7 @@ fn find_below<'a>(
     ensures stays { OnOk result (Stays progress.old progress.new) }
 {
     let place = progress.space.open_scopes();
-    let scope = progress.open_scope(site, path, most_kept_in(tail, &path.path))?;
+    let scope = progress.open_scope(site, path, most_kept_in(&path.path, tail))?;
     find_inside(
         progress,
         &Site {

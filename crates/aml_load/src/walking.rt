@@ -618,7 +618,7 @@ impl Progress {
             return Ok(());
         }
         let place = self.space.open_scopes();
-        let scope = self.open_scope(site, path, most_kept(terms))?;
+        let scope = self.open_scope(site, path, most_kept(&path.path, terms))?;
         self.walk_all(
             &Site {
                 table: site.table,

@@ -26,6 +26,6 @@ pub use aml_namespace::{
 pub use bodies::{BodyNames, BodyScope};
 pub use faults::SpaceFault;
 pub use listing::Rows;
-pub use opened::{Near, PlacedPath, Source};
+pub use opened::{Near, PlacedPath, Source, is_long};
 pub use rows::Row;
 pub use spaces::Space;

@@ -144,6 +144,12 @@ impl<'a> Hints<'a> {
 /// Paths of so many segments are copied: names below them are found the sooner.
 const FEW: usize = 64;
 
+/// Whether a path is so long that a scope of it may keep the segments of the one around it, where it has any of them.
+pub fn is_long(path: &ScopedPath) -> bool {
+    let (front, _) = path.parts().slices();
+    FEW < front.len()
+}
+
 /// The path of a scope itself stands so often while the scope is open.
 const OPEN: usize = 3;
 
@@ -164,7 +170,7 @@ pub(crate) fn owed_in(
     };
     let here = own.len().saturating_mul(most.saturating_add(OPEN));
     let owed = around.saturating_add(here);
-    if FEW < front.len() && owed <= front.len() {
+    if is_long(path) && owed <= front.len() {
         Some(owed)
     } else {
         None
