@@ -8,9 +8,9 @@ print. They run in a folder with `mine`, the set of docs/listing.md, whose text 
 `boards`, the sets of tests/board.py, and with `examples`; `./acpidis` is the launcher. Then they run once more as the
 commands of an installed program, `acpidis-page` for `examples/page.py`. What README quotes from a source has to stand there.
 README has at most 2,000 words, and docs no more pages and words than they may. Each link leads to a file, and to a heading of
-it. Each contract and definition that docs/work/proofs.md names stands in its crate, each wrong body of a file
-wrong-bodies.goals too, and each name of the sources' kind that a page marks as code stands in some source. Then the manual page
-is looked through by mandoc and groff, each where it is installed, and its options and README's are compared with the
+it. Each contract and definition that docs/work/proofs.md names stands in its crate, each clause that a crate's README names too,
+each wrong body of a file wrong-bodies.goals, and each name of the sources' kind that a page marks as code in some source. Then
+the manual page is looked through by mandoc and groff, each where it is installed, and its options and README's are compared with the
 program's, its words and docs/refusals.md's with the sources'. Last, the scripts that the pages speak of are tried, but with
 --no-scripts. The last line is 'N passed, N failed'.
 """
@@ -223,6 +223,19 @@ def fails_of_proofs():
         yield bool(lacking)
 
 
+def fails_of_crates():
+    """Of each crate, whether it has no README, or one that names a clause which isn't there."""
+    for name in re.findall(r"^(\w+)", (TOP / "crates.txt").read_text(), re.MULTILINE):
+        crate = TOP / "crates" / name
+        text = (crate / "README.md").read_text() if (crate / "README.md").is_file() else ""
+        clauses = {word for words in re.findall(r"\(((?:`\w+`(?:, )?)+)\)", text) for word in re.findall(r"\w+", words)}
+        sources = "\n".join(file.read_text() for file in [*crate.glob("src/**/*.rt"), *crate.glob("specs/*.antt")])
+        lost = clauses - set(re.findall(r"\w+", sources))
+        if not text or lost:
+            print(f"FAILED crates/{name}/README.md: {'it has not ' + ', '.join(sorted(lost)) if lost else 'it is missing'}")
+        yield not text or bool(lost)
+
+
 def words_of_sources():
     """All words of the sources and scripts, and the names of their files."""
     kinds = (
@@ -332,8 +345,8 @@ def fails_of_scripts():
 
 def main():
     fails = [fail for name in PAGES for is_installed in (False, True) for fail in fails_of(f"docs/{name}.md", is_installed)]
-    fails += [*fails_of_readme(), *fails_of_links(), *fails_of_proofs(), *fails_of_names(), *fails_of_goals()]
-    fails += [*fails_of_manual(), *fails_of_words()]
+    fails += [*fails_of_readme(), *fails_of_links(), *fails_of_proofs(), *fails_of_crates(), *fails_of_names()]
+    fails += [*fails_of_goals(), *fails_of_manual(), *fails_of_words()]
     if "--no-scripts" not in sys.argv:
         fails += fails_of_scripts()
     print(f"{fails.count(False)} passed, {fails.count(True)} failed")
