@@ -34,21 +34,18 @@ from compare import PROGRAM  # noqa: E402
 from dumps import Dump  # noqa: E402
 from folders import read_folder  # noqa: E402
 from hostile import mutated  # noqa: E402
+from made_aml import method, packed, table  # noqa: E402
 from made_plain import PlainMaker  # noqa: E402
 from made_sets import sealed  # noqa: E402
 from running import REFUSED, Options, run  # noqa: E402
 from tally import Stopped, Tally  # noqa: E402
-from telling import DEMO, HOSTILE_FILES, PAGES_FILES, RUNS_FILES, method, packed  # noqa: E402
+from telling import DEMO, HOSTILE_FILES, PAGES_FILES, RUNS_FILES  # noqa: E402
 
 ASL, SPLICE, UNPACK, SHOW = (TOP / "examples" / f"{script}.py" for script in ("asl", "splice", "unpack", "show"))
 IASL, ACPIXTRACT = shutil.which("iasl"), shutil.which("acpixtract")
 HEADER, MOST_GROWN, GROWN = 36, 70_000, 150
 NOOP = b"\xA3"
 SAMPLES = {"pages": PAGES_FILES, "hostile": HOSTILE_FILES, "runs": RUNS_FILES, **board.VERSIONS}
-
-
-def table(signature, code, revision=2):
-    return sealed(signature + bytes(4) + bytes([revision]) + b"\0TEST  EXAMPLE \1\0\0\0TEST\1\0\0\0" + code)
 
 
 class Checks(Tally):

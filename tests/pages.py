@@ -15,6 +15,7 @@ program's, its words and docs/refusals.md's with the sources'. Last, the scripts
 --no-scripts. The last line is 'N passed, N failed'.
 """
 
+import itertools
 import os
 import pathlib
 import re
@@ -24,6 +25,7 @@ import sys
 import tempfile
 
 from board import VERSIONS
+from made_aml import table
 
 TOP = pathlib.Path(__file__).resolve().parent.parent
 LISTING = "docs/listing.md"
@@ -52,14 +54,6 @@ if [ "$2" = dead ]; then
 fi
 exec tar -C mine -cf - .
 """
-
-
-def table(signature, code):
-    """A table with this AML and a right checksum."""
-    data = bytearray(signature + (36 + len(code)).to_bytes(4, "little"))
-    data += b"\2\0TEST  EXAMPLE \1\0\0\0TEST\1\0\0\0" + code
-    data[9] = -sum(data) % 256
-    return bytes(data)
 
 
 def make_room(room, is_installed):
@@ -200,21 +194,14 @@ def fails_of_links():
 
 def fails_of_proofs():
     """Of each crate, whether the page of proofs names a contract or a definition that isn't there."""
-    rows = re.findall(r"^\| (`\w+`(?:, `\w+`)*) \| (.*?) \| (.*?) \|(.*)\|$", (TOP / PROOFS).read_text(), re.MULTILINE)
-    rows = [
-        (re.findall(r"\w+", crates), row) for crates, *row in rows if (TOP / "crates" / re.search(r"\w+", crates)[0]).is_dir()
-    ]
+    rows = re.findall(r"^\| (\[`\w+`\]\(.*?\)) \| (.*?) \|(.*)\|$", (TOP / PROOFS).read_text(), re.MULTILINE)
     if len(rows) < 10:
         print(f"FAILED {PROOFS}: it names no crate")
     yield len(rows) < 10
-    for crates, (_, contracts, definitions) in rows:
-        files = [
-            file
-            for crate in crates
-            for kind in ("src/**/*.rt", "specs/*.antt", "proofs/*.antt")
-            for file in (TOP / "crates" / crate).glob(kind)
-        ]
-        text = "\n".join(file.read_text() for file in files)
+    for links, contracts, definitions in rows:
+        crates = re.findall(r"`(\w+)`", links)
+        kinds = itertools.product(crates, ("src/**/*.rt", "specs/*.antt", "proofs/*.antt"))
+        text = "\n".join(file.read_text() for crate, kind in kinds for file in (TOP / "crates" / crate).glob(kind))
         names = [name.split("::")[-1] for name in re.findall(r"`([\w:]+)`", contracts + definitions)]
         form = r"^ *[a-z ()]*\b{0}\b.*?(?: : |[(<])|\b(?:struct|enum|trait|fn|impl) {0}\b|\b{0} for\b"
         lacking = [name for name in names if not re.search(form.format(name), text, re.MULTILINE)]
@@ -238,25 +225,8 @@ def fails_of_crates():
 
 def words_of_sources():
     """All words of the sources and scripts, and the names of their files."""
-    kinds = (
-        "crates/*/src/**/*.rt",
-        "crates/*/specs/*.antt",
-        "crates/*/proofs/**/*.antt",
-        "crates/*/must-fail/*",
-        "crates/*/*.edits",
-    )
-    kinds += (
-        "crates/acpi_cases/std*",
-        "tests/**/*.*",
-        "examples/**/*.*",
-        "bench/*.*",
-        "library/*.*",
-        "acpidis",
-        "build",
-        "install",
-        "package",
-        "test",
-    )
+    kinds = "crates/*/src/**/*.rt crates/*/specs/*.antt crates/*/proofs/**/*.antt crates/*/must-fail/* crates/*/*.edits".split()
+    kinds += "crates/acpi_cases/std* tests/**/*.* examples/**/*.* bench/*.* library/*.* acpidis build install package test".split()
     files = [file for kind in kinds for file in TOP.glob(kind) if file.is_file() and file.suffix not in (".pyc", ".png")]
     return {word for file in files for word in (*re.findall(r"\w+", file.read_text(errors="replace")), *file.parts, file.stem)}
 
