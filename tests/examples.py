@@ -79,14 +79,8 @@ class Tries(Tally):
         (self.room / name / file).write_bytes(table(b"SSDT", code))
 
     def run(self, script, *words, **variables):
-        return subprocess.run(
-            [sys.executable, TOP / "examples" / script, *words],
-            cwd=self.room,
-            env={**os.environ, **variables},
-            capture_output=True,
-            text=True,
-            check=False,
-        )
+        words, how = [sys.executable, TOP / "examples" / script, *words], {"capture_output": True, "text": True, "check": False}
+        return subprocess.run(words, cwd=self.room, env={**os.environ, **variables}, **how)
 
     def row(self, name, run, status, out, *said):
         """This status and standard output, and these lines among those of standard error."""
