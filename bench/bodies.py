@@ -20,19 +20,16 @@ at 1, 4 and 16 MB (a table has at most 16,777,216 bytes), and
   calls    a DSDT and 100 SSDTs of 20 methods, each of which calls those of the next table through Externals
   compiled 1, 4 and 16 tables of about 1 MB that iasl compiled from ASL, where it is installed
 """
-import argparse
-import os
 import pathlib
 import shutil
 import subprocess
-import sys
 import tempfile
-import time
+
+import measuring
 
 MOST_BYTES = 16_777_216
 HEADER_BYTES = 36
 SIZES = {"1": 1 << 20, "4": 4 << 20, "16": MOST_BYTES}
-SECONDS = 60
 
 DENSE = bytes.fromhex("a472606100")
 MIXED = bytes.fromhex(
@@ -63,9 +60,9 @@ def method(name: bytes, flags: int, body: bytes) -> bytes:
     return b"\x14" + package_length(len(content), width) + content
 
 
-def table(code: bytes) -> bytes:
-    """A DSDT of this AML (ACPI 6.5, 5.2.6 and 5.2.11.1)."""
-    head = b"DSDT" + (HEADER_BYTES + len(code)).to_bytes(4, "little") + b"\x02\x00"
+def table(code: bytes, signature: bytes = b"DSDT") -> bytes:
+    """A table of this AML (ACPI 6.5, 5.2.6 and 5.2.11.1)."""
+    head = signature + (HEADER_BYTES + len(code)).to_bytes(4, "little") + b"\x02\x00"
     head += b"BENCH " + b"BODIES  " + (1).to_bytes(4, "little") + b"BNCH" + (1).to_bytes(4, "little")
     whole = bytearray(head + code)
     whole[9] = -sum(whole) & 0xFF
@@ -106,14 +103,14 @@ def nested(levels: int) -> bytes:
 
 
 def calling(number: int, others: int, methods: int) -> bytes:
-    """A table of methods with two arguments, each of which calls one of the next table, which an External names."""
+    """The AML of methods with two arguments, each of which calls one of the next table, which an External names."""
     code = b""
     for index in range(methods):
         code += b"\x15" + segment((number + 1) % others * methods + index) + b"\x08\x02"
     for index in range(methods):
         call = b"\xa4" + segment((number + 1) % others * methods + index) + b"\x68\x69"
         code += method(segment(number * methods + index), 2, call)
-    return table(code)
+    return code
 
 
 # A stretch of a method as firmware has it, and about how many bytes of AML it is.
@@ -147,10 +144,7 @@ def compiled(number: int) -> bytes:
 
 def compiled_set(tables: int):
     """A DSDT and SSDTs that iasl compiles, about 1 MB each."""
-    files = {"dsdt.dat": compiled(0)}
-    for number in range(1, tables):
-        files[f"ssdt{number}.dat"] = compiled(number)
-    return files
+    return {f"ssdt{number}.dat" if number else "dsdt.dat": compiled(number) for number in range(tables)}
 
 
 def one(make):
@@ -158,14 +152,8 @@ def one(make):
 
 
 def calls(tables: int, methods: int):
-    files = {"dsdt.dat": calling(0, tables, methods)}
-    for number in range(1, tables):
-        code = calling(number, tables, methods)
-        bytes_ = bytearray(b"SSDT" + code[4:])
-        bytes_[9] = 0
-        bytes_[9] = -sum(bytes_) & 0xFF
-        files[f"ssdt{number}.dat"] = bytes(bytes_)
-    return files
+    ssdts = {f"ssdt{number}.dat": table(calling(number, tables, methods), b"SSDT") for number in range(1, tables)}
+    return {"dsdt.dat": table(calling(0, tables, methods)), **ssdts}
 
 
 def tables():
@@ -184,89 +172,32 @@ def tables():
             yield f"compiled-{count:02}", lambda count=count: compiled_set(count)
 
 
-def processor_time():
-    """The ticks of all processors since the start, and how many of them a virtual machine's host gave to others."""
-    times = [int(word) for word in pathlib.Path("/proc/stat").read_text().split("\n")[0].split()[1:9]]
-    return sum(times), times[7]
-
-
-def stolen_since(begun):
-    """The share of the processors' time that was given to others since then."""
-    (first_all, first_stolen), (last_all, last_stolen) = begun, processor_time()
-    return (last_stolen - first_stolen) / max(last_all - first_all, 1)
-
-
-def write(folder, make):
-    """Writes a set from a process of its own: a program that is begun later counts this one's peak memory as its own."""
-    child = os.fork()
-    if child == 0:
-        for name, whole in make().items():
-            (folder / name).write_bytes(whole)
-        os._exit(0)
-    os.waitpid(child, 0)
-    sizes = [path.stat().st_size for path in folder.glob("*.dat")]
-    assert max(sizes) <= MOST_BYTES
-    return sum(sizes)
-
-
-def run(command, folder, limit):
-    """Seconds, peak memory in bytes and the status of a program; nothing where it takes too long."""
-    started = time.monotonic()
-    with open(os.devnull, "wb") as sink:
-        child = subprocess.Popen(command, cwd=folder, stdout=sink, stderr=sink)
-        while True:
-            done, status, usage = os.wait4(child.pid, os.WNOHANG)
-            if done:
-                break
-            if time.monotonic() > started + limit:
-                child.kill()
-                os.wait4(child.pid, 0)
-                child.returncode = -9  # already waited for
-                return None
-            time.sleep(0.002)
-    child.returncode = os.waitstatus_to_exitcode(status)
-    return time.monotonic() - started, usage.ru_maxrss * 1024, child.returncode
-
-
 def line(tool, name, size, answer, limit):
     mega = size / 1e6
     if answer is None:
         return f"{name:14} {tool:8} no answer in {limit:g} s"
-    seconds, peak, status = answer
     return (
-        f"{name:14} {tool:8} {seconds:8.3f} s {peak / 1e6:9.1f} MB   "
-        f"{seconds / mega:7.4f} s/MB {peak / size:7.1f} B/B   status {status}"
+        f"{name:14} {tool:8} {answer.seconds:8.3f} s {answer.peak / 1e6:9.1f} MB   "
+        f"{answer.seconds / mega:7.4f} s/MB {answer.peak / size:7.1f} B/B   status {answer.status}"
     )
 
 
 def main():
-    top = pathlib.Path(__file__).resolve().parent.parent
-    words = argparse.ArgumentParser(description=__doc__, formatter_class=argparse.RawDescriptionHelpFormatter)
-    words.add_argument("acpidis", nargs="?", default=str(top / "out/acpidis"))
-    words.add_argument("--only", default="")
-    words.add_argument("--keep")
-    words.add_argument("--seconds", type=float, default=SECONDS)
-    asked = words.parse_args()
-    program = shutil.which(os.path.abspath(asked.acpidis))
-    compiler = shutil.which("iasl")
-    if program is None:
-        print(f"{asked.acpidis} isn't built: only iasl is timed", file=sys.stderr)
-    if compiler is None:
-        print("iasl isn't installed: only acpidis is timed", file=sys.stderr)
+    asked = measuring.command_line(__doc__).parse_args()
+    program, compiler = measuring.tools_of(asked)
     work = pathlib.Path(asked.keep or tempfile.mkdtemp())
     for name, make in tables():
         if asked.only not in name:
             continue
         folder = work / name
-        folder.mkdir(parents=True, exist_ok=True)
-        size = write(folder, make)
+        size = measuring.write(folder, make)
         print(f"{name:14} {size} bytes", flush=True)
         if program:
-            answer = run([program, str(folder)], folder, asked.seconds)
+            answer = measuring.run([program, str(folder)], folder, asked.seconds)
             print(line("acpidis", name, size, answer, asked.seconds), flush=True)
         if compiler:
             files = sorted(path.name for path in folder.glob("*.dat"))
-            answer = run([compiler, "-d", *files], folder, asked.seconds)
+            answer = measuring.run([compiler, "-d", *files], folder, asked.seconds)
             print(line("iasl -d", name, size, answer, asked.seconds), flush=True)
             for listing in folder.glob("*.dsl"):
                 listing.unlink()

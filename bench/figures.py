@@ -16,9 +16,7 @@ The sets:
   101 tables          a DSDT and 100 SSDTs of 20 methods, each of which calls those of the next table through Externals
   one long body       a method of 1 MB: constants, texts, names and stores
 """
-import argparse
 import datetime
-import math
 import os
 import pathlib
 import re
@@ -26,16 +24,14 @@ import shutil
 import subprocess
 import sys
 import tempfile
-import threading
-import time
 from dataclasses import dataclass
 
 import bodies
+import measuring
 import plot
 
-TOP = pathlib.Path(__file__).resolve().parent.parent
-README = TOP / "README.md"
-PICTURE = TOP / "docs/figures.svg"
+README = measuring.TOP / "README.md"
+PICTURE = measuring.TOP / "docs/figures.svg"
 BEGIN, END = "<!-- by bench/figures.py -->\n", "<!-- end -->\n"
 TIME = "/usr/bin/time"
 RUNS = 5
@@ -135,79 +131,47 @@ SETS = (
 
 
 @dataclass
-class Answer:
-    """The shortest time of some runs, the processor time of that run, peak memory in bytes, and the status; no seconds where
-    a run took too long."""
-
-    seconds: float | None
-    processor: float
-    peak: int
-    status: int
-
-
-@dataclass
 class Figures:
-    """What was measured of one set."""
+    """What was measured of one set; no answer where a run took too long."""
 
     name: str
     size: int
-    alone: Answer
-    together: Answer
-    iasl: Answer
+    alone: measuring.Answer | None
+    together: measuring.Answer | None
+    iasl: measuring.Answer | None
 
 
-def run(command, folder, limit):
-    """Seconds, or None where it takes too long, processor seconds, and the status."""
+def best(command, folder, asked):
+    """The shortest of some runs, with its peak memory.
+
+    GNU time begins the command from a small process; else this one's memory would count.
+    """
     with open(folder / "text", "wb") as text, open(folder / "errors", "wb") as errors:
-        started = time.monotonic()
-        child = subprocess.Popen(command, cwd=folder, stdout=text, stderr=errors)
-        stop = threading.Timer(math.inf if limit is None else limit, child.kill)
-        stop.daemon = True
-        if limit is not None:
-            stop.start()
-        _, status, usage = os.wait4(child.pid, 0)
-        seconds = time.monotonic() - started
-        stop.cancel()
-        child.returncode = os.waitstatus_to_exitcode(status)
-        if limit is not None and seconds >= limit:
-            return None, None, None
-        return seconds, usage.ru_utime + usage.ru_stime, child.returncode
-
-
-def peak_of(command, folder):
-    """Peak memory in bytes. GNU time begins the command from a small process; else this one's memory would count."""
-    run([TIME, "-q", "-f", "%M", "-o", "peak", *command], folder, None)
-    return int((folder / "peak").read_text().split()[-1]) * 1024
-
-
-def best(command, folder, runs, limit):
-    answers = []
-    for _ in range(runs):
-        answers.append(run(command, folder, limit))
-        if answers[-1][0] is None:
-            return Answer(None, 0, 0, 0)
-    seconds, processor, status = min(answers)
-    return Answer(seconds, processor, peak_of(command, folder), status)
+        answer = measuring.best(asked.runs, command, folder, asked.seconds, text=text, errors=errors)
+        if answer is None:
+            return None
+        words = [TIME, "-q", "-f", "%M", "-o", "peak", *command]
+        subprocess.run(words, cwd=folder, stdout=text, stderr=errors, check=False)
+    return answer._replace(peak=int((folder / "peak").read_text().split()[-1]) * 1024)
 
 
 def figures_of(name, make, program, asked):
     """The figures of a set, in a folder that is gone afterwards."""
     with tempfile.TemporaryDirectory() as room:
         tables, beside = pathlib.Path(room) / "tables", pathlib.Path(room) / "beside"
-        tables.mkdir()
         beside.mkdir()
-        size = bodies.write(tables, make)
+        size = measuring.write(tables, make)
         files = sorted(shutil.copy(path, beside) for path in tables.iterdir())
         commands = [[program, "--workers", str(count), str(tables)] for count in (1, MOST_WORKERS)]
         commands.append(["iasl", "-d", *(os.path.basename(file) for file in files)])
-        return Figures(name, size, *(best(command, beside, asked.runs, asked.seconds) for command in commands))
+        return Figures(name, size, *(best(command, beside, asked) for command in commands))
 
 
 # ---- the section of README
 
 
 def seconds_text(answer, limit):
-    if answer.seconds is None:
+    if answer is None:
         return f"no answer in {limit:g} s"
     return f"{answer.seconds:.3f} s" if answer.seconds < 1 else f"{answer.seconds:.1f} s"
 
@@ -227,18 +191,18 @@ def times_text(figures):
 
 
 def row(figures, limit):
-    iasl = figures.iasl
+    alone, together, iasl = figures.alone, figures.together, figures.iasl
     cells = [
         figures.name,
         size_text(figures.size),
-        seconds_text(figures.alone, limit),
-        f"{figures.alone.processor:.3f} s",
-        seconds_text(figures.together, limit),
-        memory_text(figures.together),
+        seconds_text(alone, limit),
+        f"{alone.processor:.3f} s" if alone else "",
+        seconds_text(together, limit),
+        memory_text(together) if together else "",
         seconds_text(iasl, limit),
-        "" if iasl.seconds is None else memory_text(iasl),
-        "" if iasl.seconds is None else str(iasl.status),
-        "" if iasl.seconds is None else times_text(figures),
+        memory_text(iasl) if iasl else "",
+        str(iasl.status) if iasl else "",
+        times_text(figures) if alone and together and iasl else "",
     ]
     return "| " + " | ".join(cells) + " |\n"
 
@@ -275,11 +239,8 @@ def put_in_readme(text):
 
 
 def main():
-    words = argparse.ArgumentParser(description=__doc__, formatter_class=argparse.RawDescriptionHelpFormatter)
-    words.add_argument("acpidis", nargs="?", default=str(TOP / "out/acpidis"))
-    words.add_argument("--only", default="")
+    words = measuring.command_line(__doc__)
     words.add_argument("--runs", type=int, default=RUNS)
-    words.add_argument("--seconds", type=float, default=bodies.SECONDS)
     words.add_argument("--print", action="store_true")
     asked = words.parse_args()
     program = shutil.which(os.path.abspath(asked.acpidis))
@@ -287,13 +248,13 @@ def main():
         sys.exit(f"{asked.acpidis} isn't built: ./acpidis demo builds it")
     if shutil.which("iasl") is None or not os.access(TIME, os.X_OK):
         sys.exit("iasl or GNU time isn't installed: apt-get install acpica-tools time")
-    all_figures, loads, begun = [], [], bodies.processor_time()
+    all_figures, loads, begun = [], [], measuring.processor_time()
     for name, make in SETS:
         if asked.only in name:
             loads.append(os.getloadavg()[0])
             all_figures.append(figures_of(name, make, program, asked))
             print(row(all_figures[-1], asked.seconds), end="", file=sys.stderr, flush=True)
-    stolen = bodies.stolen_since(begun)
+    stolen = measuring.stolen_since(begun)
     text = section(all_figures, asked, loads, stolen)
     if asked.print or asked.only:
         print(text, end="")

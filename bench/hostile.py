@@ -18,7 +18,6 @@ time. They don't depend on what else the machine does; the runs take some fifty 
 A shape's time should grow no more than 2.4 times; where it does, the line ends with GROWS. The shapes with `*` may take
 4.4 times as much: docs/limits.md says which two dimensions grow together in them.
 """
-import argparse
 import os
 import pathlib
 import re
@@ -26,37 +25,14 @@ import shutil
 import subprocess
 import sys
 import tempfile
-from typing import NamedTuple
 
 import hostile_shapes
-import runs
+import measuring
 
 MOST_GROWTH, MOST_SQUARE_GROWTH = 2.4, 4.4
-IASL_SECONDS = 20
+MOST_SECONDS, IASL_SECONDS = 120, 20
 # Below this much processor time the start of the program counts for too much.
 LEAST_SECONDS = 0.1
-
-
-class Measure(NamedTuple):
-    """What a run took: seconds, processor seconds, peak memory in bytes, and its status."""
-
-    seconds: float
-    processor: float
-    peak: int
-    status: int
-
-
-def write(folder, make, size):
-    """Writes a set, from a process of its own: a program begun later counts this one's peak memory as its own."""
-    folder.mkdir(parents=True)
-    child = os.fork()
-    if child == 0:
-        for name, content in make(size).items():
-            hostile_shapes.write_file(folder / name, content)
-        os._exit(0)
-    _, status = os.waitpid(child, 0)
-    if status:
-        sys.exit(f"{folder} couldn't be written")
 
 
 def instructions(command, folder):
@@ -68,14 +44,10 @@ def instructions(command, folder):
 
 def measured(command, folder, count, limit):
     """The least of each of so many runs, but the most memory; nothing where one takes too long."""
-    answers = []
-    for _ in range(count):
-        answer = runs.run(command, folder, limit)
-        if answer is None:
-            return None
-        answers.append(Measure(*answer))
-    least, most = map(Measure._make, (map(min, zip(*answers)), map(max, zip(*answers))))
-    return least._replace(peak=most.peak)
+    answers = measuring.several(count, command, folder, limit)
+    if not answers:
+        return None
+    return measuring.Answer(*map(min, zip(*answers)))._replace(peak=max(answer.peak for answer in answers))
 
 
 def printed_bytes(command, folder):
@@ -127,7 +99,7 @@ def run_shape(shape, program, compiler, work, asked):
     folders = [work / f"{shape.name}-{part}" for part in ("half", "whole")]
     answers = [[], []]
     for folder, size in zip(folders, (shape.size // 2, shape.size)):
-        write(folder, shape.make, size)
+        measuring.write(folder, lambda: shape.make(size))
         command = [program, *shape.options(folder), str(folder)]
         for kind, words in zip(answers, (command, [*command, "--check"])):
             answer = measured(words, folder, asked.runs, asked.seconds)
@@ -144,13 +116,8 @@ def run_shape(shape, program, compiler, work, asked):
 
 
 def main():
-    top = pathlib.Path(__file__).resolve().parent.parent
-    words = argparse.ArgumentParser(description=__doc__, formatter_class=argparse.RawDescriptionHelpFormatter)
-    words.add_argument("acpidis", nargs="?", default=str(top / "out/acpidis"))
-    words.add_argument("--only", default="")
-    words.add_argument("--keep")
+    words = measuring.command_line(__doc__, MOST_SECONDS)
     words.add_argument("--runs", type=int, default=3)
-    words.add_argument("--seconds", type=float, default=120)
     words.add_argument("--large", action="store_true")
     words.add_argument("--no-iasl", action="store_true")
     words.add_argument("--instructions", action="store_true")

@@ -1,8 +1,9 @@
 """The sets of bench/hostile.py: a DSDT of at most 16,777,216 bytes each, or many files."""
-import os
+from functools import partial
 from typing import Callable, NamedTuple
 
-from bodies import HEADER_BYTES, MOST_BYTES, method, table
+from bodies import DENSE, HEADER_BYTES, MOST_BYTES, method, table
+from measuring import Sparse
 from names import local_names, mixed, package, scopes, segment
 
 SEGMENTS = 255
@@ -37,37 +38,9 @@ class Shape(NamedTuple):
         return [option for option, is_asked in ((OPTION, self.given), (ANY_RUN, self.any_run)) if is_asked]
 
 
-class Sparse(NamedTuple):
-    """A file of these bytes and then so many zeros that it has this size."""
-
-    head: bytes
-    size: int
-
-
-def write_file(path, content):
-    path.parent.mkdir(exist_ok=True)
-    if not isinstance(content, Sparse):
-        path.write_bytes(content)
-        return
-    same = path.parent.parent / f"{path.parent.name}.sparse"
-    if not same.exists():
-        same.write_bytes(content.head)
-        os.truncate(same, content.size)
-    os.link(same, path)
-
-
 def head(signature, length):
     """A header whose table, with zeros behind it, has the sum zero."""
     data = bytearray(signature + length.to_bytes(4, "little") + b"\x02\0BENCH HOSTILE \x01\0\0\0BNCH\x01\0\0\0")
-    data[9] = -sum(data) % 256
-    return bytes(data)
-
-
-def any_table(signature, content):
-    """A table of another signature than DSDT."""
-    data = bytearray(table(content))
-    data[:4] = signature
-    data[9] = 0
     data[9] = -sum(data) % 256
     return bytes(data)
 
@@ -82,18 +55,43 @@ def within(segments, code):
     while segments:
         count = segments % SEGMENTS or SEGMENTS
         segments -= count
-        name = b"\x2f" + bytes([count]) + b"".join(segment(number) for number in range(count))
-        code = package(b"\x5b\x82", name + code)
+        code = device(code, b"\x2f" + bytes([count]) + each(count))
     return code
+
+
+def each(count, make=lambda name: name):
+    """What is made of each of so many names, in order."""
+    return b"".join(make(segment(number)) for number in range(count))
+
+
+def name(segment, value=b"\0"):
+    return b"\x08" + segment + value
+
+
+def alias(segment, source=LEAF):
+    return b"\x06" + source + segment
+
+
+def region(segment, numbers):
+    """A region with this offset and this length."""
+    return b"\x5b\x80" + segment + b"\0" + numbers
+
+
+def device(code, segment=b"DEV0"):
+    return package(b"\x5b\x82", segment + code)
+
+
+# A Name that is used.
+LEAF_NAME = name(LEAF)
 
 
 def main_method(body):
     return method(RUN, 0, body)
 
 
-def named(count, what=b"\x00"):
+def named(count):
     """Names of integers, in no order."""
-    return b"".join(b"\x08" + segment(number) + what for number in mixed(count))
+    return b"".join(name(segment(number)) for number in mixed(count))
 
 
 def uses(count):
@@ -128,8 +126,8 @@ def branches(count):
 
 def devices_in_blocks(count):
     """Devices with a method and a name, each in an If of its own, and a call of each method."""
-    inside = method(NEAR, 1, b"") + b"\x08" + LEAF + b"\0"
-    devices = (block(package(b"\x5b\x82", segment(number) + inside)) for number in mixed(count))
+    inside = method(NEAR, 1, b"") + LEAF_NAME
+    devices = (block(device(inside, segment(number))) for number in mixed(count))
     calls = b"".join(b"\\\x2e" + segment(number) + NEAR + b"\x01" for number in mixed(count))
     return b"".join(devices) + main_method(calls)
 
@@ -138,14 +136,14 @@ def maybes(count, depth):
     """Uses of a name at the root in a method of a scope of so many segments, in each of which the name may stand too."""
     code = main_method(LEAF * count)
     for _ in range(depth):
-        code = package(b"\x5b\x82", NEAR + block(b"\x08" + LEAF + b"\0") + code)
-    return b"\x08" + LEAF + b"\0" + code
+        code = device(block(LEAF_NAME) + code, NEAR)
+    return LEAF_NAME + code
 
 
 def again(count):
     """Two tables that declare one name again and again."""
-    code = (b"\x08" + LEAF + b"\0") * (count // 2)
-    return {"dsdt.dat": table(code), "ssdt1.dat": any_table(b"SSDT", code)}
+    code = LEAF_NAME * (count // 2)
+    return {"dsdt.dat": table(code), "ssdt1.dat": table(code, b"SSDT")}
 
 
 # ---- names and scopes
@@ -158,15 +156,15 @@ def upward(count, depth):
 
 def upward_with_local(count, depth):
     """The same, in a method that has a local name."""
-    return named(count) + within(depth, main_method(b"\x08LOCL\0" + uses(count)))
+    return named(count) + within(depth, main_method(name(b"LOCL") + uses(count)))
 
 
 def upward_with_locals(count, depth, friends=b""):
     """Uses of a name at the root in a method that has a local name of each of 150 lengths; or of names that end as the
     used one does, with another segment before it."""
-    name = b"\x2e" + friends + LEAF if friends else NEAR
-    locals_ = b"".join(b"\x08" + b"^" * ups + name + b"\0" for ups in range(150))
-    return b"\x08" + LEAF + b"\0" + within(depth, main_method(locals_ + LEAF * count))
+    own = b"\x2e" + friends + LEAF if friends else NEAR
+    locals_ = b"".join(name(b"^" * ups + own) for ups in range(150))
+    return LEAF_NAME + within(depth, main_method(locals_ + LEAF * count))
 
 
 def others(count):
@@ -188,25 +186,23 @@ def upward_turning(count, depth):
     """Uses of a name at the root in a method of so many Devices, before each of which another one has that name too."""
     code = main_method(LEAF * count)
     for _ in range(depth):
-        code = package(b"\x5b\x82", NEAR + package(b"\x5b\x82", OTHER + b"\x08" + LEAF + b"\0") + code)
-    return b"\x08" + LEAF + b"\0" + code
+        code = device(device(LEAF_NAME, OTHER) + code, NEAR)
+    return LEAF_NAME + code
 
 
 def upward_outside(count, depth):
     """Regions in a deep scope, with an offset and a length that nothing declares."""
-    regions = (b"\x5b\x80" + segment(number) + b"\0" + NOTHING + NOTHING for number in range(count))
-    return within(depth, b"".join(regions))
+    return within(depth, each(count, lambda it: region(it, NOTHING + NOTHING)))
 
 
 def names_outside(count, depth):
     """A name at the root, as so many terms of a deep scope."""
-    return b"\x08" + LEAF + b"\0" + within(depth, LEAF * count)
+    return LEAF_NAME + within(depth, LEAF * count)
 
 
 def regions_outside(count, depth):
     """Regions in a deep scope, whose offset and length are a name at the root."""
-    regions = (b"\x5b\x80" + segment(number) + b"\0" + LEAF + LEAF for number in range(count))
-    return b"\x08" + LEAF + b"\0" + within(depth, b"".join(regions))
+    return LEAF_NAME + within(depth, each(count, lambda it: region(it, LEAF + LEAF)))
 
 
 def connections_outside(count, depth):
@@ -234,85 +230,65 @@ def deep_methods_left(count, depth):
 
 def deep_devices(count, depth):
     """Devices there, each with a method."""
-    devices = (package(b"\x5b\x82", segment(number) + method(RUN, 0, b"")) for number in range(count))
-    return within(depth, b"".join(devices))
+    return within(depth, each(count, lambda it: device(method(RUN, 0, b""), it)))
 
 
 def deep_owners(count, depth, own):
     """A method there, and Devices with a method each, in a Device of so many segments."""
-    devices = (package(b"\x5b\x82", segment(number) + method(RUN, 0, b"")) for number in range(count))
-    return within(depth, main_method(b"") + within(own, b"".join(devices)))
+    return within(depth, main_method(b"") + deep_devices(count, own))
 
 
 def deep_pairs(count, depth):
     """Devices there, each with a Device with a method."""
-    pair = device(method(RUN, 0, b""))
-    return within(depth, b"".join(package(b"\x5b\x82", segment(number) + pair) for number in range(count)))
+    return within(depth, each(count, lambda it: device(device(method(RUN, 0, b"")), it)))
 
 
 def deep_returns(count, depth):
     """Names there, each behind a Scope of a Device at the root with such a name."""
-    names = (b"\x08" + segment(number) + b"\0" for number in range(count))
-    return device(b"") + within(depth, b"".join(package(b"\x10", b"\x5cDEV0" + name) + name for name in names))
+    return device(b"") + within(depth, each(count, lambda it: package(b"\x10", b"\x5cDEV0" + name(it)) + name(it)))
 
 
-def deep_aliases_upward(count, depth):
-    """Aliases there of a name at the root."""
-    aliases = b"".join(b"\x06" + LEAF + segment(number) for number in range(count))
-    return b"\x08" + LEAF + b"\0" + within(depth, aliases)
+def deep_aliases_upward(count, depth, share=None):
+    """Aliases there of a name at the root, or of one that stands a half or a third of the way down."""
+    above = depth // share if share else 0
+    return within(above, LEAF_NAME + within(depth - above, each(count, alias)))
 
 
 def deep_scopes_upward(count, depth):
     """Scopes there of a Device at the root, each with a name."""
-    names = (b"\x08" + segment(number) + b"\0" for number in range(count))
-    return device(b"") + within(depth, b"".join(package(b"\x10", b"DEV0" + name) for name in names))
-
-
-def deep_aliases_halfway(count, depth):
-    """Aliases there of a name half-way up."""
-    aliases = b"".join(b"\x06" + LEAF + segment(number) for number in range(count))
-    return within(depth // 2, b"\x08" + LEAF + b"\0" + within(depth - depth // 2, aliases))
-
-
-def deep_aliases_low(count, depth):
-    """Aliases there of a name a third of the way down."""
-    aliases = b"".join(b"\x06" + LEAF + segment(number) for number in range(count))
-    return within(depth // 3, b"\x08" + LEAF + b"\0" + within(depth - depth // 3, aliases))
+    return device(b"") + within(depth, each(count, lambda it: package(b"\x10", b"DEV0" + name(it))))
 
 
 def deep_unsettled(count, depth):
     """Names below paths that nothing but an External's path has, each before an Alias of a name at the root."""
-    outer = [b"\x5c\x2f\x03X" + segment(number)[1:] + b"YYYYZZZZ" for number in range(count)]
-    externals = b"".join(b"\x15" + path + b"\0\0" for path in outer)
-    names = (b"\x08\x5c\x2eX" + segment(number)[1:] + b"WWWW\0\x06" + LEAF + segment(number) for number in range(count))
-    return b"\x08" + LEAF + b"\0" + externals + within(depth, b"".join(names))
+    externals = each(count, lambda it: b"\x15\x5c\x2f\x03X" + it[1:] + b"YYYYZZZZ\0\0")
+    names = each(count, lambda it: name(b"\x5c\x2eX" + it[1:] + b"WWWW") + alias(it))
+    return LEAF_NAME + externals + within(depth, names)
 
 
 def deep_devices_aliases(count, depth):
     """Devices there, each with an Alias of a name at the root."""
-    aliases = (b"\x06" + LEAF + segment(number) for number in range(count))
-    devices = b"".join(package(b"\x5b\x82", segment(number) + alias) for number, alias in enumerate(aliases))
-    return b"\x08" + LEAF + b"\0" + within(depth, devices)
+    return LEAF_NAME + within(depth, each(count, lambda it: device(alias(it), it)))
 
 
 def deep_aliases(count, depth):
-    aliases = b"".join(b"\x06" + segment(number) + segment(number + 1) for number in range(count))
-    return within(depth, b"\x08" + segment(0) + b"\0" + aliases)
+    """A chain of Aliases there."""
+    return within(depth, name(segment(0)) + alias_chain(count))
+
+
+def alias_chain(count):
+    """Aliases of which each means the one before it, and the first the first name."""
+    return b"".join(alias(segment(number + 1), segment(number)) for number in range(count))
 
 
 def deep_alias(count, depth):
     """Uses of an Alias of a method in a deep scope."""
-    alias = b"\x06" + segment(0) + b"\x5cALIA"
-    return within(depth, method(segment(0), 0, b"") + alias) + main_method(b"ALIA" * count)
+    return within(depth, method(segment(0), 0, b"") + alias(b"\x5cALIA", segment(0))) + main_method(b"ALIA" * count)
 
 
 def deep_body(depth, body, beside=b""):
     """A method of this body in a scope of so many segments, and what stands beside it."""
-    return within(depth, b"\x08" + LEAF + b"\0" + beside + method(RUN, 0, body))
-
-
-def device(code):
-    return package(b"\x5b\x82", b"DEV0" + code)
+    return within(depth, LEAF_NAME + beside + method(RUN, 0, body))
 
 
 def deep_uses(count, depth):
@@ -322,14 +298,13 @@ def deep_uses(count, depth):
 
 def deep_local_uses(count, depth):
     """Uses of the last of a thousand names that the method declares beside itself."""
-    declared = b"".join(b"\x08^" + segment(number) + b"\0" for number in range(999))
-    return deep_body(depth, declared + b"\x08^NEAR\0" + b"^NEAR" * count)
+    declared = each(999, lambda it: name(b"^" + it))
+    return deep_body(depth, declared + name(b"^NEAR") + b"^NEAR" * count)
 
 
 def field(count):
     """A Field of so many units."""
-    units = b"".join(segment(number) + b"\x08" for number in range(count))
-    return package(b"\x5b\x81", LEAF + b"\0" + units)
+    return package(b"\x5b\x81", LEAF + b"\0" + each(count, lambda it: it + b"\x08"))
 
 
 def deep_units(count, depth):
@@ -344,8 +319,7 @@ def deep_units_outside(count, depth):
 
 def deep_buffers(count, depth):
     """Buffers whose sizes are a name, in a package outside the methods."""
-    sizes = b"".join(b"\x11\x06^LEAF" for _ in range(count))
-    return deep_body(depth, b"", device(b"\x08PKG_" + package(b"\x12", b"\0" + sizes)))
+    return deep_body(depth, b"", device(name(b"PKG_", package(b"\x12", b"\0" + b"\x11\x06^LEAF" * count))))
 
 
 def deep_scopes(count, depth):
@@ -353,10 +327,10 @@ def deep_scopes(count, depth):
     return deep_body(depth, b"", device(b"\x10\x03^\0" * count))
 
 
-def alias_chain(count):
-    chain = b"".join(b"\x06" + segment(number) + segment(number + 1) for number in range(count))
+def aliases(count):
+    """A chain of Aliases of a method, and calls by the first thousand of them."""
     calls = b"".join(segment(number) + b"\x60" for number in mixed(1000))
-    return method(segment(0), 1, b"") + chain + main_method(calls)
+    return method(segment(0), 1, b"") + alias_chain(count) + main_method(calls)
 
 
 def one_external(count):
@@ -366,13 +340,12 @@ def one_external(count):
 
 def one_each(count):
     """As many Externals, each of a path of its own, as uses of them."""
-    externals = b"".join(b"\x15" + segment(number) + b"\x08\0" for number in range(count))
-    return externals + main_method(uses(count))
+    return each(count, lambda it: b"\x15" + it + b"\x08\0") + main_method(uses(count))
 
 
 def long_names(size):
-    name = b"\x5c\x2f\xff" + b"".join(segment(number) for number in range(SEGMENTS))
-    return b"\x08" + name + b"\0" + main_method(name * ((size - 2 * len(name) - 64) // len(name)))
+    path = b"\x5c\x2f\xff" + each(SEGMENTS)
+    return name(path) + main_method(path * ((size - 2 * len(path) - 64) // len(path)))
 
 
 def carets(count):
@@ -380,7 +353,7 @@ def carets(count):
 
 
 def undeclared(count):
-    return b"\x08PKG_" + package(b"\x12", b"\0" + uses(count))
+    return name(b"PKG_", package(b"\x12", b"\0" + uses(count)))
 
 
 def undeclared_in_body(count):
@@ -402,16 +375,15 @@ def given_again(count):
 
 
 def nested(levels, segments):
-    name = b"\x2f" + bytes([segments]) + b"".join(segment(number) for number in range(segments))
     code = main_method(b"GLOB")
     for _ in range(levels):
-        code = package(b"\x5b\x82", name + code)
+        code = device(code, b"\x2f" + bytes([segments]) + each(segments))
     return method(b"GLOB", 0, b"") + code
 
 
 def nots(count, levels):
     """Methods of so many LNots, one in the other."""
-    return b"".join(method(segment(number), 0, b"\x92" * levels + b"\x60") for number in range(count))
+    return each(count, lambda it: method(it, 0, b"\x92" * levels + b"\x60"))
 
 
 def packages(count, levels):
@@ -419,7 +391,7 @@ def packages(count, levels):
     inner = b"\0"
     for _ in range(levels):
         inner = package(b"\x12", b"\x01" + inner)
-    return b"".join(method(segment(number), 0, inner) for number in range(count))
+    return each(count, lambda it: method(it, 0, inner))
 
 
 def indented(count, levels):
@@ -434,20 +406,20 @@ def indented(count, levels):
 
 
 def tiny_methods(count):
-    return b"".join(method(segment(number), 0, b"") for number in range(count))
+    return each(count, lambda it: method(it, 0, b""))
 
 
 def raw_methods(count):
-    return b"".join(method(segment(number), 0, NOTHING) for number in range(count))
+    return each(count, lambda it: method(it, 0, NOTHING))
 
 
 def buffer(size):
     content = b"\x0e" + bytes(8)
-    return b"\x08BUF_" + package(b"\x11", content + b"\xff" * (size - HEADER_BYTES - 32))
+    return name(b"BUF_", package(b"\x11", content + b"\xff" * (size - HEADER_BYTES - 32)))
 
 
 def text(size):
-    return b"\x08TXT_\x0d" + b"\xff" * (size - HEADER_BYTES - 8) + b"\0"
+    return name(b"TXT_", b"\x0d" + b"\xff" * (size - HEADER_BYTES - 8) + b"\0")
 
 
 def raw_body(size):
@@ -459,8 +431,7 @@ def small_scopes(count):
 
 
 def dense(size):
-    unit = bytes.fromhex("a472606100")
-    return main_method(unit * ((size - 64) // len(unit)))
+    return main_method(DENSE * ((size - 64) // len(DENSE)))
 
 
 # ---- many files
@@ -478,13 +449,13 @@ def calling_files(count, methods):
         called = (number + 1) % count * methods
         bodies = (b"\xa4" + segment(called + index) + b"\x68" for index in range(methods))
         code = b"".join(method(segment(number * methods + index), 1, body) for index, body in enumerate(bodies))
-        files["dsdt.dat" if not number else f"ssdt{number}.dat"] = any_table(b"SSDT" if number else b"DSDT", code)
+        files["dsdt.dat" if not number else f"ssdt{number}.dat"] = table(code, b"SSDT" if number else b"DSDT")
     return files
 
 
 def madt(size):
     records = b"\xff\x02" * ((size - HEADER_BYTES - 8) // 2)
-    return {"dsdt.dat": table(b""), "apic.dat": any_table(b"APIC", bytes(8) + records)}
+    return {"dsdt.dat": table(b""), "apic.dat": table(bytes(8) + records, b"APIC")}
 
 
 ADDRESS = 0x1000
@@ -512,11 +483,11 @@ def listed(entries):
     listed_names = names[2:3] + names[4:] + names[-1:] * (entries - 501)
     content = b"".join(places[name].to_bytes(8, "little") for name in listed_names)
     fadt = bytes(104) + places["dsdt.dat"].to_bytes(8, "little")
-    ssdts = {name: any_table(b"SSDT", b"") for name in names[4:]}
+    ssdts = {name: table(b"", b"SSDT") for name in names[4:]}
     return {
         "rsdp.dat": root(places["xsdt.dat"]),
-        "xsdt.dat": any_table(b"XSDT", content),
-        "facp.dat": any_table(b"FACP", fadt),
+        "xsdt.dat": table(content, b"XSDT"),
+        "facp.dat": table(fadt, b"FACP"),
         "dsdt.dat": table(b""),
         **ssdts,
         "tables.map": "".join(f"{places[name]:016X} {name}\n" for name in names).encode(),
@@ -532,87 +503,67 @@ def named_entries(entries):
     fadt = bytes(4) + places["dsdt.dat"].to_bytes(4, "little") + bytes(104)
     return {
         "rsdp.dat": old_root(places["rsdt.dat"]),
-        "rsdt.dat": any_table(b"RSDT", content),
-        "facp.dat": any_table(b"FACP", fadt),
+        "rsdt.dat": table(content, b"RSDT"),
+        "facp.dat": table(fadt, b"FACP"),
         "dsdt.dat": table(b""),
-        long_name: any_table(b"SSDT", b""),
+        long_name: table(b"", b"SSDT"),
         "tables.map": "".join(f"{places[name]:016X} {name}\n" for name in names).encode(),
     }
+
+
+def both(name, make, count, unit, depth, is_run=False):
+    """A shape by how many there are, so deep, and one by how deep they stand, so many."""
+    yield Shape(name, count, unit, one(lambda size: make(size, depth)), any_run=is_run)
+    yield Shape(f"{name}-deep", depth, "levels" if is_run else "segments", one(lambda size: make(count, size)), any_run=is_run)
 
 
 SHAPES = (
     Shape("nested", 510, "levels", one(lambda count: nested(count, SEGMENTS)), True),
     Shape("nested-short", 510, "levels", one(lambda count: nested(count, 1)), True),
     Shape("nested-long", 254, "segments", one(lambda count: nested(510, count))),
-    Shape("upward", 100_000, "names", one(lambda count: upward(count, 1000))),
-    Shape("upward-deep", 1_000, "segments", one(lambda count: upward(100_000, count))),
+    *both("upward", upward, 100_000, "names", 1000),
     Shape("upward-deepest", 100_000, "names", one(lambda count: upward(count, DEEPEST))),
-    Shape("upward-crowded", 100_000, "names", one(lambda count: upward_crowded(count, 1000))),
-    Shape("upward-crowded-deep", 1_000, "segments", one(lambda count: upward_crowded(100_000, count))),
+    *both("upward-crowded", upward_crowded, 100_000, "names", 1000),
     Shape("upward-turning", 100_000, "names", one(lambda count: upward_turning(count, 500))),
-    Shape("upward-local", 2_000, "names", one(lambda count: upward_with_local(count, 1000))),
-    Shape("upward-local-deep", 1_000, "segments", one(lambda count: upward_with_local(2000, count))),
-    Shape("upward-locals", 5_700, "names", one(lambda count: upward_with_locals(count, 5_700))),
-    Shape("upward-locals-deep", 5_700, "segments", one(lambda count: upward_with_locals(5_700, count))),
-    Shape("upward-friends", 5_700, "names", one(lambda count: upward_with_locals(count, 5_700, FRIEND))),
-    Shape("upward-friends-deep", 5_700, "segments", one(lambda count: upward_with_locals(5_700, count, FRIEND))),
+    *both("upward-local", upward_with_local, 2_000, "names", 1000),
+    *both("upward-locals", upward_with_locals, 5_700, "names", 5_700),
+    *both("upward-friends", partial(upward_with_locals, friends=FRIEND), 5_700, "names", 5_700),
     Shape("upward-outside", 100_000, "names", one(lambda count: upward_outside(count // 2, 1000))),
     Shape("deep-names", 2_000, "names", one(lambda count: deep_names(count, 10_000))),
     Shape("deep-scope", 10_000, "segments", one(lambda count: deep_names(2000, count))),
-    Shape("deep-locals", 2_000, "names", one(lambda count: deep_locals(count, 10_000))),
-    Shape("deep-methods", 2_000, "methods", one(lambda count: deep_methods(count, 10_000))),
-    Shape("deep-methods-left", 2_000, "methods", one(lambda count: deep_methods_left(count, 10_000))),
-    Shape("deep-devices", 2_000, "devices", one(lambda count: deep_devices(count, 10_000))),
+    *both("deep-locals", deep_locals, 2_000, "names", 10_000),
+    *both("deep-methods", deep_methods, 2_000, "methods", 10_000),
+    *both("deep-methods-left", deep_methods_left, 2_000, "methods", 10_000),
+    *both("deep-devices", deep_devices, 2_000, "devices", 10_000),
     Shape("deep-owners", 10_000, "devices", one(lambda count: deep_owners(count, 504 * SEGMENTS, 16))),
     Shape("deep-owners-run", 5_000, "devices", one(lambda count: deep_owners(count, 503 * SEGMENTS, SEGMENTS)), any_run=True),
     Shape("deep-pairs", 1_000, "devices", one(lambda count: deep_pairs(count, 504 * SEGMENTS))),
-    Shape("deep-returns", 2_000, "names", one(lambda count: deep_returns(count, 10_000))),
-    Shape("deep-aliases-upward", 2_000, "names", one(lambda count: deep_aliases_upward(count, 10_000))),
-    Shape("deep-scopes-upward", 2_000, "terms", one(lambda count: deep_scopes_upward(count, 10_000))),
-    Shape("deep-aliases-halfway", 2_000, "names", one(lambda count: deep_aliases_halfway(count, 10_000))),
-    Shape("deep-aliases-low", 2_000, "names", one(lambda count: deep_aliases_low(count, 10_000))),
-    Shape("deep-unsettled", 2_000, "names", one(lambda count: deep_unsettled(count, 10_000))),
-    Shape("deep-devices-aliases", 2_000, "devices", one(lambda count: deep_devices_aliases(count, 10_000))),
-    Shape("deep-alias", 100_000, "names", one(lambda count: deep_alias(count, 10_000))),
-    Shape("deep-aliases", 2_000, "names", one(lambda count: deep_aliases(count, 10_000))),
-    Shape("deep-locals-deep", 10_000, "segments", one(lambda count: deep_locals(2_000, count))),
-    Shape("deep-methods-deep", 10_000, "segments", one(lambda count: deep_methods(2_000, count))),
-    Shape("deep-methods-left-deep", 10_000, "segments", one(lambda count: deep_methods_left(2_000, count))),
-    Shape("deep-devices-deep", 10_000, "segments", one(lambda count: deep_devices(2_000, count))),
-    Shape("deep-returns-deep", 10_000, "segments", one(lambda count: deep_returns(2_000, count))),
-    Shape("deep-aliases-upward-deep", 10_000, "segments", one(lambda count: deep_aliases_upward(2_000, count))),
-    Shape("deep-scopes-upward-deep", 10_000, "segments", one(lambda count: deep_scopes_upward(2_000, count))),
-    Shape("deep-aliases-halfway-deep", 10_000, "segments", one(lambda count: deep_aliases_halfway(2_000, count))),
-    Shape("deep-aliases-low-deep", 10_000, "segments", one(lambda count: deep_aliases_low(2_000, count))),
-    Shape("deep-unsettled-deep", 10_000, "segments", one(lambda count: deep_unsettled(2_000, count))),
-    Shape("deep-devices-aliases-deep", 10_000, "segments", one(lambda count: deep_devices_aliases(2_000, count))),
-    Shape("deep-alias-deep", 10_000, "segments", one(lambda count: deep_alias(100_000, count))),
-    Shape("deep-aliases-deep", 10_000, "segments", one(lambda count: deep_aliases(2_000, count))),
-    Shape("deep-units-outside", 2_000, "units", one(lambda count: deep_units_outside(count, 10_000))),
-    Shape("deep-units-outside-deep", 10_000, "segments", one(lambda count: deep_units_outside(2_000, count))),
+    *both("deep-returns", deep_returns, 2_000, "names", 10_000),
+    *both("deep-aliases-upward", deep_aliases_upward, 2_000, "names", 10_000),
+    *both("deep-scopes-upward", deep_scopes_upward, 2_000, "terms", 10_000),
+    *both("deep-aliases-halfway", partial(deep_aliases_upward, share=2), 2_000, "names", 10_000),
+    *both("deep-aliases-low", partial(deep_aliases_upward, share=3), 2_000, "names", 10_000),
+    *both("deep-unsettled", deep_unsettled, 2_000, "names", 10_000),
+    *both("deep-devices-aliases", deep_devices_aliases, 2_000, "devices", 10_000),
+    *both("deep-alias", deep_alias, 100_000, "names", 10_000),
+    *both("deep-aliases", deep_aliases, 2_000, "names", 10_000),
+    *both("deep-units-outside", deep_units_outside, 2_000, "units", 10_000),
     Shape("deep-outside", 2_000, "names", one(lambda count: upward_outside(count // 2, 10_000))),
-    Shape("deep-uses", 200_000, "names", one(lambda count: deep_uses(count, 10_000))),
-    Shape("deep-uses-deep", 10_000, "segments", one(lambda count: deep_uses(200_000, count))),
-    Shape("deep-local-uses", 20_000, "names", one(lambda count: deep_local_uses(count, 10_000))),
-    Shape("deep-local-uses-deep", 10_000, "segments", one(lambda count: deep_local_uses(20_000, count))),
-    Shape("deep-units", 5_000, "units", one(lambda count: deep_units(count, 5_000))),
-    Shape("deep-units-deep", 5_000, "segments", one(lambda count: deep_units(5_000, count))),
-    Shape("deep-buffers", 50_000, "terms", one(lambda count: deep_buffers(count, 10_000))),
-    Shape("deep-buffers-deep", 10_000, "segments", one(lambda count: deep_buffers(50_000, count))),
-    Shape("deep-scopes", 10_000, "terms", one(lambda count: deep_scopes(count, 5_000))),
-    Shape("deep-scopes-deep", 5_000, "segments", one(lambda count: deep_scopes(10_000, count))),
+    *both("deep-uses", deep_uses, 200_000, "names", 10_000),
+    *both("deep-local-uses", deep_local_uses, 20_000, "names", 10_000),
+    *both("deep-units", deep_units, 5_000, "units", 5_000),
+    *both("deep-buffers", deep_buffers, 50_000, "terms", 10_000),
+    *both("deep-scopes", deep_scopes, 10_000, "terms", 5_000),
     Shape("locals", 1_000_000, "names", one(local_names)),
     Shape("package", 1_000_000, "names", one(undeclared)),
     Shape("package-body", 1_000_000, "names", one(undeclared_in_body)),
-    Shape("aliases", 1_000_000, "names", one(alias_chain)),
+    Shape("aliases", 1_000_000, "names", one(aliases)),
     Shape("external", 1_000_000, "terms", one(one_external)),
     Shape("externals", 1_000_000, "names", one(one_each)),
-    Shape("blocks", 200_000, "names", one(lambda count: blocks(count, 500)), any_run=True),
-    Shape("blocks-deep", 500, "levels", one(lambda count: blocks(200_000, count)), any_run=True),
+    *both("blocks", blocks, 200_000, "names", 500, is_run=True),
     Shape("branches", 200_000, "methods", one(branches), any_run=True),
     Shape("devices-in-blocks", 200_000, "devices", one(devices_in_blocks), any_run=True),
-    Shape("maybes", 100_000, "names", one(lambda count: maybes(count, 500)), any_run=True),
-    Shape("maybes-deep", 500, "levels", one(lambda count: maybes(100_000, count)), any_run=True),
+    *both("maybes", maybes, 100_000, "names", 500, is_run=True),
     Shape("names-outside", 8_000, "names", one(lambda count: names_outside(count, DEEPEST)), any_run=True),
     Shape("regions-outside", 1_000, "regions", one(lambda count: regions_outside(count, DEEPEST)), any_run=True),
     Shape("terms-outside", 1_000_000, "names", one(lambda count: names_outside(count, 2 * SEGMENTS)), any_run=True),

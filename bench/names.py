@@ -3,8 +3,7 @@
 
 usage: bench/names.py [ACPIDIS] [--only WORD] [--keep FOLDER] [--seconds N] [--most N]
 
-ACPIDIS is the built program, crates/acpidis_program/out/acpidis_program if left out. Each table is written to a folder of its
-own as dsdt.dat. For each, the script prints seconds and peak memory of the program and, where it is installed (Debian: apt-get
+ACPIDIS is the built program, out/acpidis if left out. Each table is written to a folder of its own as dsdt.dat. For each, the script prints seconds and peak memory of the program and, where it is installed (Debian: apt-get
 install acpica-tools), of `iasl -d` on the same file, which runs beside it and is stopped after N seconds, 60 if left out. Behind
 the second and each further size of a shape stands its growth: how many times as long twice the names take. --only takes the
 shapes whose name contains WORD, --most leaves out the tables of more names. The script is no part of the gate.
@@ -22,16 +21,14 @@ The shapes, of 20,000 and 200,000 names, the flat ones of a million too:
 and the deep ones, by levels:
   scopes      Devices of 255 segments, one in the other, with one method that calls a method at the root
 """
-import argparse
 import math
-import os
 import pathlib
 import random
 import shutil
-import sys
 import tempfile
 
 import bodies
+import measuring
 
 SIZES = (20_000, 200_000)
 FLAT_SIZES = (*SIZES, 1_000_000)
@@ -126,30 +123,19 @@ SHAPES = (
 def line(tool, name, count, answer, before, limit):
     if answer is None:
         return f"{name:10} {count:9} {tool:8} no answer in {limit:g} s"
-    seconds, peak, status = answer
-    text = f"{name:10} {count:9} {tool:8} {seconds:8.3f} s {peak / 1e6:8.1f} MB   status {status}"
+    text = f"{name:10} {count:9} {tool:8} {answer.seconds:8.3f} s {answer.peak / 1e6:8.1f} MB   status {answer.status}"
     if before is not None:
         earlier, earlier_seconds = before
         doublings = math.log2(count / earlier)
-        text += f"   twice the names: {(seconds / earlier_seconds) ** (1 / doublings):.2f} times"
+        text += f"   twice the names: {(answer.seconds / earlier_seconds) ** (1 / doublings):.2f} times"
     return text
 
 
 def main():
-    top = pathlib.Path(__file__).resolve().parent.parent
-    words = argparse.ArgumentParser(description=__doc__, formatter_class=argparse.RawDescriptionHelpFormatter)
-    words.add_argument("acpidis", nargs="?", default=str(top / "crates/acpidis_program/out/acpidis_program"))
-    words.add_argument("--only", default="")
-    words.add_argument("--keep")
-    words.add_argument("--seconds", type=float, default=bodies.SECONDS)
+    words = measuring.command_line(__doc__)
     words.add_argument("--most", type=int, default=max(FLAT_SIZES))
     asked = words.parse_args()
-    program = shutil.which(os.path.abspath(asked.acpidis))
-    compiler = shutil.which("iasl")
-    if program is None:
-        print(f"{asked.acpidis} isn't built: only iasl is timed", file=sys.stderr)
-    if compiler is None:
-        print("iasl isn't installed: only acpidis is timed", file=sys.stderr)
+    program, compiler = measuring.tools_of(asked)
     work = pathlib.Path(asked.keep or tempfile.mkdtemp())
     for name, sizes, make in SHAPES:
         if asked.only not in name:
@@ -157,14 +143,13 @@ def main():
         before = {}
         for count in (size for size in sizes if size <= asked.most):
             folder = work / f"{name}-{count}"
-            folder.mkdir(parents=True, exist_ok=True)
-            bodies.write(folder, bodies.one(lambda: bodies.table(make(count))))
+            measuring.write(folder, bodies.one(lambda: bodies.table(make(count))))
             tools = [("acpidis", program, [program, str(folder)]), ("iasl -d", compiler, [compiler, "-d", "dsdt.dat"])]
             for tool, there, command in tools:
                 if there:
-                    answer = bodies.run(command, folder, asked.seconds)
+                    answer = measuring.run(command, folder, asked.seconds)
                     print(line(tool, name, count, answer, before.get(tool), asked.seconds), flush=True)
-                    before[tool] = (count, answer[0]) if answer else None
+                    before[tool] = (count, answer.seconds) if answer else None
             for listing in folder.glob("*.dsl"):
                 listing.unlink()
             if not asked.keep:

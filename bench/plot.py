@@ -29,7 +29,7 @@ def short(seconds):
 
 def bar(y, answer, limit, colour):
     """One bar with its label; it has an outline alone where there was no answer."""
-    if answer.seconds is None:
+    if answer is None:
         width = across(limit) - LEFT
         outline = f' stroke="{colour}" stroke-dasharray="4 3"'
         label = text(LEFT + width + 5, y + 11, f"not in {limit:g} s")

@@ -3,7 +3,7 @@
 
 usage: bench/runs.py [ACPIDIS] [--only WORD] [--keep FOLDER] [--runs N] [--seconds N] [--workers N,N..]
 
-ACPIDIS is the built program, crates/acpidis_program/out/acpidis_program if left out. Each set is written to a folder of its
+ACPIDIS is the built program, out/acpidis if left out. Each set is written to a folder of its
 own. For each number of workers, 1, 2 and 4 if left out, and for `iasl -d` where it is installed (Debian: apt-get install
 acpica-tools), the script prints of N runs, 5 if left out, the shortest time, with the processor time of that run, how many
 times as fast that is as one worker, and the most memory; then how many times as fast as `iasl -d` one worker is by processor
@@ -18,17 +18,13 @@ The sets:
   names    20,000 small methods with ascending names
   small    4 methods of about 2 KB each
 """
-import argparse
 import os
 import pathlib
 import shutil
-import subprocess
-import sys
 import tempfile
-import threading
-import time
 
 import bodies
+import measuring
 
 WORKERS = "1,2,4"
 RUNS = 5
@@ -49,39 +45,12 @@ SETS = (
 )
 
 
-def run(command, folder, limit):
-    """Seconds, processor seconds, peak memory in bytes and the status of a program; nothing where it takes too long."""
-    started = time.monotonic()
-    child = subprocess.Popen(command, cwd=folder, stdout=subprocess.DEVNULL, stderr=subprocess.DEVNULL)
-    stop = threading.Timer(limit, child.kill)
-    stop.start()
-    _, status, usage = os.wait4(child.pid, 0)
-    seconds = time.monotonic() - started
-    stop.cancel()
-    child.returncode = os.waitstatus_to_exitcode(status)
-    if seconds >= limit:
-        return None
-    return seconds, usage.ru_utime + usage.ru_stime, usage.ru_maxrss * 1024, child.returncode
-
-
-def best(command, folder, runs, limit):
-    """The shortest of so many runs, with the most memory of any."""
-    answers = []
-    for _ in range(runs):
-        answer = run(command, folder, limit)
-        if answer is None:
-            return None
-        answers.append(answer)
-    seconds, processor, _, status = min(answers)
-    return seconds, processor, max(answer[2] for answer in answers), status
-
-
 def ratios(name, answers, compiled, stolen):
     """How many times as fast as `iasl -d` the program is."""
     text = f"{name:8} against iasl -d:"
     if "1" in answers:
-        text += f" {compiled[1] / answers['1'][1]:.1f} times by the processor time of one worker;"
-    clock = ", ".join(f"{compiled[0] / answer[0]:.1f} with {workers}" for workers, answer in answers.items())
+        text += f" {compiled.processor / answers['1'].processor:.1f} times by the processor time of one worker;"
+    clock = ", ".join(f"{compiled.seconds / answer.seconds:.1f} with {workers}" for workers, answer in answers.items())
     return f"{text} by the clock {clock}; {stolen:.0%} of the processors went to others"
 
 
@@ -96,43 +65,32 @@ def line(name, tool, answer, alone, limit):
 
 
 def main():
-    top = pathlib.Path(__file__).resolve().parent.parent
-    words = argparse.ArgumentParser(description=__doc__, formatter_class=argparse.RawDescriptionHelpFormatter)
-    words.add_argument("acpidis", nargs="?", default=str(top / "crates/acpidis_program/out/acpidis_program"))
-    words.add_argument("--only", default="")
-    words.add_argument("--keep")
+    words = measuring.command_line(__doc__)
     words.add_argument("--runs", type=int, default=RUNS)
-    words.add_argument("--seconds", type=float, default=bodies.SECONDS)
     words.add_argument("--workers", default=WORKERS)
     asked = words.parse_args()
-    program = shutil.which(os.path.abspath(asked.acpidis))
-    compiler = shutil.which("iasl")
-    if program is None:
-        print(f"{asked.acpidis} isn't built: only iasl is timed", file=sys.stderr)
-    if compiler is None:
-        print("iasl isn't installed: only acpidis is timed", file=sys.stderr)
+    program, compiler = measuring.tools_of(asked)
     work = pathlib.Path(asked.keep or tempfile.mkdtemp())
     for name, make in SETS:
         if asked.only not in name:
             continue
         folder = work / name
-        folder.mkdir(parents=True, exist_ok=True)
-        size = bodies.write(folder, make)
+        size = measuring.write(folder, make)
         load, processors = os.getloadavg()[0], len(os.sched_getaffinity(0))
         print(f"{name:8} {size} bytes; a load of {load:.1f} on {processors} processors", flush=True)
-        alone, answers, begun = None, {}, bodies.processor_time()
+        alone, answers, begun = None, {}, measuring.processor_time()
         for workers in asked.workers.split(",") if program else ():
-            answer = best([program, "--workers", workers, str(folder)], folder, asked.runs, asked.seconds)
+            answer = measuring.best(asked.runs, [program, "--workers", workers, str(folder)], folder, asked.seconds)
             print(line(name, f"{workers} workers" if workers != "1" else "1 worker", answer, alone, asked.seconds), flush=True)
             if answer:
                 answers[workers] = answer
             if answer and workers == "1":
-                alone = answer[0]
+                alone = answer.seconds
         if compiler:
-            answer = best([compiler, "-d", "dsdt.dat"], folder, asked.runs, asked.seconds)
+            answer = measuring.best(asked.runs, [compiler, "-d", "dsdt.dat"], folder, asked.seconds)
             print(line(name, "iasl -d", answer, alone, asked.seconds), flush=True)
             if answer and answers:
-                print(ratios(name, answers, answer, bodies.stolen_since(begun)), flush=True)
+                print(ratios(name, answers, answer, measuring.stolen_since(begun)), flush=True)
             for listing in folder.glob("*.dsl"):
                 listing.unlink()
     if not asked.keep:

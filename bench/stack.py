@@ -18,8 +18,8 @@ import sys
 import tempfile
 
 import hostile_shapes as shapes
+import measuring
 
-TOP = pathlib.Path(__file__).resolve().parent.parent
 LEVELS = 511
 STACK_KB = 8 << 10
 SHOW = """python
@@ -74,7 +74,7 @@ def touched_kb(command, folder):
 
 def main():
     parser = argparse.ArgumentParser(usage=__doc__.split("usage: ", 1)[1].split("\n", 1)[0])
-    parser.add_argument("program", nargs="?", default=str(TOP / "out/acpidis"))
+    parser.add_argument("program", nargs="?", default=str(measuring.TOP / "out/acpidis"))
     program = os.path.abspath(parser.parse_args().program)
     external = b"\x15CALL\x08\x01"
     codes = {f"in a body: {name}": external + shapes.main_method(body) for name, body in BODIES.items()}
@@ -82,7 +82,7 @@ def main():
     print("kind of nesting | listed | with --check")
     for name, code in codes.items():
         with tempfile.TemporaryDirectory() as folder:
-            shapes.write_file(pathlib.Path(folder) / "dsdt.dat", shapes.table(code))
+            measuring.write_file(pathlib.Path(folder) / "dsdt.dat", shapes.table(code))
             words = [program, "--workers", "1"]
             print(f"{name} | {touched_kb(words, folder)} KB | {touched_kb([*words, '--check'], folder)} KB", flush=True)
 

@@ -26,6 +26,8 @@ LINE = re.compile(r'acpidis: (?:table "(?P<file>[^"]*)": )?(?P<word>\w+)(?: at (
 GIVEN = re.compile(r"(\\[A-Z0-9_.]+) ([0-7])")
 METHOD = re.compile(rb"\x14(?:[\x00-\x3f]|[\x40-\x4f].|[\x80-\x8f]..|[\xc0-\xcf]...)([A-Z_][A-Z0-9_]{3})(.)", re.DOTALL)
 
+DUMPED = re.compile(rb"\s*(?:RSD PTR|[A-Z0-9!_]{4}) @ 0x[0-9A-Fa-f]+\s")
+
 AGAIN = "get the table again"
 OUT = "take the table out"
 HEADER_ALONE = "a header alone in its place lists the SSDTs (docs/refusals.md)"
@@ -78,6 +80,9 @@ WORDS = {
     "NoMemory": ("The system refused memory.", ["more memory, or fewer tables"], []),
     "NoThread": ("The system refused a thread.", ["`--workers 1`"], []),
 }
+# Of what acpidump printed, in place of a table.
+UNPACK = ["`acpidis-unpack FILE FOLDER` makes a folder of its tables"]
+OF_DUMPED = ("It is the text of acpidump.", UNPACK, UNPACK)
 # What is said of a byte of a table's AML.
 AT_BYTES = set("ModuleCode Truncated PkgPast PkgBits BadName UnknownOp NotHere StrayElse EmptyName BadCount TooDeep".split())
 # With --any-run given.
@@ -390,10 +395,17 @@ def is_return(asked, refusal):
     return aml_of(read_file(asked.folder, refusal.file))[refusal.at : refusal.at + 1] == b"\xa4"
 
 
+def words_on(asked, refusal):
+    """What is said of a refusal, and the ways on, of an SSDT and of a DSDT."""
+    if refusal.word == "Short" and DUMPED.match(read_file(asked.folder, refusal.file)):
+        return OF_DUMPED
+    told_by = {**WORDS, **RAN} if asked.any_run or is_return(asked, refusal) else WORDS
+    return told_by.get(refusal.word, ("", [], []))
+
+
 def say_all(asked, program, refusal):
     yield refusal.line
-    told_by = {**WORDS, **RAN} if asked.any_run or is_return(asked, refusal) else WORDS
-    what, ways, ways_of_dsdt = told_by.get(refusal.word, ("", [], []))
+    what, ways, ways_of_dsdt = words_on(asked, refusal)
     if refusal.file is not None and (refusal.word in AT_BYTES or refusal.word in SAYERS):
         yield from say_tables(Set(asked, program, refusal), refusal)
     elif refusal.file is not None:

@@ -34,21 +34,18 @@ from compare import PROGRAM  # noqa: E402
 from dumps import Dump  # noqa: E402
 from folders import read_folder  # noqa: E402
 from hostile import mutated  # noqa: E402
+from made_aml import method, packed, table  # noqa: E402
 from made_plain import PlainMaker  # noqa: E402
 from made_sets import sealed  # noqa: E402
 from running import REFUSED, Options, run  # noqa: E402
 from tally import Stopped, Tally  # noqa: E402
-from telling import DEMO, HOSTILE_FILES, PAGES_FILES, RUNS_FILES, method, packed  # noqa: E402
+from telling import DEMO, HOSTILE_FILES, PAGES_FILES, RUNS_FILES  # noqa: E402
 
 ASL, SPLICE, UNPACK, SHOW = (TOP / "examples" / f"{script}.py" for script in ("asl", "splice", "unpack", "show"))
 IASL, ACPIXTRACT = shutil.which("iasl"), shutil.which("acpixtract")
 HEADER, MOST_GROWN, GROWN = 36, 70_000, 150
 NOOP = b"\xA3"
 SAMPLES = {"pages": PAGES_FILES, "hostile": HOSTILE_FILES, "runs": RUNS_FILES, **board.VERSIONS}
-
-
-def table(signature, code, revision=2):
-    return sealed(signature + bytes(4) + bytes([revision]) + b"\0TEST  EXAMPLE \1\0\0\0TEST\1\0\0\0" + code)
 
 
 class Checks(Tally):
@@ -199,12 +196,7 @@ CALLED = (
 )
 SCOPED = "FOO_ (One)\n  }\n  Scope (FOO_) {", "FOO_ as a call, where nothing says that it is a method"
 # Texts that are no listings, with what is said of them.
-WHOLE = (
-    HEAD.format(2)
-    + "Namespace 4"
-    + ROWS
-    + 'DefinitionBlock ("a.dat") {\n  Method (FOO_, 1, NotSerialized, 0) {\n    Noop\n  }\n}\n'
-)
+WHOLE = f"{HEAD.format(2)}Namespace 4{ROWS}" 'DefinitionBlock ("a.dat") {\n  Method (FOO_, 1, NotSerialized, 0) {\n    Noop\n  }\n}\n'
 MISREAD = [
     ("", "it is empty"),
     ("\n", "it doesn't begin as a listing of acpidis does, with a line Table or Root"),
@@ -235,13 +227,9 @@ MISREAD = [
 
 def text_with(body, revision=2):
     return (
-        HEAD.format(revision)
-        + "Namespace 4"
-        + ROWS
-        + (
-            f'DefinitionBlock ("a.dat") {{\n  Method (FOO_, 1, NotSerialized, 0) {{\n    {body}\n  }}\n  Name (BAR_, One)\n'
-            "  Device (DEV0) {\n    Method (_STA, 0, NotSerialized, 0) {\n    }\n  }\n}\n"
-        )
+        f'{HEAD.format(revision)}Namespace 4{ROWS}DefinitionBlock ("a.dat") {{\n'
+        f"  Method (FOO_, 1, NotSerialized, 0) {{\n    {body}\n  }}\n  Name (BAR_, One)\n"
+        "  Device (DEV0) {\n    Method (_STA, 0, NotSerialized, 0) {\n    }\n  }\n}\n"
     )
 
 
@@ -506,14 +494,10 @@ def check_splice(checks):
     ran = checks.run(SPLICE, place + "old", place + "none", "NAM1")
     checks.is_same("no such file", (ran.returncode, ran.stderr), (2, "splice: 'splice/none': No such file or directory\n"))
     checks.is_same("no path", checks.run(SPLICE, place + "old", place + "new", "1").returncode, 2)
-    patched = spliced(
-        checks, "--oem-revision", "--initrd", "acpi.cpio", place + "old", place + "new", "\\DEV0.MET0", "dev0.nam0", "\\NAM1"
-    )
-    wanted = (
-        packed(b"\x5B\x82", b"DEV0" + b"\x08NAM0\x0A\x07" + method(b"MET0", 1, NOOP))
-        + b"\x08NAM1\x0D1\x00"
-        + method(b"TWIC", 0, b"") * 2
-    )
+    words = ["--oem-revision", "--initrd", "acpi.cpio", place + "old", place + "new", "\\DEV0.MET0", "dev0.nam0", "\\NAM1"]
+    patched = spliced(checks, *words)
+    wanted = packed(b"\x5B\x82", b"DEV0" + b"\x08NAM0\x0A\x07" + method(b"MET0", 1, NOOP)) + b"\x08NAM1\x0D1\x00"
+    wanted += method(b"TWIC", 0, b"") * 2
     head = bytearray(files["old"][:HEADER])
     head[24] += 1
     checks.is_same("what is put in", patched, sealed(bytes(head) + wanted))
@@ -623,13 +607,8 @@ def check_chain(checks):
     root = bytearray(b"RSD PTR \0TEST  \2\0\0\0\0\x24\0\0\0" + (0x2000).to_bytes(8, "little") + bytes(4))
     root[8] = -sum(root[:20]) & 255
     root[32] = -sum(root) & 255
-    tables = [
-        ("RSD PTR", 0x1000, bytes(root)),
-        ("XSDT", 0x2000, xsdt),
-        ("FACP", 0x3000, fadt),
-        ("DSDT", 0x4000, dsdt),
-        ("SSDT", 0x5000, ssdt),
-    ]
+    tables = [("RSD PTR", 0x1000, bytes(root)), ("XSDT", 0x2000, xsdt), ("FACP", 0x3000, fadt), ("DSDT", 0x4000, dsdt)]
+    tables += [("SSDT", 0x5000, ssdt)]
     for name, known, lines in (("chain", tables, 5), ("broken chain", tables[1:], 0)):
         (checks.room / name).write_text(acpidump(known))
         checks.run(UNPACK, name, name + ".d")
@@ -697,6 +676,12 @@ def check_forms(checks):
     checks.is_same("another dump", (ran.returncode, ran.stderr), (2, what))
 
 
+CHECKS = (
+    check_forms, check_told, check_misread, check_mutations, check_names, check_speed, check_splice, check_unpack, check_show,
+    check_grown,
+)  # fmt: skip
+
+
 def main():
     words = argparse.ArgumentParser(description=__doc__, formatter_class=argparse.RawDescriptionHelpFormatter)
     words.add_argument("--sets", metavar="N", type=int, default=200)
@@ -707,18 +692,7 @@ def main():
         print("iasl isn't there (acpica-tools): nothing is compiled")
     with tempfile.TemporaryDirectory() as room, contextlib.suppress(Stopped):
         checks = Checks(pathlib.Path(room), asked.stop)
-        for check in (
-            check_forms,
-            check_told,
-            check_misread,
-            check_mutations,
-            check_names,
-            check_speed,
-            check_splice,
-            check_unpack,
-            check_show,
-            check_grown,
-        ):
+        for check in CHECKS:
             check(checks)
         check_sets(checks, asked.sets, asked.folders)
         if IASL:

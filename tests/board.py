@@ -1,35 +1,6 @@
 """The tables of a made-up board, in two versions of its firmware, for docs/facts.md and the tests of facts."""
 
-
-def packed(opcode, content):
-    """An opcode with a package length of two bytes around its content."""
-    size = len(content) + 2
-    return opcode + bytes([0x40 | size & 15, size >> 4]) + content
-
-
-def scope(name, *terms):
-    return packed(b"\x10", name + b"".join(terms))
-
-
-def device(name, *terms):
-    return packed(b"\x5B\x82", name + b"".join(terms))
-
-
-def method(name, flags, *terms):
-    return packed(b"\x14", name + bytes([flags]) + b"".join(terms))
-
-
-def buffer(text):
-    data = bytes.fromhex(text)
-    return packed(b"\x11", b"\x0A" + bytes([len(data)]) + data)
-
-
-def field(region, flags, units):
-    return packed(b"\x5B\x81", region + bytes([flags]) + units)
-
-
-def region(name, space, offset, length):
-    return b"\x5B\x80" + name + bytes([space]) + offset + length
+from made_aml import buffer, device, field, method, region, scope, table
 
 
 def hardware(number):
@@ -44,12 +15,12 @@ PATCHED = method(b"_CRS", 0, b"\x8ABUF0\x0A\x04BASE", b"\x70ADDRBASE", b"\xA4BUF
 
 
 def hpet(address):
-    buffers = b"\x08BUF0" + buffer("86 09 00 01 00 00 D0 FE 00 04 00 00 79 00")
+    buffers = b"\x08BUF0" + buffer(bytes.fromhex("86 09 00 01 00 00 D0 FE 00 04 00 00 79 00"))
     return device(b"HPET", hardware("41 D0 01 03"), b"\x08ADDR" + address, buffers, PATCHED, method(b"_STA", 0, b"\xA4HPAE"))
 
 
 def controller(*more):
-    ports = b"\x08_CRS" + buffer("47 01 62 00 62 00 00 01 47 01 66 00 66 00 00 01 79 00")
+    ports = b"\x08_CRS" + buffer(bytes.fromhex("47 01 62 00 62 00 00 01 47 01 66 00 66 00 00 01 79 00"))
     memory = region(b"ERAM", EMBEDDED, b"\0", b"\x0B\0\1") + field(b"ERAM", 1, b"\0\x48\4" + b"LIDS\1")
     query = method(b"_Q13", 0, b"SMI_\1LIDS", b"\x86\\\x2E_SB_LID0\x0A\x80")
     return device(b"EC0_", hardware("41 D0 0C 09"), ports, memory, query, *more)
@@ -69,14 +40,6 @@ def dsdt(ports, address, *more):
     return scope(b"\\_SB_", start, bus) + sleep
 
 
-def table(signature, oem_table, code):
-    """A table with this OEM table in its header, and a right checksum."""
-    data = bytearray(signature + (36 + len(code)).to_bytes(4, "little"))
-    data += b"\2\0TEST  " + oem_table.ljust(8) + b"\1\0\0\0TEST\1\0\0\0" + code
-    data[9] = -sum(data) % 256
-    return bytes(data)
-
-
 # The second version leads the SMI through one port more, moves the HPET, and has a query of its own that calls what no
 # table declares.
 FIRST = dsdt(b"\x0A\2", HPET_AT)
@@ -87,8 +50,8 @@ DEBUG = region(b"DBGP", PORTS, b"\x0A\x80", b"\1") + field(b"DBGP", 1, b"DBG0\x0
 # The files of both by the names of their folders. The second has no SSDT, and another byte in a table without AML.
 VERSIONS = {
     "first": {
-        "dsdt.dat": table(b"DSDT", b"BOARD", FIRST), "ssdt1.dat": table(b"SSDT", b"DbgPort", DEBUG),
-        "dmar.dat": table(b"DMAR", b"BOARD", b"\x26\0"),
+        "dsdt.dat": table(b"DSDT", FIRST, b"BOARD"), "ssdt1.dat": table(b"SSDT", DEBUG, b"DbgPort"),
+        "dmar.dat": table(b"DMAR", b"\x26\0", b"BOARD"),
     },
-    "second": {"dsdt.dat": table(b"DSDT", b"BOARD", SECOND), "dmar.dat": table(b"DMAR", b"BOARD", b"\x26\1")},
+    "second": {"dsdt.dat": table(b"DSDT", SECOND, b"BOARD"), "dmar.dat": table(b"DMAR", b"\x26\1", b"BOARD")},
 }

@@ -20,6 +20,7 @@ sys.path.insert(0, str(TOP / "bench"))
 
 import bodies  # noqa: E402
 import hostile_shapes as shapes  # noqa: E402
+import measuring  # noqa: E402
 
 DEMO = TOP / "crates/acpidis_program/data/demo"
 METHODS = 20_000
@@ -62,7 +63,7 @@ def seconds_of(program, make, folder):
     """The processor time of a check of a shape."""
     folder.mkdir()
     for file, content in shapes.one(lambda _size: make())(0).items():
-        shapes.write_file(folder / file, content)
+        measuring.write_file(folder / file, content)
     usage = usage_of(program, "--check", "--workers", "1", folder)
     return round(usage.ru_utime + usage.ru_stime, 2)
 

@@ -14,7 +14,6 @@ import difflib
 import pathlib
 import re
 import shutil
-import subprocess
 import sys
 import tempfile
 
@@ -29,12 +28,11 @@ from acpidis_tools.identifiers import eisa_id, eisa_number, uuid_text  # noqa: E
 from iasl import facts_of  # noqa: E402
 from acpidis_tools.listing import read_listing  # noqa: E402
 from acpidis_tools.names import FIELD_LISTS, Names  # noqa: E402
-from pages import table  # noqa: E402
+from made_aml import buffer, device, method, packed, scope, table  # noqa: E402
 from acpidis_tools.resources import descriptors  # noqa: E402
 from running import REFUSED, Options, run_folder  # noqa: E402
 from acpidis_tools.standard import space_name, status_words  # noqa: E402
 from tally import Tally  # noqa: E402
-from telling import method, packed  # noqa: E402
 
 EISA = re.compile("[A-Z]{3}[0-9A-F]{4}")
 DEMO = TOP / "crates/acpidis_program/data/demo"
@@ -149,10 +147,6 @@ def check_words(checks: Tally) -> None:
 # ---- a set with a bit of everything
 
 
-def buffer(data: bytes) -> bytes:
-    return packed(b"\x11", b"\x0A" + bytes([len(data)]) + data)
-
-
 HPET = buffer(data_of("86 09 00 01 00 00 D0 FE 00 04 00 00 22 01 00 79 00"))
 UUID = buffer(data_of("5B 4D DB 33 F7 1F 1C 40 96 57 74 41 C0 3D D7 66"))
 # CreateDWordField (BUF0, 0x04, BASE), CreateBitField (BUF0, 0x68, BIT0)
@@ -167,7 +161,7 @@ DEVICE = (
 )
 PINS = "8C 1E 00 01 01 01 00 09 00 00 00 00 00 00 17 00 00 1B 00 21 00 00 00 01 00 02 00 LONG"
 LINES = b"\x5B\x80GPO0\x08\0\1" + packed(b"\x5B\x81", b"GPO0\1" + b"\2" + buffer(data_of(PINS)) + b"PIN0\1")
-CODE = packed(b"\x10", b"\\_SB_" + packed(b"\x5B\x82", b"EC0_" + DEVICE + LINES))
+CODE = scope(b"\\_SB_", device(b"EC0_", DEVICE, LINES))
 WANTED = """
 Name (_HID, 0x090CD041): PNP0C09 embedded controller
 Name (_CID, Package (0x02) {"ACPI0007", 0x0301D041}): ACPI0007 processor; PNP0103
@@ -221,8 +215,8 @@ OBJECTS = (
 
 def check_objects(checks: Tally, room: pathlib.Path) -> None:
     """Predefined objects in words, and values of another form without any."""
-    code = packed(b"\x5B\x82", b"PCI0" + OBJECTS)
-    odd = packed(b"\x5B\x82", b"PCI1" + b"\x08_PRT" + package(b"\0", package(b"\0")) + b"\x08_UPC\0" + b"\x08_WDG" + HPET)
+    code = device(b"PCI0", OBJECTS)
+    odd = device(b"PCI1", b"\x08_PRT" + package(b"\0", package(b"\0")), b"\x08_UPC\0", b"\x08_WDG" + HPET)
     (room / "objects").mkdir()
     (room / "objects/dsdt.dat").write_bytes(table(b"DSDT", code + odd))
     listing = read_listing(run_folder(room / "objects", Options()).out.encode())

@@ -17,22 +17,13 @@ import subprocess
 import sys
 import tempfile
 
-from pages import TOP, table
+from made_aml import device, packed as block, table
+from pages import TOP
 from tally import Stopped, Tally
-
-
-def block(opcode, content):
-    """An opcode with a package length of two bytes around its content."""
-    length = 2 + len(content)
-    return opcode + bytes([0x40 | length & 15, length >> 4]) + content
 
 
 def method(name, body, flags=0):
     return block(b"\x14", name + bytes([flags]) + body)
-
-
-def device(name, *terms):
-    return block(b"\x5b\x82", name + b"".join(terms))
 
 
 SUN = b"\x08_SUN\x01"
@@ -88,14 +79,8 @@ class Tries(Tally):
         (self.room / name / file).write_bytes(table(b"SSDT", code))
 
     def run(self, script, *words, **variables):
-        return subprocess.run(
-            [sys.executable, TOP / "examples" / script, *words],
-            cwd=self.room,
-            env={**os.environ, **variables},
-            capture_output=True,
-            text=True,
-            check=False,
-        )
+        words, how = [sys.executable, TOP / "examples" / script, *words], {"capture_output": True, "text": True, "check": False}
+        return subprocess.run(words, cwd=self.room, env={**os.environ, **variables}, **how)
 
     def row(self, name, run, status, out, *said):
         """This status and standard output, and these lines among those of standard error."""
@@ -324,6 +309,9 @@ def try_damage(tries):
     (tries.room / "twice/notes.txt").write_text("no table")
     found = tries.run("refused.py", "twice")
     tries.is_so("a text", found.returncode == 1 and "  6E 6F 20 74 61 62 6C 65\n" in found.stdout)
+    (tries.room / "twice/notes.txt").write_text("DSDT @ 0x0000000000000000\n    0000: 44 53 44 54 24 00 00 00\n")
+    found = tries.run("refused.py", "twice")
+    tries.is_so("the text of acpidump", "Way on: `acpidis-unpack FILE FOLDER`" in found.stdout and not found.stderr)
     (tries.room / "twice/notes.txt").unlink()
     with open("/dev/full", "wb") as full:
         run = subprocess.run(

@@ -29,11 +29,12 @@ sys.path[:0] = [str(TOP / "tests/oracle"), str(TOP / "tests")]
 sys.path.append(str(TOP / "examples"))
 
 from acpidis_tools import command  # noqa: E402
-from board import VERSIONS, packed, table  # noqa: E402
+from board import VERSIONS  # noqa: E402
 from dumps import aml_of, order_of  # noqa: E402
 from facts_picture import columns_text, picture  # noqa: E402
 from folders import read_folder  # noqa: E402
 from loading import path_text  # noqa: E402
+from made_aml import buffer, device, table  # noqa: E402
 from made_sets import SetMaker  # noqa: E402
 from page import Checks, first_difference  # noqa: E402
 from reading import EXTERNAL, FIELD_LISTS, Name, Named, Op  # noqa: E402
@@ -313,7 +314,7 @@ def check_many(checks: Checks, room: pathlib.Path) -> None:
     """Machines with one code, and machines without facts."""
     first = VERSIONS["first"]
     sets = {"rack/a": first, "rack/b": {**first, "dmar.dat": first["dmar.dat"][:-1] + b"\7"}, "none": {"notes": b"no table"}}
-    sets["rack/b"] |= {"dmar.dat": table(b"DMAR", b"BOARD", b"\7\7"), "more.dat": table(b"MORE", b"BOARD", b"")}
+    sets["rack/b"] |= {"dmar.dat": table(b"DMAR", b"\7\7", b"BOARD"), "more.dat": table(b"MORE", b"", b"BOARD")}
     texts = written_texts(room, {**sets, "second": VERSIONS["second"]})
     (texts / "cut").mkdir()
     lines = (texts / "second/text").read_text().splitlines(keepends=True)
@@ -513,16 +514,17 @@ def check_records(checks: Checks, room: pathlib.Path) -> None:
         ("Sleep", None, 10, "Sleep (0x0A)"), ("Stall", None, None, "Stall (NAME)"),
     ]
     checks.is_same("statements", rows_of(room / "records.facts", sql), wanted)
-    code = b"\x5B\x82" + packed(b"", b"DEV0" + b"\x08_CRS" + packed(b"\x11", b"\x0A" + bytes([len(WIRED)]) + WIRED))
-    outcome = run_folder(written(room / "wired", {"dsdt.dat": table(b"DSDT", b"WIRED", code)}), Options())
+    code = device(b"DEV0", b"\x08_CRS" + buffer(WIRED))
+    outcome = run_folder(written(room / "wired", {"dsdt.dat": table(b"DSDT", code)}), Options())
     (room / "wired.text").write_text(outcome.out)
     run(room / "wired.text", room / "wired.facts")
     wanted = [
         ("I2cSerialBus", None, "\\_SB_.I2C0", 400_000, None, None), ("GpioInt", "7", "\\GPI0", None, "level", "low"),
         ("IRQ", "5", None, None, "edge", "high"),
     ]
-    code = b"\x5B\x82" + packed(b"", b"DEV0\x08_ADR\x0C\x03\x00\x1F\x00\x5B\x80REG0\x02\x0A\x40\x01" + b"\x5B\x82\x0EDEV1\x5B\x80REG1\x02\0\x01")
-    outcome = run_folder(written(room / "pci", {"dsdt.dat": table(b"DSDT", b"PCI", code)}), Options())
+    inner = device(b"DEV1", b"\x5B\x80REG1\x02\0\x01")
+    code = device(b"DEV0", b"\x08_ADR\x0C\x03\x00\x1F\x00\x5B\x80REG0\x02\x0A\x40\x01", inner)
+    outcome = run_folder(written(room / "pci", {"dsdt.dat": table(b"DSDT", code)}), Options())
     (room / "pci.text").write_text(outcome.out)
     run(room / "pci.text", room / "pci.facts")
     found = rows_of(room / "pci.facts", "SELECT path, pci_device, pci_function FROM region ORDER BY id")

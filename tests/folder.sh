@@ -2,26 +2,11 @@
 # The command line, the reading of folders, and what the program writes where: its status, its lines on standard error and its
 # text. It runs ./acpidis, which builds the program first. Some rows are skipped where the system can't make the folder.
 
-here=$(CDPATH='' cd -- "$(dirname -- "$0")" && pwd) || exit 1
-"$here/../acpidis" --program >/dev/null 2>&1
-work=$(mktemp -d) || exit 1
-trap 'chmod -R u+rwx "$work"; rm -rf "$work"' EXIT
+. "$(dirname -- "$0")/rows.sh"
 chmod 755 "$work"
-cp "$here/../out/acpidis" "$work/program" || exit 1
-demo=$here/../crates/acpidis_program/data/demo
-cd "$work" || exit 1
-failed=0
-passed=0
-
-pass() {
-    passed=$((passed + 1))
-}
-
-# fail TEXT..: the last row failed
-fail() {
-    failed=$((failed + 1))
-    echo "FAILED $*"
-}
+"$top/acpidis" --program >/dev/null 2>&1
+cp "$top/out/acpidis" program || exit 1
+demo=$top/crates/acpidis_program/data/demo
 
 # row NAME STATUS LINES WORD..: the command has this status, and prints these lines on standard error, or nothing. Where it is
 # refused nothing goes to standard output.
@@ -265,6 +250,49 @@ row 'a folder with a slash' 0 '' ./program folder/
 ln -s folder link
 row 'a link to a folder' 0 '' ./program link
 
+# where standard error is a terminal a refusal has a second line: the way on
+cat >terminal.py <<'P'
+import os, pty, subprocess, sys
+
+leader, follower = pty.openpty()
+status = subprocess.run(sys.argv[1:], stderr=follower).returncode
+os.close(follower)
+try:
+    while data := os.read(leader, 4096):
+        os.write(2, data.replace(b"\r", b""))
+except OSError:
+    pass  # All is read.
+sys.exit(status)
+P
+try_any_run='acpidis: try --any-run, which takes what a run would declare; acpidis-refused FOLDER shows what stands there'
+ask_refused='acpidis: acpidis-refused FOLDER shows what stands there, and ways on'
+
+# led NAME LINE WAY WORD..: this line, and behind it the way on
+led() {
+    name=$1 line=$2 way=$3
+    shift 3
+    row "$name, to a terminal" 1 "$line
+$way" python3 terminal.py ./program "$@"
+}
+mkdir twice scope alias return named
+table twice/dsdt.dat DSDT 084141414100084141414100
+table scope/dsdt.dat DSDT 100541414141
+table alias/dsdt.dat DSDT 064242424241414141
+table return/dsdt.dat DSDT A400
+: >'named/: Duplicate \'
+led 'code outside methods' 'acpidis: table "dsdt.dat": ModuleCode at 0' "$try_any_run" --any-sum code
+led 'a path declared twice' 'acpidis: table "dsdt.dat": Duplicate \AAAA' "$try_any_run" twice
+led 'a Scope that is not there' 'acpidis: table "dsdt.dat": ScopeMissing \AAAA' "$try_any_run" scope
+led 'an Alias of nothing' 'acpidis: table "dsdt.dat": AliasMissing \BBBB' "$ask_refused" alias
+led 'a Return in any run' 'acpidis: table "dsdt.dat": ModuleCode at 0' "$ask_refused" --any-run return
+led 'a wrong checksum' 'acpidis: table "ssdt1.dat": BadSum' "$ask_refused" summed
+led 'a file that is named as a refusal' 'acpidis: table ": Duplicate \x5C": Short' "$ask_refused" named
+led 'no tables' 'acpidis: NoDsdt' "$ask_refused" empty
+led 'no folder' 'acpidis: cannot read folder' "acpidis: \"nowhere\" isn't there" nowhere
+led 'a file' 'acpidis: cannot read folder' 'acpidis: "file" is a file: put it into a folder, and name that' file
+row 'raw bodies, to a terminal' 3 "$raw_errors" python3 terminal.py ./program raw
+row 'nothing to say, to a terminal' 0 '' python3 terminal.py ./program folder
+
 # what is no regular file is passed over
 mkdir folder/sub folder/tables.map
 cp folder/dsdt.dat folder/sub/dsdt.dat
@@ -405,5 +433,4 @@ if mkdir many/"$(printf '\377')" 2>/dev/null; then
     row 'a link whose name is no text' 1 'acpidis: cannot read folder' ./program folder
 fi
 
-echo "$passed passed, $failed failed"
-[ "$failed" = 0 ]
+end

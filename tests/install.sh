@@ -1,24 +1,8 @@
 #!/bin/sh
 # ./install and ./install --remove, in a prefix of their own, and the completion. The last line is 'N passed, N failed'.
 
-here=$(CDPATH='' cd -- "$(dirname -- "$0")" && pwd) || exit 1
-top=${here%/*}
-work=$(mktemp -d) || exit 1
-trap 'rm -rf "$work"' EXIT
-cd "$work" || exit 1
+. "$(dirname -- "$0")/rows.sh"
 unset PREFIX DESTDIR PROGRAM LIBRARY
-passed=0
-failed=0
-
-# is NAME GOT WANTED
-is() {
-    if [ "$2" = "$3" ]; then
-        passed=$((passed + 1))
-    else
-        failed=$((failed + 1))
-        printf 'FAILED %s: got\n%s\nnot\n%s\n' "$1" "$2" "$3"
-    fi
-}
 
 files() {
     find "$1" -type f -o -type l | LC_ALL=C sort
@@ -161,5 +145,4 @@ mkdir shut
 said=$(PREFIX=$work/shut "$top/install" 2>&1 | tail -n 1)
 is 'where nothing can be written' "$said" "install: cannot write $work/shut/bin/acpidis"
 
-echo "$passed passed, $failed failed"
-[ "$failed" = 0 ]
+end

@@ -33,7 +33,7 @@ from compare import PROGRAM  # noqa: E402
 from dumps import HEADER_LENGTH, MOST_BYTES, MOST_DUMPS, Dump  # noqa: E402
 from loading import MOST_METHODS  # noqa: E402
 from made_code import MOST_SEGMENTS  # noqa: E402
-from pages import table  # noqa: E402
+from made_aml import packed, table  # noqa: E402
 from running import DONE, RAW, REFUSED, Options, run, run_folder  # noqa: E402
 
 LIST, CHECK = Options(), Options(check=True)
@@ -188,8 +188,7 @@ def segment(number):
 
 def with_length(opcode, content):
     """A package, its length spelled in four bytes."""
-    size = 4 + len(content)
-    return opcode + bytes([0xC0 | size & 15]) + (size >> 4).to_bytes(3, "little") + content
+    return packed(opcode, content, 4)
 
 
 def method(name, body, count=0):

@@ -4,13 +4,7 @@
 # copy of the launcher beside a command rt that only pretends. Else the program is built first where that is wanted. With the
 # word real only the rows that need it are tried.
 
-here=$(CDPATH='' cd -- "$(dirname -- "$0")" && pwd) || exit 1
-top=$(dirname -- "$here")
-work=$(mktemp -d) || exit 1
-trap 'rm -rf "$work"' EXIT
-cd "$work" || exit 1
-failed=0
-passed=0
+. "$(dirname -- "$0")/rows.sh"
 
 # row NAME STATUS WANTED WORD..: the command has this status, and what it prints has this line
 row() {
@@ -19,32 +13,17 @@ row() {
     "$@" >printed 2>&1 </dev/null
     got=$?
     if [ "$got" = "$status" ] && grep -qxF -- "$line" printed; then
-        passed=$((passed + 1))
+        pass
     else
-        failed=$((failed + 1))
-        printf 'FAILED %s: status %s, not %s; wanted the line\n  %s\nprinted\n' "$name" "$got" "$status" "$line"
+        fail "$name: status $got, not $status; wanted the line"
+        printf '  %s\nprinted\n' "$line"
         sed 's/^/  /' printed
     fi
 }
 
 # same NAME: what was printed is the demo's text and nothing else
 same() {
-    if cmp -s printed "$top/crates/acpidis_program/stdout"; then
-        passed=$((passed + 1))
-    else
-        failed=$((failed + 1))
-        echo "FAILED $1"
-    fi
-}
-
-# is NAME GOT WANTED
-is() {
-    if [ "$2" = "$3" ]; then
-        passed=$((passed + 1))
-    else
-        failed=$((failed + 1))
-        printf 'FAILED %s: got\n%s\nnot\n%s\n' "$1" "$2" "$3"
-    fi
+    if cmp -s printed "$top/crates/acpidis_program/stdout"; then pass; else fail "$1"; fi
 }
 
 mkdir copy empty commands folder
@@ -74,16 +53,9 @@ real_rows() {
     is 'the help that needs no build' "$("$top/acpidis" --help)" "$("$top/out/acpidis" --help 2>&1)"
 }
 
-# done: the last line
-done_all() {
-    echo "$passed passed, $failed failed"
-    [ "$failed" = 0 ]
-    exit
-}
-
 if [ "${1-}" = real ]; then
     real_rows
-    done_all
+    end
 fi
 
 # with nothing built, and no kit
@@ -212,4 +184,4 @@ row 'a changed source' 0 'built|folder|' env PATH="$path" RT_JOBS=4 copy/acpidis
 is 'a changed source is built' "$(grep -c '^begin' log)" 18
 
 if [ "${1-}" != copy ]; then real_rows; fi
-done_all
+end

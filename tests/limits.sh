@@ -9,7 +9,7 @@
 # PROGRAM is out/acpidis if left out. The sweep takes some minutes, with --short seconds. With --stop it ends at the first set
 # that isn't read whole without limits. The last line is 'N passed, N failed'.
 
-top=$(CDPATH='' cd -- "$(dirname -- "$0")/.." && pwd) || exit 1
+. "$(dirname -- "$0")/rows.sh"
 memory_step=1000
 stack_step=16
 workers='1 4 64'
@@ -19,22 +19,16 @@ if [ "${1-}" = --short ]; then
     workers='1 4'
     shift
 fi
-stop=
 if [ "${1-}" = --stop ]; then
     stop=yes
     shift
 fi
 program=${1:-$top/out/acpidis}
-work=$(mktemp -d) || exit 1
-trap 'rm -rf "$work"' EXIT
-cd -- "$work" || exit 1
-passed=0
-failed=0
-
 PYTHONDONTWRITEBYTECODE=1 PYTHONPATH=$top/bench python3 - <<'END' || exit 1
 import pathlib
 
 import hostile_shapes as shapes
+import measuring
 
 SETS = {
     "ifs": lambda: shapes.indented(2_000, 508),
@@ -49,7 +43,7 @@ for name, make in SETS.items():
     folder = pathlib.Path("sets") / name
     folder.mkdir(parents=True)
     for file, content in shapes.one(lambda _size: make())(0).items():
-        shapes.write_file(folder / file, content)
+        measuring.write_file(folder / file, content)
 END
 
 # limited OPTION KB COMMAND..: runs a command under a limit of so many KB
@@ -79,12 +73,7 @@ is_right() {
 try() {
     limited "$@"
     status=$?
-    if is_right; then
-        passed=$((passed + 1))
-    else
-        failed=$((failed + 1))
-        echo "FAILED ulimit $*: status $status, $(head -n 1 lines)"
-    fi
+    if is_right; then pass; else fail "ulimit $*: status $status, $(head -n 1 lines)"; fi
 }
 
 # With so many KB each set is read whole.
@@ -95,9 +84,8 @@ least=4000
 until limited -v "$least" "$program" --version && grep -q acpidis text; do
     least=$((least + 500))
     if [ "$least" -gt 1000000 ]; then
-        echo "$program doesn't start, or ulimit -v does nothing here"
-        echo '0 passed, 1 failed'
-        exit 1
+        fail "$program doesn't start, or ulimit -v does nothing here"
+        end
     fi
 done
 echo "the program starts with $least KB"
@@ -112,11 +100,9 @@ for set in sets/*; do
     "$program" "$reading" "$set" >text 2>lines
     status=$?
     if is_right && [ "$complete" = yes ]; then
-        passed=$((passed + 1))
+        pass
     else
-        failed=$((failed + 1))
-        echo "FAILED $set without limits: status $status, $(head -n 1 lines)"
-        if [ "$stop" ]; then break; fi
+        fail "$set without limits: status $status, $(head -n 1 lines)"
         continue
     fi
     for count in $workers; do
@@ -128,8 +114,7 @@ for set in sets/*; do
             limit=$((limit + memory_step))
         done
         if [ "$in_a_row" -lt 3 ]; then
-            failed=$((failed + 1))
-            echo "FAILED $set, $count workers: not whole with $most KB"
+            fail "$set, $count workers: not whole with $most KB"
             break
         fi
         echo "$set, $count workers: whole from $((limit - 3 * memory_step)) KB"
@@ -145,31 +130,27 @@ done
 # Each shape stands with the bytes of memory that a byte of it may take.
 for bound in names-outside=128 regions-outside=128 terms-outside=64 connections-outside=64 \
     deep-owners=64 deep-owners-run=128 deep-pairs=64; do
-    if PYTHONDONTWRITEBYTECODE=1 PYTHONPATH=$top/bench python3 - "$program" "${bound%=*}" "${bound#*=}" <<'END'; then
+    PYTHONDONTWRITEBYTECODE=1 PYTHONPATH=$top/bench python3 - "$program" "${bound%=*}" "${bound#*=}" >told 2>&1 <<'END'
 import pathlib
 import sys
 
-import hostile
 import hostile_shapes
-import runs
+import measuring
 
 MOST_SECONDS, STARTED_BYTES = 2, 40_000_000
 
 program, name, bytes_a_byte = sys.argv[1:]
 shape = next(it for it in hostile_shapes.SHAPES if it.name == name)
 folder = pathlib.Path("shapes") / name
-hostile.write(folder, shape.make, shape.size)
+measuring.write(folder, lambda: shape.make(shape.size))
 most_bytes = STARTED_BYTES + int(bytes_a_byte) * sum(file.stat().st_size for file in folder.iterdir())
 command = [program, "--workers", "1", "--check", *shape.options(folder), "."]
-_, seconds, peak, status = runs.run(command, folder, 60) or (60, 60, 0, None)
+_, seconds, peak, status = measuring.run(command, folder, 60) or (60, 60, 0, None)
 if status not in (0, 3) or seconds > MOST_SECONDS or peak > most_bytes:
-    sys.exit(f"FAILED {name}: status {status}, {seconds:.2f} s of a processor, {peak} bytes of memory of {most_bytes}")
+    sys.exit(f"{name}: status {status}, {seconds:.2f} s of a processor, {peak} bytes of memory of {most_bytes}")
 print(f"{name}: {seconds:.2f} s of a processor, {peak / 1e6:.0f} MB")
 END
-        passed=$((passed + 1))
-    else
-        failed=$((failed + 1))
-    fi
+    # shellcheck disable=SC2181 # the here-document ends the command
+    if [ $? = 0 ]; then pass && cat told; else fail "$(cat told)"; fi
 done
-echo "$passed passed, $failed failed"
-[ "$failed" = 0 ]
+end

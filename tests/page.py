@@ -35,6 +35,7 @@ from dumps import aml_of, order_of  # noqa: E402
 from acpidis_tools.errors import read_errors  # noqa: E402
 from folders import read_folder  # noqa: E402
 from acpidis_tools.listing import read_listing  # noqa: E402
+from made_aml import method, table  # noqa: E402
 from made_sets import SetMaker  # noqa: E402
 from acpidis_tools.page.markup import page  # noqa: E402
 from acpidis_tools.names import Names  # noqa: E402
@@ -42,7 +43,7 @@ from page_html import Read, read_page  # noqa: E402
 from running import REFUSED, Options, Outcome, run_folder  # noqa: E402
 from acpidis_tools.page.sheet import Sheet  # noqa: E402
 from tally import Tally  # noqa: E402
-from telling import DEMO, HOSTILE_FILES, PAGES_FILES, RUNS_FILES, Teller, method, written  # noqa: E402
+from telling import DEMO, HOSTILE_FILES, PAGES_FILES, RUNS_FILES, Teller, written  # noqa: E402
 
 PAGE = TOP / "examples/page.py"
 ELEMENTS = set(
@@ -187,7 +188,7 @@ def check_comparison(checks: Checks) -> None:
     """A set beside one whose DSDT adds a name, lacks a method and changes a name, and beside itself."""
     code = pages.DSDT.replace(b"BAR_\x0A\x05", b"BAR_\x0A\x06")
     code = code.replace(b"\x14\x0BCALL\x00\xA4ZZZZ", b"\x08NEW_\x0D<b>\x00")
-    other = {**PAGES_FILES, "dsdt.dat": pages.table(b"DSDT", code)}
+    other = {**PAGES_FILES, "dsdt.dat": table(b"DSDT", code)}
     sets = {"one": PAGES_FILES, "two": other}
     one, two = (run_folder(written(checks.room / name, files), Options()) for name, files in sets.items())
     html = checks.page(one, "--compare", checks.file("other & <b>", two.out))
@@ -204,7 +205,7 @@ def check_comparison_lines(checks: Checks) -> None:
     other = one.replace(b"\x70\x0A\x05\x61", b"\x70\x0A\x06\x61")
     texts = []
     for name, code, count in (("first", one, 5), ("second", other, 6)):
-        files = {"dsdt.dat": pages.table(b"DSDT", code), "ssdt.dat": pages.table(b"OEM%d" % count, b"")}
+        files = {"dsdt.dat": table(b"DSDT", code), "ssdt.dat": table(b"OEM%d" % count, b"")}
         texts.append(run_folder(written(checks.room / name, files), Options()))
     html = checks.page(texts[0], "--compare", checks.file("other", texts[1].out))
     lines = texts[0].out.splitlines()

@@ -8,13 +8,14 @@ print. They run in a folder with `mine`, the set of docs/listing.md, whose text 
 `boards`, the sets of tests/board.py, and with `examples`; `./acpidis` is the launcher. Then they run once more as the
 commands of an installed program, `acpidis-page` for `examples/page.py`. What README quotes from a source has to stand there.
 README has at most 2,000 words, and docs no more pages and words than they may. Each link leads to a file, and to a heading of
-it. Each contract and definition that docs/work/proofs.md names stands in its crate, each wrong body of a file
-wrong-bodies.goals too, and each name of the sources' kind that a page marks as code stands in some source. Then the manual page
-is looked through by mandoc and groff, each where it is installed, and its options and README's are compared with the
+it. Each contract and definition that docs/work/proofs.md names stands in its crate, each clause that a crate's README names too,
+each wrong body of a file wrong-bodies.goals, and each name of the sources' kind that a page marks as code in some source. Then
+the manual page is looked through by mandoc and groff, each where it is installed, and its options and README's are compared with the
 program's, its words and docs/refusals.md's with the sources'. Last, the scripts that the pages speak of are tried, but with
 --no-scripts. The last line is 'N passed, N failed'.
 """
 
+import itertools
 import os
 import pathlib
 import re
@@ -24,6 +25,7 @@ import sys
 import tempfile
 
 from board import VERSIONS
+from made_aml import table
 
 TOP = pathlib.Path(__file__).resolve().parent.parent
 LISTING = "docs/listing.md"
@@ -36,7 +38,7 @@ PROOFS = "docs/work/proofs.md"
 MEANING = "docs/meaning.md"
 MOST_WORDS = 2000
 # Of docs without meaning.md, which is made of the sources
-MOST_PAGES, MOST_WORDS_OF_PAGES = 16, 27000
+MOST_PAGES, MOST_WORDS_OF_PAGES = 16, 25500
 # What pages call a thing that no source names
 MADE_UP = {"draw_copy1", "Lts"}
 SCRIPTS = ["tests/meaning.py", "tests/survey.sh", "tests/install.sh", "tests/examples.py", "tests/library.sh"]
@@ -52,14 +54,6 @@ if [ "$2" = dead ]; then
 fi
 exec tar -C mine -cf - .
 """
-
-
-def table(signature, code):
-    """A table with this AML and a right checksum."""
-    data = bytearray(signature + (36 + len(code)).to_bytes(4, "little"))
-    data += b"\2\0TEST  EXAMPLE \1\0\0\0TEST\1\0\0\0" + code
-    data[9] = -sum(data) % 256
-    return bytes(data)
 
 
 def make_room(room, is_installed):
@@ -200,21 +194,14 @@ def fails_of_links():
 
 def fails_of_proofs():
     """Of each crate, whether the page of proofs names a contract or a definition that isn't there."""
-    rows = re.findall(r"^\| (`\w+`(?:, `\w+`)*) \| (.*?) \| (.*?) \|(.*)\|$", (TOP / PROOFS).read_text(), re.MULTILINE)
-    rows = [
-        (re.findall(r"\w+", crates), row) for crates, *row in rows if (TOP / "crates" / re.search(r"\w+", crates)[0]).is_dir()
-    ]
+    rows = re.findall(r"^\| (\[`\w+`\]\(.*?\)) \| (.*?) \|(.*)\|$", (TOP / PROOFS).read_text(), re.MULTILINE)
     if len(rows) < 10:
         print(f"FAILED {PROOFS}: it names no crate")
     yield len(rows) < 10
-    for crates, (_, contracts, definitions) in rows:
-        files = [
-            file
-            for crate in crates
-            for kind in ("src/**/*.rt", "specs/*.antt", "proofs/*.antt")
-            for file in (TOP / "crates" / crate).glob(kind)
-        ]
-        text = "\n".join(file.read_text() for file in files)
+    for links, contracts, definitions in rows:
+        crates = re.findall(r"`(\w+)`", links)
+        kinds = itertools.product(crates, ("src/**/*.rt", "specs/*.antt", "proofs/*.antt"))
+        text = "\n".join(file.read_text() for crate, kind in kinds for file in (TOP / "crates" / crate).glob(kind))
         names = [name.split("::")[-1] for name in re.findall(r"`([\w:]+)`", contracts + definitions)]
         form = r"^ *[a-z ()]*\b{0}\b.*?(?: : |[(<])|\b(?:struct|enum|trait|fn|impl) {0}\b|\b{0} for\b"
         lacking = [name for name in names if not re.search(form.format(name), text, re.MULTILINE)]
@@ -223,27 +210,23 @@ def fails_of_proofs():
         yield bool(lacking)
 
 
+def fails_of_crates():
+    """Of each crate, whether it has no README, or one that names a clause which isn't there."""
+    for name in re.findall(r"^(\w+)", (TOP / "crates.txt").read_text(), re.MULTILINE):
+        crate = TOP / "crates" / name
+        text = (crate / "README.md").read_text() if (crate / "README.md").is_file() else ""
+        clauses = {word for words in re.findall(r"\(((?:`\w+`(?:, )?)+)\)", text) for word in re.findall(r"\w+", words)}
+        sources = "\n".join(file.read_text() for file in [*crate.glob("src/**/*.rt"), *crate.glob("specs/*.antt")])
+        lost = clauses - set(re.findall(r"\w+", sources))
+        if not text or lost:
+            print(f"FAILED crates/{name}/README.md: {'it has not ' + ', '.join(sorted(lost)) if lost else 'it is missing'}")
+        yield not text or bool(lost)
+
+
 def words_of_sources():
     """All words of the sources and scripts, and the names of their files."""
-    kinds = (
-        "crates/*/src/**/*.rt",
-        "crates/*/specs/*.antt",
-        "crates/*/proofs/**/*.antt",
-        "crates/*/must-fail/*",
-        "crates/*/*.edits",
-    )
-    kinds += (
-        "crates/acpi_cases/std*",
-        "tests/**/*.*",
-        "examples/**/*.*",
-        "bench/*.*",
-        "library/*.*",
-        "acpidis",
-        "build",
-        "install",
-        "package",
-        "test",
-    )
+    kinds = "crates/*/src/**/*.rt crates/*/specs/*.antt crates/*/proofs/**/*.antt crates/*/must-fail/* crates/*/*.edits".split()
+    kinds += "crates/acpi_cases/std* tests/**/*.* examples/**/*.* bench/*.* library/*.* acpidis build install package test".split()
     files = [file for kind in kinds for file in TOP.glob(kind) if file.is_file() and file.suffix not in (".pyc", ".png")]
     return {word for file in files for word in (*re.findall(r"\w+", file.read_text(errors="replace")), *file.parts, file.stem)}
 
@@ -332,8 +315,8 @@ def fails_of_scripts():
 
 def main():
     fails = [fail for name in PAGES for is_installed in (False, True) for fail in fails_of(f"docs/{name}.md", is_installed)]
-    fails += [*fails_of_readme(), *fails_of_links(), *fails_of_proofs(), *fails_of_names(), *fails_of_goals()]
-    fails += [*fails_of_manual(), *fails_of_words()]
+    fails += [*fails_of_readme(), *fails_of_links(), *fails_of_proofs(), *fails_of_crates(), *fails_of_names()]
+    fails += [*fails_of_goals(), *fails_of_manual(), *fails_of_words()]
     if "--no-scripts" not in sys.argv:
         fails += fails_of_scripts()
     print(f"{fails.count(False)} passed, {fails.count(True)} failed")

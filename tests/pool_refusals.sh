@@ -7,22 +7,15 @@
 # With the word starts only the first part runs, as in ./test: a limit of the address space refuses starts of the built
 # program crates/pool_bench, which takes a second. The second part refuses each growth of three harvests in turn, and takes
 # half an hour, since each is a run of its own that is compiled anew.
-top=$(CDPATH='' cd -- "$(dirname -- "$0")/.." && pwd) || exit 1
+. "$(dirname -- "$0")/rows.sh"
+stop=yes
 cd "$top/crates/pool_bench" || exit 1
 [ -x out/pool_bench ] || rt run -- answer 2 7 >/dev/null 2>&1 || exit 1
-passed=0
-
-# fail TEXT: an answer is another one than may come
-fail() {
-    echo "FAILED $1"
-    echo "$passed passed, 1 failed"
-    exit 1
-}
 
 # is_answer WHAT ANSWER: the answer is the whole one, or a refusal
 is_answer() {
     case $2 in
-    whole | 'no memory' | 'no thread' | Error*) passed=$((passed + 1)) ;;
+    whole | 'no memory' | 'no thread' | Error*) pass ;;
     *) fail "$1: another answer: $2" ;;
     esac
 }
@@ -55,4 +48,4 @@ done
         n=$((n + 1))
     done
 done
-echo "$passed passed, 0 failed"
+end

@@ -9,24 +9,20 @@
 # outside methods. Each thread that was started has to be joined, and a want is an answer only where something was
 # refused. With the word program only the program runs so, as in ./test, in some seconds; the tests are proved and built
 # first. It needs a C compiler, for refusals.c.
-top=$(CDPATH='' cd -- "$(dirname -- "$0")/.." && pwd) || exit 1
+. "$(dirname -- "$0")/rows.sh"
 parts=${1-all}
-work=$(mktemp -d) || exit 1
-trap 'rm -rf "$work"' EXIT
 sweeps=0
 
 compiler=${CC:-$(command -v cc || command -v gcc || command -v clang)}
 if [ -z "$compiler" ]; then
-    echo 'FAILED: there is no C compiler, so that nothing can be refused, and nothing is tried'
-    echo '0 passed, 1 failed'
-    exit 1
+    fail 'there is no C compiler, so that nothing can be refused, and nothing is tried'
+    end
 fi
 "$compiler" -O1 -shared -fPIC -o "$work/refusals.so" "$top/tests/refusals.c" -ldl || exit 1
 if [ "$parts" = all ]; then
     (cd "$top/crates/library_tests" && rt test -- memory) >"$work/log" 2>&1 || { cat "$work/log"; exit 1; }
 fi
-"$top/acpidis" demo >/dev/null 2>"$work/log" || { cat "$work/log"; exit 1; }
-cd "$work" || exit 1
+"$top/acpidis" demo >/dev/null 2>log || { cat log; exit 1; }
 
 # run_refused HOW N COMMAND..: runs the command with its Nth growth or start refused. Sets its status, and how many
 # growths, starts, refused starts and joins there were.
@@ -125,12 +121,9 @@ if [ "$parts" = all ]; then
     wait
 fi
 
-passed=0
-failed=0
 for number in $(seq "$sweeps"); do
     cat "$number/told"
     passed=$((passed + $(cat "$number/passed")))
     if [ ! -e "$number/whole_sweep" ]; then failed=$((failed + 1)); fi
 done
-echo "$passed passed, $failed failed"
-[ "$failed" = 0 ]
+end

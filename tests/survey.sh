@@ -2,31 +2,12 @@
 # examples/survey.sh: odd names, refused sets, sets that end a run, and surveys that are broken off. It runs ./acpidis,
 # which builds the program first. With the word --stop the first row that fails ends it. The last line is 'N passed, N failed'.
 
-here=$(CDPATH='' cd -- "$(dirname -- "$0")" && pwd) || exit 1
-"$here/../acpidis" --program >/dev/null 2>&1
-work=$(mktemp -d) || exit 1
-trap 'chmod -R u+rwx "$work"; rm -rf "$work"' EXIT
-program=$here/../out/acpidis
-demo=$here/../crates/acpidis_program/data/demo
-survey=$here/../examples/survey.sh
-cd "$work" || exit 1
+. "$(dirname -- "$0")/rows.sh"
+"$top/acpidis" --program >/dev/null 2>&1
+program=$top/out/acpidis
+demo=$top/crates/acpidis_program/data/demo
+survey=$top/examples/survey.sh
 stop=${1-}
-passed=0
-failed=0
-
-# is NAME GOT WANTED
-is() {
-    if [ "$2" = "$3" ]; then
-        passed=$((passed + 1))
-    else
-        failed=$((failed + 1))
-        printf 'FAILED %s: got\n%s\nnot\n%s\n' "$1" "$2" "$3"
-        if [ "$stop" = --stop ]; then
-            echo "$passed passed, $failed failed"
-            exit 1
-        fi
-    fi
-}
 
 # slow.sh is the program, which waits first; calls has a line for each run of it
 cat >slow.sh <<S
@@ -203,7 +184,7 @@ fi
 is 'help' "$("$survey" --help | head -n 1 | cut -c 1-12)" 'Runs acpidis'
 
 # collect.sh, with another ssh: a host that sends tables, one that sends half of them, one that fails, one that is silent
-collect=$here/../examples/collect.sh
+collect=$top/examples/collect.sh
 mkdir commands
 cat >commands/ssh <<S
 #!/bin/sh
@@ -266,5 +247,4 @@ is 'regular files alone' "$(cd collected/odd1 && find . -printf '%p %m|' | tr '|
 # shellcheck disable=SC2012 # the names are known
 is 'no part of these is left' "$(ls -A collected | tr '\n' ' ')" 'good1 good2 log odd1 '
 
-echo "$passed passed, $failed failed"
-[ "$failed" = 0 ]
+end

@@ -9,6 +9,7 @@ sys.path.append(str(TOP / "tests/oracle"))
 import pages  # noqa: E402
 from any_run import RunNamespace, RunReader  # noqa: E402
 from loading import Loaded, Namespace  # noqa: E402
+from made_aml import device, method, packed, table  # noqa: E402
 from reading import ALIAS, ELSE, EXTERNAL, FIELD_LISTS, IF, METHOD, ROWS, SCOPE, SCOPES  # noqa: E402
 from reading import Name, Named, Op, Reader  # noqa: E402
 from running import Options  # noqa: E402
@@ -23,21 +24,8 @@ Told = tuple[str, str, object, tuple]
 # ---- sample sets
 
 
-def packed(opcode: bytes, content: bytes) -> bytes:
-    size = len(content) + 2
-    return opcode + bytes([0x40 | size & 15, size >> 4]) + content
-
-
-def method(name: bytes, flags: int, body: bytes) -> bytes:
-    return packed(b"\x14", name + bytes([flags]) + body)
-
-
 def field_list(region: bytes, units: bytes) -> bytes:
     return b"\x5B\x80" + region + b"\0\0\x0A\x10" + packed(b"\x5B\x81", region + b"\1" + units)
-
-
-def device(name: bytes, terms: bytes) -> bytes:
-    return packed(b"\x5B\x82", name + terms)
 
 
 HOSTILE_TEXT = b"<script>alert(1)</script>&amp;'\"\x01 -->"
@@ -64,11 +52,11 @@ SSDT = (
     + packed(b"\x10", b"\\\0\x08LATE" + packed(b"\x12", b"\4INITLATE.PCI0INIT\\\0"))
 )
 HOSTILE_FILES = {
-    "<script>alert(1)<!--&\"'.dat": pages.table(b"DSDT", DSDT),
-    "ssdt1 \" onload=alert(1) x='&lt;": pages.table(b"SSDT", SSDT),
-    "x\n<b>.dat": pages.table(b"OEM1", b""),
+    "<script>alert(1)<!--&\"'.dat": table(b"DSDT", DSDT),
+    "ssdt1 \" onload=alert(1) x='&lt;": table(b"SSDT", SSDT),
+    "x\n<b>.dat": table(b"OEM1", b""),
 }
-PAGES_FILES = {"dsdt.dat": pages.table(b"DSDT", pages.DSDT), "ssdt1.dat": pages.table(b"SSDT", pages.SSDT)}
+PAGES_FILES = {"dsdt.dat": table(b"DSDT", pages.DSDT), "ssdt1.dat": table(b"SSDT", pages.SSDT)}
 
 # Two branches that declare a method, a nearer one that only may stand, a Device that is declared again, a Scope of what
 # nothing declares, and code that runs in front of a nearer declaration.
@@ -80,7 +68,7 @@ RUNS = (
     b"\x08COND\0" + BRANCHES + device(b"DEV0", NEARER + method(b"CALL", 0, b"FOO_\1"))
     + device(b"DEV0", b"\x08LATE\0") + packed(b"\x10", b"\\RP99" + b"\x08NEAR\0")
 )
-RUNS_FILES = {"dsdt.dat": pages.table(b"DSDT", RUNS)}
+RUNS_FILES = {"dsdt.dat": table(b"DSDT", RUNS)}
 
 DEMO = TOP / "crates/acpidis_program/data/demo"
 

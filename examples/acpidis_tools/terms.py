@@ -93,12 +93,6 @@ class Reader:
             self.last = above[-1] if above else None
 
 
-def term_of(line: Line) -> Term | None:
-    """The term of a line; None of one without a word, and of a raw body's."""
-    terms = terms_of(line)
-    return terms[0] if terms else None
-
-
 def terms_of(line: Line) -> list[Term]:
     if not line.term or line.term == "Raw":
         return []

@@ -22,6 +22,8 @@ LIKELY_BYTES = [
 ]
 MOST_DEPTH = 6
 MOST_SEGMENTS = 255
+# What a package length of each width stays below, and the widest.
+BOUNDS, WIDEST = (64, 1 << 12, 1 << 20, 1 << 28), 4
 ARGUMENT_COUNTS = [0, 0, 0, 1, 1, 2, 2, 3, 7]
 
 
@@ -30,15 +32,30 @@ def predefined_counts():
     return {path: kind[1] if kind[0] == "Method" else 0 for path, kind in PREDEFINED.items()}
 
 
+def prefix_of(name):
+    return b"\\" if name.root else b"^" * name.ups
+
+
+def shortest(name):
+    """The bytes of a name, in the shortest form that it can have."""
+    lead = {0: b"\0", 1: b"", 2: b"."}.get(len(name.segs), b"/%c" % len(name.segs))
+    return prefix_of(name) + lead + "".join(name.segs).encode()
+
+
 def spelled(chance, name):
     """The bytes of a name, in one of the forms that it can have."""
-    segs = [seg.encode() for seg in name.segs]
-    front = b"\\" if name.root else b"^" * name.ups
-    if not segs:
-        return front + b"\0"
-    if len(segs) <= 2 and chance.random() < 0.85:
-        return front + (b"." if len(segs) == 2 else b"") + b"".join(segs)
-    return front + b"/%c" % len(segs) + b"".join(segs)
+    if len(name.segs) in (1, 2) and chance.random() >= 0.85:
+        return prefix_of(name) + b"/%c" % len(name.segs) + "".join(name.segs).encode()
+    return shortest(name)
+
+
+def package_length(content, least_width):
+    """The shortest package length over this many bytes that has at least so many bytes itself."""
+    width = next(width for width in range(least_width, WIDEST + 1) if content + width < BOUNDS[width - 1])
+    value = content + width
+    if width == 1:
+        return bytes([value])
+    return bytes([(width - 1) << 6 | value & 15]) + (value >> 4).to_bytes(width - 1, "little")
 
 
 class Maker:
@@ -111,10 +128,8 @@ class Maker:
 
     def length(self, size):
         """A package length, sometimes wider than it needs to be."""
-        widths = [width for width in (1, 2, 3, 4) if size + width < (64, 1 << 12, 1 << 20, 1 << 28)[width - 1]]
-        width = widths[0] if self.chance.random() < 0.85 else self.chance.choice(widths)
-        value = size + width
-        return bytes([value]) if width == 1 else bytes([(width - 1) << 6 | value & 15]) + (value >> 4).to_bytes(width - 1, "little")
+        widths = [width for width in range(1, WIDEST + 1) if size + width < BOUNDS[width - 1]]
+        return package_length(size, 1 if self.chance.random() < 0.85 else self.chance.choice(widths))
 
     def bits(self):
         bits = self.chance.randrange(300)

@@ -1,6 +1,7 @@
 """Makes up AML that ASL has: each length, number and name in its shortest form, and no term alone that ASL has as a part."""
 
-from made_code import DATA, IN_BODIES, IN_DEEP_BODIES, MOST_DEPTH, PLAIN_DATA, PLAIN_VALUES, VALUES, Maker
+from made_code import DATA, IN_BODIES, IN_DEEP_BODIES, MOST_DEPTH, PLAIN_DATA, PLAIN_VALUES, VALUES
+from made_code import Maker, package_length, shortest
 from reading import BUFFER, ELSE, EXTERNAL, IF, Name
 
 PACKAGE, VAR_PACKAGE, MUTEX, REGION, MATCH = 0x12, 0x13, 0x5B01, 0x5B80, 0x89
@@ -21,14 +22,11 @@ SPACES = (*range(12), 0x7F, 0x80, 0xFF)
 EXTENDED = (0x0B, 0x0E, 0x0F)
 PREDEFINED = ("_GL_", "_OS_", "_REV", "_OSI")
 # Resource descriptors: I2cSerialBusV2, GpioIo, GpioInt.
-DESCRIPTORS = [
-    bytes.fromhex(it)
-    for it in (
-        "8E 19 00 02 00 01 02 00 00 01 06 00 80 1A 06 00 2C 00 5C 5F 53 42 2E 49 32 43 30 00",
-        "8C 1D 00 01 01 01 00 00 00 01 0A 00 0B 00 17 00 00 19 00 1E 00 02 00 05 00 47 50 49 30 00 01 02",
-        "8C 1B 00 01 00 01 00 0A 00 00 00 00 64 00 17 00 00 19 00 1E 00 00 00 07 00 47 50 49 30 00",
-    )
-]
+DESCRIPTORS = list(map(bytes.fromhex, (
+    "8E 19 00 02 00 01 02 00 00 01 06 00 80 1A 06 00 2C 00 5C 5F 53 42 2E 49 32 43 30 00",
+    "8C 1D 00 01 01 01 00 00 00 01 0A 00 0B 00 17 00 00 19 00 1E 00 02 00 05 00 47 50 49 30 00 01 02",
+    "8C 1B 00 01 00 01 00 0A 00 00 00 00 64 00 17 00 00 19 00 1E 00 00 00 07 00 47 50 49 30 00",
+)))
 
 
 class PlainMaker(Maker):
@@ -48,22 +46,14 @@ class PlainMaker(Maker):
     # ---- shortest forms
 
     def length(self, size):
-        width = next(width for width in (1, 2, 3, 4) if size + width < (64, 1 << 12, 1 << 20, 1 << 28)[width - 1])
-        value = size + width
-        return (
-            bytes([value])
-            if width == 1
-            else bytes([(width - 1) << 6 | value & 15]) + (value >> 4).to_bytes(width - 1, "little")
-        )
+        return package_length(size, 1)
 
     def bits(self):
         bits = self.chance.choice([it for it in range(300) if it != 63])
         return bytes([bits]) if bits < 63 else bytes([0x40 | bits & 15, bits >> 4])
 
     def spelled(self, name):
-        segs, front = [seg.encode() for seg in name.segs], b"\\" if name.root else b"^" * name.ups
-        lead = {0: b"", 1: b"", 2: b"."}.get(len(segs), b"/%c" % len(segs))
-        return front + lead + (b"".join(segs) or b"\0")
+        return shortest(name)
 
     def fresh_name(self, inside):
         name = super().fresh_name(inside)

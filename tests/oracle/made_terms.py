@@ -3,7 +3,7 @@
 import itertools
 from typing import NamedTuple
 
-from mutating import package_length
+from made_code import package_length, shortest
 from reading import Name
 
 # What a term has in front of its names and behind them, where it has no package length, and where it has one.
@@ -44,17 +44,12 @@ class Term(NamedTuple):
     def code(self):
         opcode, behind = (PACKED | PLAIN)[self.word]
         count = bytes([self.count]) if self.word in COUNTED else b""
-        content = b"".join(map(name_code, self.names)) + behind + count + code_of(self.inside)
+        content = b"".join(map(shortest, self.names)) + behind + count + code_of(self.inside)
         return opcode + (package_length(len(content), 1) if self.word in PACKED else b"") + content
 
 
 def root_name(path):
     return Name(True, 0, list(path))
-
-
-def name_code(name):
-    lead = {0: b"\0", 1: b"", 2: b"."}.get(len(name.segs), b"/%c" % len(name.segs))
-    return (b"\\" if name.root else b"^" * name.ups) + lead + "".join(name.segs).encode()
 
 
 def code_of(terms):

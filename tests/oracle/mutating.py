@@ -7,12 +7,11 @@ from typing import NamedTuple
 
 from any_run import RunNamespace, RunReader
 from loading import Unloadable, load
-from made_code import LIKELY_BYTES, damaged
+from made_code import LIKELY_BYTES, WIDEST, damaged, package_length
 from reading import EXTERNAL, METHOD, ROWS, Reader, Refused, is_name_lead
 
 SEGMENT = re.compile(rb"[A-Z_][A-Z0-9_]{3}")
 OPCODES = [bytes([opcode]) if opcode < 256 else opcode.to_bytes(2, "big") for opcode in ROWS]
-WIDEST = 4
 
 
 class Span(NamedTuple):
@@ -106,16 +105,6 @@ def run_space(codes, layouts):
     for table, (code, layout) in enumerate(zip(codes, layouts)):
         RunSurveyor(code, space=space, table=table, layout=layout).survey()
     return space
-
-
-def package_length(content, least_width):
-    """The shortest package length over this many bytes that has at least so many bytes itself."""
-    bounds = (64, 1 << 12, 1 << 20, 1 << 28)
-    width = next(width for width in range(least_width, WIDEST + 1) if content + width < bounds[width - 1])
-    value = content + width
-    if width == 1:
-        return bytes([value])
-    return bytes([(width - 1) << 6 | value & 15]) + (value >> 4).to_bytes(width - 1, "little")
 
 
 def replaced(code, layout, span, new):

@@ -31,10 +31,10 @@ sys.path.insert(0, str(pathlib.Path(__file__).resolve().parent))
 
 from compare import PROGRAM, run_program, write_trial  # noqa: E402
 from loading import PREDEFINED, path_text  # noqa: E402
+from made_code import package_length, shortest  # noqa: E402
 from made_sets import Trial, table  # noqa: E402
 from made_terms import BLOCKS, DEVICES, RARE_SEGMENTS, SEGMENTS, TermMaker  # noqa: E402
-from made_terms import code_of, name_code, root_name, text_of  # noqa: E402
-from mutating import package_length  # noqa: E402
+from made_terms import code_of, root_name, text_of  # noqa: E402
 from printing import row_text  # noqa: E402
 from reading import Name  # noqa: E402
 from running import DONE, RAW, REFUSED, Options, run_folder  # noqa: E402
@@ -153,10 +153,10 @@ class Question(NamedTuple):
         return self.name.candidates(self.method)
 
     def local_code(self):
-        return b"\x08" + name_code(root_name(self.local)) + b"\0" if self.local else b""
+        return b"\x08" + shortest(root_name(self.local)) + b"\0" if self.local else b""
 
     def code(self):
-        content = name_code(root_name(self.method)) + b"\0" + self.local_code() + name_code(self.name) + b"\1" * VALUES
+        content = shortest(root_name(self.method)) + b"\0" + self.local_code() + shortest(self.name) + b"\1" * VALUES
         return b"\x14" + package_length(len(content), 1) + content
 
     def lines(self, count):

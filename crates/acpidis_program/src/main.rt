@@ -2,18 +2,20 @@
 #![tactic(auto)]
 
 mod version;
+mod ways_on;
 
 use acpi_folder::{DiskFolder, gather};
 use acpidis::{Options, run};
 use aml_names::{ArgumentCount, Path};
 use aml_pool::FreeGate;
 use command_line::{CommandLine, FileFault, Stop, read, read_externals};
-use std::io::{BufWriter, Write};
+use std::io::{BufWriter, IsTerminal, Write};
 use std::mem::forget;
 use std::process::ExitCode;
 use std::sync::Wait;
 use std::thread;
 use std::thread::{Builder, Threads};
+use ways_on::way_on;
 
 /// The status of a command line that can't be read.
 const COMMAND_LINE: u8 = 2;
@@ -53,6 +55,12 @@ fn status_of<T: Threads + Wait + Sync>(rt: &HostRuntime, threads: &T) -> u8 {
             // There may be a line for each of a million methods.
             Ok(mut err) => {
                 let status = run_folder(rt, threads, &line, &mut err);
+                // The line of a refusal is still in the buffer, and stands alone there; a check that differs has none.
+                let said = err.buffer();
+                if status == REFUSED && !said.is_empty() && rt.stderr().is_terminal() {
+                    let way = way_on(rt, said, line.folder.as_str(), line.any_run);
+                    let _ = writeln!(err, "acpidis: {way}");
+                }
                 let _ = err.flush();
                 status
             }

@@ -1,0 +1,39 @@
+"""Pieces of AML, and whole tables, of which the tests beside this file make their sets."""
+
+
+def packed(opcode, content, width=2):
+    """An opcode with a package length of 2 to 4 bytes around its content (ACPI 6.5, 20.2.4)."""
+    size = len(content) + width
+    return opcode + bytes([(width - 1) << 6 | size & 15]) + (size >> 4).to_bytes(width - 1, "little") + content
+
+
+def scope(name, *terms):
+    return packed(b"\x10", name + b"".join(terms))
+
+
+def device(name, *terms):
+    return packed(b"\x5B\x82", name + b"".join(terms))
+
+
+def method(name, flags, *terms):
+    return packed(b"\x14", name + bytes([flags]) + b"".join(terms))
+
+
+def buffer(data):
+    return packed(b"\x11", b"\x0A" + bytes([len(data)]) + data)
+
+
+def region(name, space, offset, length):
+    return b"\x5B\x80" + name + bytes([space]) + offset + length
+
+
+def field(region, flags, units):
+    return packed(b"\x5B\x81", region + bytes([flags]) + units)
+
+
+def table(signature, code, oem_table=b"EXAMPLE", revision=2):
+    """A table with this AML and a right checksum (ACPI 6.5, 5.2.6)."""
+    data = bytearray(signature + (36 + len(code)).to_bytes(4, "little"))
+    data += bytes([revision]) + b"\0TEST  " + oem_table.ljust(8) + b"\1\0\0\0TEST\1\0\0\0" + code
+    data[9] = -sum(data) % 256
+    return bytes(data)
