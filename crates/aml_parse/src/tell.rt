@@ -1,4 +1,5 @@
-//! Reading terms without making trees: each piece is told as it is read.
+//! Reading terms without making trees: each piece is told as it is read. What a term and its parts take is inlined, so
+//! that each level of terms has one frame.
 ghost use Rattle.std.specs.Prelude.{◌≡◌, ◌++◌, None, Some, Option, length, map, IfOk, IfErr, OnOk};
 ghost use Rattle.aml_names.specs.NameReading.{Fails};
 ghost use Rattle.aml_names.specs.declared.names.Name.{Name as AnyName};
