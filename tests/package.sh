@@ -129,6 +129,43 @@ for library in clap smallvec strsim; do
     is "the licence of $library" "$(grep -c "^$library [0-9.]*$" papers/copyright)" 1
 done
 
+# with a library, here one of a function
+dpkg-deb -R "$package" plain
+mkdir library
+printf '#include <stdio.h>\nint acpidis_open(void *set) { return puts(set); }\n' >library/stand_in.c
+"${CC:-cc}" -shared -fPIC -Wl,-soname,libacpidis.so.0 -o library/libacpidis.so.0 library/stand_in.c
+touch library/libacpidis.a library/acpidis.pc
+rm library/stand_in.c
+(cd first && LIBRARY=$work/library ./package) >/dev/null
+at=first/out/package
+is 'the packages with a library' "$(cd $at && ls -A -- *.deb)" \
+    "$(lines "acpidis_${version}_amd64.deb" "libacpidis-dev_${version}_amd64.deb" "libacpidis0_${version}_amd64.deb" \
+        "python3-acpidis_${version}_amd64.deb")"
+for name in acpidis libacpidis0 libacpidis-dev python3-acpidis; do
+    dpkg-deb -R "$at/${name}_${version}_amd64.deb" "$name"
+    is "$name, the sums of its files" "$(cd "$name" && md5sum -c --quiet DEBIAN/md5sums 2>&1)" ''
+    (cd "$name" && find usr ! -type d | LC_ALL=C sort) >"$name.files"
+    is "$name, its papers" "$(grep -c "^usr/share/doc/$name/\(changelog.gz\|copyright\)$" "$name.files")" 2
+done
+is 'no file is in two packages' "$(cat acpidis.files libacpidis0.files libacpidis-dev.files python3-acpidis.files | sort | uniq -d)" ''
+is 'the program has the same files' "$(cat acpidis.files)" "$(cd plain && find usr ! -type d | LC_ALL=C sort)"
+# those of NAME: its files without its papers
+those() {
+    grep -v "^usr/share/doc/$1/c" "$1.files" | tr '\n' ' '
+}
+is 'the library' "$(those libacpidis0)" 'usr/lib/libacpidis.so.0 '
+is 'what programs in C want' "$(those libacpidis-dev)" 'usr/include/acpidis.h usr/lib/libacpidis.a usr/lib/libacpidis.so '\
+'usr/lib/pkgconfig/acpidis.pc usr/share/doc/acpidis/example.c usr/share/man/man3/acpidis.3.gz '
+is 'what Python wants' "$(those python3-acpidis)" 'usr/lib/python3/dist-packages/acpidis.py '
+is 'what they depend on' "$(sed -n 's/^Depends: //p' libacpidis-dev/DEBIAN/control python3-acpidis/DEBIAN/control)" \
+    "libacpidis0 (= $version)
+libacpidis0 (= $version), python3"
+is 'the C library' "$(sed -n 's/^Depends: libc6 (>= [0-9.]*)$/there/p' libacpidis0/DEBIAN/control)" there
+is 'the linker is told' "$(cat libacpidis0/DEBIAN/triggers libacpidis0/DEBIAN/shlibs)" "activate-noawait ldconfig
+libacpidis 0 libacpidis0 (>= $version)"
+rm -r "$at"/libacpidis* "$at"/python3* acpidis libacpidis0 libacpidis-dev python3-acpidis
+first/package >/dev/null
+
 # a program that is built here: a command rt in front of the kit's writes into it what the copy of its source says
 mkdir commands
 cat >commands/rt <<S
