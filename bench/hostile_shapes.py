@@ -14,6 +14,8 @@ ANY_RUN = "--any-run"
 RUN, NOTHING = b"_RUN", b"ZZZZ"
 LEAF, NEAR, FRIEND, OTHER = b"LEAF", b"NEAR", b"FRND", b"OTHR"
 DEEPEST = 510 * SEGMENTS
+# So deep that Devices of long names still stand below.
+DEEP = 503 * SEGMENTS
 
 
 class Shape(NamedTuple):
@@ -535,9 +537,9 @@ SHAPES = (
     *both("deep-methods", deep_methods, 2_000, "methods", 10_000),
     *both("deep-methods-left", deep_methods_left, 2_000, "methods", 10_000),
     *both("deep-devices", deep_devices, 2_000, "devices", 10_000),
-    Shape("deep-owners", 10_000, "devices", one(lambda count: deep_owners(count, 504 * SEGMENTS, 16))),
-    Shape("deep-owners-run", 5_000, "devices", one(lambda count: deep_owners(count, 503 * SEGMENTS, SEGMENTS)), any_run=True),
-    Shape("deep-pairs", 1_000, "devices", one(lambda count: deep_pairs(count, 504 * SEGMENTS))),
+    Shape("deep-owners", 10_000, "devices", one(lambda count: deep_owners(count, DEEP, 16))),
+    Shape("deep-owners-run", 5_000, "devices", one(lambda count: deep_owners(count, DEEP, SEGMENTS)), any_run=True),
+    Shape("deep-pairs", 1_000, "devices", one(lambda count: deep_pairs(count, DEEP))),
     *both("deep-returns", deep_returns, 2_000, "names", 10_000),
     *both("deep-aliases-upward", deep_aliases_upward, 2_000, "names", 10_000),
     *both("deep-scopes-upward", deep_scopes_upward, 2_000, "terms", 10_000),
