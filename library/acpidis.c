@@ -23,13 +23,46 @@ uint32_t acpidis_c_run(acpidis_set *set, bool check);
 struct told acpidis_c_told(acpidis_set *set);
 uint32_t acpidis_c_copy(acpidis_set *set, bool errors, size_t from, void *out, size_t length);
 
-static const char *const words[] = {
-    "Ok", "Closed", "Open", "NoMemory", "BadName", "TooManyTables", "TooLong", "BadLine", "NotRun", "OutOfRange",
-    "BadOptions", "Null",
+struct sizes {
+    uint32_t code;
+    acpidis_sizes of;
 };
 
+uint32_t acpidis_c_list(acpidis_set *set, bool bodies);
+struct sizes acpidis_c_sizes(acpidis_set *set);
+uint32_t acpidis_c_tables(acpidis_set *set, size_t from, size_t *out, size_t count);
+uint32_t acpidis_c_rows(acpidis_set *set, size_t from, acpidis_row *out, size_t count);
+uint32_t acpidis_c_methods(acpidis_set *set, size_t from, acpidis_method *out, size_t count);
+uint32_t acpidis_c_bodies(acpidis_set *set, size_t from, acpidis_body *out, size_t count);
+uint32_t acpidis_c_texts(acpidis_set *set, uint32_t of, size_t from, void *out, size_t length);
+
+static const char *const words[] = {
+    "Ok", "Closed", "Open", "NoMemory", "BadName", "TooManyTables", "TooLong", "BadLine", "NotRun", "OutOfRange",
+    "BadOptions", "Null", "Refused",
+};
+
+static const char *const kinds[] = {
+    "Scope", "Name", "Method", "Alias", "Device", "Processor", "PowerResource", "ThermalZone", "Mutex", "Event", "Region",
+    "DataRegion", "Field", "BufferField",
+};
+
+static const char *const faults[] = {
+    "Ok", "Truncated", "PkgBits", "PkgPast", "BadName", "UnknownOp", "NotHere", "StrayElse", "UnknownName", "EmptyName",
+    "NestedMethod", "NestedScope", "ModuleCode", "BadCount", "TooDeep",
+};
+
+#define WORD(words, number) ((number) < sizeof(words) / sizeof *(words) ? (words)[number] : "unknown")
+
 const char *acpidis_words(acpidis_code code) {
-    return (unsigned)code < sizeof words / sizeof *words ? words[code] : "unknown";
+    return WORD(words, (unsigned)code);
+}
+
+const char *acpidis_kind_words(uint32_t kind) {
+    return WORD(kinds, kind);
+}
+
+const char *acpidis_fault_words(uint32_t fault) {
+    return WORD(faults, fault);
 }
 
 const char *acpidis_version(void) {
@@ -102,13 +135,17 @@ acpidis_code acpidis_ended(acpidis_set *set, int *status, size_t *text, size_t *
     return (acpidis_code)told.code;
 }
 
+/* What is wrong with room for so many values of a size. */
+static acpidis_code room(const acpidis_set *set, const void *out, size_t count, size_t size) {
+    if (set == NULL || is_null(out, count))
+        return ACPIDIS_NULL;
+    return count > PTRDIFF_MAX / size ? ACPIDIS_OUT_OF_RANGE : ACPIDIS_OK;
+}
+
 static acpidis_code copy(acpidis_set *set, bool errors, size_t from, void *out, size_t length) {
     char none[1];
-    if (set == NULL || is_null(out, length))
-        return ACPIDIS_NULL;
-    if (length > PTRDIFF_MAX)
-        return ACPIDIS_OUT_OF_RANGE;
-    return (acpidis_code)acpidis_c_copy(set, errors, from, out == NULL ? none : out, length);
+    acpidis_code code = room(set, out, length, 1);
+    return code != ACPIDIS_OK ? code : (acpidis_code)acpidis_c_copy(set, errors, from, out == NULL ? none : out, length);
 }
 
 acpidis_code acpidis_text(acpidis_set *set, size_t from, void *out, size_t length) {
@@ -117,4 +154,48 @@ acpidis_code acpidis_text(acpidis_set *set, size_t from, void *out, size_t lengt
 
 acpidis_code acpidis_errors(acpidis_set *set, size_t from, void *out, size_t length) {
     return copy(set, true, from, out, length);
+}
+
+acpidis_code acpidis_list(acpidis_set *set, bool bodies) {
+    return set == NULL ? ACPIDIS_NULL : (acpidis_code)acpidis_c_list(set, bodies);
+}
+
+acpidis_code acpidis_listed(acpidis_set *set, acpidis_sizes *sizes) {
+    struct sizes told;
+    if (set == NULL || sizes == NULL)
+        return ACPIDIS_NULL;
+    told = acpidis_c_sizes(set);
+    *sizes = told.of;
+    return (acpidis_code)told.code;
+}
+
+/* A function that copies values of a type. */
+#define COPIES(name, type) \
+    acpidis_code acpidis_##name(acpidis_set *set, size_t from, type *out, size_t count) { \
+        type none; \
+        acpidis_code code = room(set, out, count, sizeof none); \
+        return code != ACPIDIS_OK ? code : (acpidis_code)acpidis_c_##name(set, from, out == NULL ? &none : out, count); \
+    }
+
+COPIES(tables, size_t)
+COPIES(rows, acpidis_row)
+COPIES(methods, acpidis_method)
+COPIES(bodies, acpidis_body)
+
+static acpidis_code texts(acpidis_set *set, uint32_t of, size_t from, void *out, size_t length) {
+    char none[1];
+    acpidis_code code = room(set, out, length, 1);
+    return code != ACPIDIS_OK ? code : (acpidis_code)acpidis_c_texts(set, of, from, out == NULL ? none : out, length);
+}
+
+acpidis_code acpidis_row_texts(acpidis_set *set, size_t from, void *out, size_t length) {
+    return texts(set, 0, from, out, length);
+}
+
+acpidis_code acpidis_method_texts(acpidis_set *set, size_t from, void *out, size_t length) {
+    return texts(set, 1, from, out, length);
+}
+
+acpidis_code acpidis_body_texts(acpidis_set *set, size_t from, void *out, size_t length) {
+    return texts(set, 2, from, out, length);
 }

@@ -15,7 +15,9 @@ import ctypes
 import os
 import pathlib
 import re
-from typing import Dict, Iterator, List, Mapping, NamedTuple, Optional, Tuple, Union
+import struct
+from itertools import repeat
+from typing import Dict, Iterable, Iterator, List, Mapping, NamedTuple, Optional, Tuple, Union
 
 __all__ = ["Fault", "Listing", "Method", "Refused", "Row", "check", "load", "version"]
 
@@ -23,10 +25,18 @@ MAP = "tables.map"
 MOST_DUMPS = 512
 MOST_BYTES = 16_777_216
 ANY_SUM, ANY_RUN, UNKNOWN_ZERO = 1, 2, 4
-OK, NO_MEMORY, BAD_LINE = 0, 3, 7
+OK, NO_MEMORY, REFUSED = 0, 3, 12
+METHOD, ALIAS = 2, 3
+# What a row, a method, a body and a table are in memory.
+ROW, METHOD_ROW, BODY, TABLE = "NNNNIII4x", "NNNIII4x", "NNII", "N"
+HEADER = 36
+SIZES = ("tables", "rows", "row_texts", "methods", "method_texts", "bodies", "body_texts")
+COPIES = (*SIZES, "text", "errors")
 
 Source = Union[str, "os.PathLike[str]", Mapping[str, bytes]]
 Counts = Union[bytes, Mapping[str, int], None]
+# The fault of a body, or its lines.
+Became = Tuple[Optional[str], Optional[str]]
 
 
 class Refused(Exception):
@@ -45,11 +55,15 @@ class Row(NamedTuple):
 
 
 class Method(NamedTuple):
-    """A row that is a Method, with the fault for which its body can't be read, if it can't."""
+    """A method that a table declares, in load order and that of the text."""
 
     path: str
     arguments: int
-    fault: Optional[str]
+    fault: Optional[str]  # why its body can't be read
+    table: str  # the name of its table's dump
+    offset: int  # where its body begins there, and how many bytes that has
+    length: int
+    body: Optional[str]  # the lines of its body
 
 
 class Fault(NamedTuple):
@@ -62,7 +76,7 @@ class Fault(NamedTuple):
 class Listing(NamedTuple):
     """What came of a set that has a listing."""
 
-    text: str
+    text: str  # what the program prints
     status: int  # 0, or 3 where the body of a method can't be read
     rows: List[Row]
     methods: List[Method]
@@ -73,6 +87,12 @@ class Set(ctypes.Structure):
     """A set as C has it."""
 
     _fields_ = (("at", ctypes.c_void_p), ("full", ctypes.c_bool))
+
+
+class Sizes(ctypes.Structure):
+    """How many values of each kind a set has, and how many bytes their texts."""
+
+    _fields_ = tuple((name, ctypes.c_size_t) for name in SIZES)
 
 
 def find_library() -> ctypes.CDLL:
@@ -87,15 +107,19 @@ def find_library() -> ctypes.CDLL:
         "set_counts": (pointer, ctypes.c_char_p, size, place),
         "run": (pointer, ctypes.c_bool),
         "ended": (pointer, ctypes.POINTER(ctypes.c_int), place, place),
-        "text": (pointer, size, ctypes.c_char_p, size),
-        "errors": (pointer, size, ctypes.c_char_p, size),
+        "list": (pointer, ctypes.c_bool),
+        "listed": (pointer, ctypes.POINTER(Sizes)),
+        **{name: (pointer, size, ctypes.c_char_p, size) for name in COPIES},
         "words": (ctypes.c_int,),
+        "kind_words": (ctypes.c_uint32,),
+        "fault_words": (ctypes.c_uint32,),
         "version": (),
     }
     for name, arguments in types.items():
         getattr(library, f"acpidis_{name}").argtypes = arguments
     library.acpidis_close.restype = None
-    library.acpidis_words.restype = library.acpidis_version.restype = ctypes.c_char_p
+    for name in ("words", "kind_words", "fault_words", "version"):
+        getattr(library, f"acpidis_{name}").restype = ctypes.c_char_p
     return library
 
 
@@ -134,6 +158,8 @@ class Open:
         code = getattr(self.library, f"acpidis_{name}")(self.set, *arguments)
         if code == NO_MEMORY:
             raise MemoryError
+        if code == REFUSED:
+            self.run(False)
         if code != OK:
             raise Refused(self.library.acpidis_words(code).decode())
 
@@ -150,13 +176,55 @@ class Open:
         self.do("run", checks)
         status, text, errors = ctypes.c_int(), ctypes.c_size_t(), ctypes.c_size_t()
         self.do("ended", status, text, errors)
-        lines = self.copy("errors", errors.value).splitlines()
-        return status.value, self.copy("text", text.value), [line.partition("acpidis: ")[2] for line in lines]
+        lines = [line.partition("acpidis: ")[2] for line in self.copy("errors", errors.value).splitlines()]
+        if status.value == 1:
+            raise Refused("\n".join(lines))
+        return status.value, self.copy("text", text.value), lines
 
-    def copy(self, name: str, length: int) -> str:
-        room = ctypes.create_string_buffer(length)
-        self.do(name, 0, room, length)
-        return str(memoryview(room)[:length], "ascii")
+    def copy(self, name: str, count: int) -> str:
+        """A text."""
+        return str(self.room(name, count, 1), "ascii")
+
+    def values(self, name: str, count: int, form: str) -> Iterator[Tuple[int, ...]]:
+        """Values of a form."""
+        return struct.iter_unpack(form, self.room(name, count, struct.calcsize(form)))
+
+    def room(self, name: str, count: int, size: int) -> memoryview:
+        room = ctypes.create_string_buffer(count * size)
+        self.do(name, 0, room, count)
+        return memoryview(room)[: count * size]
+
+    def listed(self, names: List[str], bodies: bool) -> Tuple[List[Row], List[Method]]:
+        """The rows and the methods, whose tables have these names, with their bodies if these are asked for."""
+        self.do("list", bodies)
+        sizes = Sizes()
+        self.do("listed", sizes)
+        became = self.bodies(sizes) if bodies else repeat((None, None))
+        return list(self.rows(sizes)), list(self.methods(sizes, names, became))
+
+    def rows(self, sizes: Sizes) -> Iterator[Row]:
+        texts = self.copy("row_texts", sizes.row_texts)
+        kinds = [self.library.acpidis_kind_words(kind).decode() for kind in range(14)]
+        for at, path, target, times, kind, arguments, maybe in self.values("rows", sizes.rows, ROW):
+            end = at + path
+            lead = texts[end : end + target] if kind == ALIAS else None
+            yield Row(texts[at:end], kinds[kind], arguments if kind == METHOD else None, lead, maybe == 1, times)
+
+    def bodies(self, sizes: Sizes) -> Iterator[Became]:
+        """The fault of each body, or its lines."""
+        texts = self.copy("body_texts", sizes.body_texts)
+        for at, length, fault, offset in self.values("bodies", sizes.bodies, BODY):
+            if fault:
+                yield f"{self.library.acpidis_fault_words(fault).decode()} at {offset}", None
+            else:
+                yield None, texts[at : at + length]
+
+    def methods(self, sizes: Sizes, names: List[str], bodies: Iterable[Became]) -> Iterator[Method]:
+        texts = self.copy("method_texts", sizes.method_texts)
+        tables = [names[dump] for (dump,) in self.values("tables", sizes.tables, TABLE)]
+        values = self.values("methods", sizes.methods, METHOD_ROW)
+        for (at, path, table, start, length, flags), (fault, body) in zip(values, bodies):
+            yield Method(texts[at : at + path], flags & 7, fault, tables[table], HEADER + start, length, body)
 
 
 def read_file(file: pathlib.Path) -> bytes:
@@ -204,44 +272,21 @@ def read_map(text: bytes, names: List[str]) -> Dict[str, int]:
     return placed
 
 
-def run(source: Source, checks: bool, options: int, externals: Counts) -> Tuple[int, str, List[str]]:
-    """Runs the library over a source."""
+def filled(opened: Open, source: Source, options: int, externals: Counts) -> List[str]:
+    """Fills a set from a source. Answers the names of its dumps."""
     files = dict(source) if isinstance(source, Mapping) else read_folder(pathlib.Path(source))
     text = files.pop(MAP, None)
     names = sorted(files, key=os.fsencode)
     addresses = {} if text is None else read_map(text, names)
     if isinstance(externals, Mapping):
         externals = "".join(f"{path} {count}\n" for path, count in externals.items()).encode()
-    with Open() as opened:
-        opened.do("set_options", options)
-        if externals is not None:
-            opened.count(externals)
-        for name in names:
-            address = ctypes.c_uint64(addresses[name]) if name in addresses else None
-            opened.do("add", os.fsencode(name), address, files[name], len(files[name]))
-        status, text_of_run, errors = opened.run(checks)
-    if status == 1:
-        raise Refused("\n".join(errors))
-    return status, text_of_run, errors
-
-
-ROW = re.compile(r"  (\S+) (\w+)(?: (\d+))?(?: (\\\S*))?( Maybe)?(?: Times (\d+))?$", re.MULTILINE)
-
-
-def rows_of(text: str) -> Iterator[Row]:
-    """The rows of the namespace of a text."""
-    begin = re.search(r"^Namespace (\d+)\n", text, re.MULTILINE)
-    if begin is None:
-        return
-    at = begin.end()
-    for _ in range(int(begin[1])):
-        end = text.index("\n", at)
-        told = ROW.match(text, at, end)
-        at = end + 1
-        if told is None:
-            raise ValueError("the text has a row that this module doesn't know")
-        path, kind, arguments, target, maybe, times = told.groups()
-        yield Row(path, kind, None if arguments is None else int(arguments), target, maybe is not None, int(times or 1))
+    opened.do("set_options", options)
+    if externals is not None:
+        opened.count(externals)
+    for name in names:
+        address = ctypes.c_uint64(addresses[name]) if name in addresses else None
+        opened.do("add", os.fsencode(name), address, files[name], len(files[name]))
+    return names
 
 
 def faults_of(errors: List[str]) -> Iterator[Fault]:
@@ -262,17 +307,22 @@ def load(
     any_run: bool = False,
     unknown_zero: bool = False,
     externals: Counts = None,
+    text: bool = True,
+    bodies: bool = True,
 ) -> Listing:
     """The listing of a folder of dumps, or of the bytes of dumps by their names.
 
-    The options are the program's. `externals` is the text of a file of counts, or the counts by their paths. Raises
-    `Refused` where the set has no listing, and MemoryError where memory is short.
+    The options are the program's. `externals` is the text of a file of counts, or the counts by their paths. Without `text`
+    there is none, and without `bodies` the methods have neither bodies nor faults: each takes about as long as the program.
+    Raises `Refused` where the set has no listing, and MemoryError where memory is short.
     """
-    status, text, errors = run(source, False, options_of(any_sum, any_run, unknown_zero), externals)
-    rows, faults = list(rows_of(text)), list(faults_of(errors))
-    told = {fault.path: fault.why for fault in faults}
-    methods = [Method(row.path, row.arguments or 0, told.get(row.path)) for row in rows if row.kind == "Method"]
-    return Listing(text, status, rows, methods, faults)
+    with Open() as opened:
+        names = filled(opened, source, options_of(any_sum, any_run, unknown_zero), externals)
+        _, told, errors = opened.run(False) if text else (0, "", [])
+        rows, methods = opened.listed(names, bodies)
+    raw = [Fault(method.path, method.fault) for method in methods if method.fault]
+    faults = list(faults_of(errors)) if text else raw
+    return Listing(told, 3 if faults else 0, rows, methods, faults)
 
 
 def check(
@@ -284,4 +334,6 @@ def check(
     externals: Counts = None,
 ) -> str:
     """The lines that the program prints with --check: of each table whether what was read encodes to its bytes."""
-    return run(source, True, options_of(any_sum, any_run, unknown_zero), externals)[1]
+    with Open() as opened:
+        filled(opened, source, options_of(any_sum, any_run, unknown_zero), externals)
+        return opened.run(True)[1]

@@ -7,6 +7,7 @@
  * --wrap=malloc and so on, so that it counts the blocks of memory and can refuse one. Each row prints a line; the last line
  * is 'N passed, M failed'. With SHORT there are fewer sets.
  */
+#define _GNU_SOURCE
 #include <acpidis.h>
 
 #include <pthread.h>
@@ -92,10 +93,46 @@ static int has_text(acpidis_set *set) {
     return same;
 }
 
+/* Whether what a set has stands in its listing: each row and each method, and the lines of a body as many times as there
+ * are bodies that can be read. Answers the first code that isn't ACPIDIS_OK. */
+static acpidis_code values(acpidis_set *set, int *good) {
+    acpidis_sizes sizes = {0};
+    acpidis_row row;
+    acpidis_method method;
+    acpidis_body body;
+    char path[64] = "", line[128] = "";
+    size_t number, table = 9;
+    acpidis_code code = acpidis_list(set, true);
+    *good = 0;
+    if (code == ACPIDIS_OK)
+        code = acpidis_listed(set, &sizes);
+    if (code != ACPIDIS_OK)
+        return code;
+    *good = sizes.tables == 1 && sizes.bodies == sizes.methods && acpidis_tables(set, 0, &table, 1) == ACPIDIS_OK && table == 0;
+    for (number = 0; number < sizes.rows && *good; number++) {
+        *good = acpidis_rows(set, number, &row, 1) == ACPIDIS_OK && row.path < sizeof path &&
+                acpidis_row_texts(set, row.at, path, row.path) == ACPIDIS_OK;
+        path[row.path] = '\0';
+        snprintf(line, sizeof line, "\n  %s %s", path, acpidis_kind_words(row.kind));
+        *good = *good && memmem(wanted, wanted_length, line, strlen(line)) != NULL;
+    }
+    for (number = 0; number < sizes.methods && *good; number++) {
+        *good = acpidis_methods(set, number, &method, 1) == ACPIDIS_OK && acpidis_bodies(set, number, &body, 1) == ACPIDIS_OK &&
+                method.path < sizeof path && acpidis_method_texts(set, method.at, path, method.path) == ACPIDIS_OK &&
+                method.table == 0 && 36 + method.start + method.length <= dump_length && body.fault == 0 &&
+                body.at + body.length <= sizes.body_texts;
+        path[method.path] = '\0';
+        snprintf(line, sizeof line, "\n  %s Method %u\n", path, (unsigned)method.flags & 7);
+        *good = *good && memmem(wanted, wanted_length, line, strlen(line)) != NULL;
+    }
+    return code;
+}
+
 /* Opens, fills, runs and closes a set. Answers the first code that isn't ACPIDIS_OK. */
 static acpidis_code whole(int *same) {
     acpidis_set set = ACPIDIS_CLOSED_SET;
     acpidis_code code = acpidis_open(&set);
+    int listed = 0;
     *same = 0;
     if (code == ACPIDIS_OK)
         code = acpidis_add(&set, "dump", NULL, dump, dump_length);
@@ -107,6 +144,9 @@ static acpidis_code whole(int *same) {
         code = acpidis_run(&set, false);
     if (code == ACPIDIS_OK)
         *same = has_text(&set);
+    if (code == ACPIDIS_OK)
+        code = values(&set, &listed);
+    *same = *same && code == ACPIDIS_OK && listed;
     acpidis_close(&set);
     return code;
 }
@@ -114,6 +154,7 @@ static acpidis_code whole(int *same) {
 static void try_nulls(void) {
     acpidis_set set = ACPIDIS_CLOSED_SET;
     size_t line = 7;
+    acpidis_sizes sizes;
     ROW(acpidis_open(NULL) == ACPIDIS_NULL);
     acpidis_close(NULL);
     ROW(acpidis_add(NULL, "a", NULL, "", 0) == ACPIDIS_NULL);
@@ -123,6 +164,10 @@ static void try_nulls(void) {
     ROW(acpidis_ended(NULL, NULL, NULL, NULL) == ACPIDIS_NULL);
     ROW(acpidis_text(NULL, 0, NULL, 0) == ACPIDIS_NULL);
     ROW(acpidis_errors(NULL, 0, NULL, 0) == ACPIDIS_NULL);
+    ROW(acpidis_list(NULL, true) == ACPIDIS_NULL);
+    ROW(acpidis_listed(NULL, &sizes) == ACPIDIS_NULL);
+    ROW(acpidis_rows(NULL, 0, NULL, 0) == ACPIDIS_NULL);
+    ROW(acpidis_body_texts(NULL, 0, NULL, 0) == ACPIDIS_NULL);
     ROW(acpidis_open(&set) == ACPIDIS_OK);
     ROW(acpidis_add(&set, NULL, NULL, "", 0) == ACPIDIS_NULL);
     ROW(acpidis_add(&set, "a", NULL, NULL, 1) == ACPIDIS_NULL);
@@ -134,10 +179,21 @@ static void try_nulls(void) {
     ROW(acpidis_text(&set, 0, NULL, 1) == ACPIDIS_NULL);
     ROW(acpidis_text(&set, 0, NULL, 0) == ACPIDIS_OK);
     acpidis_close(&set);
+    ROW(acpidis_open(&set) == ACPIDIS_OK && acpidis_add(&set, "dump", NULL, dump, dump_length) == ACPIDIS_OK);
+    ROW(acpidis_list(&set, true) == ACPIDIS_OK);
+    ROW(acpidis_listed(&set, NULL) == ACPIDIS_NULL);
+    ROW(acpidis_tables(&set, 0, NULL, 1) == ACPIDIS_NULL && acpidis_tables(&set, 1, NULL, 0) == ACPIDIS_OK);
+    ROW(acpidis_rows(&set, 0, NULL, 1) == ACPIDIS_NULL && acpidis_rows(&set, 0, NULL, 0) == ACPIDIS_OK);
+    ROW(acpidis_methods(&set, 0, NULL, 1) == ACPIDIS_NULL && acpidis_methods(&set, 0, NULL, 0) == ACPIDIS_OK);
+    ROW(acpidis_bodies(&set, 0, NULL, 1) == ACPIDIS_NULL && acpidis_bodies(&set, 0, NULL, 0) == ACPIDIS_OK);
+    ROW(acpidis_row_texts(&set, 0, NULL, 1) == ACPIDIS_NULL && acpidis_row_texts(&set, 0, NULL, 0) == ACPIDIS_OK);
+    acpidis_close(&set);
 }
 
 static void try_order(void) {
     acpidis_set set = ACPIDIS_CLOSED_SET;
+    acpidis_sizes sizes;
+    acpidis_row got;
     char byte;
     int round, same;
     for (round = 0; round < 2; round++) {
@@ -148,16 +204,28 @@ static void try_order(void) {
         ROW(acpidis_ended(&set, NULL, NULL, NULL) == ACPIDIS_CLOSED);
         ROW(acpidis_text(&set, 0, &byte, 1) == ACPIDIS_CLOSED);
         ROW(acpidis_errors(&set, 0, &byte, 1) == ACPIDIS_CLOSED);
+        ROW(acpidis_list(&set, false) == ACPIDIS_CLOSED);
+        ROW(acpidis_listed(&set, &sizes) == ACPIDIS_CLOSED && sizes.rows == 0);
+        ROW(acpidis_rows(&set, 0, &got, 1) == ACPIDIS_CLOSED);
+        ROW(acpidis_row_texts(&set, 0, &byte, 0) == ACPIDIS_CLOSED);
         acpidis_close(&set);
         ROW(acpidis_open(&set) == ACPIDIS_OK);
         ROW(acpidis_open(&set) == ACPIDIS_OPEN);
         ROW(acpidis_ended(&set, NULL, NULL, NULL) == ACPIDIS_NOT_RUN);
         ROW(acpidis_text(&set, 0, &byte, 0) == ACPIDIS_NOT_RUN);
+        ROW(acpidis_listed(&set, &sizes) == ACPIDIS_NOT_RUN && sizes.rows == 0);
+        ROW(acpidis_rows(&set, 0, &got, 0) == ACPIDIS_NOT_RUN);
+        ROW(acpidis_list(&set, true) == ACPIDIS_REFUSED);
         ROW(acpidis_add(&set, "dump", NULL, dump, dump_length) == ACPIDIS_OK);
+        ROW(acpidis_list(&set, false) == ACPIDIS_OK && acpidis_listed(&set, &sizes) == ACPIDIS_OK);
+        ROW(sizes.rows > 0 && sizes.methods > 0 && sizes.bodies == 0 && sizes.body_texts == 0);
+        ROW(acpidis_ended(&set, NULL, NULL, NULL) == ACPIDIS_NOT_RUN);
         ROW(acpidis_run(&set, false) == ACPIDIS_OK && has_text(&set));
+        ROW(acpidis_listed(&set, &sizes) == ACPIDIS_OK);
         ROW(acpidis_run(&set, false) == ACPIDIS_OK && has_text(&set));
         ROW(acpidis_set_options(&set, 0) == ACPIDIS_OK);
         ROW(acpidis_ended(&set, NULL, NULL, NULL) == ACPIDIS_NOT_RUN);
+        ROW(acpidis_listed(&set, &sizes) == ACPIDIS_NOT_RUN);
         ROW(acpidis_run(&set, false) == ACPIDIS_OK && has_text(&set));
         acpidis_close(&set);
     }
@@ -184,6 +252,8 @@ static void try_limits(void) {
     acpidis_set set = ACPIDIS_CLOSED_SET;
     uint64_t address = UINT64_MAX;
     size_t line = 9, number, text = 0;
+    acpidis_sizes sizes;
+    acpidis_row got;
     unsigned char *large = calloc(1, 16777217);
     char part[4];
     ROW(acpidis_open(&set) == ACPIDIS_OK);
@@ -203,6 +273,15 @@ static void try_limits(void) {
     ROW(acpidis_text(&set, 1, part, SIZE_MAX) == ACPIDIS_OUT_OF_RANGE);
     ROW(acpidis_text(&set, text - 4, part, 4) == ACPIDIS_OK && memcmp(part, wanted + text - 4, 4) == 0);
     ROW(acpidis_text(&set, text, part, 0) == ACPIDIS_OK);
+    ROW(acpidis_list(&set, true) == ACPIDIS_OK && acpidis_listed(&set, &sizes) == ACPIDIS_OK);
+    ROW(acpidis_rows(&set, sizes.rows, &got, 1) == ACPIDIS_OUT_OF_RANGE);
+    ROW(acpidis_rows(&set, sizes.rows, &got, 0) == ACPIDIS_OK);
+    ROW(acpidis_rows(&set, SIZE_MAX, &got, 1) == ACPIDIS_OUT_OF_RANGE);
+    ROW(acpidis_rows(&set, 1, &got, SIZE_MAX / 48) == ACPIDIS_OUT_OF_RANGE);
+    ROW(acpidis_rows(&set, 1, &got, SIZE_MAX) == ACPIDIS_OUT_OF_RANGE);
+    ROW(acpidis_row_texts(&set, sizes.row_texts - 1, part, 2) == ACPIDIS_OUT_OF_RANGE);
+    ROW(acpidis_method_texts(&set, sizes.method_texts, part, 1) == ACPIDIS_OUT_OF_RANGE);
+    ROW(acpidis_body_texts(&set, sizes.body_texts, part, 1) == ACPIDIS_OUT_OF_RANGE);
     acpidis_close(&set);
     ROW(acpidis_open(&set) == ACPIDIS_OK);
     for (number = 0; number < 512; number++)
@@ -281,7 +360,9 @@ int main(int count, char **words) {
     try_many(count > 3 ? 20 : 10000);
     try_refusals();
     ROW(strcmp(acpidis_words(ACPIDIS_NO_MEMORY), "NoMemory") == 0);
-    ROW(strcmp(acpidis_words((acpidis_code)99), "unknown") == 0);
+    ROW(strcmp(acpidis_words((acpidis_code)99), "unknown") == 0 && strcmp(acpidis_words(ACPIDIS_REFUSED), "Refused") == 0);
+    ROW(strcmp(acpidis_kind_words(ACPIDIS_DEVICE), "Device") == 0 && strcmp(acpidis_kind_words(14), "unknown") == 0);
+    ROW(strcmp(acpidis_fault_words(8), "UnknownName") == 0 && strcmp(acpidis_fault_words(UINT32_MAX), "unknown") == 0);
     free(dump);
     free(wanted);
     printf("%u passed, %u failed\n", passed, failed);

@@ -17,6 +17,7 @@ import importlib
 import os
 import pathlib
 import random
+import re
 import resource
 import shutil
 import subprocess
@@ -171,6 +172,32 @@ def row_text(row):
     return "  " + " ".join(words + ["Maybe"] * row.maybe + [f"Times {row.times}"] * (row.times > 1))
 
 
+METHOD = re.compile(r"^( *)Method \(.*\) \{\n((?:\1  .*\n)*)\1\}$", re.MULTILINE)
+
+
+def bodies_in(text):
+    """The lines of the bodies of a text's methods, without their indent, or those of their bytes."""
+    for told in METHOD.finditer(text):
+        yield re.sub(f"^{told[1]}  ", "", told[2], flags=re.MULTILINE)
+
+
+def is_told(listing, files):
+    """Whether the values of a listing stand in its text: rows, methods, faults and bodies, a raw one by its bytes."""
+    if [row_text(row) for row in listing.rows] != rows_in(listing.text):
+        return "rows"
+    if {(row.path, row.arguments) for row in listing.rows if row.kind == "Method"} - {it[:2] for it in listing.methods}:
+        return "methods"
+    if [(method.path, method.fault) for method in listing.methods if method.fault] != listing.faults:
+        return "faults"
+    told = list(bodies_in(listing.text))
+    for method, lines in zip(listing.methods, told):
+        code = files[method.table][method.offset : method.offset + method.length]
+        raw = "Raw {" + ", ".join(f"{byte:02X}" for byte in code) + "}\n"
+        if lines != (method.body if method.fault is None else raw):
+            return f"the body of {method.path}"
+    return "" if len(told) == len(listing.methods) else "the number of bodies"
+
+
 def try_python(rows, acpidis, program, folders, sets):
     """Python over folders and made-up sets."""
     ast.parse((LIBRARY / "acpidis.py").read_text(), feature_version=(3, 9))
@@ -196,7 +223,36 @@ def try_python(rows, acpidis, program, folders, sets):
             listing = acpidis.load(folder, any_run=True)
         except acpidis.Refused:
             continue
-        rows.add([row_text(row) for row in listing.rows] == rows_in(listing.text), f"Python: the rows of {folder}")
+        wrong = is_told(listing, acpidis.read_folder(folder))
+        rows.add(wrong == "", f"Python: {wrong} of {folder}")
+        values = acpidis.load(folder, any_run=True, text=False)
+        rows.add(values == listing._replace(text=""), f"Python: without the text: {folder}")
+        bare = [method._replace(fault=None, body=None) for method in listing.methods]
+        without = acpidis.load(folder, any_run=True, bodies=False)
+        rows.add(without == listing._replace(methods=bare), f"Python: without bodies: {folder}")
+
+
+def try_page(rows, acpidis, room):
+    """The examples of docs/python.md, one after the other, over the demo and a set with one row more."""
+    page = (TOP / "docs/python.md").read_text()
+    blocks = re.findall(r"^```python\n(.*?)^```", page, re.MULTILINE | re.DOTALL)
+    methods = b"\x14\x08EC0_\1\xa4h" + b"\x14\x0bFOO_\0EC0_\0" + b"\x14\x07BAD_\0\x33"
+    for name, code in ("tables", methods), ("before", b""), ("after", b"\x08NEW_\0"):
+        (room / name).mkdir()
+        (room / name / "dsdt.dat").write_bytes(dsdt(code))
+    words, told = room / "page.py", ["0", "\\FOO_ 0 dsdt.dat 52 5", "\\BAD_ UnknownOp at 0"]
+    words.write_text("\n".join(blocks).replace("/sys/firmware/acpi/tables/DSDT", str(DEMO / "dsdt.dat")))
+    ran = run(sys.executable, words, cwd=room, env={**os.environ, "PYTHONPATH": str(LIBRARY)})
+    wanted = "\n".join([*told, acpidis.load(DEMO, any_run=True).text, "\\NEW_", ""])
+    good = len(blocks) == 5 and ran.stdout.decode() == wanted and ran.stderr == b""
+    rows.add(good, f"the page: {ran.stdout.decode()}{ran.stderr.decode()}")
+
+
+def dsdt(code):
+    """A DSDT of revision 2 with this AML."""
+    length = 36 + len(code)
+    table = b"DSDT" + length.to_bytes(4, "little") + b"\x02\0TEST  EXAMPLE \1\0\0\0TEST\1\0\0\0" + code
+    return table[:9] + bytes([-sum(table) % 256]) + table[10:]
 
 
 def seconds_of(*words):
@@ -244,6 +300,7 @@ def main():
             return
         try_edge(rows, room, lib, program)
         try_example(rows, room, lib, program, folders)
+        try_page(rows, importlib.import_module("acpidis"), room)
         try_python(rows, importlib.import_module("acpidis"), program, folders, asked.sets)
     print(f"{rows.passed} passed, {rows.failed} failed")
     sys.exit(rows.failed > 0)

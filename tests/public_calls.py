@@ -26,7 +26,7 @@ from wrong_bodies import BLOCK, FUNCTION, functions_of, sources_in  # noqa: E402
 
 TABLE = TOP / "tests/public_calls.txt"
 # The crates whose functions begin the calls of a part. The example call_list is no part of ./test.
-PARTS = {"rows": "acpi_cases", "runs": "acpidis_program", "tests": "library_tests", "pool": "pool_tests"}
+PARTS = {"rows": "acpi_cases", "runs": "acpidis_program", "tests": "library_tests", "pool": "pool_tests", "library": "acpidis_c"}
 NOT_SURFACE = {*PARTS.values(), "pool_bench", "call_list"}
 UNNAMED = {"From", "Display", "PartialEq", "PartialOrd", "Ord", "Drop"}
 CALL = re.compile(r"(?:(\.)|\b(\w+)(?:::<[^()]*>)?::)?\b([a-z_]\w*)\b")

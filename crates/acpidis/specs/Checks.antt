@@ -1,14 +1,15 @@
 -- What `check` says of each loaded table: its length, its methods, its raw bodies, and whether what was read encodes
 -- to the same bytes again.
 use Rattle.std.specs.Prelude.{ℕ, suc, ◌==◌, nat_eq, Bool, true, false, ◌&&◌, List, [], ◌∷◌, ◌++◌, map, filter, zip}
-use Rattle.std.specs.Prelude.{flat_map, length, decimal, ◌≡◌, Result, Ok, Err, ◌+◌, ◌<◌, cond, All, is_err}
+use Rattle.std.specs.Prelude.{flat_map, length, decimal, ◌≡◌, Result, Ok, Err, ◌+◌, ◌<◌, cond, All, is_err, Vec}
+use Rattle.std.specs.Global.{Global}
 use Rattle.std.specs.List.{list_all, list_any, count_by}
 use lib.Pointwise.{pointwise}
 use Rattle.aml_code.specs.Tree.{encodings, Trees}
 use Rattle.aml_load.specs.Loading.{methods_of}
 use Rattle.aml_set.specs.Views.{codes_view, span_of}
 use Rattle.aml_set.specs.declared.methods.Method.{Method}
-use Rattle.asl_text.specs.Texts.{OneBody, read, raw, OneBlock}
+use Rattle.asl_text.specs.Texts.{OneBody, read, raw, OneBlock, all_lines}
 use Rattle.asl_text.specs.Bodies.{body_view}
 use Rattle.aml_text.specs.Listing.{names_in, blocks_of, blocks_in}
 use Rattle.aml_text.specs.declared.listing.Listing.{Listing}
@@ -112,6 +113,10 @@ abbrev pub IsKept : {X : Type 0} → (Trees → X → Type 0) → Reading → Re
 IsKept Gives (Ok ts) (Ok x) = Gives ts x
 IsKept Gives (Err fault) (Err kept) = kept ≡ fault
 IsKept Gives _ _ = ⊥
+
+-- these are the lines of the terms, without an indent
+abbrev pub AreLines : Trees → Vec ℕ Global → Type 0
+AreLines ts text = text.items ≡ all_lines 0 ts
 
 -- whether terms encode to these bytes
 abbrev pub IsSame : List ℕ → Trees → Bool → Type 0

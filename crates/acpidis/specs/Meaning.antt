@@ -88,8 +88,7 @@ Told x dumps options k =
     AllZip (Became options.unknown_zero k.listed.entries (codes_of dumps k)) (methods_of k.listed.entries)
     x.bodies.items
 
--- ---- A stepping stone of the proofs: the tables of a set, loaded in their order, before the bodies of their methods
--- are read.
+-- ---- The tables of a set, loaded in their order, before the bodies of their methods are read.
 
 -- the tables of a set are those of this listing
 pub record HasTables (set : TableSet) (dumps : List Dump) (k : Meaning) : Type 0 where

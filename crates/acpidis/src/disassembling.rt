@@ -118,8 +118,8 @@ fn load_in<'a>(
     }
 }
 
-/// The order of the tables of a set, and what they load to.
-pub(crate) fn load_set<'a>(
+/// The order of the tables of a set, and what they load to. No body is read.
+pub fn load_set<'a>(
     alloc: Global,
     dumps: &'a [Dump],
     options: &Options,

@@ -39,9 +39,9 @@ fn most_of(body: &[u8]) -> usize {
 
 /// A body that is read to be told in lines of a level.
 #[derive(Clone, Copy)]
-struct AtLevel<'u, 'a, 'b> {
-    unread: &'u Unread<'a, 'b>,
-    level: u32,
+pub(crate) struct AtLevel<'u, 'a, 'b> {
+    pub(crate) unread: &'u Unread<'a, 'b>,
+    pub(crate) level: u32,
 }
 
 impl Telling for AtLevel<'_, '_, '_> {

@@ -15,6 +15,7 @@ fault_number faults.TooLong = 6
 fault_number (faults.BadLine line) = 7
 fault_number faults.NotRun = 8
 fault_number faults.OutOfRange = 9
+fault_number faults.Refused = 12
 
 -- 0 where a call does what is asked
 abbrev pub code_of : {A : Type 0} → Result A Fault → ℕ

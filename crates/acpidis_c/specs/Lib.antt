@@ -1,6 +1,7 @@
 pub mod Handles
 pub mod Codes
 pub mod Dumps
+pub mod Contents
 pub mod States
 pub mod Sets
 pub mod Steps

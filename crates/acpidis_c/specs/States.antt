@@ -12,8 +12,10 @@ use Rattle.acpidis.specs.Meaning.{Meaning, Means}
 use Rattle.acpidis.specs.Refusals.{IsWant}
 use Rattle.acpidis.specs.declared.faults.RunFault.{RunFault}
 use Rattle.acpidis.specs.declared.faults.RunFault.TheVariants as ends
+use Rattle.acpidis_c.specs.Contents.{AreContents, RefusesContents}
 use Rattle.acpidis_c.specs.declared.code.Fault.{Fault}
 use Rattle.acpidis_c.specs.declared.code.Fault.TheVariants as faults
+use Rattle.acpidis_c.specs.declared.contents.Contents.{Contents}
 use Rattle.acpidis_c.specs.declared.state.Flags.{Flags}
 use Rattle.acpidis_c.specs.declared.state.Ran.{Ran}
 use Rattle.acpidis_c.specs.declared.state.State.{State}
@@ -26,12 +28,14 @@ pub record IsNew (s : State) : Type 0 where
   pub unknown_zero : s.options.unknown_zero ≡ false
   pub externals : s.options.externals.items ≡ []
   pub ran : s.ran ≡ None
+  pub contents : s.contents ≡ None
 
 -- the dump stands behind the others
 pub record HasAdded (before : State) (dump : Dump) (after : State) : Type 0 where
   pub dumps : after.dumps.items ≡ before.dumps.items ++ (dump ∷ [])
   pub options : after.options ≡ before.options
   pub ran : after.ran ≡ None
+  pub contents : after.contents ≡ None
 
 -- these flags are set, and nothing else
 pub record HasFlags (before : State) (flags : Flags) (after : State) : Type 0 where
@@ -41,6 +45,7 @@ pub record HasFlags (before : State) (flags : Flags) (after : State) : Type 0 wh
   pub unknown_zero : after.options.unknown_zero ≡ flags.unknown_zero
   pub externals : after.options.externals ≡ before.options.externals
   pub ran : after.ran ≡ None
+  pub contents : after.contents ≡ None
 
 -- the counts are those of the lines of this text
 pub record HasCounts (before : State) (text : List ℕ) (after : State) : Type 0 where
@@ -50,12 +55,14 @@ pub record HasCounts (before : State) (text : List ℕ) (after : State) : Type 0
   pub unknown_zero : after.options.unknown_zero ≡ before.options.unknown_zero
   pub externals : AreGiven (lines_of text) after.options.externals.items
   pub ran : after.ran ≡ None
+  pub contents : after.contents ≡ None
 
 -- nothing changed
 pub record IsSame (before after : State) : Type 0 where
   pub dumps : after.dumps.items ≡ before.dumps.items
   pub options : after.options ≡ before.options
   pub ran : after.ran ≡ before.ran
+  pub contents : after.contents ≡ before.contents
 
 -- Why a call does nothing. Want of memory says nothing of what it was given.
 abbrev pub RefusesCount : State → Fault → Type 0
@@ -91,3 +98,14 @@ pub record HasRun (before : State) (check : Bool) (after : State) : Type 0 where
   pub dumps : after.dumps ≡ before.dumps
   pub options : after.options ≡ before.options
   pub ran : (ran : Ran) × (after.ran ≡ Some ran) × IsRunOf before check ran
+  pub contents : after.contents ≡ before.contents
+
+-- what the set has was told, with the bodies of its methods if they were asked for, and nothing else was done
+pub record HasListed (before : State) (bodies : Bool) (after : State) : Type 0 where
+  pub dumps : after.dumps ≡ before.dumps
+  pub options : after.options ≡ before.options
+  pub ran : after.ran ≡ before.ran
+  pub contents : (x : Contents) × (after.contents ≡ Some x) × AreContents bodies before.dumps.items before.options x
+
+abbrev pub RefusesListed : State → Fault → Type 0
+RefusesListed s fault = RefusesContents s.dumps.items s.options fault

@@ -27,6 +27,8 @@ pub enum Fault {
     NotRun,
     /// What is asked for isn't within what there is.
     OutOfRange,
+    /// The set has no listing.
+    Refused,
 }
 
 impl From<AllocError> for Fault {
@@ -71,6 +73,7 @@ impl Fault {
             Fault::BadLine(_) => 7,
             Fault::NotRun => 8,
             Fault::OutOfRange => 9,
+            Fault::Refused => 12,
         }
     }
 }

@@ -6,25 +6,30 @@
 #![tactic(auto)]
 
 mod code;
+mod contents;
 mod dump;
 mod handle;
+mod looking;
 mod noting;
 mod parts;
 mod state;
 mod step;
 mod told;
+mod values;
 
 ghost use Rattle.std.specs.Prelude.{◌≡◌, Some, None, cond};
-ghost use Rattle.acpidis_c.specs.Reads.{told_in, Copies};
+ghost use Rattle.acpidis_c.specs.Reads.{told_in, sizes_in, texts_of, Copies, CopiesItems};
 ghost use Rattle.acpidis_c.specs.Sets.{state_of, CallsBy, CallsAt, Opens};
-ghost use Rattle.acpidis_c.specs.States.{HasCounts, HasRun, RefusesCounts, IsNoMemory};
+ghost use Rattle.acpidis_c.specs.States.{HasCounts, HasListed, HasRun, RefusesCounts, RefusesListed, IsNoMemory};
 ghost use Rattle.acpidis_c.specs.Steps.{Adds, Chooses, RefusesAdd};
 
 use code::{Fault, code_of, line_of};
+use contents::{BodyValue, MethodValue, RowValue};
 use handle::Set;
+use looking::{Bodies, Methods, Rows, Sizes, Tables, Texts, copy_items, no_sizes, sizes_of};
 use state::{Flags, State};
 use std::alloc::Global;
-use step::{Add, Count, Run, call};
+use step::{Add, Count, List, Run, call};
 use told::{Told, copy_of, nothing_told, told_of};
 
 /// Opens a closed set, without dumps and options.
@@ -149,4 +154,97 @@ pub extern "C" fn acpidis_c_copy(
     let code = code_of(&copy_of(&state, errors, from, out));
     set.put(state);
     code
+}
+
+/// Tells what the set has: its tables, the rows of its namespace, its methods, and with `bodies` the bodies of these.
+#[unsafe(no_mangle)]
+pub extern "C" fn acpidis_c_list(alloc: Global, set: &mut Set, bodies: bool) -> u32
+    ensures { CallsBy (λ before. HasListed before bodies) RefusesListed (state_of set.old) result (state_of set.new) }
+{
+    code_of(&call(alloc, set, List { bodies }))
+}
+
+/// How many values there are of what was told last, and how many bytes their texts have.
+#[unsafe(no_mangle)]
+pub extern "C" fn acpidis_c_sizes(alloc: Global, set: &mut Set) -> Sizes
+    ensures sizes { result ≡ sizes_in (state_of set.old) }
+    ensures same { state_of set.new ≡ state_of set.old }
+{
+    let Some(state) = set.take(alloc) else {
+        return no_sizes(Fault::Closed);
+    };
+    let sizes = sizes_of(&state);
+    set.put(state);
+    sizes
+}
+
+/// Copies the indexes of the dumps of the set's tables, in load order, from one on.
+#[unsafe(no_mangle)]
+pub extern "C" fn acpidis_c_tables(
+    alloc: Global,
+    set: &mut Set,
+    from: usize,
+    out: &mut [usize],
+) -> u32
+    ensures copied { CopiesItems (λ x. x.tables.items) (state_of set.old) from out.old out.new result }
+    ensures same { state_of set.new ≡ state_of set.old }
+{
+    copy_items(alloc, set, Tables, from, out)
+}
+
+/// Copies rows of the namespace from one on.
+#[unsafe(no_mangle)]
+pub extern "C" fn acpidis_c_rows(
+    alloc: Global,
+    set: &mut Set,
+    from: usize,
+    out: &mut [RowValue],
+) -> u32
+    ensures copied { CopiesItems (λ x. x.rows.items.items) (state_of set.old) from out.old out.new result }
+    ensures same { state_of set.new ≡ state_of set.old }
+{
+    copy_items(alloc, set, Rows, from, out)
+}
+
+/// Copies methods from one on.
+#[unsafe(no_mangle)]
+pub extern "C" fn acpidis_c_methods(
+    alloc: Global,
+    set: &mut Set,
+    from: usize,
+    out: &mut [MethodValue],
+) -> u32
+    ensures copied { CopiesItems (λ x. x.methods.items.items) (state_of set.old) from out.old out.new result }
+    ensures same { state_of set.new ≡ state_of set.old }
+{
+    copy_items(alloc, set, Methods, from, out)
+}
+
+/// Copies the bodies of methods from one on.
+#[unsafe(no_mangle)]
+pub extern "C" fn acpidis_c_bodies(
+    alloc: Global,
+    set: &mut Set,
+    from: usize,
+    out: &mut [BodyValue],
+) -> u32
+    ensures copied { CopiesItems (λ x. x.bodies.items.items) (state_of set.old) from out.old out.new result }
+    ensures same { state_of set.new ≡ state_of set.old }
+{
+    copy_items(alloc, set, Bodies, from, out)
+}
+
+/// Copies bytes of the texts of rows (0), of methods (1) or of bodies (any other number) from one on.
+#[unsafe(no_mangle)]
+pub extern "C" fn acpidis_c_texts(
+    alloc: Global,
+    set: &mut Set,
+    of: u32,
+    from: usize,
+    out: &mut [u8],
+) -> u32
+    ensures copied { CopiesItems (texts_of of) (state_of set.old) from out.old out.new result }
+    ensures same { state_of set.new ≡ state_of set.old }
+{
+    copy_items(alloc, set, Texts { of }, from, out)
 }

@@ -1,10 +1,12 @@
-//! What an open set has: its dumps, its options, and what came of its last run.
+//! What an open set has: its dumps, its options, what came of its last run, and its contents.
 ghost use Rattle.std.specs.Prelude.{◌≡◌, None, Some, IfOk, IfErr, OnErr, OnOk};
 ghost use Rattle.acpidis_c.specs.declared.code.Fault.TheVariants.{NotRun};
 ghost use Rattle.acpidis_c.specs.States.{IsNew, HasAdded, HasFlags, HasCounts, IsSame, IsRunOf, Settles, HasRun};
+ghost use Rattle.acpidis_c.specs.States.{HasListed, RefusesListed};
 ghost use Rattle.acpidis_c.specs.States.{RefusesCount, RefusesCounts, IsNoMemory};
 
 use crate::code::{Ended, Fault};
+use crate::contents::{Contents, contents_of};
 use crate::noting::Noting;
 use acpi_folder::parse_externals;
 use acpi_tables::{Dump, MAX_DUMPS};
@@ -34,6 +36,7 @@ pub struct State {
     pub(crate) dumps: Vec<Dump>,
     pub(crate) options: Options,
     pub(crate) ran: Option<Ran>,
+    pub(crate) contents: Option<Contents>,
 }
 
 /// What is taken that is refused else.
@@ -58,6 +61,7 @@ impl State {
                 externals: Vec::new(alloc),
             },
             ran: None,
+            contents: None,
         }
     }
 
@@ -72,6 +76,7 @@ impl State {
         }
         self.dumps.push(dump)?;
         self.ran = None;
+        self.contents = None;
         Ok(())
     }
 
@@ -83,6 +88,7 @@ impl State {
         self.options.any_run = flags.any_run;
         self.options.unknown_zero = flags.unknown_zero;
         self.ran = None;
+        self.contents = None;
     }
 
     /// Sets the counts that the user gives, by the text of a file of them.
@@ -97,6 +103,7 @@ impl State {
         let counts = parse_externals(alloc, text)?;
         self.options.externals = counts;
         self.ran = None;
+        self.contents = None;
         Ok(())
     }
 
@@ -120,6 +127,28 @@ impl State {
         let ran = self.run_of(alloc, check)?;
         self.ran = Some(ran);
         Ok(())
+    }
+
+    /// Tells what the set has, with the bodies of its methods if they are asked for.
+    pub(crate) fn list(&mut self, alloc: Global, bodies: bool) -> Ended
+        ensures listed { OnOk result (HasListed self.old bodies self.new) }
+        ensures stops { IfErr result (RefusesListed self.old) }
+        ensures refused { OnErr result (IsSame self.old self.new) }
+    {
+        let contents = contents_of(alloc, self.dumps.as_slice(), &self.options, bodies)?;
+        self.contents = Some(contents);
+        Ok(())
+    }
+
+    /// What the set has, as it was told last.
+    pub(crate) fn listed(&self) -> Result<&Contents, Fault>
+        ensures contents { IfOk result (λ contents. self.now.contents ≡ Some contents.now) }
+        ensures none { IfErr result (λ fault. (fault ≡ NotRun) × (self.now.contents ≡ None)) }
+    {
+        match &self.contents {
+            Some(contents) => Ok(contents),
+            None => Err(Fault::NotRun),
+        }
     }
 
     /// What comes of a run.

@@ -95,6 +95,24 @@ pub(crate) struct Run {
     pub(crate) check: bool,
 }
 
+/// Tells what the set has.
+#[derive(Clone, Copy)]
+pub(crate) struct List {
+    pub(crate) bodies: bool,
+}
+
+impl Step for List {
+    ghost use Rattle.acpidis_c.specs.States.{HasListed, RefusesListed};
+
+    ghost does = { λ list before after. HasListed before list.bodies after };
+
+    ghost stops = { λ _ before. RefusesListed before };
+
+    fn step(self, alloc: Global, state: &mut State) -> Ended {
+        state.list(alloc, self.bodies)
+    }
+}
+
 impl Step for Run {
     ghost use Rattle.acpidis_c.specs.States.{HasRun, IsNoMemory};
 

@@ -4,6 +4,7 @@ ghost use Rattle.acpidis_c.specs.Codes.{code_of, fault_number};
 ghost use Rattle.acpidis_c.specs.Reads.{nothing_told, told_of, bytes_of, CopiesRun};
 
 use crate::code::{Ended, Fault};
+use crate::looking::copy;
 use crate::state::{Ran, State};
 
 /// What came of a run.
@@ -65,10 +66,5 @@ pub(crate) fn copy_of(state: &State, errors: bool, from: usize, out: &mut [u8]) 
         Ok(ran) => ran,
         Err(fault) => return Err(fault),
     };
-    let bytes = bytes_of(ran, errors);
-    if from > bytes.len() || out.len() > bytes.len() - from {
-        return Err(Fault::OutOfRange);
-    }
-    out.copy_from_slice(&bytes[from..from + out.len()]);
-    Ok(())
+    copy(bytes_of(ran, errors), from, out)
 }
