@@ -106,6 +106,9 @@ impl<'a> Parts<'a> {
         requires { count ≤ length self.now }
         ensures { IfOk result (λ path. path ≡ drop count self.now) }
     {
+        if count == self.len() {
+            return Ok(Path::root(alloc));
+        }
         if count < self.front.len() {
             Path::below(alloc, &self.front[count..], self.own)
         } else {

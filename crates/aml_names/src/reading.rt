@@ -95,7 +95,24 @@ fn count_of(end: u32, bytes: &[u8]) -> Result<(u8, &[u8]), CodeFault>
 /// `end` is the offset in the code at which the bytes end. `BadName` at the first character that can't stand in its
 /// place, `Truncated` at the end where the bytes are fewer.
 #[tactic(auto, unfolding(crate::specs::NameReading::segment_at))]
+#[inline(always)]
 pub fn segment_of(end: u32, bytes: &[u8]) -> Result<(Seg, &[u8]), CodeFault>
+    ensures { Gives (λ x. (x.0, x.1.now)) result (segment_at end bytes.now) }
+{
+    match bytes {
+        [a, b, c, d, rest @ ..]
+            if is_lead_char(*a) && is_name_char(*b) && is_name_char(*c) && is_name_char(*d) => {
+            Ok((Seg([*a, *b, *c, *d]), rest))
+        }
+        _ => chars_of(end, bytes),
+    }
+}
+
+/// The same, character by character, by which it tells where a fault is.
+#[tactic(auto, unfolding(crate::specs::NameReading::segment_at))]
+#[cold]
+#[inline(never)]
+fn chars_of(end: u32, bytes: &[u8]) -> Result<(Seg, &[u8]), CodeFault>
     ensures { Gives (λ x. (x.0, x.1.now)) result (segment_at end bytes.now) }
 {
     let (a, rest) = lead_char_of(end, bytes)?;

@@ -42,7 +42,20 @@ pub fn print_hex16<W: Write>(out: &mut Out<'_, W>, n: u64)
     print_hex8(out, (n % 4294967296) as u32);
 }
 
+/// A number in decimal digits, most often one.
+#[tactic(auto, using(std::proofs::lemmas::Fmt::decimal_digit))]
 pub fn print_decimal<W: Write>(out: &mut Out<'_, W>, n: u64)
+    ensures { Prints W.contents out.old out.new (decimal n) }
+{
+    if n < 10 {
+        out.put(&[b'0' + n as u8]);
+    } else {
+        print_digits(out, n);
+    }
+}
+
+#[inline(never)]
+fn print_digits<W: Write>(out: &mut Out<'_, W>, n: u64)
     ensures { Prints W.contents out.old out.new (decimal n) }
 {
     let mut buffer = Buffer::new();
