@@ -11,7 +11,8 @@ use Rattle.aml_load.proofs.loading.load_each.Goals as goal
 pub invariant_of-result : goal.invariant_of-result
 invariant_of-result c =
     let read = c.in_ok-read_tables.ensures (first_listed c.args.givens.now) c.in_ok-progress.ensures in
-    record { numbered = subst (λ k. AreNumbered k c.in_ok-read_tables.progress.methods.items _) (sym c.settle.ensures) read.2.1.numbered }
+    let progress = c.read_tables.new.progress in
+    record { numbered = subst (λ k. AreNumbered k progress.methods.items progress.numbers.items) (sym c.settle.ensures) read.2.1.numbered }
 
 pub returns-clause-dumps : goal.returns-clause-dumps
 returns-clause-dumps c = (c.in_ok-read_tables.ensures (first_listed c.args.givens.now) c.in_ok-progress.ensures).0

@@ -9,8 +9,8 @@ use Rattle.aml_load.specs.Walking.{at_site}
 use Rattle.aml_load.proofs.Holding.{method_held, entry_free, entry_taken}
 use Rattle.aml_load.proofs.walking.Progress.declare_body.Goals as goal
 
-pub number-id-requires : goal.number-id-requires
-number-id-requires c = subst (λ scopes. IsNear scopes c.near.result c.parts.result) (sym c.in_ok-declare_path.ensures.stays)
+pub number-requires : goal.number-requires
+number-requires c = subst (λ scopes. IsNear scopes c.near.result c.parts.result) (sym c.in_ok-declare_path.ensures.stays)
     (rw c.parts.ensures (c.near.ensures _ _ c.requires.inside c.requires.below))
 
 pub returns-in_err-declare_path-clause-walks : goal.returns-in_err-declare_path-clause-walks
@@ -31,7 +31,7 @@ returns-clause-walks c l h =
     let e = method_entry site l.entries c.args.flags (c.args.start, c.args.len) p in
     let d = c.in_ok-declare_path.ensures.declared l (Some b) h.space in
     let more = l.entries ++ e ∷ [] in
-    let grows = c.number-id.ensures.grows in (
+    let grows = c.number.ensures.grows in (
       plus l e,
       method_held c.args.self.now _ l p k b (sure_here site l.entries p) _ c.in_ok-id.id h (stands_grown _ _ more grows d.1)
           (c.in_ok-push-2.ensures.items ∙ ap (λ xs. xs ++ record {
