@@ -1,6 +1,6 @@
 -- The AML of definition blocks, and what becomes of the bodies of methods: terms, or bytes where a body reads as none.
 use Rattle.std.specs.Prelude.{ℕ, List, drop, map, ◌≡◌, ◌<◌, ◌≤◌, Bool, true, false, length, slice_get, All, Vec, Err}
-use Rattle.std.specs.Prelude.{Ok, Some, Result}
+use Rattle.std.specs.Prelude.{Ok, Result}
 use Rattle.acpi_tables.specs.declared.dump.Dump.{Dump}
 use Rattle.acpi_tables.specs.Header.{table_of}
 use Rattle.acpi_tables.specs.Order.{bytes_of}
@@ -11,7 +11,7 @@ use Rattle.aml_names.specs.declared.faults.CodeFault.{CodeFault}
 use Rattle.aml_code.specs.Tree.{Trees}
 use Rattle.aml_code.specs.View.{nodes_view}
 use Rattle.aml_namespace.specs.Namespace.{Entry}
-use Rattle.aml_namespace.specs.Known.{StandsFor}
+use Rattle.aml_namespace.specs.Known.{StandsAt, StandsFor}
 use Rattle.aml_set.specs.Views.{span_of, table_codes}
 use Rattle.aml_load.specs.Views.{IsBody, IsUnread, body_at, OfMethod}
 use Rattle.aml_set.specs.declared.tables.TableSet.{TableSet}
@@ -105,6 +105,6 @@ AreBodies z x ds = AreReadings z x (map reading_of ds)
 
 -- the body that is to be read is that of the method of its number
 pub record IsItsBody (u : Unread) : Type 0 where
-  pub kept : slice_get u.set.now.space.kept u.number ≡ Some u.method.now.path
+  pub numbered : StandsAt u.set.now.space u.id u.method.now.path
   pub short : length u.bytes.now ≤ 16777216
   pub body : u.bytes.now ≡ span_of (table_codes u.set.now.tables.items) u.method.now

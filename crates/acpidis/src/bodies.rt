@@ -8,9 +8,10 @@ ghost use Rattle.acpidis.specs.Checks.{AreKeptOf};
 use crate::crew::Crew;
 use crate::refusal::Refusal;
 use aml_code::CodeFault;
-use aml_load::read_kept;
+use aml_load::read_numbered;
 use aml_pool::{Gate, NoMemory, PoolFault, Results, Work, harvest, harvest_alone};
 use aml_set::{Method, TableSet};
+use aml_space::PathId;
 use asl_text::Body;
 use std::alloc::Global;
 use std::sync::Wait;
@@ -24,6 +25,8 @@ pub(crate) struct Unread<'a, 'b> {
     pub(crate) unknown_zero: bool,
     pub(crate) number: u32,
     pub(crate) method: &'a Method,
+    /// The number of the method's path.
+    pub(crate) id: PathId,
     pub(crate) bytes: &'a [u8],
 }
 
@@ -34,11 +37,11 @@ impl<'a, 'b> Unread<'a, 'b> {
         ensures { IfOk result (λ body.
             ReadsIn self.now.unknown_zero self.now.set.now self.now.method.now (reading_of body)) }
     {
-        match read_kept(
+        match read_numbered(
             self.alloc,
             self.bytes,
             &self.set.space,
-            self.number as usize,
+            self.id,
             self.method,
             self.unknown_zero,
         ) {
@@ -90,6 +93,7 @@ impl<'a, 'b, K: Keep> Work for Keeping<'a, 'b, K> {
             unknown_zero: self.unknown_zero,
             number,
             method,
+            id: self.set.numbers[number as usize],
             bytes,
         })
     }

@@ -11,7 +11,7 @@ ghost use Rattle.acpidis.specs.Checks.{IsKept};
 
 use crate::bodies::{Keep, Unread};
 use aml_code::{CodeFault, Sink, Telling};
-use aml_load::tell_kept;
+use aml_load::tell_numbered;
 use aml_pool::NoMemory;
 use asl_text::{Body, BodyText, told_text};
 use std::alloc::Global;
@@ -54,11 +54,11 @@ impl Telling for AtLevel<'_, '_, '_> {
         ReadsIn t.unread.now.unknown_zero t.unread.now.set.now t.unread.now.method.now (Err fault) };
 
     fn tell_all<S: Sink>(&self, sink: &mut S) -> Result<(), CodeFault> {
-        tell_kept(
+        tell_numbered(
             self.unread.alloc,
             self.unread.bytes,
             &self.unread.set.space,
-            self.unread.number as usize,
+            self.unread.id,
             self.unread.method,
             self.unread.unknown_zero,
             self.level,

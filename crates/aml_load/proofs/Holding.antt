@@ -22,12 +22,14 @@ use Rattle.aml_namespace.specs.declared.kinds.Kind.{Kind}
 use Rattle.aml_namespace.specs.declared.kinds.Kind.TheVariants as kinds
 use Rattle.aml_space.specs.declared.faults.SpaceFault.TheVariants as faults
 use Rattle.aml_namespace.specs.Namespace.{Entry, Body, declares, declared_at}
-use Rattle.aml_namespace.specs.Known.{Known, StandsFor, with_scopes}
-use Rattle.aml_namespace.proofs.Stands.{stands_inside}
+use Rattle.aml_namespace.specs.Known.{Grows, StandsAt, StandsFor, with_scopes}
+use Rattle.aml_namespace.proofs.Numbers.{scopes_grown, still_at}
+use Rattle.aml_namespace.proofs.Stands.{stands_grown, stands_inside}
 use Rattle.aml_load.specs.declared.faults.LoadFault.{LoadFault}
 use Rattle.aml_load.specs.declared.faults.LoadFault.TheVariants as loads
 use Rattle.aml_set.specs.declared.methods.Method.{Method}
-use Rattle.aml_set.specs.Kept.{AreKept, paths_in}
+use Rattle.aml_set.specs.Numbers.{AreNumbered}
+use Rattle.aml_set.proofs.Numbers.{one_numbered, still_numbered}
 use Rattle.aml_load.specs.declared.walking.Progress.{Progress}
 use Rattle.aml_load.specs.Loading.{◌>>=◌, Where, Listed, plus, with_uses, term_uses, method_of, methods_of, role_of}
 use Rattle.aml_load.specs.Loading.{plain_entry, place_at, entry_at, new_at}
@@ -36,7 +38,7 @@ use Rattle.aml_load.specs.Tables.{Fails}
 use Rattle.aml_load.specs.declared.groups.Groups.{Groups}
 use Rattle.aml_load.specs.Groups.{AreIn, uses_of}
 use Rattle.aml_load.proofs.Grouping.{open_inside}
-use Rattle.aml_load.specs.Walking.{Holds, IsFree, IsDeclared, KeepsUses, Walked}
+use Rattle.aml_load.specs.Walking.{Holds, IsFree, IsDeclared, KeepsPaths, KeepsUses, Walked}
 
 pub methods_more : (es : List Entry) (x : Entry) → methods_of (es ++ x ∷ []) ≡ methods_of es ++ methods_of (x ∷ [])
 methods_more [] x = refl
@@ -53,22 +55,21 @@ grouped_as : (old new : Progress) → KeepsUses old new → AreIn old.space.scop
 grouped_as old new keeps grouped = subst (λ scopes. AreIn scopes new.uses) (sym keeps.scopes)
     (subst (AreIn old.space.scopes) (sym keeps.uses) grouped)
 
--- the methods' paths are kept as they were
-kept_as : (old new : Progress) → AreKept old.space old.methods.items → new.space.kept ≡ old.space.kept
-    → new.methods.items ≡ old.methods.items → AreKept new.space new.methods.items
-kept_as old new kept same ms = same ∙ kept ∙ ap paths_in (sym ms)
-
--- and one more is
-kept_more : (old : List Method) (m : Method) → paths_in (old ++ m ∷ []) ≡ paths_in old ++ m.path ∷ []
-kept_more [] m = refl
-kept_more (first ∷ old) m = ap (λ paths. first.path ∷ paths) (kept_more old m)
+-- the methods' paths have their numbers as they had
+numbered_as : (old new : Progress) → AreNumbered old.space old.methods.items old.numbers.items
+    → KeepsPaths old.space new.space → new.numbers.items ≡ old.numbers.items
+    → new.methods.items ≡ old.methods.items → AreNumbered new.space new.methods.items new.numbers.items
+numbered_as old new all keeps ids ms =
+    subst (AreNumbered new.space new.methods.items) (sym ids) (subst (λ ms. AreNumbered new.space ms old.numbers.items) (sym ms)
+    (still_numbered old.space new.space old.methods.items old.numbers.items keeps all))
 
 -- an entry without a body
 pub plain_held : (old new : Progress) (l : Listed) (x : Entry) → methods_of (x ∷ []) ≡ [] → Holds old l
     → StandsFor new.space (l.entries ++ x ∷ [])
-    → new.methods.items ≡ old.methods.items → KeepsUses old new → new.space.kept ≡ old.space.kept → Holds new (plus l x)
-plain_held old new l x none h s ms keeps kept = record {
-  kept = kept_as old new h.kept kept ms;
+    → new.methods.items ≡ old.methods.items → KeepsUses old new → new.numbers.items ≡ old.numbers.items
+    → KeepsPaths old.space new.space → Holds new (plus l x)
+plain_held old new l x none h s ms keeps ids paths = record {
+  numbered = numbered_as old new h.numbered paths ids ms;
   space = s;
   methods = ms ∙ h.methods ∙ sym (methods_more l.entries x ∙ ap (λ zs. methods_of l.entries ++ zs) none ∙ append-nil (methods_of l.entries));
   uses = ap (λ (us : Groups). uses_of us.list.items) keeps.uses ∙ h.uses;
@@ -76,14 +77,16 @@ plain_held old new l x none h s ms keeps kept = record {
 }
 
 pub method_held : (old new : Progress) (l : Listed) (p : List Seg) (k : Kind) (b : Body) (sure : Bool) (m : Method)
-    → Holds old l
+    (id : ℕ) → Holds old l
     → StandsFor new.space (l.entries ++ declares p k (Some b) sure ∷ [])
     → new.methods.items ≡ old.methods.items ++ m ∷ []
     → m ≡ record { path = p; table = b.table; start = b.start; len = b.len; flags = b.flags } → KeepsUses old new
-    → new.space.kept ≡ old.space.kept ++ p ∷ [] → Holds new (plus l (declares p k (Some b) sure))
-method_held old new l p k b sure m h s ms is keeps kept = record {
-  kept = kept ∙ ap (λ paths. paths ++ p ∷ []) h.kept ∙ ap (λ (x : Method). paths_in old.methods.items ++ x.path ∷ []) (sym is)
-      ∙ sym (ap paths_in ms ∙ kept_more old.methods.items m);
+    → new.numbers.items ≡ old.numbers.items ++ id ∷ [] → KeepsPaths old.space new.space → StandsAt new.space id p
+    → Holds new (plus l (declares p k (Some b) sure))
+method_held old new l p k b sure m id h s ms is keeps ids paths at = record {
+  numbered = subst (AreNumbered new.space new.methods.items) (sym ids) (subst (λ ms. AreNumbered new.space ms (old.numbers.items ++ id ∷ [])) (sym ms)
+      (one_numbered new.space old.methods.items old.numbers.items m id (subst (λ (x : Method). StandsAt new.space id x.path) (sym is) at)
+      (still_numbered old.space new.space old.methods.items old.numbers.items paths h.numbered)));
   space = s;
   methods = ms ∙ ap (λ xs. xs ++ m ∷ []) h.methods ∙ ap (λ (x : Method). methods_of l.entries ++ x ∷ []) is
       ∙ sym (methods_more l.entries (declares p k (Some b) sure));
@@ -92,24 +95,25 @@ method_held old new l p k b sure m h s ms is keeps kept = record {
 }
 
 -- a scope more is open
-pub inside_held : (old new : Progress) (l : Listed) (scope : List Seg) → new.space ≡ with_scopes old.space (old.space.scopes ++ scope ∷ [])
-    → new.methods.items ≡ old.methods.items → new.uses ≡ old.uses → Holds old l → Holds new l
-inside_held old new l scope is ms us h = record {
-  kept = kept_as old new h.kept (ap (λ (k : Known). k.kept) is) ms;
-  space = subst (λ k. StandsFor k l.entries) (sym is) (stands_inside old.space (old.space.scopes ++ scope ∷ []) l.entries h.space);
+pub inside_held : (old new : Progress) (l : Listed) (scope : List Seg)
+    → Grows (with_scopes old.space (old.space.scopes ++ scope ∷ [])) new.space → new.methods.items ≡ old.methods.items
+    → new.numbers.items ≡ old.numbers.items → new.uses ≡ old.uses → Holds old l → Holds new l
+inside_held old new l scope grows ms ids us h = record {
+  numbered = numbered_as old new h.numbered (λ id p. still_at _ _ id p grows) ids ms;
+  space = stands_grown _ _ l.entries grows (stands_inside old.space (old.space.scopes ++ scope ∷ []) l.entries h.space);
   methods = ms ∙ h.methods;
   uses = ap (λ (us : Groups). uses_of us.list.items) us ∙ h.uses;
-  grouped = open_inside old.space.scopes new.space.scopes scope new.uses (ap (λ (k : Known). k.scopes) is)
+  grouped = open_inside old.space.scopes new.space.scopes scope new.uses (scopes_grown _ _ grows)
       (subst (AreIn old.space.scopes) (sym us) h.grouped);
 }
 
 -- the names of a term more
 pub uses_held : (old new : Progress) (l : Listed) (site : Where) (x : Tree) → Holds old l → new.space ≡ old.space
-    → new.methods.items ≡ old.methods.items
+    → new.methods.items ≡ old.methods.items → new.numbers.items ≡ old.numbers.items
     → uses_of new.uses.list.items ≡ uses_of old.uses.list.items ++ term_uses site x
     → AreIn new.space.scopes new.uses → Holds new (with_uses site l x)
-uses_held old new l site x h s ms us grouped = record {
-  kept = kept_as old new h.kept (ap (λ (k : Known). k.kept) s) ms;
+uses_held old new l site x h s ms ids us grouped = record {
+  numbered = numbered_as old new h.numbered (λ id p. subst (λ k. StandsAt k id p) (sym s)) ids ms;
   space = subst (λ k. StandsFor k l.entries) (sym s) h.space;
   methods = ms ∙ h.methods;
   uses = us ∙ ap (λ us. us ++ term_uses site x) h.uses;
@@ -182,5 +186,5 @@ pub declared_walked : (old new : Progress) (l : Listed) (site : Where) (p : List
     → Holds old l → IsDeclared site l.entries p (declares p kind None sure) old new r
     → Walked new r (entry_at site l p (declares p kind None sure))
 declared_walked old new l site p kind sure (Ok u) h d =
-    let x = declares p kind None sure in (plus l x, plain_held old new l x refl h d.1 d.2 d.3 d.4, entry_free site l p x d.0)
+    let x = declares p kind None sure in (plus l x, plain_held old new l x refl h d.1 d.2 d.3 d.4 d.5, entry_free site l p x d.0)
 declared_walked old new l site p kind sure (Err e) h d = entry_taken site l p (declares p kind None sure) e d

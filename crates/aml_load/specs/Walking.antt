@@ -1,10 +1,10 @@
 -- A stepping stone: what the load holds so far, and what a step of it gives, as `Loading` and `Tables` say it.
 use Rattle.std.specs.Prelude.{◌≡◌, ◌⊎◌, ◌&&◌, Bool, true, false, not, List, [], ◌∷◌, ◌++◌, Option, Some, None, Result, Ok}
-use Rattle.std.specs.Prelude.{Err, is_some}
+use Rattle.std.specs.Prelude.{Err, is_some, ℕ}
 use Rattle.aml_names.specs.declared.segments.Seg.{Seg}
 use Rattle.aml_space.specs.declared.faults.SpaceFault.TheVariants as faults
 use Rattle.aml_namespace.specs.Namespace.{Entry, declared_at}
-use Rattle.aml_namespace.specs.Known.{Known, StandsFor}
+use Rattle.aml_namespace.specs.Known.{Known, StandsAt, StandsFor}
 use Rattle.aml_space.specs.Near.{IsOpen, IsBelow}
 use Rattle.aml_space.specs.declared.opened.PlacedPath.{PlacedPath}
 use Rattle.aml_space.specs.declared.opened.Source.{Source}
@@ -17,7 +17,7 @@ use Rattle.aml_load.specs.Groups.{AreIn, uses_of}
 use Rattle.aml_load.specs.Tables.{Fails}
 use Rattle.aml_code.specs.Tree.{Trees}
 use Rattle.aml_set.specs.declared.tables.Table.{Table}
-use Rattle.aml_set.specs.Kept.{AreKept}
+use Rattle.aml_set.specs.Numbers.{AreNumbered}
 use Rattle.aml_set.specs.Views.{table_dumps, table_codes, table_terms}
 
 -- where a site is
@@ -35,11 +35,16 @@ pub record KeepsUses (old new : Progress) : Type 0 where
   pub uses : new.uses ≡ old.uses
   pub scopes : new.space.scopes ≡ old.space.scopes
 
+-- and each number stands for its path still
+abbrev pub KeepsPaths : Known → Known → Type 0
+KeepsPaths old new = (id : ℕ) (p : List Seg) → StandsAt old id p → StandsAt new id p
+
 -- What declaring a path made of the progress, whatever entries it held: this entry more, and nothing else; or the fault
 -- that it may not be added, or want of memory.
 abbrev pub IsDeclared : Where → List Entry → List Seg → Entry → Progress → Progress → Result (Unit {0}) LoadFault → Type 0
 IsDeclared site es p x old new (Ok u) = IsFree site es p (Ok u) × StandsFor new.space (es ++ x ∷ [])
-    × (new.methods.items ≡ old.methods.items) × KeepsUses old new × (new.space.kept ≡ old.space.kept)
+    × (new.methods.items ≡ old.methods.items) × KeepsUses old new
+    × (new.numbers.items ≡ old.numbers.items) × KeepsPaths old.space new.space
 IsDeclared site es p x old new (Err e) = IsFree site es p (Err e)
 
 -- the path of which an Alias is declared
@@ -51,12 +56,12 @@ source_paths (Some s) = s.path.now ∷ []
 abbrev pub sure_of : Where → List Entry → List Seg → Option Source → Bool
 sure_of site es p source = sure_with site es (parent_of p ∷ source_paths source)
 
--- the namespace, the methods and the uses so far are those of what is listed, the methods' paths are kept, and the uses
--- are grouped
+-- the namespace, the methods and the uses so far are those of what is listed, the methods' paths have their numbers,
+-- and the uses are grouped
 pub record Holds (p : Progress) (l : Listed) : Type 0 where
   pub space : StandsFor p.space l.entries
   pub methods : p.methods.items ≡ methods_of l.entries
-  pub kept : AreKept p.space p.methods.items
+  pub numbered : AreNumbered p.space p.methods.items p.numbers.items
   pub uses : uses_of p.uses.list.items ≡ l.uses
   pub grouped : AreIn p.space.scopes p.uses
 

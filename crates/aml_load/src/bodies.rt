@@ -1,10 +1,10 @@
 //! The bodies of methods.
-ghost use Rattle.std.specs.Prelude.{◌≡◌, ◌≤◌, ℕ, List, length, slice_get, Some, Err, OnOk, IfErr};
+ghost use Rattle.std.specs.Prelude.{◌≡◌, ◌≤◌, ℕ, List, length, Err, OnOk, IfErr};
 ghost use Rattle.aml_code.specs.Pieces.{line_pieces};
 ghost use Rattle.aml_code.specs.Tree.{Trees};
 ghost use Rattle.aml_code.specs.View.{nodes_view};
 ghost use Rattle.aml_namespace.specs.Namespace.{Entry};
-ghost use Rattle.aml_namespace.specs.Known.{StandsFor};
+ghost use Rattle.aml_namespace.specs.Known.{StandsAt, StandsFor};
 ghost use Rattle.aml_set.specs.Code.{AreShort};
 ghost use Rattle.aml_set.specs.Views.{codes_view, span_of};
 ghost use Rattle.aml_load.specs.Views.{IsReading, GivesBody, ReadsBy};
@@ -12,7 +12,7 @@ ghost use Rattle.aml_load.specs.Views.{IsReading, GivesBody, ReadsBy};
 use aml_code::{CodeFault, Node, Sink};
 use aml_parse::{own_body_terms, tell_own_body};
 use aml_set::{Method, span_of};
-use aml_space::{BodyNames, Space};
+use aml_space::{BodyNames, PathId, Space};
 use std::alloc::Global;
 
 /// The terms of the body of a method, in the namespace of all tables (ACPI 6.5, 5.3), by the AML of each table in load
@@ -65,18 +65,18 @@ pub fn read_span(
     read_by(alloc, bytes, &names, method)
 }
 
-/// The same of a method whose path the space keeps by this number, so that it isn't looked up.
-pub fn read_kept(
+/// The same of a method whose path has this number in the space, so that it isn't looked up.
+pub fn read_numbered(
     alloc: Global,
     bytes: &[u8],
     space: &Space,
-    number: usize,
+    id: PathId,
     method: &Method,
     unknown_zero: bool,
 ) -> Result<Vec<Node>, CodeFault>
     // The limit of a table.
     requires short { length bytes.now ≤ 16777216 }
-    requires kept { slice_get space.now.kept number ≡ Some method.now.path }
+    requires numbered { StandsAt space.now id method.now.path }
 
     // In whatever tables they are the method's body: it reads as its terms and as no others; or memory was refused; or
     // it reads as none, and the fault is true of it.
@@ -88,7 +88,7 @@ pub fn read_kept(
         (es : List Entry) → StandsFor space.now es →
         GivesBody (λ nodes. nodes_view nodes.items) unknown_zero es tables method.now result }
 {
-    let names = BodyNames::kept(space, number, method.path.parts(), unknown_zero);
+    let names = BodyNames::numbered(space, id, method.path.parts(), unknown_zero);
     read_by(alloc, bytes, &names, method)
 }
 
@@ -111,12 +111,12 @@ fn read_by(
     own_body_terms(alloc, bytes, names, &method.path.parts())
 }
 
-/// Tells a sink the terms that `read_kept` reads, as lines of this level, piece by piece as they are read.
-pub fn tell_kept<S: Sink>(
+/// Tells a sink the terms that `read_numbered` reads, as lines of this level, piece by piece as they are read.
+pub fn tell_numbered<S: Sink>(
     alloc: Global,
     bytes: &[u8],
     space: &Space,
-    number: usize,
+    id: PathId,
     method: &Method,
     unknown_zero: bool,
     level: u32,
@@ -124,7 +124,7 @@ pub fn tell_kept<S: Sink>(
 ) -> Result<(), CodeFault>
     // The limit of a table.
     requires short { length bytes.now ≤ 16777216 }
-    requires kept { slice_get space.now.kept number ≡ Some method.now.path }
+    requires numbered { StandsAt space.now id method.now.path }
 
     // In whatever tables they are the method's body: it reads as terms and as no others, and these are told; or memory
     // was refused; or it reads as none, and the fault is true of it.
@@ -138,6 +138,6 @@ pub fn tell_kept<S: Sink>(
         (es : List Entry) → StandsFor space.now es →
         GivesBody (λ (read : Trees). read) unknown_zero es tables method.now (Err fault)) }
 {
-    let known = BodyNames::kept(space, number, method.path.parts(), unknown_zero);
+    let known = BodyNames::numbered(space, id, method.path.parts(), unknown_zero);
     tell_own_body(alloc, bytes, &known, &method.path.parts(), level, sink)
 }

@@ -187,7 +187,6 @@ fn check_uses(
 /// A namespace before any table, with the counts that the user gives.
 fn space_with(alloc: Global, givens: &[(Path, ArgumentCount)]) -> Result<Space, NoMemory>
     ensures stands { IfOk result (λ space. StandsFor space (given_entries givens.now)) }
-    ensures kept { IfOk result (λ space. space.kept ≡ []) }
 {
     let mut space = Space::new(alloc)?;
     for (path, count) in givens {
@@ -204,6 +203,7 @@ pub fn first_progress(alloc: Global, givens: &[(Path, ArgumentCount)]) -> Result
         alloc,
         space: space_with(alloc, givens)?,
         methods: Vec::new(alloc),
+        numbers: Vec::new(alloc),
         uses: Groups::new(alloc),
     })
 }
@@ -233,6 +233,7 @@ fn load_each<'a>(
         tables,
         space: progress.space,
         methods: progress.methods,
+        numbers: progress.numbers,
     })
 }
 

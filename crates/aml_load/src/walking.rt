@@ -25,7 +25,7 @@ use crate::uses::{Site, add_names};
 use aml_code::{Field, Name, NoMemory, Node, Part, Role, Seg, Tail, last_byte, last_name};
 use aml_names::{Path, ScopedPath, front_of};
 use aml_set::Method;
-use aml_space::{Kind, Near, PlacedPath, Source, Space, SpaceFault, Target};
+use aml_space::{Kind, Near, PathId, PlacedPath, Source, Space, SpaceFault, Target};
 use std::alloc::Global;
 
 /// The most methods that a set of tables may have.
@@ -37,6 +37,8 @@ pub struct Progress {
     pub alloc: Global,
     pub space: Space,
     pub methods: Vec<Method>,
+    /// The number in the space of each method's path.
+    pub numbers: Vec<PathId>,
     pub uses: Groups,
 }
 
@@ -308,7 +310,10 @@ impl Progress {
         ensures stays { OnOk result (Stays self.old self.new) }
     {
         self.declare_path(site, &path, Kind::Method { args: flags % 8 }, None)?;
-        self.space.keep(path.near(site.place), &path.path.parts())?;
+        let id = self
+            .space
+            .number(path.near(site.place), &path.path.parts())?;
+        self.numbers.push(id)?;
         self.methods.push(Method {
             path: path.path,
             table: site.table,

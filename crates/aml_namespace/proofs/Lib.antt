@@ -16,3 +16,4 @@ pub mod Meeting
 pub mod Finding
 pub mod Growing
 pub mod Said
+pub mod Numbers

@@ -21,7 +21,7 @@ use Rattle.aml_namespace.specs.Known.{again, behind, declaration_at}
 use Rattle.aml_namespace.specs.Known.{once, with_declaration, declared_kind, kinds_by, sure_by, with_again}
 use Rattle.aml_namespace.specs.Known.{with_external}
 use Rattle.aml_namespace.specs.Known.{with_given}
-use Rattle.aml_namespace.specs.Known.{with_scopes, with_kept, of_paths}
+use Rattle.aml_namespace.specs.Known.{with_scopes, with_paths, of_paths, Grows}
 
 tied_path : (p q : List Seg) → same_path q p ≡ true → q ≡ p
 tied_path p q e = tells_apart exact_paths q p e
@@ -72,12 +72,15 @@ declarations_alone k es s =
 pub stands_inside : (k : Known) (scopes : List (List Seg)) (es : List Entry) → StandsFor k es → StandsFor (with_scopes k scopes) es
 stands_inside k scopes es s = record { same_declared = s.same_declared; same_outs = s.same_outs; same_givens = s.same_givens }
 
--- nor do the paths that are kept
-pub stands_kept : (k : Known) (kept : List (List Seg)) (es : List Entry) → StandsFor k es → StandsFor (with_kept k kept) es
-stands_kept k kept es s = record { same_declared = s.same_declared; same_outs = s.same_outs; same_givens = s.same_givens }
+-- nor do the paths that have numbers
+stands_numbered : (k : Known) (paths : List (List Seg)) (es : List Entry) → StandsFor k es → StandsFor (with_paths k paths) es
+stands_numbered k paths es s = record { same_declared = s.same_declared; same_outs = s.same_outs; same_givens = s.same_givens }
+
+pub stands_grown : (old new : Known) (es : List Entry) → Grows old new → StandsFor old es → StandsFor new es
+stands_grown old new es (more, is) s = subst (λ k. StandsFor k es) (sym is) (stands_numbered old (old.paths ++ more) es s)
 
 pub stands_alone : (k : Known) (es : List Entry) → StandsFor k es → StandsFor (of_paths k) es
-stands_alone k es s = stands_kept (with_scopes k []) [] es (stands_inside k [] es s)
+stands_alone k es s = stands_numbered (with_scopes k []) [] es (stands_inside k [] es s)
 
 -- a count that may be missing, or the greater of two
 abbrev merged : Option ℕ → Option ℕ → Option ℕ

@@ -118,13 +118,13 @@ coded_rows = coded_list coded_row
 -- ---- What a space knows: three finite maps by path, and the lists of entries that these stand for.
 
 -- What the declarations of each path say, the greatest count of its Externals, and the greatest that the user gives it;
--- the scopes that are open while tables load, each inside those before it; and the paths that are kept by numbers.
+-- the scopes that are open while tables load, each inside those before it; and the paths that have numbers, by these.
 pub record Known : Type 0 where
   pub declarations : map.FinMap path_cmp Declared
   pub outs : map.FinMap path_cmp ℕ
   pub givens : map.FinMap path_cmp ℕ
   pub scopes : List (List Seg)
-  pub kept : List (List Seg)
+  pub paths : List (List Seg)
 
 -- the namespace of what is known
 abbrev pub namespace_in : Known → Namespace
@@ -149,8 +149,9 @@ pub record StandsFor (k : Known) (es : List Entry) : Type 0 where
   pub same_outs : (q : List Seg) → map.get k.outs q ≡ outs_at es q
   pub same_givens : (q : List Seg) → map.get k.givens q ≡ given_at es q
 
+-- the root has a number
 abbrev pub nothing_known : Known
-nothing_known = record { declarations = map.empty; outs = map.empty; givens = map.empty; scopes = []; kept = [] }
+nothing_known = record { declarations = map.empty; outs = map.empty; givens = map.empty; scopes = []; paths = [] ∷ [] }
 
 abbrev pub with_declaration : Known → List Seg → Declared → Known
 with_declaration k p d = record k { declarations = map.insert k.declarations p d }
@@ -176,13 +177,21 @@ with_given k p n = record k { givens = map.insert k.givens p (greater n (map.get
 abbrev pub with_scopes : Known → List (List Seg) → Known
 with_scopes k scopes = record k { scopes = scopes }
 
--- with these paths kept
-abbrev pub with_kept : Known → List (List Seg) → Known
-with_kept k kept = record k { kept = kept }
+-- with these paths by their numbers
+abbrev pub with_paths : Known → List (List Seg) → Known
+with_paths k paths = record k { paths = paths }
 
 -- what is known of paths alone
 abbrev pub of_paths : Known → Known
-of_paths k = with_kept (with_scopes k []) []
+of_paths k = with_paths (with_scopes k []) []
+
+-- a path has a number
+abbrev pub StandsAt : Known → ℕ → List Seg → Type 0
+StandsAt k id p = slice_get k.paths id ≡ Some p
+
+-- what is known, and maybe paths with numbers more
+abbrev pub Grows : Known → Known → Type 0
+Grows old new = (more : List (List Seg)) × (new ≡ with_paths old (old.paths ++ more))
 
 -- what a list of entries makes known
 abbrev pub known : List Entry → Known
@@ -205,8 +214,8 @@ coded_known =
     × (map.FinMap path_cmp ℕ × (map.FinMap path_cmp ℕ × (List (List Seg) × List (List Seg)))))
     (coded× (map.code coded_path coded_declared) (coded× (map.code coded_path coded_ℕ)
     (coded× (map.code coded_path coded_ℕ) (coded× (coded_list coded_path) (coded_list coded_path)))))
-    (λ k. (k.declarations, (k.outs, (k.givens, (k.scopes, k.kept)))))
-    (λ p. record { declarations = p.0; outs = p.1.0; givens = p.1.1.0; scopes = p.1.1.1.0; kept = p.1.1.1.1 })
+    (λ k. (k.declarations, (k.outs, (k.givens, (k.scopes, k.paths)))))
+    (λ p. record { declarations = p.0; outs = p.1.0; givens = p.1.1.0; scopes = p.1.1.1.0; paths = p.1.1.1.1 })
     (λ _. refl)
 
 -- ---- What the names of a method's body are read by.

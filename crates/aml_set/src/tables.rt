@@ -1,11 +1,11 @@
 //! A set of tables that were loaded as one, each with its AML and its terms.
 ghost use Rattle.std.specs.Prelude.{◌≡◌, ◌≤◌, length};
 ghost use Rattle.aml_set.specs.Code.{IsCode};
-ghost use Rattle.aml_set.specs.Kept.{AreKept};
+ghost use Rattle.aml_set.specs.Numbers.{AreNumbered};
 
 use crate::methods::Method;
 use aml_code::{Node, slice};
-use aml_space::Space;
+use aml_space::{PathId, Space};
 use std::alloc::Global;
 
 /// A table of a set: its AML, and the terms that it reads as.
@@ -47,8 +47,9 @@ pub struct TableSet<'a> {
     pub space: Space,
     /// The methods of all tables, in load order and in the order of the text. Their numbers begin at 0.
     pub methods: Vec<Method>,
-    /// The space keeps the path of each method by the method's number.
-    pub ghost kept: { AreKept space methods.items },
+    /// The number in the space of each method's path.
+    pub numbers: Vec<PathId>,
+    pub ghost numbered: { AreNumbered space methods.items numbers.items },
 }
 
 impl<'a> TableSet<'a> {

@@ -22,7 +22,7 @@ use Rattle.aml_space.specs.Nodes.{IsLinked, IsAim, IsIndex, IsKept}
 use Rattle.aml_namespace.specs.Known.{declared_kind}
 use Rattle.aml_children.proofs.Family.{same_itself, found_put, wider_family, family_put}
 use Rattle.aml_space.proofs.Index.{part_at}
-use Rattle.aml_children.proofs.Walks.{kid_range, node_range}
+use Rattle.aml_children.proofs.Walks.{kid_range, node_range, walk_push}
 use Rattle.aml_children.proofs.Visiting.{links_on}
 
 -- new has the nodes of old and an empty one after them, a child of node i
@@ -194,19 +194,34 @@ module _ (ns new : List Node) (i : ℕ) (seg : Seg) (is : IsIndex ns) (within : 
   same_path : (j : ℕ) → j < length ns → path_of new j ≡ path_of ns j
   same_path j inside = ap segs_down (links_same j j inside)
 
+  new_path : path_of new (length ns) ≡ path_of ns i ++ seg ∷ []
+  new_path = ap segs_down (links_on shape (links_of new) lower (length ns) (omega (arith, within)) (omega (arith, has.long)))
+      ∙ ap (λ (l : ℕ × Seg). path_of new l.0 ++ l.1 ∷ []) has.new_link ∙ ap (λ q. q ++ seg ∷ []) (same_path i within)
+
   deep : (j : ℕ) → j < length new → depths_of new j ≡ length (path_of new j)
   deep j range = elim (cases_lt j (length ns)) [
     | inl inside ↦ has.depths j inside ∙ is.deep j inside ∙ ap length (sym (same_path j inside))
     | inr past ↦
         let here : j ≡ length ns = omega (arith, past, range, has.long) in
-        let step = ap (λ ls. length (segs_down ls)) (links_on shape (links_of new) lower (length ns) (omega (arith, within)) (omega (arith, has.long)))
-        ∙ length-append (path_of new (links_of new (length ns)).0) ((links_of new (length ns)).1 ∷ [])
-        ∙ ap (λ (l : ℕ × Seg). length (path_of new l.0) + 1) has.new_link ∙ ap (λ q. length q + 1) (same_path i within) in
-        ap (depths_of new) here ∙ has.new_depth ∙ ap (λ n. n + 1) (is.deep i within) ∙ sym (ap (λ k. length (path_of new k)) here ∙ step)
+        ap (depths_of new) here ∙ has.new_depth ∙ ap (λ n. n + 1) (is.deep i within)
+        ∙ sym (ap (λ k. length (path_of new k)) here ∙ ap length new_path ∙ length-append (path_of ns i) (seg ∷ []))
+  ]
+
+  pub new_child : child_in (kids_of new i) seg ≡ Some (length ns)
+  new_child = grows i seg within ∙ ap (λ b. cond b (Some (length ns)) (child_in (kids_of ns i) seg)) (and_from _ _ (eq-eqb i i refl) (same_itself seg))
+
+  there : (j : ℕ) → j < length new → walk (kids_of new) 0 (path_of new j) ≡ Some j
+  there j range = elim (cases_lt j (length ns)) [
+    | inl inside ↦ ap (walk (kids_of new) 0) (same_path j inside) ∙ still (path_of ns j) j (is.there j inside)
+    | inr past ↦
+        let here : j ≡ length ns = omega (arith, past, range, has.long) in
+        ap (λ k. walk (kids_of new) 0 (path_of new k)) here ∙ ap (walk (kids_of new) 0) new_path ∙ walk_push (kids_of new) 0 (path_of ns i) seg
+        ∙ ap (option_and_then (λ k. child_in (kids_of new k) seg)) (still (path_of ns i) i (is.there i within)) ∙ new_child
+        ∙ ap (λ (n : ℕ). Some n) (sym here)
   ]
 
   pub grown_index : IsIndex new
-  grown_index = record { shape = shape; linked = linked; aimed = aimed; deep = deep; few = omega (arith, has.long, room) }
+  grown_index = record { shape = shape; linked = linked; aimed = aimed; there = there; deep = deep; few = omega (arith, has.long, room) }
 
   grown_part : {X : Type 0} (part : Content → Option X) → part nothing ≡ None → part_by part new ≡ part_by part ns
   grown_part {X} part none = map.same_map paths_total exact_paths _ _ (λ q. sym (part_at part new shape q) ∙ same q ∙ part_at part ns is.shape q)
@@ -230,8 +245,5 @@ module _ (ns new : List Node) (i : ℕ) (seg : Seg) (is : IsIndex ns) (within : 
     outs = grown_part (λ c. c.out) refl t;
     givens = grown_part (λ c. c.given) refl t;
     scopes = [];
-    kept = [];
+    paths = [];
   }
-
-  pub new_child : child_in (kids_of new i) seg ≡ Some (length ns)
-  new_child = grows i seg within ∙ ap (λ b. cond b (Some (length ns)) (child_in (kids_of ns i) seg)) (and_from _ _ (eq-eqb i i refl) (same_itself seg))

@@ -1,12 +1,14 @@
 -- Scopes that were opened lead to their nodes also where paths keep theirs (`kept_opened`), as they do where other
 -- content comes to a node (`content_kept`), and by one step behind another (`kept_on`); and so does one more
--- (`more_opened`), and the root (`root_opened`). Nodes that are kept by numbers have the same paths then (`kept_there`,
--- `known_again`). The node of what an Alias stands for is told by its source (`aim_kept`, `aim_here`).
+-- (`more_opened`), and the root (`root_opened`). Numbers stand for the same paths then (`known_again`); a path's is its
+-- node's (`numbered`, `reach_at`). The node of what an Alias stands for is told by its source (`aim_kept`, `aim_here`).
 use Rattle.std.specs.Prelude.{slice_get}
 use Rattle.std.specs.FinMap as map
 use Rattle.std.proofs.Common.{◌≡◌, ℕ, zero, suc, List, [], ◌∷◌, ◌++◌, Option, Some, None, IfSome, refl, sym, ap, subst, ◌∙◌}
 use Rattle.std.proofs.Common.{length, take, drop, get_or, Result, Ok, Err, OnOk, OnErr}
-use Rattle.std.proofs.lemmas.List.{take_all, length-take-le}
+use Rattle.std.proofs.lemmas.List.{take_all, take-append-drop, length-take-le}
+use Rattle.std.proofs.lemmas.List.FromFn.{fill_by_all, get_or-map-range_with_len, length-map-range_with_len}
+use Rattle.std.proofs.lemmas.List.FromFn.{take-map-range_with_len}
 use Rattle.std.proofs.Math.Seq.{drop-length}
 use Rattle.std.proofs.Common.{arith, Bool, false}
 use Rattle.std.specs.Prelude.{◌<◌, ◌≤◌}
@@ -16,11 +18,11 @@ use Rattle.aml_space.specs.declared.nodes.Node.{Node}
 use Rattle.aml_space.specs.declared.opened.Opened.{Opened}
 use Rattle.aml_children.specs.Numbered.{walk}
 use Rattle.std.specs.Option.{option_or, option_and_then, unwrap_or}
-use Rattle.std.proofs.lemmas.Option.{none-some, same_Some}
+use Rattle.std.proofs.lemmas.Option.{same_Some, slice_get_read, slice_get_within, get_or_from_slice_get}
 use Rattle.aml_namespace.specs.declared.kinds.Kind.{Kind}
 use Rattle.aml_namespace.specs.declared.kinds.Kind.TheVariants.{Alias}
 use Rattle.aml_namespace.specs.Namespace.{kind_at}
-use Rattle.aml_namespace.specs.Known.{Known, namespace_in, with_scopes, with_kept}
+use Rattle.aml_namespace.specs.Known.{Known, Grows, namespace_in, with_scopes, with_paths}
 use Rattle.aml_namespace.specs.Predefined.{predefined}
 use Rattle.aml_namespace.specs.Runs.{is_alias}
 use Rattle.aml_namespace.proofs.Said.{no_alias}
@@ -29,10 +31,11 @@ use Rattle.aml_space.specs.declared.opened.Near.{Near}
 use Rattle.aml_space.specs.Nodes.{kids_of, kinds_of, known_by, path_of, Content, HasContent, IsAim, IsIndex, IsKept, Reaches}
 use Rattle.aml_space.proofs.Index.{kind_at_path}
 use Rattle.aml_space.specs.declared.ways.Ways.{Ways}
-use Rattle.aml_space.specs.Opened.{AreOpened, AreThere, IsSpace, known_in, paths_of, scopes_of}
+use Rattle.aml_space.specs.Opened.{AreOpened, IsSpace, known_in, paths_in, scopes_of}
 use Rattle.aml_space.proofs.Named.{path_led}
 use Rattle.aml_space.proofs.Stepping.{ways_kept}
 use Rattle.aml_children.proofs.Basics.{each_more}
+use Rattle.aml_children.proofs.Walks.{node_range}
 
 kept_at : (old new : List Node) (o : Option Opened) → IsKept old new
     → IfSome o (λ o. walk (kids_of old) 0 o.scope ≡ Some o.node)
@@ -55,65 +58,65 @@ content_kept old new i x has = record {
     same : (q : List Seg) → walk (kids_of new) 0 q ≡ walk (kids_of old) 0 q
     same q = λ t. walk (λ k. has.kids k t) 0 q
 
--- nodes that are there still are where paths keep theirs, and have the same paths
-pub kept_there : (old new : List Node) → IsIndex new → IsKept old new → (nodes : List ℕ) → AreThere old nodes
-    → AreThere new nodes × (paths_of new nodes ≡ paths_of old nodes)
-kept_there old new is kept [] there = (tt, refl)
-kept_there old new is kept (n ∷ nodes) (here, there) =
-    let led = kept.there (path_of old n) n here in
-    let same = path_led new is (path_of old n) n led in
-    let rest = kept_there old new is kept nodes there in
-    ((ap (walk (kids_of new) 0) same ∙ led, rest.0), λ i. same i ∷ rest.1 i)
+-- a node has the same path where paths keep their nodes
+still_path : (old new : List Node) → IsIndex old → IsIndex new → IsKept old new → (i : ℕ) → i < length old
+    → path_of new i ≡ path_of old i
+still_path old new was is kept i within = path_led new is (path_of old i) i (kept.there (path_of old i) i (was.there i within))
+
+-- so a number stands for the same path
+more_paths : (old new : List Node) → IsIndex old → IsIndex new → IsKept old new
+    → paths_in new ≡ paths_in old ++ drop (length old) (paths_in new)
+more_paths old new was is kept =
+    let n = length old in
+    sym (take-append-drop n (paths_in new)) ∙ ap (λ ps. ps ++ drop n (paths_in new)) (
+      take-map-range_with_len (path_of new) 0 (length new) n kept.long
+      ∙ fill_by_all (path_of old) _ n [] (length-map-range_with_len (path_of new) 0 n) (λ i within.
+        get_or-map-range_with_len (path_of new) 0 n i i [] within (omega arith) ∙ still_path old new was is kept i within)
+    )
 
 -- so what is kept besides the nodes stays right
-pub still_space : (old new : List Node) (before many : ℕ) (marked inside : List Opened) (ways : Ways) (numbered : List ℕ) → IsIndex new
+pub still_space : (old new : List Node) (before many : ℕ) (marked inside : List Opened) (ways : Ways) → IsIndex new
     → IsKept old new → many ≡ length (map.entries (known_by new).declarations)
-    → IsSpace old before marked inside ways numbered → IsSpace new many marked inside ways numbered
-still_space old new before many marked inside ways numbered index kept rows is = record {
+    → IsSpace old before marked inside ways → IsSpace new many marked inside ways
+still_space old new before many marked inside ways index kept rows is = record {
   index = index;
   rows = rows;
   opened = kept_opened old new marked kept is.opened;
   scopes = kept_opened old new inside kept is.scopes;
   ways = ways_kept old new ways is.index kept is.ways;
-  kept = (kept_there old new index kept numbered is.kept).0;
 }
 
-pub known_again : (old new : List Node) (scopes : List Opened) (nodes : List ℕ) (k : Known) → IsIndex new → IsKept old new
-    → AreThere old nodes → known_by new ≡ k
-    → known_in new scopes nodes ≡ with_kept (with_scopes k (scopes_of scopes)) (paths_of old nodes)
-known_again old new scopes nodes k is kept there same =
-    λ i. with_kept (with_scopes (same i) (scopes_of scopes)) ((kept_there old new is kept nodes there).1 i)
+pub known_again : (old new : List Node) (scopes : List Opened) (k : Known) → IsIndex old → IsIndex new → IsKept old new
+    → known_by new ≡ k → Grows (with_paths (with_scopes k (scopes_of scopes)) (paths_in old)) (known_in new scopes)
+known_again old new scopes k was is kept same = (
+  drop (length old) (paths_in new),
+  λ i. with_paths (with_scopes (same i) (scopes_of scopes)) (more_paths old new was is kept i),
+)
 
--- one node more, with its path
-pub more_there : (ns : List Node) → IsIndex ns → (nodes more : List ℕ) (n : ℕ) (path : List Seg) → more ≡ nodes ++ n ∷ []
-    → walk (kids_of ns) 0 path ≡ Some n → AreThere ns nodes → AreThere ns more × (paths_of ns more ≡ paths_of ns nodes ++ path ∷ [])
-more_there ns is nodes more n path all led there =
-    subst (λ more. AreThere ns more × (paths_of ns more ≡ paths_of ns nodes ++ path ∷ [])) (sym all) (by nodes there)
-  where
-    same : path_of ns n ≡ path
-    same = path_led ns is path n led
+-- the number of a node stands for the path that leads there
+pub numbered : (ns : List Node) → IsIndex ns → (path : List Seg) (at : ℕ) → walk (kids_of ns) 0 path ≡ Some at
+    → slice_get (paths_in ns) at ≡ Some path
+numbered ns is path at led =
+    let within = node_range is.shape path at led in
+    slice_get_read (paths_in ns) (length ns) at path (sym (length-map-range_with_len (path_of ns) 0 (length ns))) within
+    (sym (get_or-map-range_with_len (path_of ns) 0 (length ns) at at path within (omega arith) ∙ path_led ns is path at led))
 
-    by : (nodes : List ℕ) → AreThere ns nodes
-        → AreThere ns (nodes ++ n ∷ []) × (paths_of ns (nodes ++ n ∷ []) ≡ paths_of ns nodes ++ path ∷ [])
-    by [] there = ((ap (walk (kids_of ns) 0) same ∙ led, tt), ap (λ (q : List Seg). q ∷ []) same)
-    by (m ∷ nodes) (here, there) = let rest = by nodes there in ((here, rest.0), ap (λ qs. path_of ns m ∷ qs) rest.1)
-
--- a path that is kept leads to its node
-kept_led : (ns : List Node) (nodes : List ℕ) (number d : ℕ) (path : List Seg) → AreThere ns nodes
-    → slice_get (paths_of ns nodes) number ≡ Some path → walk (kids_of ns) 0 path ≡ Some (get_or nodes number d)
-kept_led ns [] number d path there kept = absurd (none-some path kept)
-kept_led ns (n ∷ nodes) zero d path there kept = ap (walk (kids_of ns) 0) (sym (same_Some (path_of ns n) path kept)) ∙ there.0
-kept_led ns (n ∷ nodes) (suc number) d path there kept = kept_led ns nodes number d path there.1 kept
-
-pub reach_kept : (ns ms : List Node) (nodes : List ℕ) (number at known : ℕ) (path : List Seg) → ms ≡ ns → known ≡ length path
-    → AreThere ns nodes → slice_get (paths_of ns nodes) number ≡ Some path → at ≡ get_or nodes number at
-    → Reaches ms path (record { node = at; known = known })
-reach_kept ns ms nodes number at known path same long there kept is = record {
-  led = ap (λ ms. walk (kids_of ms) 0 (take known path)) same ∙ ap (walk (kids_of ns) 0) (take_all known path (omega (arith, long)))
-      ∙ kept_led ns nodes number at path there kept ∙ ap (λ (n : ℕ). Some n) (sym is);
+-- and no other does
+pub reach_at : (ns ms : List Node) (id known : ℕ) (path : List Seg) → ms ≡ ns → known ≡ length path → IsIndex ns
+    → slice_get (paths_in ns) id ≡ Some path → Reaches ms path (record { node = id; known = known })
+reach_at ns ms id known path same long is at = record {
+  led = ap (λ ms. walk (kids_of ms) 0 (take known path)) same
+      ∙ ap (walk (kids_of ns) 0) (take_all known path (omega (arith, long)) ∙ sym here) ∙ is.there id within;
   within = omega (arith, long);
   ends = λ s q rest. let none = sym (ap (λ n. drop n path) long ∙ drop-length path) ∙ rest in absurd cc;
 }
+  where
+    within : id < length ns
+    within = omega (arith, slice_get_within (paths_in ns) id path at, length-map-range_with_len (path_of ns) 0 (length ns))
+
+    here : path_of ns id ≡ path
+    here = sym (get_or-map-range_with_len (path_of ns) 0 (length ns) id id path within (omega arith))
+        ∙ get_or_from_slice_get (paths_in ns) id path path at
 
 -- one scope more is open
 pub more_scopes : (opened more : List Opened) (o : Opened) → more ≡ opened ++ o ∷ []

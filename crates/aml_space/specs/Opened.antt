@@ -1,5 +1,6 @@
 -- A stepping stone of the proofs: the scopes that were opened, with their nodes.
 use Rattle.std.specs.Prelude.{◌≡◌, ℕ, List, [], ◌∷◌, length, map as map_list, slice_get, Some, IfSome}
+use Rattle.std.specs.List.{range_with_len}
 use Rattle.std.specs.FinMap as map
 use Rattle.aml_names.specs.declared.segments.Seg.{Seg}
 use Rattle.aml_space.specs.declared.nodes.Node.{Node}
@@ -8,7 +9,7 @@ use Rattle.aml_space.specs.declared.opened.Hints.{Hints}
 use Rattle.aml_space.specs.declared.ways.Ways.{Ways}
 use Rattle.aml_space.specs.Candidates.{AreSteps, AreWays}
 use Rattle.aml_namespace.specs.Known.{Known}
-use Rattle.aml_namespace.specs.Known.{with_scopes, with_kept}
+use Rattle.aml_namespace.specs.Known.{with_scopes, with_paths}
 use Rattle.aml_children.specs.Numbered.{walk}
 use Rattle.aml_space.specs.Nodes.{kids_of, known_by, path_of, IsIndex}
 
@@ -20,21 +21,13 @@ AreOpened ns opened = (i : ℕ) → IfSome (slice_get opened i) (λ o. walk (kid
 abbrev pub scopes_of : List Opened → List (List Seg)
 scopes_of opened = map_list (λ (o : Opened). o.scope) opened
 
--- the paths of nodes
-abbrev pub paths_of : List Node → List ℕ → List (List Seg)
-paths_of ns nodes = map_list (path_of ns) nodes
+-- the paths of all nodes, by their numbers
+abbrev pub paths_in : List Node → List (List Seg)
+paths_in ns = map_list (path_of ns) (range_with_len 0 (length ns))
 
--- the path of a node leads to it
-abbrev pub IsThere : List Node → ℕ → Type 0
-IsThere ns at = walk (kids_of ns) 0 (path_of ns at) ≡ Some at
-
-abbrev pub AreThere : List Node → List ℕ → Type 0
-AreThere ns [] = Unit {0}
-AreThere ns (n ∷ nodes) = IsThere ns n × AreThere ns nodes
-
--- what nodes know, with the scopes that are open and the paths that are kept
-abbrev pub known_in : List Node → List Opened → List ℕ → Known
-known_in ns scopes kept = with_kept (with_scopes (known_by ns) (scopes_of scopes)) (paths_of ns kept)
+-- what nodes know, with the scopes that are open
+abbrev pub known_in : List Node → List Opened → Known
+known_in ns scopes = with_paths (with_scopes (known_by ns) (scopes_of scopes)) (paths_in ns)
 
 -- what is kept besides the nodes is right
 pub record AreHints (ns : List Node) (h : Hints) : Type 0 where
@@ -42,13 +35,11 @@ pub record AreHints (ns : List Node) (h : Hints) : Type 0 where
   pub scopes : AreOpened ns h.scopes.now
   pub steps : AreSteps ns h.steps.now
 
--- nodes with the number of the paths that are declared, the scopes that were opened, those that are open, the ways up,
--- and the nodes of the paths that are kept
-pub record IsSpace (ns : List Node) (many : ℕ) (marked inside : List Opened) (upward : Ways)
-    (numbered : List ℕ) : Type 0 where
+-- nodes with the number of the paths that are declared, the scopes that were opened, those that are open, and the ways
+-- up
+pub record IsSpace (ns : List Node) (many : ℕ) (marked inside : List Opened) (upward : Ways) : Type 0 where
   pub index : IsIndex ns
   pub rows : many ≡ length (map.entries (known_by ns).declarations)
   pub opened : AreOpened ns marked
   pub scopes : AreOpened ns inside
   pub ways : AreWays ns upward
-  pub kept : AreThere ns numbered

@@ -5,7 +5,7 @@ use std::marker::Model;
 
 /// A path of a space, by the number of its node. It stands for the same path while the space grows.
 #[derive(Clone, Copy)]
-pub(crate) struct PathId(u32);
+pub struct PathId(u32);
 
 impl Model for PathId {
     ghost use Rattle.std.specs.Prelude.{ℕ};

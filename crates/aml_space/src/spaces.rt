@@ -8,7 +8,7 @@ ghost use Rattle.aml_namespace.specs.Namespace.{Entry, Body, declares, external 
 ghost use Rattle.aml_namespace.specs.Namespace.{kind_at, count_at, namespace_of, declared_at};
 ghost use Rattle.aml_namespace.specs.Runs.{outlook_of, sure_at, scope_in, open_in};
 ghost use Rattle.aml_space.specs.Nodes.{known_by};
-ghost use Rattle.aml_namespace.specs.Known.{with_scopes, with_kept, of_paths};
+ghost use Rattle.aml_namespace.specs.Known.{Grows, StandsAt, with_scopes, of_paths};
 ghost use Rattle.aml_space.specs.Near.{IsNear, IsSourceOf};
 ghost use Rattle.aml_space.specs.Candidates.{names_of, outlook_at, IsScope};
 ghost use Rattle.aml_namespace.specs.Known.{StandsFor, nothing_known, once, with_declaration, with_declared};
@@ -69,8 +69,6 @@ pub struct Space {
     looked: usize,
     /// How many segments the longest path has from which names may be searched.
     deepest: usize,
-    /// The nodes of the paths that are kept by numbers.
-    kept: Vec<usize>,
 }
 
 impl Model for Space {
@@ -82,10 +80,9 @@ impl Model for Space {
 
     ghost use Rattle.aml_space.specs.Opened.{known_in, IsSpace};
 
-    ghost view = { λ s. known_in s.nodes.items s.scopes.items s.kept.items };
+    ghost view = { λ s. known_in s.nodes.items s.scopes.items };
 
-    ghost invariant = { λ s. IsSpace s.nodes.items s.rows s.opened.items s.scopes.items s.ways
-        s.kept.items };
+    ghost invariant = { λ s. IsSpace s.nodes.items s.rows s.opened.items s.scopes.items s.ways };
 }
 
 impl Space {
@@ -108,17 +105,16 @@ impl Space {
             ways: Ways::new(alloc),
             looked: 0,
             deepest: 0,
-            kept: Vec::new(alloc),
         })
     }
 
     /// Declares a path surely. It may be that of a predefined name, once. `Duplicate` where the path is declared
-    /// already. A refused declaration changes nothing.
+    /// already. A refused declaration changes nothing that is known of paths.
     pub fn declare(&mut self, path: Path, kind: Kind) -> Result<(), SpaceFault>
-        ensures ok { OnOk result (self.new ≡ with_declared self.old path kind) }
+        ensures ok { OnOk result (Grows (with_declared self.old path kind) self.new) }
         ensures stands { (es : List Entry) (body : Option Body) → StandsFor self.old es →
             OnOk result (StandsFor self.new (es ++ declares path kind body true ∷ [])) }
-        ensures err { OnErr result (self.new ≡ self.old) }
+        ensures err { OnErr result (Grows self.old self.new) }
         ensures only_then { IfErr result (λ e. (e ≡ SpaceFault.NoMemory) ⊎ ((e ≡ SpaceFault.Duplicate path) ×
             IsTrue (declared_yet self.old path))) }
         ensures duplicate { IsTrue (declared_yet self.old path) → result ≡ Err (SpaceFault.Duplicate path) }
@@ -131,8 +127,8 @@ impl Space {
     }
 
     /// Declares a path that isn't declared yet, surely or not, and answers whether it did: `false` where the path is
-    /// declared already, which takes no memory. A refused call changes nothing. `source`: what an Alias is declared of,
-    /// by which that is found without a search.
+    /// declared already, which takes no memory. A refused call changes nothing that is known of paths. `source`: what
+    /// an Alias is declared of, by which that is found without a search.
     pub fn put_once(
         &mut self,
         near: Near,
@@ -144,9 +140,9 @@ impl Space {
         requires near { IsNear self.old.scopes near path.now }
         requires source { IfSome source (IsSourceOf self.old.scopes (namespace_in self.old) kind) }
         ensures put { IfOk result (λ put. put ≡ not (declared_yet self.old path.now)) }
-        ensures known { IfOk result (λ put. self.new
-            ≡ cond put (with_declaration self.old path.now (once kind surely)) self.old) }
-        ensures err { OnErr result (self.new ≡ self.old) }
+        ensures known { IfOk result (λ put.
+            Grows (cond put (with_declaration self.old path.now (once kind surely)) self.old) self.new) }
+        ensures err { OnErr result (Grows self.old self.new) }
         ensures taken { IsTrue (declared_yet self.old path.now) → result ≡ Ok false }
         // The same of a list of entries that it stands for.
         ensures listed { (es : List Entry) → StandsFor self.old es →
@@ -178,12 +174,12 @@ impl Space {
     }
 
     /// Declares a path once more, or for the first time: surely, or so that it stands in some runs of the code outside
-    /// methods alone. A refused declaration changes nothing.
+    /// methods alone. A refused declaration changes nothing that is known of paths.
     pub fn declare_again(&mut self, path: Path, kind: Kind, sure: bool) -> Result<(), NoMemory>
-        ensures ok { OnOk result (self.new ≡ with_again self.old path kind sure) }
+        ensures ok { OnOk result (Grows (with_again self.old path kind sure) self.new) }
         ensures stands { (es : List Entry) (body : Option Body) → StandsFor self.old es →
             OnOk result (StandsFor self.new (es ++ declares path kind body sure ∷ [])) }
-        ensures err { OnErr result (self.new ≡ self.old) }
+        ensures err { OnErr result (Grows self.old self.new) }
     {
         self.put_again(Near::root(), &path.parts(), kind, None, sure)
     }
@@ -199,10 +195,10 @@ impl Space {
     ) -> Result<(), NoMemory>
         requires near { IsNear self.old.scopes near path.now }
         requires source { IfSome source (IsSourceOf self.old.scopes (namespace_in self.old) kind) }
-        ensures ok { OnOk result (self.new ≡ with_again self.old path.now kind sure) }
+        ensures ok { OnOk result (Grows (with_again self.old path.now kind sure) self.new) }
         ensures stands { (es : List Entry) (body : Option Body) → StandsFor self.old es →
             OnOk result (StandsFor self.new (es ++ declares path.now kind body sure ∷ [])) }
-        ensures err { OnErr result (self.new ≡ self.old) }
+        ensures err { OnErr result (Grows self.old self.new) }
     {
         let hints = hints_of!(self);
         let reach = reach_near(self.nodes.as_slice(), hints, near, path);
@@ -221,7 +217,7 @@ impl Space {
     /// Adds an External: it names a path and says how many arguments this takes, 0 to 7 (ACPI 6.5, 20.2.5.2). Many of
     /// one path may stand. A refused External changes nothing.
     pub fn external(&mut self, path: Path, count: u8) -> Result<(), NoMemory>
-        ensures ok { OnOk result (self.new ≡ with_external self.old path count) }
+        ensures ok { OnOk result (Grows (with_external self.old path count) self.new) }
         ensures stands { (es : List Entry) → StandsFor self.old es →
             OnOk result (StandsFor self.new (es ++ outside path count ∷ [])) }
         ensures err { OnErr result (self.new ≡ self.old) }
@@ -232,7 +228,7 @@ impl Space {
     /// The same of a path in parts.
     pub fn put_external(&mut self, near: Near, path: &Parts<'_>, count: u8) -> Result<(), NoMemory>
         requires { IsNear self.old.scopes near path.now }
-        ensures ok { OnOk result (self.new ≡ with_external self.old path.now count) }
+        ensures ok { OnOk result (Grows (with_external self.old path.now count) self.new) }
         ensures stands { (es : List Entry) → StandsFor self.old es →
             OnOk result (StandsFor self.new (es ++ outside path.now count ∷ [])) }
         ensures err { OnErr result (self.new ≡ self.old) }
@@ -247,7 +243,7 @@ impl Space {
     /// Adds an argument count that the user gives to a path. It counts where a name leads nowhere that any table names,
     /// and declares nothing. Many of one path may stand; the greatest counts. A refused one changes nothing.
     pub fn given(&mut self, path: &Path, count: u8) -> Result<(), NoMemory>
-        ensures ok { OnOk result (self.new ≡ with_given self.old path.now count) }
+        ensures ok { OnOk result (Grows (with_given self.old path.now count) self.new) }
         ensures stands { (es : List Entry) → StandsFor self.old es →
             OnOk result (StandsFor self.new (es ++ said path.now count ∷ [])) }
         ensures err { OnErr result (self.new ≡ self.old) }
@@ -269,7 +265,7 @@ impl Space {
 
     /// Opens a path as a scope inside those that are open, so that what stands there is found by its node. `most`: how
     /// many paths are kept in it at most, as a method's is; where they are few, a long path keeps its scope's segments,
-    /// and nothing is copied. A refused call changes nothing.
+    /// and nothing is copied. A refused call opens none.
     pub fn enter(
         &mut self,
         near: Near,
@@ -277,8 +273,8 @@ impl Space {
         most: usize,
     ) -> Result<ScopedPath, NoMemory>
         requires { IsNear self.old.scopes near path.now }
-        ensures ok { OnOk result (self.new ≡ with_scopes self.old (self.old.scopes ++ path.now ∷ [])) }
-        ensures err { OnErr result (self.new ≡ self.old) }
+        ensures ok { OnOk result (Grows (with_scopes self.old (self.old.scopes ++ path.now ∷ [])) self.new) }
+        ensures err { OnErr result (Grows self.old self.new) }
         ensures scope { IfOk result (λ scope. scope ≡ path.now) }
     {
         let parts = path.parts();
@@ -320,18 +316,19 @@ impl Space {
         }
     }
 
-    /// Keeps a path by the next number: its node is found by that at once. A refused call changes nothing.
-    pub fn keep(&mut self, near: Near, path: &Parts<'_>) -> Result<(), NoMemory>
+    /// The number of a path, by which its node is found at once; it has one from now on. A refused call changes
+    /// nothing.
+    pub fn number(&mut self, near: Near, path: &Parts<'_>) -> Result<PathId, NoMemory>
         requires { IsNear self.old.scopes near path.now }
-        ensures ok { OnOk result (self.new ≡ with_kept self.old (self.old.kept ++ path.now ∷ [])) }
+        ensures grows { Grows self.old self.new }
+        ensures ok { IfOk result (λ id. StandsAt self.new id path.now) }
         ensures err { OnErr result (self.new ≡ self.old) }
     {
         self.deepest = self.deepest.max(path.len());
         let hints = hints_of!(self);
         let reach = reach_near(self.nodes.as_slice(), hints, near, path);
         let node = extend(self.alloc, &mut self.nodes, path, reach)?;
-        self.kept.push(node)?;
-        Ok(())
+        Ok(PathId::new(node))
     }
 
     /// Keeps the ways up from all nodes, where searches may go far up, so that names cost the levels alone that have
@@ -511,16 +508,16 @@ impl Space {
         Scope::new(nodes, &self.ways, &self.predefined, path, reach)
     }
 
-    /// The path that is kept by a number, as a scope.
-    pub(crate) fn scope_kept<'a>(&'a self, number: usize, path: Parts<'a>) -> Scope<'a>
-        requires { slice_get self.now.kept number ≡ Some path }
+    /// The path that has a number, as a scope.
+    pub(crate) fn scope_at<'a>(&'a self, id: PathId, path: Parts<'a>) -> Scope<'a>
+        requires { StandsAt self.now id path }
         ensures scope { IsScope result }
         ensures known { known_by result.nodes.now ≡ of_paths self.now }
         ensures path { result.path ≡ path.entry }
     {
         let nodes = self.nodes.as_slice();
         let reach = Reach {
-            node: self.kept[number],
+            node: id.index(),
             known: path.len(),
         };
         Scope::new(nodes, &self.ways, &self.predefined, path, reach)

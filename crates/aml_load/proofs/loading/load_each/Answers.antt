@@ -1,6 +1,7 @@
 use Rattle.std.proofs.Common.{refl, sym, ap, subst, ◌∙◌}
 use Rattle.std.proofs.lemmas.Result.{err_from_is_err_and}
-use Rattle.aml_namespace.specs.Known.{Known, StandsFor}
+use Rattle.aml_namespace.specs.Known.{StandsFor}
+use Rattle.aml_set.specs.Numbers.{AreNumbered}
 use Rattle.aml_load.specs.Groups.{uses_of}
 use Rattle.aml_load.specs.Loading.{first_listed}
 use Rattle.aml_set.specs.Views.{table_codes, table_terms}
@@ -10,7 +11,8 @@ use Rattle.aml_load.proofs.loading.load_each.Goals as goal
 pub invariant_of-result : goal.invariant_of-result
 invariant_of-result c =
     let read = c.in_ok-read_tables.ensures (first_listed c.args.givens.now) c.in_ok-progress.ensures in
-    record { kept = ap (λ (k : Known). k.kept) c.settle.ensures ∙ read.2.1.kept }
+    let progress = c.read_tables.new.progress in
+    record { numbered = subst (λ k. AreNumbered k progress.methods.items progress.numbers.items) (sym c.settle.ensures) read.2.1.numbered }
 
 pub returns-clause-dumps : goal.returns-clause-dumps
 returns-clause-dumps c = (c.in_ok-read_tables.ensures (first_listed c.args.givens.now) c.in_ok-progress.ensures).0

@@ -1,5 +1,5 @@
-use Rattle.std.proofs.Common.{ap, sym, subst, ◌∙◌}
-use Rattle.aml_namespace.specs.Known.{Known, StandsFor}
+use Rattle.std.proofs.Common.{sym, subst}
+use Rattle.aml_namespace.specs.Known.{StandsFor}
 use Rattle.aml_load.proofs.Givens.{one_more}
 use Rattle.aml_load.proofs.loading.space_with.Goals as goal
 
@@ -10,5 +10,4 @@ loop-path-preserved c =
       stands =
           subst (λ es. StandsFor c.given.new.self es) (sym more)
           (rw c.get.ensures.value at (c.in_ok-given.ensures.stands _ c.loop-path.invariant.stands));
-      kept = ap (λ (k : Known). k.kept) c.in_ok-given.ensures.ok ∙ c.loop-path.invariant.kept;
     }

@@ -6,5 +6,4 @@ use Rattle.aml_load.proofs.loading.space_with.Given as goal
 abbrev pub invariant-loop-path : goal.invariant-loop-path
 invariant-loop-path l = record {
   stands : StandsFor l.space (given_entries (take l.path-index l.givens));
-  kept : l.space.kept ≡ [];
 }

@@ -1,19 +1,24 @@
 use Rattle.acpidis.proofs.Common.{length, refl, sym, ap, ◌∙◌, subst, IfOk-weaker, OfMethod, table_codes, body_in}
 use Rattle.acpidis.proofs.Common.{ReadsIn}
-use Rattle.std.specs.Prelude.{slice_get}
-use Rattle.std.specs.Option.{option_map}
-use Rattle.std.proofs.lemmas.Option.{slice_get_read, slice_get-map}
-use Rattle.aml_set.specs.declared.methods.Method.{Method}
+use Rattle.std.proofs.Common.{arith}
+use Rattle.std.proofs.lemmas.Option.{slice_get_read}
+use Rattle.aml_set.proofs.Numbers.{as_many, number_at}
 use Rattle.acpidis.proofs.bodies.KeepingWork.work.Goals as goal
+
+pub index-id-requires : goal.index-id-requires
+index-id-requires g c =
+    let set = c.args.self.now.set.now in
+    omega (arith, c.requires, as_many set.space set.methods.items set.numbers.items set.numbered)
 
 pub keep-requires : goal.keep-requires
 keep-requires g c =
     let set = c.args.self.now.set.now in
     let ms = set.methods.items in
+    let ids = set.numbers.items in
     let there = slice_get_read ms (length ms) c.args.number c.index-method.result.now refl c.requires c.index-method.ensures in
     record {
-      kept = ap (λ paths. slice_get paths c.args.number) set.kept ∙ slice_get-map (λ (m : Method). m.path) ms c.args.number
-          ∙ ap (option_map (λ (m : Method). m.path)) there;
+      numbered = number_at set.space ms ids c.args.number c.index-method.result.now c.index-id.result set.numbered there
+          (slice_get_read ids (length ms) c.args.number c.index-id.result (sym (as_many set.space ms ids set.numbered)) c.requires c.index-id.ensures);
       short = c.span-bytes.ensures.short;
       body = c.span-bytes.ensures.bytes;
     }

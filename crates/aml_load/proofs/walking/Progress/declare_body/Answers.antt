@@ -1,7 +1,7 @@
 use Rattle.std.proofs.Common.{Some, sym, subst, ap, ◌∙◌, ◌++◌, ◌∷◌, [], ◌%◌, refl, rules}
 use Rattle.aml_namespace.specs.Namespace.{Body}
-use Rattle.aml_namespace.specs.Known.{Known, StandsFor}
-use Rattle.aml_namespace.proofs.Stands.{stands_kept}
+use Rattle.aml_namespace.proofs.Numbers.{scopes_grown, still_at}
+use Rattle.aml_namespace.proofs.Stands.{stands_grown}
 use Rattle.aml_namespace.specs.declared.kinds.Kind.TheVariants as kinds
 use Rattle.aml_space.specs.Near.{IsNear}
 use Rattle.aml_load.specs.Loading.{plus, sure_here, method_entry}
@@ -9,8 +9,8 @@ use Rattle.aml_load.specs.Walking.{at_site}
 use Rattle.aml_load.proofs.Holding.{method_held, entry_free, entry_taken}
 use Rattle.aml_load.proofs.walking.Progress.declare_body.Goals as goal
 
-pub keep-requires : goal.keep-requires
-keep-requires c = subst (λ scopes. IsNear scopes c.near.result c.parts.result) (sym c.in_ok-declare_path.ensures.stays)
+pub number-requires : goal.number-requires
+number-requires c = subst (λ scopes. IsNear scopes c.near.result c.parts.result) (sym c.in_ok-declare_path.ensures.stays)
     (rw c.parts.ensures (c.near.ensures _ _ c.requires.inside c.requires.below))
 
 pub returns-in_err-declare_path-clause-walks : goal.returns-in_err-declare_path-clause-walks
@@ -31,17 +31,19 @@ returns-clause-walks c l h =
     let e = method_entry site l.entries c.args.flags (c.args.start, c.args.len) p in
     let d = c.in_ok-declare_path.ensures.declared l (Some b) h.space in
     let more = l.entries ++ e ∷ [] in
-    let stands = subst (λ known. StandsFor known more) (sym c.in_ok-keep.ensures.ok) (stands_kept _ _ more d.1) in (
+    let grows = c.number.ensures.grows in (
       plus l e,
-      method_held c.args.self.now _ l p k b (sure_here site l.entries p) _ h stands
-          (c.in_ok-push.ensures.items ∙ ap (λ xs. xs ++ record {
+      method_held c.args.self.now _ l p k b (sure_here site l.entries p) _ c.in_ok-id.id h (stands_grown _ _ more grows d.1)
+          (c.in_ok-push-2.ensures.items ∙ ap (λ xs. xs ++ record {
             path = p;
             table = site.table;
             start = c.args.start;
             len = c.args.len;
             flags = c.args.flags;
           } ∷ []) d.2) refl
-          (record { uses = d.3.uses; scopes = ap (λ (k : Known). k.scopes) c.in_ok-keep.ensures.ok ∙ d.3.scopes })
-          (ap (λ (k : Known). k.kept) c.in_ok-keep.ensures.ok ∙ (λ i. d.4 i ++ c.parts.ensures i ∷ [])),
+          (record { uses = d.3.uses; scopes = scopes_grown _ _ grows ∙ d.3.scopes })
+          (c.in_ok-push.ensures.items ∙ ap (λ ids. ids ++ c.in_ok-id.id ∷ []) d.4)
+          (λ id q at. still_at _ _ id q grows (d.5 id q at))
+          (c.in_ok-id.ensures.ok ∙ ap Some c.parts.ensures),
       entry_free site l p e d.0,
     )

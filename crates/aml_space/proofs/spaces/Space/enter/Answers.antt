@@ -1,11 +1,12 @@
-use Rattle.std.proofs.Common.{◌≡◌, [], ◌∷◌, ◌++◌, length, sym, ap, subst, ◌∙◌}
+use Rattle.std.proofs.Common.{List, [], ◌∷◌, ◌++◌, length, sym, ap, subst, ◌∙◌}
 use Rattle.std.specs.FinMap as map
 use Rattle.aml_space.specs.Candidates.{AreWays}
-use Rattle.aml_namespace.specs.Known.{Known, with_scopes}
+use Rattle.aml_names.specs.declared.segments.Seg.{Seg}
+use Rattle.aml_namespace.specs.Known.{Known, Grows, with_scopes}
 use Rattle.aml_children.specs.Numbered.{walk}
 use Rattle.aml_space.specs.Nodes.{kids_of}
-use Rattle.aml_space.specs.Opened.{AreOpened, AreThere, known_in, scopes_of}
-use Rattle.aml_space.proofs.Opening.{still_space, kept_opened, kept_there, known_again, more_opened, more_scopes, on_err}
+use Rattle.aml_space.specs.Opened.{AreOpened, known_in, scopes_of}
+use Rattle.aml_space.proofs.Opening.{still_space, kept_opened, known_again, more_opened, more_scopes, on_err}
 use Rattle.aml_space.proofs.Stepping.{ways_kept}
 use Rattle.aml_space.proofs.spaces.Space.enter.Goals as goal
 use Rattle.aml_space.proofs.spaces.Space.enter.Goals.{After-extend, After-keep_scope}
@@ -14,17 +15,13 @@ use Rattle.aml_space.proofs.spaces.Space.enter.Goals.{After-extend, After-keep_s
 still_ways : (c : After-extend) → AreWays c.extend.new.nodes.items c.self.inside.ways
 still_ways c = ways_kept c.self.inside.nodes.items c.extend.new.nodes.items c.self.inside.ways c.self.invariant.index c.extend.ensures.kept c.self.invariant.ways
 
-still_there : (c : After-extend) → AreThere c.extend.new.nodes.items c.self.inside.kept.items
-still_there c = (kept_there c.self.inside.nodes.items c.extend.new.nodes.items c.extend.ensures.index c.extend.ensures.kept c.self.inside.kept.items
-    c.self.invariant.kept).0
-
 still_open : (c : After-extend) → AreOpened c.extend.new.nodes.items c.self.inside.scopes.items
 still_open c = kept_opened c.self.inside.nodes.items c.extend.new.nodes.items c.self.inside.scopes.items c.extend.ensures.kept c.self.invariant.scopes
 
-still_known : (c : After-extend)
-    → known_in c.extend.new.nodes.items c.self.inside.scopes.items c.self.inside.kept.items ≡ c.args.self.now
-still_known c = known_again c.self.inside.nodes.items c.extend.new.nodes.items c.self.inside.scopes.items c.self.inside.kept.items _
-    c.extend.ensures.index c.extend.ensures.kept c.self.invariant.kept c.extend.ensures.known ∙ c.self.view_is
+still_known : (c : After-extend) → Grows c.args.self.now (known_in c.extend.new.nodes.items c.self.inside.scopes.items)
+still_known c = subst (λ k. Grows k (known_in c.extend.new.nodes.items c.self.inside.scopes.items)) c.self.view_is
+    (known_again c.self.inside.nodes.items c.extend.new.nodes.items c.self.inside.scopes.items _ c.self.invariant.index c.extend.ensures.index
+    c.extend.ensures.kept c.extend.ensures.known)
 
 now_opened : (c : After-keep_scope) → AreOpened c.extend.new.nodes.items c.keep_scope.new.opened.items
 now_opened c = subst (λ ns. AreOpened ns c.keep_scope.new.opened.items) c.as_slice-6.ensures.value c.keep_scope.ensures.opened
@@ -36,7 +33,6 @@ invariant_of-self-in_err-scope c = record {
   opened = now_opened (goal.at.invariant_of-self-in_err-scope c).After-keep_scope;
   scopes = still_open (goal.at.invariant_of-self-in_err-scope c).After-extend;
   ways = still_ways (goal.at.invariant_of-self-in_err-scope c).After-extend;
-  kept = still_there (goal.at.invariant_of-self-in_err-scope c).After-extend;
 }
 
 pub invariant_of-self-in_err-clone : goal.invariant_of-self-in_err-clone
@@ -46,7 +42,6 @@ invariant_of-self-in_err-clone c = record {
   opened = now_opened (goal.at.invariant_of-self-in_err-clone c).After-keep_scope;
   scopes = still_open (goal.at.invariant_of-self-in_err-clone c).After-extend;
   ways = still_ways (goal.at.invariant_of-self-in_err-clone c).After-extend;
-  kept = still_there (goal.at.invariant_of-self-in_err-clone c).After-extend;
 }
 
 pub invariant_of-self-in_err-push : goal.invariant_of-self-in_err-push
@@ -56,7 +51,6 @@ invariant_of-self-in_err-push c = record {
   opened = now_opened (goal.at.invariant_of-self-in_err-push c).After-keep_scope;
   scopes = subst (AreOpened c.extend.new.nodes.items) (sym c.in_err-push.ensures.items) (still_open (goal.at.invariant_of-self-in_err-push c).After-extend);
   ways = still_ways (goal.at.invariant_of-self-in_err-push c).After-extend;
-  kept = still_there (goal.at.invariant_of-self-in_err-push c).After-extend;
 }
 
 pub invariant_of-self-2 : goal.invariant_of-self-2
@@ -70,8 +64,10 @@ invariant_of-self-2 c =
           (still_open (goal.at.invariant_of-self-2 c).After-extend)
           (ap (walk (kids_of c.extend.new.nodes.items) 0) same ∙ c.in_ok-node.ensures.node);
       ways = still_ways (goal.at.invariant_of-self-2 c).After-extend;
-      kept = still_there (goal.at.invariant_of-self-2 c).After-extend;
     }
+
+pub returns-in_err-node-clause-err : goal.returns-in_err-node-clause-err
+returns-in_err-node-clause-err c = on_err c.from_residual.result (still_known (goal.at.returns-in_err-node-clause-err c).After-extend)
 
 pub returns-in_err-scope-clause-err : goal.returns-in_err-scope-clause-err
 returns-in_err-scope-clause-err c = on_err c.from_residual-in_err-scope.result (still_known (goal.at.returns-in_err-scope-clause-err c).After-extend)
@@ -81,17 +77,21 @@ returns-in_err-clone-clause-err c = on_err c.from_residual-in_err-clone.result (
 
 pub returns-in_err-push-clause-err : goal.returns-in_err-push-clause-err
 returns-in_err-push-clause-err c = on_err c.from_residual-in_err-push.result
-    (ap (λ scopes. known_in c.extend.new.nodes.items scopes c.self.inside.kept.items) c.in_err-push.ensures.items
-    ∙ still_known (goal.at.returns-in_err-push-clause-err c).After-extend)
+    (subst (λ scopes. Grows c.args.self.now (known_in c.extend.new.nodes.items scopes)) (sym c.in_err-push.ensures.items)
+    (still_known (goal.at.returns-in_err-push-clause-err c).After-extend))
 
 pub returns-clause-ok : goal.returns-clause-ok
 returns-clause-ok c =
     let same = c.in_ok-clone.ensures.cases ∙ c.in_ok-scope.ensures.scope in
-    ap (λ (k : Known). with_scopes k (scopes_of c.push.new.self.items)) (still_known (goal.at.returns-clause-ok c).After-extend)
-    ∙ ap (with_scopes c.args.self.now) (more_scopes c.self.inside.scopes.items c.push.new.self.items _ c.in_ok-push.ensures.items
-    ∙ (λ i. (c.self.view_is i).scopes ++ same i ∷ []))
+    let new = known_in c.extend.new.nodes.items c.push.new.self.items in
+    subst (λ k. Grows (with_scopes k (k.scopes ++ c.args.path.now ∷ [])) new) c.self.view_is
+    (subst (λ scopes. Grows (with_scopes (known_in c.self.inside.nodes.items c.self.inside.scopes.items) scopes) new)
+    (more_scopes c.self.inside.scopes.items c.push.new.self.items _ c.in_ok-push.ensures.items
+    ∙ ap (λ (p : List Seg). scopes_of c.self.inside.scopes.items ++ p ∷ []) same)
+    (known_again c.self.inside.nodes.items c.extend.new.nodes.items c.push.new.self.items _ c.self.invariant.index c.extend.ensures.index
+    c.extend.ensures.kept c.extend.ensures.known))
 
 pub invariant_of-self : goal.invariant_of-self
 invariant_of-self c = still_space c.self.inside.nodes.items c.extend.new.nodes.items c.self.inside.rows _ c.self.inside.opened.items
-    c.self.inside.scopes.items c.self.inside.ways c.self.inside.kept.items c.extend.ensures.index c.extend.ensures.kept
+    c.self.inside.scopes.items c.self.inside.ways c.extend.ensures.index c.extend.ensures.kept
     (c.self.invariant.rows ∙ ap (λ (k : Known). length (map.entries k.declarations)) (sym c.extend.ensures.known)) c.self.invariant

@@ -1,11 +1,11 @@
-use Rattle.std.proofs.Common.{◌≡◌, length, ◌++◌, ◌∷◌, [], sym, subst, ap, ◌∙◌}
+use Rattle.std.proofs.Common.{◌≡◌, length, List, sym, subst, ap, ◌∙◌}
 use Rattle.std.specs.FinMap as map
-use Rattle.aml_namespace.specs.Namespace.{given as said}
-use Rattle.aml_namespace.specs.Known.{Known, StandsFor, with_given}
+use Rattle.aml_names.specs.declared.segments.Seg.{Seg}
+use Rattle.aml_namespace.specs.Known.{Known, Grows, with_given}
 use Rattle.aml_space.specs.Nodes.{known_by, IsIndex, IsKept}
 use Rattle.aml_space.specs.Opened.{known_in}
 use Rattle.aml_space.proofs.Opening.{kept_on, known_again, still_space, content_kept}
-use Rattle.aml_namespace.proofs.Stands.{stands_given}
+use Rattle.aml_namespace.proofs.Stands.{stands_grown, stands_given}
 use Rattle.aml_space.proofs.Index.{put_given}
 use Rattle.aml_space.proofs.spaces.Space.given.Goals as goal
 use Rattle.aml_space.proofs.spaces.Space.given.Goals.{After-set_given}
@@ -24,9 +24,12 @@ kept c = kept_on c.self.inside.nodes.items c.extend.new.nodes.items c.set_given.
     (content_kept c.extend.new.nodes.items c.set_given.new.nodes.items c.in_ok-at.at _ c.set_given.ensures)
 
 put_here : (c : After-set_given)
-    → known_in c.set_given.new.nodes.items c.self.inside.scopes.items c.self.inside.kept.items ≡ with_given c.args.self.now c.args.path.now c.args.count
-put_here c = known_again c.self.inside.nodes.items c.set_given.new.nodes.items c.self.inside.scopes.items c.self.inside.kept.items _ (put c).0 (kept c)
-    c.self.invariant.kept (put c).1 ∙ (λ i. with_given (c.self.view_is i) (c.parts-path.ensures i) c.args.count)
+    → Grows (with_given c.args.self.now c.args.path.now c.args.count) (known_in c.set_given.new.nodes.items c.self.inside.scopes.items)
+put_here c =
+    let new = known_in c.set_given.new.nodes.items c.self.inside.scopes.items in
+    subst (λ (p : List Seg). Grows (with_given c.args.self.now p c.args.count) new) c.parts-path.ensures
+    (subst (λ k. Grows (with_given k c.parts-path.result c.args.count) new) c.self.view_is
+    (known_again c.self.inside.nodes.items c.set_given.new.nodes.items c.self.inside.scopes.items _ c.self.invariant.index (put c).0 (kept c) (put c).1))
 
 pub reach_near-reach-requires-clause-near : goal.reach_near-reach-requires-clause-near
 reach_near-reach-requires-clause-near c = c.root.ensures.near _ _
@@ -35,18 +38,17 @@ pub invariant_of-self-2 : goal.invariant_of-self-2
 invariant_of-self-2 c =
     let b = (goal.at.invariant_of-self-2 c).After-set_given in
     still_space c.self.inside.nodes.items c.set_given.new.nodes.items c.self.inside.rows _ c.self.inside.opened.items
-    c.self.inside.scopes.items c.self.inside.ways c.self.inside.kept.items (put b).0 (kept b)
-    (c.self.invariant.rows ∙ ap (λ (k : Known). length (map.entries k.declarations)) c.self.view_is
-    ∙ ap (λ (k : Known). length (map.entries k.declarations)) (sym (put_here b))) c.self.invariant
+    c.self.inside.scopes.items c.self.inside.ways (put b).0 (kept b)
+    (c.self.invariant.rows ∙ ap (λ (k : Known). length (map.entries k.declarations)) (sym (put b).1)) c.self.invariant
 
 pub returns-clause-ok : goal.returns-clause-ok
 returns-clause-ok c = put_here (goal.at.returns-clause-ok c).After-set_given
 
 pub returns-clause-stands : goal.returns-clause-stands
-returns-clause-stands c = λ es stands. subst (λ k. StandsFor k (es ++ said c.args.path.now c.args.count ∷ [])) (sym (returns-clause-ok c))
+returns-clause-stands c = λ es stands. stands_grown _ _ _ (returns-clause-ok c)
     (stands_given c.args.self.now es stands c.args.path.now c.args.count)
 
 pub invariant_of-self : goal.invariant_of-self
 invariant_of-self c = still_space c.self.inside.nodes.items c.extend.new.nodes.items c.self.inside.rows _ c.self.inside.opened.items
-    c.self.inside.scopes.items c.self.inside.ways c.self.inside.kept.items c.extend.ensures.index c.extend.ensures.kept
+    c.self.inside.scopes.items c.self.inside.ways c.extend.ensures.index c.extend.ensures.kept
     (c.self.invariant.rows ∙ ap (λ (k : Known). length (map.entries k.declarations)) (sym c.extend.ensures.known)) c.self.invariant

@@ -1,17 +1,16 @@
-use Rattle.std.proofs.Common.{IfSome, ◌≡◌, false, ◌+◌, length, ◌++◌, ◌∷◌, [], List, Option, None, OnOk, Result, Ok, Err}
+use Rattle.std.proofs.Common.{IfSome, ◌≡◌, false, ◌+◌, length, None}
 use Rattle.std.proofs.Common.{refl, sym, subst, ap, ◌∙◌, arith}
 use Rattle.std.specs.FinMap as map
-use Rattle.std.specs.declared.alloc.AllocError.{AllocError}
-use Rattle.aml_namespace.specs.Namespace.{Entry, Body, declares}
 use Rattle.aml_space.specs.Nodes.{known_by}
 use Rattle.aml_space.specs.Opened.{known_in, scopes_of}
 use Rattle.aml_space.specs.Near.{IsSourceOf}
-use Rattle.aml_namespace.specs.Known.{Known, StandsFor, namespace_in, once, with_declaration, with_again}
-use Rattle.aml_namespace.proofs.Stands.{stands_declared, again_first, none_from_test}
+use Rattle.aml_namespace.specs.Known.{Known, Grows, namespace_in, once, with_declaration, with_again}
+use Rattle.aml_namespace.proofs.Numbers.{grows_not}
+use Rattle.aml_namespace.proofs.Stands.{stands_grown, stands_declared, again_first, none_from_test}
 use Rattle.aml_space.proofs.Index.{known_taken, one_declared}
 use Rattle.aml_space.proofs.Opening.{still_space, known_again, on_err, ok_then, err_then}
 use Rattle.aml_space.proofs.spaces.Space.put_again.Goals as goal
-use Rattle.aml_space.proofs.spaces.Space.put_again.Goals.{In_ok-declare_first, After-declare_first, After-is_taken}
+use Rattle.aml_space.proofs.spaces.Space.put_again.Goals.{In_ok-declare_first, After-declare_again, After-is_taken}
 
 not_declared : (c : After-is_taken) → c.is_taken.result ≡ false
     → map.get c.args.self.now.declarations c.args.path.now ≡ None
@@ -19,22 +18,33 @@ not_declared c free = none_from_test _ (sym (known_taken _ _ _ _ _ c.args.self.n
     (ap (λ k. k.declarations) c.self.view_is)) ∙ free)
 
 put_here : (c : In_ok-declare_first) → map.get c.args.self.now.declarations c.args.path.now ≡ None
-    → known_in c.declare_first.new.nodes.items c.self.inside.scopes.items c.self.inside.kept.items
-    ≡ with_again c.args.self.now c.args.path.now c.args.kind c.args.sure
-put_here c none = known_again c.self.inside.nodes.items c.declare_first.new.nodes.items c.self.inside.scopes.items c.self.inside.kept.items _
-    c.declare_first.ensures.index c.declare_first.ensures.kept c.self.invariant.kept (c.in_ok-declare_first.ensures.ok
-    ∙ ap (λ kind. with_declaration (known_by c.self.inside.nodes.items) c.args.path.now (once kind c.args.sure)) c.aimed_by-aimed.ensures.kind)
-    ∙ ap (λ k. with_declaration k c.args.path.now (once c.args.kind c.args.sure)) c.self.view_is
-    ∙ sym (again_first c.args.self.now c.args.path.now c.args.kind c.args.sure none)
+    → Grows (with_again c.args.self.now c.args.path.now c.args.kind c.args.sure)
+    (known_in c.declare_first.new.nodes.items c.self.inside.scopes.items)
+put_here c none =
+    let new = known_in c.declare_first.new.nodes.items c.self.inside.scopes.items in
+    subst (λ k. Grows k new) (sym (again_first c.args.self.now c.args.path.now c.args.kind c.args.sure none))
+    (subst (λ k. Grows (with_declaration k c.args.path.now (once c.args.kind c.args.sure)) new) c.self.view_is
+    (known_again c.self.inside.nodes.items c.declare_first.new.nodes.items c.self.inside.scopes.items _
+    c.self.invariant.index c.declare_first.ensures.index c.declare_first.ensures.kept (c.in_ok-declare_first.ensures.ok
+    ∙ ap (λ kind. with_declaration (known_by c.self.inside.nodes.items) c.args.path.now (once kind c.args.sure)) c.aimed_by-aimed.ensures.kind)))
+
+-- where it is declared already
+put_there : (c : After-declare_again) → known_by c.declare_again.new.nodes.items
+    ≡ with_again (known_by c.self.inside.nodes.items) c.args.path.now c.args.kind c.args.sure
+    → Grows (with_again c.args.self.now c.args.path.now c.args.kind c.args.sure)
+    (known_in c.declare_again.new.nodes.items c.self.inside.scopes.items)
+put_there c again = subst (λ k. Grows (with_again k c.args.path.now c.args.kind c.args.sure) (known_in c.declare_again.new.nodes.items c.self.inside.scopes.items))
+    c.self.view_is (known_again c.self.inside.nodes.items c.declare_again.new.nodes.items c.self.inside.scopes.items _
+    c.self.invariant.index c.declare_again.ensures.index c.declare_again.ensures.kept again)
 
 pub invariant_of-self-in_err-declare_first : goal.invariant_of-self-in_err-declare_first
 invariant_of-self-in_err-declare_first c = still_space c.self.inside.nodes.items c.declare_first.new.nodes.items c.self.inside.rows _ c.self.inside.opened.items
-    c.self.inside.scopes.items c.self.inside.ways c.self.inside.kept.items c.declare_first.ensures.index c.declare_first.ensures.kept
+    c.self.inside.scopes.items c.self.inside.ways c.declare_first.ensures.index c.declare_first.ensures.kept
     (c.self.invariant.rows ∙ ap (λ (k : Known). length (map.entries k.declarations)) (sym c.in_err-declare_first.ensures.err)) c.self.invariant
 
 pub invariant_of-self : goal.invariant_of-self
 invariant_of-self c = still_space c.self.inside.nodes.items c.declare_again.new.nodes.items c.self.inside.rows _ c.self.inside.opened.items
-    c.self.inside.scopes.items c.self.inside.ways c.self.inside.kept.items c.declare_again.ensures.index c.declare_again.ensures.kept
+    c.self.inside.scopes.items c.self.inside.ways c.declare_again.ensures.index c.declare_again.ensures.kept
     (c.self.invariant.rows ∙ sym c.declare_again.ensures.rows) c.self.invariant
 
 pub invariant_of-self-2 : goal.invariant_of-self-2
@@ -44,32 +54,25 @@ invariant_of-self-2 c =
     ∙ ap (λ (k : Known). length (map.entries k.declarations)) c.self.view_is in
     let after : length (map.entries (known_by c.declare_first.new.nodes.items).declarations) ≡ length (map.entries c.args.self.now.declarations) + 1 =
     ap (λ (k : Known). length (map.entries k.declarations))
-    (put_here (goal.at.invariant_of-self-2 c).In_ok-declare_first none ∙ again_first c.args.self.now c.args.path.now c.args.kind c.args.sure none)
+    (put_here (goal.at.invariant_of-self-2 c).In_ok-declare_first none).1
+    ∙ ap (λ (k : Known). length (map.entries k.declarations)) (again_first c.args.self.now c.args.path.now c.args.kind c.args.sure none)
     ∙ one_declared c.args.self.now c.args.path.now (once c.args.kind c.args.sure) none in
     still_space c.self.inside.nodes.items c.declare_first.new.nodes.items c.self.inside.rows _ c.self.inside.opened.items
-    c.self.inside.scopes.items c.self.inside.ways c.self.inside.kept.items c.declare_first.ensures.index c.declare_first.ensures.kept
+    c.self.inside.scopes.items c.self.inside.ways c.declare_first.ensures.index c.declare_first.ensures.kept
     (omega (arith, before, after)) c.self.invariant
 
 pub returns-clause-ok : goal.returns-clause-ok
 returns-clause-ok c = put_here (goal.at.returns-clause-ok c).In_ok-declare_first (not_declared (goal.at.returns-clause-ok c).After-is_taken c.if-is_taken.false)
 
 pub returns-clause-stands : goal.returns-clause-stands
-returns-clause-stands c = λ es body stands. subst (λ k. StandsFor k (es ++ declares c.args.path.now c.args.kind body c.args.sure ∷ []))
-    (sym (put_here (goal.at.returns-clause-stands c).In_ok-declare_first (not_declared (goal.at.returns-clause-stands c).After-is_taken c.if-is_taken.false)))
+returns-clause-stands c = λ es body stands. stands_grown _ _ _
+    (put_here (goal.at.returns-clause-stands c).In_ok-declare_first (not_declared (goal.at.returns-clause-stands c).After-is_taken c.if-is_taken.false))
     (stands_declared c.args.self.now es stands c.args.path.now c.args.kind body c.args.sure)
 
 pub returns-then-is_taken-clause-stands : goal.returns-then-is_taken-clause-stands
-returns-then-is_taken-clause-stands c = λ es body stands. by c.declare_again.result c.declare_again.ensures.ok es body stands
-  where
-    by : (r : Result (Unit {0}) AllocError) → OnOk r (known_by c.declare_again.new.nodes.items
-        ≡ with_again (known_by c.self.inside.nodes.items) c.args.path.now c.args.kind c.args.sure)
-        → (es : List Entry) (body : Option Body) → StandsFor c.args.self.now es
-        → OnOk r (StandsFor (known_in c.declare_again.new.nodes.items c.self.inside.scopes.items c.self.inside.kept.items) (es ++ declares c.args.path.now c.args.kind body c.args.sure ∷ []))
-    by (Err e) ok es body stands = tt
-    by (Ok u) ok es body stands = subst (λ k. StandsFor k (es ++ declares c.args.path.now c.args.kind body c.args.sure ∷ []))
-        (sym (known_again c.self.inside.nodes.items c.declare_again.new.nodes.items c.self.inside.scopes.items c.self.inside.kept.items _
-        c.declare_again.ensures.index c.declare_again.ensures.kept c.self.invariant.kept ok ∙ ap (λ k. with_again k c.args.path.now c.args.kind c.args.sure) c.self.view_is))
-        (stands_declared c.args.self.now es stands c.args.path.now c.args.kind body c.args.sure)
+returns-then-is_taken-clause-stands c = λ es body stands. ok_then c.declare_again.result
+    (λ ok. stands_grown _ _ _ (put_there (goal.at.returns-then-is_taken-clause-stands c).After-declare_again ok)
+    (stands_declared c.args.self.now es stands c.args.path.now c.args.kind body c.args.sure)) c.declare_again.ensures.ok
 
 pub aimed_by-aimed-requires-clause-source : goal.aimed_by-aimed-requires-clause-source
 aimed_by-aimed-requires-clause-source c =
@@ -80,16 +83,19 @@ aimed_by-aimed-requires-clause-source c =
 
 pub returns-in_err-declare_first-clause-err : goal.returns-in_err-declare_first-clause-err
 returns-in_err-declare_first-clause-err c = on_err c.from_residual.result
-    (known_again c.self.inside.nodes.items c.declare_first.new.nodes.items c.self.inside.scopes.items c.self.inside.kept.items _
-    c.declare_first.ensures.index c.declare_first.ensures.kept c.self.invariant.kept c.in_err-declare_first.ensures.err ∙ c.self.view_is)
+    (subst (λ k. Grows k (known_in c.declare_first.new.nodes.items c.self.inside.scopes.items)) c.self.view_is
+    (known_again c.self.inside.nodes.items c.declare_first.new.nodes.items c.self.inside.scopes.items _
+    c.self.invariant.index c.declare_first.ensures.index c.declare_first.ensures.kept c.in_err-declare_first.ensures.err))
+
+pub returns-then-self-clause-err : goal.returns-then-self-clause-err
+returns-then-self-clause-err c = grows_not _
 
 pub returns-then-is_taken-clause-ok : goal.returns-then-is_taken-clause-ok
 returns-then-is_taken-clause-ok c = ok_then c.declare_again.result
-    (λ ok. known_again c.self.inside.nodes.items c.declare_again.new.nodes.items c.self.inside.scopes.items c.self.inside.kept.items _
-    c.declare_again.ensures.index c.declare_again.ensures.kept c.self.invariant.kept ok
-    ∙ ap (λ k. with_again k c.args.path.now c.args.kind c.args.sure) c.self.view_is) c.declare_again.ensures.ok
+    (put_there (goal.at.returns-then-is_taken-clause-ok c).After-declare_again) c.declare_again.ensures.ok
 
 pub returns-then-is_taken-clause-err : goal.returns-then-is_taken-clause-err
 returns-then-is_taken-clause-err c = err_then c.declare_again.result
-    (λ err. known_again c.self.inside.nodes.items c.declare_again.new.nodes.items c.self.inside.scopes.items c.self.inside.kept.items _
-    c.declare_again.ensures.index c.declare_again.ensures.kept c.self.invariant.kept err ∙ c.self.view_is) c.declare_again.ensures.err
+    (λ err. subst (λ k. Grows k (known_in c.declare_again.new.nodes.items c.self.inside.scopes.items)) c.self.view_is
+    (known_again c.self.inside.nodes.items c.declare_again.new.nodes.items c.self.inside.scopes.items _
+    c.self.invariant.index c.declare_again.ensures.index c.declare_again.ensures.kept err)) c.declare_again.ensures.err

@@ -6,8 +6,9 @@ use Rattle.aml_namespace.specs.Namespace.{Entry, declares, declared_at}
 use Rattle.aml_space.specs.Nodes.{known_by}
 use Rattle.aml_space.specs.Opened.{known_in, scopes_of}
 use Rattle.aml_space.specs.Near.{IsSourceOf}
-use Rattle.aml_namespace.specs.Known.{Known, StandsFor, namespace_in, once, with_declaration, is_declared}
-use Rattle.aml_namespace.proofs.Stands.{stands_declared, again_first, none_from_test, declared_listed}
+use Rattle.aml_namespace.specs.Known.{Known, StandsFor, Grows, namespace_in, once, with_declaration, is_declared}
+use Rattle.aml_namespace.proofs.Numbers.{grows_not}
+use Rattle.aml_namespace.proofs.Stands.{stands_grown, stands_declared, again_first, none_from_test, declared_listed}
 use Rattle.aml_space.proofs.Index.{known_taken, one_declared}
 use Rattle.aml_space.proofs.Opening.{still_space, known_again, on_err}
 use Rattle.aml_space.proofs.spaces.Space.put_once.Goals as goal
@@ -25,16 +26,18 @@ never : (c : After-is_taken) → c.is_taken.result ≡ false → {A : Type 0}
     → is_declared c.args.self.now c.args.path.now ≡ true → A
 never c free there = absurd (true≢false (sym there ∙ sym (taken c) ∙ free))
 
-put_here : (c : In_ok-declare_first) → known_in c.declare_first.new.nodes.items c.self.inside.scopes.items c.self.inside.kept.items
-    ≡ with_declaration c.args.self.now c.args.path.now (once c.args.kind c.args.surely)
-put_here c = known_again c.self.inside.nodes.items c.declare_first.new.nodes.items c.self.inside.scopes.items c.self.inside.kept.items _
-    c.declare_first.ensures.index c.declare_first.ensures.kept c.self.invariant.kept (c.in_ok-declare_first.ensures.ok
-    ∙ ap (λ kind. with_declaration (known_by c.self.inside.nodes.items) c.args.path.now (once kind c.args.surely)) c.aimed_by-aimed.ensures.kind)
-    ∙ ap (λ k. with_declaration k c.args.path.now (once c.args.kind c.args.surely)) c.self.view_is
+put_here : (c : In_ok-declare_first)
+    → Grows (with_declaration c.args.self.now c.args.path.now (once c.args.kind c.args.surely))
+    (known_in c.declare_first.new.nodes.items c.self.inside.scopes.items)
+put_here c =
+    let new = known_in c.declare_first.new.nodes.items c.self.inside.scopes.items in
+    subst (λ k. Grows (with_declaration k c.args.path.now (once c.args.kind c.args.surely)) new) c.self.view_is (known_again c.self.inside.nodes.items c.declare_first.new.nodes.items c.self.inside.scopes.items _
+    c.self.invariant.index c.declare_first.ensures.index c.declare_first.ensures.kept (c.in_ok-declare_first.ensures.ok
+    ∙ ap (λ kind. with_declaration (known_by c.self.inside.nodes.items) c.args.path.now (once kind c.args.surely)) c.aimed_by-aimed.ensures.kind))
 
 pub invariant_of-self : goal.invariant_of-self
 invariant_of-self c = still_space c.self.inside.nodes.items c.declare_first.new.nodes.items c.self.inside.rows _ c.self.inside.opened.items
-    c.self.inside.scopes.items c.self.inside.ways c.self.inside.kept.items c.declare_first.ensures.index c.declare_first.ensures.kept
+    c.self.inside.scopes.items c.self.inside.ways c.declare_first.ensures.index c.declare_first.ensures.kept
     (c.self.invariant.rows ∙ ap (λ (k : Known). length (map.entries k.declarations)) (sym c.in_err-declare_first.ensures.err)) c.self.invariant
 
 pub invariant_of-self-2 : goal.invariant_of-self-2
@@ -42,18 +45,18 @@ invariant_of-self-2 c =
     let before : c.self.inside.rows ≡ length (map.entries c.args.self.now.declarations) = c.self.invariant.rows
     ∙ ap (λ (k : Known). length (map.entries k.declarations)) c.self.view_is in
     let after : length (map.entries (known_by c.declare_first.new.nodes.items).declarations) ≡ length (map.entries c.args.self.now.declarations) + 1 =
-    ap (λ (k : Known). length (map.entries k.declarations)) (put_here (goal.at.invariant_of-self-2 c).In_ok-declare_first)
+    ap (λ (k : Known). length (map.entries k.declarations)) (put_here (goal.at.invariant_of-self-2 c).In_ok-declare_first).1
     ∙ one_declared c.args.self.now c.args.path.now (once c.args.kind c.args.surely)
     (not_declared (goal.at.invariant_of-self-2 c).After-is_taken c.if-is_taken.false) in
     still_space c.self.inside.nodes.items c.declare_first.new.nodes.items c.self.inside.rows _ c.self.inside.opened.items
-    c.self.inside.scopes.items c.self.inside.ways c.self.inside.kept.items c.declare_first.ensures.index c.declare_first.ensures.kept
+    c.self.inside.scopes.items c.self.inside.ways c.declare_first.ensures.index c.declare_first.ensures.kept
     (omega (arith, before, after)) c.self.invariant
 
 pub returns-clause-stands : goal.returns-clause-stands
-returns-clause-stands c = λ es body stands. subst (λ k. StandsFor k (es ++ declares c.args.path.now c.args.kind body c.args.surely ∷ []))
-    (again_first c.args.self.now c.args.path.now c.args.kind c.args.surely (not_declared (goal.at.returns-clause-stands c).After-is_taken c.if-is_taken.false)
-    ∙ sym (put_here (goal.at.returns-clause-stands c).In_ok-declare_first))
-    (stands_declared c.args.self.now es stands c.args.path.now c.args.kind body c.args.surely)
+returns-clause-stands c = λ es body stands. stands_grown _ _ _ (put_here (goal.at.returns-clause-stands c).In_ok-declare_first)
+    (subst (λ k. StandsFor k (es ++ declares c.args.path.now c.args.kind body c.args.surely ∷ []))
+    (again_first c.args.self.now c.args.path.now c.args.kind c.args.surely (not_declared (goal.at.returns-clause-stands c).After-is_taken c.if-is_taken.false))
+    (stands_declared c.args.self.now es stands c.args.path.now c.args.kind body c.args.surely))
 
 listed : (c : After-is_taken) (es : List Entry) → StandsFor c.args.self.now es
     → is_some (declared_at es c.args.path.now) ≡ c.is_taken.result
@@ -92,5 +95,12 @@ aimed_by-aimed-requires-clause-source c =
 
 pub returns-in_err-declare_first-clause-err : goal.returns-in_err-declare_first-clause-err
 returns-in_err-declare_first-clause-err c = on_err c.from_residual.result
-    (known_again c.self.inside.nodes.items c.declare_first.new.nodes.items c.self.inside.scopes.items c.self.inside.kept.items _
-    c.declare_first.ensures.index c.declare_first.ensures.kept c.self.invariant.kept c.in_err-declare_first.ensures.err ∙ c.self.view_is)
+    (subst (λ k. Grows k (known_in c.declare_first.new.nodes.items c.self.inside.scopes.items)) c.self.view_is
+    (known_again c.self.inside.nodes.items c.declare_first.new.nodes.items c.self.inside.scopes.items _
+    c.self.invariant.index c.declare_first.ensures.index c.declare_first.ensures.kept c.in_err-declare_first.ensures.err))
+
+pub returns-then-is_taken-clause-known : goal.returns-then-is_taken-clause-known
+returns-then-is_taken-clause-known c = grows_not _
+
+pub returns-then-self-clause-err : goal.returns-then-self-clause-err
+returns-then-self-clause-err c = grows_not _
