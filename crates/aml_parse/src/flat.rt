@@ -8,19 +8,28 @@ ghost use Rattle.aml_code.specs.Tree.{label, byte, word, dword, qword, text};
 ghost use Rattle.aml_code.specs.View.{part_view};
 ghost use Rattle.aml_parse.specs.Reading.{held, count_part, text_part, segmented_at};
 
-use aml_code::{Bytes, CodeFault, Name, Part, little_of, offset_of};
+use aml_code::{Bytes, CodeFault, Name, Part, byte_of, little_of, offset_of};
 use aml_names::name_of;
 use std::alloc::Global;
 
 /// The most arguments that an External tells.
 pub const MOST_ARGUMENTS: u64 = 7;
 
-/// A number of one byte.
+/// A number of one byte, without the steps of longer ones.
+#[tactic(auto, unfolding(aml_code::specs::Packages::little_at))]
+#[inline(always)]
+pub fn one_of(end: u32, bytes: &[u8]) -> Result<(u8, &[u8]), CodeFault>
+    ensures { Gives (λ x. (x.0, x.1.now)) result (little_at 1 end bytes.now) }
+{
+    byte_of(end, bytes)
+}
+
+/// A number of one byte, as a part.
 pub fn byte_part_of(end: u32, bytes: &[u8]) -> Result<(Part, &[u8]), CodeFault>
     ensures { Gives (λ x. (part_view x.0, x.1.now)) result (held byte (little_at 1 end bytes.now)) }
 {
-    let (value, rest) = little_of(1, end, bytes)?;
-    Ok((Part::Byte(value as u8), rest))
+    let (value, rest) = one_of(end, bytes)?;
+    Ok((Part::Byte(value), rest))
 }
 
 /// A number of arguments. `BadCount` at the byte where there are too many.
@@ -96,6 +105,7 @@ pub fn any_name_part_of(alloc: Global, end: u32, bytes: &[u8]) -> Result<(Part, 
 }
 
 /// A name with a segment. `EmptyName` at its first byte where it has none.
+#[inline(always)]
 pub fn segmented_of(alloc: Global, end: u32, bytes: &[u8]) -> Result<(Name, &[u8]), CodeFault>
     ensures { Gives (λ x. (x.0, x.1.now)) result (segmented_at end bytes.now) }
 {

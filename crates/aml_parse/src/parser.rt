@@ -107,12 +107,30 @@ impl<'a, A: Arity> Parser<'a, A> {
         };
         match role {
             Role::Declares(_) | Role::Method | Role::Alias => {
-                let name = label_of(self.alloc, end, label)?;
-                declare_label(scope, &name, locals)
+                self.declare_at(scope, end, label, locals)
             }
             Role::Fields => declare_segments(scope, units, locals),
             Role::Other | Role::Guard | Role::External | Role::Scope => Ok(()),
         }
+    }
+
+    /// Adds the path of the name that begins there, in a span that ends at `end`, if one does. It stays out of the
+    /// frame of the reader of terms, few of which declare.
+    #[inline(never)]
+    fn declare_at(
+        &self,
+        scope: &Parts<'_>,
+        end: u32,
+        label: Option<&[u8]>,
+        locals: &mut BodyLocals,
+    ) -> Result<(), NoMemory>
+        requires { AreOf locals.old scope.now }
+        ensures declared { OnOk result (locals.new.paths ≡ with_names scope.now locals.old.paths
+            (option_to_list (label_at end label.entry))) }
+        ensures own { AreOf locals.new scope.now }
+    {
+        let name = label_of(self.alloc, end, label)?;
+        declare_label(scope, &name, locals)
     }
 }
 

@@ -8,7 +8,7 @@ ghost use Rattle.aml_code.specs.Tree.{label, byte, word, dword, qword};
 ghost use Rattle.aml_parse.specs.Reading.{held, count_part, text_part, segmented_at};
 ghost use Rattle.aml_parse.specs.Telling.{TellsPart, IsLabel, IsPlain};
 
-use crate::flat::{MOST_ARGUMENTS, segmented_of, text_of};
+use crate::flat::{MOST_ARGUMENTS, one_of, segmented_of, text_of};
 use aml_code::{CodeFault, Piece, Sink, little_of, offset_of};
 use aml_names::name_of;
 use std::alloc::Global;
@@ -24,8 +24,8 @@ pub fn tell_byte<'b, S: Sink>(
         (held byte (little_at 1 end bytes.now))) }
     ensures fails { IfErr result (λ e. Fails e (held byte (little_at 1 end bytes.now))) }
 {
-    let (value, rest) = little_of(1, end, bytes)?;
-    sink.tell(Piece::Byte(value as u8))?;
+    let (value, rest) = one_of(end, bytes)?;
+    sink.tell(Piece::Byte(value))?;
     Ok(rest)
 }
 

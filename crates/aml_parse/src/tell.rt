@@ -144,9 +144,10 @@ impl<'a, A: Arity> Parser<'a, A> {
         ensures placed { ArePlaced A.stands self.now locals.new }
     {
         let (lead, rest) = byte_of(end, bytes)?;
-        let at = offset_of(end, bytes);
         if here.levels == 0 {
-            return Err(CodeFault::TooDeep { at });
+            return Err(CodeFault::TooDeep {
+                at: offset_of(end, bytes),
+            });
         }
         let inside = Here {
             levels: here.levels - 1,
@@ -155,7 +156,9 @@ impl<'a, A: Arity> Parser<'a, A> {
         match lead_of(here.position, lead) {
             Lead::Name => {
                 if !takes_names(here.position) {
-                    return Err(CodeFault::ModuleCode { at });
+                    return Err(CodeFault::ModuleCode {
+                        at: offset_of(end, bytes),
+                    });
                 }
                 self.tell_call(inside, end, locals, sink, bytes)
             }
@@ -168,6 +171,7 @@ impl<'a, A: Arity> Parser<'a, A> {
                 match row.tail {
                     None => self.tell_plain(row, inside, end, locals, sink, behind),
                     Some(tail) => {
+                        let at = offset_of(end, bytes);
                         let found = Packed { at, row, tail };
                         self.tell_packed(&found, inside, end, locals, sink, behind)
                     }
