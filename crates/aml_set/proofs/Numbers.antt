@@ -34,8 +34,7 @@ as_many k ms ids all = sym (length-map ids (slice_get k.paths)) ∙ ap length al
 
 pub number_at : (k : Known) (ms : List Method) (ids : List ℕ) (n : ℕ) (m : Method) (id : ℕ) → AreNumbered k ms ids
     → slice_get ms n ≡ Some m → slice_get ids n ≡ Some id → StandsAt k id m.path
-number_at k ms ids n m id all there here = same_Some (slice_get k.paths id) (Some m.path) (
-  sym (slice_get-map (slice_get k.paths) ids n ∙ ap (option_map (slice_get k.paths)) here)
-  ∙ ap (λ l. slice_get l n) all
-  ∙ slice_get-map path_some ms n ∙ ap (option_map path_some) there
-)
+number_at k ms ids n m id all there here =
+    let at = slice_get-map (slice_get k.paths) ids n ∙ ap (option_map (slice_get k.paths)) here in
+    let path = slice_get-map path_some ms n ∙ ap (option_map path_some) there in
+    same_Some (slice_get k.paths id) (Some m.path) (sym at ∙ ap (λ l. slice_get l n) all ∙ path)

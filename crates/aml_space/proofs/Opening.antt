@@ -68,11 +68,10 @@ more_paths : (old new : List Node) → IsIndex old → IsIndex new → IsKept ol
     → paths_in new ≡ paths_in old ++ drop (length old) (paths_in new)
 more_paths old new was is kept =
     let n = length old in
-    sym (take-append-drop n (paths_in new)) ∙ ap (λ ps. ps ++ drop n (paths_in new)) (
-      take-map-range_with_len (path_of new) 0 (length new) n kept.long
-      ∙ fill_by_all (path_of old) _ n [] (length-map-range_with_len (path_of new) 0 n) (λ i within.
-        get_or-map-range_with_len (path_of new) 0 n i i [] within (omega arith) ∙ still_path old new was is kept i within)
-    )
+    let front : take n (paths_in new) ≡ paths_in old = take-map-range_with_len (path_of new) 0 (length new) n kept.long
+    ∙ fill_by_all (path_of old) _ n [] (length-map-range_with_len (path_of new) 0 n) (λ i within.
+    get_or-map-range_with_len (path_of new) 0 n i i [] within (omega arith) ∙ still_path old new was is kept i within) in
+    sym (take-append-drop n (paths_in new)) ∙ ap (λ ps. ps ++ drop n (paths_in new)) front
 
 -- so what is kept besides the nodes stays right
 pub still_space : (old new : List Node) (before many : ℕ) (marked inside : List Opened) (ways : Ways) → IsIndex new
