@@ -5,8 +5,8 @@ use Rattle.std.proofs.lemmas.Option.{slice_get_read}
 use Rattle.aml_set.proofs.Numbers.{as_many, number_at}
 use Rattle.acpidis.proofs.bodies.KeepingWork.work.Goals as goal
 
-pub index-id-requires : goal.index-id-requires
-index-id-requires g c =
+pub index-requires : goal.index-requires
+index-requires g c =
     let set = c.args.self.now.set.now in
     omega (arith, c.requires, as_many set.space set.methods.items set.numbers.items set.numbered)
 
@@ -17,8 +17,8 @@ keep-requires g c =
     let ids = set.numbers.items in
     let there = slice_get_read ms (length ms) c.args.number c.index-method.result.now refl c.requires c.index-method.ensures in
     record {
-      numbered = number_at set.space ms ids c.args.number c.index-method.result.now c.index-id.result set.numbered there
-          (slice_get_read ids (length ms) c.args.number c.index-id.result (sym (as_many set.space ms ids set.numbered)) c.requires c.index-id.ensures);
+      numbered = number_at set.space ms ids c.args.number c.index-method.result.now c.index.result.now set.numbered there
+          (slice_get_read ids (length ms) c.args.number c.index.result.now (sym (as_many set.space ms ids set.numbered)) c.requires c.index.ensures);
       short = c.span-bytes.ensures.short;
       body = c.span-bytes.ensures.bytes;
     }
