@@ -26,9 +26,9 @@ import sys
 import tempfile
 from dataclasses import dataclass
 
-import bodies
 import measuring
 import plot
+import sets
 
 README = measuring.TOP / "README.md"
 PICTURE = measuring.TOP / "docs/figures.svg"
@@ -91,39 +91,31 @@ Device (D%(number)03X) {
 # ---- sets
 
 
-def source(devices: int) -> str:
-    """A DSDT in ASL with so many devices, sixteen to a bus."""
+def compiled(devices: int) -> bytes:
+    """A DSDT with so many devices, sixteen to a bus, by iasl."""
     text = 'DefinitionBlock ("", "DSDT", 2, "BENCH", "FIGURES", 1) {\nDevice (\\_SB.' + OUTERMOST.decode() + ") {\n"
     for first in range(0, devices, DEVICES_OF_A_BUS):
         inner = [DEVICE % {"number": number} for number in range(min(DEVICES_OF_A_BUS, devices - first))]
         text += f"Device (B{first // DEVICES_OF_A_BUS:03X}) {{ Name (_ADR, 0x{first:08X}) {''.join(inner)} }}\n"
-    return text + "} }\n"
-
-
-def compiled(devices: int) -> bytes:
-    with tempfile.TemporaryDirectory() as folder:
-        asl = pathlib.Path(folder) / "figures.asl"
-        asl.write_text(source(devices))
-        subprocess.run(["iasl", "-p", "figures", asl.name], cwd=folder, check=True, capture_output=True)
-        return (pathlib.Path(folder) / "figures.aml").read_bytes()
+    return sets.compiled(text + "} }\n")
 
 
 def repeated(table: bytes, times: int) -> bytes:
     """A table with the terms of this one so many times, each with another outermost device."""
-    code = table[bodies.HEADER_BYTES:]
+    code = table[sets.HEADER_BYTES:]
     assert code.count(OUTERMOST) == 1
-    return bodies.table(b"".join(code.replace(OUTERMOST, b"X%03d" % number) for number in range(times)))
+    return sets.table(b"".join(code.replace(OUTERMOST, b"X%03d" % number) for number in range(times)))
 
 
 # The name of each set, and what makes its files. A device has some 420 bytes.
 SETS = (
-    ("10 KB", bodies.one(lambda: compiled(24))),
-    ("40 KB", bodies.one(lambda: compiled(95))),
-    ("1 MB", bodies.one(lambda: compiled(2_360))),
-    ("16 MB", bodies.one(lambda: repeated(compiled(2_360), 16))),
-    ("20,000 methods", bodies.one(lambda: bodies.many_methods(20_000))),
-    ("101 tables", lambda: bodies.calls(101, 20)),
-    ("one long body", bodies.one(lambda: bodies.long_body(bodies.MIXED, bodies.SIZES["1"]))),
+    ("10 KB", sets.one(lambda: compiled(24))),
+    ("40 KB", sets.one(lambda: compiled(95))),
+    ("1 MB", sets.one(lambda: compiled(2_360))),
+    ("16 MB", sets.one(lambda: repeated(compiled(2_360), 16))),
+    ("20,000 methods", sets.one(lambda: sets.many_methods(20_000))),
+    ("101 tables", sets.SETS["calls-101"]),
+    ("one long body", sets.one(lambda: sets.long_body(sets.MIXED, sets.SIZES["1"]))),
 )
 
 

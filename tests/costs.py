@@ -18,9 +18,9 @@ sys.dont_write_bytecode = True
 TOP = pathlib.Path(__file__).resolve().parent.parent
 sys.path.insert(0, str(TOP / "bench"))
 
-import bodies  # noqa: E402
 import hostile_shapes as shapes  # noqa: E402
 import measuring  # noqa: E402
+import sets  # noqa: E402
 
 DEMO = TOP / "crates/acpidis_program/data/demo"
 METHODS = 20_000
@@ -74,7 +74,7 @@ def measure(program, room):
     shim, folder = room / "refusals.so", room / "set"
     subprocess.run([compiler, "-O1", "-shared", "-fPIC", "-o", shim, TOP / "tests/refusals.c", "-ldl"], check=True)
     folder.mkdir()
-    (folder / "dsdt.dat").write_bytes(bodies.many_methods(METHODS))
+    (folder / "dsdt.dat").write_bytes(sets.many_methods(METHODS))
     length, writes, freed = count_calls(program, shim, folder)
     assert length > 100 * METHODS, length
     faults = usage_of(program, DEMO).ru_minflt - usage_of(program, "--version").ru_minflt
