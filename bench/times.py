@@ -27,7 +27,8 @@ def line(name, tool, size, answer, alone, limit):
     if answer is None:
         return f"{name:18} {tool:10} no answer in {limit:g} s"
     text = f"{name:18} {tool:10} {answer.seconds:8.3f} s {answer.processor:8.3f} s of processors"
-    text += f" {answer.peak / 1e6:8.1f} MB   {answer.seconds / size * 1e6:7.4f} s/MB {answer.peak / size:7.1f} B/B   status {answer.status}"
+    text += f" {answer.peak / 1e6:8.1f} MB   {answer.seconds / size * 1e6:7.4f} s/MB {answer.peak / size:7.1f} B/B"
+    text += f"   status {answer.status}"
     return text + (f"   {alone.seconds / answer.seconds:5.2f} times as fast as one worker" if alone else "")
 
 

@@ -450,40 +450,6 @@ def check_board(checks: Checks, room: pathlib.Path) -> None:
     checks.is_same("a region by a Name", rows_of(file, sql)[-2:], [("rack/b", 0xBF5D0000), ("second", None)])
 
 
-TABLES = """Table "apic.dat" "APIC" Length 55 Revision 2 Oem "TEST  " "EXAMPLE " 00000001 Creator "TEST" 00000001
-  Controller FEE00000 Flags 00000001
-  LocalApic Uid 10 Apic 2 Flags 00000010
-  AddressOverride 00000000FEE00000
-  Record 128 Length 4 AA BB
-Table "dsdt.dat" "DSDT" Length 100 Revision 2 Oem "TEST  " "EXAMPLE " 00000001 Creator "TEST" 00000001
-Table "facp.dat" "FACP" Length 116 Revision 1 Oem "TEST  " "EXAMPLE " 00000001 Creator "TEST" 00000001
-  SmiCmd 000000B2
-  AcpiEnable 10
-Table "xsdt.dat" "XSDT" Length 44 Revision 1 Oem "TEST  " "EXAMPLE " 00000001 Creator "TEST" 00000001
-  Entry 0000000000006000 "facp.dat"
-Namespace 3
-  \\DEV0 Device
-  \\MAIN Method 0
-  \\NAME Name
-DefinitionBlock ("dsdt.dat") {
-  Device (DEV0) {
-  }
-  Name (NAME, One)
-  Method (MAIN, 0, NotSerialized, 0) {
-    Notify (DEV0, 0x81)
-    Notify (DEV0, Local0)
-    Store (LoadTable ("OEM1", "A", "B", "", "", Zero), Local0)
-    Load (NAME, Local1)
-    Fatal (0x01, 0x00000002, Local0)
-    If (One) {
-      Sleep (0x0A)
-      Stall (NAME)
-    }
-  }
-}
-"""
-
-
 # I2cSerialBusV2, GpioInt by level and low, IRQ 5 by edge, an end tag.
 WIRED = bytes.fromhex(
     "8E 19 00 02 00 01 02 00 00 01 06 00 80 1A 06 00 2C 00 5C 5F 53 42 2E 49 32 43 30 00"
@@ -494,8 +460,7 @@ WIRED = bytes.fromhex(
 
 def check_records(checks: Checks, room: pathlib.Path) -> None:
     """Fields of tables, and statements."""
-    (room / "records").write_text(TABLES)
-    run(room / "records", room / "records.facts")
+    run(TOP / "tests/records.text", room / "records.facts")
     sql = "SELECT signature, place, kind, label, value, number FROM record JOIN acpi_table ON acpi_table.id = acpi_table ORDER BY record.id"
     wanted = [
         ("APIC", 1, "", "Controller", "FEE00000", 0xFEE00000), ("APIC", 1, "", "Flags", "00000001", 1),
