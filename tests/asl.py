@@ -11,7 +11,6 @@ and images apart, as acpixtract does where that is there. show.py shows what is 
 that fails ends it. The last line is 'N passed, N failed'.
 """
 
-import argparse
 import concurrent.futures
 import contextlib
 import itertools
@@ -25,21 +24,16 @@ import subprocess
 import sys
 import tempfile
 
-sys.dont_write_bytecode = True
-TOP = pathlib.Path(__file__).resolve().parent.parent
-sys.path[:0] = [str(TOP / "tests/oracle"), str(TOP / "tests"), str(TOP / "examples")]
-
-import board  # noqa: E402
-from compare import PROGRAM  # noqa: E402
-from dumps import Dump  # noqa: E402
-from folders import read_folder  # noqa: E402
-from hostile import mutated  # noqa: E402
-from made_aml import method, packed, table  # noqa: E402
-from made_plain import PlainMaker  # noqa: E402
-from made_sets import sealed  # noqa: E402
-from running import REFUSED, Options, run  # noqa: E402
-from tally import Stopped, Tally  # noqa: E402
-from telling import DEMO, HOSTILE_FILES, PAGES_FILES, RUNS_FILES  # noqa: E402
+from tally import DEMO, PROGRAM, TOP, Stopped, Tally, parser  # before the others, whose places it tells
+import board
+from dumps import Dump
+from folders import read_folder
+from hostile import mutated
+from made_aml import method, packed, table
+from made_plain import PlainMaker
+from made_sets import sealed
+from running import REFUSED, Options, run
+from telling import HOSTILE_FILES, PAGES_FILES, RUNS_FILES
 
 ASL, SPLICE, UNPACK, SHOW = (TOP / "examples" / f"{script}.py" for script in ("asl", "splice", "unpack", "show"))
 IASL, ACPIXTRACT = shutil.which("iasl"), shutil.which("acpixtract")
@@ -661,7 +655,7 @@ CHECKS = (
 
 
 def main():
-    words = argparse.ArgumentParser(description=__doc__, formatter_class=argparse.RawDescriptionHelpFormatter)
+    words = parser(__doc__)
     words.add_argument("--sets", metavar="N", type=int, default=200)
     words.add_argument("--stop", action="store_true")
     words.add_argument("folders", metavar="FOLDER", nargs="*")

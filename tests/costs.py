@@ -14,15 +14,11 @@ import subprocess
 import sys
 import tempfile
 
-sys.dont_write_bytecode = True
-TOP = pathlib.Path(__file__).resolve().parent.parent
-sys.path.insert(0, str(TOP / "bench"))
+from tally import DEMO, TOP  # before the others, whose places it tells
+import hostile_shapes as shapes
+import measuring
+import sets
 
-import hostile_shapes as shapes  # noqa: E402
-import measuring  # noqa: E402
-import sets  # noqa: E402
-
-DEMO = TOP / "crates/acpidis_program/data/demo"
 METHODS = 20_000
 # A write takes 64 KB, and less only where a body's text doesn't fit any more.
 LEAST_WRITE = 32_768

@@ -17,25 +17,20 @@ import shutil
 import sys
 import tempfile
 
-sys.dont_write_bytecode = True
-TOP = pathlib.Path(__file__).resolve().parent.parent
-sys.path[:0] = [str(TOP / "examples"), str(TOP / "tests/oracle"), str(TOP / "tests")]
-
-from acpidis_tools.decoding import Decoder, bits_text, flag_words  # noqa: E402
-from dumps import order_of  # noqa: E402
-from folders import read_folder  # noqa: E402
-from acpidis_tools.identifiers import eisa_id, eisa_number, uuid_text  # noqa: E402
-from iasl import facts_of  # noqa: E402
-from acpidis_tools.listing import read_listing  # noqa: E402
-from acpidis_tools.names import FIELD_LISTS, Names  # noqa: E402
-from made_aml import buffer, device, method, packed, scope, table  # noqa: E402
-from acpidis_tools.resources import descriptors  # noqa: E402
-from running import REFUSED, Options, run_folder  # noqa: E402
-from acpidis_tools.standard import space_name, status_words  # noqa: E402
-from tally import Tally  # noqa: E402
+from tally import DEMO, TOP, Tally  # before the others, whose places it tells
+from acpidis_tools.decoding import Decoder, bits_text, flag_words
+from dumps import order_of
+from folders import read_folder
+from acpidis_tools.identifiers import eisa_id, eisa_number, uuid_text
+from iasl import facts_of
+from acpidis_tools.listing import read_listing
+from acpidis_tools.names import FIELD_LISTS, Names
+from made_aml import buffer, device, method, packed, scope, table
+from acpidis_tools.resources import descriptors
+from running import REFUSED, Options, run_folder
+from acpidis_tools.standard import space_name, status_words
 
 EISA = re.compile("[A-Z]{3}[0-9A-F]{4}")
-DEMO = TOP / "crates/acpidis_program/data/demo"
 LONG_NAME = "5C 5F 53 42 5F 00"  # \_SB_ and its NUL
 
 # Rows of descriptors, bytes that are no template, and what is said of the lines of the set below.

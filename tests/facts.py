@@ -9,7 +9,6 @@ are those that the independent reading says. Then come the tables, resources and
 here, many machines with shared code, and what the command line refuses. The last line is 'N passed, N failed'.
 """
 
-import argparse
 import contextlib
 import hashlib
 import importlib.util
@@ -17,189 +16,52 @@ import io
 import json
 import os
 import pathlib
-import random
 import sqlite3
 import subprocess
 import sys
 import tempfile
 
-sys.dont_write_bytecode = True
-TOP = pathlib.Path(__file__).resolve().parent.parent
-sys.path[:0] = [str(TOP / "tests/oracle"), str(TOP / "tests")]
-sys.path.append(str(TOP / "examples"))
-
-from acpidis_tools import command  # noqa: E402
-from board import VERSIONS  # noqa: E402
-from dumps import aml_of, order_of  # noqa: E402
-from facts_picture import columns_text, picture  # noqa: E402
-from folders import read_folder  # noqa: E402
-from loading import path_text  # noqa: E402
-from made_aml import buffer, device, table  # noqa: E402
-from made_sets import SetMaker  # noqa: E402
-from page import Checks, first_difference  # noqa: E402
-from reading import EXTERNAL, FIELD_LISTS, Name, Named, Op  # noqa: E402
-from running import REFUSED, Options, run_folder  # noqa: E402
-from acpidis_tools.schema import COLUMNS  # noqa: E402
-from telling import DEMO, HOSTILE_FILES, PAGES_FILES, RUNS_FILES, Teller, may_mean, written  # noqa: E402
+from tally import TOP, parser  # before the others, whose places it tells
+from acpidis_tools import command
+from board import VERSIONS
+from dumps import aml_of, order_of
+from facts_picture import columns_text, picture
+from folders import read_folder
+from loading import path_text
+from made_aml import buffer, device, table
+from page import Checks, first_difference
+from running import REFUSED, Options, Outcome, run_folder
+from acpidis_tools.schema import COLUMNS
+from telling import Teller, samples, small, written
 
 FACTS = TOP / "examples/facts.py"
 SPEC = importlib.util.spec_from_file_location("facts_script", FACTS)
 facts_script = importlib.util.module_from_spec(SPEC)
 SPEC.loader.exec_module(facts_script)
-REGION, DATA_REGION, NAME = 0x5B80, 0x5B88, 0x08
-# What is handed to these by its name isn't written.
-TAKES_OBJECT = {0x71, 0x87, 0x8E, 0x5B25, 0x5B23, 0x5B24, 0x5B26, 0x5B27, 0x5B2A, 0x86}
-CONDREFOF = 0x5B12
-CONSTANTS = {0x00: 0, 0x01: 1}
-NUMBERS = {0x0A, 0x0B, 0x0C, 0x0E}
 
 
 # ---- what the independent reading says
 
 
-class FactTeller(Teller):
-    """Tells of each name that uses something the body or the scope, what it means, and what becomes of that; and the
-    regions and units in the order of the text."""
+def regions_told(teller: Teller, has_raw: bool) -> list:
+    """The regions, with the values of Names that nothing writes, passes on, or may be declared again."""
+    space = teller.space
+    changed = {path for *_, path, is_own, _, how in teller.uses if how in ("written", "passed") and not is_own}
+    for path in list(changed):
+        kind = space.kind(tuple(path[1:].split("."))) if path and path != "\\" else None
+        changed |= {path_text(kind[1])} if kind and kind[0] == "Alias" else set()
+    sure = {path for path, kind, *rest in space.rows() if kind[0] == "Name" and not (rest and rest[0])}
 
-    def __init__(self, codes: list, options: Options):
-        self.uses, self.regions, self.units, self.body, self.values, self.named = [], [], [], None, {}, []
-        super().__init__(codes, options)
+    def value(number: int | None, paths: list) -> int | None:
+        if number is not None or has_raw or len(paths) != 1 or paths[0] not in sure or path_text(paths[0]) in changed:
+            return number
+        found = teller.values.get(paths[0], [])
+        return small(found[0]) if len(found) == 1 else None
 
-    def tell_body(self, terms: list, path: tuple) -> None:
-        self.body = path
-        super().tell_body(terms, path)
-        self.body = None
-
-    def is_method(self, path: tuple) -> bool:
-        kind = self.space.kind(path)
-        if kind and kind[0] == "Alias":
-            kind = self.space.kind(kind[1]) or (("Method",) if kind[1] in self.space.promised else None)
-        return bool(kind) and kind[0] == "Method" or not kind and path in self.space.promised
-
-    def add(self, name: Name, scope: tuple, paths: list, own: dict, how: str, has_arguments: bool = False) -> None:
-        if not str(name):
-            return
-        for number, path in enumerate(paths or [None]):
-            is_own = path in own
-            told = how
-            if how in ("read", "passed by call"):
-                is_method = has_arguments or path is not None and not is_own and self.is_method(path)
-                told = "called" if is_method else how.partition(" ")[0]
-            body = self.body and path_text(self.body)
-            shown = None if is_own or path is None else path_text(path)
-            self.uses.append((body, path_text(scope), str(name), shown, int(is_own), number, told))
-
-    def tell_led(self, name: Name, path: tuple) -> None:
-        super().tell_led(name, path)
-        is_known = self.space.kind(path) or path in self.space.externals
-        self.add(name, self.scope, [path] if is_known else [], {}, "named")
-
-    def tell_terms(self, terms: list, scope: tuple) -> None:
-        for term in terms:
-            # The base tells one term after the other: so the scope is known for what is led.
-            self.scope = scope
-            super().tell_terms([term], scope)
-
-    def tell_term(self, term: object, scope: tuple, own: dict, is_body: bool, how: str = "read") -> None:
-        declared: dict = {}
-        if isinstance(term, Name):
-            self.add(term, scope, self.meant(term, scope, own), own, how)
-        elif isinstance(term, Named):
-            self.add(term.name, scope, self.meant(term.name, scope, own), own, how, bool(term.args))
-            for arg in term.args:
-                self.tell_term(arg, scope, own, is_body, "passed by call")
-        elif isinstance(term, Op):
-            self.tell_op(term, scope, own, is_body, declared)
-        own.update(declared if is_body else {})
-
-    def meant(self, name: Name, scope: tuple, own: dict) -> list:
-        return self.then.get(str(name)) or may_mean(self.space, scope, name, own)
-
-    def tell_op(self, term: Op, scope: tuple, own: dict, is_body: bool, declared: dict) -> None:
-        def declare(name: Name) -> None:
-            path = name.placed(scope)
-            if is_body and path is not None:
-                declared[path] = True
-
-        if term.opcode == EXTERNAL:
-            return
-        its_own = term.declared() if term.opcode not in FIELD_LISTS else []
-        for number, (kind, part) in enumerate(zip(term.row.parts, term.parts)):
-            if its_own and part is its_own[0]:
-                declare(part)
-            else:
-                self.tell_term(part, scope, own, is_body, becomes(term.opcode, kind, number))
-        if term.opcode == NAME and not self.body:
-            self.values.setdefault(term.names()[0].placed(scope), []).append(constant(term.parts[1]))
-        if term.opcode in (REGION, DATA_REGION):
-            self.regions.append(region_of(term, scope, self.body))
-            named = [it.name if isinstance(it, Named) and not it.args else None for it in term.parts[2:4]]
-            self.named.append([self.meant(it, scope, own) if it and term.opcode == REGION else [] for it in named])
-        if term.opcode in FIELD_LISTS:
-            self.tell_units(term, scope, own, is_body, declare)
-        else:
-            for inner in term.tail if isinstance(term.tail, list) else []:
-                self.tell_term(inner, scope, own, is_body, "passed" if term.row.tail == "e" else "read")
-
-    def tell_units(self, term: Op, scope: tuple, own: dict, is_body: bool, declare: object) -> None:
-        bit = 0
-        for unit in term.tail:
-            if unit[0] == "unit":
-                name = Name(False, 0, [unit[1]])
-                body = self.body and path_text(self.body)
-                self.units.append((body, path_text(name.placed(scope)), term.row.mnemonic, bit, unit[2]))
-                declare(name)
-            elif unit[0] == "connection":
-                self.tell_term(unit[1], scope, own, is_body, "named")
-            bit += unit[-1] if unit[0] in ("unit", "reserved") else 0
-
-    def tell_external(self, name: Name, path: tuple) -> None:
-        """An External uses nothing."""
-
-    def all_regions(self, has_raw: bool) -> list:
-        """The regions, with the values of Names that nothing writes, passes on, or may be declared again."""
-        changed = {path for *_, path, is_own, _, how in self.uses if how in ("written", "passed") and not is_own}
-        for path in list(changed):
-            kind = self.space.kind(tuple(path[1:].split("."))) if path and path != "\\" else None
-            changed |= {path_text(kind[1])} if kind and kind[0] == "Alias" else set()
-        sure = {path for path, kind, *rest in self.space.rows() if kind[0] == "Name" and not (rest and rest[0])}
-        return [
-            (*region[:3], *(
-                self.value(paths, sure, changed) if number is None and not has_raw else number
-                for number, paths in zip(region[3:], named)
-            ))
-            for region, named in zip(self.regions, self.named)
-        ]
-
-    def value(self, paths: list, sure: set, changed: set) -> int | None:
-        found = self.values.get(paths[0], []) if len(paths) == 1 and paths[0] in sure else []
-        is_changed = len(paths) == 1 and paths[0] is not None and path_text(paths[0]) in changed
-        return found[0] if len(found) == 1 and not is_changed and found[0] is not None and found[0] < 1 << 63 else None
+    return [(*head, *map(value, numbers, meant)) for head, numbers, meant in teller.regions]
 
 
-def becomes(opcode: int, kind: str, number: int) -> str:
-    if kind == "S":
-        is_object = opcode in TAKES_OBJECT or opcode == CONDREFOF and number == 0
-        return "passed" if is_object else "written"
-    return {"T": "read", "D": "passed", "N": "named"}.get(kind, "read")
-
-
-def constant(term: object) -> int | None:
-    if not isinstance(term, Op):
-        return None
-    return CONSTANTS.get(term.opcode, term.parts[0][1] if term.opcode in NUMBERS else None)
-
-
-def region_of(term: Op, scope: tuple, body: tuple | None) -> tuple:
-    name = term.names()[0].placed(scope)
-    shown = body and path_text(body), path_text(name if name is not None else ())
-    if term.opcode == DATA_REGION:
-        return *shown, None, None, None
-    numbers = [constant(term.parts[place]) for place in (2, 3)]
-    return *shown, term.parts[1][1], *(number if number is not None and number < 1 << 63 else None for number in numbers)
-
-
-def names_told(teller: FactTeller) -> set:
+def names_told(teller: Teller) -> set:
     rows = [(path, kind, marks) for path, kind, *rest in teller.space.rows() for marks in [rest[0] if rest else ()]]
     found = set()
     for path, kind, marks in rows:
@@ -251,41 +113,30 @@ class Read:
         ]
 
 
-def check_set(checks: Checks, what: str, folder: pathlib.Path, options: Options) -> Read | None:
-    """Compares the facts of a set; None where it is refused."""
-    outcome = run_folder(folder, options)
-    if outcome.status == REFUSED:
-        return None
+def check_set(checks: Checks, what: str, folder: pathlib.Path, options: Options, outcome: Outcome) -> None:
+    """Compares the facts of a set."""
+    checks.is_same(f"{what} is taken", outcome.status != REFUSED, True)
     fault, rows = facts_script.facts_of(outcome.out.encode(), outcome.err.encode())
     checks.is_same(f"the facts of {what}", fault, "")
     read, dumps = Read(rows), read_folder(folder)
-    teller = FactTeller([aml_of(dumps[index].data) for index in order_of(dumps, options.any_sum)], options)
+    teller = Teller([aml_of(dumps[index].data) for index in order_of(dumps, options.any_sum)], options)
     checks.is_same(f"the names of {what}", sorted(read.names() ^ names_told(teller), key=str), [])
     checks.is_same(f"the uses of {what}", first_difference(read.uses(), teller.uses), None)
     raw = outcome.err.count("\n")
-    checks.is_same(f"the regions of {what}", sorted(read.regions(), key=str), sorted(teller.all_regions(raw > 0), key=str))
+    regions = sorted(regions_told(teller, raw > 0), key=str)
+    checks.is_same(f"the regions of {what}", sorted(read.regions(), key=str), regions)
     checks.is_same(f"the units of {what}", read.units(), teller.units)
-    checks.is_same(f"the raw bodies of {what}", sum(row["is_raw"] and row["fault"] is not None for row in read.of("method")), raw)
+    found = sum(row["is_raw"] and row["fault"] is not None for row in read.of("method"))
+    checks.is_same(f"the raw bodies of {what}", found, raw)
     checks.is_same(f"the lines of {what}", wrong_lines(read, outcome.out), [])
     for table, found in rows.items():
         checks.is_same(f"the rows of {table} of {what}", [row[0] for row in found], list(range(1, len(found) + 1)))
-    return read
 
 
 def wrong_lines(read: Read, out: str) -> list:
     """The uses whose line of the text doesn't have their name."""
     lines = out.splitlines()
     return [row for row in read.of("use") if row["text"] not in lines[row["line"] - 1]]
-
-
-def check_made_up(checks: Checks, sets: int, any_run: bool) -> None:
-    maker, number = SetMaker(random.Random(0), any_run=any_run), 0
-    while number < sets:
-        trial = maker.trial()
-        with tempfile.TemporaryDirectory() as room:
-            folder = written(pathlib.Path(room) / "set", trial.files)
-            if not trial.options.check and check_set(checks, f"made-up set {number}", folder, trial.options):
-                number += 1
 
 
 # ---- the rest, as it is run
@@ -523,22 +374,14 @@ def check_words(checks: Checks, room: pathlib.Path) -> None:
 
 
 def main() -> None:
-    words = argparse.ArgumentParser(description=__doc__, formatter_class=argparse.RawDescriptionHelpFormatter)
-    words.add_argument("folders", nargs="*", type=pathlib.Path)
+    words = parser(__doc__, folders=True)
     words.add_argument("--sets", type=int, default=40)
     asked = words.parse_args()
     with tempfile.TemporaryDirectory() as room:
         room = pathlib.Path(room)
         checks = Checks(room)
-        check_set(checks, "the set of docs/listing.md", written(room / "listed", PAGES_FILES), Options())
-        check_set(checks, "the demo", DEMO, Options())
-        check_set(checks, "the hostile set", written(room / "hostile", HOSTILE_FILES), Options())
-        check_set(checks, "the set of runs", written(room / "runs", RUNS_FILES), Options(any_run=True))
-        for folder in asked.folders:
-            is_taken = check_set(checks, str(folder), folder, Options(any_run=True, any_sum=True)) is not None
-            checks.is_same(f"{folder} is taken", is_taken, True)
-        check_made_up(checks, asked.sets, False)
-        check_made_up(checks, asked.sets, True)
+        for sample in samples(room, asked.folders, asked.sets):
+            check_set(checks, *sample)
         (room / "many").mkdir()
         check_many(checks, room / "many")
         check_fleet(checks, room / "many")

@@ -11,7 +11,6 @@ For a long body, a name of sixteen million `^` and a million methods it would ta
 written down here, after docs/listing.md, docs/limits.md and docs/names.md. The last line is 'N passed, N failed'.
 """
 
-import argparse
 import concurrent.futures
 import dataclasses
 import gc
@@ -26,15 +25,12 @@ import tempfile
 from collections.abc import Iterable
 from typing import NamedTuple
 
-sys.dont_write_bytecode = True
-sys.path.insert(0, str(pathlib.Path(__file__).resolve().parent / "oracle"))
-
-from compare import PROGRAM  # noqa: E402
-from dumps import HEADER_LENGTH, MOST_BYTES, MOST_DUMPS, Dump  # noqa: E402
-from loading import MOST_METHODS  # noqa: E402
-from made_code import MOST_SEGMENTS  # noqa: E402
-from made_aml import packed, table  # noqa: E402
-from running import DONE, RAW, REFUSED, Options, run, run_folder  # noqa: E402
+from tally import PROGRAM, parser  # before the others, whose places it tells
+from dumps import HEADER_LENGTH, MOST_BYTES, MOST_DUMPS, Dump
+from loading import MOST_METHODS
+from made_code import MOST_SEGMENTS
+from made_aml import packed, table
+from running import DONE, RAW, REFUSED, Options, run, run_folder
 
 LIST, CHECK = Options(), Options(check=True)
 LIST_RUNS, CHECK_RUNS = Options(any_run=True), Options(any_run=True, check=True)
@@ -422,7 +418,7 @@ def fails_of_cuts(program):
 
 
 def main():
-    words = argparse.ArgumentParser(description=__doc__, formatter_class=argparse.RawDescriptionHelpFormatter)
+    words = parser(__doc__)
     words.add_argument("--stop", action="store_true")
     words.add_argument("program", nargs="?", type=pathlib.Path, default=PROGRAM)
     asked = words.parse_args()
