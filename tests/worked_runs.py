@@ -75,10 +75,10 @@ def fails_of(file, readers):
 
 
 def main():
-    parser = parser(__doc__)
-    parser.add_argument("program", nargs="?", default=PROGRAM)
-    parser.add_argument("--read", action="store_true", help="try the independent reading alone")
-    asked = parser.parse_args()
+    words = parser(__doc__)
+    words.add_argument("program", nargs="?", default=PROGRAM)
+    words.add_argument("--read", action="store_true", help="try the independent reading alone")
+    asked = words.parse_args()
     fails = []
     for file in RUNS:
         readers = {"tests/oracle": Rows()}
