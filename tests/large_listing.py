@@ -1,7 +1,6 @@
-"""Prints a listing of about so many MB, like that of a large firmware: `python3 tests/large_listing.py MB`."""
+"""Makes a listing like that of a large firmware, for tests/page_browser.py."""
 
 import pathlib
-import sys
 
 # The lines of a device: NAME is its name, @ a digit, and ######## a number.
 DEVICE = (pathlib.Path(__file__).resolve().parent / "large_device.text").read_text()
@@ -30,7 +29,3 @@ def listing(size: int) -> str:
     text = f"Namespace {len(rows)}\n" + "".join(rows)
     text += 'DefinitionBlock ("dsdt.dat") {\n  Scope (\\_SB_) {\n    Device (PCI0) {\n' + "".join(blocks) + "    }\n  }\n}\n"
     return HEAD.format(size=size) + text
-
-
-if __name__ == "__main__":
-    sys.stdout.write(listing(int(float(sys.argv[1]) * 1_000_000)))

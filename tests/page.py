@@ -2,14 +2,12 @@
 """Checks the page that examples/page.py makes of a listing, by Python's HTML parser, beside the independent reading.
 
     python3 tests/page.py [--sets N] [FOLDER ..]
-    python3 tests/page.py --make FOLDER
 
 Of four sample sets, of N made-up sets, 40 if left out, of as many with code outside methods, and of each FOLDER of
 dumps: each name has the targets that the independent reading says it means, each link leads to an anchor that is there,
 each declared path has one, and its row has its marks, each line of a definition block stands in the page as it is in
 the listing, and each declaration lists the lines that use it. Then come hostile names, comparisons and texts that are
-no listing. With --make the third sample set is written to a folder, its listing and its errors printed. The last line
-is 'N passed, N failed'.
+no listing. The last line is 'N passed, N failed'.
 """
 
 import argparse
@@ -283,20 +281,10 @@ def check_all(checks: Checks, asked: argparse.Namespace) -> None:
     check_refusals(checks, outcome)
 
 
-def make(folder: pathlib.Path) -> None:
-    outcome = run_folder(written(folder, HOSTILE_FILES), Options())
-    sys.stdout.write(outcome.out)
-    sys.stderr.write(outcome.err)
-
-
 def main() -> None:
     words = parser(__doc__, folders=True)
     words.add_argument("--sets", type=int, default=40)
-    words.add_argument("--make", type=pathlib.Path, metavar="FOLDER")
     asked = words.parse_args()
-    if asked.make:
-        make(asked.make)
-        return
     with tempfile.TemporaryDirectory() as room:
         checks = Checks(pathlib.Path(room))
         check_all(checks, asked)
