@@ -48,7 +48,8 @@ refused() {
 
 # fresh: makes the folder `folder` anew, with the table of the demo
 fresh() {
-    fresh
+    rm -rf folder
+    cp -r "$demo" folder
 }
 
 # refuses NAME TEXT WORD..: the command line is refused with status 2, and standard error has this text
@@ -85,13 +86,6 @@ table = bytearray(signature.encode() + (36 + len(code)).to_bytes(4, "little") + 
 table[9] = -sum(table) % 256
 open(file, "wb").write(table)
 P
-}
-
-# map NAME LINE MAP STATUS: a folder with the demo's table and this map
-map() {
-    fresh
-    printf '%b' "$3" >folder/tables.map
-    row "$1" "$4" "$2" ./program folder
 }
 
 cp "$top/crates/acpidis_program/stdout" demo.text
@@ -279,18 +273,24 @@ refused 'a short text' 'table "README": Short' system
 printf 'some text that is as long as the header of a table\n' >system/README
 refused 'a text longer than a header' 'table "README": Short' --any-sum system
 
-# maps
-map 'an empty map' '' '' 0
-prints <demo.text
-map 'an address leads to no root' 'acpidis: RootMissing' '0000000000001000 dsdt.dat\n' 1
-map 'no end of the last line' 'acpidis: RootMissing' '00000000abcDEF00 dsdt.dat' 1
-map 'too few digits' 'acpidis: tables.map line 1: BadLine' '00000000001000 dsdt.dat\n' 1
-map 'an empty line' 'acpidis: tables.map line 2: BadLine' '0000000000001000 dsdt.dat\n\n' 1
-map 'another name' 'acpidis: tables.map line 1: NoSuchFile' '0000000000001000 ssdt.dat\n' 1
-map 'the map itself' 'acpidis: tables.map line 1: NoSuchFile' '0000000000001000 tables.map\n' 1
-map 'no name' 'acpidis: tables.map line 1: NoSuchFile' '0000000000001000 \n' 1
-map 'a name that is no text' 'acpidis: tables.map line 1: NoSuchFile' '0000000000001000 \0377\n' 1
-map 'a line twice' 'acpidis: tables.map line 2: Again' '0000000000001000 dsdt.dat\n0000000000001000 dsdt.dat\n' 1
+# maps: each with the words of its refusal
+while IFS='|' read -r name line text; do
+    fresh
+    printf '%b' "$text" >folder/tables.map
+    refused "$name" "$line" folder
+done <<'T'
+an address leads to no root|RootMissing|0000000000001000 dsdt.dat\n
+no end of the last line|RootMissing|00000000abcDEF00 dsdt.dat
+too few digits|tables.map line 1: BadLine|00000000001000 dsdt.dat\n
+an empty line|tables.map line 2: BadLine|0000000000001000 dsdt.dat\n\n
+another name|tables.map line 1: NoSuchFile|0000000000001000 ssdt.dat\n
+the map itself|tables.map line 1: NoSuchFile|0000000000001000 tables.map\n
+no name|tables.map line 1: NoSuchFile|0000000000001000 \n
+a name that is no text|tables.map line 1: NoSuchFile|0000000000001000 \0377\n
+a line twice|tables.map line 2: Again|0000000000001000 dsdt.dat\n0000000000001000 dsdt.dat\n
+T
+: >folder/tables.map
+shows 'an empty map' folder
 
 cp folder/dsdt.dat folder/ssdt.dat
 printf '0000000000001000 dsdt.dat\n0000000000001000 ssdt.dat\n' >folder/tables.map
@@ -320,27 +320,25 @@ refused 'names in the order of their bytes' 'table "dsdt.dat": TwoDsdts' folder
 
 # a file that can't be read, by a user who may not
 if [ "$(id -u)" = 0 ] && command -v setpriv >/dev/null; then
-    chmod 000 folder/dsdt.dat folder/second.dat
     printf 'no map\n' >folder/tables.map
-    row 'a file that may not be read' 1 'acpidis: cannot read "dsdt.dat"' setpriv --reuid=65534 --clear-groups ./program folder
-    chmod 644 folder/dsdt.dat folder/second.dat
-    chmod 000 folder/tables.map
-    row 'a map that may not be read' 1 'acpidis: cannot read "tables.map"' setpriv --reuid=65534 --clear-groups ./program folder
-    chmod 000 folder
-    row 'a folder that may not be read' 1 'acpidis: cannot read folder' setpriv --reuid=65534 --clear-groups ./program folder
-    chmod 755 folder
-    chmod 000 counts
-    row 'argument counts that may not be read' 1 'acpidis: cannot read "counts"' \
-        setpriv --reuid=65534 --clear-groups ./program --externals counts empty
+    while IFS='|' read -r what files words; do
+        # shellcheck disable=SC2086
+        chmod 000 $files
+        # shellcheck disable=SC2086
+        row "$what may not be read" 1 "acpidis: cannot read $what" setpriv --reuid=65534 --clear-groups ./program $words
+        # shellcheck disable=SC2086
+        chmod 755 $files
+    done <<'T'
+"dsdt.dat"|folder/dsdt.dat folder/second.dat|folder
+"tables.map"|folder/tables.map|folder
+folder|folder|folder
+"counts"|counts|--externals counts empty
+T
 fi
 
 # numbers of files
 mkdir many
-number=0
-while [ "$number" -lt 511 ]; do
-    number=$((number + 1))
-    : >"many/$number"
-done
+(cd many && seq 511 | xargs touch)
 cp "$demo/dsdt.dat" many/0
 printf 'no map\n' >many/tables.map
 refused '512 files and a map' 'tables.map line 1: BadLine' many
