@@ -28,8 +28,9 @@ METHOD = re.compile(rb"\x14(?:[\x00-\x3f]|[\x40-\x4f].|[\x80-\x8f]..|[\xc0-\xcf]
 
 DUMPED = re.compile(rb"\s*(?:RSD PTR|[A-Z0-9!_]{4}) @ 0x[0-9A-Fa-f]+\s")
 
+
 def read_words(text):
-    """The tables of refusals.txt: the ways on; what each word says, with those for an SSDT and for a DSDT, and with --any-run."""
+    """The tables of refusals.txt: ways on; what each word says, with those for an SSDT and a DSDT; the same with --any-run."""
     named, *tables = ([line for line in part.splitlines() if not line.startswith("#")] for part in text.split("\n\n"))
     ways = dict(line.split(" ", 1) for line in named)
     ways_in = lambda cell: [ways.get(way, way) for way in cell.split("; ") if way]

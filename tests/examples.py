@@ -62,7 +62,9 @@ SETS = {
     "predicate": [block(b"\xa0", b"ZZZZ\x08WIN_\0")],
     "differs": [
         method(b"FOO_", b"", 1)
-        + device(b"DEV0", block(b"\xa0", b"\x01" + method(b"FOO_", b"", 2)), method(b"BAR_", b"FOO_\x01"), method(b"SIZE", b"\x87FOO_"))
+        + device(
+            b"DEV0", block(b"\xa0", b"\x01" + method(b"FOO_", b"", 2)), method(b"BAR_", b"FOO_\x01"), method(b"SIZE", b"\x87FOO_")
+        )
     ],
     "second": [block(b"\xa0", b"\x01\x08FOO_\0") + method(b"FOO_", b"", 3) + block(b"\xa0", b"\x87FOO_\xa3")],
     "promised": [b"\x15PCRB\x08\x02PCRB\x01\x01" + method(b"PCRB", b"", 1)],
@@ -157,7 +159,8 @@ def try_refused(tries):
     told = "  FOO_ takes 1 argument (Method at dsdt.dat, offset 0, byte 36 of the file), and was read without them"
     tries.is_so("a call that shifts what follows", told in tries.run("refused.py", "shifted").stdout)
     found = tries.run("refused.py", "returns").stdout
-    tries.is_so("a Return, which the option doesn't take", "`--any-run`" not in found and "A Return outside the methods" in found)
+    is_so = "`--any-run`" not in found and "A Return outside the methods" in found
+    tries.is_so("a Return, which the option doesn't take", is_so)
 
 
 def try_options(tries):
@@ -240,7 +243,8 @@ def try_deep(tries):
     tries.folder("long", longs + b"\x08" + deep[:-4] + b"X000\0")
     tries.folder("below", block(b"\x14", deep + b"\0" + b"\x70XXXX\x60" * 300))
     for folder in ("nested", "long", "below"):
-        for script, *words in (("refused.py",), ("refused.py", "--any-run"), ("calls.py", "--any-run"), ("missing.py", "--any-run")):
+        for command in ("refused.py", "refused.py --any-run", "calls.py --any-run", "missing.py --any-run"):
+            script, *words = command.split()
             before = resource.getrusage(resource.RUSAGE_CHILDREN).ru_utime
             run = tries.run(script, *words, folder)
             seconds = resource.getrusage(resource.RUSAGE_CHILDREN).ru_utime - before
@@ -267,7 +271,8 @@ def try_hostile(tries):
         none = f"{name}: no program acpidis: install it, or name it in ACPIDIS"
         tries.row(f"{script}: no program", tries.run(script, text, ACPIDIS="/none/acpidis"), 2, "", none)
         for line in ("acpidis: body \\A: UnknownName at 0", "Raw {5A}", ""):
-            lines = f"echo '{LINE}'\necho Namespace 0\necho 'DefinitionBlock (\"a\") {{'\necho '{line}'\necho '{line}' >&2\nexit 3\n"
+            lines = f"echo '{LINE}'\necho Namespace 0\necho 'DefinitionBlock (\"a\") {{'\necho '{line}'\n"
+            lines += f"echo '{line}' >&2\nexit 3\n"
             misfit = f"{name}: the lines of standard error don't fit the raw bodies of the text"
             tries.row(f"{script}: another program", tries.run(script, text, ACPIDIS=tries.fake("other", lines)), 2, "", misfit)
         found = tries.run(script, text, ACPIDIS=tries.fake("other", "echo 'Raw {A}'\nexit 3\n"))
