@@ -140,53 +140,6 @@ ROWS = r"""
   \DEV0 Device
   \DEV0._STA Method 0
 """
-# What is told, of which bodies of a method.
-UNSPELLED = {
-    "0x0001, which is wider than it needs to be": ["Store (0x0001, Local0)"],
-    "0x00000000000000FF, which is wider than it needs to be": ["Store (0x00000000000000FF, Local0)"],
-    "a Package of more than its size": ["Store (Package (0x01) {One, One}, Local0)"],
-    "a Buffer of more than its size": ["Store (Buffer (0x01) {AA, BB}, Local0)", "Store (Buffer (Zero) {AA}, Local0)"],
-    "a VarPackage of a constant size": ["Store (VarPackage (0x02) {}, Local0)", "Store (VarPackage (One) {}, Local0)"],
-    "a text with bytes that aren't ASCII": ['Store ("a\\x80", Local0)', 'Store ("\\xFF", Local0)'],
-    "a body without terms": ["Raw {A4}"],
-    "a value that nothing takes": ["Local0", "0x05", '"a {"', "Buffer (One) {}"],
-    "BAR_ as a call, where nothing says that it is a method": ["BAR_"],
-    "Debug as a value": ["Store (Debug, Local0)"],
-    "Load as a value": ["Store (Load (BAR_, Local0), Local0)"],
-    "DerefOf of what is no reference": [
-        "Store (DerefOf (One), Local0)", 'Store (DerefOf ("A"), Local0)', "Store (DerefOf (Add (One, One, )), Local0)",
-    ],
-    "RefOf of RefOf": ["RefOf (RefOf (BAR_))"],
-    "CondRefOf of RefOf": ["CondRefOf (RefOf (BAR_), Local0)"],
-    "CopyObject of Debug": ["CopyObject (One, Debug)"],
-    "CopyObject of Index": ["CopyObject (One, Index (Local0, One, ))"],
-    "LoadTable of Zero": ['LoadTable ("A", "B", "C", Zero, Zero, One)'],
-    "Store without a target": ["Store (One, )"],
-    "Increment without a target": ["Increment ()"],
-    "CondRefOf without a target": ["CondRefOf (, Local0)"],
-    "Match by the operator 6": ["Match (Local0, 0x06, One, 0x00, One, One)"],
-    "the name WAIT, which is a word of ASL": ["Name (WAIT, One)"],
-    "the name LOCK, which is a word of ASL": ["Store (LOCK, Local0)"],
-    "a name as the value of a Name": ["Name (NEW0, BAR_)"],
-    "a Mutex of the level 16": ["Mutex (NEW0, 0x10)"],
-    "a region in the space 0x0C": ["OperationRegion (NEW0, 0x0C, One, One)"],
-    "an External of the type 16": ["External (NEW0, 0x10, 0x00)"],
-    "an External of the type DeviceObj with arguments": ["External (NEW0, 0x06, 0x01)"],
-    "an External of a method without arguments that nothing calls": ["External (NEW0, 0x08, 0x00)"],
-    "an empty name": ["Alias (, NEW0)"],
-    "the access type 6": ["Field (REG0, 0x06) {\n    }"],
-    "the update rule 3": ["Field (REG0, 0x61) {\n    }"],
-    "bit 7 of a field list's flags": ["Field (REG0, 0x81) {\n    }"],
-}
-# The same of elements of a field list.
-UNSPELLED_UNITS = {
-    "the access type 6": ["Access (0x06, 0x00)"],
-    "the unit UNI0 without a bit": ["UNI0, 0"],
-    "the name EDGE, which is a word of ASL": ["EDGE, 8"],
-    "an Access of the attribute 11": ["Access (0x01, 0x0B)"],
-    "an ExtendedAccess of the attribute 0": ["ExtendedAccess (0x01, 0x00, 0x04)"],
-    "a Connection of bytes that no macro here has": ["Connection (Buffer (0x02) {79, 00})"],
-}
 CALLED = "External (NEW0, 0x08, 0x01)\n    NEW0 (One)"
 BY_PATH = "an External of a method that is called, by a name that isn't from the root"
 SCOPED = "FOO_ (One)\n  }\n  Scope (FOO_) {", "FOO_ as a call, where nothing says that it is a method"
@@ -225,9 +178,10 @@ def text_with(body, revision=2):
 
 def check_told(checks):
     text = checks.room / "told.text"
-    rows = [(body, what, 9, 2) for what, bodies in UNSPELLED.items() for body in bodies]
-    for what, units in UNSPELLED_UNITS.items():
-        rows += [(f"Field (REG0, 0x01) {{\n      {unit}\n    }}", what, 10, 2) for unit in units]
+    _, bodies, _, units = (TOP / "tests/unspelled.txt").read_text().split("\n\n")
+    rows = [(*line.replace("\\n", "\n    ").split("  # "), 9, 2) for line in bodies.splitlines()]
+    for unit, what in (line.split("  # ") for line in units.splitlines()):
+        rows.append((f"Field (REG0, 0x01) {{\n      {unit}\n    }}", what, 10, 2))
     rows += [(*SCOPED, 9, 2), (CALLED, BY_PATH, 9, 2)]
     wide = f"{WIDE} in a table of revision 1, whose integers have 4 bytes"
     for body, what, number, revision in [*rows, (f"Store ({WIDE}, Local0)", wide, 9, 1)]:
