@@ -1,5 +1,5 @@
 #!/usr/bin/env python3
-"""Tally what examples/page says of numbers and bytes: resources, identifiers, flags, places of field units.
+"""Checks what examples/page says of numbers and bytes: resources, identifiers, flags, places of field units.
 
     python3 tests/decoding.py [FOLDER ..]
 
