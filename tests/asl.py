@@ -26,6 +26,9 @@ import tempfile
 
 from tally import DEMO, PROGRAM, TOP, Stopped, Tally, parser  # before the others, whose places it tells
 import board
+from acpidis_tools.asl.blocks import Block, Reader
+from acpidis_tools.asl.names import said_by
+from acpidis_tools.listing import NoListing
 from dumps import Dump
 from folders import read_folder
 from hostile import mutated
@@ -234,23 +237,16 @@ def check_speed(checks):
     checks.is_so(f"seconds of 1 MB and 4 MB: {times}", times[0] < 3 and times[1] < 8 * times[0])
 
 
-# Reads each text of a folder, and says what isn't taken for no listing.
-READER = """
-import pathlib, sys
-sys.path[:0] = sys.argv[2:]
-from acpidis_tools.asl.blocks import Block, Reader
-from acpidis_tools.asl.names import said_by
-from acpidis_tools.listing import NoListing
-for path in pathlib.Path(sys.argv[1]).iterdir():
+def fault_of(path):
+    """What becomes of a text: nothing where it is read, that it is no listing, or another fault."""
     reader = Reader(lambda table, space: Block(table, space, True))
     try:
         reader.read(path)
         [block.text(reader.rows, said_by(reader.blocks)) for block in reader.blocks]
     except NoListing:
-        print("refused")
-    except Exception as fault:
-        print(path, repr(fault))
-"""
+        return NoListing
+    except Exception as fault:  # whatever it is, it fails the check
+        return f"{path}: {fault!r}"
 
 
 def check_mutations(checks):
@@ -258,14 +254,13 @@ def check_mutations(checks):
     outcomes = [
         run([Dump(file, None, data) for file, data in files.items()], Options(any_run=True)) for files in SAMPLES.values()
     ]
-    dice, place = random.Random(0), checks.folder("mutations", {})
+    dice, faults = random.Random(0), []
     for number in range(500):
-        lines = outcomes[number % len(outcomes)].out.splitlines()
-        (place / str(number)).write_text(mutated(lines, dice), "ascii")
-    ran = checks.run("-c", READER, place, TOP / "examples")
-    said = ran.stdout.splitlines()
-    checks.is_same("mutations", [line for line in said if line != "refused"] + ran.stderr.splitlines(), [])
-    checks.is_so(f"some are no listings: {len(said)}", 20 < len(said) < 480)
+        (checks.room / "mutated").write_text(mutated(outcomes[number % len(outcomes)].out.splitlines(), dice), "ascii")
+        faults.append(fault_of(checks.room / "mutated"))
+    checks.is_same("mutations", [fault for fault in faults if fault not in (None, NoListing)], [])
+    refused = faults.count(NoListing)
+    checks.is_so(f"{refused} are no listings", 20 < refused < 480)
 
 
 # ---- one method, changed

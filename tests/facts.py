@@ -9,6 +9,7 @@ are those that the independent reading says. Then come the tables, resources and
 here, many machines with shared code, and what the command line refuses. The last line is 'N passed, N failed'.
 """
 
+import ast
 import contextlib
 import hashlib
 import importlib.util
@@ -172,23 +173,10 @@ def check_many(checks: Checks, room: pathlib.Path) -> None:
     found = run("--jobs", 2, "--dumps", room / "sets", texts, room / "facts")
     checks.is_same("the status of many machines", (found.returncode, found.stdout), (3, ""))
     checks.is_same("what is said of them", found.stderr.partition(";")[0], "facts: 2 of 5 machines without facts")
-    wanted = [
-        ("cut", None, "it is cut behind line 20"), ("none", None, 'refused: table "notes": Short'), ("rack/a", 1, None),
-        ("rack/b", 1, None), ("second", 2, None),
-    ]
-    machines = rows_of(room / "facts", "SELECT name, code, fault FROM machine ORDER BY name")
-    checks.is_same("the machines", machines, wanted)
-    shifts = rows_of(room / "facts", "SELECT name, shift FROM machine WHERE code = 1 ORDER BY name")
-    checks.is_same("lines of another machine", shifts, [("rack/a", 0), ("rack/b", 1)])
-    sql = "SELECT signature, length, oem_table, is_sum_right, load_order FROM acpi_table WHERE machine = 3"
-    tables = rows_of(room / "facts", sql)
-    wanted = [("DMAR", 38, "BOARD   ", 1, None), ("DSDT", 460, "BOARD   ", 1, 1), ("SSDT", 74, "DbgPort ", 1, 2)]
-    checks.is_same("the tables of one", sorted(tables), wanted)
     sql = "SELECT dump_sum FROM acpi_table WHERE signature = 'DMAR' AND dump_sum IS NOT NULL"
     sums = {row[0] for row in rows_of(room / "facts", sql)}
     wanted = {hashlib.sha256(files["dmar.dat"]).hexdigest() for files in (*list(sets.values())[:2], VERSIONS["second"])}
     checks.is_same("the sums of dumps", sums, wanted)
-    checks.is_same("keys that lead nowhere", rows_of(room / "facts", "PRAGMA foreign_key_check"), [])
     counts = {name: len(rows_of(room / "facts", f"SELECT id FROM {name}")) for name in COLUMNS}
     lines = [json.loads(line) for line in run("--json", "--dumps", room / "sets", texts).stdout.splitlines()]
     checks.is_same("lines of JSON", {name: sum(line["fact"] == name for line in lines) for name in COLUMNS}, counts)
@@ -196,8 +184,6 @@ def check_many(checks: Checks, room: pathlib.Path) -> None:
     for name in ("one", "two"):
         (room / "flat" / name).write_text((texts / "rack/a/text").read_text())
     run(room / "flat", room / "flat.facts")
-    machines = rows_of(room / "flat.facts", "SELECT name, code FROM machine")
-    checks.is_same("machines with a file each", machines, [("one", 1), ("two", 1)])
     names = {(line["id"], line["path"]) for line in lines if line["fact"] == "name"}
     checks.is_same("their names", names, set(rows_of(room / "facts", "SELECT id, path FROM name")))
 
@@ -271,35 +257,6 @@ def check_fleet(checks: Checks, room: pathlib.Path) -> None:
     checks.is_same("no part is left", (room / "fleet.facts.part").exists(), False)
 
 
-def check_board(checks: Checks, room: pathlib.Path) -> None:
-    """The facts of a board that are written down here, by its listing in docs/facts.md."""
-    file = room / "facts"
-    code = "code = (SELECT code FROM machine WHERE name = 'rack/a')"
-    sql = "SELECT path, object, text, patched_by FROM resource JOIN name ON name.id = device WHERE resource."
-    resources = rows_of(file, sql + code)
-    wanted = [
-        ("\\_SB_.PCI0.HPET", "\\_SB_.PCI0.HPET.BUF0", "Memory32Fixed 0xFED00000 +0x400", "BASE"),
-        ("\\_SB_.PCI0.EC0_", "\\_SB_.PCI0.EC0_._CRS", "IO 0x0062 +0x1", None),
-        ("\\_SB_.PCI0.EC0_", "\\_SB_.PCI0.EC0_._CRS", "IO 0x0066 +0x1", None),
-    ]
-    checks.is_same("resources", resources, wanted)
-    identifiers = rows_of(file, f"SELECT object, text, number FROM identifier WHERE {code}")
-    wanted = [
-        ("_HID", "PNP0A08", 0x080AD041), ("_CID", "PNP0A03", 0x030AD041), ("_HID", "PNP0103", 0x0301D041),
-        ("_HID", "PNP0C09", 0x090CD041),
-    ]
-    checks.is_same("identifiers", identifiers, wanted)
-    fields = rows_of(file, f"SELECT path, bit, width, access, locks, updates FROM field WHERE {code} AND region = 2")
-    flags = "DWordAcc", "Lock", "Preserve"
-    wanted = [("\\_SB_.PCI0.HPAS", 0x3404 * 8, 2, *flags), ("\\_SB_.PCI0.HPAE", 0x3404 * 8 + 7, 1, *flags)]
-    checks.is_same("fields", fields, wanted)
-    regions = rows_of(file, f"SELECT path, space_name, first, length, first_text FROM region WHERE {code} AND first IS NULL")
-    checks.is_same("a region by value", regions, [])
-    sql = f"SELECT machine.name, first FROM region JOIN machine USING (code) WHERE path = '\\_SB_.PCI0.GNVS' ORDER BY 1"
-    # The second version has a raw body, which may write the name.
-    checks.is_same("a region by a Name", rows_of(file, sql)[-2:], [("rack/b", 0xBF5D0000), ("second", None)])
-
-
 # I2cSerialBusV2, GpioInt by level and low, IRQ 5 by edge, an end tag.
 WIRED = bytes.fromhex(
     "8E 19 00 02 00 01 02 00 00 01 06 00 80 1A 06 00 2C 00 5C 5F 53 42 2E 49 32 43 30 00"
@@ -308,44 +265,28 @@ WIRED = bytes.fromhex(
 )
 
 
-def check_records(checks: Checks, room: pathlib.Path) -> None:
-    """Fields of tables, and statements."""
+def make_more(room: pathlib.Path) -> None:
+    """Facts of the fields of tables, statements, resources and regions, for questions."""
     run(TOP / "tests/records.text", room / "records.facts")
-    sql = "SELECT signature, place, kind, label, value, number FROM record JOIN acpi_table ON acpi_table.id = acpi_table ORDER BY record.id"
-    wanted = [
-        ("APIC", 1, "", "Controller", "FEE00000", 0xFEE00000), ("APIC", 1, "", "Flags", "00000001", 1),
-        ("APIC", 2, "LocalApic", "Uid", "10", 10), ("APIC", 2, "LocalApic", "Apic", "2", 2),
-        ("APIC", 2, "LocalApic", "Flags", "00000010", 0x10), ("APIC", 3, "", "AddressOverride", "00000000FEE00000", 0xFEE00000),
-        ("APIC", 4, "Record", "Type", "128", 128), ("APIC", 4, "Record", "Length", "4", 4), ("APIC", 4, "Record", "Bytes", "AA BB", None),
-        ("FACP", 1, "", "SmiCmd", "000000B2", 0xB2), ("FACP", 2, "", "AcpiEnable", "10", 0x10),
-        ("XSDT", 1, "", "Entry", "0000000000006000", 0x6000),
-    ]
-    checks.is_same("records", rows_of(room / "records.facts", sql), wanted)
-    sql = "SELECT statement.kind, path, number, text FROM statement LEFT JOIN name ON name.id = statement.name WHERE method = 1 ORDER BY statement.id"
-    wanted = [
-        ("Notify", "\\DEV0", 0x81, "Notify (DEV0, 0x81)"), ("Notify", "\\DEV0", None, "Notify (DEV0, Local0)"),
-        ("LoadTable", None, None, 'Store (LoadTable ("OEM1", "A", "B", "", "", Zero), Local0)'),
-        ("Load", "\\NAME", None, "Load (NAME, Local1)"), ("Fatal", None, 2, "Fatal (0x01, 0x00000002, Local0)"),
-        ("Sleep", None, 10, "Sleep (0x0A)"), ("Stall", None, None, "Stall (NAME)"),
-    ]
-    checks.is_same("statements", rows_of(room / "records.facts", sql), wanted)
     code = device(b"DEV0", b"\x08_CRS" + buffer(WIRED))
     outcome = run_folder(written(room / "wired", {"dsdt.dat": table(b"DSDT", code)}), Options())
     (room / "wired.text").write_text(outcome.out)
     run(room / "wired.text", room / "wired.facts")
-    wanted = [
-        ("I2cSerialBus", None, "\\_SB_.I2C0", 400_000, None, None), ("GpioInt", "7", "\\GPI0", None, "level", "low"),
-        ("IRQ", "5", None, None, "edge", "high"),
-    ]
     inner = device(b"DEV1", b"\x5B\x80REG1\x02\0\x01")
     code = device(b"DEV0", b"\x08_ADR\x0C\x03\x00\x1F\x00\x5B\x80REG0\x02\x0A\x40\x01", inner)
     outcome = run_folder(written(room / "pci", {"dsdt.dat": table(b"DSDT", code)}), Options())
     (room / "pci.text").write_text(outcome.out)
     run(room / "pci.text", room / "pci.facts")
-    found = rows_of(room / "pci.facts", "SELECT path, pci_device, pci_function FROM region ORDER BY id")
-    checks.is_same("PCI addresses", found, [("\\DEV0.REG0", 31, 3), ("\\DEV0.DEV1.REG1", None, None)])
-    sql = "SELECT kind, lines, controller, speed, trigger, polarity FROM resource ORDER BY id"
-    checks.is_same("controllers and wires", rows_of(room / "wired.facts", sql), wanted)
+
+
+def check_questions(checks: Checks, room: pathlib.Path) -> None:
+    """The questions of tests/facts.txt, each with a row of its answer a line."""
+    for part in (TOP / "tests/facts.txt").read_text().split("\n== ")[1:]:
+        head, *lines = part.strip("\n").split("\n")
+        name, _, file = head.rpartition(": ")
+        wanted = [ast.literal_eval(line) for line in lines if line.startswith("(")]
+        found = rows_of(room / file, " ".join(line for line in lines if not line.startswith("(")))
+        checks.is_same(name, found, wanted)
 
 
 def columns_text() -> list:
@@ -395,8 +336,8 @@ def main() -> None:
         check_many(checks, room / "many")
         check_fleet(checks, room / "many")
         check_progress(checks)
-        check_records(checks, room / "many")
-        check_board(checks, room / "many")
+        make_more(room / "many")
+        check_questions(checks, room / "many")
         check_words(checks, room / "many")
     checks.end()
 
