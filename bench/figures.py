@@ -26,9 +26,9 @@ import sys
 import tempfile
 from dataclasses import dataclass
 
-import bodies
 import measuring
 import plot
+import sets
 
 README = measuring.TOP / "README.md"
 PICTURE = measuring.TOP / "docs/figures.svg"
@@ -43,87 +43,38 @@ STOLEN_SHARE = 0.03
 DEVICES_OF_A_BUS = 16
 OUTERMOST = b"X000"
 
-DEVICE = """
-Device (D%(number)03X) {
-  Name (_HID, "BNCH%(number)04X")
-  Name (_UID, 0x%(number)02X)
-  Name (_CRS, ResourceTemplate () {
-    Memory32Fixed (ReadWrite, 0xFED%(number)02X000, 0x00001000)
-    IO (Decode16, 0x03F8, 0x03F8, 0x01, 0x08)
-    Interrupt (ResourceConsumer, Level, ActiveLow, Shared) { %(number)d }
-  })
-  OperationRegion (REGS, SystemMemory, 0xFED%(number)02X000, 0x0100)
-  Field (REGS, DWordAcc, NoLock, Preserve) { CTRL, 8, STAT, 8, Offset (0x10), DATA, 32, LIMT, 16, MODE, 3 }
-  Name (SAVE, Package () { 0x00, "saved", Buffer (0x04) { 0x01, 0x02, 0x03, 0x04 }, 0x12345678 })
-  Method (_STA) { If ((STAT & 0x01)) { Return (0x0F) } Return (Zero) }
-  Method (_PS0) { CTRL = 0x01  PAUS (0x10, 0x00) }
-  Method (_PS3) { SAVE [0x00] = DATA  CTRL = 0x00 }
-  Method (PAUS, 2) {
-    Local0 = Zero
-    While ((Local0 < Arg0)) {
-      If (((STAT & 0x80) == Arg1)) { Break }
-      Stall (0x0A)
-      Local0++
-    }
-    Return ((Local0 == Arg0))
-  }
-  Method (XFER, 3, Serialized) {
-    Name (BUFF, Buffer (0x20) {})
-    CreateDWordField (BUFF, 0x04, VALU)
-    If (PAUS (LIMT, 0x80)) { Return (Ones) }
-    ElseIf ((Arg2 > 0x1F)) { DATA = ((Arg0 << 0x08) | (Arg1 & 0xFF)) }
-    Else { DATA = DerefOf (SAVE [Arg2])  MODE = ToInteger (Arg1) }
-    VALU = (DATA + 0x1234)
-    Notify (D%(number)03X, 0x80)
-    Return (BUFF)
-  }
-  Method (_DSM, 4, Serialized) {
-    If ((Arg0 == ToUUID ("e5c937d0-3553-4d7a-9117-ea4d19c3434d"))) {
-      If ((Arg2 == Zero)) { Return (Buffer (One) { 0x03 }) }
-      Return (XFER (Arg1, Arg2, SizeOf (Arg3)))
-    }
-    Return (Buffer (One) { 0x00 })
-  }
-}
-"""
+# A device of the compiled sets, as firmware has them, by its number
+DEVICE = (measuring.TOP / "bench/device.asl").read_text()
 
 
 # ---- sets
 
 
-def source(devices: int) -> str:
-    """A DSDT in ASL with so many devices, sixteen to a bus."""
+def compiled(devices: int) -> bytes:
+    """A DSDT with so many devices, sixteen to a bus, by iasl."""
     text = 'DefinitionBlock ("", "DSDT", 2, "BENCH", "FIGURES", 1) {\nDevice (\\_SB.' + OUTERMOST.decode() + ") {\n"
     for first in range(0, devices, DEVICES_OF_A_BUS):
         inner = [DEVICE % {"number": number} for number in range(min(DEVICES_OF_A_BUS, devices - first))]
         text += f"Device (B{first // DEVICES_OF_A_BUS:03X}) {{ Name (_ADR, 0x{first:08X}) {''.join(inner)} }}\n"
-    return text + "} }\n"
-
-
-def compiled(devices: int) -> bytes:
-    with tempfile.TemporaryDirectory() as folder:
-        asl = pathlib.Path(folder) / "figures.asl"
-        asl.write_text(source(devices))
-        subprocess.run(["iasl", "-p", "figures", asl.name], cwd=folder, check=True, capture_output=True)
-        return (pathlib.Path(folder) / "figures.aml").read_bytes()
+    return sets.compiled(text + "} }\n")
 
 
 def repeated(table: bytes, times: int) -> bytes:
     """A table with the terms of this one so many times, each with another outermost device."""
-    code = table[bodies.HEADER_BYTES:]
+    code = table[sets.HEADER_BYTES:]
     assert code.count(OUTERMOST) == 1
-    return bodies.table(b"".join(code.replace(OUTERMOST, b"X%03d" % number) for number in range(times)))
+    return sets.table(b"".join(code.replace(OUTERMOST, b"X%03d" % number) for number in range(times)))
 
 
 # The name of each set, and what makes its files. A device has some 420 bytes.
 SETS = (
-    ("10 KB", bodies.one(lambda: compiled(24))),
-    ("40 KB", bodies.one(lambda: compiled(95))),
-    ("1 MB", bodies.one(lambda: compiled(2_360))),
-    ("16 MB", bodies.one(lambda: repeated(compiled(2_360), 16))),
-    ("20,000 methods", bodies.one(lambda: bodies.many_methods(20_000))),
-    ("101 tables", lambda: bodies.calls(101, 20)),
-    ("one long body", bodies.one(lambda: bodies.long_body(bodies.MIXED, bodies.SIZES["1"]))),
+    ("10 KB", sets.one(lambda: compiled(24))),
+    ("40 KB", sets.one(lambda: compiled(95))),
+    ("1 MB", sets.one(lambda: compiled(2_360))),
+    ("16 MB", sets.one(lambda: repeated(compiled(2_360), 16))),
+    ("20,000 methods", sets.one(lambda: sets.many_methods(20_000))),
+    ("101 tables", sets.SETS["calls-101"]),
+    ("one long body", sets.one(lambda: sets.long_body(sets.MIXED, sets.SIZES["1"]))),
 )
 
 

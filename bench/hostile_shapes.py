@@ -1,19 +1,16 @@
 """The sets of bench/hostile.py: a DSDT of at most 16,777,216 bytes each, or many files."""
-from functools import partial
 from typing import Callable, NamedTuple
 
-from bodies import DENSE, HEADER_BYTES, MOST_BYTES, method, table
 from measuring import Sparse
-from names import local_names, mixed, package, scopes, segment
+from sets import DENSE, HEADER_BYTES, MOST_BYTES, NAMED, SEGMENTS, device, each, method, mixed, package, segment, table
 
-SEGMENTS = 255
 # A file of a set that is no dump, since it lies in a folder of its own.
 OPTION, GIVEN = "--externals", "given/externals.txt"
 ANY_RUN = "--any-run"
 # Names that `segment` gives no number to, below a million.
 RUN, NOTHING = b"_RUN", b"ZZZZ"
 LEAF, NEAR, FRIEND, OTHER = b"LEAF", b"NEAR", b"FRND", b"OTHR"
-DEEPEST = 510 * SEGMENTS
+MOST_AML, DEEPEST = MOST_BYTES - HEADER_BYTES, 510 * SEGMENTS
 # So deep that Devices of long names still stand below.
 DEEP = 503 * SEGMENTS
 
@@ -40,11 +37,7 @@ class Shape(NamedTuple):
         return [option for option, is_asked in ((OPTION, self.given), (ANY_RUN, self.any_run)) if is_asked]
 
 
-def head(signature, length):
-    """A header whose table, with zeros behind it, has the sum zero."""
-    data = bytearray(signature + length.to_bytes(4, "little") + b"\x02\0BENCH HOSTILE \x01\0\0\0BNCH\x01\0\0\0")
-    data[9] = -sum(data) % 256
-    return bytes(data)
+# ---- pieces
 
 
 def one(make):
@@ -61,9 +54,11 @@ def within(segments, code):
     return code
 
 
-def each(count, make=lambda name: name):
-    """What is made of each of so many names, in order."""
-    return b"".join(make(segment(number)) for number in range(count))
+def around(levels, wrap, code):
+    """Code in so many terms, one in the other."""
+    for _ in range(levels):
+        code = wrap(code)
+    return code
 
 
 def name(segment, value=b"\0"):
@@ -79,12 +74,16 @@ def region(segment, numbers):
     return b"\x5b\x80" + segment + b"\0" + numbers
 
 
-def device(code, segment=b"DEV0"):
-    return package(b"\x5b\x82", segment + code)
+def block(code):
+    return package(b"\xa0", b"\x01" + code)
 
 
-# A Name that is used.
-LEAF_NAME = name(LEAF)
+def scope(path, code):
+    return package(b"\x10", path + code)
+
+
+# A Name that is used, and a call with seven arguments.
+LEAF_NAME, SEVEN = name(LEAF), b"AAAA" + b"\x60" * 7
 
 
 def main_method(body):
@@ -93,72 +92,19 @@ def main_method(body):
 
 def named(count):
     """Names of integers, in no order."""
-    return b"".join(name(segment(number)) for number in mixed(count))
+    return each(mixed(count), name)
 
 
 def uses(count):
-    return b"".join(segment(number) for number in mixed(count))
+    return each(mixed(count))
 
 
-# ---- code outside methods
+# ---- AML by how much of it there is, and by how deep it stands
 
 
-def block(code):
-    return package(b"\xa0", b"\x01" + code)
-
-
-def other_branch(code):
-    return package(b"\xa1", code)
-
-
-def blocks(count, levels):
-    """So many names in Ifs that stand one in the other."""
-    code = named(count)
-    for _ in range(levels):
-        code = block(code)
-    return code
-
-
-def branches(count):
-    """Methods that are declared in both branches, and a call of each."""
-    methods = b"".join(method(segment(number), 1, b"") for number in mixed(count))
-    calls = b"".join(segment(number) + b"\x01" for number in mixed(count))
-    return block(methods) + other_branch(methods) + main_method(calls)
-
-
-def devices_in_blocks(count):
-    """Devices with a method and a name, each in an If of its own, and a call of each method."""
-    inside = method(NEAR, 1, b"") + LEAF_NAME
-    devices = (block(device(inside, segment(number))) for number in mixed(count))
-    calls = b"".join(b"\\\x2e" + segment(number) + NEAR + b"\x01" for number in mixed(count))
-    return b"".join(devices) + main_method(calls)
-
-
-def maybes(count, depth):
-    """Uses of a name at the root in a method of a scope of so many segments, in each of which the name may stand too."""
-    code = main_method(LEAF * count)
-    for _ in range(depth):
-        code = device(block(LEAF_NAME) + code, NEAR)
-    return LEAF_NAME + code
-
-
-def again(count):
-    """Two tables that declare one name again and again."""
-    code = LEAF_NAME * (count // 2)
-    return {"dsdt.dat": table(code), "ssdt1.dat": table(code, b"SSDT")}
-
-
-# ---- names and scopes
-
-
-def upward(count, depth):
+def upward(count, depth, own=b""):
     """So many names at the root, and as many uses of them in a method of a scope of so many segments."""
-    return named(count) + within(depth, main_method(uses(count)))
-
-
-def upward_with_local(count, depth):
-    """The same, in a method that has a local name."""
-    return named(count) + within(depth, main_method(name(b"LOCL") + uses(count)))
+    return named(count) + within(depth, main_method(own + uses(count)))
 
 
 def upward_with_locals(count, depth, friends=b""):
@@ -169,96 +115,43 @@ def upward_with_locals(count, depth, friends=b""):
     return LEAF_NAME + within(depth, main_method(locals_ + LEAF * count))
 
 
-def others(count):
-    """Externals in so many parents, one in each."""
-    return b"".join(b"\x15" + b"^" * up + OTHER + b"\0\0" for up in range(1, count + 1))
-
-
 def upward_crowded(count, depth):
     """Names at the root, used in a method of a scope of so many segments, each of whose parents has another child."""
     code = main_method(uses(count))
     while depth:
         segments = depth % SEGMENTS or SEGMENTS
         depth -= segments
-        code = within(segments, others(segments) + code)
+        others = b"".join(b"\x15" + b"^" * up + OTHER + b"\0\0" for up in range(1, segments + 1))
+        code = within(segments, others + code)
     return named(count) + code
 
 
 def upward_turning(count, depth):
     """Uses of a name at the root in a method of so many Devices, before each of which another one has that name too."""
-    code = main_method(LEAF * count)
-    for _ in range(depth):
-        code = device(device(LEAF_NAME, OTHER) + code, NEAR)
-    return LEAF_NAME + code
+    before = device(LEAF_NAME, OTHER)
+    return LEAF_NAME + around(depth, lambda code: device(before + code, NEAR), main_method(LEAF * count))
 
 
-def upward_outside(count, depth):
+def regions_of_nothing(count, depth):
     """Regions in a deep scope, with an offset and a length that nothing declares."""
     return within(depth, each(count, lambda it: region(it, NOTHING + NOTHING)))
 
 
-def names_outside(count, depth):
-    """A name at the root, as so many terms of a deep scope."""
-    return LEAF_NAME + within(depth, LEAF * count)
-
-
-def regions_outside(count, depth):
-    """Regions in a deep scope, whose offset and length are a name at the root."""
-    return LEAF_NAME + within(depth, each(count, lambda it: region(it, LEAF + LEAF)))
-
-
-def connections_outside(count, depth):
-    """A Field in a deep scope, whose connections are Buffers of a size that is a name which nothing declares."""
-    return within(depth, package(b"\x5b\x81", NEAR + b"\x01" + (b"\x02\x11\x05" + LEAF) * count))
-
-
-def deep_names(count, depth):
-    return within(depth, named(count))
-
-
-def deep_locals(count, depth):
-    return within(depth, local_names(count))
-
-
 def deep_methods(count, depth):
+    """Methods there, each of which calls another."""
     calls = (method(segment(number), 0, segment(count - number - 1)) for number in range(count))
     return within(depth, b"".join(calls))
 
 
-def deep_methods_left(count, depth):
-    """The same, and a Device at the root behind the scope, which is then no more the last that was opened."""
-    return deep_methods(count, depth) + device(named(1))
-
-
-def deep_devices(count, depth):
-    """Devices there, each with a method."""
-    return within(depth, each(count, lambda it: device(method(RUN, 0, b""), it)))
-
-
 def deep_owners(count, depth, own):
     """A method there, and Devices with a method each, in a Device of so many segments."""
-    return within(depth, main_method(b"") + deep_devices(count, own))
-
-
-def deep_pairs(count, depth):
-    """Devices there, each with a Device with a method."""
-    return within(depth, each(count, lambda it: device(device(method(RUN, 0, b"")), it)))
-
-
-def deep_returns(count, depth):
-    """Names there, each behind a Scope of a Device at the root with such a name."""
-    return device(b"") + within(depth, each(count, lambda it: package(b"\x10", b"\x5cDEV0" + name(it)) + name(it)))
+    return within(depth, main_method(b"") + within(own, each(count, lambda it: device(main_method(b""), it))))
 
 
 def deep_aliases_upward(count, depth, share=None):
     """Aliases there of a name at the root, or of one that stands a half or a third of the way down."""
     above = depth // share if share else 0
     return within(above, LEAF_NAME + within(depth - above, each(count, alias)))
-
-
-def deep_scopes_upward(count, depth):
-    """Scopes there of a Device at the root, each with a name."""
-    return device(b"") + within(depth, each(count, lambda it: package(b"\x10", b"DEV0" + name(it))))
 
 
 def deep_unsettled(count, depth):
@@ -268,34 +161,14 @@ def deep_unsettled(count, depth):
     return LEAF_NAME + externals + within(depth, names)
 
 
-def deep_devices_aliases(count, depth):
-    """Devices there, each with an Alias of a name at the root."""
-    return LEAF_NAME + within(depth, each(count, lambda it: device(alias(it), it)))
-
-
-def deep_aliases(count, depth):
-    """A chain of Aliases there."""
-    return within(depth, name(segment(0)) + alias_chain(count))
-
-
 def alias_chain(count):
     """Aliases of which each means the one before it, and the first the first name."""
     return b"".join(alias(segment(number + 1), segment(number)) for number in range(count))
 
 
-def deep_alias(count, depth):
-    """Uses of an Alias of a method in a deep scope."""
-    return within(depth, method(segment(0), 0, b"") + alias(b"\x5cALIA", segment(0))) + main_method(b"ALIA" * count)
-
-
 def deep_body(depth, body, beside=b""):
     """A method of this body in a scope of so many segments, and what stands beside it."""
-    return within(depth, LEAF_NAME + beside + method(RUN, 0, body))
-
-
-def deep_uses(count, depth):
-    """Uses of a name beside the method, by a prefix."""
-    return deep_body(depth, b"^LEAF" * count)
+    return within(depth, LEAF_NAME + beside + main_method(body))
 
 
 def deep_local_uses(count, depth):
@@ -309,78 +182,9 @@ def field(count):
     return package(b"\x5b\x81", LEAF + b"\0" + each(count, lambda it: it + b"\x08"))
 
 
-def deep_units(count, depth):
-    """Units of a Field in the method."""
-    return deep_body(depth, field(count))
-
-
-def deep_units_outside(count, depth):
-    """Units of a Field beside the method."""
-    return deep_body(depth, b"", field(count))
-
-
-def deep_buffers(count, depth):
-    """Buffers whose sizes are a name, in a package outside the methods."""
-    return deep_body(depth, b"", device(name(b"PKG_", package(b"\x12", b"\0" + b"\x11\x06^LEAF" * count))))
-
-
-def deep_scopes(count, depth):
-    """Scopes of the parent that declare nothing."""
-    return deep_body(depth, b"", device(b"\x10\x03^\0" * count))
-
-
-def aliases(count):
-    """A chain of Aliases of a method, and calls by the first thousand of them."""
-    calls = b"".join(segment(number) + b"\x60" for number in mixed(1000))
-    return method(segment(0), 1, b"") + alias_chain(count) + main_method(calls)
-
-
-def one_external(count):
-    externals = b"".join(b"\x15AAAA\x08" + bytes([number % 8]) for number in range(count))
-    return externals + main_method(b"AAAA" + b"\x60" * 7)
-
-
-def one_each(count):
-    """As many Externals, each of a path of its own, as uses of them."""
-    return each(count, lambda it: b"\x15" + it + b"\x08\0") + main_method(uses(count))
-
-
-def long_names(size):
-    path = b"\x5c\x2f\xff" + each(SEGMENTS)
-    return name(path) + main_method(path * ((size - 2 * len(path) - 64) // len(path)))
-
-
-def carets(count):
-    return main_method(b"\x71" + b"^" * (count - 64) + b"AAAA")
-
-
-def undeclared(count):
-    return name(b"PKG_", package(b"\x12", b"\0" + uses(count)))
-
-
-def undeclared_in_body(count):
-    return main_method(package(b"\x12", b"\0" + uses(count)))
-
-
-def given(count):
-    """As many uses of names as lines that give them counts."""
-    lines = (b"\\%s 0\n" % segment(number) for number in mixed(count))
-    return {"dsdt.dat": table(main_method(uses(count))), GIVEN: b"".join(lines)}
-
-
-def given_again(count):
-    lines = (b"\\AAAA %d\n" % (number % 8) for number in range(count))
-    return {"dsdt.dat": table(main_method(b"AAAA" + b"\x60" * 7)), GIVEN: b"".join(lines)}
-
-
-# ---- nesting
-
-
 def nested(levels, segments):
-    code = main_method(b"GLOB")
-    for _ in range(levels):
-        code = device(code, b"\x2f" + bytes([segments]) + each(segments))
-    return method(b"GLOB", 0, b"") + code
+    path = b"\x2f" + bytes([segments]) + each(segments)
+    return method(b"GLOB", 0, b"") + around(levels, lambda code: device(code, path), main_method(b"GLOB"))
 
 
 def nots(count, levels):
@@ -390,18 +194,50 @@ def nots(count, levels):
 
 def packages(count, levels):
     """Methods of Packages of Packages."""
-    inner = b"\0"
-    for _ in range(levels):
-        inner = package(b"\x12", b"\x01" + inner)
+    inner = around(levels, lambda code: package(b"\x12", b"\x01" + code), b"\0")
     return each(count, lambda it: method(it, 0, inner))
 
 
 def indented(count, levels):
     """A method of as many Noops in so many Ifs, each of which moves them further right."""
-    body = b"\xa3" * count
-    for _ in range(levels):
-        body = package(b"\xa0", b"\x60" + body)
-    return main_method(body)
+    return main_method(around(levels, lambda code: package(b"\xa0", b"\x60" + code), b"\xa3" * count))
+
+
+# ---- code outside methods
+
+
+def blocks(count, levels):
+    """So many names in Ifs that stand one in the other."""
+    return around(levels, block, named(count))
+
+
+def branches(count):
+    """Methods that are declared in both branches, and a call of each."""
+    methods = each(mixed(count), lambda it: method(it, 1, b""))
+    return block(methods) + package(b"\xa1", methods) + main_method(each(mixed(count), lambda it: it + b"\x01"))
+
+
+def devices_in_blocks(count):
+    """Devices with a method and a name, each in an If of its own, and a call of each method."""
+    inside = method(NEAR, 1, b"") + LEAF_NAME
+    calls = each(mixed(count), lambda it: b"\\\x2e" + it + NEAR + b"\x01")
+    return each(mixed(count), lambda it: block(device(inside, it))) + main_method(calls)
+
+
+def maybes(count, depth):
+    """Uses of a name at the root in a method of a scope of so many segments, in each of which it may stand too."""
+    return LEAF_NAME + around(depth, lambda code: device(block(LEAF_NAME) + code, NEAR), main_method(LEAF * count))
+
+
+def names_outside(count, depth):
+    """A name at the root, as so many terms of a deep scope."""
+    return LEAF_NAME + within(depth, LEAF * count)
+
+
+def again(count):
+    """Two tables that declare one name again and again."""
+    code = LEAF_NAME * (count // 2)
+    return {"dsdt.dat": table(code), "ssdt1.dat": table(code, b"SSDT")}
 
 
 # ---- much of the same
@@ -411,36 +247,38 @@ def tiny_methods(count):
     return each(count, lambda it: method(it, 0, b""))
 
 
-def raw_methods(count):
-    return each(count, lambda it: method(it, 0, NOTHING))
-
-
 def buffer(size):
-    content = b"\x0e" + bytes(8)
-    return name(b"BUF_", package(b"\x11", content + b"\xff" * (size - HEADER_BYTES - 32)))
+    return name(b"BUF_", package(b"\x11", b"\x0e" + bytes(8) + b"\xff" * (size - HEADER_BYTES - 32)))
 
 
-def text(size):
-    return name(b"TXT_", b"\x0d" + b"\xff" * (size - HEADER_BYTES - 8) + b"\0")
+def aliases(count):
+    """A chain of Aliases of a method, and calls by the first thousand of them."""
+    calls = each(mixed(1000), lambda it: it + b"\x60")
+    return method(segment(0), 1, b"") + alias_chain(count) + main_method(calls)
 
 
-def raw_body(size):
-    return main_method(NOTHING + b"\xff" * (size - HEADER_BYTES - 32))
+def long_names(size):
+    path = b"\x5c\x2f\xff" + each(SEGMENTS)
+    return name(path) + main_method(path * ((size - 2 * len(path) - 64) // len(path)))
 
 
-def small_scopes(count):
-    return b"\x10\x03\x5c\0" * count
+def given(count):
+    """As many uses of names as lines that give them counts."""
+    return {"dsdt.dat": table(main_method(uses(count))), GIVEN: each(mixed(count), lambda it: b"\\%s 0\n" % it)}
 
 
-def dense(size):
-    return main_method(DENSE * ((size - 64) // len(DENSE)))
+def given_again(count):
+    lines = (b"\\AAAA %d\n" % (number % 8) for number in range(count))
+    return {"dsdt.dat": table(main_method(SEVEN)), GIVEN: b"".join(lines)}
 
 
 # ---- many files
 
 
 def sparse_files(count, size):
-    files = {f"other{number}.dat": Sparse(head(b"OTHR", size), size) for number in range(count - 1)}
+    data = bytearray(b"OTHR" + size.to_bytes(4, "little") + b"\x02\0BENCH HOSTILE \x01\0\0\0BNCH\x01\0\0\0")
+    data[9] = -sum(data) % 256
+    files = {f"other{number}.dat": Sparse(bytes(data), size) for number in range(count - 1)}
     return {"dsdt.dat": table(main_method(b"")), **files}
 
 
@@ -463,61 +301,99 @@ def madt(size):
 ADDRESS = 0x1000
 
 
-def old_root(rsdt):
-    """A root pointer of revision 0."""
-    data = bytearray(b"RSD PTR \0BENCH \0" + rsdt.to_bytes(4, "little"))
-    data[8] = -sum(data) % 256
-    return bytes(data)
-
-
-def root(xsdt):
-    data = bytearray(b"RSD PTR \0BENCH \x02" + bytes(4) + (36).to_bytes(4, "little"))
-    data += xsdt.to_bytes(8, "little") + bytes(4)
-    data[8] = -sum(data[:20]) % 256
-    data[32] = -sum(data) % 256
-    return bytes(data)
+def led(names, width, entries):
+    """A root pointer, a list of entries of so many bytes each, a FADT, a DSDT and SSDTs of these names, with a map."""
+    places = {it: ADDRESS * (number + 1) for number, it in enumerate(names)}
+    address = {it: place.to_bytes(width, "little") for it, place in places.items()}
+    root = bytearray(b"RSD PTR \0BENCH " + (b"\x02" + bytes(4) if width == 8 else b"\0" + address[names[1]]))
+    root[8] = -sum(root) % 256
+    if width == 8:
+        root += (36).to_bytes(4, "little") + address[names[1]] + bytes(4)
+        root[32] = -sum(root) % 256
+    dsdt, content = address["dsdt.dat"], b"".join(address[it] for it in entries)
+    return {
+        names[0]: bytes(root),
+        names[1]: table(content, names[1][:4].upper().encode()),
+        names[2]: table(bytes(104) + dsdt if width == 8 else bytes(4) + dsdt + bytes(104), b"FACP"),
+        names[3]: table(b""),
+        **{it: table(b"", b"SSDT") for it in names[4:]},
+        "tables.map": "".join(f"{places[it]:016X} {it}\n" for it in names).encode(),
+    }
 
 
 def listed(entries):
     """Five hundred SSDTs with addresses, and an XSDT that lists so many, the last of them again and again."""
     names = ["rsdp.dat", "xsdt.dat", "facp.dat", "dsdt.dat", *(f"ssdt{number}.dat" for number in range(500))]
-    places = {name: ADDRESS * (number + 1) for number, name in enumerate(names)}
-    listed_names = names[2:3] + names[4:] + names[-1:] * (entries - 501)
-    content = b"".join(places[name].to_bytes(8, "little") for name in listed_names)
-    fadt = bytes(104) + places["dsdt.dat"].to_bytes(8, "little")
-    ssdts = {name: table(b"", b"SSDT") for name in names[4:]}
-    return {
-        "rsdp.dat": root(places["xsdt.dat"]),
-        "xsdt.dat": table(content, b"XSDT"),
-        "facp.dat": table(fadt, b"FACP"),
-        "dsdt.dat": table(b""),
-        **ssdts,
-        "tables.map": "".join(f"{places[name]:016X} {name}\n" for name in names).encode(),
-    }
+    return led(names, 8, names[2:3] + names[4:] + names[-1:] * (entries - 501))
 
 
 def named_entries(entries):
     """An RSDT that lists a file again and again, each byte of whose long name is four in the text."""
-    long_name = "\x01" * 255
-    names = ["rsdp.dat", "rsdt.dat", "facp.dat", "dsdt.dat", long_name]
-    places = {name: ADDRESS * (number + 1) for number, name in enumerate(names)}
-    content = b"".join(places[name].to_bytes(4, "little") for name in ["facp.dat"] + [long_name] * (entries - 1))
-    fadt = bytes(4) + places["dsdt.dat"].to_bytes(4, "little") + bytes(104)
-    return {
-        "rsdp.dat": old_root(places["rsdt.dat"]),
-        "rsdt.dat": table(content, b"RSDT"),
-        "facp.dat": table(fadt, b"FACP"),
-        "dsdt.dat": table(b""),
-        long_name: table(b"", b"SSDT"),
-        "tables.map": "".join(f"{places[name]:016X} {name}\n" for name in names).encode(),
-    }
+    names = ["rsdp.dat", "rsdt.dat", "facp.dat", "dsdt.dat", "\x01" * 255]
+    return led(names, 4, names[2:3] + names[4:] * (entries - 1))
+
+
+# ---- all of them
 
 
 def both(name, make, count, unit, depth, is_run=False):
     """A shape by how many there are, so deep, and one by how deep they stand, so many."""
     yield Shape(name, count, unit, one(lambda size: make(size, depth)), any_run=is_run)
-    yield Shape(f"{name}-deep", depth, "levels" if is_run else "segments", one(lambda size: make(count, size)), any_run=is_run)
+    levels = "levels" if is_run else "segments"
+    yield Shape(f"{name}-deep", depth, levels, one(lambda size: make(count, size)), any_run=is_run)
 
+
+# AML of so many, in a scope as deep as the second number says.
+DEEP_TERMS = (
+    ("deep-names", 2_000, "names", 10_000, named),
+    ("deep-locals", 2_000, "names", 10_000, NAMED["locals"]),
+    ("deep-devices", 2_000, "devices", 10_000, lambda count: each(count, lambda it: device(main_method(b""), it))),
+    ("deep-pairs", 1_000, "devices", DEEP, lambda count: each(count, lambda it: device(device(main_method(b"")), it))),
+    ("deep-aliases", 2_000, "names", 10_000, lambda count: name(segment(0)) + alias_chain(count)),
+)
+# What stands in a method of a deep scope, or beside it.
+DEEP_BODIES = (
+    ("deep-uses", 200_000, "names", 10_000, lambda count: (b"^LEAF" * count,)),
+    ("deep-units", 5_000, "units", 5_000, lambda count: (field(count),)),
+    ("deep-units-outside", 2_000, "units", 10_000, lambda count: (b"", field(count))),
+    # Buffers whose sizes are a name, in a package outside the methods
+    (
+        "deep-buffers", 50_000, "terms", 10_000,
+        lambda count: (b"", device(name(b"PKG_", package(b"\x12", b"\0" + b"\x11\x06^LEAF" * count)))),
+    ),
+    # Scopes of the parent that declare nothing
+    ("deep-scopes", 10_000, "terms", 5_000, lambda count: (b"", device(b"\x10\x03^\0" * count))),
+)
+# In the scope, with something at the root: in front of it, or behind.
+BESIDE_ROOT = (
+    # A Device at the root behind methods of the scope, which is then no more the last that was opened
+    ("deep-methods-left", 2_000, "methods", lambda count, depth: deep_methods(count, depth) + device(named(1))),
+    # Names, each behind a Scope of a Device at the root with such a name
+    (
+        "deep-returns", 2_000, "names",
+        lambda count, depth: device(b"") + within(depth, each(count, lambda it: scope(b"\\DEV0", name(it)) + name(it))),
+    ),
+    # Scopes of a Device at the root, each with a name
+    (
+        "deep-scopes-upward", 2_000, "terms",
+        lambda count, depth: device(b"") + within(depth, each(count, lambda it: scope(b"DEV0", name(it)))),
+    ),
+    ("deep-aliases-upward", 2_000, "names", deep_aliases_upward),
+    ("deep-aliases-halfway", 2_000, "names", lambda count, depth: deep_aliases_upward(count, depth, 2)),
+    ("deep-aliases-low", 2_000, "names", lambda count, depth: deep_aliases_upward(count, depth, 3)),
+    ("deep-unsettled", 2_000, "names", deep_unsettled),
+    # Devices, each with an Alias of a name at the root
+    (
+        "deep-devices-aliases", 2_000, "devices",
+        lambda count, depth: LEAF_NAME + within(depth, each(count, lambda it: device(alias(it), it))),
+    ),
+    # Uses of an Alias of a method in the scope
+    (
+        "deep-alias", 100_000, "names",
+        lambda count, depth: within(depth, method(segment(0), 0, b"") + alias(b"\\ALIA", segment(0)))
+        + main_method(b"ALIA" * count),
+    ),
+)
 
 SHAPES = (
     Shape("nested", 510, "levels", one(lambda count: nested(count, SEGMENTS)), True),
@@ -527,66 +403,72 @@ SHAPES = (
     Shape("upward-deepest", 100_000, "names", one(lambda count: upward(count, DEEPEST))),
     *both("upward-crowded", upward_crowded, 100_000, "names", 1000),
     Shape("upward-turning", 100_000, "names", one(lambda count: upward_turning(count, 500))),
-    *both("upward-local", upward_with_local, 2_000, "names", 1000),
+    *both("upward-local", lambda count, depth: upward(count, depth, name(b"LOCL")), 2_000, "names", 1000),
     *both("upward-locals", upward_with_locals, 5_700, "names", 5_700),
-    *both("upward-friends", partial(upward_with_locals, friends=FRIEND), 5_700, "names", 5_700),
-    Shape("upward-outside", 100_000, "names", one(lambda count: upward_outside(count // 2, 1000))),
-    Shape("deep-names", 2_000, "names", one(lambda count: deep_names(count, 10_000))),
-    Shape("deep-scope", 10_000, "segments", one(lambda count: deep_names(2000, count))),
-    *both("deep-locals", deep_locals, 2_000, "names", 10_000),
+    *both("upward-friends", lambda count, depth: upward_with_locals(count, depth, FRIEND), 5_700, "names", 5_700),
+    Shape("upward-outside", 100_000, "names", one(lambda count: regions_of_nothing(count // 2, 1000))),
+    *(
+        shape
+        for title, count, unit, depth, make in DEEP_TERMS
+        for shape in both(title, lambda count, depth, make=make: within(depth, make(count)), count, unit, depth)
+    ),
+    *(
+        shape
+        for title, count, unit, depth, make in DEEP_BODIES
+        for shape in both(title, lambda count, depth, make=make: deep_body(depth, *make(count)), count, unit, depth)
+    ),
+    *(shape for title, count, unit, make in BESIDE_ROOT for shape in both(title, make, count, unit, 10_000)),
     *both("deep-methods", deep_methods, 2_000, "methods", 10_000),
-    *both("deep-methods-left", deep_methods_left, 2_000, "methods", 10_000),
-    *both("deep-devices", deep_devices, 2_000, "devices", 10_000),
     Shape("deep-owners", 10_000, "devices", one(lambda count: deep_owners(count, DEEP, 16))),
     Shape("deep-owners-run", 5_000, "devices", one(lambda count: deep_owners(count, DEEP, SEGMENTS)), any_run=True),
-    Shape("deep-pairs", 1_000, "devices", one(lambda count: deep_pairs(count, DEEP))),
-    *both("deep-returns", deep_returns, 2_000, "names", 10_000),
-    *both("deep-aliases-upward", deep_aliases_upward, 2_000, "names", 10_000),
-    *both("deep-scopes-upward", deep_scopes_upward, 2_000, "terms", 10_000),
-    *both("deep-aliases-halfway", partial(deep_aliases_upward, share=2), 2_000, "names", 10_000),
-    *both("deep-aliases-low", partial(deep_aliases_upward, share=3), 2_000, "names", 10_000),
-    *both("deep-unsettled", deep_unsettled, 2_000, "names", 10_000),
-    *both("deep-devices-aliases", deep_devices_aliases, 2_000, "devices", 10_000),
-    *both("deep-alias", deep_alias, 100_000, "names", 10_000),
-    *both("deep-aliases", deep_aliases, 2_000, "names", 10_000),
-    *both("deep-units-outside", deep_units_outside, 2_000, "units", 10_000),
-    Shape("deep-outside", 2_000, "names", one(lambda count: upward_outside(count // 2, 10_000))),
-    *both("deep-uses", deep_uses, 200_000, "names", 10_000),
+    Shape("deep-outside", 2_000, "names", one(lambda count: regions_of_nothing(count // 2, 10_000))),
     *both("deep-local-uses", deep_local_uses, 20_000, "names", 10_000),
-    *both("deep-units", deep_units, 5_000, "units", 5_000),
-    *both("deep-buffers", deep_buffers, 50_000, "terms", 10_000),
-    *both("deep-scopes", deep_scopes, 10_000, "terms", 5_000),
-    Shape("locals", 1_000_000, "names", one(local_names)),
-    Shape("package", 1_000_000, "names", one(undeclared)),
-    Shape("package-body", 1_000_000, "names", one(undeclared_in_body)),
+    Shape("locals", 1_000_000, "names", one(NAMED["locals"])),
+    Shape("package", 1_000_000, "names", one(lambda count: name(b"PKG_", package(b"\x12", b"\0" + uses(count))))),
+    Shape("package-body", 1_000_000, "names", one(lambda count: main_method(package(b"\x12", b"\0" + uses(count))))),
     Shape("aliases", 1_000_000, "names", one(aliases)),
-    Shape("external", 1_000_000, "terms", one(one_external)),
-    Shape("externals", 1_000_000, "names", one(one_each)),
+    Shape(
+        "external", 1_000_000, "terms",
+        one(lambda count: b"".join(b"\x15AAAA\x08" + bytes([it % 8]) for it in range(count)) + main_method(SEVEN)),
+    ),
+    # As many Externals, each of a path of its own, as uses of them
+    Shape(
+        "externals", 1_000_000, "names",
+        one(lambda count: each(count, lambda it: b"\x15" + it + b"\x08\0") + main_method(uses(count))),
+    ),
     *both("blocks", blocks, 200_000, "names", 500, is_run=True),
     Shape("branches", 200_000, "methods", one(branches), any_run=True),
     Shape("devices-in-blocks", 200_000, "devices", one(devices_in_blocks), any_run=True),
     *both("maybes", maybes, 100_000, "names", 500, is_run=True),
     Shape("names-outside", 8_000, "names", one(lambda count: names_outside(count, DEEPEST)), any_run=True),
-    Shape("regions-outside", 1_000, "regions", one(lambda count: regions_outside(count, DEEPEST)), any_run=True),
+    # Regions in a deep scope, whose offset and length are a name at the root
+    Shape(
+        "regions-outside", 1_000, "regions",
+        one(lambda count: LEAF_NAME + within(DEEPEST, each(count, lambda it: region(it, LEAF + LEAF)))), any_run=True,
+    ),
     Shape("terms-outside", 1_000_000, "names", one(lambda count: names_outside(count, 2 * SEGMENTS)), any_run=True),
-    Shape("connections-outside", 100_000, "names", one(lambda count: connections_outside(count, 9 * SEGMENTS))),
+    # A Field in a deep scope, whose connections are Buffers of a size that is a name which nothing declares
+    Shape(
+        "connections-outside", 100_000, "names",
+        one(lambda count: within(9 * SEGMENTS, package(b"\x5b\x81", NEAR + b"\1" + (b"\2\x11\5" + LEAF) * count))),
+    ),
     Shape("again", 2_000_000, "names", again, any_run=True),
     Shape("given", 1_000_000, "lines", given, given=True),
     Shape("given-again", 2_000_000, "lines", given_again, given=True),
-    Shape("long-names", MOST_BYTES - HEADER_BYTES, "bytes", one(long_names)),
-    Shape("carets", MOST_BYTES - HEADER_BYTES, "bytes", one(carets)),
+    Shape("long-names", MOST_AML, "bytes", one(long_names)),
+    Shape("carets", MOST_AML, "bytes", one(lambda size: main_method(b"\x71" + b"^" * (size - 64) + b"AAAA"))),
     Shape("nots", 32_000, "methods", one(lambda count: nots(count, 500))),
     Shape("nots-deep", 508, "levels", one(lambda count: nots(32_000, count))),
     Shape("packages-deep", 508, "levels", one(lambda count: packages(4_000, count))),
     Shape("indented", 200_000, "terms", one(lambda count: indented(count, 508))),
     Shape("indented-deep", 508, "levels", one(lambda count: indented(200_000, count))),
     Shape("tiny", 1_048_576, "methods", one(tiny_methods)),
-    Shape("raw", 1_048_576, "methods", one(raw_methods)),
-    Shape("raw-body", MOST_BYTES, "bytes", one(raw_body)),
+    Shape("raw", 1_048_576, "methods", one(lambda count: each(count, lambda it: method(it, 0, NOTHING)))),
+    Shape("raw-body", MOST_BYTES, "bytes", one(lambda size: main_method(NOTHING + b"\xff" * (size - 68)))),
     Shape("buffer", MOST_BYTES, "bytes", one(buffer)),
-    Shape("text", MOST_BYTES, "bytes", one(text)),
-    Shape("scopes", 4_000_000, "terms", one(small_scopes)),
-    Shape("dense", MOST_BYTES - HEADER_BYTES, "bytes", one(dense)),
+    Shape("text", MOST_BYTES, "bytes", one(lambda size: name(b"TXT_", b"\x0d" + b"\xff" * (size - 44) + b"\0"))),
+    Shape("scopes", 4_000_000, "terms", one(lambda count: b"\x10\x03\x5c\0" * count)),
+    Shape("dense", MOST_AML, "bytes", one(lambda size: main_method(DENSE * ((size - 64) // len(DENSE))))),
     Shape("files", 512, "files", lambda count: sparse_files(count, 1 << 20)),
     Shape("files-large", 512, "files", lambda count: sparse_files(count, MOST_BYTES), large=True),
     Shape("tables", 512, "files", lambda count: calling_files(count, 500)),

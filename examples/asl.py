@@ -9,9 +9,9 @@ becomes a line. What ASL can't spell as the listing has it is told on standard e
 is 3: what iasl makes of that has other bytes, or is refused by it.
 
 With --edit the text is one to be changed: what other tables declare is declared as External, so that iasl finds a name that
-is typed wrongly. With --method it is an SSDT with one method alone, for splice.py. Such a file is never written again. --tables names the folder of the dumps, and
-tells which of them has lengths or names that aren't in their shortest form: the listing doesn't show that, and iasl writes the
-shortest.
+is typed wrongly. With --method it is an SSDT with one method alone, for splice.py. Such a file is never written again.
+--tables names the folder of the dumps, and tells which of them has lengths or names that aren't in their shortest form: the
+listing doesn't show that, and iasl writes the shortest.
 
 Status 1 is a text that is no listing, or that hasn't got the method: then nothing is written. 2 is a command line that is at
 fault, or a file that can't be read or written.

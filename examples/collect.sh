@@ -52,12 +52,12 @@ case ${1-} in
     exit
     ;;
 -h | --help)
-    sed -n '2,/^$/s/^# \{0,1\}//p' "$0"
+    sed -n '2,/^$/s/^# \{0,1\}//p' "$0" | sed "s/^  collect\.sh/  ${0##*/}/"
     exit
     ;;
 esac
 if [ $# -lt 2 ] || [ $# -gt 3 ]; then
-    echo 'usage: collect.sh HOSTS SETS [JOBS]' >&2
+    echo "usage: ${0##*/} HOSTS SETS [JOBS]" >&2
     exit 2
 fi
 mkdir -p -- "$2" || exit 1

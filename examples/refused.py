@@ -28,75 +28,19 @@ METHOD = re.compile(rb"\x14(?:[\x00-\x3f]|[\x40-\x4f].|[\x80-\x8f]..|[\xc0-\xcf]
 
 DUMPED = re.compile(rb"\s*(?:RSD PTR|[A-Z0-9!_]{4}) @ 0x[0-9A-Fa-f]+\s")
 
-AGAIN = "get the table again"
-OUT = "take the table out"
-HEADER_ALONE = "a header alone in its place lists the SSDTs (docs/refusals.md)"
-IASL = "`iasl -d` reads this table by itself, with guesses"
-ANY_RUN = "`--any-run` reads it, as whatever a run would declare"
-EXTERNALS = "`--externals FILE` with its count (docs/tables.md)"
-NO_COUNT = "take its count out of the file of `--externals`"
 
-# What a word says, and the ways on: for an SSDT, for a DSDT.
-WORDS = {
-    "ModuleCode": ("Outside the methods this would run while the table is loaded.", [ANY_RUN, OUT], [ANY_RUN, IASL]),
-    "Truncated": ("The table, or a package in it, ends where more is wanted.", [AGAIN, OUT], [AGAIN, HEADER_ALONE]),
-    "PkgPast": ("A package length leads past the end, or is less than its own bytes.", [AGAIN, OUT], [AGAIN, HEADER_ALONE]),
-    "PkgBits": ("A package length has bits set that the standard wants 0.", [AGAIN, OUT], [AGAIN, HEADER_ALONE]),
-    "BadName": ("The byte can't stand there in a name.", [AGAIN, OUT], [AGAIN, HEADER_ALONE]),
-    "UnknownOp": ("The byte begins no opcode of the standard.", [AGAIN, OUT], [AGAIN, HEADER_ALONE]),
-    "NotHere": ("The opcode may not stand there.", [AGAIN, OUT, IASL], [AGAIN, HEADER_ALONE, IASL]),
-    "StrayElse": ("An Else has no If in front of it.", [AGAIN, OUT, IASL], [AGAIN, HEADER_ALONE, IASL]),
-    "EmptyName": ("What wants a name has none.", [AGAIN, OUT, IASL], [AGAIN, HEADER_ALONE, IASL]),
-    "BadCount": ("An External has more than 7 arguments.", [AGAIN, OUT, IASL], [AGAIN, HEADER_ALONE, IASL]),
-    "TooDeep": ("Terms are nested more than 512 deep.", [OUT, IASL], [HEADER_ALONE, IASL]),
-    "ModuleCall": (
-        "Outside the methods a name that takes arguments stands where a value is wanted.",
-        [ANY_RUN, NO_COUNT, OUT], [ANY_RUN, NO_COUNT, IASL],
-    ),
-    "Duplicate": ("The path is declared twice.", [ANY_RUN, OUT], [ANY_RUN, HEADER_ALONE]),
-    "ScopeMissing": (
-        "A Scope wants a path that nothing declares before it.",
-        ["add the table that declares it", "load that table before it", ANY_RUN, OUT],
-        [ANY_RUN, IASL],
-    ),
-    "AliasMissing": (
-        "An Alias wants a path that nothing declares before it.",
-        ["add the table that declares it", "load that table before it", OUT],
-        [HEADER_ALONE, IASL],
-    ),
-    "AboveRoot": ("A name has more `^` than its scope has segments.", [OUT], [HEADER_ALONE]),
-    "TooManyMethods": ("The set has more than 1,048,576 methods.", ["take tables out"], ["take tables out"]),
-    "Short": ("The file has no header, or is shorter than its Length says.", [AGAIN, OUT], [AGAIN]),
-    "TooLarge": ("The file has more than 16,777,216 bytes.", [OUT], [IASL]),
-    "BadSum": ("The bytes of the table don't sum to 0.", ["`--any-sum` takes it so", AGAIN], ["`--any-sum` takes it so", AGAIN]),
-    "BadRoot": ("The table that leads to the others isn't whole.", [AGAIN, "try without `tables.map` and it"], [AGAIN]),
-    "FadtShort": ("A FADT has less than 116 bytes.", [AGAIN, "try without `tables.map` and it"], [AGAIN]),
-    "MadtRecord": ("A record has no length, one below 2, or ends behind the table.", [AGAIN, OUT], [AGAIN]),
-    "TooManyTables": ("The folder has more than 512 files.", ["take files out"], ["take files out"]),
-    "NoDsdt": ("No table has the signature DSDT, or the FADT leads to none.", ["add it, or try without `tables.map`"], []),
-    "TwoDsdts": ("Two tables are a DSDT, and no address tells which is loaded.", ["take one out"], ["take one out"]),
-    "RootMissing": ("No RSDP, or none of its tables, is there.", ["add it, or try without `tables.map`"], []),
-    "FadtMissing": ("The XSDT, or the RSDT, lists no FADT that is there.", ["add it, or try without `tables.map`"], []),
-    "NoMemory": ("The system refused memory.", ["more memory, or fewer tables"], []),
-    "NoThread": ("The system refused a thread.", ["`--workers 1`"], []),
-}
-# Of what acpidump printed, in place of a table.
-UNPACK = ["`acpidis-unpack FILE FOLDER` makes a folder of its tables"]
-OF_DUMPED = ("It is the text of acpidump.", UNPACK, UNPACK)
+def read_words(text):
+    """The tables of refusals.txt: ways on; what each word says, with those for an SSDT and a DSDT; the same with --any-run."""
+    named, *tables = ([line for line in part.splitlines() if not line.startswith("#")] for part in text.split("\n\n"))
+    ways = dict(line.split(" ", 1) for line in named)
+    ways_in = lambda cell: [ways.get(way, way) for way in cell.split("; ") if way]
+    cells = lambda line: [cell.strip() for cell in line.split("|")]
+    return ways, *({word: (says, *map(ways_in, on)) for word, says, *on in map(cells, lines)} for lines in tables)
+
+
+WAYS, WORDS, RAN = read_words((pathlib.Path(command.__file__).parent / "refusals.txt").read_text())
 # What is said of a byte of a table's AML.
 AT_BYTES = set("ModuleCode Truncated PkgPast PkgBits BadName UnknownOp NotHere StrayElse EmptyName BadCount TooDeep".split())
-# With --any-run given.
-RAN = {
-    "ModuleCode": ("A Return outside the methods: what follows it may not run.", [OUT, IASL], [HEADER_ALONE, IASL]),
-    "ModuleCall": (
-        "Outside the methods stands a name whose count nothing tells, or another at the end than before it.",
-        [EXTERNALS, "`--unknown-zero`, where nothing declares it and it is no call", OUT],
-        [EXTERNALS, "`--unknown-zero`, where nothing declares it and it is no call", HEADER_ALONE],
-    ),
-    "ScopeMissing": (
-        "What a Scope wants only may stand, and a second path that it may mean is there too.", [OUT, IASL], [HEADER_ALONE, IASL]
-    ),
-}
 
 
 class Refusal:
@@ -398,7 +342,7 @@ def is_return(asked, refusal):
 def words_on(asked, refusal):
     """What is said of a refusal, and the ways on, of an SSDT and of a DSDT."""
     if refusal.word == "Short" and DUMPED.match(read_file(asked.folder, refusal.file)):
-        return OF_DUMPED
+        return WORDS["the text of acpidump"]
     told_by = {**WORDS, **RAN} if asked.any_run or is_return(asked, refusal) else WORDS
     return told_by.get(refusal.word, ("", [], []))
 
@@ -412,7 +356,7 @@ def say_all(asked, program, refusal):
         yield from say_file(asked, refusal)
     if refusal.file is not None and read_file(asked.folder, refusal.file).startswith(b"DSDT"):
         ways = ways_of_dsdt
-    ways = [way for way in ways if (asked.externals or way != NO_COUNT) and (asked.has_any_run or way != ANY_RUN)]
+    ways = [way for way in ways if (asked.externals or way != WAYS["no-count"]) and (asked.has_any_run or way != WAYS["any-run"])]
     if what:
         yield what
     yield "Way on: " + ("; or ".join(ways) or way_of_line(refusal.line))

@@ -215,7 +215,7 @@ survey() {
 jobs=$(nproc 2>/dev/null) || jobs=1
 case ${1-} in
 -h | --help)
-    sed -n '2,/^set/s/^# \{0,1\}//p' -- "$script"
+    sed -n '2,/^set/s/^# \{0,1\}//p' -- "$script" | sed "s/^  survey\.sh/  ${0##*/}/"
     exit
     ;;
 --left | --one)
@@ -237,5 +237,5 @@ done
 shift $((OPTIND - 1))
 case $jobs in '' | 0* | *[!0-9]*) fail "-j takes a number of jobs, not $jobs" ;; esac
 case ${SURVEY_MEGABYTES-} in 0* | *[!0-9]*) fail "-m takes a number of megabytes, not $SURVEY_MEGABYTES" ;; esac
-[ $# -ge 2 ] || fail 'usage: survey.sh [-j JOBS] [-s SECONDS] [-m MEGABYTES] SETS RESULTS [OPTION..]'
+[ $# -ge 2 ] || fail "usage: ${0##*/} [-j JOBS] [-s SECONDS] [-m MEGABYTES] SETS RESULTS [OPTION..]"
 survey "$@"

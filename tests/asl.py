@@ -3,15 +3,14 @@
 
     python3 tests/asl.py [--sets N] [--stop] [FOLDER ..]
 
-Of sample sets, of N made-up sets of which ASL has each term, 200 if left out, and of each FOLDER of dumps, asl.py makes ASL
-of the listing. Where iasl is there it compiles each block of which nothing is told, which has to give the dump's bytes
-again. Each spelling that ASL hasn't got is told. 150 methods, grown by 1 to 70,000 bytes, are put into their dumps by
-splice.py: acpidis reads those, and the listings differ in the lines that are new. unpack.py takes texts, files and images
-apart, as acpixtract does where that is there. show.py shows what is at a path. With --stop the first row that fails ends it. The last line is
-'N passed, N failed'.
+Of sample sets, of N made-up sets of which ASL has each term, 200 if left out, and of each FOLDER of dumps, asl.py makes
+ASL of the listing. Where iasl is there it compiles each block of which nothing is told, which has to give the dump's
+bytes again. Each spelling that ASL hasn't got is told. 150 methods, grown by 1 to 70,000 bytes, are put into their
+dumps by splice.py: acpidis reads those, and the listings differ in the lines that are new. unpack.py takes texts, files
+and images apart, as acpixtract does where that is there. show.py shows what is at a path. With --stop the first row
+that fails ends it. The last line is 'N passed, N failed'.
 """
 
-import argparse
 import concurrent.futures
 import contextlib
 import itertools
@@ -25,21 +24,19 @@ import subprocess
 import sys
 import tempfile
 
-sys.dont_write_bytecode = True
-TOP = pathlib.Path(__file__).resolve().parent.parent
-sys.path[:0] = [str(TOP / "tests/oracle"), str(TOP / "tests"), str(TOP / "examples")]
-
-import board  # noqa: E402
-from compare import PROGRAM  # noqa: E402
-from dumps import Dump  # noqa: E402
-from folders import read_folder  # noqa: E402
-from hostile import mutated  # noqa: E402
-from made_aml import method, packed, table  # noqa: E402
-from made_plain import PlainMaker  # noqa: E402
-from made_sets import sealed  # noqa: E402
-from running import REFUSED, Options, run  # noqa: E402
-from tally import Stopped, Tally  # noqa: E402
-from telling import DEMO, HOSTILE_FILES, PAGES_FILES, RUNS_FILES  # noqa: E402
+from tally import DEMO, PROGRAM, TOP, Stopped, Tally, parser  # before the others, whose places it tells
+import board
+from acpidis_tools.asl.blocks import Block, Reader
+from acpidis_tools.asl.names import said_by
+from acpidis_tools.listing import NoListing
+from dumps import Dump
+from folders import read_folder
+from hostile import mutated
+from made_aml import method, packed, table
+from made_plain import PlainMaker
+from made_sets import sealed
+from running import REFUSED, Options, run
+from telling import HOSTILE_FILES, PAGES_FILES, RUNS_FILES
 
 ASL, SPLICE, UNPACK, SHOW = (TOP / "examples" / f"{script}.py" for script in ("asl", "splice", "unpack", "show"))
 IASL, ACPIXTRACT = shutil.which("iasl"), shutil.which("acpixtract")
@@ -62,6 +59,12 @@ class Checks(Tally):
 
     def run(self, script, *words):
         return subprocess.run([sys.executable, script, *words], cwd=self.room, capture_output=True, text=True, check=False)
+
+    def says(self, what, words, status, said="", printed=None):
+        """A script ends so, with these lines of standard error, and of standard output where these are told."""
+        ran = self.run(*words)
+        got = ran.returncode, ran.stderr, ran.stdout if printed is not None else None
+        self.is_same(what, got, (status, said, printed))
 
 
 # ---- whole sets
@@ -140,88 +143,31 @@ ROWS = r"""
   \DEV0 Device
   \DEV0._STA Method 0
 """
-# A body, or in front of it what stands outside, and what is told of it.
-UNSPELLED = [
-    ("Store (0x0001, Local0)", "0x0001, which is wider than it needs to be"),
-    ("Store (0x00000000000000FF, Local0)", "0x00000000000000FF, which is wider than it needs to be"),
-    ("Store (Package (0x01) {One, One}, Local0)", "a Package of more than its size"),
-    ("Store (Buffer (0x01) {AA, BB}, Local0)", "a Buffer of more than its size"),
-    ("Store (Buffer (Zero) {AA}, Local0)", "a Buffer of more than its size"),
-    ("Store (VarPackage (0x02) {}, Local0)", "a VarPackage of a constant size"),
-    ("Store (VarPackage (One) {}, Local0)", "a VarPackage of a constant size"),
-    ('Store ("a\\x80", Local0)', "a text with bytes that aren't ASCII"),
-    ('Store ("\\xFF", Local0)', "a text with bytes that aren't ASCII"),
-    ("Raw {A4}", "a body without terms"),
-    ("Local0", "a value that nothing takes"),
-    ("0x05", "a value that nothing takes"),
-    ('"a {"', "a value that nothing takes"),
-    ("Buffer (One) {}", "a value that nothing takes"),
-    ("BAR_", "BAR_ as a call, where nothing says that it is a method"),
-    ("Store (Debug, Local0)", "Debug as a value"),
-    ("Store (Load (BAR_, Local0), Local0)", "Load as a value"),
-    ("Store (DerefOf (One), Local0)", "DerefOf of what is no reference"),
-    ('Store (DerefOf ("A"), Local0)', "DerefOf of what is no reference"),
-    ("Store (DerefOf (Add (One, One, )), Local0)", "DerefOf of what is no reference"),
-    ("RefOf (RefOf (BAR_))", "RefOf of RefOf"),
-    ("CondRefOf (RefOf (BAR_), Local0)", "CondRefOf of RefOf"),
-    ("CopyObject (One, Debug)", "CopyObject of Debug"),
-    ("CopyObject (One, Index (Local0, One, ))", "CopyObject of Index"),
-    ('LoadTable ("A", "B", "C", Zero, Zero, One)', "LoadTable of Zero"),
-    ("Store (One, )", "Store without a target"),
-    ("Increment ()", "Increment without a target"),
-    ("CondRefOf (, Local0)", "CondRefOf without a target"),
-    ("Match (Local0, 0x06, One, 0x00, One, One)", "Match by the operator 6"),
-    ("Name (WAIT, One)", "the name WAIT, which is a word of ASL"),
-    ("Store (LOCK, Local0)", "the name LOCK, which is a word of ASL"),
-    ("Name (NEW0, BAR_)", "a name as the value of a Name"),
-    ("Mutex (NEW0, 0x10)", "a Mutex of the level 16"),
-    ("OperationRegion (NEW0, 0x0C, One, One)", "a region in the space 0x0C"),
-    ("External (NEW0, 0x10, 0x00)", "an External of the type 16"),
-    ("External (NEW0, 0x06, 0x01)", "an External of the type DeviceObj with arguments"),
-    ("External (NEW0, 0x08, 0x00)", "an External of a method without arguments that nothing calls"),
-    ("Alias (, NEW0)", "an empty name"),
-    ("Field (REG0, 0x06) {\n    }", "the access type 6"),
-    ("Field (REG0, 0x61) {\n    }", "the update rule 3"),
-    ("Field (REG0, 0x81) {\n    }", "bit 7 of a field list's flags"),
-    ("Field (REG0, 0x01) {\n      UNI0, 0\n    }", "the unit UNI0 without a bit"),
-    ("Field (REG0, 0x01) {\n      EDGE, 8\n    }", "the name EDGE, which is a word of ASL"),
-    ("Field (REG0, 0x01) {\n      Access (0x06, 0x00)\n    }", "the access type 6"),
-    ("Field (REG0, 0x01) {\n      Access (0x01, 0x0B)\n    }", "an Access of the attribute 11"),
-    ("Field (REG0, 0x01) {\n      ExtendedAccess (0x01, 0x00, 0x04)\n    }", "an ExtendedAccess of the attribute 0"),
-    ("Field (REG0, 0x01) {\n      Connection (Buffer (0x02) {79, 00})\n    }", "a Connection of bytes that no macro here has"),
-]
-CALLED = (
-    "External (NEW0, 0x08, 0x01)\n    NEW0 (One)",
-    "an External of a method that is called, by a name that isn't from the root",
-)
+CALLED = "External (NEW0, 0x08, 0x01)\n    NEW0 (One)"
+BY_PATH = "an External of a method that is called, by a name that isn't from the root"
 SCOPED = "FOO_ (One)\n  }\n  Scope (FOO_) {", "FOO_ as a call, where nothing says that it is a method"
+WIDE = "0x1122334455667788"
+BLOCK = 'DefinitionBlock ("a.dat") {\n  Method (FOO_, 1, NotSerialized, 0) {\n    Noop\n  }\n}\n'
+WHOLE = f"{HEAD.format(2)}Namespace 4{ROWS}{BLOCK}"
+# What is no line of a listing.
+NO_LINES = (
+    "noop", "", "Noop Noop", "Add (One One, )", "{", "Add (One, One, ", "Add One, One)", 'Store ("a, Local0)',
+    "Store (One, Local0) /* a */", "(" * 50_000, "LNot (" * 100_000,
+)  # fmt: skip
+DEEP_SCOPE = ".".join(["Scope (AAAA"] + ["AAAA"] * 70) + ") {\n    }"
 # Texts that are no listings, with what is said of them.
-WHOLE = f"{HEAD.format(2)}Namespace 4{ROWS}" 'DefinitionBlock ("a.dat") {\n  Method (FOO_, 1, NotSerialized, 0) {\n    Noop\n  }\n}\n'
 MISREAD = [
     ("", "it is empty"),
     ("\n", "it doesn't begin as a listing of acpidis does, with a line Table or Root"),
     (WHOLE[:-1], "it is cut in line 11"),
     (WHOLE[:-2], "it is cut behind line 10"),
-    (WHOLE.replace("Noop", "noop"), "line 9 isn't one of a listing of acpidis"),
-    (WHOLE.replace("Noop", ""), "line 9 isn't one of a listing of acpidis"),
-    (WHOLE.replace("Noop", "Noop Noop"), "line 9 isn't one of a listing of acpidis"),
-    (WHOLE.replace("Noop", "Add (One One, )"), "line 9 isn't one of a listing of acpidis"),
-    (WHOLE.replace("Noop", "{"), "line 9 isn't one of a listing of acpidis"),
-    (WHOLE.replace("Noop", "Add (One, One, "), "line 9 isn't one of a listing of acpidis"),
-    (WHOLE.replace("Noop", "Add One, One)"), "line 9 isn't one of a listing of acpidis"),
-    (WHOLE.replace("Noop", 'Store ("a, Local0)'), "line 9 isn't one of a listing of acpidis"),
-    (WHOLE.replace("Noop", "Store (One, Local0) /* a */"), "line 9 isn't one of a listing of acpidis"),
-    (WHOLE.replace("Noop", "(" * 50_000), "line 9 isn't one of a listing of acpidis"),
-    (WHOLE.replace("Noop", "LNot (" * 100_000), "line 9 isn't one of a listing of acpidis"),
+    *((WHOLE.replace("Noop", line), "line 9 isn't one of a listing of acpidis") for line in NO_LINES),
     (WHOLE.replace("Noop", "\u00e9"), "line 9 has a byte that isn't ASCII"),
     (WHOLE.replace(", 1, NotSerialized", ", 9, NotSerialized"), "line 8 isn't one of a listing of acpidis"),
     (WHOLE.replace('Block ("a.dat")', 'Block ("b.dat")'), "line 7 isn't one of a listing of acpidis"),
-    (WHOLE + WHOLE[WHOLE.index("DefinitionBlock") :], "line 12 isn't one of a listing of acpidis"),
+    (WHOLE + BLOCK, "line 12 isn't one of a listing of acpidis"),
     (WHOLE + "more\n", "line 12 isn't one of a listing of acpidis"),
-    (
-        WHOLE.replace("Noop", ".".join(["Scope (AAAA"] + ["AAAA"] * 70) + ") {\n    }"),
-        "line 9: a scope of more than 64 segments is too deep for this script",
-    ),
+    (WHOLE.replace("Noop", DEEP_SCOPE), "line 9: a scope of more than 64 segments is too deep for this script"),
 ]
 
 
@@ -234,57 +180,47 @@ def text_with(body, revision=2):
 
 
 def check_told(checks):
-    text, out = checks.room / "told.text", checks.room / "told"
-    rows = [(*row, 2) for row in (*UNSPELLED, SCOPED)] + [("Store (0x1122334455667788, Local0)",
-        "0x1122334455667788 in a table of revision 1, whose integers have 4 bytes", 1)]  # fmt: skip
-    for body, what, revision in rows:
+    text = checks.room / "told.text"
+    _, bodies, _, units = (TOP / "tests/unspelled.txt").read_text().split("\n\n")
+    rows = [(*line.replace("\\n", "\n    ").split("  # "), 9, 2) for line in bodies.splitlines()]
+    for unit, what in (line.split("  # ") for line in units.splitlines()):
+        rows.append((f"Field (REG0, 0x01) {{\n      {unit}\n    }}", what, 10, 2))
+    rows += [(*SCOPED, 9, 2), (CALLED, BY_PATH, 9, 2)]
+    wide = f"{WIDE} in a table of revision 1, whose integers have 4 bytes"
+    for body, what, number, revision in [*rows, (f"Store ({WIDE}, Local0)", wide, 9, 1)]:
         text.write_text(text_with(body, revision), "ascii")
-        ran = checks.run(ASL, text, out)
-        number = 9 + (body.count("\n") > 0 and body.startswith("Field") and body.count("\n") > 1)
-        checks.is_same(body, (ran.returncode, ran.stderr), (3, f"asl: a.dat: line {number}: {what}\n"))
-    text.write_text(text_with(CALLED[0]), "ascii")
-    ran = checks.run(ASL, text, out)
-    checks.is_same(CALLED[0], (ran.returncode, ran.stderr), (3, f"asl: a.dat: line 9: {CALLED[1]}\n"))
+        checks.says(body, [ASL, text, "told"], 3, f"asl: a.dat: line {number}: {what}\n")
 
 
 def check_misread(checks):
     text = checks.room / "misread.text"
     for content, what in MISREAD:
         text.write_text(content, "utf-8")
-        ran = checks.run(ASL, text, "misread")
-        checks.is_same(content[-300:], (ran.returncode, ran.stderr), (1, f"asl: {str(text)!r}: {what}\n"))
-        ran = checks.run(ASL, "--edit", text, "misread")
-        checks.is_same(content[-300:], (ran.returncode, ran.stderr), (1, f"asl: {str(text)!r}: {what}\n"))
+        for words in ([ASL, text, "misread"], [ASL, "--edit", text, "misread"]):
+            checks.says(content[-300:], words, 1, f"asl: {str(text)!r}: {what}\n")
     checks.is_so("nothing is written", not (checks.room / "misread").exists())
-    ran = checks.run(ASL, "nowhere", "out")
-    checks.is_same("no such text", (ran.returncode, ran.stderr), (2, "asl: 'nowhere': No such file or directory\n"))
+    checks.says("no such text", [ASL, "nowhere", "out"], 2, "asl: 'nowhere': No such file or directory\n")
     text.write_text(WHOLE, "ascii")
-    ran = checks.run(ASL, text, text)
-    checks.is_same("a file in the way", (ran.returncode, ran.stderr), (2, f"asl: {str(text)!r}: File exists\n"))
+    checks.says("a file in the way", [ASL, text, text], 2, f"asl: {str(text)!r}: File exists\n")
     text.write_bytes(WHOLE.replace("\n", "\r\n").encode())
-    checks.is_same("lines as on Windows", checks.run(ASL, text, "windows").returncode, 0)
+    checks.says("lines as on Windows", [ASL, text, "windows"], 0)
 
 
 def check_names(checks):
     """Files of names that a command could take for something else, and many blocks."""
-    names = ["-o", "a b;$(touch bad)", "..", "*/ \\x0A", "DSDT", "_-o"]
-    tables = "".join(HEAD.format(2).replace('"a.dat" "DSDT"', f'"{name}" "SSDT"') for name in names)
-    blocks = "".join(f'DefinitionBlock ("{name}") {{\n}}\n' for name in names)
-    (checks.room / "names.text").write_text(tables + "Namespace 0\n" + blocks, "ascii")
-    checks.is_same("names of files", checks.run(ASL, "names.text", "names").returncode, 0)
-    found = sorted(path.name for path in (checks.room / "names").iterdir())
-    checks.is_so(
-        f"files of harmless names: {found}",
-        len(found) == len(names) and all(re.fullmatch(r"[A-Za-z0-9_.-]+", it) for it in found),
-    )
-    checks.is_so("none begins with a sign", not [it for it in found if it[0] in "-."])
-    many = [f"f{number}.dat" for number in range(512)]
-    tables = "".join(HEAD.format(2).replace('"a.dat"', f'"{name}"') for name in many)
-    (checks.room / "many.text").write_text(
-        tables + "Namespace 0\n" + "".join(f'DefinitionBlock ("{name}") {{\n}}\n' for name in many), "ascii"
-    )
-    checks.is_same("512 blocks", checks.run(ASL, "many.text", "many").returncode, 0)
-    checks.is_same("512 files", len(list((checks.room / "many").iterdir())), 512)
+    odd = ["-o", "a b;$(touch bad)", "..", "*/ \\x0A", "DSDT", "_-o"]
+    for what, names in (("odd", odd), ("many", [f"f{number}.dat" for number in range(512)])):
+        tables = "".join(HEAD.format(2).replace('"a.dat" "DSDT"', f'"{name}" "SSDT"') for name in names)
+        blocks = "".join(f'DefinitionBlock ("{name}") {{\n}}\n' for name in names)
+        (checks.room / f"{what}.text").write_text(f"{tables}Namespace 0\n{blocks}", "ascii")
+        checks.says(f"{what} names of files", [ASL, f"{what}.text", what], 0)
+        found = sorted(path.name for path in (checks.room / what).iterdir())
+        is_harmless = all(re.fullmatch(r"[A-Za-z0-9_+][A-Za-z0-9_.-]*", it) for it in found)
+        checks.is_so(f"files of harmless names: {found}", len(found) == len(names) and is_harmless)
+
+
+def processor_time():
+    return resource.getrusage(resource.RUSAGE_CHILDREN).ru_utime
 
 
 def check_speed(checks):
@@ -295,29 +231,22 @@ def check_speed(checks):
     for size in (1_000_000, 4_000_000):
         text = checks.room / f"{size}.text"
         text.write_text(head + 'DefinitionBlock ("a.dat") {\n' + body[:-2] * (size // len(body)) + "}\n", "ascii")
-        before = resource.getrusage(resource.RUSAGE_CHILDREN).ru_utime
+        before = processor_time()
         checks.run(ASL, "--edit", text, f"of{size}")
-        times.append(resource.getrusage(resource.RUSAGE_CHILDREN).ru_utime - before)
+        times.append(processor_time() - before)
     checks.is_so(f"seconds of 1 MB and 4 MB: {times}", times[0] < 3 and times[1] < 8 * times[0])
 
 
-# Reads each text of a folder, and says what isn't taken for no listing.
-READER = """
-import pathlib, sys
-sys.path[:0] = sys.argv[2:]
-from acpidis_tools.asl.blocks import Block, Reader
-from acpidis_tools.asl.names import said_by
-from acpidis_tools.listing import NoListing
-for path in pathlib.Path(sys.argv[1]).iterdir():
+def fault_of(path):
+    """What becomes of a text: nothing where it is read, that it is no listing, or another fault."""
     reader = Reader(lambda table, space: Block(table, space, True))
     try:
         reader.read(path)
         [block.text(reader.rows, said_by(reader.blocks)) for block in reader.blocks]
     except NoListing:
-        print("refused")
-    except Exception as fault:
-        print(path, repr(fault))
-"""
+        return NoListing
+    except Exception as fault:  # whatever it is, it fails the check
+        return f"{path}: {fault!r}"
 
 
 def check_mutations(checks):
@@ -325,14 +254,13 @@ def check_mutations(checks):
     outcomes = [
         run([Dump(file, None, data) for file, data in files.items()], Options(any_run=True)) for files in SAMPLES.values()
     ]
-    dice, place = random.Random(0), checks.folder("mutations", {})
+    dice, faults = random.Random(0), []
     for number in range(500):
-        lines = outcomes[number % len(outcomes)].out.splitlines()
-        (place / str(number)).write_text(mutated(lines, dice), "ascii")
-    ran = checks.run("-c", READER, place, TOP / "examples")
-    said = ran.stdout.splitlines()
-    checks.is_same("mutations", [line for line in said if line != "refused"] + ran.stderr.splitlines(), [])
-    checks.is_so(f"some are no listings: {len(said)}", 20 < len(said) < 480)
+        (checks.room / "mutated").write_text(mutated(outcomes[number % len(outcomes)].out.splitlines(), dice), "ascii")
+        faults.append(fault_of(checks.room / "mutated"))
+    checks.is_same("mutations", [fault for fault in faults if fault not in (None, NoListing)], [])
+    refused = faults.count(NoListing)
+    checks.is_so(f"{refused} are no listings", 20 < refused < 480)
 
 
 # ---- one method, changed
@@ -369,19 +297,14 @@ def check_edit(checks):
     """Whole tables to be changed are compiled, but with a name that nothing declares."""
     place = checks.folder("edit", board.VERSIONS["first"])
     (checks.room / "edit.text").write_text(listed(place), "ascii")
-    checks.is_same("--edit", checks.run(ASL, "--edit", "edit.text", "edited").returncode, 0)
-    ran = checks.run(ASL, "--edit", "edit.text", "edited")
+    checks.says("--edit", [ASL, "--edit", "edit.text", "edited"], 0)
     what = "asl: 'edited/dsdt.dat.asl' is there, and may have been changed: remove it, or name another folder\n"
-    checks.is_same("--edit once more", (ran.returncode, ran.stderr), (2, what))
+    checks.says("--edit once more", [ASL, "--edit", "edit.text", "edited"], 2, what)
     for source in (checks.room / "edited").iterdir():
         checks.is_so(f"{source.name} is compiled", compiled(source))
         text = source.read_text("ascii")
-        for statement, holds in (
-            ("Store (Arg0, DBG0)", True),
-            ("Store (Arg0, DBGX)", False),
-            ("POST (Arg0)", True),
-            ("POST ()", False),
-        ):
+        statements = {"Store (Arg0, DBG0)": True, "Store (Arg0, DBGX)": False, "POST (Arg0)": True, "POST ()": False}
+        for statement, holds in statements.items():
             source.write_text(re.sub(r"(Method \([A-Z_]*, 1, .*\n)", rf"\g<1>{statement}\n", text), "ascii")
             source.with_suffix(".aml").unlink(missing_ok=True)
             checks.is_same(f"{source.name} with {statement}", compiled(source) is not None, holds)
@@ -467,53 +390,51 @@ def body_of(dump, path):
     return splice.code_of(dump, "dump")[place.named : place.end]
 
 
+# What splice.py refuses, of files of check_splice and a path.
+UNSPLICED = [
+    ("old new NONE", "'splice/old' doesn't declare \\NONE"),
+    ("old new TWIC", "'splice/old' declares \\TWIC 2 times"),
+    ("old new DEV0", "'splice/new' doesn't declare \\DEV0"),
+    ("old other NAM1", "\\NAM1 is a Name in 'splice/old', and a Device in 'splice/other'"),
+    ("cut new NAM1", "'splice/cut' is no table"),
+    ("old short NAM1", "'splice/short' is no table"),
+    ("broken new NAM1", "'splice/broken' can't be read behind byte 42"),
+    ("old far DEV0.NAM0", "\\DEV0.NAM0 stands in the scope \\DEV0 of 'splice/old', and in \\ of 'splice/far'"),
+]
+LENGTHS = "print(splice.spelled(63, 1), splice.spelled(64, 1), splice.spelled(4095, 2)); splice.spelled(1 << 28, 1)"
+
+
 def check_splice(checks):
     """What is refused, what else may be put in, revisions and archives."""
     device = packed(b"\x5B\x82", b"DEV0" + b"\x08NAM0\x01" + method(b"MET0", 0, b""))
+    again = packed(b"\x10", b"\\DEV0" + method(b"MET0", 1, NOOP) + b"\x08NAM0\x0A\x07")
+    twice = method(b"TWIC", 0, b"") * 2
     files = {
-        "old": table(b"DSDT", device + b"\x08NAM1\x01" + method(b"TWIC", 0, b"") * 2),
-        "new": table(b"SSDT", packed(b"\x10", b"\\DEV0" + method(b"MET0", 1, NOOP) + b"\x08NAM0\x0A\x07") + b"\x08NAM1\x0D1\x00"),
-        "other": table(b"SSDT", packed(b"\x5B\x82", b"NAM1") + b"\x08DEV0.\x01" + b"\x08TWIC\x01"),
-        "cut": table(b"SSDT", b"\x08NAM1")[:-1], "short": b"DSDT", "broken": table(b"SSDT", b"\x08NAM1\x01\x02"),
-        "far": table(b"SSDT", b"\x08\\.DEV0NAM0\x12\x06\x01NAM1"),
+        "old": table(b"DSDT", device + b"\x08NAM1\x01" + twice), "new": table(b"SSDT", again + b"\x08NAM1\x0D1\x00"),
+        "other": table(b"SSDT", packed(b"\x5B\x82", b"NAM1")), "cut": table(b"SSDT", b"\x08NAM1")[:-1], "short": b"DSDT",
+        "broken": table(b"SSDT", b"\x08NAM1\x01\x02"), "far": table(b"SSDT", b"\x08\\.DEV0NAM0\x12\x06\x01NAM1"),
     }  # fmt: skip
     checks.folder("splice", files)
-    place = "splice/"
-    for words, what in [
-        (["old", "new", "NONE"], "'splice/old' doesn't declare \\NONE"), (["old", "new", "TWIC"], "'splice/old' declares \\TWIC 2 times"),
-        (["old", "new", "DEV0"], "'splice/new' doesn't declare \\DEV0"),
-        (["old", "other", "NAM1"], "\\NAM1 is a Name in 'splice/old', and a Device in 'splice/other'"),
-        (["cut", "new", "NAM1"], "'splice/cut' is no table"), (["old", "short", "NAM1"], "'splice/short' is no table"),
-        (["broken", "new", "NAM1"], "'splice/broken' can't be read behind byte 42"),
-        (["old", "far", "DEV0.NAM0"], "\\DEV0.NAM0 stands in the scope \\DEV0 of 'splice/old', and in \\ of 'splice/far'"),
-    ]:  # fmt: skip
-        if words[1] == "other":
-            (checks.room / "splice/other").write_bytes(table(b"SSDT", packed(b"\x5B\x82", b"NAM1")))
-        ran = checks.run(SPLICE, place + words[0], place + words[1], words[2])
-        checks.is_same(f"splice {words}", (ran.returncode, ran.stdout, ran.stderr), (1, "", f"splice: {what}\n"))
-    ran = checks.run(SPLICE, place + "old", place + "none", "NAM1")
-    checks.is_same("no such file", (ran.returncode, ran.stderr), (2, "splice: 'splice/none': No such file or directory\n"))
-    checks.is_same("no path", checks.run(SPLICE, place + "old", place + "new", "1").returncode, 2)
-    words = ["--oem-revision", "--initrd", "acpi.cpio", place + "old", place + "new", "\\DEV0.MET0", "dev0.nam0", "\\NAM1"]
-    patched = spliced(checks, *words)
-    wanted = packed(b"\x5B\x82", b"DEV0" + b"\x08NAM0\x0A\x07" + method(b"MET0", 1, NOOP)) + b"\x08NAM1\x0D1\x00"
-    wanted += method(b"TWIC", 0, b"") * 2
+    old, new = "splice/old", "splice/new"
+    for words, what in UNSPLICED:
+        one, other, path = words.split()
+        checks.says(f"splice {words}", [SPLICE, f"splice/{one}", f"splice/{other}", path], 1, f"splice: {what}\n", "")
+    checks.says("no such file", [SPLICE, old, "none", "NAM1"], 2, "splice: 'none': No such file or directory\n")
+    checks.is_same("no path", checks.run(SPLICE, old, new, "1").returncode, 2)
+    paths = "\\DEV0.MET0", "dev0.nam0", "\\NAM1"
+    patched = spliced(checks, "--oem-revision", "--initrd", "acpi.cpio", old, new, *paths)
+    wanted = packed(b"\x5B\x82", b"DEV0" + b"\x08NAM0\x0A\x07" + method(b"MET0", 1, NOOP)) + b"\x08NAM1\x0D1\x00" + twice
     head = bytearray(files["old"][:HEADER])
     head[24] += 1
     checks.is_same("what is put in", patched, sealed(bytes(head) + wanted))
     check_archive(checks, patched)
-    code = "import splice; print(splice.spelled(63, 1), splice.spelled(64, 1), splice.spelled(4095, 2)); splice.spelled(1 << 28, 1)"
-    ran = checks.run("-c", f"import sys; sys.path.insert(0, {str(TOP / 'examples')!r}); {code}")
+    ran = checks.run("-c", f"import sys; sys.path.insert(0, {str(TOP / 'examples')!r}); import splice; {LENGTHS}")
     checks.is_same("lengths", ran.stdout, "b'?' b'@\\x04' b'O\\xff'\n")
     said = "splice.Refused: a package would be longer than a package length can say\n"
     checks.is_so("a length that no longer fits", ran.stderr.endswith(said))
-    last = bytearray(files["old"])
-    last[24:28] = b"\xFF" * 4
-    (checks.room / "splice/old").write_bytes(sealed(bytes(last)))
-    ran = checks.run(SPLICE, "--oem-revision", place + "old", place + "new", "NAM1")
-    checks.is_same(
-        "the last revision", (ran.returncode, ran.stderr), (1, "splice: the OEM revision can't be raised: it is FFFFFFFF\n")
-    )
+    (checks.room / old).write_bytes(sealed(files["old"][:24] + b"\xFF" * 4 + files["old"][28:]))
+    said = "splice: the OEM revision can't be raised: it is FFFFFFFF\n"
+    checks.says("the last revision", [SPLICE, "--oem-revision", old, new, "NAM1"], 1, said)
 
 
 def check_archive(checks, patched):
@@ -548,55 +469,59 @@ def acpidump(tables):
 def check_unpack(checks):
     dsdt, ssdt = table(b"DSDT", b"\x08AAAA\x01"), table(b"SSDT", b"\x08BBBB" + b"\x0D" + b"x" * 70_000 + b"\0")
     oem, asf = table(b"OEM1", b"12345"), table(b"ASF!", b"1")
-    dumped = [("DSDT", 0, dsdt), ("SSDT", 0, ssdt), ("SSDT", 0, dsdt), ("OEM1", 0, oem), ("ASF!", 0, asf)]
-    text = acpidump(dumped)
+    text = acpidump([("DSDT", 0, dsdt), ("SSDT", 0, ssdt), ("SSDT", 0, dsdt), ("OEM1", 0, oem), ("ASF!", 0, asf)])
     names = {"dsdt.dat": dsdt, "ssdt1.dat": ssdt, "ssdt2.dat": dsdt, "oem1.dat": oem, "asf!.dat": asf}
     quoted = "".join(f"> {line}\r\n" for line in ["Hello,", "", *text.split("\n"), "Regards"])
-    for name, content in (("plain", text), ("quoted", quoted), ("lower", text.replace("    0000: 44", "0000: 44"))):
-        check_folder(checks, name, content.encode(), names)
+    wrong = dsdt[:9] + bytes([dsdt[9] ^ 1]) + dsdt[10:]
+    noise, one_by_one = random.Random(0).randbytes(5000), {"dsdt.dat": dsdt, "ssdt.dat": ssdt, "oem1.dat": oem}
+    for name, content, wanted in [
+        ("plain", text.encode(), names),
+        ("quoted", quoted.encode(), names),
+        ("lower", text.replace("    0000: 44", "0000: 44").encode(), names),
+        ("behind", dsdt + ssdt + oem, one_by_one),
+        ("image", noise + dsdt + b"\xFF" * 100 + ssdt + oem + dsdt + bytes(77), one_by_one),
+        ("wrong sum", wrong + ssdt, {"dsdt.dat": wrong, "ssdt.dat": ssdt}),
+    ]:
+        check_folder(checks, name, content, wanted)
     if ACPIXTRACT:
         place = checks.folder("acpixtract", {})
         subprocess.run([ACPIXTRACT, "-a", checks.room / "plain"], cwd=place, capture_output=True, check=False)
-        checks.is_same("as acpixtract", {path.name: path.read_bytes() for path in place.iterdir()}, names)
-    one_by_one = {"dsdt.dat": dsdt, "ssdt.dat": ssdt, "oem1.dat": oem}
-    check_folder(checks, "behind", dsdt + ssdt + oem, one_by_one)
-    check_folder(
-        checks, "image", random.Random(0).randbytes(5000) + dsdt + b"\xFF" * 100 + ssdt + oem + dsdt + bytes(77), one_by_one
-    )
-    wrong = dsdt[:9] + bytes([dsdt[9] ^ 1]) + dsdt[10:]
-    check_folder(checks, "wrong sum", wrong + ssdt, {"dsdt.dat": wrong, "ssdt.dat": ssdt})
+        checks.is_same("as acpixtract", files_in(place), names)
     for name, content, what in [
-        ("no table", b"hello", "no table is in it"),
-        ("packed", b"\x1f\x8b\x08", "it is packed: unpack it first"), ("nothing", b"", "no table is in it"),
-        ("cut", text[: text.index("    0020:")].encode() + b"\n", "line 1: DSDT has 32 bytes of 42"),
-        ("gap", text.replace("    0010:", "    0020:", 1).encode(), "line 3: the row of DSDT at 0020 stands where that at 0010 should"),
-        ("title", b"DSDT @ 0x0\n", "line 1: DSDT has 0 bytes of its header"),
+        ("no table", "hello", "no table is in it"),
+        ("packed", "\x1f\x8b\x08", "it is packed: unpack it first"),
+        ("nothing", "", "no table is in it"),
+        ("cut", text[: text.index("    0020:")] + "\n", "line 1: DSDT has 32 bytes of 42"),
+        (
+            "gap", text.replace("    0010:", "    0020:", 1),
+            "line 3: the row of DSDT at 0020 stands where that at 0010 should",
+        ),
+        ("title", "DSDT @ 0x0\n", "line 1: DSDT has 0 bytes of its header"),
     ]:  # fmt: skip
-        (checks.room / name).write_bytes(content)
-        ran = checks.run(UNPACK, name, name + ".d")
-        checks.is_same(name, (ran.returncode, ran.stderr), (1, f"unpack: {name!r}: {what}\n"))
+        (checks.room / name).write_bytes(content.encode("latin-1"))
+        checks.says(name, [UNPACK, name, f"{name}.d"], 1, f"unpack: {name!r}: {what}\n")
         checks.is_so(f"{name}: nothing is written", not (checks.room / f"{name}.d").exists())
-    ran = checks.run(UNPACK, "plain", "plain.d")
-    checks.is_same(
-        "a folder in the way", (ran.returncode, ran.stderr), (2, "unpack: 'plain.d' is there, and isn't an empty folder\n")
-    )
+    said = "unpack: 'plain.d' is there, and isn't an empty folder\n"
+    checks.says("a folder in the way", [UNPACK, "plain", "plain.d"], 2, said)
     check_chain(checks)
     image = b"DSDT\xFF\xFF\x00\x00\1\0TEST  EXAMPLE \1\0\0\0TEST\1\0\0\0" * 30_000 + b"DSDT"
     (checks.room / "claims").write_bytes(image)
-    before = resource.getrusage(resource.RUSAGE_CHILDREN).ru_utime
+    before = processor_time()
     checks.run(UNPACK, "claims", "claims.d")
-    seconds = resource.getrusage(resource.RUSAGE_CHILDREN).ru_utime - before
+    seconds = processor_time() - before
     checks.is_so(f"an image of 1 MB that claims many tables: {seconds} s", seconds < 3)
+
+
+def files_in(folder):
+    return {path.name: path.read_bytes() for path in folder.iterdir()}
 
 
 def check_folder(checks, name, content, wanted):
     (checks.room / name).write_bytes(content)
-    ran = checks.run(UNPACK, name, name + ".d")
-    lines = "".join(
-        f"{file} {'SSDT' if file == 'ssdt2.dat' else data[:4].decode()} {len(data)}\n" for file, data in wanted.items()
-    )
-    checks.is_same(name, (ran.returncode, ran.stdout, ran.stderr), (0, lines, ""))
-    checks.is_same(f"{name}: files", {path.name: path.read_bytes() for path in (checks.room / f"{name}.d").iterdir()}, wanted)
+    shown = {file: "SSDT" if file == "ssdt2.dat" else data[:4].decode() for file, data in wanted.items()}
+    lines = "".join(f"{file} {shown[file]} {len(data)}\n" for file, data in wanted.items())
+    checks.says(name, [UNPACK, name, f"{name}.d"], 0, "", lines)
+    checks.is_same(f"{name}: files", files_in(checks.room / f"{name}.d"), wanted)
 
 
 def check_chain(checks):
@@ -646,14 +571,12 @@ def check_show(checks):
     text = checks.room / "show.text"
     text.write_text(listed(place), "ascii")
     for path, wanted in SHOWN:
-        ran = checks.run(SHOW, text, path)
-        checks.is_same(f"show {path}", (ran.returncode, ran.stdout, ran.stderr), (0, wanted, ""))
+        checks.says(f"show {path}", [SHOW, text, path], 0, "", wanted)
     heads = checks.run(SHOW, text, "_hid").stdout.count("Name (_HID, ")
     checks.is_same("each _HID", heads, text.read_text().count("Name (_HID, "))
     device = checks.run(SHOW, text, "EC0").stdout
     checks.is_so("a device whole", device.count("{") == device.count("}") + 3 and "Method (_Q13" in device)
-    ran = checks.run(SHOW, text, "\\SMI_")
-    checks.is_same("no such path", (ran.returncode, ran.stderr), (1, f"show: {str(text)!r} declares no such path\n"))
+    checks.says("no such path", [SHOW, text, "\\SMI_"], 1, f"show: {str(text)!r} declares no such path\n")
     checks.is_same("no path", checks.run(SHOW, text, "1").returncode, 2)
     ran = checks.run(SHOW, place / "dsdt.dat", "SMI")
     checks.is_same("no listing", (ran.returncode, ran.stderr.count("\n")), (1, 1))
@@ -667,13 +590,11 @@ def check_forms(checks):
     data = table(b"DSDT", code)
     place = checks.folder("forms", {"dsdt.dat": data})
     (checks.room / "forms.text").write_text(listed(place), "ascii")
-    ran = checks.run(ASL, "--tables", place, "forms.text", "formed")
     what = "asl: dsdt.dat: 2 of 2 lengths, 1 of 3 names aren't in their shortest form, which iasl writes\n"
-    checks.is_same("forms", (ran.returncode, ran.stderr), (3, what))
+    checks.says("forms", [ASL, "--tables", place, "forms.text", "formed"], 3, what)
     (place / "dsdt.dat").write_bytes(table(b"DSDT", b"\x08NAM0\1"))
-    ran = checks.run(ASL, "--tables", place, "forms.text", "formed")
     what = f"asl: {str(place / 'dsdt.dat')!r} isn't the dump of this listing: they differ at byte 37\n"
-    checks.is_same("another dump", (ran.returncode, ran.stderr), (2, what))
+    checks.says("another dump", [ASL, "--tables", place, "forms.text", "formed"], 2, what)
 
 
 CHECKS = (
@@ -683,7 +604,7 @@ CHECKS = (
 
 
 def main():
-    words = argparse.ArgumentParser(description=__doc__, formatter_class=argparse.RawDescriptionHelpFormatter)
+    words = parser(__doc__)
     words.add_argument("--sets", metavar="N", type=int, default=200)
     words.add_argument("--stop", action="store_true")
     words.add_argument("folders", metavar="FOLDER", nargs="*")

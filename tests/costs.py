@@ -14,15 +14,11 @@ import subprocess
 import sys
 import tempfile
 
-sys.dont_write_bytecode = True
-TOP = pathlib.Path(__file__).resolve().parent.parent
-sys.path.insert(0, str(TOP / "bench"))
+from tally import DEMO, PROGRAM, TOP, Tally  # before the others, whose places it tells
+import hostile_shapes as shapes
+import measuring
+import sets
 
-import bodies  # noqa: E402
-import hostile_shapes as shapes  # noqa: E402
-import measuring  # noqa: E402
-
-DEMO = TOP / "crates/acpidis_program/data/demo"
 METHODS = 20_000
 # A write takes 64 KB, and less only where a body's text doesn't fit any more.
 LEAST_WRITE = 32_768
@@ -35,6 +31,12 @@ SHAPES = {
     "names used below 13,000 levels with another child": (lambda: shapes.upward_crowded(80_000, 13_000), 4),
     "uses of a name that is declared before each level": (lambda: shapes.upward_turning(100_000, 500), 4),
 }
+# Shapes of bench/hostile_shapes.py, each with the bytes of memory that a byte of it may take beside those of each run.
+BOUNDED = {
+    "names-outside": 128, "regions-outside": 128, "terms-outside": 64, "connections-outside": 64, "deep-owners": 64,
+    "deep-owners-run": 128, "deep-pairs": 64,
+}  # fmt: skip
+MOST_SECONDS, STARTED_BYTES = 2, 40_000_000
 
 
 def count_calls(program, shim, folder):
@@ -68,13 +70,23 @@ def seconds_of(program, make, folder):
     return round(usage.ru_utime + usage.ru_stime, 2)
 
 
+def costs_of(program, shape, folder):
+    """The processor time and the memory of a check of a bounded shape, which writes no text, each with its bound."""
+    measuring.write(folder, lambda: shape.make(shape.size))
+    most = STARTED_BYTES + BOUNDED[shape.name] * sum(file.stat().st_size for file in folder.iterdir())
+    command = [program, "--workers", "1", "--check", *shape.options(folder), "."]
+    _, seconds, peak, status = measuring.run(command, folder, 60) or (60, 60, 0, None)
+    assert status in (0, 3), (shape.name, status)
+    return (f"seconds: {shape.name}", round(seconds, 2), MOST_SECONDS), (f"bytes of memory: {shape.name}", peak, most)
+
+
 def measure(program, room):
     """What was counted, each with its bound."""
     compiler = os.environ.get("CC") or next(filter(None, map(shutil.which, ["cc", "gcc", "clang"])))
     shim, folder = room / "refusals.so", room / "set"
     subprocess.run([compiler, "-O1", "-shared", "-fPIC", "-o", shim, TOP / "tests/refusals.c", "-ldl"], check=True)
     folder.mkdir()
-    (folder / "dsdt.dat").write_bytes(bodies.many_methods(METHODS))
+    (folder / "dsdt.dat").write_bytes(sets.many_methods(METHODS))
     length, writes, freed = count_calls(program, shim, folder)
     assert length > 100 * METHODS, length
     faults = usage_of(program, DEMO).ru_minflt - usage_of(program, "--version").ru_minflt
@@ -87,18 +99,17 @@ def measure(program, room):
         ("blocks let go behind the last write", freed, MOST_FREED),
         ("page faults of a small set", faults, MOST_FAULTS),
         *shaped,
+        *(row for it in shapes.SHAPES if it.name in BOUNDED for row in costs_of(program, it, room / it.name)),
     ]
 
 
 def main():
-    program = os.path.abspath(sys.argv[1] if len(sys.argv) > 1 else TOP / "out/acpidis")
+    program, checks = os.path.abspath(sys.argv[1] if len(sys.argv) > 1 else PROGRAM), Tally()
     with tempfile.TemporaryDirectory() as room:
-        rows = measure(program, pathlib.Path(room))
-    for name, count, most in rows:
-        print(f"{'FAILED ' if count > most else ''}{name}: {count}, at most {most}")
-    failed = sum(count > most for _, count, most in rows)
-    print(f"{len(rows) - failed} passed, {failed} failed")
-    sys.exit(failed > 0)
+        for name, count, most in measure(program, pathlib.Path(room)):
+            print(f"{name}: {count}, at most {most}")
+            checks.is_so(name, count <= most)
+    checks.end()
 
 
 main()

@@ -1,5 +1,5 @@
 #!/usr/bin/env python3
-"""Tally what examples/page says of numbers and bytes: resources, identifiers, flags, places of field units.
+"""Checks what examples/page says of numbers and bytes: resources, identifiers, flags, places of field units.
 
     python3 tests/decoding.py [FOLDER ..]
 
@@ -17,92 +17,27 @@ import shutil
 import sys
 import tempfile
 
-sys.dont_write_bytecode = True
-TOP = pathlib.Path(__file__).resolve().parent.parent
-sys.path[:0] = [str(TOP / "examples"), str(TOP / "tests/oracle"), str(TOP / "tests")]
-
-from acpidis_tools.decoding import Decoder, bits_text, flag_words  # noqa: E402
-from dumps import order_of  # noqa: E402
-from folders import read_folder  # noqa: E402
-from acpidis_tools.identifiers import eisa_id, eisa_number, uuid_text  # noqa: E402
-from iasl import facts_of  # noqa: E402
-from acpidis_tools.listing import read_listing  # noqa: E402
-from acpidis_tools.names import FIELD_LISTS, Names  # noqa: E402
-from made_aml import buffer, device, method, packed, scope, table  # noqa: E402
-from acpidis_tools.resources import descriptors  # noqa: E402
-from running import REFUSED, Options, run_folder  # noqa: E402
-from acpidis_tools.standard import space_name, status_words  # noqa: E402
-from tally import Tally  # noqa: E402
+from tally import DEMO, TOP, Tally  # before the others, whose places it tells
+from acpidis_tools.decoding import Decoder, bits_text, flag_words
+from dumps import order_of
+from folders import read_folder
+from acpidis_tools.identifiers import eisa_id, eisa_number, uuid_text
+from iasl import facts_of
+from acpidis_tools.listing import read_listing
+from acpidis_tools.names import FIELD_LISTS, Names
+from made_aml import buffer, device, method, packed, scope, table
+from acpidis_tools.resources import descriptors
+from running import REFUSED, Options, run_folder
+from acpidis_tools.standard import space_name, status_words
 
 EISA = re.compile("[A-Z]{3}[0-9A-F]{4}")
-DEMO = TOP / "crates/acpidis_program/data/demo"
 LONG_NAME = "5C 5F 53 42 5F 00"  # \_SB_ and its NUL
 
-# Descriptors with their lines. What is behind a colon are the bytes without the end tag.
-ROWS = """
-IRQ 4 edge: 22 10 00
-IRQ 0, 15 edge: 22 01 80
-IRQ 3 level low shared: 23 08 00 18
-IRQ 3 edge wake: 23 08 00 21
-DMA 2 compatibility 8 bits: 2A 04 00
-DMA 1, 3 type B 16 bits bus master: 2A 0A 46
-StartDependentFnNoPri: 30
-StartDependentFn priority 1 robustness 2: 31 09
-EndDependentFn: 38
-IO 0x03F8 +0x8: 47 01 F8 03 F8 03 01 08
-IO 0x0100 to 0x0200 +0x8 align 0x10 10 bits decoded: 47 00 00 01 00 02 10 08
-FixedIO 0x0CF8 +0x8: 4B F8 0C 08
-FixedDMA 18 channel 4 32 bits: 55 12 00 04 00 02
-VendorShort 3 bytes: 73 01 02 03
-Memory24 0x0C0000 to 0x0D0000 +0x8000 align 0x1000: 81 09 00 01 00 0C 00 0D 00 10 80 00
-Memory32 0xE0000000 to 0xF0000000 +0x100000 align 0x1000 read-only: \
-85 11 00 00 00 00 00 E0 00 00 00 F0 00 10 00 00 00 00 10 00
-Memory32Fixed 0xFED00000 +0x400: 86 09 00 01 00 00 D0 FE 00 04 00 00
-Memory32Fixed 0xFED00000 +0x400 read-only: 86 09 00 00 00 00 D0 FE 00 04 00 00
-Register 0xB2 SystemIO 8 bits: 82 0C 00 01 08 00 00 B2 00 00 00 00 00 00 00
-Register 0x10 FFixedHW 1 bits from bit 2 by bytes: 82 0C 00 7F 01 02 01 10 00 00 00 00 00 00 00
-VendorLong 2 bytes: 84 02 00 AA BB
-WordBusNumber 0x0000 to 0x00FF +0x100: 88 0D 00 02 0C 00 00 00 00 00 FF 00 00 00 00 01
-WordIO 0x0000 to 0x0CF7 +0xCF8: 88 0D 00 01 0C 03 00 00 00 00 F7 0C 00 00 F8 0C
-DWordMemory 0x000A0000 to 0x000BFFFF +0x20000 read-only: \
-87 17 00 00 0C 02 00 00 00 00 00 00 0A 00 FF FF 0B 00 00 00 00 00 00 00 02 00
-DWordMemory 0xC0000000 to 0xFEBFFFFF +0x3EC00000 consumer subtractive first not fixed last not fixed write-combining NVS: \
-87 17 00 00 03 1D 00 00 00 00 00 00 00 C0 FF FF BF FE 00 00 00 00 00 00 C0 3E
-QWordMemory 0x0000000100000000 to 0x00000001FFFFFFFF +0x100000000 prefetchable granularity 0xFFF translation 0x1000 by \\_SB_: \
-8A 32 00 00 0C 07 FF 0F 00 00 00 00 00 00 00 00 00 00 01 00 00 00 FF FF FF FF 01 00 00 00 00 10 00 00 00 00 00 00 \
-00 00 00 00 01 00 00 00 00 LONG
-DWordSpace 0x00000000 to 0x000000FF +0x100 of kind 0xC0: \
-87 17 00 C0 0C 00 00 00 00 00 00 00 00 00 FF 00 00 00 00 00 00 00 00 01 00 00
-ExtendedMemory 0x0000000000001000 to 0x0000000000001FFF +0x1000: \
-8B 35 00 00 0C 03 01 00 00 00 00 00 00 00 00 00 00 10 00 00 00 00 00 00 FF 1F 00 00 00 00 00 00 \
-00 00 00 00 00 00 00 00 00 10 00 00 00 00 00 00 08 00 00 00 00 00 00 00
-Interrupt 33 level: 89 06 00 01 01 21 00 00 00
-Interrupt 14, 15 edge low shared wake: 89 0A 00 1F 02 0E 00 00 00 0F 00 00 00
-Interrupt 33 producer level by \\_SB_: 89 0D 00 00 01 21 00 00 00 00 LONG
-GpioInt 5 level low pull up debounce 100 by \\_SB_: \
-8C 1C 00 01 00 01 00 02 00 01 00 00 64 00 17 00 00 19 00 1F 00 00 00 05 00 LONG
-GpioIo 1, 2 input shared by \\_SB_: 8C 1E 00 01 01 01 00 09 00 00 00 00 00 00 17 00 00 1B 00 21 00 00 00 01 00 02 00 LONG
-I2cSerialBus 0x002C 400000 Hz by \\_SB_: 8E 15 00 01 00 01 02 00 00 01 06 00 80 1A 06 00 2C 00 LONG
-SpiSerialBus 0x0001 1000000 Hz 8 bits 3 wires second phase by \\_SB_: \
-8E 18 00 01 00 02 02 01 00 01 09 00 40 42 0F 00 08 01 00 01 00 LONG
-UartSerialBus 115200 baud by \\_SB_: 8E 19 00 01 00 03 02 00 00 01 0A 00 00 C2 01 00 20 00 20 00 00 00 LONG
-"""
-# Bytes that are no template: each breaks a rule of the standard, or has more behind its end.
-NO_TEMPLATES = """
-22 10 00
-22 10 00 79
-22 10 00 79 00 00
-22 10 00 78
-21 10 79 00
-86 08 00 01 00 00 D0 FE 00 04 00 79 00
-86 09 00 01 00 00 D0 FE 00 04 00 79 00
-0A 01 02 79 00
-80 00 00 79 00
-94 00 00 79 00
-8C 14 00 01 00 01 00 02 00 01 00 00 64 00 17 00 00 19 00 1F 00 00 00 79 00
-89 06 00 01 02 21 00 00 00 79 00
-8E 15 00 01 00 09 02 00 00 01 06 00 80 1A 06 00 2C 00 5C 5F 53 42 5F 00 79 00
-"""
+# Rows of descriptors, bytes that are no template, and what is said of the lines of the set below.
+ROWS, NO_TEMPLATES, WANTED = (
+    [line for line in part.splitlines() if not line.startswith("#")]
+    for part in (TOP / "tests/resources.txt").read_text().split("\n\n")
+)
 
 
 def data_of(text: str) -> bytes:
@@ -111,7 +46,7 @@ def data_of(text: str) -> bytes:
 
 def check_rows(checks: Tally) -> None:
     whole, texts = b"", []
-    for row in ROWS.strip().splitlines():
+    for row in ROWS:
         wanted, _, code = row.rpartition(": ")
         data = data_of(code)
         found = descriptors(data + b"\x79\0")
@@ -122,7 +57,7 @@ def check_rows(checks: Tally) -> None:
         checks.is_same(f"cuts of {code}", [cut for cut in cuts if cut and len(cut) > 1], [])
     checks.is_same("all of them", [one.text for one in descriptors(whole + b"\x79\0") or []], texts)
     checks.is_same("none", descriptors(b"\x79\0"), [])
-    for code in NO_TEMPLATES.strip().splitlines():
+    for code in NO_TEMPLATES:
         checks.is_same(f"no template: {code}", descriptors(data_of(code)), None)
 
 
@@ -162,27 +97,6 @@ DEVICE = (
 PINS = "8C 1E 00 01 01 01 00 09 00 00 00 00 00 00 17 00 00 1B 00 21 00 00 00 01 00 02 00 LONG"
 LINES = b"\x5B\x80GPO0\x08\0\1" + packed(b"\x5B\x81", b"GPO0\1" + b"\2" + buffer(data_of(PINS)) + b"PIN0\1")
 CODE = scope(b"\\_SB_", device(b"EC0_", DEVICE, LINES))
-WANTED = """
-Name (_HID, 0x090CD041): PNP0C09 embedded controller
-Name (_CID, Package (0x02) {"ACPI0007", 0x0301D041}): ACPI0007 processor; PNP0103
-Name (_STA, 0x0F): present, enabled, shown, functioning
-OperationRegion (REG0, 0x01, 0xB2, One): SystemIO
-Field (REG0, 0x11) {: ByteAcc, Lock, Preserve
-AAAA, 1: byte 0x01, bit 0
-BBBB, 7: byte 0x01, bits 1 to 7
-CCCC, 32: bytes 0x02 to 0x05
-Name (BUF0,: Memory32Fixed 0xFED00000 +0x400 (patched by WORD, BASE); IRQ 0 edge (patched by BIT0)
-Method (_CRS, 0, NotSerialized, 0) {: current resources
-Method (_Q13, 0, NotSerialized, 0) {: query 0x13
-Method (_OSC, 0, NotSerialized, 0) {: capabilities of the operating system
-If (LEqual (Arg0,: UUID 33db4d5b-1ff7-401c-9657-7441c03dd766 PCI host bridge
-Method (_PRS, 0, NotSerialized, 0) {: possible resources
-Name (BUF1,: Memory32Fixed 0xFED00000 +0x400 (patched by LEN0); IRQ 0 edge
-OperationRegion (GPO0, 0x08, Zero, One): GeneralPurposeIo
-Field (GPO0, 0x01) {: ByteAcc, NoLock, Preserve
-Connection (: GpioIo 1, 2 input shared by \\_SB_
-PIN0, 1: byte 0x00, bit 0
-"""
 
 
 def package(*elements: bytes) -> bytes:
@@ -244,7 +158,7 @@ def check_notes(checks: Tally, folder: pathlib.Path) -> None:
         notes = decoder.notes(line) + [text for one in decoder.templates(line) for text in one.texts()]
         if notes:
             said["".join(line.pieces)] = "; ".join(notes)
-    wanted = dict(row.rpartition(": ")[::2] for row in WANTED.strip().splitlines())
+    wanted = dict(row.rpartition(": ")[::2] for row in WANTED)
     short = {next((head for head in wanted if text.startswith(head)), text): note for text, note in said.items()}
     checks.is_same("the notes of a set", short, wanted)
 
@@ -303,7 +217,7 @@ def made_set(room: pathlib.Path) -> pathlib.Path:
     """The set of the notes, and an SSDT with a buffer of all descriptors that iasl of 2020 knows."""
     folder = room / "made"
     folder.mkdir()
-    rows = [row.rpartition(": ") for row in ROWS.strip().splitlines()]
+    rows = [row.rpartition(": ") for row in ROWS]
     # iasl wants those that begin and end a list of choices in one buffer.
     choices = [code for text, _, code in rows if "Dependent" in text]
     codes = [code for text, _, code in rows if "Dependent" not in text] + [" ".join([*choices[:2], rows[0][2], choices[2]])]

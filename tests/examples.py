@@ -29,54 +29,78 @@ def method(name, body, flags=0):
 SUN = b"\x08_SUN\x01"
 EJECT = b"\\\x2f\x03_SB_PHPRPCEJ_SUN\x0a\x07"
 EJECTS = block(b"\x10", b"\\_SB_" + b"".join(device(b"S00%d" % n, SUN, method(b"_EJ0", EJECT, 1)) for n in range(3)))
-# DVNT (\_SB_.PCIU, One) DVNT (\_SB_.PCID, 0x03) Reset (EVNT)
-ROUNDS = (
-    method(b"DVNT", b"", 2)
-    + b"\x5b\x02EVNT"
-    + method(b"PCNT", b"DVNT\\\x2e_SB_PCIU\x01DVNT\\\x2e_SB_PCID\x0a\x03\x5b\x26EVNT")
-)
-PLACES = device(
-    b"DEV0", method(b"AAAA", b"\xa4ZZZZ\x01"), method(b"BBBB", b"\xa4^YYYY"), method(b"CCCC", b"\xa4^^^XXXX")
-)
-OUTSIDE = b"\x08VALU\x11\x07VVVV\0\0" + method(b"MAIN", b"\xa4VVVV")
 SIZE = b"\x94\x87FOO_\x0a\x05\x0a\x04"  # LGreater (SizeOf (FOO_ (0x05)), 0x04)
-TARGETS = (
-    method(b"FOO_", b"\xa4\x68", 1)
-    + b"\x08BAR_\x01"
-    + method(b"MAIN", block(b"\xa0", SIZE) + b"\x86FOO_\x01\x0a\x80\x5b\x23FOO_\x62\xff\xff")
-    + method(b"GOOD", b"\x70FOO_BAR_BAR_\x71BAR_\x08FOO_\x01\x75FOO_")
-    + b"\x06FOO_ALIA"
-    + method(b"LAST", b"\x72\x01\x01ALIA")
-    + b"\x15EXTM\x08\x02"
-    + method(b"MORE", b"\x87EXTM")
-    + method(b"REFS", b"\x5b\x12FOO_\x60\xa3\x70\x71FOO_\x60" + block(b"\xa0", b"\x8eFOO_\xa3") + b"\x8eFOO_\x0a\x07")
-)
 BRANCH = b"\x08CCCC\0" + device(b"DEV0", SUN, block(b"\xa0", b"\x93CCCC\x01" + method(b"FOO_", b"", 1)))
-ANY_RUN = "`--any-run` reads it, as whatever a run would declare"
-IASL = "`iasl -d` reads this table by itself, with guesses"
-# A call in front of its method, with a body that waits too; a name that nothing declares; runs that differ.
-AHEAD = method(b"MAIN", b"QQQQ\x01") + b"PCRB\x0a\xad" + method(b"PCRB", b"", 1)
-PREDICATE = block(b"\xa0", b"ZZZZ\x08WIN_\0")
-DIFFERS = method(b"FOO_", b"", 1) + device(
-    b"DEV0", block(b"\xa0", b"\x01" + method(b"FOO_", b"", 2)), method(b"BAR_", b"FOO_\x01"), method(b"SIZE", b"\x87FOO_")
-)
-SECOND = block(b"\xa0", b"\x01\x08FOO_\0") + method(b"FOO_", b"", 3) + block(b"\xa0", b"\x87FOO_\xa3")
-PROMISED = b"\x15PCRB\x08\x02PCRB\x01\x01" + method(b"PCRB", b"", 1)
-WANTS = block(b"\x10", b"\\RP99" + method(b"HOTP", b"", 2))
 REGION = b"\x5b\x80REG0\0"
+# The sets that tests/examples.txt names: the AML of the DSDT, and of SSDTs
+SETS = {
+    "ejects": [EJECTS],
+    # DVNT (\_SB_.PCIU, One) DVNT (\_SB_.PCID, 0x03) Reset (EVNT)
+    "rounds": [
+        method(b"DVNT", b"", 2)
+        + b"\x5b\x02EVNT"
+        + method(b"PCNT", b"DVNT\\\x2e_SB_PCIU\x01DVNT\\\x2e_SB_PCID\x0a\x03\x5b\x26EVNT")
+    ],
+    "places": [
+        device(b"DEV0", method(b"AAAA", b"\xa4ZZZZ\x01"), method(b"BBBB", b"\xa4^YYYY"), method(b"CCCC", b"\xa4^^^XXXX"))
+    ],
+    "outside": [b"\x08VALU\x11\x07VVVV\0\0" + method(b"MAIN", b"\xa4VVVV")],
+    "targets": [
+        method(b"FOO_", b"\xa4\x68", 1)
+        + b"\x08BAR_\x01"
+        + method(b"MAIN", block(b"\xa0", SIZE) + b"\x86FOO_\x01\x0a\x80\x5b\x23FOO_\x62\xff\xff")
+        + method(b"GOOD", b"\x70FOO_BAR_BAR_\x71BAR_\x08FOO_\x01\x75FOO_")
+        + b"\x06FOO_ALIA"
+        + method(b"LAST", b"\x72\x01\x01ALIA")
+        + b"\x15EXTM\x08\x02"
+        + method(b"MORE", b"\x87EXTM")
+        + method(b"REFS", b"\x5b\x12FOO_\x60\xa3\x70\x71FOO_\x60" + block(b"\xa0", b"\x8eFOO_\xa3") + b"\x8eFOO_\x0a\x07")
+    ],
+    "branch": [BRANCH],
+    # A call in front of its method, with a body that waits too
+    "ahead": [method(b"MAIN", b"QQQQ\x01") + b"PCRB\x0a\xad" + method(b"PCRB", b"", 1)],
+    "predicate": [block(b"\xa0", b"ZZZZ\x08WIN_\0")],
+    "differs": [
+        method(b"FOO_", b"", 1)
+        + device(
+            b"DEV0", block(b"\xa0", b"\x01" + method(b"FOO_", b"", 2)), method(b"BAR_", b"FOO_\x01"), method(b"SIZE", b"\x87FOO_")
+        )
+    ],
+    "second": [block(b"\xa0", b"\x01\x08FOO_\0") + method(b"FOO_", b"", 3) + block(b"\xa0", b"\x87FOO_\xa3")],
+    "promised": [b"\x15PCRB\x08\x02PCRB\x01\x01" + method(b"PCRB", b"", 1)],
+    "shifted": [method(b"FOO_", b"", 1) + REGION + b"FOO_\x01\x04"],
+    "twice": [SUN, SUN],
+    "wants": [SUN, block(b"\x10", b"\\RP99" + method(b"HOTP", b"", 2)), device(b"RP99")],
+    "argument": [REGION + b"FOO_\x01" + method(b"FOO_", b"", 1)],
+    "returns": [b"\xa4\0"],
+}
+GIVEN = "\\PCIU 0\n\\_SB_.PCIU 0\n\\_SB_.PCID 0\n"
 BAD_NAME = "a\" {\n      Raw {5A}\n$(touch bad)`touch bad`.dat"
 # The line of a table, without which nothing is a listing
 LINE = 'Table "a" "DSDT" Length 36 Revision 2 Oem "TEST  " "EXAMPLE " 00000001 Creator "TEST" 00000001'
+# A listing whose row of a path has marks
+MARKED = f"""{LINE}
+Namespace 1
+  \\FOO_ Method 1 Maybe Times 2
+DefinitionBlock ("a") {{
+  Notify (FOO_, One)
+}}
+"""
 
 
 class Tries(Tally):
-    def folder(self, name, code, file="dsdt.dat"):
+    def folder(self, name, code, file="dsdt.dat", *ssdts):
         (self.room / name).mkdir()
         (self.room / name / file).write_bytes(table(b"DSDT", code))
+        for number, more in enumerate(ssdts, 1):
+            (self.room / name / f"ssdt{number}.dat").write_bytes(table(b"SSDT", more))
         return name
 
-    def add(self, name, code, file):
-        (self.room / name / file).write_bytes(table(b"SSDT", code))
+    def fake(self, name, text):
+        """A program in place of acpidis."""
+        (self.room / name).write_text(f"#!/bin/sh\n{text}")
+        (self.room / name).chmod(0o755)
+        return str(self.room / name)
 
     def run(self, script, *words, **variables):
         words, how = [sys.executable, TOP / "examples" / script, *words], {"capture_output": True, "text": True, "check": False}
@@ -90,30 +114,23 @@ class Tries(Tally):
         self.is_so(f"{name}: status {run.returncode}, not {status}\n{printed}", is_right)
 
 
-def try_missing(tries):
-    ejects = tries.folder("ejects", EJECTS)
-    found = tries.run("missing.py", ejects)
-    first = "# \\_SB_.PHPR.PCEJ: 3 bodies wait, the first \\_SB_.S000._EJ0 at 0"
-    reads = ["#   with 0 or 1: 3 read with values that stand alone as terms", "#   with 2: 3 read"]
-    tries.row("names", found, 0, "\\_SB_.PHPR.PCEJ ?\n", first, *reads, "#   with 3 to 7: 3 stay raw, Truncated at 21")
-    found = tries.run("missing.py", "--try", ejects)
-    tries.row("the only count", found, 0, "\\_SB_.PHPR.PCEJ 2\n", first)
-    (tries.room / "counts").write_text(found.stdout)
-    found = tries.run("missing.py", "--externals", "counts", ejects)
-    tries.row("counts that are known", found, 0, "", "# no body waits for a name")
-    rounds = tries.folder("rounds", ROUNDS)
-    found = tries.run("missing.py", rounds)
-    second = ["# Round 2", "# \\_SB_.PCID: 1 body waits, the first \\PCNT at 19", "#   with 0: 1 reads"]
-    tries.row("rounds", found, 0, "\\_SB_.PCIU ?\n\\_SB_.PCID ?\n", *second)
-    found = tries.run("missing.py", "--try", rounds)
-    doubt = "#   no line, since not just one count reads"
-    tries.row("no guess", found, 0, "\\_SB_.PCID 0\n", "#   with 0 or 1: 1 reads", doubt)
-    found = tries.run("missing.py", tries.folder("places", PLACES))
-    above = "# \\DEV0.CCCC stays raw: UnknownName at 1"
-    tries.row("places", found, 0, "\\ZZZZ ?\n\\DEV0.YYYY ?\n", "#   0 is also the count of what is no method", above)
-    found = tries.run("missing.py", "--try", tries.folder("outside", OUTSIDE))
-    refused = '#   with 1 to 7: the set is refused: table "dsdt.dat": ModuleCall'
-    tries.row("a value outside the methods", found, 0, "\\VVVV 0\n", refused)
+def try_rows(tries):
+    """The rows of tests/examples.txt."""
+    for name, (dsdt, *ssdts) in SETS.items():
+        tries.folder(name, dsdt, "dsdt.dat", *ssdts)
+    (tries.room / "given").write_text(GIVEN)
+    tries.fake("marked", f"cat <<'END'\n{MARKED}END\n")
+    for part in (TOP / "tests/examples.txt").read_text().split("\n== ")[1:]:
+        name, command, *lines, ending = part.strip("\n").split("\n")
+        words = command.split()[1:]
+        variables = {"ACPIDIS": str(tries.room / words.pop(0).partition("=")[2])} if "=" in words[0] else {}
+        file = words.pop()[1:] if words[-1].startswith(">") else None
+        run = tries.run(*words, **variables)
+        said = [line.removeprefix("2> ") for line in lines if line.startswith("2> ")]
+        out = "".join(f"{line}\n" for line in lines if not line.startswith("2> "))
+        tries.row(name, run, int(ending.removeprefix("status ")), out, *said)
+        if file:
+            (tries.room / file).write_text(run.stdout)
 
 
 def try_many_missing(tries):
@@ -132,143 +149,24 @@ def try_many_missing(tries):
 
 def counting(tries, name):
     """The program, with a line in a file for each run of it."""
-    file = tries.room / f"{name}.sh"
     run = subprocess.run([TOP / "acpidis", "--program"], capture_output=True, text=True, check=False)
     program = os.environ.get("ACPIDIS") or run.stdout.rstrip("\n")
-    file.write_text(f"#!/bin/sh\necho run >>'{tries.room}/{name}.calls'\nexec '{program}' \"$@\"\n")
-    file.chmod(0o755)
-    return str(file)
-
-
-def try_missing_outside(tries):
-    """Names that code outside the methods waits for, and those in which runs differ."""
-    found = tries.run("missing.py", "--try", "--any-run", tries.folder("ahead", AHEAD))
-    said = [
-        "# \\PCRB: it stands outside the methods", '#   with 0: the set is refused: table "dsdt.dat": ModuleCall \\PCRB',
-        "#   with 1: the set is read", "# \\QQQQ: 1 body waits, the first \\MAIN at 0",
-    ]
-    tries.row("a call in front of its method", found, 0, "\\PCRB 1\n\\QQQQ 1\n", *said)
-    found = tries.run("missing.py", "--any-run", tries.folder("predicate", PREDICATE))
-    said = ["#   with 0: the set is read", '#   with 1 to 7: the set is refused: table "dsdt.dat": NotHere at 7']
-    tries.row("a predicate", found, 0, "\\ZZZZ ?\n", *said)
-    found = tries.run("missing.py", "--try", "--any-run", tries.folder("differs", DIFFERS))
-    said = ["#   with 0: 1 reads with values that stand alone as terms", "#   with 1: 1 reads"]
-    tries.row("runs that differ", found, 0, "\\FOO_ 1\n", *said)
-    found = tries.run("missing.py", "--any-run", tries.folder("promised", PROMISED))
-    tries.row("no count helps", found, 1, "", 'missing: the set is refused: table "dsdt.dat": ModuleCall \\PCRB')
-
-
-def try_calls_outside(tries):
-    wanted = "\\DEV0.SIZE: FOO_ takes 2, in SizeOf: SizeOf (FOO_)\n"
-    left = "calls: 1 raw body isn't looked through"
-    tries.row("what a name may mean", tries.run("calls.py", "--any-run", "differs"), 3, wanted, left)
-    second = tries.folder("second", SECOND)
-    wanted = "\\: FOO_ takes 3, in SizeOf: If (SizeOf (FOO_)) {\n"
-    tries.row("a second declaration", tries.run("calls.py", "--any-run", second), 3, wanted)
-    refused = 'calls: the set is refused: table "dsdt.dat": ModuleCall \\ZZZZ'
-    tries.row("a name outside the methods", tries.run("calls.py", "--any-run", "predicate"), 1, "", refused)
-
-
-def try_calls(tries):
-    targets = tries.folder("targets", TARGETS)
-    wanted = (
-        "\\MAIN: FOO_ takes 1, in SizeOf: If (LGreater (SizeOf (FOO_), 0x05)) {\n"
-        "\\MAIN: FOO_ takes 1, in Notify: Notify (FOO_, One)\n"
-        "\\MAIN: FOO_ takes 1, in Acquire: Acquire (FOO_, 0xFF62)\n"
-        "\\LAST: ALIA takes 1, in Add: Add (One, One, ALIA)\n"
-        "\\MORE: EXTM takes 2, in SizeOf: SizeOf (EXTM)\n"
-        "\\REFS: FOO_ takes 1, in ObjectType: ObjectType (FOO_)\n"
-    )
-    tries.row("calls", tries.run("calls.py", targets), 3, wanted)
-    tries.row("no calls", tries.run("calls.py", "rounds"), 0, "", "calls: 1 raw body isn't looked through")
-    (tries.room / "counts").write_text("\\PCIU 0\n\\_SB_.PCIU 0\n\\_SB_.PCID 0\n")
-    tries.row("given counts", tries.run("calls.py", "--externals", "counts", "rounds"), 0, "")
-    text = f"{LINE}\nNamespace 1\n  \\FOO_ Method 1 Maybe Times 2\nDefinitionBlock (\"a\") {{\n  Notify (FOO_, One)\n}}\n"
-    fake = tries.room / "marked"
-    fake.write_text(f"#!/bin/sh\ncat <<'END'\n{text}END\n")
-    fake.chmod(0o755)
-    wanted = "\\: FOO_ takes 1, in Notify: Notify (FOO_, One)\n"
-    tries.row("a row with marks", tries.run("calls.py", "rounds", ACPIDIS=str(fake)), 3, wanted)
+    return tries.fake(f"{name}.sh", f"echo run >>'{tries.room}/{name}.calls'\nexec '{program}' \"$@\"\n")
 
 
 def try_refused(tries):
-    """Each set with the lines that come, the reason first."""
-    wanted = (
-        'table "dsdt.dat": ModuleCode at 20\n'
-        "dsdt.dat, offset 20, byte 56 of the file, in the scope \\DEV0\n"
-        "  bytes A0 40 01 93 43 43 43 43 01 14 47 00 46 4F 4F 5F ..\n"
-        "  If (LEqual (CCCC, One)) {\n"
-        "    Method (FOO_, 1) {..}\n"
-        "  }\n"
-        "  in Device (DEV0), offset 6\n"
-        "  behind Name (_SUN, One), offset 14\n"
-        "Outside the methods this would run while the table is loaded.\n"
-        f"Way on: {ANY_RUN}; or {IASL}\n"
-    )
-    tries.row("code outside methods", tries.run("refused.py", tries.folder("branch", BRANCH)), 1, wanted)
-    shifted = tries.folder("shifted", method(b"FOO_", b"", 1) + REGION + b"FOO_\x01\x04")
+    """What takes no row: a line among others, and what isn't said."""
     told = "  FOO_ takes 1 argument (Method at dsdt.dat, offset 0, byte 36 of the file), and was read without them"
-    tries.is_so("a call that shifts what follows", told in tries.run("refused.py", shifted).stdout)
-    tries.row("a set that is read", tries.run("refused.py", "targets"), 0, "the set isn't refused\n")
-
-
-def try_declarations(tries):
-    """Who declares and who wants the path of a refusal."""
-    tries.folder("twice", SUN)
-    tries.add("twice", SUN, "ssdt1.dat")
-    wanted = (
-        'table "ssdt1.dat": Duplicate \\_SUN\n'
-        "\\_SUN is declared\n"
-        "  as a Name at dsdt.dat, offset 0, byte 36 of the file\n"
-        "  as a Name at ssdt1.dat, offset 0, byte 36 of the file\n"
-        "The path is declared twice.\n"
-        f"Way on: {ANY_RUN}; or take the table out\n"
-    )
-    tries.row("a path declared twice", tries.run("refused.py", "twice"), 1, wanted)
-    tries.folder("wants", SUN)
-    tries.add("wants", WANTS, "ssdt1.dat")
-    tries.add("wants", device(b"RP99"), "ssdt2.dat")
-    wanted = (
-        'table "ssdt1.dat": ScopeMissing \\RP99\n'
-        "\\RP99 is wanted by Scope (\\RP99) at ssdt1.dat, offset 0, byte 36 of the file, in \\\n"
-        "  declared: Device at ssdt2.dat, offset 0, byte 36 of the file\n"
-        "A Scope wants a path that nothing declares before it.\n"
-        f"Way on: add the table that declares it; or load that table before it; or {ANY_RUN}; or take the table out\n"
-    )
-    tries.row("a path that is missing", tries.run("refused.py", "wants"), 1, wanted)
-    tries.folder("argument", REGION + b"FOO_\x01" + method(b"FOO_", b"", 1))
-    wanted = (
-        'table "dsdt.dat": ModuleCall\n'
-        "FOO_ at dsdt.dat, offset 7, byte 43 of the file, in the scope \\, in OperationRegion (REG0, 0x00, FOO_, One)\n"
-        "  read with 0 arguments; it takes 1 argument: Method at dsdt.dat, offset 12, byte 48 of the file\n"
-        "Outside the methods a name that takes arguments stands where a value is wanted.\n"
-        f"Way on: {ANY_RUN}; or {IASL}\n"
-    )
-    tries.row("a call in an argument", tries.run("refused.py", "argument"), 1, wanted)
-
-
-def try_refused_runs(tries):
-    """What --any-run refuses."""
-    wanted = (
-        'table "dsdt.dat": ModuleCall \\ZZZZ\n'
-        "ZZZZ at dsdt.dat, offset 3, byte 39 of the file, in the scope \\, in If (ZZZZ)\n"
-        "  read with 0 arguments; nothing tells how many it takes\n"
-        "Outside the methods stands a name whose count nothing tells, or another at the end than before it.\n"
-        "Way on: `--externals FILE` with its count (docs/tables.md); or `--unknown-zero`, where nothing declares it and it"
-        " is no call; or a header alone in its place lists the SSDTs (docs/refusals.md)\n"
-    )
-    tries.row("a name that nothing tells of", tries.run("refused.py", "--any-run", "predicate"), 1, wanted)
-    tries.row("a set that it reads", tries.run("refused.py", "--any-run", "twice"), 0, "the set isn't refused\n")
-    found = tries.run("refused.py", tries.folder("returns", b"\xa4\0")).stdout
-    tries.is_so("a Return, which the option doesn't take", ANY_RUN not in found and "A Return outside the methods" in found)
+    tries.is_so("a call that shifts what follows", told in tries.run("refused.py", "shifted").stdout)
+    found = tries.run("refused.py", "returns").stdout
+    is_so = "`--any-run`" not in found and "A Return outside the methods" in found
+    tries.is_so("a Return, which the option doesn't take", is_so)
 
 
 def try_options(tries):
     """Options that a program's help has are passed on, whatever they are, and others are refused."""
     said = tries.room / "said"
-    fake = tries.room / "later"
-    fake.write_text(f"""#!/bin/sh
-case $1 in --help) exec cat <<'END'
+    fake = tries.fake("later", f"""case $1 in --help) exec cat <<'END'
 Usage: acpidis [OPTIONS] <FOLDER>
 
 Options:
@@ -286,17 +184,17 @@ echo '{LINE}'
 echo Namespace 0
 echo 'DefinitionBlock ("a") {{'
 echo }}
-""")
-    fake.chmod(0o755)
+"""
+    )
     lines = {"calls.py": "", "missing.py": "", "refused.py": "the set isn't refused\n"}
     for script, line in lines.items():
         said.write_text("")
-        found = tries.run(script, "--from", "a file", "rounds", "--later", "--from=--later", ACPIDIS=str(fake))
+        found = tries.run(script, "--from", "a file", "rounds", "--later", "--from=--later", ACPIDIS=fake)
         tries.row(f"{script}: options", found, 0, line)
         passed = said.read_text()
         tries.is_so(f"{script}: words of options\n{passed}", passed.startswith("--from\n--later\n--later\n"))
         for option in ("--check", "--version", "--other", "--froma", "--later=1"):
-            found = tries.run(script, option, "rounds", ACPIDIS=str(fake))
+            found = tries.run(script, option, "rounds", ACPIDIS=fake)
             tries.is_so(f"{script}: {option}", found.returncode == 2 and not found.stdout)
         tries.is_so(f"{script}: no run with them", said.read_text() == passed)
 
@@ -345,7 +243,8 @@ def try_deep(tries):
     tries.folder("long", longs + b"\x08" + deep[:-4] + b"X000\0")
     tries.folder("below", block(b"\x14", deep + b"\0" + b"\x70XXXX\x60" * 300))
     for folder in ("nested", "long", "below"):
-        for script, *words in (("refused.py",), ("refused.py", "--any-run"), ("calls.py", "--any-run"), ("missing.py", "--any-run")):
+        for command in ("refused.py", "refused.py --any-run", "calls.py --any-run", "missing.py --any-run"):
+            script, *words = command.split()
             before = resource.getrusage(resource.RUSAGE_CHILDREN).ru_utime
             run = tries.run(script, *words, folder)
             seconds = resource.getrusage(resource.RUSAGE_CHILDREN).ru_utime - before
@@ -371,39 +270,33 @@ def try_hostile(tries):
         tries.row(f"{script}: a folder like an option", tries.run(script, "--", "--try"), 1, "", refused)
         none = f"{name}: no program acpidis: install it, or name it in ACPIDIS"
         tries.row(f"{script}: no program", tries.run(script, text, ACPIDIS="/none/acpidis"), 2, "", none)
-        for number, line in enumerate(("acpidis: body \\A: UnknownName at 0", "Raw {5A}", "")):
-            fake = tries.room / f"{name}{number}"
-            fake.write_text(f"#!/bin/sh\necho '{LINE}'\necho Namespace 0\necho 'DefinitionBlock (\"a\") {{'\necho '{line}'\necho '{line}' >&2\nexit 3\n")
-            fake.chmod(0o755)
+        for line in ("acpidis: body \\A: UnknownName at 0", "Raw {5A}", ""):
+            lines = f"echo '{LINE}'\necho Namespace 0\necho 'DefinitionBlock (\"a\") {{'\necho '{line}'\n"
+            lines += f"echo '{line}' >&2\nexit 3\n"
             misfit = f"{name}: the lines of standard error don't fit the raw bodies of the text"
-            tries.row(f"{script}: another program", tries.run(script, text, ACPIDIS=str(fake)), 2, "", misfit)
-        fake.write_text("#!/bin/sh\necho 'Raw {A}'\nexit 3\n")
-        tries.is_so(f"{script}: no bytes", tries.run(script, text, ACPIDIS=str(fake)).returncode in (0, 2))
-        fake.write_text("#!/bin/sh\nkill -9 $$\n")
-        tries.is_so(f"{script}: a signal", tries.run(script, text, ACPIDIS=str(fake)).returncode == 2)
+            tries.row(f"{script}: another program", tries.run(script, text, ACPIDIS=tries.fake("other", lines)), 2, "", misfit)
+        found = tries.run(script, text, ACPIDIS=tries.fake("other", "echo 'Raw {A}'\nexit 3\n"))
+        tries.is_so(f"{script}: no bytes", found.returncode in (0, 2))
+        fake = tries.fake("other", "kill -9 $$\n")
+        tries.is_so(f"{script}: a signal", tries.run(script, text, ACPIDIS=fake).returncode == 2)
         tries.is_so(f"{script}: no option", tries.run(script, "--none", text).returncode == 2)
         tries.is_so(f"{script}: no folder named", tries.run(script).returncode == 2)
     none = "refused: no program acpidis: install it, or name it in ACPIDIS"
     tries.row("refused.py: no program", tries.run("refused.py", text, ACPIDIS="/none/acpidis"), 2, "", none)
-    tries.is_so("refused.py: a signal", tries.run("refused.py", text, ACPIDIS=str(fake)).returncode == 2)
+    tries.is_so("refused.py: a signal", tries.run("refused.py", text, ACPIDIS=fake).returncode == 2)
     wanted = "cannot read folder\nWay on: look at `ls -la` of it\n"
     tries.row("refused.py: no folder", tries.run("refused.py", "nowhere"), 1, wanted)
-    fake.write_text("#!/bin/sh\necho 'acpidis: table \"dsdt.dat\": BadName at 999999' >&2\nexit 1\n")
-    tries.is_so("refused.py: another program", tries.run("refused.py", text, ACPIDIS=str(fake)).returncode == 1)
+    fake = tries.fake("other", "echo 'acpidis: table \"dsdt.dat\": BadName at 999999' >&2\nexit 1\n")
+    tries.is_so("refused.py: another program", tries.run("refused.py", text, ACPIDIS=fake).returncode == 1)
     tries.is_so("nothing is executed", not list(tries.room.glob("**/bad")))
 
 
 def main():
     with tempfile.TemporaryDirectory() as room, contextlib.suppress(Stopped):
         tries = Tries(pathlib.Path(room), "--stop" in sys.argv[1:])
-        try_missing(tries)
+        try_rows(tries)
         try_many_missing(tries)
-        try_missing_outside(tries)
-        try_calls(tries)
-        try_calls_outside(tries)
         try_refused(tries)
-        try_declarations(tries)
-        try_refused_runs(tries)
         try_options(tries)
         try_damage(tries)
         try_deep(tries)

@@ -9,7 +9,7 @@ are those that the independent reading says. Then come the tables, resources and
 here, many machines with shared code, and what the command line refuses. The last line is 'N passed, N failed'.
 """
 
-import argparse
+import ast
 import contextlib
 import hashlib
 import importlib.util
@@ -17,189 +17,51 @@ import io
 import json
 import os
 import pathlib
-import random
 import sqlite3
 import subprocess
 import sys
 import tempfile
 
-sys.dont_write_bytecode = True
-TOP = pathlib.Path(__file__).resolve().parent.parent
-sys.path[:0] = [str(TOP / "tests/oracle"), str(TOP / "tests")]
-sys.path.append(str(TOP / "examples"))
-
-from acpidis_tools import command  # noqa: E402
-from board import VERSIONS  # noqa: E402
-from dumps import aml_of, order_of  # noqa: E402
-from facts_picture import columns_text, picture  # noqa: E402
-from folders import read_folder  # noqa: E402
-from loading import path_text  # noqa: E402
-from made_aml import buffer, device, table  # noqa: E402
-from made_sets import SetMaker  # noqa: E402
-from page import Checks, first_difference  # noqa: E402
-from reading import EXTERNAL, FIELD_LISTS, Name, Named, Op  # noqa: E402
-from running import REFUSED, Options, run_folder  # noqa: E402
-from acpidis_tools.schema import COLUMNS  # noqa: E402
-from telling import DEMO, HOSTILE_FILES, PAGES_FILES, RUNS_FILES, Teller, may_mean, written  # noqa: E402
+from tally import TOP, parser  # before the others, whose places it tells
+from acpidis_tools import command
+from board import VERSIONS
+from dumps import aml_of, order_of
+from folders import read_folder
+from loading import path_text
+from made_aml import buffer, device, table
+from page import Checks, first_difference
+from running import REFUSED, Options, Outcome, run_folder
+from acpidis_tools.schema import COLUMNS, REFERENCES
+from telling import Teller, samples, small, written
 
 FACTS = TOP / "examples/facts.py"
 SPEC = importlib.util.spec_from_file_location("facts_script", FACTS)
 facts_script = importlib.util.module_from_spec(SPEC)
 SPEC.loader.exec_module(facts_script)
-REGION, DATA_REGION, NAME = 0x5B80, 0x5B88, 0x08
-# What is handed to these by its name isn't written.
-TAKES_OBJECT = {0x71, 0x87, 0x8E, 0x5B25, 0x5B23, 0x5B24, 0x5B26, 0x5B27, 0x5B2A, 0x86}
-CONDREFOF = 0x5B12
-CONSTANTS = {0x00: 0, 0x01: 1}
-NUMBERS = {0x0A, 0x0B, 0x0C, 0x0E}
 
 
 # ---- what the independent reading says
 
 
-class FactTeller(Teller):
-    """Tells of each name that uses something the body or the scope, what it means, and what becomes of that; and the
-    regions and units in the order of the text."""
+def regions_told(teller: Teller, has_raw: bool) -> list:
+    """The regions, with the values of Names that nothing writes, passes on, or may be declared again."""
+    space = teller.space
+    changed = {path for *_, path, is_own, _, how in teller.uses if how in ("written", "passed") and not is_own}
+    for path in list(changed):
+        kind = space.kind(tuple(path[1:].split("."))) if path and path != "\\" else None
+        changed |= {path_text(kind[1])} if kind and kind[0] == "Alias" else set()
+    sure = {path for path, kind, *rest in space.rows() if kind[0] == "Name" and not (rest and rest[0])}
 
-    def __init__(self, codes: list, options: Options):
-        self.uses, self.regions, self.units, self.body, self.values, self.named = [], [], [], None, {}, []
-        super().__init__(codes, options)
+    def value(number: int | None, paths: list) -> int | None:
+        if number is not None or has_raw or len(paths) != 1 or paths[0] not in sure or path_text(paths[0]) in changed:
+            return number
+        found = teller.values.get(paths[0], [])
+        return small(found[0]) if len(found) == 1 else None
 
-    def tell_body(self, terms: list, path: tuple) -> None:
-        self.body = path
-        super().tell_body(terms, path)
-        self.body = None
-
-    def is_method(self, path: tuple) -> bool:
-        kind = self.space.kind(path)
-        if kind and kind[0] == "Alias":
-            kind = self.space.kind(kind[1]) or (("Method",) if kind[1] in self.space.promised else None)
-        return bool(kind) and kind[0] == "Method" or not kind and path in self.space.promised
-
-    def add(self, name: Name, scope: tuple, paths: list, own: dict, how: str, has_arguments: bool = False) -> None:
-        if not str(name):
-            return
-        for number, path in enumerate(paths or [None]):
-            is_own = path in own
-            told = how
-            if how in ("read", "passed by call"):
-                is_method = has_arguments or path is not None and not is_own and self.is_method(path)
-                told = "called" if is_method else how.partition(" ")[0]
-            body = self.body and path_text(self.body)
-            shown = None if is_own or path is None else path_text(path)
-            self.uses.append((body, path_text(scope), str(name), shown, int(is_own), number, told))
-
-    def tell_led(self, name: Name, path: tuple) -> None:
-        super().tell_led(name, path)
-        is_known = self.space.kind(path) or path in self.space.externals
-        self.add(name, self.scope, [path] if is_known else [], {}, "named")
-
-    def tell_terms(self, terms: list, scope: tuple) -> None:
-        for term in terms:
-            # The base tells one term after the other: so the scope is known for what is led.
-            self.scope = scope
-            super().tell_terms([term], scope)
-
-    def tell_term(self, term: object, scope: tuple, own: dict, is_body: bool, how: str = "read") -> None:
-        declared: dict = {}
-        if isinstance(term, Name):
-            self.add(term, scope, self.meant(term, scope, own), own, how)
-        elif isinstance(term, Named):
-            self.add(term.name, scope, self.meant(term.name, scope, own), own, how, bool(term.args))
-            for arg in term.args:
-                self.tell_term(arg, scope, own, is_body, "passed by call")
-        elif isinstance(term, Op):
-            self.tell_op(term, scope, own, is_body, declared)
-        own.update(declared if is_body else {})
-
-    def meant(self, name: Name, scope: tuple, own: dict) -> list:
-        return self.then.get(str(name)) or may_mean(self.space, scope, name, own)
-
-    def tell_op(self, term: Op, scope: tuple, own: dict, is_body: bool, declared: dict) -> None:
-        def declare(name: Name) -> None:
-            path = name.placed(scope)
-            if is_body and path is not None:
-                declared[path] = True
-
-        if term.opcode == EXTERNAL:
-            return
-        its_own = term.declared() if term.opcode not in FIELD_LISTS else []
-        for number, (kind, part) in enumerate(zip(term.row.parts, term.parts)):
-            if its_own and part is its_own[0]:
-                declare(part)
-            else:
-                self.tell_term(part, scope, own, is_body, becomes(term.opcode, kind, number))
-        if term.opcode == NAME and not self.body:
-            self.values.setdefault(term.names()[0].placed(scope), []).append(constant(term.parts[1]))
-        if term.opcode in (REGION, DATA_REGION):
-            self.regions.append(region_of(term, scope, self.body))
-            named = [it.name if isinstance(it, Named) and not it.args else None for it in term.parts[2:4]]
-            self.named.append([self.meant(it, scope, own) if it and term.opcode == REGION else [] for it in named])
-        if term.opcode in FIELD_LISTS:
-            self.tell_units(term, scope, own, is_body, declare)
-        else:
-            for inner in term.tail if isinstance(term.tail, list) else []:
-                self.tell_term(inner, scope, own, is_body, "passed" if term.row.tail == "e" else "read")
-
-    def tell_units(self, term: Op, scope: tuple, own: dict, is_body: bool, declare: object) -> None:
-        bit = 0
-        for unit in term.tail:
-            if unit[0] == "unit":
-                name = Name(False, 0, [unit[1]])
-                body = self.body and path_text(self.body)
-                self.units.append((body, path_text(name.placed(scope)), term.row.mnemonic, bit, unit[2]))
-                declare(name)
-            elif unit[0] == "connection":
-                self.tell_term(unit[1], scope, own, is_body, "named")
-            bit += unit[-1] if unit[0] in ("unit", "reserved") else 0
-
-    def tell_external(self, name: Name, path: tuple) -> None:
-        """An External uses nothing."""
-
-    def all_regions(self, has_raw: bool) -> list:
-        """The regions, with the values of Names that nothing writes, passes on, or may be declared again."""
-        changed = {path for *_, path, is_own, _, how in self.uses if how in ("written", "passed") and not is_own}
-        for path in list(changed):
-            kind = self.space.kind(tuple(path[1:].split("."))) if path and path != "\\" else None
-            changed |= {path_text(kind[1])} if kind and kind[0] == "Alias" else set()
-        sure = {path for path, kind, *rest in self.space.rows() if kind[0] == "Name" and not (rest and rest[0])}
-        return [
-            (*region[:3], *(
-                self.value(paths, sure, changed) if number is None and not has_raw else number
-                for number, paths in zip(region[3:], named)
-            ))
-            for region, named in zip(self.regions, self.named)
-        ]
-
-    def value(self, paths: list, sure: set, changed: set) -> int | None:
-        found = self.values.get(paths[0], []) if len(paths) == 1 and paths[0] in sure else []
-        is_changed = len(paths) == 1 and paths[0] is not None and path_text(paths[0]) in changed
-        return found[0] if len(found) == 1 and not is_changed and found[0] is not None and found[0] < 1 << 63 else None
+    return [(*head, *map(value, numbers, meant)) for head, numbers, meant in teller.regions]
 
 
-def becomes(opcode: int, kind: str, number: int) -> str:
-    if kind == "S":
-        is_object = opcode in TAKES_OBJECT or opcode == CONDREFOF and number == 0
-        return "passed" if is_object else "written"
-    return {"T": "read", "D": "passed", "N": "named"}.get(kind, "read")
-
-
-def constant(term: object) -> int | None:
-    if not isinstance(term, Op):
-        return None
-    return CONSTANTS.get(term.opcode, term.parts[0][1] if term.opcode in NUMBERS else None)
-
-
-def region_of(term: Op, scope: tuple, body: tuple | None) -> tuple:
-    name = term.names()[0].placed(scope)
-    shown = body and path_text(body), path_text(name if name is not None else ())
-    if term.opcode == DATA_REGION:
-        return *shown, None, None, None
-    numbers = [constant(term.parts[place]) for place in (2, 3)]
-    return *shown, term.parts[1][1], *(number if number is not None and number < 1 << 63 else None for number in numbers)
-
-
-def names_told(teller: FactTeller) -> set:
+def names_told(teller: Teller) -> set:
     rows = [(path, kind, marks) for path, kind, *rest in teller.space.rows() for marks in [rest[0] if rest else ()]]
     found = set()
     for path, kind, marks in rows:
@@ -251,41 +113,30 @@ class Read:
         ]
 
 
-def check_set(checks: Checks, what: str, folder: pathlib.Path, options: Options) -> Read | None:
-    """Compares the facts of a set; None where it is refused."""
-    outcome = run_folder(folder, options)
-    if outcome.status == REFUSED:
-        return None
+def check_set(checks: Checks, what: str, folder: pathlib.Path, options: Options, outcome: Outcome) -> None:
+    """Compares the facts of a set."""
+    checks.is_same(f"{what} is taken", outcome.status != REFUSED, True)
     fault, rows = facts_script.facts_of(outcome.out.encode(), outcome.err.encode())
     checks.is_same(f"the facts of {what}", fault, "")
     read, dumps = Read(rows), read_folder(folder)
-    teller = FactTeller([aml_of(dumps[index].data) for index in order_of(dumps, options.any_sum)], options)
+    teller = Teller([aml_of(dumps[index].data) for index in order_of(dumps, options.any_sum)], options)
     checks.is_same(f"the names of {what}", sorted(read.names() ^ names_told(teller), key=str), [])
     checks.is_same(f"the uses of {what}", first_difference(read.uses(), teller.uses), None)
     raw = outcome.err.count("\n")
-    checks.is_same(f"the regions of {what}", sorted(read.regions(), key=str), sorted(teller.all_regions(raw > 0), key=str))
+    regions = sorted(regions_told(teller, raw > 0), key=str)
+    checks.is_same(f"the regions of {what}", sorted(read.regions(), key=str), regions)
     checks.is_same(f"the units of {what}", read.units(), teller.units)
-    checks.is_same(f"the raw bodies of {what}", sum(row["is_raw"] and row["fault"] is not None for row in read.of("method")), raw)
+    found = sum(row["is_raw"] and row["fault"] is not None for row in read.of("method"))
+    checks.is_same(f"the raw bodies of {what}", found, raw)
     checks.is_same(f"the lines of {what}", wrong_lines(read, outcome.out), [])
     for table, found in rows.items():
         checks.is_same(f"the rows of {table} of {what}", [row[0] for row in found], list(range(1, len(found) + 1)))
-    return read
 
 
 def wrong_lines(read: Read, out: str) -> list:
     """The uses whose line of the text doesn't have their name."""
     lines = out.splitlines()
     return [row for row in read.of("use") if row["text"] not in lines[row["line"] - 1]]
-
-
-def check_made_up(checks: Checks, sets: int, any_run: bool) -> None:
-    maker, number = SetMaker(random.Random(0), any_run=any_run), 0
-    while number < sets:
-        trial = maker.trial()
-        with tempfile.TemporaryDirectory() as room:
-            folder = written(pathlib.Path(room) / "set", trial.files)
-            if not trial.options.check and check_set(checks, f"made-up set {number}", folder, trial.options):
-                number += 1
 
 
 # ---- the rest, as it is run
@@ -322,23 +173,10 @@ def check_many(checks: Checks, room: pathlib.Path) -> None:
     found = run("--jobs", 2, "--dumps", room / "sets", texts, room / "facts")
     checks.is_same("the status of many machines", (found.returncode, found.stdout), (3, ""))
     checks.is_same("what is said of them", found.stderr.partition(";")[0], "facts: 2 of 5 machines without facts")
-    wanted = [
-        ("cut", None, "it is cut behind line 20"), ("none", None, 'refused: table "notes": Short'), ("rack/a", 1, None),
-        ("rack/b", 1, None), ("second", 2, None),
-    ]
-    machines = rows_of(room / "facts", "SELECT name, code, fault FROM machine ORDER BY name")
-    checks.is_same("the machines", machines, wanted)
-    shifts = rows_of(room / "facts", "SELECT name, shift FROM machine WHERE code = 1 ORDER BY name")
-    checks.is_same("lines of another machine", shifts, [("rack/a", 0), ("rack/b", 1)])
-    sql = "SELECT signature, length, oem_table, is_sum_right, load_order FROM acpi_table WHERE machine = 3"
-    tables = rows_of(room / "facts", sql)
-    wanted = [("DMAR", 38, "BOARD   ", 1, None), ("DSDT", 460, "BOARD   ", 1, 1), ("SSDT", 74, "DbgPort ", 1, 2)]
-    checks.is_same("the tables of one", sorted(tables), wanted)
     sql = "SELECT dump_sum FROM acpi_table WHERE signature = 'DMAR' AND dump_sum IS NOT NULL"
     sums = {row[0] for row in rows_of(room / "facts", sql)}
     wanted = {hashlib.sha256(files["dmar.dat"]).hexdigest() for files in (*list(sets.values())[:2], VERSIONS["second"])}
     checks.is_same("the sums of dumps", sums, wanted)
-    checks.is_same("keys that lead nowhere", rows_of(room / "facts", "PRAGMA foreign_key_check"), [])
     counts = {name: len(rows_of(room / "facts", f"SELECT id FROM {name}")) for name in COLUMNS}
     lines = [json.loads(line) for line in run("--json", "--dumps", room / "sets", texts).stdout.splitlines()]
     checks.is_same("lines of JSON", {name: sum(line["fact"] == name for line in lines) for name in COLUMNS}, counts)
@@ -346,8 +184,6 @@ def check_many(checks: Checks, room: pathlib.Path) -> None:
     for name in ("one", "two"):
         (room / "flat" / name).write_text((texts / "rack/a/text").read_text())
     run(room / "flat", room / "flat.facts")
-    machines = rows_of(room / "flat.facts", "SELECT name, code FROM machine")
-    checks.is_same("machines with a file each", machines, [("one", 1), ("two", 1)])
     names = {(line["id"], line["path"]) for line in lines if line["fact"] == "name"}
     checks.is_same("their names", names, set(rows_of(room / "facts", "SELECT id, path FROM name")))
 
@@ -421,69 +257,6 @@ def check_fleet(checks: Checks, room: pathlib.Path) -> None:
     checks.is_same("no part is left", (room / "fleet.facts.part").exists(), False)
 
 
-def check_board(checks: Checks, room: pathlib.Path) -> None:
-    """The facts of a board that are written down here, by its listing in docs/facts.md."""
-    file = room / "facts"
-    code = "code = (SELECT code FROM machine WHERE name = 'rack/a')"
-    sql = "SELECT path, object, text, patched_by FROM resource JOIN name ON name.id = device WHERE resource."
-    resources = rows_of(file, sql + code)
-    wanted = [
-        ("\\_SB_.PCI0.HPET", "\\_SB_.PCI0.HPET.BUF0", "Memory32Fixed 0xFED00000 +0x400", "BASE"),
-        ("\\_SB_.PCI0.EC0_", "\\_SB_.PCI0.EC0_._CRS", "IO 0x0062 +0x1", None),
-        ("\\_SB_.PCI0.EC0_", "\\_SB_.PCI0.EC0_._CRS", "IO 0x0066 +0x1", None),
-    ]
-    checks.is_same("resources", resources, wanted)
-    identifiers = rows_of(file, f"SELECT object, text, number FROM identifier WHERE {code}")
-    wanted = [
-        ("_HID", "PNP0A08", 0x080AD041), ("_CID", "PNP0A03", 0x030AD041), ("_HID", "PNP0103", 0x0301D041),
-        ("_HID", "PNP0C09", 0x090CD041),
-    ]
-    checks.is_same("identifiers", identifiers, wanted)
-    fields = rows_of(file, f"SELECT path, bit, width, access, locks, updates FROM field WHERE {code} AND region = 2")
-    flags = "DWordAcc", "Lock", "Preserve"
-    wanted = [("\\_SB_.PCI0.HPAS", 0x3404 * 8, 2, *flags), ("\\_SB_.PCI0.HPAE", 0x3404 * 8 + 7, 1, *flags)]
-    checks.is_same("fields", fields, wanted)
-    regions = rows_of(file, f"SELECT path, space_name, first, length, first_text FROM region WHERE {code} AND first IS NULL")
-    checks.is_same("a region by value", regions, [])
-    sql = f"SELECT machine.name, first FROM region JOIN machine USING (code) WHERE path = '\\_SB_.PCI0.GNVS' ORDER BY 1"
-    # The second version has a raw body, which may write the name.
-    checks.is_same("a region by a Name", rows_of(file, sql)[-2:], [("rack/b", 0xBF5D0000), ("second", None)])
-
-
-TABLES = """Table "apic.dat" "APIC" Length 55 Revision 2 Oem "TEST  " "EXAMPLE " 00000001 Creator "TEST" 00000001
-  Controller FEE00000 Flags 00000001
-  LocalApic Uid 10 Apic 2 Flags 00000010
-  AddressOverride 00000000FEE00000
-  Record 128 Length 4 AA BB
-Table "dsdt.dat" "DSDT" Length 100 Revision 2 Oem "TEST  " "EXAMPLE " 00000001 Creator "TEST" 00000001
-Table "facp.dat" "FACP" Length 116 Revision 1 Oem "TEST  " "EXAMPLE " 00000001 Creator "TEST" 00000001
-  SmiCmd 000000B2
-  AcpiEnable 10
-Table "xsdt.dat" "XSDT" Length 44 Revision 1 Oem "TEST  " "EXAMPLE " 00000001 Creator "TEST" 00000001
-  Entry 0000000000006000 "facp.dat"
-Namespace 3
-  \\DEV0 Device
-  \\MAIN Method 0
-  \\NAME Name
-DefinitionBlock ("dsdt.dat") {
-  Device (DEV0) {
-  }
-  Name (NAME, One)
-  Method (MAIN, 0, NotSerialized, 0) {
-    Notify (DEV0, 0x81)
-    Notify (DEV0, Local0)
-    Store (LoadTable ("OEM1", "A", "B", "", "", Zero), Local0)
-    Load (NAME, Local1)
-    Fatal (0x01, 0x00000002, Local0)
-    If (One) {
-      Sleep (0x0A)
-      Stall (NAME)
-    }
-  }
-}
-"""
-
-
 # I2cSerialBusV2, GpioInt by level and low, IRQ 5 by edge, an end tag.
 WIRED = bytes.fromhex(
     "8E 19 00 02 00 01 02 00 00 01 06 00 80 1A 06 00 2C 00 5C 5F 53 42 2E 49 32 43 30 00"
@@ -492,45 +265,38 @@ WIRED = bytes.fromhex(
 )
 
 
-def check_records(checks: Checks, room: pathlib.Path) -> None:
-    """Fields of tables, and statements."""
-    (room / "records").write_text(TABLES)
-    run(room / "records", room / "records.facts")
-    sql = "SELECT signature, place, kind, label, value, number FROM record JOIN acpi_table ON acpi_table.id = acpi_table ORDER BY record.id"
-    wanted = [
-        ("APIC", 1, "", "Controller", "FEE00000", 0xFEE00000), ("APIC", 1, "", "Flags", "00000001", 1),
-        ("APIC", 2, "LocalApic", "Uid", "10", 10), ("APIC", 2, "LocalApic", "Apic", "2", 2),
-        ("APIC", 2, "LocalApic", "Flags", "00000010", 0x10), ("APIC", 3, "", "AddressOverride", "00000000FEE00000", 0xFEE00000),
-        ("APIC", 4, "Record", "Type", "128", 128), ("APIC", 4, "Record", "Length", "4", 4), ("APIC", 4, "Record", "Bytes", "AA BB", None),
-        ("FACP", 1, "", "SmiCmd", "000000B2", 0xB2), ("FACP", 2, "", "AcpiEnable", "10", 0x10),
-        ("XSDT", 1, "", "Entry", "0000000000006000", 0x6000),
-    ]
-    checks.is_same("records", rows_of(room / "records.facts", sql), wanted)
-    sql = "SELECT statement.kind, path, number, text FROM statement LEFT JOIN name ON name.id = statement.name WHERE method = 1 ORDER BY statement.id"
-    wanted = [
-        ("Notify", "\\DEV0", 0x81, "Notify (DEV0, 0x81)"), ("Notify", "\\DEV0", None, "Notify (DEV0, Local0)"),
-        ("LoadTable", None, None, 'Store (LoadTable ("OEM1", "A", "B", "", "", Zero), Local0)'),
-        ("Load", "\\NAME", None, "Load (NAME, Local1)"), ("Fatal", None, 2, "Fatal (0x01, 0x00000002, Local0)"),
-        ("Sleep", None, 10, "Sleep (0x0A)"), ("Stall", None, None, "Stall (NAME)"),
-    ]
-    checks.is_same("statements", rows_of(room / "records.facts", sql), wanted)
+def make_more(room: pathlib.Path) -> None:
+    """Facts of the fields of tables, statements, resources and regions, for questions."""
+    run(TOP / "tests/records.text", room / "records.facts")
     code = device(b"DEV0", b"\x08_CRS" + buffer(WIRED))
     outcome = run_folder(written(room / "wired", {"dsdt.dat": table(b"DSDT", code)}), Options())
     (room / "wired.text").write_text(outcome.out)
     run(room / "wired.text", room / "wired.facts")
-    wanted = [
-        ("I2cSerialBus", None, "\\_SB_.I2C0", 400_000, None, None), ("GpioInt", "7", "\\GPI0", None, "level", "low"),
-        ("IRQ", "5", None, None, "edge", "high"),
-    ]
     inner = device(b"DEV1", b"\x5B\x80REG1\x02\0\x01")
     code = device(b"DEV0", b"\x08_ADR\x0C\x03\x00\x1F\x00\x5B\x80REG0\x02\x0A\x40\x01", inner)
     outcome = run_folder(written(room / "pci", {"dsdt.dat": table(b"DSDT", code)}), Options())
     (room / "pci.text").write_text(outcome.out)
     run(room / "pci.text", room / "pci.facts")
-    found = rows_of(room / "pci.facts", "SELECT path, pci_device, pci_function FROM region ORDER BY id")
-    checks.is_same("PCI addresses", found, [("\\DEV0.REG0", 31, 3), ("\\DEV0.DEV1.REG1", None, None)])
-    sql = "SELECT kind, lines, controller, speed, trigger, polarity FROM resource ORDER BY id"
-    checks.is_same("controllers and wires", rows_of(room / "wired.facts", sql), wanted)
+
+
+def check_questions(checks: Checks, room: pathlib.Path) -> None:
+    """The questions of tests/facts.txt, each with a row of its answer a line."""
+    for part in (TOP / "tests/facts.txt").read_text().split("\n== ")[1:]:
+        head, *lines = part.strip("\n").split("\n")
+        name, _, file = head.rpartition(": ")
+        wanted = [ast.literal_eval(line) for line in lines if line.startswith("(")]
+        found = rows_of(room / file, " ".join(line for line in lines if not line.startswith("(")))
+        checks.is_same(name, found, wanted)
+
+
+def columns_text() -> list:
+    """The tables with their columns, and behind those that name a row the table that it is of."""
+    lines = []
+    for table, columns in COLUMNS.items():
+        targets = dict(REFERENCES[table])
+        shown = (column + (f" > {targets[place]}" if place in targets else "") for place, column in enumerate(columns))
+        lines.append(f"{table:<12}{', '.join(shown)}")
+    return lines
 
 
 def check_words(checks: Checks, room: pathlib.Path) -> None:
@@ -553,33 +319,25 @@ def check_words(checks: Checks, room: pathlib.Path) -> None:
         words = [sys.executable, FACTS, "--json", text]
         found = subprocess.run(words, stdout=full, stderr=subprocess.PIPE, text=True, check=False)
     checks.is_same("a full disk", (found.returncode, found.stderr), (2, "facts: cannot write: No space left on device\n"))
-    checks.is_same("the columns", columns_text() in (TOP / "docs/facts.md").read_text(), True)
-    checks.is_same("the picture", (TOP / "docs/facts.svg").read_text(), picture())
+    lines = [line for line in (TOP / "docs/facts.md").read_text().splitlines() if line.partition(" ")[0] in COLUMNS]
+    checks.is_same("the columns of docs/facts.md", lines, columns_text())
 
 
 def main() -> None:
-    words = argparse.ArgumentParser(description=__doc__, formatter_class=argparse.RawDescriptionHelpFormatter)
-    words.add_argument("folders", nargs="*", type=pathlib.Path)
+    words = parser(__doc__, folders=True)
     words.add_argument("--sets", type=int, default=40)
     asked = words.parse_args()
     with tempfile.TemporaryDirectory() as room:
         room = pathlib.Path(room)
         checks = Checks(room)
-        check_set(checks, "the set of docs/listing.md", written(room / "listed", PAGES_FILES), Options())
-        check_set(checks, "the demo", DEMO, Options())
-        check_set(checks, "the hostile set", written(room / "hostile", HOSTILE_FILES), Options())
-        check_set(checks, "the set of runs", written(room / "runs", RUNS_FILES), Options(any_run=True))
-        for folder in asked.folders:
-            is_taken = check_set(checks, str(folder), folder, Options(any_run=True, any_sum=True)) is not None
-            checks.is_same(f"{folder} is taken", is_taken, True)
-        check_made_up(checks, asked.sets, False)
-        check_made_up(checks, asked.sets, True)
+        for sample in samples(room, asked.folders, asked.sets):
+            check_set(checks, *sample)
         (room / "many").mkdir()
         check_many(checks, room / "many")
         check_fleet(checks, room / "many")
         check_progress(checks)
-        check_records(checks, room / "many")
-        check_board(checks, room / "many")
+        make_more(room / "many")
+        check_questions(checks, room / "many")
         check_words(checks, room / "many")
     checks.end()
 

@@ -14,16 +14,8 @@ row() {
     name=$1 status=$2 lines=$3
     shift 3
     error=$("$@" 2>&1 >output)
-    got=$?
-    if [ "$got" = "$status" ] && [ "$error" = "$lines" ]; then
-        pass
-    else
-        fail "$name: status $got, not $status"
-        printf '  printed %s\n  not     %s\n' "$error" "$lines"
-    fi
-    if [ "$status" != 0 ] && [ "$status" != 3 ] && [ -s output ]; then
-        fail "$name: something went to standard output"
-    fi
+    is "$name" "$? $error" "$status $lines"
+    if [ "$status" != 0 ] && [ "$status" != 3 ]; then is "$name: standard output" "$(wc -c <output)" 0; fi
 }
 
 # prints: what the last row wrote to standard output is what stands on standard input
@@ -31,27 +23,48 @@ prints() {
     if cmp -s - output; then pass; else fail "$name: another text"; sed 's/^/  /' output; fi
 }
 
+# shows NAME WORD..: with these words the program lists the demo, and says nothing
+shows() {
+    name=$1
+    shift
+    row "$name" 0 '' ./program "$@"
+    prints <demo.text
+}
+
+# lists NAME STATUS LINES WORD..: the same of the program with these words, and its text is what the independent reading says
+lists() {
+    name=$1 status=$2 lines=$3
+    shift 3
+    row "$name" "$status" "$lines" ./program "$@"
+    python3 "$top/tests/oracle/listing.py" "$@" 2>/dev/null | prints
+}
+
+# refused NAME LINE WORD..: with these words the program has the status 1, and says this
+refused() {
+    name=$1 line=$2
+    shift 2
+    row "$name" 1 "acpidis: $line" ./program "$@"
+}
+
+# fresh: makes the folder `folder` anew, with the table of the demo
+fresh() {
+    rm -rf folder
+    cp -r "$demo" folder
+}
+
 # refuses NAME TEXT WORD..: the command line is refused with status 2, and standard error has this text
 refuses() {
     name=$1 text=$2
     shift 2
-    "$@" >output 2>error
-    got=$?
-    if [ "$got" = 2 ] && [ ! -s output ] && [ -s error ] && grep -qF -- "$text" error; then
-        pass
-    else
-        fail "$name: status $got, not 2, or not the word $text in"
-        sed 's/^/  /' error
-    fi
+    ./program "$@" >output 2>error
+    is "$name" "$? $(wc -c <output) $(grep -cF -- "$text" error | sed 's/[1-9]/some/')" '2 0 some'
 }
 
 # tells NAME TEXT..: the words of NAME print a line with each text to standard output, and nothing to standard error
 tells() {
     name=$1
     shift
-    ./program "$name" >output 2>error
-    got=$?
-    if [ "$got" = 0 ] && [ ! -s error ]; then pass; else fail "$name: status $got, or something on standard error"; fi
+    row "$name" 0 '' ./program "$name"
     for text do
         if grep -q -- "$text" output; then pass; else fail "$name: no line with $text"; fi
     done
@@ -59,12 +72,7 @@ tells() {
 
 # cut_off NAME BYTES: status 4 in the file status, and on standard error the one line that a write failed after so many bytes
 cut_off() {
-    if [ "$(cat status)" = 4 ] && [ "$(grep -c '' error)" = 1 ] && grep -qx "acpidis: write failed after $2 bytes" error; then
-        pass
-    else
-        fail "$1: status $(cat status), not 4, or another line than 'write failed after $2 bytes'"
-        sed 's/^/  /' error
-    fi
+    is "$1" "$(cat status) $(sed "s/^acpidis: write failed after $2 bytes\$/that/" error)" '4 that'
 }
 
 # table FILE SIGNATURE AML: writes a table with this AML, which is given in hexadecimal digits
@@ -80,24 +88,8 @@ open(file, "wb").write(table)
 P
 }
 
-# map NAME LINE MAP STATUS: a folder with the demo's table and this map
-map() {
-    rm -rf folder
-    cp -r "$demo" folder
-    printf '%b' "$3" >folder/tables.map
-    row "$1" "$4" "$2" ./program folder
-}
-
-cat >demo.text <<'T'
-Table "dsdt.dat" "DSDT" Length 45 Revision 2 Oem "TEST  " "EXAMPLE " 00000001 Creator "TEST" 00000001
-Namespace 1
-  \FOO_ Method 1
-DefinitionBlock ("dsdt.dat") {
-  Method (FOO_, 1, NotSerialized, 0) {
-    Return (Arg0)
-  }
-}
-T
+cp "$top/crates/acpidis_program/stdout" demo.text
+fresh
 
 # a folder with a body that calls what nothing declares, among others; the last table has a wrong checksum in `summed`
 mkdir raw
@@ -107,101 +99,56 @@ cp -r raw summed
 printf '\001' | dd of=summed/ssdt1.dat bs=1 seek=9 conv=notrunc 2>/dev/null
 raw_errors='acpidis: body \AAAA: UnknownName at 1
 acpidis: body \DDDD: UnknownName at 1'
-cat >raw.text <<'T'
-Table "dsdt.dat" "DSDT" Length 60 Revision 2 Oem "TEST  " "EXAMPLE " 00000001 Creator "TEST" 00000001
-Table "ssdt1.dat" "SSDT" Length 48 Revision 2 Oem "TEST  " "EXAMPLE " 00000001 Creator "TEST" 00000001
-Namespace 3
-  \AAAA Method 0
-  \CCCC Method 0
-  \DDDD Method 0
-DefinitionBlock ("dsdt.dat") {
-  Method (AAAA, 0, NotSerialized, 0) {
-    Raw {A4, 42, 42, 42, 42, 01, 0A, 05}
-  }
-  Method (CCCC, 0, NotSerialized, 0) {
-    Return (Local0)
-  }
-}
-DefinitionBlock ("ssdt1.dat") {
-  Method (DDDD, 0, NotSerialized, 0) {
-    Raw {A4, 42, 42, 42, 42}
-  }
-}
-T
+python3 "$top/tests/oracle/listing.py" raw >raw.text 2>/dev/null
 
 # the command line
-cp -r "$demo" folder
 tells --help '--workers' '--any-sum' '--any-run' '--unknown-zero' '--check' 'FOLDER'
 tells -h '--workers' '--any-sum' '--any-run' '--unknown-zero' '--check' 'FOLDER'
 tells --version '^acpidis [0-9]'
-refuses 'no word' FOLDER ./program
-refuses 'options without a folder' FOLDER ./program --check
-refuses 'two folders' folder ./program folder folder
-refuses 'an option that there is not' --nothing ./program --nothing folder
-refuses 'a word that is no text' '' ./program "$(printf 'a\377')"
-refuses 'no worker' --workers ./program --workers 0 folder
-refuses 'too many workers' --workers ./program --workers 65 folder
-refuses 'more workers than a number holds' --workers ./program --workers 4294967297 folder
-refuses 'workers that are no number' --workers ./program --workers x folder
-refuses 'workers without a number' --workers ./program folder --workers
-refuses 'a check with a value' --check ./program --check=yes folder
+refuses 'no word' FOLDER
+refuses 'options without a folder' FOLDER --check
+refuses 'two folders' folder folder folder
+refuses 'an option that there is not' --nothing --nothing folder
+refuses 'a word that is no text' '' "$(printf 'a\377')"
+refuses 'no worker' --workers --workers 0 folder
+refuses 'too many workers' --workers --workers 65 folder
+refuses 'more workers than a number holds' --workers --workers 4294967297 folder
+refuses 'workers that are no number' --workers --workers x folder
+refuses 'workers without a number' --workers folder --workers
+refuses 'a check with a value' --check --check=yes folder
 
 # options
-row 'one table' 0 '' ./program folder
-prints <demo.text
-row 'all options' 0 '' ./program --workers 64 --any-sum --any-run --unknown-zero folder
-prints <demo.text
-row 'options behind the folder' 0 '' ./program folder --workers=2 --any-sum
-prints <demo.text
-row 'a check' 0 '' ./program --check folder
-echo 'Check "dsdt.dat" Bytes 9 Methods 1 Raw 0 Same' | prints
-row 'bodies that are given as their bytes' 3 "$raw_errors" ./program raw
-prints <raw.text
-row 'a check with such bodies' 3 "$raw_errors" ./program --check raw
-prints <<'T'
-Check "dsdt.dat" Bytes 24 Methods 2 Raw 1 Same
-Check "ssdt1.dat" Bytes 12 Methods 1 Raw 1 Same
-T
-row 'unknown names without arguments' 0 '' ./program --unknown-zero raw
-sed 's/^    Raw {A4, 42, 42, 42, 42}$/    Return (BBBB)/; s/^    Raw.*05}$/    Return (BBBB)\n    One\n    0x05/' raw.text | prints
-row 'a wrong checksum' 1 'acpidis: table "ssdt1.dat": BadSum' ./program summed
-row 'a check of a wrong checksum' 1 'acpidis: table "ssdt1.dat": BadSum' ./program --check summed
-row 'any checksum' 3 "$raw_errors" ./program --any-sum summed
-sed '2s/$/ BadSum/' raw.text | prints
+shows 'one table' folder
+shows 'all options' --workers 64 --any-sum --any-run --unknown-zero folder
+shows 'options behind the folder' folder --workers=2 --any-sum
+lists 'a check' 0 '' --check folder
+lists 'bodies that are given as their bytes' 3 "$raw_errors" raw
+lists 'a check with such bodies' 3 "$raw_errors" --check raw
+lists 'unknown names without arguments' 0 '' --unknown-zero raw
+refused 'a wrong checksum' 'table "ssdt1.dat": BadSum' summed
+refused 'a check of a wrong checksum' 'table "ssdt1.dat": BadSum' --check summed
+lists 'any checksum' 3 "$raw_errors" --any-sum summed
 
 # code outside methods
 mkdir code
 { printf 'DSDT\055\0\0\0' && head -c 28 /dev/zero && printf '\240\010\001\010WIN_\0'; } >code/dsdt.dat
-row 'code outside methods' 1 'acpidis: table "dsdt.dat": ModuleCode at 0' ./program --any-sum code
-row 'a check of code outside methods' 0 '' ./program --any-sum --any-run --check code
-echo 'Check "dsdt.dat" Bytes 9 Methods 0 Raw 0 Same' | prints
-row 'code that may run' 0 '' ./program --any-run --any-sum --workers 1 code
-tail -n +2 output >rest && mv rest output
-prints <<'T'
-Namespace 1
-  \WIN_ Name Maybe
-DefinitionBlock ("dsdt.dat") {
-  If (One) {
-    Name (WIN_, Zero)
-  }
-}
-T
+refused 'code outside methods' 'table "dsdt.dat": ModuleCode at 0' --any-sum code
+lists 'a check of code outside methods' 0 '' --any-sum --any-run --check code
+lists 'code that may run' 0 '' --any-run --any-sum --workers 1 code
 
 # a file of argument counts: read, with a line of another form, not there, of as many bytes as may be, of one more
 printf '\\AAAA.BBBB 2\n\\BBBB 0\n' >counts
-row 'argument counts' 0 '' ./program --externals counts raw
-sed 's/^    Raw {A4, 42, 42, 42, 42}$/    Return (BBBB)/; s/^    Raw.*05}$/    Return (BBBB (One, 0x05))/' raw.text | prints
+lists 'argument counts' 0 '' --externals counts raw
 printf '\\BBBB 2\n\\BBBB\n' >counts
-row 'argument counts in another form' 1 'acpidis: externals line 2: BadLine' ./program --externals counts folder
-row 'no file of argument counts' 1 'acpidis: cannot read "nowhere"' ./program --externals nowhere folder
-row 'a folder as a file of argument counts' 1 'acpidis: cannot read "folder"' ./program --externals folder folder
+refused 'argument counts in another form' 'externals line 2: BadLine' --externals counts folder
+refused 'no file of argument counts' 'cannot read "nowhere"' --externals nowhere folder
+refused 'a folder as a file of argument counts' 'cannot read "folder"' --externals folder folder
 : >counts
-row 'no argument counts' 0 '' ./program --externals counts folder
-prints <demo.text
+shows 'no argument counts' --externals counts folder
 truncate -s 16777216 counts
-row 'argument counts of as many bytes as may be' 1 'acpidis: externals line 1: BadLine' ./program --externals counts folder
+refused 'argument counts of as many bytes as may be' 'externals line 1: BadLine' --externals counts folder
 truncate -s 16777217 counts
-row 'argument counts of too many bytes' 1 'acpidis: cannot read "counts"' ./program --externals counts folder
+refused 'argument counts of too many bytes' 'cannot read "counts"' --externals counts folder
 
 # the number of workers changes nothing: of 300 bodies two in three can't be read
 mkdir crowd
@@ -241,11 +188,11 @@ for place in /dev/full '&-'; do
 done
 
 # what is no folder
-row 'no folder' 1 'acpidis: cannot read folder' ./program nowhere
-row 'an empty word' 1 'acpidis: cannot read folder' ./program ''
+refused 'no folder' 'cannot read folder' nowhere
+refused 'an empty word' 'cannot read folder' ''
 : >file
-row 'a file' 1 'acpidis: cannot read folder' ./program file
-row 'an empty folder' 1 'acpidis: NoDsdt' ./program empty
+refused 'a file' 'cannot read folder' file
+refused 'an empty folder' 'NoDsdt' empty
 row 'a folder with a slash' 0 '' ./program folder/
 ln -s folder link
 row 'a link to a folder' 0 '' ./program link
@@ -304,13 +251,11 @@ python3 - <<'P'
 import socket
 socket.socket(socket.AF_UNIX).bind('folder/socket')
 P
-row 'folders, links, a pipe, a socket' 0 '' ./program folder
-prints <demo.text
+shows 'folders, links, a pipe, a socket' folder
 rmdir folder/tables.map
 printf 'no map\n' >map
 ln -s ../map folder/tables.map
-row 'a map that is a link' 0 '' ./program folder
-prints <demo.text
+shows 'a map that is a link' folder
 
 # a folder as Linux has it under /sys/firmware/acpi/tables: names without a dot, and the folders data and dynamic
 mkdir -p system/data system/dynamic
@@ -320,117 +265,96 @@ table system/SSDT9 SSDT 084141414100
 table system/MCFG MCFG 00
 table system/dynamic/SSDT11 SSDT 084343434300
 printf 'no table' >system/data/BERT
-row "the system's own folder" 0 '' ./program system
-prints <<'T'
-Table "DSDT" "DSDT" Length 45 Revision 2 Oem "TEST  " "EXAMPLE " 00000001 Creator "TEST" 00000001
-Table "MCFG" "MCFG" Length 37 Revision 2 Oem "TEST  " "EXAMPLE " 00000001 Creator "TEST" 00000001
-Table "SSDT10" "SSDT" Length 42 Revision 2 Oem "TEST  " "EXAMPLE " 00000001 Creator "TEST" 00000001
-Table "SSDT9" "SSDT" Length 42 Revision 2 Oem "TEST  " "EXAMPLE " 00000001 Creator "TEST" 00000001
-Namespace 3
-  \AAAA Name
-  \BBBB Name
-  \FOO_ Method 1
-DefinitionBlock ("DSDT") {
-  Method (FOO_, 1, NotSerialized, 0) {
-    Return (Arg0)
-  }
-}
-DefinitionBlock ("SSDT9") {
-  Name (AAAA, Zero)
-}
-DefinitionBlock ("SSDT10") {
-  Name (BBBB, Zero)
-}
-T
+lists "the system's own folder" 0 '' system
 
 # any other regular file is taken for a dump
 printf 'not a table\n' >system/README
-row 'a short text' 1 'acpidis: table "README": Short' ./program system
+refused 'a short text' 'table "README": Short' system
 printf 'some text that is as long as the header of a table\n' >system/README
-row 'a text longer than a header' 1 'acpidis: table "README": Short' ./program --any-sum system
+refused 'a text longer than a header' 'table "README": Short' --any-sum system
 
-# maps
-map 'an empty map' '' '' 0
-prints <demo.text
-map 'an address leads to no root' 'acpidis: RootMissing' '0000000000001000 dsdt.dat\n' 1
-map 'no end of the last line' 'acpidis: RootMissing' '00000000abcDEF00 dsdt.dat' 1
-map 'too few digits' 'acpidis: tables.map line 1: BadLine' '00000000001000 dsdt.dat\n' 1
-map 'an empty line' 'acpidis: tables.map line 2: BadLine' '0000000000001000 dsdt.dat\n\n' 1
-map 'another name' 'acpidis: tables.map line 1: NoSuchFile' '0000000000001000 ssdt.dat\n' 1
-map 'the map itself' 'acpidis: tables.map line 1: NoSuchFile' '0000000000001000 tables.map\n' 1
-map 'no name' 'acpidis: tables.map line 1: NoSuchFile' '0000000000001000 \n' 1
-map 'a name that is no text' 'acpidis: tables.map line 1: NoSuchFile' '0000000000001000 \0377\n' 1
-map 'a line twice' 'acpidis: tables.map line 2: Again' '0000000000001000 dsdt.dat\n0000000000001000 dsdt.dat\n' 1
+# maps: each with the words of its refusal
+while IFS='|' read -r name line text; do
+    fresh
+    printf '%b' "$text" >folder/tables.map
+    refused "$name" "$line" folder
+done <<'T'
+an address leads to no root|RootMissing|0000000000001000 dsdt.dat\n
+no end of the last line|RootMissing|00000000abcDEF00 dsdt.dat
+too few digits|tables.map line 1: BadLine|00000000001000 dsdt.dat\n
+an empty line|tables.map line 2: BadLine|0000000000001000 dsdt.dat\n\n
+another name|tables.map line 1: NoSuchFile|0000000000001000 ssdt.dat\n
+the map itself|tables.map line 1: NoSuchFile|0000000000001000 tables.map\n
+no name|tables.map line 1: NoSuchFile|0000000000001000 \n
+a name that is no text|tables.map line 1: NoSuchFile|0000000000001000 \0377\n
+a line twice|tables.map line 2: Again|0000000000001000 dsdt.dat\n0000000000001000 dsdt.dat\n
+T
+: >folder/tables.map
+shows 'an empty map' folder
 
 cp folder/dsdt.dat folder/ssdt.dat
 printf '0000000000001000 dsdt.dat\n0000000000001000 ssdt.dat\n' >folder/tables.map
-row 'an address twice' 1 'acpidis: tables.map line 2: Again' ./program folder
+refused 'an address twice' 'tables.map line 2: Again' folder
 rm folder/tables.map
 truncate -s 16777217 folder/tables.map
-row 'a map of too many bytes' 1 'acpidis: cannot read "tables.map"' ./program folder
+refused 'a map of too many bytes' 'cannot read "tables.map"' folder
 truncate -s 16777216 folder/tables.map
-row 'a map of as many bytes as may be' 1 'acpidis: tables.map line 1: BadLine' ./program folder
+refused 'a map of as many bytes as may be' 'tables.map line 1: BadLine' folder
 
 # files
-rm -rf folder
-cp -r "$demo" folder
+fresh
 truncate -s 16777216 folder/dsdt.dat
-row 'a table of as many bytes as may be' 0 '' ./program folder
-prints <demo.text
+shows 'a table of as many bytes as may be' folder
 truncate -s 17000000 folder/dsdt.dat
-row 'a table of too many bytes' 1 'acpidis: table "dsdt.dat": TooLarge' ./program folder
+refused 'a table of too many bytes' 'table "dsdt.dat": TooLarge' folder
 rm folder/dsdt.dat
 : >'folder/a"b\~.dat'
-row 'a name to be quoted' 1 'acpidis: table "a\x22b\x5C~.dat": Short' ./program folder
+refused 'a name to be quoted' 'table "a\x22b\x5C~.dat": Short' folder
 : >"folder/$(printf 'A\n\303\251\177')"
-row 'a name with other bytes, first in order' 1 'acpidis: table "A\x0A\xC3\xA9\x7F": Short' ./program folder
+refused 'a name with other bytes, first in order' 'table "A\x0A\xC3\xA9\x7F": Short' folder
 
-rm -rf folder
-cp -r "$demo" folder
+fresh
 cp folder/dsdt.dat folder/second.dat
 cp folder/dsdt.dat folder/Zeroth.dat
-row 'names in the order of their bytes' 1 'acpidis: table "dsdt.dat": TwoDsdts' ./program folder
+refused 'names in the order of their bytes' 'table "dsdt.dat": TwoDsdts' folder
 
 # a file that can't be read, by a user who may not
 if [ "$(id -u)" = 0 ] && command -v setpriv >/dev/null; then
-    chmod 000 folder/dsdt.dat folder/second.dat
     printf 'no map\n' >folder/tables.map
-    row 'a file that may not be read' 1 'acpidis: cannot read "dsdt.dat"' setpriv --reuid=65534 --clear-groups ./program folder
-    chmod 644 folder/dsdt.dat folder/second.dat
-    chmod 000 folder/tables.map
-    row 'a map that may not be read' 1 'acpidis: cannot read "tables.map"' setpriv --reuid=65534 --clear-groups ./program folder
-    chmod 000 folder
-    row 'a folder that may not be read' 1 'acpidis: cannot read folder' setpriv --reuid=65534 --clear-groups ./program folder
-    chmod 755 folder
-    chmod 000 counts
-    row 'argument counts that may not be read' 1 'acpidis: cannot read "counts"' \
-        setpriv --reuid=65534 --clear-groups ./program --externals counts empty
+    while IFS='|' read -r what files words; do
+        # shellcheck disable=SC2086
+        chmod 000 $files
+        # shellcheck disable=SC2086
+        row "$what may not be read" 1 "acpidis: cannot read $what" setpriv --reuid=65534 --clear-groups ./program $words
+        # shellcheck disable=SC2086
+        chmod 755 $files
+    done <<'T'
+"dsdt.dat"|folder/dsdt.dat folder/second.dat|folder
+"tables.map"|folder/tables.map|folder
+folder|folder|folder
+"counts"|counts|--externals counts empty
+T
 fi
 
 # numbers of files
 mkdir many
-number=0
-while [ "$number" -lt 511 ]; do
-    number=$((number + 1))
-    : >"many/$number"
-done
+(cd many && seq 511 | xargs touch)
 cp "$demo/dsdt.dat" many/0
 printf 'no map\n' >many/tables.map
-row '512 files and a map' 1 'acpidis: tables.map line 1: BadLine' ./program many
+refused '512 files and a map' 'tables.map line 1: BadLine' many
 rm many/tables.map
-row '512 files' 1 'acpidis: table "1": Short' ./program many
+refused '512 files' 'table "1": Short' many
 mkdir many/sub
-row '512 files and a folder' 1 'acpidis: table "1": Short' ./program many
+refused '512 files and a folder' 'table "1": Short' many
 : >many/512
-row '513 files' 1 'acpidis: TooManyTables' ./program many
+refused '513 files' 'TooManyTables' many
 
 # names that are no text, before the number of files
 if mkdir many/"$(printf '\377')" 2>/dev/null; then
-    row '513 files and a folder whose name is no text' 1 'acpidis: cannot read folder' ./program many
-    rm -rf folder
-    cp -r "$demo" folder
+    refused '513 files and a folder whose name is no text' 'cannot read folder' many
+    fresh
     ln -s nowhere "folder/$(printf 'a\300')"
-    row 'a link whose name is no text' 1 'acpidis: cannot read folder' ./program folder
+    refused 'a link whose name is no text' 'cannot read folder' folder
 fi
 
 end

@@ -9,7 +9,6 @@ listings, 200 if left out, for page.py and facts.py: nothing but a word may come
 'N passed, N failed'.
 """
 
-import argparse
 import importlib.util
 import os
 import pathlib
@@ -20,20 +19,15 @@ import subprocess
 import sys
 import tempfile
 
-sys.dont_write_bytecode = True
-TOP = pathlib.Path(__file__).resolve().parent.parent
-sys.path[:0] = [str(TOP / "tests/oracle"), str(TOP / "tests")]
-sys.path.append(str(TOP / "examples"))
-
-from acpidis_tools.decoding import Decoder  # noqa: E402
-from acpidis_tools.errors import read_errors  # noqa: E402
-from acpidis_tools.listing import NoListing, read_listing  # noqa: E402
-from acpidis_tools.page.markup import page  # noqa: E402
-from acpidis_tools.names import Names  # noqa: E402
-from running import Options, run_folder  # noqa: E402
-from acpidis_tools.page.sheet import Sheet  # noqa: E402
-from tally import Tally  # noqa: E402
-from telling import HOSTILE_FILES, RUNS_FILES, written  # noqa: E402
+from tally import TOP, Tally, parser  # before the others, whose places it tells
+from acpidis_tools.decoding import Decoder
+from acpidis_tools.errors import read_errors
+from acpidis_tools.listing import NoListing, read_listing
+from acpidis_tools.page.markup import page
+from acpidis_tools.names import Names
+from running import Options, run_folder
+from acpidis_tools.page.sheet import Sheet
+from telling import HOSTILE_FILES, RUNS_FILES, written
 
 SPEC = importlib.util.spec_from_file_location("facts_script", TOP / "examples/facts.py")
 facts_script = importlib.util.module_from_spec(SPEC)
@@ -222,7 +216,7 @@ def check_mutations(checks: Tally, room: pathlib.Path, count: int) -> None:
 
 
 def main() -> None:
-    words = argparse.ArgumentParser(description=__doc__, formatter_class=argparse.RawDescriptionHelpFormatter)
+    words = parser(__doc__)
     words.add_argument("--mutations", type=int, default=200)
     asked = words.parse_args()
     checks = Tally()

@@ -3,6 +3,7 @@
 import pathlib
 import re
 import subprocess
+from typing import NamedTuple
 
 # What a keyword of ASL is in our words: nothing where it is what most have.
 KEYWORDS = {
@@ -96,90 +97,76 @@ def units(text: str):
 # ---- resources
 
 
+class Macro(NamedTuple):
+    """A macro: its word, the texts of its arguments, what stands in its braces, and what its keywords are in our words."""
+
+    kind: str
+    arguments: list
+    listed: list
+    words: list
+
+    @property
+    def numbers(self) -> list:
+        return [int(one, 16) for one in self.arguments if re.fullmatch("0x[0-9A-F]+", one)]
+
+    @property
+    def lines(self) -> str:
+        return ", ".join(self.listed)
+
+
 def macro_text(form: "re.Match[str]") -> str:
-    kind = form[1].removesuffix("V2")
     arguments = [one.strip() for one in form[2].split(",")]
     listed = [str(int(one, 0)) for one in (form[3] or "").replace(",", " ").split()]
-    words = [KEYWORDS[one] for one in arguments if one in KEYWORDS]
-    numbers = [int(one, 16) for one in arguments if re.fullmatch("0x[0-9A-F]+", one)]
-    source = next((one.strip('"') for one in arguments if one[:1] == '"' and one != '""'), "")
-    shown = TEXTS.get(kind, spaced)(kind, arguments, numbers, listed, words)
-    return shown + (f" by {source_text(source)}" if source else "")
-
-
-def source_text(source: str) -> str:
-    return source.replace("\\\\", "\\")
+    macro = Macro(form[1].removesuffix("V2"), arguments, listed, [KEYWORDS[one] for one in arguments if one in KEYWORDS])
+    source = next((one.strip('"') for one in arguments if one[:1] == '"' and one != '""'), "").replace("\\\\", "\\")
+    shown = TEXTS.get(macro.kind, spaced)(macro)
+    return joined(*shown) + (f" by {source}" if source else "")
 
 
 def joined(*parts: str) -> str:
     return " ".join(filter(None, parts))
 
 
-def irq(kind, arguments, numbers, listed, words):
-    words = words if kind == "IRQ" else ["edge"]
-    return joined("IRQ", ", ".join(listed), *words)
-
-
-def dma(kind, arguments, numbers, listed, words):
-    speed, master, size = (KEYWORDS.get(one, "") for one in arguments[:3])
-    return joined("DMA", ", ".join(listed), speed, size, master)
-
-
-def fixed_dma(kind, arguments, numbers, listed, words):
-    return joined(kind, str(numbers[0]), f"channel {numbers[1]}", *words)
-
-
-def dependent(kind, arguments, numbers, listed, words):
-    named = kind != "StartDependentFn"
-    return kind if named else f"{kind} priority {int(arguments[0], 0)} robustness {int(arguments[1], 0)}"
-
-
-def io(kind, arguments, numbers, listed, words):
-    first, last, align, length = numbers
+def io(macro: Macro) -> tuple:
+    first, last, align, length = macro.numbers
     to = "" if last == first else f" to 0x{last:04X}"
-    return joined(f"IO 0x{first:04X}{to} +0x{length:X}", f"align 0x{align:X}" if align > 1 else "", *words)
+    return f"IO 0x{first:04X}{to} +0x{length:X}", f"align 0x{align:X}" if align > 1 else "", *macro.words
 
 
-def fixed(kind, arguments, numbers, listed, words):
-    digits = 4 if kind == "FixedIO" else 8
-    return joined(f"{kind} 0x{numbers[0]:0{digits}X} +0x{numbers[1]:X}", *words)
+def memory(macro: Macro) -> tuple:
+    first, last, align, length = macro.numbers
+    digits, shift = (6, 8) if macro.kind == "Memory24" else (8, 0)
+    window = f"0x{first << shift:0{digits}X} to 0x{last << shift:0{digits}X} +0x{length << shift:X}"
+    return macro.kind, window, f"align 0x{align:X}", *macro.words
 
 
-def memory(kind, arguments, numbers, listed, words):
-    first, last, align, length = numbers
-    digits, shift = (6, 8) if kind == "Memory24" else (8, 0)
-    return joined(
-        f"{kind} 0x{first << shift:0{digits}X} to 0x{last << shift:0{digits}X} +0x{length << shift:X}",
-        f"align 0x{align:X}", *words,
-    )
+def fixed(macro: Macro) -> tuple:
+    digits = 4 if macro.kind == "FixedIO" else 8
+    return macro.kind, f"0x{macro.numbers[0]:0{digits}X} +0x{macro.numbers[1]:X}", *macro.words
 
 
-def vendor(kind, arguments, numbers, listed, words):
-    return f"{kind} {len(listed)} bytes"
-
-
-def register(kind, arguments, numbers, listed, words):
-    width, shift, address, *size = numbers
+def register(macro: Macro) -> tuple:
+    width, shift, address, *size = macro.numbers
     access = ("", "bytes", "words", "double words", "quad words")
-    return joined(
-        "Register", f"0x{address:X}", arguments[0], f"{width} bits", f"from bit {shift}" if shift else "",
-        f"by {access[size[0]]}" if size and size[0] else "",
-    )
+    by = f"by {access[size[0]]}" if size and size[0] else ""
+    return f"Register 0x{address:X}", macro.arguments[0], f"{width} bits", f"from bit {shift}" if shift else "", by
 
 
-def spaced(kind, arguments, numbers, listed, words):
+def spaced(macro: Macro) -> tuple:
     """An address space."""
-    if kind.endswith("Space"):
+    numbers, words = macro.numbers, macro.words
+    if macro.kind.endswith("Space"):
         kind_number, kept, *numbers = numbers
         words = [f"of kind 0x{kind_number:02X}", *words]
     gran, first, last, translation, length = numbers[:5]
-    digits = {"W": 4, "D": 8, "Q": 16, "E": 16}[kind[0]]
-    if "ResourceConsumer" in arguments:
+    digits = {"W": 4, "D": 8, "Q": 16, "E": 16}[macro.kind[0]]
+    if "ResourceConsumer" in macro.arguments:
         words.append("consumer")
-    words = [word.replace("the other", "I/O" if kind.endswith("Memory") else "memory") for word in words]
-    return joined(
-        f"{kind} 0x{first:0{digits}X}" + ("" if last == first else f" to 0x{last:0{digits}X}") + f" +0x{length:X}",
-        *in_order(words), f"granularity 0x{gran:X}" if gran else "", f"translation 0x{translation:X}" if translation else "",
+    words = [word.replace("the other", "I/O" if macro.kind.endswith("Memory") else "memory") for word in words]
+    to = "" if last == first else f" to 0x{last:0{digits}X}"
+    return (
+        f"{macro.kind} 0x{first:0{digits}X}{to} +0x{length:X}", *in_order(words),
+        f"granularity 0x{gran:X}" if gran else "", f"translation 0x{translation:X}" if translation else "",
     )
 
 
@@ -193,37 +180,36 @@ def in_order(words):
     return sorted(words, key=lambda word: [word.startswith(head) for head in ORDER].index(True))
 
 
-def interrupt(kind, arguments, numbers, listed, words):
-    return joined("Interrupt", ", ".join(listed), "producer" if "ResourceProducer" in arguments else "", *words)
-
-
-def gpio(kind, arguments, numbers, listed, words):
-    is_int = kind == "GpioInt"
-    mode = [word for word in words if not word.startswith(("pull", "no pull"))]
-    pull = [word for word in words if word.startswith(("pull", "no pull"))]
+def gpio(macro: Macro) -> tuple:
+    is_int = macro.kind == "GpioInt"
+    pull = [word for word in macro.words if word.startswith(("pull", "no pull"))]
+    mode = [word for word in macro.words if word not in pull]
     if not is_int:
         mode.sort(key=lambda word: word == "shared")
-    strength, debounce = (0, numbers[0]) if is_int else (numbers[1], numbers[0])
-    more = [f"drive {strength}" if strength else "", f"debounce {debounce}" if debounce else ""]
-    return joined(kind, ", ".join(listed), *mode, *pull, *more)
+    strength, debounce = 0 if is_int else macro.numbers[1], macro.numbers[0]
+    more = f"drive {strength}" if strength else "", f"debounce {debounce}" if debounce else ""
+    return macro.kind, macro.lines, *mode, *pull, *more
 
 
-def i2c(kind, arguments, numbers, listed, words):
-    return joined(f"{kind} 0x{numbers[0]:04X} {numbers[1]} Hz", *words)
-
-
-def spi(kind, arguments, numbers, listed, words):
+def spi(macro: Macro) -> tuple:
     order = ("3 wires", "select high", "second phase", "polarity high")
-    return joined(f"{kind} 0x{numbers[0]:04X} {numbers[2]} Hz {numbers[1]} bits", *sorted(words, key=order.index))
-
-
-def uart(kind, arguments, numbers, listed, words):
-    return f"{kind} {numbers[0]} baud"
+    address, bits, speed = macro.numbers[:3]
+    return f"{macro.kind} 0x{address:04X} {speed} Hz {bits} bits", *sorted(macro.words, key=order.index)
 
 
 TEXTS = {
-    "IRQ": irq, "IRQNoFlags": irq, "DMA": dma, "FixedDMA": fixed_dma, "StartDependentFn": dependent,
-    "StartDependentFnNoPri": dependent, "EndDependentFn": dependent, "IO": io, "FixedIO": fixed, "Memory32Fixed": fixed,
-    "Memory24": memory, "Memory32": memory, "VendorShort": vendor, "VendorLong": vendor, "Register": register,
-    "Interrupt": interrupt, "GpioInt": gpio, "GpioIo": gpio, "I2cSerialBus": i2c, "SpiSerialBus": spi, "UartSerialBus": uart,
-}
+    "IRQ": lambda it: ("IRQ", it.lines, *it.words),
+    "IRQNoFlags": lambda it: ("IRQ", it.lines, "edge"),
+    "DMA": lambda it: ("DMA", it.lines, *(KEYWORDS.get(it.arguments[place], "") for place in (0, 2, 1))),
+    "FixedDMA": lambda it: (it.kind, str(it.numbers[0]), f"channel {it.numbers[1]}", *it.words),
+    "StartDependentFn": lambda it: (it.kind, "priority {} robustness {}".format(*(int(one, 0) for one in it.arguments[:2]))),
+    "StartDependentFnNoPri": lambda it: (it.kind,),
+    "EndDependentFn": lambda it: (it.kind,),
+    "VendorShort": lambda it: (it.kind, f"{len(it.listed)} bytes"),
+    "VendorLong": lambda it: (it.kind, f"{len(it.listed)} bytes"),
+    "Interrupt": lambda it: (it.kind, it.lines, "producer" if "ResourceProducer" in it.arguments else "", *it.words),
+    "I2cSerialBus": lambda it: (f"{it.kind} 0x{it.numbers[0]:04X} {it.numbers[1]} Hz", *it.words),
+    "UartSerialBus": lambda it: (it.kind, f"{it.numbers[0]} baud"),
+    "IO": io, "FixedIO": fixed, "Memory32Fixed": fixed, "Memory24": memory, "Memory32": memory, "Register": register,
+    "GpioInt": gpio, "GpioIo": gpio, "SpiSerialBus": spi,
+}  # fmt: skip

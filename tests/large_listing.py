@@ -1,47 +1,9 @@
-"""Prints a listing of about so many MB, like that of a large firmware: `python3 tests/large_listing.py MB`."""
+"""Makes a listing like that of a large firmware, for tests/page_browser.py."""
 
-import sys
+import pathlib
 
-# A device: its lines with the level, and the paths below it with their kinds.
-LINES = """
-0 Device ({name}) {{
-1 Name (_HID, 0x0{digit}0CD041)
-1 Name (_UID, 0x{number:08X})
-1 Name (_ADR, 0x{number:08X})
-1 Name (_CRS, Buffer (0x10) {{47, 01, F8, 03, F8, 03, 01, 08, 22, 10, 00, 22, 20, 00, 79, 00}})
-1 OperationRegion (REGS, 0x02, Zero, 0x0100)
-1 Field (REGS, 0x03) {{
-2 VDID, 32
-2 Reserved, 96
-2 CTRL, 8
-2 STAT, 8
-1 }}
-1 Method (_STA, 0, NotSerialized, 0) {{
-2 If (LEqual (VDID, 0xFFFFFFFF)) {{
-3 Return (Zero)
-2 }}
-2 Return (0x0F)
-1 }}
-1 Method (RDWR, 2, Serialized, 0) {{
-2 Store (Arg0, CTRL)
-2 While (LEqual (And (STAT, 0x80, ), Zero)) {{
-3 Sleep (0x0A)
-3 Increment (Local0)
-3 If (LGreater (Local0, 0x64)) {{
-4 Break
-3 }}
-2 }}
-2 Return (And (STAT, Arg1, ))
-1 }}
-1 Method (_PS0, 0, Serialized, 0) {{
-2 RDWR (One, 0x0F)
-2 Store (0x02, \\_SB_.PCI0.{name}.CTRL)
-1 }}
-1 Method (_PS3, 0, Serialized, 0) {{
-2 RDWR (0x03, 0xF0)
-1 }}
-0 }}
-""".strip().splitlines()
+# The lines of a device: NAME is its name, @ a digit, and ######## a number.
+DEVICE = (pathlib.Path(__file__).resolve().parent / "large_device.text").read_text()
 KINDS = {
     "CTRL": "Field", "RDWR": "Method 2", "REGS": "Region", "STAT": "Field", "VDID": "Field", "_ADR": "Name", "_CRS": "Name",
     "_HID": "Name", "_PS0": "Method 0", "_PS3": "Method 0", "_STA": "Method 0", "_UID": "Name",
@@ -57,20 +19,13 @@ def name_of(number: int) -> str:
 
 def listing(size: int) -> str:
     """A listing of about so many bytes."""
-    block = "".join(f"{'  ' * (3 + int(line[0]))}{line[2:]}\n" for line in LINES)
-    one = len(block.format(name="DAAA", number=0, digit=9))
-    one += sum(len(f"  \\_SB_.PCI0.DAAA.{it} {kind}\n") for it, kind in KINDS.items())
-    names = sorted(map(name_of, range(max(1, size // one))))
-    rows = ["  \\_SB_.PCI0 Device\n"]
-    blocks = []
-    for number, name in enumerate(names):
+    one = len(DEVICE) + sum(len(f"  \\_SB_.PCI0.DAAA.{it} {kind}\n") for it, kind in KINDS.items())
+    rows, blocks = ["  \\_SB_.PCI0 Device\n"], []
+    for number, name in enumerate(sorted(map(name_of, range(max(1, size // one))))):
         rows.append(f"  \\_SB_.PCI0.{name} Device\n")
         rows += [f"  \\_SB_.PCI0.{name}.{it} {kind}\n" for it, kind in KINDS.items()]
-        blocks.append(block.format(name=name, number=number, digit=number % 10))
+        device = DEVICE.replace("########", f"{number:08X}").replace("@", str(number % 10))
+        blocks.append(device.replace("NAME", name))
     text = f"Namespace {len(rows)}\n" + "".join(rows)
     text += 'DefinitionBlock ("dsdt.dat") {\n  Scope (\\_SB_) {\n    Device (PCI0) {\n' + "".join(blocks) + "    }\n  }\n}\n"
     return HEAD.format(size=size) + text
-
-
-if __name__ == "__main__":
-    sys.stdout.write(listing(int(float(sys.argv[1]) * 1_000_000)))

@@ -3,15 +3,15 @@
 
     python3 tests/large_sets.py [--stop] [PROGRAM]
 
-PROGRAM is out/acpidis if left out. With --stop the first cut that fails ends it. The independent reading of tests/oracle says what has to come of 19 tables cut at each
-byte, of all bodies of two bytes, of 20,000 methods in a mixed order with a call of each, and of the most files and bytes.
-It says it too of blocks outside methods and of a path that is declared again and again, with the option --any-run; and
-by 1, 4 and 64 workers of paths below what only may stand, of chains of Aliases, and of Scopes of what is no scope.
-For a long body, a name of sixteen million `^` and a million methods it would take too long: what has to come of these is
-written down here, after docs/listing.md, docs/limits.md and docs/names.md. The last line is 'N passed, N failed'.
+PROGRAM is out/acpidis if left out. With --stop the first cut that fails ends it. The independent reading of
+tests/oracle says what has to come of 19 tables cut at each byte, of all bodies of two bytes, of 20,000 methods in a
+mixed order with a call of each, and of the most files and bytes. It says it too of blocks outside methods and of a path
+that is declared again and again, with the option --any-run; and by 1, 4 and 64 workers of paths below what only may
+stand, of chains of Aliases, and of Scopes of what is no scope. For a long body, a name of sixteen million `^` and a
+million methods it would take too long: what has to come of these is written down here, after docs/listing.md,
+docs/limits.md and docs/names.md. The last line is 'N passed, N failed'.
 """
 
-import argparse
 import concurrent.futures
 import dataclasses
 import gc
@@ -26,15 +26,12 @@ import tempfile
 from collections.abc import Iterable
 from typing import NamedTuple
 
-sys.dont_write_bytecode = True
-sys.path.insert(0, str(pathlib.Path(__file__).resolve().parent / "oracle"))
-
-from compare import PROGRAM  # noqa: E402
-from dumps import HEADER_LENGTH, MOST_BYTES, MOST_DUMPS, Dump  # noqa: E402
-from loading import MOST_METHODS  # noqa: E402
-from made_code import MOST_SEGMENTS  # noqa: E402
-from made_aml import packed, table  # noqa: E402
-from running import DONE, RAW, REFUSED, Options, run, run_folder  # noqa: E402
+from tally import PROGRAM, parser  # before the others, whose places it tells
+from dumps import HEADER_LENGTH, MOST_BYTES, MOST_DUMPS, Dump
+from loading import MOST_METHODS
+from made_code import MOST_SEGMENTS
+from made_aml import packed, table
+from running import DONE, RAW, REFUSED, Options, run, run_folder
 
 LIST, CHECK = Options(), Options(check=True)
 LIST_RUNS, CHECK_RUNS = Options(any_run=True), Options(any_run=True, check=True)
@@ -422,7 +419,7 @@ def fails_of_cuts(program):
 
 
 def main():
-    words = argparse.ArgumentParser(description=__doc__, formatter_class=argparse.RawDescriptionHelpFormatter)
+    words = parser(__doc__)
     words.add_argument("--stop", action="store_true")
     words.add_argument("program", nargs="?", type=pathlib.Path, default=PROGRAM)
     asked = words.parse_args()

@@ -2,7 +2,7 @@
 # Runs the program under limits of memory (ulimit -v) and of the stack (ulimit -s), in small steps, over deep and wide sets,
 # with 1, 4 and 64 workers. Each run gives the whole text, or nothing but 'acpidis: NoMemory' or 'acpidis: NoThread' with
 # status 1; no signal ends it. What the whole text is the independent reading of tests/oracle says, and without limits it has
-# to come. Then the shapes of bench/hostile_shapes.py that are bounded: what each may cost at most.
+# to come.
 #
 #     tests/limits.sh [--short] [--stop] [PROGRAM]
 #
@@ -124,33 +124,5 @@ for set in sets/*; do
             limit=$((limit + stack_step))
         done
     done
-done
-
-# No contract speaks of what a run costs. With --check no text is written, which may be long.
-# Each shape stands with the bytes of memory that a byte of it may take.
-for bound in names-outside=128 regions-outside=128 terms-outside=64 connections-outside=64 \
-    deep-owners=64 deep-owners-run=128 deep-pairs=64; do
-    PYTHONDONTWRITEBYTECODE=1 PYTHONPATH=$top/bench python3 - "$program" "${bound%=*}" "${bound#*=}" >told 2>&1 <<'END'
-import pathlib
-import sys
-
-import hostile_shapes
-import measuring
-
-MOST_SECONDS, STARTED_BYTES = 2, 40_000_000
-
-program, name, bytes_a_byte = sys.argv[1:]
-shape = next(it for it in hostile_shapes.SHAPES if it.name == name)
-folder = pathlib.Path("shapes") / name
-measuring.write(folder, lambda: shape.make(shape.size))
-most_bytes = STARTED_BYTES + int(bytes_a_byte) * sum(file.stat().st_size for file in folder.iterdir())
-command = [program, "--workers", "1", "--check", *shape.options(folder), "."]
-_, seconds, peak, status = measuring.run(command, folder, 60) or (60, 60, 0, None)
-if status not in (0, 3) or seconds > MOST_SECONDS or peak > most_bytes:
-    sys.exit(f"{name}: status {status}, {seconds:.2f} s of a processor, {peak} bytes of memory of {most_bytes}")
-print(f"{name}: {seconds:.2f} s of a processor, {peak / 1e6:.0f} MB")
-END
-    # shellcheck disable=SC2181 # the here-document ends the command
-    if [ $? = 0 ]; then pass && cat told; else fail "$(cat told)"; fi
 done
 end

@@ -3,25 +3,9 @@
 # is said where no package can be made. In place of the built program stands one of a few lines, so this needs a C compiler. It
 # wants the kit too. tests/package_trial.sh tries the packages where no kit is. The last line is 'N passed, N failed'.
 
-here=$(CDPATH='' cd -- "$(dirname -- "$0")" && pwd) || exit 1
-top=${here%/*}
-work=$(mktemp -d) || exit 1
-trap 'rm -rf "$work"' EXIT
-cd "$work" || exit 1
+. "$(dirname -- "$0")/rows.sh"
 unset PREFIX DESTDIR LIBRARY
 export GIT_CONFIG_GLOBAL=/dev/null
-passed=0
-failed=0
-
-# is NAME GOT WANTED
-is() {
-    if [ "$2" = "$3" ]; then
-        passed=$((passed + 1))
-    else
-        failed=$((failed + 1))
-        printf 'FAILED %s: got\n%s\nnot\n%s\n' "$1" "$2" "$3"
-    fi
-}
 
 # lines TEXT..: each text in a line of its own, in order
 lines() {
@@ -267,5 +251,4 @@ rm -r first/out
 : >first/out
 is 'a file in the way' "$(first/package 2>&1)" "package: $work/first/out/package: Not a directory"
 
-echo "$passed passed, $failed failed"
-[ "$failed" = 0 ]
+end

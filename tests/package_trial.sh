@@ -8,21 +8,8 @@
 # It wants root, debootstrap, and a mirror of Debian, http://deb.debian.org/debian if left out. ./package comes first. The last
 # line is 'N passed, N failed'; where it can't be tried, it says so, with status 77.
 
-here=$(CDPATH='' cd -- "$(dirname -- "$0")" && pwd) || exit 1
-top=${here%/*}
-passed=0
-failed=0
+. "$(dirname -- "$0")/rows.sh"
 shown=$top/crates/acpidis_program
-
-# is NAME GOT WANTED
-is() {
-    if [ "$2" = "$3" ]; then
-        passed=$((passed + 1))
-    else
-        failed=$((failed + 1))
-        printf 'FAILED %s: got\n%s\nnot\n%s\n' "$1" "$2" "$3"
-    fi
-}
 
 not_tried() {
     echo "the packages were not tried: $*" >&2
@@ -45,8 +32,6 @@ done
 release=${release%:*}
 [ "$release" != none ] || not_tried "no release of Debian is known that has a C library of $least"
 
-work=$(mktemp -d) || exit 1
-trap 'rm -rf "$work"' EXIT
 root=$work/root
 echo "Debian's $release, for a C library of $least" >&2
 mirror=${MIRROR-http://deb.debian.org/debian}
@@ -138,5 +123,4 @@ inside 'dpkg --purge acpidis' >/dev/null
 is 'the page runs the archive' "$(brought 'xz -dc')" ''
 is 'and has the text' "$(cat "$work/here/texts/host")" "$(cat "$shown/stdout")"
 
-echo "$passed passed, $failed failed"
-[ "$failed" = 0 ]
+end

@@ -2,14 +2,12 @@
 """Checks the page that examples/page.py makes of a listing, by Python's HTML parser, beside the independent reading.
 
     python3 tests/page.py [--sets N] [FOLDER ..]
-    python3 tests/page.py --make FOLDER
 
 Of four sample sets, of N made-up sets, 40 if left out, of as many with code outside methods, and of each FOLDER of
 dumps: each name has the targets that the independent reading says it means, each link leads to an anchor that is there,
 each declared path has one, and its row has its marks, each line of a definition block stands in the page as it is in
 the listing, and each declaration lists the lines that use it. Then come hostile names, comparisons and texts that are
-no listing. With --make the third sample set is written to a folder, its listing and its errors printed. The last line
-is 'N passed, N failed'.
+no listing. The last line is 'N passed, N failed'.
 """
 
 import argparse
@@ -21,29 +19,23 @@ import sys
 import tempfile
 from collections import Counter
 
-sys.dont_write_bytecode = True
-TOP = pathlib.Path(__file__).resolve().parent.parent
-sys.path[:0] = [str(TOP / "tests/oracle")]
-sys.path.append(str(TOP / "examples"))
-
-from acpidis_tools.page import lines as lines_module  # noqa: E402
-import pages  # noqa: E402
-from acpidis_tools.page import tree as tree_module  # noqa: E402
-from acpidis_tools.comparison import differences  # noqa: E402
-from acpidis_tools.decoding import Decoder  # noqa: E402
-from dumps import aml_of, order_of  # noqa: E402
-from acpidis_tools.errors import read_errors  # noqa: E402
-from folders import read_folder  # noqa: E402
-from acpidis_tools.listing import read_listing  # noqa: E402
-from made_aml import method, table  # noqa: E402
-from made_sets import SetMaker  # noqa: E402
-from acpidis_tools.page.markup import page  # noqa: E402
-from acpidis_tools.names import Names  # noqa: E402
-from page_html import Read, read_page  # noqa: E402
-from running import REFUSED, Options, Outcome, run_folder  # noqa: E402
-from acpidis_tools.page.sheet import Sheet  # noqa: E402
-from tally import Tally  # noqa: E402
-from telling import DEMO, HOSTILE_FILES, PAGES_FILES, RUNS_FILES, Teller, written  # noqa: E402
+from tally import TOP, Tally, parser  # before the others, whose places it tells
+from acpidis_tools.page import lines as lines_module
+import pages
+from acpidis_tools.page import tree as tree_module
+from acpidis_tools.comparison import differences
+from acpidis_tools.decoding import Decoder
+from dumps import aml_of, order_of
+from acpidis_tools.errors import read_errors
+from folders import read_folder
+from acpidis_tools.listing import read_listing
+from made_aml import method, table
+from acpidis_tools.page.markup import page
+from acpidis_tools.names import Names
+from page_html import Read, read_page
+from running import REFUSED, Options, Outcome, run_folder
+from acpidis_tools.page.sheet import Sheet
+from telling import HOSTILE_FILES, PAGES_FILES, Teller, samples, written
 
 PAGE = TOP / "examples/page.py"
 ELEMENTS = set(
@@ -71,15 +63,12 @@ class Checks(Tally):
         self.is_same("status and errors of a page", (run.returncode, run.stderr), (0, ""))
         return run.stdout
 
-    def check_set(self, what: str, folder: pathlib.Path, options: Options) -> Read | None:
-        """Checks the page of a set; None where the set is refused."""
-        outcome = run_folder(folder, options)
-        if outcome.status == REFUSED:
-            return None
+    def check_set(self, what: str, folder: pathlib.Path, options: Options, outcome: Outcome) -> Read:
+        """Checks the page of a set."""
+        self.is_same(f"{what} is taken", outcome.status != REFUSED, True)
         read = read_page(self.page(outcome))
         dumps = read_folder(folder)
-        codes = [aml_of(dumps[index].data) for index in order_of(dumps, options.any_sum)]
-        teller = Teller(codes, options)
+        teller = Teller([aml_of(dumps[index].data) for index in order_of(dumps, options.any_sum)], options)
         self.is_same(f"the names of {what}", first_difference(read.told(), teller.told), None)
         self.is_same(f"the uses of {what}", read.uses, read.wanted_uses())
         self.check_frame(what, read, outcome)
@@ -138,19 +127,6 @@ def first_difference(got: list, wanted: list) -> str | None:
         if one != other:
             return f"name {number}: {one}, not {other}"
     return None if len(got) == len(wanted) else f"{len(got)} names, not {len(wanted)}"
-
-
-
-def check_made_up(checks: Checks, sets: int, any_run: bool) -> None:
-    """Pages of made-up sets, as many as are taken."""
-    maker, number = SetMaker(random.Random(0), any_run=any_run), 0
-    while number < sets:
-        trial = maker.trial()
-        with tempfile.TemporaryDirectory() as room:
-            folder = written(pathlib.Path(room) / "set", trial.files)
-            if not trial.options.check and checks.check_set(f"made-up set {number}", folder, trial.options):
-                number += 1
-
 
 def check_hostile(checks: Checks, read: Read) -> None:
     """The hostile set's files and hardware names. That its texts come out as text is checked by its lines."""
@@ -291,40 +267,24 @@ def check_refusals(checks: Checks, outcome: Outcome) -> None:
 
 
 def check_all(checks: Checks, asked: argparse.Namespace) -> None:
-    hostile = written(checks.room / "hostile", HOSTILE_FILES)
-    checks.check_set("the set of docs/listing.md", written(checks.room / "listed", PAGES_FILES), Options())
-    checks.check_set("the demo", DEMO, Options())
-    read = checks.check_set("the hostile set", hostile, Options())
-    check_hostile(checks, read)
-    for folder in asked.folders:
-        checks.is_same(f"{folder} is taken", checks.check_set(str(folder), folder, Options()) is not None, True)
-    runs = written(checks.room / "runs", RUNS_FILES)
-    check_runs(checks, checks.check_set("the set of runs", runs, Options(any_run=True)))
-    check_made_up(checks, asked.sets, False)
-    check_made_up(checks, asked.sets, True)
+    for what, *sample in samples(checks.room, asked.folders, asked.sets):
+        read = checks.check_set(what, *sample)
+        for name, check in (("the hostile set", check_hostile), ("the set of runs", check_runs)):
+            if what == name:
+                check(checks, read)
     check_comparison(checks)
     check_comparison_lines(checks)
     check_differences(checks)
-    check_only(checks, run_folder(hostile, Options()))
-    check_names(checks, run_folder(hostile, Options()))
-    check_refusals(checks, run_folder(hostile, Options()))
-
-
-def make(folder: pathlib.Path) -> None:
-    outcome = run_folder(written(folder, HOSTILE_FILES), Options())
-    sys.stdout.write(outcome.out)
-    sys.stderr.write(outcome.err)
+    outcome = run_folder(checks.room / "hostile", Options())
+    check_only(checks, outcome)
+    check_names(checks, outcome)
+    check_refusals(checks, outcome)
 
 
 def main() -> None:
-    words = argparse.ArgumentParser(description=__doc__, formatter_class=argparse.RawDescriptionHelpFormatter)
-    words.add_argument("folders", nargs="*", type=pathlib.Path)
+    words = parser(__doc__, folders=True)
     words.add_argument("--sets", type=int, default=40)
-    words.add_argument("--make", type=pathlib.Path, metavar="FOLDER")
     asked = words.parse_args()
-    if asked.make:
-        make(asked.make)
-        return
     with tempfile.TemporaryDirectory() as room:
         checks = Checks(pathlib.Path(room))
         check_all(checks, asked)

@@ -1,21 +1,30 @@
-"""Drives chromium through a page of examples/page.py by the DevTools protocol, for tests/page_browser.sh.
+#!/usr/bin/env python3
+"""Looks at pages of examples/page.py in Debian's chromium, by the DevTools protocol.
 
-    python3 tests/page_browser.py PAGE PICTURE [COMPARED [SECONDS LARGE]..]
+    python3 tests/page_browser.py [--picture PICTURE] [--errors ERRORS] [LISTING]
 
-PAGE is looked at in all its parts, COMPARED has a comparison, and each LARGE page has to open in so many seconds.
+It loads a page, finds paths in all forms, follows names, opens uses, looks at the bar after jumps, at narrow windows and by
+keys, and takes a picture. The page may ask for nothing but itself, and keep no cookie. With a LISTING that page alone is
+looked at; else that of a made-up set, and then come a comparison, and pages of 4 and 16 MB of text, which have to open in 2
+and in 5 seconds. It is no part of ./test. The last line is 'N passed, N failed'.
 """
 
+import argparse
 import base64
 import fcntl
 import json
 import os
 import pathlib
+import shutil
 import subprocess
 import sys
 import tempfile
 import time
 
-from tally import Tally
+from tally import TOP, Tally, parser  # before the others, whose places it tells
+from large_listing import listing
+from running import Options, run_folder
+from telling import HOSTILE_FILES, written
 
 WIDTH, HEIGHT = 1240, 800
 LONGEST_WAIT = 60
@@ -361,17 +370,53 @@ def look_at_large(browser: Browser, most: float, file: pathlib.Path, checks: Tal
     check_log(browser, checks)
 
 
+# A listing with other numbers, in a table too
+OTHERS = {"0x080AD041": "0x030AD041", "LEqual": "LGreater", "QQQQ": "QQQR", 'Revision 2 Oem "TEST  "': 'Revision 3 Oem "TEST  "'}
+LARGE = {4: 2, 16: 5}
+
+
+def page_of(room: pathlib.Path, name: str, text: str, *words: object) -> pathlib.Path:
+    """The page of a listing."""
+    (room / name).write_text(text)
+    page = room / f"{name}.html"
+    with open(page, "w") as made:
+        subprocess.run([sys.executable, TOP / "examples/page.py", *words, room / name], stdout=made, check=True)
+    return page
+
+
+def look_at_all(browser: Browser, asked: argparse.Namespace, room: pathlib.Path, checks: Tally) -> None:
+    picture = asked.picture or room / "page.png"
+    if asked.listing:
+        page = page_of(room, "text", asked.listing.read_text(), *(["--errors", asked.errors] if asked.errors else []))
+        look(browser, page.as_uri(), picture, checks)
+        return
+    outcome = run_folder(written(room / "set", HOSTILE_FILES), Options())
+    (room / "errors").write_text(outcome.err)
+    page = page_of(room, "text", outcome.out, "--name", "a made-up set", "--errors", room / "errors")
+    look(browser, page.as_uri(), picture, checks)
+    other = outcome.out
+    for word, changed in OTHERS.items():
+        other = other.replace(word, changed, 1)
+    (room / "other").write_text(other)
+    look_at_comparison(browser, page_of(room, "compared", outcome.out, "--compare", room / "other").as_uri(), checks)
+    for size, seconds in LARGE.items():
+        look_at_large(browser, seconds, page_of(room, f"{size} MB", listing(size * 1_000_000)), checks)
+
+
 def main() -> None:
-    file, picture, *more = map(pathlib.Path, sys.argv[1:])
-    checks = Tally()
-    with tempfile.TemporaryDirectory(ignore_cleanup_errors=True) as room:
-        browser = Browser(room)
+    words = parser(__doc__)
+    words.add_argument("--picture", type=pathlib.Path)
+    words.add_argument("--errors", type=pathlib.Path)
+    words.add_argument("listing", metavar="LISTING", nargs="?", type=pathlib.Path)
+    asked, checks = words.parse_args(), Tally()
+    if not shutil.which("chromium"):
+        print("chromium is not there, so nothing is tried: on Debian, apt-get install chromium\n0 passed, 0 failed")
+        return
+    with tempfile.TemporaryDirectory(ignore_cleanup_errors=True) as name:
+        room = pathlib.Path(name)
+        browser = Browser(str(room / "profile"))
         try:
-            look(browser, file.resolve().as_uri(), picture, checks)
-            if more:
-                look_at_comparison(browser, more[0].resolve().as_uri(), checks)
-            for seconds, large in zip(more[1::2], more[2::2]):
-                look_at_large(browser, float(str(seconds)), large, checks)
+            look_at_all(browser, asked, room, checks)
         finally:
             browser.close()
     checks.end()

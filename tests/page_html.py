@@ -1,17 +1,11 @@
 """Reads a page of examples/page.py by Python's HTML parser, for tests/page.py."""
 
-import pathlib
 import re
-import sys
 from dataclasses import dataclass, field
 from html.parser import HTMLParser
 
-TOP = pathlib.Path(__file__).resolve().parent.parent
-sys.path.append(str(TOP / "examples"))
-sys.path.append(str(TOP / "tests/oracle"))
-
-from loading import path_text  # noqa: E402
-from acpidis_tools.page.packing import BETWEEN, unpacked  # noqa: E402
+from loading import path_text
+from acpidis_tools.page.packing import BETWEEN, unpacked
 
 Path = tuple[str, ...]
 Told = tuple[str, str, object, tuple]

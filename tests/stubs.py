@@ -71,27 +71,30 @@ class Trial(NamedTuple):
     said: tuple = ()
 
 
+# The scripts that take the built program, with words by which they end early
+OF_PROGRAM = (
+    "tests/folder.sh",
+    "tests/launcher.sh real",
+    "tests/pages.py --no-scripts",
+    "tests/survey.sh --stop",
+    "tests/install.sh",
+    "tests/examples.py --stop",
+    "tests/asl.py --sets 0 --stop",
+    "tests/refusals.sh program",
+    "tests/limits.sh --short --stop",
+    "tests/worked_runs.py",
+    "tests/large_sets.py --stop",
+    "tests/oracle/compare.py --sets 20",
+    "tests/oracle/compare.py --sets 2 --mutated",
+    "tests/oracle/terms_agree.py",
+)
+
+
 def trials(room):
     """All trials. Folders of commands are made in the room."""
-    of_program = {
-        "tests/folder.sh": [],
-        "tests/launcher.sh": ["real"],
-        "tests/pages.py": ["--no-scripts"],
-        "tests/survey.sh": ["--stop"],
-        "tests/install.sh": [],
-        "tests/examples.py": ["--stop"],
-        "tests/asl.py": ["--sets", "0", "--stop"],
-        "tests/refusals.sh": ["program"],
-        "tests/limits.sh": ["--short", "--stop"],
-        "tests/worked_runs.py": [],
-        "tests/large_sets.py": ["--stop"],
-        "tests/oracle/compare.py": ["--sets", "20"],
-        "tests/oracle/terms_agree.py": [],
-        "tests/fuzz.py": ["--count", "2"],
-    }
-    for script, words in of_program.items():
+    for script in OF_PROGRAM:
         for what, text in STUBS.items():
-            yield Trial(f"{script}, a program that {what}", [script, *words], placed(text))
+            yield Trial(f"{script}, a program that {what}", script.split(), placed(text))
     for what, text in POOL_STUBS.items():
         yield Trial(f"tests/pool_refusals.sh, a program that {what}", ["tests/pool_refusals.sh", "starts"], {POOL: text})
     for what, text in STUBS.items():

@@ -1,9 +1,15 @@
-"""Counts what passes and what fails, for the tests beside this file."""
+"""What the tests beside this file share: where what they try lies, their words, and counts of what passes and what fails."""
 
 from __future__ import annotations
 
+import argparse
 import pathlib
 import sys
+
+sys.dont_write_bytecode = True
+TOP = pathlib.Path(__file__).resolve().parent.parent
+PROGRAM, DEMO = TOP / "out/acpidis", TOP / "crates/acpidis_program/data/demo"
+sys.path[1:1] = [str(TOP / "tests/oracle"), str(TOP / "tests"), str(TOP / "examples"), str(TOP / "bench")]
 
 
 class Stopped(Exception):
@@ -23,11 +29,19 @@ class Tally:
         self.passed += bool(holds)
         self.failed += not holds
         if not holds:
-            print(f"FAILED {what}")
+            print(f"FAILED {what}", flush=True)
             if self.stops:
                 raise Stopped
 
     def end(self) -> None:
         """Prints the last line, and ends the test."""
         print(f"{self.passed} passed, {self.failed} failed")
-        sys.exit(self.failed > 0)
+        sys.exit(self.failed > 0 or not self.passed)
+
+
+def parser(about: str | None, folders: bool = False) -> argparse.ArgumentParser:
+    """The words of a test, whose help is what its first lines say; folders of dumps of one's own may be among them."""
+    words = argparse.ArgumentParser(description=about, formatter_class=argparse.RawDescriptionHelpFormatter)
+    if folders:
+        words.add_argument("folders", metavar="FOLDER", nargs="*", type=pathlib.Path)
+    return words

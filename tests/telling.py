@@ -1,21 +1,26 @@
 """Sample sets, and what the independent reading says of the names of a set: for tests/page.py and tests/facts.py."""
 
 import pathlib
-import sys
+import random
+import tempfile
+from collections.abc import Iterator
 
-TOP = pathlib.Path(__file__).resolve().parent.parent
-sys.path.append(str(TOP / "tests/oracle"))
-
-import pages  # noqa: E402
-from any_run import RunNamespace, RunReader  # noqa: E402
-from loading import Loaded, Namespace  # noqa: E402
-from made_aml import device, method, packed, table  # noqa: E402
-from reading import ALIAS, ELSE, EXTERNAL, FIELD_LISTS, IF, METHOD, ROWS, SCOPE, SCOPES  # noqa: E402
-from reading import Name, Named, Op, Reader  # noqa: E402
-from running import Options  # noqa: E402
+from tally import DEMO  # before the others, whose places it tells
+import pages
+from any_run import RunNamespace, RunReader
+from loading import Loaded, Namespace, path_text
+from made_aml import device, method, packed, table
+from made_sets import SetMaker
+from reading import ALIAS, ELSE, EXTERNAL, FIELD_LISTS, IF, METHOD, ROWS, SCOPE, SCOPES
+from reading import Name, Named, Op, Reader
+from running import REFUSED, Options, Outcome, run_folder
 
 Path = tuple[str, ...]
 WHILE, MOST_OTHERS, METHOD_OBJECT = 0xA2, 3, 8
+REGION, DATA_REGION, NAME = 0x5B80, 0x5B88, 0x08
+# What is handed to these by its name isn't written.
+TAKES_OBJECT = {0x71, 0x87, 0x8E, 0x5B25, 0x5B23, 0x5B24, 0x5B26, 0x5B27, 0x5B2A, 0x86}
+CONDREFOF, CONSTANTS, NUMBERS = 0x5B12, {0x00: 0, 0x01: 1}, {0x0A, 0x0B, 0x0C, 0x0E}
 # What a name is, the path that it declares or leads to, of a body's own name the place of its declaration, and the
 # paths to which it leads in other runs.
 Told = tuple[str, str, object, tuple]
@@ -70,14 +75,32 @@ RUNS = (
 )
 RUNS_FILES = {"dsdt.dat": table(b"DSDT", RUNS)}
 
-DEMO = TOP / "crates/acpidis_program/data/demo"
-
 
 def written(folder: pathlib.Path, files: dict[str, bytes]) -> pathlib.Path:
     folder.mkdir(parents=True)
     for name, data in files.items():
         (folder / name).write_bytes(data)
     return folder
+
+
+def samples(room: pathlib.Path, folders: list, sets: int) -> Iterator[tuple[str, pathlib.Path, Options, Outcome]]:
+    """Sets with the options of a run, and how that ends: those above, folders, and so many made-up ones that are taken,
+    without and with code outside methods."""
+    told = {"the set of docs/listing.md": ("listed", PAGES_FILES), "the hostile set": ("hostile", HOSTILE_FILES)}
+    named = [(what, written(room / name, files), Options()) for what, (name, files) in told.items()]
+    named += [("the demo", DEMO, Options()), ("the set of runs", written(room / "runs", RUNS_FILES), Options(any_run=True))]
+    for what, folder, options in [*named, *((str(it), it, Options(any_run=True, any_sum=True)) for it in folders)]:
+        yield what, folder, options, run_folder(folder, options)
+    for any_run in (False, True):
+        maker, number = SetMaker(random.Random(0), any_run=any_run), 0
+        while number < sets:
+            trial = maker.trial()
+            with tempfile.TemporaryDirectory() as name:
+                folder = written(pathlib.Path(name) / "set", trial.files)
+                outcome = run_folder(folder, trial.options)
+                if not trial.options.check and outcome.status != REFUSED:
+                    yield f"made-up set {number}", folder, trial.options, outcome
+                    number += 1
 
 
 # ---- what the independent reading says of each name
@@ -162,10 +185,13 @@ def may_mean(space: Namespace, scope: Path, name: Name, own: dict) -> list[Path]
 
 
 class Teller:
-    """Tells the names of a set's definition blocks in the order of the text, and what each is."""
+    """Tells the names of a set's definition blocks in the order of the text, and what each is. `uses` has of each that uses
+    something the body, the scope, what it means, whether that is the body's own, the place of this among what else it may
+    mean, and what becomes of it; then come regions, with what their numbers may mean, units, and the values of Names."""
 
     def __init__(self, codes: list[bytes], options: Options):
         self.told: list[Told] = []
+        self.uses, self.regions, self.units, self.values, self.body = [], [], [], {}, None
         self.space, trees = self.run(codes) if options.any_run else self.load(codes)
         bodies = Loaded(codes, trees, self.space).bodies(options.unknown_zero)
         self.bodies = {(body.method.table, body.method.start): body for body in bodies}
@@ -189,19 +215,26 @@ class Teller:
         self.led_by, self.then_by = (lambda term: led[id(term)]), space.then
         return space, trees
 
+    # ---- names
+
     def tell(self, name: Name, what: str, of: object, others: tuple = ()) -> None:
         if str(name):
             self.told.append((str(name), what, of, others))
 
-    def tell_found(self, name: Name, scope: Path, own: dict) -> None:
-        path, *others = self.then.get(str(name)) or may_mean(self.space, scope, name, own) or [None]
+    def meant(self, name: Name, scope: Path, own: dict) -> list:
+        return self.then.get(str(name)) or may_mean(self.space, scope, name, own)
+
+    def tell_found(self, name: Name, scope: Path, own: dict, how: str | None, has_arguments: bool = False) -> None:
+        path, *others = paths = self.meant(name, scope, own) or [None]
+        self.use(name, scope, paths, own, how, has_arguments)
         if path in own:
             self.tell(name, "leads in its body", own[path])
         else:
             self.tell(name, "leads nowhere" if path is None else "leads", path, tuple(others[:MOST_OTHERS]))
 
-    def tell_led(self, name: Name, path: Path) -> None:
+    def tell_led(self, name: Name, path: Path, scope: Path) -> None:
         is_known = self.space.kind(path) or path in self.space.externals
+        self.use(name, scope, [path if is_known else None], {}, "named")
         self.tell(name, "leads" if is_known else "leads nowhere", path if is_known else None)
 
     def tell_declared(self, name: Name, scope: Path) -> Path:
@@ -209,6 +242,23 @@ class Teller:
         self.tell(name, "declares again" if path in self.declared else "declares", path)
         self.declared.add(path)
         return path
+
+    def use(self, name: Name, scope: Path, paths: list, own: dict, how: str | None, has_arguments: bool = False) -> None:
+        for number, path in enumerate(paths if str(name) and how else []):
+            is_own, told = path in own, how
+            if how in ("read", "passed by call"):
+                is_method = has_arguments or path is not None and not is_own and self.is_method(path)
+                told = "called" if is_method else how.partition(" ")[0]
+            shown = None if is_own or path is None else path_text(path)
+            self.uses.append((self.body, path_text(scope), str(name), shown, int(is_own), number, told))
+
+    def is_method(self, path: Path) -> bool:
+        kind = self.space.kind(path)
+        if kind and kind[0] == "Alias":
+            kind = self.space.kind(kind[1]) or (("Method",) if kind[1] in self.space.promised else None)
+        return bool(kind) and kind[0] == "Method" or not kind and path in self.space.promised
+
+    # ---- terms
 
     def tell_terms(self, terms: list, scope: Path) -> None:
         for term in terms:
@@ -219,21 +269,21 @@ class Teller:
                 self.tell_body(self.bodies[self.table, term.tail[0]].terms or [], path)
             elif opcode == SCOPE:
                 path = self.led_by(term)
-                self.tell_led(names[0], path)
+                self.tell_led(names[0], path, scope)
                 self.tell_terms(term.tail, path)
             elif opcode in SCOPES:
                 self.tell_terms(term.tail, self.tell_declared(names[0], scope))
             elif opcode == ALIAS:
-                self.tell_led(names[0], self.led_by(term))
+                self.tell_led(names[0], self.led_by(term), scope)
                 self.tell_declared(names[1], scope)
             elif opcode == EXTERNAL:
                 self.tell_external(names[0], names[0].placed(scope))
             elif opcode in (IF, ELSE, WHILE):
                 for part in term.parts:
-                    self.tell_term(part, scope, {}, False)
+                    self.tell_term(part, scope, {}, "read")
                 self.tell_terms(term.tail, scope)
             else:
-                self.tell_term(term, scope, {}, False)
+                self.tell_term(term, scope, {}, "read")
 
     def tell_external(self, name: Name, path: Path) -> None:
         is_first = not self.space.kind(path) and path not in self.seen
@@ -242,40 +292,85 @@ class Teller:
 
     def tell_body(self, terms: list, path: Path) -> None:
         own: dict[Path, int] = {}
+        self.body = path_text(path)
         for term in terms:
-            self.tell_term(term, path, own, True)
+            self.tell_term(term, path, own, "read")
+        self.body = None
 
-    def tell_term(self, term: object, scope: Path, own: dict, is_body: bool) -> None:
+    def tell_term(self, term: object, scope: Path, own: dict, how: str | None) -> None:
         """The names of a term; the paths that it declares in a body are known behind it, with their places."""
-        declared: dict[Path, int] = {}
-
-        def declare(name: Name) -> None:
-            if not is_body:
-                self.tell_declared(name, scope)
-                return
-            path = name.placed(scope)
-            if path is not None:
-                declared[path] = len(self.told)
-            self.tell(name, "declares in its body", path)
-
         if isinstance(term, Name):
-            self.tell_found(term, scope, own)
+            self.tell_found(term, scope, own, how)
         elif isinstance(term, Named):
-            self.tell_found(term.name, scope, own)
+            self.tell_found(term.name, scope, own, how, bool(term.args))
             for arg in term.args:
-                self.tell_term(arg, scope, own, is_body)
+                self.tell_term(arg, scope, own, "passed by call")
         elif isinstance(term, Op):
-            its_own = term.declared() if term.opcode not in FIELD_LISTS else []
-            for part in term.parts:
-                if its_own and part is its_own[0]:
-                    declare(part)
-                else:
-                    self.tell_term(part, scope, own, is_body)
-            for inner in term.tail if isinstance(term.tail, list) else []:
-                if term.opcode not in FIELD_LISTS:
-                    self.tell_term(inner, scope, own, is_body)
-                elif inner[0] == "unit":
-                    declare(Name(False, 0, [inner[1]]))
-                elif inner[0] == "connection":
-                    self.tell_term(inner[1], scope, own, is_body)
-            own |= declared if is_body else {}
+            declared: dict[Path, int] = {}
+            self.tell_parts(term, scope, own, declared)
+            self.keep_region(term, scope, own)
+            if term.opcode in FIELD_LISTS:
+                self.tell_units(term, scope, own, declared)
+            elif isinstance(term.tail, list):
+                for inner in term.tail:
+                    self.tell_term(inner, scope, own, "passed" if term.row.tail == "e" else "read")
+            own |= declared if self.body else {}
+
+    def declare(self, name: Name, scope: Path, declared: dict) -> None:
+        if not self.body:
+            self.tell_declared(name, scope)
+            return
+        path = name.placed(scope)
+        if path is not None:
+            declared[path] = len(self.told)
+        self.tell(name, "declares in its body", path)
+
+    def tell_parts(self, term: Op, scope: Path, own: dict, declared: dict) -> None:
+        its_own = term.declared() if term.opcode not in FIELD_LISTS else []
+        for number, (kind, part) in enumerate(zip(term.row.parts, term.parts)):
+            if its_own and part is its_own[0]:
+                self.declare(part, scope, declared)
+            else:
+                self.tell_term(part, scope, own, becomes(term.opcode, kind, number))
+
+    def keep_region(self, term: Op, scope: Path, own: dict) -> None:
+        """Keeps the value of a Name, and the numbers of a region."""
+        if term.opcode == NAME and not self.body:
+            self.values.setdefault(term.names()[0].placed(scope), []).append(constant(term.parts[1]))
+        if term.opcode in (REGION, DATA_REGION):
+            named = [it.name if isinstance(it, Named) and not it.args else None for it in term.parts[2:4]]
+            meant = [self.meant(it, scope, own) if it and term.opcode == REGION else [] for it in named]
+            path = path_text(term.names()[0].placed(scope) or ())
+            is_data = term.opcode == DATA_REGION
+            numbers = [None if is_data else small(constant(part)) for part in term.parts[2:4]]
+            self.regions.append(((self.body, path, None if is_data else term.parts[1][1]), numbers, meant))
+
+    def tell_units(self, term: Op, scope: Path, own: dict, declared: dict) -> None:
+        bit = 0
+        for unit in term.tail:
+            if unit[0] == "unit":
+                name = Name(False, 0, [unit[1]])
+                self.units.append((self.body, path_text(name.placed(scope)), term.row.mnemonic, bit, unit[2]))
+                self.declare(name, scope, declared)
+            elif unit[0] == "connection":
+                self.tell_term(unit[1], scope, own, "named")
+            bit += unit[-1] if unit[0] in ("unit", "reserved") else 0
+
+
+def becomes(opcode: int, kind: str, number: int) -> str | None:
+    """What becomes of what stands as a part of an operator. An External uses nothing."""
+    if kind == "S":
+        is_object = opcode in TAKES_OBJECT or opcode == CONDREFOF and number == 0
+        return "passed" if is_object else "written"
+    return None if opcode == EXTERNAL else {"D": "passed", "N": "named"}.get(kind, "read")
+
+
+def constant(term: object) -> int | None:
+    if not isinstance(term, Op):
+        return None
+    return CONSTANTS.get(term.opcode, term.parts[0][1] if term.opcode in NUMBERS else None)
+
+
+def small(number: int | None) -> int | None:
+    """A number that SQLite has as an integer."""
+    return number if number is not None and number < 1 << 63 else None

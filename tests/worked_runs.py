@@ -9,19 +9,16 @@ status, its text and its error lines. Each of them is also what the independent 
 alone is tried. The last line is 'N passed, N failed'.
 """
 
-import argparse
 import dataclasses
 import pathlib
 import sys
 import tempfile
 
-sys.dont_write_bytecode = True
-sys.path.insert(0, str(pathlib.Path(__file__).resolve().parent / "oracle"))
-
-from cases import Rows, options_of  # noqa: E402
-from compare import PROGRAM, run_program  # noqa: E402
-from folders import MAP_NAME  # noqa: E402
-from loading import path_text  # noqa: E402
+from tally import PROGRAM, parser  # before the others, whose places it tells
+from cases import Rows, options_of
+from compare import run_program
+from folders import MAP_NAME
+from loading import path_text
 
 RUNS = ["worked_runs.txt", "worked_runs_any_run.txt"]
 MARGIN = "  "
@@ -78,10 +75,10 @@ def fails_of(file, readers):
 
 
 def main():
-    parser = argparse.ArgumentParser(description=__doc__, formatter_class=argparse.RawDescriptionHelpFormatter)
-    parser.add_argument("program", nargs="?", default=PROGRAM)
-    parser.add_argument("--read", action="store_true", help="try the independent reading alone")
-    asked = parser.parse_args()
+    words = parser(__doc__)
+    words.add_argument("program", nargs="?", default=PROGRAM)
+    words.add_argument("--read", action="store_true", help="try the independent reading alone")
+    asked = words.parse_args()
     fails = []
     for file in RUNS:
         readers = {"tests/oracle": Rows()}

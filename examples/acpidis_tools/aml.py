@@ -4,6 +4,7 @@ A name has the arguments that the tables told so far, and none where they told n
 tables mean the program alone says. Each byte is read once, and the search for names has a bound: the cost grows as the bytes.
 """
 
+import pathlib
 import re
 import sys
 
@@ -17,25 +18,9 @@ STEPS_PER_BYTE = 4
 KEPT_PLACES = 2
 TEXT_LENGTH, TEXT_LINES = 160, 8
 
-# Each opcode with its mnemonic, and in letters: P a package length, T a value, S a target, N a name, D data, 1 2 4 8 bytes, Z a
-# text; then what goes to the end of the package: t terms, y bytes, e elements, f fields, b a method's body.
-OPCODES = (
-    "00 Zero;01 One;FF Ones;5B30 Revision;5B31 Debug;5B33 Timer;0A Byte 1;0B Word 2;0C Dword 4;0E Qword 8;0D Text Z;"
-    "11 Buffer PTy;12 Package P1e;13 VarPackage PTe;72 Add TTS;73 Concatenate TTS;74 Subtract TTS;77 Multiply TTS;"
-    "79 ShiftLeft TTS;7A ShiftRight TTS;7B And TTS;7C NAnd TTS;7D Or TTS;7E NOr TTS;7F XOr TTS;84 ConcatenateResTemplate TTS;"
-    "85 Mod TTS;88 Index TTS;9C ToString TTS;78 Divide TTSS;9E Mid TTTS;70 Store TS;80 Not TS;81 FindSetLeftBit TS;"
-    "82 FindSetRightBit TS;96 ToBuffer TS;97 ToDecimalString TS;98 ToHexString TS;99 ToInteger TS;9D CopyObject TS;"
-    "5B28 FromBCD TS;5B29 ToBCD TS;90 LAnd TT;91 LOr TT;93 LEqual TT;94 LGreater TT;95 LLess TT;83 DerefOf T;92 LNot T;"
-    "71 RefOf S;75 Increment S;76 Decrement S;87 SizeOf S;8E ObjectType S;5B12 CondRefOf SS;5B25 Wait ST;5B23 Acquire S2;"
-    "5B20 Load NS;89 Match T1T1TT;5B1F LoadTable TTTTTT;86 Notify ST;9F Continue;A3 Noop;A5 Break;CC BreakPoint;A0 If PTt;"
-    "A1 Else Pt;A2 While PTt;A4 Return T;5B21 Stall T;5B22 Sleep T;5B24 Signal S;5B26 Reset S;5B27 Release S;5B2A Unload S;"
-    "5B32 Fatal 14T;06 Alias NN;08 Name ND;10 Scope PNt;14 Method PN1b;15 External N11;5B01 Mutex N1;5B02 Event N;"
-    "5B13 CreateField TTTN;5B80 OperationRegion N1TT;5B81 Field PN1f;5B82 Device PNt;5B83 Processor PN141t;"
-    "5B84 PowerResource PN12t;5B85 ThermalZone PNt;5B86 IndexField PNN1f;5B87 BankField PNNT1f;5B88 DataRegion NTTT;"
-    "8A CreateDWordField TTN;8B CreateWordField TTN;8C CreateByteField TTN;8D CreateBitField TTN;8F CreateQWordField TTN;"
-    + ";".join(f"{0x60 + n:02X} Local{n}" for n in range(8)) + ";" + ";".join(f"{0x68 + n:02X} Arg{n}" for n in range(7))
-)
-ROWS = {int(opcode, 16): (word, kinds[0] if kinds else "") for opcode, word, *kinds in map(str.split, OPCODES.split(";"))}
+# Each opcode of opcodes.txt, with its mnemonic and the letters of its kinds
+LINES = (pathlib.Path(__file__).parent / "opcodes.txt").read_text().partition("\n\n")[2].splitlines()
+ROWS = {int(opcode, 16): (word, "".join(kinds)) for opcode, word, *kinds in (line.split() for line in LINES if " " in line)}
 # The kinds of each mnemonic's parts, without the letters of what has a length.
 PARTS = {word: kinds.lstrip("P").rstrip("tyefb") for word, kinds in ROWS.values()}
 SMALL = {"Zero": 0, "One": 1}

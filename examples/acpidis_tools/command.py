@@ -21,8 +21,11 @@ SEGMENT = re.compile(r"[A-Z_][A-Z0-9_]{0,3}")
 
 
 def parser(about, **more):
-    """The command line of a script, whose help is what its first lines say."""
-    return argparse.ArgumentParser(description=about, formatter_class=argparse.RawDescriptionHelpFormatter, **more)
+    """The command line of a script, whose help is what its first lines say. Where it is installed it has another name there."""
+    made = argparse.ArgumentParser(description=about, formatter_class=argparse.RawDescriptionHelpFormatter, **more)
+    if made.prog.startswith("acpidis-"):
+        made.description = re.sub(r"(?:python3 )?examples/(\w+)\.py", r"acpidis-\1", about)
+    return made
 
 
 def folder_parser(about, own=""):

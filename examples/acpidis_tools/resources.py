@@ -93,9 +93,8 @@ def interrupt_words(is_edge: int, polarity: int, sharing: int) -> tuple[str, ...
 def dma(data: Bytes) -> Descriptor:
     speed = ("compatibility", "type A", "type B", "type F")[data.bits(2, 5, 2)]
     width = ("8 bits", "8 and 16 bits", "16 bits", "size 3")[data.bits(2, 0, 2)]
-    return Descriptor(
-        "DMA", lines=set_bits(data.number(1, 1)), words=flags(speed, width, "bus master" if data.bits(2, 2) else ""),
-    )
+    words = flags(speed, width, "bus master" if data.bits(2, 2) else "")
+    return Descriptor("DMA", lines=set_bits(data.number(1, 1)), words=words)
 
 
 def start_dependent(data: Bytes) -> Descriptor:
@@ -105,70 +104,45 @@ def start_dependent(data: Bytes) -> Descriptor:
     return Descriptor("StartDependentFn", words=(f"priority {priority & 3}", f"robustness {priority >> 2 & 3}"))
 
 
-def end_dependent(_: Bytes) -> Descriptor:
-    return Descriptor("EndDependentFn")
-
-
 def io(data: Bytes) -> Descriptor:
     first, last = data.numbers(2, 2, 2)
     align = data.number(6, 1)
-    return Descriptor(
-        "IO", first, last, data.number(7, 1), 4,
-        words=flags(f"align 0x{align:X}" if align > 1 else "", "" if data.bits(1, 0) else "10 bits decoded"),
-    )
-
-
-def fixed_io(data: Bytes) -> Descriptor:
-    return Descriptor("FixedIO", data.number(1, 2), length=data.number(3, 1), digits=4)
+    words = flags(f"align 0x{align:X}" if align > 1 else "", "" if data.bits(1, 0) else "10 bits decoded")
+    return Descriptor("IO", first, last, data.number(7, 1), 4, words=words)
 
 
 def fixed_dma(data: Bytes) -> Descriptor:
     width = data.number(5, 1)
-    return Descriptor(
-        "FixedDMA", lines=(data.number(1, 2),),
-        words=(f"channel {data.number(3, 2)}", f"{8 << width} bits" if width < 6 else f"width {width}"),
-    )
-
-
-def vendor_short(data: Bytes) -> Descriptor:
-    return Descriptor("VendorShort", words=(f"{len(data.data) - SMALL} bytes",))
+    words = (f"channel {data.number(3, 2)}", f"{8 << width} bits" if width < 6 else f"width {width}")
+    return Descriptor("FixedDMA", lines=(data.number(1, 2),), words=words)
 
 
 # ---- memory and registers (6.4.3.1 to 6.4.3.4, 6.4.3.7)
 
 
-def read_only(data: Bytes, at: int) -> str:
-    return "" if data.bits(at, 0) else "read-only"
-
-
 def memory24(data: Bytes) -> Descriptor:
     first, last, align, length = data.numbers(4, 2, 4)
-    words = flags(f"align 0x{align:X}" if align else "align 0x10000", read_only(data, 3))
+    words = flags(f"align 0x{align:X}" if align else "align 0x10000", read_only(data))
     return Descriptor("Memory24", first << 8, last << 8, length << 8, 6, words=words)
 
 
 def memory32(data: Bytes) -> Descriptor:
     first, last, align, length = data.numbers(4, 4, 4)
-    return Descriptor("Memory32", first, last, length, words=flags(f"align 0x{align:X}", read_only(data, 3)))
+    return Descriptor("Memory32", first, last, length, words=flags(f"align 0x{align:X}", read_only(data)))
 
 
-def memory32_fixed(data: Bytes) -> Descriptor:
-    first, length = data.numbers(4, 4, 2)
-    return Descriptor("Memory32Fixed", first, length=length, words=flags(read_only(data, 3)))
+def read_only(data: Bytes) -> str:
+    return "" if data.bits(3, 0) else "read-only"
 
 
 def register(data: Bytes) -> Descriptor:
     access = ("", "bytes", "words", "double words", "quad words")
-    size = data.number(6, 1)
-    shift = data.number(5, 1)
-    return Descriptor("Register", data.number(7, 8), digits=1, words=flags(
-        space_name(data.number(3, 1)), f"{data.number(4, 1)} bits", f"from bit {shift}" if shift else "",
+    space, bits, shift, size = data.numbers(3, 1, 4)
+    words = flags(
+        space_name(space), f"{bits} bits", f"from bit {shift}" if shift else "",
         f"by {access[size]}" if 0 < size < len(access) else "",
-    ))
-
-
-def vendor_long(data: Bytes) -> Descriptor:
-    return Descriptor("VendorLong", words=(f"{len(data.data) - LARGE} bytes",))
+    )
+    return Descriptor("Register", data.number(7, 8), digits=1, words=words)
 
 
 # ---- address spaces (6.4.3.5)
@@ -185,53 +159,42 @@ def address_space(size: str, width: int) -> Callable[[Bytes], Descriptor]:
     def read(data: Bytes) -> Descriptor:
         at = 8 if size == "Extended" else 6
         granularity, first, last, translation, length = data.numbers(at, width, 5)
-        kind = data.number(3, 1)
+        kind, behind = data.number(3, 1), at + 5 * width + 1
         name = SPACE_KINDS[kind] if kind < len(SPACE_KINDS) else "Space"
         words = flags(
-            *(() if kind < len(SPACE_KINDS) else (f"of kind 0x{kind:02X}",)),
-            *general_words(data), *specific_words(kind, data.number(5, 1)),
-            f"granularity 0x{granularity:X}" if granularity else "",
+            "" if kind < len(SPACE_KINDS) else f"of kind 0x{kind:02X}",
+            "consumer" if data.bits(4, 0) else "", "subtractive" if data.bits(4, 1) else "",
+            "" if data.bits(4, 2) else "first not fixed", "" if data.bits(4, 3) else "last not fixed",
+            *specific_words(kind, data.number(5, 1)), f"granularity 0x{granularity:X}" if granularity else "",
             f"translation 0x{translation:X}" if translation else "",
         )
-        behind = at + 5 * width
-        return Descriptor(f"{size}{name}", first, last, length, 2 * width, words=words, source=source_at(data, behind + 1, size))
+        source = data.text(behind) if size != "Extended" and behind < len(data.data) else ""
+        return Descriptor(f"{size}{name}", first, last, length, 2 * width, words=words, source=source)
 
     return read
-
-
-def source_at(data: Bytes, at: int, size: str) -> str:
-    return data.text(at) if size != "Extended" and at < len(data.data) else ""
-
-
-def general_words(data: Bytes) -> tuple[str, ...]:
-    return flags(
-        "consumer" if data.bits(4, 0) else "", "subtractive" if data.bits(4, 1) else "",
-        "" if data.bits(4, 2) else "first not fixed", "" if data.bits(4, 3) else "last not fixed",
-    )
 
 
 def specific_words(kind: int, kept: int) -> tuple[str, ...]:
     if kind == 0:
         is_translated = "as I/O" if kept >> 5 & 1 else ""
-        return flags("" if kept & 1 else "read-only", CACHING[kept >> 1 & 3], MEMORY_TYPES[kept >> 3 & 3], is_translated)
+        return "" if kept & 1 else "read-only", CACHING[kept >> 1 & 3], MEMORY_TYPES[kept >> 3 & 3], is_translated
     if kind == 1:
-        return flags(IO_RANGES[kept & 3], "as memory" if kept >> 4 & 1 else "", "sparse" if kept >> 5 & 1 else "")
+        return IO_RANGES[kept & 3], "as memory" if kept >> 4 & 1 else "", "sparse" if kept >> 5 & 1 else ""
     return ()
 
 
 # ---- interrupts, pins and buses (6.4.3.6, 6.4.3.8 to 6.4.3.14)
 
+PULLS = ("", "pull up", "pull down", "no pull")
+RESTRICTIONS = ("", "input", "output", "preserved")
+
 
 def interrupt(data: Bytes) -> Descriptor:
     kept, count = data.number(3, 1), data.number(4, 1)
-    words = interrupt_words(kept >> 1 & 1, kept >> 2 & 1, kept >> 3 & 3)
-    source = data.text(5 + 4 * count + 1) if 5 + 4 * count + 1 < len(data.data) else ""
-    words = flags("" if kept & 1 else "producer", *words)
+    words = flags("" if kept & 1 else "producer", *interrupt_words(kept >> 1 & 1, kept >> 2 & 1, kept >> 3 & 3))
+    behind = 5 + 4 * count + 1
+    source = data.text(behind) if behind < len(data.data) else ""
     return Descriptor("Interrupt", lines=data.numbers(5, 4, count), words=words, source=source)
-
-
-PULLS = ("", "pull up", "pull down", "no pull")
-RESTRICTIONS = ("", "input", "output", "preserved")
 
 
 def pins(data: Bytes, at: int, end: int) -> tuple[int, ...]:
@@ -244,21 +207,23 @@ def gpio(data: Bytes) -> Descriptor:
     is_io = data.number(4, 1) == 1
     kept, pull, strength, debounce = data.number(7, 2), data.number(9, 1), data.number(10, 2), data.number(12, 2)
     if is_io:
-        words = flags(RESTRICTIONS[kept & 3], "shared" if kept >> 3 & 1 else "")
+        words = RESTRICTIONS[kept & 3], "shared" if kept >> 3 & 1 else ""
     else:
         words = interrupt_words(kept & 1, kept >> 1 & 3, kept >> 3 & 3)
     words = flags(
         *words, PULLS[pull] if pull < len(PULLS) else f"pull {pull}", f"drive {strength}" if strength else "",
         f"debounce {debounce}" if debounce else "",
     )
-    return Descriptor(
-        "GpioIo" if is_io else "GpioInt", lines=pins(data, 14, 17), words=words, source=data.text(data.number(17, 2)),
-    )
+    return with_pins("GpioIo" if is_io else "GpioInt", data, words, (14, 17), 17)
+
+
+def with_pins(kind: str, data: Bytes, words: tuple[str, ...], places: tuple[int, int], source: int) -> Descriptor:
+    """A descriptor whose pins stand between two offsets, and its source at another one."""
+    return Descriptor(kind, lines=pins(data, *places), words=words, source=data.text(data.number(source, 2)))
 
 
 def serial_bus(data: Bytes) -> Descriptor:
-    kind, kept, size = data.number(5, 1), data.number(7, 2), data.number(10, 2)
-    source = data.text(12 + size)
+    kind, kept, source = data.number(5, 1), data.number(7, 2), data.text(12 + data.number(10, 2))
     if kind == 1:
         words = flags(f"{data.number(12, 4)} Hz", "10-bit address" if kept & 1 else "")
         return Descriptor("I2cSerialBus", data.number(16, 2), digits=4, words=words, source=source)
@@ -278,20 +243,16 @@ def serial_bus(data: Bytes) -> Descriptor:
 
 def pin_function(data: Bytes) -> Descriptor:
     words = flags(f"function {data.number(7, 2)}", "shared" if data.bits(4, 0) else "")
-    return Descriptor("PinFunction", lines=pins(data, 9, 12), words=words, source=data.text(data.number(12, 2)))
+    return with_pins("PinFunction", data, words, (9, 12), 12)
 
 
 def pin_config(data: Bytes) -> Descriptor:
     words = flags(f"type {data.number(6, 1)}", f"value {data.number(7, 4)}", "shared" if data.bits(4, 0) else "")
-    return Descriptor("PinConfig", lines=pins(data, 11, 14), words=words, source=data.text(data.number(14, 2)))
-
-
-def pin_group(data: Bytes) -> Descriptor:
-    return Descriptor("PinGroup", lines=pins(data, 6, 8), source=data.text(data.number(8, 2)))
+    return with_pins("PinConfig", data, words, (11, 14), 14)
 
 
 def pin_group_function(data: Bytes) -> Descriptor:
-    words = flags(f"function {data.number(6, 2)}", f"label {data.text(data.number(11, 2))}")
+    words = (f"function {data.number(6, 2)}", f"label {data.text(data.number(11, 2))}")
     return Descriptor("PinGroupFunction", words=words, source=data.text(data.number(9, 2)))
 
 
@@ -300,25 +261,28 @@ def pin_group_config(data: Bytes) -> Descriptor:
     return Descriptor("PinGroupConfig", words=words, source=data.text(data.number(12, 2)))
 
 
-def clock_input(data: Bytes) -> Descriptor:
-    return Descriptor("ClockInput", words=(f"{data.number(8, 4)}/{data.number(6, 2)}",))
-
-
 # ---- all of them: each with the least and the most bytes of its content
 
 ANY = 0xFFFF
 SMALLS = {
-    0x04: (2, 3, irq), 0x05: (2, 2, dma), 0x06: (0, 1, start_dependent), 0x07: (0, 0, end_dependent), 0x08: (7, 7, io),
-    0x09: (3, 3, fixed_io), 0x0A: (5, 5, fixed_dma), 0x0E: (0, 7, vendor_short),
+    0x04: (2, 3, irq), 0x05: (2, 2, dma), 0x06: (0, 1, start_dependent), 0x08: (7, 7, io), 0x0A: (5, 5, fixed_dma),
+    0x07: (0, 0, lambda _: Descriptor("EndDependentFn")),
+    0x09: (3, 3, lambda it: Descriptor("FixedIO", it.number(1, 2), length=it.number(3, 1), digits=4)),
+    0x0E: (0, 7, lambda it: Descriptor("VendorShort", words=(f"{len(it.data) - SMALL} bytes",))),
 }
 LARGES = {
-    0x01: (9, 9, memory24), 0x02: (12, 12, register), 0x04: (0, ANY, vendor_long), 0x05: (17, 17, memory32),
-    0x06: (9, 9, memory32_fixed), 0x07: (23, ANY, address_space("DWord", 4)), 0x08: (13, ANY, address_space("Word", 2)),
-    0x09: (6, ANY, interrupt), 0x0A: (43, ANY, address_space("QWord", 8)), 0x0B: (53, 53, address_space("Extended", 8)),
-    0x0C: (20, ANY, gpio), 0x0D: (15, ANY, pin_function), 0x0E: (9, ANY, serial_bus), 0x0F: (17, ANY, pin_config),
-    0x10: (11, ANY, pin_group), 0x11: (14, ANY, pin_group_function), 0x12: (17, ANY, pin_group_config),
-    0x13: (9, ANY, clock_input),
-}
+    0x01: (9, 9, memory24), 0x02: (12, 12, register), 0x05: (17, 17, memory32), 0x07: (23, ANY, address_space("DWord", 4)),
+    0x08: (13, ANY, address_space("Word", 2)), 0x09: (6, ANY, interrupt), 0x0A: (43, ANY, address_space("QWord", 8)),
+    0x0B: (53, 53, address_space("Extended", 8)), 0x0C: (20, ANY, gpio), 0x0D: (15, ANY, pin_function),
+    0x0E: (9, ANY, serial_bus), 0x0F: (17, ANY, pin_config), 0x11: (14, ANY, pin_group_function),
+    0x12: (17, ANY, pin_group_config),
+    0x04: (0, ANY, lambda it: Descriptor("VendorLong", words=(f"{len(it.data) - LARGE} bytes",))),
+    0x06: (
+        9, 9, lambda it: Descriptor("Memory32Fixed", it.number(4, 4), length=it.number(8, 4), words=flags(read_only(it))),
+    ),
+    0x10: (11, ANY, lambda it: with_pins("PinGroup", it, (), (6, 8), 8)),
+    0x13: (9, ANY, lambda it: Descriptor("ClockInput", words=(f"{it.number(8, 4)}/{it.number(6, 2)}",))),
+}  # fmt: skip
 
 
 def descriptors(data: bytes) -> list[Descriptor] | None:

@@ -172,14 +172,68 @@ def path_or_none(path):
 
 
 def declaration_of(words):
-    """The path and the kind of a declaration."""
+    """The name and the kind of a declaration."""
     path, word, *more = words.split()
     kinds = {
         "Method": lambda: (word, int(more[0])),
         "Alias": lambda: ("Alias", path_of(more[0]), False),
         "OpenAlias": lambda: ("Alias", path_of(more[0]), True),
     }
-    return path_of(path), kinds.get(word, lambda: (word,))()
+    return name_of(path), kinds.get(word, lambda: (word,))()
+
+
+def kind_text(names, path):
+    kind = names.kind(path)
+    return or_none(kind and row_text(path, kind))
+
+
+def declared_text(names, path):
+    declared = "declared" if path in names.declarations else "not declared"
+    return [f"{declared}, {'sure' if names.is_sure(path) else 'not sure'}"]
+
+
+def counted(words):
+    """A reader of a body in which each name takes so many arguments."""
+    return lambda code: Reader(code, lambda _declared, _name: int(words))
+
+
+# What is answered to rows of words and bytes.
+OF_BYTES = {
+    "body": lambda words, code: text_of(counted(words)(code)),
+    "terms": lambda words, code: list(each_text(counted(words)(code))),
+    "table": lambda _, code: table_text(code),
+    "step": lambda words, code: [step_text(code, *map(int, words.split()))],
+    "cuts": lambda _, code: cuts_text(code),
+    "name": lambda _, code: name_text(code),
+    "length": lambda _, code: length_text(code),
+    "kept": lambda _, code: ["".join(hexadecimal(code))],
+    "xsdt": lambda _, table: entries_text(b"XSDT", table),
+    "rsdt": lambda _, table: entries_text(b"RSDT", table),
+    "madt": lambda _, table: madt_text(table),
+    "map": lambda words, text: map_text(words.split(" "), text),
+    "externals": lambda _, text: externals_text(text),
+    "many_rows": lambda words, _: [f"{words} at their places"],
+    "many_counted": lambda words, _: [f"{words} found by 1 to 64 comparisons"],
+}
+# To rows of a path, by the namespace; a declared path has a segment at least, and so is found by a comparison.
+OF_PATH = {
+    "declared": declared_text,
+    "scope": lambda names, path: ["a scope" if names.is_sure(path) and names.is_scope(path) else "no scope"],
+    "alias": lambda names, path: ["open" if names.alias_of(path)[2] else "not open"],
+    "count": lambda names, path: or_none(names.count(path)),
+    "kind": kind_text,
+    "counted": lambda names, path: [*kind_text(names, path), "few comparisons"],
+}
+# To rows of a scope and a name, by the namespace and the paths that the body declared: where the name leads by the first
+# declarations, in every run, and in the body.
+OF_NAME = {
+    "place": lambda _, scope, name, __: path_or_none(name.placed(scope)),
+    "find": lambda names, scope, name, _: path_or_none(Namespace.find(names, scope, name)),
+    "lead": lambda names, scope, name, _: path_or_none(names.find(scope, name)),
+    "search": lambda names, scope, name, declared: path_or_none(Namespace.find(names, scope, name, declared)),
+    "arity": lambda names, scope, name, declared: or_none(names.arity(scope)(declared, name)),
+    "arity_unknown_zero": lambda names, scope, name, declared: or_none(names.arity(scope, True)(declared, name)),
+}
 
 
 class Rows:
@@ -195,65 +249,29 @@ class Rows:
             return []
         head, _, rest = row.partition(":")
         kind, _, words = head.partition(" ")
-        act = getattr(self, "row_" + kind, None)
-        if not act:
-            raise ValueError(f"no such kind of row: {kind}")
         try:
-            return act(words, bytes_of(rest)) or []
+            return self.act(kind, words, bytes_of(rest)) or []
         except Refused as fault:
             return [str(fault)]
         except Bad as bad:
             return [str(bad) + (f", dump {bad.dump}" if bad.dump is not None else "")]
 
-    # code
-
-    def row_body(self, words, code):
-        return text_of(Reader(code, lambda _declared, _name: int(words)))
-
-    def row_terms(self, words, code):
-        return list(each_text(Reader(code, lambda _declared, _name: int(words))))
+    def act(self, kind, words, data):
+        if kind in OF_BYTES:
+            return OF_BYTES[kind](words, data)
+        if kind in OF_PATH:
+            return OF_PATH[kind](self.names, path_of(words))
+        if kind in OF_NAME:
+            scope, name = words.split()
+            return OF_NAME[kind](self.names, path_of(scope), name_of(name), self.declared)
+        act = getattr(self, "row_" + kind, None)
+        if not act:
+            raise ValueError(f"no such kind of row: {kind}")
+        return act(words, data)
 
     def row_method(self, words, code):
         path = path_of(words)
         return text_of(Reader(code, self.names.arity(path), path))
-
-    def row_table(self, _, code):
-        return table_text(code)
-
-    def row_step(self, words, code):
-        count, at = map(int, words.split())
-        return [step_text(code, count, at)]
-
-    def row_cuts(self, _, code):
-        return cuts_text(code)
-
-    def row_name(self, _, code):
-        return name_text(code)
-
-    def row_length(self, _, code):
-        return length_text(code)
-
-    def row_kept(self, _, kept):
-        return ["".join(hexadecimal(kept))]
-
-    # single tables
-
-    def row_xsdt(self, _, table):
-        return entries_text(b"XSDT", table)
-
-    def row_rsdt(self, _, table):
-        return entries_text(b"RSDT", table)
-
-    def row_madt(self, _, table):
-        return madt_text(table)
-
-    # files
-
-    def row_map(self, words, text):
-        return map_text(words.split(" "), text)
-
-    def row_externals(self, _, text):
-        return externals_text(text)
 
     # sets
 
@@ -303,28 +321,16 @@ class Rows:
         self.names, self.declared = RunNamespace(), set()
 
     def row_declare(self, words, _):
-        path, kind = declaration_of(words)
-        if path in self.names.declarations:
-            raise Refused("Duplicate", path=path_text(path))
-        self.names.declare_so((), name_of(words.split()[0]), kind, True)
+        name, kind = declaration_of(words)
+        if tuple(name.segs) in self.names.declarations:
+            raise Refused("Duplicate", path=path_text(tuple(name.segs)))
+        self.names.declare_so((), name, kind, True)
 
     def row_again(self, words, _):
-        self.names.declare_so((), name_of(words.split()[0]), declaration_of(words)[1], True)
+        self.names.declare_so((), *declaration_of(words), True)
 
     def row_maybe(self, words, _):
-        self.names.declare_so((), name_of(words.split()[0]), declaration_of(words)[1], False)
-
-    def row_declared(self, words, _):
-        path = path_of(words)
-        declared = "declared" if path in self.names.declarations else "not declared"
-        return [f"{declared}, {'sure' if self.names.is_sure(path) else 'not sure'}"]
-
-    def row_scope(self, words, _):
-        path = path_of(words)
-        return ["a scope" if self.names.is_sure(path) and self.names.is_scope(path) else "no scope"]
-
-    def row_alias(self, words, _):
-        return ["open" if self.names.alias_of(path_of(words))[2] else "not open"]
+        self.names.declare_so((), *declaration_of(words), False)
 
     def row_external(self, words, _):
         path, count = words.split()
@@ -339,35 +345,6 @@ class Rows:
     def row_local(self, words, _):
         self.declared.add(path_of(words))
 
-    def row_place(self, words, _):
-        scope, name = words.split()
-        return path_or_none(name_of(name).placed(path_of(scope)))
-
-    def row_find(self, words, _):
-        """Where a name leads by the first declarations."""
-        scope, name = words.split()
-        return path_or_none(Namespace.find(self.names, path_of(scope), name_of(name)))
-
-    def row_lead(self, words, _):
-        """Where it leads in every run."""
-        scope, name = words.split()
-        return path_or_none(self.names.find(path_of(scope), name_of(name)))
-
-    def row_search(self, words, _):
-        scope, name = words.split()
-        return path_or_none(Namespace.find(self.names, path_of(scope), name_of(name), self.declared))
-
-    def row_count(self, words, _):
-        return or_none(self.names.count(path_of(words)))
-
-    def row_kind(self, words, _):
-        kind = self.names.kind(path_of(words))
-        return or_none(kind and row_text(path_of(words), kind))
-
-    def row_counted(self, words, _):
-        """How a path's kind is found: a declared path has a segment at least, and so a comparison."""
-        return [*self.row_kind(words, _), "few comparisons"]
-
     def row_locals(self, _, __):
         return ["some" if self.declared else "none"]
 
@@ -380,19 +357,6 @@ class Rows:
     def row_row_at(self, words, _):
         rows = dict(enumerate(self.row_rows(words, _)))
         return or_none(rows.get(int(words)))
-
-    def row_many_rows(self, words, _):
-        return [f"{words} at their places"]
-
-    def row_many_counted(self, words, _):
-        return [f"{words} found by 1 to 64 comparisons"]
-
-    def row_arity(self, words, _, unknown_zero=False):
-        method, name = words.split()
-        return or_none(self.names.arity(path_of(method), unknown_zero)(self.declared, name_of(name)))
-
-    def row_arity_unknown_zero(self, words, _):
-        return self.row_arity(words, _, unknown_zero=True)
 
 
 def main():

@@ -2,14 +2,17 @@
 """Compares what acpidis prints with an independent reading, over folders that are made up near the grammar and then damaged.
 
     python3 tests/oracle/compare.py [--seconds N | --sets N] [--seed N] [--with-externals] [--any-run] [--workers N,N..]
-        [--deep] [--read] [FOLDER ..]
+        [--deep] [--mutated] [--read] [FOLDER ..]
 
-Standard output, standard error and the status are compared whole. A FOLDER of dumps is compared as it stands, and then damaged
-copies of it. The first sets that differ are kept, and the status is 1. With --with-externals most made-up sets come
-with a file for the option --externals, and with --any-run with code outside methods and this option, which FOLDERs are run
-with too. With --deep the terms of a third of the made-up sets stand in a scope of 100 to 2,000 segments. With --workers
-each set is run by each of these numbers of workers, in place of the one that was made up. With --read no program is run,
-and it is only said how the sets end. ./test compares 500 sets of seed 0, and 500 with --any-run.
+Standard output, standard error and the status are compared whole; besides, a run may take 10 seconds of processor time, a
+minute in all, and 2 GB. A FOLDER of dumps is compared as it stands, and then damaged copies of it. The first sets that
+differ are kept, and the status is 1. With --with-externals most made-up sets come with a file for the option --externals,
+and with --any-run with code outside methods and this option, which FOLDERs are run with too. With --deep the terms of a
+third of the made-up sets stand in a scope of 100 to 2,000 segments. With --mutated each set has one to four changes more:
+bits, bytes and names; terms that go, come from elsewhere or move, with the lengths around them repaired; lengths; cuts;
+halves of two tables; headers; files. Checksums are repaired most of the time. With --workers each set is run by each of
+these numbers of workers, in place of the one that was made up. With --read no program is run, and it is only said how the
+sets end. The same seed makes the same sets. ./test compares 500 sets of seed 0, and 500 with --any-run.
 """
 
 import argparse
@@ -20,32 +23,55 @@ import os
 import pathlib
 import random
 import re
+import resource
 import shutil
 import subprocess
 import sys
 import tempfile
+import threading
 import time
 
 sys.dont_write_bytecode = True
 sys.path.insert(0, str(pathlib.Path(__file__).resolve().parent))
 
 from folders import file_names  # noqa: E402
-from made_sets import SetMaker  # noqa: E402
+from made_sets import SetMaker, Trial  # noqa: E402
 from running import DONE, RAW, REFUSED, Options, Outcome, run_folder  # noqa: E402
+from set_mutating import SetMutator  # noqa: E402
 
 FOLDER, EXTERNALS = "set", "externals.txt"
 MARK = re.compile(r"(?<= )(Maybe|Times)(?= [0-9]+$|$| Times [0-9]+$)", re.MULTILINE)
 PROGRAM = pathlib.Path(__file__).resolve().parents[2] / "out/acpidis"
-LONGEST_RUN = 60
-MOST_DIFFERENCES = 5
+LONGEST_RUN, MOST_SECONDS = 60, 10
+MOST_MEMORY, MEMORY_STOP = 2 << 30, 6 << 30
+MOST_DIFFERENCES, MOST_CHANGES = 5, 4
+
+
+def limit_memory():
+    resource.setrlimit(resource.RLIMIT_AS, (MEMORY_STOP, MEMORY_STOP))
+
+
+def measured_run(program, folder, options):
+    """What the program does, and what it takes that is too much."""
+    with tempfile.TemporaryFile() as out, tempfile.TemporaryFile() as err:
+        words = [program, *options.words(), folder]
+        child = subprocess.Popen(words, stdout=out, stderr=err, stdin=subprocess.DEVNULL, preexec_fn=limit_memory)
+        stop = threading.Timer(LONGEST_RUN, child.kill)
+        stop.start()
+        _, status, usage = os.wait4(child.pid, 0)
+        stop.cancel()
+        child.returncode = os.waitstatus_to_exitcode(status)
+        texts = []
+        for file in (out, err):
+            file.seek(0)
+            texts.append(file.read().decode("latin-1"))
+    seconds, memory = usage.ru_utime + usage.ru_stime, usage.ru_maxrss * 1024
+    much = [f"{seconds:.1f} s of a processor"] * (seconds > MOST_SECONDS) + [f"{memory / 1e6:.0f} MB"] * (memory > MOST_MEMORY)
+    return Outcome(child.returncode, *texts), ", ".join(much)
 
 
 def run_program(program, folder, options):
-    try:
-        ran = subprocess.run([program, *options.words(), folder], capture_output=True, timeout=LONGEST_RUN)
-    except subprocess.TimeoutExpired:
-        return Outcome(None, "", f"no end after {LONGEST_RUN} seconds\n")
-    return Outcome(ran.returncode, ran.stdout.decode("latin-1"), ran.stderr.decode("latin-1"))
+    return measured_run(program, folder, options)[0]
 
 
 def lines_of(outcome):
@@ -74,7 +100,8 @@ class Comparison:
             self.decided += wanted != run_folder(folder, dataclasses.replace(options, externals=None))
         runs = [dataclasses.replace(options, workers=it) for it in self.workers or [options.workers]]
         for asked in runs if self.program else []:
-            difference = first_difference(run_program(self.program, folder, asked), wanted)
+            got, much = measured_run(self.program, folder, asked)
+            difference = first_difference(got, wanted) or much
             if difference:
                 self.differences += 1
                 print(f"set {self.ends.total()} differs: acpidis {' '.join(kept_words(folder, asked))}: {difference}")
@@ -102,6 +129,35 @@ class Comparison:
         print(f"{self.ends.total() - self.differences} passed, {self.differences} failed")
 
 
+class MutatedMaker:
+    """Makes sets with changes, in place of a maker of sets: of its sets, and of known ones."""
+
+    def __init__(self, maker):
+        self.maker, self.chance, self.known = maker, maker.chance, maker.known
+        self.mutator = SetMutator(self.chance, maker.any_run)
+        for files in self.known:
+            self.mutator.learn(files)
+
+    def trial(self):
+        if self.known and self.chance.random() < 0.6:
+            files = self.chance.choice(self.known)
+            trial = Trial(files, self.maker.options(True), self.known_externals(files))
+        else:
+            trial = self.maker.trial()
+            self.mutator.learn(trial.files)
+        for _ in range(self.chance.choice((1, 1, 1, 2, MOST_CHANGES))):
+            trial.files = self.mutator.mutated(trial.files)
+        return trial
+
+    def known_externals(self, files):
+        """A file for `--externals` with names that stand in the tables."""
+        if not self.maker.gives or self.chance.random() < 0.2:
+            return None
+        segments = self.mutator.segments_of(files) or ["AAAA"]
+        paths = [".".join(self.chance.choices(segments, k=self.chance.choice((1, 1, 1, 2, 3)))) for _ in range(20)]
+        return "".join(f"\\{path} {self.chance.randrange(8)}\n" for path in paths).encode()
+
+
 def kept_words(folder, options):
     """Copies what a run reads, and gives the words of the run over the copies."""
     room = pathlib.Path(tempfile.mkdtemp())
@@ -127,7 +183,7 @@ def read_files(folder):
     return {name: (folder / name).read_bytes() for name in file_names(folder)}
 
 
-def main():
+def arguments():
     words = argparse.ArgumentParser(description=__doc__, formatter_class=argparse.RawDescriptionHelpFormatter)
     words.add_argument("folders", nargs="*", type=pathlib.Path)
     words.add_argument("--seconds", type=float, default=60)
@@ -135,19 +191,26 @@ def main():
     words.add_argument("--seed", type=int, default=0)
     words.add_argument("--with-externals", action="store_true", help="make up files for the option --externals too")
     words.add_argument("--any-run", action="store_true", help="make up code outside methods, for this option")
-    words.add_argument("--deep", action="store_true", help="make up scopes of 100 to 2,000 segments for a third of the sets")
+    words.add_argument("--deep", action="store_true", help="scopes of 100 to 2,000 segments for a third of the sets")
+    words.add_argument("--mutated", action="store_true", help="change each set once more")
     words.add_argument("--read", action="store_true", help="run no program")
     words.add_argument("--workers", type=lambda text: [int(it) for it in text.split(",")], help="run each set by these")
     words.add_argument("--program", type=pathlib.Path, default=PROGRAM, help="another program than out/acpidis")
     asked = words.parse_args()
     if not asked.read and not asked.program.exists():
         sys.exit("the program isn't built: ./acpidis demo builds it")
+    return asked
+
+
+def main():
+    asked = arguments()
     comparison = Comparison(None if asked.read else asked.program.resolve(), asked.workers)
     for folder in asked.folders:
         comparison.compare(folder, Options(any_run=asked.any_run))
         comparison.compare(folder, Options(any_run=asked.any_run, check=True))
     known = [read_files(folder) for folder in asked.folders]
     maker = SetMaker(random.Random(asked.seed), known, asked.with_externals, asked.any_run, asked.deep)
+    maker = MutatedMaker(maker) if asked.mutated else maker
     number, until = 0, time.monotonic() + asked.seconds
     while number < asked.sets if asked.sets is not None else time.monotonic() < until:
         if comparison.differences >= MOST_DIFFERENCES:

@@ -109,9 +109,13 @@ def run_space(codes, layouts):
 
 def replaced(code, layout, span, new):
     """The code with other bytes in a span, and the packages around it as long as they then are."""
-    code, grown = code[:span.start] + new + code[span.end:], len(new) - (span.end - span.start)
+    return stretched(code[:span.start] + new + code[span.end:], layout, span, len(new) - (span.end - span.start))
+
+
+def stretched(code, layout, span, grown):
+    """The code with the packages around a span by so many bytes longer."""
     for at, width, end in sorted((one for one in layout.packages if one.holds(span)), reverse=True):
-        length = package_length(end - at - width + grown, width)
+        length = package_length(max(end - at - width + grown, 0), width)
         code, grown = code[:at] + length + code[at + width:], grown + len(length) - width
     return code
 
@@ -122,16 +126,12 @@ class Mutator:
     def __init__(self, chance, others):
         self.chance, self.others = chance, others
         self.ways = [
-            self.flip, self.damage, self.cut, self.rename,
-            self.delete_term, self.repeat_term, self.move_term, self.borrow_term, self.replace_term,
-            self.insert, self.wrap, self.change_opcode, self.change_flags,
-            self.stretch, self.stretch_all, self.widen,
+            self.flip, self.damage, self.cut, self.rename, self.change_term, self.move_term, self.replace_term, self.wrap,
+            self.change_opcode, self.change_flags, self.change_length, self.stretch_all,
         ]
 
     def mutated(self, code, layout):
-        """The code changed, and the name of the way."""
-        way = self.chance.choice(self.ways)
-        return (way(code, layout) if code else self.damage(code, layout)), way.__name__
+        return (self.chance.choice(self.ways) if code else self.damage)(code, layout)
 
     def span(self, layout):
         """Where a term stands: mostly in a body, since a change elsewhere often refuses the whole set."""
@@ -170,27 +170,25 @@ class Mutator:
 
     # ---- terms
 
-    def delete_term(self, code, layout):
-        return replaced(code, layout, self.span(layout), b"")
-
-    def repeat_term(self, code, layout):
+    def change_term(self, code, layout):
+        """A term is gone, stands there again and again, or is another one of the table."""
         start, end = self.span(layout)
-        return replaced(code, layout, Span(end, end), code[start:end] * self.chance.choice((1, 1, 2, 30)))
-
-    def move_term(self, code, layout):
-        start, end = self.span(layout)
-        return replaced(code, layout, self.gap(layout), code[start:end])
-
-    def borrow_term(self, code, layout):
-        return replaced(code, layout, self.gap(layout), self.chance.choice(self.others) if self.others else b"\xa3")
-
-    def replace_term(self, code, layout):
-        start, end = self.span(layout)
+        how = self.chance.randrange(3)
+        if how == 0:
+            return replaced(code, layout, Span(start, end), b"")
+        if how == 1:
+            return replaced(code, layout, Span(end, end), code[start:end] * self.chance.choice((1, 1, 2, 30)))
         return replaced(code, layout, self.span(layout), code[start:end])
 
-    def insert(self, code, layout):
-        new = bytes(self.chance.choice(LIKELY_BYTES) for _ in range(self.chance.choice((1, 1, 2, 5))))
+    def move_term(self, code, layout):
+        """A term of the table, one of another table, or likely bytes come between two terms."""
+        start, end = self.span(layout)
+        likely = bytes(self.chance.choice(LIKELY_BYTES) for _ in range(self.chance.choice((1, 1, 2, 5))))
+        new = self.chance.choice((code[start:end], self.chance.choice(self.others or [b"\xa3"]), likely))
         return replaced(code, layout, self.gap(layout), new)
+
+    def replace_term(self, code, layout):
+        return replaced(code, layout, self.span(layout), self.chance.choice(self.others or [b"\xa3"]))
 
     def wrap(self, code, layout):
         """A term within Ifs, or within LNots."""
@@ -220,39 +218,24 @@ class Mutator:
 
     # ---- package lengths
 
-    def package(self, layout):
-        return self.chance.choice(layout.packages) if layout.packages else None
-
-    def stretch(self, code, layout):
-        """One package length a bit more or less, or any."""
-        package = self.package(layout)
-        if package is None:
+    def change_length(self, code, layout):
+        """One package length a bit more or less, or any; or with more bytes than it needs."""
+        if not layout.packages:
             return self.flip(code, layout)
-        content = package.end - package.at - package.width
-        content += self.chance.choice((-4, -2, -1, 1, 2, 4, self.chance.randrange(-content, 300)))
-        length = package_length(max(content, 0), package.width)
-        return replaced(code, layout, Span(package.at, package.at + package.width), length)
+        at, width, end = self.chance.choice(layout.packages)
+        content, least = end - at - width, width
+        if self.chance.random() < 0.5:
+            least = self.chance.randrange(width, WIDEST + 1)
+        else:
+            content += self.chance.choice((-4, -2, -1, 1, 2, 4, self.chance.randrange(-content, 300)))
+        return replaced(code, layout, Span(at, at + width), package_length(max(content, 0), least))
 
     def stretch_all(self, code, layout):
         """A package and those around it by as much longer or shorter."""
-        package = self.package(layout)
-        if package is None:
+        if not layout.packages:
             return self.flip(code, layout)
-        change = self.chance.choice((-3, -2, -1, 1, 2, 3))
-        content = Span(package.at + package.width, package.end)
-        for at, width, end in sorted((one for one in layout.packages if one.holds(content)), reverse=True):
-            length = package_length(max(end - at - width + change, 0), width)
-            code = code[:at] + length + code[at + width:]
-        return code
-
-    def widen(self, code, layout):
-        """A package length with more bytes than it needs."""
-        package = self.package(layout)
-        if package is None:
-            return self.flip(code, layout)
-        at, width, end = package
-        length = package_length(end - at - width, self.chance.randrange(width, WIDEST + 1))
-        return replaced(code, layout, Span(at, at + width), length)
+        at, width, end = self.chance.choice(layout.packages)
+        return stretched(code, layout, Span(at + width, end), self.chance.choice((-3, -2, -1, 1, 2, 3)))
 
 
 def name_end(code, at):

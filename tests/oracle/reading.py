@@ -3,6 +3,7 @@
 It is slow and simple on purpose: what it prints is compared with what the program prints.
 """
 
+import pathlib
 import sys
 from dataclasses import dataclass, field
 
@@ -33,51 +34,17 @@ class Row:
     group: str
 
 
-def rows_of(group, text):
-    """Rows as `opcode mnemonic [P] parts.. [tail]`, separated by semicolons."""
-    rows = {}
-    for line in text.split(";"):
-        opcode, mnemonic, *kinds = line.split()
-        packed = "P" in kinds
-        kinds = [kind for kind in kinds if kind != "P"]
-        tail = kinds.pop() if kinds and kinds[-1] in "tyefb" else ""
-        rows[int(opcode, 16)] = Row(mnemonic, packed, "".join(kinds), tail, group)
-    return rows
+def rows_of(group, lines):
+    """The rows of a group of the table, each as `opcode mnemonic [kinds]`."""
+    for opcode, mnemonic, *kinds in map(str.split, lines):
+        letters = "".join(kinds)
+        tail = letters[-1:] if letters[-1:] in "tyefb" else ""
+        yield int(opcode, 16), Row(mnemonic, letters.startswith("P"), letters.removeprefix("P").removesuffix(tail), tail, group)
 
 
-VALUES = "00 Zero;01 One;FF Ones;5B30 Revision;5B31 Debug;5B33 Timer;0A Byte 1;0B Word 2;0C Dword 4;0E Qword 8;0D Text Z;" \
-    "11 Buffer P T y;12 Package P 1 e;13 VarPackage P T e;" \
-    + ";".join(f"{0x60 + n:02X} Local{n}" for n in range(8)) + ";" + ";".join(f"{0x68 + n:02X} Arg{n}" for n in range(7))
-
-EXPRESSIONS = (
-    "72 Add T T S;73 Concatenate T T S;74 Subtract T T S;77 Multiply T T S;79 ShiftLeft T T S;7A ShiftRight T T S;7B And T T S;"
-    "7C NAnd T T S;7D Or T T S;7E NOr T T S;7F XOr T T S;84 ConcatenateResTemplate T T S;85 Mod T T S;88 Index T T S;"
-    "9C ToString T T S;78 Divide T T S S;9E Mid T T T S;70 Store T S;80 Not T S;81 FindSetLeftBit T S;82 FindSetRightBit T S;"
-    "96 ToBuffer T S;97 ToDecimalString T S;98 ToHexString T S;99 ToInteger T S;9D CopyObject T S;5B28 FromBCD T S;5B29 ToBCD T S;"
-    "90 LAnd T T;91 LOr T T;93 LEqual T T;94 LGreater T T;95 LLess T T;83 DerefOf T;92 LNot T;71 RefOf S;75 Increment S;"
-    "76 Decrement S;87 SizeOf S;8E ObjectType S;5B12 CondRefOf S S;5B25 Wait S T;5B23 Acquire S 2;5B20 Load N S;"
-    "89 Match T 1 T 1 T T;5B1F LoadTable T T T T T T"
-)
-
-STATEMENTS = (
-    "86 Notify S T;9F Continue;A3 Noop;A5 Break;CC BreakPoint;A0 If P T t;A1 Else P t;A2 While P T t;A4 Return T;5B21 Stall T;"
-    "5B22 Sleep T;5B24 Signal S;5B26 Reset S;5B27 Release S;5B2A Unload S;5B32 Fatal 1 4 T"
-)
-
-DECLARATIONS = (
-    "06 Alias N N;08 Name N D;10 Scope P N t;14 Method P N 1 b;15 External N 1 1;5B01 Mutex N 1;5B02 Event N;"
-    "5B13 CreateField T T T N;5B80 OperationRegion N 1 T T;5B81 Field P N 1 f;5B82 Device P N t;5B83 Processor P N 1 4 1 t;"
-    "5B84 PowerResource P N 1 2 t;5B85 ThermalZone P N t;5B86 IndexField P N N 1 f;5B87 BankField P N N T 1 f;"
-    "5B88 DataRegion N T T T;8A CreateDWordField T T N;8B CreateWordField T T N;8C CreateByteField T T N;8D CreateBitField T T N;"
-    "8F CreateQWordField T T N"
-)
-
-ROWS = {
-    **rows_of("value", VALUES),
-    **rows_of("expression", EXPRESSIONS),
-    **rows_of("statement", STATEMENTS),
-    **rows_of("declaration", DECLARATIONS),
-}
+# The one table of opcodes in Python, by groups, which the scripts of examples go by too
+TABLE = pathlib.Path(__file__).resolve().parents[2] / "examples/acpidis_tools/opcodes.txt"
+ROWS = dict(row for group, *lines in map(str.splitlines, TABLE.read_text().split("\n\n")[1:]) for row in rows_of(group, lines))
 
 ALIAS, SCOPE, METHOD, EXTERNAL, IF, ELSE, RETURN, BUFFER = 0x06, 0x10, 0x14, 0x15, 0xA0, 0xA1, 0xA4, 0x11
 SCOPES = {SCOPE, 0x5B82, 0x5B83, 0x5B84, 0x5B85}

@@ -1,14 +1,11 @@
 """Changes to whole sets of tables, given by the contents of files: to the AML of a table, to headers, or to files."""
 
-import re
-
 from dumps import HEADER_LENGTH
 from folders import MAP_NAME
 from made_sets import BLOCKS, sealed
-from mutating import Layout, Mutator, layouts_of
+from mutating import SEGMENT, Layout, Mutator, layouts_of
 
 MOST_TERMS, LONGEST_TERM = 3000, 400
-SEGMENT = re.compile(rb"[A-Z_][A-Z0-9_]{3}")
 
 
 def is_block(data):
@@ -43,15 +40,13 @@ class SetMutator:
         return sorted({segment.decode() for code in codes for segment in SEGMENT.findall(code)})
 
     def mutated(self, files):
-        """The files with one change, and its name."""
+        """The files with one change."""
         names, codes = blocks_of(files)
         if not names or self.chance.random() < 0.08:
-            way = self.chance.choice(self.ways)
-            return (way(dict(files)) if files else {}), way.__name__
+            return self.chance.choice(self.ways)(dict(files)) if files else {}
         index = self.chance.randrange(len(names))
-        layout = layouts_of(codes, self.any_run)[index]
-        code, way = self.mutator.mutated(codes[index], layout)
-        return {**files, names[index]: self.summed(files[names[index]][:HEADER_LENGTH] + code)}, way
+        code = self.mutator.mutated(codes[index], layouts_of(codes, self.any_run)[index])
+        return {**files, names[index]: self.summed(files[names[index]][:HEADER_LENGTH] + code)}
 
     def summed(self, data):
         """A table with its length and its checksum repaired, as a rule."""
