@@ -1,7 +1,8 @@
 -- Texts of lists, as loops print them.
 use Rattle.std.proofs.Common.{◌≤◌, ◌-◌, drop, sym, arith}
 use Rattle.asl_text.proofs.Common.{◌≡◌, ℕ, ◌+◌, ◌<◌, add-one, append-nil, List, [], ◌∷◌, ◌++◌, get_or, map, flat_map}
-use Rattle.asl_text.proofs.Common.{length, take, refl, ap, ◌∙◌, take_more}
+use Rattle.asl_text.proofs.Common.{append_assoc, length, take, refl, ap, ◌∙◌, take_more}
+use Rattle.std.proofs.Common.{zero, suc, ◌*◌, ◌/◌, ◌%◌}
 use Rattle.asl_text.proofs.Common.{map-append, nil_from_length, flat_map-append, word, indent, separated}
 use Rattle.asl_text.proofs.Common.{Name, cond, replicate}
 use Rattle.asl_text.specs.Texts.{segment_text}
@@ -9,6 +10,7 @@ unfoldable use Rattle.asl_text.specs.Texts.{prefix_text, name_text}
 use Rattle.text_writer.proofs.PrintLaws.{straight}
 use Rattle.std.proofs.lemmas.Grind.{replicate_next}
 use Rattle.std.proofs.lemmas.List.{take_all}
+use Rattle.std.proofs.Math.Nat.{div-add-mod}
 use Rattle.std.proofs.Math.Seq.{take-add}
 
 -- what is made of a list that grows at its end
@@ -76,7 +78,32 @@ pub indent_more : (n : ℕ) → indent (n + 1) ≡ indent n ++ word "  "
 unfolding indent
 indent_more n = rw add-one refl
 
-pub ruleset indents = (indent_none, indent_more)
+-- four levels more
+pub indent_four : (n : ℕ) → indent (4 * (n + 1)) ≡ indent (4 * n) ++ word "        "
+unfolding word
+indent_four n =
+    let four : 4 * (n + 1) ≡ 4 * n + 1 + 1 + 1 + 1 = omega arith in
+    let w = word "  " in
+    ap indent four ∙ indent_more (4 * n + 1 + 1 + 1) ∙ ap (λ t. t ++ w) (indent_more (4 * n + 1 + 1))
+    ∙ ap (λ t. (t ++ w) ++ w) (indent_more (4 * n + 1)) ∙ ap (λ t. ((t ++ w) ++ w) ++ w) (indent_more (4 * n))
+    ∙ append_assoc ((indent (4 * n) ++ w) ++ w) w w ∙ append_assoc (indent (4 * n) ++ w) w (w ++ w)
+    ∙ append_assoc (indent (4 * n)) w (w ++ (w ++ w))
+
+pub indent_sum : (n m : ℕ) → indent (n + m) ≡ indent n ++ indent m
+unfolding indent
+indent_sum n zero = let none : n + 0 ≡ n = omega arith in ap indent none ∙ sym (append-nil (indent n))
+indent_sum n (suc m) =
+    let more : n + suc m ≡ n + m + 1 = omega arith in
+    ap indent more ∙ indent_more (n + m) ∙ ap (λ t. t ++ word "  ") (indent_sum n m)
+    ∙ append_assoc (indent n) (indent m) (word "  ")
+
+-- fours, and the others behind them
+pub indent_whole : (n i j : ℕ) → i ≡ n / 4 → j ≡ n % 4 → indent n ≡ indent (4 * i) ++ indent j
+indent_whole n i j p q =
+    sym (ap indent (div-add-mod n 4)) ∙ indent_sum (4 * (n / 4)) (n % 4)
+    ∙ ap (λ k. indent (4 * k) ++ indent (n % 4)) (sym p) ∙ ap (λ k. indent (4 * i) ++ indent k) (sym q)
+
+pub ruleset indents = (indent_none, indent_more, indent_four, indent_whole)
 
 -- ---- names
 

@@ -19,7 +19,10 @@ use text_writer::{Out, print_decimal};
 pub fn print_indent<W: Write>(out: &mut Out<'_, W>, level: u32)
     ensures { Prints W.contents out.old out.new (indent level) }
 {
-    for _i in 0..level {
+    for _i in 0..level / 4 {
+        out.put(b"        ");
+    }
+    for _j in 0..level % 4 {
         out.put(b"  ");
     }
 }
