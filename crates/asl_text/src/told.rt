@@ -79,7 +79,6 @@ fn print_row_closing<W: Write>(out: &mut Out<'_, W>, row: &OpRow)
 }
 
 /// What stands before a tail of this kind.
-#[inline(always)]
 fn print_list_opening<W: Write>(out: &mut Out<'_, W>, kind: TailKind)
     ensures { Prints W.contents out.old out.new (list_opening kind) }
 {
@@ -90,7 +89,6 @@ fn print_list_opening<W: Write>(out: &mut Out<'_, W>, kind: TailKind)
 }
 
 /// What stands behind it, of a term on a line of this level.
-#[inline(always)]
 fn print_list_closing<W: Write>(out: &mut Out<'_, W>, kind: TailKind, level: u32)
     ensures { Prints W.contents out.old out.new (list_closing kind level) }
 {
@@ -103,7 +101,22 @@ fn print_list_closing<W: Write>(out: &mut Out<'_, W>, kind: TailKind, level: u32
     }
 }
 
-/// A piece.
+/// What stands behind so many arguments of a call.
+fn print_call_end<W: Write>(out: &mut Out<'_, W>, count: u8)
+    ensures { Prints W.contents out.old out.new (closed count) }
+{
+    print_closed(out, count as usize);
+}
+
+/// A fixed text.
+fn print_fixed<W: Write>(out: &mut Out<'_, W>, text: &[u8])
+    ensures { Prints W.contents out.old out.new text.now }
+{
+    out.put(text);
+}
+
+/// A piece. Only what the reader prints in its own frame is inlined: a function that would grow very large is inlined
+/// no more itself.
 #[inline(always)]
 fn print_piece<W: Write>(out: &mut Out<'_, W>, piece: Piece<'_>)
     ensures { Prints W.contents out.old out.new (piece_text (piece_view piece.entry)) }
@@ -111,7 +124,7 @@ fn print_piece<W: Write>(out: &mut Out<'_, W>, piece: Piece<'_>)
     match piece {
         Piece::Absent | Piece::Empty | Piece::Body(..) => {}
         Piece::Name(name, count) => print_called(out, name, count),
-        Piece::EndOfCall(count) => print_closed(out, count as usize),
+        Piece::EndOfCall(count) => print_call_end(out, count),
         Piece::Opcode(row, _) => print_row_opening(out, row),
         Piece::EndOfParts(row) => print_row_closing(out, row),
         Piece::Next => out.put(b", "),
@@ -125,10 +138,10 @@ fn print_piece<W: Write>(out: &mut Out<'_, W>, piece: Piece<'_>)
         Piece::List(kind) => print_list_opening(out, kind),
         Piece::EndOfList(kind, level) => print_list_closing(out, kind, level),
         Piece::Line(level) => print_indent(out, level),
-        Piece::EndOfLine => out.put(b"\n"),
+        Piece::EndOfLine => print_fixed(out, b"\n"),
         Piece::Field(field) => field.print(out),
-        Piece::Link => out.put(b"Connection ("),
-        Piece::EndOfLink => out.put(b")"),
+        Piece::Link => print_fixed(out, b"Connection ("),
+        Piece::EndOfLink => print_fixed(out, b")"),
     }
 }
 
