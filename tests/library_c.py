@@ -233,8 +233,8 @@ def try_python(rows, acpidis, program, folders, sets):
 
 
 def try_page(rows, acpidis, room):
-    """The examples of docs/python.md, one after the other, over the demo and a set with one row more."""
-    page = (TOP / "docs/python.md").read_text()
+    """The examples of docs/library.md in Python, one after the other, over the demo and a set with one row more."""
+    page = (TOP / "docs/library.md").read_text()
     blocks = re.findall(r"^```python\n(.*?)^```", page, re.MULTILINE | re.DOTALL)
     methods = b"\x14\x08EC0_\1\xa4h" + b"\x14\x0bFOO_\0EC0_\0" + b"\x14\x07BAD_\0\x33"
     for name, code in ("tables", methods), ("before", b""), ("after", b"\x08NEW_\0"):
