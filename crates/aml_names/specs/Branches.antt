@@ -10,6 +10,8 @@ use Rattle.std.specs.List.{list_any}
 use Rattle.std.specs.BTreeMap.{is_at}
 use Rattle.std.specs.FinSet as set
 use Rattle.aml_names.specs.declared.segments.Seg.{Seg}
+use Rattle.aml_names.specs.declared.names.Name.{Name}
+use Rattle.aml_names.specs.Names.{placed}
 use Rattle.aml_names.specs.Paths.{PathSet, seg_cmp, path_cmp, coded_path}
 
 -- so many segments of a scope, and others behind them
@@ -37,6 +39,16 @@ end_depth (d, s ∷ t ∷ q) = None
 -- each of these is a branch
 abbrev pub AreBranches : List Seg → List (ℕ × List Seg) → Type 0
 AreBranches scope bs = (b : ℕ × List Seg) → list_any (is_at (branch_cmp b)) bs ≡ true → IsBranch scope b
+
+-- The path of a declared name is added, placed from a scope. One that leads above the root adds nothing, nor does any
+-- without a scope.
+abbrev pub with_placed : PathSet → Option (List Seg) → PathSet
+with_placed ls None = ls
+with_placed ls (Some p) = set.insert ls p
+
+abbrev pub with_declared_name : Option (List Seg) → PathSet → Name → PathSet
+with_declared_name None ls n = ls
+with_declared_name (Some scope) ls n = with_placed ls (placed scope n)
 
 -- a scope, and the paths that are kept by where they branch off it
 pub record Branched : Type 0 where

@@ -3,7 +3,7 @@ ghost use Rattle.std.specs.Prelude.{◌≡◌, ◌≤◌, ◌<◌, ◌+◌, ◌-
 ghost use Rattle.std.specs.Prelude.{slice_get};
 ghost use Rattle.std.specs.Prelude.{Some, None, false, IsTrue, ◌↔◌, OnOk, OnErr, IfOk};
 ghost use Rattle.std.specs.Bool.{OnTrue, OnFalse};
-ghost use Rattle.std.specs.Option.{option_flatten, unwrap_or};
+ghost use Rattle.std.specs.Option.{option_flatten};
 ghost use Rattle.std.specs.Ordering.{eq_by_cmp};
 ghost use Rattle.std.specs.List.{list_any};
 ghost use Rattle.std.specs.BTreeMap.{is_at, get, IsUnchanged};
@@ -16,8 +16,8 @@ ghost use Rattle.aml_names.specs.Searching.{nearest, deeper};
 use crate::faults::NoMemory;
 use crate::parts::Parts;
 use crate::paths::{Path, same_segs};
+use crate::seen::SeenLocals;
 use crate::segments::Seg;
-use crate::shared::ScopedPath;
 use std::alloc::{AllocError, Global};
 use std::collections::{BTreeMap, BTreeSet};
 use std::marker::Model;
@@ -31,13 +31,13 @@ struct Branch<'a> {
     tail: &'a [Seg],
 }
 
-/// Paths that are placed from one scope. Of each only what lies behind the segments in common with the scope is kept,
-/// so that it costs in a deep scope what it costs in the root.
+/// Paths that are placed from one scope, as those are that the terms of a method's body have declared so far. Of each
+/// only what lies behind the segments in common with the scope is kept, so that it costs in a deep scope what it costs
+/// in the root.
 #[derive(Drop)]
-pub(crate) struct Branches {
+pub struct Branches<'a> {
     alloc: Global,
-    /// None for the root, which takes no memory.
-    scope: Option<ScopedPath>,
+    scope: Parts<'a>,
     /// Each path as a branch.
     kept: BTreeSet<(usize, Path)>,
     /// The last segment of each of them, and how many segments of the scope stand before it in the nearest path that is
@@ -45,10 +45,8 @@ pub(crate) struct Branches {
     ends: BTreeMap<Seg, Option<usize>>,
 }
 
-impl Model for Branches {
+impl<'a> Model for Branches<'a> {
     ghost use Rattle.std.specs.Prelude.{map};
-    ghost use Rattle.std.specs.Prelude.{[]};
-    ghost use Rattle.std.specs.Option.{unwrap_or};
     ghost use Rattle.std.specs.FinSet as set;
     ghost use Rattle.std.specs.BTreeMap.{get};
     ghost use Rattle.aml_names.specs.Paths.{seg_cmp};
@@ -59,17 +57,17 @@ impl Model for Branches {
 
     ghost coded = { coded_branched };
 
-    ghost view = { λ a. let scope = unwrap_or a.scope [] in
-        record { scope = scope; paths = set.from_list (map (whole scope) a.kept.keys) } };
+    ghost view = { λ a.
+        record { scope = a.scope; paths = set.from_list (map (whole a.scope) a.kept.keys) } };
 
-    ghost invariant = { λ a. let scope = unwrap_or a.scope [] in AreBranches scope a.kept.keys
-        × KnowEnds (set.from_list (map (whole scope) a.kept.keys)) scope (get seg_cmp a.ends) };
+    ghost invariant = { λ a. AreBranches a.scope a.kept.keys
+        × KnowEnds (set.from_list (map (whole a.scope) a.kept.keys)) a.scope (get seg_cmp a.ends) };
 }
 
-impl Branches {
+impl<'a> Branches<'a> {
     /// No path.
-    pub(crate) fn new(alloc: Global, scope: Option<ScopedPath>) -> Branches
-        ensures { result ≡ record { scope = unwrap_or scope []; paths = set.empty } }
+    pub fn new(alloc: Global, scope: Parts<'a>) -> Branches<'a>
+        ensures { result ≡ record { scope = scope.entry; paths = set.empty } }
     {
         Branches {
             alloc,
@@ -84,7 +82,7 @@ impl Branches {
         ensures test { result ≡ eq_by_cmp path_cmp self.now.scope scope.now }
         ensures same { OnTrue result (self.now.scope ≡ scope.now) }
     {
-        parts_of(&self.scope).is(scope)
+        self.scope.is(scope)
     }
 
     /// Whether no path is there.
@@ -95,17 +93,16 @@ impl Branches {
     }
 
     /// Adds the path of some segments behind a front of the scope. Where memory is refused the paths are as before.
-    pub(crate) fn insert(&mut self, front: usize, segs: &[Seg]) -> Result<(), NoMemory>
+    pub fn insert(&mut self, front: usize, segs: &[Seg]) -> Result<(), NoMemory>
         requires { front ≤ length self.old.scope }
         ensures scope { self.new.scope ≡ self.old.scope }
         ensures ok { OnOk result
             (self.new.paths ≡ set.insert self.old.paths (take front self.old.scope ++ segs.now)) }
         ensures err { OnErr result (self.new ≡ self.old) }
     {
-        let scope = parts_of(&self.scope);
-        let branch = branch_of(&scope, front, segs);
+        let branch = branch_of(&self.scope, front, segs);
         let tail = Path::below(self.alloc, &[], branch.tail)?;
-        let Some(end) = last_of(&scope, branch) else {
+        let Some(end) = last_of(&self.scope, branch) else {
             self.kept.insert((branch.depth, tail))?;
             return Ok(());
         };
@@ -129,7 +126,7 @@ impl Branches {
         has_branch(
             self.alloc,
             &self.kept,
-            branch_of(&parts_of(&self.scope), front, segs),
+            branch_of(&self.scope, front, segs),
         )
     }
 
@@ -198,15 +195,12 @@ impl Branches {
             Some(depth) => *depth,
         }
     }
-}
 
-/// The scope's path in parts.
-fn parts_of(scope: &Option<ScopedPath>) -> Parts<'_>
-    ensures { result ≡ unwrap_or scope.now [] }
-{
-    match scope {
-        None => Parts::whole(&[]),
-        Some(scope) => scope.parts(),
+    /// The paths as names see them that stand in this scope.
+    pub fn seen(&self) -> SeenLocals<'_, 'a>
+        ensures { result ≡ record { paths = self.now.paths; scope = Some self.now.scope } }
+    {
+        SeenLocals::new(self, true)
     }
 }
 

@@ -5,7 +5,6 @@
 #![tactic(auto)]
 
 mod arities;
-mod body_locals;
 mod branches;
 mod counts;
 mod faults;
@@ -20,8 +19,8 @@ mod segments;
 mod shared;
 mod stepping;
 
-pub use arities::Arity;
-pub use body_locals::BodyLocals;
+pub use arities::{Arity, Names};
+pub use branches::Branches;
 pub use counts::ArgumentCount;
 pub use faults::{CodeFault, NoMemory};
 pub use locals::Locals;

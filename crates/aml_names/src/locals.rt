@@ -4,16 +4,17 @@ ghost use Rattle.std.specs.FinSet as set;
 
 use crate::branches::Branches;
 use crate::faults::NoMemory;
+use crate::parts::Parts;
 use crate::paths::Path;
 use crate::seen::SeenLocals;
 use std::alloc::Global;
 use std::marker::Model;
 
 /// The paths that the terms of a method body have declared so far, as a set. A name among them takes no arguments.
-/// A reader of bodies keeps them by their scope instead, as `BodyLocals`.
+/// Names that stand in one scope keep them by it instead, as `Branches`.
 #[derive(Drop)]
 pub struct Locals {
-    branches: Branches,
+    branches: Branches<'static>,
 }
 
 impl Model for Locals {
@@ -33,7 +34,7 @@ impl Locals {
         ensures { result ≡ set.empty }
     {
         Locals {
-            branches: Branches::new(alloc, None),
+            branches: Branches::new(alloc, Parts::whole(&[])),
         }
     }
 
@@ -53,7 +54,7 @@ impl Locals {
     }
 
     /// The paths as names see them that stand in any scope.
-    pub fn seen(&self) -> SeenLocals<'_>
+    pub fn seen(&self) -> SeenLocals<'_, 'static>
         ensures { result ≡ record { paths = self.now; scope = None } }
     {
         SeenLocals::new(&self.branches, false)

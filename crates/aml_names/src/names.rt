@@ -1,10 +1,13 @@
 //! Names as they are written.
 
-ghost use Rattle.std.specs.Prelude.{◌≡◌};
+ghost use Rattle.std.specs.Prelude.{◌≡◌, ◌∷◌, [], false, IfOk};
+ghost use Rattle.aml_names.specs.declared.names.NameForm.TheVariants.{One};
 ghost use Rattle.aml_names.specs.NameReading.{has_segment as segmented};
 ghost use Rattle.aml_names.specs.Searching.{is_single as single};
 
-use crate::segments::Segs;
+use crate::faults::NoMemory;
+use crate::segments::{Seg, Segs};
+use std::alloc::Global;
 
 /// How the segments of a name are spelled (ACPI 6.5, 20.2.2).
 #[derive(Clone, Copy)]
@@ -32,6 +35,18 @@ pub struct Name {
 }
 
 impl Name {
+    /// A segment without a prefix.
+    pub fn plain(alloc: Global, seg: Seg) -> Result<Name, NoMemory>
+        ensures { IfOk result (λ name. name ≡ record { root = false; ups = 0; form = One; segs = seg ∷ [] }) }
+    {
+        Ok(Name {
+            root: false,
+            form: NameForm::One,
+            ups: 0,
+            segs: Segs::of(alloc, &[seg])?,
+        })
+    }
+
     /// Whether the name has at least one segment.
     pub fn has_segment(&self) -> bool
         ensures { result ≡ segmented self.now }

@@ -5,8 +5,8 @@ ghost use Rattle.aml_names.specs.Paths.{path_cmp};
 
 use crate::faults::NoMemory;
 use crate::paths::{Path, common};
-use crate::segments::{Seg, Segs};
-use crate::shared::{ScopedPath, SharedPath};
+use crate::segments::Seg;
+use crate::shared::SharedPath;
 use std::alloc::Global;
 use std::marker::Model;
 
@@ -63,6 +63,17 @@ impl<'a> Parts<'a> {
         ensures { result ≡ segs.now }
     {
         Parts::new(&[], segs)
+    }
+
+    /// The same path once more.
+    pub fn again(&self) -> Parts<'a>
+        ensures { result ≡ self.now }
+    {
+        Parts {
+            front: self.front,
+            own: self.own,
+            scope: self.scope,
+        }
     }
 
     /// Both parts.
@@ -132,19 +143,6 @@ impl<'a> Parts<'a> {
                 front: self.front,
                 own: &self.own[..count - self.front.len()],
                 scope: self.scope,
-            }
-        }
-    }
-
-    /// The path that keeps its segments: where the scope of its front has several owners, one more of them.
-    pub fn kept(&self, alloc: Global) -> Result<ScopedPath, NoMemory>
-        ensures { IfOk result (λ path. path ≡ self.now) }
-    {
-        match self.scope {
-            None => ScopedPath::whole(alloc, self.behind(alloc, 0)?),
-            Some(scope) => {
-                let own = Segs::of(alloc, self.own)?;
-                Ok(ScopedPath::new(scope.share()?, self.front.len(), own))
             }
         }
     }

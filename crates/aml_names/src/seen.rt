@@ -15,13 +15,13 @@ use std::marker::Model;
 /// The paths that a body has declared so far. Where it is known that they are placed from the scope in which a name
 /// stands, they are looked at without a comparison of the two scopes.
 #[derive(Drop)]
-pub struct SeenLocals<'l> {
-    branches: &'l Branches,
+pub struct SeenLocals<'l, 'a> {
+    branches: &'l Branches<'a>,
     /// Whether the scope from which they are placed is known.
     known: bool,
 }
 
-impl<'l> Model for SeenLocals<'l> {
+impl<'l, 'a> Model for SeenLocals<'l, 'a> {
     ghost use Rattle.std.specs.Prelude.{cond, Some, None};
     ghost use Rattle.aml_names.specs.Branches.{Seen, coded_seen};
 
@@ -35,8 +35,8 @@ impl<'l> Model for SeenLocals<'l> {
     } };
 }
 
-impl<'l> SeenLocals<'l> {
-    pub(crate) fn new(branches: &'l Branches, known: bool) -> SeenLocals<'l>
+impl<'l, 'a> SeenLocals<'l, 'a> {
+    pub(crate) fn new(branches: &'l Branches<'a>, known: bool) -> SeenLocals<'l, 'a>
         ensures { result ≡ record {
           paths = branches.now.paths;
           scope = cond known (Some branches.now.scope) None;
@@ -70,7 +70,7 @@ impl<'l> SeenLocals<'l> {
 }
 
 /// Whether paths are placed from this scope, which may be known.
-fn are_of(branches: &Branches, known: bool, scope: &Parts<'_>) -> bool
+fn are_of(branches: &Branches<'_>, known: bool, scope: &Parts<'_>) -> bool
     requires { OnTrue known (branches.now.scope ≡ scope.now) }
     ensures { OnTrue result (branches.now.scope ≡ scope.now) }
 {
@@ -79,7 +79,7 @@ fn are_of(branches: &Branches, known: bool, scope: &Parts<'_>) -> bool
 
 /// Whether the path of some segments behind a front of a scope is among paths whose scope this is known to be, or not.
 fn has_below(
-    branches: &Branches,
+    branches: &Branches<'_>,
     known: bool,
     scope: &Parts<'_>,
     front: usize,
@@ -105,7 +105,7 @@ fn has_below(
 /// The nearest of such paths that are a segment in a scope or in a parent of it.
 fn nearest(
     alloc: Global,
-    branches: &Branches,
+    branches: &Branches<'_>,
     known: bool,
     scope: &Parts<'_>,
     segment: Seg,

@@ -1,8 +1,8 @@
 use Rattle.std.specs.Prelude.{slice_get}
-use Rattle.std.proofs.Common.{[], ◌≡◌, ◌+◌, ◌-◌, ◌++◌, true, cond, List, map, length, take, Option, Some, None, OnOk}
+use Rattle.std.proofs.Common.{◌≡◌, ◌+◌, ◌-◌, ◌++◌, true, cond, List, map, length, take, Option, Some, None, OnOk}
 use Rattle.std.proofs.Common.{refl, arith, sym, ap, subst, ◌∙◌}
 use Rattle.std.proofs.lemmas.Option.{slice_get_within}
-use Rattle.std.specs.Option.{unwrap_or, option_flatten}
+use Rattle.std.specs.Option.{option_flatten}
 use Rattle.std.specs.FinSet as set
 use Rattle.std.specs.List.{list_any}
 use Rattle.std.specs.BTreeMap.{is_at, get}
@@ -23,16 +23,16 @@ none_by (Some x) h = absurd (h x refl)
 abbrev added : In_ok-tail → Branch
 added c = (c.branch_of-branch.result.depth, c.branch_of-branch.result.tail.now)
 
-is_branch : (c : In_ok-tail) → IsBranch (unwrap_or c.self.inside.scope []) (added c)
-is_branch c = subst (λ s. IsBranch s (added c)) c.parts_of-scope.ensures c.branch_of-branch.ensures.branch
+is_branch : (c : In_ok-tail) → IsBranch c.self.inside.scope (added c)
+is_branch c = c.branch_of-branch.ensures.branch
 
 abbrev paths_of : List Seg → List Branch → set.FinSet path_cmp
 paths_of scope bs = set.from_list (map (whole scope) bs)
 
 whole_is : (c : In_ok-tail)
-    → whole (unwrap_or c.self.inside.scope []) (added c) ≡ take c.args.front c.args.self.now.scope ++ c.args.segs.now
+    → whole c.self.inside.scope (added c) ≡ take c.args.front c.args.self.now.scope ++ c.args.segs.now
 whole_is c =
-    (λ i. whole (sym c.parts_of-scope.ensures i) (added c)) ∙ c.branch_of-branch.ensures.whole ∙ (λ i. take c.args.front (c.parts_of-scope.ensures i) ++ c.args.segs.now)
+    c.branch_of-branch.ensures.whole
     ∙ ap (λ (b : Branched). take c.args.front b.scope ++ c.args.segs.now) c.self.view_is
 
 -- the keys grow by the branch
@@ -45,11 +45,11 @@ grown c more updated q = updated q
 
 kept_more : (c : In_ok-tail) (more : List Branch) → ((q : Branch) → list_any (is_at (branch_cmp q)) more
     ≡ cond (is_at (branch_cmp (c.branch_of-branch.result.depth, c.in_ok-tail.tail)) q) true (list_any (is_at (branch_cmp q)) c.self.inside.kept.keys))
-    → AreBranches (unwrap_or c.self.inside.scope []) more
-    × (paths_of (unwrap_or c.self.inside.scope []) more ≡ set.insert (paths_of (unwrap_or c.self.inside.scope []) c.self.inside.kept.keys) (whole (unwrap_or c.self.inside.scope []) (added c)))
+    → AreBranches c.self.inside.scope more
+    × (paths_of c.self.inside.scope more ≡ set.insert (paths_of c.self.inside.scope c.self.inside.kept.keys) (whole c.self.inside.scope (added c)))
 kept_more c more updated = (
-  still_branches (unwrap_or c.self.inside.scope []) c.self.inside.kept.keys more (added c) c.self.invariant.0 (is_branch c) (grown c more updated),
-  one_kept (unwrap_or c.self.inside.scope []) c.self.inside.kept.keys more (added c) c.self.invariant.0 (is_branch c) (grown c more updated),
+  still_branches c.self.inside.scope c.self.inside.kept.keys more (added c) c.self.invariant.0 (is_branch c) (grown c more updated),
+  one_kept c.self.inside.scope c.self.inside.kept.keys more (added c) c.self.invariant.0 (is_branch c) (grown c more updated),
 )
 
 pub returns-in_default-clause-ok : goal.returns-in_default-clause-ok
@@ -62,13 +62,13 @@ pub invariant_of-self-in_default : goal.invariant_of-self-in_default
 invariant_of-self-in_default c =
     let at = (goal.at.invariant_of-self-in_default c).In_ok-tail in
     let own = c.self.inside in
-    let p = whole (unwrap_or own.scope []) (added at) in
+    let p = whole own.scope (added at) in
     let more = kept_more at c.insert.new.self.keys c.in_ok-insert.ensures.updates.0 in
     let none : slice_get p (length p - 1) ≡ None =
-    (λ i. let q = whole (sym c.parts_of-scope.ensures i) (added at) in slice_get q (length q - 1)) ∙ sym c.last_of.ensures ∙ none_by c.last_of.result c.in_default.not-Some in (
+    sym c.last_of.ensures ∙ none_by c.last_of.result c.in_default.not-Some in (
       more.0,
-      subst (λ s. KnowEnds s (unwrap_or own.scope []) (get seg_cmp own.ends)) (sym more.1)
-          (known_root (paths_of (unwrap_or own.scope []) own.kept.keys) (unwrap_or own.scope []) p (get seg_cmp own.ends) c.self.invariant.1 none),
+      subst (λ s. KnowEnds s own.scope (get seg_cmp own.ends)) (sym more.1)
+          (known_root (paths_of own.scope own.kept.keys) own.scope p (get seg_cmp own.ends) c.self.invariant.1 none),
     )
 
 pub returns-clause-ok : goal.returns-clause-ok
@@ -86,7 +86,7 @@ returns-clause-ok c =
 pub invariant_of-self-in-Err : goal.invariant_of-self-in-Err
 invariant_of-self-in-Err c =
     let own = c.self.inside in
-    let paths = paths_of (unwrap_or own.scope []) own.kept.keys in
+    let paths = paths_of own.scope own.kept.keys in
     let e = c.in-Some.end in
     let old = get seg_cmp own.ends in
     let met = get seg_cmp c.deepen.new.ends in
@@ -94,9 +94,9 @@ invariant_of-self-in-Err c =
     let depth = deeper c.depth_of.result (option_flatten (old e)) in
     let there = there_is paths met e depth (old e) (deepened e) in
     let back = not_refused c.insert-in-Err.result c.insert-in-Err.ensures.updates c.insert-in-Err.ensures.absent there in (
-      subst (AreBranches (unwrap_or own.scope [])) (sym c.in-Err.ensures.err) c.self.invariant.0,
-      subst (λ ks. KnowEnds (paths_of (unwrap_or own.scope []) ks) (unwrap_or own.scope []) (get seg_cmp c.insert-in-Err.new.self)) (sym c.in-Err.ensures.err)
-          (known_back paths (unwrap_or own.scope []) old met (get seg_cmp c.insert-in-Err.new.self) e depth c.in_ok-known.known c.self.invariant.1
+      subst (AreBranches own.scope) (sym c.in-Err.ensures.err) c.self.invariant.0,
+      subst (λ ks. KnowEnds (paths_of own.scope ks) own.scope (get seg_cmp c.insert-in-Err.new.self)) (sym c.in-Err.ensures.err)
+          (known_back paths own.scope old met (get seg_cmp c.insert-in-Err.new.self) e depth c.in_ok-known.known c.self.invariant.1
           c.in_ok-known.ensures.known deepened back.0),
     )
 
@@ -105,15 +105,15 @@ invariant_of-self-in-Ok c =
     let at = (goal.at.invariant_of-self-in-Ok c).In_ok-tail in
     let own = c.self.inside in
     let b = added at in
-    let p = whole (unwrap_or own.scope []) b in
+    let p = whole own.scope b in
     let e = c.in-Some.end in
     let k = length p - 1 in
     let more = kept_more at c.insert-2.new.self.keys c.in-Ok.ensures.updates.0 in
     let is : slice_get p k ≡ Some e =
-    (λ i. let q = whole (sym c.parts_of-scope.ensures i) b in slice_get q (length q - 1)) ∙ sym c.last_of.ensures ∙ c.in-Some.is in
+    sym c.last_of.ensures ∙ c.in-Some.is in
     let long : k + 1 ≡ length p = omega (arith, slice_get_within p k e is) in (
       more.0,
-      subst (λ s. KnowEnds s (unwrap_or own.scope []) (get seg_cmp c.deepen.new.ends)) (sym more.1)
-          (known_pushed (paths_of (unwrap_or own.scope []) own.kept.keys) (unwrap_or own.scope []) p e is k long (get seg_cmp own.ends) (get seg_cmp c.deepen.new.ends)
-          c.depth_of.result c.self.invariant.1 (c.depth_of.ensures ∙ met_depth (unwrap_or own.scope []) b.0 b.1 k (is_branch at) long) c.in_ok-known.ensures.ok),
+      subst (λ s. KnowEnds s own.scope (get seg_cmp c.deepen.new.ends)) (sym more.1)
+          (known_pushed (paths_of own.scope own.kept.keys) own.scope p e is k long (get seg_cmp own.ends) (get seg_cmp c.deepen.new.ends)
+          c.depth_of.result c.self.invariant.1 (c.depth_of.ensures ∙ met_depth own.scope b.0 b.1 k (is_branch at) long) c.in_ok-known.ensures.ok),
     )

@@ -1,5 +1,4 @@
-use Rattle.std.specs.Option.{unwrap_or}
-use Rattle.std.proofs.Common.{[], map, sym, ap, ◌∙◌}
+use Rattle.std.proofs.Common.{map, sym, ap, ◌∙◌}
 use Rattle.std.proofs.lemmas.List.{length-map}
 use Rattle.aml_names.specs.Branches.{whole, Branched}
 use Rattle.aml_names.proofs.Sets.{no_keys, empty_of}
@@ -10,6 +9,6 @@ returns c =
     let own = c.self.inside in
     let keys = own.kept.keys in
     let paths = ap (λ (k : Branched). k.paths) c.self.view_is in (
-      (λ t. sym paths ∙ empty_of (map (whole (unwrap_or own.scope [])) keys) (length-map keys (whole (unwrap_or own.scope [])) ∙ c.is_empty.ensures.0 t)),
-      (λ e. c.is_empty.ensures.1 (sym (length-map keys (whole (unwrap_or own.scope []))) ∙ no_keys (map (whole (unwrap_or own.scope [])) keys) (paths ∙ e))),
+      (λ t. sym paths ∙ empty_of (map (whole own.scope) keys) (length-map keys (whole own.scope) ∙ c.is_empty.ensures.0 t)),
+      (λ e. c.is_empty.ensures.1 (sym (length-map keys (whole own.scope)) ∙ no_keys (map (whole own.scope) keys) (paths ∙ e))),
     )

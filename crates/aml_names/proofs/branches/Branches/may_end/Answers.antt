@@ -1,5 +1,4 @@
-use Rattle.std.specs.Option.{unwrap_or}
-use Rattle.std.proofs.Common.{[], ◌≡◌, ◌++◌, false, List, map, sym, ap, subst, ◌∙◌}
+use Rattle.std.proofs.Common.{◌≡◌, ◌++◌, false, List, map, sym, ap, subst, ◌∙◌}
 use Rattle.std.proofs.lemmas.Bool.{OnFalse_from}
 use Rattle.std.specs.BTreeMap.{get}
 use Rattle.std.specs.FinSet as set
@@ -16,8 +15,8 @@ returns-in-Some c =
     let own = c.self.inside in
     let e = c.in-Some.end.now in
     let known = get seg_cmp own.ends in
-    let paths = set.from_list {R = path_cmp} (map (whole (unwrap_or own.scope [])) own.kept.keys) in
+    let paths = set.from_list {R = path_cmp} (map (whole own.scope) own.kept.keys) in
     OnFalse_from c.contains_key.result ((front : List Seg) → set.contains c.args.self.now.paths (front ++ c.args.segs.now) ≡ false) (λ none front.
     ap (λ (k : Branched). set.contains k.paths (front ++ c.args.segs.now)) (sym c.self.view_is)
-    ∙ known_last paths (unwrap_or own.scope []) front c.args.segs.now e (sym (c.in-Some.ensures.value))
-    (subst (IsKnown paths (unwrap_or own.scope []) e) (is_none (known e) (sym c.contains_key.ensures ∙ none)) (c.self.invariant.1 e)))
+    ∙ known_last paths own.scope front c.args.segs.now e (sym (c.in-Some.ensures.value))
+    (subst (IsKnown paths own.scope e) (is_none (known e) (sym c.contains_key.ensures ∙ none)) (c.self.invariant.1 e)))

@@ -1,5 +1,5 @@
 use Rattle.std.proofs.Common.{[], ◌∷◌, map, sym, ap, subst, ◌∙◌}
-use Rattle.std.specs.Option.{unwrap_or, option_copied}
+use Rattle.std.specs.Option.{option_copied}
 use Rattle.std.specs.FinSet as set
 use Rattle.aml_names.specs.Paths.{path_cmp}
 use Rattle.aml_names.specs.Branches.{whole, Branched}
@@ -11,14 +11,14 @@ pub returns-in-None : goal.returns-in-None
 returns-in-None c =
     let own = c.self.inside in
     let e = c.args.segment in
-    let paths = set.from_list {R = path_cmp} (map (whole (unwrap_or own.scope [])) own.kept.keys) in
+    let paths = set.from_list {R = path_cmp} (map (whole own.scope) own.kept.keys) in
     sym (ap (λ (k : Branched). nearest k.paths k.scope (e ∷ [])) (sym c.self.view_is)
-    ∙ nearest_none paths (unwrap_or own.scope []) (unwrap_or own.scope []) e (subst (IsKnown paths (unwrap_or own.scope []) e) (sym c.get.ensures.value ∙ ap option_copied c.in-None.is) (c.self.invariant.1 e)))
+    ∙ nearest_none paths own.scope own.scope e (subst (IsKnown paths own.scope e) (sym c.get.ensures.value ∙ ap option_copied c.in-None.is) (c.self.invariant.1 e)))
 
 pub returns-in-Some : goal.returns-in-Some
 returns-in-Some c =
     let own = c.self.inside in
     let e = c.args.segment in
-    let paths = set.from_list {R = path_cmp} (map (whole (unwrap_or own.scope [])) own.kept.keys) in
-    subst (IsKnown paths (unwrap_or own.scope []) e) (sym c.get.ensures.value ∙ ap option_copied c.in-Some.is) (c.self.invariant.1 e)
+    let paths = set.from_list {R = path_cmp} (map (whole own.scope) own.kept.keys) in
+    subst (IsKnown paths own.scope e) (sym c.get.ensures.value ∙ ap option_copied c.in-Some.is) (c.self.invariant.1 e)
     ∙ ap (λ (k : Branched). nearest k.paths k.scope (e ∷ [])) c.self.view_is
