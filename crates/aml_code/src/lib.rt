@@ -14,8 +14,8 @@ mod tree;
 
 pub use accessors::{last_byte, last_name};
 pub use aml_names::{
-    Arity, BodyLocals, CodeFault, Locals, Name, NameForm, NoMemory, Path, SeenLocals, Seg, Segs,
-    byte_of, front_of, offset_of, place, read_name,
+    Arity, CodeFault, Locals, Name, NameForm, Names, NoMemory, Path, Seg, Segs, byte_of, offset_of,
+    place, read_name,
 };
 pub use bytes::Bytes;
 pub use encode::{encode_terms, slice};

@@ -26,7 +26,7 @@ pub trait Arity {
 /// kept, by the scope in which they stand.
 pub trait Names {
     /// What is kept of the paths that the terms have declared so far.
-    type Locals;
+    type Locals: Drop;
 
     /// The number of arguments, as `Arity` has it.
     ghost arity: { Self → PathSet → Name → Option ℕ };

@@ -16,3 +16,4 @@ pub mod Bare
 pub mod Opened
 pub mod Views
 pub mod Forward
+pub mod Kept

@@ -10,7 +10,6 @@ use Rattle.aml_names.specs.declared.faults.CodeFault.{CodeFault}
 use Rattle.aml_names.specs.declared.segments.Seg.{Seg}
 use Rattle.aml_names.specs.declared.names.Name.{Name}
 use Rattle.aml_names.specs.Paths.{PathSet}
-use Rattle.aml_names.specs.Branches.{Seen}
 use Rattle.aml_names.specs.Names.{is_name_lead}
 use Rattle.aml_names.specs.NameReading.{name_at, segment_at, has_segment, ◌>>=◌, Left, byte_at}
 use Rattle.aml_code.specs.Opcodes.{Row, row_of, takes}
@@ -26,7 +25,6 @@ use Rattle.aml_code.specs.Tree.{field_more, Link, target, buffer, slice_of}
 use Rattle.aml_code.specs.Lawful.{names_declared, with_declared, count_in, is_guard, terms_in, tail_in, next_position}
 use Rattle.aml_code.specs.Faults.{Arities, most_levels, most_arguments}
 use Rattle.aml_parse.specs.declared.positions.Lead.{Lead}
-use denote.Ref.{Bor}
 use Rattle.aml_parse.specs.declared.parser.Parser.{Parser}
 
 -- A reader is handed where the innermost span ends, the paths declared so far and what is left of the span. It answers
@@ -323,21 +321,11 @@ step_at arity levels p code at end = do
 
 -- ---- A stepping stone of the proofs: what a parser takes along, as contracts see it.
 
--- the path that a reference points to, if there is one
-abbrev pub scope_of : Option (Bor (List Seg)) → Option (List Seg)
-scope_of scope = option_map (λ b. b.now) scope
-
 -- what was added to some elements, seen by a view, is what reading gives, with the paths declared then and what is left
 abbrev pub Adds : {X A : Type 0} → (X → A) → List X → List X → PathSet → List ℕ
     → Result (A × PathSet × List ℕ) CodeFault → Type 0
 Adds {X = X} see old new ls rest read = (x : X) × ((new ≡ old ++ x ∷ []) × (read ≡ Ok (see x, ls, rest)))
 
--- The paths that a body has declared are placed from the parser's scope, if it is known from which; and its names stand
--- there, if the parser says so.
-pub record ArePlaced {A : Type 0} (stands : A → List Seg → Type 0) (p : Parser A) (locals : Seen) : Type 0 where
-  pub same : (s : List Seg) → locals.scope ≡ Some s → scope_of p.scope ≡ Some s
-  pub own : (s : List Seg) → p.own ≡ true → scope_of p.scope ≡ Some s → stands p.arity.now s
-
 -- a term, as a parser reads it
-abbrev pub read_in : {A : Type 0} → (A → Arities) → Parser A → Position → Reader Tree
-read_in arity p = read_at (arity p.arity.now) (scope_of p.scope) p.levels
+abbrev pub read_in : {N : Type 0} → (N → Arities) → (N → Option (List Seg)) → Parser N → Position → Reader Tree
+read_in arity scope p = read_at (arity p.names.now) (scope p.names.now) p.levels

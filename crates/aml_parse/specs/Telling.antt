@@ -10,13 +10,13 @@ use Rattle.aml_code.specs.Faults.{Arities}
 use Rattle.aml_code.specs.Lawful.{last_label, plain_name, field_names}
 use Rattle.aml_code.specs.Pieces.{Told, next, part, part_pieces}
 use Rattle.aml_code.specs.Tree.{Tree, Tail, Part, part_more, no_parts}
-use Rattle.aml_parse.specs.Reading.{Reader, read_at, scope_of}
+use Rattle.aml_parse.specs.Reading.{Reader, read_at}
 use Rattle.aml_parse.specs.declared.parser.Parser.{Parser}
 use denote.Ref.{Bor}
 
 -- a term with at most so many levels, as a parser reads it
-abbrev pub read_by : {A : Type 0} → (A → Arities) → Parser A → ℕ → Position → Reader Tree
-read_by arity p levels = read_at (arity p.arity.now) (scope_of p.scope) levels
+abbrev pub read_by : {N : Type 0} → (N → Arities) → (N → Option (List Seg)) → Parser N → ℕ → Position → Reader Tree
+read_by arity scope p levels = read_at (arity p.names.now) (scope p.names.now) levels
 
 -- There is the one thing that reading gives, of which this is so, and the sink was told its pieces.
 abbrev pub Tells : {S A : Type 0} → (S → S → List Told → Type 0) → (A → List Told) → (A → Type 0) → S → S → PathSet

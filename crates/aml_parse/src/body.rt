@@ -1,7 +1,7 @@
 //! The bytes of a method's body.
 #![tactic(auto, unfolding(crate::specs::Reading::all_at))]
 
-ghost use Rattle.std.specs.Prelude.{◌≡◌, ◌⊎◌, ◌≤◌, ◌<◌, ◌^◌, Some, length, IfOk, IfErr, IsTrue};
+ghost use Rattle.std.specs.Prelude.{◌≡◌, ◌⊎◌, ◌≤◌, ◌<◌, ◌^◌, Some, length, IfOk, IfErr};
 ghost use Rattle.aml_names.specs.NameReading.{Gives};
 ghost use Rattle.aml_code.specs.Faults.{StandsAt};
 ghost use Rattle.aml_code.specs.Lawful.{ReadsBody};
@@ -11,63 +11,62 @@ ghost use Rattle.aml_parse.specs.Reading.{all_at};
 
 use crate::parser::{MOST_LEVELS, Parser};
 use crate::room::without_room;
-use aml_code::{Arity, BodyLocals, CodeFault, Node, Path, Position};
-use aml_names::Parts;
+use aml_code::{
+    Arity, CodeFault, Locals, Name, Names, NoMemory, Node, Path, Position, place,
+};
 use std::alloc::Global;
 
-/// The terms, and the fault that is met first. `own`: whether the names are known to stand in the scope.
-fn terms_of<A: Arity>(
-    alloc: Global,
-    code: &[u8],
-    arity: &A,
-    scope: &Parts<'_>,
-    own: bool,
-) -> Result<Vec<Node>, CodeFault>
-    requires table { length code.now < 2 ^ 32 }
-    requires own { IsTrue own → A.stands arity.now scope.now }
+/// The names of a body whose counts anybody tells who has all of its paths, and the scope from which these are placed.
+#[derive(Drop)]
+pub(crate) struct Placed<'a, A> {
+    pub arity: &'a A,
+    pub scope: &'a Path,
+}
+
+impl<'a, A: Arity> Names for Placed<'a, A> {
+    ghost use Rattle.std.specs.Prelude.{⊤, Some};
+
+    type Locals = Locals;
+
+    ghost arity = { λ p. A.arity p.arity.now };
+
+    ghost scope = { λ p. Some p.scope.now };
+
+    ghost fits = { λ p locals. ⊤ };
+
+    ghost paths = { λ p locals. locals };
+
+    fn no_locals(&self, alloc: Global) -> Locals {
+        Locals::new(alloc)
+    }
+
+    fn count(&self, alloc: Global, locals: &Locals, name: &Name) -> Result<Option<u8>, NoMemory> {
+        self.arity.count(alloc, locals, name)
+    }
+
+    fn declare(&self, alloc: Global, locals: &mut Locals, name: &Name) -> Result<(), NoMemory> {
+        match place(alloc, self.scope, name)? {
+            None => Ok(()),
+            Some(path) => locals.push(path),
+        }
+    }
+}
+
+/// What `parse_body` answers, by the names of the body: the terms, and the fault that is met first.
+pub fn body_terms<N: Names>(alloc: Global, code: &[u8], names: &N) -> Result<Vec<Node>, CodeFault>
+    requires { length code.now < 2 ^ 32 }
     ensures { Gives (λ x. nodes_view x.items) result
-        (all_at (A.arity arity.now) (Some scope.now) Position.BodyTerm code.now) }
+        (all_at (N.arity names.now) (N.scope names.now) Position.BodyTerm code.now) }
 {
     let parser = Parser {
         alloc,
-        arity,
-        scope: Some(scope),
+        names,
         levels: MOST_LEVELS,
-        own,
     };
-    let mut locals = BodyLocals::new(alloc);
+    let mut locals = names.no_locals(alloc);
     let end = code.len() as u32;
     let nodes = parser.terms(Position::BodyTerm, end, &mut locals, code)?;
     Ok(without_room(nodes))
-}
-
-/// What `parse_body` answers, by the method's path in parts: the terms, and the fault that is met first.
-pub fn body_terms<A: Arity>(
-    alloc: Global,
-    code: &[u8],
-    arity: &A,
-    scope: &Parts<'_>,
-) -> Result<Vec<Node>, CodeFault>
-    requires { length code.now < 2 ^ 32 }
-    ensures { Gives (λ x. nodes_view x.items) result
-        (all_at (A.arity arity.now) (Some scope.now) Position.BodyTerm code.now) }
-{
-    terms_of(alloc, code, arity, scope, false)
-}
-
-/// The same where names are known to stand in this scope, so that it needn't be compared with theirs.
-pub fn own_body_terms<A: Arity>(
-    alloc: Global,
-    code: &[u8],
-    arity: &A,
-    scope: &Parts<'_>,
-) -> Result<Vec<Node>, CodeFault>
-    requires table { length code.now < 2 ^ 32 }
-    requires own { A.stands arity.now scope.now }
-    ensures { Gives (λ x. nodes_view x.items) result
-        (all_at (A.arity arity.now) (Some scope.now) Position.BodyTerm code.now) }
-{
-    terms_of(alloc, code, arity, scope, true)
 }
 
 /// The terms of a method's body, which `code` holds whole. How many arguments a name takes is asked of `arity`, by the
@@ -98,5 +97,5 @@ pub fn parse_body<A: Arity>(
     ensures forward { Gives (λ nodes. nodes_view nodes.items) result
         (all_at (A.arity arity.now) (Some scope.now) Position.BodyTerm code.now) }
 {
-    body_terms(alloc, code, arity, &scope.parts())
+    body_terms(alloc, code, &Placed { arity, scope })
 }

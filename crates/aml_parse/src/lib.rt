@@ -18,9 +18,9 @@ mod terms;
 mod told;
 mod units;
 
-pub use body::{body_terms, own_body_terms, parse_body};
+pub use body::{body_terms, parse_body};
 pub use module::parse_module;
 pub use positions::next_position;
 pub use running::{reads_forward, reads_one_way, spells_table};
 pub use step::read_step;
-pub use told::{tell_body, tell_own_body};
+pub use told::{tell_body, tell_terms};

@@ -11,27 +11,51 @@ ghost use Rattle.aml_parse.specs.Reading.{all_at};
 
 use crate::parser::{MOST_LEVELS, Parser};
 use crate::room::without_room;
-use aml_code::{Arity, BodyLocals, CodeFault, Name, NoMemory, Node, Position, SeenLocals};
+use aml_code::{CodeFault, Name, Names, NoMemory, Node, Position};
 use std::alloc::Global;
 
-/// In a table no name has arguments.
+/// In a table no name has arguments, and none is kept.
 #[derive(Clone, Copy)]
 struct NoArguments;
 
-impl Arity for NoArguments {
-    ghost use Rattle.std.specs.Prelude.{⊤};
+/// Of names that aren't kept.
+#[derive(Clone, Copy)]
+struct Nothing;
+
+impl Names for NoArguments {
+    ghost use Rattle.std.specs.Prelude.{⊤, None, Some};
+    ghost use Rattle.std.specs.FinSet as set;
+
+    type Locals = Nothing;
 
     ghost arity = { λ _ _ _. Some 0 };
 
-    ghost stands = { λ _ _. ⊤ };
+    ghost scope = { λ _. None };
 
-    fn count_seen(
+    ghost fits = { λ _ _. ⊤ };
+
+    ghost paths = { λ _ _. set.empty };
+
+    fn no_locals(&self, _alloc: Global) -> Nothing {
+        Nothing
+    }
+
+    fn count(
         &self,
         _alloc: Global,
-        _locals: &SeenLocals<'_>,
+        _locals: &Nothing,
         _name: &Name,
     ) -> Result<Option<u8>, NoMemory> {
         Ok(Some(0))
+    }
+
+    fn declare(
+        &self,
+        _alloc: Global,
+        _locals: &mut Nothing,
+        _name: &Name,
+    ) -> Result<(), NoMemory> {
+        Ok(())
     }
 }
 
@@ -42,12 +66,10 @@ fn module_terms(alloc: Global, code: &[u8]) -> Result<Vec<Node>, CodeFault>
 {
     let parser = Parser {
         alloc,
-        arity: &NoArguments,
-        scope: None,
+        names: &NoArguments,
         levels: MOST_LEVELS,
-        own: false,
     };
-    let mut locals = BodyLocals::new(alloc);
+    let mut locals = Nothing;
     let end = code.len() as u32;
     let nodes = parser.terms(Position::ModuleTerm, end, &mut locals, code)?;
     Ok(without_room(nodes))

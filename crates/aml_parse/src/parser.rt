@@ -1,49 +1,43 @@
 //! What all readers of terms take along.
-ghost use Rattle.std.specs.Prelude.{◌≡◌, None, IfOk, OnOk, map, option_to_list, ok_or};
+ghost use Rattle.std.specs.Prelude.{◌≡◌, ◌∷◌, [], None, IfOk, OnOk, map, option_to_list, ok_or};
 ghost use Rattle.aml_names.specs.NameReading.{Gives};
-ghost use Rattle.aml_names.specs.Names.{placed};
-ghost use Rattle.aml_names.specs.Branches.{AreOf};
 ghost use Rattle.aml_code.specs.Tree.{no_fields, field_more, Parts as AnyParts, Tail as AnyTail};
-ghost use Rattle.aml_code.specs.Lawful.{field_names, last_label, names_declared, unit_names, with_declared, with_names};
-ghost use Rattle.aml_code.specs.Lawful.{with_path, count_in, plain_name};
-ghost use Rattle.aml_parse.specs.Telling.{AreUnits, label_at};
+ghost use Rattle.aml_code.specs.Lawful.{field_names, last_label, names_declared, unit_names, with_declared};
+ghost use Rattle.aml_code.specs.Lawful.{count_in, plain_name};
 ghost use Rattle.aml_code.specs.View.{field_view, fields_view, parts_view, tail_view};
-ghost use Rattle.aml_parse.specs.Reading.{scope_of, ArePlaced};
+ghost use Rattle.aml_parse.specs.Kept.{with_each};
+ghost use Rattle.aml_parse.specs.Telling.{AreUnits, label_at};
 
 use aml_code::{
-    Arity, BodyLocals, CodeFault, Field, Name, NoMemory, Part, Position, Role, Seg, Tail, front_of,
-    last_name,
+    CodeFault, Field, Name, Names, NoMemory, Part, Position, Role, Seg, Tail, last_name,
 };
-use aml_names::{Parts, name_of};
+use aml_names::name_of;
 use std::alloc::{AllocError, Global};
 
 /// The most levels of terms inside each other.
 pub const MOST_LEVELS: u16 = 512;
 
-/// A reader of terms: it asks `arity` how many arguments names take, places declarations from a method's path in its
-/// body, and from nowhere in a table, and takes so many levels of terms inside each other.
+/// A reader of terms: it asks `names` how many arguments names take, which keep those that the terms declare, and takes
+/// so many levels of terms inside each other.
 #[derive(Drop)]
-pub struct Parser<'a, A> {
+pub struct Parser<'a, N> {
     pub alloc: Global,
-    pub arity: &'a A,
-    pub scope: Option<&'a Parts<'a>>,
+    pub names: &'a N,
     pub levels: u16,
-    /// Whether the names are known to stand in the scope.
-    pub own: bool,
 }
 
-impl<'a, A: Arity> Parser<'a, A> {
+impl<'a, N: Names> Parser<'a, N> {
     /// How many arguments a name takes in a position. `UnknownName` at the offset where nobody knows.
     pub fn count(
         &self,
         position: Position,
         at: u32,
-        locals: &BodyLocals,
+        locals: &N::Locals,
         name: &Name,
     ) -> Result<u8, CodeFault>
-        requires { ArePlaced A.stands self.now locals.now }
-        ensures { Gives (λ n. n) result (ok_or
-            (count_in (A.arity self.now.arity.now) position locals.now.paths name.now) (CodeFault.UnknownName at)) }
+        requires { N.fits self.now.names.now locals.now }
+        ensures { Gives (λ n. n) result (ok_or (count_in (N.arity self.now.names.now) position
+            (N.paths self.now.names.now locals.now) name.now) (CodeFault.UnknownName at)) }
     {
         match position {
             Position::Target | Position::Data => Ok(0),
@@ -52,35 +46,31 @@ impl<'a, A: Arity> Parser<'a, A> {
             | Position::RunAfterIf
             | Position::BodyTerm
             | Position::AfterIf
-            | Position::Argument => {
-                let seen = locals.seen(self.own);
-                match self.arity.count_seen(self.alloc, &seen, name)? {
-                    None => Err(CodeFault::UnknownName { at }),
-                    Some(count) => Ok(count),
-                }
-            }
+            | Position::Argument => match self.names.count(self.alloc, locals, name)? {
+                None => Err(CodeFault::UnknownName { at }),
+                Some(count) => Ok(count),
+            },
         }
     }
 
-    /// Adds the paths that a term declares itself.
+    /// Keeps the names that a term declares itself.
+    #[tactic(auto, using(crate::proofs::Kept::each_declared))]
     pub fn declare(
         &self,
         role: Role,
         parts: &[Part],
         tail: &Tail,
-        locals: &mut BodyLocals,
+        locals: &mut N::Locals,
     ) -> Result<(), NoMemory>
-        requires { ArePlaced A.stands self.now locals.old }
-        ensures declared { OnOk result (locals.new.paths ≡ with_declared (scope_of self.now.scope) locals.old.paths
+        requires { N.fits self.now.names.now locals.old }
+        ensures declared { OnOk result (N.paths self.now.names.now locals.new ≡ with_declared
+            (N.scope self.now.names.now) (N.paths self.now.names.now locals.old)
             (names_declared role (parts_view parts.now) (tail_view tail.now))) }
-        ensures placed { ArePlaced A.stands self.now locals.new }
+        ensures fits { N.fits self.now.names.now locals.new }
     {
-        let Some(scope) = self.scope else {
-            return Ok(());
-        };
         match role {
-            Role::Declares(_) | Role::Method | Role::Alias => declare_last(scope, parts, locals),
-            Role::Fields => declare_units(scope, tail, locals),
+            Role::Declares(_) | Role::Method | Role::Alias => self.declare_last(parts, locals),
+            Role::Fields => self.declare_units(tail, locals),
             Role::Scope | Role::External | Role::Guard | Role::Other => Ok(()),
         }
     }
@@ -88,49 +78,124 @@ impl<'a, A: Arity> Parser<'a, A> {
     /// The same of a term of whose parts the last name begins at `label`, in a span that ends at `end`, and of whose tail
     /// the named units have these segments.
     #[inline(always)]
+    #[tactic(auto, using(crate::proofs::Kept::each_declared))]
     pub fn declare_told(
         &self,
         role: Role,
         end: u32,
         label: Option<&[u8]>,
         units: &[Seg],
-        locals: &mut BodyLocals,
+        locals: &mut N::Locals,
     ) -> Result<(), NoMemory>
-        requires { ArePlaced A.stands self.now locals.old }
+        requires { N.fits self.now.names.now locals.old }
         ensures declared { OnOk result ((ps : AnyParts) (t : AnyTail) → label_at end label.entry ≡ last_label None ps →
-            AreUnits units.now t → locals.new.paths
-            ≡ with_declared (scope_of self.now.scope) locals.old.paths (names_declared role ps t)) }
-        ensures placed { ArePlaced A.stands self.now locals.new }
+            AreUnits units.now t → N.paths self.now.names.now locals.new ≡ with_declared
+            (N.scope self.now.names.now) (N.paths self.now.names.now locals.old) (names_declared role ps t)) }
+        ensures fits { N.fits self.now.names.now locals.new }
     {
-        let Some(scope) = self.scope else {
-            return Ok(());
-        };
         match role {
-            Role::Declares(_) | Role::Method | Role::Alias => {
-                self.declare_at(scope, end, label, locals)
-            }
-            Role::Fields => declare_segments(scope, units, locals),
+            Role::Declares(_) | Role::Method | Role::Alias => self.declare_at(end, label, locals),
+            Role::Fields => self.declare_segments(units, locals),
             Role::Other | Role::Guard | Role::External | Role::Scope => Ok(()),
         }
     }
 
-    /// Adds the path of the name that begins there, in a span that ends at `end`, if one does. It stays out of the
-    /// frame of the reader of terms, few of which declare.
+    /// Keeps the name that begins there, in a span that ends at `end`, if one does. It stays out of the frame of the
+    /// reader of terms, few of which declare.
     #[inline(never)]
     fn declare_at(
         &self,
-        scope: &Parts<'_>,
         end: u32,
         label: Option<&[u8]>,
-        locals: &mut BodyLocals,
+        locals: &mut N::Locals,
     ) -> Result<(), NoMemory>
-        requires { AreOf locals.old scope.now }
-        ensures declared { OnOk result (locals.new.paths ≡ with_names scope.now locals.old.paths
+        requires { N.fits self.now.names.now locals.old }
+        ensures declared { OnOk result (N.paths self.now.names.now locals.new ≡ with_each
+            (N.scope self.now.names.now) (N.paths self.now.names.now locals.old)
             (option_to_list (label_at end label.entry))) }
-        ensures own { AreOf locals.new scope.now }
+        ensures fits { N.fits self.now.names.now locals.new }
     {
-        let name = label_of(self.alloc, end, label)?;
-        declare_label(scope, &name, locals)
+        match label_of(self.alloc, end, label)? {
+            None => Ok(()),
+            Some(name) => self.names.declare(self.alloc, locals, &name),
+        }
+    }
+
+    /// Keeps segments as names.
+    fn declare_segments(&self, segs: &[Seg], locals: &mut N::Locals) -> Result<(), NoMemory>
+        requires { N.fits self.now.names.now locals.old }
+        ensures declared { OnOk result (N.paths self.now.names.now locals.new ≡ with_each
+            (N.scope self.now.names.now) (N.paths self.now.names.now locals.old) (map plain_name segs.now)) }
+        ensures fits { N.fits self.now.names.now locals.new }
+    {
+        for seg in segs {
+            self.declare_segment(*seg, locals)?;
+        }
+        Ok(())
+    }
+
+    /// Keeps a segment as a name.
+    fn declare_segment(&self, seg: Seg, locals: &mut N::Locals) -> Result<(), NoMemory>
+        requires { N.fits self.now.names.now locals.old }
+        ensures declared { OnOk result (N.paths self.now.names.now locals.new ≡ with_each
+            (N.scope self.now.names.now) (N.paths self.now.names.now locals.old) (plain_name seg ∷ [])) }
+        ensures fits { N.fits self.now.names.now locals.new }
+    {
+        let name = Name::plain(self.alloc, seg)?;
+        self.names.declare(self.alloc, locals, &name)
+    }
+
+    /// Keeps the last part that is a name.
+    fn declare_last(&self, parts: &[Part], locals: &mut N::Locals) -> Result<(), NoMemory>
+        requires { N.fits self.now.names.now locals.old }
+        ensures declared { OnOk result (N.paths self.now.names.now locals.new ≡ with_each
+            (N.scope self.now.names.now) (N.paths self.now.names.now locals.old)
+            (option_to_list (last_label None (parts_view parts.now)))) }
+        ensures fits { N.fits self.now.names.now locals.new }
+    {
+        match last_name(parts) {
+            None => Ok(()),
+            Some(name) => self.names.declare(self.alloc, locals, name),
+        }
+    }
+
+    /// Keeps the named units of a field list.
+    fn declare_units(&self, tail: &Tail, locals: &mut N::Locals) -> Result<(), NoMemory>
+        requires { N.fits self.now.names.now locals.old }
+        ensures declared { OnOk result (N.paths self.now.names.now locals.new ≡ with_each
+            (N.scope self.now.names.now) (N.paths self.now.names.now locals.old) (field_names (tail_view tail.now))) }
+        ensures fits { N.fits self.now.names.now locals.new }
+    {
+        match tail {
+            Tail::Fields(fields) => self.declare_fields(fields.as_slice(), locals),
+            _ => Ok(()),
+        }
+    }
+
+    fn declare_fields(&self, fields: &[Field], locals: &mut N::Locals) -> Result<(), NoMemory>
+        requires { N.fits self.now.names.now locals.old }
+        ensures declared { OnOk result (N.paths self.now.names.now locals.new ≡ with_each
+            (N.scope self.now.names.now) (N.paths self.now.names.now locals.old) (unit_names (fields_view fields.now))) }
+        ensures fits { N.fits self.now.names.now locals.new }
+    {
+        for field in fields {
+            self.declare_field(field, locals)?;
+        }
+        Ok(())
+    }
+
+    /// Keeps a named unit.
+    fn declare_field(&self, field: &Field, locals: &mut N::Locals) -> Result<(), NoMemory>
+        requires { N.fits self.now.names.now locals.old }
+        ensures declared { OnOk result (N.paths self.now.names.now locals.new ≡ with_each
+            (N.scope self.now.names.now) (N.paths self.now.names.now locals.old)
+            (unit_names (field_more (field_view field.now) no_fields))) }
+        ensures fits { N.fits self.now.names.now locals.new }
+    {
+        match field {
+            Field::NamedUnit { seg, .. } => self.declare_segment(*seg, locals),
+            _ => Ok(()),
+        }
     }
 }
 
@@ -145,106 +210,5 @@ fn label_of(alloc: Global, end: u32, label: Option<&[u8]>) -> Result<Option<Name
         Ok((name, _)) => Ok(Some(name)),
         Err(CodeFault::NoMemory) => Err(AllocError),
         Err(_) => Ok(None),
-    }
-}
-
-/// Adds the path of a name, if there is one.
-fn declare_label(
-    scope: &Parts<'_>,
-    label: &Option<Name>,
-    locals: &mut BodyLocals,
-) -> Result<(), NoMemory>
-    requires { AreOf locals.old scope.now }
-    ensures declared { OnOk result (locals.new.paths ≡ with_names scope.now locals.old.paths
-        (option_to_list label.now)) }
-    ensures own { AreOf locals.new scope.now }
-{
-    match label {
-        None => Ok(()),
-        Some(name) => declare_name(scope, name, locals),
-    }
-}
-
-/// Adds the paths of segments below the scope.
-fn declare_segments(
-    scope: &Parts<'_>,
-    segs: &[Seg],
-    locals: &mut BodyLocals,
-) -> Result<(), NoMemory>
-    requires { AreOf locals.old scope.now }
-    ensures declared { OnOk result (locals.new.paths
-        ≡ with_names scope.now locals.old.paths (map plain_name segs.now)) }
-    ensures own { AreOf locals.new scope.now }
-{
-    for seg in segs {
-        locals.push_below(scope, scope.len(), &[*seg])?;
-    }
-    Ok(())
-}
-
-/// Adds the path of the last part that is a name.
-fn declare_last(scope: &Parts<'_>, parts: &[Part], locals: &mut BodyLocals) -> Result<(), NoMemory>
-    requires { AreOf locals.old scope.now }
-    ensures declared { OnOk result (locals.new.paths ≡ with_names scope.now locals.old.paths
-        (option_to_list (last_label None (parts_view parts.now)))) }
-    ensures own { AreOf locals.new scope.now }
-{
-    match last_name(parts) {
-        None => Ok(()),
-        Some(name) => declare_name(scope, name, locals),
-    }
-}
-
-/// Adds the path of a name, if there is one.
-fn declare_name(scope: &Parts<'_>, name: &Name, locals: &mut BodyLocals) -> Result<(), NoMemory>
-    requires { AreOf locals.old scope.now }
-    ensures declared { OnOk result (locals.new.paths ≡ with_path locals.old.paths (placed scope.now name.now)) }
-    ensures own { AreOf locals.new scope.now }
-{
-    match front_of(scope, name) {
-        None => Ok(()),
-        Some(front) => locals.push_below(scope, front, name.segs.as_slice()),
-    }
-}
-
-/// Adds the paths of the named units of a field list.
-fn declare_units(scope: &Parts<'_>, tail: &Tail, locals: &mut BodyLocals) -> Result<(), NoMemory>
-    requires { AreOf locals.old scope.now }
-    ensures declared { OnOk result (locals.new.paths
-        ≡ with_names scope.now locals.old.paths (field_names (tail_view tail.now))) }
-    ensures own { AreOf locals.new scope.now }
-{
-    match tail {
-        Tail::Fields(fields) => declare_fields(scope, fields.as_slice(), locals),
-        _ => Ok(()),
-    }
-}
-
-fn declare_fields(
-    scope: &Parts<'_>,
-    fields: &[Field],
-    locals: &mut BodyLocals,
-) -> Result<(), NoMemory>
-    requires { AreOf locals.old scope.now }
-    ensures declared { OnOk result (locals.new.paths
-        ≡ with_names scope.now locals.old.paths (unit_names (fields_view fields.now))) }
-    ensures own { AreOf locals.new scope.now }
-{
-    for field in fields {
-        declare_field(scope, field, locals)?;
-    }
-    Ok(())
-}
-
-/// Adds the path of a named unit.
-fn declare_field(scope: &Parts<'_>, field: &Field, locals: &mut BodyLocals) -> Result<(), NoMemory>
-    requires { AreOf locals.old scope.now }
-    ensures declared { OnOk result (locals.new.paths ≡ with_names scope.now locals.old.paths
-        (unit_names (field_more (field_view field.now) no_fields))) }
-    ensures own { AreOf locals.new scope.now }
-{
-    match field {
-        Field::NamedUnit { seg, .. } => locals.push_below(scope, scope.len(), &[*seg]),
-        _ => Ok(()),
     }
 }

@@ -10,8 +10,41 @@ ghost use Rattle.aml_code.specs.View.{node_view};
 ghost use Rattle.aml_parse.specs.Reading.{step_at};
 
 use crate::parser::Parser;
-use aml_code::{Arity, BodyLocals, CodeFault, Node, Position, offset_of};
+use aml_code::{Arity, CodeFault, Locals, Name, Names, NoMemory, Node, Position, offset_of};
 use std::alloc::Global;
+
+/// The names of a table outside methods, whose counts are told, and which aren't kept.
+#[derive(Drop)]
+struct Outside<'a, A> {
+    arity: &'a A,
+}
+
+impl<'a, A: Arity> Names for Outside<'a, A> {
+    ghost use Rattle.std.specs.Prelude.{◌≡◌, None};
+    ghost use Rattle.std.specs.FinSet as set;
+
+    type Locals = Locals;
+
+    ghost arity = { λ o. A.arity o.arity.now };
+
+    ghost scope = { λ _. None };
+
+    ghost fits = { λ _ locals. locals ≡ set.empty };
+
+    ghost paths = { λ _ locals. locals };
+
+    fn no_locals(&self, alloc: Global) -> Locals {
+        Locals::new(alloc)
+    }
+
+    fn count(&self, alloc: Global, locals: &Locals, name: &Name) -> Result<Option<u8>, NoMemory> {
+        self.arity.count(alloc, locals, name)
+    }
+
+    fn declare(&self, _alloc: Global, _locals: &mut Locals, _name: &Name) -> Result<(), NoMemory> {
+        Ok(())
+    }
+}
 
 /// The term, and the fault that is met first.
 fn step<A: Arity>(
@@ -28,12 +61,10 @@ fn step<A: Arity>(
 {
     let parser = Parser {
         alloc,
-        arity,
-        scope: None,
+        names: &Outside { arity },
         levels,
-        own: false,
     };
-    let mut locals = BodyLocals::new(alloc);
+    let mut locals = Locals::new(alloc);
     let bytes = &code[at as usize..end as usize];
     let (node, rest) = parser.term(position, end, &mut locals, bytes)?;
     Ok((node, offset_of(end, rest)))

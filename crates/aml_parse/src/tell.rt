@@ -10,8 +10,8 @@ ghost use Rattle.aml_code.specs.Tree.{Tree, tree_count, child, no_parts, part_mo
 ghost use Rattle.aml_code.specs.View.{field_view};
 ghost use Rattle.aml_code.specs.Pieces.{pieces, items, part_pieces, parts_pieces, tail_pieces, line_pieces};
 ghost use Rattle.aml_code.specs.Pieces.{fields_pieces, field_pieces, link_pieces, part_count, deeper};
-ghost use Rattle.aml_parse.specs.Reading.{scope_of, held_inside, part_at, parts_at, arguments_at, terms_at, fields_at};
-ghost use Rattle.aml_parse.specs.Reading.{field_at, link_at, call_at, tail_at, plain_at, packed_at, ArePlaced};
+ghost use Rattle.aml_parse.specs.Reading.{held_inside, part_at, parts_at, arguments_at, terms_at, fields_at};
+ghost use Rattle.aml_parse.specs.Reading.{field_at, link_at, call_at, tail_at, plain_at, packed_at};
 ghost use Rattle.aml_parse.specs.Telling.{read_by, Tells, TellsAll, AreUnits, separator, label_at};
 
 use crate::packages::package_of;
@@ -24,7 +24,7 @@ use crate::units::{
     access_unit_of, extended_unit_of, named_link_of, named_unit_of, reserved_unit_of,
 };
 use aml_code::{
-    Arity, BodyLocals, CodeFault, Field, NoMemory, OpRow, PartKind, Piece, Position, Seg, Sink,
+    CodeFault, Field, Names, NoMemory, OpRow, PartKind, Piece, Position, Seg, Sink,
     TailKind, byte_of, offset_of,
 };
 use aml_names::name_of;
@@ -122,7 +122,7 @@ fn tell_separator<S: Sink>(sink: &mut S, is_first: bool) -> Result<(), NoMemory>
 }
 
 #[tactic(auto, unfolding(crate::specs::Reading::call_at, crate::specs::Reading::link_at, crate::specs::Reading::plain_at))]
-impl<'a, A: Arity> Parser<'a, A> {
+impl<'a, N: Names> Parser<'a, N> {
     /// Tells a term: its first byte tells whether it is a name, nothing or an opcode. `TooDeep` where no level is left,
     /// and `ModuleCode` where no name may stand. Answers whether it is an If, and what is behind it.
     #[cycle(telling)]
@@ -131,17 +131,17 @@ impl<'a, A: Arity> Parser<'a, A> {
         &self,
         here: Here,
         end: u32,
-        locals: &mut BodyLocals,
+        locals: &mut N::Locals,
         sink: &mut S,
         bytes: &'b [u8],
     ) -> Result<(bool, &'b [u8]), CodeFault>
-        requires { ArePlaced A.stands self.now locals.old }
+        requires { N.fits self.now.names.now locals.old }
         ensures told { IfOk result (λ x. Tells S.grew (pieces here.level) (λ t. x.0 ≡ has_opcode 0xA0 t) sink.old
-            sink.new locals.new.paths x.1.now
-            (read_by A.arity self.now here.levels here.position end locals.old.paths bytes.now)) }
+            sink.new (N.paths self.now.names.now locals.new) x.1.now
+            (read_by N.arity N.scope self.now here.levels here.position end (N.paths self.now.names.now locals.old) bytes.now)) }
         ensures fails { IfErr result (λ e. Fails e
-            (read_by A.arity self.now here.levels here.position end locals.old.paths bytes.now)) }
-        ensures placed { ArePlaced A.stands self.now locals.new }
+            (read_by N.arity N.scope self.now here.levels here.position end (N.paths self.now.names.now locals.old) bytes.now)) }
+        ensures fits { N.fits self.now.names.now locals.new }
     {
         let (lead, rest) = byte_of(end, bytes)?;
         if here.levels == 0 {
@@ -186,17 +186,17 @@ impl<'a, A: Arity> Parser<'a, A> {
         &self,
         here: Here,
         end: u32,
-        locals: &mut BodyLocals,
+        locals: &mut N::Locals,
         sink: &mut S,
         bytes: &'b [u8],
     ) -> Result<(bool, &'b [u8]), CodeFault>
-        requires { ArePlaced A.stands self.now locals.old }
+        requires { N.fits self.now.names.now locals.old }
         ensures told { IfOk result (λ x. Tells S.grew (pieces here.level) (λ t. x.0 ≡ has_opcode 0xA0 t) sink.old
-            sink.new locals.new.paths x.1.now (call_at (A.arity self.now.arity.now)
-            (read_by A.arity self.now here.levels) here.position end locals.old.paths bytes.now)) }
-        ensures fails { IfErr result (λ e. Fails e (call_at (A.arity self.now.arity.now)
-            (read_by A.arity self.now here.levels) here.position end locals.old.paths bytes.now)) }
-        ensures placed { ArePlaced A.stands self.now locals.new }
+            sink.new (N.paths self.now.names.now locals.new) x.1.now (call_at (N.arity self.now.names.now)
+            (read_by N.arity N.scope self.now here.levels) here.position end (N.paths self.now.names.now locals.old) bytes.now)) }
+        ensures fails { IfErr result (λ e. Fails e (call_at (N.arity self.now.names.now)
+            (read_by N.arity N.scope self.now here.levels) here.position end (N.paths self.now.names.now locals.old) bytes.now)) }
+        ensures fits { N.fits self.now.names.now locals.new }
     {
         let (name, rest) = name_of(self.alloc, end, bytes)?;
         let count = self.count(here.position, offset_of(end, bytes), locals, &name)?;
@@ -220,18 +220,18 @@ impl<'a, A: Arity> Parser<'a, A> {
         count: u8,
         here: Here,
         end: u32,
-        locals: &mut BodyLocals,
+        locals: &mut N::Locals,
         sink: &mut S,
         bytes: &'b [u8],
     ) -> Result<&'b [u8], CodeFault>
-        requires placed { ArePlaced A.stands self.now locals.old }
+        requires fits { N.fits self.now.names.now locals.old }
         requires argument { here.position ≡ Position.Argument }
         ensures told { IfOk result (λ rest. Tells S.grew (items here.level) (λ ts. tree_count ts ≡ count)
-            sink.old sink.new locals.new.paths rest.now
-            (arguments_at (read_by A.arity self.now here.levels) count end locals.old.paths bytes.now)) }
+            sink.old sink.new (N.paths self.now.names.now locals.new) rest.now
+            (arguments_at (read_by N.arity N.scope self.now here.levels) count end (N.paths self.now.names.now locals.old) bytes.now)) }
         ensures fails { IfErr result (λ e. Fails e
-            (arguments_at (read_by A.arity self.now here.levels) count end locals.old.paths bytes.now)) }
-        ensures placed { ArePlaced A.stands self.now locals.new }
+            (arguments_at (read_by N.arity N.scope self.now here.levels) count end (N.paths self.now.names.now locals.old) bytes.now)) }
+        ensures fits { N.fits self.now.names.now locals.new }
     {
         let mut is_first = true;
         let mut rest = bytes;
@@ -252,18 +252,18 @@ impl<'a, A: Arity> Parser<'a, A> {
         row: &OpRow,
         here: Here,
         end: u32,
-        locals: &mut BodyLocals,
+        locals: &mut N::Locals,
         sink: &mut S,
         bytes: &'b [u8],
     ) -> Result<(bool, &'b [u8]), CodeFault>
-        requires placed { ArePlaced A.stands self.now locals.old }
+        requires fits { N.fits self.now.names.now locals.old }
         requires listed { row_of row.now.opcode ≡ Some (row_view row.now) }
         ensures told { IfOk result (λ x. Tells S.grew (pieces here.level) (λ t. x.0 ≡ has_opcode 0xA0 t) sink.old
-            sink.new locals.new.paths x.1.now (plain_at (scope_of self.now.scope) (read_by A.arity self.now here.levels)
-            (row_view row.now) end locals.old.paths bytes.now)) }
-        ensures fails { IfErr result (λ e. Fails e (plain_at (scope_of self.now.scope)
-            (read_by A.arity self.now here.levels) (row_view row.now) end locals.old.paths bytes.now)) }
-        ensures placed { ArePlaced A.stands self.now locals.new }
+            sink.new (N.paths self.now.names.now locals.new) x.1.now (plain_at (N.scope self.now.names.now) (read_by N.arity N.scope self.now here.levels)
+            (row_view row.now) end (N.paths self.now.names.now locals.old) bytes.now)) }
+        ensures fails { IfErr result (λ e. Fails e (plain_at (N.scope self.now.names.now)
+            (read_by N.arity N.scope self.now here.levels) (row_view row.now) end (N.paths self.now.names.now locals.old) bytes.now)) }
+        ensures fits { N.fits self.now.names.now locals.new }
     {
         sink.tell(Piece::Opcode(row, None))?;
         let (label, rest) = self.tell_parts(row.parts, here, end, locals, sink, bytes)?;
@@ -282,20 +282,20 @@ impl<'a, A: Arity> Parser<'a, A> {
         found: &Packed<'_>,
         here: Here,
         end: u32,
-        locals: &mut BodyLocals,
+        locals: &mut N::Locals,
         sink: &mut S,
         bytes: &'b [u8],
     ) -> Result<(bool, &'b [u8]), CodeFault>
-        requires placed { ArePlaced A.stands self.now locals.old }
+        requires fits { N.fits self.now.names.now locals.old }
         requires listed { row_of found.now.row.now.opcode ≡ Some (row_view found.now.row.now) }
         ensures told { IfOk result (λ x. Tells S.grew (pieces here.level) (λ t. x.0 ≡ has_opcode 0xA0 t) sink.old
-            sink.new locals.new.paths x.1.now (packed_at (scope_of self.now.scope)
-            (read_by A.arity self.now here.levels) here.position found.now.at (row_view found.now.row.now)
-            found.now.tail end locals.old.paths bytes.now)) }
-        ensures fails { IfErr result (λ e. Fails e (packed_at (scope_of self.now.scope)
-            (read_by A.arity self.now here.levels) here.position found.now.at (row_view found.now.row.now)
-            found.now.tail end locals.old.paths bytes.now)) }
-        ensures placed { ArePlaced A.stands self.now locals.new }
+            sink.new (N.paths self.now.names.now locals.new) x.1.now (packed_at (N.scope self.now.names.now)
+            (read_by N.arity N.scope self.now here.levels) here.position found.now.at (row_view found.now.row.now)
+            found.now.tail end (N.paths self.now.names.now locals.old) bytes.now)) }
+        ensures fails { IfErr result (λ e. Fails e (packed_at (N.scope self.now.names.now)
+            (read_by N.arity N.scope self.now here.levels) here.position found.now.at (row_view found.now.row.now)
+            found.now.tail end (N.paths self.now.names.now locals.old) bytes.now)) }
+        ensures fits { N.fits self.now.names.now locals.new }
     {
         let row = found.row;
         let (width, inner, inside, behind) = package_of(end, bytes)?;
@@ -316,18 +316,18 @@ impl<'a, A: Arity> Parser<'a, A> {
         kinds: &[PartKind],
         here: Here,
         end: u32,
-        locals: &mut BodyLocals,
+        locals: &mut N::Locals,
         sink: &mut S,
         bytes: &'b [u8],
     ) -> Result<(Option<&'b [u8]>, &'b [u8]), CodeFault>
-        requires { ArePlaced A.stands self.now locals.old }
+        requires { N.fits self.now.names.now locals.old }
         ensures told { IfOk result (λ x. Tells S.grew (parts_pieces here.level)
             (λ ps. (label_at end x.0 ≡ last_label None ps) × (part_count ps ≡ length kinds.now)) sink.old sink.new
-            locals.new.paths x.1.now
-            (parts_at (read_by A.arity self.now here.levels) kinds.now end locals.old.paths bytes.now)) }
+            (N.paths self.now.names.now locals.new) x.1.now
+            (parts_at (read_by N.arity N.scope self.now here.levels) kinds.now end (N.paths self.now.names.now locals.old) bytes.now)) }
         ensures fails { IfErr result (λ e. Fails e
-            (parts_at (read_by A.arity self.now here.levels) kinds.now end locals.old.paths bytes.now)) }
-        ensures placed { ArePlaced A.stands self.now locals.new }
+            (parts_at (read_by N.arity N.scope self.now here.levels) kinds.now end (N.paths self.now.names.now locals.old) bytes.now)) }
+        ensures fits { N.fits self.now.names.now locals.new }
     {
         let mut label = None;
         let mut is_first = true;
@@ -348,19 +348,19 @@ impl<'a, A: Arity> Parser<'a, A> {
         kind: PartKind,
         here: Here,
         end: u32,
-        locals: &mut BodyLocals,
+        locals: &mut N::Locals,
         label: &mut Option<&'b [u8]>,
         sink: &mut S,
         bytes: &'b [u8],
     ) -> Result<&'b [u8], CodeFault>
-        requires { ArePlaced A.stands self.now locals.old }
+        requires { N.fits self.now.names.now locals.old }
         ensures told { IfOk result (λ rest. Tells S.grew (part_pieces here.level)
             (λ p. label_at end label.new ≡ last_label (label_at end label.old) (part_more p no_parts)) sink.old sink.new
-            locals.new.paths rest.now
-            (part_at (read_by A.arity self.now here.levels) kind end locals.old.paths bytes.now)) }
+            (N.paths self.now.names.now locals.new) rest.now
+            (part_at (read_by N.arity N.scope self.now here.levels) kind end (N.paths self.now.names.now locals.old) bytes.now)) }
         ensures fails { IfErr result (λ e. Fails e
-            (part_at (read_by A.arity self.now here.levels) kind end locals.old.paths bytes.now)) }
-        ensures placed { ArePlaced A.stands self.now locals.new }
+            (part_at (read_by N.arity N.scope self.now here.levels) kind end (N.paths self.now.names.now locals.old) bytes.now)) }
+        ensures fits { N.fits self.now.names.now locals.new }
     {
         match kind {
             PartKind::Term => self.tell_child(
@@ -402,18 +402,18 @@ impl<'a, A: Arity> Parser<'a, A> {
         &self,
         here: Here,
         end: u32,
-        locals: &mut BodyLocals,
+        locals: &mut N::Locals,
         sink: &mut S,
         bytes: &'b [u8],
     ) -> Result<&'b [u8], CodeFault>
-        requires { ArePlaced A.stands self.now locals.old }
+        requires { N.fits self.now.names.now locals.old }
         ensures told { IfOk result (λ rest. Tells S.grew (part_pieces here.level)
             (λ p. (label : Option AnyName) → label ≡ last_label label (part_more p no_parts)) sink.old sink.new
-            locals.new.paths rest.now (held_inside child
-            (read_by A.arity self.now here.levels here.position end locals.old.paths bytes.now))) }
+            (N.paths self.now.names.now locals.new) rest.now (held_inside child
+            (read_by N.arity N.scope self.now here.levels here.position end (N.paths self.now.names.now locals.old) bytes.now))) }
         ensures fails { IfErr result (λ e. Fails e (held_inside child
-            (read_by A.arity self.now here.levels here.position end locals.old.paths bytes.now))) }
-        ensures placed { ArePlaced A.stands self.now locals.new }
+            (read_by N.arity N.scope self.now here.levels here.position end (N.paths self.now.names.now locals.old) bytes.now))) }
+        ensures fits { N.fits self.now.names.now locals.new }
     {
         let (_is_if, rest) = self.tell_term(here, end, locals, sink, bytes)?;
         Ok(rest)
@@ -426,19 +426,19 @@ impl<'a, A: Arity> Parser<'a, A> {
         found: &Packed<'_>,
         here: Here,
         end: u32,
-        locals: &mut BodyLocals,
+        locals: &mut N::Locals,
         sink: &mut S,
         inside: &[u8],
     ) -> Result<Vec<Seg>, CodeFault>
-        requires { ArePlaced A.stands self.now locals.old }
+        requires { N.fits self.now.names.now locals.old }
         ensures told { IfOk result (λ units. TellsAll S.grew (tail_pieces here.level) (AreUnits units.items) sink.old
-            sink.new locals.new.paths (tail_at (read_by A.arity self.now here.levels)
+            sink.new (N.paths self.now.names.now locals.new) (tail_at (read_by N.arity N.scope self.now here.levels)
             (terms_in here.position found.now.row.now.place) (tail_in here.position found.now.tail) end
-            locals.old.paths inside.now)) }
-        ensures fails { IfErr result (λ e. Fails e (tail_at (read_by A.arity self.now here.levels)
+            (N.paths self.now.names.now locals.old) inside.now)) }
+        ensures fails { IfErr result (λ e. Fails e (tail_at (read_by N.arity N.scope self.now here.levels)
             (terms_in here.position found.now.row.now.place) (tail_in here.position found.now.tail) end
-            locals.old.paths inside.now)) }
-        ensures placed { ArePlaced A.stands self.now locals.new }
+            (N.paths self.now.names.now locals.old) inside.now)) }
+        ensures fits { N.fits self.now.names.now locals.new }
     {
         let kind = tail_in(here.position, found.tail);
         match kind {
@@ -483,17 +483,17 @@ impl<'a, A: Arity> Parser<'a, A> {
         &self,
         here: Here,
         end: u32,
-        locals: &mut BodyLocals,
+        locals: &mut N::Locals,
         sink: &mut S,
         bytes: &[u8],
     ) -> Result<(), CodeFault>
-        requires { ArePlaced A.stands self.now locals.old }
+        requires { N.fits self.now.names.now locals.old }
         ensures told { OnOk result (TellsAll S.grew (line_pieces here.level) (λ ts. Unit {0}) sink.old sink.new
-            locals.new.paths (terms_at (read_by A.arity self.now here.levels) (length bytes.now) here.position end
-            locals.old.paths bytes.now)) }
-        ensures fails { IfErr result (λ e. Fails e (terms_at (read_by A.arity self.now here.levels)
-            (length bytes.now) here.position end locals.old.paths bytes.now)) }
-        ensures placed { ArePlaced A.stands self.now locals.new }
+            (N.paths self.now.names.now locals.new) (terms_at (read_by N.arity N.scope self.now here.levels) (length bytes.now) here.position end
+            (N.paths self.now.names.now locals.old) bytes.now)) }
+        ensures fails { IfErr result (λ e. Fails e (terms_at (read_by N.arity N.scope self.now here.levels)
+            (length bytes.now) here.position end (N.paths self.now.names.now locals.old) bytes.now)) }
+        ensures fits { N.fits self.now.names.now locals.new }
     {
         let mut position = here.position;
         let mut rest = bytes;
@@ -520,18 +520,18 @@ impl<'a, A: Arity> Parser<'a, A> {
         &self,
         here: Here,
         end: u32,
-        locals: &mut BodyLocals,
+        locals: &mut N::Locals,
         sink: &mut S,
         bytes: &[u8],
     ) -> Result<(), CodeFault>
-        requires placed { ArePlaced A.stands self.now locals.old }
+        requires fits { N.fits self.now.names.now locals.old }
         requires data { here.position ≡ Position.Data }
         ensures told { OnOk result (TellsAll S.grew (items here.level) (λ ts. Unit {0}) sink.old sink.new
-            locals.new.paths (terms_at (read_by A.arity self.now here.levels) (length bytes.now) Position.Data end
-            locals.old.paths bytes.now)) }
-        ensures fails { IfErr result (λ e. Fails e (terms_at (read_by A.arity self.now here.levels)
-            (length bytes.now) Position.Data end locals.old.paths bytes.now)) }
-        ensures placed { ArePlaced A.stands self.now locals.new }
+            (N.paths self.now.names.now locals.new) (terms_at (read_by N.arity N.scope self.now here.levels) (length bytes.now) Position.Data end
+            (N.paths self.now.names.now locals.old) bytes.now)) }
+        ensures fails { IfErr result (λ e. Fails e (terms_at (read_by N.arity N.scope self.now here.levels)
+            (length bytes.now) Position.Data end (N.paths self.now.names.now locals.old) bytes.now)) }
+        ensures fits { N.fits self.now.names.now locals.new }
     {
         let mut is_first = true;
         let mut rest = bytes;
@@ -558,17 +558,17 @@ impl<'a, A: Arity> Parser<'a, A> {
         &self,
         here: Here,
         end: u32,
-        locals: &mut BodyLocals,
+        locals: &mut N::Locals,
         sink: &mut S,
         bytes: &[u8],
     ) -> Result<Vec<Seg>, CodeFault>
-        requires { ArePlaced A.stands self.now locals.old }
+        requires { N.fits self.now.names.now locals.old }
         ensures told { IfOk result (λ units. TellsAll S.grew (fields_pieces here.level)
-            (λ us. map plain_name units.items ≡ unit_names us) sink.old sink.new locals.new.paths
-            (fields_at (read_by A.arity self.now here.levels) (length bytes.now) end locals.old.paths bytes.now)) }
+            (λ us. map plain_name units.items ≡ unit_names us) sink.old sink.new (N.paths self.now.names.now locals.new)
+            (fields_at (read_by N.arity N.scope self.now here.levels) (length bytes.now) end (N.paths self.now.names.now locals.old) bytes.now)) }
         ensures fails { IfErr result (λ e. Fails e
-            (fields_at (read_by A.arity self.now here.levels) (length bytes.now) end locals.old.paths bytes.now)) }
-        ensures placed { ArePlaced A.stands self.now locals.new }
+            (fields_at (read_by N.arity N.scope self.now here.levels) (length bytes.now) end (N.paths self.now.names.now locals.old) bytes.now)) }
+        ensures fits { N.fits self.now.names.now locals.new }
     {
         let mut units = Vec::new(self.alloc);
         let mut rest = bytes;
@@ -594,19 +594,19 @@ impl<'a, A: Arity> Parser<'a, A> {
         &self,
         here: Here,
         end: u32,
-        locals: &mut BodyLocals,
+        locals: &mut N::Locals,
         units: &mut Vec<Seg>,
         sink: &mut S,
         bytes: &'b [u8],
     ) -> Result<&'b [u8], CodeFault>
-        requires { ArePlaced A.stands self.now locals.old }
+        requires { N.fits self.now.names.now locals.old }
         ensures told { IfOk result (λ rest. Tells S.grew (field_pieces here.level)
             (λ u. map plain_name units.new.items ≡ map plain_name units.old.items ++ unit_names (field_more u no_fields))
-            sink.old sink.new locals.new.paths rest.now
-            (field_at (read_by A.arity self.now here.levels) end locals.old.paths bytes.now)) }
+            sink.old sink.new (N.paths self.now.names.now locals.new) rest.now
+            (field_at (read_by N.arity N.scope self.now here.levels) end (N.paths self.now.names.now locals.old) bytes.now)) }
         ensures fails { IfErr result (λ e. Fails e
-            (field_at (read_by A.arity self.now here.levels) end locals.old.paths bytes.now)) }
-        ensures placed { ArePlaced A.stands self.now locals.new }
+            (field_at (read_by N.arity N.scope self.now here.levels) end (N.paths self.now.names.now locals.old) bytes.now)) }
+        ensures fits { N.fits self.now.names.now locals.new }
     {
         let (lead, rest) = byte_of(end, bytes)?;
         let (field, rest) = match lead {
@@ -630,16 +630,16 @@ impl<'a, A: Arity> Parser<'a, A> {
         &self,
         here: Here,
         end: u32,
-        locals: &mut BodyLocals,
+        locals: &mut N::Locals,
         sink: &mut S,
         bytes: &'b [u8],
     ) -> Result<&'b [u8], CodeFault>
-        requires { ArePlaced A.stands self.now locals.old }
+        requires { N.fits self.now.names.now locals.old }
         ensures told { IfOk result (λ rest. Tells S.grew (link_pieces here.level) (λ l. Unit {0}) sink.old sink.new
-            locals.new.paths rest.now (link_at (read_by A.arity self.now here.levels) end locals.old.paths bytes.now)) }
+            (N.paths self.now.names.now locals.new) rest.now (link_at (read_by N.arity N.scope self.now here.levels) end (N.paths self.now.names.now locals.old) bytes.now)) }
         ensures fails { IfErr result (λ e. Fails e
-            (link_at (read_by A.arity self.now here.levels) end locals.old.paths bytes.now)) }
-        ensures placed { ArePlaced A.stands self.now locals.new }
+            (link_at (read_by N.arity N.scope self.now here.levels) end (N.paths self.now.names.now locals.old) bytes.now)) }
+        ensures fits { N.fits self.now.names.now locals.new }
     {
         let (lead, _) = byte_of(end, bytes)?;
         if lead != BUFFER {

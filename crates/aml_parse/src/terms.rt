@@ -6,9 +6,9 @@ ghost use Rattle.aml_code.specs.Lawful.{tail_in, terms_in};
 ghost use Rattle.aml_code.specs.Tree.{op, child, no_parts, empty};
 ghost use Rattle.aml_code.specs.View.{node_view, nodes_view, part_view, parts_view, tail_view, field_view, fields_view};
 ghost use Rattle.aml_code.specs.View.{link_view};
-ghost use Rattle.aml_parse.specs.Reading.{scope_of, held_inside, read_in, part_at, parts_at, arguments_at, terms_at};
+ghost use Rattle.aml_parse.specs.Reading.{held_inside, read_in, part_at, parts_at, arguments_at, terms_at};
 ghost use Rattle.aml_parse.specs.Reading.{fields_at, field_at, link_at, call_at, tail_at, plain_at, packed_at, row_at};
-ghost use Rattle.aml_parse.specs.Reading.{Adds, ArePlaced};
+ghost use Rattle.aml_parse.specs.Reading.{Adds};
 
 use crate::flat::{
     any_name_part_of, byte_part_of, count_part_of, dword_part_of, name_part_of, qword_part_of,
@@ -24,7 +24,7 @@ use crate::units::{
     access_unit_of, extended_unit_of, named_link_of, named_unit_of, reserved_unit_of,
 };
 use aml_code::{
-    Arity, BodyLocals, Bytes, CodeFault, Field, Link, Node, OpRow, Part, PartKind, Position, Tail,
+    Bytes, CodeFault, Field, Link, Names, Node, OpRow, Part, PartKind, Position, Tail,
     TailKind, byte_of, offset_of,
 };
 use aml_names::name_of;
@@ -55,7 +55,7 @@ struct Found<'r> {
 }
 
 #[tactic(auto, unfolding(crate::specs::Reading::call_at, crate::specs::Reading::link_at, crate::specs::Reading::plain_at))]
-impl<'a, A: Arity> Parser<'a, A> {
+impl<'a, N: Names> Parser<'a, N> {
     /// A term: its first byte tells whether it is a name, nothing or an opcode. `TooDeep` where no level is left, and
     /// `ModuleCode` where no name may stand.
     #[cycle(terms)]
@@ -64,13 +64,13 @@ impl<'a, A: Arity> Parser<'a, A> {
         &self,
         position: Position,
         end: u32,
-        locals: &mut BodyLocals,
+        locals: &mut N::Locals,
         bytes: &'b [u8],
     ) -> Result<(Node, &'b [u8]), CodeFault>
-        requires { ArePlaced A.stands self.now locals.old }
-        ensures read { Gives (λ x. (node_view x.0, locals.new.paths, x.1.now)) result
-            (read_in A.arity self.now position end locals.old.paths bytes.now) }
-        ensures placed { ArePlaced A.stands self.now locals.new }
+        requires { N.fits self.now.names.now locals.old }
+        ensures read { Gives (λ x. (node_view x.0, (N.paths self.now.names.now locals.new), x.1.now)) result
+            (read_in N.arity N.scope self.now position end (N.paths self.now.names.now locals.old) bytes.now) }
+        ensures fits { N.fits self.now.names.now locals.new }
     {
         let (lead, rest) = byte_of(end, bytes)?;
         let at = offset_of(end, bytes);
@@ -118,14 +118,14 @@ impl<'a, A: Arity> Parser<'a, A> {
         &self,
         position: Position,
         end: u32,
-        locals: &mut BodyLocals,
+        locals: &mut N::Locals,
         bytes: &'b [u8],
     ) -> Result<(Node, &'b [u8]), CodeFault>
-        requires { ArePlaced A.stands self.now locals.old }
-        ensures read { Gives (λ x. (node_view x.0, locals.new.paths, x.1.now)) result
-            (call_at (A.arity self.now.arity.now) (read_in A.arity self.now) position end locals.old.paths
+        requires { N.fits self.now.names.now locals.old }
+        ensures read { Gives (λ x. (node_view x.0, (N.paths self.now.names.now locals.new), x.1.now)) result
+            (call_at (N.arity self.now.names.now) (read_in N.arity N.scope self.now) position end (N.paths self.now.names.now locals.old)
             bytes.now) }
-        ensures placed { ArePlaced A.stands self.now locals.new }
+        ensures fits { N.fits self.now.names.now locals.new }
     {
         let (name, rest) = name_of(self.alloc, end, bytes)?;
         let count = self.count(position, offset_of(end, bytes), locals, &name)?;
@@ -139,13 +139,13 @@ impl<'a, A: Arity> Parser<'a, A> {
         &self,
         count: u8,
         end: u32,
-        locals: &mut BodyLocals,
+        locals: &mut N::Locals,
         bytes: &'b [u8],
     ) -> Result<(Vec<Node>, &'b [u8]), CodeFault>
-        requires { ArePlaced A.stands self.now locals.old }
-        ensures read { Gives (λ x. (nodes_view x.0.items, locals.new.paths, x.1.now)) result
-            (arguments_at (read_in A.arity self.now) count end locals.old.paths bytes.now) }
-        ensures placed { ArePlaced A.stands self.now locals.new }
+        requires { N.fits self.now.names.now locals.old }
+        ensures read { Gives (λ x. (nodes_view x.0.items, (N.paths self.now.names.now locals.new), x.1.now)) result
+            (arguments_at (read_in N.arity N.scope self.now) count end (N.paths self.now.names.now locals.old) bytes.now) }
+        ensures fits { N.fits self.now.names.now locals.new }
     {
         let mut found = Vec::with_capacity(self.alloc, count as usize)?;
         let mut rest = bytes;
@@ -163,14 +163,14 @@ impl<'a, A: Arity> Parser<'a, A> {
         &self,
         row: &OpRow,
         end: u32,
-        locals: &mut BodyLocals,
+        locals: &mut N::Locals,
         bytes: &'b [u8],
     ) -> Result<(Node, &'b [u8]), CodeFault>
-        requires { ArePlaced A.stands self.now locals.old }
-        ensures read { Gives (λ x. (node_view x.0, locals.new.paths, x.1.now)) result
-            (plain_at (scope_of self.now.scope) (read_in A.arity self.now)
-            (row_view row.now) end locals.old.paths bytes.now) }
-        ensures placed { ArePlaced A.stands self.now locals.new }
+        requires { N.fits self.now.names.now locals.old }
+        ensures read { Gives (λ x. (node_view x.0, (N.paths self.now.names.now locals.new), x.1.now)) result
+            (plain_at (N.scope self.now.names.now) (read_in N.arity N.scope self.now)
+            (row_view row.now) end (N.paths self.now.names.now locals.old) bytes.now) }
+        ensures fits { N.fits self.now.names.now locals.new }
     {
         let (parts, rest) = self.parts(row.parts, end, locals, bytes)?;
         let tail = Tail::Empty;
@@ -186,14 +186,14 @@ impl<'a, A: Arity> Parser<'a, A> {
         &self,
         found: &Found<'_>,
         end: u32,
-        locals: &mut BodyLocals,
+        locals: &mut N::Locals,
         bytes: &'b [u8],
     ) -> Result<(Node, &'b [u8]), CodeFault>
-        requires { ArePlaced A.stands self.now locals.old }
-        ensures read { Gives (λ x. (node_view x.0, locals.new.paths, x.1.now)) result
-            (packed_at (scope_of self.now.scope) (read_in A.arity self.now) found.now.position found.now.at
-            (row_view found.now.row.now) found.now.tail end locals.old.paths bytes.now) }
-        ensures placed { ArePlaced A.stands self.now locals.new }
+        requires { N.fits self.now.names.now locals.old }
+        ensures read { Gives (λ x. (node_view x.0, (N.paths self.now.names.now locals.new), x.1.now)) result
+            (packed_at (N.scope self.now.names.now) (read_in N.arity N.scope self.now) found.now.position found.now.at
+            (row_view found.now.row.now) found.now.tail end (N.paths self.now.names.now locals.old) bytes.now) }
+        ensures fits { N.fits self.now.names.now locals.new }
     {
         let row = found.row;
         let (width, inner, inside, behind) = package_of(end, bytes)?;
@@ -211,13 +211,13 @@ impl<'a, A: Arity> Parser<'a, A> {
         &self,
         kinds: &[PartKind],
         end: u32,
-        locals: &mut BodyLocals,
+        locals: &mut N::Locals,
         bytes: &'b [u8],
     ) -> Result<(Vec<Part>, &'b [u8]), CodeFault>
-        requires { ArePlaced A.stands self.now locals.old }
-        ensures read { Gives (λ x. (parts_view x.0.items, locals.new.paths, x.1.now)) result
-            (parts_at (read_in A.arity self.now) kinds.now end locals.old.paths bytes.now) }
-        ensures placed { ArePlaced A.stands self.now locals.new }
+        requires { N.fits self.now.names.now locals.old }
+        ensures read { Gives (λ x. (parts_view x.0.items, (N.paths self.now.names.now locals.new), x.1.now)) result
+            (parts_at (read_in N.arity N.scope self.now) kinds.now end (N.paths self.now.names.now locals.old) bytes.now) }
+        ensures fits { N.fits self.now.names.now locals.new }
     {
         let mut found = Vec::with_capacity(self.alloc, kinds.len())?;
         let mut rest = bytes;
@@ -233,16 +233,16 @@ impl<'a, A: Arity> Parser<'a, A> {
         &self,
         kind: PartKind,
         end: u32,
-        locals: &mut BodyLocals,
+        locals: &mut N::Locals,
         found: &mut Vec<Part>,
         bytes: &'b [u8],
     ) -> Result<&'b [u8], CodeFault>
-        requires { ArePlaced A.stands self.now locals.old }
-        ensures added { IfOk result (λ rest. Adds part_view found.old.items found.new.items locals.new.paths rest.now
-            (part_at (read_in A.arity self.now) kind end locals.old.paths bytes.now)) }
+        requires { N.fits self.now.names.now locals.old }
+        ensures added { IfOk result (λ rest. Adds part_view found.old.items found.new.items (N.paths self.now.names.now locals.new) rest.now
+            (part_at (read_in N.arity N.scope self.now) kind end (N.paths self.now.names.now locals.old) bytes.now)) }
         ensures fails { IfErr result (λ e. Fails e
-            (part_at (read_in A.arity self.now) kind end locals.old.paths bytes.now)) }
-        ensures placed { ArePlaced A.stands self.now locals.new }
+            (part_at (read_in N.arity N.scope self.now) kind end (N.paths self.now.names.now locals.old) bytes.now)) }
+        ensures fits { N.fits self.now.names.now locals.new }
     {
         let (part, rest) = match kind {
             PartKind::Term => {
@@ -272,16 +272,16 @@ impl<'a, A: Arity> Parser<'a, A> {
         &self,
         position: Position,
         end: u32,
-        locals: &mut BodyLocals,
+        locals: &mut N::Locals,
         found: &mut Vec<Part>,
         bytes: &'b [u8],
     ) -> Result<&'b [u8], CodeFault>
-        requires { ArePlaced A.stands self.now locals.old }
-        ensures added { IfOk result (λ rest. Adds part_view found.old.items found.new.items locals.new.paths rest.now
-            (held_inside child (read_in A.arity self.now position end locals.old.paths bytes.now))) }
+        requires { N.fits self.now.names.now locals.old }
+        ensures added { IfOk result (λ rest. Adds part_view found.old.items found.new.items (N.paths self.now.names.now locals.new) rest.now
+            (held_inside child (read_in N.arity N.scope self.now position end (N.paths self.now.names.now locals.old) bytes.now))) }
         ensures fails { IfErr result (λ e. Fails e
-            (held_inside child (read_in A.arity self.now position end locals.old.paths bytes.now))) }
-        ensures placed { ArePlaced A.stands self.now locals.new }
+            (held_inside child (read_in N.arity N.scope self.now position end (N.paths self.now.names.now locals.old) bytes.now))) }
+        ensures fits { N.fits self.now.names.now locals.new }
     {
         let (node, rest) = self.term(position, end, locals, bytes)?;
         found.push(Part::Child(node))?;
@@ -294,14 +294,14 @@ impl<'a, A: Arity> Parser<'a, A> {
         &self,
         found: &Found<'_>,
         end: u32,
-        locals: &mut BodyLocals,
+        locals: &mut N::Locals,
         inside: &[u8],
     ) -> Result<Tail, CodeFault>
-        requires { ArePlaced A.stands self.now locals.old }
-        ensures read { Gives (λ x. (tail_view x, locals.new.paths)) result
-            (tail_at (read_in A.arity self.now) (terms_in found.now.position found.now.row.now.place)
-            (tail_in found.now.position found.now.tail) end locals.old.paths inside.now) }
-        ensures placed { ArePlaced A.stands self.now locals.new }
+        requires { N.fits self.now.names.now locals.old }
+        ensures read { Gives (λ x. (tail_view x, (N.paths self.now.names.now locals.new))) result
+            (tail_at (read_in N.arity N.scope self.now) (terms_in found.now.position found.now.row.now.place)
+            (tail_in found.now.position found.now.tail) end (N.paths self.now.names.now locals.old) inside.now) }
+        ensures fits { N.fits self.now.names.now locals.new }
     {
         match tail_in(found.position, found.tail) {
             TailKind::Terms => {
@@ -331,13 +331,13 @@ impl<'a, A: Arity> Parser<'a, A> {
     fn fields(
         &self,
         end: u32,
-        locals: &mut BodyLocals,
+        locals: &mut N::Locals,
         bytes: &[u8],
     ) -> Result<Vec<Field>, CodeFault>
-        requires { ArePlaced A.stands self.now locals.old }
-        ensures read { Gives (λ x. (fields_view x.items, locals.new.paths)) result
-            (fields_at (read_in A.arity self.now) (length bytes.now) end locals.old.paths bytes.now) }
-        ensures placed { ArePlaced A.stands self.now locals.new }
+        requires { N.fits self.now.names.now locals.old }
+        ensures read { Gives (λ x. (fields_view x.items, (N.paths self.now.names.now locals.new))) result
+            (fields_at (read_in N.arity N.scope self.now) (length bytes.now) end (N.paths self.now.names.now locals.old) bytes.now) }
+        ensures fits { N.fits self.now.names.now locals.new }
     {
         let mut found = Vec::new(self.alloc);
         let mut rest = bytes;
@@ -362,13 +362,13 @@ impl<'a, A: Arity> Parser<'a, A> {
     fn field<'b>(
         &self,
         end: u32,
-        locals: &mut BodyLocals,
+        locals: &mut N::Locals,
         bytes: &'b [u8],
     ) -> Result<(Field, &'b [u8]), CodeFault>
-        requires { ArePlaced A.stands self.now locals.old }
-        ensures read { Gives (λ x. (field_view x.0, locals.new.paths, x.1.now)) result
-            (field_at (read_in A.arity self.now) end locals.old.paths bytes.now) }
-        ensures placed { ArePlaced A.stands self.now locals.new }
+        requires { N.fits self.now.names.now locals.old }
+        ensures read { Gives (λ x. (field_view x.0, (N.paths self.now.names.now locals.new), x.1.now)) result
+            (field_at (read_in N.arity N.scope self.now) end (N.paths self.now.names.now locals.old) bytes.now) }
+        ensures fits { N.fits self.now.names.now locals.new }
     {
         let (lead, rest) = byte_of(end, bytes)?;
         match lead {
@@ -388,13 +388,13 @@ impl<'a, A: Arity> Parser<'a, A> {
     fn link<'b>(
         &self,
         end: u32,
-        locals: &mut BodyLocals,
+        locals: &mut N::Locals,
         bytes: &'b [u8],
     ) -> Result<(Link, &'b [u8]), CodeFault>
-        requires { ArePlaced A.stands self.now locals.old }
-        ensures read { Gives (λ x. (link_view x.0, locals.new.paths, x.1.now)) result
-            (link_at (read_in A.arity self.now) end locals.old.paths bytes.now) }
-        ensures placed { ArePlaced A.stands self.now locals.new }
+        requires { N.fits self.now.names.now locals.old }
+        ensures read { Gives (λ x. (link_view x.0, (N.paths self.now.names.now locals.new), x.1.now)) result
+            (link_at (read_in N.arity N.scope self.now) end (N.paths self.now.names.now locals.old) bytes.now) }
+        ensures fits { N.fits self.now.names.now locals.new }
     {
         let (lead, _) = byte_of(end, bytes)?;
         if lead != BUFFER {
@@ -410,13 +410,13 @@ impl<'a, A: Arity> Parser<'a, A> {
         &self,
         position: Position,
         end: u32,
-        locals: &mut BodyLocals,
+        locals: &mut N::Locals,
         bytes: &[u8],
     ) -> Result<Vec<Node>, CodeFault>
-        requires { ArePlaced A.stands self.now locals.old }
-        ensures read { Gives (λ x. (nodes_view x.items, locals.new.paths)) result
-            (terms_at (read_in A.arity self.now) (length bytes.now) position end locals.old.paths bytes.now) }
-        ensures placed { ArePlaced A.stands self.now locals.new }
+        requires { N.fits self.now.names.now locals.old }
+        ensures read { Gives (λ x. (nodes_view x.items, (N.paths self.now.names.now locals.new))) result
+            (terms_at (read_in N.arity N.scope self.now) (length bytes.now) position end (N.paths self.now.names.now locals.old) bytes.now) }
+        ensures fits { N.fits self.now.names.now locals.new }
     {
         let mut found = Vec::new(self.alloc);
         let mut here = position;

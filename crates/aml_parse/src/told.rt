@@ -1,7 +1,7 @@
 //! The bytes of a method's body, told piece by piece.
 #![tactic(auto, unfolding(crate::specs::Reading::all_at))]
 
-ghost use Rattle.std.specs.Prelude.{◌≡◌, ◌⊎◌, ◌≤◌, ◌<◌, ◌^◌, Some, Ok, length, OnOk, IfErr, IsTrue};
+ghost use Rattle.std.specs.Prelude.{◌≡◌, ◌⊎◌, ◌≤◌, ◌<◌, ◌^◌, Some, Ok, length, OnOk, IfErr};
 ghost use Rattle.aml_names.specs.NameReading.{Fails};
 ghost use Rattle.aml_code.specs.Faults.{StandsAt};
 ghost use Rattle.aml_code.specs.Lawful.{ReadsBody};
@@ -9,37 +9,32 @@ ghost use Rattle.aml_code.specs.Tree.{Trees};
 ghost use Rattle.aml_code.specs.Pieces.{line_pieces};
 ghost use Rattle.aml_parse.specs.Reading.{all_at};
 
+use crate::body::Placed;
 use crate::parser::{MOST_LEVELS, Parser};
 use crate::tell::Here;
-use aml_code::{Arity, BodyLocals, CodeFault, Path, Position, Sink};
-use aml_names::Parts;
+use aml_code::{Arity, CodeFault, Names, Path, Position, Sink};
 use std::alloc::Global;
 
-/// Tells the pieces, up to the fault that is met first. `own`: whether the names are known to stand in the scope.
-fn tell_pieces<A: Arity, S: Sink>(
+/// What `tell_body` tells, by the names of the body: the lines of the terms, up to the fault that is met first.
+pub fn tell_terms<N: Names, S: Sink>(
     alloc: Global,
     code: &[u8],
-    arity: &A,
-    scope: &Parts<'_>,
-    own: bool,
+    names: &N,
     level: u32,
     sink: &mut S,
 ) -> Result<(), CodeFault>
-    requires table { length code.now < 2 ^ 32 }
-    requires own { IsTrue own → A.stands arity.now scope.now }
-    ensures told { OnOk result ((ts : Trees) × ((all_at (A.arity arity.now) (Some scope.now) Position.BodyTerm code.now
+    requires { length code.now < 2 ^ 32 }
+    ensures told { OnOk result ((ts : Trees) × ((all_at (N.arity names.now) (N.scope names.now) Position.BodyTerm code.now
         ≡ Ok ts) × S.grew sink.old sink.new (line_pieces level ts))) }
     ensures fails { IfErr result (λ fault. Fails fault
-        (all_at (A.arity arity.now) (Some scope.now) Position.BodyTerm code.now)) }
+        (all_at (N.arity names.now) (N.scope names.now) Position.BodyTerm code.now)) }
 {
     let parser = Parser {
         alloc,
-        arity,
-        scope: Some(scope),
+        names,
         levels: MOST_LEVELS,
-        own,
     };
-    let mut locals = BodyLocals::new(alloc);
+    let mut locals = names.no_locals(alloc);
     let end = code.len() as u32;
     let here = Here {
         position: Position::BodyTerm,
@@ -48,26 +43,6 @@ fn tell_pieces<A: Arity, S: Sink>(
     };
     parser.tell_lines(here, end, &mut locals, sink, code)?;
     Ok(())
-}
-
-/// What `tell_body` tells, where names are known to stand in this scope, so that it needn't be compared with theirs: the
-/// lines of the terms, up to the fault that is met first.
-pub fn tell_own_body<A: Arity, S: Sink>(
-    alloc: Global,
-    code: &[u8],
-    arity: &A,
-    scope: &Parts<'_>,
-    level: u32,
-    sink: &mut S,
-) -> Result<(), CodeFault>
-    requires table { length code.now < 2 ^ 32 }
-    requires own { A.stands arity.now scope.now }
-    ensures told { OnOk result ((ts : Trees) × ((all_at (A.arity arity.now) (Some scope.now) Position.BodyTerm code.now
-        ≡ Ok ts) × S.grew sink.old sink.new (line_pieces level ts))) }
-    ensures fails { IfErr result (λ fault. Fails fault
-        (all_at (A.arity arity.now) (Some scope.now) Position.BodyTerm code.now)) }
-{
-    tell_pieces(alloc, code, arity, scope, true, level, sink)
 }
 
 /// Tells a sink the terms of a method's body, which `code` holds whole, piece by piece as they are read, and makes no
@@ -102,6 +77,6 @@ pub fn tell_body<A: Arity, S: Sink>(
     ensures forward { IfErr result (λ fault. Fails fault
         (all_at (A.arity arity.now) (Some scope.now) Position.BodyTerm code.now)) }
 {
-    tell_pieces(alloc, code, arity, &scope.parts(), false, level, sink)?;
+    tell_terms(alloc, code, &Placed { arity, scope }, level, sink)?;
     Ok(())
 }

@@ -7,7 +7,7 @@ use Rattle.aml_code.proofs.Views.{view-field-Connection}
 use Rattle.std.specs.Prelude.{map}
 use Rattle.aml_code.specs.Lawful.{last_label, plain_name, unit_names}
 use Rattle.aml_code.specs.Pieces.{Told, deeper, pieces, items, field_pieces, line_pieces, fields_pieces, part_pieces}
-use Rattle.aml_parse.specs.Reading.{scope_of, field_at, segmented_at, body_to, part_at, held, text_part, count_part, flat}
+use Rattle.aml_parse.specs.Reading.{field_at, segmented_at, body_to, part_at, held, text_part, count_part, flat}
 use Rattle.aml_parse.specs.Telling.{read_by, label_at}
 use Rattle.aml_parse.proofs.Common.{Position}
 use Rattle.aml_parse.proofs.Opened.{opcode_read}
@@ -34,7 +34,7 @@ same x = x
 pub tell_arguments-loop-i-init : goal.tell_arguments-loop-i-init
 tell_arguments-loop-i-init g t c =
     let all : c.args.count - 0 ≡ c.args.count = omega arith in
-    ([], c.requires.placed, rw all (rest_none tree_more _), refl, refl, g.met.S.Sink.nothing _)
+    ([], c.requires.fits, rw all (rest_none tree_more _), refl, refl, g.met.S.Sink.nothing _)
 
 pub tell_arguments-returns-in_err-_is_if-clause-fails : goal.tell_arguments-returns-in_err-_is_if-clause-fails
 tell_arguments-returns-in_err-_is_if-clause-fails g t c =
@@ -53,7 +53,7 @@ tell_arguments-loop-i-preserved g t c =
     arguments_go_on (same {A = Tree}) _ inv.0 _ _ _ _ (c.args.count - c.loop-i._i) told.0 _ _
     (omega (arith, c.loop-i-test.true)) told.1.0 inv.2 in (
       inv.0 ++ told.0 ∷ [],
-      c.in_ok-_is_if.ensures.placed,
+      c.in_ok-_is_if.ensures.fits,
       rw less at next,
       some_now inv.0 told.0,
       length-append inv.0 (told.0 ∷ []) ∙ ap (λ n. n + 1) inv.4,
@@ -95,7 +95,7 @@ tell_parts-loop-kind-preserved g t c =
     let k = get_or ks i PartKind.Term in
     let cut : drop i ks ≡ k ∷ drop (i + 1) ks = rw add-one (drop-cons ks i PartKind.Term c.loop-kind-test.true) in (
       inv.0 ++ told.0 ∷ [],
-      c.in_ok-rest.ensures.placed,
+      c.in_ok-rest.ensures.fits,
       parts_go_on (same {A = Part}) _ inv.0 _ _ _ _ told.0 k (drop (i + 1) ks) _ _ told.1.0 (rw cut at inv.2),
       told.1.1.0 ∙ ap (λ l. last_label l (part_more told.0 no_parts)) inv.3 ∙ sym (label_one None inv.0 told.0),
       some_now inv.0 told.0,
@@ -149,7 +149,7 @@ tell_lines-loop-turn-preserved g t c =
     go_on no_trees tree_more _ _ (same {A = Tree}) inv.0 c.loop-turn.position _ _ _ (length c.args.bytes.now - c.loop-turn._turn)
     c.loop-turn.rest.now told.0 _ _ (grind arith) (omega (arith, c.loop-turn-test.true)) told.1.0 inv.2 in (
       inv.0 ++ told.0 ∷ [],
-      c.in_ok-is_if.ensures.placed,
+      c.in_ok-is_if.ensures.fits,
       rw (c.position_after-position.ensures told.0 told.1.1.0) (rw less at next),
       grew_one _ g.met.S.Sink.further (λ t. in_line c.args.here.level (pieces c.args.here.level t)) _ _ _ inv.0 told.0 inv.3
           (told_line _ g.met.S.Sink.further c.args.here.level _ _ _ _ (pieces c.args.here.level told.0) c.in_ok-tell.ensures told.1.1.1 c.in_ok-tell-2.ensures),
@@ -174,7 +174,7 @@ tell_lines-returns-else-is_empty-2-clause-fails g t c =
 pub tell_elements-loop-turn-init : goal.tell_elements-loop-turn-init
 tell_elements-loop-turn-init g t c =
     let all : length c.args.bytes.now - 0 ≡ length c.args.bytes.now = omega arith in
-    ([], c.requires.placed, rw all (all_none tree_more _), refl, g.met.S.Sink.nothing _)
+    ([], c.requires.fits, rw all (all_none tree_more _), refl, g.met.S.Sink.nothing _)
 
 pub tell_elements-returns-then-is_empty-clause-told : goal.tell_elements-returns-then-is_empty-clause-told
 tell_elements-returns-then-is_empty-clause-told g t c =
@@ -203,7 +203,7 @@ tell_elements-loop-turn-preserved g t c =
     go_on no_trees tree_more _ _ (same {A = Tree}) inv.0 Position.Data _ _ _ (length c.args.bytes.now - c.loop-turn._turn)
     c.loop-turn.rest.now told.0 _ _ (grind arith) (omega (arith, c.loop-turn-test.true)) told.1.0 inv.2 in (
       inv.0 ++ told.0 ∷ [],
-      c.in_ok-_is_if.ensures.placed,
+      c.in_ok-_is_if.ensures.fits,
       rw less at next,
       some_now inv.0 told.0,
       told_item _ g.met.S.Sink.further c.args.here.level _ _ _ _ c.loop-turn.is_first inv.0 told.0 inv.3 inv.4 c.in_ok-tell_separator.ensures told.1.1.1,
@@ -257,7 +257,7 @@ tell_fields-loop-turn-preserved g t c =
     go_on no_fields field_more _ _ (same {A = Field}) inv.0 _ _ _ _ (length c.args.bytes.now - c.loop-turn._turn)
     c.loop-turn.rest.now told.0 _ _ (grind arith) (omega (arith, c.loop-turn-test.true)) told.1.0 inv.2 in (
       inv.0 ++ told.0 ∷ [],
-      c.in_ok-rest.ensures.placed,
+      c.in_ok-rest.ensures.fits,
       rw less at next,
       told.1.1.0 ∙ ap (λ ns. ns ++ unit_names (field_more told.0 no_fields)) inv.3 ∙ sym (units_one inv.0 told.0),
       grew_one _ g.met.S.Sink.further (λ u. in_line c.args.here.level (field_pieces c.args.here.level u)) _ _ _ inv.0 told.0 inv.4
@@ -285,11 +285,11 @@ tell_fields-returns-else-is_empty-2-clause-fails g t c =
 pub tell_call-returns-clause-told : goal.tell_call-returns-clause-told
 tell_call-returns-clause-told g t c =
     let args = rw (c.at.ensures.levels, c.at.ensures.level) at c.in_ok-behind.ensures.told in
-    let arity = g.A.Arity.arity c.args.self.now.arity.now in (
+    let arity = g.N.Names.arity c.args.self.now.names.now in (
       named c.in_ok-name.name args.0,
       (
-        call_is arity (read_by g.A.Arity.arity c.args.self.now c.args.here.levels) c.args.here.position c.args.end c.args.locals.now.paths c.args.bytes.now c.in_ok-name.name
-            c.in_ok-name.rest.now c.in_ok-count.count args.0 c.tell_arguments.new.locals.paths c.in_ok-behind.behind.now (search rules) (search rules) args.1.0,
+        call_is arity (read_by g.N.Names.arity g.N.Names.scope c.args.self.now c.args.here.levels) c.args.here.position c.args.end (g.N.Names.paths c.args.self.now.names.now c.args.locals.now) c.args.bytes.now c.in_ok-name.name
+            c.in_ok-name.rest.now c.in_ok-count.count args.0 (g.N.Names.paths c.args.self.now.names.now c.tell_arguments.new.locals) c.in_ok-behind.behind.now (search rules) (search rules) args.1.0,
         (refl, told_call _ g.met.S.Sink.further c.args.here.level _ _ _ _ _ c.in_ok-count.count args.0 args.1.1.0 c.in_ok-tell.ensures args.1.1.1 c.in_ok-tell-2.ensures),
       ),
     )
@@ -304,7 +304,7 @@ tell_plain-returns-clause-told g t c =
     let row = row_view c.args.row.now in (
       op c.args.row.now.opcode None parts.0 empty,
       (
-        plain_is (scope_of c.args.self.now.scope) _ row _ _ _ parts.0 c.tell_parts.new.locals.paths _ c.in_ok-label.rest.now parts.1.0
+        plain_is (g.N.Names.scope c.args.self.now.names.now) _ row _ _ _ parts.0 (g.N.Names.paths c.args.self.now.names.now c.tell_parts.new.locals) _ c.in_ok-label.rest.now parts.1.0
             (c.in_ok-declare_told.ensures.declared parts.0 empty parts.1.1.0.0 refl),
         (
           refl,
@@ -322,9 +322,9 @@ tell_packed-returns-clause-told g t c =
     let ends = c.in_ok-width.ensures.ends in (
       op c.args.found.now.row.now.opcode (Some c.in_ok-width.width) parts.0 tail.0,
       (
-        packed_is (scope_of c.args.self.now.scope) (read_by g.A.Arity.arity c.args.self.now c.args.here.levels) c.args.here.position c.args.found.now.at row
-            c.args.found.now.tail c.args.end c.args.locals.now.paths c.args.bytes.now c.in_ok-width.width c.in_ok-width.inside.now c.in_ok-width.behind.now
-            c.in_ok-guard_of.field-0 parts.0 c.tell_parts.new.locals.paths c.in_ok-label.rest.now tail.0 c.tell_tail.new.locals.paths _
+        packed_is (g.N.Names.scope c.args.self.now.names.now) (read_by g.N.Names.arity g.N.Names.scope c.args.self.now c.args.here.levels) c.args.here.position c.args.found.now.at row
+            c.args.found.now.tail c.args.end (g.N.Names.paths c.args.self.now.names.now c.args.locals.now) c.args.bytes.now c.in_ok-width.width c.in_ok-width.inside.now c.in_ok-width.behind.now
+            c.in_ok-guard_of.field-0 parts.0 (g.N.Names.paths c.args.self.now.names.now c.tell_parts.new.locals) c.in_ok-label.rest.now tail.0 (g.N.Names.paths c.args.self.now.names.now c.tell_tail.new.locals) _
             c.in_ok-width.ensures.exact (search rules) (rw ends at parts.1.0) (rw ends at tail.1.0)
             (c.in_ok-declare_told.ensures.declared parts.0 tail.0 parts.1.1.0.0 (ap (map plain_name) c.as_slice.ensures.value ∙ tail.1.1.0)),
         (
@@ -340,7 +340,7 @@ tell_field-returns-in-2-clause-told g t c =
     let told = c.in_ok-behind-in-2.ensures.told in (
       connection told.0,
       (
-        connection_read (read_by g.A.Arity.arity c.args.self.now c.args.here.levels) c.args.end c.args.locals.now.paths c.args.bytes.now c.in_ok-lead.lead c.in_ok-lead.rest.now told.0 _ _
+        connection_read (read_by g.N.Names.arity g.N.Names.scope c.args.self.now c.args.here.levels) c.args.end (g.N.Names.paths c.args.self.now.names.now c.args.locals.now) c.args.bytes.now c.in_ok-lead.lead c.in_ok-lead.rest.now told.0 _ _
             c.in_ok-lead.ensures.exact c.in-2.is told.1.0,
         (sym (append-nil (map plain_name c.args.units.now.items)), told.1.1.1),
       ),
@@ -348,8 +348,8 @@ tell_field-returns-in-2-clause-told g t c =
 
 pub tell_field-returns-clause-told : goal.tell_field-returns-clause-told
 tell_field-returns-clause-told g t c =
-    let read = read_by g.A.Arity.arity c.args.self.now c.args.here.levels in
-    let ls = c.args.locals.now.paths in
+    let read = read_by g.N.Names.arity g.N.Names.scope c.args.self.now c.args.here.levels in
+    let ls = (g.N.Names.paths c.args.self.now.names.now c.args.locals.now) in
     let flat : (field_at read c.args.end ls c.args.bytes.now ≡ Ok (field_view c.match-lead.field.0, ls, c.match-lead.field.1.now)) × IsOneField (field_view c.match-lead.field.0) =
     elim c.match-lead.branch [
       | tell_field-in-0+in_ok-reserved_unit_of-in-0 w ↦ rw w.field-is (reserved_read read c.args.end ls c.args.bytes.now c.in_ok-lead.lead c.in_ok-lead.rest.now _ _ c.in_ok-lead.ensures.exact w.in-0.is w.in_ok-reserved_unit_of-in-0.ensures)
@@ -363,7 +363,7 @@ tell_field-returns-clause-told g t c =
 
 pub tell_link-returns-then-lead-ne-BUFFER-clause-told : goal.tell_link-returns-then-lead-ne-BUFFER-clause-told
 tell_link-returns-then-lead-ne-BUFFER-clause-told g t c =
-    let is = link_name (read_by g.A.Arity.arity c.args.self.now c.args.here.levels) c.args.end c.args.locals.now.paths c.args.bytes.now (c.in_ok-lead.lead, _) (link_view c.in_ok-link.link)
+    let is = link_name (read_by g.N.Names.arity g.N.Names.scope c.args.self.now c.args.here.levels) c.args.end (g.N.Names.paths c.args.self.now.names.now c.args.locals.now) c.args.bytes.now (c.in_ok-lead.lead, _) (link_view c.in_ok-link.link)
     c.in_ok-link.rest.now c.in_ok-lead.ensures.exact (search rules) c.in_ok-link.ensures in (
       link_view c.in_ok-link.link,
       (is.0, (tt, subst (g.S.Sink.grew _ _) (ap (λ u. Told.field u ∷ []) (view-field-Connection c.in_ok-link.link) ∙ sym (is.1 c.args.here.level)) c.in_ok-tell.ensures)),
@@ -374,7 +374,7 @@ tell_link-returns-clause-told g t c =
     let told = rw (c.at.ensures.levels, c.at.ensures.position, c.at.ensures.level) at c.in_ok-_is_if.ensures.told in (
       buffer told.0,
       (
-        link_buffer (read_by g.A.Arity.arity c.args.self.now c.args.here.levels) c.args.end c.args.locals.now.paths c.args.bytes.now (c.in_ok-lead.lead, _) told.0 _ _
+        link_buffer (read_by g.N.Names.arity g.N.Names.scope c.args.self.now c.args.here.levels) c.args.end (g.N.Names.paths c.args.self.now.names.now c.args.locals.now) c.args.bytes.now (c.in_ok-lead.lead, _) told.0 _ _
             c.in_ok-lead.ensures.exact (search rules) told.1.0,
         (tt, told_link _ g.met.S.Sink.further c.args.here.level _ _ _ _ told.0 c.in_ok-tell-2.ensures told.1.1.1 c.in_ok-tell-3.ensures),
       ),
@@ -384,35 +384,35 @@ tell_link-returns-clause-told g t c =
 
 pub tell_part-returns-in-Byte-clause-told : goal.tell_part-returns-in-Byte-clause-told
 tell_part-returns-in-Byte-clause-told g t c =
-    rw c.in-Byte.is (plain_told g.S.Sink.grew _ _ c.args.here.level c.args.locals.now.paths (label_at c.args.end c.args.label.now) _ (held byte (little_at 1 c.args.end c.args.bytes.now)) c.tell_byte.ensures.told)
+    rw c.in-Byte.is (plain_told g.S.Sink.grew _ _ c.args.here.level (g.N.Names.paths c.args.self.now.names.now c.args.locals.now) (label_at c.args.end c.args.label.now) _ (held byte (little_at 1 c.args.end c.args.bytes.now)) c.tell_byte.ensures.told)
 
 pub tell_part-returns-in-Count-clause-told : goal.tell_part-returns-in-Count-clause-told
 tell_part-returns-in-Count-clause-told g t c =
-    rw c.in-Count.is (plain_told g.S.Sink.grew _ _ c.args.here.level c.args.locals.now.paths (label_at c.args.end c.args.label.now) _ (count_part c.args.end c.args.bytes.now) c.tell_count.ensures.told)
+    rw c.in-Count.is (plain_told g.S.Sink.grew _ _ c.args.here.level (g.N.Names.paths c.args.self.now.names.now c.args.locals.now) (label_at c.args.end c.args.label.now) _ (count_part c.args.end c.args.bytes.now) c.tell_count.ensures.told)
 
 pub tell_part-returns-in-Word-clause-told : goal.tell_part-returns-in-Word-clause-told
 tell_part-returns-in-Word-clause-told g t c =
-    rw c.in-Word.is (plain_told g.S.Sink.grew _ _ c.args.here.level c.args.locals.now.paths (label_at c.args.end c.args.label.now) _ (held word (little_at 2 c.args.end c.args.bytes.now)) c.tell_word.ensures.told)
+    rw c.in-Word.is (plain_told g.S.Sink.grew _ _ c.args.here.level (g.N.Names.paths c.args.self.now.names.now c.args.locals.now) (label_at c.args.end c.args.label.now) _ (held word (little_at 2 c.args.end c.args.bytes.now)) c.tell_word.ensures.told)
 
 pub tell_part-returns-in-Dword-clause-told : goal.tell_part-returns-in-Dword-clause-told
 tell_part-returns-in-Dword-clause-told g t c =
-    rw c.in-Dword.is (plain_told g.S.Sink.grew _ _ c.args.here.level c.args.locals.now.paths (label_at c.args.end c.args.label.now) _ (held dword (little_at 4 c.args.end c.args.bytes.now)) c.tell_dword.ensures.told)
+    rw c.in-Dword.is (plain_told g.S.Sink.grew _ _ c.args.here.level (g.N.Names.paths c.args.self.now.names.now c.args.locals.now) (label_at c.args.end c.args.label.now) _ (held dword (little_at 4 c.args.end c.args.bytes.now)) c.tell_dword.ensures.told)
 
 pub tell_part-returns-in-Qword-clause-told : goal.tell_part-returns-in-Qword-clause-told
 tell_part-returns-in-Qword-clause-told g t c =
-    rw c.in-Qword.is (plain_told g.S.Sink.grew _ _ c.args.here.level c.args.locals.now.paths (label_at c.args.end c.args.label.now) _ (held qword (little_at 8 c.args.end c.args.bytes.now)) c.tell_qword.ensures.told)
+    rw c.in-Qword.is (plain_told g.S.Sink.grew _ _ c.args.here.level (g.N.Names.paths c.args.self.now.names.now c.args.locals.now) (label_at c.args.end c.args.label.now) _ (held qword (little_at 8 c.args.end c.args.bytes.now)) c.tell_qword.ensures.told)
 
 pub tell_part-returns-in-Text-clause-told : goal.tell_part-returns-in-Text-clause-told
 tell_part-returns-in-Text-clause-told g t c =
-    rw c.in-Text.is (plain_told g.S.Sink.grew _ _ c.args.here.level c.args.locals.now.paths (label_at c.args.end c.args.label.now) _ (text_part c.args.end c.args.bytes.now) c.tell_text.ensures.told)
+    rw c.in-Text.is (plain_told g.S.Sink.grew _ _ c.args.here.level (g.N.Names.paths c.args.self.now.names.now c.args.locals.now) (label_at c.args.end c.args.label.now) _ (text_part c.args.end c.args.bytes.now) c.tell_text.ensures.told)
 
 pub tell_part-returns-in-Name-clause-told : goal.tell_part-returns-in-Name-clause-told
 tell_part-returns-in-Name-clause-told g t c =
-    rw c.in-Name.is (label_told g.S.Sink.grew _ _ c.args.here.level c.args.locals.now.paths (label_at c.args.end c.args.label.now) c.args.end c.args.bytes.now _ (held label (segmented_at c.args.end c.args.bytes.now)) c.tell_name.ensures.told)
+    rw c.in-Name.is (label_told g.S.Sink.grew _ _ c.args.here.level (g.N.Names.paths c.args.self.now.names.now c.args.locals.now) (label_at c.args.end c.args.label.now) c.args.end c.args.bytes.now _ (held label (segmented_at c.args.end c.args.bytes.now)) c.tell_name.ensures.told)
 
 pub tell_part-returns-in-ScopeName-clause-told : goal.tell_part-returns-in-ScopeName-clause-told
 tell_part-returns-in-ScopeName-clause-told g t c =
-    rw c.in-ScopeName.is (label_told g.S.Sink.grew _ _ c.args.here.level c.args.locals.now.paths (label_at c.args.end c.args.label.now) c.args.end c.args.bytes.now _ (held label (name_at c.args.end c.args.bytes.now)) c.tell_any_name.ensures.told)
+    rw c.in-ScopeName.is (label_told g.S.Sink.grew _ _ c.args.here.level (g.N.Names.paths c.args.self.now.names.now c.args.locals.now) (label_at c.args.end c.args.label.now) c.args.end c.args.bytes.now _ (held label (name_at c.args.end c.args.bytes.now)) c.tell_any_name.ensures.told)
 
 -- ---- tails
 
@@ -485,26 +485,26 @@ tell_tail-returns-in_ok-tell-in-Body-clause-told g t c =
 
 pub tell_term-returns-in_err-lead-clause-fails : goal.tell_term-returns-in_err-lead-clause-fails
 tell_term-returns-in_err-lead-clause-fails g t c =
-    let failed = no_lead (g.A.Arity.arity c.args.self.now.arity.now) (scope_of c.args.self.now.scope) c.args.here.position c.args.end c.args.locals.now.paths
+    let failed = no_lead (g.N.Names.arity c.args.self.now.names.now) (g.N.Names.scope c.args.self.now.names.now) c.args.here.position c.args.end (g.N.Names.paths c.args.self.now.names.now c.args.locals.now)
     c.args.bytes.now c.args.here.levels in
     search (rules, failed)
 
 pub tell_term-returns-in_err-row-in-Opcode-clause-fails : goal.tell_term-returns-in_err-row-in-Opcode-clause-fails
 tell_term-returns-in_err-row-in-Opcode-clause-fails g t c =
-    let failed = opcode_stops (g.A.Arity.arity c.args.self.now.arity.now) (scope_of c.args.self.now.scope) c.args.here.position c.args.end c.args.locals.now.paths
+    let failed = opcode_stops (g.N.Names.arity c.args.self.now.names.now) (g.N.Names.scope c.args.self.now.names.now) c.args.here.position c.args.end (g.N.Names.paths c.args.self.now.names.now c.args.locals.now)
     c.args.bytes.now c.args.here.levels (c.in_ok-lead.lead, c.in_ok-lead.rest.now) c.in_err-row-in-Opcode.field-0.0 (omega (arith, c.if-here-eq0.false)) c.in_ok-lead.ensures.exact
     (search rules) (search rules) c.in_err-row-in-Opcode.ensures in
     search rules
 
 pub tell_term-returns-else-not-takes_names-clause-told : goal.tell_term-returns-else-not-takes_names-clause-told
 tell_term-returns-else-not-takes_names-clause-told g t c =
-    rw (name_read (g.A.Arity.arity c.args.self.now.arity.now) (scope_of c.args.self.now.scope) c.args.here.position c.args.end c.args.locals.now.paths
+    rw (name_read (g.N.Names.arity c.args.self.now.names.now) (g.N.Names.scope c.args.self.now.names.now) c.args.here.position c.args.end (g.N.Names.paths c.args.self.now.names.now c.args.locals.now)
     c.args.bytes.now c.args.here.levels (c.in_ok-lead.lead, c.in_ok-lead.rest.now) (omega (arith, c.if-here-eq0.false)) c.in_ok-lead.ensures.exact
     (search rules) (search rules)) (search rules)
 
 pub tell_term-returns-else-not-takes_names-clause-fails : goal.tell_term-returns-else-not-takes_names-clause-fails
 tell_term-returns-else-not-takes_names-clause-fails g t c =
-    rw (name_read (g.A.Arity.arity c.args.self.now.arity.now) (scope_of c.args.self.now.scope) c.args.here.position c.args.end c.args.locals.now.paths
+    rw (name_read (g.N.Names.arity c.args.self.now.names.now) (g.N.Names.scope c.args.self.now.names.now) c.args.here.position c.args.end (g.N.Names.paths c.args.self.now.names.now c.args.locals.now)
     c.args.bytes.now c.args.here.levels (c.in_ok-lead.lead, c.in_ok-lead.rest.now) (omega (arith, c.if-here-eq0.false)) c.in_ok-lead.ensures.exact
     (search rules) (search rules)) (search rules)
 
@@ -512,7 +512,7 @@ pub tell_term-returns-in_ok-tell-in-Nothing-clause-told : goal.tell_term-returns
 tell_term-returns-in_ok-tell-in-Nothing-clause-told g t c = (
   nothing,
   (
-    nothing_read (g.A.Arity.arity c.args.self.now.arity.now) (scope_of c.args.self.now.scope) c.args.here.position c.args.end c.args.locals.now.paths
+    nothing_read (g.N.Names.arity c.args.self.now.names.now) (g.N.Names.scope c.args.self.now.names.now) c.args.here.position c.args.end (g.N.Names.paths c.args.self.now.names.now c.args.locals.now)
         c.args.bytes.now c.args.here.levels (c.in_ok-lead.lead, c.in_ok-lead.rest.now) (omega (arith, c.if-here-eq0.false)) c.in_ok-lead.ensures.exact
         (search rules) (search rules),
     (refl, search rules),
@@ -521,28 +521,28 @@ tell_term-returns-in_ok-tell-in-Nothing-clause-told g t c = (
 
 pub tell_term-returns-in-None-clause-told : goal.tell_term-returns-in-None-clause-told
 tell_term-returns-in-None-clause-told g t c =
-    let is = opcode_read (g.A.Arity.arity c.args.self.now.arity.now) (scope_of c.args.self.now.scope) c.args.here.levels c.args.here.position c.args.end c.args.locals.now.paths c.args.bytes.now
+    let is = opcode_read (g.N.Names.arity c.args.self.now.names.now) (g.N.Names.scope c.args.self.now.names.now) c.args.here.levels c.args.here.position c.args.end (g.N.Names.paths c.args.self.now.names.now c.args.locals.now) c.args.bytes.now
     (c.in_ok-lead.lead, c.in_ok-lead.rest.now) (row_view c.in_ok-row-in-Opcode.row.now, c.in_ok-row-in-Opcode.behind.now) None
     (omega (arith, c.if-here-eq0.false)) c.in_ok-lead.ensures.exact (search rules) (search rules) c.in_ok-row-in-Opcode.ensures (search rules) in
     rw is (search rules)
 
 pub tell_term-returns-in-None-clause-fails : goal.tell_term-returns-in-None-clause-fails
 tell_term-returns-in-None-clause-fails g t c =
-    let is = opcode_read (g.A.Arity.arity c.args.self.now.arity.now) (scope_of c.args.self.now.scope) c.args.here.levels c.args.here.position c.args.end c.args.locals.now.paths c.args.bytes.now
+    let is = opcode_read (g.N.Names.arity c.args.self.now.names.now) (g.N.Names.scope c.args.self.now.names.now) c.args.here.levels c.args.here.position c.args.end (g.N.Names.paths c.args.self.now.names.now c.args.locals.now) c.args.bytes.now
     (c.in_ok-lead.lead, c.in_ok-lead.rest.now) (row_view c.in_ok-row-in-Opcode.row.now, c.in_ok-row-in-Opcode.behind.now) None
     (omega (arith, c.if-here-eq0.false)) c.in_ok-lead.ensures.exact (search rules) (search rules) c.in_ok-row-in-Opcode.ensures (search rules) in
     rw is (search rules)
 
 pub tell_term-returns-in-Some-clause-told : goal.tell_term-returns-in-Some-clause-told
 tell_term-returns-in-Some-clause-told g t c =
-    let is = opcode_read (g.A.Arity.arity c.args.self.now.arity.now) (scope_of c.args.self.now.scope) c.args.here.levels c.args.here.position c.args.end c.args.locals.now.paths c.args.bytes.now
+    let is = opcode_read (g.N.Names.arity c.args.self.now.names.now) (g.N.Names.scope c.args.self.now.names.now) c.args.here.levels c.args.here.position c.args.end (g.N.Names.paths c.args.self.now.names.now c.args.locals.now) c.args.bytes.now
     (c.in_ok-lead.lead, c.in_ok-lead.rest.now) (row_view c.in_ok-row-in-Opcode.row.now, c.in_ok-row-in-Opcode.behind.now) (Some c.in-Some.tail)
     (omega (arith, c.if-here-eq0.false)) c.in_ok-lead.ensures.exact (search rules) (search rules) c.in_ok-row-in-Opcode.ensures (search rules) in
     rw is (rw c.offset_of-at.ensures at c.tell_packed.ensures.told)
 
 pub tell_term-returns-in-Some-clause-fails : goal.tell_term-returns-in-Some-clause-fails
 tell_term-returns-in-Some-clause-fails g t c =
-    let is = opcode_read (g.A.Arity.arity c.args.self.now.arity.now) (scope_of c.args.self.now.scope) c.args.here.levels c.args.here.position c.args.end c.args.locals.now.paths c.args.bytes.now
+    let is = opcode_read (g.N.Names.arity c.args.self.now.names.now) (g.N.Names.scope c.args.self.now.names.now) c.args.here.levels c.args.here.position c.args.end (g.N.Names.paths c.args.self.now.names.now c.args.locals.now) c.args.bytes.now
     (c.in_ok-lead.lead, c.in_ok-lead.rest.now) (row_view c.in_ok-row-in-Opcode.row.now, c.in_ok-row-in-Opcode.behind.now) (Some c.in-Some.tail)
     (omega (arith, c.if-here-eq0.false)) c.in_ok-lead.ensures.exact (search rules) (search rules) c.in_ok-row-in-Opcode.ensures (search rules) in
     rw is (search rules)

@@ -2,7 +2,7 @@ use Rattle.aml_parse.proofs.Common.{◌≡◌, ◌+◌, ◌-◌, ◌*◌, None, 
 use Rattle.aml_parse.proofs.Common.{no_parts, no_fields, unit_names}
 use Rattle.std.specs.Prelude.{map, flat_map}
 use Rattle.aml_code.specs.Lawful.{last_label, plain_name}
-use Rattle.aml_parse.specs.Reading.{ArePlaced, parts_at, arguments_at, terms_at, fields_at}
+use Rattle.aml_parse.specs.Reading.{parts_at, arguments_at, terms_at, fields_at}
 use Rattle.aml_parse.specs.Telling.{read_by, label_at}
 use Rattle.aml_code.specs.Pieces.{pieces, items, parts_pieces, field_pieces}
 use Rattle.aml_code.specs.declared.rows.Position.{Position}
@@ -57,39 +57,39 @@ same x = x
 
 abbrev pub invariant-tell_arguments-loop-i : goal.invariant-tell_arguments-loop-i
 invariant-tell_arguments-loop-i g l =
-    (front : List Tree) × ArePlaced g.A.Arity.stands l.self l.locals × (
-    then_rest same tree_more front (arguments_at (read_by g.A.Arity.arity l.self l.here.levels) (l.count - l._i) l.end l.locals.paths l.rest)
-    ≡ arguments_at (read_by g.A.Arity.arity l.self l.here.levels) l.count l.end l.initial.locals.paths l.initial.rest)
+    (front : List Tree) × g.N.Names.fits l.self.names.now l.locals × (
+    then_rest same tree_more front (arguments_at (read_by g.N.Names.arity g.N.Names.scope l.self l.here.levels) (l.count - l._i) l.end (g.N.Names.paths l.self.names.now l.locals) l.rest)
+    ≡ arguments_at (read_by g.N.Names.arity g.N.Names.scope l.self l.here.levels) l.count l.end (g.N.Names.paths l.self.names.now l.initial.locals) l.initial.rest)
     × (l.is_first ≡ is_none front) × (length front ≡ l._i)
     × g.S.Sink.grew l.initial.sink l.sink (items l.here.level (trees_of front))
 
 abbrev pub invariant-tell_parts-loop-kind : goal.invariant-tell_parts-loop-kind
 invariant-tell_parts-loop-kind g l =
-    (front : List Part) × ArePlaced g.A.Arity.stands l.self l.locals × (
-    then_rest same part_more front (parts_at (read_by g.A.Arity.arity l.self l.here.levels) (drop l.kind-index l.kinds) l.end l.locals.paths l.rest)
-    ≡ parts_at (read_by g.A.Arity.arity l.self l.here.levels) l.kinds l.end l.initial.locals.paths l.initial.rest)
+    (front : List Part) × g.N.Names.fits l.self.names.now l.locals × (
+    then_rest same part_more front (parts_at (read_by g.N.Names.arity g.N.Names.scope l.self l.here.levels) (drop l.kind-index l.kinds) l.end (g.N.Names.paths l.self.names.now l.locals) l.rest)
+    ≡ parts_at (read_by g.N.Names.arity g.N.Names.scope l.self l.here.levels) l.kinds l.end (g.N.Names.paths l.self.names.now l.initial.locals) l.initial.rest)
     × (label_at l.end l.label ≡ last_label None (parts_of front)) × (l.is_first ≡ is_none front) × (length front ≡ l.kind-index)
     × g.S.Sink.grew l.initial.sink l.sink (parts_pieces l.here.level (parts_of front))
 
 abbrev pub invariant-tell_lines-loop-turn : goal.invariant-tell_lines-loop-turn
 invariant-tell_lines-loop-turn g l =
-    (front : List Tree) × ArePlaced g.A.Arity.stands l.self l.locals × (
-    then_all same tree_more front (terms_at (read_by g.A.Arity.arity l.self l.here.levels) (length l.bytes - l._turn) l.position l.end l.locals.paths l.rest)
-    ≡ terms_at (read_by g.A.Arity.arity l.self l.here.levels) (length l.bytes) l.initial.position l.end l.initial.locals.paths l.bytes)
+    (front : List Tree) × g.N.Names.fits l.self.names.now l.locals × (
+    then_all same tree_more front (terms_at (read_by g.N.Names.arity g.N.Names.scope l.self l.here.levels) (length l.bytes - l._turn) l.position l.end (g.N.Names.paths l.self.names.now l.locals) l.rest)
+    ≡ terms_at (read_by g.N.Names.arity g.N.Names.scope l.self l.here.levels) (length l.bytes) l.initial.position l.end (g.N.Names.paths l.self.names.now l.initial.locals) l.bytes)
     × g.S.Sink.grew l.initial.sink l.sink (flat_map (λ t. in_line l.here.level (pieces l.here.level t)) front)
 
 abbrev pub invariant-tell_elements-loop-turn : goal.invariant-tell_elements-loop-turn
 invariant-tell_elements-loop-turn g l =
-    (front : List Tree) × ArePlaced g.A.Arity.stands l.self l.locals × (
-    then_all same tree_more front (terms_at (read_by g.A.Arity.arity l.self l.here.levels) (length l.bytes - l._turn) Position.Data l.end l.locals.paths l.rest)
-    ≡ terms_at (read_by g.A.Arity.arity l.self l.here.levels) (length l.bytes) Position.Data l.end l.initial.locals.paths l.bytes)
+    (front : List Tree) × g.N.Names.fits l.self.names.now l.locals × (
+    then_all same tree_more front (terms_at (read_by g.N.Names.arity g.N.Names.scope l.self l.here.levels) (length l.bytes - l._turn) Position.Data l.end (g.N.Names.paths l.self.names.now l.locals) l.rest)
+    ≡ terms_at (read_by g.N.Names.arity g.N.Names.scope l.self l.here.levels) (length l.bytes) Position.Data l.end (g.N.Names.paths l.self.names.now l.initial.locals) l.bytes)
     × (l.is_first ≡ is_none front)
     × g.S.Sink.grew l.initial.sink l.sink (items l.here.level (trees_of front))
 
 abbrev pub invariant-tell_fields-loop-turn : goal.invariant-tell_fields-loop-turn
 invariant-tell_fields-loop-turn g l =
-    (front : List Field) × ArePlaced g.A.Arity.stands l.self l.locals × (
-    then_all same field_more front (fields_at (read_by g.A.Arity.arity l.self l.here.levels) (length l.bytes - l._turn) l.end l.locals.paths l.rest)
-    ≡ fields_at (read_by g.A.Arity.arity l.self l.here.levels) (length l.bytes) l.end l.initial.locals.paths l.bytes)
+    (front : List Field) × g.N.Names.fits l.self.names.now l.locals × (
+    then_all same field_more front (fields_at (read_by g.N.Names.arity g.N.Names.scope l.self l.here.levels) (length l.bytes - l._turn) l.end (g.N.Names.paths l.self.names.now l.locals) l.rest)
+    ≡ fields_at (read_by g.N.Names.arity g.N.Names.scope l.self l.here.levels) (length l.bytes) l.end (g.N.Names.paths l.self.names.now l.initial.locals) l.bytes)
     × (map plain_name l.units.items ≡ unit_names (onto same field_more front no_fields))
     × g.S.Sink.grew l.initial.sink l.sink (flat_map (λ u. in_line l.here.level (field_pieces l.here.level u)) front)

@@ -6,7 +6,6 @@ use Rattle.aml_parse.proofs.Opened.{opcode_read}
 use Rattle.aml_parse.proofs.Loops.{parts_go_on, parts_fails, parts_end, arguments_go_on, arguments_fails, arguments_end}
 use Rattle.aml_parse.proofs.Loops.{go_on, fails, runs_out, done, nodes_found, parts_found}
 use Rattle.aml_parse.proofs.Loops.{fields_found}
-use Rattle.aml_parse.specs.Reading.{scope_of}
 use Rattle.aml_parse.proofs.parser.Parser.+terms.Goals as goal
 
 pub arguments-returns-in_err-node-clause-read : goal.arguments-returns-in_err-node-clause-read
@@ -22,12 +21,12 @@ arguments-loop-i-preserved g t c =
     let next =
     arguments_go_on node_view _ c.loop-i.found.items _ _ _ _ (c.args.count - c.loop-i._i) c.in_ok-node.node _ _
     (omega (arith, c.loop-i-test.true)) c.in_ok-node.ensures.read c.loop-i.invariant.1 in
-    (c.in_ok-node.ensures.placed, rw c.in_ok-push.ensures.items (rw less at next))
+    (c.in_ok-node.ensures.fits, rw c.in_ok-push.ensures.items (rw less at next))
 
 pub arguments-returns-clause-read : goal.arguments-returns-clause-read
 arguments-returns-clause-read g t c =
     arguments_end node_view _ c.loop-i.found.items _ _ _ _ (c.args.count - c.loop-i._i) (omega (arith, c.loop-i-test.false)) c.loop-i.invariant.1
-    ∙ ap (λ (ts : Trees). Ok (ts, c.loop-i.locals.paths, c.loop-i.rest.now)) (nodes_found _)
+    ∙ ap (λ (ts : Trees). Ok (ts, (g.N.Names.paths c.args.self.now.names.now c.loop-i.locals), c.loop-i.rest.now)) (nodes_found _)
 
 pub parts-returns-in_err-rest-clause-read : goal.parts-returns-in_err-rest-clause-read
 parts-returns-in_err-rest-clause-read g t c =
@@ -46,7 +45,7 @@ parts-loop-kind-preserved g t c =
     let k = get_or ks i PartKind.Term in
     let cut : drop i ks ≡ k ∷ drop (i + 1) ks = rw add-one (drop-cons ks i PartKind.Term c.loop-kind-test.true) in
     let added = c.in_ok-rest.ensures.added in (
-      c.in_ok-rest.ensures.placed,
+      c.in_ok-rest.ensures.fits,
       rw added.1.0
           (parts_go_on part_view _ c.loop-kind.found.items _ _ _ _ added.0 k (drop (i + 1) ks) _ _ added.1.1 (rw cut at c.loop-kind.invariant.1)),
     )
@@ -55,7 +54,7 @@ pub parts-returns-clause-read : goal.parts-returns-clause-read
 parts-returns-clause-read g t c =
     let cut : drop c.loop-kind.kind-index c.args.kinds.now ≡ [] = drop_all _ _ c.loop-kind-test.false in
     parts_end part_view _ c.loop-kind.found.items _ _ _ _ (rw cut at c.loop-kind.invariant.1)
-    ∙ ap (λ (ps : Parts). Ok (ps, c.loop-kind.locals.paths, c.loop-kind.rest.now)) (parts_found _)
+    ∙ ap (λ (ps : Parts). Ok (ps, (g.N.Names.paths c.args.self.now.names.now c.loop-kind.locals), c.loop-kind.rest.now)) (parts_found _)
 
 pub terms-returns-then-is_empty-clause-read : goal.terms-returns-then-is_empty-clause-read
 terms-returns-then-is_empty-clause-read g t c =
@@ -74,7 +73,7 @@ terms-loop-turn-preserved g t c =
     let next =
     go_on no_trees tree_more _ _ node_view c.loop-turn.found.items c.loop-turn.here _ _ _ (length c.args.bytes.now - c.loop-turn._turn)
     c.loop-turn.rest.now c.in_ok-node.node _ _ (grind arith) (omega (arith, c.loop-turn-test.true)) c.in_ok-node.ensures.read c.loop-turn.invariant.1 in
-    (c.in_ok-node.ensures.placed, rw (c.in_ok-push.ensures.items, c.in_ok-make_room.ensures, c.next_position-here.ensures) (rw less at next))
+    (c.in_ok-node.ensures.fits, rw (c.in_ok-push.ensures.items, c.in_ok-make_room.ensures, c.next_position-here.ensures) (rw less at next))
 
 pub terms-returns-then-is_empty-2-clause-read : goal.terms-returns-then-is_empty-2-clause-read
 terms-returns-then-is_empty-2-clause-read g t c =
@@ -102,7 +101,7 @@ fields-loop-turn-preserved g t c =
     let next =
     go_on no_fields field_more _ _ field_view c.loop-turn.found.items _ _ _ _ (length c.args.bytes.now - c.loop-turn._turn)
     c.loop-turn.rest.now c.in_ok-field.field _ _ (grind arith) (omega (arith, c.loop-turn-test.true)) c.in_ok-field.ensures.read c.loop-turn.invariant.1 in
-    (c.in_ok-field.ensures.placed, rw c.in_ok-push.ensures.items (rw less at next))
+    (c.in_ok-field.ensures.fits, rw c.in_ok-push.ensures.items (rw less at next))
 
 pub fields-returns-then-is_empty-2-clause-read : goal.fields-returns-then-is_empty-2-clause-read
 fields-returns-then-is_empty-2-clause-read g t c =
@@ -115,15 +114,15 @@ fields-returns-else-is_empty-2-clause-read g t c =
 
 pub term-returns-in-Some-clause-read : goal.term-returns-in-Some-clause-read
 term-returns-in-Some-clause-read g t c =
-    let is = opcode_read (g.A.Arity.arity c.args.self.now.arity.now) (scope_of c.args.self.now.scope) c.args.self.now.levels c.args.position c.args.end c.args.locals.now.paths c.args.bytes.now (c.in_ok-lead.lead, c.in_ok-lead.rest.now)
+    let is = opcode_read (g.N.Names.arity c.args.self.now.names.now) (g.N.Names.scope c.args.self.now.names.now) c.args.self.now.levels c.args.position c.args.end (g.N.Names.paths c.args.self.now.names.now c.args.locals.now) c.args.bytes.now (c.in_ok-lead.lead, c.in_ok-lead.rest.now)
     (row_view c.in_ok-row-in-Opcode.row.now, c.in_ok-row-in-Opcode.behind.now) (Some c.in-Some.tail) (omega (arith, c.if-self-eq0.false)) c.in_ok-lead.ensures.exact
     (search rules) (search rules) c.in_ok-row-in-Opcode.ensures (search rules) in
     rw is (search rules)
 
 pub term-returns-then-is_empty-clause-read : goal.term-returns-then-is_empty-clause-read
 term-returns-then-is_empty-clause-read g t c =
-    let is = opcode_read (g.A.Arity.arity c.args.self.now.arity.now) (scope_of c.args.self.now.scope) c.args.self.now.levels c.args.position c.args.end c.args.locals.now.paths c.args.bytes.now
+    let is = opcode_read (g.N.Names.arity c.args.self.now.names.now) (g.N.Names.scope c.args.self.now.names.now) c.args.self.now.levels c.args.position c.args.end (g.N.Names.paths c.args.self.now.names.now c.args.locals.now) c.args.bytes.now
     (c.in_ok-lead.lead, c.in_ok-lead.rest.now) (row_view c.in_ok-row-in-Opcode.row.now, c.in_ok-row-in-Opcode.behind.now) None
     (omega (arith, c.if-self-eq0.false)) c.in_ok-lead.ensures.exact (search rules) (search rules) c.in_ok-row-in-Opcode.ensures (search rules) in
     is ∙ plain_bare _ _ (row_view c.in_ok-row-in-Opcode.row.now) _ _ _ (grind arith)
-    ∙ ap (λ y. Ok (y, c.args.locals.now.paths, c.in_ok-row-in-Opcode.behind.now)) (sym c.bare.ensures)
+    ∙ ap (λ y. Ok (y, (g.N.Names.paths c.args.self.now.names.now c.args.locals.now), c.in_ok-row-in-Opcode.behind.now)) (sym c.bare.ensures)

@@ -1,6 +1,6 @@
 use Rattle.aml_parse.proofs.Common.{◌≡◌, ◌+◌, ◌-◌, ◌*◌, length, drop, tree_more, part_more, field_more, node_view}
 use Rattle.aml_parse.proofs.Common.{part_view, field_view}
-use Rattle.aml_parse.specs.Reading.{ArePlaced, read_in, parts_at, arguments_at, terms_at, fields_at}
+use Rattle.aml_parse.specs.Reading.{read_in, parts_at, arguments_at, terms_at, fields_at}
 use Rattle.aml_parse.proofs.Loops.{then_rest, then_all}
 use Rattle.aml_parse.proofs.parser.Parser.+terms.Given as goal
 
@@ -45,24 +45,24 @@ decreases-link g l = 8 * l.self.now.levels + 2
 
 abbrev pub invariant-arguments-loop-i : goal.invariant-arguments-loop-i
 invariant-arguments-loop-i g l =
-    ArePlaced g.A.Arity.stands l.self l.locals × (
-    then_rest node_view tree_more l.found.items (arguments_at (read_in g.A.Arity.arity l.self) (l.count - l._i) l.end l.locals.paths l.rest)
-    ≡ arguments_at (read_in g.A.Arity.arity l.self) l.count l.end l.initial.locals.paths l.initial.rest)
+    g.N.Names.fits l.self.names.now l.locals × (
+    then_rest node_view tree_more l.found.items (arguments_at (read_in g.N.Names.arity g.N.Names.scope l.self) (l.count - l._i) l.end (g.N.Names.paths l.self.names.now l.locals) l.rest)
+    ≡ arguments_at (read_in g.N.Names.arity g.N.Names.scope l.self) l.count l.end (g.N.Names.paths l.self.names.now l.initial.locals) l.initial.rest)
 
 abbrev pub invariant-parts-loop-kind : goal.invariant-parts-loop-kind
 invariant-parts-loop-kind g l =
-    ArePlaced g.A.Arity.stands l.self l.locals × (
-    then_rest part_view part_more l.found.items (parts_at (read_in g.A.Arity.arity l.self) (drop l.kind-index l.kinds) l.end l.locals.paths l.rest)
-    ≡ parts_at (read_in g.A.Arity.arity l.self) l.kinds l.end l.initial.locals.paths l.initial.rest)
+    g.N.Names.fits l.self.names.now l.locals × (
+    then_rest part_view part_more l.found.items (parts_at (read_in g.N.Names.arity g.N.Names.scope l.self) (drop l.kind-index l.kinds) l.end (g.N.Names.paths l.self.names.now l.locals) l.rest)
+    ≡ parts_at (read_in g.N.Names.arity g.N.Names.scope l.self) l.kinds l.end (g.N.Names.paths l.self.names.now l.initial.locals) l.initial.rest)
 
 abbrev pub invariant-terms-loop-turn : goal.invariant-terms-loop-turn
 invariant-terms-loop-turn g l =
-    ArePlaced g.A.Arity.stands l.self l.locals × (
-    then_all node_view tree_more l.found.items (terms_at (read_in g.A.Arity.arity l.self) (length l.bytes - l._turn) l.here l.end l.locals.paths l.rest)
-    ≡ terms_at (read_in g.A.Arity.arity l.self) (length l.bytes) l.initial.here l.end l.initial.locals.paths l.bytes)
+    g.N.Names.fits l.self.names.now l.locals × (
+    then_all node_view tree_more l.found.items (terms_at (read_in g.N.Names.arity g.N.Names.scope l.self) (length l.bytes - l._turn) l.here l.end (g.N.Names.paths l.self.names.now l.locals) l.rest)
+    ≡ terms_at (read_in g.N.Names.arity g.N.Names.scope l.self) (length l.bytes) l.initial.here l.end (g.N.Names.paths l.self.names.now l.initial.locals) l.bytes)
 
 abbrev pub invariant-fields-loop-turn : goal.invariant-fields-loop-turn
 invariant-fields-loop-turn g l =
-    ArePlaced g.A.Arity.stands l.self l.locals × (
-    then_all field_view field_more l.found.items (fields_at (read_in g.A.Arity.arity l.self) (length l.bytes - l._turn) l.end l.locals.paths l.rest)
-    ≡ fields_at (read_in g.A.Arity.arity l.self) (length l.bytes) l.end l.initial.locals.paths l.bytes)
+    g.N.Names.fits l.self.names.now l.locals × (
+    then_all field_view field_more l.found.items (fields_at (read_in g.N.Names.arity g.N.Names.scope l.self) (length l.bytes - l._turn) l.end (g.N.Names.paths l.self.names.now l.locals) l.rest)
+    ≡ fields_at (read_in g.N.Names.arity g.N.Names.scope l.self) (length l.bytes) l.end (g.N.Names.paths l.self.names.now l.initial.locals) l.bytes)
