@@ -229,7 +229,7 @@ impl<'a> Scope<'a> {
     pub(crate) fn search(
         &self,
         alloc: Global,
-        locals: &SeenLocals<'_>,
+        locals: &SeenLocals<'_, '_>,
         first: Level,
         segment: &[Seg],
     ) -> Result<Option<Candidate>, NoMemory>
@@ -488,7 +488,7 @@ impl<'a> Scope<'a> {
     pub(crate) fn counts(
         &self,
         alloc: Global,
-        locals: &SeenLocals<'_>,
+        locals: &SeenLocals<'_, '_>,
         first: Level,
         segment: &[Seg],
     ) -> Result<Counts, NoMemory>
