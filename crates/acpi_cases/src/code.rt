@@ -3,7 +3,7 @@ ghost use Rattle.std.specs.Prelude.{◌≤◌, Some, length};
 
 use crate::lines::{count_of, first_word, push_bytes, push_indented};
 use aml_code::{
-    Arity, Bytes, CodeFault, Name, NameForm, NoMemory, Node, Path, PkgWidth, Position, SeenLocals,
+    Arity, Bytes, CodeFault, Locals, Name, NameForm, NoMemory, Node, Path, PkgWidth, Position,
     Tail, encode_terms, read_pkg,
 };
 use aml_names::read_name;
@@ -25,18 +25,9 @@ struct Each {
 }
 
 impl Arity for Each {
-    ghost use Rattle.std.specs.Prelude.{⊤};
-
     ghost arity = { λ each _ _. Some each.count };
 
-    ghost stands = { λ _ _. ⊤ };
-
-    fn count_seen(
-        &self,
-        _alloc: Global,
-        _locals: &SeenLocals<'_>,
-        _name: &Name,
-    ) -> Result<Option<u8>, NoMemory> {
+    fn count(&self, _alloc: Global, _locals: &Locals, _name: &Name) -> Result<Option<u8>, NoMemory> {
         Ok(Some(self.count))
     }
 }

@@ -1,5 +1,5 @@
 -- The body of a method, read by what the names of its body are read by.
-use Rattle.std.proofs.Common.{◌≡◌, ◌≢◌, ℕ, zero, suc, ◌≤◌, Bool, List, [], ◌∷◌, length, drop, Option, Some, Result, Ok}
+use Rattle.std.proofs.Common.{ap, ◌≡◌, ◌≢◌, ℕ, zero, suc, ◌≤◌, Bool, List, [], ◌∷◌, length, drop, Option, Some, Result, Ok}
 use Rattle.std.proofs.Common.{Err, refl, subst, ◌⊎◌, inl, inr}
 use Rattle.std.proofs.Common.{arith, slice_index_or}
 use Rattle.std.proofs.lemmas.List.{length-take, length-drop}
@@ -86,22 +86,31 @@ said_of_method P names k es cs m z bytes named s is says =
     let there = subst (λ (n : Outlook). P (agreed_arity n z m.path) bytes) (same_outlook k es s) here in
     subst (λ (b : List ℕ). P (agreed_arity (outlook_of es) z m.path) b) is there
 
+-- the scope of a method's names is its path
+own_scope : {X : Type 0} (view : X → Trees) (names : BodyView) (k : Known) (m : Method) (z : Bool) (bytes : List ℕ) (r : Result X CodeFault)
+    → names ≡ record { known = k; method = m.path; unknown_zero = z }
+    → Gives view r (all_at (agreed_arity (outlook_in names.known) names.unknown_zero names.method) (Some names.method) positions.BodyTerm bytes)
+    → Gives view r (all_at (agreed_arity (outlook_in names.known) names.unknown_zero names.method) (Some m.path) positions.BodyTerm bytes)
+own_scope view names k m z bytes r named = subst
+    (λ p. Gives view r (all_at (agreed_arity (outlook_in names.known) names.unknown_zero names.method) (Some p) positions.BodyTerm bytes))
+    (ap (λ (v : BodyView). v.method) named)
+
 -- what is answered over the names of a method's body, as reading forward gives it, is a reading of this body
 pub reading_is : {X : Type 0} (view : X → Trees) (names : BodyView) (k : Known) (es : List Entry) (cs : List (List ℕ)) (m : Method) (z : Bool) (bytes : List ℕ)
     (r : Result X CodeFault)
     → names ≡ record { known = k; method = m.path; unknown_zero = z } → StandsFor k es → bytes ≡ span_of cs m
     → IsBytes bytes
-    → Gives view r (all_at (agreed_arity (outlook_in names.known) names.unknown_zero names.method) (Some m.path) positions.BodyTerm bytes)
+    → Gives view r (all_at (agreed_arity (outlook_in names.known) names.unknown_zero names.method) (Some names.method) positions.BodyTerm bytes)
     → IsReading view z es cs m r
 reading_is view names k es cs m z bytes r named s is fits gives = reading_of view es cs m z r
     (said_of_method (λ counts b. BodySaid view counts m.path b r) names k es cs m z bytes named s is
-    (body_said view (agreed_arity (outlook_in names.known) names.unknown_zero names.method) m.path bytes r fits gives))
+    (body_said view (agreed_arity (outlook_in names.known) names.unknown_zero names.method) m.path bytes r fits (own_scope view names k m z bytes r named gives)))
 
 -- what reading forward gives of its bytes is what it gives of the method's body
 pub forward_is : {X : Type 0} (view : X → Trees) (names : BodyView) (k : Known) (es : List Entry) (cs : List (List ℕ)) (m : Method) (z : Bool) (bytes : List ℕ)
     (r : Result X CodeFault)
     → names ≡ record { known = k; method = m.path; unknown_zero = z } → StandsFor k es → bytes ≡ span_of cs m
-    → Gives view r (all_at (agreed_arity (outlook_in names.known) names.unknown_zero names.method) (Some m.path) positions.BodyTerm bytes)
+    → Gives view r (all_at (agreed_arity (outlook_in names.known) names.unknown_zero names.method) (Some names.method) positions.BodyTerm bytes)
     → GivesBody view z es cs m r
 forward_is view names k es cs m z bytes r named s is says =
-    said_of_method (λ counts b. Gives view r (all_at counts (Some m.path) positions.BodyTerm b)) names k es cs m z bytes named s is says
+    said_of_method (λ counts b. Gives view r (all_at counts (Some m.path) positions.BodyTerm b)) names k es cs m z bytes named s is (own_scope view names k m z bytes r named says)

@@ -10,7 +10,7 @@ ghost use Rattle.aml_set.specs.Views.{codes_view, span_of};
 ghost use Rattle.aml_load.specs.Views.{IsReading, GivesBody, ReadsBy};
 
 use aml_code::{CodeFault, Node, Sink};
-use aml_parse::{own_body_terms, tell_own_body};
+use aml_parse::{body_terms, tell_terms};
 use aml_set::{Method, span_of};
 use aml_space::{BodyNames, PathId, Space};
 use std::alloc::Global;
@@ -108,7 +108,7 @@ fn read_by(
         (es : List Entry) → StandsFor names.now.known es →
         GivesBody (λ nodes. nodes_view nodes.items) names.now.unknown_zero es tables method.now result }
 {
-    own_body_terms(alloc, bytes, names, &method.path.parts())
+    body_terms(alloc, bytes, names)
 }
 
 /// Tells a sink the terms that `read_numbered` reads, as lines of this level, piece by piece as they are read.
@@ -139,5 +139,5 @@ pub fn tell_numbered<S: Sink>(
         GivesBody (λ (read : Trees). read) unknown_zero es tables method.now (Err fault)) }
 {
     let known = BodyNames::numbered(space, id, method.path.parts(), unknown_zero);
-    tell_own_body(alloc, bytes, &known, &method.path.parts(), level, sink)
+    tell_terms(alloc, bytes, &known, level, sink)
 }

@@ -20,7 +20,7 @@ use crate::roles::{kind_of, role_of};
 use crate::uses::Site;
 use crate::walking::Progress;
 use aml_code::{
-    Arity, Name, NoMemory, Node, Part, Position, Role, SeenLocals, Tail, TailKind, last_name,
+    Arity, Locals, Name, NoMemory, Node, Part, Position, Role, Tail, TailKind, last_name,
     listed_row,
 };
 use aml_names::ScopedPath;
@@ -139,15 +139,8 @@ impl Arity for RunNames<'_> {
     ghost arity = { λ self locals name. Some (unwrap_or
         (agreed_arity (outlook_in self.names.known) self.names.unknown_zero self.names.method locals name) 0) };
 
-    ghost stands = { λ self scope. scope ≡ self.names.method };
-
-    fn count_seen(
-        &self,
-        alloc: Global,
-        locals: &SeenLocals<'_>,
-        name: &Name,
-    ) -> Result<Option<u8>, NoMemory> {
-        let count = self.names.count_seen(alloc, locals, name)?;
+    fn count(&self, alloc: Global, locals: &Locals, name: &Name) -> Result<Option<u8>, NoMemory> {
+        let count = self.names.count(alloc, locals, name)?;
         Ok(Some(count.unwrap_or(0)))
     }
 }

@@ -6,7 +6,7 @@ ghost use Rattle.aml_set.specs.Views.{codes_view};
 
 use acpi_tables::Dump;
 use acpidis::{Options, Refusal, disassemble, run};
-use aml_code::{Arity, SeenLocals};
+use aml_code::{Arity, Locals};
 use aml_load::{LoadFault, load};
 use aml_names::{ArgumentCount, Name, Path};
 use aml_pool::{Board, FreeGate, Gate, NoMemory, PoolFault, Results, Share, Work, crew, harvest};
@@ -97,12 +97,10 @@ pub struct Bare;
 impl Arity for Bare {
     ghost arity = { λ _ _ _. Some 0 };
 
-    ghost stands = { λ _ _. ⊤ };
-
-    fn count_seen(
+    fn count(
         &self,
         _alloc: Global,
-        _locals: &SeenLocals<'_>,
+        _locals: &Locals,
         _name: &Name,
     ) -> Result<Option<u8>, aml_code::NoMemory> {
         Ok(Some(0))
