@@ -14,9 +14,8 @@ ghost use Rattle.aml_names.specs.Branches.{whole, goes_on, end_depth, branch_cmp
 ghost use Rattle.aml_names.specs.Searching.{nearest, deeper};
 
 use crate::faults::NoMemory;
-use crate::parts::Parts;
 use crate::paths::{Path, same_segs};
-use crate::seen::SeenLocals;
+use crate::placing::Stand;
 use crate::segments::Seg;
 use std::alloc::{AllocError, Global};
 use std::collections::{BTreeMap, BTreeSet};
@@ -35,9 +34,9 @@ struct Branch<'a> {
 /// only what lies behind the segments in common with the scope is kept, so that it costs in a deep scope what it costs
 /// in the root.
 #[derive(Drop)]
-pub struct Branches<'a> {
+pub struct Branches<S: Stand> {
     alloc: Global,
-    scope: Parts<'a>,
+    scope: S,
     /// Each path as a branch.
     kept: BTreeSet<(usize, Path)>,
     /// The last segment of each of them, and how many segments of the scope stand before it in the nearest path that is
@@ -45,7 +44,7 @@ pub struct Branches<'a> {
     ends: BTreeMap<Seg, Option<usize>>,
 }
 
-impl<'a> Model for Branches<'a> {
+impl<S: Stand> Model for Branches<S> {
     ghost use Rattle.std.specs.Prelude.{map};
     ghost use Rattle.std.specs.FinSet as set;
     ghost use Rattle.std.specs.BTreeMap.{get};
@@ -58,16 +57,16 @@ impl<'a> Model for Branches<'a> {
     ghost coded = { coded_branched };
 
     ghost view = { λ a.
-        record { scope = a.scope; paths = set.from_list (map (whole a.scope) a.kept.keys) } };
+        record { scope = S.path a.scope; paths = set.from_list (map (whole (S.path a.scope)) a.kept.keys) } };
 
-    ghost invariant = { λ a. AreBranches a.scope a.kept.keys
-        × KnowEnds (set.from_list (map (whole a.scope) a.kept.keys)) a.scope (get seg_cmp a.ends) };
+    ghost invariant = { λ a. AreBranches (S.path a.scope) a.kept.keys
+        × KnowEnds (set.from_list (map (whole (S.path a.scope)) a.kept.keys)) (S.path a.scope) (get seg_cmp a.ends) };
 }
 
-impl<'a> Branches<'a> {
+impl<S: Stand> Branches<S> {
     /// No path.
-    pub fn new(alloc: Global, scope: Parts<'a>) -> Branches<'a>
-        ensures { result ≡ record { scope = scope.entry; paths = set.empty } }
+    pub fn new(alloc: Global, scope: S) -> Branches<S>
+        ensures { result ≡ record { scope = S.path scope; paths = set.empty } }
     {
         Branches {
             alloc,
@@ -75,14 +74,6 @@ impl<'a> Branches<'a> {
             kept: BTreeSet::new(alloc),
             ends: BTreeMap::new(alloc),
         }
-    }
-
-    /// Whether the paths are placed from this scope.
-    pub(crate) fn are_of(&self, scope: &Parts<'_>) -> bool
-        ensures test { result ≡ eq_by_cmp path_cmp self.now.scope scope.now }
-        ensures same { OnTrue result (self.now.scope ≡ scope.now) }
-    {
-        self.scope.is(scope)
     }
 
     /// Whether no path is there.
@@ -119,7 +110,7 @@ impl<'a> Branches<'a> {
 
     /// Whether the path of some segments behind a front of the scope is there, in time logarithmic in the number of
     /// paths.
-    pub(crate) fn contains(&self, front: usize, segs: &[Seg]) -> bool
+    pub fn contains(&self, front: usize, segs: &[Seg]) -> bool
         requires { front ≤ length self.now.scope }
         ensures { result ≡ set.contains self.now.paths (take front self.now.scope ++ segs.now) }
     {
@@ -148,46 +139,9 @@ impl<'a> Branches<'a> {
         self.may_end(path) && self.contains(0, path)
     }
 
-    /// Whether the path of some segments behind a front of another scope is there.
-    pub(crate) fn has_elsewhere(
-        &self,
-        scope: &Parts<'_>,
-        front: usize,
-        segs: &[Seg],
-    ) -> Result<bool, NoMemory>
-        requires { front ≤ length scope.now }
-        ensures { IfOk result (λ local. local ≡ set.contains self.now.paths (take front scope.now ++ segs.now)) }
-    {
-        let path = scope.first(front).below(self.alloc, segs)?;
-        Ok(self.has(path.segs()))
-    }
-
-    /// The nearest in another scope, by a question for each of its parents.
-    pub(crate) fn nearest_elsewhere(
-        &self,
-        alloc: Global,
-        scope: &Parts<'_>,
-        segment: Seg,
-    ) -> Result<Option<usize>, NoMemory>
-        ensures { IfOk result (λ depth. depth ≡ nearest self.now.paths scope.now (segment ∷ [])) }
-    {
-        let mut path = scope.below(alloc, &[segment])?;
-        let mut depth = scope.len();
-        'depths: loop {
-            if self.has(path.segs()) {
-                return Ok(Some(depth));
-            }
-            if depth == 0 {
-                return Ok(None);
-            }
-            depth -= 1;
-            path.raise();
-        }
-    }
-
     /// The nearest of the paths that are a segment in the scope or in a parent of it: how many segments of the scope
     /// stand before it.
-    pub(crate) fn nearest(&self, segment: Seg) -> Option<usize>
+    pub fn nearest(&self, segment: Seg) -> Option<usize>
         ensures { result ≡ nearest self.now.paths self.now.scope (segment ∷ []) }
     {
         match self.ends.get(&segment) {
@@ -195,28 +149,21 @@ impl<'a> Branches<'a> {
             Some(depth) => *depth,
         }
     }
-
-    /// The paths as names see them that stand in this scope.
-    pub fn seen(&self) -> SeenLocals<'_, 'a>
-        ensures { result ≡ record { paths = self.now.paths; scope = Some self.now.scope } }
-    {
-        SeenLocals::new(self, true)
-    }
 }
 
 /// Whether a scope has a segment at a depth.
-fn goes_on(scope: &Parts<'_>, depth: usize, seg: Seg) -> bool
-    ensures test { result ≡ goes_on scope.now depth seg }
+fn goes_on<S: Stand>(scope: &S, depth: usize, seg: Seg) -> bool
+    ensures test { result ≡ goes_on (S.path scope.now) depth seg }
     ensures room { OnTrue result (depth + 1 < 2 ^ 64) }
 {
-    depth < scope.len() && scope.segment(depth).cmp(&seg).is_eq()
+    depth < scope.depth() && scope.segment_at(depth).cmp(&seg).is_eq()
 }
 
 /// Where the path of some segments behind a front of a scope branches off this scope.
-fn branch_of<'s>(scope: &Parts<'_>, front: usize, segs: &'s [Seg]) -> Branch<'s>
-    requires { front ≤ length scope.now }
-    ensures branch { IsBranch scope.now (result.depth, result.tail.now) }
-    ensures whole { whole scope.now (result.depth, result.tail.now) ≡ take front scope.now ++ segs.now }
+fn branch_of<'s, S: Stand>(scope: &S, front: usize, segs: &'s [Seg]) -> Branch<'s>
+    requires { front ≤ length (S.path scope.now) }
+    ensures branch { IsBranch (S.path scope.now) (result.depth, result.tail.now) }
+    ensures whole { whole (S.path scope.now) (result.depth, result.tail.now) ≡ take front (S.path scope.now) ++ segs.now }
 {
     let mut depth = front;
     for seg in segs {
@@ -232,14 +179,15 @@ fn branch_of<'s>(scope: &Parts<'_>, front: usize, segs: &'s [Seg]) -> Branch<'s>
 }
 
 /// The last segment of a path; the root has none.
-fn last_of(scope: &Parts<'_>, branch: Branch<'_>) -> Option<Seg>
-    requires { branch.depth ≤ length scope.now }
-    ensures { let path = whole scope.now (branch.entry.depth, branch.entry.tail.now) in
+fn last_of<S: Stand>(scope: &S, branch: Branch<'_>) -> Option<Seg>
+    requires { branch.depth ≤ length (S.path scope.now) }
+    ensures { let path = whole (S.path scope.now) (branch.entry.depth, branch.entry.tail.now) in
         result ≡ slice_get path (length path - 1) }
 {
     match branch.tail.last() {
         Some(end) => Some(*end),
-        None => scope.first(branch.depth).last(),
+        None if branch.depth == 0 => None,
+        None => Some(scope.segment_at(branch.depth - 1)),
     }
 }
 

@@ -1,12 +1,13 @@
 //! The paths that a method body has declared so far.
-ghost use Rattle.std.specs.Prelude.{◌≡◌, ◌↔◌, None, IsTrue, OnOk, OnErr};
+ghost use Rattle.std.specs.Prelude.{◌≡◌, ◌↔◌, ◌≤◌, ◌++◌, ◌∷◌, [], length, take, IsTrue, IfOk, OnOk, OnErr};
+ghost use Rattle.aml_names.specs.Searching.{nearest};
 ghost use Rattle.std.specs.FinSet as set;
 
 use crate::branches::Branches;
 use crate::faults::NoMemory;
 use crate::parts::Parts;
 use crate::paths::Path;
-use crate::seen::SeenLocals;
+use crate::segments::Seg;
 use std::alloc::Global;
 use std::marker::Model;
 
@@ -14,7 +15,7 @@ use std::marker::Model;
 /// Names that stand in one scope keep them by it instead, as `Branches`.
 #[derive(Drop)]
 pub struct Locals {
-    branches: Branches<'static>,
+    branches: Branches<Parts<'static>>,
 }
 
 impl Model for Locals {
@@ -53,18 +54,59 @@ impl Locals {
         self.branches.is_empty()
     }
 
-    /// The paths as names see them that stand in any scope.
-    pub fn seen(&self) -> SeenLocals<'_, 'static>
-        ensures { result ≡ record { paths = self.now; scope = None } }
-    {
-        SeenLocals::new(&self.branches, false)
-    }
-
     /// Whether the path is there, in time logarithmic in their number, and without a look at the path's other segments
     /// where none of them ends as the path does.
     pub fn has(&self, path: &Path) -> bool
         ensures { result ≡ set.contains self.now path.now }
     {
         self.branches.has(path.segs())
+    }
+    /// Whether the path of some segments behind a front of a scope is there.
+    pub fn has_below(
+        &self,
+        alloc: Global,
+        scope: &Parts<'_>,
+        front: usize,
+        segs: &[Seg],
+    ) -> Result<bool, NoMemory>
+        requires { front ≤ length scope.now }
+        ensures { IfOk result (λ local. local ≡ set.contains self.now (take front scope.now ++ segs.now)) }
+    {
+        // Each may have the last of no segments.
+        if self.is_empty() {
+            return Ok(false);
+        }
+        if !self.branches.may_end(segs) {
+            return Ok(false);
+        }
+        let path = scope.first(front).below(alloc, segs)?;
+        Ok(self.has(&path))
+    }
+
+    /// The nearest of the paths that are a segment in a scope or in a parent of it, by a question for each of these: how
+    /// many segments of the scope stand before it.
+    pub fn nearest(
+        &self,
+        alloc: Global,
+        scope: &Parts<'_>,
+        segment: Seg,
+    ) -> Result<Option<usize>, NoMemory>
+        ensures { IfOk result (λ depth. depth ≡ nearest self.now scope.now (segment ∷ [])) }
+    {
+        if !self.branches.may_end(&[segment]) {
+            return Ok(None);
+        }
+        let mut path = scope.below(alloc, &[segment])?;
+        let mut depth = scope.len();
+        'depths: loop {
+            if self.has(&path) {
+                return Ok(Some(depth));
+            }
+            if depth == 0 {
+                return Ok(None);
+            }
+            depth -= 1;
+            path.raise();
+        }
     }
 }

@@ -11,12 +11,12 @@ use Rattle.aml_names.proofs.BranchLaws.{known_last}
 use Rattle.aml_names.proofs.branches.Branches.may_end.Goals as goal
 
 pub returns-in-Some : goal.returns-in-Some
-returns-in-Some c =
+returns-in-Some g c =
     let own = c.self.inside in
     let e = c.in-Some.end.now in
     let known = get seg_cmp own.ends in
-    let paths = set.from_list {R = path_cmp} (map (whole own.scope) own.kept.keys) in
+    let paths = set.from_list {R = path_cmp} (map (whole (g.S.Stand.path own.scope)) own.kept.keys) in
     OnFalse_from c.contains_key.result ((front : List Seg) → set.contains c.args.self.now.paths (front ++ c.args.segs.now) ≡ false) (λ none front.
     ap (λ (k : Branched). set.contains k.paths (front ++ c.args.segs.now)) (sym c.self.view_is)
-    ∙ known_last paths own.scope front c.args.segs.now e (sym (c.in-Some.ensures.value))
-    (subst (IsKnown paths own.scope e) (is_none (known e) (sym c.contains_key.ensures ∙ none)) (c.self.invariant.1 e)))
+    ∙ known_last paths (g.S.Stand.path own.scope) front c.args.segs.now e (sym (c.in-Some.ensures.value))
+    (subst (IsKnown paths (g.S.Stand.path own.scope) e) (is_none (known e) (sym c.contains_key.ensures ∙ none)) (c.self.invariant.1 e)))

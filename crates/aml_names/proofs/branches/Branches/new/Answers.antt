@@ -14,8 +14,8 @@ none_kept : (scope : List Seg) (ks : List (ℕ × List Seg)) → ks ≡ [] → A
 none_kept scope ks none = λ b there. absurd (false≢true (sym (ap (list_any (is_at (branch_cmp b))) none) ∙ there))
 
 pub invariant_of-result : goal.invariant_of-result
-invariant_of-result c = (
+invariant_of-result g c = (
   none_kept _ _ c.new.ensures.empty,
-  subst (λ ks. KnowEnds (set.from_list {R = path_cmp} (map (whole c.args.scope) ks)) c.args.scope (get seg_cmp c.new-2.result))
-      (sym c.new.ensures.empty) (nothing_there c.new-2.result c.args.scope c.new-2.ensures.empty),
+  subst (λ ks. KnowEnds (set.from_list {R = path_cmp} (map (whole (g.S.Stand.path c.args.scope)) ks)) (g.S.Stand.path c.args.scope) (get seg_cmp c.new-2.result))
+      (sym c.new.ensures.empty) (nothing_there c.new-2.result (g.S.Stand.path c.args.scope) c.new-2.ensures.empty),
 )

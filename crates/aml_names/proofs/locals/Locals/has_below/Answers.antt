@@ -1,7 +1,7 @@
 use Rattle.std.proofs.Common.{◌++◌, take, sym, ap, ◌∙◌}
 use Rattle.std.specs.FinSet as set
 use Rattle.aml_names.specs.Paths.{PathSet, path_cmp}
-use Rattle.aml_names.proofs.seen.has_below.Goals as goal
+use Rattle.aml_names.proofs.locals.Locals.has_below.Goals as goal
 
 pub returns-then-is_empty : goal.returns-then-is_empty
 returns-then-is_empty c =
