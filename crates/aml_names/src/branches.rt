@@ -109,16 +109,17 @@ impl<S: Stand> Branches<S> {
     }
 
     /// Whether the path of some segments behind a front of the scope is there, in time logarithmic in the number of
-    /// paths.
+    /// paths, and without a look at its other segments where none of the paths ends as it does.
     pub fn contains(&self, front: usize, segs: &[Seg]) -> bool
         requires { front ≤ length self.now.scope }
         ensures { result ≡ set.contains self.now.paths (take front self.now.scope ++ segs.now) }
     {
-        has_branch(
-            self.alloc,
-            &self.kept,
-            branch_of(&self.scope, front, segs),
-        )
+        self.may_end(segs)
+            && has_branch(
+                self.alloc,
+                &self.kept,
+                branch_of(&self.scope, front, segs),
+            )
     }
 
     /// Whether one of the paths may have the last of these segments.
@@ -130,13 +131,6 @@ impl<S: Stand> Branches<S> {
             None => true,
             Some(end) => self.ends.contains_key(end),
         }
-    }
-
-    /// Whether a path is there, without a look at its other segments where none of the paths ends as it does.
-    pub(crate) fn has(&self, path: &[Seg]) -> bool
-        ensures { result ≡ set.contains self.now.paths path.now }
-    {
-        self.may_end(path) && self.contains(0, path)
     }
 
     /// The nearest of the paths that are a segment in the scope or in a parent of it: how many segments of the scope

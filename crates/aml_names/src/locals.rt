@@ -59,7 +59,7 @@ impl Locals {
     pub fn has(&self, path: &Path) -> bool
         ensures { result ≡ set.contains self.now path.now }
     {
-        self.branches.has(path.segs())
+        self.branches.contains(0, path.segs())
     }
     /// Whether the path of some segments behind a front of a scope is there.
     pub fn has_below(

@@ -147,6 +147,18 @@ impl<'a> Parts<'a> {
         }
     }
 
+    /// The segments behind so many first ones.
+    pub fn after(&self, count: usize) -> Parts<'a>
+        requires { count ≤ length self.now }
+        ensures { result ≡ drop count self.now }
+    {
+        if count < self.front.len() {
+            Parts::new(&self.front[count..], self.own)
+        } else {
+            Parts::new(&[], &self.own[count - self.front.len()..])
+        }
+    }
+
     /// The mark of the scope whose front it is, or 0. No clause speaks of it.
     pub fn mark(&self) -> usize {
         match self.scope {

@@ -16,7 +16,7 @@ use Rattle.aml_space.specs.Nodes.{kids_of, links_of, IsIndex, Reaches}
 use Rattle.aml_children.proofs.Basics.{alone}
 use Rattle.aml_children.proofs.Walks.{walk_push, walk_none, led_more, kid_range, front_led}
 
-none_seg : Seg
+abbrev pub none_seg : Seg
 none_seg = record { 0 = [] }
 
 -- a path whose front leads to a node that has no child by the next segment
@@ -56,7 +56,7 @@ module _ (ns : List Node) (is : IsIndex ns) (path : List Seg) where
       by (Some i) here found = (i, here, found)
 
   -- the level before one
-  before : (d j : ℕ) → d < length path → walk (kids_of ns) 0 (take (d + 1) path) ≡ Some j
+  pub before : (d j : ℕ) → d < length path → walk (kids_of ns) 0 (take (d + 1) path) ≡ Some j
       → (i : ℕ) × (walk (kids_of ns) 0 (take d path) ≡ Some i) × (child_in (kids_of ns i) (get_or path d none_seg) ≡ Some j)
   before d j within led =
       step_above (take d path) (get_or path d none_seg) j (sym (ap (walk (kids_of ns) 0) (take_more path d none_seg within)) ∙ led)

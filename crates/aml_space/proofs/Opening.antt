@@ -1,15 +1,14 @@
 -- Scopes that were opened lead to their nodes also where paths keep theirs (`kept_opened`), as they do where other
 -- content comes to a node (`content_kept`), and by one step behind another (`kept_on`); and so does one more
 -- (`more_opened`), and the root (`root_opened`). Numbers stand for the same paths then (`known_again`); a path's is its
--- node's (`numbered`, `reach_at`). The node of what an Alias stands for is told by its source (`aim_kept`, `aim_here`).
+-- node's (`numbered`, `id_path`). The node of what an Alias stands for is told by its source (`aim_kept`, `aim_here`).
 use Rattle.std.specs.Prelude.{slice_get}
 use Rattle.std.specs.FinMap as map
 use Rattle.std.proofs.Common.{◌≡◌, ℕ, zero, suc, List, [], ◌∷◌, ◌++◌, Option, Some, None, IfSome, refl, sym, ap, subst, ◌∙◌}
 use Rattle.std.proofs.Common.{length, take, drop, Result, Ok, Err, OnOk, OnErr}
-use Rattle.std.proofs.lemmas.List.{take_all, take-append-drop, length-take-le}
+use Rattle.std.proofs.lemmas.List.{take-append-drop, length-take-le}
 use Rattle.std.proofs.lemmas.List.FromFn.{fill_by_all, get_or-map-range_with_len, length-map-range_with_len}
 use Rattle.std.proofs.lemmas.List.FromFn.{take-map-range_with_len}
-use Rattle.std.proofs.Math.Seq.{drop-length}
 use Rattle.std.proofs.Common.{arith, Bool, false}
 use Rattle.std.specs.Prelude.{◌<◌, ◌≤◌}
 use Rattle.std.proofs.lemmas.Bool.{false≢true}
@@ -28,7 +27,7 @@ use Rattle.aml_namespace.specs.Runs.{is_alias}
 use Rattle.aml_namespace.proofs.Said.{no_alias}
 use Rattle.aml_space.specs.Near.{IsNear, IsTarget}
 use Rattle.aml_space.specs.declared.opened.Near.{Near}
-use Rattle.aml_space.specs.Nodes.{kids_of, kinds_of, known_by, path_of, Content, HasContent, IsAim, IsIndex, IsKept, Reaches}
+use Rattle.aml_space.specs.Nodes.{kids_of, kinds_of, known_by, path_of, Content, HasContent, IsAim, IsIndex, IsKept}
 use Rattle.aml_space.proofs.Index.{kind_at_path}
 use Rattle.aml_space.specs.declared.ways.Ways.{Ways}
 use Rattle.aml_space.specs.Opened.{AreOpened, IsSpace, known_in, paths_in, scopes_of}
@@ -101,21 +100,14 @@ numbered ns is path at led =
     (sym (get_or-map-range_with_len (path_of ns) 0 (length ns) at at path within (omega arith) ∙ path_led ns is path at led))
 
 -- and no other does
-pub reach_at : (ns ms : List Node) (id known : ℕ) (path : List Seg) → ms ≡ ns → known ≡ length path → IsIndex ns
-    → slice_get (paths_in ns) id ≡ Some path → Reaches ms path (record { node = id; known = known })
-reach_at ns ms id known path same long is at = record {
-  led = ap (λ ms. walk (kids_of ms) 0 (take known path)) same
-      ∙ ap (walk (kids_of ns) 0) (take_all known path (omega (arith, long)) ∙ sym here) ∙ is.there id within;
-  within = omega (arith, long);
-  ends = λ s q rest. let none = sym (ap (λ n. drop n path) long ∙ drop-length path) ∙ rest in absurd cc;
-}
-  where
-    within : id < length ns
-    within = omega (arith, slice_get_within (paths_in ns) id path at, length-map-range_with_len (path_of ns) 0 (length ns))
+pub id_within : (ns : List Node) (id : ℕ) → id < length (paths_in ns) → id < length ns
+id_within ns id known = omega (arith, known, length-map-range_with_len (path_of ns) 0 (length ns))
 
-    here : path_of ns id ≡ path
-    here = sym (get_or-map-range_with_len (path_of ns) 0 (length ns) id id path within (omega arith))
-        ∙ get_or_from_slice_get (paths_in ns) id path path at
+pub id_path : (ns : List Node) (id : ℕ) (path : List Seg) → slice_get (paths_in ns) id ≡ Some path → path_of ns id ≡ path
+id_path ns id path at =
+    let within = id_within ns id (slice_get_within (paths_in ns) id path at) in
+    sym (get_or-map-range_with_len (path_of ns) 0 (length ns) id id path within (omega arith))
+    ∙ get_or_from_slice_get (paths_in ns) id path path at
 
 -- one scope more is open
 pub more_scopes : (opened more : List Opened) (o : Opened) → more ≡ opened ++ o ∷ []

@@ -13,7 +13,7 @@ use Rattle.aml_space.specs.declared.edges.Edges.{Edges}
 use Rattle.aml_space.specs.declared.ways.Ways.{Ways}
 use Rattle.aml_space.specs.Edges.{has_edge}
 use Rattle.aml_children.specs.Numbered.{walk}
-use Rattle.aml_space.specs.Nodes.{kids_of, known_by, IsIndex}
+use Rattle.aml_space.specs.Nodes.{kids_of, known_by, path_of, IsIndex}
 use Rattle.aml_namespace.specs.Known.{namespace_in, outlook_in}
 use Rattle.aml_namespace.specs.Runs.{Outlook}
 use Rattle.aml_namespace.specs.Namespace.{Namespace}
@@ -21,6 +21,10 @@ use Rattle.aml_namespace.specs.Namespace.{Namespace}
 -- the namespace in which a scope stands
 abbrev pub names_of : Scope → Namespace
 names_of s = namespace_in (known_by s.nodes.now)
+
+-- the path of a scope: that of its last node in the index, and the segments behind it
+abbrev pub path_in : Scope → List Seg
+path_in s = path_of s.nodes.now s.last.node ++ s.beyond
 
 -- and what may stand at each path there
 abbrev pub outlook_at : Scope → Outlook
@@ -49,20 +53,21 @@ pub record AreWays (ns : List Node) (w : Ways) : Type 0 where
 
 -- a level of a scope: a front of its path, and the node to which this leads
 pub record IsLevel (s : Scope) (l : Level) : Type 0 where
-  pub within : l.depth ≤ length s.path
-  pub led : walk (kids_of s.nodes.now) 0 (take l.depth s.path) ≡ Some l.node
+  pub within : l.depth ≤ length (path_in s)
+  pub led : walk (kids_of s.nodes.now) 0 (take l.depth (path_in s)) ≡ Some l.node
 
 -- behind the last level of a scope the index has no nodes
 pub record IsScope (s : Scope) : Type 0 where
   pub index : IsIndex s.nodes.now
   pub ways : AreWays s.nodes.now s.ways.now
   pub last : IsLevel s s.last
-  pub past : (d : ℕ) → s.last.depth < d → d ≤ length s.path → walk (kids_of s.nodes.now) 0 (take d s.path) ≡ None
+  pub long : s.len ≡ length (path_in s)
+  pub past : (d : ℕ) → s.last.depth < d → d ≤ length (path_in s) → walk (kids_of s.nodes.now) 0 (take d (path_in s)) ≡ None
 
 -- of the levels between two of a scope, the upper one left out, each has a node above a floor
 abbrev pub AreAbove : Scope → ℕ → ℕ → ℕ → Type 0
 AreAbove s floor upper lower = (e j : ℕ) → upper < e → e ≤ lower →
-    walk (kids_of s.nodes.now) 0 (take e s.path) ≡ Some j → floor < j
+    walk (kids_of s.nodes.now) 0 (take e (path_in s)) ≡ Some j → floor < j
 
 -- nothing is known of a path
 pub record IsUnknown (n : Namespace) (p : List Seg) : Type 0 where
@@ -78,7 +83,7 @@ pub record IsNextOf (n : Namespace) (path segment : List Seg) (from next : ℕ) 
 -- that level of a scope, from a depth up
 pub record IsNextWith (s : Scope) (segment : List Seg) (from : ℕ) (l : Level) : Type 0 where
   pub level : IsLevel s l
-  pub next : IsNextOf (names_of s) s.path segment from l.depth
+  pub next : IsNextOf (names_of s) (path_in s) segment from l.depth
 
 -- the path of a candidate
 abbrev pub path_at : List Seg → List Seg → Candidate → List Seg

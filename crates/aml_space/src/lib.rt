@@ -15,6 +15,7 @@ mod parents;
 mod rows;
 mod scopes;
 mod searching;
+mod seen;
 mod spaces;
 mod walking;
 mod ways;

@@ -1,5 +1,5 @@
 //! Scopes in the index, and what a name of one segment means in them.
-ghost use Rattle.std.specs.Prelude.{◌&&◌, not};
+ghost use Rattle.std.specs.Prelude.{◌&&◌, not, [], get_or};
 ghost use Rattle.std.specs.List.{find};
 ghost use Rattle.std.specs.Prelude.{◌≡◌, true, false, ◌+◌, ◌-◌, ◌<◌, ◌≤◌, ◌++◌, cond, length, take, Some, None};
 ghost use Rattle.std.specs.Prelude.{is_some};
@@ -8,16 +8,16 @@ ghost use Rattle.std.specs.Bool.{OnFalse, OnTrue};
 ghost use Rattle.std.specs.Option.{option_or, option_and_then, option_copied, option_map};
 ghost use Rattle.std.specs.FinSet as set;
 ghost use Rattle.aml_names.specs.declared.segments.Seg.{Seg};
-ghost use Rattle.aml_names.specs.Branches.{AreOf};
+ghost use Rattle.aml_names.specs.Names.{placed};
 ghost use Rattle.aml_names.specs.Searching.{upward};
 ghost use Rattle.aml_namespace.specs.Predefined.{predefined};
 ghost use Rattle.aml_namespace.specs.Namespace.{first_of, first_given, count_at, kind_at as kind_of_path};
 ghost use Rattle.aml_children.specs.Numbered.{walk};
-ghost use Rattle.aml_space.specs.Nodes.{kids_of, outs_of, known_by, IsShape, IsIndex, Reaches};
+ghost use Rattle.aml_space.specs.Nodes.{path_of, kids_of, outs_of, known_by, IsShape, IsIndex, Reaches};
 ghost use Rattle.aml_namespace.specs.Known.{namespace_in};
 ghost use Rattle.aml_namespace.specs.Runs.{counts_met as met, counts_of, is_known};
 ghost use Rattle.aml_namespace.specs.Tallies.{counts_in};
-ghost use Rattle.aml_space.specs.Candidates.{path_at, names_of, outlook_at, AreAbove, AreWays};
+ghost use Rattle.aml_space.specs.Candidates.{path_in, path_at, names_of, outlook_at, AreAbove, AreWays};
 ghost use Rattle.aml_namespace.specs.Searching.{local_from, agreed_among, above};
 ghost use Rattle.aml_space.specs.Candidates.{IsLevel, IsScope, IsNextWith, IsCandidate};
 
@@ -25,9 +25,10 @@ use crate::counting::{count_met, counts_met, kind_met, known_met, sure_met};
 use crate::growing::Reach;
 use crate::nodes::Node;
 use crate::parents::{depth_at, link};
+use crate::seen::{NoLocals, Seen};
 use crate::walking::{child, given_at, node_from, out_at};
 use crate::ways::{Ways, step_from};
-use aml_names::{Locals, NoMemory, Parts, Path, SeenLocals, Seg};
+use aml_names::{Name, NoMemory, Parts, Path, Seg};
 use aml_namespace::{Counts, Kind, Predefined};
 use std::alloc::Global;
 
@@ -40,9 +41,12 @@ pub(crate) struct Scope<'a> {
     pub nodes: &'a [Node],
     pub ways: &'a Ways,
     pub predefined: &'a Predefined,
-    pub path: Parts<'a>,
-    /// The last level of the path that stands in the index.
+    /// The last level of its path that stands in the index.
     pub last: Level,
+    /// The segments of the path behind that.
+    pub beyond: Parts<'a>,
+    /// How many segments the path has.
+    pub len: usize,
 }
 
 /// The scope's path or a parent of it, which stands in the index.
@@ -78,17 +82,139 @@ impl<'a> Scope<'a> {
         requires reach { Reaches nodes.now path reach }
         ensures scope { IsScope result }
         ensures nodes { result.nodes.now ≡ nodes.now }
-        ensures path { result.path ≡ path.entry }
+        ensures path { path_in result ≡ path.entry }
     {
         Scope {
             nodes,
             ways,
             predefined,
-            path,
             last: Level {
                 node: reach.node,
                 depth: reach.known,
             },
+            beyond: path.after(reach.known),
+            len: path.len(),
+        }
+    }
+
+    /// The path of a node.
+    pub(crate) fn at(
+        nodes: &'a [Node],
+        ways: &'a Ways,
+        predefined: &'a Predefined,
+        node: usize,
+    ) -> Scope<'a>
+        requires index { IsIndex nodes.now }
+        requires ways { AreWays nodes.now ways.now }
+        requires within { node < length nodes.now }
+        ensures scope { IsScope result }
+        ensures nodes { result.nodes.now ≡ nodes.now }
+        ensures path { path_in result ≡ path_of nodes.now node }
+    {
+        let depth = depth_at(nodes, node) as usize;
+        Scope {
+            nodes,
+            ways,
+            predefined,
+            last: Level { node, depth },
+            beyond: Parts::whole(&[]),
+            len: depth,
+        }
+    }
+
+    /// The same once more.
+    pub(crate) fn again(&self) -> Scope<'a>
+        requires { IsScope self.now }
+        ensures scope { IsScope result }
+        ensures nodes { result.nodes.now ≡ self.now.nodes.now }
+        ensures path { path_in result ≡ path_in self.now }
+    {
+        Scope {
+            nodes: self.nodes,
+            ways: self.ways,
+            predefined: self.predefined,
+            last: self.last,
+            beyond: self.beyond.again(),
+            len: self.len,
+        }
+    }
+
+    /// Its path, made anew.
+    pub(crate) fn to_path(&self, alloc: Global) -> Result<Path, NoMemory>
+        requires { IsScope self.now }
+        ensures { IfOk result (λ path. path ≡ path_in self.now) }
+    {
+        let mut segs = Vec::with_capacity(alloc, self.depth())?;
+        for place in 0..self.depth() {
+            segs.push(self.segment_at(place))?;
+        }
+        Ok(Path::from_segs(segs))
+    }
+
+    /// How many segments of it stand before a name's own where the name leads without a search, as `front_of` of
+    /// aml_names gives it.
+    pub(crate) fn front_of(&self, name: &Name) -> Option<usize>
+        requires { IsScope self.now }
+        ensures placed { placed (path_in self.now) name.now
+            ≡ option_map (λ front. take front (path_in self.now) ++ name.now.segs) result }
+        ensures within { IfSome result (λ front. front ≤ length (path_in self.now)) }
+    {
+        if name.root {
+            return Some(0);
+        }
+        self.depth().checked_sub(name.ups as usize)
+    }
+
+    /// How many segments its path has.
+    pub(crate) fn depth(&self) -> usize
+        requires { IsScope self.now }
+        ensures { result ≡ length (path_in self.now) }
+    {
+        self.len
+    }
+
+    /// The segment of its path at a place.
+    pub(crate) fn segment_at(&self, place: usize) -> Seg
+        requires scope { IsScope self.now }
+        requires within { place < length (path_in self.now) }
+        ensures { result ≡ get_or (path_in self.now) place (record { 0 = [] }) }
+    {
+        if place < self.last.depth {
+            let (_, seg) = link(self.nodes, self.level_at(place + 1).node);
+            seg
+        } else {
+            self.beyond.segment(place - self.last.depth)
+        }
+    }
+
+    /// A front of the path that stands in the index.
+    fn level_at(&self, depth: usize) -> Level
+        requires scope { IsScope self.now }
+        requires within { depth ≤ self.now.last.depth }
+        ensures level { IsLevel self.now result }
+        ensures depth { result.depth ≡ depth }
+    {
+        let mut level = self.last;
+        'steps: while level.depth > depth {
+            level = self.step_to(level, depth);
+        }
+        level
+    }
+
+    /// A level further up, but not above a depth: by a step, or the next one.
+    fn step_to(&self, level: Level, depth: usize) -> Level
+        requires scope { IsScope self.now }
+        requires level { IsLevel self.now level }
+        requires deep { depth < level.depth }
+        ensures level { IsLevel self.now result }
+        ensures within { depth ≤ result.depth }
+        ensures higher { result.depth < level.depth }
+    {
+        let over = self.over(level);
+        if depth <= over.depth && over.depth < level.depth {
+            over
+        } else {
+            self.above(level)
         }
     }
 
@@ -207,7 +333,7 @@ impl<'a> Scope<'a> {
     pub(crate) fn first_with(&self, segment: &[Seg]) -> Level
         requires scope { IsScope self.now }
         requires one { length segment.now ≡ 1 }
-        ensures { IsNextWith self.now segment.now (length self.now.path) result }
+        ensures { IsNextWith self.now segment.now (length (path_in self.now)) result }
     {
         self.next_with(segment, self.last)
     }
@@ -226,24 +352,23 @@ impl<'a> Scope<'a> {
 
     /// Each candidate is a child of one of the scope's nodes. The first one that decides is meant, else the first one
     /// that an External names. `first`: the first level that has such a child.
-    pub(crate) fn search(
+    pub(crate) fn search<L: Seen>(
         &self,
-        alloc: Global,
-        locals: &SeenLocals<'_, '_>,
+        locals: &L,
         first: Level,
         segment: &[Seg],
     ) -> Result<Option<Candidate>, NoMemory>
         requires scope { IsScope self.now }
-        requires seen { AreOf locals.now self.now.path }
-        requires first { IsNextWith self.now segment.now (length self.now.path) first }
+        requires seen { L.fits locals.now (path_in self.now) }
+        requires first { IsNextWith self.now segment.now (length (path_in self.now)) first }
         requires one { length segment.now ≡ 1 }
-        ensures found { IfOk result (λ met. option_map (path_at self.now.path segment.now) met
-            ≡ first_of (names_of self.now) locals.now.paths
-            (upward (length self.now.path) self.now.path segment.now)) }
+        ensures found { IfOk result (λ met. option_map (path_at (path_in self.now) segment.now) met
+            ≡ first_of (names_of self.now) (L.paths locals.now)
+            (upward (length (path_in self.now)) (path_in self.now) segment.now)) }
         ensures met { IfOk result
-            (λ met. IfSome met (IsCandidate self.now.nodes.now locals.now.paths self.now.path segment.now)) }
+            (λ met. IfSome met (IsCandidate self.now.nodes.now (L.paths locals.now) (path_in self.now) segment.now)) }
     {
-        let nearest = locals.nearest(alloc, &self.path, segment[0])?;
+        let nearest = locals.nearest(segment[0])?;
         let mut outside: Option<Candidate> = None;
         let mut level = first;
         'levels: loop {
@@ -275,7 +400,7 @@ impl<'a> Scope<'a> {
         requires scope { IsScope self.now }
         requires level { IsLevel self.now level }
         requires one { length segment.now ≡ 1 }
-        ensures node { result ≡ walk (kids_of self.now.nodes.now) 0 (take level.depth self.now.path
+        ensures node { result ≡ walk (kids_of self.now.nodes.now) 0 (take level.depth (path_in self.now)
             ++ segment.now) }
         ensures inside { IfSome result (λ at. at < length self.now.nodes.now) }
     {
@@ -284,17 +409,16 @@ impl<'a> Scope<'a> {
 
     /// The candidate to which a segment leads whatever runs: the first that has a kind, unless a run may be without it
     /// and another one further up is known; else the first that an External names.
-    pub(crate) fn lead(&self, alloc: Global, segment: &[Seg]) -> Result<Option<Candidate>, NoMemory>
+    pub(crate) fn lead(&self, segment: &[Seg]) -> Result<Option<Candidate>, NoMemory>
         requires scope { IsScope self.now }
         requires one { length segment.now ≡ 1 }
-        ensures led { IfOk result (λ met. option_map (path_at self.now.path segment.now) met
+        ensures led { IfOk result (λ met. option_map (path_at (path_in self.now) segment.now) met
             ≡ agreed_among (outlook_at self.now)
-            (upward (length self.now.path) self.now.path segment.now)) }
-        ensures within { IfOk result (λ met. IfSome met (λ c. c.depth ≤ length self.now.path)) }
+            (upward (length (path_in self.now)) (path_in self.now) segment.now)) }
+        ensures within { IfOk result (λ met. IfSome met (λ c. c.depth ≤ length (path_in self.now))) }
     {
-        let locals = Locals::new(alloc);
         let first = self.first_with(segment);
-        match self.search(alloc, &locals.seen(), first, segment)? {
+        match self.search(&NoLocals, first, segment)? {
             None => Ok(None),
             Some(here) => {
                 if self.may_lead_further(segment, here) {
@@ -310,12 +434,12 @@ impl<'a> Scope<'a> {
     fn may_lead_further(&self, segment: &[Seg], here: Candidate) -> bool
         requires scope { IsScope self.now }
         requires one { length segment.now ≡ 1 }
-        requires within { here.depth ≤ length self.now.path }
-        requires node { here.node ≡ walk (kids_of self.now.nodes.now) 0 (take here.depth self.now.path
+        requires within { here.depth ≤ length (path_in self.now) }
+        requires node { here.node ≡ walk (kids_of self.now.nodes.now) 0 (take here.depth (path_in self.now)
             ++ segment.now) }
-        ensures { let path = take here.depth self.now.path ++ segment.now in result
+        ensures { let path = take here.depth (path_in self.now) ++ segment.now in result
             ≡ (is_some (kind_of_path (names_of self.now) path) && (not ((outlook_at self.now).sure path)
-            && is_some (find (is_known (names_of self.now)) (above self.now.path segment.now here.depth)))) }
+            && is_some (find (is_known (names_of self.now)) (above (path_in self.now) segment.now here.depth)))) }
     {
         self.has_kind(segment, here)
             && !self.is_sure(segment, here)
@@ -326,11 +450,11 @@ impl<'a> Scope<'a> {
     fn has_kind(&self, segment: &[Seg], here: Candidate) -> bool
         requires scope { IsScope self.now }
         requires one { length segment.now ≡ 1 }
-        requires within { here.depth ≤ length self.now.path }
-        requires node { here.node ≡ walk (kids_of self.now.nodes.now) 0 (take here.depth self.now.path
+        requires within { here.depth ≤ length (path_in self.now) }
+        requires node { here.node ≡ walk (kids_of self.now.nodes.now) 0 (take here.depth (path_in self.now)
             ++ segment.now) }
         ensures { result
-            ≡ is_some (kind_of_path (names_of self.now) (take here.depth self.now.path ++ segment.now)) }
+            ≡ is_some (kind_of_path (names_of self.now) (take here.depth (path_in self.now) ++ segment.now)) }
     {
         kind_met(self.nodes, here.node, self.standing(segment, here.depth)).is_some()
     }
@@ -340,7 +464,7 @@ impl<'a> Scope<'a> {
         requires scope { IsScope self.now }
         requires one { length segment.now ≡ 1 }
         requires deep { 0 < depth }
-        requires within { depth ≤ length self.now.path }
+        requires within { depth ≤ length (path_in self.now) }
         ensures { IsNextWith self.now segment.now (depth - 1) result }
     {
         let mut level = self.first_with(segment);
@@ -354,9 +478,9 @@ impl<'a> Scope<'a> {
     fn is_known_above(&self, segment: &[Seg], below: usize) -> bool
         requires scope { IsScope self.now }
         requires one { length segment.now ≡ 1 }
-        requires within { below ≤ length self.now.path }
+        requires within { below ≤ length (path_in self.now) }
         ensures { result
-            ≡ is_some (find (is_known (names_of self.now)) (above self.now.path segment.now below)) }
+            ≡ is_some (find (is_known (names_of self.now)) (above (path_in self.now) segment.now below)) }
     {
         if below == 0 {
             return false;
@@ -378,7 +502,7 @@ impl<'a> Scope<'a> {
         requires scope { IsScope self.now }
         requires level { IsLevel self.now level }
         requires one { length segment.now ≡ 1 }
-        ensures { result ≡ is_known (names_of self.now) (take level.depth self.now.path ++ segment.now) }
+        ensures { result ≡ is_known (names_of self.now) (take level.depth (path_in self.now) ++ segment.now) }
     {
         let node = self.node_at(segment, level);
         known_met(self.nodes, node, self.standing(segment, level.depth))
@@ -387,8 +511,8 @@ impl<'a> Scope<'a> {
     /// The node of a front of the path, if it stands in the index.
     fn front_node(&self, depth: usize) -> Option<usize>
         requires scope { IsScope self.now }
-        requires within { depth ≤ length self.now.path }
-        ensures { result ≡ walk (kids_of self.now.nodes.now) 0 (take depth self.now.path) }
+        requires within { depth ≤ length (path_in self.now) }
+        ensures { result ≡ walk (kids_of self.now.nodes.now) 0 (take depth (path_in self.now)) }
     {
         // Names from the root on may stand far below it.
         if depth == 0 {
@@ -397,18 +521,14 @@ impl<'a> Scope<'a> {
         if depth > self.last.depth {
             return None;
         }
-        let mut level = self.last;
-        while level.depth > depth {
-            level = self.above(level);
-        }
-        Some(level.node)
+        Some(self.level_at(depth).node)
     }
 
     /// The node of some segments behind a front of the scope's path.
     pub(crate) fn node_below(&self, depth: usize, segs: &[Seg]) -> Option<usize>
         requires scope { IsScope self.now }
-        requires within { depth ≤ length self.now.path }
-        ensures node { result ≡ walk (kids_of self.now.nodes.now) 0 (take depth self.now.path ++ segs.now) }
+        requires within { depth ≤ length (path_in self.now) }
+        ensures node { result ≡ walk (kids_of self.now.nodes.now) 0 (take depth (path_in self.now) ++ segs.now) }
         ensures inside { IfSome result (λ at. at < length self.now.nodes.now) }
     {
         let front = self.front_node(depth)?;
@@ -418,8 +538,8 @@ impl<'a> Scope<'a> {
     /// The predefined kind of a candidate.
     fn standing(&self, segment: &[Seg], depth: usize) -> Option<&Kind>
         requires one { length segment.now ≡ 1 }
-        requires within { depth ≤ length self.now.path }
-        ensures { option_copied result ≡ predefined (take depth self.now.path ++ segment.now) }
+        requires within { depth ≤ length (path_in self.now) }
+        ensures { option_copied result ≡ predefined (take depth (path_in self.now) ++ segment.now) }
     {
         if depth == 0 {
             self.predefined.kind(segment)
@@ -430,16 +550,30 @@ impl<'a> Scope<'a> {
 
     /// The predefined kind of some segments behind a front of the scope's path.
     pub(crate) fn standing_below(&self, depth: usize, segs: &[Seg]) -> Option<&Kind>
-        requires { depth ≤ length self.now.path }
-        ensures { option_copied result ≡ predefined (take depth self.now.path ++ segs.now) }
+        requires scope { IsScope self.now }
+        requires within { depth ≤ length (path_in self.now) }
+        ensures { option_copied result ≡ predefined (take depth (path_in self.now) ++ segs.now) }
     {
         if depth == 0 {
             return self.predefined.kind(segs);
         }
-        if segs.is_empty() {
-            return self.predefined.kind_of(&self.path.first(depth));
+        if depth == 1 {
+            return self.standing_first(segs);
         }
         None
+    }
+
+    /// That of some segments behind the first of its path.
+    fn standing_first(&self, segs: &[Seg]) -> Option<&Kind>
+        requires scope { IsScope self.now }
+        requires within { 0 < length (path_in self.now) }
+        ensures { option_copied result ≡ predefined (take 1 (path_in self.now) ++ segs.now) }
+    {
+        if segs.is_empty() {
+            self.predefined.kind(&[self.segment_at(0)])
+        } else {
+            None
+        }
     }
 
     /// The first candidate that an External names, from what was met so far and one more.
@@ -465,12 +599,12 @@ impl<'a> Scope<'a> {
     pub(crate) fn count(&self, segment: &[Seg], here: Candidate) -> Option<u8>
         requires scope { IsScope self.now }
         requires one { length segment.now ≡ 1 }
-        requires within { here.depth ≤ length self.now.path }
+        requires within { here.depth ≤ length (path_in self.now) }
         requires node { here.local ≡ false → here.node
-            ≡ walk (kids_of self.now.nodes.now) 0 (take here.depth self.now.path ++ segment.now) }
+            ≡ walk (kids_of self.now.nodes.now) 0 (take here.depth (path_in self.now) ++ segment.now) }
         ensures { result
             ≡ cond here.local (Some 0)
-            (count_at (names_of self.now) (take here.depth self.now.path ++ segment.now)) }
+            (count_at (names_of self.now) (take here.depth (path_in self.now) ++ segment.now)) }
     {
         if here.local {
             return Some(0);
@@ -485,21 +619,20 @@ impl<'a> Scope<'a> {
 
     /// The counts of all that a segment may mean: of each candidate up to and with the first that is one of the locals,
     /// whose count is 0, or has a kind in every run. `first`: the first level that has a child by the segment.
-    pub(crate) fn counts(
+    pub(crate) fn counts<L: Seen>(
         &self,
-        alloc: Global,
-        locals: &SeenLocals<'_, '_>,
+        locals: &L,
         first: Level,
         segment: &[Seg],
     ) -> Result<Counts, NoMemory>
         requires scope { IsScope self.now }
-        requires seen { AreOf locals.now self.now.path }
-        requires first { IsNextWith self.now segment.now (length self.now.path) first }
+        requires seen { L.fits locals.now (path_in self.now) }
+        requires first { IsNextWith self.now segment.now (length (path_in self.now)) first }
         requires one { length segment.now ≡ 1 }
-        ensures { IfOk result (λ counts. counts ≡ counts_in (met (outlook_at self.now) locals.now.paths
-            (upward (length self.now.path) self.now.path segment.now))) }
+        ensures { IfOk result (λ counts. counts ≡ counts_in (met (outlook_at self.now) (L.paths locals.now)
+            (upward (length (path_in self.now)) (path_in self.now) segment.now))) }
     {
-        let nearest = locals.nearest(alloc, &self.path, segment[0])?;
+        let nearest = locals.nearest(segment[0])?;
         let mut counts = Counts::Nothing;
         let mut level = first;
         'levels: loop {
@@ -524,8 +657,8 @@ impl<'a> Scope<'a> {
         requires level { IsLevel self.now level }
         requires one { length segment.now ≡ 1 }
         ensures counts { result.0
-            ≡ counts_in (counts_of (outlook_at self.now) (take level.depth self.now.path ++ segment.now)) }
-        ensures sure { result.1 ≡ (outlook_at self.now).sure (take level.depth self.now.path ++ segment.now) }
+            ≡ counts_in (counts_of (outlook_at self.now) (take level.depth (path_in self.now) ++ segment.now)) }
+        ensures sure { result.1 ≡ (outlook_at self.now).sure (take level.depth (path_in self.now) ++ segment.now) }
     {
         let node = self.node_at(segment, level);
         let standing = self.standing(segment, level.depth);
@@ -537,10 +670,10 @@ impl<'a> Scope<'a> {
     fn is_sure(&self, segment: &[Seg], here: Candidate) -> bool
         requires scope { IsScope self.now }
         requires one { length segment.now ≡ 1 }
-        requires within { here.depth ≤ length self.now.path }
-        requires node { here.node ≡ walk (kids_of self.now.nodes.now) 0 (take here.depth self.now.path
+        requires within { here.depth ≤ length (path_in self.now) }
+        requires node { here.node ≡ walk (kids_of self.now.nodes.now) 0 (take here.depth (path_in self.now)
             ++ segment.now) }
-        ensures { result ≡ (outlook_at self.now).sure (take here.depth self.now.path ++ segment.now) }
+        ensures { result ≡ (outlook_at self.now).sure (take here.depth (path_in self.now) ++ segment.now) }
     {
         sure_met(self.nodes, here.node, self.standing(segment, here.depth))
     }
@@ -549,10 +682,10 @@ impl<'a> Scope<'a> {
     /// has a child by the segment.
     pub(crate) fn given(&self, first: Level, segment: &[Seg]) -> Option<u8>
         requires scope { IsScope self.now }
-        requires first { IsNextWith self.now segment.now (length self.now.path) first }
+        requires first { IsNextWith self.now segment.now (length (path_in self.now)) first }
         requires one { length segment.now ≡ 1 }
         ensures { result ≡ first_given (names_of self.now)
-            (upward (length self.now.path) self.now.path segment.now) }
+            (upward (length (path_in self.now)) (path_in self.now) segment.now) }
     {
         let mut level = first;
         'levels: loop {

@@ -1,8 +1,9 @@
 //! The namespace that tables make.
-ghost use Rattle.std.specs.Prelude.{◌≡◌, ◌≤◌, ◌*◌, length, slice_get, [], ◌∷◌, ◌++◌, List, Option, true, false};
+ghost use Rattle.std.specs.Prelude.{◌≡◌, ◌<◌, ◌≤◌, ◌*◌, length, slice_get, [], ◌∷◌, ◌++◌, List, Option, true, false};
 ghost use Rattle.std.specs.Prelude.{is_some, not, cond, take, Ok};
 ghost use Rattle.std.specs.Prelude.{map as map_list, ◌⊎◌, OnOk, OnErr, IfOk, IfErr, IfSome, IsTrue};
 ghost use Rattle.std.specs.Option.{option_copied};
+ghost use Rattle.aml_names.specs.declared.segments.Seg.{Seg as AnySeg};
 ghost use Rattle.std.specs.FinMap as map;
 ghost use Rattle.aml_namespace.specs.Namespace.{Entry, Body, declares, external as outside, given as said};
 ghost use Rattle.aml_namespace.specs.Namespace.{kind_at, count_at, namespace_of, declared_at};
@@ -10,7 +11,7 @@ ghost use Rattle.aml_namespace.specs.Runs.{outlook_of, sure_at, scope_in, open_i
 ghost use Rattle.aml_space.specs.Nodes.{known_by};
 ghost use Rattle.aml_namespace.specs.Known.{Grows, StandsAt, with_scopes, of_paths};
 ghost use Rattle.aml_space.specs.Near.{IsNear, IsSourceOf};
-ghost use Rattle.aml_space.specs.Candidates.{names_of, outlook_at, IsScope};
+ghost use Rattle.aml_space.specs.Candidates.{path_in, names_of, outlook_at, IsScope};
 ghost use Rattle.aml_namespace.specs.Known.{StandsFor, nothing_known, once, with_declaration, with_declared};
 ghost use Rattle.aml_namespace.specs.Known.{with_again};
 ghost use Rattle.aml_namespace.specs.Known.{with_external, with_given};
@@ -485,7 +486,7 @@ impl Space {
         ensures known { known_by result.nodes.now ≡ of_paths self.now }
         ensures names { names_of result ≡ namespace_in self.now }
         ensures outlook { outlook_at result ≡ outlook_in self.now }
-        ensures path { result.path ≡ path.entry }
+        ensures path { path_in result ≡ path.entry }
     {
         let nodes = self.nodes.as_slice();
         let hints = hints_of!(self);
@@ -500,7 +501,7 @@ impl Space {
         ensures known { known_by result.nodes.now ≡ of_paths self.now }
         ensures names { names_of result ≡ namespace_in self.now }
         ensures outlook { outlook_at result ≡ outlook_in self.now }
-        ensures path { result.path ≡ path.entry }
+        ensures path { path_in result ≡ path.entry }
     {
         let nodes = self.nodes.as_slice();
         let hints = hints_of!(self);
@@ -509,18 +510,14 @@ impl Space {
     }
 
     /// The path that has a number, as a scope.
-    pub(crate) fn scope_at<'a>(&'a self, id: PathId, path: Parts<'a>) -> Scope<'a>
-        requires { StandsAt self.now id path }
+    pub(crate) fn scope_at(&self, id: PathId) -> Scope<'_>
+        requires { id < length self.now.paths }
         ensures scope { IsScope result }
         ensures known { known_by result.nodes.now ≡ of_paths self.now }
-        ensures path { result.path ≡ path.entry }
+        ensures path { (path : List AnySeg) → StandsAt self.now id path → path_in result ≡ path }
     {
         let nodes = self.nodes.as_slice();
-        let reach = Reach {
-            node: id.index(),
-            known: path.len(),
-        };
-        Scope::new(nodes, &self.ways, &self.predefined, path, reach)
+        Scope::at(nodes, &self.ways, &self.predefined, id.index())
     }
 
     /// How many paths are declared.

@@ -1,15 +1,15 @@
 use Rattle.std.proofs.Common.{◌≡◌, ℕ, ◌≤◌, length}
 use Rattle.aml_names.specs.Searching.{upward}
 use Rattle.aml_namespace.specs.Namespace.{first_given}
-use Rattle.aml_space.specs.Candidates.{names_of, IsNextWith}
+use Rattle.aml_space.specs.Candidates.{path_in, names_of, IsNextWith}
 use Rattle.aml_space.proofs.scopes.Scope.given.Given as goal
 
 abbrev pub invariant-levels : goal.invariant-levels
 invariant-levels l = (from : ℕ) × record {
-  within : from ≤ length l.self.path;
+  within : from ≤ length (path_in l.self);
   next : IsNextWith l.self l.segment from l.level;
-  same : first_given (names_of l.self) (upward (length l.self.path) l.self.path l.segment)
-      ≡ first_given (names_of l.self) (upward from l.self.path l.segment);
+  same : first_given (names_of l.self) (upward (length (path_in l.self)) (path_in l.self) l.segment)
+      ≡ first_given (names_of l.self) (upward from (path_in l.self) l.segment);
 }
 
 abbrev pub decreases-levels : goal.decreases-levels

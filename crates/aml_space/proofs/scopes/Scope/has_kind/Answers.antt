@@ -2,6 +2,7 @@ use Rattle.std.proofs.Common.{take, ◌++◌, is_some, ap, ◌∙◌}
 use Rattle.aml_children.proofs.Basics.{copied_some}
 use Rattle.aml_space.proofs.Meaning.{kind_of_met}
 use Rattle.aml_children.proofs.Walks.{node_within}
+use Rattle.aml_space.specs.Candidates.{path_in}
 use Rattle.aml_space.proofs.scopes.Scope.has_kind.Goals as goal
 
 pub kind_met-requires : goal.kind_met-requires
@@ -11,5 +12,5 @@ pub returns : goal.returns
 returns c =
     let s = c.args.self.now in
     c.is_some.ensures ∙ copied_some c.kind_met.result ∙ ap is_some (c.kind_met.ensures
-    ∙ kind_of_met s.nodes.now c.requires.scope.index.shape (take c.args.here.depth s.path ++ c.args.segment.now) c.args.here.node c.requires.node _
+    ∙ kind_of_met s.nodes.now c.requires.scope.index.shape (take c.args.here.depth (path_in s) ++ c.args.segment.now) c.args.here.node c.requires.node _
     c.standing.ensures)

@@ -1,6 +1,6 @@
 use Rattle.std.proofs.Common.{rules, take, ◌++◌, arith}
 use Rattle.std.proofs.Common.{◌≡◌, ◌-◌, None}
-use Rattle.aml_space.specs.Candidates.{names_of}
+use Rattle.aml_space.specs.Candidates.{path_in, names_of}
 use Rattle.aml_space.proofs.Asked.{unknown_at, of_up, of_through}
 use Rattle.aml_space.proofs.scopes.Scope.next_with.Goals as goal
 
@@ -14,8 +14,8 @@ loop-at-preserved c =
     let none : c.node_at.result ≡ None = search rules in
     record {
       level = above.level;
-      next = of_through (names_of s) s.path segment c.args.level.depth (at.depth - 1) c.next_above-at.result.depth
-          (of_up (names_of s) s.path segment c.args.level.depth at.depth (omega (arith, c.loop-at-test.true)) inv.next
-          (unknown_at s.nodes.now c.requires.scope.index.shape (take at.depth s.path ++ segment) c.node_at.result c.node_at.ensures.node none))
+      next = of_through (names_of s) (path_in s) segment c.args.level.depth (at.depth - 1) c.next_above-at.result.depth
+          (of_up (names_of s) (path_in s) segment c.args.level.depth at.depth (omega (arith, c.loop-at-test.true)) inv.next
+          (unknown_at s.nodes.now c.requires.scope.index.shape (take at.depth (path_in s) ++ segment) c.node_at.result c.node_at.ensures.node none))
           above.next;
     }

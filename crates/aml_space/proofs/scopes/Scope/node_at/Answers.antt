@@ -1,16 +1,17 @@
 use Rattle.std.proofs.Common.{take, [], ◌∙◌}
 use Rattle.aml_space.proofs.Levels.{candidate_node}
 use Rattle.aml_children.proofs.Walks.{kid_within, node_range}
+use Rattle.aml_space.specs.Candidates.{path_in}
 use Rattle.aml_space.proofs.scopes.Scope.node_at.Goals as goal
 
 pub child-requires-clause-within : goal.child-requires-clause-within
 child-requires-clause-within c =
-    node_range c.requires.scope.index.shape (take c.args.level.depth c.args.self.now.path) c.args.level.node c.requires.level.led
+    node_range c.requires.scope.index.shape (take c.args.level.depth (path_in c.args.self.now)) c.args.level.node c.requires.level.led
 
 pub returns-clause-node : goal.returns-clause-node
 returns-clause-node c =
     let s = c.args.self.now in
-    c.child.ensures ∙ candidate_node s.nodes.now s.path c.args.segment.now (record { 0 = [] }) c.args.level.depth c.args.level.node c.requires.one
+    c.child.ensures ∙ candidate_node s.nodes.now (path_in s) c.args.segment.now (record { 0 = [] }) c.args.level.depth c.args.level.node c.requires.one
     c.requires.level.led
 
 pub returns-clause-inside : goal.returns-clause-inside

@@ -1,11 +1,12 @@
 use Rattle.std.proofs.Common.{take, [], refl, arith}
 use Rattle.aml_children.proofs.Walks.{node_range}
 use Rattle.aml_space.proofs.Skipping.{skipped}
+use Rattle.aml_space.specs.Candidates.{path_in}
 use Rattle.aml_space.proofs.scopes.Scope.skip.Goals as goal
 
 pub before-requires : goal.before-requires
 before-requires c =
-    let inside = node_range c.requires.scope.index.shape (take c.args.level.depth c.args.self.now.path) c.args.level.node c.requires.level.led in
+    let inside = node_range c.requires.scope.index.shape (take c.args.level.depth (path_in c.args.self.now)) c.args.level.node c.requires.level.led in
     omega (arith, inside, c.requires.scope.index.few)
 
 pub returns-in-None : goal.returns-in-None

@@ -1,12 +1,12 @@
-use Rattle.std.proofs.Common.{◌≡◌, false, ◌==◌, length, take, sym, arith}
-use Rattle.std.proofs.lemmas.Bool.{ne_eqb}
-use Rattle.std.proofs.lemmas.List.{length-take}
-use Rattle.aml_namespace.proofs.NotPredefined.{predefined_parts}
+use Rattle.std.proofs.Common.{◌<◌, length, take, sym, arith}
+use Rattle.std.proofs.lemmas.List.{length-take-le}
+use Rattle.aml_space.specs.Candidates.{path_in}
+use Rattle.aml_space.proofs.Beyond.{predefined_long}
 use Rattle.aml_space.proofs.scopes.Scope.standing_below.Goals as goal
 
 pub returns : goal.returns
 returns c =
-    let front = take c.args.depth c.args.self.now.path in
-    let some : false ≡ (length front == 0) =
-    sym (ne_eqb (length front) 0 (λ none. c.if-depth-eq0.false (omega (arith, none, length-take c.args.depth c.args.self.now.path, c.requires)))) in
-    sym (predefined_parts front c.args.segs.now some c.if-is_empty.ensures)
+    let front = take c.args.depth (path_in c.args.self.now) in
+    let long = length-take-le c.args.depth (path_in c.args.self.now) c.requires.within in
+    let deep : 1 < length front = omega (arith, long, c.if-depth-eq0.false, c.if-depth-eq1.false) in
+    sym (predefined_long front c.args.segs.now deep)
