@@ -88,7 +88,7 @@ pub fn read_numbered(
         (es : List Entry) → StandsFor space.now es →
         GivesBody (λ nodes. nodes_view nodes.items) unknown_zero es tables method.now result }
 {
-    let names = BodyNames::numbered(space, id, method.path.parts(), unknown_zero);
+    let names = BodyNames::numbered(space, id, unknown_zero);
     read_by(alloc, bytes, &names, method)
 }
 
@@ -138,6 +138,6 @@ pub fn tell_numbered<S: Sink>(
         (es : List Entry) → StandsFor space.now es →
         GivesBody (λ (read : Trees). read) unknown_zero es tables method.now (Err fault)) }
 {
-    let known = BodyNames::numbered(space, id, method.path.parts(), unknown_zero);
+    let known = BodyNames::numbered(space, id, unknown_zero);
     tell_terms(alloc, bytes, &known, level, sink)
 }
