@@ -12,13 +12,13 @@ pub returns-clause-told : goal.returns-clause-told
 returns-clause-told g c =
     on_ok_weaker c.tell_terms.result (λ told.
     let fits : IsBytes c.args.bytes.now = λ i. omega (arith, c.type_inv.bytes i) in
-    let own = ap (λ (v : BodyView). v.method) (rw c.parts.ensures at c.numbered-known.ensures) in (
+    let own = ap (λ (v : BodyView). v.method) (c.numbered-known.ensures c.args.method.now.path c.requires.numbered) in (
       told.0,
       (
         record {
           lawful = (_, (body_said (λ (ts : Trees). ts) _ c.args.method.now.path c.args.bytes.now (Ok told.0) fits (rw own at told.1.0)).0);
           reading = λ tables is es s. reading_is (λ (ts : Trees). ts) _ (of_paths c.args.space.now) es tables c.args.method.now c.args.unknown_zero
-              c.args.bytes.now (Ok told.0) (rw c.parts.ensures at c.numbered-known.ensures) (stands_alone c.args.space.now es s) is fits told.1.0;
+              c.args.bytes.now (Ok told.0) (c.numbered-known.ensures c.args.method.now.path c.requires.numbered) (stands_alone c.args.space.now es s) is fits told.1.0;
         },
         told.1.1,
       ),
@@ -28,12 +28,12 @@ pub returns-clause-fails : goal.returns-clause-fails
 returns-clause-fails g c =
     IfErr-weaker c.tell_terms.result _ _ (λ fault fails tables is es s.
     reading_is (λ (read : Trees). read) _ (of_paths c.args.space.now) es tables c.args.method.now c.args.unknown_zero
-    c.args.bytes.now (Err fault) (rw c.parts.ensures at c.numbered-known.ensures) (stands_alone c.args.space.now es s) is (λ i. omega (arith, c.type_inv.bytes i))
+    c.args.bytes.now (Err fault) (c.numbered-known.ensures c.args.method.now.path c.requires.numbered) (stands_alone c.args.space.now es s) is (λ i. omega (arith, c.type_inv.bytes i))
     fails) c.tell_terms.ensures.fails
 
 pub returns-clause-forward : goal.returns-clause-forward
 returns-clause-forward g c =
     IfErr-weaker c.tell_terms.result _ _ (λ fault fails tables is es s.
     forward_is (λ (read : Trees). read) _ (of_paths c.args.space.now) es tables c.args.method.now c.args.unknown_zero
-    c.args.bytes.now (Err fault) (rw c.parts.ensures at c.numbered-known.ensures) (stands_alone c.args.space.now es s) is
+    c.args.bytes.now (Err fault) (c.numbered-known.ensures c.args.method.now.path c.requires.numbered) (stands_alone c.args.space.now es s) is
     fails) c.tell_terms.ensures.fails
