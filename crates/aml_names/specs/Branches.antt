@@ -1,7 +1,7 @@
 -- A stepping stone of the proofs: paths by where they branch off a scope, so that what they have in common with it
 -- isn't kept with each.
 use Rattle.std.specs.Prelude.{◌≡◌, ℕ, ◌≤◌, ◌-◌, List, [], ◌∷◌, ◌++◌, take, length, slice_get, Option, Some, None, refl}
-use Rattle.std.specs.Prelude.{Bool, true, false, IfSome}
+use Rattle.std.specs.Prelude.{Bool, true, false}
 use Rattle.std.specs.Option.{option_map, unwrap_or}
 use Rattle.std.specs.Coded.{Coded, code_by, coded×, coded_option}
 use Rattle.std.specs.declared.cmp.Ordering.{Ordering}
@@ -58,16 +58,3 @@ pub record Branched : Type 0 where
 abbrev pub coded_branched : Coded Branched
 coded_branched = code_by (List Seg × PathSet) (coded× coded_path (set.code coded_path)) (λ b. (b.scope, b.paths))
     (λ p. record { scope = p.0; paths = p.1 }) (λ _. refl)
-
--- some paths, and the scope from which they are known to be placed, if it is known
-pub record Seen : Type 0 where
-  pub paths : PathSet
-  pub scope : Option (List Seg)
-
-abbrev pub coded_seen : Coded Seen
-coded_seen = code_by (PathSet × Option (List Seg)) (coded× (set.code coded_path) (coded_option coded_path))
-    (λ s. (s.paths, s.scope)) (λ p. record { paths = p.0; scope = p.1 }) (λ _. refl)
-
--- if it is known from which scope they are placed, it is this one
-abbrev pub AreOf : Seen → List Seg → Type 0
-AreOf seen scope = IfSome seen.scope (λ own. own ≡ scope)
