@@ -6,6 +6,7 @@ pub mod Cuts
 pub mod Places
 pub mod Once
 pub mod Digits
+pub mod Taken
 pub mod Signed
 pub mod Chains
 pub mod Ranks
