@@ -6,8 +6,10 @@ use Rattle.acpi_tables.proofs.Common.{refl, sym, ap, ◌∙◌, arith, rules, te
 use Rattle.acpi_tables.proofs.Common.{passes_at_first, option_and_then_some, same_Some, then_some}
 use Rattle.acpi_tables.proofs.Common.{slice_get_within, get_or_from_slice_get, Dump, begins_with, HoldsTable, table_of}
 use Rattle.acpi_tables.proofs.Common.{HoldsRoot, HoldsAddresses}
-use Rattle.acpi_tables.proofs.Common.{AreTaken, bytes_of, has_signature, dump_at, signed_at, xsdt_address, list_of}
-use Rattle.acpi_tables.proofs.Common.{width_of, number_at}
+use Rattle.acpi_tables.proofs.Common.{AreTaken, bytes_of, has_signature, dump_at, signed_at, list_of}
+use Rattle.acpi_tables.proofs.Common.{nat_le, number_at, ◌&&◌}
+use Rattle.std.specs.Prelude.{not}
+use Rattle.acpi_tables.specs.Header.{revision_of}
 use Rattle.std.proofs.lemmas.List.Folds.{find_at}
 use Rattle.acpi_tables.specs.Dumps.{HoldsDump, most_bytes}
 use Rattle.acpi_tables.proofs.Taken.{as-word, begins, is_bare}
@@ -42,10 +44,10 @@ signed_at-signed dumps word address index e =
 
 -- the list that a root leads to is an XSDT or an RSDT
 list_by : (dumps : List Dump) (root : List ℕ) (index : ℕ) (b : Bool)
-    → cond b (signed_at dumps (codes "RSDT") (number_at root 16 4)) (signed_at dumps (codes "XSDT") (xsdt_address root)) ≡ Some index
+    → cond b (signed_at dumps (codes "XSDT") (number_at root 24 8)) (signed_at dumps (codes "RSDT") (number_at root 16 4)) ≡ Some index
     → (has_signature dumps (codes "XSDT") index ≡ true) ⊎ (has_signature dumps (codes "RSDT") index ≡ true)
-list_by dumps root index true e = inr (signed_at-signed dumps (codes "RSDT") (number_at root 16 4) index e)
-list_by dumps root index false e = inl (signed_at-signed dumps (codes "XSDT") (xsdt_address root) index e)
+list_by dumps root index true e = inl (signed_at-signed dumps (codes "XSDT") (number_at root 24 8) index e)
+list_by dumps root index false e = inr (signed_at-signed dumps (codes "RSDT") (number_at root 16 4) index e)
 
 -- what a search found passes
 pub find-passes : (test : ℕ → Bool) (xs : List ℕ) (x : ℕ) → find test xs ≡ Some x → test x ≡ true
@@ -86,8 +88,13 @@ module _ (dumps : List Dump) (any_sum : Bool) (each : AreTaken dumps any_sum) (i
   fadt_holds is =
       ((tabled (codes "FACP") (omega arith) (λ rest. refl) is).0, (held (codes "FACP") (omega arith) is).fadt is)
 
+  -- how many bytes an address has in a list
+  abbrev width_of : List ℕ → ℕ
+  width_of list = cond (begins_with list (codes "XSDT")) 8 4
+
   abbrev HoldsList : Type 0
-  HoldsList = HoldsTable (bytes_of dumps index) × HoldsAddresses (width_of (bytes_of dumps index)) (table_of (bytes_of dumps index))
+  HoldsList = HoldsTable (bytes_of dumps index)
+      × HoldsAddresses (width_of (bytes_of dumps index)) (table_of (bytes_of dumps index))
 
   listing : (has_signature dumps (codes "XSDT") index ≡ true) ⊎ (has_signature dumps (codes "RSDT") index ≡ true)
       → HoldsList
@@ -95,12 +102,11 @@ module _ (dumps : List Dump) (any_sum : Bool) (each : AreTaken dumps any_sum) (i
   listing (inl is) =
       ((tabled (codes "XSDT") (omega arith) (λ rest. refl) is).0, rw is ((held (codes "XSDT") (omega arith) is).xsdt is))
   listing (inr is) =
-      let holds = (held (codes "RSDT") (omega arith) is).rsdt is in
-      (
+      let holds = (held (codes "RSDT") (omega arith) is).rsdt is in (
         (tabled (codes "RSDT") (omega arith) (λ rest. refl) is).0,
         rw (as-word width_of 4 (bytes_of dumps index) (codes "RSDT") (λ rest. refl) is) holds,
       )
 
   -- the list that a root leads to
   pub list_holds : (root : List ℕ) → list_of dumps root ≡ Some index → HoldsList
-  list_holds root leads = listing (list_by dumps root index (nat_eq (xsdt_address root) 0) leads)
+  list_holds root leads = listing (list_by dumps root index (nat_le 2 (revision_of root) && not (nat_eq (number_at root 24 8) 0)) leads)

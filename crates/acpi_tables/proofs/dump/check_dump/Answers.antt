@@ -10,7 +10,7 @@ returns-clause-holds c =
     let shape : HoldsShape (kind_of c.args.bytes.now) c.args.bytes.now = search rules in
     let sums : c.args.any_sum ≡ false → sums_hold (kind_of c.args.bytes.now) c.args.bytes.now ≡ true = search rules in
     on_ok_weaker c.check_content.result
-        (λ (content : HoldsContent c.of-kind.result c.args.bytes.now).
-          taken c.args.any_sum c.args.bytes.now shape sums
-          (subst (λ kind. HoldsContent kind c.args.bytes.now) c.of-kind.ensures content) small)
-        c.check_content.ensures.holds
+    (λ (content : HoldsContent c.of-kind.result c.args.bytes.now).
+    taken c.args.any_sum c.args.bytes.now shape sums
+    (subst (λ kind. HoldsContent kind c.args.bytes.now) c.of-kind.ensures content) small)
+    c.check_content.ensures.holds
