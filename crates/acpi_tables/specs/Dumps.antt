@@ -11,9 +11,9 @@ use Rattle.acpi_tables.specs.declared.dump.Kind.TheVariants.{Root, Facs, Standar
 use Rattle.acpi_tables.specs.declared.faults.Bad.{Bad}
 use Rattle.acpi_tables.specs.declared.faults.Bad.TheVariants.{TooLarge, Short, BadSum, BadRoot, FadtShort}
 
--- A dump that is taken, by its signature: a pointer; a FACS (ACPI 6.5, section 5.2.10), which has no standard header and
--- no checksum; or a table with the header. Of four tables what is read behind it can be read, of a FADT the fields up to
--- Flags, which are those of ACPI 1.0. `any_sum` takes any checksum.
+-- A dump that is taken, by its signature: a pointer; a FACS (ACPI 6.5, section 5.2.10), which has no standard header
+-- and no checksum; or a table with the header. Of four tables what is read behind it can be read, of a FADT the fields
+-- up to Flags, which are those of ACPI 1.0. `any_sum` takes any checksum.
 pub record HoldsDump (any_sum : Bool) (bytes : List ℕ) : Type 0 where
   pub small : length bytes ≤ 16777216
   pub root : begins_with bytes (codes "RSD PTR ") ≡ true → HoldsRoot bytes × (any_sum ≡ false → root_sums bytes ≡ true)

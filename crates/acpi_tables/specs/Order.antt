@@ -71,8 +71,8 @@ abbrev pub signed_at : List Dump → List ℕ → ℕ → Option ℕ
 signed_at dumps signature address =
     option_and_then (λ index. then_some (has_signature dumps signature index) index) (dump_at dumps address)
 
--- the list of the tables that an RSDP leads to (section 5.2.5.3): the XSDT from revision 2 on, where its address isn't 0,
--- else the RSDT
+-- the list of the tables that an RSDP leads to (section 5.2.5.3): from revision 2 on the XSDT, where its address isn't
+-- 0, else the RSDT
 abbrev pub list_of : List Dump → List ℕ → Option ℕ
 list_of dumps root =
     if nat_le 2 (revision_of root) && not (nat_eq (number_at root 24 8) 0)

@@ -19,7 +19,7 @@ use Rattle.aml_code.specs.Tree.{encoding, encodings}
 use Rattle.aml_names.specs.NameReading.{has_segment, is_bare}
 use Rattle.aml_code.specs.declared.packages.PkgWidth.{PkgWidth}
 use Rattle.aml_code.specs.declared.rows.PartKind.{PartKind}
-use Rattle.aml_code.specs.declared.rows.PartKind.TheVariants as kinds
+use Rattle.aml_code.specs.declared.rows.PartKind.TheVariants as part_kinds
 use Rattle.aml_code.specs.declared.rows.Place.{Place}
 use Rattle.aml_code.specs.declared.rows.Place.TheVariants as places
 use Rattle.aml_code.specs.declared.rows.Position.{Position}
@@ -27,7 +27,7 @@ use Rattle.aml_code.specs.declared.rows.Position.TheVariants as positions
 use Rattle.aml_code.specs.declared.rows.TailKind.{TailKind}
 use Rattle.aml_code.specs.declared.rows.TailKind.TheVariants as tails
 use Rattle.aml_code.specs.Packages.{width_len, FitsWidth}
-use Rattle.aml_code.specs.Faults.{Arities, StandsThere, most_levels, most_arguments}
+use Rattle.aml_code.specs.Faults.{Arities, StandsThere, most_levels}
 
 -- the last part that is a name, or else this
 abbrev pub last_label : Option Name → Parts → Option Name
@@ -64,19 +64,19 @@ names_declared roles.Alias ps t = option_to_list (last_label None ps)
 names_declared roles.Fields ps t = field_names t
 names_declared _ ps t = []
 
--- The paths of names, placed from a scope, are added. A name that leads above the root adds nothing.
-abbrev pub with_names : List Seg → PathSet → List Name → PathSet
-with_names scope ls ns = fold set.insert ls (filter_map (placed scope) ns)
+-- In a method's body the paths of names, placed from the method's path, are added; a name that leads above the root
+-- adds nothing. The terms of a table keep no such paths.
+abbrev pub with_declared : Option (List Seg) → PathSet → List Name → PathSet
+with_declared None ls ns = ls
+with_declared (Some scope) ls ns = fold set.insert ls (filter_map (placed scope) ns)
 
--- the path of one name
+-- the same in a body, and of one name
+abbrev pub with_names : List Seg → PathSet → List Name → PathSet
+with_names scope ls ns = with_declared (Some scope) ls ns
+
 abbrev pub with_path : PathSet → Option (List Seg) → PathSet
 with_path ls None = ls
 with_path ls (Some p) = set.insert ls p
-
--- In a method's body the names are placed from the method's path. The terms of a table keep no such paths.
-abbrev pub with_declared : Option (List Seg) → PathSet → List Name → PathSet
-with_declared None ls ns = ls
-with_declared (Some scope) ls ns = with_names scope ls ns
 
 abbrev pub declared_by : Option (List Seg) → Option Row → PathSet → Parts → Tail → PathSet
 declared_by scope None ls ps t = ls
@@ -158,19 +158,19 @@ next_position p t = p
 
 -- ---- What stands inside a term, by which terms may stand in which positions there.
 
--- a part of a kind
+-- a part of a kind; an External has a count of at most seven arguments (20.2.5.2)
 abbrev pub IsPart : (Position → Tree → Type 0) → PartKind → Part → Type 0
-IsPart Is kinds.Term (child t) = Is positions.Argument t
-IsPart Is kinds.Target (child t) = Is positions.Target t
-IsPart Is kinds.Data (child t) = Is positions.Data t
-IsPart Is kinds.Name (label n) = IsName n × (has_segment n ≡ true)
-IsPart Is kinds.ScopeName (label n) = IsName n
-IsPart Is kinds.Byte (byte b) = b < 256 ^ 1
-IsPart Is kinds.Count (byte b) = b ≤ most_arguments
-IsPart Is kinds.Word (word n) = n < 256 ^ 2
-IsPart Is kinds.Dword (dword n) = n < 256 ^ 4
-IsPart Is kinds.Qword (qword n) = n < 256 ^ 8
-IsPart Is kinds.Text (text bs) = All (λ b. (0 < b) × (b < 256)) bs
+IsPart Is part_kinds.Term (child t) = Is positions.Argument t
+IsPart Is part_kinds.Target (child t) = Is positions.Target t
+IsPart Is part_kinds.Data (child t) = Is positions.Data t
+IsPart Is part_kinds.Name (label n) = IsName n × (has_segment n ≡ true)
+IsPart Is part_kinds.ScopeName (label n) = IsName n
+IsPart Is part_kinds.Byte (byte b) = b < 256 ^ 1
+IsPart Is part_kinds.Count (byte b) = b ≤ 7
+IsPart Is part_kinds.Word (word n) = n < 256 ^ 2
+IsPart Is part_kinds.Dword (dword n) = n < 256 ^ 4
+IsPart Is part_kinds.Qword (qword n) = n < 256 ^ 8
+IsPart Is part_kinds.Text (text bs) = All (λ b. (0 < b) × (b < 256)) bs
 IsPart Is _ _ = ⊥
 
 -- one part of each kind
