@@ -61,16 +61,16 @@ pub record Declared : Type 0 where
   pub sure : Bool
   pub times : ℕ
 
-abbrev pub once : Kind → Bool → Declared
-once kind sure = record { kind = kind; others = []; sure = sure; times = 1 }
-
--- one declaration more, before the others
+-- one declaration more, before the others, if there are any
 abbrev pub before : Kind → Bool → Option Declared → Declared
-before kind sure None = once kind sure
+before kind sure None = record { kind = kind; others = []; sure = sure; times = 1 }
 before kind sure (Some d) =
     record { kind = kind; others = cond sure [] (d.kind ∷ d.others); sure = sure || d.sure; times = d.times + 1 }
 
--- and one more behind them
+-- one alone, and one more behind the others
+abbrev pub once : Kind → Bool → Declared
+once kind sure = before kind sure None
+
 abbrev pub again : Declared → Kind → Bool → Declared
 again d kind sure = record {
   kind = d.kind;

@@ -78,17 +78,10 @@ namespace_of es = record { declared = declared_at es; outs = outs_at es; givens 
 abbrev pub kind_at : Namespace → List Seg → Option Kind
 kind_at n p = option_or (n.declared p) (predefined p)
 
--- whether a path is one of the locals or has a kind
-abbrev pub decides : Namespace → PathSet → List Seg → Bool
-decides n locals p = set.contains locals p || is_some (kind_at n p)
-
--- whether an External names a path
-abbrev pub is_outside : Namespace → List Seg → Bool
-is_outside n p = is_some (n.outs p)
-
 -- the first path that is one of the locals or has a kind, else the first that an External names
 abbrev pub first_of : Namespace → PathSet → List (List Seg) → Option (List Seg)
-first_of n locals paths = option_or (find (decides n locals) paths) (find (is_outside n) paths)
+first_of n locals paths = option_or
+    (find (λ p. set.contains locals p || is_some (kind_at n p)) paths) (find (λ p. is_some (n.outs p)) paths)
 
 -- the path that a name means in a scope
 abbrev pub found : Namespace → PathSet → List Seg → Name → Option (List Seg)
@@ -108,25 +101,37 @@ count_by n (Some (Method args)) out = Some args
 count_by n (Some (Alias is_open target)) out = Some (target_count (kind_at n target) (n.outs target))
 count_by n (Some _) out = Some 0
 
--- how many arguments a path takes: by its kind, else the greatest count of its Externals
-abbrev pub count_at : Namespace → List Seg → Option ℕ
-count_at n p = count_by n (kind_at n p) (n.outs p)
-
 -- the count that the user gives to the first of these paths that has one
 abbrev pub first_given : Namespace → List (List Seg) → Option ℕ
 first_given n [] = None
 first_given n (p ∷ paths) = option_or (n.givens p) (first_given n paths)
 
--- the count of a name that leads nowhere, by the paths that it may mean: the given one, else 0 if unknown names count
--- so
-abbrev pub unknown_count : Namespace → Bool → List (List Seg) → Option ℕ
-unknown_count n unknown_zero paths = option_or (first_given n paths) (cond unknown_zero (Some 0) None)
-
+-- The count of a name that may mean some paths, and leads to one or nowhere: without one the given count, else 0 if
+-- unknown names count so; none of one of the locals; else by the path's kind and its Externals.
 abbrev pub arity_at : Namespace → Bool → PathSet → List (List Seg) → Option (List Seg) → Option ℕ
-arity_at n unknown_zero locals paths None = unknown_count n unknown_zero paths
-arity_at n unknown_zero locals paths (Some p) = cond (set.contains locals p) (Some 0) (count_at n p)
+arity_at n unknown_zero locals paths None = option_or (first_given n paths) (cond unknown_zero (Some 0) None)
+arity_at n unknown_zero locals paths (Some p) =
+    cond (set.contains locals p) (Some 0) (count_by n (kind_at n p) (n.outs p))
 
--- how many arguments a name takes in a method's body: none if it means one of the locals, else by its path
+-- how many arguments a name takes in a method's body, by the path that it means
 abbrev pub arity_of : Namespace → Bool → List Seg → PathSet → Name → Option ℕ
 arity_of n unknown_zero method locals name =
     arity_at n unknown_zero locals (candidates method name) (found n locals method name)
+
+-- ---- Parts of these, as the code asks them.
+
+-- whether a path is one of the locals or has a kind
+abbrev pub decides : Namespace → PathSet → List Seg → Bool
+decides n locals p = set.contains locals p || is_some (kind_at n p)
+
+-- whether an External names a path
+abbrev pub is_outside : Namespace → List Seg → Bool
+is_outside n p = is_some (n.outs p)
+
+-- how many arguments a path takes
+abbrev pub count_at : Namespace → List Seg → Option ℕ
+count_at n p = count_by n (kind_at n p) (n.outs p)
+
+-- how many arguments a name takes that leads nowhere
+abbrev pub unknown_count : Namespace → Bool → List (List Seg) → Option ℕ
+unknown_count n unknown_zero paths = arity_at n unknown_zero set.empty paths None
