@@ -23,7 +23,7 @@ abbrev pub fields_from : List Field → Fields
 fields_from [] = no_fields
 fields_from (u ∷ us) = field_more u (fields_from us)
 
--- one level of each, with what is inside already seen as its tree
+-- What each form stands for, with what is inside already seen so. The letters are its fields, in their order.
 abbrev pub field_step : Field-F Field Link Tree Part Tail → Field
 field_step (Field-F.NamedUnit s w n) = unit s w n
 field_step (Field-F.Reserved w n) = reserved w n

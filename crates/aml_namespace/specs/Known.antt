@@ -143,7 +143,8 @@ outlook_in k = record {
 }
 
 -- What is known stands for a list of entries: the declarations of each path say the same in both, and both have the
--- same greatest count of Externals for each path, and the same given one.
+-- same greatest count of Externals for each path, and the same given one. Which scopes are open, and which paths have
+-- numbers, is said elsewhere.
 pub record StandsFor (k : Known) (es : List Entry) : Type 0 where
   pub same_declared : (q : List Seg) → map.get k.declarations q ≡ declaration_at es q
   pub same_outs : (q : List Seg) → map.get k.outs q ≡ outs_at es q
