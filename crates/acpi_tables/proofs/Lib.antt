@@ -12,3 +12,4 @@ pub mod Chains
 pub mod Ranks
 pub mod Unique
 pub mod Blocks
+pub mod Refused

@@ -4,6 +4,10 @@ use Rattle.acpi_tables.proofs.Common.{◌≡◌, ℕ, ◌≤◌, Bool, true, fal
 use Rattle.acpi_tables.proofs.Common.{refl, ap, subst, ◌∙◌, Decides-eqb, eqb-true, begins_with}
 use Rattle.std.proofs.lemmas.Slice.Eq.{starts_is}
 use Rattle.std.specs.Prelude.{◌||◌}
+use Rattle.acpi_tables.proofs.Common.{arith, inl, inr, nat_eq, sym, table_of, true≢false}
+use Rattle.acpi_tables.proofs.Cuts.{whole_not_refused}
+use Rattle.acpi_tables.specs.declared.faults.Bad.{Bad}
+use Rattle.acpi_tables.specs.Dumps.{RefusesContent, RefusesDump}
 use Rattle.acpi_tables.specs.Dumps.{HoldsContent, HoldsDump, HoldsShape, content_of, kind_of, sums_hold}
 use Rattle.acpi_tables.specs.declared.dump.Content.TheVariants.{Xsdt, Rsdt, Fadt, Madt, Other}
 use Rattle.acpi_tables.specs.declared.dump.Kind.{Kind}
@@ -94,8 +98,34 @@ module _ (any_sum : Bool) (bytes : List ℕ) (holds : HoldsDump any_sum bytes) w
   content_by false false = filled_by (begins_with bytes (codes "XSDT")) (begins_with bytes (codes "RSDT"))
       (begins_with bytes (codes "FACP")) (begins_with bytes (codes "APIC")) refl refl refl refl
 
-  pub by_kind : HoldsShape (kind_of bytes) bytes × HoldsContent (kind_of bytes) bytes
+  summed_by : (b c : Bool) → begins_with bytes (codes "RSD PTR ") ≡ b → begins_with bytes (codes "FACS") ≡ c
+      → any_sum ≡ false
+      → sums_hold (cond b Root (cond c Facs (Standard (content_of bytes)))) bytes ≡ true
+  summed_by true c root facs strict = (holds.root root).1 strict
+  summed_by false true root facs strict = refl
+  summed_by false false root facs strict = ap (λ n. nat_eq n 0) ((holds.table (rw root facs)).1 strict)
+
+  pub by_kind : HoldsShape (kind_of bytes) bytes × (any_sum ≡ false → sums_hold (kind_of bytes) bytes ≡ true)
+      × HoldsContent (kind_of bytes) bytes
   by_kind = (
     shape_by (begins_with bytes (codes "RSD PTR ")) (begins_with bytes (codes "FACS")) refl refl,
+    summed_by (begins_with bytes (codes "RSD PTR ")) (begins_with bytes (codes "FACS")) refl refl,
     content_by (begins_with bytes (codes "RSD PTR ")) (begins_with bytes (codes "FACS")),
   )
+
+-- ---- what is taken isn't refused
+
+content_read : (kind : Kind) (bytes : List ℕ) (bad : Bad) → HoldsContent kind bytes → ¬ RefusesContent kind bytes bad
+content_read (Standard Xsdt) bytes bad holds refused = refused.1 holds
+content_read (Standard Rsdt) bytes bad holds refused = refused.1 holds
+content_read (Standard Fadt) bytes bad holds refused = absurd (omega (arith, holds, refused.1))
+content_read (Standard Madt) bytes bad holds refused = whole_not_refused (table_of bytes) holds bad refused
+content_read _ bytes bad holds refused = refused
+
+pub taken_not_refused : (any_sum : Bool) (bytes : List ℕ) (bad : Bad) → HoldsDump any_sum bytes → ¬ RefusesDump any_sum bytes bad
+taken_not_refused any_sum bytes bad holds (inl large) = absurd (omega (arith, holds.small, large.1))
+taken_not_refused any_sum bytes bad holds (inr (few, inl shape)) = shape.1 (by_kind any_sum bytes holds).0
+taken_not_refused any_sum bytes bad holds (inr (few, inr (inl sums))) =
+    true≢false (sym ((by_kind any_sum bytes holds).1 sums.2) ∙ sums.3)
+taken_not_refused any_sum bytes bad holds (inr (few, inr (inr content))) =
+    content_read (kind_of bytes) bytes bad (by_kind any_sum bytes holds).2 content.2

@@ -77,7 +77,7 @@ pub record HoldsSet (order : Order) (loaded : Loaded) (dumps : List Dump) (k : M
   pub ssdts : order.ssdts.items ≡ k.ssdts
   pub holds : HoldsLoad loaded (codes_of dumps k) k.trees k.listed
 
--- it is this listing
+-- a listing in memory is this one, of these dumps
 pub record Shows (x : Listing) (dumps : List Dump) (k : Meaning) : Type 0 where
   pub same_dumps : x.dumps.now ≡ dumps
   pub set : HoldsSet x.order x.loaded dumps k
