@@ -44,21 +44,16 @@ declared_at [] q = None
 declared_at (declares p k b sure ∷ es) q = cond (same_path q p) (Some k) (declared_at es q)
 declared_at (_ ∷ es) q = declared_at es q
 
--- the greater of a count and one that may be missing
-abbrev pub greater : ℕ → Option ℕ → ℕ
-greater n None = n
-greater n (Some m) = max n m
-
 -- the greatest count of a path's Externals
 abbrev pub outs_at : List Entry → List Seg → Option ℕ
 outs_at [] q = None
-outs_at (external p n ∷ es) q = cond (same_path q p) (Some (greater n (outs_at es q))) (outs_at es q)
+outs_at (external p n ∷ es) q = cond (same_path q p) (Some (max n (unwrap_or (outs_at es q) 0))) (outs_at es q)
 outs_at (_ ∷ es) q = outs_at es q
 
 -- the greatest count that the user gives to a path
 abbrev pub given_at : List Entry → List Seg → Option ℕ
 given_at [] q = None
-given_at (given p n ∷ es) q = cond (same_path q p) (Some (greater n (given_at es q))) (given_at es q)
+given_at (given p n ∷ es) q = cond (same_path q p) (Some (max n (unwrap_or (given_at es q) 0))) (given_at es q)
 given_at (_ ∷ es) q = given_at es q
 
 -- ---- Where a name leads, and how many arguments it takes (ACPI 6.5, 5.3).
@@ -119,6 +114,10 @@ arity_of n unknown_zero method locals name =
     arity_at n unknown_zero locals (candidates method name) (found n locals method name)
 
 -- ---- Parts of these, as the code asks them.
+
+-- the greater of a count and one that may be missing
+abbrev pub greater : ℕ → Option ℕ → ℕ
+greater n o = max n (unwrap_or o 0)
 
 -- whether a path is one of the locals or has a kind
 abbrev pub decides : Namespace → PathSet → List Seg → Bool
