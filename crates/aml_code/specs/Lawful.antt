@@ -27,7 +27,7 @@ use Rattle.aml_code.specs.declared.rows.Position.TheVariants as positions
 use Rattle.aml_code.specs.declared.rows.TailKind.{TailKind}
 use Rattle.aml_code.specs.declared.rows.TailKind.TheVariants as tails
 use Rattle.aml_code.specs.Packages.{width_len, FitsWidth}
-use Rattle.aml_code.specs.Faults.{Arities, StandsThere, most_levels}
+use Rattle.aml_code.specs.Faults.{Arities, StandsThere}
 
 -- the last part that is a name, or else this
 abbrev pub last_label : Option Name → Parts → Option Name
@@ -244,12 +244,8 @@ setting_of arity scope code = record { code = code; arity = arity; scope = scope
 -- The bytes of a method's body read as these terms: they are lawful from no declared path on, with at most 512 levels,
 -- and they are spelled by the bytes. Declarations are placed from the method's path.
 pub record ReadsBody (arity : Arities) (method : List Seg) (code : List ℕ) (ts : Trees) : Type 0 where
-  pub lawful : AreTerms (setting_of arity (Some method) code) most_levels positions.BodyTerm set.empty ts
+  pub lawful : AreTerms (setting_of arity (Some method) code) 512 positions.BodyTerm set.empty ts
   pub spelled : encodings code ts ≡ code
-
--- in a table no name has arguments
-abbrev pub no_arguments : Arities
-no_arguments ls n = Some 0
 
 -- each method's body begins where it stands in the encoding, if that begins at an offset: behind what the term is
 -- without its tail
@@ -270,9 +266,13 @@ abbrev mutual
 -- The AML of a table reads as these terms: they are lawful as terms of a table, with at most 512 levels, no name has
 -- arguments, they are spelled by the code, and each method's body is the span where it stands.
 pub record ReadsModule (code : List ℕ) (ts : Trees) : Type 0 where
-  pub lawful : AreTerms (setting_of no_arguments None code) most_levels positions.ModuleTerm set.empty ts
+  pub lawful : AreTerms (setting_of (λ ls n. Some 0) None code) 512 positions.ModuleTerm set.empty ts
   pub spelled : encodings code ts ≡ code
   pub bodies : BodiesStand code 0 ts
+
+-- the counts of a table's names
+abbrev pub no_arguments : Arities
+no_arguments ls n = Some 0
 
 -- ---- A table whose code may run is read from the left, a step at a time.
 
