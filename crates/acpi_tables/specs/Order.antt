@@ -31,10 +31,6 @@ name_of dumps index = slice_index_or (map (λ dump. string_bytes dump.name) dump
 abbrev pub has_signature : List Dump → List ℕ → ℕ → Bool
 has_signature dumps signature index = begins_with (bytes_of dumps index) signature
 
--- the indexes of the dumps that have a signature
-abbrev pub indexes_with : List Dump → List ℕ → List ℕ
-indexes_with dumps signature = filter (has_signature dumps signature) (range_with_len 0 (length dumps))
-
 -- Where no dump has an address, the names decide.
 
 -- The stem of a file's name: what stands before its last dot, or the whole name if there is none or it stands first.
@@ -53,8 +49,8 @@ rank_cmp dumps =
 
 -- The DSDT is the only one, and the SSDTs are all of them, each once, sorted.
 pub record IsNamed (dumps : List Dump) (dsdt : ℕ) (ssdts : List ℕ) : Type 0 where
-  pub only : indexes_with dumps (codes "DSDT") ≡ dsdt ∷ []
-  pub all : IsPermutation (indexes_with dumps (codes "SSDT")) ssdts
+  pub only : filter (has_signature dumps (codes "DSDT")) (range_with_len 0 (length dumps)) ≡ dsdt ∷ []
+  pub all : IsPermutation (filter (has_signature dumps (codes "SSDT")) (range_with_len 0 (length dumps))) ssdts
   pub sorted : IsSorted (rank_cmp dumps) ssdts
 
 -- Where a dump has an address, the chain from the RSDP decides (sections 5.2.5, 5.2.7, 5.2.8 and 5.2.9).
@@ -105,15 +101,22 @@ pub record IsChained (dumps : List Dump) (dsdt : ℕ) (ssdts : List ℕ) : Type 
   pub gives : signed_at dumps (codes "DSDT") (dsdt_address (table_of (bytes_of dumps fadt))) ≡ Some dsdt
   pub all : filter (has_signature dumps (codes "SSDT")) (listed_by dumps list) ≡ ssdts
 
--- Each dump is taken by itself.
-abbrev pub AreTaken : List Dump → Bool → Type 0
-AreTaken dumps any_sum = (index : ℕ) → index < length dumps → HoldsDump any_sum (bytes_of dumps index)
-
--- The order of the definition blocks. There is at most one, and none where a refusal stands.
+-- The order of the definition blocks, of dumps that are each taken by itself. There is at most one, and none where a
+-- refusal stands.
 pub record IsOrder (dumps : List Dump) (any_sum : Bool) (dsdt : ℕ) (ssdts : List ℕ) : Type 0 where
   pub few : length dumps ≤ 512
-  pub each : AreTaken dumps any_sum
+  pub each : (index : ℕ) → index < length dumps → HoldsDump any_sum (bytes_of dumps index)
   pub blocks : MatchBool (is_addressed dumps) (IsChained dumps dsdt ssdts) (IsNamed dumps dsdt ssdts)
+
+-- ---- Parts of these, as the code asks them.
+
+-- the indexes of the dumps that have a signature
+abbrev pub indexes_with : List Dump → List ℕ → List ℕ
+indexes_with dumps signature = filter (has_signature dumps signature) (range_with_len 0 (length dumps))
+
+-- each dump is taken by itself
+abbrev pub AreTaken : List Dump → Bool → Type 0
+AreTaken dumps any_sum = (index : ℕ) → index < length dumps → HoldsDump any_sum (bytes_of dumps index)
 
 -- Each of the dumps at these indexes is a table with its header, of no more bytes than a dump may have.
 abbrev pub AreTables : List Dump → List ℕ → Type 0
