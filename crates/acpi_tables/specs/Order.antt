@@ -55,6 +55,7 @@ pub record IsNamed (dumps : List Dump) (dsdt : ℕ) (ssdts : List ℕ) : Type 0 
 
 -- Where a dump has an address, the chain from the RSDP decides (sections 5.2.5, 5.2.7, 5.2.8 and 5.2.9).
 
+-- whether a dump has an address
 abbrev pub is_addressed : List Dump → Bool
 is_addressed dumps = list_any (λ dump. is_some dump.address) dumps
 

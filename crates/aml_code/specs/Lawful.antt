@@ -78,6 +78,7 @@ abbrev pub with_path : PathSet → Option (List Seg) → PathSet
 with_path ls None = ls
 with_path ls (Some p) = set.insert ls p
 
+-- those of a term itself, by its row
 abbrev pub declared_by : Option (List Seg) → Option Row → PathSet → Parts → Tail → PathSet
 declared_by scope None ls ps t = ls
 declared_by scope (Some row) ls ps t = with_declared scope ls (names_declared row.role ps t)
@@ -188,6 +189,7 @@ IsField Is (connection (target n)) = IsName n × (has_segment n ≡ true)
 IsField Is (connection (buffer t)) = (has_opcode 0x11 t ≡ true) × Is positions.Data t
 IsField Is (extended a b c) = (a < 256) × (b < 256) × (c < 256)
 
+-- a field list
 abbrev pub AreFields : (Position → Tree → Type 0) → Fields → Type 0
 AreFields Is no_fields = Unit {0}
 AreFields Is (field_more u us) = IsField Is u × AreFields Is us
@@ -197,6 +199,7 @@ abbrev pub TermsStand : Setting → (Position → PathSet → Tree → Type 0) �
 TermsStand s Is p ls no_trees = Unit {0}
 TermsStand s Is p ls (tree_more t ts) = Is p ls t × TermsStand s Is (next_position p t) (after s.scope ls t) ts
 
+-- what follows the parts, of a kind, or nothing
 abbrev pub IsTail : Setting → (Position → PathSet → Tree → Type 0) → Position → Option TailKind → PathSet → Tail
     → Type 0
 IsTail s Is p None ls empty = Unit {0}

@@ -35,6 +35,7 @@ Givens = List (List Seg × ℕ)
 abbrev pub given_entries : Givens → List Entry
 given_entries gs = map (λ g. given g.0 g.1) gs
 
+-- whether two paths are the same
 abbrev pub same_path : List Seg → List Seg → Bool
 same_path = eq_by_cmp path_cmp
 
