@@ -31,7 +31,7 @@ PARTS = [
 ]
 ADDED = (
     "What `--any-run` adds",
-    "aml_parse: ReadsTable aml_load: run_names table_front Front aml_namespace: agreed_path agreed_arity outlook_of open_in sure_at",
+    "aml_parse: ReadsTable aml_load: run_names table_front Front sure_here sure_with aml_namespace: agreed_path agreed_arity outlook_of open_in",
 )
 PRINTED = ("What a run prints", "acpidis: Lists")
 # Types that are met only as the fault of a Result, which no Ok has: they stand in a part of their own.
