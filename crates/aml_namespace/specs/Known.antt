@@ -83,7 +83,7 @@ abbrev pub behind : Option Declared → Kind → Bool → Declared
 behind None kind sure = once kind sure
 behind (Some d) kind sure = again d kind sure
 
--- what the declarations of a path in a list of entries say
+-- What the declarations of a path in a list of entries say. The kind is that of `declared_at` (proved: `first_said`).
 abbrev pub declaration_at : List Entry → List Seg → Option Declared
 declaration_at [] q = None
 declaration_at (declares p k b sure ∷ es) q =
