@@ -77,12 +77,6 @@ module _ (any_sum : Bool) (bytes : List ℕ) (shape : HoldsShape (kind_of bytes)
 -- ---- from the signature to the kind
 
 module _ (any_sum : Bool) (bytes : List ℕ) (holds : HoldsDump any_sum bytes) where
-  shape_by : (b c : Bool) → begins_with bytes (codes "RSD PTR ") ≡ b → begins_with bytes (codes "FACS") ≡ c
-      → HoldsShape (cond b Root (cond c Facs (Standard (content_of bytes)))) bytes
-  shape_by true c root facs = (holds.root root).0
-  shape_by false true root facs = holds.facs facs
-  shape_by false false root facs = (holds.table (rw root facs)).0
-
   filled_by : (x r f m : Bool) → begins_with bytes (codes "XSDT") ≡ x → begins_with bytes (codes "RSDT") ≡ r
       → begins_with bytes (codes "FACP") ≡ f → begins_with bytes (codes "APIC") ≡ m
       → HoldsContent (Standard (cond x Xsdt (cond r Rsdt (cond f Fadt (cond m Madt Other))))) bytes
@@ -92,26 +86,22 @@ module _ (any_sum : Bool) (bytes : List ℕ) (holds : HoldsDump any_sum bytes) w
   filled_by false false false true xsdt rsdt fadt madt = holds.madt madt
   filled_by false false false false xsdt rsdt fadt madt = tt
 
-  content_by : (b c : Bool) → HoldsContent (cond b Root (cond c Facs (Standard (content_of bytes)))) bytes
-  content_by true c = tt
-  content_by false true = tt
-  content_by false false = filled_by (begins_with bytes (codes "XSDT")) (begins_with bytes (codes "RSDT"))
-      (begins_with bytes (codes "FACP")) (begins_with bytes (codes "APIC")) refl refl refl refl
-
-  summed_by : (b c : Bool) → begins_with bytes (codes "RSD PTR ") ≡ b → begins_with bytes (codes "FACS") ≡ c
-      → any_sum ≡ false
-      → sums_hold (cond b Root (cond c Facs (Standard (content_of bytes)))) bytes ≡ true
-  summed_by true c root facs strict = (holds.root root).1 strict
-  summed_by false true root facs strict = refl
-  summed_by false false root facs strict = ap (λ n. nat_eq n 0) ((holds.table (rw root facs)).1 strict)
+  by : (b c : Bool) → begins_with bytes (codes "RSD PTR ") ≡ b → begins_with bytes (codes "FACS") ≡ c
+      → let kind = cond b Root (cond c Facs (Standard (content_of bytes))) in HoldsShape kind bytes
+      × (any_sum ≡ false → sums_hold kind bytes ≡ true) × HoldsContent kind bytes
+  by true c root facs = ((holds.root root).0, (holds.root root).1, tt)
+  by false true root facs = (holds.facs facs, (λ strict. refl), tt)
+  by false false root facs =
+      let table = holds.table (rw root facs) in (
+        table.0,
+        (λ strict. ap (λ n. nat_eq n 0) (table.1 strict)),
+        filled_by (begins_with bytes (codes "XSDT")) (begins_with bytes (codes "RSDT"))
+            (begins_with bytes (codes "FACP")) (begins_with bytes (codes "APIC")) refl refl refl refl,
+      )
 
   pub by_kind : HoldsShape (kind_of bytes) bytes × (any_sum ≡ false → sums_hold (kind_of bytes) bytes ≡ true)
       × HoldsContent (kind_of bytes) bytes
-  by_kind = (
-    shape_by (begins_with bytes (codes "RSD PTR ")) (begins_with bytes (codes "FACS")) refl refl,
-    summed_by (begins_with bytes (codes "RSD PTR ")) (begins_with bytes (codes "FACS")) refl refl,
-    content_by (begins_with bytes (codes "RSD PTR ")) (begins_with bytes (codes "FACS")),
-  )
+  by_kind = by (begins_with bytes (codes "RSD PTR ")) (begins_with bytes (codes "FACS")) refl refl
 
 -- ---- what is taken isn't refused
 
